@@ -1,0 +1,3 @@
+pub use Rattle.sseq.specs.Indexes
+pub use Rattle.sseq.specs.Numbers
+pub mod Histories

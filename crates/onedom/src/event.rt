@@ -1,0 +1,34 @@
+//! The events of a domain.
+use sseq::Index;
+
+/// Who made an event.
+#[derive(Clone, Copy, Debug, PartialEq, Eq, Hash)]
+pub enum Maker {
+    /// The processor of this number.
+    Processor(u16),
+    /// The engine, which drives the grace periods.
+    Engine,
+}
+
+/// One thing that happens in a domain. A section is named by a number of its own, since many may be open at once
+/// on one processor, and each may end on another.
+#[derive(Clone, Copy, Debug, PartialEq, Eq, Hash)]
+pub enum Event {
+    /// A read-side section begins on a processor, with an index (`srcu_read_lock`).
+    Begin {
+        section: u64,
+        processor: u16,
+        index: Index,
+        by: Maker,
+    },
+    /// A section ends, on the processor where it is closed (`srcu_read_unlock`).
+    End {
+        section: u64,
+        processor: u16,
+        by: Maker,
+    },
+    /// A grace period starts (`rcu_seq_start`).
+    Start {
+        by: Maker,
+    },
+}

@@ -1,0 +1,25 @@
+-- The number of a domain: four times the count of its ended grace periods, and the state of the running one in the low two bits.
+use Rattle.std.specs.Prelude.{ℕ, ◌+◌, ◌*◌, ◌%◌, ◌^◌, ◌≤◌, List, codes}
+use Rattle.sseq.specs.declared.number.Phase.{Phase}
+use Rattle.sseq.specs.declared.number.Phase.TheVariants.{Idle, Scan1, Scan2}
+
+-- the state 3 does not occur, and the number stays far below 2 ^ 64
+pub record IsNumber (n : ℕ) : Type 0 where
+  pub state_below_3 : n % 4 ≤ 2
+  pub small : n ≤ 2 ^ 61
+
+-- the low two bits in a state
+abbrev pub state_bits : Phase → ℕ
+state_bits Idle = 0
+state_bits Scan1 = 1
+state_bits Scan2 = 2
+
+-- the number of a domain in which so many periods have ended
+abbrev pub number_at : ℕ → Phase → ℕ
+number_at ended phase = 4 * ended + state_bits phase
+
+-- as a state is printed
+abbrev pub phase_text : Phase → List ℕ
+phase_text Idle = codes "idle"
+phase_text Scan1 = codes "scan1"
+phase_text Scan2 = codes "scan2"
