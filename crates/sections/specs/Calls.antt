@@ -1,0 +1,133 @@
+-- What the calls of a processor and of the engine's seat do.
+use Rattle.std.specs.Prelude.{◌≡◌, ℕ, ◌<◌, ◌⊎◌, List, [], ◌∷◌, ◌++◌, All, length, slice_index_or}
+use Rattle.atomic_table.specs.Seated.{TableId}
+use Rattle.sseq.specs.declared.index.Index.{Index}
+use Rattle.sseq.specs.Indexes.{low_bit}
+use Rattle.onedom.specs.declared.event.Maker.{Maker}
+use Rattle.onedom.specs.declared.event.Maker.TheVariants.{Processor, Engine}
+use Rattle.onedom.specs.declared.event.Event.{Event}
+use Rattle.onedom.specs.declared.event.Event.TheVariants.{Begin, End, Start}
+use Rattle.onedom.specs.Histories.{begins_of, IsLegal, made_by, IsBeginning}
+use Rattle.sections.specs.declared.view.Load.{Load}
+use Rattle.sections.specs.Words.{index_word, locks}
+use Rattle.sections.specs.Rule.{HasItsMaker}
+use Rattle.sections.specs.Plays.{index_load}
+use Rattle.sections.specs.Views.{CpuView, EngineView, LookView, ReadingView}
+
+-- a legal history of a domain of so many processors, in which a maker has just these events
+pub record IsHistoryOf (processors : ℕ) (maker : Maker) (mine seen : List Event) : Type 0 where
+  pub legal : IsLegal seen
+  pub makers : All (HasItsMaker processors) seen
+  pub own : mine ≡ made_by maker seen
+
+abbrev pub IsSeenBy : CpuView → Type 0
+IsSeenBy c = IsHistoryOf c.processors (Processor c.processor) c.mine c.seen
+
+abbrev pub IsSeenByEngine : EngineView → Type 0
+IsSeenByEngine e = IsHistoryOf e.processors Engine e.mine e.seen
+
+-- the same processor of the same domain
+abbrev pub IsSameCpu : CpuView → CpuView → Type 0
+IsSameCpu c d = (d.domain ≡ c.domain) × (d.processors ≡ c.processors) × (d.sections ≡ c.sections) × (d.processor ≡ c.processor)
+
+abbrev pub IsSameEngine : EngineView → EngineView → Type 0
+IsSameEngine e f = (f.domain ≡ e.domain) × (f.processors ≡ e.processors) × (f.periods ≡ e.periods)
+
+-- one load was made, which saw all that had happened, and nothing was done
+pub record Loads (l : Load) (c d : CpuView) : Type 0 where
+  pub same : IsSameCpu c d
+  pub mine : d.mine ≡ c.mine
+  pub loads : d.loads ≡ c.loads ++ l ∷ []
+  pub since : IsBeginning c.seen d.seen
+  pub history : IsSeenBy d
+
+-- the event was made, behind all that the processor had seen and all that `other` has
+pub record AddsEvent (other : List Event) (e : Event) (c d : CpuView) : Type 0 where
+  pub same : IsSameCpu c d
+  pub before : List Event
+  pub seen : d.seen ≡ before ++ e ∷ []
+  pub since : IsBeginning c.seen before
+  pub covers : IsBeginning other before
+  pub mine : d.mine ≡ c.mine ++ e ∷ []
+  pub loads : d.loads ≡ c.loads
+  pub history : IsSeenBy d
+
+-- the look has the low bit of what one load of the index word found, which was the index word of what is then seen
+pub record Looks (c d : CpuView) (look : LookView) : Type 0 where
+  pub value : ℕ
+  pub load : Loads (index_load value) c d
+  pub current : value ≡ index_word d.seen
+  pub look_is : look ≡ record { domain = c.domain; index = low_bit value; seen = d.seen }
+
+-- a section that never was begins, of this index
+pub record Enters (c : CpuView) (look : LookView) (d : CpuView) (r : ReadingView) : Type 0 where
+  pub section : ℕ
+  pub fresh : begins_of section c.seen ≡ 0
+  pub adds : AddsEvent look.seen (Begin section c.processor look.index (Processor c.processor)) c d
+  pub reading : r ≡ record { domain = c.domain; section = section; processor = c.processor; index = look.index; seen = d.seen }
+
+-- a look, and then a section of its index
+pub record ReadLocks (c d : CpuView) (r : ReadingView) : Type 0 where
+  pub between : CpuView
+  pub look : LookView
+  pub looks : Looks c between look
+  pub enters : Enters between look d r
+
+-- as many sections of the index were begun here as may be
+abbrev pub IsExhausted : CpuView → Index → Type 0
+IsExhausted c i = locks c.processor i c.mine ≡ c.sections
+
+-- a look, at an index of which no more sections may be begun here
+pub record LooksInVain (c d : CpuView) : Type 0 where
+  pub look : LookView
+  pub looks : Looks c d look
+  pub exhausted : IsExhausted d look.index
+
+-- the reading is of this processor
+abbrev pub IsHere : CpuView → ReadingView → Type 0
+IsHere c r = (r.domain ≡ c.domain) × (r.processor ≡ c.processor)
+
+-- a processor that knows of nothing yet
+abbrev pub new_cpu : TableId → ℕ → ℕ → ℕ → CpuView
+new_cpu domain processors sections k = record { domain = domain; processors = processors; sections = sections; processor = k; seen = []; mine = []; loads = [] }
+
+abbrev pub new_engine : TableId → ℕ → ℕ → EngineView
+new_engine domain processors periods = record { domain = domain; processors = processors; periods = periods; seen = []; mine = []; loads = [] }
+
+-- processor k stands at k
+abbrev pub AreNew : TableId → ℕ → ℕ → List CpuView → Type 0
+AreNew domain processors sections cpus = (k : ℕ) (d : CpuView) → k < length cpus → slice_index_or cpus k d ≡ new_cpu domain processors sections k
+
+-- both made one load, and no event, and have then seen one history, which covers what each had seen. So each of the two has there just its own events
+pub record Ties (c d c' d' : CpuView) : Type 0 where
+  pub first : ℕ
+  pub second : ℕ
+  pub same : IsSameCpu c c' × IsSameCpu d d'
+  pub mine : (c'.mine ≡ c.mine) × (d'.mine ≡ d.mine)
+  pub loads : (c'.loads ≡ c.loads ++ index_load first ∷ []) × (d'.loads ≡ d.loads ++ index_load second ∷ [])
+  pub one : c'.seen ≡ d'.seen
+  pub since : IsBeginning c.seen c'.seen × IsBeginning d.seen d'.seen
+  pub history : IsSeenBy c' × IsSeenBy d'
+  pub comparable : IsBeginning c.seen d.seen ⊎ IsBeginning d.seen c.seen
+
+-- the same of the engine and a processor
+pub record TiesEngine (e : EngineView) (d : CpuView) (e' : EngineView) (d' : CpuView) : Type 0 where
+  pub first : ℕ
+  pub second : ℕ
+  pub same : IsSameEngine e e' × IsSameCpu d d'
+  pub mine : (e'.mine ≡ e.mine) × (d'.mine ≡ d.mine)
+  pub loads : (e'.loads ≡ e.loads ++ index_load first ∷ []) × (d'.loads ≡ d.loads ++ index_load second ∷ [])
+  pub one : e'.seen ≡ d'.seen
+  pub since : IsBeginning e.seen e'.seen × IsBeginning d.seen d'.seen
+  pub history : IsSeenByEngine e' × IsSeenBy d'
+  pub comparable : IsBeginning e.seen d.seen ⊎ IsBeginning d.seen e.seen
+
+-- the engine's event was made, behind all that it had seen
+pub record AddsEngineEvent (ev : Event) (e f : EngineView) : Type 0 where
+  pub same : IsSameEngine e f
+  pub before : List Event
+  pub seen : f.seen ≡ before ++ ev ∷ []
+  pub since : IsBeginning e.seen before
+  pub mine : f.mine ≡ e.mine ++ ev ∷ []
+  pub loads : f.loads ≡ e.loads
+  pub history : IsSeenByEngine f

@@ -1,0 +1,62 @@
+-- How the fields of a processor, of the engine's seat and of what they give out are seen, and what is always true of them.
+use Rattle.std.specs.Prelude.{◌≡◌, ℕ, ◌+◌, ◌*◌, ◌^◌, ◌<◌, ◌≤◌, [], length, slice_index, All}
+use Rattle.std.specs.Arc.{arc_value}
+use Rattle.atomic_table.specs.Seated.{TableId}
+use Rattle.sseq.specs.declared.index.Index.{Index}
+use Rattle.sseq.specs.Indexes.{index_number}
+use Rattle.onedom.specs.declared.event.Maker.TheVariants.{Processor, Engine}
+use Rattle.onedom.specs.Histories.{IsLegal, made_by, open_sections, IsRunning}
+use Rattle.sections.specs.declared.view.Bounds.{Bounds}
+use Rattle.sections.specs.declared.view.View.{View}
+use Rattle.sections.specs.declared.view.Right.{Right}
+use Rattle.sections.specs.declared.view.Right.TheVariants.{Nothing, Section}
+use Rattle.sections.specs.declared.view.Role.TheVariants.{Cpu, Driver}
+use Rattle.sections.specs.declared.cpu.Cpu.TheInside as cpu
+use Rattle.sections.specs.declared.cpu.Look.TheInside as look
+use Rattle.sections.specs.declared.cpu.Reading.TheInside as reading
+use Rattle.sections.specs.Words.{word_count, locks}
+use Rattle.sections.specs.Rule.{token}
+use Rattle.sections.specs.Plays.{IsSound}
+use Rattle.sections.specs.Views.{CpuView, EngineView, LookView, ReadingView}
+
+abbrev pub section_of : Right → ℕ
+section_of Nothing = 0
+section_of (Section s p i) = s
+
+-- a seat between two calls: its table is that of these bounds, it holds no slot and no right, and all that it was told is seen
+pub record IsSeated (bounds : Bounds) (table seat : TableId) (v : View) : Type 0 where
+  pub seated : seat ≡ table
+  pub wide : seat.words ≡ word_count bounds.processors
+  pub flat : seat.slots ≡ 0
+  pub small : 2 * bounds.processors * bounds.sections < 2 ^ 62
+  pub free : v.right ≡ Nothing
+  pub told : v.told ≡ []
+  pub sized : v.processors ≡ bounds.processors
+  pub sound : IsSound v.processors v.role v.mine v.seen
+
+abbrev pub view_of_look : look.Inside → LookView
+view_of_look l = record { domain = l.seat.table_id; index = l.index; seen = l.seat.me.0.seen }
+
+pub record IsLook (l : look.Inside) : Type 0 where
+  pub bare : l.seat.me.1 ≡ []
+  pub plain : l.seat.me.0 ≡ token l.seat.me.0.seen Nothing
+
+abbrev pub view_of_reading : reading.Inside → ReadingView
+view_of_reading r = record { domain = r.seat.table_id; section = section_of r.seat.me.0.right; processor = r.processor; index = r.index; seen = r.seat.me.0.seen }
+
+pub record IsReading (r : reading.Inside) : Type 0 where
+  pub bare : r.seat.me.1 ≡ []
+  pub right : r.seat.me.0.right ≡ Section (section_of r.seat.me.0.right) r.processor r.index
+
+module _ {A : Type 0} where
+  abbrev pub view_of_cpu : cpu.Inside A → CpuView
+  view_of_cpu c = record { domain = c.seat.table_id; processors = (arc_value c.table).shared.key.processors; sections = (arc_value c.table).shared.key.sections; processor = c.processor; seen = c.seat.me.0.seen; mine = c.seat.me.0.mine; loads = c.seat.me.0.loads }
+
+  pub record IsCpu (c : cpu.Inside A) : Type 0 where
+    pub seat : IsSeated (arc_value c.table).shared.key (arc_value c.table).shared.table_id c.seat.table_id c.seat.me.0
+    pub bare : c.seat.me.1 ≡ []
+    pub role : c.seat.me.0.role ≡ Cpu c.processor
+    pub there : c.processor < (arc_value c.table).shared.key.processors
+    pub begun : (i : Index) → slice_index c.begun (index_number i) ≡ locks c.processor i c.seat.me.0.mine
+    pub limited : (i : Index) → slice_index c.begun (index_number i) ≤ (arc_value c.table).shared.key.sections
+    pub unclosed : c.unclosed ≡ length (open_sections c.seat.me.0.mine)

@@ -1,0 +1,10 @@
+pub use Rattle.onedom.specs.Histories
+pub use Rattle.sseq.specs.Indexes
+pub use Rattle.sseq.specs.Numbers
+pub mod Limits
+pub mod Words
+pub mod Rule
+pub mod Plays
+pub mod Views
+pub mod Insides
+pub mod Calls

@@ -1,0 +1,95 @@
+//! A processor, and the tokens that it gives out.
+use crate::plays::{InOneHistory, NoSlot};
+use crate::view::{Bounds, View};
+use atomic_table::{Seat, Shared, Table};
+use sseq::Index;
+use std::alloc::{Allocator, Global};
+use std::error::Error;
+use std::fmt;
+use std::marker::Model;
+use std::sync::Arc;
+
+mod sections;
+mod tokens;
+
+pub(crate) type Words<A> = Table<NoSlot, View, Bounds, InOneHistory, A>;
+
+pub(crate) type Top = Shared<NoSlot, View, Bounds, InOneHistory>;
+
+pub(crate) type Place = Seat<NoSlot, View>;
+
+/// A processor of a domain. It is a value that one thread owns: which processor of the machine the thread runs on
+/// makes no difference. Contracts see what it has seen of the domain's history, its own events there, and its loads.
+#[derive(Drop)]
+pub struct Cpu<A: Allocator = Global> {
+    pub(crate) table: Arc<Words<A>, A>,
+    pub(crate) seat: Place,
+    pub(crate) processor: u16,
+    /// How many sections of each index were begun here.
+    pub(crate) begun: [u64; 2],
+    /// How many readings were given out here and not closed.
+    pub(crate) unclosed: u64,
+}
+
+impl<A: Allocator> Model for Cpu<A> {
+    ghost use Rattle.sections.specs.Views.{CpuView};
+
+    ghost Value = { CpuView };
+
+    ghost use Rattle.sections.specs.Insides.{view_of_cpu, IsCpu};
+
+    ghost view = { view_of_cpu };
+
+    ghost invariant = { IsCpu };
+}
+
+/// An index that was read, to enter a section with. Any processor of the domain may use it, however old it is.
+#[derive(Drop)]
+pub struct Look {
+    pub(crate) index: Index,
+    pub(crate) seat: Place,
+}
+
+impl Model for Look {
+    ghost use Rattle.sections.specs.Views.{LookView};
+
+    ghost Value = { LookView };
+
+    ghost use Rattle.sections.specs.Insides.{view_of_look, IsLook};
+
+    ghost view = { view_of_look };
+
+    ghost invariant = { IsLook };
+}
+
+/// A section that is open, and the right to end it, on the processor where it was begun (`srcu_read_lock`). It can't
+/// be dropped: spend it by [`Cpu::read_unlock`].
+pub struct Reading {
+    pub(crate) index: Index,
+    pub(crate) processor: u16,
+    pub(crate) seat: Place,
+}
+
+impl Model for Reading {
+    ghost use Rattle.sections.specs.Views.{ReadingView};
+
+    ghost Value = { ReadingView };
+
+    ghost use Rattle.sections.specs.Insides.{view_of_reading, IsReading};
+
+    ghost view = { view_of_reading };
+
+    ghost invariant = { IsReading };
+}
+
+/// The processor has begun as many sections of this index as the limit allows. No section was begun.
+#[derive(Clone, Copy, Debug, PartialEq, Eq)]
+pub struct Exhausted;
+
+impl fmt::Display for Exhausted {
+    fn fmt<W: fmt::Write>(&self, f: &mut fmt::Formatter<W>) -> fmt::Result {
+        f.write_str("no more sections of this index may begin here")
+    }
+}
+
+impl Error for Exhausted {}

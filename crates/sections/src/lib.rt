@@ -1,0 +1,16 @@
+//! The shared words of a sleepable RCU domain, its processors and its engine's seat. Each step of each thread is one
+//! event of one legal history, or a load that was made while that history stood still.
+#![tactic(auto)]
+
+mod cpu;
+mod engine;
+mod limits;
+mod making;
+mod plays;
+#[cfg(test)]
+mod tests;
+mod view;
+
+pub use cpu::{Cpu, Exhausted, Look, Reading};
+pub use limits::{Limits, MakeError};
+pub use view::{Bounds, Load, Right, Role, View, Word};

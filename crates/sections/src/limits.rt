@@ -1,0 +1,57 @@
+//! How much a domain may hold.
+ghost use Rattle.std.specs.Prelude.{◌↔◌, IsTrue};
+ghost use Rattle.sections.specs.Limits.{AreInRange};
+
+use std::error::Error;
+use std::fmt;
+
+/// The limits of a domain. Each is checked when the domain is made.
+#[derive(Clone, Copy, Debug, PartialEq, Eq)]
+pub struct Limits {
+    /// How many sections of one index a processor may ever begin: 1 to 2^54.
+    pub sections: u64,
+    /// How many grace periods there may ever be: 1 to 2^59 - 1.
+    pub periods: u64,
+    /// How many cells of versions a domain has: 0, as long as there are none.
+    pub cells: u64,
+}
+
+impl Limits {
+    /// The most sections of one index that a processor may ever begin, 2^54.
+    pub const MOST_SECTIONS: u64 = 18_014_398_509_481_984;
+    /// The most grace periods of a domain, 2^59 - 1.
+    pub const MOST_PERIODS: u64 = 576_460_752_303_423_487;
+
+    pub const fn are_in_range(&self) -> bool
+        ensures { IsTrue result ↔ AreInRange self.now }
+    {
+        1 <= self.sections
+            && self.sections <= Limits::MOST_SECTIONS
+            && 1 <= self.periods
+            && self.periods <= Limits::MOST_PERIODS
+            && self.cells == 0
+    }
+}
+
+/// Why a domain was not made. Nothing is left of it.
+#[derive(Clone, Copy, Debug, PartialEq, Eq)]
+pub enum MakeError {
+    /// There are 1 or 2 processors in a domain.
+    Processors = 1,
+    /// One of the limits is out of its range.
+    Limits = 2,
+    /// An allocation was refused.
+    Memory = 3,
+}
+
+impl fmt::Display for MakeError {
+    fn fmt<W: fmt::Write>(&self, f: &mut fmt::Formatter<W>) -> fmt::Result {
+        match self {
+            MakeError::Processors => f.write_str("a domain has 1 or 2 processors"),
+            MakeError::Limits => f.write_str("a limit is out of its range"),
+            MakeError::Memory => f.write_str("out of memory"),
+        }
+    }
+}
+
+impl Error for MakeError {}

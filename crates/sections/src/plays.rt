@@ -1,0 +1,82 @@
+//! What each step on the table tells the one that makes it.
+ghost use Rattle.sections.specs.Rule.{Kept, founder, lacking, bearer, informed, adopting, spent, dealer, dealt};
+ghost use Rattle.sections.specs.Plays.{looked, began, ended, started};
+
+use crate::view::{Bounds, View};
+use atomic_table::{Join, Play, Split, TableRule};
+
+/// The table has no slots.
+pub(crate) type NoSlot = Option<u64>;
+
+/// Each step is one event of one legal history, or none.
+pub struct InOneHistory;
+
+impl TableRule<NoSlot, View, Bounds> for InOneHistory {
+    ghost holds = { Kept };
+
+    ghost first = { founder };
+}
+
+/// Load of the index word.
+pub(crate) struct LoadIndex;
+
+impl Play<NoSlot, View> for LoadIndex {
+    ghost then = { looked };
+}
+
+/// Increment of a lock counter.
+pub(crate) struct Lock;
+
+impl Play<NoSlot, View> for Lock {
+    ghost then = { began };
+}
+
+/// Increment of an unlock counter.
+pub(crate) struct Unlock;
+
+impl Play<NoSlot, View> for Unlock {
+    ghost then = { ended };
+}
+
+/// Addition of 1 to the number, at rest.
+pub(crate) struct StartPeriod;
+
+impl Play<NoSlot, View> for StartPeriod {
+    ghost then = { started };
+}
+
+/// A new seat gets the right, and has seen as much.
+pub(crate) struct GiveToken;
+
+impl Split<View> for GiveToken {
+    ghost left = { lacking };
+
+    ghost right = { bearer };
+}
+
+/// What the other seat has seen is told, and its right is taken over.
+pub(crate) struct TakeToken;
+
+impl Join<View> for TakeToken {
+    ghost both = { informed };
+
+    ghost spent = { spent };
+}
+
+/// From now on just that is seen which the other seat has seen.
+pub(crate) struct SeeAsMuch;
+
+impl Join<View> for SeeAsMuch {
+    ghost both = { adopting };
+
+    ghost spent = { spent };
+}
+
+/// A new seat is the next processor's.
+pub(crate) struct Deal;
+
+impl Split<View> for Deal {
+    ghost left = { dealer };
+
+    ghost right = { dealt };
+}
