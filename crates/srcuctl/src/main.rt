@@ -1,0 +1,7 @@
+//! A program that drives sleepable RCU domains by a script.
+#![tactic(auto)]
+
+mod command;
+mod fault;
+
+fn main() {}
