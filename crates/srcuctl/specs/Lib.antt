@@ -1,3 +1,6 @@
 pub mod Lines
 pub mod Faults
+pub mod States
+pub mod Names
+pub mod Replies
 pub mod Scripts
