@@ -1,3 +1,2 @@
 pub mod Lines
 pub mod Faults
-pub mod Scripts

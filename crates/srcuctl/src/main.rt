@@ -3,5 +3,6 @@
 
 mod command;
 mod fault;
+mod words;
 
 fn main() {}
