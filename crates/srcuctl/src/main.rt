@@ -2,7 +2,10 @@
 #![tactic(auto)]
 
 mod command;
+mod error;
 mod fault;
+mod line;
+mod output;
 mod words;
 
 fn main() {}
