@@ -6,6 +6,7 @@ mod error;
 mod fault;
 mod line;
 mod output;
+mod run;
 mod words;
 
 fn main() {}
