@@ -1,1 +1,3 @@
+mod Numerals
+mod Writing
 mod Names

@@ -1,5 +1,6 @@
 pub mod Lines
 pub mod Faults
+pub mod Runs
 pub mod States
 pub mod Names
 pub mod Replies

@@ -1,11 +1,18 @@
 //! A program that drives sleepable RCU domains by a script.
 #![tactic(auto)]
 
-pub mod command;
-pub mod fault;
-pub mod name;
-pub mod reply;
-pub mod request;
-pub mod words_stub;
+mod command;
+mod domain;
+mod error;
+mod fault;
+mod line;
+mod name;
+mod output;
+mod parse;
+mod reply;
+mod request;
+mod run;
+mod session;
+mod words;
 
 fn main() {}

@@ -2,7 +2,7 @@
 ghost use Rattle.std.specs.Prelude.{◌≡◌, if◌then◌else◌, Some, None, bytes_eq, true};
 ghost use Rattle.srcuctl.specs.Lines.{is_name};
 
-use crate::words_stub::is_name;
+use crate::words::is_name;
 use std::fmt;
 use std::marker::Model;
 
