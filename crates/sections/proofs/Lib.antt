@@ -1,0 +1,3 @@
+pub mod Counters
+pub mod Agreement
+pub mod Steps

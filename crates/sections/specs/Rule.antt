@@ -24,12 +24,6 @@ HasItsMaker processors (Start by) = by ≡ Engine
 
 -- What a seat knows
 
--- a maker knows how many processors there are
-abbrev pub IsSized : ℕ → Role → ℕ → Type 0
-IsSized processors Bearer n = Unit {0}
-IsSized processors (Cpu p) n = n ≡ processors
-IsSized processors (Driver k) n = n ≡ processors
-
 module _ (log : List Event) (seat_of holder : ℕ → ℕ) (engine seat : ℕ) where
   -- a maker has one seat, which knows all of its events. The engine is also each processor from k on: these have no seat and no event yet
   abbrev pub Makes : Role → List Event → Type 0
@@ -42,8 +36,7 @@ module _ (log : List Event) (seat_of holder : ℕ → ℕ) (engine seat : ℕ) w
   Has Nothing = Unit {0}
   Has (Section s p i) = (holder s ≡ seat) × IsOpen log s × (index_of s log ≡ i) × (begins_of s (made_by (Processor p) log) ≡ 1)
 
-  pub record Fits (processors : ℕ) (v : View) : Type 0 where
-    pub sized : IsSized processors v.role v.processors
+  pub record Fits (v : View) : Type 0 where
     pub seen : IsBeginning v.seen log
     pub told : All (λ h. IsBeginning h log) v.told
     pub makes : Makes v.role v.mine
@@ -65,7 +58,7 @@ pub record Kept (bounds : Bounds) (s : State (Option ℕ) View) : Type 0 where
   pub small : 2 * bounds.processors * bounds.sections < 2 ^ 62
   pub within : IsWithin bounds log
   pub words : Agree bounds.processors s.words log
-  pub each_view : (j : ℕ) (v : View) → get_elem? s.views j ≡ some v → Fits log seat_of holder engine j bounds.processors v
+  pub each_view : (j : ℕ) (v : View) → get_elem? s.views j ≡ some v → Fits log seat_of holder engine j v
 
 -- Views that are made
 
