@@ -59,6 +59,10 @@ arguments command.Start = ADomain ∷ AProcessor ∷ []
 abbrev pub new_name_fault : List ℕ → Bool → Option Fault
 new_name_fault w in_use = if not (is_name w) then Some fault.Name else (if in_use then Some fault.Taken else None)
 
+-- the fault of a word that should name a domain, the one at this place
+abbrev pub domain_fault : List ℕ → Option ℕ → Option Fault
+domain_fault w place = if not (is_name w) then Some fault.Name else (if is_some place then None else Some fault.Domain)
+
 -- the processors of the domain that a line named, and the names in use there
 abbrev pub processors_of : Option DomainState → ℕ
 processors_of None = 0
@@ -77,7 +81,7 @@ processor_fault processors (Some p) = if nat_lt p processors then None else Some
 unfoldable pub argument_fault : State → Option DomainState → Argument → List ℕ → Option Fault
 argument_fault state named NewDomain w = new_name_fault w (is_some (domain_place w state))
 argument_fault state named AnyNumber w = if is_some (number_of w) then None else Some fault.Number
-argument_fault state named ADomain w = if not (is_name w) then Some fault.Name else (if is_some (domain_place w state) then None else Some fault.Domain)
+argument_fault state named ADomain w = domain_fault w (domain_place w state)
 argument_fault state named AProcessor w = processor_fault (processors_of named) (number_of w)
 argument_fault state named NewName w = new_name_fault w (is_some (name_place w (names_of named)))
 argument_fault state named ASection w = if is_some (name_place w (names_of named)) then None else Some fault.Name

@@ -4,4 +4,9 @@ pub mod Runs
 pub mod States
 pub mod Names
 pub mod Replies
+pub mod Histories
 pub mod Scripts
+pub mod Domains
+pub mod Entries
+pub mod Sessions
+pub mod Requests

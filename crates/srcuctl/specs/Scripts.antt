@@ -1,16 +1,14 @@
 -- What a line of a script means: which reply it gets, and what it changes.
 use Rattle.std.specs.Prelude.{◌≡◌, ℕ, ◌*◌, ◌%◌, ◌<◌, ◌≤◌, ◌==◌, ◌||◌, Bool, true, false, List, [], ◌∷◌, ◌++◌, length, Option, Some, None, slice_get, slice_set, remove, codes, ◌⊎◌, if◌then◌else◌}
-use Rattle.sseq.specs.declared.index.Index.{Index}
 use Rattle.sseq.specs.declared.index.Index.TheVariants.{Zero, One}
 use Rattle.sseq.specs.declared.number.Phase.{Phase}
-use Rattle.sseq.specs.Indexes.{low_bit}
 use Rattle.sseq.specs.Numbers.{state_bits}
 use Rattle.onedom.specs.declared.event.Maker.TheVariants.{Processor, Engine}
 use Rattle.onedom.specs.declared.event.Event.{Event}
 use Rattle.onedom.specs.declared.event.Event.TheVariants.{Begin, End, Start}
 use Rattle.onedom.specs.Histories.{MayFollow, IsRunning}
 use Rattle.sections.specs.declared.limits.Limits.{Limits}
-use Rattle.sections.specs.Words.{index_word, number_word, locks}
+use Rattle.sections.specs.Words.{number_word, locks}
 use Rattle.srcuctl.specs.declared.fault.Fault.{Fault}
 use Rattle.srcuctl.specs.declared.fault.Fault.TheVariants.{Text}
 use Rattle.srcuctl.specs.declared.command.Command.TheVariants as command
@@ -20,6 +18,7 @@ use Rattle.srcuctl.specs.declared.request.Request.TheVariants as request
 use Rattle.srcuctl.specs.declared.reply.Reply.{Reply}
 use Rattle.srcuctl.specs.declared.reply.Reply.TheVariants as reply
 use Rattle.srcuctl.specs.Lines.{words_of, number_of}
+use Rattle.srcuctl.specs.Histories.{index_now, IsCount}
 use Rattle.srcuctl.specs.States.{State, DomainState, Named, domain_place, name_place, open_of}
 use Rattle.srcuctl.specs.Faults.{fault_of}
 use Rattle.srcuctl.specs.Replies.{reply_text}
@@ -41,10 +40,6 @@ Asks state words (request.Start place p) = (d : List ℕ) × (n : List ℕ)
     × (words ≡ codes "start" ∷ d ∷ n ∷ []) × (domain_place d state ≡ Some place) × (number_of n ≡ Some p)
 
 -- What one domain does
-
--- the index that a section gets that begins now
-abbrev pub index_now : List Event → Index
-index_now history = low_bit (index_word history)
 
 abbrev pub with_event : Event → DomainState → DomainState
 with_event e d = record d { history = d.history ++ e ∷ [] }
@@ -112,10 +107,6 @@ pub record GoesOn (state : State) (place : ℕ) (d d' : DomainState) (state' : S
 
 abbrev pub new_domain : List ℕ → ℕ → DomainState
 new_domain name processors = record { name = name; processors = processors; names = []; history = [] }
-
--- a domain has 1 or 2 processors
-abbrev pub IsCount : ℕ → Type 0
-IsCount processors = (1 ≤ processors) × (processors ≤ 2)
 
 -- a domain comes behind those that are there
 pub record Makes (state : State) (name : List ℕ) (processors : ℕ) (r : Reply) (state' : State) : Type 0 where
