@@ -1,3 +1,5 @@
 mod Numerals
 mod Writing
 mod Names
+mod Places
+mod Parsing

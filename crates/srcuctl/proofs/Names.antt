@@ -1,12 +1,12 @@
 -- Names as texts, and words that are copied into names.
-use Rattle.std.proofs.Common.{◌≡◌, ℕ, zero, suc, ◌+◌, ◌-◌, ◌<◌, ◌≤◌, Bool, true, false, ◌&&◌, ◌||◌, List, [], ◌∷◌, ◌++◌, length, take, drop, replicate, refl, sym, ap, ◌∙◌, subst, arith, rules, length-append, length-drop}
+use Rattle.std.proofs.Common.{◌≡◌, ℕ, zero, suc, ◌+◌, ◌-◌, ◌<◌, ◌≤◌, Bool, true, false, not, ◌&&◌, ◌||◌, List, [], ◌∷◌, ◌++◌, length, take, drop, replicate, refl, sym, ap, ◌∙◌, subst, arith, rules, length-append, length-drop}
 use Rattle.std.specs.Prelude.{IsAscii, IsUtf8, nat_le, slice_index, Result, Ok, Err, MatchResult, IsOk}
 use Rattle.std.specs.List.{list_all}
 use Rattle.std.proofs.lemmas.Str.{IsUtf8-from_ascii}
 use Rattle.std.proofs.lemmas.Bool.Decides.{nat_tests}
 use Rattle.std.proofs.lemmas.List.{drop-replicate, length-replicate}
 use Rattle.std.proofs.Math.Seq.{take-append_seam, drop-append_seam}
-use Rattle.srcuctl.specs.Lines.{is_name, is_letter, is_digit}
+use Rattle.srcuctl.specs.Lines.{is_name, is_empty, is_letter, is_digit}
 use Rattle.srcuctl.specs.Names.{IsPadded}
 
 pub both : (a b : Bool) → (a && b) ≡ true → (a ≡ true) × (b ≡ true)
@@ -22,15 +22,14 @@ small_characters (x ∷ w) h zero = small_character x (both _ _ h).0
 small_characters (x ∷ w) h (suc i) = small_characters w (both _ _ h).1 i
 
 record NameParts (w : List ℕ) : Type 0 where
-  some : nat_le 1 (length w) ≡ true
   short : nat_le (length w) 16 ≡ true
   characters : list_all (λ x. is_letter x || is_digit x) w ≡ true
 
 name_parts : (w : List ℕ) → is_name w ≡ true → NameParts w
 name_parts w h =
-    let (sizes, characters) = both (nat_le 1 (length w) && nat_le (length w) 16) (list_all (λ x. is_letter x || is_digit x) w) h in
-    let (some, short) = both (nat_le 1 (length w)) (nat_le (length w) 16) sizes in
-    record { some = some; short = short; characters = characters }
+    let (sizes, characters) = both (not (is_empty w) && nat_le (length w) 16) (list_all (λ x. is_letter x || is_digit x) w) h in
+    let (_, short) = both (not (is_empty w)) (nat_le (length w) 16) sizes in
+    record { short = short; characters = characters }
 
 pub name_is_text : (w : List ℕ) → is_name w ≡ true → IsUtf8 w
 name_is_text w h = IsUtf8-from_ascii w (small_characters w (name_parts w h).characters)

@@ -1,6 +1,6 @@
 //! The commands of a script, and what each takes.
-ghost use Rattle.std.specs.Prelude.{◌≡◌};
-ghost use Rattle.srcuctl.specs.Faults.{command_of};
+ghost use Rattle.std.specs.Prelude.{◌≡◌, IfSome};
+ghost use Rattle.srcuctl.specs.Faults.{command_of, command_word};
 
 use std::fmt;
 
@@ -17,7 +17,8 @@ pub enum Command {
 impl Command {
     /// `None` where the word is no command.
     pub fn of_word(word: &[u8]) -> Option<Command>
-        ensures { result ≡ command_of word.now }
+        ensures value { result ≡ command_of word.now }
+        ensures word { IfSome result (λ c. word.now ≡ command_word c) }
     {
         if word == b"domain".as_slice() {
             Some(Command::Domain)
