@@ -3,3 +3,4 @@ mod Writing
 mod Names
 mod Places
 mod Parsing
+mod Openings

@@ -1,5 +1,5 @@
 -- The state of a script: its domains, each with the names in use and its history.
-use Rattle.std.specs.Prelude.{ℕ, List, Option, length, map, filter, position, option_and_then, slice_get, bytes_eq}
+use Rattle.std.specs.Prelude.{ℕ, List, Option, map, count_by, position, option_and_then, slice_get, bytes_eq}
 use Rattle.sseq.specs.declared.index.Index.{Index}
 use Rattle.onedom.specs.declared.event.Event.{Event}
 use Rattle.sections.specs.declared.limits.Limits.{Limits}
@@ -45,7 +45,7 @@ name_place w names = position (λ n. bytes_eq n.name w) names
 
 -- how many of the sections that have a name are of this index
 abbrev pub open_of : Index → List Named → ℕ
-open_of i names = length (filter (λ n. same_index n.index i) names)
+open_of i names = count_by (λ n. same_index n.index i) names
 
 abbrev pub states_of : List EntryView → State
 states_of entries = map (λ e. e.state) entries

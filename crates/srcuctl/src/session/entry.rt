@@ -1,5 +1,6 @@
 //! A domain with its name, and with the names in use there.
-ghost use Rattle.std.specs.Prelude.{◌≡◌, ◌<◌, ◌⊎◌, [], length, bytes_eq, IfOk, OnErr};
+ghost use Rattle.std.specs.Prelude.{◌≡◌, ◌<◌, ◌⊎◌, [], length, count_by, bytes_eq, IfOk, OnErr};
+ghost use Rattle.sseq.specs.Indexes.{same_index};
 ghost use Rattle.srcuctl.specs.States.{name_place};
 ghost use Rattle.srcuctl.specs.Scripts.{Begins, IsOutOfSections, Ends, Starts, IsRunningAlready, IsOutOfPeriods, Shows};
 
@@ -152,8 +153,19 @@ impl<A: Allocator> Entry<A> {
 }
 
 /// How many of the open sections are of an index.
-fn open_of(open: &[Opened], index: Index) -> usize {
+fn open_of(open: &[Opened], index: Index) -> usize
+    ensures { result ≡ count_by (λ o. same_index o.reading.index index) open.now }
+{
     open.iter()
-        .filter(|opened| opened.reading.index() == index)
+        .filter(|opened| is_same(opened.reading.index(), index))
         .count()
+}
+
+fn is_same(one: Index, other: Index) -> bool
+    ensures { result ≡ same_index one other }
+{
+    match one {
+        Index::Zero => matches!(other, Index::Zero),
+        Index::One => matches!(other, Index::One),
+    }
 }
