@@ -1,3 +1,5 @@
 pub mod Counters
 pub mod Agreement
 pub mod Steps
+pub mod Seating
+pub mod Calling

@@ -62,6 +62,7 @@ pub record Looks (c d : CpuView) (look : LookView) : Type 0 where
 -- a section that never was begins, of this index
 pub record Enters (c : CpuView) (look : LookView) (d : CpuView) (r : ReadingView) : Type 0 where
   pub section : ℕ
+  pub room : locks c.processor look.index c.mine < c.sections
   pub fresh : begins_of section c.seen ≡ 0
   pub adds : AddsEvent look.seen (Begin section c.processor look.index (Processor c.processor)) c d
   pub reading : r ≡ record { domain = c.domain; section = section; processor = c.processor; index = look.index; seen = d.seen }

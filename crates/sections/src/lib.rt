@@ -5,7 +5,6 @@
 mod cpu;
 mod engine;
 mod limits;
-mod making;
 mod plays;
 #[cfg(test)]
 mod tests;
