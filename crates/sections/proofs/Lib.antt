@@ -3,3 +3,5 @@ pub mod Agreement
 pub mod Steps
 pub mod Seating
 pub mod Calling
+pub mod Meeting
+pub mod Starting

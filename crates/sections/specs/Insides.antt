@@ -69,3 +69,4 @@ module _ {A : Type 0} where
     pub rests : IsAtRest e.seat.me.0
     pub role : e.seat.me.0.role ≡ Driver (arc_value e.table).shared.key.processors
     pub number : e.number ≡ number_word e.seat.me.0.mine
+    pub periods : e.periods < 2 ^ 59

@@ -11,5 +11,6 @@ mod tests;
 mod view;
 
 pub use cpu::{Cpu, Exhausted, Look, Reading};
+pub use engine::EngineSeat;
 pub use limits::{Limits, MakeError};
 pub use view::{Bounds, Load, Right, Role, View, Word};

@@ -3,9 +3,9 @@ ghost use Rattle.std.specs.Prelude.{◌≡◌, length, MatchResult};
 ghost use Rattle.onedom.specs.declared.event.Event.TheVariants.{End};
 ghost use Rattle.onedom.specs.declared.event.Maker.TheVariants.{Processor};
 ghost use Rattle.onedom.specs.Histories.{open_sections};
-ghost use Rattle.sections.specs.Calls.{AddsEvent, Looks, Enters, ReadLocks, LooksInVain, IsExhausted, IsHere};
+ghost use Rattle.sections.specs.Calls.{AddsEvent, Looks, Enters, ReadLocks, LooksInVain, IsExhausted, IsHere, Ties};
 
-use super::steps::{begin_section, place_of_unlock};
+use super::steps::{accept, begin_section, cover, place_of_unlock};
 use super::{Cpu, Exhausted, Look, Reading};
 use crate::plays;
 use sseq::Index;
@@ -91,5 +91,16 @@ impl<A: Allocator> Cpu<A> {
         ensures { result ≡ length (open_sections self.now.mine) }
     {
         self.unclosed
+    }
+
+    /// One load of the index word by this processor, and then one by the other. Both have then seen one history, in
+    /// which each of the two has just its own events. What each had seen is a beginning of it.
+    pub fn tie(&mut self, other: &mut Cpu<A>)
+        requires { other.old.domain ≡ self.old.domain }
+        ensures { Ties self.old other.old self.new other.new }
+    {
+        let top = &self.table.shared;
+        cover(top, &mut self.seat, &mut other.seat);
+        accept(top, &mut other.seat, &mut self.seat);
     }
 }
