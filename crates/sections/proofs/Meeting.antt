@@ -87,3 +87,15 @@ joins_more was now i new all long inside covers accepts rest so_far k d lt = dit
 
 pub rest_same : (was now : List CpuView) (i : ℕ) (new : CpuView) → ((k : ℕ) (d : CpuView) → i ≤ k → get_or now k d ≡ get_or was k d) → (k : ℕ) (d : CpuView) → i + 1 ≤ k → get_or (set now i new) k d ≡ get_or was k d
 rest_same was now i new rest k d le = get_or-set_other now i k new d (λ e. omega arith) ∙ rest k d (omega arith)
+
+pub meets_from : (e e' e'' : EngineView) (cpus cpus' cpus'' : List CpuView) → CoversAll e cpus e' → cpus' ≡ cpus → e'' ≡ e' → length cpus'' ≡ length cpus'
+    → ((k : ℕ) (d : CpuView) → k < length cpus' → Joins (get_or cpus' k d) e'.seen (get_or cpus'' k d)) → Meets e cpus e'' cpus''
+meets_from e e' e'' cpus cpus' cpus'' h same_cpus steady count joined =
+    subst (λ (z : EngineView). Meets e cpus z cpus'') (sym steady) record {
+      same = h.same;
+      mine = h.mine;
+      since = h.since;
+      history = h.history;
+      count = count ∙ ap length same_cpus;
+      each = λ k d lt. subst (λ (xs : List CpuView). Joins (get_or xs k d) e'.seen (get_or cpus'' k d)) same_cpus (joined k d (subst (λ (xs : List CpuView). k < length xs) (sym same_cpus) lt));
+    }
