@@ -9,3 +9,4 @@ pub mod Seats
 pub mod Views
 pub mod Insides
 pub mod Calls
+pub mod Making

@@ -5,6 +5,7 @@
 mod cpu;
 mod engine;
 mod limits;
+mod making;
 mod plays;
 #[cfg(test)]
 mod tests;
@@ -12,5 +13,6 @@ mod view;
 
 pub use cpu::{Cpu, Exhausted, Look, Reading};
 pub use engine::EngineSeat;
-pub use limits::{Limits, MakeError};
+pub use limits::{Limits, MOST_PROCESSORS, MakeError};
+pub use making::{Made, make};
 pub use view::{Bounds, Load, Right, Role, View, Word};
