@@ -1,3 +1,4 @@
 pub mod Pushes
 pub mod Beginnings
 pub mod Opens
+pub mod Refused

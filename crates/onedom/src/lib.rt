@@ -2,5 +2,11 @@
 #![tactic(auto)]
 
 mod event;
+mod illegal;
+mod one_domain;
+#[cfg(test)]
+mod tests;
 
 pub use event::{Event, Maker};
+pub use illegal::Illegal;
+pub use one_domain::{Memory, OneDomain, legal};
