@@ -83,7 +83,9 @@ fn may_follow(history: &[Event], event: Event) -> Result<(), Illegal>
     ensures refused { IfErr result (λ cause. IsRefusal history.now event cause × ¬ MayFollow history.now event) }
 {
     match event {
-        Event::Begin { section, .. } if begins_of(history, section) > 0 => Err(Illegal::SectionUsed),
+        Event::Begin { section, .. } if begins_of(history, section) > 0 => Err(
+            Illegal::SectionUsed,
+        ),
         Event::End { section, .. } if !is_open(history, section) => Err(Illegal::NotOpen),
         Event::Start { .. } if is_running(history) => Err(Illegal::PeriodRunning),
         _ => Ok(()),
@@ -106,13 +108,19 @@ fn is_running(history: &[Event]) -> bool
 fn begins_of(history: &[Event], section: u64) -> usize
     ensures { result ≡ begins_of section history.now }
 {
-    history.iter().filter(|event| begins(section, **event)).count()
+    history
+        .iter()
+        .filter(|event| begins(section, **event))
+        .count()
 }
 
 fn ends_of(history: &[Event], section: u64) -> usize
     ensures { result ≡ ends_of section history.now }
 {
-    history.iter().filter(|event| ends(section, **event)).count()
+    history
+        .iter()
+        .filter(|event| ends(section, **event))
+        .count()
 }
 
 fn starts_in(history: &[Event]) -> usize

@@ -23,9 +23,7 @@ fn end(section: u64) -> Event {
     }
 }
 
-const START: Event = Event::Start {
-    by: Maker::Engine,
-};
+const START: Event = Event::Start { by: Maker::Engine };
 
 #[test]
 fn one_domain(rt: HostRuntime) -> Result<(), Fail> {

@@ -11,7 +11,7 @@ loop-event-preserved g c = (
 pub returns-in-Err : goal.returns-in-Err
 returns-in-Err g c =
     elim c.match-cause.branch [
-        in-Memory w ↦ rw w.result-is tt
+      | in-Memory w ↦ rw w.result-is tt
       | in_default-cause w ↦ let illegal = refused_at c.args.events.now _ _ _ _ c.loop-event-test.true c.loop-event.invariant.0 c.in-Err.ensures.refused w.in_default-cause.not-Memory in
           rw w.result-is ((λ h. absurd cc), (λ l. absurd (illegal l)))
     ]
