@@ -55,7 +55,7 @@ impl<A: Allocator> OneDomain<A> {
         ensures refused { IfErr result (λ cause. IsRefusal self.old event cause) }
         ensures unchanged { OnErr result (self.new ≡ self.old) }
     {
-        may_follow(self.events.as_slice(), event)?;
+        may_follow(&self.events, event)?;
         self.events.push(event).map_err(|_| Illegal::Memory)?;
         Ok(())
     }

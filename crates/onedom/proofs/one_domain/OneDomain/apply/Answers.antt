@@ -6,5 +6,5 @@ use Rattle.onedom.proofs.one_domain.OneDomain.apply.Goals as goal
 
 pub invariant_of-self-2 : goal.invariant_of-self-2
 invariant_of-self-2 g c =
-    let may = subst (λ (h : List Event). MayFollow h c.args.event) c.as_slice.ensures.value c.in_ok-may_follow.ensures.follows in
+    let may = subst (λ (h : List Event). MayFollow h c.args.event) c.deref.ensures.value c.in_ok-may_follow.ensures.follows in
     legal_pushed _ c.self.inside.events.items c.push.new.self.items c.args.event c.push.ensures.items c.self.invariant may
