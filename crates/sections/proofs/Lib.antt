@@ -5,3 +5,4 @@ pub mod Seating
 pub mod Calling
 pub mod Meeting
 pub mod Starting
+pub mod Founding

@@ -1,27 +1,33 @@
-use Rattle.std.proofs.Common.{rules, ◌≡◌, ◌+◌, ◌*◌, ◌^◌, ◌<◌, ◌≤◌, [], IfOk, IfErr, ℕ, ◌-◌, length, ◌/◌, ◌%◌, Bool, true, false, nat_eq, nat_lt, List, ◌∷◌, ◌++◌, slice_index_or, slice_set, bit_and, bit_or, Fits, w8, w32, w64, Bor, MutBor}
+use Rattle.std.proofs.Common.{rules, ◌≡◌, ◌<◌, List, length, ap, sym, ◌∙◌, subst, arith}
 use Rattle.std.specs.Arc.{arc_value}
-use Rattle.sections.specs.Words.{word_count}
-use Rattle.sections.specs.Rule.{founder}
-use Rattle.sections.specs.Calls.{new_cpu}
-use Rattle.sections.specs.Making.{IsSmall, IsFounder, IsMade, IsRefused, NewTable}
+use Rattle.sections.specs.Views.{CpuView}
+use Rattle.sections.specs.Calls.{new_cpu, AreNew}
+use Rattle.sections.proofs.Founding.{new_pushed}
 use Rattle.sections.proofs.making.build.Goals as goal
 
--- src/making.rt:73:5
 pub loop-processor-init : goal.loop-processor-init
-loop-processor-init g c = ?
+loop-processor-init g c = record {
+  founder = rw c.in_ok-table-2.ensures.ok c.in_ok-table.ensures;
+  count = search rules;
+  cpus_new = subst (λ (xs : List CpuView). AreNew (arc_value c.in_ok-table-2.table).shared.table_id c.args.bounds.processors c.args.bounds.sections xs) (sym c.in_ok-cpus.ensures.items) (λ k d lt. absurd (omega (arith, lt)));
+}
 
--- src/making.rt:74:19
 pub deal-requires-clause-next : goal.deal-requires-clause-next
-deal-requires-clause-next g c = ?
+deal-requires-clause-next g c = c.loop-processor.invariant.founder
 
--- src/making.rt:73:5
 pub loop-processor-preserved : goal.loop-processor-preserved
-loop-processor-preserved g c = ?
+loop-processor-preserved g c =
+    let v = c.loop-processor.invariant in
+    let d = c.in_ok-deal.ensures in
+    let new : c.in_ok-deal.field-0 ≡ new_cpu (arc_value c.in_ok-table-2.table).shared.table_id c.args.bounds.processors c.args.bounds.sections c.loop-processor.processor =
+    d.0 ∙ ap (λ t. new_cpu t c.args.bounds.processors c.args.bounds.sections c.loop-processor.processor) v.founder.seated in record {
+      founder = d.1;
+      count = search rules;
+      cpus_new = subst (λ (xs : List CpuView). AreNew (arc_value c.in_ok-table-2.table).shared.table_id c.args.bounds.processors c.args.bounds.sections xs) (sym c.in_ok-push.ensures.items) (new_pushed _ _ _ _ _ _ v.count new v.cpus_new);
+    }
 
--- src/making.rt:76:8
 pub invariant_of-result : goal.invariant_of-result
 invariant_of-result g c = ?
 
--- src/making.rt:61:1
 pub returns : goal.returns
 returns g c = ?

@@ -1,11 +1,7 @@
-use Rattle.std.proofs.Common.{rules, ◌≡◌, ◌+◌, ◌*◌, ◌^◌, ◌<◌, ◌≤◌, [], IfOk, IfErr, ℕ, ◌-◌, length, ◌/◌, ◌%◌, Bool, true, false, nat_eq, nat_lt, List, ◌∷◌, ◌++◌, slice_index_or, slice_set, bit_and, bit_or, Fits, w8, w32, w64, Bor, MutBor}
-use Rattle.std.specs.Arc.{arc_value}
-use Rattle.sections.specs.Words.{word_count}
-use Rattle.sections.specs.Rule.{founder}
-use Rattle.sections.specs.Calls.{new_cpu}
-use Rattle.sections.specs.Making.{IsSmall, IsFounder, IsMade, IsRefused, NewTable}
+use Rattle.std.proofs.Common.{◌∙◌}
+use Rattle.sections.proofs.Steps.{opens}
+use Rattle.sections.proofs.Founding.{all_zero}
 use Rattle.sections.proofs.making.new_table.Goals as goal
 
--- src/making.rt:35:5
 pub of_words-requires : goal.of_words-requires
-of_words-requires g c = ?
+of_words-requires g c = opens _ _ (c.as_slice.ensures.len ∙ c.in_ok-words.ensures.len) (all_zero _ _ (c.as_slice.ensures.value ∙ c.in_ok-words.ensures.items_if_clones_equal (λ y e. e))) c.requires.product
