@@ -10,7 +10,11 @@ use Rattle.sections.specs.declared.limits.Limits.{Limits}
 use Rattle.sections.specs.Limits.{AreInRange}
 use Rattle.sections.specs.Views.{CpuView}
 use Rattle.sections.specs.Calls.{new_cpu, AreNew}
+use Rattle.sections.specs.declared.view.Role.TheVariants.{Driver}
+use Rattle.sections.specs.Rule.{HasItsMaker, founder}
+use Rattle.sections.specs.Insides.{IsAtRest}
 use Rattle.sections.specs.Making.{IsCount, IsSmall}
+use Rattle.std.proofs.lemmas.List.Elements.{All-nil}
 
 pub all_zero : (n : ℕ) (words : List ℕ) → words ≡ replicate n 0 → (k : ℕ) → get_or words k 0 ≡ 0
 all_zero n words e k = let z : get_or (replicate n 0) k 0 ≡ 0 = dite (dec_le (k + 1) n) (λ l. get_or-replicate n k 0 0 (omega arith)) (λ g. get_or_past (replicate n 0) k 0 (omega (arith, length-replicate {A = ℕ} n 0))) in
@@ -32,3 +36,6 @@ small_enough processors limits count range = let most = count.1 in let few = ran
   processors = omega arith;
   product = omega (arith, product);
 }
+
+pub rests_founding : (bounds : Bounds) (k : ℕ) → IsAtRest (record (founder bounds) { role = Driver k })
+rests_founding bounds k = record { free = refl; told = refl; sound = record { legal = tt; makers = All-nil (HasItsMaker bounds.processors); own = refl } }

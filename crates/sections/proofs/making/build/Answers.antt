@@ -2,7 +2,12 @@ use Rattle.std.proofs.Common.{rules, ◌≡◌, ◌<◌, List, length, ap, sym, 
 use Rattle.std.specs.Arc.{arc_value}
 use Rattle.sections.specs.Views.{CpuView}
 use Rattle.sections.specs.Calls.{new_cpu, AreNew}
-use Rattle.sections.proofs.Founding.{new_pushed}
+use Rattle.sections.specs.declared.view.Bounds.{Bounds}
+use Rattle.sections.specs.declared.view.View.{View}
+use Rattle.sections.specs.declared.view.Role.TheVariants.{Driver}
+use Rattle.sections.specs.Words.{word_count, number_word}
+use Rattle.sections.specs.Insides.{IsAtRest}
+use Rattle.sections.proofs.Founding.{new_pushed, rests_founding}
 use Rattle.sections.proofs.making.build.Goals as goal
 
 pub loop-processor-init : goal.loop-processor-init
@@ -27,7 +32,25 @@ loop-processor-preserved g c =
     }
 
 pub invariant_of-result : goal.invariant_of-result
-invariant_of-result g c = ?
+invariant_of-result g c =
+    let f = c.loop-processor.invariant.founder in
+    let done = c.loop-processor-test.false in
+    let all : c.loop-processor.processor ≡ c.args.bounds.processors = omega arith in
+    let key = ap (λ (b : Bounds). b.processors) f.key_is in record {
+      placed = record { seated = f.seated; wide = f.wide ∙ ap word_count (sym key); bare = ap (λ m. m.1) f.me; sized = ap (λ m. m.0.processors) f.me ∙ sym key };
+      rests = subst (λ (v : View). IsAtRest v) (sym (ap (λ m. m.0) f.me)) (rests_founding c.args.bounds c.loop-processor.processor);
+      role = ap (λ m. m.0.role) f.me ∙ ap Driver (all ∙ sym key);
+      number = c.zero.ensures ∙ sym (ap (λ m. number_word m.0.mine) f.me);
+      periods = c.requires.periods;
+    }
 
 pub returns : goal.returns
-returns g c = ?
+returns g c =
+    let v = c.loop-processor.invariant in
+    let f = v.founder in
+    let done = c.loop-processor-test.false in
+    let all : c.loop-processor.processor ≡ c.args.bounds.processors = omega arith in record {
+      count = v.count ∙ all;
+      cpus_new = subst (λ t. AreNew t c.args.bounds.processors c.args.bounds.sections c.loop-processor.cpus.items) (sym f.seated) v.cpus_new;
+      engine_new = λ k. record { domain = c.loop-processor.seat.table_id; processors = (f.key_is k).processors; periods = c.args.periods; seen = (f.me k).0.seen; mine = (f.me k).0.mine; loads = (f.me k).0.loads };
+    }
