@@ -1,2 +1,4 @@
 mod Numerals
 mod Writing
+mod Pieces
+mod SoFar
