@@ -2,3 +2,4 @@ mod Numerals
 mod Writing
 mod Pieces
 mod SoFar
+mod Reading

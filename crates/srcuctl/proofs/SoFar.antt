@@ -1,8 +1,8 @@
 -- A run that goes on: byte by byte, and line by line.
-use Rattle.std.proofs.Common.{◌≡◌, ◌≢◌, ℕ, ◌+◌, ◌<◌, ◌≤◌, Bool, true, false, ◌||◌, List, [], ◌∷◌, ◌++◌, Option, Some, length, get_or, take, drop, refl, sym, ap, ◌∙◌, subst, append_assoc, append-nil, take-append-drop, add-zero, rules, arith}
+use Rattle.std.proofs.Common.{◌≡◌, ◌≢◌, ℕ, ◌+◌, ◌<◌, ◌≤◌, Bool, true, false, ◌||◌, List, [], ◌∷◌, ◌++◌, Option, Some, None, cond, length, get_or, take, drop, refl, sym, ap, ◌∙◌, subst, append_assoc, append-nil, take-append-drop, add-zero, rules, arith}
 use borrow.Author.Tests.{tests}
 use Rattle.std.specs.Io.KnownBytes.{Appends, Keeps}
-use Rattle.srcuctl.specs.Lines.{is_empty, lines_of, pieces, text_of, whole_lines_of}
+use Rattle.srcuctl.specs.Lines.{is_text, lines_of, pieces, text_of, without_empty_last}
 use Rattle.srcuctl.specs.Runs.{AnswerFails, Answering, BreaksOff, EndsEarly, IsRun, IsSoFar}
 use Rattle.srcuctl.specs.declared.error.RunError.{RunError}
 use Rattle.srcuctl.specs.declared.error.RunError.TheVariants as error
@@ -18,6 +18,17 @@ or_false : (a : Bool) → (a || false) ≡ a
 or_false true = refl
 or_false false = refl
 
+some_of : (b : Bool) (xs ys : List ℕ) → cond b (Some xs) None ≡ Some ys → xs ≡ ys
+some_of true xs ys e = cc
+some_of false xs ys e = absurd (cc)
+
+text_of-nil : (front : List ℕ) → text_of front ≡ Some [] → front ≡ []
+text_of-nil front e = some_of (is_text front) front [] e
+
+one_line : (front : List ℕ) → front ≢ [] → without_empty_last (front ∷ []) ≡ front ∷ []
+one_line [] some = absurd (some refl)
+one_line (x ∷ xs) some = search (rules, tests)
+
 module _ {S : Type 0} (gives : Answering S) where
   -- a run and one line more
   pub IsRun-push : (s : S) (number : ℕ) (lines : List (List ℕ)) (written : List ℕ) (faulty : Bool) (between : S)
@@ -25,8 +36,7 @@ module _ {S : Type 0} (gives : Answering S) where
       → gives between (number + length lines) (text_of line) reply bad s'
       → IsRun gives s number (lines ++ line ∷ []) (written ++ reply) (faulty || bad) s'
   IsRun-push s number [] written faulty between run line reply bad s' given =
-      let here = subst (λ n. gives between n (text_of line) reply bad s') (add-zero number) given in
-      (
+      let here = subst (λ n. gives between n (text_of line) reply bad s') (add-zero number) given in (
         reply,
         [],
         bad,
@@ -39,8 +49,7 @@ module _ {S : Type 0} (gives : Answering S) where
       )
   IsRun-push s number (l ∷ lines) written faulty between run line reply bad s' given =
       let (first, replies, first_bad, others_bad, next, gave, rest, all, any) = run in
-      let same : number + length (l ∷ lines) ≡ number + 1 + length lines = omega arith in
-      (
+      let same : number + length (l ∷ lines) ≡ number + 1 + length lines = omega arith in (
         first,
         replies ++ reply,
         first_bad,
@@ -51,6 +60,11 @@ module _ {S : Type 0} (gives : Answering S) where
         ap (λ w. w ++ reply) all ∙ append_assoc first replies reply,
         ap (λ b. b || bad) any ∙ or_assoc first_bad others_bad bad,
       )
+
+  -- nothing was read yet
+  pub IsSoFar-begin : (start : S) (line : Option (List ℕ)) (number : ℕ) (faulty : Bool) → line ≡ Some [] → number ≡ 1 → faulty ≡ false
+      → IsSoFar gives start [] [] line number faulty start
+  IsSoFar-begin start line number faulty empty first none = record { ran = []; front = []; in_order = refl; run = (refl, none, refl); numbered = first; kept = empty }
 
   module _ {start : S} {taken given : List ℕ} {line : Option (List ℕ)} {number : ℕ} {faulty : Bool} {s : S} (so_far : IsSoFar gives start taken given line number faulty s) where
     -- the same, of equal texts
@@ -128,6 +142,35 @@ module _ {S : Type 0} (gives : Answering S) where
           run = so_far.run;
         } in
         ([], Appends-kept old old new [] (Appends-nil old) fails, (ended, append-nil given))
+
+    -- ---- at the end of the text
+
+    -- nothing stands behind its last line feed
+    pub finish-empty : line ≡ Some [] → IsRun gives start 1 (lines_of taken) (given ++ []) faulty s
+    finish-empty empty =
+        let none : so_far.front ≡ [] = text_of-nil so_far.front (sym so_far.kept ∙ empty) in
+        let order = lines_of-pieces taken so_far.ran so_far.front so_far.in_order ∙ ap (λ f. so_far.ran ++ without_empty_last (f ∷ [])) none ∙ append-nil so_far.ran in
+        subst (λ l. IsRun gives start 1 l (given ++ []) faulty s) (sym order)
+        (subst (λ w. IsRun gives start 1 so_far.ran w faulty s) (sym (append-nil given)) so_far.run)
+
+    last_line : line ≢ Some [] → lines_of taken ≡ so_far.ran ++ so_far.front ∷ []
+    last_line some =
+        lines_of-pieces taken so_far.ran so_far.front so_far.in_order ∙ ap (λ l. so_far.ran ++ l) (one_line so_far.front (λ none. some (so_far.kept ∙ ap text_of none)))
+
+    -- what stands there is a line, and was run
+    pub finish-line : (reply : List ℕ) (bad : Bool) (s' : S) (faulty' : Bool) → line ≢ Some [] → gives s number line reply bad s' → faulty' ≡ (faulty || bad)
+        → IsRun gives start 1 (lines_of taken) (given ++ reply) faulty' s'
+    finish-line reply bad s' faulty' some gave any =
+        subst (λ l. IsRun gives start 1 l (given ++ reply) faulty' s') (sym (last_line some))
+        (subst (λ f. IsRun gives start 1 (so_far.ran ++ so_far.front ∷ []) (given ++ reply) f s') (sym any) (run_on reply bad s' gave))
+
+    pub finish-fails : (old new : Option (List ℕ)) (e : RunError) (s' : S) → line ≢ Some [] → AnswerFails gives s number line old new e s'
+        → (more : List ℕ) × Appends old new more × EndsEarly gives start taken (given ++ more) e s'
+    finish-fails old new e s' some fails = EndsEarly-within taken [] (last_line some) old new e s' fails
+
+    -- the reader failed
+    pub EndsEarly-read : EndsEarly gives start taken given error.Read s
+    EndsEarly-read = (faulty, subst (λ l. IsRun gives start 1 l given faulty s) (sym (whole_lines_of-pieces taken so_far.ran so_far.front so_far.in_order)) so_far.run)
 
   -- ---- bytes that are fed, the first i of which were taken
   module _ {start : S} (taken given : List ℕ) where

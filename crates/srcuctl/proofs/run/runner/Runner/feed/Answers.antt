@@ -1,4 +1,4 @@
-use Rattle.std.proofs.Common.{[], ◌++◌, rules}
+use Rattle.std.proofs.Common.{[], ◌++◌}
 use Rattle.std.proofs.KnownBytes.{Appends-nil, Appends-trans}
 use Rattle.std.proofs.lemmas.Result.{err_from_is_err_and}
 use Rattle.srcuctl.proofs.SoFar.{fed-all, fed-byte, fed-fails, fed-line, fed-none}
