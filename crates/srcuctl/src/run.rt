@@ -6,6 +6,8 @@ ghost use Rattle.srcuctl.specs.Lines.{lines_of};
 ghost use Rattle.srcuctl.specs.Runs.{EndsEarly, IsRun};
 
 mod runner;
+#[cfg(test)]
+mod tests;
 
 use crate::error::{Outcome, RunError};
 use runner::Runner;
