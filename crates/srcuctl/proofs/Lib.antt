@@ -1,0 +1,5 @@
+mod Numerals
+mod Writing
+mod Pieces
+mod SoFar
+mod Reading

@@ -1,3 +1,3 @@
 pub mod Lines
 pub mod Faults
-pub mod Scripts
+pub mod Runs

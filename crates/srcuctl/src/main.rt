@@ -2,6 +2,11 @@
 #![tactic(auto)]
 
 mod command;
+mod error;
 mod fault;
+mod line;
+mod output;
+mod run;
+mod words;
 
 fn main() {}
