@@ -1,3 +1,5 @@
 pub mod Pushes
 pub mod Beginnings
 pub mod Opens
+pub mod Refused
+pub mod Lawful

@@ -139,6 +139,11 @@ legal_after_push before (x ∷ xs) e h may = let P : List Event → Type 0 = λ 
 pub legal_push : (history : List Event) (e : Event) → IsLegal history → MayFollow history e → IsLegal (history ++ e ∷ [])
 legal_push history e h may = legal_after_push [] history e h may
 
+-- a push that may have been refused
+pub legal_pushed : (b : Bool) (history after : List Event) (e : Event) → after ≡ cond b (history ++ e ∷ []) history → IsLegal history → MayFollow history e → IsLegal after
+legal_pushed true history after e h legal may = subst IsLegal (sym h) (legal_push history e legal may)
+legal_pushed false history after e h legal may = subst IsLegal (sym h) legal
+
 -- the front and the back of a legal history
 pub legal_after_append : (before front back : List Event) → IsLegalAfter before (front ++ back) → (IsLegalAfter before front) × (IsLegalAfter (before ++ front) back)
 legal_after_append before [] back h = let P : List Event → Type 0 = λ l. IsLegalAfter l back in (tt, subst P (sym (append-nil before)) h)

@@ -1,6 +1,43 @@
--- What holds of all legal histories.
-use Rattle.std.specs.Prelude.{ℕ, ◌==◌, List, count_by}
+-- What holds of all legal histories. It follows from the definitions, and shows that they say what they should.
+use Rattle.std.specs.Prelude.{◌≡◌, ℕ, ◌+◌, ◌<◌, ◌≤◌, ◌==◌, ◌↔◌, List, [], ◌∷◌, ◌++◌, count_by}
+use Rattle.onedom.specs.declared.event.Maker.{Maker}
+use Rattle.onedom.specs.declared.event.Event.{Event}
+use Rattle.onedom.specs.declared.event.Event.TheVariants.{End}
+use Rattle.onedom.specs.Histories.{begins_of, ends_of, IsOpen, open_sections, starts_in, ended_in, MayFollow, IsLegal, IsBeginning}
 
 -- how often a number stands in a list
 abbrev pub times : ℕ → List ℕ → ℕ
 times s sections = count_by (λ t. t == s) sections
+
+-- Legality
+
+-- wherever a legal history is cut, the event behind the cut may follow what is before it, and no other history is legal
+abbrev pub EachMayFollow : Type 0
+EachMayFollow = (history : List Event) → IsLegal history ↔ ((before : List Event) (e : Event) (after : List Event) → history ≡ before ++ e ∷ after → MayFollow before e)
+
+abbrev pub OneMore : Type 0
+OneMore = (history : List Event) (e : Event) → IsLegal (history ++ e ∷ []) ↔ (IsLegal history × MayFollow history e)
+
+abbrev pub BeginningsAreLegal : Type 0
+BeginningsAreLegal = (seen history : List Event) → IsBeginning seen history → IsLegal history → IsLegal seen
+
+-- Sections
+
+abbrev pub OpenHasOneBegin : Type 0
+OpenHasOneBegin = (history : List Event) (s : ℕ) → IsLegal history → IsOpen history s → (begins_of s history ≡ 1) × (ends_of s history ≡ 0)
+
+abbrev pub OnlyOpenEnds : Type 0
+OnlyOpenEnds = (before : List Event) (s q : ℕ) (by : Maker) (after : List Event) → IsLegal (before ++ End s q by ∷ after) → IsOpen before s
+
+-- a section that was closed is never open again: it has no more events
+abbrev pub ClosedForGood : Type 0
+ClosedForGood = (history rest : List Event) (s : ℕ) → IsLegal (history ++ rest) → 0 < ends_of s history → (¬ IsOpen (history ++ rest) s) × (begins_of s rest ≡ 0) × (ends_of s rest ≡ 0)
+
+-- the list of open sections has each open section once, and no other
+abbrev pub OpenAreListed : Type 0
+OpenAreListed = (history : List Event) (s : ℕ) → IsLegal history → (0 < times s (open_sections history) ↔ IsOpen history s) × (times s (open_sections history) ≤ 1)
+
+-- Grace periods
+
+abbrev pub OnePeriodRuns : Type 0
+OnePeriodRuns = (history : List Event) → IsLegal history → starts_in history ≤ ended_in history + 1

@@ -2,5 +2,13 @@
 #![tactic(auto)]
 
 mod event;
+mod illegal;
+mod laws;
+mod one_domain;
+#[cfg(test)]
+mod tests;
 
 pub use event::{Event, Maker};
+pub use illegal::Illegal;
+pub use laws::{legality_of_histories, periods_of_a_legal_history, sections_of_a_legal_history};
+pub use one_domain::{Memory, OneDomain, legal};

@@ -127,3 +127,6 @@ agrees_new n words wide zeros = record {
 
 pub number_at_rest : (log : List Event) → starts_in log ≡ 0 → number_word log ≡ 0
 number_at_rest log unstarted = ap number_by unstarted
+
+pub number_while_running : (log : List Event) → starts_in log ≡ 1 → number_word log ≡ 1
+number_while_running log one = ap number_by one

@@ -62,6 +62,7 @@ pub record Looks (c d : CpuView) (look : LookView) : Type 0 where
 -- a section that never was begins, of this index
 pub record Enters (c : CpuView) (look : LookView) (d : CpuView) (r : ReadingView) : Type 0 where
   pub section : ℕ
+  pub room : locks c.processor look.index c.mine < c.sections
   pub fresh : begins_of section c.seen ≡ 0
   pub adds : AddsEvent look.seen (Begin section c.processor look.index (Processor c.processor)) c d
   pub reading : r ≡ record { domain = c.domain; section = section; processor = c.processor; index = look.index; seen = d.seen }
@@ -98,29 +99,64 @@ new_engine domain processors periods = record { domain = domain; processors = pr
 abbrev pub AreNew : TableId → ℕ → ℕ → List CpuView → Type 0
 AreNew domain processors sections cpus = (k : ℕ) (d : CpuView) → k < length cpus → slice_index_or cpus k d ≡ new_cpu domain processors sections k
 
+-- one load by the engine, after which it has seen what the processor has
+pub record Covers (e : EngineView) (seen : List Event) (e' : EngineView) : Type 0 where
+  pub value : ℕ
+  pub same : IsSameEngine e e'
+  pub mine : e'.mine ≡ e.mine
+  pub loads : e'.loads ≡ e.loads ++ index_load value ∷ []
+  pub since : IsBeginning e.seen e'.seen
+  pub covers : IsBeginning seen e'.seen
+  pub history : IsSeenByEngine e'
+
+-- the engine has seen what each of these processors has, and did nothing
+pub record CoversAll (e : EngineView) (cpus : List CpuView) (e' : EngineView) : Type 0 where
+  pub same : IsSameEngine e e'
+  pub mine : e'.mine ≡ e.mine
+  pub since : IsBeginning e.seen e'.seen
+  pub covers : (k : ℕ) (d : CpuView) → k < length cpus → IsBeginning (slice_index_or cpus k d).seen e'.seen
+  pub history : IsSeenByEngine e'
+
+-- one load by the processor, after which it has seen just this
+pub record Accepts (c : CpuView) (all : List Event) (c' : CpuView) : Type 0 where
+  pub value : ℕ
+  pub same : IsSameCpu c c'
+  pub mine : c'.mine ≡ c.mine
+  pub loads : c'.loads ≡ c.loads ++ index_load value ∷ []
+  pub seen : c'.seen ≡ all
+  pub history : IsSeenBy c'
+
 -- both made one load, and no event, and have then seen one history, which covers what each had seen. So each of the two has there just its own events
 pub record Ties (c d c' d' : CpuView) : Type 0 where
-  pub first : ℕ
-  pub second : ℕ
-  pub same : IsSameCpu c c' × IsSameCpu d d'
-  pub mine : (c'.mine ≡ c.mine) × (d'.mine ≡ d.mine)
-  pub loads : (c'.loads ≡ c.loads ++ index_load first ∷ []) × (d'.loads ≡ d.loads ++ index_load second ∷ [])
-  pub one : c'.seen ≡ d'.seen
-  pub since : IsBeginning c.seen c'.seen × IsBeginning d.seen d'.seen
-  pub history : IsSeenBy c' × IsSeenBy d'
+  pub value : ℕ
+  pub looks : Loads (index_load value) c c'
+  pub accepts : Accepts d c'.seen d'
+  pub since : IsBeginning d.seen d'.seen
   pub comparable : IsBeginning c.seen d.seen ⊎ IsBeginning d.seen c.seen
 
 -- the same of the engine and a processor
-pub record TiesEngine (e : EngineView) (d : CpuView) (e' : EngineView) (d' : CpuView) : Type 0 where
-  pub first : ℕ
-  pub second : ℕ
-  pub same : IsSameEngine e e' × IsSameCpu d d'
-  pub mine : (e'.mine ≡ e.mine) × (d'.mine ≡ d.mine)
-  pub loads : (e'.loads ≡ e.loads ++ index_load first ∷ []) × (d'.loads ≡ d.loads ++ index_load second ∷ [])
-  pub one : e'.seen ≡ d'.seen
-  pub since : IsBeginning e.seen e'.seen × IsBeginning d.seen d'.seen
-  pub history : IsSeenByEngine e' × IsSeenBy d'
-  pub comparable : IsBeginning e.seen d.seen ⊎ IsBeginning d.seen e.seen
+pub record TiesEngine (e : EngineView) (c : CpuView) (e' : EngineView) (c' : CpuView) : Type 0 where
+  pub covers : Covers e c.seen e'
+  pub accepts : Accepts c e'.seen c'
+  pub since : IsBeginning c.seen c'.seen
+  pub comparable : IsBeginning e.seen c.seen ⊎ IsBeginning c.seen e.seen
+
+-- the processor made a load and no event, and has seen this history, which goes on from what it had seen
+pub record Joins (c : CpuView) (seen : List Event) (c' : CpuView) : Type 0 where
+  pub accepts : Accepts c seen c'
+  pub since : IsBeginning c.seen seen
+
+-- the engine and the processors have seen one history, in which each has just its own events
+pub record Meets (e : EngineView) (cpus : List CpuView) (e' : EngineView) (cpus' : List CpuView) : Type 0 where
+  pub same : IsSameEngine e e'
+  pub mine : e'.mine ≡ e.mine
+  pub since : IsBeginning e.seen e'.seen
+  pub history : IsSeenByEngine e'
+  pub count : length cpus' ≡ length cpus
+  pub each : (k : ℕ) (d : CpuView) → k < length cpus → Joins (slice_index_or cpus k d) e'.seen (slice_index_or cpus' k d)
+
+abbrev pub AreInDomain : TableId → List CpuView → Type 0
+AreInDomain domain cpus = (k : ℕ) (d : CpuView) → k < length cpus → (slice_index_or cpus k d).domain ≡ domain
 
 -- the engine's event was made, behind all that it had seen
 pub record AddsEngineEvent (ev : Event) (e f : EngineView) : Type 0 where

@@ -14,8 +14,10 @@ use Rattle.sections.specs.declared.view.Role.TheVariants.{Cpu, Driver}
 use Rattle.sections.specs.declared.cpu.Cpu.TheInside as cpu
 use Rattle.sections.specs.declared.cpu.Look.TheInside as look
 use Rattle.sections.specs.declared.cpu.Reading.TheInside as reading
-use Rattle.sections.specs.Words.{word_count, locks}
+use Rattle.sections.specs.declared.engine.EngineSeat.TheInside as engine
+use Rattle.sections.specs.Words.{locks, number_word}
 use Rattle.sections.specs.Rule.{token}
+use Rattle.sections.specs.Seats.{IsPlaced}
 use Rattle.sections.specs.Plays.{IsSound}
 use Rattle.sections.specs.Views.{CpuView, EngineView, LookView, ReadingView}
 
@@ -23,15 +25,10 @@ abbrev pub section_of : Right → ℕ
 section_of Nothing = 0
 section_of (Section s p i) = s
 
--- a seat between two calls: its table is that of these bounds, it holds no slot and no right, and all that it was told is seen
-pub record IsSeated (bounds : Bounds) (table seat : TableId) (v : View) : Type 0 where
-  pub seated : seat ≡ table
-  pub wide : seat.words ≡ word_count bounds.processors
-  pub flat : seat.slots ≡ 0
-  pub small : 2 * bounds.processors * bounds.sections < 2 ^ 62
+-- a seat between two calls: it has no right of its own, all that it was told is seen, and what it has seen is sound
+pub record IsAtRest (v : View) : Type 0 where
   pub free : v.right ≡ Nothing
   pub told : v.told ≡ []
-  pub sized : v.processors ≡ bounds.processors
   pub sound : IsSound v.processors v.role v.mine v.seen
 
 abbrev pub view_of_look : look.Inside → LookView
@@ -50,13 +47,26 @@ pub record IsReading (r : reading.Inside) : Type 0 where
 
 module _ {A : Type 0} where
   abbrev pub view_of_cpu : cpu.Inside A → CpuView
-  view_of_cpu c = record { domain = c.seat.table_id; processors = (arc_value c.table).shared.key.processors; sections = (arc_value c.table).shared.key.sections; processor = c.processor; seen = c.seat.me.0.seen; mine = c.seat.me.0.mine; loads = c.seat.me.0.loads }
+  view_of_cpu c = record { domain = c.seat.table_id; processors = (arc_value c.table).shared.key.processors; sections = c.limit; processor = c.processor; seen = c.seat.me.0.seen; mine = c.seat.me.0.mine; loads = c.seat.me.0.loads }
 
   pub record IsCpu (c : cpu.Inside A) : Type 0 where
-    pub seat : IsSeated (arc_value c.table).shared.key (arc_value c.table).shared.table_id c.seat.table_id c.seat.me.0
-    pub bare : c.seat.me.1 ≡ []
+    pub placed : IsPlaced (arc_value c.table).shared.key (arc_value c.table).shared.table_id c.seat
+    pub rests : IsAtRest c.seat.me.0
     pub role : c.seat.me.0.role ≡ Cpu c.processor
     pub there : c.processor < (arc_value c.table).shared.key.processors
+    pub limit : c.limit ≡ (arc_value c.table).shared.key.sections
     pub begun : (i : Index) → slice_index c.begun (index_number i) ≡ locks c.processor i c.seat.me.0.mine
-    pub limited : (i : Index) → slice_index c.begun (index_number i) ≤ (arc_value c.table).shared.key.sections
+    pub limited : (i : Index) → slice_index c.begun (index_number i) ≤ c.limit
+    pub small : c.limit < 2 ^ 62
     pub unclosed : c.unclosed ≡ length (open_sections c.seat.me.0.mine)
+    pub few : c.unclosed ≤ slice_index c.begun 0 + slice_index c.begun 1
+
+  abbrev pub view_of_engine : engine.Inside A → EngineView
+  view_of_engine e = record { domain = e.seat.table_id; processors = (arc_value e.table).shared.key.processors; periods = e.periods; seen = e.seat.me.0.seen; mine = e.seat.me.0.mine; loads = e.seat.me.0.loads }
+
+  pub record IsEngine (e : engine.Inside A) : Type 0 where
+    pub placed : IsPlaced (arc_value e.table).shared.key (arc_value e.table).shared.table_id e.seat
+    pub rests : IsAtRest e.seat.me.0
+    pub role : e.seat.me.0.role ≡ Driver (arc_value e.table).shared.key.processors
+    pub number : e.number ≡ number_word e.seat.me.0.mine
+    pub periods : e.periods < 2 ^ 59

@@ -5,6 +5,8 @@ pub mod Limits
 pub mod Words
 pub mod Rule
 pub mod Plays
+pub mod Seats
 pub mod Views
 pub mod Insides
 pub mod Calls
+pub mod Making

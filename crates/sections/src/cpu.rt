@@ -10,6 +10,7 @@ use std::marker::Model;
 use std::sync::Arc;
 
 mod sections;
+pub(crate) mod steps;
 mod tokens;
 
 pub(crate) type Words<A> = Table<NoSlot, View, Bounds, InOneHistory, A>;
@@ -25,6 +26,8 @@ pub struct Cpu<A: Allocator = Global> {
     pub(crate) table: Arc<Words<A>, A>,
     pub(crate) seat: Place,
     pub(crate) processor: u16,
+    /// How many sections of one index may begin here.
+    pub(crate) limit: u64,
     /// How many sections of each index were begun here.
     pub(crate) begun: [u64; 2],
     /// How many readings were given out here and not closed.

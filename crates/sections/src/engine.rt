@@ -1,0 +1,30 @@
+//! The seat with which the grace periods of a domain are driven.
+use crate::cpu::{Place, Words};
+use sseq::Number;
+use std::alloc::{Allocator, Global};
+use std::marker::Model;
+use std::sync::Arc;
+
+mod periods;
+
+/// The engine's seat at a domain's words: there is one, and it alone changes the number. Contracts see what it has
+/// seen of the domain's history, its own events there, and its loads.
+#[derive(Drop)]
+pub struct EngineSeat<A: Allocator = Global> {
+    pub(crate) table: Arc<Words<A>, A>,
+    pub(crate) seat: Place,
+    pub(crate) number: Number,
+    pub(crate) periods: u64,
+}
+
+impl<A: Allocator> Model for EngineSeat<A> {
+    ghost use Rattle.sections.specs.Views.{EngineView};
+
+    ghost Value = { EngineView };
+
+    ghost use Rattle.sections.specs.Insides.{view_of_engine, IsEngine};
+
+    ghost view = { view_of_engine };
+
+    ghost invariant = { IsEngine };
+}

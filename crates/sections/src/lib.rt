@@ -12,5 +12,7 @@ mod tests;
 mod view;
 
 pub use cpu::{Cpu, Exhausted, Look, Reading};
-pub use limits::{Limits, MakeError};
+pub use engine::EngineSeat;
+pub use limits::{Limits, MOST_PROCESSORS, MakeError};
+pub use making::{Made, make};
 pub use view::{Bounds, Load, Right, Role, View, Word};

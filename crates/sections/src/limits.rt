@@ -5,6 +5,9 @@ ghost use Rattle.sections.specs.Limits.{AreInRange};
 use std::error::Error;
 use std::fmt;
 
+/// How many processors a domain may have.
+pub const MOST_PROCESSORS: usize = 2;
+
 /// The limits of a domain. Each is checked when the domain is made.
 #[derive(Clone, Copy, Debug, PartialEq, Eq)]
 pub struct Limits {
@@ -36,7 +39,7 @@ impl Limits {
 /// Why a domain was not made. Nothing is left of it.
 #[derive(Clone, Copy, Debug, PartialEq, Eq)]
 pub enum MakeError {
-    /// There are 1 or 2 processors in a domain.
+    /// A domain has from 1 to `MOST_PROCESSORS` processors.
     Processors = 1,
     /// One of the limits is out of its range.
     Limits = 2,
@@ -47,7 +50,7 @@ pub enum MakeError {
 impl fmt::Display for MakeError {
     fn fmt<W: fmt::Write>(&self, f: &mut fmt::Formatter<W>) -> fmt::Result {
         match self {
-            MakeError::Processors => f.write_str("a domain has 1 or 2 processors"),
+            MakeError::Processors => write!(f, "a domain has 1 to {MOST_PROCESSORS} processors"),
             MakeError::Limits => f.write_str("a limit is out of its range"),
             MakeError::Memory => f.write_str("out of memory"),
         }

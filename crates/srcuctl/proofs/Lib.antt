@@ -4,3 +4,6 @@ mod Names
 mod Places
 mod Parsing
 mod Openings
+mod Pieces
+mod SoFar
+mod Reading

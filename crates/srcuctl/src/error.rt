@@ -23,3 +23,22 @@ pub struct Outcome {
     /// Whether a line was faulty.
     pub faulty: bool,
 }
+
+#[cfg(test)]
+mod tests {
+    use super::*;
+    use std::test::Fail;
+
+    #[test]
+    fn texts(rt: HostRuntime) -> Result<(), Fail> {
+        let rows = [
+            (RunError::Read, "reading failed"),
+            (RunError::Write, "writing failed"),
+            (RunError::Memory, "out of memory"),
+        ];
+        for (error, text) in rows {
+            assert_eq!(rt; format!(in rt.alloc(); "{error}")?.as_str(), text);
+        }
+        Ok(())
+    }
+}

@@ -9,7 +9,7 @@ use std::io::Write;
 pub fn write_all<W: Write>(writer: &mut W, bytes: &[u8]) -> Result<(), RunError>
     ensures { (count : ℕ) × Appends (W.contents writer.old) (W.contents writer.new) (take count bytes.now)
         × MatchResult result (λ _. count ≡ length bytes.now)
-            (λ error. (error ≡ RunError.Write) × (count < length bytes.now)) }
+        (λ error. (error ≡ RunError.Write) × (count < length bytes.now)) }
 {
     let mut done = 0;
     while done < bytes.len() {

@@ -6,6 +6,8 @@ ghost use Rattle.srcuctl.specs.Lines.{lines_of};
 ghost use Rattle.srcuctl.specs.Runs.{EndsEarly, IsRun};
 
 mod runner;
+#[cfg(test)]
+mod tests;
 
 use crate::error::{Outcome, RunError};
 use runner::Runner;
@@ -51,9 +53,9 @@ pub fn run_lines<A: Allocator, S: Answers<A>, R: Read, W: Write>(
         × Consumes (R.remaining reader.old) (R.remaining reader.new) taken
         × Appends (W.contents writer.old) (W.contents writer.new) given
         × MatchResult result
-            (λ outcome. IsRun S.gives answerer.old 1 (lines_of taken) given outcome.faulty answerer.new
-                × IsAtEnd (R.remaining reader.new))
-            (λ error. EndsEarly S.gives answerer.old taken given error answerer.new) }
+        (λ outcome. IsRun S.gives answerer.old 1 (lines_of taken) given outcome.faulty answerer.new
+        × IsAtEnd (R.remaining reader.new))
+        (λ error. EndsEarly S.gives answerer.old taken given error answerer.new) }
 {
     let mut runner = Runner::new(alloc);
     let mut chunk = [0; CHUNK];

@@ -16,7 +16,11 @@ impl Index {
     pub fn of_word(word: u64) -> Index
         ensures { result ≡ low_bit word }
     {
-        if word % 2 == 0 { Index::Zero } else { Index::One }
+        if word % 2 == 0 {
+            Index::Zero
+        } else {
+            Index::One
+        }
     }
 
     /// 0 or 1: its place in an array of two.

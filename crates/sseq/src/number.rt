@@ -1,5 +1,5 @@
 //! The number of a domain (`srcu_gp_seq`): how many grace periods have ended, and where the running one stands.
-ghost use Rattle.std.specs.Prelude.{◌≡◌, ◌%◌, SomeIff};
+ghost use Rattle.std.specs.Prelude.{◌≡◌, ◌+◌, ◌%◌, ◌^◌, ◌<◌, SomeIff};
 ghost use Rattle.sseq.specs.Numbers.{IsNumber, state_bits};
 
 use std::fmt;
@@ -53,6 +53,17 @@ impl Number {
         ensures number { IsNumber result }
     {
         self.value
+    }
+
+    /// The number once a grace period has started (`rcu_seq_start`): one more, in the first scan.
+    pub fn started(self) -> Number
+        requires idle { self % 4 ≡ 0 }
+        requires room { self < 2 ^ 61 }
+        ensures { result ≡ self + 1 }
+    {
+        Number {
+            value: self.value + 1,
+        }
     }
 }
 

@@ -1,0 +1,106 @@
+//! What a processor does.
+ghost use Rattle.std.specs.Prelude.{◌≡◌, length, MatchResult};
+ghost use Rattle.onedom.specs.declared.event.Event.TheVariants.{End};
+ghost use Rattle.onedom.specs.declared.event.Maker.TheVariants.{Processor};
+ghost use Rattle.onedom.specs.Histories.{open_sections};
+ghost use Rattle.sections.specs.Calls.{AddsEvent, Looks, Enters, ReadLocks, LooksInVain, IsExhausted, IsHere, Ties};
+
+use super::steps::{accept, begin_section, cover, place_of_unlock};
+use super::{Cpu, Exhausted, Look, Reading};
+use crate::plays;
+use sseq::Index;
+use std::alloc::Allocator;
+
+impl<A: Allocator> Cpu<A> {
+    /// The number of this processor, from 0.
+    pub fn processor(&self) -> u16
+        ensures { result ≡ self.now.processor }
+    {
+        self.processor
+    }
+
+    /// Reads the index word, and what it finds is the current index.
+    pub fn look(&mut self) -> Look
+        ensures { Looks self.old self.new result }
+    {
+        let top = &self.table.shared;
+        let index = Index::of_word(top.load::<plays::LoadIndex>(&mut self.seat, 0));
+        let seat = top.split_seat::<plays::GiveToken>(&mut self.seat);
+        Look { index, seat }
+    }
+
+    /// Begins a section of the look's index. It is refused, with no step, exactly where this processor has begun as
+    /// many sections of this index as the limit allows. The look is gone then, and nothing else has changed.
+    pub fn enter(&mut self, look: Look) -> Result<Reading, Exhausted>
+        requires { look.domain ≡ self.old.domain }
+        ensures { MatchResult result (λ r. Enters self.old look self.new r) (λ _. IsExhausted self.old look.index × (self.new ≡ self.old)) }
+    {
+        let Look { index, seat: token } = look;
+        let top = &self.table.shared;
+        if self.begun[index.place()] == self.limit {
+            return Err(Exhausted);
+        }
+        top.join_seat::<plays::TakeToken>(&mut self.seat, token);
+        let seat = begin_section(top, &mut self.seat, self.processor, index);
+        self.begun[index.place()] += 1;
+        self.unclosed += 1;
+        Ok(Reading {
+            index,
+            processor: self.processor,
+            seat,
+        })
+    }
+
+    /// Begins a section of the current index (`srcu_read_lock`): a look, and then what [`Cpu::enter`] does.
+    pub fn read_lock(&mut self) -> Result<Reading, Exhausted>
+        ensures { MatchResult result (λ r. ReadLocks self.old self.new r) (λ _. LooksInVain self.old self.new) }
+    {
+        let top = &self.table.shared;
+        let index = Index::of_word(top.load::<plays::LoadIndex>(&mut self.seat, 0));
+        if self.begun[index.place()] == self.limit {
+            return Err(Exhausted);
+        }
+        let seat = begin_section(top, &mut self.seat, self.processor, index);
+        self.begun[index.place()] += 1;
+        self.unclosed += 1;
+        Ok(Reading {
+            index,
+            processor: self.processor,
+            seat,
+        })
+    }
+
+    /// Ends the reading's section, which was begun on this processor (`srcu_read_unlock`).
+    pub fn read_unlock(&mut self, reading: Reading)
+        requires { IsHere self.old reading }
+        ensures { AddsEvent reading.seen (End reading.section self.old.processor (Processor self.old.processor)) self.old self.new }
+    {
+        let Reading {
+            index,
+            processor: _,
+            seat: token,
+        } = reading;
+        let top = &self.table.shared;
+        top.join_seat::<plays::TakeToken>(&mut self.seat, token);
+        top.fetch_add::<plays::Unlock>(&mut self.seat, place_of_unlock(self.processor, index), 1);
+        self.unclosed -= 1;
+    }
+
+    /// How many readings were given out here and are not closed.
+    pub fn open_here(&self) -> u64
+        ensures { result ≡ length (open_sections self.now.mine) }
+    {
+        self.unclosed
+    }
+
+    /// One load of the index word by this processor, and then one by the other. Both have then seen one history, in
+    /// which each of the two has just its own events. What each had seen is a beginning of it.
+    pub fn tie(&mut self, other: &mut Cpu<A>)
+        requires { other.old.domain ≡ self.old.domain }
+        ensures { Ties self.old other.old self.new other.new }
+    {
+        let top = &self.table.shared;
+        cover(top, &mut self.seat, &mut other.seat);
+        accept(top, &mut other.seat, &mut self.seat);
+    }
+}

@@ -60,12 +60,12 @@ impl<A: Allocator> Runner<A> {
     ) -> Result<(), RunError>
         ensures { MatchResult result
             (λ _. (reply : List ℕ) × (faulty : Bool)
-                × S.gives answerer.old self.old.number self.old.line reply faulty answerer.new
-                × Appends (W.contents writer.old) (W.contents writer.new) reply
-                × (self.new.line ≡ Some []) × (self.new.number ≡ self.old.number + 1)
-                × (self.new.faulty ≡ (self.old.faulty || faulty)))
+            × S.gives answerer.old self.old.number self.old.line reply faulty answerer.new
+            × Appends (W.contents writer.old) (W.contents writer.new) reply
+            × (self.new.line ≡ Some []) × (self.new.number ≡ self.old.number + 1)
+            × (self.new.faulty ≡ (self.old.faulty || faulty)))
             (λ error. AnswerFails S.gives answerer.old self.old.number self.old.line
-                (W.contents writer.old) (W.contents writer.new) error answerer.new) }
+            (W.contents writer.old) (W.contents writer.new) error answerer.new) }
     {
         self.reply.clear();
         let faulty = answerer
@@ -89,10 +89,10 @@ impl<A: Allocator> Runner<A> {
         ensures { (start : S) (taken given : List ℕ)
             → IsSoFar S.gives start taken given self.old.line self.old.number self.old.faulty answerer.old
             → ((more : List ℕ) × Appends (W.contents writer.old) (W.contents writer.new) more
-                × MatchResult result
-                    (λ _. IsSoFar S.gives start (taken ++ bytes.now) (given ++ more)
-                        self.new.line self.new.number self.new.faulty answerer.new)
-                    (λ error. EndsEarly S.gives start (taken ++ bytes.now) (given ++ more) error answerer.new)) }
+            × MatchResult result
+            (λ _. IsSoFar S.gives start (taken ++ bytes.now) (given ++ more)
+            self.new.line self.new.number self.new.faulty answerer.new)
+            (λ error. EndsEarly S.gives start (taken ++ bytes.now) (given ++ more) error answerer.new)) }
     {
         for byte in bytes {
             if *byte == b'\n' {
@@ -114,9 +114,9 @@ impl<A: Allocator> Runner<A> {
         ensures { (start : S) (taken given : List ℕ)
             → IsSoFar S.gives start taken given self.line self.number self.faulty answerer.old
             → ((more : List ℕ) × Appends (W.contents writer.old) (W.contents writer.new) more
-                × MatchResult result
-                    (λ outcome. IsRun S.gives start 1 (lines_of taken) (given ++ more) outcome.faulty answerer.new)
-                    (λ error. EndsEarly S.gives start taken (given ++ more) error answerer.new)) }
+            × MatchResult result
+            (λ outcome. IsRun S.gives start 1 (lines_of taken) (given ++ more) outcome.faulty answerer.new)
+            (λ error. EndsEarly S.gives start taken (given ++ more) error answerer.new)) }
     {
         if !self.line.is_empty() {
             self.end_line(rt, answerer, writer)?;

@@ -1,5 +1,5 @@
 -- A write adds the next bytes to those that are written.
-use Rattle.std.proofs.Common.{arith, rules}
+use Rattle.std.proofs.Common.{rules}
 use Rattle.srcuctl.proofs.Writing.{Appends-next}
 use Rattle.srcuctl.proofs.output.write_all.Goals as goal
 

@@ -1,0 +1,10 @@
+use Rattle.std.proofs.Common.{List, subst}
+use Rattle.onedom.specs.declared.event.Event.{Event}
+use Rattle.onedom.specs.Histories.{MayFollow}
+use Rattle.onedom.proofs.Pushes.{legal_pushed}
+use Rattle.onedom.proofs.one_domain.OneDomain.apply.Goals as goal
+
+pub invariant_of-self-2 : goal.invariant_of-self-2
+invariant_of-self-2 g c =
+    let may = subst (λ (h : List Event). MayFollow h c.args.event) c.deref.ensures.value c.in_ok-may_follow.ensures.follows in
+    legal_pushed _ c.self.inside.events.items c.push.new.self.items c.args.event c.push.ensures.items c.self.invariant may

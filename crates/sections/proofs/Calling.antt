@@ -1,0 +1,185 @@
+-- From what a step tells a seat to what a caller of a processor sees.
+use Rattle.std.proofs.Common.{◌≡◌, ℕ, ◌+◌, ◌<◌, ◌≤◌, ◌≢◌, not, eqb, filter, List, [], ◌∷◌, ◌++◌, All, length, get_or, set, refl, sym, ap, ◌∙◌, subst, eq-eqb, arith, get_or-set_other, get_or-set_same}
+use Rattle.std.proofs.lemmas.List.Elements.{All-head}
+use mathlib.Core.Logic.{dite}
+use native.Mathlib.Decide.{ℕ_discrete}
+use Rattle.atomic_table.specs.Seated.{TableId}
+use Rattle.sseq.specs.declared.index.Index.{Index}
+use Rattle.sseq.specs.declared.index.Index.TheVariants.{Zero, One}
+use Rattle.sseq.specs.Indexes.{index_number, low_bit}
+use Rattle.onedom.specs.declared.event.Maker.{Maker}
+use Rattle.onedom.specs.declared.event.Maker.TheVariants.{Processor, Engine}
+use Rattle.onedom.specs.declared.event.Event.{Event}
+use Rattle.onedom.specs.declared.event.Event.TheVariants.{Begin, End, Start}
+use Rattle.onedom.specs.Histories.{begins_of, ends_of, MayFollow, IsLegal, IsLegalAfter, made_by, open_sections, IsBeginning}
+use Rattle.onedom.proofs.Pushes.{bit, no_ends, legal_after_append, ends_of_made, ends_of_push}
+use Rattle.onedom.proofs.Beginnings.{begins_grow}
+use Rattle.onedom.proofs.Opens.{times_open, one_more_open, one_less_open}
+use Rattle.sections.specs.declared.view.Role.{Role}
+use Rattle.sections.specs.declared.view.Role.TheVariants.{Cpu, Driver}
+use Rattle.sections.specs.declared.view.Right.{Right}
+use Rattle.sections.specs.declared.view.Right.TheVariants.{Nothing, Section}
+use Rattle.sections.specs.declared.view.Load.{Load}
+use Rattle.sections.specs.declared.view.View.{View}
+use Rattle.sections.specs.Words.{locks_at, locks, index_word}
+use Rattle.sections.specs.Rule.{HasItsMaker, informed, lacking}
+use Rattle.sections.specs.Plays.{Owns, IsSound, index_load, Looks, Adds}
+use Rattle.sections.specs.Insides.{IsAtRest, section_of}
+use Rattle.sections.specs.Views.{CpuView, EngineView}
+use Rattle.sections.specs.Calls.{IsHistoryOf, Loads, AddsEvent, AddsEngineEvent}
+use Rattle.sections.proofs.Counters.{locks_push, locks_here, elsewhere, index_low, index_number_same}
+
+abbrev pub seen_as : TableId → ℕ → ℕ → ℕ → View → CpuView
+seen_as d n limit p v = record { domain = d; processors = n; sections = limit; processor = p; seen = v.seen; mine = v.mine; loads = v.loads }
+
+-- What was seen
+
+pub history_of : (n p : ℕ) (w : View) → w.processors ≡ n → w.role ≡ Cpu p → IsSound w.processors w.role w.mine w.seen → IsHistoryOf n (Processor p) w.mine w.seen
+history_of n p w sized is h = record {
+  legal = h.legal;
+  makers = subst (λ (z : ℕ). All (HasItsMaker z) w.seen) sized h.makers;
+  own = subst (λ (z : Role). Owns z w.mine w.seen) is h.own;
+}
+
+pub engine_history_of : (n k : ℕ) (w : View) → w.processors ≡ n → w.role ≡ Driver k → IsSound w.processors w.role w.mine w.seen → IsHistoryOf n Engine w.mine w.seen
+engine_history_of n k w sized is h = record {
+  legal = h.legal;
+  makers = subst (λ (z : ℕ). All (HasItsMaker z) w.seen) sized h.makers;
+  own = subst (λ (z : Role). Owns z w.mine w.seen) is h.own;
+}
+
+pub loads_from : (l : Load) (d d' : TableId) (n limit p : ℕ) (v w : View) → d' ≡ d → v.processors ≡ n → v.role ≡ Cpu p → Looks l v w → Loads l (seen_as d n limit p v) (seen_as d' n limit p w)
+loads_from l d d' n limit p v w same sized is h = record {
+  same = (same, refl, refl, refl);
+  mine = h.mine;
+  loads = h.loads;
+  since = h.since;
+  history = history_of n p w (h.processors ∙ sized) (h.role ∙ is) h.sound;
+}
+
+-- the same where the right was given away afterwards
+pub loads_cut : (l : Load) (d d' : TableId) (n limit p : ℕ) (v w w' : View) → d' ≡ d → v.processors ≡ n → v.role ≡ Cpu p → w' ≡ lacking w → Looks l v w → Loads l (seen_as d n limit p v) (seen_as d' n limit p w')
+loads_cut l d d' n limit p v w w' same sized is cut h = subst (λ (z : View). Loads l (seen_as d n limit p v) (seen_as d' n limit p z)) (sym cut) (loads_from l d d' n limit p v w same sized is h)
+
+-- an event, after what another had seen was handed in
+pub adds_event : (e : Event) (d d' : TableId) (n limit p : ℕ) (v o j w : View) → d' ≡ d → v.processors ≡ n → v.role ≡ Cpu p → j ≡ informed v o → Adds j e w → AddsEvent o.seen e (seen_as d n limit p v) (seen_as d' n limit p w)
+adds_event e d d' n limit p v o j w same sized is joined h =
+    let a : Adds (informed v o) e w = subst (λ (z : View). Adds z e w) joined h in record {
+      same = (same, refl, refl, refl);
+      before = a.before;
+      seen = a.seen;
+      since = a.since;
+      covers = All-head (λ x. IsBeginning x a.before) o.seen v.told a.covers;
+      mine = a.mine;
+      loads = a.loads;
+      history = history_of n p w (a.processors ∙ sized) (a.role ∙ is) a.sound;
+    }
+
+pub adds_cut : (e : Event) (d d' : TableId) (n limit p : ℕ) (v o j w w' : View) → d' ≡ d → v.processors ≡ n → v.role ≡ Cpu p → j ≡ informed v o → w' ≡ lacking w → Adds j e w
+    → AddsEvent o.seen e (seen_as d n limit p v) (seen_as d' n limit p w')
+adds_cut e d d' n limit p v o j w w' same sized is joined cut h =
+    subst (λ (z : View). AddsEvent o.seen e (seen_as d n limit p v) (seen_as d' n limit p z)) (sym cut) (adds_event e d d' n limit p v o j w same sized is joined h)
+
+-- an event with nothing handed in
+pub adds_alone : (e : Event) (d d' : TableId) (n limit p : ℕ) (v w w' : View) → d' ≡ d → v.processors ≡ n → v.role ≡ Cpu p → w' ≡ lacking w → Adds v e w → AddsEvent v.seen e (seen_as d n limit p v) (seen_as d' n limit p w')
+adds_alone e d d' n limit p v w w' same sized is cut a =
+    subst (λ (z : View). AddsEvent v.seen e (seen_as d n limit p v) (seen_as d' n limit p z)) (sym cut) record {
+      same = (same, refl, refl, refl);
+      before = a.before;
+      seen = a.seen;
+      since = a.since;
+      covers = a.since;
+      mine = a.mine;
+      loads = a.loads;
+      history = history_of n p w (a.processors ∙ sized) (a.role ∙ is) a.sound;
+    }
+
+-- the last event of a legal history may follow those before it
+pub last_may_follow : (before : List Event) (e : Event) → IsLegal (before ++ e ∷ []) → MayFollow before e
+last_may_follow before e legal = (legal_after_append [] before (e ∷ []) legal).1.0
+
+pub fresh_section : (s p : ℕ) (i : Index) (by : Maker) (v w : View) → Adds v (Begin s p i by) w → begins_of s v.seen ≡ 0
+fresh_section s p i by v w a = let may = last_may_follow a.before (Begin s p i by) (subst IsLegal a.seen a.sound.legal) in let grown = begins_grow s a.since in omega (arith, may, grown)
+
+-- What a processor keeps count of
+
+-- the seat after a step, when its right was given away
+pub rests_cut : (v w w' : View) (e : Event) → w' ≡ lacking w → Adds v e w → IsAtRest w'
+rests_cut v w w' e cut a = subst (λ (z : View). IsAtRest z) (sym cut) (record { free = refl; told = a.told; sound = a.sound })
+
+pub rests_after : (v w : View) (e : Event) → w.right ≡ Nothing → Adds v e w → IsAtRest w
+rests_after v w e free a = record { free = free; told = a.told; sound = a.sound }
+
+pub rests_looked : (l : Load) (v w : View) → v.right ≡ Nothing → Looks l v w → IsAtRest w
+rests_looked l v w free h = record { free = h.right ∙ free; told = h.told; sound = h.sound }
+
+locks_one_more : (p : ℕ) (k : Index) (s : ℕ) (by : Maker) (mine after : List Event) → after ≡ mine ++ Begin s p k by ∷ [] → locks p k after ≡ locks p k mine + 1
+locks_one_more p k s by mine after e = let c = locks_push p k mine (Begin s p k by) in let one : bit (locks_at p k (Begin s p k by)) ≡ 1 = ap bit (locks_here p k) in ap (locks p k) e ∙ omega (arith, c, one)
+
+locks_as_before : (p : ℕ) (i k : Index) (s : ℕ) (by : Maker) (mine after : List Event) → after ≡ mine ++ Begin s p k by ∷ [] → i ≢ k → locks p i after ≡ locks p i mine
+locks_as_before p i k s by mine after e n = let c = locks_push p i mine (Begin s p k by) in let zero : bit (locks_at p i (Begin s p k by)) ≡ 0 = ap bit (elsewhere p p k i (λ _ h. n (sym h))) in ap (locks p i) e ∙ omega (arith, c, zero)
+
+pub begun_more : (begun : List ℕ) (p : ℕ) (k : Index) (s : ℕ) (by : Maker) (mine after : List Event) → length begun ≡ 2 → ((i : Index) → get_or begun (index_number i) 0 ≡ locks p i mine) → after ≡ mine ++ Begin s p k by ∷ []
+    → (i : Index) → get_or (set begun (index_number k) (get_or begun (index_number k) 0 + 1)) (index_number i) 0 ≡ locks p i after
+begun_more begun p k s by mine after two was e i = let low = index_low k in dite (ℕ_discrete (index_number i) (index_number k))
+    (λ h. let same : i ≡ k = index_number_same i k h in ap (λ z. get_or (set begun (index_number k) (get_or begun (index_number k) 0 + 1)) z 0) h
+    ∙ (get_or-set_same begun (index_number k) (get_or begun (index_number k) 0 + 1) 0 (omega (arith, low, two)) ∙ (ap (λ z. z + 1) (was k) ∙ (sym (locks_one_more p k s by mine after e) ∙ ap (λ z. locks p z after) (sym same)))))
+    (λ n. get_or-set_other begun (index_number k) (index_number i) (get_or begun (index_number k) 0 + 1) 0 n ∙ (was i ∙ sym (locks_as_before p i k s by mine after e (λ h. n (ap index_number h)))))
+
+pub limited_more : (begun : List ℕ) (k : Index) (limit : ℕ) → length begun ≡ 2 → get_or begun (index_number k) 0 ≢ limit → ((i : Index) → get_or begun (index_number i) 0 ≤ limit)
+    → (i : Index) → get_or (set begun (index_number k) (get_or begun (index_number k) 0 + 1)) (index_number i) 0 ≤ limit
+limited_more begun k limit two n was i = let low = index_low k in let y : ℕ = get_or begun (index_number k) 0 + 1 in dite (ℕ_discrete (index_number i) (index_number k))
+    (λ h. let same = ap (λ z. get_or (set begun (index_number k) y) z 0) h ∙ get_or-set_same begun (index_number k) y 0 (omega (arith, low, two)) in let most = was k in omega (arith, same, most, n))
+    (λ ne. let same = get_or-set_other begun (index_number k) (index_number i) y 0 ne in let most = was i in omega (arith, same, most))
+
+pub sum_more : (begun : List ℕ) (k : Index) → length begun ≡ 2 → get_or (set begun (index_number k) (get_or begun (index_number k) 0 + 1)) 0 0 + get_or (set begun (index_number k) (get_or begun (index_number k) 0 + 1)) 1 0 ≡ get_or begun 0 0 + get_or begun 1 0 + 1
+sum_more begun Zero two = let a = get_or-set_same begun 0 (get_or begun 0 0 + 1) 0 (omega (arith, two)) in let b = get_or-set_other begun 0 1 (get_or begun 0 0 + 1) 0 (λ h. omega arith) in omega (arith, a, b)
+sum_more begun One two = let a = get_or-set_same begun 1 (get_or begun 1 0 + 1) 0 (omega (arith, two)) in let b = get_or-set_other begun 1 0 (get_or begun 1 0 + 1) 0 (λ h. omega arith) in omega (arith, a, b)
+
+-- a new section has no End among the processor's own events
+pub unended : (s p : ℕ) (i : Index) (v w : View) → w.role ≡ Cpu p → Adds v (Begin s p i (Processor p)) w → ends_of s v.mine ≡ 0
+unended s p i v w is a =
+    let legal = subst IsLegal a.seen a.sound.legal in
+    let parts = legal_after_append [] a.before (Begin s p i (Processor p) ∷ []) legal in
+    let none_ended = no_ends s a.before parts.0 parts.1.0 in
+    let own : w.mine ≡ made_by (Processor p) w.seen = subst (λ (z : Role). Owns z w.mine w.seen) is a.sound.own in
+    let all : ends_of s w.mine ≡ ends_of s (made_by (Processor p) w.seen) = ap (ends_of s) own in
+    let fewer = ends_of_made (Processor p) s w.seen in
+    let whole : ends_of s w.seen ≡ ends_of s a.before + 0 = ap (ends_of s) a.seen ∙ ends_of_push s a.before (Begin s p i (Processor p)) in
+    let mine : ends_of s w.mine ≡ ends_of s v.mine + 0 = ap (ends_of s) a.mine ∙ ends_of_push s v.mine (Begin s p i (Processor p)) in
+    omega (arith, none_ended, all, fewer, whole, mine)
+
+pub one_more_unclosed : (s p : ℕ) (i : Index) (v w : View) → w.role ≡ Cpu p → Adds v (Begin s p i (Processor p)) w → length (open_sections w.mine) ≡ length (open_sections v.mine) + 1
+one_more_unclosed s p i v w is a = ap (λ l. length (open_sections l)) a.mine ∙ one_more_open v.mine s p i (Processor p) (unended s p i v w is a)
+
+pub has_room : (n l limit : ℕ) → n ≡ l → n ≤ limit → n ≢ limit → l < limit
+has_room n l limit same most n≠ = omega arith
+
+-- the section that ends is open among the processor's own events
+pub still_unended : (s q : ℕ) (v w : View) → w.role ≡ Cpu q → Adds v (End s q (Processor q)) w → ends_of s v.mine ≡ 0
+still_unended s q v w is a =
+    let e : Event = End s q (Processor q) in
+    let legal = subst IsLegal a.seen a.sound.legal in
+    let is_open = last_may_follow a.before e legal in
+    let unended_before = is_open.1 in
+    let own : w.mine ≡ made_by (Processor q) w.seen = subst (λ (z : Role). Owns z w.mine w.seen) is a.sound.own in
+    let all : ends_of s w.mine ≡ ends_of s (made_by (Processor q) w.seen) = ap (ends_of s) own in
+    let fewer = ends_of_made (Processor q) s w.seen in
+    let one : bit (eqb s s) ≡ 1 = ap bit (eq-eqb s s refl) in
+    let whole : ends_of s w.seen ≡ ends_of s a.before + bit (eqb s s) = ap (ends_of s) a.seen ∙ ends_of_push s a.before e in
+    let mine : ends_of s w.mine ≡ ends_of s v.mine + bit (eqb s s) = ap (ends_of s) a.mine ∙ ends_of_push s v.mine e in
+    omega (arith, unended_before, all, fewer, whole, mine, one)
+
+pub one_less_unclosed : (s q : ℕ) (v w : View) → w.role ≡ Cpu q → Adds v (End s q (Processor q)) w → begins_of s v.mine ≡ 1 → length (open_sections w.mine) + 1 ≡ length (open_sections v.mine)
+one_less_unclosed s q v w is a begun =
+    ap (λ l. length (open_sections l) + 1) a.mine ∙ one_less_open v.mine s q (Processor q) (times_open s v.mine (still_unended s q v w is a) ∙ begun)
+
+pub locks_unchanged : (p : ℕ) (i : Index) (s q : ℕ) (by : Maker) (mine after : List Event) → after ≡ mine ++ End s q by ∷ [] → locks p i after ≡ locks p i mine
+locks_unchanged p i s q by mine after e = let c = locks_push p i mine (End s q by) in ap (locks p i) e ∙ omega (arith, c)
+
+-- a right that is known
+pub right_known : (r : Right) (s p : ℕ) (i : Index) → r ≡ Section s p i → r ≡ Section (section_of r) p i
+right_known r s p i is = is ∙ ap (λ z. Section z p i) (sym (ap section_of is))
+
+pub at_limit : (n l limit : ℕ) → n ≡ l → n ≡ limit → l ≡ limit
+at_limit n l limit a b = sym a ∙ b

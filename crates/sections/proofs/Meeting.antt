@@ -1,0 +1,101 @@
+-- Several holders that come to have seen one history.
+use Rattle.std.proofs.Common.{◌≡◌, ℕ, ◌+◌, ◌<◌, ◌≤◌, List, get_or, set, length, refl, sym, ap, ◌∙◌, subst, arith, length-set, get_or-set_other, get_or-set_same}
+use Rattle.std.proofs.lemmas.List.{get_or_default}
+use mathlib.Core.Logic.{dite}
+use native.Mathlib.Decide.{ℕ_discrete}
+use Rattle.atomic_table.specs.Seated.{TableId}
+use Rattle.onedom.specs.declared.event.Event.{Event}
+use Rattle.onedom.specs.Histories.{IsBeginning}
+use Rattle.onedom.proofs.Beginnings.{beginning_trans, beginnings_compare}
+use Rattle.sections.specs.declared.view.Role.TheVariants.{Cpu}
+use Rattle.sections.specs.declared.view.View.{View}
+use Rattle.sections.specs.Plays.{index_load}
+use Rattle.sections.specs.Seats as seats
+use Rattle.sections.specs.Views.{CpuView, EngineView}
+use Rattle.sections.specs.Calls.{IsSameCpu, IsSameEngine, Loads, Covers, CoversAll, Accepts, Ties, TiesEngine, Joins, Meets}
+use Rattle.sections.proofs.Calling.{seen_as, history_of}
+
+-- Two processors
+
+covers_loads : (d d' : TableId) (n limit p : ℕ) (v o w : View) → d' ≡ d → v.processors ≡ n → v.role ≡ Cpu p → (h : seats.Covers v o w) → Loads (index_load h.value) (seen_as d n limit p v) (seen_as d' n limit p w)
+covers_loads d d' n limit p v o w same sized is h = record {
+  same = (same, refl, refl, refl);
+  mine = h.mine;
+  loads = h.loads;
+  since = h.since;
+  history = history_of n p w (h.processors ∙ sized) (h.role ∙ is) h.sound;
+}
+
+accepts_seen : (d d' : TableId) (n limit p : ℕ) (v o w : View) → d' ≡ d → v.processors ≡ n → v.role ≡ Cpu p → seats.Accepts v o w → Accepts (seen_as d n limit p v) o.seen (seen_as d' n limit p w)
+accepts_seen d d' n limit p v o w same sized is h = record {
+  value = h.value;
+  same = (same, refl, refl, refl);
+  mine = h.mine;
+  loads = h.loads;
+  seen = h.seen;
+  history = history_of n p w (h.processors ∙ sized) (h.role ∙ is) h.sound;
+}
+
+pub ties_from : (d d' e e' : TableId) (n limit p m most q : ℕ) (v w o w' o' : View) → d' ≡ d → e' ≡ e → v.processors ≡ n → v.role ≡ Cpu p → o.processors ≡ m → o.role ≡ Cpu q → w' ≡ w → seats.Covers v o w → seats.Accepts o w o'
+    → Ties (seen_as d n limit p v) (seen_as e m most q o) (seen_as d' n limit p w') (seen_as e' m most q o')
+ties_from d d' e e' n limit p m most q v w o w' o' ds es sized is other_sized other_is same h a =
+    subst (λ (z : View). Ties (seen_as d n limit p v) (seen_as e m most q o) (seen_as d' n limit p z) (seen_as e' m most q o')) (sym same) record {
+      value = h.value;
+      looks = covers_loads d d' n limit p v o w ds sized is h;
+      accepts = accepts_seen e e' m most q o w o' es other_sized other_is a;
+      since = subst (λ (z : List Event). IsBeginning o.seen z) (sym a.seen) h.covers;
+      comparable = beginnings_compare h.since h.covers;
+    }
+
+-- The engine and a processor
+
+pub accepted : (d d' : TableId) (n limit p : ℕ) (v o w : View) → d' ≡ d → v.processors ≡ n → v.role ≡ Cpu p → seats.Accepts v o w → Accepts (seen_as d n limit p v) o.seen (seen_as d' n limit p w)
+accepted = accepts_seen
+
+pub ties_engine : (e e' e'' : EngineView) (c c' c'' : CpuView) → Covers e c.seen e' → c' ≡ c → e'' ≡ e' → Accepts c' e'.seen c'' → TiesEngine e c e'' c''
+ties_engine e e' e'' c c' c'' h same_cpu same_engine a =
+    let accepts : Accepts c e'.seen c'' = subst (λ (z : CpuView). Accepts z e'.seen c'') same_cpu a in
+    subst (λ (z : EngineView). TiesEngine e c z c'') (sym same_engine) record {
+      covers = h;
+      accepts = accepts;
+      since = subst (λ (z : List Event). IsBeginning c.seen z) (sym accepts.seen) h.covers;
+      comparable = beginnings_compare h.since h.covers;
+    }
+
+-- The engine and several processors
+
+pub covers_more : (cpus : List CpuView) (i : ℕ) (item : CpuView) (before after : List Event) → i < length cpus → item ≡ get_or cpus i item → IsBeginning before after → IsBeginning item.seen after
+    → ((k : ℕ) (d : CpuView) → k < i → IsBeginning (get_or cpus k d).seen before) → (k : ℕ) (d : CpuView) → k < i + 1 → IsBeginning (get_or cpus k d).seen after
+covers_more cpus i item before after inside is since here so_far k d lt = dite (ℕ_discrete k i)
+    (λ e. let same : item ≡ get_or cpus k d = is ∙ (get_or_default cpus i item d inside ∙ ap (λ z. get_or cpus z d) (sym e)) in subst (λ (z : CpuView). IsBeginning z.seen after) same here)
+    (λ n. beginning_trans (so_far k d (omega arith)) since)
+
+pub domain_at : (cpus : List CpuView) (i : ℕ) (item : CpuView) (domain : TableId) → i < length cpus → ((k : ℕ) (d : CpuView) → k < length cpus → (get_or cpus k d).domain ≡ domain) → (get_or cpus i item).domain ≡ domain
+domain_at cpus i item domain inside all = all i item inside
+
+pub joins_more : (was now : List CpuView) (i : ℕ) (new : CpuView) (all : List Event) → length now ≡ length was → i < length now → ((k : ℕ) (d : CpuView) → k < length was → IsBeginning (get_or was k d).seen all)
+    → ((d : CpuView) → Accepts (get_or now i d) all new)
+    → ((k : ℕ) (d : CpuView) → i ≤ k → get_or now k d ≡ get_or was k d)
+    → ((k : ℕ) (d : CpuView) → k < i → Joins (get_or was k d) all (get_or now k d))
+    → (k : ℕ) (d : CpuView) → k < i + 1 → Joins (get_or was k d) all (get_or (set now i new) k d)
+joins_more was now i new all long inside covers accepts rest so_far k d lt = dite (ℕ_discrete k i)
+    (λ e. let there : get_or (set now i new) k d ≡ new = ap (λ z. get_or (set now i new) z d) e ∙ get_or-set_same now i new d inside in
+    let old : get_or now i d ≡ get_or was k d = rest i d (omega arith) ∙ ap (λ z. get_or was z d) (sym e) in
+    let here : Accepts (get_or was k d) all new = subst (λ (z : CpuView). Accepts z all new) old (accepts d) in
+    subst (λ (z : CpuView). Joins (get_or was k d) all z) (sym there) (record { accepts = here; since = covers k d (omega arith) }))
+    (λ n. let other : get_or (set now i new) k d ≡ get_or now k d = get_or-set_other now i k new d n in subst (λ (z : CpuView). Joins (get_or was k d) all z) (sym other) (so_far k d (omega arith)))
+
+pub rest_same : (was now : List CpuView) (i : ℕ) (new : CpuView) → ((k : ℕ) (d : CpuView) → i ≤ k → get_or now k d ≡ get_or was k d) → (k : ℕ) (d : CpuView) → i + 1 ≤ k → get_or (set now i new) k d ≡ get_or was k d
+rest_same was now i new rest k d le = get_or-set_other now i k new d (λ e. omega arith) ∙ rest k d (omega arith)
+
+pub meets_from : (e e' e'' : EngineView) (cpus cpus' cpus'' : List CpuView) → CoversAll e cpus e' → cpus' ≡ cpus → e'' ≡ e' → length cpus'' ≡ length cpus'
+    → ((k : ℕ) (d : CpuView) → k < length cpus' → Joins (get_or cpus' k d) e'.seen (get_or cpus'' k d)) → Meets e cpus e'' cpus''
+meets_from e e' e'' cpus cpus' cpus'' h same_cpus steady count joined =
+    subst (λ (z : EngineView). Meets e cpus z cpus'') (sym steady) record {
+      same = h.same;
+      mine = h.mine;
+      since = h.since;
+      history = h.history;
+      count = count ∙ ap length same_cpus;
+      each = λ k d lt. subst (λ (xs : List CpuView). Joins (get_or xs k d) e'.seen (get_or cpus'' k d)) same_cpus (joined k d (subst (λ (xs : List CpuView). k < length xs) (sym same_cpus) lt));
+    }

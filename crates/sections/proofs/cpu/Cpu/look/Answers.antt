@@ -1,0 +1,22 @@
+use Rattle.std.proofs.Common.{rules, ◌≡◌, ap, ◌∙◌, sym}
+use Rattle.sseq.specs.Indexes.{low_bit}
+use Rattle.sections.proofs.Steps.{looks, gives_token}
+use Rattle.sections.proofs.Calling.{loads_cut}
+use Rattle.sections.proofs.cpu.Cpu.look.Goals as goal
+
+pub load-requires : goal.load-requires
+load-requires g c = (search rules, search rules, looks _ _ _ _ (search rules))
+
+pub split_seat-seat-requires : goal.split_seat-seat-requires
+split_seat-seat-requires g c = (search rules, search rules, gives_token _ _ _)
+
+pub returns : goal.returns
+returns g c =
+    let h = c.load.ensures in
+    let s = c.split_seat-seat.ensures in
+    rw (← c.self.view_is) (record {
+      value = c.load.result;
+      load = loads_cut _ _ _ _ _ _ _ _ _ (s.0 ∙ h.0) c.self.invariant.placed.sized c.self.invariant.role (ap (λ m. m.0) s.2) h.2.1;
+      current = h.2.2 ∙ ap (λ m. Rattle.sections.specs.Words.index_word m.0.seen) (sym s.2);
+      look_is = λ i. record { domain = (s.3 ∙ h.0) i; index = c.of_word-index.ensures i; seen = (ap (λ m. m.0.seen) s.4 ∙ sym (ap (λ m. m.0.seen) s.2)) i };
+    })

@@ -1,0 +1,16 @@
+-- The engine has seen what each of the processors so far has.
+use Rattle.std.proofs.Common.{◌≡◌, ℕ, ◌<◌, slice_index_or}
+use Rattle.onedom.specs.Histories.{IsBeginning}
+use Rattle.sections.specs.Views.{CpuView}
+use Rattle.sections.specs.Calls.{IsSameEngine, IsSeenByEngine}
+use Rattle.sections.proofs.engine.EngineSeat.cover_all.Given as goal
+
+abbrev pub invariant-loop-cpu : goal.invariant-loop-cpu
+invariant-loop-cpu g l = record {
+  same : IsSameEngine l.initial.self l.self;
+  mine : l.self.mine ≡ l.initial.self.mine;
+  since : IsBeginning l.initial.self.seen l.self.seen;
+  unchanged : l.cpus ≡ l.initial.cpus;
+  covers : (k : ℕ) (d : CpuView) → k < l.cpu-index → IsBeginning (slice_index_or l.initial.cpus k d).seen l.self.seen;
+  history : IsSeenByEngine l.self;
+}

@@ -1,0 +1,10 @@
+use Rattle.std.proofs.Common.{rules, ◌≡◌, ap}
+use Rattle.sections.specs.Words.{word_count}
+use Rattle.sections.proofs.Steps.{deals}
+use Rattle.sections.proofs.Seating.{some_words}
+use Rattle.sections.proofs.making.deal.Goals as goal
+
+pub split_seat-dealt-requires : goal.split_seat-dealt-requires
+split_seat-dealt-requires g c =
+    let wide : c.deref.result.now.shared.table_id.words ≡ word_count c.args.bounds.processors = search rules in
+    (search rules, some_words _ _ wide, deals _ _ _ _ (ap (λ m. m.0.role) c.requires.next.me))

@@ -1,0 +1,50 @@
+-- What a new domain is.
+use Rattle.std.specs.Prelude.{◌≡◌, ℕ, ◌+◌, ◌*◌, ◌^◌, ◌<◌, ◌≤◌, List, [], length, Result, Ok, Err, MatchResult}
+use Rattle.atomic_table.specs.Seated.{TableId}
+use Rattle.sections.specs.declared.limits.TheConstants.{MOST_PROCESSORS}
+use Rattle.sections.specs.declared.view.Bounds.{Bounds}
+use Rattle.sections.specs.declared.limits.Limits.{Limits}
+use Rattle.sections.specs.declared.limits.MakeError.{MakeError}
+use Rattle.sections.specs.declared.limits.MakeError.TheVariants as refused
+use Rattle.sections.specs.declared.view.Role.TheVariants.{Driver}
+use Rattle.sections.specs.Limits.{AreInRange}
+use Rattle.sections.specs.Words.{word_count}
+use Rattle.sections.specs.Rule.{founder}
+use Rattle.sections.specs.Seats.{Place}
+use Rattle.sections.specs.Views.{CpuView, EngineView}
+use Rattle.sections.specs.Calls.{new_engine, AreNew}
+
+-- a domain has from 1 to so many processors
+abbrev pub IsCount : ℕ → Type 0
+IsCount processors = (1 ≤ processors) × (processors ≤ MOST_PROCESSORS)
+
+-- in a domain of these bounds no counter comes near 2 ^ 64
+pub record IsSmall (bounds : Bounds) : Type 0 where
+  pub processors : bounds.processors ≤ 256
+  pub product : 2 * bounds.processors * bounds.sections < 2 ^ 62
+
+-- the seat is the engine's and that of the processors from k on, and nothing has happened
+pub record IsFounder (bounds key : Bounds) (table : TableId) (k : ℕ) (seat : Place) : Type 0 where
+  pub key_is : key ≡ bounds
+  pub wide : table.words ≡ word_count bounds.processors
+  pub seated : seat.table_id ≡ table
+  pub me : seat.me ≡ (record (founder bounds) { role = Driver k }, [])
+
+abbrev pub NewTable : Bounds → Bounds → TableId → Place → Type 0
+NewTable bounds key table seat = IsFounder bounds key table 0 seat
+
+-- the processors in order, and the engine's seat, all knowing of nothing yet
+pub record IsMade (bounds : Bounds) (periods : ℕ) (cpus : List CpuView) (engine : EngineView) : Type 0 where
+  pub count : length cpus ≡ bounds.processors
+  pub cpus_new : AreNew engine.domain bounds.processors bounds.sections cpus
+  pub engine_new : engine ≡ new_engine engine.domain bounds.processors periods
+
+-- a refusal holds, and none before it
+abbrev pub IsRefusal : ℕ → Limits → MakeError → Type 0
+IsRefusal processors limits refused.Processors = ¬ IsCount processors
+IsRefusal processors limits refused.Limits = IsCount processors × ¬ AreInRange limits
+IsRefusal processors limits refused.Memory = IsCount processors × AreInRange limits
+
+-- it is made only where nothing is to be refused
+abbrev pub IsRefused : {M : Type 0} → ℕ → Limits → Result M MakeError → Type 0
+IsRefused processors limits result = MatchResult result (λ _. IsCount processors × AreInRange limits) (λ error. IsRefusal processors limits error)

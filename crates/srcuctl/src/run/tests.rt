@@ -1,0 +1,215 @@
+use super::*;
+use std::alloc::Global;
+use std::io;
+use std::io::ErrorKind;
+use std::test::Fail;
+
+/// Replies the number and the length of a line. A line that is empty or begins with `#` is skipped, one that is no text
+/// is faulty, and the line of the number `no_memory` finds none.
+#[derive(Drop)]
+struct Lengths {
+    alloc: Global,
+    no_memory: u64,
+}
+
+impl Answers<Global> for Lengths {
+    ghost gives = { λ _ _ _ _ _ _. Unit {0} };
+
+    fn answer(
+        &mut self,
+        number: u64,
+        line: Option<&[u8]>,
+        reply: &mut Vec<u8>,
+    ) -> Result<bool, AllocError> {
+        if number == self.no_memory {
+            return Err(AllocError);
+        }
+        let Some(text) = line else {
+            let fault = format!(in self.alloc; "{number} no text\n")?;
+            reply.extend_from_slice(fault.as_bytes())?;
+            return Ok(true);
+        };
+        if text.first().is_some_and(|byte| *byte != b'#') {
+            let length = text.len();
+            let answer = format!(in self.alloc; "{number} {length}\n")?;
+            reply.extend_from_slice(answer.as_bytes())?;
+        }
+        Ok(false)
+    }
+}
+
+/// Gives at most so many bytes a read, and fails once it was read from so many times.
+#[derive(Drop)]
+struct Reader<'a> {
+    rest: &'a [u8],
+    most: usize,
+    reads: usize,
+}
+
+impl Read for Reader<'_> {
+    fn read(&mut self, buf: &mut [u8]) -> io::Result<usize> {
+        if self.reads == 0 {
+            return Err(ErrorKind::Interrupted.into());
+        }
+        self.reads -= 1;
+        let count = buf.len().min(self.rest.len()).min(self.most);
+        buf[..count].copy_from_slice(&self.rest[..count]);
+        self.rest = &self.rest[count..];
+        Ok(count)
+    }
+}
+
+/// Takes at most so many bytes a write, and fails once it was written to so many times.
+#[derive(Drop)]
+struct Writer {
+    taken: Vec<u8>,
+    most: usize,
+    writes: usize,
+}
+
+impl Write for Writer {
+    fn write(&mut self, buf: &[u8]) -> io::Result<usize> {
+        if self.writes == 0 {
+            return Err(ErrorKind::Interrupted.into());
+        }
+        self.writes -= 1;
+        let count = buf.len().min(self.most);
+        self.taken.extend_from_slice(&buf[..count])?;
+        Ok(count)
+    }
+
+    fn flush(&mut self) -> io::Result<()> {
+        Ok(())
+    }
+}
+
+/// Runs a script that finds memory for each line.
+fn run<H: Wait + AllocGlobal, R: Read + Drop, W: Write>(
+    rt: &H,
+    mut reader: R,
+    writer: &mut W,
+) -> Result<Outcome, RunError> {
+    let alloc = rt.alloc();
+    let mut answerer = Lengths {
+        alloc,
+        no_memory: 0,
+    };
+    run_lines(alloc, rt, &mut answerer, &mut reader, writer)
+}
+
+#[test]
+fn answers_each_line(rt: HostRuntime) -> Result<(), Fail> {
+    let rows: [(&[u8], &[u8], bool); 11] = [
+        (b"", b"", false),
+        (b"\n", b"", false),
+        (b"a", b"1 1\n", false),
+        (b"a\n", b"1 1\n", false),
+        (b"\n\nab", b"3 2\n", false),
+        (b"abc\n\n#x\nhello world\nrest", b"1 3\n4 11\n5 4\n", false),
+        (b" ~\n", b"1 2\n", false),
+        (b"a\tb\nok\n", b"1 no text\n2 2\n", true),
+        (b"ok\n\x7f", b"1 2\n2 no text\n", true),
+        (b"a\r\n\x1f\nok", b"1 no text\n2 no text\n3 2\n", true),
+        (b"#\xff\n#~", b"1 no text\n", true),
+    ];
+    for (input, output, faulty) in rows {
+        let mut written = Vec::new(rt.alloc());
+        let outcome = run(&rt, input, &mut written);
+        assert_eq!(rt; outcome, Ok(Outcome { faulty }));
+        assert_eq!(rt; written.as_slice(), output);
+    }
+    Ok(())
+}
+
+#[test]
+fn reads_200_bytes_of_a_line(rt: HostRuntime) -> Result<(), Fail> {
+    let mut input = Vec::new(rt.alloc());
+    for count in [200, 201, 10_000, 200, 3] {
+        for _ in 0..count {
+            input.push(b'x')?;
+        }
+        input.push(b'\n')?;
+    }
+    let mut written = Vec::new(rt.alloc());
+    let outcome = run(&rt, input.as_slice(), &mut written);
+    assert_eq!(rt; outcome, Ok(Outcome { faulty: true }));
+    let output = b"1 200\n2 no text\n3 no text\n4 200\n5 3\n";
+    assert_eq!(rt; written.as_slice(), output.as_slice());
+    Ok(())
+}
+
+#[test]
+fn a_failed_read_ends_the_run(rt: HostRuntime) -> Result<(), Fail> {
+    let outputs: [&[u8]; 7] = [b"", b"", b"", b"1 2\n", b"1 2\n", b"1 2\n", b"1 2\n"];
+    for (reads, output) in outputs.iter().enumerate() {
+        let rest = b"ab\n\ncd";
+        let most = 1;
+        let mut written = Vec::new(rt.alloc());
+        let outcome = run(&rt, Reader { rest, most, reads }, &mut written);
+        assert_eq!(rt; outcome, Err(RunError::Read));
+        assert_eq!(rt; written.as_slice(), *output);
+    }
+    Ok(())
+}
+
+#[test]
+fn a_failed_write_ends_the_run(rt: HostRuntime) -> Result<(), Fail> {
+    let output = b"1 2\n3 2\n".as_slice();
+    let rows: [(usize, &[usize]); 4] = [
+        (1, &[0, 1, 2, 3, 4, 5, 6, 7, 8]),
+        (2, &[0, 2, 4, 6, 8]),
+        (3, &[0, 3, 4, 7, 8]),
+        (9, &[0, 4, 8]),
+    ];
+    for (most, counts) in rows {
+        for (writes, count) in counts.iter().enumerate() {
+            let taken = Vec::new(rt.alloc());
+            let mut writer = Writer {
+                taken,
+                most,
+                writes,
+            };
+            let outcome = run(&rt, b"ab\n\ncd".as_slice(), &mut writer);
+            let whole = Outcome { faulty: false };
+            let ended = if *count < 8 {
+                Err(RunError::Write)
+            } else {
+                Ok(whole)
+            };
+            assert_eq!(rt; outcome, ended);
+            assert_eq!(rt; writer.taken.len(), *count);
+            assert!(rt; output.starts_with(&writer.taken));
+        }
+    }
+    Ok(())
+}
+
+#[test]
+fn a_write_of_no_byte_ends_the_run(rt: HostRuntime) -> Result<(), Fail> {
+    let taken = Vec::new(rt.alloc());
+    let mut writer = Writer {
+        taken,
+        most: 0,
+        writes: 9,
+    };
+    let outcome = run(&rt, b"ab\ncd\n".as_slice(), &mut writer);
+    assert_eq!(rt; outcome, Err(RunError::Write));
+    assert_eq!(rt; writer.writes, 8);
+    Ok(())
+}
+
+#[test]
+fn a_line_without_memory_ends_the_run(rt: HostRuntime) -> Result<(), Fail> {
+    let alloc = rt.alloc();
+    let outputs: [&[u8]; 5] = [b"", b"1 2\n", b"1 2\n", b"1 2\n3 4\n", b"1 2\n3 4\n"];
+    for (before, output) in outputs.iter().enumerate() {
+        let no_memory = before as u64 + 1;
+        let mut answerer = Lengths { alloc, no_memory };
+        let mut reader = b"ab\n\nword\n\nrest".as_slice();
+        let mut written = Vec::new(alloc);
+        let outcome = run_lines(alloc, &rt, &mut answerer, &mut reader, &mut written);
+        assert_eq!(rt; outcome, Err(RunError::Memory));
+        assert_eq!(rt; written.as_slice(), *output);
+    }
+    Ok(())
+}
