@@ -4,6 +4,8 @@ mod Names
 mod Places
 mod Parsing
 mod Openings
+mod OneHistory
+mod Meeting
 mod Pieces
 mod SoFar
 mod Reading

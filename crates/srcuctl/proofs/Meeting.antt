@@ -1,0 +1,1 @@
+-- What a domain's calls do.
