@@ -1,5 +1,9 @@
+mod Names
 mod Numerals
-mod Writing
+mod Openings
+mod Parsing
 mod Pieces
-mod SoFar
+mod Places
 mod Reading
+mod SoFar
+mod Writing

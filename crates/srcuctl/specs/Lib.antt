@@ -1,3 +1,12 @@
 pub mod Lines
 pub mod Faults
 pub mod Runs
+pub mod States
+pub mod Names
+pub mod Replies
+pub mod Histories
+pub mod Scripts
+pub mod Domains
+pub mod Entries
+pub mod Sessions
+pub mod Requests

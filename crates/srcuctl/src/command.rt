@@ -1,4 +1,7 @@
 //! The commands of a script, and what each takes.
+ghost use Rattle.std.specs.Prelude.{◌≡◌, IfSome};
+ghost use Rattle.srcuctl.specs.Faults.{command_of, command_word};
+
 use std::fmt;
 
 /// The first word of a line.
@@ -9,6 +12,45 @@ pub enum Command {
     Lock,
     Unlock,
     Start,
+}
+
+impl Command {
+    /// `None` where the word is no command.
+    pub fn of_word(word: &[u8]) -> Option<Command>
+        ensures value { result ≡ command_of word.now }
+        ensures word { IfSome result (λ c. word.now ≡ command_word c) }
+    {
+        if word == b"domain".as_slice() {
+            Some(Command::Domain)
+        } else if word == b"state".as_slice() {
+            Some(Command::State)
+        } else if word == b"lock".as_slice() {
+            Some(Command::Lock)
+        } else if word == b"unlock".as_slice() {
+            Some(Command::Unlock)
+        } else if word == b"start".as_slice() {
+            Some(Command::Start)
+        } else {
+            None
+        }
+    }
+}
+
+impl fmt::Display for Command {
+    ghost use Rattle.std.specs.Prelude.{Some};
+    ghost use Rattle.srcuctl.specs.Faults.{command_word};
+
+    ghost output = { λ command. Some (command_word command) };
+
+    fn fmt<W: fmt::Write>(&self, f: &mut fmt::Formatter<W>) -> fmt::Result {
+        match self {
+            Command::Domain => f.write_str("domain"),
+            Command::State => f.write_str("state"),
+            Command::Lock => f.write_str("lock"),
+            Command::Unlock => f.write_str("unlock"),
+            Command::Start => f.write_str("start"),
+        }
+    }
 }
 
 /// What a word of a line should be.
@@ -41,4 +83,21 @@ pub enum Cause {
     Exhausted,
     /// A grace period runs.
     Running,
+}
+
+impl fmt::Display for Cause {
+    ghost use Rattle.std.specs.Prelude.{Some};
+    ghost use Rattle.srcuctl.specs.Faults.{cause_word};
+
+    ghost output = { λ cause. Some (cause_word cause) };
+
+    fn fmt<W: fmt::Write>(&self, f: &mut fmt::Formatter<W>) -> fmt::Result {
+        match self {
+            Cause::Full => f.write_str("full"),
+            Cause::Processors => f.write_str("processors"),
+            Cause::Memory => f.write_str("memory"),
+            Cause::Exhausted => f.write_str("exhausted"),
+            Cause::Running => f.write_str("running"),
+        }
+    }
 }

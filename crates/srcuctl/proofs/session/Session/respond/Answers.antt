@@ -1,0 +1,36 @@
+use Rattle.std.proofs.Common.{◌<◌, length, rules}
+use Rattle.std.proofs.lemmas.Option.{slice_get_within}
+use Rattle.std.proofs.lemmas.Result.{IfOk-weaker}
+use Rattle.srcuctl.specs.States.{states_of}
+use Rattle.srcuctl.proofs.Openings.{same_limits, state_given, lock_given, unlock_given, start_given}
+use Rattle.srcuctl.proofs.session.Session.respond.Goals as goal
+
+pub returns-in-State-clause-ok : goal.returns-in-State-clause-ok
+returns-in-State-clause-ok g c =
+    let entries = c.self.inside.entries.items in
+    let asked = rw (c.in-State.is, ← c.self.view_is) at c.requires in
+    let within : c.in-State.domain < length (states_of entries) = asked in
+    rw (c.in-State.is, ← c.self.view_is) (state_given c.self.inside.limits entries c.in-State.domain c.index_mut.result.now c.show.new.self _ within c.index_mut.ensures.value c.show.ensures.after c.show.ensures.shows)
+
+pub returns-in-Lock-clause-ok : goal.returns-in-Lock-clause-ok
+returns-in-Lock-clause-ok g c =
+    let entries = c.self-in-Lock.inside.entries.items in
+    let asked = rw (c.in-Lock.is, ← c.self-in-Lock.view_is) at c.requires in
+    let within : c.in-Lock.domain < length (states_of entries) = slice_get_within (states_of entries) c.in-Lock.domain asked.0 asked.1 in
+    let same = same_limits c.self-in-Lock.inside.limits entries c.in-Lock.domain c.index_mut-in-Lock.result.now within c.index_mut-in-Lock.ensures.value c.self-in-Lock.invariant.same in
+    rw (c.in-Lock.is, ← c.self-in-Lock.view_is) (IfOk-weaker c.lock.result _ _ (λ r given. lock_given c.self-in-Lock.inside.limits entries c.in-Lock.domain c.index_mut-in-Lock.result.now c.lock.new.self r within c.index_mut-in-Lock.ensures.value c.in-Lock.processor c.in-Lock.name same given) c.lock.ensures.ok)
+
+pub returns-in-Unlock-clause-ok : goal.returns-in-Unlock-clause-ok
+returns-in-Unlock-clause-ok g c =
+    let entries = c.self-in-Unlock.inside.entries.items in
+    let asked = rw (c.in-Unlock.is, ← c.self-in-Unlock.view_is) at c.requires in
+    let within : c.in-Unlock.domain < length (states_of entries) = slice_get_within (states_of entries) c.in-Unlock.domain asked.0 asked.1 in
+    rw (c.in-Unlock.is, ← c.self-in-Unlock.view_is) (unlock_given c.self-in-Unlock.inside.limits entries c.in-Unlock.domain c.index_mut-in-Unlock.result.now c.unlock.new.self _ within c.index_mut-in-Unlock.ensures.value c.in-Unlock.section c.unlock.ensures.ends)
+
+pub returns-in-Start-clause-ok : goal.returns-in-Start-clause-ok
+returns-in-Start-clause-ok g c =
+    let entries = c.self-in-Start.inside.entries.items in
+    let asked = rw (c.in-Start.is, ← c.self-in-Start.view_is) at c.requires in
+    let within : c.in-Start.domain < length (states_of entries) = asked in
+    let same = same_limits c.self-in-Start.inside.limits entries c.in-Start.domain c.index_mut-in-Start.result.now within c.index_mut-in-Start.ensures.value c.self-in-Start.invariant.same in
+    rw (c.in-Start.is, ← c.self-in-Start.view_is) (start_given c.self-in-Start.inside.limits entries c.in-Start.domain c.index_mut-in-Start.result.now c.start.new.self _ within c.index_mut-in-Start.ensures.value c.in-Start.processor same c.start.ensures.starts)
