@@ -1,3 +1,4 @@
+mod Driving
 mod Meeting
 mod Names
 mod Numerals

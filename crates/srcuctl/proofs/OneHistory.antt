@@ -1,6 +1,6 @@
 -- A history that grows by what those in hand have done, and by nothing else.
-use Rattle.std.proofs.Common.{◌≡◌, ℕ, suc, ◌+◌, ◌<◌, ◌≤◌, Bool, true, false, cond, List, [], ◌∷◌, ◌++◌, length, All, refl, sym, ap, ◌∙◌, subst, append_assoc, append-nil, length-append, arith}
-use Rattle.std.proofs.lemmas.List.Elements.{filter-append}
+use Rattle.std.proofs.Common.{◌≡◌, ℕ, suc, ◌+◌, ◌<◌, ◌≤◌, Bool, true, false, cond, List, [], ◌∷◌, ◌++◌, length, All, refl, sym, ap, ◌∙◌, subst, append_assoc, append-nil, length-append, arith, rules}
+use Rattle.std.proofs.lemmas.List.Elements.{filter-append, All-head, All-tail, All-cons}
 use Rattle.onedom.specs.declared.event.Maker.{Maker}
 use Rattle.onedom.specs.declared.event.Maker.TheVariants.{Processor, Engine}
 use Rattle.onedom.specs.declared.event.Event.{Event}
@@ -29,20 +29,19 @@ its_maker n (Start by) h = subst (IsMaker n) (sym h) tt
 made_first : (e : Event) (es : List Event) → made (maker_of e) (e ∷ es) ≡ suc (made (maker_of e) es)
 made_first e es = ap (λ b. length (cond b (e ∷ made_by (maker_of e) es) (made_by (maker_of e) es))) (same_maker_refl (maker_of e))
 
-all_first : (P : Event → Type 0) (e : Event) (es : List Event) → All P (e ∷ es) → P e
-all_first P e es h = ?
-
 all_front : (P : Event → Type 0) (a b : List Event) → All P (a ++ b) → All P a
-all_front P a b h = ?
+all_front P [] b h = search rules
+all_front P (x ∷ a) b h = All-cons P x a (All-head P x (a ++ b) h) (all_front P a b (All-tail P x (a ++ b) h))
 
 all_back : (P : Event → Type 0) (a b : List Event) → All P (a ++ b) → All P b
-all_back P a b h = ?
+all_back P [] b h = h
+all_back P (x ∷ a) b h = all_back P a b (All-tail P x (a ++ b) h)
 
 -- nobody made an event: there is none
 nobody : (n : ℕ) (es : List Event) → All (HasItsMaker n) es → ((m : Maker) → IsMaker n m → made m es ≡ 0) → es ≡ []
 nobody n [] all none = refl
 nobody n (e ∷ es) all none =
-    let no_one = none (maker_of e) (its_maker n e (all_first (HasItsMaker n) e es all)) in
+    let no_one = none (maker_of e) (its_maker n e (All-head (HasItsMaker n) e es all)) in
     absurd (omega (arith, made_first e es, no_one))
 
 pub all_of_beginning : (P : Event → Type 0) (h g : List Event) → IsBeginning h g → All P g → All P h

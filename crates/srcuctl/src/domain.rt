@@ -89,9 +89,9 @@ impl<A: Allocator> Domain<A> {
         ensures { MatchResult result (λ n. StartsPeriod self.old n self.new) (λ e. StartsNone self.old e × (self.new ≡ self.old)) }
     {
         let number = self.engine.number();
-        if state(number) != Phase::Idle {
+        let Phase::Idle = state(number) else {
             return Err(StartRefusal::Running);
-        }
+        };
         if number.get() == 4 * self.limits.periods {
             return Err(StartRefusal::Exhausted);
         }
