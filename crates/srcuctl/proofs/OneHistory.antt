@@ -29,11 +29,11 @@ its_maker n (Start by) h = subst (IsMaker n) (sym h) tt
 made_first : (e : Event) (es : List Event) → made (maker_of e) (e ∷ es) ≡ suc (made (maker_of e) es)
 made_first e es = ap (λ b. length (cond b (e ∷ made_by (maker_of e) es) (made_by (maker_of e) es))) (same_maker_refl (maker_of e))
 
-all_front : (P : Event → Type 0) (a b : List Event) → All P (a ++ b) → All P a
+pub all_front : {X : Type 0} (P : X → Type 0) (a b : List X) → All P (a ++ b) → All P a
 all_front P [] b h = search rules
 all_front P (x ∷ a) b h = All-cons P x a (All-head P x (a ++ b) h) (all_front P a b (All-tail P x (a ++ b) h))
 
-all_back : (P : Event → Type 0) (a b : List Event) → All P (a ++ b) → All P b
+all_back : {X : Type 0} (P : X → Type 0) (a b : List X) → All P (a ++ b) → All P b
 all_back P [] b h = h
 all_back P (x ∷ a) b h = all_back P a b (All-tail P x (a ++ b) h)
 
