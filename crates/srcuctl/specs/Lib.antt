@@ -10,3 +10,4 @@ pub mod Domains
 pub mod Entries
 pub mod Sessions
 pub mod Requests
+pub mod Programs
