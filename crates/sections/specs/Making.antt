@@ -33,6 +33,9 @@ pub record IsFounder (bounds key : Bounds) (table : TableId) (k : ℕ) (seat : P
 abbrev pub NewTable : Bounds → Bounds → TableId → Place → Type 0
 NewTable bounds key table seat = IsFounder bounds key table 0 seat
 
+abbrev pub bounds_of : ℕ → Limits → Bounds
+bounds_of processors limits = record { processors = processors; sections = limits.sections }
+
 -- the processors in order, and the engine's seat, all knowing of nothing yet
 pub record IsMade (bounds : Bounds) (periods : ℕ) (cpus : List CpuView) (engine : EngineView) : Type 0 where
   pub count : length cpus ≡ bounds.processors
