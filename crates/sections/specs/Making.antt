@@ -1,7 +1,6 @@
 -- What a new domain is.
 use Rattle.std.specs.Prelude.{◌≡◌, ℕ, ◌+◌, ◌*◌, ◌^◌, ◌<◌, ◌≤◌, List, [], length, Result, Ok, Err, MatchResult}
 use Rattle.atomic_table.specs.Seated.{TableId}
-use Rattle.sections.specs.declared.limits.TheConstants.{MOST_PROCESSORS}
 use Rattle.sections.specs.declared.view.Bounds.{Bounds}
 use Rattle.sections.specs.declared.limits.Limits.{Limits}
 use Rattle.sections.specs.declared.limits.MakeError.{MakeError}
@@ -14,9 +13,9 @@ use Rattle.sections.specs.Seats.{Place}
 use Rattle.sections.specs.Views.{CpuView, EngineView}
 use Rattle.sections.specs.Calls.{new_engine, AreNew}
 
--- a domain has from 1 to so many processors
+-- a domain has 1 or 2 processors
 abbrev pub IsCount : ℕ → Type 0
-IsCount processors = (1 ≤ processors) × (processors ≤ MOST_PROCESSORS)
+IsCount processors = (1 ≤ processors) × (processors ≤ 2)
 
 -- in a domain of these bounds no counter comes near 2 ^ 64
 pub record IsSmall (bounds : Bounds) : Type 0 where
