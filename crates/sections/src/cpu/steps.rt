@@ -14,7 +14,7 @@ use atomic_table::Shared;
 use sseq::Index;
 
 /// Where the lock counter of a processor stands. Each processor has a stride of 16 words, so that no two of them
-/// share a cache line, wherever the table begins.
+/// share a cache line of 64 bytes, wherever the table begins.
 pub(crate) fn place_of_lock(processor: u16, index: Index) -> usize
     ensures { result ≡ lock_place processor index }
 {
