@@ -1,5 +1,8 @@
+mod Driving
+mod Meeting
 mod Names
 mod Numerals
+mod OneHistory
 mod Openings
 mod Parsing
 mod Pieces

@@ -7,6 +7,7 @@ pub mod Replies
 pub mod Histories
 pub mod Scripts
 pub mod Domains
+pub mod Together
 pub mod Entries
 pub mod Sessions
 pub mod Requests

@@ -1,9 +1,9 @@
-//! One domain of a session.
+//! One domain of a session: all of its processors and its engine's seat in one hand.
 ghost use Rattle.std.specs.Prelude.{◌≡◌, ◌<◌, MatchResult};
 ghost use Rattle.sections.specs.Limits.{AreInRange};
 
-use sections::{Cpu, Exhausted, Limits, MakeError, Reading};
-use sseq::{Index, Number};
+use sections::{Cpu, EngineSeat, Exhausted, Limits, Made, MakeError, Reading, make};
+use sseq::{Index, Number, Phase, state};
 use std::alloc::Allocator;
 use std::marker::Model;
 
@@ -16,11 +16,13 @@ pub enum StartRefusal {
     Exhausted,
 }
 
-/// A domain of one thread, which has all of its processors and the engine's seat. Contracts see its history.
+/// A domain that one thread drives. After each call its processors and its engine meet, so that all have seen one
+/// history, in which nothing stands but what the calls have done. Contracts see that history.
 #[derive(Drop)]
 pub struct Domain<A: Allocator> {
+    cpus: Vec<Cpu<A>, A>,
+    engine: EngineSeat<A>,
     limits: Limits,
-    cpu: Cpu<A>,
 }
 
 impl<A: Allocator> Model for Domain<A> {
@@ -28,7 +30,11 @@ impl<A: Allocator> Model for Domain<A> {
 
     ghost Value = { DomainView };
 
-    ghost view = { λ d. record { table = d.cpu.domain; limits = d.limits; processors = d.cpu.processors; history = d.cpu.seen } };
+    ghost use Rattle.srcuctl.specs.Together.{view_of_domain, IsDomain};
+
+    ghost view = { view_of_domain };
+
+    ghost invariant = { IsDomain };
 }
 
 impl<A: Allocator> Domain<A> {
@@ -36,18 +42,26 @@ impl<A: Allocator> Domain<A> {
     ghost use Rattle.srcuctl.specs.Domains.{IsNew, IsNotMade, IsOf, BeginsSection, BeginsNone, EndsSection, StartsPeriod, StartsNone};
     ghost use Rattle.sections.specs.Words.{number_word};
 
+    /// A domain in which nothing has happened.
     pub fn new(alloc: A, processors: u64, limits: Limits) -> Result<Domain<A>, MakeError>
+    where
+        A: Clone,
         requires { AreInRange limits }
         ensures { MatchResult result (IsNew limits processors) (IsNotMade processors) }
     {
-        let _ = (alloc, processors, limits);
-        Err(MakeError::Memory)
+        let Made { cpus, engine } = make(alloc, processors as usize, limits)?;
+        Ok(Domain {
+            cpus,
+            engine,
+            limits,
+        })
     }
 
+    /// How many processors there are.
     pub fn processors(&self) -> u64
         ensures { result ≡ self.now.processors }
     {
-        0
+        self.cpus.len() as u64
     }
 
     /// Begins a section on a processor.
@@ -55,8 +69,9 @@ impl<A: Allocator> Domain<A> {
         requires { processor < self.old.processors }
         ensures { MatchResult result (λ r. BeginsSection processor self.old r self.new) (λ _. BeginsNone processor self.old self.new) }
     {
-        let _ = processor;
-        Err(Exhausted)
+        let taken = self.cpus[processor as usize].read_lock();
+        self.engine.meet(&mut self.cpus);
+        taken
     }
 
     /// Ends the reading's section, on its own processor.
@@ -64,14 +79,25 @@ impl<A: Allocator> Domain<A> {
         requires { IsOf self.old.table self.old.processors reading }
         ensures { EndsSection reading self.old self.new }
     {
-        unreachable!()
+        let processor = usize::from(reading.processor());
+        self.cpus[processor].read_unlock(reading);
+        self.engine.meet(&mut self.cpus);
     }
 
-    /// Starts a grace period, whether it is asked for or not.
+    /// Starts a grace period, whether it is asked for or not, and answers the number from then on.
     pub fn start(&mut self) -> Result<Number, StartRefusal>
         ensures { MatchResult result (λ n. StartsPeriod self.old n self.new) (λ e. StartsNone self.old e × (self.new ≡ self.old)) }
     {
-        Err(StartRefusal::Running)
+        let number = self.engine.number();
+        let Phase::Idle = state(number) else {
+            return Err(StartRefusal::Running);
+        };
+        if number.get() == 4 * self.limits.periods {
+            return Err(StartRefusal::Exhausted);
+        }
+        let started = self.engine.add_start();
+        self.engine.meet(&mut self.cpus);
+        Ok(started)
     }
 
     /// The current index, as processor 0 finds it.
@@ -79,12 +105,15 @@ impl<A: Allocator> Domain<A> {
         ensures value { result ≡ index_now self.old.history }
         ensures after { self.new ≡ self.old }
     {
-        Index::Zero
+        let look = self.cpus[0].look();
+        self.engine.meet(&mut self.cpus);
+        look.index()
     }
 
+    /// The number, as the engine has it.
     pub fn number(&self) -> Number
         ensures { result ≡ number_word self.now.history }
     {
-        Number::zero()
+        self.engine.number()
     }
 }

@@ -1,0 +1,39 @@
+use Rattle.std.proofs.Common.{◌≡◌, ◌<◌, length, subst, sym, ◌∙◌, refl, arith, length-set}
+use Rattle.sections.specs.Views.{CpuView}
+use Rattle.sections.specs.Calls.{Meets}
+use Rattle.srcuctl.specs.Domains.{DomainView}
+use Rattle.srcuctl.specs.Together.{AreTogether}
+use Rattle.std.specs.Prelude.{MatchResult}
+use Rattle.std.proofs.lemmas.Result.{MatchResult-weaker}
+use Rattle.srcuctl.specs.Domains.{BeginsSection, BeginsNone}
+use Rattle.srcuctl.proofs.Meeting.{all_kept}
+use Rattle.srcuctl.proofs.Driving.{seen_as, locked, locked_none, lock_together}
+use Rattle.srcuctl.proofs.domain.Domain.read_lock.Goals as goal
+
+pub invariant_of-self : goal.invariant_of-self
+invariant_of-self g c =
+    let together = c.self.invariant in
+    let cpus = c.self.inside.cpus.items in
+    let e = c.self.inside.engine in
+    let was = c.index_mut.result.now in
+    let new = c.read_lock-taken.new.self in
+    let meets = subst (λ l. Meets e l c.meet.new.self c.meet.new.cpus) c.deref_mut.ensures.value c.meet.ensures in
+    let small = rw (← c.self.view_is) at c.requires in
+    let inside : c.args.processor < length cpus = omega (arith, together.hold.all, small) in
+    let kept : c.self.inside.cpus.len ≡ length c.meet.new.cpus = omega (arith, c.self.inside.cpus.ok.0, meets.count, length-set cpus c.args.processor new) in
+    subst (λ l. AreTogether c.self.inside.limits l c.meet.new.self) (sym (all_kept c.self.inside.cpus.len c.meet.new.cpus _ kept))
+    (lock_together c.self.inside.limits cpus e c.args.processor was new together inside c.index_mut.ensures.value c.meet.new.cpus c.meet.new.self meets c.read_lock-taken.result c.read_lock-taken.ensures)
+
+pub returns : goal.returns
+returns g c =
+    let together = c.self.invariant in
+    let cpus = c.self.inside.cpus.items in
+    let e = c.self.inside.engine in
+    let was = c.index_mut.result.now in
+    let new = c.read_lock-taken.new.self in
+    let meets = subst (λ l. Meets e l c.meet.new.self c.meet.new.cpus) c.deref_mut.ensures.value c.meet.ensures in
+    let small = rw (← c.self.view_is) at c.requires in
+    let inside : c.args.processor < length cpus = omega (arith, together.hold.all, small) in
+    rw (← c.self.view_is) (MatchResult-weaker c.read_lock-taken.result c.read_lock-taken.ensures
+    (λ r h. locked c.self.inside.limits cpus e c.args.processor was new together inside c.index_mut.ensures.value c.meet.new.cpus c.meet.new.self meets r h)
+    (λ _ h. locked_none c.self.inside.limits cpus e c.args.processor was new together inside c.index_mut.ensures.value c.meet.new.cpus c.meet.new.self meets h))
