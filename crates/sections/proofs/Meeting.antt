@@ -1,19 +1,26 @@
 -- Several holders that come to have seen one history.
-use Rattle.std.proofs.Common.{◌≡◌, ℕ, ◌+◌, ◌<◌, ◌≤◌, List, get_or, set, length, refl, sym, ap, ◌∙◌, subst, arith, length-set, get_or-set_other, get_or-set_same}
-use Rattle.std.proofs.lemmas.List.{get_or_default}
+use Rattle.std.proofs.Common.{◌≡◌, ℕ, ◌+◌, ◌<◌, ◌≤◌, List, [], ◌∷◌, ◌++◌, map, get_or, set, length, refl, sym, ap, ◌∙◌, subst, arith, append_assoc, length-append, length-set, get_or-set_other, get_or-set_same}
+use Rattle.std.proofs.lemmas.List.{get_or_default, map-append}
 use mathlib.Core.Logic.{dite}
 use native.Mathlib.Decide.{ℕ_discrete}
 use Rattle.atomic_table.specs.Seated.{TableId}
+use Rattle.onedom.specs.declared.event.Maker.{Maker}
+use Rattle.onedom.specs.declared.event.Maker.TheVariants.{Processor, Engine}
 use Rattle.onedom.specs.declared.event.Event.{Event}
-use Rattle.onedom.specs.Histories.{IsBeginning}
-use Rattle.onedom.proofs.Beginnings.{beginning_trans, beginnings_compare}
+use Rattle.onedom.specs.Histories.{made_by, IsBeginning}
+use Rattle.onedom.proofs.Beginnings.{beginning_trans, beginnings_compare, beginning_made_by}
 use Rattle.sections.specs.declared.view.Role.TheVariants.{Cpu}
 use Rattle.sections.specs.declared.view.View.{View}
+use Rattle.sections.specs.declared.view.Load.{Load}
 use Rattle.sections.specs.Plays.{index_load}
 use Rattle.sections.specs.Seats as seats
 use Rattle.sections.specs.Views.{CpuView, EngineView}
-use Rattle.sections.specs.Calls.{IsSameCpu, IsSameEngine, Loads, Covers, CoversAll, Accepts, Ties, TiesEngine, Joins, Meets}
+use Rattle.sections.specs.Calls.{HasSeenOf, IsSameCpu, IsSameEngine, Loads, Covers, CoversAll, Accepts, Ties, TiesEngine, Joins, Meets}
 use Rattle.sections.proofs.Calling.{seen_as, history_of}
+
+-- of a maker, a beginning of a history has a beginning of the maker's events there
+seen_of : (m : Maker) (mine mine' seen later : List Event) → mine' ≡ made_by m later → IsBeginning seen later → mine ≡ mine' → HasSeenOf m mine seen
+seen_of m mine mine' seen later own since same = let b = beginning_made_by m since in record { rest = b.rest; whole = same ∙ (own ∙ b.whole) }
 
 -- Two processors
 
@@ -41,10 +48,13 @@ pub ties_from : (d d' e e' : TableId) (n limit p m most q : ℕ) (v w o w' o' : 
 ties_from d d' e e' n limit p m most q v w o w' o' ds es sized is other_sized other_is same h a =
     subst (λ (z : View). Ties (seen_as d n limit p v) (seen_as e m most q o) (seen_as d' n limit p z) (seen_as e' m most q o')) (sym same) record {
       value = h.value;
+      current = h.current;
       looks = covers_loads d d' n limit p v o w ds sized is h;
       accepts = accepts_seen e e' m most q o w o' es other_sized other_is a;
       since = subst (λ (z : List Event). IsBeginning o.seen z) (sym a.seen) h.covers;
       comparable = beginnings_compare h.since h.covers;
+      first_known = seen_of (Processor p) _ _ _ _ (covers_loads d d' n limit p v o w ds sized is h).history.own h.covers (sym h.mine);
+      second_known = seen_of (Processor q) _ _ _ _ (accepts_seen e e' m most q o w o' es other_sized other_is a).history.own (subst (λ (z : List Event). IsBeginning v.seen z) (sym a.seen) h.since) (sym a.mine);
     }
 
 -- The engine and a processor
@@ -60,6 +70,8 @@ ties_engine e e' e'' c c' c'' h same_cpu same_engine a =
       accepts = accepts;
       since = subst (λ (z : List Event). IsBeginning c.seen z) (sym accepts.seen) h.covers;
       comparable = beginnings_compare h.since h.covers;
+      engine_known = seen_of Engine _ _ _ _ h.history.own h.covers (sym h.mine);
+      cpu_known = seen_of (Processor c.processor) _ _ _ _ (accepts.history.own ∙ ap (λ k. made_by (Processor k) c''.seen) accepts.same.3) (subst (λ (z : List Event). IsBeginning e.seen z) (sym accepts.seen) h.since) (sym accepts.mine);
     }
 
 -- The engine and several processors
@@ -70,8 +82,14 @@ covers_more cpus i item before after inside is since here so_far k d lt = dite (
     (λ e. let same : item ≡ get_or cpus k d = is ∙ (get_or_default cpus i item d inside ∙ ap (λ z. get_or cpus z d) (sym e)) in subst (λ (z : CpuView). IsBeginning z.seen after) same here)
     (λ n. beginning_trans (so_far k d (omega arith)) since)
 
-pub domain_at : (cpus : List CpuView) (i : ℕ) (item : CpuView) (domain : TableId) → i < length cpus → ((k : ℕ) (d : CpuView) → k < length cpus → (get_or cpus k d).domain ≡ domain) → (get_or cpus i item).domain ≡ domain
-domain_at cpus i item domain inside all = all i item inside
+-- one load more
+pub one_more_load : (i : ℕ) (before between after : List Load) → (found : List ℕ) × (length found ≡ i) × (between ≡ before ++ map index_load found) → (n : ℕ) → after ≡ between ++ index_load n ∷ []
+    → (found : List ℕ) × (length found ≡ i + 1) × (after ≡ before ++ map index_load found)
+one_more_load i before between after so_far n e = let (found, count, loads) = so_far in (
+  found ++ n ∷ [],
+  (let more = length-append found (n ∷ []) in omega (arith, more, count)),
+  e ∙ (ap (λ l. l ++ index_load n ∷ []) loads ∙ (append_assoc before (map index_load found) (index_load n ∷ []) ∙ ap (λ l. before ++ l) (sym (map-append index_load found (n ∷ []))))),
+)
 
 pub joins_more : (was now : List CpuView) (i : ℕ) (new : CpuView) (all : List Event) → length now ≡ length was → i < length now → ((k : ℕ) (d : CpuView) → k < length was → IsBeginning (get_or was k d).seen all)
     → ((d : CpuView) → Accepts (get_or now i d) all new)
@@ -92,6 +110,9 @@ pub meets_from : (e e' e'' : EngineView) (cpus cpus' cpus'' : List CpuView) → 
     → ((k : ℕ) (d : CpuView) → k < length cpus' → Joins (get_or cpus' k d) e'.seen (get_or cpus'' k d)) → Meets e cpus e'' cpus''
 meets_from e e' e'' cpus cpus' cpus'' h same_cpus steady count joined =
     subst (λ (z : EngineView). Meets e cpus z cpus'') (sym steady) record {
+      found = h.found;
+      one_each = h.one_each;
+      loads = h.loads;
       same = h.same;
       mine = h.mine;
       since = h.since;

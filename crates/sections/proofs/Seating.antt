@@ -11,7 +11,7 @@ use Rattle.sections.specs.declared.view.Role.TheVariants.{Bearer, Cpu, Driver}
 use Rattle.sections.specs.declared.view.Right.TheVariants.{Nothing}
 use Rattle.sections.specs.declared.view.Load.{Load}
 use Rattle.sections.specs.declared.view.View.{View}
-use Rattle.sections.specs.Words.{word_count}
+use Rattle.sections.specs.Words.{word_count, index_word}
 use Rattle.sections.specs.Rule.{HasItsMaker, lacking, bearer, informed, adopting}
 use Rattle.sections.specs.Plays.{Owns, IsSound, index_load, Looks, Adds}
 use Rattle.sections.specs.Seats.{Covers, Accepts}
@@ -45,9 +45,10 @@ owns_between Bearer mine a b c from ab bc to = tt
 owns_between (Cpu p) mine a b c from ab bc to = from ∙ sym (between (beginning_made_by (Processor p) ab) (beginning_made_by (Processor p) bc) (sym to ∙ from))
 owns_between (Driver k) mine a b c from ab bc to = from ∙ sym (between (beginning_made_by Engine ab) (beginning_made_by Engine bc) (sym to ∙ from))
 
-pub covers_from : (n : ℕ) (v o j w : View) → o.right ≡ Nothing → j ≡ informed v (bearer o) → Looks (index_load n) j w → Covers v o w
-covers_from n v o j w free joined h = let l : Looks (index_load n) (informed v (bearer o)) w = subst (λ (z : View). Looks (index_load n) z w) joined h in record {
+pub covers_from : (n : ℕ) (v o j w : View) → o.right ≡ Nothing → j ≡ informed v (bearer o) → Looks (index_load n) j w → n ≡ index_word w.seen → Covers v o w
+covers_from n v o j w free joined h current = let l : Looks (index_load n) (informed v (bearer o)) w = subst (λ (z : View). Looks (index_load n) z w) joined h in record {
   value = n;
+  current = current;
   processors = l.processors;
   role = l.role;
   mine = l.mine;

@@ -198,6 +198,7 @@ module _ (bounds : Bounds) where
             };
           },
           r.words.index,
+          refl,
         ),
       )
 

@@ -1,5 +1,5 @@
 -- What the calls of a processor and of the engine's seat do.
-use Rattle.std.specs.Prelude.{◌≡◌, ℕ, ◌<◌, ◌⊎◌, List, [], ◌∷◌, ◌++◌, All, length, slice_index_or}
+use Rattle.std.specs.Prelude.{◌≡◌, ℕ, ◌<◌, ◌⊎◌, List, [], ◌∷◌, ◌++◌, All, length, map, slice_index_or}
 use Rattle.atomic_table.specs.Seated.{TableId}
 use Rattle.sseq.specs.declared.index.Index.{Index}
 use Rattle.sseq.specs.Indexes.{low_bit}
@@ -26,6 +26,10 @@ IsSeenBy c = IsHistoryOf c.processors (Processor c.processor) c.mine c.seen
 abbrev pub IsSeenByEngine : EngineView → Type 0
 IsSeenByEngine e = IsHistoryOf e.processors Engine e.mine e.seen
 
+-- of this maker, whose own events these are, a holder with that history has seen a beginning of them
+abbrev pub HasSeenOf : Maker → List Event → List Event → Type 0
+HasSeenOf maker mine seen = IsBeginning (made_by maker seen) mine
+
 -- the same processor of the same domain
 abbrev pub IsSameCpu : CpuView → CpuView → Type 0
 IsSameCpu c d = (d.domain ≡ c.domain) × (d.processors ≡ c.processors) × (d.sections ≡ c.sections) × (d.processor ≡ c.processor)
@@ -33,7 +37,7 @@ IsSameCpu c d = (d.domain ≡ c.domain) × (d.processors ≡ c.processors) × (d
 abbrev pub IsSameEngine : EngineView → EngineView → Type 0
 IsSameEngine e f = (f.domain ≡ e.domain) × (f.processors ≡ e.processors) × (f.periods ≡ e.periods)
 
--- one load was made, which saw all that had happened, and nothing was done
+-- one load was made, and nothing was done; what is then seen goes on from what was seen before
 pub record Loads (l : Load) (c d : CpuView) : Type 0 where
   pub same : IsSameCpu c d
   pub mine : d.mine ≡ c.mine
@@ -102,6 +106,7 @@ AreNew domain processors sections cpus = (k : ℕ) (d : CpuView) → k < length 
 -- one load by the engine, after which it has seen what the processor has
 pub record Covers (e : EngineView) (seen : List Event) (e' : EngineView) : Type 0 where
   pub value : ℕ
+  pub current : value ≡ index_word e'.seen
   pub same : IsSameEngine e e'
   pub mine : e'.mine ≡ e.mine
   pub loads : e'.loads ≡ e.loads ++ index_load value ∷ []
@@ -109,8 +114,11 @@ pub record Covers (e : EngineView) (seen : List Event) (e' : EngineView) : Type 
   pub covers : IsBeginning seen e'.seen
   pub history : IsSeenByEngine e'
 
--- the engine has seen what each of these processors has, and did nothing
+-- the engine has seen what each of these processors has, and did nothing but to load the index word once for each
 pub record CoversAll (e : EngineView) (cpus : List CpuView) (e' : EngineView) : Type 0 where
+  pub found : List ℕ
+  pub one_each : length found ≡ length cpus
+  pub loads : e'.loads ≡ e.loads ++ map index_load found
   pub same : IsSameEngine e e'
   pub mine : e'.mine ≡ e.mine
   pub since : IsBeginning e.seen e'.seen
@@ -129,10 +137,13 @@ pub record Accepts (c : CpuView) (all : List Event) (c' : CpuView) : Type 0 wher
 -- both made one load, and no event, and have then seen one history, which covers what each had seen. So each of the two has there just its own events
 pub record Ties (c d c' d' : CpuView) : Type 0 where
   pub value : ℕ
+  pub current : value ≡ index_word c'.seen
   pub looks : Loads (index_load value) c c'
   pub accepts : Accepts d c'.seen d'
   pub since : IsBeginning d.seen d'.seen
   pub comparable : IsBeginning c.seen d.seen ⊎ IsBeginning d.seen c.seen
+  pub first_known : HasSeenOf (Processor c.processor) c.mine d.seen
+  pub second_known : HasSeenOf (Processor d.processor) d.mine c.seen
 
 -- the same of the engine and a processor
 pub record TiesEngine (e : EngineView) (c : CpuView) (e' : EngineView) (c' : CpuView) : Type 0 where
@@ -140,14 +151,19 @@ pub record TiesEngine (e : EngineView) (c : CpuView) (e' : EngineView) (c' : Cpu
   pub accepts : Accepts c e'.seen c'
   pub since : IsBeginning c.seen c'.seen
   pub comparable : IsBeginning e.seen c.seen ⊎ IsBeginning c.seen e.seen
+  pub engine_known : HasSeenOf Engine e.mine c.seen
+  pub cpu_known : HasSeenOf (Processor c.processor) c.mine e.seen
 
 -- the processor made a load and no event, and has seen this history, which goes on from what it had seen
 pub record Joins (c : CpuView) (seen : List Event) (c' : CpuView) : Type 0 where
   pub accepts : Accepts c seen c'
   pub since : IsBeginning c.seen seen
 
--- the engine and the processors have seen one history, in which each has just its own events
+-- the engine and the processors have seen one history, in which each has just its own events. The engine loaded the index word once for each processor, and each processor once
 pub record Meets (e : EngineView) (cpus : List CpuView) (e' : EngineView) (cpus' : List CpuView) : Type 0 where
+  pub found : List ℕ
+  pub one_each : length found ≡ length cpus
+  pub loads : e'.loads ≡ e.loads ++ map index_load found
   pub same : IsSameEngine e e'
   pub mine : e'.mine ≡ e.mine
   pub since : IsBeginning e.seen e'.seen

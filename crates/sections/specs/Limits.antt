@@ -1,6 +1,8 @@
 -- The ranges of a domain's limits.
-use Rattle.std.specs.Prelude.{◌≡◌, ℕ, ◌<◌, ◌≤◌, ◌^◌, ◌-◌}
+use Rattle.std.specs.Prelude.{◌≡◌, ℕ, ◌<◌, ◌≤◌, ◌^◌, List, codes}
 use Rattle.sections.specs.declared.limits.Limits.{Limits}
+use Rattle.sections.specs.declared.limits.MakeError.{MakeError}
+use Rattle.sections.specs.declared.limits.MakeError.TheVariants as refused
 
 pub record AreInRange (limits : Limits) : Type 0 where
   pub some_sections : 1 ≤ limits.sections
@@ -8,3 +10,9 @@ pub record AreInRange (limits : Limits) : Type 0 where
   pub some_periods : 1 ≤ limits.periods
   pub periods : limits.periods < 2 ^ 59
   pub cells : limits.cells ≡ 0
+
+-- as a refusal is printed
+abbrev pub make_error_text : MakeError → List ℕ
+make_error_text refused.Processors = codes "no domain has so many processors"
+make_error_text refused.Limits = codes "a limit is out of its range"
+make_error_text refused.Memory = codes "out of memory"

@@ -1,7 +1,6 @@
 -- What a new domain is.
 use Rattle.std.specs.Prelude.{◌≡◌, ℕ, ◌+◌, ◌*◌, ◌^◌, ◌<◌, ◌≤◌, List, [], length, Result, Ok, Err, MatchResult}
 use Rattle.atomic_table.specs.Seated.{TableId}
-use Rattle.sections.specs.declared.limits.TheConstants.{MOST_PROCESSORS}
 use Rattle.sections.specs.declared.view.Bounds.{Bounds}
 use Rattle.sections.specs.declared.limits.Limits.{Limits}
 use Rattle.sections.specs.declared.limits.MakeError.{MakeError}
@@ -14,9 +13,9 @@ use Rattle.sections.specs.Seats.{Place}
 use Rattle.sections.specs.Views.{CpuView, EngineView}
 use Rattle.sections.specs.Calls.{new_engine, AreNew}
 
--- a domain has from 1 to so many processors
+-- a domain has 1 or 2 processors
 abbrev pub IsCount : ℕ → Type 0
-IsCount processors = (1 ≤ processors) × (processors ≤ MOST_PROCESSORS)
+IsCount processors = (1 ≤ processors) × (processors ≤ 2)
 
 -- in a domain of these bounds no counter comes near 2 ^ 64
 pub record IsSmall (bounds : Bounds) : Type 0 where
@@ -32,6 +31,9 @@ pub record IsFounder (bounds key : Bounds) (table : TableId) (k : ℕ) (seat : P
 
 abbrev pub NewTable : Bounds → Bounds → TableId → Place → Type 0
 NewTable bounds key table seat = IsFounder bounds key table 0 seat
+
+abbrev pub bounds_of : ℕ → Limits → Bounds
+bounds_of processors limits = record { processors = processors; sections = limits.sections }
 
 -- the processors in order, and the engine's seat, all knowing of nothing yet
 pub record IsMade (bounds : Bounds) (periods : ℕ) (cpus : List CpuView) (engine : EngineView) : Type 0 where

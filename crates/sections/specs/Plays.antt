@@ -13,7 +13,7 @@ use Rattle.sections.specs.declared.view.Right.TheVariants.{Nothing, Section}
 use Rattle.sections.specs.declared.view.Word.TheVariants.{IndexWord}
 use Rattle.sections.specs.declared.view.Load.{Load}
 use Rattle.sections.specs.declared.view.View.{View}
-use Rattle.sections.specs.Words.{index_word, lock_place}
+use Rattle.sections.specs.Words.{index_place, index_word, lock_place}
 use Rattle.sections.specs.Rule.{HasItsMaker}
 
 -- the maker's own events are all of its events in what was seen
@@ -61,7 +61,7 @@ Sat = Me (Option ℕ) View
 
 -- load of the index word
 abbrev pub looked : Step (Option ℕ) → Sat → ℕ → Sat → Type 0
-looked st m n m' = (m'.1 ≡ m.1) × Looks (index_load n) m.0 m'.0 × (n ≡ index_word m'.0.seen)
+looked st m n m' = (m'.1 ≡ m.1) × Looks (index_load n) m.0 m'.0 × (n ≡ index_word m'.0.seen) × (st.word ≡ index_place)
 
 -- increment of a lock counter: a section that never was begins
 abbrev pub began : Step (Option ℕ) → Sat → ℕ → Sat → Type 0

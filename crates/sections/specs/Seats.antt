@@ -9,7 +9,7 @@ use Rattle.onedom.specs.Histories.{IsBeginning}
 use Rattle.sections.specs.declared.view.Bounds.{Bounds}
 use Rattle.sections.specs.declared.view.View.{View}
 use Rattle.sections.specs.declared.view.Right.TheVariants.{Nothing, Section}
-use Rattle.sections.specs.Words.{word_count}
+use Rattle.sections.specs.Words.{word_count, index_word}
 use Rattle.sections.specs.Rule.{lacking, bearer}
 use Rattle.sections.specs.Plays.{IsSound, Adds, index_load}
 
@@ -36,6 +36,7 @@ pub record BeginsSection (p : ℕ) (i : Index) (seat seat' token : Place) : Type
 -- after one load, w has seen what v and o have, and else is as v was
 pub record Covers (v o w : View) : Type 0 where
   pub value : ℕ
+  pub current : value ≡ index_word w.seen
   pub processors : w.processors ≡ v.processors
   pub role : w.role ≡ v.role
   pub mine : w.mine ≡ v.mine

@@ -5,7 +5,7 @@ use Rattle.sseq.specs.declared.index.Index.{Index}
 use Rattle.onedom.specs.declared.event.Event.{Event}
 use Rattle.sections.specs.declared.view.Load.{Load}
 
--- `seen` is the history as far as this processor has seen it, `mine` its own events in it, and `loads` are the loads that it made
+-- `domain` is the table of the domain, `processors` how many processors it has, `sections` how many sections of one index this one may begin, `processor` its number. `seen` is the history as far as this processor has seen it, `mine` its own events in it, and `loads` are the loads that it made
 pub record CpuView : Type 0 where
   pub domain : TableId
   pub processors : ℕ

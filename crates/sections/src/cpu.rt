@@ -90,6 +90,10 @@ impl Model for Reading {
 pub struct Exhausted;
 
 impl fmt::Display for Exhausted {
+    ghost use Rattle.std.specs.Prelude.{Some, codes};
+
+    ghost output = { λ _. Some (codes "no more sections of this index may begin here") };
+
     fn fmt<W: fmt::Write>(&self, f: &mut fmt::Formatter<W>) -> fmt::Result {
         f.write_str("no more sections of this index may begin here")
     }

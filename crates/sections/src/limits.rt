@@ -25,6 +25,7 @@ impl Limits {
     /// The most grace periods of a domain, 2^59 - 1.
     pub const MOST_PERIODS: u64 = 576_460_752_303_423_487;
 
+    /// Whether each of the limits is in its range.
     pub const fn are_in_range(&self) -> bool
         ensures { IsTrue result ↔ AreInRange self.now }
     {
@@ -48,9 +49,14 @@ pub enum MakeError {
 }
 
 impl fmt::Display for MakeError {
+    ghost use Rattle.std.specs.Prelude.{Some};
+    ghost use Rattle.sections.specs.Limits.{make_error_text};
+
+    ghost output = { λ error. Some (make_error_text error) };
+
     fn fmt<W: fmt::Write>(&self, f: &mut fmt::Formatter<W>) -> fmt::Result {
         match self {
-            MakeError::Processors => write!(f, "a domain has 1 to {MOST_PROCESSORS} processors"),
+            MakeError::Processors => f.write_str("no domain has so many processors"),
             MakeError::Limits => f.write_str("a limit is out of its range"),
             MakeError::Memory => f.write_str("out of memory"),
         }

@@ -4,7 +4,7 @@ ghost use Rattle.std.specs.Arc.{arc_value};
 ghost use Rattle.sections.specs.Words.{word_count};
 ghost use Rattle.sections.specs.Rule.{founder};
 ghost use Rattle.sections.specs.Calls.{new_cpu};
-ghost use Rattle.sections.specs.Making.{IsSmall, IsFounder, IsMade, IsRefused, NewTable};
+ghost use Rattle.sections.specs.Making.{IsSmall, IsFounder, IsMade, IsRefused, NewTable, bounds_of};
 
 use crate::cpu::{Cpu, Place, Words};
 use crate::engine::EngineSeat;
@@ -43,8 +43,11 @@ fn deal<A: Allocator>(
     bounds: Bounds,
 ) -> Result<Cpu<A>, AllocError>
     requires small { IsSmall bounds × (processor < bounds.processors) }
-    requires next { IsFounder bounds (arc_value table.now).shared.key (arc_value table.now).shared.table_id processor seat.old }
-    ensures { IfOk result (λ c. (c ≡ new_cpu seat.old.table_id bounds.processors bounds.sections processor) × IsFounder bounds (arc_value table.now).shared.key (arc_value table.now).shared.table_id (processor + 1) seat.new) }
+    requires next { let shared = (arc_value table.now).shared in
+        IsFounder bounds shared.key shared.table_id processor seat.old }
+    ensures { let shared = (arc_value table.now).shared in IfOk result (λ c.
+        (c ≡ new_cpu seat.old.table_id bounds.processors bounds.sections processor)
+        × IsFounder bounds shared.key shared.table_id (processor + 1) seat.new) }
 {
     let table = Arc::try_clone(table)?;
     let dealt = table.shared.split_seat::<plays::Deal>(seat);
@@ -91,7 +94,8 @@ pub fn make<A: Allocator + Clone>(
     processors: usize,
     limits: Limits,
 ) -> Result<Made<A>, MakeError>
-    ensures made { IfOk result (λ m. IsMade (record { processors = processors; sections = limits.sections }) limits.periods m.cpus.items m.engine) }
+    ensures made { IfOk result (λ m.
+        IsMade (bounds_of processors limits) limits.periods m.cpus.items m.engine) }
     ensures refused { IsRefused processors limits result }
 {
     if processors == 0 || processors > MOST_PROCESSORS {

@@ -6,7 +6,9 @@ use sseq::Index;
 /// sections of one index each of them may begin.
 #[derive(Clone, Copy, Debug)]
 pub struct Bounds {
+    /// How many processors the domain has.
     pub processors: usize,
+    /// How many sections of one index each of them may ever begin.
     pub sections: u64,
 }
 

@@ -11,3 +11,4 @@ pub mod Together
 pub mod Entries
 pub mod Sessions
 pub mod Requests
+pub mod Programs

@@ -1,7 +1,8 @@
-//! A program that drives sleepable RCU domains by a script.
+//! `srcuctl` drives sleepable RCU domains by a script.
 #![tactic(auto)]
 
 mod command;
+mod command_line;
 mod domain;
 mod error;
 mod fault;
@@ -12,7 +13,71 @@ mod parse;
 mod reply;
 mod request;
 mod run;
+mod script;
 mod session;
 mod words;
 
-fn main() {}
+use sections::Limits;
+use std::process::ExitCode;
+use std::rt::Env;
+use std::sync::Wait;
+use std::{env, io};
+
+/// The status of a run in which no line was faulty.
+const ALL_WELL: u8 = 0;
+/// The status of a run in which one or more lines were faulty.
+const FAULTY: u8 = 1;
+/// The status of a run that ended early, and of a command line that can't be read.
+const STOPPED: u8 = 2;
+
+/// Runs the script of standard input, and gives the status to end with.
+fn run_script(rt: &(impl Wait + Input + Print + Eprint + AllocGlobal)) -> u8 {
+    let limits = Limits {
+        sections: Limits::MOST_SECTIONS,
+        periods: Limits::MOST_PERIODS,
+        cells: 0,
+    };
+    match script::run(rt.alloc(), rt, &mut rt.reader(), &mut io::writer(rt), limits) {
+        Ok(outcome) if outcome.faulty => FAULTY,
+        Ok(_) => ALL_WELL,
+        Err(error) => {
+            // Where standard error can't be written either, the status is all that is left to tell.
+            let _ = eprintln!(rt; "srcuctl: {error}");
+            STOPPED
+        }
+    }
+}
+
+/// Does what the words of the command line ask for.
+fn act(
+    rt: &(impl Wait + Input + Print + Eprint + AllocGlobal),
+    words: &[String],
+) -> Result<u8, clap::Error> {
+    let matches = command_line::command(rt.alloc())?.try_get_matches_from(words)?;
+    Ok(match matches.subcommand() {
+        Some(("run", _)) => run_script(rt),
+        _ => STOPPED,
+    })
+}
+
+/// The words of the command line.
+fn words_of(rt: &(impl Env + AllocGlobal)) -> io::Result<Vec<String>> {
+    Ok(env::args(rt)?.collect(rt.alloc())?)
+}
+
+fn main(rt: HostRuntime) -> ExitCode {
+    let status = match words_of(&rt) {
+        Ok(words) => match act(&rt, &words) {
+            Ok(status) => status,
+            Err(error) => {
+                let _ = error.print(&rt);
+                error.exit_code() as u8
+            }
+        },
+        Err(_) => {
+            let _ = eprintln!(rt; "srcuctl: out of memory");
+            STOPPED
+        }
+    };
+    ExitCode::from(status)
+}

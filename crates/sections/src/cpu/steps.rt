@@ -14,7 +14,7 @@ use atomic_table::Shared;
 use sseq::Index;
 
 /// Where the lock counter of a processor stands. Each processor has a stride of 16 words, so that no two of them
-/// share a cache line, wherever the table begins.
+/// share a cache line of 64 bytes, wherever the table begins.
 pub(crate) fn place_of_lock(processor: u16, index: Index) -> usize
     ensures { result ≡ lock_place processor index }
 {
@@ -29,12 +29,7 @@ pub(crate) fn place_of_unlock(processor: u16, index: Index) -> usize
 }
 
 /// Adds 1 to the processor's lock counter of the index, and cuts off a token with the right to end the section.
-pub(crate) fn begin_section(
-    top: &Top,
-    seat: &mut Place,
-    processor: u16,
-    index: Index,
-) -> Place
+pub(crate) fn begin_section(top: &Top, seat: &mut Place, processor: u16, index: Index) -> Place
     requires placed { IsPlaced top.now.key top.now.table_id seat.old }
     requires role { seat.old.me.0.role ≡ Cpu processor }
     requires there { processor < top.now.key.processors }
@@ -49,7 +44,8 @@ pub(crate) fn begin_section(
 pub(crate) fn cover(top: &Top, first: &mut Place, second: &mut Place)
     requires first { IsPlaced top.now.key top.now.table_id first.old × IsAtRest first.old.me.0 }
     requires second { IsPlaced top.now.key top.now.table_id second.old × IsAtRest second.old.me.0 }
-    ensures first { IsPlaced top.now.key top.now.table_id first.new × Covers first.old.me.0 second.old.me.0 first.new.me.0 }
+    ensures placed { IsPlaced top.now.key top.now.table_id first.new }
+    ensures first { Covers first.old.me.0 second.old.me.0 first.new.me.0 }
     ensures second { IsSameSeat second.old second.new }
 {
     let token = top.split_seat::<plays::GiveToken>(second);
@@ -63,7 +59,8 @@ pub(crate) fn accept(top: &Top, first: &mut Place, second: &mut Place)
     requires first { IsPlaced top.now.key top.now.table_id first.old × IsAtRest first.old.me.0 }
     requires second { IsPlaced top.now.key top.now.table_id second.old × IsAtRest second.old.me.0 }
     requires covered { IsBeginning first.old.me.0.seen second.old.me.0.seen }
-    ensures first { IsPlaced top.now.key top.now.table_id first.new × Accepts first.old.me.0 second.old.me.0 first.new.me.0 }
+    ensures placed { IsPlaced top.now.key top.now.table_id first.new }
+    ensures first { Accepts first.old.me.0 second.old.me.0 first.new.me.0 }
     ensures second { IsSameSeat second.old second.new }
 {
     let token = top.split_seat::<plays::GiveToken>(second);

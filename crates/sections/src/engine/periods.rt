@@ -24,7 +24,8 @@ impl<A: Allocator> EngineSeat<A> {
         self.number
     }
 
-    /// Starts a grace period (`rcu_seq_start`), and answers the number from then on.
+    /// Starts a grace period (`rcu_seq_start`), and answers the number from then on. None may run, and fewer than
+    /// `periods` may have ended.
     pub fn add_start(&mut self) -> Number
         requires idle { ¬ IsRunning self.old.mine }
         requires room { number_word self.old.mine < 4 * self.old.periods }

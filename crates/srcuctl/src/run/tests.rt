@@ -1,3 +1,5 @@
+ghost use Rattle.std.specs.Prelude.{◌≡◌, is_none};
+
 use super::*;
 use std::alloc::Global;
 use std::io;
@@ -13,7 +15,7 @@ struct Lengths {
 }
 
 impl Answers<Global> for Lengths {
-    ghost gives = { λ _ _ _ _ _ _. Unit {0} };
+    ghost gives = { λ s _ line _ faulty t. (t ≡ s) × (faulty ≡ is_none line) };
 
     fn answer(
         &mut self,

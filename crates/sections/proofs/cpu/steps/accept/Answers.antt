@@ -29,15 +29,6 @@ pub returns-clause-first : goal.returns-clause-first
 returns-clause-first c =
     let first = c.requires.first in
     let second = c.requires.second in
-    let bare = ap (λ m. m.1) c.join_seat-2.ensures.2 ∙ (c.load.ensures.2.0 ∙ (ap (λ m. m.1) c.join_seat.ensures.2 ∙ first.0.bare)) in
     let joined = ap (λ m. m.0) c.join_seat.ensures.2 ∙ ap (λ m. informed c.args.first.now.me.0 m.0) c.split_seat-token.ensures.4 in
     let adopted = ap (λ m. m.0) c.join_seat-2.ensures.2 ∙ (ap (λ m. adopting c.load.new.seat.me.0 m.0) c.split_seat-token-2.ensures.4 ∙ ap (λ m. adopting c.load.new.seat.me.0 (bearer m.0)) c.split_seat-token.ensures.2) in
-    let accepts = accepts_from c.load.result c.args.first.now.me.0 c.args.second.now.me.0 _ _ _ first.1 second.1 (first.0.sized ∙ sym second.0.sized) c.requires.covered joined c.load.ensures.2.1 adopted in (
-      record {
-        seated = c.join_seat-2.ensures.0 ∙ (c.load.ensures.0 ∙ (c.join_seat.ensures.0 ∙ first.0.seated));
-        wide = first.0.wide;
-        bare = bare;
-        sized = accepts.processors ∙ first.0.sized;
-      },
-      accepts,
-    )
+    accepts_from c.load.result c.args.first.now.me.0 c.args.second.now.me.0 _ _ _ first.1 second.1 (first.0.sized ∙ sym second.0.sized) c.requires.covered joined c.load.ensures.2.1 adopted

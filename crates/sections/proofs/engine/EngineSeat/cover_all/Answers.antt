@@ -1,15 +1,16 @@
-use Rattle.std.proofs.Common.{rules, ◌≡◌, ◌<◌, length, get_or, set, refl, sym, ap, ◌∙◌, subst, arith}
+use Rattle.std.proofs.Common.{rules, ◌≡◌, ◌<◌, length, get_or, set, refl, sym, ap, ◌∙◌, subst, arith, [], append-nil}
 use Rattle.std.proofs.lemmas.List.{set-get_or}
 use Rattle.onedom.specs.Histories.{IsBeginning}
 use Rattle.onedom.proofs.Beginnings.{beginning_refl, beginning_trans}
 use Rattle.sections.specs.Views.{CpuView, EngineView}
 use Rattle.sections.specs.Calls.{IsSeenByEngine}
 use Rattle.sections.proofs.Calling.{engine_history_of}
-use Rattle.sections.proofs.Meeting.{covers_more, domain_at}
+use Rattle.sections.proofs.Meeting.{covers_more, one_more_load}
 use Rattle.sections.proofs.engine.EngineSeat.cover_all.Goals as goal
 
 pub loop-cpu-init : goal.loop-cpu-init
 loop-cpu-init g c = record {
+  loads = ([], refl, sym (append-nil _));
   same = (refl, refl, refl);
   mine = refl;
   since = beginning_refl _;
@@ -31,6 +32,7 @@ loop-cpu-preserved g c =
     let same_item = c.cover.ensures.cpu in
     let still : set c.loop-cpu.cpus c.loop-cpu.cpu-index c.cover.new.cpu ≡ c.loop-cpu.cpus =
     ap (λ z. set c.loop-cpu.cpus c.loop-cpu.cpu-index z) same_item ∙ set-get_or c.loop-cpu.cpus c.loop-cpu.cpu-index item in record {
+      loads = one_more_load _ _ _ _ v.loads h.value h.loads;
       same = (h.same.0 ∙ v.same.0, h.same.1 ∙ v.same.1, h.same.2 ∙ v.same.2);
       mine = h.mine ∙ v.mine;
       since = beginning_trans v.since h.since;
@@ -40,7 +42,7 @@ loop-cpu-preserved g c =
     }
 
 pub returns-clause-engine : goal.returns-clause-engine
-returns-clause-engine g c = let v = c.loop-cpu.invariant in record { same = v.same; mine = v.mine; since = v.since; covers = λ k d lt. v.covers k d (omega arith); history = v.history }
+returns-clause-engine g c = let v = c.loop-cpu.invariant in let done = c.loop-cpu-test.false in let l = v.loads in record { found = l.0; one_each = l.1 ∙ omega arith; loads = l.2; same = v.same; mine = v.mine; since = v.since; covers = λ k d lt. v.covers k d (omega arith); history = v.history }
 
 pub returns-clause-cpus : goal.returns-clause-cpus
 returns-clause-cpus g c = c.loop-cpu.invariant.unchanged

@@ -1,5 +1,6 @@
 -- The engine has seen what each of the processors so far has.
-use Rattle.std.proofs.Common.{◌≡◌, ℕ, ◌<◌, slice_index_or}
+use Rattle.std.proofs.Common.{◌≡◌, ℕ, ◌<◌, List, ◌++◌, length, map, slice_index_or}
+use Rattle.sections.specs.Plays.{index_load}
 use Rattle.onedom.specs.Histories.{IsBeginning}
 use Rattle.sections.specs.Views.{CpuView}
 use Rattle.sections.specs.Calls.{IsSameEngine, IsSeenByEngine}
@@ -7,6 +8,7 @@ use Rattle.sections.proofs.engine.EngineSeat.cover_all.Given as goal
 
 abbrev pub invariant-loop-cpu : goal.invariant-loop-cpu
 invariant-loop-cpu g l = record {
+  loads : (found : List ℕ) × (length found ≡ l.cpu-index) × (l.self.loads ≡ l.initial.self.loads ++ map index_load found);
   same : IsSameEngine l.initial.self l.self;
   mine : l.self.mine ≡ l.initial.self.mine;
   since : IsBeginning l.initial.self.seen l.self.seen;
