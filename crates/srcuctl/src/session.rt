@@ -19,6 +19,8 @@ use std::alloc::{AllocError, Allocator};
 use std::marker::Model;
 
 pub mod entry;
+#[cfg(test)]
+mod tests;
 
 use entry::Entry;
 
