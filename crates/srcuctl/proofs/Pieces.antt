@@ -1,10 +1,9 @@
 -- The pieces between line feeds, as a text grows.
-use Rattle.std.proofs.Common.{◌≡◌, ◌≢◌, ℕ, ◌+◌, ◌<◌, ◌==◌, Bool, true, false, cond, List, [], ◌∷◌, ◌++◌, length, refl, sym, ap, ◌∙◌, rules, arith}
+use Rattle.std.proofs.Common.{◌≡◌, ◌≢◌, ℕ, ◌<◌, ◌==◌, Bool, true, false, cond, List, [], ◌∷◌, ◌++◌, length, refl, ap, ◌∙◌, rules, arith}
 use borrow.Author.Tests.{tests}
 use Rattle.std.specs.List.{onto_first}
 use Rattle.std.proofs.lemmas.List.Splits.{length-slice_split}
-use Rattle.std.proofs.lemmas.Bool.Decides.{nat_tests}
-use Rattle.srcuctl.specs.Lines.{is_empty, lines_of, pieces, whole_lines_of, without_empty_last, without_last}
+use Rattle.srcuctl.specs.Lines.{lines_of, pieces, whole_lines_of, without_empty_last, without_last}
 
 pub pieces_some : (xs : List ℕ) → 0 < length (pieces 10 xs)
 pieces_some xs = omega (arith, length-slice_split (λ x. x == 10) xs)

@@ -1,7 +1,7 @@
 -- A run that goes on: byte by byte, and line by line.
 use Rattle.std.proofs.Common.{◌≡◌, ◌≢◌, ℕ, ◌+◌, ◌<◌, ◌≤◌, Bool, true, false, ◌||◌, List, [], ◌∷◌, ◌++◌, Option, Some, None, cond, length, get_or, take, drop, refl, sym, ap, ◌∙◌, subst, append_assoc, append-nil, take-append-drop, add-zero, rules, arith}
 use borrow.Author.Tests.{tests}
-use Rattle.std.specs.Io.KnownBytes.{Appends, Keeps}
+use Rattle.std.specs.Io.KnownBytes.{Appends}
 use Rattle.srcuctl.specs.Lines.{is_text, lines_of, pieces, text_of, without_empty_last}
 use Rattle.srcuctl.specs.Runs.{AnswerFails, Answering, BreaksOff, EndsEarly, IsRun, IsSoFar}
 use Rattle.srcuctl.specs.declared.error.RunError.{RunError}
