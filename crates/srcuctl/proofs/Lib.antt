@@ -10,3 +10,4 @@ mod Places
 mod Reading
 mod SoFar
 mod Writing
+pub mod Programs

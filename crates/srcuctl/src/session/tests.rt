@@ -5,11 +5,7 @@ use std::alloc::Global;
 use std::test::Fail;
 
 /// The replies to these lines, one after another. A line of `None` is no text.
-fn replies(
-    alloc: Global,
-    limits: Limits,
-    lines: &[Option<&str>],
-) -> Result<String, AllocError>
+fn replies(alloc: Global, limits: Limits, lines: &[Option<&str>]) -> Result<String, AllocError>
     requires { AreInRange limits }
 {
     let mut session = Session::new(alloc, limits)?;
