@@ -37,7 +37,13 @@ fn run_script(rt: &(impl Wait + Input + Print + Eprint + AllocGlobal)) -> u8 {
         periods: Limits::MOST_PERIODS,
         cells: 0,
     };
-    match script::run(rt.alloc(), rt, &mut rt.reader(), &mut io::writer(rt), limits) {
+    match script::run(
+        rt.alloc(),
+        rt,
+        &mut rt.reader(),
+        &mut io::writer(rt),
+        limits,
+    ) {
         Ok(outcome) if outcome.faulty => FAULTY,
         Ok(_) => ALL_WELL,
         Err(error) => {

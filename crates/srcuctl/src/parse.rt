@@ -121,7 +121,7 @@ fn any_number(word: &[u8]) -> Result<u64, Fault>
 fn a_domain<A: Allocator>(word: &[u8], entries: &[Entry<A>]) -> Result<usize, Fault>
     ensures { MatchResult result
         (λ place. (domain_fault word.now (domain_place word.now (states_of entries.now)) ≡ None)
-            × (domain_place word.now (states_of entries.now) ≡ Some place) × (place < length entries.now))
+        × (domain_place word.now (states_of entries.now) ≡ Some place) × (place < length entries.now))
         (λ f. domain_fault word.now (domain_place word.now (states_of entries.now)) ≡ Some f) }
 {
     if !is_name(word) {
@@ -133,7 +133,7 @@ fn a_domain<A: Allocator>(word: &[u8], entries: &[Entry<A>]) -> Result<usize, Fa
 fn a_processor<A: Allocator>(word: &[u8], entry: &Entry<A>) -> Result<u64, Fault>
     ensures { MatchResult result
         (λ p. (processor_fault entry.now.state.processors (number_of word.now) ≡ None)
-            × (number_of word.now ≡ Some p) × (p < entry.now.state.processors))
+        × (number_of word.now ≡ Some p) × (p < entry.now.state.processors))
         (λ f. processor_fault entry.now.state.processors (number_of word.now) ≡ Some f) }
 {
     let processor = any_number(word)?;

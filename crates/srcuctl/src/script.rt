@@ -43,10 +43,7 @@ pub fn run<A: Allocator + Clone, R: Read, W: Write>(
 }
 
 /// A session without domains.
-fn open_session<A: Allocator + Clone>(
-    alloc: &A,
-    limits: Limits,
-) -> Result<Session<A>, AllocError>
+fn open_session<A: Allocator + Clone>(alloc: &A, limits: Limits) -> Result<Session<A>, AllocError>
     requires { AreInRange limits }
     ensures { IfOk result (λ s. s ≡ record { limits = limits; domains = [] }) }
 {
