@@ -2,6 +2,7 @@ ghost use Rattle.sections.specs.Limits.{AreInRange};
 
 use super::*;
 use std::alloc::Global;
+use std::process::Abort;
 use std::test::Fail;
 
 /// The replies to these lines, one after another. A line of `None` is no text.
@@ -32,7 +33,11 @@ fn answer_all(
 }
 
 /// Lines with their replies, of which none has its line feed. A fault stands as its word behind `!`.
-fn check(rt: &HostRuntime, limits: Limits, table: &[(&str, &str)]) -> Result<(), Fail>
+fn check(
+    rt: &(impl Abort + AllocGlobal),
+    limits: Limits,
+    table: &[(&str, &str)],
+) -> Result<(), Fail>
     requires { AreInRange limits }
 {
     let mut lines = Vec::new(rt.alloc());
@@ -48,7 +53,7 @@ fn check(rt: &HostRuntime, limits: Limits, table: &[(&str, &str)]) -> Result<(),
         }
     }
     let given = replies(rt.alloc(), limits, &lines)?;
-    assert_eq!(*rt; given.as_str(), wanted.as_str());
+    assert_eq!(rt; given.as_str(), wanted.as_str());
     Ok(())
 }
 
@@ -82,4 +87,143 @@ fn answers_scripts(rt: HostRuntime) -> Result<(), Fail> {
             ("state a", "state a number 1 scan1 index 0 open 1 0 need 0"),
         ],
     )
+}
+
+/// Every fault, and the first of any two that a line can have.
+#[test]
+fn finds_the_first_fault(rt: HostRuntime) -> Result<(), Fail> {
+    check(
+        &rt,
+        AMPLE,
+        &[
+            ("", ""),
+            ("   ", ""),
+            ("# a comment", ""),
+            ("  #domain a 1", ""),
+            ("frob", "! command"),
+            ("Domain a 1", "! command"),
+            ("domain# a 1", "! command"),
+            ("look a 0 r", "! command"),
+            // the command before the number of words, a name, a number
+            ("frob A B C D E F", "! command"),
+            ("domain", "! words"),
+            ("domain a", "! words"),
+            ("domain a 1 1", "! words"),
+            ("state", "! words"),
+            ("state a a", "! words"),
+            ("lock a 0", "! words"),
+            ("unlock a", "! words"),
+            ("start a", "! words"),
+            // the number of words before a name, a domain, a number
+            ("domain A", "! words"),
+            ("state b c", "! words"),
+            ("start a x 0", "! words"),
+            ("domain A 1", "! name"),
+            ("domain aaaaaaaaaaaaaaaaa 1", "! name"),
+            ("domain a-b 1", "! name"),
+            // a name before a number behind it
+            ("domain A x", "! name"),
+            ("state A", "! name"),
+            ("state b", "! domain"),
+            ("lock b 0 s", "! domain"),
+            ("unlock b s", "! domain"),
+            ("start b 0", "! domain"),
+            // a domain before a number and a name behind it
+            ("lock b x s", "! domain"),
+            ("lock b 0 S", "! domain"),
+            ("unlock b S", "! domain"),
+            ("start b 99", "! domain"),
+            ("domain a x", "! number"),
+            ("domain a -1", "! number"),
+            ("domain a 01", "! number"),
+            ("domain a 18446744073709551616", "! number"),
+            ("domain   a   1  ", "made a 1"),
+            ("domain a 1", "! taken"),
+            // a name in use before a number behind it
+            ("domain a x", "! taken"),
+            ("lock a x s", "! number"),
+            ("lock a 00 s", "! number"),
+            ("lock a 18446744073709551616 s", "! number"),
+            ("start a +0", "! number"),
+            ("lock a 1 s", "! processor"),
+            ("lock a 18446744073709551615 s", "! processor"),
+            ("start a 1", "! processor"),
+            ("start a 00", "! number"),
+            // a number and a processor before a name behind them
+            ("lock a x S", "! number"),
+            ("lock a 1 S", "! processor"),
+            ("lock a 0 S", "! name"),
+            ("unlock a s", "! name"),
+            ("unlock a S", "! name"),
+            ("lock a 0 s", "index 0"),
+            ("lock a 0 s", "! taken"),
+            // a number and a processor before a name in use behind them
+            ("lock a x s", "! number"),
+            ("lock a 1 s", "! processor"),
+            ("lock A x s", "! name"),
+            ("unlock A s", "! name"),
+            ("start A 0", "! name"),
+            ("state a", "state a number 0 idle index 0 open 1 0 need 0"),
+        ],
+    )
+}
+
+/// A refusal changes nothing, and names are free again.
+#[test]
+fn refuses(rt: HostRuntime) -> Result<(), Fail> {
+    check(
+        &rt,
+        Limits {
+            sections: 2,
+            periods: 1,
+            cells: 0,
+        },
+        &[
+            ("domain a 0", "refused domain processors"),
+            ("domain a 3", "refused domain processors"),
+            ("domain a 18446744073709551615", "refused domain processors"),
+            ("domain a 2", "made a 2"),
+            ("lock a 1 s", "index 0"),
+            ("lock a 1 t", "index 0"),
+            ("lock a 1 u", "refused lock exhausted"),
+            ("lock a 0 u", "index 0"),
+            ("unlock a t", "closed"),
+            ("lock a 1 t", "refused lock exhausted"),
+            ("lock a 0 t", "index 0"),
+            ("state a", "state a number 0 idle index 0 open 3 0 need 0"),
+            ("domain b 1", "made b 1"),
+            ("lock b 0 s", "index 0"),
+            ("unlock a s", "closed"),
+            ("unlock a s", "! name"),
+            ("state b", "state b number 0 idle index 0 open 1 0 need 0"),
+            ("start a 1", "started 1"),
+            ("start a 0", "refused start running"),
+            ("state a", "state a number 1 scan1 index 0 open 2 0 need 0"),
+            ("state b", "state b number 0 idle index 0 open 1 0 need 0"),
+            ("domain c 1", "made c 1"),
+            ("domain d 1", "made d 1"),
+            ("domain e 1", "made e 1"),
+            ("domain f 1", "made f 1"),
+            ("domain g 1", "made g 1"),
+            ("domain h 1", "made h 1"),
+            // of several causes the first, and a fault before all of them
+            ("domain i 0", "refused domain full"),
+            ("domain i 1", "refused domain full"),
+            ("domain h 1", "! taken"),
+            ("domain i x", "! number"),
+            ("state i", "! domain"),
+        ],
+    )
+}
+
+/// A line that is no text is faulty, whatever stands there.
+#[test]
+fn text_comes_first(rt: HostRuntime) -> Result<(), Fail> {
+    let lines = [None, Some("domain a 1"), None, Some("# no reply"), None];
+    let given = replies(rt.alloc(), AMPLE, &lines)?;
+    assert_eq!(rt;
+        given.as_str(),
+        "line 1: text\nmade a 1\nline 3: text\nline 5: text\n"
+    );
+    Ok(())
 }
