@@ -5,6 +5,8 @@ mod command;
 mod command_line;
 mod domain;
 mod error;
+#[cfg(test)]
+mod fakes;
 mod fault;
 mod line;
 mod name;

@@ -12,6 +12,9 @@ use std::alloc::{AllocError, Allocator};
 use std::io::{Read, Write};
 use std::sync::Wait;
 
+#[cfg(test)]
+mod tests;
+
 /// Runs the script that `reader` gives, line by line, from a state without domains, and writes a reply to each line before
 /// the next one is run. Each domain that it makes has these limits. At the end, also after an error, open sections are
 /// closed and the domains dropped.

@@ -1,9 +1,8 @@
 ghost use Rattle.std.specs.Prelude.{◌≡◌, is_none};
 
 use super::*;
+use crate::fakes::{Reader, Writer};
 use std::alloc::Global;
-use std::io;
-use std::io::ErrorKind;
 use std::test::Fail;
 
 /// Replies the number and the length of a line. A line that is empty or begins with `#` is skipped, one that is no text
@@ -37,51 +36,6 @@ impl Answers<Global> for Lengths {
             reply.extend_from_slice(answer.as_bytes())?;
         }
         Ok(false)
-    }
-}
-
-/// Gives at most so many bytes a read, and fails once it was read from so many times.
-#[derive(Drop)]
-struct Reader<'a> {
-    rest: &'a [u8],
-    most: usize,
-    reads: usize,
-}
-
-impl Read for Reader<'_> {
-    fn read(&mut self, buf: &mut [u8]) -> io::Result<usize> {
-        if self.reads == 0 {
-            return Err(ErrorKind::Interrupted.into());
-        }
-        self.reads -= 1;
-        let count = buf.len().min(self.rest.len()).min(self.most);
-        buf[..count].copy_from_slice(&self.rest[..count]);
-        self.rest = &self.rest[count..];
-        Ok(count)
-    }
-}
-
-/// Takes at most so many bytes a write, and fails once it was written to so many times.
-#[derive(Drop)]
-struct Writer {
-    taken: Vec<u8>,
-    most: usize,
-    writes: usize,
-}
-
-impl Write for Writer {
-    fn write(&mut self, buf: &[u8]) -> io::Result<usize> {
-        if self.writes == 0 {
-            return Err(ErrorKind::Interrupted.into());
-        }
-        self.writes -= 1;
-        let count = buf.len().min(self.most);
-        self.taken.extend_from_slice(&buf[..count])?;
-        Ok(count)
-    }
-
-    fn flush(&mut self) -> io::Result<()> {
-        Ok(())
     }
 }
 
