@@ -68,70 +68,70 @@ module _ (limits : Limits) (cpus : List CpuView) (e : EngineView) (p : ℕ) (c c
 
   pub locked : (r : ReadingView) → ReadLocks c c' r → BeginsSection p (seen_as limits e) r (seen_as limits e')
   locked r h =
-    let ev = begin_of c c' r h in
-    let grows : Grows ev c c' = grows_of_lock c c' r h in
-    let held = held_before limits cpus e p c c' together inside is cpus' e' meets in
-    let load = h.looks.load in
-    let processor_is : h.between.processor ≡ p = load.same.3 ∙ held.processor in
-    let own = ap Processor processor_is in
-    let front : h.enters.adds.before ≡ e.seen = before_is limits cpus e p c c' together inside is cpus' e' meets ev grows own in
-    let between_seen : h.between.seen ≡ e.seen = between_same e.seen h.between.seen h.enters.adds.before (subst (λ l. IsBeginning l h.between.seen) (seen_before limits cpus e p c c' together inside is cpus' e' meets) load.since) h.enters.adds.since front in
-    let index_is : h.look.index ≡ index_now e.seen = look_index c h.between h.look e.seen h.looks between_seen in
-    let section_is : h.enters.section ≡ r.section = ap (λ (x : ReadingView). x.section) (sym h.enters.reading) in
-    let event_is : ev ≡ Begin r.section p (index_now e.seen) (Processor p) = λ i. Begin (section_is i) (processor_is i) (index_is i) (Processor (processor_is i)) in
-    let counted_is = own_locks h.between.processor h.look.index h.between.mine processor_is index_is (load.mine ∙ held.mine) in
-    let sections_is : h.between.sections ≡ limits.sections = load.same.2 ∙ held.sections in
-    let room : locks h.between.processor h.look.index h.between.mine < h.between.sections = h.enters.room in
-    record {
-      room = omega (arith, counted_is, sections_is, room);
-      follows = subst (MayFollow e.seen) event_is (grown_follows limits cpus e p c c' together inside is cpus' e' meets ev grows own);
-      after = λ i. record {
-        table = meets.same.0 i;
-        limits = limits;
-        processors = meets.same.1 i;
-        history = (grown_seen limits cpus e p c c' together inside is cpus' e' meets ev grows own ∙ ap (λ x. e.seen ++ x ∷ []) event_is) i;
-      };
-      table = ap (λ (x : ReadingView). x.domain) h.enters.reading ∙ (load.same.0 ∙ held.domain);
-      processor = ap (λ (x : ReadingView). x.processor) h.enters.reading ∙ processor_is;
-      index = ap (λ (x : ReadingView). x.index) h.enters.reading ∙ index_is;
-    }
+      let ev = begin_of c c' r h in
+      let grows : Grows ev c c' = grows_of_lock c c' r h in
+      let held = held_before limits cpus e p c c' together inside is cpus' e' meets in
+      let load = h.looks.load in
+      let processor_is : h.between.processor ≡ p = load.same.3 ∙ held.processor in
+      let own = ap Processor processor_is in
+      let front : h.enters.adds.before ≡ e.seen = before_is limits cpus e p c c' together inside is cpus' e' meets ev grows own in
+      let between_seen : h.between.seen ≡ e.seen = between_same e.seen h.between.seen h.enters.adds.before (subst (λ l. IsBeginning l h.between.seen) (seen_before limits cpus e p c c' together inside is cpus' e' meets) load.since) h.enters.adds.since front in
+      let index_is : h.look.index ≡ index_now e.seen = look_index c h.between h.look e.seen h.looks between_seen in
+      let section_is : h.enters.section ≡ r.section = ap (λ (x : ReadingView). x.section) (sym h.enters.reading) in
+      let event_is : ev ≡ Begin r.section p (index_now e.seen) (Processor p) = λ i. Begin (section_is i) (processor_is i) (index_is i) (Processor (processor_is i)) in
+      let counted_is = own_locks h.between.processor h.look.index h.between.mine processor_is index_is (load.mine ∙ held.mine) in
+      let sections_is : h.between.sections ≡ limits.sections = load.same.2 ∙ held.sections in
+      let room : locks h.between.processor h.look.index h.between.mine < h.between.sections = h.enters.room in
+      record {
+        room = omega (arith, counted_is, sections_is, room);
+        follows = subst (MayFollow e.seen) event_is (grown_follows limits cpus e p c c' together inside is cpus' e' meets ev grows own);
+        after = λ i. record {
+          table = meets.same.0 i;
+          limits = limits;
+          processors = meets.same.1 i;
+          history = (grown_seen limits cpus e p c c' together inside is cpus' e' meets ev grows own ∙ ap (λ x. e.seen ++ x ∷ []) event_is) i;
+        };
+        table = ap (λ (x : ReadingView). x.domain) h.enters.reading ∙ (load.same.0 ∙ held.domain);
+        processor = ap (λ (x : ReadingView). x.processor) h.enters.reading ∙ processor_is;
+        index = ap (λ (x : ReadingView). x.index) h.enters.reading ∙ index_is;
+      }
 
   pub locked_none : LooksInVain c c' → BeginsNone p (seen_as limits e) (seen_as limits e')
   locked_none h =
-    let idles = idles_in_vain c c' h in
-    let held = held_before limits cpus e p c c' together inside is cpus' e' meets in
-    let here = idle_here limits cpus e p c c' together inside is cpus' e' meets idles in
-    record {
-      full = sym (own_locks c'.processor h.look.index c'.mine (idles.same.3 ∙ held.processor) (look_index c c' h.look e.seen h.looks here) (idles.mine ∙ held.mine)) ∙ (h.exhausted ∙ (idles.same.2 ∙ held.sections));
-      after = λ i. record { table = meets.same.0 i; limits = limits; processors = meets.same.1 i; history = idle_seen limits cpus e p c c' together inside is cpus' e' meets idles i };
-    }
+      let idles = idles_in_vain c c' h in
+      let held = held_before limits cpus e p c c' together inside is cpus' e' meets in
+      let here = idle_here limits cpus e p c c' together inside is cpus' e' meets idles in
+      record {
+        full = sym (own_locks c'.processor h.look.index c'.mine (idles.same.3 ∙ held.processor) (look_index c c' h.look e.seen h.looks here) (idles.mine ∙ held.mine)) ∙ (h.exhausted ∙ (idles.same.2 ∙ held.sections));
+        after = λ i. record { table = meets.same.0 i; limits = limits; processors = meets.same.1 i; history = idle_seen limits cpus e p c c' together inside is cpus' e' meets idles i };
+      }
 
   pub lock_together : (taken : Result ReadingView Exhausted) → MatchResult taken (λ r. ReadLocks c c' r) (λ _. LooksInVain c c') → AreTogether limits cpus' e'
   lock_together (Ok r) h =
-    let held = held_before limits cpus e p c c' together inside is cpus' e' meets in
-    grown_together limits cpus e p c c' together inside is cpus' e' meets (begin_of c c' r h) (grows_of_lock c c' r h) (ap Processor (h.looks.load.same.3 ∙ held.processor))
+      let held = held_before limits cpus e p c c' together inside is cpus' e' meets in
+      grown_together limits cpus e p c c' together inside is cpus' e' meets (begin_of c c' r h) (grows_of_lock c c' r h) (ap Processor (h.looks.load.same.3 ∙ held.processor))
   lock_together (Err x) h = idle_together limits cpus e p c c' together inside is cpus' e' meets (idles_in_vain c c' h)
 
   pub ended_together : (other : List Event) (r : ReadingView) → AddsEvent other (End r.section c.processor (Processor c.processor)) c c' → AreTogether limits cpus' e'
   ended_together other r a =
-    let held = held_before limits cpus e p c c' together inside is cpus' e' meets in
-    grown_together limits cpus e p c c' together inside is cpus' e' meets (End r.section c.processor (Processor c.processor)) (grows_of_event other (End r.section c.processor (Processor c.processor)) c c' a) (ap Processor held.processor)
+      let held = held_before limits cpus e p c c' together inside is cpus' e' meets in
+      grown_together limits cpus e p c c' together inside is cpus' e' meets (End r.section c.processor (Processor c.processor)) (grows_of_event other (End r.section c.processor (Processor c.processor)) c c' a) (ap Processor held.processor)
 
   pub ended : (other : List Event) (r : ReadingView) → r.processor ≡ p → AddsEvent other (End r.section c.processor (Processor c.processor)) c c' → EndsSection r (seen_as limits e) (seen_as limits e')
   ended other r here a =
-    let held = held_before limits cpus e p c c' together inside is cpus' e' meets in
-    let grows = grows_of_event other (End r.section c.processor (Processor c.processor)) c c' a in
-    let same : c.processor ≡ r.processor = held.processor ∙ sym here in
-    let own = ap Processor held.processor in
-    record {
-      follows = subst (λ (q : ℕ). MayFollow e.seen (End r.section q (Processor q))) same (grown_follows limits cpus e p c c' together inside is cpus' e' meets (End r.section c.processor (Processor c.processor)) grows own);
-      after = λ i. record {
-        table = meets.same.0 i;
-        limits = limits;
-        processors = meets.same.1 i;
-        history = (grown_seen limits cpus e p c c' together inside is cpus' e' meets (End r.section c.processor (Processor c.processor)) grows own ∙ ap (λ (q : ℕ). e.seen ++ End r.section q (Processor q) ∷ []) same) i;
-      };
-    }
+      let held = held_before limits cpus e p c c' together inside is cpus' e' meets in
+      let grows = grows_of_event other (End r.section c.processor (Processor c.processor)) c c' a in
+      let same : c.processor ≡ r.processor = held.processor ∙ sym here in
+      let own = ap Processor held.processor in
+      record {
+        follows = subst (λ (q : ℕ). MayFollow e.seen (End r.section q (Processor q))) same (grown_follows limits cpus e p c c' together inside is cpus' e' meets (End r.section c.processor (Processor c.processor)) grows own);
+        after = λ i. record {
+          table = meets.same.0 i;
+          limits = limits;
+          processors = meets.same.1 i;
+          history = (grown_seen limits cpus e p c c' together inside is cpus' e' meets (End r.section c.processor (Processor c.processor)) grows own ∙ ap (λ (q : ℕ). e.seen ++ End r.section q (Processor q) ∷ []) same) i;
+        };
+      }
 
 -- Grace periods
 
@@ -169,19 +169,19 @@ module _ (limits : Limits) (cpus : List CpuView) (e e' : EngineView) (together :
     (cpus' : List CpuView) (e'' : EngineView) (meets : Meets e' cpus e'' cpus') where
   started_hold : AllHold limits (e.seen ++ Start Engine ∷ []) cpus e'
   started_hold = record {
-      in_range = together.hold.in_range;
-      periods = a.same.2 ∙ together.hold.periods;
-      count = subst (λ (n : ℕ). (1 ≤ n) × (n ≤ 2)) (sym a.same.1) together.hold.count;
-      all = together.hold.all ∙ sym a.same.1;
-      engine = a.mine ∙ (ap (λ l. l ++ Start Engine ∷ []) together.hold.engine ∙ sym (made_by_own Engine e.seen (Start Engine) refl));
-      each = λ k d lt. let held = together.hold.each k d lt in record {
-        domain = held.domain ∙ sym a.same.0;
-        processors_are = held.processors_are ∙ sym a.same.1;
-        sections = held.sections;
-        processor = held.processor;
-        mine = held.mine ∙ sym (made_by_other (Processor k) e.seen (Start Engine) refl);
-      };
-    }
+    in_range = together.hold.in_range;
+    periods = a.same.2 ∙ together.hold.periods;
+    count = subst (λ (n : ℕ). (1 ≤ n) × (n ≤ 2)) (sym a.same.1) together.hold.count;
+    all = together.hold.all ∙ sym a.same.1;
+    engine = a.mine ∙ (ap (λ l. l ++ Start Engine ∷ []) together.hold.engine ∙ sym (made_by_own Engine e.seen (Start Engine) refl));
+    each = λ k d lt. let held = together.hold.each k d lt in record {
+      domain = held.domain ∙ sym a.same.0;
+      processors_are = held.processors_are ∙ sym a.same.1;
+      sections = held.sections;
+      processor = held.processor;
+      mine = held.mine ∙ sym (made_by_other (Processor k) e.seen (Start Engine) refl);
+    };
+  }
 
   started_by : (a.before ≡ e.seen) × (e''.seen ≡ e.seen ++ Start Engine ∷ [])
   started_by = just_this e'.processors e.seen a.before e''.seen (Start Engine) a.since (subst (λ l. IsBeginning l e''.seen) a.seen meets.since)
@@ -192,8 +192,8 @@ module _ (limits : Limits) (cpus : List CpuView) (e e' : EngineView) (together :
 
   pub started : (n : ℕ) → n ≡ number_word e'.mine → number_word e.seen < 4 * limits.periods → StartsPeriod (seen_as limits e) n (seen_as limits e'')
   started n is room = record {
-      follows = subst (λ l. MayFollow l (Start Engine)) started_by.0 (last_may_follow a.before (Start Engine) (subst IsLegal a.seen a.history.legal));
-      room = room;
-      after = λ i. record { table = (meets.same.0 ∙ a.same.0) i; limits = limits; processors = (meets.same.1 ∙ a.same.1) i; history = started_by.1 i };
-      number = is ∙ (ap number_word (sym meets.mine) ∙ number_mine e''.processors e''.mine e''.seen meets.history.own meets.history.makers);
-    }
+    follows = subst (λ l. MayFollow l (Start Engine)) started_by.0 (last_may_follow a.before (Start Engine) (subst IsLegal a.seen a.history.legal));
+    room = room;
+    after = λ i. record { table = (meets.same.0 ∙ a.same.0) i; limits = limits; processors = (meets.same.1 ∙ a.same.1) i; history = started_by.1 i };
+    number = is ∙ (ap number_word (sym meets.mine) ∙ number_mine e''.processors e''.mine e''.seen meets.history.own meets.history.makers);
+  }

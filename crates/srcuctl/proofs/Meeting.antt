@@ -39,12 +39,12 @@ module _ (limits : Limits) (h : List Event) (cpus cpus' : List CpuView) (e e' : 
   each_made : (m : Maker) → IsMaker e.processors m → made_by m e'.seen ≡ made_by m h
   each_made Engine is = sym meets.history.own ∙ (meets.mine ∙ hold.engine)
   each_made (Processor k) is =
-    let inside : k < length cpus = omega (arith, hold.all, is) in
-    let joins = meets.each k nobody_new inside in
-    let held = hold.each k nobody_new inside in
-    let accepts = joins.accepts in
-    sym (ap (λ p. made_by (Processor p) (get_or cpus' k nobody_new).seen) (accepts.same.3 ∙ held.processor) ∙ ap (made_by (Processor k)) accepts.seen)
-    ∙ (sym accepts.history.own ∙ (accepts.mine ∙ held.mine))
+      let inside : k < length cpus = omega (arith, hold.all, is) in
+      let joins = meets.each k nobody_new inside in
+      let held = hold.each k nobody_new inside in
+      let accepts = joins.accepts in
+      sym (ap (λ p. made_by (Processor p) (get_or cpus' k nobody_new).seen) (accepts.same.3 ∙ held.processor) ∙ ap (made_by (Processor k)) accepts.seen)
+      ∙ (sym accepts.history.own ∙ (accepts.mine ∙ held.mine))
 
   pub counted : (m : Maker) → IsMaker e.processors m → made m e'.seen ≡ made m h
   counted m is = ap length (each_made m is)
@@ -54,13 +54,13 @@ module _ (limits : Limits) (h : List Event) (cpus cpus' : List CpuView) (e e' : 
 
   pub together_after : e'.seen ≡ h → AreTogether limits cpus' e'
   together_after same = record {
-      hold = record {
-        in_range = hold.in_range;
-        periods = meets.same.2 ∙ hold.periods;
-        count = subst IsCount (sym meets.same.1) hold.count;
-        all = meets.count ∙ (hold.all ∙ sym meets.same.1);
-        engine = meets.mine ∙ (hold.engine ∙ ap (made_by Engine) (sym same));
-        each = λ k d lt.
+    hold = record {
+      in_range = hold.in_range;
+      periods = meets.same.2 ∙ hold.periods;
+      count = subst IsCount (sym meets.same.1) hold.count;
+      all = meets.count ∙ (hold.all ∙ sym meets.same.1);
+      engine = meets.mine ∙ (hold.engine ∙ ap (made_by Engine) (sym same));
+      each = λ k d lt.
           let inside : k < length cpus = omega (arith, meets.count, lt) in
           let accepts = (meets.each k d inside).accepts in
           let held = hold.each k d inside in
@@ -71,10 +71,10 @@ module _ (limits : Limits) (h : List Event) (cpus cpus' : List CpuView) (e e' : 
             processor = accepts.same.3 ∙ held.processor;
             mine = accepts.mine ∙ (held.mine ∙ ap (made_by (Processor k)) (sym same));
           };
-      };
-      history = meets.history;
-      seen = λ k d lt. let inside : k < length cpus = omega (arith, meets.count, lt) in (meets.each k d inside).accepts.seen;
-    }
+    };
+    history = meets.history;
+    seen = λ k d lt. let inside : k < length cpus = omega (arith, meets.count, lt) in (meets.each k d inside).accepts.seen;
+  }
 
 -- Before a meeting
 
@@ -82,16 +82,16 @@ module _ (limits : Limits) (h : List Event) (cpus cpus' : List CpuView) (e e' : 
 hold_set : (limits : Limits) (h h' : List Event) (cpus : List CpuView) (e : EngineView) (p : ℕ) (c : CpuView) → AllHold limits h cpus e → p < length cpus → Holds limits e.domain e.processors h' p c
     → ((k : ℕ) → k ≢ p → made_by (Processor k) h' ≡ made_by (Processor k) h) → made_by Engine h' ≡ made_by Engine h → AllHold limits h' (set cpus p c) e
 hold_set limits h h' cpus e p c hold inside held others engine = record {
-    in_range = hold.in_range;
-    periods = hold.periods;
-    count = hold.count;
-    all = length-set cpus p c ∙ hold.all;
-    engine = hold.engine ∙ sym engine;
-    each = λ k d lt. let within : k < length cpus = omega (arith, length-set cpus p c, lt) in
+  in_range = hold.in_range;
+  periods = hold.periods;
+  count = hold.count;
+  all = length-set cpus p c ∙ hold.all;
+  engine = hold.engine ∙ sym engine;
+  each = λ k d lt. let within : k < length cpus = omega (arith, length-set cpus p c, lt) in
       dite (ℕ_discrete k p)
       (λ same. subst (λ (q : ℕ). Holds limits e.domain e.processors h' q (get_or (set cpus p c) q d)) (sym same) (rw get_or-set_same held))
       (λ other. let old = hold.each k d within in rw get_or-set_other (record { domain = old.domain; processors_are = old.processors_are; sections = old.sections; processor = old.processor; mine = old.mine ∙ sym (others k other) }));
-  }
+}
 
 -- what a processor did
 pub record Grows (ev : Event) (c c' : CpuView) : Type 0 where

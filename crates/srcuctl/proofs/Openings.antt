@@ -45,20 +45,20 @@ pub shown : (name : List ℕ) (all : List Opened) (d : DomainView) (number : ℕ
     → counted ≡ count_by (λ (o : Opened). same_index o.reading.index Zero) all → counted' ≡ count_by (λ (o : Opened). same_index o.reading.index One) all
     → Shows (state_with name (map named_of all) d) (reply.State name (record { number = number; phase = phase }) (record { index = index; zero = counted; one = counted'; need = 0 }))
 shown name all d number phase index counted ones n p x z o = record {
-    phase = phase;
-    state = ap (λ k. k % 4) (sym n) ∙ p;
-    reply = λ i. reply.State name (record { number = n i; phase = phase }) (record { index = x i; zero = (z ∙ open_of_named Zero all) i; one = (o ∙ open_of_named One all) i; need = 0 });
-  }
+  phase = phase;
+  state = ap (λ k. k % 4) (sym n) ∙ p;
+  reply = λ i. reply.State name (record { number = n i; phase = phase }) (record { index = x i; zero = (z ∙ open_of_named Zero all) i; one = (o ∙ open_of_named One all) i; need = 0 });
+}
 
 pub unlocked : (name : List ℕ) (all all' : List Opened) (which : ℕ) (o : Opened) (d d' : DomainView) → which < length all → o ≡ get_or all which o → all' ≡ remove all which → EndsSection o.reading d d'
     → Ends which (state_with name (map named_of all) d) reply.Closed (state_with name (map named_of all') d')
 unlocked name all all' which o d d' h is left ended = record {
-    named = named_of o;
-    there = named_there all which o h is;
-    follows = ended.follows;
-    after = λ i. state_with name ((ap (map named_of) left ∙ map-remove named_of all which) i) (ended.after i);
-    reply = refl;
-  }
+  named = named_of o;
+  there = named_there all which o h is;
+  follows = ended.follows;
+  after = λ i. state_with name ((ap (map named_of) left ∙ map-remove named_of all which) i) (ended.after i);
+  reply = refl;
+}
 
 -- What the session answers
 
@@ -69,9 +69,9 @@ same_limits limits entries k e within is same =
 module _ (limits : Limits) (entries : List EntryView) (k : ℕ) (e e' : EntryView) (r : Reply) (within : k < length (states_of entries)) (is : e ≡ get_or entries k e) where
   goes_on : GoesOn (states_of entries) k e.state e'.state (states_of (set entries k e'))
   goes_on = record {
-      there = state_there entries k e (omega (arith, length-map entries (λ (x : EntryView). x.state), within)) is;
-      others = map-set (λ (x : EntryView). x.state) entries k e';
-    }
+    there = state_there entries k e (omega (arith, length-map entries (λ (x : EntryView). x.state), within)) is;
+    others = map-set (λ (x : EntryView). x.state) entries k e';
+  }
 
   pub state_given : e' ≡ e → Shows e.state r → AnswersTo limits (states_of entries) (request.State k) r (states_of (set entries k e'))
   state_given same shows = (e.state, goes_on.there, shows, map-set_same (λ (x : EntryView). x.state) entries k e' e (ap (λ (x : EntryView). x.state) (same ∙ is)))
