@@ -1,11 +1,16 @@
+ghost use Rattle.std.specs.Prelude.{◌≡◌, IfOk};
+
 use super::*;
 use crate::cpu::steps::{place_of_lock, place_of_unlock};
 use linked_list_allocator::LocalHeap;
 use sseq::Index;
+use std::alloc::Global;
 use std::test::Fail;
 use std::thread::join;
 
-fn limits(sections: u64) -> Limits {
+fn limits(sections: u64) -> Limits
+    ensures { result.periods ≡ 1 }
+{
     Limits {
         sections,
         periods: 1,
@@ -13,17 +18,24 @@ fn limits(sections: u64) -> Limits {
     }
 }
 
-/// Would catch calls that no caller can meet, and answers that every clause leaves open.
-#[test]
-fn makes_a_domain(rt: HostRuntime) -> Result<(), Fail> {
+/// The two processors of a new domain and its engine's seat, once they have met.
+fn meet_in_new_domain(alloc: Global) -> Result<(Cpu, Cpu, EngineSeat), MakeError>
+    ensures { IfOk result (λ r. (r.0.domain ≡ r.2.domain) × (r.1.domain ≡ r.2.domain) × (r.2.periods ≡ 1)) }
+{
     let Made {
         mut cpus,
         mut engine,
-    } = make(rt.alloc(), 2, limits(1))?;
-    assert_eq!(rt; cpus.len(), 2);
+    } = make(alloc, 2, limits(1))?;
     engine.meet(cpus.as_mut_slice());
-    let mut second = cpus.pop().unwrap();
-    let mut first = cpus.pop().unwrap();
+    let second = cpus.pop().unwrap();
+    let first = cpus.pop().unwrap();
+    Ok((first, second, engine))
+}
+
+/// Would catch calls that no caller can meet, and answers that every clause leaves open.
+#[test]
+fn makes_a_domain(rt: HostRuntime) -> Result<(), Fail> {
+    let (mut first, mut second, mut engine) = meet_in_new_domain(rt.alloc())?;
     assert_eq!(rt; (first.processor(), second.processor()), (0, 1));
 
     let look = first.look();
@@ -144,19 +156,17 @@ fn two_threads(rt: HostRuntime) -> Result<(), Fail> {
 /// Would catch a refused allocation that is told as another error, or that leaves something allocated.
 #[test]
 fn make_in_little_room(rt: HostRuntime) -> Result<(), Fail> {
-    let mut refused = 0;
     for room in 0..100 {
         let heap = LocalHeap::new(rt.alloc(), 64 + 64 * room)?;
         match make(&heap, 2, limits(1)) {
             Ok(made) => {
                 assert_eq!(rt; made.cpus.len(), 2);
-                assert!(rt; refused > 0);
+                assert!(rt; room > 0);
                 return Ok(());
             }
             Err(error) => assert_eq!(rt; error, MakeError::Memory),
         }
         assert_eq!(rt; heap.used(), 0);
-        refused += 1;
     }
     panic!(rt; "it never fits")
 }
