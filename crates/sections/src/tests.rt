@@ -2,6 +2,7 @@ ghost use Rattle.std.specs.Prelude.{◌≡◌, IfOk};
 
 use super::*;
 use crate::cpu::steps::{place_of_lock, place_of_unlock};
+use bumpalo::Bump;
 use linked_list_allocator::LocalHeap;
 use sseq::Index;
 use std::alloc::Global;
@@ -89,7 +90,10 @@ fn refuses_to_make(rt: HostRuntime) {
         periods: (1 << 59) - 1,
         cells: 0,
     };
-    let no_sections = Limits { sections: 0, ..most };
+    let no_sections = Limits {
+        sections: 0,
+        ..most
+    };
     let no_periods = Limits { periods: 0, ..most };
     let wrong = [
         no_sections,
@@ -153,20 +157,47 @@ fn two_threads(rt: HostRuntime) -> Result<(), Fail> {
     Ok(())
 }
 
-/// Would catch a refused allocation that is told as another error, or that leaves something allocated.
+/// Would catch a refused allocation that leaves something allocated.
 #[test]
-fn make_in_little_room(rt: HostRuntime) -> Result<(), Fail> {
+fn gives_back_what_a_refused_domain_took(rt: HostRuntime) -> Result<(), Fail> {
     for room in 0..100 {
         let heap = LocalHeap::new(rt.alloc(), 64 + 64 * room)?;
         match make(&heap, 2, limits(1)) {
             Ok(made) => {
-                assert_eq!(rt; made.cpus.len(), 2);
-                assert!(rt; room > 0);
+                assert!(rt; room > 0 && heap.used() > 0);
+                drop(made);
+                assert_eq!(rt; heap.used(), 0);
                 return Ok(());
             }
             Err(error) => assert_eq!(rt; error, MakeError::Memory),
         }
         assert_eq!(rt; heap.used(), 0);
+    }
+    panic!(rt; "it never fits")
+}
+
+/// Would catch a refused allocation that is told as another error. There are four: the words, the table that they are
+/// copied to, its count, and the processors. An arena takes nothing back while it lives, so each of them needs more
+/// room than the one before it.
+#[test]
+fn make_in_little_room(rt: HostRuntime) -> Result<(), Fail> {
+    let words = 8 * 64;
+    let processors = 2 * size_of::<Cpu<&Bump>>();
+    let zeros = vec![in rt.alloc(); 0u8; 8192]?;
+    for room in (0..4096).step_by(16) {
+        let arena = Bump::try_with_capacity(rt.alloc(), 4096)?;
+        arena.set_allocation_limit(Some(arena.allocated_bytes()));
+        let filled = arena.chunk_capacity().saturating_sub(room);
+        arena.try_alloc_slice_copy(&zeros[..filled.min(8192)])?;
+        assert_eq!(rt; arena.chunk_capacity(), room);
+        match make(&arena, 2, limits(1)) {
+            Ok(made) => {
+                assert_eq!(rt; made.cpus.len(), 2);
+                assert!(rt; room > 2 * words + processors);
+                return Ok(());
+            }
+            Err(error) => assert_eq!(rt; error, MakeError::Memory),
+        }
     }
     panic!(rt; "it never fits")
 }

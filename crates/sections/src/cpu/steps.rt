@@ -29,12 +29,7 @@ pub(crate) fn place_of_unlock(processor: u16, index: Index) -> usize
 }
 
 /// Adds 1 to the processor's lock counter of the index, and cuts off a token with the right to end the section.
-pub(crate) fn begin_section(
-    top: &Top,
-    seat: &mut Place,
-    processor: u16,
-    index: Index,
-) -> Place
+pub(crate) fn begin_section(top: &Top, seat: &mut Place, processor: u16, index: Index) -> Place
     requires placed { IsPlaced top.now.key top.now.table_id seat.old }
     requires role { seat.old.me.0.role ≡ Cpu processor }
     requires there { processor < top.now.key.processors }
