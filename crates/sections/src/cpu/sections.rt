@@ -29,12 +29,11 @@ impl<A: Allocator> Cpu<A> {
         Look { index, seat }
     }
 
-    /// Begins a section of the index of a look of this domain. It is refused, with no step, exactly where this processor has begun as
+    /// Begins a section of the look's index. It is refused, with no step, exactly where this processor has begun as
     /// many sections of this index as the limit allows. The look is gone then, and nothing else has changed.
     pub fn enter(&mut self, look: Look) -> Result<Reading, Exhausted>
         requires { look.domain ≡ self.old.domain }
-        ensures { MatchResult result (λ r. Enters self.old look self.new r)
-            (λ _. IsExhausted self.old look.index × (self.new ≡ self.old)) }
+        ensures { MatchResult result (λ r. Enters self.old look self.new r) (λ _. IsExhausted self.old look.index × (self.new ≡ self.old)) }
     {
         let Look { index, seat: token } = look;
         let top = &self.table.shared;
@@ -55,8 +54,7 @@ impl<A: Allocator> Cpu<A> {
     /// Begins a section of the current index (`srcu_read_lock`): a look, and then what [`Cpu::enter`] does. Where it is
     /// refused, the index word was loaded, and nothing else was done.
     pub fn read_lock(&mut self) -> Result<Reading, Exhausted>
-        ensures { MatchResult result (λ r. ReadLocks self.old self.new r)
-            (λ _. LooksInVain self.old self.new) }
+        ensures { MatchResult result (λ r. ReadLocks self.old self.new r) (λ _. LooksInVain self.old self.new) }
     {
         let top = &self.table.shared;
         let index = Index::of_word(top.load::<plays::LoadIndex>(&mut self.seat, 0));
@@ -76,8 +74,7 @@ impl<A: Allocator> Cpu<A> {
     /// Ends the reading's section, which was begun on this processor (`srcu_read_unlock`).
     pub fn read_unlock(&mut self, reading: Reading)
         requires { IsHere self.old reading }
-        ensures { let p = self.old.processor in
-            AddsEvent reading.seen (End reading.section p (Processor p)) self.old self.new }
+        ensures { AddsEvent reading.seen (End reading.section self.old.processor (Processor self.old.processor)) self.old self.new }
     {
         let Reading {
             index,
