@@ -1,5 +1,5 @@
 -- From a run of a session to a run of the definitions.
-use Rattle.std.proofs.Common.{◌≡◌, ℕ, ◌+◌, ◌<◌, Bool, false, ◌||◌, List, [], ◌∷◌, ◌++◌, Option, length, take, refl, sym, ap, ◌∙◌, subst, Result, Ok, Err, MatchResult}
+use Rattle.std.proofs.Common.{◌≡◌, ℕ, ◌+◌, ◌<◌, Bool, false, ◌||◌, List, [], ◌∷◌, ◌++◌, Option, length, take, refl, sym, ap, ◌∙◌, subst, inr, Result, Ok, Err, MatchResult}
 use Rattle.sections.specs.declared.limits.Limits.{Limits}
 use Rattle.srcuctl.specs.declared.error.Outcome.{Outcome}
 use Rattle.srcuctl.specs.declared.error.RunError.{RunError}
@@ -50,14 +50,8 @@ runs_in_part limits s taken given error.Write s' start (ended, reply, faulty, co
     let here = subst (λ (l : Limits). LineGives l ended.state.domains (length ended.first + 1) (text_of ended.line) reply faulty s'.domains) r.limits_are gave.0 in
     (s'.domains, subst (λ (d : State). EndsEarly (LineGives limits) d taken given error.Write s'.domains) (ap (λ z. z.domains) start) (b, reply, faulty, count, here, some, written))
 runs_in_part limits s taken given error.Memory s' start (ended, written) =
-    let r = run_of limits ended.first s 1 ended.replies ended.faulty ended.state (ap (λ z. z.limits) start) ended.run in (
-      ended.first,
-      ended.line ∷ ended.others,
-      ended.faulty,
-      ended.state.domains,
-      ended.in_order,
-      subst (λ (z : State × List ℕ). IsRun (LineGives limits) z.0 1 ended.first z.1 ended.faulty ended.state.domains) (λ i. ((ap (λ z. z.domains) start) i, sym written i)) r.run,
-    )
+    let b = breaks_off limits s (lines_of taken) (ap (λ z. z.limits) start) ended in
+    inr (s'.domains, subst (λ (d : State). EndsEarly (LineGives limits) d taken given error.Memory s'.domains) (ap (λ z. z.domains) start) (b, written))
 
 pub runs : (limits : Limits) (s : SessionView) (taken given : List ℕ) (faulty : Bool) (s' : SessionView) → s ≡ record { limits = limits; domains = [] } → IsRun gives s 1 (lines_of taken) given faulty s' → Runs limits taken given faulty
 runs limits s taken given faulty s' start run =

@@ -1,5 +1,5 @@
 -- What the program writes for a whole script.
-use Rattle.std.specs.Prelude.{◌≡◌, ℕ, Bool, List, [], ◌++◌}
+use Rattle.std.specs.Prelude.{◌≡◌, ℕ, Bool, List, [], ◌⊎◌}
 use Rattle.sections.specs.declared.limits.Limits.{Limits}
 use Rattle.srcuctl.specs.declared.error.RunError.{RunError}
 use Rattle.srcuctl.specs.declared.error.RunError.TheVariants as error
@@ -12,13 +12,12 @@ use Rattle.srcuctl.specs.Runs.{IsRun, EndsEarly}
 abbrev pub Runs : Limits → List ℕ → List ℕ → Bool → Type 0
 Runs limits taken given faulty = (after : State) × IsRun (LineGives limits) [] 1 (lines_of taken) given faulty after
 
--- `given` is what a run of some first lines of `taken` writes
-abbrev pub RunsFirst : Limits → List ℕ → List ℕ → Type 0
-RunsFirst limits taken given = (first others : List (List ℕ)) × (faulty : Bool) × (after : State)
-    × (lines_of taken ≡ first ++ others) × IsRun (LineGives limits) [] 1 first given faulty after
-
 -- `given` is what such a run has written when it ended with this error
+abbrev pub EndsWith : Limits → List ℕ → List ℕ → RunError → Type 0
+EndsWith limits taken given error = (after : State) × EndsEarly (LineGives limits) [] taken given error after
+
+-- the same of a run for which there may have been no memory before anything was read
 abbrev pub RunsInPart : Limits → List ℕ → List ℕ → RunError → Type 0
-RunsInPart limits taken given error.Read = (after : State) × EndsEarly (LineGives limits) [] taken given error.Read after
-RunsInPart limits taken given error.Write = (after : State) × EndsEarly (LineGives limits) [] taken given error.Write after
-RunsInPart limits taken given error.Memory = RunsFirst limits taken given
+RunsInPart limits taken given error.Read = EndsWith limits taken given error.Read
+RunsInPart limits taken given error.Write = EndsWith limits taken given error.Write
+RunsInPart limits taken given error.Memory = ((taken ≡ []) × (given ≡ [])) ⊎ EndsWith limits taken given error.Memory

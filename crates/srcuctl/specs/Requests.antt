@@ -13,7 +13,7 @@ use Rattle.srcuctl.specs.Scripts.{Asks}
 abbrev pub texts : List (Bor (List ℕ)) → List (List ℕ)
 texts words = map (λ w. w.now) words
 
--- the domain, the processor and the section of the request are there
+-- the domain that is asked for is there, and in it the processor on which a section begins, or the section that ends
 abbrev pub IsFor : State → Request → Type 0
 IsFor state (request.Domain name processors) = Unit {0}
 IsFor state (request.State place) = place < length state

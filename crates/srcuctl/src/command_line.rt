@@ -13,8 +13,8 @@ A script has a line for each thing that a domain should do:
   state NAME         shows where the domain stands
 
 Each line gets one reply line. Empty lines, and lines that begin with #, are
-skipped. A line that can't be read gets the reply 'line N: WORD', and the run goes
-on. The status is 0 where no line was faulty, 1 where one or more were, and 2
+skipped. A faulty line gets the reply 'line N: WORD', what can't be done gets
+'refused NAME CAUSE', and the run goes on. The status is 0 where no line was faulty, 1 where one or more were, and 2
 where reading or writing failed or memory ran out.
 
 An example:
@@ -34,6 +34,7 @@ pub fn command<'a>(alloc: Global) -> Result<Command<'a>, Error> {
         .after_help(OF_SCRIPTS);
     let srcuctl = Command::new(alloc, "srcuctl")
         .about("Drives sleepable RCU domains by a script")
+        .after_help(OF_SCRIPTS)
         .subcommand_required(true)
         .subcommand(run)?;
     Ok(srcuctl)

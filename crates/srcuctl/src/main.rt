@@ -82,8 +82,8 @@ fn main(rt: HostRuntime) -> ExitCode {
                 error.exit_code() as u8
             }
         },
-        Err(_) => {
-            let _ = eprintln!(rt; "srcuctl: out of memory");
+        Err(error) => {
+            let _ = eprintln!(rt; "srcuctl: {error}");
             STOPPED
         }
     };

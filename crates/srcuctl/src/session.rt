@@ -63,7 +63,7 @@ impl<A: Allocator + Clone> Session<A> {
         })
     }
 
-    /// Does what a line asks for. Where memory runs out, nothing was done.
+    /// Does what a line asks for.
     fn respond(&mut self, request: Request) -> Result<Reply, AllocError>
         requires { IsFor self.old.domains request }
         ensures limits { self.new.limits ≡ self.old.limits }

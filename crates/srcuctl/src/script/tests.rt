@@ -1,6 +1,6 @@
 use super::*;
 use crate::fakes::{Reader, Writer};
-use linked_list_allocator::LocalHeap;
+use bumpalo::Bump;
 use std::alloc::Global;
 use std::test::Fail;
 
@@ -213,53 +213,153 @@ fn every_write_may_fail(rt: HostRuntime) -> Result<(), Fail> {
     Ok(())
 }
 
-/// How a run in a heap of this size ended, and what it wrote.
-fn run_within(
-    rt: &(impl Wait + AllocGlobal),
-    size: usize,
-    script: &str,
-) -> Result<(Result<Outcome, RunError>, Vec<u8>), AllocError> {
-    let heap = LocalHeap::new(rt.alloc(), size)?;
-    let mut written = Vec::new(rt.alloc());
-    let mut reader = script.as_bytes();
-    let outcome = run(&heap, rt, &mut reader, &mut written, LIMITS);
-    Ok((outcome, written))
+/// A line of a script, its reply, and whether it is of the second domain.
+#[derive(Drop)]
+struct Row {
+    line: &'static str,
+    reply: &'static str,
+    is_of_second: bool,
 }
 
-// In heaps from none to enough, in steps smaller than any allocation, each allocation of the run is refused once: the
-// run ends with the replies of some first lines, or a domain is refused for memory, or all is as it should be.
+const fn line_of(is_of_second: bool, line: &'static str, reply: &'static str) -> Row {
+    Row {
+        line,
+        reply,
+        is_of_second,
+    }
+}
+
+/// Two scripts in one, each with a domain of its own.
+fn joined_rows() -> [Row; 10] {
+    [
+        line_of(false, "domain b 1", "made b 1"),
+        line_of(
+            false,
+            "state b",
+            "state b number 0 idle index 0 open 0 0 need 0",
+        ),
+        line_of(true, "domain a 1", "made a 1"),
+        line_of(true, "lock a 0 s", "index 0"),
+        line_of(true, "start a 0", "started 1"),
+        line_of(true, "lock a 0 t", "index 0"),
+        line_of(
+            true,
+            "state a",
+            "state a number 1 scan1 index 0 open 2 0 need 0",
+        ),
+        line_of(true, "unlock a s", "closed"),
+        line_of(true, "start a 0", "refused start running"),
+        line_of(
+            true,
+            "state a",
+            "state a number 1 scan1 index 0 open 1 0 need 0",
+        ),
+    ]
+}
+
+/// How many domains were refused for memory, if each reply is that of its line; `None` if one is not. The lines of a
+/// domain that was refused name a domain that isn't there.
+fn refused_domains(alloc: Global, written: &[u8]) -> Result<Option<usize>, AllocError> {
+    let rows = joined_rows();
+    let mut refused = [false; 2];
+    let mut replies = written.split(|byte| *byte == b'\n');
+    for (at, row) in rows.iter().enumerate() {
+        let Some(reply) = replies.next() else {
+            break;
+        };
+        let which = usize::from(row.is_of_second);
+        let number = at + 1;
+        let unknown = format!(in alloc; "line {number}: domain")?;
+        if reply.is_empty() {
+            break;
+        } else if refused[which] {
+            if reply != unknown.as_bytes() {
+                return Ok(None);
+            }
+        } else if reply == b"refused domain memory".as_slice() {
+            refused[which] = true;
+        } else if reply != row.reply.as_bytes() {
+            return Ok(None);
+        }
+    }
+    Ok(Some(usize::from(refused[0]) + usize::from(refused[1])))
+}
+
+// In an arena that gives nothing back, with a little more room each time, each allocation of the run is the first to be
+// refused once.
 #[test]
-fn every_allocation_may_be_refused(rt: HostRuntime) -> Result<(), Fail> {
-    let script = "domain a 2\nlock a 1 s\nstart a 0\nlock a 0 t\nstate a\nunlock a s\nunlock a t\n";
-    let replies = "made a 2\nindex 0\nstarted 1\nindex 0\n\
-        state a number 1 scan1 index 0 open 2 0 need 0\nclosed\nclosed\n";
+fn each_allocation_refused_in_turn(rt: HostRuntime) -> Result<(), Fail> {
+    let mut script = String::new(rt.alloc());
+    for row in &joined_rows() {
+        script.push_str(row.line)?;
+        script.push_str("\n")?;
+    }
+    let zeros = vec![in rt.alloc(); 0u8; 32768]?;
     let mut ended = 0;
     let mut refused = 0;
     let mut whole = 0;
-    for size in 0..400usize {
-        let (outcome, written) = run_within(&rt, 16 * size + 64, script)?;
-        let is_front = replies.as_bytes().starts_with(&written);
+    for room in (0..16384).step_by(16) {
+        let arena = Bump::try_with_capacity(rt.alloc(), 16384)?;
+        arena.set_allocation_limit(Some(arena.allocated_bytes()));
+        let filled = arena.chunk_capacity().saturating_sub(room);
+        arena.try_alloc_slice_copy(&zeros[..filled.min(32768)])?;
+        let mut written = Vec::new(rt.alloc());
+        let mut reader = script.as_bytes();
+        let outcome = run(&arena, &rt, &mut reader, &mut written, LIMITS);
+        let lines = written.iter().filter(|byte| **byte == b'\n').count();
+        assert!(rt; written.last().is_none_or(|byte| *byte == b'\n'));
+        let Some(domains) = refused_domains(rt.alloc(), &written)? else {
+            panic!(rt; "another reply, with room for {room}");
+        };
         match outcome {
             Err(error) => {
                 assert_eq!(rt; error, RunError::Memory);
-                let is_refused = written.starts_with(b"refused domain memory\n");
-                assert!(rt; is_front || is_refused);
-                assert!(rt; written.last().is_none_or(|byte| *byte == b'\n'));
+                assert!(rt; lines < 10);
                 ended += 1;
             }
-            Ok(outcome) if outcome.faulty => {
-                assert!(rt; written.starts_with(b"refused domain memory\nline 2: domain\n"));
-                refused += 1;
-            }
-            Ok(_) => {
-                assert_eq!(rt; written.as_slice(), replies.as_bytes());
-                whole += 1;
+            Ok(outcome) => {
+                assert_eq!(rt; outcome.faulty, domains > 0);
+                assert_eq!(rt; lines, 10);
+                refused += domains.min(1);
+                whole += usize::from(domains == 0);
             }
         }
     }
-    assert!(rt;
-        ended >= 3 && refused >= 3 && whole >= 3,
-        "{ended} {refused} {whole}"
-    );
+    assert!(rt; ended >= 10 && whole >= 10, "{ended} {refused} {whole}");
+    Ok(())
+}
+
+// Of two things wrong with a line, the first in the order of the faults is answered.
+#[test]
+fn first_fault_of_two(rt: HostRuntime) -> Result<(), Fail> {
+    let mut padded = String::new(rt.alloc());
+    padded.push_str("domain a 1\ndomain a 1")?;
+    for _ in 0..191 {
+        padded.push(' ')?;
+    }
+    let table: [(&[u8], &str); 12] = [
+        (b"frob\x01", "line 1: text\n"),
+        (b"domain a\t", "line 1: text\n"),
+        (b"domain A x\x7f", "line 1: text\n"),
+        (b"state nowhere\xff", "line 1: text\n"),
+        (b"domain a x\r\n", "line 1: text\n"),
+        (b"domain a 1\nlock a 9 s\x80", "made a 1\nline 2: text\n"),
+        (padded.as_bytes(), "made a 1\nline 2: text\n"),
+        (b"domain a 1\nfrob a 9", "made a 1\nline 2: command\n"),
+        (b"domain a 1\ndomain a 1 1", "made a 1\nline 2: words\n"),
+        (b"domain a 1\nstart a 9 9", "made a 1\nline 2: words\n"),
+        (b"domain a 1\nlock a 9", "made a 1\nline 2: words\n"),
+        (
+            b"domain a 1\nlock a 0 s\nlock a 0 s t",
+            "made a 1\nindex 0\nline 3: words\n",
+        ),
+    ];
+    for (script, replies) in table {
+        let mut written = Vec::new(rt.alloc());
+        let mut reader = script;
+        let outcome = run(rt.alloc(), &rt, &mut reader, &mut written, LIMITS);
+        assert_eq!(rt; outcome, Ok(Outcome { faulty: true }));
+        assert_eq!(rt; written.as_slice(), replies.as_bytes());
+    }
     Ok(())
 }

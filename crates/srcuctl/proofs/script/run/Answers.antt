@@ -1,10 +1,10 @@
-use Rattle.std.proofs.Common.{[], false, refl}
+use Rattle.std.proofs.Common.{[], inl, refl}
 use Rattle.std.proofs.KnownBytes.{Appends-nil, Consumes-nil}
 use Rattle.srcuctl.proofs.Programs.{ended}
 use Rattle.srcuctl.proofs.script.run.Goals as goal
 
 pub returns-in_default : goal.returns-in_default
-returns-in_default g c = ([], [], Consumes-nil _, Appends-nil _, ([], [], false, [], refl, (refl, refl, refl)))
+returns-in_default g c = ([], [], Consumes-nil _, Appends-nil _, inl (refl, refl))
 
 pub returns : goal.returns
 returns g c =
