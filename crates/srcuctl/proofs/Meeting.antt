@@ -21,7 +21,8 @@ use Rattle.sections.specs.Views.{CpuView, EngineView, LookView, ReadingView}
 use Rattle.sections.specs.Calls.{IsSameCpu, IsSeenBy, AddsEvent, AddsEngineEvent, Looks, Enters, ReadLocks, LooksInVain, Meets, new_cpu}
 use Rattle.sections.proofs.Calling.{last_may_follow}
 use Rattle.sections.proofs.Counters.{locks_mine}
-use Rattle.srcuctl.specs.Histories.{index_now, IsCount}
+use Rattle.sections.specs.Making.{IsCount}
+use Rattle.srcuctl.specs.Histories.{index_now}
 use Rattle.srcuctl.specs.Domains.{DomainView, grown, BeginsSection, BeginsNone, EndsSection}
 use Rattle.srcuctl.specs.Together.{Holds, AllHold, AreTogether}
 use Rattle.srcuctl.proofs.OneHistory.{made, IsMaker, all_of_beginning, nothing_new, just_this, between_same}

@@ -10,7 +10,8 @@ use Rattle.sections.specs.declared.limits.MakeError.{MakeError}
 use Rattle.sections.specs.declared.limits.MakeError.TheVariants as make
 use Rattle.sections.specs.Words.{number_word, locks}
 use Rattle.sections.specs.Views.{ReadingView}
-use Rattle.srcuctl.specs.Histories.{index_now, IsCount}
+use Rattle.sections.specs.Making.{IsCount}
+use Rattle.srcuctl.specs.Histories.{index_now}
 use Rattle.srcuctl.specs.declared.domain.StartRefusal.{StartRefusal}
 use Rattle.srcuctl.specs.declared.domain.StartRefusal.TheVariants as refusal
 

@@ -1,5 +1,5 @@
 -- What a script needs of a domain's history.
-use Rattle.std.specs.Prelude.{ℕ, ◌≤◌, List}
+use Rattle.std.specs.Prelude.{List}
 use Rattle.sseq.specs.declared.index.Index.{Index}
 use Rattle.sseq.specs.Indexes.{low_bit}
 use Rattle.onedom.specs.declared.event.Event.{Event}
@@ -8,7 +8,3 @@ use Rattle.sections.specs.Words.{index_word}
 -- the index that a section gets that begins now
 abbrev pub index_now : List Event → Index
 index_now history = low_bit (index_word history)
-
--- a domain has 1 or 2 processors
-abbrev pub IsCount : ℕ → Type 0
-IsCount processors = (1 ≤ processors) × (processors ≤ 2)

@@ -18,7 +18,8 @@ use Rattle.srcuctl.specs.declared.request.Request.TheVariants as request
 use Rattle.srcuctl.specs.declared.reply.Reply.{Reply}
 use Rattle.srcuctl.specs.declared.reply.Reply.TheVariants as reply
 use Rattle.srcuctl.specs.Lines.{words_of, number_of}
-use Rattle.srcuctl.specs.Histories.{index_now, IsCount}
+use Rattle.sections.specs.Making.{IsCount}
+use Rattle.srcuctl.specs.Histories.{index_now}
 use Rattle.srcuctl.specs.States.{State, DomainState, Named, domain_place, name_place, open_of}
 use Rattle.srcuctl.specs.Faults.{fault_of}
 use Rattle.srcuctl.specs.Replies.{reply_text}

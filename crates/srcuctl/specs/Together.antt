@@ -9,7 +9,7 @@ use Rattle.sections.specs.Limits.{AreInRange}
 use Rattle.sections.specs.Views.{CpuView, EngineView}
 use Rattle.sections.specs.Calls.{IsSeenByEngine}
 use Rattle.srcuctl.specs.declared.domain.Domain.TheInside as domain
-use Rattle.srcuctl.specs.Histories.{IsCount}
+use Rattle.sections.specs.Making.{IsCount}
 use Rattle.srcuctl.specs.Domains.{DomainView}
 
 -- processor k of the domain, with just its own events of the history

@@ -14,8 +14,9 @@ A script has a line for each thing that a domain should do:
 
 Each line gets one reply line. Empty lines, and lines that begin with #, are
 skipped. A faulty line gets the reply 'line N: WORD', what can't be done gets
-'refused NAME CAUSE', and the run goes on. The status is 0 where no line was faulty, 1 where one or more were, and 2
-where reading or writing failed or memory ran out.
+'refused COMMAND CAUSE', and the run goes on. The status is 0 where no line was
+faulty, 1 where one or more were, and 2 where reading or writing failed or
+memory ran out.
 
 An example:
 

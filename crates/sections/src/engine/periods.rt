@@ -72,6 +72,7 @@ impl<A: Allocator> EngineSeat<A> {
         ensures engine { CoversAll self.old cpus.old self.new }
         ensures cpus { cpus.new ≡ cpus.old }
     {
+        // For the proof: without a processor too, what the engine has seen is a legal history.
         let _seat = &self.seat;
         for cpu in cpus.iter_mut() {
             self.cover(cpu);
