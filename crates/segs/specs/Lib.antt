@@ -1,0 +1,2 @@
+pub mod MarkedList
+pub mod Segments
