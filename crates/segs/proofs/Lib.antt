@@ -1,1 +1,4 @@
+pub mod Answered
+pub mod Cuts
 pub mod Lists
+pub mod Moves

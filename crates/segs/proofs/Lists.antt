@@ -1,13 +1,21 @@
 -- Four segments as four lists, and what the definitions say of them.
-use Rattle.std.proofs.Common.{◌≡◌, ℕ, ◌+◌, ◌<◌, ◌≤◌, Bool, true, false, cond, List, [], ◌∷◌, ◌++◌, length, map, refl, sym, ap, ◌∙◌, arith}
+use Rattle.std.proofs.Common.{◌≡◌, ℕ, ◌+◌, ◌<◌, ◌≤◌, Bool, true, false, cond, List, [], ◌∷◌, ◌++◌, length, map, suc, refl, sym, ap, ◌∙◌, arith}
 use Rattle.std.specs.Prelude.{count_by, All, AllPairs, ◌==◌}
 use Rattle.std.specs.List.{filter_map, dedup_from, sum_by}
 use Rattle.std.proofs.lemmas.List.{map-append}
-use Rattle.std.proofs.lemmas.List.Sums.{sum_by-append}
+use Rattle.std.proofs.lemmas.List.Sums.{sum_by-append, sum_by-cons}
 use Rattle.std.proofs.lemmas.List.Elements.{All-nil, All-cons, All-append}
 use Rattle.std.proofs.lemmas.List.Kept.{AllPairs-cons}
 use Rattle.std.proofs.lemmas.Bool.{eq-eqb, ne_eqb}
 use Rattle.segs.specs.MarkedList.{Mark, Done, At, Next, number_of, is_done, is_at, is_next, marked, remarked, awaited, count_done, count_at, count_next, IsNotAfter, IsInOrder}
+
+pub counted_none : (b : Bool) → ◌≡◌ {A = ℕ} 0 (cond b 0 0)
+counted_none true = refl
+counted_none false = refl
+
+counted_more : (b : Bool) (count n : ℕ) → count ≡ cond b n 0 → cond b 1 0 + count ≡ cond b (suc n) 0
+counted_more true count n e = omega arith
+counted_more false count n e = omega arith
 
 module _ {T : Type 0} where
   abbrev pub in_segments : List T → ℕ → List T → ℕ → List T → List T → List (T × Mark)
@@ -63,13 +71,8 @@ module _ {T : Type 0} where
   -- Counts
 
   pub count_marked : (p : Mark → Bool) (mark : Mark) (xs : List T) → count_by (λ e. p e.1) (marked mark xs) ≡ cond (p mark) (length xs) 0
-  count_marked p mark xs = by (p mark) refl xs
-    where
-      by : (b : Bool) → p mark ≡ b → (ys : List T) → count_by (λ e. p e.1) (marked mark ys) ≡ cond b (length ys) 0
-      by true e [] = refl
-      by false e [] = refl
-      by true e (y ∷ ys) = rw e (let more = by true e ys in omega arith)
-      by false e (y ∷ ys) = rw e (let more = by false e ys in omega arith)
+  count_marked p mark [] = counted_none (p mark)
+  count_marked p mark (y ∷ xs) = sum_by-cons _ (y, mark) (marked mark xs) ∙ counted_more (p mark) _ _ (count_marked p mark xs)
 
   pub count-append : (p : Mark → Bool) (xs ys : List (T × Mark)) → count_by (λ e. p e.1) (xs ++ ys) ≡ count_by (λ e. p e.1) xs + count_by (λ e. p e.1) ys
   count-append p xs ys = sum_by-append _ xs ys
@@ -77,6 +80,25 @@ module _ {T : Type 0} where
   pub count-in_segments : (p : Mark → Bool) (d : List T) (n : ℕ) (w : List T) (m : ℕ) (r x : List T) → count_by (λ e. p e.1) (in_segments d n w m r x) ≡ cond (p Done) (length d) 0 + (cond (p (At n)) (length w) 0 + (cond (p (At m)) (length r) 0 + cond (p Next) (length x) 0))
   count-in_segments p d n w m r x =
       rw (count-append p (marked Done d) _, count-append p (marked (At n) w) _, count-append p (marked (At m) r) _, count_marked p Done d, count_marked p (At n) w, count_marked p (At m) r, count_marked p Next x) refl
+
+  pub count_at_first : (d : List T) (n : ℕ) (w : List T) (m : ℕ) (r x : List T) → cond (m == n) (length r) 0 ≡ 0 → count_at (in_segments d n w m r x) n ≡ length w
+  count_at_first d n w m r x e =
+      let counted = count-in_segments (is_at n) d n w m r x in
+      let same = eq-eqb n n refl in
+      rw (counted, same, e) (omega arith)
+
+  pub count_at_second : (d : List T) (n : ℕ) (w : List T) (m : ℕ) (r x : List T) → n < m → count_at (in_segments d n w m r x) m ≡ length r
+  count_at_second d n w m r x l =
+      let counted = count-in_segments (is_at m) d n w m r x in
+      let same = eq-eqb m m refl in
+      let other = ne_eqb n m (λ e. omega arith) in
+      rw (counted, same, other) (omega arith)
+
+  pub count_done_is : (d : List T) (n : ℕ) (w : List T) (m : ℕ) (r x : List T) → count_done (in_segments d n w m r x) ≡ length d
+  count_done_is d n w m r x = let counted = count-in_segments is_done d n w m r x in rw counted (omega arith)
+
+  pub count_next_is : (d : List T) (n : ℕ) (w : List T) (m : ℕ) (r x : List T) → count_next (in_segments d n w m r x) ≡ length x
+  count_next_is d n w m r x = let counted = count-in_segments is_next d n w m r x in rw counted (omega arith)
 
   -- The order
 
