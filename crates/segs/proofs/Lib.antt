@@ -1,4 +1,5 @@
 pub mod Answered
 pub mod Cuts
+pub mod Last
 pub mod Lists
 pub mod Moves

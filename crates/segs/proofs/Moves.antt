@@ -1,6 +1,7 @@
 -- What `assign`, `advance` and `take_done` make of a list.
-use Rattle.std.proofs.Common.{◌≡◌, ℕ, ◌+◌, ◌-◌, ◌<◌, ◌≤◌, List, [], ◌∷◌, ◌++◌, length, map, refl, sym, ap, ◌∙◌, arith, append-nil, append_assoc, length-append}
+use Rattle.std.proofs.Common.{◌≡◌, ℕ, ◌+◌, ◌-◌, ◌<◌, ◌≤◌, List, [], ◌∷◌, ◌++◌, length, map, take, drop, refl, sym, ap, ◌∙◌, arith, append-nil, append_assoc, length-append}
 use Rattle.std.specs.Prelude.{◌==◌, AllPairs, slice_index}
+use Rattle.std.proofs.Math.Seq.{take-append-add, drop-append-add}
 use Rattle.std.proofs.lemmas.Bool.{le-leb, lt-leb, eq-eqb, ne_eqb}
 use Rattle.segs.specs.declared.segment.Segment.{Segment}
 use Rattle.segs.specs.MarkedList.{Mark, Done, At, Next, marked, remarked, awaited, count_at, count_done, count_next, is_done, is_at, is_next, IsNotAfter, number_given, unless_next, done_at, assigned, advanced, numbers, lens, IsInOrder}
@@ -149,3 +150,16 @@ module _ {T : Type 0} where
 
   pub both_advanced : {xs : List T} {len done : ℕ} {wait next_ready : Segment} {entries : List (T × Mark)} → Stands xs len done wait next_ready entries → (k : ℕ) → wait.number ≤ k → next_ready.number ≤ k → segmented xs (done + (wait.len + next_ready.len)) (record { len = 0; number = 0 }) (record { len = 0; number = 0 }) ≡ advanced k entries
   both_advanced st k l h = rw (seen_cut st) (both_due_cut k _ _ _ _ (cut_of st) l h)
+
+  -- What `take_done` leaves
+
+  pub taken_segments : {xs : List T} {len done : ℕ} {wait next_ready : Segment} {entries : List (T × Mark)} → Stands xs len done wait next_ready entries → (taken rest : List T) → xs ≡ taken ++ rest → (count : ℕ) → length taken ≡ count → count ≤ done → entries ≡ marked Done taken ++ segmented rest (done - count) wait next_ready
+  taken_segments {xs} {len} {done} {wait} {next_ready} st taken rest e count many l =
+      let left : done ≡ length taken + (done - count) = omega arith in
+      let front : take done xs ≡ taken ++ take (done - count) rest = ap (λ (l : List T). take done l) e ∙ ap (λ k. take k (taken ++ rest)) left ∙ take-append-add taken rest (done - count) in
+      let back : drop done xs ≡ drop (done - count) rest = ap (λ (l : List T). drop done l) e ∙ ap (λ k. drop k (taken ++ rest)) left ∙ drop-append-add taken rest (done - count) in
+      sym st.seen ∙ rw (front, back, marked-append Done taken (take (done - count) rest), append_assoc (marked Done taken) (marked Done (take (done - count) rest))) refl
+
+  pub done_is : {xs : List T} {len done : ℕ} {wait next_ready : Segment} {entries : List (T × Mark)} → Stands xs len done wait next_ready entries → count_done entries ≡ done
+  done_is {xs} {len} {done} {wait} {next_ready} s =
+      ap count_done (seen_cut s) ∙ count_done_is (done_of xs done) wait.number (wait_of xs done wait) next_ready.number (next_ready_of xs done wait next_ready) (next_of xs done wait next_ready) ∙ (cut_of s).done_len

@@ -150,7 +150,8 @@ impl<T: MadeWith<A> + Drop, A: Allocator + Copy> SegList<T, A> {
     pub fn take_done(&mut self, max: usize) -> SmallVec<T, 8, A>
         ensures in_order { self.old.entries ≡ marked Done result.items ++ self.new.entries }
         ensures many { length result.items ≡ min (min max 8) (count_done self.old.entries) }
-        ensures room { self.old.room ≤ self.new.room }
+        ensures inline { result.capacity ≡ 8 }
+        ensures room { self.new.room ≡ self.old.room + length result.items }
     {
         let count = max.min(8).min(self.done);
         let taken = take_front(&mut self.entries, count);
@@ -164,10 +165,11 @@ fn take_front<T: MadeWith<A> + Drop, A: Allocator + Copy>(
     entries: &mut VecDeque<T, A>,
     count: usize,
 ) -> SmallVec<T, 8, A>
-    requires inline { count ≤ 8 }
+    requires few { count ≤ 8 }
     requires there { count ≤ deque_len entries.old }
     ensures in_order { entries.old.items ≡ result.items ++ entries.new.items }
     ensures many { length result.items ≡ count }
+    ensures inline { result.capacity ≡ 8 }
     ensures len { deque_len entries.new + count ≡ deque_len entries.old }
     ensures capacity { deque_capacity entries.new ≡ deque_capacity entries.old }
 {
