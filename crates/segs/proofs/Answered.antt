@@ -1,12 +1,12 @@
 -- What `lens` and `numbers` read.
-use Rattle.std.proofs.Common.{◌≡◌, ℕ, ◌+◌, ◌-◌, ◌<◌, ◌≤◌, List, [], ◌∷◌, ◌++◌, length, map, refl, sym, ap, ◌∙◌, arith, append-nil, length-append}
+use Rattle.std.proofs.Common.{◌≡◌, ℕ, ◌<◌, ◌≤◌, List, [], ◌∷◌, length, map, refl, sym, ap, ◌∙◌, arith}
 use Rattle.std.specs.Prelude.{◌==◌, AllPairs, slice_index}
-use Rattle.std.proofs.lemmas.Bool.{le-leb, lt-leb, eq-eqb, ne_eqb}
+use Rattle.std.proofs.lemmas.Bool.{ne_eqb}
 use Rattle.segs.specs.declared.segment.Segment.{Segment}
-use Rattle.segs.specs.MarkedList.{Mark, Done, At, Next, marked, remarked, awaited, count_at, count_done, count_next, is_done, is_at, is_next, IsNotAfter, number_given, unless_next, done_at, assigned, advanced, numbers, lens, IsInOrder}
-use Rattle.segs.specs.Segments.{segmented, AreSegments}
-use Rattle.segs.proofs.Lists.{in_segments, remarked-in_segments, marked-append, awaited_none, awaited_one, awaited_two, count_at_first, count_at_second, count_done_is, count_next_is, counted_none, rising-in_segments}
-use Rattle.segs.proofs.Cuts.{Stands, IsCut, segmented_cut, cut_of, done_of, wait_of, next_ready_of, next_of, seen_cut, length_cut, next_is}
+use Rattle.segs.specs.MarkedList.{Mark, awaited, count_at, count_done, count_next, IsNotAfter, numbers, lens, IsInOrder}
+use Rattle.segs.specs.Segments.{AreSegments}
+use Rattle.segs.proofs.Lists.{in_segments, awaited_none, awaited_one, awaited_two, count_at_first, count_at_second, count_done_is, count_next_is, counted_none, rising-in_segments}
+use Rattle.segs.proofs.Cuts.{Stands, IsCut, cut_of, done_of, wait_of, next_ready_of, next_of, seen_cut}
 
 four_same : {a b c e a' b' c' e' : ℕ} → a ≡ a' → b ≡ b' → c ≡ c' → e ≡ e' → a ∷ b ∷ c ∷ e ∷ [] ≡ a' ∷ b' ∷ c' ∷ e' ∷ []
 four_same p q r s = rw (p, q, r, s) refl

@@ -1,8 +1,8 @@
 -- The entry that `last_next` finds.
-use Rattle.std.proofs.Common.{◌≡◌, ℕ, ◌+◌, ◌-◌, ◌<◌, List, [], ◌∷◌, ◌++◌, length, get_or, refl, sym, ap, ◌∙◌, arith, append_assoc, length-append}
+use Rattle.std.proofs.Common.{◌≡◌, ℕ, ◌+◌, ◌-◌, ◌<◌, List, [], ◌∷◌, ◌++◌, length, get_or, refl, sym, ap, ◌∙◌, arith, append_assoc}
 use Rattle.std.proofs.lemmas.List.{get_or_at, length_push}
 use Rattle.segs.specs.declared.segment.Segment.{Segment}
-use Rattle.segs.specs.MarkedList.{Mark, Done, At, Next, marked, count_next}
+use Rattle.segs.specs.MarkedList.{Mark, Next, count_next}
 use Rattle.segs.proofs.Lists.{in_segments, marked-append, count_next_is}
 use Rattle.segs.proofs.Cuts.{Stands, IsCut, cut_of, seen_cut, done_of, wait_of, next_ready_of, next_of}
 

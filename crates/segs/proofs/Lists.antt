@@ -1,13 +1,13 @@
 -- Four segments as four lists, and what the definitions say of them.
-use Rattle.std.proofs.Common.{◌≡◌, ℕ, ◌+◌, ◌<◌, ◌≤◌, Bool, true, false, cond, List, [], ◌∷◌, ◌++◌, length, map, suc, refl, sym, ap, ◌∙◌, arith}
+use Rattle.std.proofs.Common.{◌≡◌, ℕ, ◌+◌, ◌<◌, ◌≤◌, Bool, true, false, cond, List, [], ◌∷◌, ◌++◌, length, suc, refl, ap, ◌∙◌, arith}
 use Rattle.std.specs.Prelude.{count_by, All, AllPairs, ◌==◌}
-use Rattle.std.specs.List.{filter_map, dedup_from, sum_by}
+use Rattle.std.specs.List.{filter_map, dedup_from}
 use Rattle.std.proofs.lemmas.List.{map-append}
 use Rattle.std.proofs.lemmas.List.Sums.{sum_by-append, sum_by-cons}
 use Rattle.std.proofs.lemmas.List.Elements.{All-nil, All-cons, All-append}
 use Rattle.std.proofs.lemmas.List.Kept.{AllPairs-cons}
 use Rattle.std.proofs.lemmas.Bool.{eq-eqb, ne_eqb}
-use Rattle.segs.specs.MarkedList.{Mark, Done, At, Next, number_of, is_done, is_at, is_next, marked, remarked, awaited, count_done, count_at, count_next, IsNotAfter, IsInOrder}
+use Rattle.segs.specs.MarkedList.{Mark, Done, At, Next, number_of, is_done, is_at, is_next, marked, remarked, awaited, count_done, count_at, count_next, IsNotAfter}
 
 pub counted_none : (b : Bool) → ◌≡◌ {A = ℕ} 0 (cond b 0 0)
 counted_none true = refl

@@ -1,13 +1,12 @@
 -- What `assign`, `advance` and `take_done` make of a list.
-use Rattle.std.proofs.Common.{◌≡◌, ℕ, ◌+◌, ◌-◌, ◌<◌, ◌≤◌, List, [], ◌∷◌, ◌++◌, length, map, take, drop, refl, sym, ap, ◌∙◌, arith, append-nil, append_assoc, length-append}
-use Rattle.std.specs.Prelude.{◌==◌, AllPairs, slice_index}
+use Rattle.std.proofs.Common.{◌≡◌, ℕ, ◌+◌, ◌-◌, ◌<◌, ◌≤◌, List, [], ◌∷◌, ◌++◌, length, take, drop, refl, sym, ap, ◌∙◌, arith, append-nil, append_assoc, length-append}
 use Rattle.std.proofs.Math.Seq.{take-append-add, drop-append-add}
-use Rattle.std.proofs.lemmas.Bool.{le-leb, lt-leb, eq-eqb, ne_eqb}
+use Rattle.std.proofs.lemmas.Bool.{le-leb, lt-leb}
 use Rattle.segs.specs.declared.segment.Segment.{Segment}
-use Rattle.segs.specs.MarkedList.{Mark, Done, At, Next, marked, remarked, awaited, count_at, count_done, count_next, is_done, is_at, is_next, IsNotAfter, number_given, unless_next, done_at, assigned, advanced, numbers, lens, IsInOrder}
+use Rattle.segs.specs.MarkedList.{Mark, Done, At, Next, marked, awaited, count_done, count_next, number_given, unless_next, done_at, assigned, advanced}
 use Rattle.segs.specs.Segments.{segmented, AreSegments}
-use Rattle.segs.proofs.Lists.{in_segments, remarked-in_segments, marked-append, awaited_none, awaited_one, awaited_two, count_at_first, count_at_second, count_done_is, count_next_is, counted_none, rising-in_segments}
-use Rattle.segs.proofs.Cuts.{Stands, IsCut, segmented_cut, cut_of, done_of, wait_of, next_ready_of, next_of, seen_cut, length_cut, next_is}
+use Rattle.segs.proofs.Lists.{in_segments, remarked-in_segments, marked-append, awaited_none, awaited_one, awaited_two, count_done_is, count_next_is}
+use Rattle.segs.proofs.Cuts.{Stands, IsCut, segmented_cut, cut_of, done_of, wait_of, next_ready_of, next_of, seen_cut}
 
 is_due : (k n : ℕ) → n ≤ k → done_at k (At n) ≡ Done
 is_due k n l = let due = le-leb n k l in rw due refl

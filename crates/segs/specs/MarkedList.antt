@@ -1,5 +1,5 @@
 -- Marked lists: entries in the order in which they came, each with a mark that says what it waits for.
-use Rattle.std.specs.Prelude.{◌≡◌, ℕ, ◌≤◌, ◌==◌, nat_le, Bool, true, false, List, [], ◌∷◌, Option, Some, None, length, map, count_by, slice_index, AllPairs, if◌then◌else◌}
+use Rattle.std.specs.Prelude.{ℕ, ◌≤◌, ◌==◌, nat_le, Bool, true, false, List, [], ◌∷◌, Option, Some, None, length, map, count_by, slice_index, AllPairs, if◌then◌else◌}
 use Rattle.std.specs.List.{filter_map, dedup}
 
 -- An entry is done, or it waits for a number, or it has no number yet.

@@ -7,4 +7,6 @@ pub(crate) struct Segment {
     pub(crate) number: u64,
 }
 
-pub(crate) const EMPTY: Segment = Segment { len: 0, number: 0 };
+impl Segment {
+    pub(crate) const EMPTY: Segment = Segment { len: 0, number: 0 };
+}
