@@ -149,12 +149,8 @@ impl<T, A: Allocator> SegList<T, A> {
         // What is always so of the marks: done before numbers, which rise, before next, and two numbers at most.
         ensures in_order { IsInOrder self.now.entries }
     {
-        [
-            self.done,
-            self.wait.len,
-            self.next_ready.len,
-            self.next_len(),
-        ]
+        let next = self.next_len();
+        [self.done, self.wait.len, self.next_ready.len, next]
     }
 
     /// The numbers for which wait and next-ready wait (the kernel's `gp_seq`), 0 for one that is empty.

@@ -4,38 +4,43 @@ use std::alloc::{AllocError, Allocator, Global};
 use std::process::Abort;
 use std::test::Fail;
 
+fn push(rt: &impl Abort, list: &mut SegList<char>, entry: char) {
+    assert_eq!(rt; list.push(entry), Ok(()));
+    assert_eq!(rt; list.last_next(), Some(&entry));
+}
+
+fn shows(rt: &impl Abort, list: &SegList<char>, lens: [usize; 4], numbers: [u64; 2]) {
+    assert_eq!(rt; list.lens(), lens);
+    assert_eq!(rt; list.numbers(), numbers);
+}
+
 #[test]
-fn segments_of_a_few_entries(rt: HostRuntime) -> Result<(), Fail> {
+fn segments_of_a_few_entries(rt: HostRuntime) {
     let mut list = SegList::new(rt.alloc());
-    assert_eq!(rt; list.push('a'), Ok(()));
+    push(&rt, &mut list, 'a');
     list.assign(4);
-    assert_eq!(rt; (list.lens(), list.numbers()), ([0, 1, 0, 0], [4, 0]));
-    assert_eq!(rt; list.push('b'), Ok(()));
+    shows(&rt, &list, [0, 1, 0, 0], [4, 0]);
+    push(&rt, &mut list, 'b');
     list.assign(4);
-    assert_eq!(rt; (list.lens(), list.numbers()), ([0, 2, 0, 0], [4, 0]));
-    assert_eq!(rt; list.push('c'), Ok(()));
-    assert_eq!(rt; list.last_next(), Some(&'c'));
+    shows(&rt, &list, [0, 2, 0, 0], [4, 0]);
+    push(&rt, &mut list, 'c');
     list.assign(8);
-    assert_eq!(rt; list.last_next(), None);
-    assert_eq!(rt; (list.lens(), list.numbers()), ([0, 2, 1, 0], [4, 8]));
-    assert_eq!(rt; list.push('e'), Ok(()));
+    shows(&rt, &list, [0, 2, 1, 0], [4, 8]);
+    assert!(rt; list.last_next().is_none());
+    push(&rt, &mut list, 'e');
     list.assign(12);
-    assert_eq!(rt; (list.lens(), list.numbers()), ([0, 2, 1, 1], [4, 8]));
-    assert_eq!(rt; list.push('f'), Ok(()));
-    assert_eq!(rt; list.last_next(), Some(&'f'));
+    shows(&rt, &list, [0, 2, 1, 1], [4, 8]);
+    push(&rt, &mut list, 'f');
     list.assign(8);
-    assert_eq!(rt; (list.lens(), list.numbers()), ([0, 2, 3, 0], [4, 8]));
+    shows(&rt, &list, [0, 2, 3, 0], [4, 8]);
     list.advance(5);
-    assert_eq!(rt; (list.lens(), list.numbers()), ([2, 3, 0, 0], [8, 0]));
+    shows(&rt, &list, [2, 3, 0, 0], [8, 0]);
     assert_eq!(rt; list.take_done(1).as_slice(), ['a'].as_slice());
-    assert_eq!(rt; (list.lens(), list.numbers()), ([1, 3, 0, 0], [8, 0]));
+    shows(&rt, &list, [1, 3, 0, 0], [8, 0]);
     list.advance(8);
-    assert_eq!(rt;
-        list.take_done(9).as_slice(),
-        ['b', 'c', 'e', 'f'].as_slice()
-    );
-    assert_eq!(rt; (list.lens(), list.numbers()), ([0, 0, 0, 0], [0, 0]));
-    Ok(())
+    let taken = list.take_done(9);
+    assert_eq!(rt; taken.as_slice(), ['b', 'c', 'e', 'f'].as_slice());
+    shows(&rt, &list, [0, 0, 0, 0], [0, 0]);
 }
 
 // A push or a reserve that only ever answers `Memory` meets its contract too.
