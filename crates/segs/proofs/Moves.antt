@@ -3,15 +3,15 @@ use Rattle.std.proofs.Common.{◌≡◌, ℕ, ◌+◌, ◌-◌, ◌<◌, ◌≤�
 use Rattle.std.proofs.Math.Seq.{take-append-add, drop-append-add}
 use Rattle.std.proofs.lemmas.Bool.{le-leb, lt-leb}
 use Rattle.segs.specs.declared.segment.Segment.{Segment}
-use Rattle.segs.specs.MarkedList.{Mark, Done, At, Next, marked, awaited, count_done, count_next, number_given, unless_next, done_at, assigned, advanced}
+use Rattle.segs.specs.MarkedList.{Mark, Done, At, Next, marked, awaited, count_done, count_next, number_given, next_becomes, reached, assigned, advanced}
 use Rattle.segs.specs.Segments.{segmented, AreSegments}
 use Rattle.segs.proofs.Lists.{in_segments, remarked-in_segments, marked-append, awaited_none, awaited_one, awaited_two, count_done_is, count_next_is}
 use Rattle.segs.proofs.Cuts.{Stands, IsCut, segmented_cut, cut_of, done_of, wait_of, next_ready_of, next_of, seen_cut}
 
-is_due : (k n : ℕ) → n ≤ k → done_at k (At n) ≡ Done
+is_due : (k n : ℕ) → n ≤ k → reached k (At n) ≡ Done
 is_due k n l = let due = le-leb n k l in rw due refl
 
-is_not_due : (k n : ℕ) → k < n → done_at k (At n) ≡ At n
+is_not_due : (k n : ℕ) → k < n → reached k (At n) ≡ At n
 is_not_due k n l = let later = lt-leb n k l in rw later refl
 
 module _ {T : Type 0} where
@@ -19,10 +19,10 @@ module _ {T : Type 0} where
 
   given_marks : (s : ℕ) (given : Mark) (d : List T) (n : ℕ) (w : List T) (m : ℕ) (r x : List T) (ns : List ℕ) → awaited (in_segments d n w m r x) ≡ ns → number_given s ns ≡ given → assigned s (in_segments d n w m r x) ≡ marked Done d ++ (marked (At n) w ++ (marked (At m) r ++ marked given x))
   given_marks s given d n w m r x ns e f =
-      rw (e, f) (remarked-in_segments (unless_next given) d n w m r x)
+      rw (e, f) (remarked-in_segments (next_becomes given) d n w m r x)
 
   nothing_next : (s : ℕ) (d : List T) (n : ℕ) (w : List T) (m : ℕ) (r : List T) → assigned s (in_segments d n w m r []) ≡ in_segments d n w m r []
-  nothing_next s d n w m r = remarked-in_segments (unless_next (number_given s (awaited (in_segments d n w m r [])))) d n w m r []
+  nothing_next s d n w m r = remarked-in_segments (next_becomes (number_given s (awaited (in_segments d n w m r [])))) d n w m r []
 
   first_number : (s : ℕ) (d : List T) (n m k : ℕ) (x : List T) → assigned s (in_segments d n [] m [] x) ≡ in_segments d s x k [] []
   first_number s d n m k x = given_marks s (At s) d n [] m [] x [] (awaited_none d x n m) refl ∙ ap (λ l. marked Done d ++ l) (sym (append-nil (marked (At s) x)))
@@ -49,8 +49,8 @@ module _ {T : Type 0} where
 
   -- What `advance` makes
 
-  due_marks : (k : ℕ) (d : List T) (n : ℕ) (w : List T) (m : ℕ) (r x : List T) (a b : Mark) → done_at k (At n) ≡ a → done_at k (At m) ≡ b → advanced k (in_segments d n w m r x) ≡ marked Done d ++ (marked a w ++ (marked b r ++ marked Next x))
-  due_marks k d n w m r x a b e f = remarked-in_segments (done_at k) d n w m r x ∙ rw (e, f) refl
+  due_marks : (k : ℕ) (d : List T) (n : ℕ) (w : List T) (m : ℕ) (r x : List T) (a b : Mark) → reached k (At n) ≡ a → reached k (At m) ≡ b → advanced k (in_segments d n w m r x) ≡ marked Done d ++ (marked a w ++ (marked b r ++ marked Next x))
+  due_marks k d n w m r x a b e f = remarked-in_segments (reached k) d n w m r x ∙ rw (e, f) refl
 
   -- The same of a queue in segments
 
@@ -126,7 +126,7 @@ module _ {T : Type 0} where
 
   -- nothing is due
   early_cut : {xs : List T} {len done : ℕ} {wait next_ready : Segment} → (k : ℕ) (d w r x : List T) → IsCut xs done wait next_ready d w r x → AreSegments len done wait next_ready → k < wait.number → in_segments d wait.number w next_ready.number r x ≡ advanced k (in_segments d wait.number w next_ready.number r x)
-  early_cut {xs} {len} {done} {wait} {next_ready} k d w [] x c a l = sym (due_marks k d wait.number w next_ready.number [] x (At wait.number) (done_at k (At next_ready.number)) (is_not_due k wait.number l) refl)
+  early_cut {xs} {len} {done} {wait} {next_ready} k d w [] x c a l = sym (due_marks k d wait.number w next_ready.number [] x (At wait.number) (reached k (At next_ready.number)) (is_not_due k wait.number l) refl)
   early_cut {xs} {len} {done} {wait} {next_ready} k d w (u ∷ r) x c a l =
       let rising = a.rising (let some = c.next_ready_len in omega arith) in
       sym (due_marks k d wait.number w next_ready.number (u ∷ r) x (At wait.number) (At next_ready.number) (is_not_due k wait.number l) (is_not_due k next_ready.number (omega arith)))

@@ -1,5 +1,5 @@
 -- Marked lists: entries in the order in which they came, each with a mark that says what it waits for.
-use Rattle.std.specs.Prelude.{ℕ, ◌≤◌, ◌==◌, nat_le, Bool, true, false, List, [], ◌∷◌, Option, Some, None, length, map, count_by, slice_index, AllPairs, if◌then◌else◌}
+use Rattle.std.specs.Prelude.{◌≡◌, ℕ, ◌≤◌, ◌==◌, nat_le, Bool, true, false, List, [], ◌∷◌, ◌++◌, Option, Some, None, length, map, count_by, slice_index, AllPairs, if◌then◌else◌}
 use Rattle.std.specs.List.{filter_map, dedup}
 
 -- An entry is done, or it waits for a number, or it has no number yet.
@@ -28,7 +28,7 @@ number_of Done = None
 number_of (At n) = Some n
 number_of Next = None
 
--- the marks of an order: done entries first, then by rising numbers, then those with no number
+-- the order of marks: done first, then at a number, by rising numbers, then next
 abbrev pub IsNotAfter : Mark → Mark → Type 0
 IsNotAfter Done b = Unit {0}
 IsNotAfter (At n) Done = ⊥
@@ -79,27 +79,32 @@ number_given s [] = At s
 number_given s (n ∷ []) = if nat_le s n then At n else At s
 number_given s (n ∷ m ∷ more) = if nat_le s m then At m else Next
 
-abbrev pub unless_next : Mark → Mark → Mark
-unless_next given Done = Done
-unless_next given (At n) = At n
-unless_next given Next = given
+-- only what is next gets the mark
+abbrev pub next_becomes : Mark → Mark → Mark
+next_becomes given Done = Done
+next_becomes given (At n) = At n
+next_becomes given Next = given
 
 -- Advancing to a number
 
--- what is awaited at most at n is done
-abbrev pub done_at : ℕ → Mark → Mark
-done_at n Done = Done
-done_at n (At m) = if nat_le m n then Done else At m
-done_at n Next = Next
+-- what waits at n or a smaller number is done
+abbrev pub reached : ℕ → Mark → Mark
+reached n Done = Done
+reached n (At m) = if nat_le m n then Done else At m
+reached n Next = Next
 
 module _ {T : Type 0} where
   -- the list after `assign s`
   abbrev pub assigned : ℕ → List (T × Mark) → List (T × Mark)
-  assigned s list = remarked (unless_next (number_given s (awaited list))) list
+  assigned s list = remarked (next_becomes (number_given s (awaited list))) list
 
   -- the list after `advance n`
   abbrev pub advanced : ℕ → List (T × Mark) → List (T × Mark)
-  advanced n list = remarked (done_at n) list
+  advanced n list = remarked (reached n) list
+
+  -- the list ends with the entry, which is next
+  abbrev pub EndsInNext : List (T × Mark) → T → Type 0
+  EndsInNext list entry = (front : List (T × Mark)) × (list ≡ front ++ (entry, Next) ∷ [])
 
   -- what `lens` answers: how many entries are done, wait for the first and the second number, and have none
   abbrev pub lens : List (T × Mark) → List ℕ

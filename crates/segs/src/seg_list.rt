@@ -1,7 +1,7 @@
 //! The segmented list, and its calls.
 ghost use Rattle.std.specs.Prelude.{◌≡◌, ◌+◌, ◌<◌, ◌≤◌, ◌↔◌, List, [], ◌∷◌, ◌++◌, length, min, IsOk, IsSome, IfSome, IfErr, OnOk, OnErr};
 ghost use Rattle.std.specs.VecDeque.{deque_len, deque_capacity};
-ghost use Rattle.segs.specs.MarkedList.{Mark, Done, Next, marked, assigned, advanced, lens, numbers, count_done, count_next, IsInOrder};
+ghost use Rattle.segs.specs.MarkedList.{Mark, Done, Next, marked, assigned, advanced, lens, numbers, count_done, count_next, EndsInNext, IsInOrder};
 
 use crate::segment::Segment;
 use smallvec::SmallVec;
@@ -134,7 +134,7 @@ impl<T, A: Allocator> SegList<T, A> {
     /// The entry that was pushed last, where it has no number yet.
     pub fn last_next(&self) -> Option<&T>
         ensures variant { IsSome result ↔ (0 < count_next self.now.entries) }
-        ensures last { IfSome result (λ entry. (front : List (T × Mark)) × (self.now.entries ≡ front ++ (entry.now, Next) ∷ [])) }
+        ensures last { IfSome result (λ entry. EndsInNext self.now.entries entry.now) }
     {
         if self.next_len() == 0 {
             return None;
