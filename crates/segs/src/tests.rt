@@ -43,7 +43,7 @@ fn segments_of_a_few_entries(rt: HostRuntime) {
     shows(&rt, &list, [0, 0, 0, 0], [0, 0]);
 }
 
-// A push or a reserve that only ever answers `Memory` meets its contract too.
+// A push or a reserve that answers `Memory` wherever there is no room yet meets its contract too.
 #[test]
 fn at_most_eight_at_a_time(rt: HostRuntime) -> Result<(), Fail> {
     let mut list = SegList::new(rt.alloc());
