@@ -1,0 +1,4 @@
+pub use Rattle.sections.specs.Calls
+pub mod Jobs
+pub mod Pairs
+pub mod Spreads

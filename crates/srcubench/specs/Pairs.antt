@@ -1,0 +1,35 @@
+-- Sections that a processor begins and ends one after the other.
+use Rattle.std.specs.Prelude.{◌≡◌, ℕ, zero, suc, ◌<◌, ◌≤◌, All, length, List, [], ◌∷◌, ◌++◌}
+use Rattle.sseq.specs.declared.index.Index.{Index}
+use Rattle.onedom.specs.declared.event.Maker.TheVariants.{Processor}
+use Rattle.onedom.specs.declared.event.Event.{Event}
+use Rattle.onedom.specs.declared.event.Event.TheVariants.{Begin, End}
+use Rattle.sections.specs.Views.{CpuView}
+use Rattle.sections.specs.Calls.{IsSameCpu, IsExhausted}
+
+-- from the first events to the last ones so many sections were added, each of them begun and ended on this processor before the next one begins
+abbrev pub AddsPairs : ℕ → ℕ → List Event → List Event → Type 0
+AddsPairs p zero before after = after ≡ before
+AddsPairs p (suc n) before after = (between : List Event) × (section : ℕ) × (index : Index)
+    × AddsPairs p n before between × (after ≡ (between ++ Begin section p index (Processor p) ∷ []) ++ End section p (Processor p) ∷ [])
+
+-- the processor made so many pairs, and no other event
+pub record MakesPairs (n : ℕ) (c d : CpuView) : Type 0 where
+  pub same : IsSameCpu c d
+  pub mine : AddsPairs c.processor n c.mine d.mine
+
+-- fewer pairs were made than were asked for, since no more sections of some index may be begun here
+pub record StopsEarly (pairs made : ℕ) (c : CpuView) : Type 0 where
+  pub fewer : made < pairs
+  pub index : Index
+  pub full : IsExhausted c index
+
+-- nothing was done here, and so many sections of an index may begin
+pub record HasRoom (pairs : ℕ) (c : CpuView) : Type 0 where
+  pub unused : c.mine ≡ []
+  pub room : pairs ≤ c.sections
+
+-- each of the threads made so many pairs
+pub record AreAllMade (threads pairs : ℕ) (made : List ℕ) : Type 0 where
+  pub count : length made ≡ threads
+  pub each : All (λ n. n ≡ pairs) made

@@ -1,0 +1,29 @@
+//! The loop that is measured.
+ghost use Rattle.std.specs.Prelude.{◌≡◌, ◌⊎◌};
+ghost use Rattle.srcubench.specs.Pairs.{MakesPairs, StopsEarly, HasRoom};
+
+use sections::Cpu;
+use std::alloc::Allocator;
+
+/// Begins and ends so many sections one after the other, and answers how many: all of them, unless so many sections of
+/// an index were begun here that no more may be.
+pub fn make_pairs<A: Allocator>(cpu: &mut Cpu<A>, pairs: u64) -> u64
+    ensures made { MakesPairs result cpu.old cpu.new }
+    ensures all { (result ≡ pairs) ⊎ StopsEarly pairs result cpu.new }
+{
+    for made in 0..pairs {
+        match cpu.read_lock() {
+            Ok(reading) => cpu.read_unlock(reading),
+            Err(_) => return made,
+        }
+    }
+    pairs
+}
+
+/// Makes so many pairs on a new processor, which has room for all of them, and answers how many it made.
+pub fn make_all_pairs<A: Allocator>(mut cpu: Cpu<A>, pairs: u64) -> u64
+    requires { HasRoom pairs cpu }
+    ensures { result ≡ pairs }
+{
+    make_pairs(&mut cpu, pairs)
+}

@@ -1,0 +1,78 @@
+//! One measurement: a new domain, and a thread for each of its processors.
+ghost use Rattle.std.specs.Prelude.{◌≡◌, ◌*◌, ◌^◌, ◌<◌, ◌≤◌, vec_len, All, IfOk};
+ghost use Rattle.srcubench.specs.Pairs.{HasRoom, AreAllMade};
+
+use crate::pairs::make_all_pairs;
+use anyhow::Result;
+use sections::{Cpu, Limits, Made, make};
+use std::alloc::{AllocError, Allocator};
+use std::thread;
+use std::thread::Threads;
+use std::time::{Clock, Duration, Instant};
+
+/// What threads did that were started together.
+#[derive(Drop)]
+pub struct Trial {
+    /// How many pairs each of them made.
+    pub made: Vec<u64>,
+    /// From before the first one's start until all had ended.
+    pub elapsed: Duration,
+}
+
+/// Has each processor make so many pairs in a thread of its own, and answers how many each of them made.
+fn make_at_once<R: Threads + Sync>(
+    rt: &R,
+    cpus: Vec<Cpu>,
+    pairs: u64,
+) -> Result<Vec<u64>, AllocError>
+    requires { All (HasRoom pairs) cpus.items }
+    ensures { IfOk result (λ made. AreAllMade (vec_len cpus) pairs made.items) }
+{
+    thread::map_vec(rt, cpus, &|cpu| make_all_pairs(cpu, pairs))
+}
+
+/// Makes so many pairs in each of the threads. Its `elapsed` is what the clock told, of which no clause speaks.
+pub fn run<R: Threads + Sync + Clock + AllocGlobal>(
+    rt: &R,
+    threads: usize,
+    pairs: u64,
+) -> Result<Trial>
+    ensures { IfOk result (λ trial. AreAllMade threads pairs trial.made.items) }
+{
+    let limits = Limits {
+        sections: pairs,
+        periods: 1,
+        cells: 0,
+    };
+    let Made { cpus, engine: _ } = make(rt.alloc(), threads, limits)?;
+    let start = Instant::now(rt)?;
+    let made = make_at_once(rt, cpus, pairs)?;
+    let elapsed = start.elapsed(rt)?;
+    Ok(Trial { made, elapsed })
+}
+
+/// What one of so many pairs took, in hundredths of a nanosecond.
+fn cost_of_one(elapsed: Duration, pairs: u64) -> u64
+    requires { 0 < pairs }
+{
+    let hundredths = elapsed.as_nanos() * 100 / u128::from(pairs);
+    u64::try_from(hundredths).unwrap_or(u64::MAX)
+}
+
+/// What one pair took in each of the repetitions, in hundredths of a nanosecond.
+pub fn samples<R: Threads + Sync + Clock + AllocGlobal>(
+    rt: &R,
+    threads: usize,
+    pairs: u64,
+    repetitions: u64,
+) -> Result<Vec<u64>>
+    requires { 0 < pairs }
+    ensures { IfOk result (λ samples. vec_len samples ≡ repetitions) }
+{
+    let mut samples = Vec::new(rt.alloc());
+    for _ in 0..repetitions {
+        let trial = run(rt, threads, pairs)?;
+        samples.push(cost_of_one(trial.elapsed, pairs))?;
+    }
+    Ok(samples)
+}
