@@ -1,5 +1,5 @@
 -- What the command line asks for.
-use Rattle.std.specs.Prelude.{ℕ, ◌≤◌, ◌^◌}
+use Rattle.std.specs.Prelude.{◌≤◌, ◌^◌}
 use Rattle.srcubench.specs.declared.command_line.Job.{Job}
 use Rattle.srcubench.specs.declared.command_line.Job.TheVariants.{Count, Time}
 

@@ -1,5 +1,5 @@
 -- Sections that a processor begins and ends one after the other.
-use Rattle.std.specs.Prelude.{◌≡◌, ℕ, zero, suc, ◌<◌, ◌≤◌, All, length, List, [], ◌∷◌, ◌++◌}
+use Rattle.std.specs.Prelude.{◌≡◌, ℕ, zero, suc, ◌+◌, ◌<◌, ◌≤◌, All, length, List, [], ◌∷◌, ◌++◌}
 use Rattle.sseq.specs.declared.index.Index.{Index}
 use Rattle.onedom.specs.declared.event.Maker.TheVariants.{Processor}
 use Rattle.onedom.specs.declared.event.Event.{Event}
@@ -18,11 +18,17 @@ pub record MakesPairs (n : ℕ) (c d : CpuView) : Type 0 where
   pub same : IsSameCpu c d
   pub mine : AddsPairs c.processor n c.mine d.mine
 
--- fewer pairs were made than were asked for, since no more sections of some index may be begun here
-pub record StopsEarly (pairs made : ℕ) (c : CpuView) : Type 0 where
+-- all pairs were made that were asked for, with one load of the index word for each
+pub record AllMade (pairs made : ℕ) (c d : CpuView) : Type 0 where
+  pub all : made ≡ pairs
+  pub loads : length d.loads ≡ length c.loads + made
+
+-- fewer were made, since no more sections of the index that was loaded then may be begun here
+pub record StopsEarly (pairs made : ℕ) (c d : CpuView) : Type 0 where
   pub fewer : made < pairs
+  pub loads : length d.loads ≡ length c.loads + made + 1
   pub index : Index
-  pub full : IsExhausted c index
+  pub full : IsExhausted d index
 
 -- nothing was done here, and so many sections of an index may begin
 pub record HasRoom (pairs : ℕ) (c : CpuView) : Type 0 where

@@ -1,6 +1,6 @@
 //! The loop that is measured.
 ghost use Rattle.std.specs.Prelude.{◌≡◌, ◌⊎◌};
-ghost use Rattle.srcubench.specs.Pairs.{MakesPairs, StopsEarly, HasRoom};
+ghost use Rattle.srcubench.specs.Pairs.{MakesPairs, AllMade, StopsEarly, HasRoom};
 
 use sections::Cpu;
 use std::alloc::Allocator;
@@ -9,7 +9,7 @@ use std::alloc::Allocator;
 /// an index were begun here that no more may be.
 pub fn make_pairs<A: Allocator>(cpu: &mut Cpu<A>, pairs: u64) -> u64
     ensures made { MakesPairs result cpu.old cpu.new }
-    ensures all { (result ≡ pairs) ⊎ StopsEarly pairs result cpu.new }
+    ensures all { AllMade pairs result cpu.old cpu.new ⊎ StopsEarly pairs result cpu.old cpu.new }
 {
     for made in 0..pairs {
         match cpu.read_lock() {

@@ -1,5 +1,6 @@
 //! One measurement: a new domain, and a thread for each of its processors.
-ghost use Rattle.std.specs.Prelude.{◌≡◌, ◌*◌, ◌^◌, ◌<◌, ◌≤◌, vec_len, All, IfOk};
+ghost use Rattle.std.specs.Prelude.{◌≡◌, ◌*◌, ◌/◌, ◌^◌, ◌<◌, ◌≤◌, vec_len, All, IfOk};
+ghost use Rattle.std.specs.Duration.{as_nanos};
 ghost use Rattle.srcubench.specs.Pairs.{HasRoom, AreAllMade};
 
 use crate::pairs::make_all_pairs;
@@ -51,9 +52,10 @@ pub fn run<R: Threads + Sync + Clock + AllocGlobal>(
     Ok(Trial { made, elapsed })
 }
 
-/// What one of so many pairs took, in hundredths of a nanosecond.
+/// What one of so many pairs took, in hundredths of a nanosecond, or the largest number where that is more.
 fn cost_of_one(elapsed: Duration, pairs: u64) -> u64
-    requires { 0 < pairs }
+    requires { 1 ≤ pairs }
+    ensures { let hundredths = as_nanos elapsed * 100 / pairs in hundredths < 2 ^ 64 → result ≡ hundredths }
 {
     let hundredths = elapsed.as_nanos() * 100 / u128::from(pairs);
     u64::try_from(hundredths).unwrap_or(u64::MAX)
@@ -66,7 +68,7 @@ pub fn samples<R: Threads + Sync + Clock + AllocGlobal>(
     pairs: u64,
     repetitions: u64,
 ) -> Result<Vec<u64>>
-    requires { 0 < pairs }
+    requires { 1 ≤ pairs }
     ensures { IfOk result (λ samples. vec_len samples ≡ repetitions) }
 {
     let mut samples = Vec::new(rt.alloc());
