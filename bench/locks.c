@@ -32,10 +32,12 @@ const struct thing rwlock_pair = {
 	.name = "rwlock",
 	.prepare = prepare_nothing,
 	.work = make_rwlock_pairs,
+	.less_often = 8,
 };
 
 const struct thing counter_pair = {
 	.name = "counter",
 	.prepare = prepare_nothing,
 	.work = make_counter_pairs,
+	.less_often = 4,
 };

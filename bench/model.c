@@ -16,10 +16,18 @@ struct processor {
 	_Atomic uint64_t unlocks[2];
 };
 
+/* What a processor of the domain counts for itself: the sections that it began of each index, and those still open. */
+struct own_counts {
+	_Alignas(STRIDE) volatile uint64_t begun[2];
+	volatile uint64_t open;
+};
+
 static struct word current_index;
 static struct word number;
 static struct word need;
 static struct processor processors[MOST_PROCESSORS];
+static struct own_counts own_counts[MOST_PROCESSORS];
+static const uint64_t most_sections = (uint64_t)1 << 54;
 static unsigned processor_count;
 
 /* An even index word and a number at rest stay so, so that each measurement finds the domain as the first one did. */
@@ -38,6 +46,28 @@ static void make_pairs(const struct worker *worker)
 
 		atomic_fetch_add(&own->locks[index], 1);
 		atomic_fetch_add(&own->unlocks[index], 1);
+	}
+}
+
+/*
+ * The same with the counts that each processor of the domain keeps, in memory, to refuse a section beyond the limit and
+ * to know how many are open.
+ */
+static void make_counted_pairs(const struct worker *worker)
+{
+	struct processor *own = &processors[worker->number % MOST_PROCESSORS];
+	struct own_counts *counts = &own_counts[worker->number % MOST_PROCESSORS];
+
+	for (uint64_t round = 0; round < worker->rounds; round++) {
+		unsigned index = atomic_load(&current_index.value) & 1;
+
+		if (counts->begun[index] == most_sections)
+			return;
+		atomic_fetch_add(&own->locks[index], 1);
+		counts->begun[index]++;
+		counts->open++;
+		atomic_fetch_add(&own->unlocks[index], 1);
+		counts->open--;
 	}
 }
 
@@ -83,11 +113,20 @@ const struct thing model_pair = {
 	.name = "model",
 	.prepare = prepare_processors,
 	.work = make_pairs,
+	.less_often = 1,
+};
+
+const struct thing counting_model_pair = {
+	.name = "counting-model",
+	.prepare = prepare_processors,
+	.work = make_counted_pairs,
+	.less_often = 1,
 };
 
 const struct thing model_quiet_period = {
 	.name = "model-quiet-period",
 	.prepare = prepare_processors,
 	.work = run_quiet_periods,
+	.less_often = 4,
 	.one_thread = 1,
 };

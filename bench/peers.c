@@ -3,9 +3,9 @@
  *
  *     peers ROUNDS REPETITIONS MOST
  *
- * prints a line for each thing and each size of 1, 2, 4 up to MOST: its name, the size, and the median, the least and the most of
- * the repetitions in nanoseconds. As `srcubench` does, it looks at the clock before the threads are started and after
- * all have ended, and divides by the rounds of one thread.
+ * prints a line for each thing and each size of 1, 2, 4 up to MOST: its name, the size, and the median, the least and
+ * the most of the repetitions in nanoseconds. As `srcubench` does, it looks at the clock before the threads are started
+ * and after all have ended, and divides by the rounds of one thread.
  */
 #include "peers.h"
 
@@ -24,6 +24,7 @@ struct job {
 
 static const struct thing *const things[] = {
 	&model_pair,
+	&counting_model_pair,
 	&rwlock_pair,
 	&counter_pair,
 #ifdef WITH_LIBURCU
@@ -85,9 +86,10 @@ static int compare(const void *left, const void *right)
 	return (a > b) - (a < b);
 }
 
-static void report(const struct thing *thing, unsigned size, uint64_t rounds, unsigned repetitions)
+static void report(const struct thing *thing, unsigned size, uint64_t most_rounds, unsigned repetitions)
 {
 	double samples[MOST_REPETITIONS];
+	uint64_t rounds = most_rounds / thing->less_often + 1;
 
 	for (unsigned i = 0; i < repetitions; i++)
 		samples[i] = measure(thing, size, rounds);

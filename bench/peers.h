@@ -15,16 +15,19 @@ struct worker {
 
 /*
  * A measured thing. The sizes that it is measured at are numbers of threads, each of which runs `work`; or, where
- * `one_thread` is set, numbers of processors, which one thread goes over.
+ * `one_thread` is set, numbers of processors, which one thread goes over. A thing that takes longer is done so many
+ * times less often.
  */
 struct thing {
 	const char *name;
 	void (*prepare)(unsigned size);
 	void (*work)(const struct worker *worker);
+	unsigned less_often;
 	int one_thread;
 };
 
 extern const struct thing model_pair;
+extern const struct thing counting_model_pair;
 extern const struct thing model_quiet_period;
 extern const struct thing rwlock_pair;
 extern const struct thing counter_pair;

@@ -39,10 +39,16 @@ function threads(size) {
 function pair_rows(size) {
     row("this domain, " threads(size), "srcubench", size, "model")
     row("(a) C11 model of it, " threads(size), "model", size, "model")
+    row("(a) with a processor's own counts, " threads(size), "counting-model", size, "model")
     row("(b) pthread_rwlock, " threads(size), "rwlock", size, "model")
     row("(c) one shared atomic counter, " threads(size), "counter", size, "model")
     row("(d) liburcu mb, " threads(size), "urcu-mb", size, "model")
     row("(d) liburcu memb, " threads(size), "urcu-memb", size, "model")
+}
+
+function growth_row(label, name) {
+    if ((1, name, 2) in ns)
+        printf "%-44s %s\n", label, ratios(name, 2, name, 1)
 }
 
 {
@@ -64,11 +70,7 @@ END {
         row("C11 model, " size (size == 1 ? " processor" : " processors"), "model-quiet-period", size, "model-quiet-period")
     print ""
     printf "%-44s %s\n", "a pair at 2 threads against one at 1", "   ratio"
-    print_growth("this domain", "srcubench")
-    print_growth("(a) C11 model of it", "model")
+    growth_row("this domain", "srcubench")
+    growth_row("(a) C11 model of it", "model")
 }
 
-function print_growth(label, name) {
-    if ((1, name, 2) in ns)
-        printf "%-44s %s\n", label, ratios(name, 2, name, 1)
-}

@@ -34,10 +34,12 @@ const struct thing urcu_mb_pair = {
 	.name = "urcu-mb",
 	.prepare = prepare_nothing,
 	.work = make_mb_pairs,
+	.less_often = 4,
 };
 
 const struct thing urcu_memb_pair = {
 	.name = "urcu-memb",
 	.prepare = prepare_nothing,
 	.work = make_memb_pairs,
+	.less_often = 1,
 };
