@@ -1,5 +1,5 @@
 -- Sections that a processor begins and ends one after the other.
-use Rattle.std.specs.Prelude.{◌≡◌, ℕ, zero, suc, ◌+◌, ◌<◌, ◌≤◌, All, length, List, [], ◌∷◌, ◌++◌}
+use Rattle.std.specs.Prelude.{◌≡◌, ℕ, zero, suc, ◌+◌, ◌<◌, ◌≤◌, length, List, [], ◌∷◌, ◌++◌}
 use Rattle.sseq.specs.declared.index.Index.{Index}
 use Rattle.onedom.specs.declared.event.Maker.TheVariants.{Processor}
 use Rattle.onedom.specs.declared.event.Event.{Event}
@@ -34,8 +34,3 @@ pub record StopsEarly (pairs made : ℕ) (c d : CpuView) : Type 0 where
 pub record HasRoom (pairs : ℕ) (c : CpuView) : Type 0 where
   pub unused : c.mine ≡ []
   pub room : pairs ≤ c.sections
-
--- each of the threads made so many pairs
-pub record AreAllMade (threads pairs : ℕ) (made : List ℕ) : Type 0 where
-  pub count : length made ≡ threads
-  pub each : All (λ n. n ≡ pairs) made

@@ -34,8 +34,8 @@ fn count<R: Threads + Sync + Clock + Print + AllocGlobal>(rt: &R) -> Result<()> 
     for threads in THREADS {
         if threads <= MOST_PROCESSORS {
             let trial = trial::run(rt, threads, COUNTED_PAIRS)?;
-            for (thread, made) in trial.made.iter().enumerate() {
-                println!(rt; "thread {thread} of {threads}: {made} pairs")?;
+            for (thread, reader) in trial.readers.iter().enumerate() {
+                println!(rt; "thread {thread} of {threads}: {} pairs", reader.made)?;
             }
         }
     }

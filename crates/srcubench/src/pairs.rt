@@ -1,6 +1,7 @@
 //! The loop that is measured.
 ghost use Rattle.std.specs.Prelude.{◌≡◌, ◌⊎◌};
 ghost use Rattle.srcubench.specs.Pairs.{MakesPairs, AllMade, StopsEarly, HasRoom};
+ghost use Rattle.srcubench.specs.Readers.{HasMadeAll};
 
 use sections::Cpu;
 use std::alloc::Allocator;
@@ -20,10 +21,18 @@ pub fn make_pairs<A: Allocator>(cpu: &mut Cpu<A>, pairs: u64) -> u64
     pairs
 }
 
-/// Makes so many pairs on a new processor, which has room for all of them, and answers how many it made.
-pub fn make_all_pairs<A: Allocator>(mut cpu: Cpu<A>, pairs: u64) -> u64
+/// A processor that made pairs, and how many.
+#[derive(Drop)]
+pub struct Reader {
+    pub cpu: Cpu,
+    pub made: u64,
+}
+
+/// Makes so many pairs on a new processor, which has room for all of them.
+pub fn make_all_pairs(mut cpu: Cpu, pairs: u64) -> Reader
     requires { HasRoom pairs cpu }
-    ensures { result ≡ pairs }
+    ensures { HasMadeAll pairs cpu result }
 {
-    make_pairs(&mut cpu, pairs)
+    let made = make_pairs(&mut cpu, pairs);
+    Reader { cpu, made }
 }

@@ -1,9 +1,10 @@
 //! One measurement: a new domain, and a thread for each of its processors.
 ghost use Rattle.std.specs.Prelude.{◌≡◌, ◌*◌, ◌/◌, ◌^◌, ◌<◌, ◌≤◌, vec_len, All, IfOk};
 ghost use Rattle.std.specs.Duration.{as_nanos};
-ghost use Rattle.srcubench.specs.Pairs.{HasRoom, AreAllMade};
+ghost use Rattle.srcubench.specs.Pairs.{HasRoom};
+ghost use Rattle.srcubench.specs.Readers.{HaveMadeAll, AreReadersOfOne};
 
-use crate::pairs::make_all_pairs;
+use crate::pairs::{Reader, make_all_pairs};
 use anyhow::Result;
 use sections::{Cpu, Limits, Made, make};
 use std::alloc::{AllocError, Allocator};
@@ -14,20 +15,20 @@ use std::time::{Clock, Duration, Instant};
 /// What threads did that were started together.
 #[derive(Drop)]
 pub struct Trial {
-    /// How many pairs each of them made.
-    pub made: Vec<u64>,
+    /// The processor of each of them.
+    pub readers: Vec<Reader>,
     /// From before the first one's start until all had ended.
     pub elapsed: Duration,
 }
 
-/// Has each processor make so many pairs in a thread of its own, and answers how many each of them made.
+/// Has each processor make so many pairs in a thread of its own.
 fn make_at_once<R: Threads + Sync>(
     rt: &R,
     cpus: Vec<Cpu>,
     pairs: u64,
-) -> Result<Vec<u64>, AllocError>
+) -> Result<Vec<Reader>, AllocError>
     requires { All (HasRoom pairs) cpus.items }
-    ensures { IfOk result (λ made. AreAllMade (vec_len cpus) pairs made.items) }
+    ensures { IfOk result (λ readers. HaveMadeAll pairs cpus.items readers.items) }
 {
     thread::map_vec(rt, cpus, &|cpu| make_all_pairs(cpu, pairs))
 }
@@ -38,7 +39,7 @@ pub fn run<R: Threads + Sync + Clock + AllocGlobal>(
     threads: usize,
     pairs: u64,
 ) -> Result<Trial>
-    ensures { IfOk result (λ trial. AreAllMade threads pairs trial.made.items) }
+    ensures { IfOk result (λ trial. AreReadersOfOne threads pairs trial.readers.items) }
 {
     let limits = Limits {
         sections: pairs,
@@ -47,9 +48,9 @@ pub fn run<R: Threads + Sync + Clock + AllocGlobal>(
     };
     let Made { cpus, engine: _ } = make(rt.alloc(), threads, limits)?;
     let start = Instant::now(rt)?;
-    let made = make_at_once(rt, cpus, pairs)?;
+    let readers = make_at_once(rt, cpus, pairs)?;
     let elapsed = start.elapsed(rt)?;
-    Ok(Trial { made, elapsed })
+    Ok(Trial { readers, elapsed })
 }
 
 /// What one of so many pairs took, in hundredths of a nanosecond, or the largest number where that is more.
