@@ -16,9 +16,17 @@ struct processor {
 	_Atomic uint64_t unlocks[2];
 };
 
-/* What a processor of the domain counts for itself: the sections that it began of each index, and those still open. */
-struct own_counts {
-	_Alignas(STRIDE) volatile uint64_t begun[2];
+struct table {
+	struct processor *volatile processors;
+};
+
+/*
+ * What a processor of the domain keeps in memory: where the words are, the sections that it began of each index, and
+ * those that are open.
+ */
+struct cpu {
+	_Alignas(STRIDE) struct table *volatile table;
+	volatile uint64_t begun[2];
 	volatile uint64_t open;
 };
 
@@ -26,7 +34,8 @@ static struct word current_index;
 static struct word number;
 static struct word need;
 static struct processor processors[MOST_PROCESSORS];
-static struct own_counts own_counts[MOST_PROCESSORS];
+static struct table table = { processors };
+static struct cpu cpus[MOST_PROCESSORS];
 static const uint64_t most_sections = (uint64_t)1 << 54;
 static unsigned processor_count;
 
@@ -50,24 +59,25 @@ static void make_pairs(const struct worker *worker)
 }
 
 /*
- * The same with the counts that each processor of the domain keeps, in memory, to refuse a section beyond the limit and
- * to know how many are open.
+ * The same with what each processor of the domain keeps: counts, to refuse a section beyond the limit and to know how
+ * many are open, and the address of the words, which is read anew for each step.
  */
-static void make_counted_pairs(const struct worker *worker)
+static void make_kept_pairs(const struct worker *worker)
 {
-	struct processor *own = &processors[worker->number % MOST_PROCESSORS];
-	struct own_counts *counts = &own_counts[worker->number % MOST_PROCESSORS];
+	unsigned number = worker->number % MOST_PROCESSORS;
+	struct cpu *cpu = &cpus[number];
 
+	cpu->table = &table;
 	for (uint64_t round = 0; round < worker->rounds; round++) {
 		unsigned index = atomic_load(&current_index.value) & 1;
 
-		if (counts->begun[index] == most_sections)
+		if (cpu->begun[index] == most_sections)
 			return;
-		atomic_fetch_add(&own->locks[index], 1);
-		counts->begun[index]++;
-		counts->open++;
-		atomic_fetch_add(&own->unlocks[index], 1);
-		counts->open--;
+		atomic_fetch_add(&cpu->table->processors[number].locks[index], 1);
+		cpu->begun[index]++;
+		cpu->open++;
+		atomic_fetch_add(&cpu->table->processors[number].unlocks[index], 1);
+		cpu->open--;
 	}
 }
 
@@ -116,10 +126,10 @@ const struct thing model_pair = {
 	.less_often = 1,
 };
 
-const struct thing counting_model_pair = {
-	.name = "counting-model",
+const struct thing keeping_model_pair = {
+	.name = "keeping-model",
 	.prepare = prepare_processors,
-	.work = make_counted_pairs,
+	.work = make_kept_pairs,
 	.less_often = 1,
 };
 

@@ -24,7 +24,7 @@ struct job {
 
 static const struct thing *const things[] = {
 	&model_pair,
-	&counting_model_pair,
+	&keeping_model_pair,
 	&rwlock_pair,
 	&counter_pair,
 #ifdef WITH_LIBURCU

@@ -27,7 +27,7 @@ struct thing {
 };
 
 extern const struct thing model_pair;
-extern const struct thing counting_model_pair;
+extern const struct thing keeping_model_pair;
 extern const struct thing model_quiet_period;
 extern const struct thing rwlock_pair;
 extern const struct thing counter_pair;

@@ -39,7 +39,7 @@ function threads(size) {
 function pair_rows(size) {
     row("this domain, " threads(size), "srcubench", size, "model")
     row("(a) C11 model of it, " threads(size), "model", size, "model")
-    row("(a) with a processor's own counts, " threads(size), "counting-model", size, "model")
+    row("(a) with what a Cpu keeps, " threads(size), "keeping-model", size, "model")
     row("(b) pthread_rwlock, " threads(size), "rwlock", size, "model")
     row("(c) one shared atomic counter, " threads(size), "counter", size, "model")
     row("(d) liburcu mb, " threads(size), "urcu-mb", size, "model")
