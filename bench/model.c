@@ -1,0 +1,142 @@
+/* The algorithm of the proved domain in C11, with the same words at the same distances and the same steps. */
+#include "peers.h"
+
+#include <stdatomic.h>
+#include <stddef.h>
+
+#define MOST_PROCESSORS 4
+
+struct word {
+	_Alignas(STRIDE) _Atomic uint64_t value;
+};
+
+/* The counters of one processor: two of begun and two of ended sections, one of each for each index. */
+struct processor {
+	_Alignas(STRIDE) _Atomic uint64_t locks[2];
+	_Atomic uint64_t unlocks[2];
+};
+
+struct table {
+	struct processor *volatile processors;
+};
+
+/*
+ * What a processor of the domain keeps in memory: where the words are, the sections that it began of each index, and
+ * those that are open.
+ */
+struct cpu {
+	_Alignas(STRIDE) struct table *volatile table;
+	volatile uint64_t begun[2];
+	volatile uint64_t open;
+};
+
+static struct word current_index;
+static struct word number;
+static struct word need;
+static struct processor processors[MOST_PROCESSORS];
+static struct table table = { processors };
+static struct cpu cpus[MOST_PROCESSORS];
+static const uint64_t most_sections = (uint64_t)1 << 54;
+static unsigned processor_count;
+
+/* An even index word and a number at rest stay so, so that each measurement finds the domain as the first one did. */
+static void prepare_processors(unsigned size)
+{
+	processor_count = size < MOST_PROCESSORS ? size : MOST_PROCESSORS;
+}
+
+/* As `read_lock` and `read_unlock`: the index is loaded, and two counters go up by one. */
+static void make_pairs(const struct worker *worker)
+{
+	struct processor *own = &processors[worker->number % MOST_PROCESSORS];
+
+	for (uint64_t round = 0; round < worker->rounds; round++) {
+		unsigned index = atomic_load(&current_index.value) & 1;
+
+		atomic_fetch_add(&own->locks[index], 1);
+		atomic_fetch_add(&own->unlocks[index], 1);
+	}
+}
+
+/*
+ * The same with what each processor of the domain keeps: counts, to refuse a section beyond the limit and to know how
+ * many are open, and the address of the words, which is read anew for each step.
+ */
+static void make_kept_pairs(const struct worker *worker)
+{
+	unsigned number = worker->number % MOST_PROCESSORS;
+	struct cpu *cpu = &cpus[number];
+
+	cpu->table = &table;
+	for (uint64_t round = 0; round < worker->rounds; round++) {
+		unsigned index = atomic_load(&current_index.value) & 1;
+
+		if (cpu->begun[index] == most_sections)
+			return;
+		atomic_fetch_add(&cpu->table->processors[number].locks[index], 1);
+		cpu->begun[index]++;
+		cpu->open++;
+		atomic_fetch_add(&cpu->table->processors[number].unlocks[index], 1);
+		cpu->open--;
+	}
+}
+
+/*
+ * Whether every section of the index is over. The unlocks are summed first: a section that ends between the two sums
+ * is then missing from the smaller sum, and never from the larger one.
+ */
+static int is_drained(unsigned index)
+{
+	uint64_t unlocks = 0;
+	uint64_t locks = 0;
+
+	for (unsigned i = 0; i < processor_count; i++)
+		unlocks += atomic_load(&processors[i].unlocks[index]);
+	for (unsigned i = 0; i < processor_count; i++)
+		locks += atomic_load(&processors[i].locks[index]);
+	return locks == unlocks;
+}
+
+static void wait_until_drained(unsigned index)
+{
+	while (!is_drained(index))
+		;
+}
+
+/* The need is loaded, the number starts, one index is scanned, the index flips, the other is scanned, the number ends. */
+static void run_quiet_periods(const struct worker *worker)
+{
+	for (uint64_t round = 0; round < worker->rounds; round++) {
+		unsigned index = atomic_load(&current_index.value) & 1;
+
+		(void)atomic_load(&need.value);
+		atomic_fetch_add(&number.value, 1);
+		wait_until_drained(!index);
+		atomic_fetch_add(&current_index.value, 1);
+		atomic_fetch_add(&number.value, 1);
+		wait_until_drained(index);
+		atomic_fetch_add(&number.value, 2);
+	}
+}
+
+const struct thing model_pair = {
+	.name = "model",
+	.prepare = prepare_processors,
+	.work = make_pairs,
+	.less_often = 1,
+};
+
+const struct thing keeping_model_pair = {
+	.name = "keeping-model",
+	.prepare = prepare_processors,
+	.work = make_kept_pairs,
+	.less_often = 1,
+};
+
+const struct thing model_quiet_period = {
+	.name = "model-quiet-period",
+	.prepare = prepare_processors,
+	.work = run_quiet_periods,
+	.less_often = 4,
+	.one_thread = 1,
+};

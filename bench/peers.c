@@ -1,0 +1,126 @@
+/*
+ * Measures what a proved reader is put beside.
+ *
+ *     peers ROUNDS REPETITIONS MOST
+ *
+ * prints a line for each thing and each size of 1, 2, 4 up to MOST: its name, the size, and the median, the least and
+ * the most of the repetitions in nanoseconds. As `srcubench` does, it looks at the clock before the threads are started
+ * and after all have ended, and divides by the rounds of one thread.
+ */
+#include "peers.h"
+
+#include <pthread.h>
+#include <stdio.h>
+#include <stdlib.h>
+#include <time.h>
+
+#define MOST_THREADS 4
+#define MOST_REPETITIONS 1000
+
+struct job {
+	const struct thing *thing;
+	struct worker worker;
+};
+
+static const struct thing *const things[] = {
+	&model_pair,
+	&keeping_model_pair,
+	&rwlock_pair,
+	&counter_pair,
+#ifdef WITH_LIBURCU
+	&urcu_mb_pair,
+	&urcu_memb_pair,
+#endif
+	&model_quiet_period,
+};
+
+static void fail(const char *what)
+{
+	fprintf(stderr, "peers: %s\n", what);
+	exit(2);
+}
+
+static double nanoseconds_now(void)
+{
+	struct timespec now;
+
+	if (clock_gettime(CLOCK_MONOTONIC, &now) != 0)
+		fail("the clock can't be read");
+	return 1e9 * (double)now.tv_sec + (double)now.tv_nsec;
+}
+
+static void *run_job(void *argument)
+{
+	const struct job *job = argument;
+
+	job->thing->work(&job->worker);
+	return NULL;
+}
+
+/* The wall time of one round, in nanoseconds. */
+static double measure(const struct thing *thing, unsigned size, uint64_t rounds)
+{
+	pthread_t threads[MOST_THREADS];
+	struct job jobs[MOST_THREADS];
+	unsigned count = thing->one_thread ? 1 : size;
+	double start;
+
+	thing->prepare(size);
+	start = nanoseconds_now();
+	for (unsigned i = 0; i < count; i++) {
+		jobs[i] = (struct job){ thing, { i, rounds } };
+		if (pthread_create(&threads[i], NULL, run_job, &jobs[i]) != 0)
+			fail("a thread can't be started");
+	}
+	for (unsigned i = 0; i < count; i++)
+		if (pthread_join(threads[i], NULL) != 0)
+			fail("a thread can't be joined");
+	return (nanoseconds_now() - start) / (double)rounds;
+}
+
+static int compare(const void *left, const void *right)
+{
+	double a = *(const double *)left;
+	double b = *(const double *)right;
+
+	return (a > b) - (a < b);
+}
+
+static void report(const struct thing *thing, unsigned size, uint64_t most_rounds, unsigned repetitions)
+{
+	double samples[MOST_REPETITIONS];
+	uint64_t rounds = most_rounds / thing->less_often + 1;
+
+	for (unsigned i = 0; i < repetitions; i++)
+		samples[i] = measure(thing, size, rounds);
+	qsort(samples, repetitions, sizeof samples[0], compare);
+	printf("%s %u median %.2f least %.2f most %.2f\n", thing->name, size,
+	       samples[repetitions / 2], samples[0], samples[repetitions - 1]);
+}
+
+static unsigned long long number_up_to(const char *word, unsigned long long most)
+{
+	char *end;
+	unsigned long long number = strtoull(word, &end, 10);
+
+	if (*word == '\0' || *end != '\0' || number < 1 || number > most)
+		fail("usage: peers ROUNDS REPETITIONS MOST");
+	return number;
+}
+
+int main(int count, char **words)
+{
+	uint64_t rounds;
+	unsigned repetitions;
+	unsigned most;
+
+	if (count != 4)
+		fail("usage: peers ROUNDS REPETITIONS MOST");
+	rounds = number_up_to(words[1], 1ull << 54);
+	repetitions = (unsigned)number_up_to(words[2], MOST_REPETITIONS);
+	most = (unsigned)number_up_to(words[3], MOST_THREADS);
+	for (unsigned i = 0; i < sizeof things / sizeof things[0]; i++)
+		for (unsigned size = 1; size <= most; size *= 2)
+			report(things[i], size, rounds, repetitions);
+	return 0;
+}

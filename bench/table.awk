@@ -1,0 +1,76 @@
+# Makes the table of the samples: lines `ROUND NAME SIZE median NS least NS most NS`.
+# For each thing and size: the median of the rounds with the least and the most, and the same of its ratio to the model
+# in the same round.
+
+function sort_rounds(values, count,    i, j, value) {
+    for (i = 2; i <= count; i++) {
+        value = values[i]
+        for (j = i - 1; j >= 1 && values[j] > value; j--)
+            values[j + 1] = values[j]
+        values[j + 1] = value
+    }
+}
+
+function spread(values, count) {
+    sort_rounds(values, count)
+    return sprintf("%8.2f  (%.2f to %.2f)", values[int((count + 1) / 2)], values[1], values[count])
+}
+
+# The spread of one thing's nanoseconds divided by those of another thing, or of 1 where there is none.
+function ratios(name, size, base, base_size,    values, round, count, divisor) {
+    count = 0
+    for (round = 1; round <= rounds; round++) {
+        divisor = base == "" ? 1 : ns[round, base, base_size]
+        if ((round, name, size) in ns && divisor > 0)
+            values[++count] = ns[round, name, size] / divisor
+    }
+    return count == 0 ? "" : spread(values, count)
+}
+
+function row(label, name, size, base) {
+    if ((1, name, size) in ns)
+        printf "%-44s %-28s %s\n", label, ratios(name, size, ""), ratios(name, size, base, size)
+}
+
+function threads(size) {
+    return size == 1 ? "1 thread" : size " threads"
+}
+
+function pair_rows(size) {
+    row("this domain, " threads(size), "srcubench", size, "model")
+    row("(a) C11 model of it, " threads(size), "model", size, "model")
+    row("(a) with what a Cpu keeps, " threads(size), "keeping-model", size, "model")
+    row("(b) pthread_rwlock, " threads(size), "rwlock", size, "model")
+    row("(c) one shared atomic counter, " threads(size), "counter", size, "model")
+    row("(d) liburcu mb, " threads(size), "urcu-mb", size, "model")
+    row("(d) liburcu memb, " threads(size), "urcu-memb", size, "model")
+}
+
+function growth_row(label, name) {
+    if ((1, name, 2) in ns)
+        printf "%-44s %s\n", label, ratios(name, 2, name, 1)
+}
+
+{
+    ns[$1, $2, $3] = $5
+    if ($1 > rounds)
+        rounds = $1
+    if ($3 > most)
+        most = $3
+}
+
+END {
+    printf "%d rounds; ns of wall time: median of the rounds (least to most); ratios within one round\n\n", rounds
+    printf "%-44s %-28s %s\n", "one pair of lock and unlock", "      ns", "ratio to (a)"
+    for (size = 1; size <= most; size *= 2)
+        pair_rows(size)
+    print ""
+    printf "%-44s %-28s %s\n", "one quiet grace period", "      ns", "ratio to the model"
+    for (size = 1; size <= most; size *= 2)
+        row("C11 model, " size (size == 1 ? " processor" : " processors"), "model-quiet-period", size, "model-quiet-period")
+    print ""
+    printf "%-44s %s\n", "a pair at 2 threads against one at 1", "   ratio"
+    growth_row("this domain", "srcubench")
+    growth_row("(a) C11 model of it", "model")
+}
+

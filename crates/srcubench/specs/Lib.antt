@@ -1,0 +1,5 @@
+pub use Rattle.sections.specs.Calls
+pub mod Jobs
+pub mod Pairs
+pub mod Readers
+pub mod Spreads

@@ -1,0 +1,79 @@
+//! `srcubench` measures what a pair of `read_lock` and `read_unlock` costs, on one processor and on several at once.
+#![tactic(auto)]
+
+ghost use Rattle.std.specs.Prelude.{◌≤◌};
+
+mod command_line;
+mod pairs;
+mod spread;
+#[cfg(test)]
+mod tests;
+mod trial;
+
+use anyhow::Result;
+use command_line::{Job, job_of};
+use sections::MOST_PROCESSORS;
+use spread::Spread;
+use std::env;
+use std::process::ExitCode;
+use std::rt::Env;
+use std::thread::Threads;
+use std::time::Clock;
+
+/// The numbers of threads to measure with, as far as a domain may have so many processors.
+const THREADS: [usize; 3] = [1, 2, 4];
+
+/// How many pairs each thread makes where they are only counted.
+const COUNTED_PAIRS: u64 = 1_000;
+
+/// The status of a run whose command line can't be read.
+const MISUSED: u8 = 2;
+
+/// Prints how many pairs were made, which is the same on every machine.
+fn count<R: Threads + Sync + Clock + Print + AllocGlobal>(rt: &R) -> Result<()> {
+    for threads in THREADS {
+        if threads <= MOST_PROCESSORS {
+            let trial = trial::run(rt, threads, COUNTED_PAIRS)?;
+            for (thread, reader) in trial.readers.iter().enumerate() {
+                println!(rt; "thread {thread} of {threads}: {} pairs", reader.made)?;
+            }
+        }
+    }
+    Ok(())
+}
+
+/// Prints for each number of threads what one pair took, in nanoseconds.
+fn time<R: Threads + Sync + Clock + Print + AllocGlobal>(
+    rt: &R,
+    pairs: u64,
+    repetitions: u64,
+) -> Result<()>
+    requires pairs { 1 ≤ pairs }
+    requires repetitions { 1 ≤ repetitions }
+{
+    for threads in THREADS {
+        if threads <= MOST_PROCESSORS {
+            let samples = trial::samples(rt, threads, pairs, repetitions)?;
+            println!(rt; "srcubench {threads} {}", Spread::of(samples)?)?;
+        }
+    }
+    Ok(())
+}
+
+/// Does what the words of the command line ask for.
+fn act<R: Threads + Sync + Clock + Env + Print + Eprint + AllocGlobal>(rt: &R) -> Result<ExitCode> {
+    let words: Vec<String> = env::args(rt)?.skip(1).collect(rt.alloc())?;
+    match job_of(words.as_slice()) {
+        Some(Job::Count) => count(rt)?,
+        Some(Job::Time { pairs, repetitions }) => time(rt, pairs, repetitions)?,
+        None => {
+            eprintln!(rt; "usage: srcubench [PAIRS REPETITIONS]")?;
+            return Ok(ExitCode::from(MISUSED));
+        }
+    }
+    Ok(ExitCode::SUCCESS)
+}
+
+fn main(rt: HostRuntime) -> Result<ExitCode> {
+    act(&rt)
+}

@@ -1,0 +1,89 @@
+use crate::command_line::{Job, job_of};
+use crate::pairs::make_pairs;
+use crate::spread::Spread;
+use crate::trial;
+use sections::{Limits, Made, make};
+use std::test::Fail;
+
+/// Would catch words that are read as another job, and numbers out of their ranges.
+#[test]
+fn reads_the_command_line(rt: HostRuntime) -> Result<(), Fail> {
+    let time = |pairs, repetitions| Some(Job::Time { pairs, repetitions });
+    for (line, job) in [
+        ("", Some(Job::Count)),
+        ("5 3", time(5, 3)),
+        (
+            "18014398509481984 1000",
+            time(18_014_398_509_481_984, 1_000),
+        ),
+        ("18014398509481985 1", None),
+        ("1 1001", None),
+        ("0 3", None),
+        ("5 0", None),
+        ("5", None),
+        ("5 3 1", None),
+        ("five 3", None),
+    ] {
+        let mut words = Vec::new(rt.alloc());
+        for word in line.split_whitespace() {
+            words.push(word.to_string(rt.alloc())?)?;
+        }
+        assert_eq!(rt; job_of(words.as_slice()), job, "at {line}");
+    }
+    Ok(())
+}
+
+/// Would catch a loop that counts a pair that was refused, and one that gives up without being refused.
+#[test]
+fn stops_where_no_more_sections_may_begin(rt: HostRuntime) -> Result<(), Fail> {
+    let limits = Limits {
+        sections: 5,
+        periods: 1,
+        cells: 0,
+    };
+    let Made {
+        mut cpus,
+        engine: _,
+    } = make(rt.alloc(), 1, limits)?;
+    let mut cpu = cpus.pop().unwrap();
+    for made in [2, 2, 1, 0] {
+        assert_eq!(rt; make_pairs(&mut cpu, 2), made);
+        assert_eq!(rt; cpu.open_here(), 0);
+    }
+    Ok(())
+}
+
+/// Would catch a trial that leaves a thread out, and want of memory where there is some.
+#[test]
+fn tries_two_threads(rt: HostRuntime) -> Result<(), Fail> {
+    let trial = trial::run(&rt, 2, 1_000)?;
+    assert_eq!(rt; trial.readers.len(), 2);
+    for (processor, reader) in (0u16..).zip(trial.readers.iter()) {
+        assert_eq!(rt; (reader.cpu.processor(), reader.made), (processor, 1_000));
+    }
+    assert_eq!(rt; trial::samples(&rt, 2, 10, 3)?.len(), 3);
+    Ok(())
+}
+
+/// Would catch another sample in the middle, and numbers that are printed with one digit too few.
+#[test]
+fn prints_a_spread(rt: HostRuntime) -> Result<(), Fail> {
+    for (samples, text) in [
+        (
+            vec![in rt.alloc(); 1_507]?,
+            "median 15.07 least 15.07 most 15.07",
+        ),
+        (
+            vec![in rt.alloc(); 900, 5, 1_230]?,
+            "median 9.00 least 0.05 most 12.30",
+        ),
+        (
+            vec![in rt.alloc(); 4, 1, 3, 2]?,
+            "median 0.03 least 0.01 most 0.04",
+        ),
+    ] {
+        let spread = Spread::of(samples)?;
+        assert_eq!(rt; format!(in rt.alloc(); "{spread}")?.as_str(), text);
+    }
+    Ok(())
+}
