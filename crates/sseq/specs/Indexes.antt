@@ -11,6 +11,10 @@ index_number One = 1
 abbrev pub low_bit : ℕ → Index
 low_bit word = if word % 2 == 0 then Zero else One
 
+abbrev pub other_index : Index → Index
+other_index Zero = One
+other_index One = Zero
+
 abbrev pub same_index : Index → Index → Bool
 same_index Zero Zero = true
 same_index Zero One = false

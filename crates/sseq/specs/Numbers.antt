@@ -1,5 +1,5 @@
 -- The number of a domain: four times the count of its ended grace periods, and the state of the running one in the low two bits.
-use Rattle.std.specs.Prelude.{ℕ, ◌+◌, ◌*◌, ◌%◌, ◌^◌, ◌≤◌, List, codes}
+use Rattle.std.specs.Prelude.{ℕ, ◌+◌, ◌*◌, ◌/◌, ◌%◌, ◌^◌, ◌≤◌, ◌==◌, if◌then◌else◌, List, codes}
 use Rattle.sseq.specs.declared.number.Phase.{Phase}
 use Rattle.sseq.specs.declared.number.Phase.TheVariants.{Idle, Scan1, Scan2}
 
@@ -17,6 +17,14 @@ state_bits Scan2 = 2
 -- the number of a domain in which so many periods have ended
 abbrev pub number_at : ℕ → Phase → ℕ
 number_at ended phase = 4 * ended + state_bits phase
+
+-- how many grace periods have ended, of a domain with this number
+abbrev pub periods_ended : ℕ → ℕ
+periods_ended n = n / 4
+
+-- the number at which the first grace period has ended that is still to start: at rest the next one, and while a period runs the one behind it
+abbrev pub cookie_at : ℕ → ℕ
+cookie_at n = 4 * (periods_ended n + (if n % 4 == 0 then 1 else 2))
 
 -- as a state is printed
 abbrev pub phase_text : Phase → List ℕ

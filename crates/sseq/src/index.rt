@@ -1,6 +1,6 @@
 //! The index of a section.
 ghost use Rattle.std.specs.Prelude.{◌≡◌};
-ghost use Rattle.sseq.specs.Indexes.{index_number, low_bit};
+ghost use Rattle.sseq.specs.Indexes.{index_number, low_bit, other_index};
 
 use std::fmt;
 
@@ -20,6 +20,16 @@ impl Index {
             Index::Zero
         } else {
             Index::One
+        }
+    }
+
+    /// The one of the two that this is not.
+    pub fn other(self) -> Index
+        ensures { result ≡ other_index self }
+    {
+        match self {
+            Index::Zero => Index::One,
+            Index::One => Index::Zero,
         }
     }
 

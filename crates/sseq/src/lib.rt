@@ -2,9 +2,11 @@
 #![tactic(auto)]
 
 mod index;
+mod needs;
 mod number;
 #[cfg(test)]
 mod tests;
 
 pub use index::Index;
-pub use number::{Number, Phase, state};
+pub use needs::Needs;
+pub use number::{Number, Phase, completed, is_done, snap, state};

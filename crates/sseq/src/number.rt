@@ -1,6 +1,6 @@
 //! The number of a domain (`srcu_gp_seq`): how many grace periods have ended, and where the running one stands.
-ghost use Rattle.std.specs.Prelude.{◌≡◌, ◌+◌, ◌%◌, ◌^◌, ◌<◌, SomeIff};
-ghost use Rattle.sseq.specs.Numbers.{IsNumber, state_bits};
+ghost use Rattle.std.specs.Prelude.{◌≡◌, ◌+◌, ◌*◌, ◌/◌, ◌%◌, ◌^◌, ◌<◌, ◌≤◌, ◌↔◌, SomeIff, IsTrue};
+ghost use Rattle.sseq.specs.Numbers.{IsNumber, state_bits, periods_ended, cookie_at};
 
 use std::fmt;
 use std::marker::Model;
@@ -65,6 +65,27 @@ impl Number {
             value: self.value + 1,
         }
     }
+
+    /// The number once the second scan has begun: one more.
+    pub fn flipped(self) -> Number
+        requires { self % 4 ≡ 1 }
+        ensures { result ≡ self + 1 }
+    {
+        Number {
+            value: self.value + 1,
+        }
+    }
+
+    /// The number once the grace period has ended (`rcu_seq_end`): the next multiple of four.
+    pub fn finished(self) -> Number
+        requires scanned { self % 4 ≡ 2 }
+        requires room { self < 2 ^ 61 }
+        ensures { result ≡ self + 2 }
+    {
+        Number {
+            value: self.value + 2,
+        }
+    }
 }
 
 impl fmt::Debug for Number {
@@ -120,4 +141,30 @@ pub fn state(number: Number) -> Phase
         2 => Phase::Scan2,
         _ => unreachable!(),
     }
+}
+
+/// How many grace periods have ended (`rcu_seq_ctr`).
+pub fn completed(number: Number) -> u64
+    ensures { result ≡ periods_ended number }
+{
+    number.value / 4
+}
+
+/// The cookie of a number (`rcu_seq_snap`): the number at which a grace period has ended that starts only after this.
+/// At rest that is the next period, and while one runs the one behind it, since the running one may have begun too
+/// early. The number is at most 2^61 - 4.
+pub fn snap(number: Number) -> u64
+    requires { number + 4 ≤ 2 ^ 61 }
+    ensures meaning { result ≡ cookie_at number }
+    ensures formula { result ≡ 4 * ((number + 7) / 4) }
+{
+    (number.value + 7) / 4 * 4
+}
+
+/// Whether a cookie is done (`rcu_seq_done`): the number has reached it. Numbers do not wrap here, so they are
+/// compared as they are.
+pub fn is_done(number: Number, cookie: u64) -> bool
+    ensures { IsTrue result ↔ (cookie ≤ number) }
+{
+    number.value >= cookie
 }
