@@ -3,7 +3,7 @@ use Rattle.std.proofs.Common.{◌≡◌, ℕ, ◌≤◌, ◌⊎◌, inl, inr, �
 use Rattle.std.proofs.lemmas.List.Elements.{filter-append, All-weaker}
 use Rattle.onedom.specs.declared.event.Maker.{Maker}
 use Rattle.onedom.specs.declared.event.Event.{Event}
-use Rattle.onedom.specs.Histories.{begins, ends, begins_of, ends_of, is_start, starts_in, IsLegal, maker_of, same_maker, made_by, IsBeginning}
+use Rattle.onedom.specs.Histories.{begins, ends, begins_of, ends_of, is_start, starts_in, is_finish, ended_in, IsLegal, maker_of, same_maker, made_by, IsBeginning}
 use Rattle.onedom.proofs.Pushes.{count_append, legal_after_append}
 
 pub beginning_refl : (history : List Event) → IsBeginning history history
@@ -38,6 +38,9 @@ ends_grow s h = count_grows (ends s) h
 
 pub starts_grow : {seen history : List Event} → IsBeginning seen history → starts_in seen ≤ starts_in history
 starts_grow h = count_grows is_start h
+
+pub ended_grow : {seen history : List Event} → IsBeginning seen history → ended_in seen ≤ ended_in history
+ended_grow h = count_grows is_finish h
 
 pub length_grows : {seen history : List Event} → IsBeginning seen history → length seen ≤ length history
 length_grows {seen = seen} h = let a : length seen ≤ length (seen ++ h.rest) = omega (arith, length-append seen h.rest) in subst (λ (l : List Event). length seen ≤ length l) (sym h.whole) a

@@ -1,10 +1,10 @@
 -- The laws of legal histories.
-use Rattle.std.proofs.Common.{◌≡◌, ℕ, ◌<◌, ◌≤◌, List, [], ◌∷◌, ◌++◌, refl, sym, ap, subst, append_assoc, append-nil, arith}
+use Rattle.std.proofs.Common.{◌≡◌, List, [], ◌∷◌, ◌++◌, refl, sym, ap, subst, append_assoc, append-nil, arith}
 use Rattle.onedom.specs.declared.event.Event.{Event}
-use Rattle.onedom.specs.declared.event.Event.TheVariants.{Begin, End, Start}
-use Rattle.onedom.specs.Histories.{begins, ends, starts_in, MayFollow, IsLegalAfter, IsLegal}
-use Rattle.onedom.specs.Laws.{EachMayFollow, OneMore, BeginningsAreLegal, OpenHasOneBegin, OnlyOpenEnds, ClosedForGood, OpenAreListed, OnePeriodRuns}
-use Rattle.onedom.proofs.Pushes.{count_append, starts_in_push, along, legal_push, well_used}
+use Rattle.onedom.specs.declared.event.Event.TheVariants.{End}
+use Rattle.onedom.specs.Histories.{begins, ends, MayFollow, IsLegalAfter, IsLegal}
+use Rattle.onedom.specs.Laws.{EachMayFollow, OneMore, BeginningsAreLegal, OpenHasOneBegin, OnlyOpenEnds, ClosedForGood, OpenAreListed}
+use Rattle.onedom.proofs.Pushes.{count_append, legal_push, well_used}
 use Rattle.onedom.proofs.Beginnings.{legal_beginning, beginning_append}
 use Rattle.onedom.proofs.Opens.{open_once, open_there, times_open_once}
 use Rattle.onedom.proofs.Refused.{legal_split}
@@ -49,14 +49,3 @@ open_are_listed history s legal = (
   ((λ some. open_there s history some), (λ is_open. let one = open_once s history legal is_open in omega (arith, one))),
   times_open_once s history legal,
 )
-
-period_step : (history : List Event) (e : Event) → IsLegal history → MayFollow history e → starts_in history ≤ 1 → starts_in (history ++ e ∷ []) ≤ 1
-period_step history (Begin s p i by) legal may one = let c = starts_in_push history (Begin s p i by) in omega (arith, c, one)
-period_step history (End s q by) legal may one = let c = starts_in_push history (End s q by) in omega (arith, c, one)
-period_step history (Start by) legal may one = let c = starts_in_push history (Start by) in let none : starts_in history ≤ 0 = none_above (starts_in history) may in omega (arith, c, none)
-  where
-    none_above : (n : ℕ) → ¬ (0 < n) → n ≤ 0
-    none_above n never = omega arith
-
-pub one_period_runs : OnePeriodRuns
-one_period_runs history legal = along (λ h. starts_in h ≤ 1) (omega arith) period_step history legal

@@ -1,13 +1,14 @@
 -- The open sections of a history with one more event.
-use Rattle.std.proofs.Common.{◌≡◌, ℕ, suc, ◌+◌, ◌<◌, ◌≤◌, ◌≢◌, Bool, true, false, not, cond, ◌&&◌, ◌==◌, eqb, List, [], ◌∷◌, ◌++◌, length, filter, filter_map, refl, sym, ap, ◌∙◌, eq-eqb, ne_eqb, append-nil, length-append, arith}
+use Rattle.std.proofs.Common.{◌≡◌, ℕ, suc, ◌+◌, ◌<◌, ◌≤◌, ◌≢◌, Bool, true, false, not, cond, ◌&&◌, ◌==◌, eqb, List, [], ◌∷◌, ◌++◌, None, length, filter, filter_map, refl, sym, ap, ◌∙◌, eq-eqb, ne_eqb, append-nil, length-append, arith}
+use Rattle.std.specs.List.{cons_option}
 use Rattle.std.proofs.lemmas.List.Elements.{filter_agree, filter_map-append}
 use mathlib.Core.Logic.{dite}
 use native.Mathlib.Decide.{ℕ_discrete}
 use Rattle.sseq.specs.declared.index.Index.{Index}
 use Rattle.onedom.specs.declared.event.Maker.{Maker}
 use Rattle.onedom.specs.declared.event.Event.{Event}
-use Rattle.onedom.specs.declared.event.Event.TheVariants.{Begin, End, Start}
-use Rattle.onedom.specs.Histories.{begins, begins_of, ends_of, IsOpen, made_by, section_begun, open_sections, IsLegal}
+use Rattle.onedom.specs.declared.event.Event.TheVariants.{Begin, End, Start, Finish, Note, Ask}
+use Rattle.onedom.specs.Histories.{begins, ends, begins_of, ends_of, IsOpen, made_by, section_begun, open_sections, IsLegal}
 use Rattle.onedom.specs.Laws.{times}
 use Rattle.onedom.proofs.Pushes.{bit, count_cons, let_in, begins_of_made, ends_of_made, no_ends, ends_of_push, well_used}
 
@@ -69,6 +70,9 @@ times_begun s [] = refl
 times_begun s (Begin t p i by ∷ es) = let r = times_begun s es in let c = times_cons s t (begun_sections es) in let d = count_cons (begins s) (Begin t p i by) es in omega (arith, r, c, d)
 times_begun s (End t q by ∷ es) = let r = times_begun s es in let d = count_cons (begins s) (End t q by) es in omega (arith, r, d)
 times_begun s (Start by ∷ es) = let r = times_begun s es in let d = count_cons (begins s) (Start by) es in omega (arith, r, d)
+times_begun s (Finish by ∷ es) = let r = times_begun s es in let d = count_cons (begins s) (Finish by) es in omega (arith, r, d)
+times_begun s (Note cookie by ∷ es) = let r = times_begun s es in let d = count_cons (begins s) (Note cookie by) es in omega (arith, r, d)
+times_begun s (Ask cookie done by ∷ es) = let r = times_begun s es in let d = count_cons (begins s) (Ask cookie done by) es in omega (arith, r, d)
 
 -- a section that has not ended stands among the open ones as often as it was begun
 pub times_open : (s : ℕ) (history : List Event) → ends_of s history ≡ 0 → times s (open_sections history) ≡ begins_of s history
@@ -94,12 +98,16 @@ open_sections_begun history s p i by none = ap (filter (unended (history ++ Begi
     same : (t : ℕ) → ends_of t (history ++ Begin s p i by ∷ []) ≡ ends_of t history
     same t = let c = ends_of_push t history (Begin s p i by) in omega (arith, c)
 
-pub open_sections_started : (history : List Event) (by : Maker) → open_sections (history ++ Start by ∷ []) ≡ open_sections history
-open_sections_started history by = ap (filter (unended (history ++ Start by ∷ []))) (filter_map-append section_begun history (Start by ∷ []) ∙ append-nil (begun_sections history))
-    ∙ filter_agree (unended (history ++ Start by ∷ [])) (unended history) (λ t. ap (λ n. n == 0) (same t)) (begun_sections history)
+-- an event that neither begins nor ends a section
+pub open_sections_plain : (history : List Event) (e : Event) → section_begun e ≡ None → ((s : ℕ) → ends s e ≡ false) → open_sections (history ++ e ∷ []) ≡ open_sections history
+open_sections_plain history e none other = ap (filter (unended (history ++ e ∷ []))) (filter_map-append section_begun history (e ∷ []) ∙ (ap (λ o. begun_sections history ++ cons_option o []) none ∙ append-nil (begun_sections history)))
+    ∙ filter_agree (unended (history ++ e ∷ [])) (unended history) (λ t. ap (λ n. n == 0) (same t)) (begun_sections history)
   where
-    same : (t : ℕ) → ends_of t (history ++ Start by ∷ []) ≡ ends_of t history
-    same t = let c = ends_of_push t history (Start by) in omega (arith, c)
+    same : (t : ℕ) → ends_of t (history ++ e ∷ []) ≡ ends_of t history
+    same t = let c = ends_of_push t history e in let z : bit (ends t e) ≡ 0 = ap bit (other t) in omega (arith, c, z)
+
+pub open_sections_started : (history : List Event) (by : Maker) → open_sections (history ++ Start by ∷ []) ≡ open_sections history
+open_sections_started history by = open_sections_plain history (Start by) refl (λ s. refl)
 
 -- a section that ends: the others are left
 pub open_sections_ended : (history : List Event) (s q : ℕ) (by : Maker) → open_sections (history ++ End s q by ∷ []) ≡ filter (λ u. not (eqb u s)) (open_sections history)
@@ -132,8 +140,11 @@ fewer_open history s q by = let a = ap length (open_sections_ended history s q b
 pub one_less_open : (history : List Event) (s q : ℕ) (by : Maker) → times s (open_sections history) ≡ 1 → length (open_sections (history ++ End s q by ∷ [])) + 1 ≡ length (open_sections history)
 one_less_open history s q by one = let a = fewer_open history s q by in omega (arith, a, one)
 
+pub same_open_plain : (history : List Event) (e : Event) → section_begun e ≡ None → ((s : ℕ) → ends s e ≡ false) → length (open_sections (history ++ e ∷ [])) ≡ length (open_sections history)
+same_open_plain history e none other = ap length (open_sections_plain history e none other)
+
 pub same_open : (history : List Event) (by : Maker) → length (open_sections (history ++ Start by ∷ [])) ≡ length (open_sections history)
-same_open history by = ap length (open_sections_started history by)
+same_open history by = same_open_plain history (Start by) refl (λ s. refl)
 
 -- Legal histories
 

@@ -9,8 +9,8 @@ use Rattle.sseq.specs.declared.index.Index.TheVariants.{Zero}
 use Rattle.onedom.specs.declared.event.Maker.{Maker}
 use Rattle.onedom.specs.declared.event.Maker.TheVariants.{Processor, Engine}
 use Rattle.onedom.specs.declared.event.Event.{Event}
-use Rattle.onedom.specs.declared.event.Event.TheVariants.{Begin, End, Start}
-use Rattle.onedom.specs.Histories.{begins, ends, begins_of, ends_of, IsOpen, index_after, index_of, is_start, starts_in, MayFollow, IsLegalAfter, IsLegal, maker_of, same_maker, made_by}
+use Rattle.onedom.specs.declared.event.Event.TheVariants.{Begin, End, Start, Finish, Note, Ask}
+use Rattle.onedom.specs.Histories.{begins, ends, begins_of, ends_of, IsOpen, index_after, index_of, is_start, starts_in, is_finish, ended_in, MayFollow, IsLegalAfter, IsLegal, maker_of, same_maker, made_by}
 
 -- 1 for `true`, 0 for `false`
 abbrev pub bit : Bool → ℕ
@@ -41,6 +41,9 @@ ends_of_push s history e = count_push (ends s) history e
 
 pub starts_in_push : (history : List Event) (e : Event) → starts_in (history ++ e ∷ []) ≡ starts_in history + bit (is_start e)
 starts_in_push history e = count_push is_start history e
+
+pub ended_in_push : (history : List Event) (e : Event) → ended_in (history ++ e ∷ []) ≡ ended_in history + bit (is_finish e)
+ended_in_push history e = count_push is_finish history e
 
 -- a filter takes away from a count
 filtered_case : (p : Event → Bool) (e : Event) (es fs : List Event) (b : Bool) → count_by p fs ≤ count_by p es → count_by p (cond b (e ∷ fs) fs) ≤ count_by p (e ∷ es)
@@ -124,6 +127,9 @@ pub index_after_kept : (s : ℕ) (k : Index) (e : Event) → begins s e ≡ fals
 index_after_kept s k (Begin t p i by) miss = ap (λ b. cond b i k) miss
 index_after_kept s k (End t q by) miss = refl
 index_after_kept s k (Start by) miss = refl
+index_after_kept s k (Finish by) miss = refl
+index_after_kept s k (Note cookie by) miss = refl
+index_after_kept s k (Ask cookie done by) miss = refl
 
 -- any other section
 pub index_of_kept : (s : ℕ) (history : List Event) (e : Event) → begins s e ≡ false → index_of s (history ++ e ∷ []) ≡ index_of s history
@@ -188,6 +194,12 @@ used_well s history (End t q by) legal may w = let c = begins_of_push s history 
     (λ n. let zero : bit (eqb t s) ≡ 0 = ap bit (ne_eqb t s n) in record { once = omega (arith, c, a); ended_after = omega (arith, c, d, zero, b) })
 used_well s history (Start by) legal may w = let c = begins_of_push s history (Start by) in let d = ends_of_push s history (Start by) in let a = w.once in let b = w.ended_after in
     record { once = omega (arith, c, a); ended_after = omega (arith, c, d, b) }
+used_well s history (Finish by) legal may w = let c = begins_of_push s history (Finish by) in let d = ends_of_push s history (Finish by) in let a = w.once in let b = w.ended_after in
+    record { once = omega (arith, c, a); ended_after = omega (arith, c, d, b) }
+used_well s history (Note cookie by) legal may w = let c = begins_of_push s history (Note cookie by) in let d = ends_of_push s history (Note cookie by) in let a = w.once in let b = w.ended_after in
+    record { once = omega (arith, c, a); ended_after = omega (arith, c, d, b) }
+used_well s history (Ask cookie done by) legal may w = let c = begins_of_push s history (Ask cookie done by) in let d = ends_of_push s history (Ask cookie done by) in let a = w.once in let b = w.ended_after in
+    record { once = omega (arith, c, a); ended_after = omega (arith, c, d, b) }
 
 pub well_used : (s : ℕ) (history : List Event) → IsLegal history → WellUsed s history
 well_used s history legal = along (λ h. WellUsed s h) (record { once = omega arith; ended_after = omega arith }) (used_well s) history legal
@@ -196,11 +208,18 @@ well_used s history legal = along (λ h. WellUsed s h) (record { once = omega ar
 pub no_ends : (s : ℕ) (history : List Event) → IsLegal history → begins_of s history ≡ 0 → ends_of s history ≡ 0
 no_ends s history legal unbegun = let w = (well_used s history legal).ended_after in omega (arith, w, unbegun)
 
--- an open section is not begun again
+-- a section that was begun is not begun again
+pub begun_once : (s : ℕ) (history : List Event) (e : Event) → MayFollow history e → 0 < begins_of s history → begins s e ≡ false
+begun_once s history (Begin t p i by) may begun = ne_eqb t s (λ (y : t ≡ s). let none : begins_of s history ≡ 0 = (λ k. begins_of (sym y k) history) ∙ may in absurd (omega (arith, none, begun)))
+begun_once s history (End t q by) may begun = refl
+begun_once s history (Start by) may begun = refl
+begun_once s history (Finish by) may begun = refl
+begun_once s history (Note cookie by) may begun = refl
+begun_once s history (Ask cookie done by) may begun = refl
+
+-- an open section neither
 pub not_again : (s : ℕ) (history : List Event) (e : Event) → MayFollow history e → IsOpen history s → begins s e ≡ false
-not_again s history (Begin t p i by) may is_open = ne_eqb t s (λ (y : t ≡ s). let none : begins_of s history ≡ 0 = (λ k. begins_of (sym y k) history) ∙ may in let some = is_open.0 in absurd (omega (arith, none, some)))
-not_again s history (End t q by) may is_open = refl
-not_again s history (Start by) may is_open = refl
+not_again s history e may is_open = begun_once s history e may is_open.0
 
 -- and stays open until its End
 pub open_stays : (s : ℕ) (history : List Event) (e : Event) → ends s e ≡ false → IsOpen history s → IsOpen (history ++ e ∷ []) s
@@ -231,6 +250,9 @@ bound (Begin t p i by ∷ es) = let r = bound es in (
 )
 bound (End t q by ∷ es) = let r = bound es in (r.0, record { above = λ s le. let c = count_cons (begins s) (End t q by) es in let z : begins_of s es ≡ 0 = r.1.above s le in omega (arith, c, z) })
 bound (Start by ∷ es) = let r = bound es in (r.0, record { above = λ s le. let c = count_cons (begins s) (Start by) es in let z : begins_of s es ≡ 0 = r.1.above s le in omega (arith, c, z) })
+bound (Finish by ∷ es) = let r = bound es in (r.0, record { above = λ s le. let c = count_cons (begins s) (Finish by) es in let z : begins_of s es ≡ 0 = r.1.above s le in omega (arith, c, z) })
+bound (Note cookie by ∷ es) = let r = bound es in (r.0, record { above = λ s le. let c = count_cons (begins s) (Note cookie by) es in let z : begins_of s es ≡ 0 = r.1.above s le in omega (arith, c, z) })
+bound (Ask cookie done by ∷ es) = let r = bound es in (r.0, record { above = λ s le. let c = count_cons (begins s) (Ask cookie done by) es in let z : begins_of s es ≡ 0 = r.1.above s le in omega (arith, c, z) })
 
 -- a number for a new section
 pub fresh : (history : List Event) → (s : ℕ) × (begins_of s history ≡ 0)

@@ -1,28 +1,72 @@
 -- What a refusal says, and the places of a legal history.
 use Rattle.std.proofs.Common.{◌≡◌, ℕ, suc, ◌+◌, ◌<◌, ◌≢◌, List, [], ◌∷◌, ◌++◌, length, get_or, take, drop, refl, sym, ap, ◌∙◌, subst, take-append-drop, drop-cons, arith}
 use Rattle.std.proofs.lemmas.List.{take_more}
+use Rattle.onedom.specs.declared.event.Maker.{Maker}
 use Rattle.onedom.specs.declared.event.Event.{Event}
-use Rattle.onedom.specs.declared.event.Event.TheVariants.{Begin, End, Start}
+use Rattle.onedom.specs.declared.event.Event.TheVariants.{Begin, End, Start, Finish, Note, Ask}
 use Rattle.onedom.specs.declared.illegal.Illegal.{Illegal}
-use Rattle.onedom.specs.declared.illegal.Illegal.TheVariants.{SectionUsed, NotOpen, PeriodRunning, Memory}
-use Rattle.onedom.specs.Histories.{MayFollow, IsLegal}
+use Rattle.onedom.specs.declared.illegal.Illegal.TheVariants.{SectionUsed, NotOpen, PeriodRunning, NoPeriod, StillOpen, WrongCookie, WrongPoll, Memory}
+use Rattle.onedom.specs.Histories.{IsOpen, IsRunning, WasOpenAtStart, MayFollow, IsLegal}
 use Rattle.onedom.specs.Refusals.{IsRefusal}
 use Rattle.onedom.proofs.Pushes.{legal_after_append, legal_push}
 
 -- an event that is refused for another cause than memory may not follow
 pub refused_illegal : (history : List Event) (e : Event) (cause : Illegal) → IsRefusal history e cause → cause ≢ Memory → ¬ MayFollow history e
+refused_illegal history e Memory r other may = other refl
 refused_illegal history (Begin s p i by) SectionUsed r other may = omega arith
 refused_illegal history (Begin s p i by) NotOpen r other may = r
 refused_illegal history (Begin s p i by) PeriodRunning r other may = r
-refused_illegal history (Begin s p i by) Memory r other may = other refl
+refused_illegal history (Begin s p i by) NoPeriod r other may = r
+refused_illegal history (Begin s p i by) StillOpen r other may = r
+refused_illegal history (Begin s p i by) WrongCookie r other may = r
+refused_illegal history (Begin s p i by) WrongPoll r other may = r
 refused_illegal history (End s q by) SectionUsed r other may = r
 refused_illegal history (End s q by) NotOpen r other may = r may
 refused_illegal history (End s q by) PeriodRunning r other may = r
-refused_illegal history (End s q by) Memory r other may = other refl
+refused_illegal history (End s q by) NoPeriod r other may = r
+refused_illegal history (End s q by) StillOpen r other may = r
+refused_illegal history (End s q by) WrongCookie r other may = r
+refused_illegal history (End s q by) WrongPoll r other may = r
 refused_illegal history (Start by) SectionUsed r other may = r
 refused_illegal history (Start by) NotOpen r other may = r
 refused_illegal history (Start by) PeriodRunning r other may = may r
-refused_illegal history (Start by) Memory r other may = other refl
+refused_illegal history (Start by) NoPeriod r other may = r
+refused_illegal history (Start by) StillOpen r other may = r
+refused_illegal history (Start by) WrongCookie r other may = r
+refused_illegal history (Start by) WrongPoll r other may = r
+refused_illegal history (Finish by) SectionUsed r other may = r
+refused_illegal history (Finish by) NotOpen r other may = r
+refused_illegal history (Finish by) PeriodRunning r other may = r
+refused_illegal history (Finish by) NoPeriod r other may = r may.0
+refused_illegal history (Finish by) StillOpen r other may = may.1 r.section r.was_open r.is_open
+refused_illegal history (Finish by) WrongCookie r other may = r
+refused_illegal history (Finish by) WrongPoll r other may = r
+refused_illegal history (Note cookie by) SectionUsed r other may = r
+refused_illegal history (Note cookie by) NotOpen r other may = r
+refused_illegal history (Note cookie by) PeriodRunning r other may = r
+refused_illegal history (Note cookie by) NoPeriod r other may = r
+refused_illegal history (Note cookie by) StillOpen r other may = r
+refused_illegal history (Note cookie by) WrongCookie r other may = r may
+refused_illegal history (Note cookie by) WrongPoll r other may = r
+refused_illegal history (Ask cookie done by) SectionUsed r other may = r
+refused_illegal history (Ask cookie done by) NotOpen r other may = r
+refused_illegal history (Ask cookie done by) PeriodRunning r other may = r
+refused_illegal history (Ask cookie done by) NoPeriod r other may = r
+refused_illegal history (Ask cookie done by) StillOpen r other may = r
+refused_illegal history (Ask cookie done by) WrongCookie r other may = r
+refused_illegal history (Ask cookie done by) WrongPoll r other may = r may
+
+-- an event that may follow is refused for want of memory alone
+pub memory_refused : (history : List Event) (e : Event) → MayFollow history e → IsRefusal history e Memory
+memory_refused history (Begin s p i by) may = may
+memory_refused history (End s q by) may = may
+memory_refused history (Start by) may = may
+memory_refused history (Finish by) may = may
+memory_refused history (Note cookie by) may = may
+memory_refused history (Ask cookie done by) may = may
+
+pub still_open_refused : (history : List Event) (by : Maker) → IsRunning history → (s : ℕ) × WasOpenAtStart history s × IsOpen history s → (IsRefusal history (Finish by) StillOpen) × (¬ MayFollow history (Finish by))
+still_open_refused history by running stuck = (record { running = running; section = stuck.0; was_open = stuck.1; is_open = stuck.2 }, (λ may. may.1 stuck.0 stuck.1 stuck.2))
 
 -- in a legal history each event may follow those before it
 pub legal_split : (before : List Event) (e : Event) (after : List Event) → IsLegal (before ++ e ∷ after) → MayFollow before e

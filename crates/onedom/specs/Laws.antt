@@ -1,9 +1,10 @@
 -- What holds of all legal histories. It follows from the definitions, and shows that they say what they should.
-use Rattle.std.specs.Prelude.{◌≡◌, ℕ, ◌+◌, ◌<◌, ◌≤◌, ◌==◌, ◌↔◌, List, [], ◌∷◌, ◌++◌, count_by}
+use Rattle.std.specs.Prelude.{◌≡◌, ℕ, ◌+◌, ◌<◌, ◌≤◌, ◌==◌, ◌↔◌, true, List, [], ◌∷◌, ◌++◌, count_by}
+use Rattle.sseq.specs.declared.index.Index.{Index}
 use Rattle.onedom.specs.declared.event.Maker.{Maker}
 use Rattle.onedom.specs.declared.event.Event.{Event}
-use Rattle.onedom.specs.declared.event.Event.TheVariants.{End}
-use Rattle.onedom.specs.Histories.{begins_of, ends_of, IsOpen, open_sections, starts_in, ended_in, MayFollow, IsLegal, IsBeginning}
+use Rattle.onedom.specs.declared.event.Event.TheVariants.{End, Finish, Note, Ask}
+use Rattle.onedom.specs.Histories.{begins_of, ends_of, IsOpen, open_sections, starts_in, ended_in, IsRunning, WasEmpty, MayFollow, IsLegal, IsBeginning}
 
 -- how often a number stands in a list
 abbrev pub times : ℕ → List ℕ → ℕ
@@ -40,4 +41,12 @@ OpenAreListed = (history : List Event) (s : ℕ) → IsLegal history → (0 < ti
 -- Grace periods
 
 abbrev pub OnePeriodRuns : Type 0
-OnePeriodRuns = (history : List Event) → IsLegal history → starts_in history ≤ ended_in history + 1
+OnePeriodRuns = (history : List Event) → IsLegal history → (ended_in history ≤ starts_in history) × (starts_in history ≤ ended_in history + 1)
+
+-- a grace period may end where, for each of the two indexes, no section of it was open at a moment since the start: the two moments need not be the same
+abbrev pub EmptyInTurnMayEnd : Type 0
+EmptyInTurnMayEnd = (history : List Event) (by : Maker) → IsLegal history → IsRunning history → ((i : Index) → WasEmpty i history) → MayFollow history (Finish by)
+
+-- The law of grace periods: where a cookie was given, and later somebody who asked after it, or after a greater one, was told that it is done, no section that was open when it was given is still open
+abbrev pub GracePeriodLaw : Type 0
+GracePeriodLaw = (before between after : List Event) (cookie asked : ℕ) (giver asker : Maker) → IsLegal (before ++ Note cookie giver ∷ between ++ Ask asked true asker ∷ after) → cookie ≤ asked → (s : ℕ) → IsOpen before s → ¬ IsOpen (before ++ Note cookie giver ∷ between) s

@@ -31,4 +31,20 @@ pub enum Event {
     Start {
         by: Maker,
     },
+    /// The grace period that runs ends (`rcu_seq_end`).
+    Finish {
+        by: Maker,
+    },
+    /// A cookie is given: the number that the domain has once a full grace period has gone by
+    /// (`get_state_synchronize_srcu`).
+    Note {
+        cookie: u64,
+        by: Maker,
+    },
+    /// Somebody asks whether a cookie is done, and is told (`poll_state_synchronize_srcu`).
+    Ask {
+        cookie: u64,
+        done: bool,
+        by: Maker,
+    },
 }

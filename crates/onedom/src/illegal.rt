@@ -11,6 +11,14 @@ pub enum Illegal {
     NotOpen = 2,
     /// A grace period runs, and there is one at a time.
     PeriodRunning = 3,
+    /// No grace period runs that could end.
+    NoPeriod = 4,
+    /// A section that was open when the grace period started is still open.
+    StillOpen = 5,
+    /// The cookie is not the one that is given now.
+    WrongCookie = 6,
+    /// The answer is not the one that the cookie gets now, or this is no cookie: not a multiple of four.
+    WrongPoll = 7,
     /// The event may follow, but there was no memory to keep it.
     Memory = 10,
 }
@@ -26,6 +34,10 @@ impl fmt::Display for Illegal {
             Illegal::SectionUsed => f.write_str("the section's number was used before"),
             Illegal::NotOpen => f.write_str("the section is not open"),
             Illegal::PeriodRunning => f.write_str("a grace period runs"),
+            Illegal::NoPeriod => f.write_str("no grace period runs"),
+            Illegal::StillOpen => f.write_str("a section that was open at the start is open"),
+            Illegal::WrongCookie => f.write_str("another cookie is given now"),
+            Illegal::WrongPoll => f.write_str("that is not the answer to this cookie"),
             Illegal::Memory => f.write_str("out of memory"),
         }
     }

@@ -1,5 +1,5 @@
 //! What follows from the definitions alone, for callers and readers: the calls do nothing.
-ghost use Rattle.onedom.specs.Laws.{EachMayFollow, OneMore, BeginningsAreLegal, OpenHasOneBegin, OnlyOpenEnds, ClosedForGood, OpenAreListed, OnePeriodRuns};
+ghost use Rattle.onedom.specs.Laws.{EachMayFollow, OneMore, BeginningsAreLegal, OpenHasOneBegin, OnlyOpenEnds, ClosedForGood, OpenAreListed, OnePeriodRuns, EmptyInTurnMayEnd, GracePeriodLaw};
 
 /// A history is legal just where each event may follow those before it, so each beginning of a legal history is legal.
 pub fn legality_of_histories()
@@ -17,7 +17,14 @@ pub fn sections_of_a_legal_history()
     ensures listed { OpenAreListed }
 {}
 
-/// In a legal history one grace period runs at most.
+/// In a legal history one grace period runs at most, and it may end where each of the two indexes was empty at a moment
+/// since its start.
 pub fn periods_of_a_legal_history()
-    ensures { OnePeriodRuns }
+    ensures one { OnePeriodRuns }
+    ensures may_end { EmptyInTurnMayEnd }
+{}
+
+/// The law of grace periods: once a cookie is done, no section that was open when it was given is still open.
+pub fn law_of_grace_periods()
+    ensures { GracePeriodLaw }
 {}

@@ -10,5 +10,8 @@ mod tests;
 
 pub use event::{Event, Maker};
 pub use illegal::Illegal;
-pub use laws::{legality_of_histories, periods_of_a_legal_history, sections_of_a_legal_history};
+pub use laws::{
+    law_of_grace_periods, legality_of_histories, periods_of_a_legal_history,
+    sections_of_a_legal_history,
+};
 pub use one_domain::{Memory, OneDomain, legal};

@@ -1,6 +1,6 @@
 //! A domain of one thread, which keeps its whole history and asks the definitions of it.
-ghost use Rattle.std.specs.Prelude.{◌≡◌, ◌<◌, ◌↔◌, [], ◌∷◌, ◌++◌, count_by, IfOk, IfErr, OnOk, OnErr, IsTrue};
-ghost use Rattle.onedom.specs.Histories.{begins, ends, is_start, begins_of, ends_of, starts_in, IsOpen, IsRunning, MayFollow, IsLegal};
+ghost use Rattle.std.specs.Prelude.{◌≡◌, ℕ, ◌*◌, ◌%◌, ◌<◌, ◌≤◌, ◌↔◌, [], ◌∷◌, ◌++◌, length, count_by, IfOk, IfErr, OnOk, OnErr, MatchOption, IsTrue};
+ghost use Rattle.onedom.specs.Histories.{begins, ends, is_start, is_finish, begins_of, ends_of, starts_in, ended_in, IsOpen, IsRunning, IsBeforeLastStart, WasOpenAtStart, cookie_after, IsDone, MayFollow, IsLegal};
 ghost use Rattle.onedom.specs.Refusals.{IsRefusal};
 
 use crate::event::Event;
@@ -88,6 +88,12 @@ fn may_follow(history: &[Event], event: Event) -> Result<(), Illegal>
         ),
         Event::End { section, .. } if !is_open(history, section) => Err(Illegal::NotOpen),
         Event::Start { .. } if is_running(history) => Err(Illegal::PeriodRunning),
+        Event::Finish { .. } if !is_running(history) => Err(Illegal::NoPeriod),
+        Event::Finish { .. } if is_still_open(history) => Err(Illegal::StillOpen),
+        Event::Note { cookie, .. } if !is_given_now(history, cookie) => Err(Illegal::WrongCookie),
+        Event::Ask { cookie, done, .. } if !is_answer(history, cookie, done) => Err(
+            Illegal::WrongPoll,
+        ),
         _ => Ok(()),
     }
 }
@@ -98,11 +104,55 @@ fn is_open(history: &[Event], section: u64) -> bool
     begins_of(history, section) > 0 && ends_of(history, section) == 0
 }
 
-// As long as no event ends a grace period, the first that starts runs for good.
 fn is_running(history: &[Event]) -> bool
     ensures { IsTrue result ↔ IsRunning history.now }
 {
-    starts_in(history) > 0
+    ended_in(history) < starts_in(history)
+}
+
+// Whether a section that was open when the last grace period started is open.
+fn is_still_open(history: &[Event]) -> bool
+    ensures { IsTrue result ↔ (s : ℕ) × WasOpenAtStart history.now s × IsOpen history.now s }
+{
+    let Some(before) = before_last_start(history) else {
+        return false;
+    };
+    for event in before {
+        if let Event::Begin { section, .. } = *event {
+            if is_open(before, section) && is_open(history, section) {
+                return true;
+            }
+        }
+    }
+    false
+}
+
+// The history up to its last start of a grace period, without that.
+fn before_last_start(history: &[Event]) -> Option<&[Event]>
+    ensures { MatchOption result (starts_in history.now ≡ 0) (λ before. IsBeforeLastStart before.now history.now) }
+{
+    let mut start = None;
+    for (i, event) in history.iter().enumerate() {
+        if is_start(*event) {
+            start = Some(i);
+        }
+    }
+    Some(&history[..start?])
+}
+
+// Whether this cookie is the one that is given now.
+fn is_given_now(history: &[Event], cookie: u64) -> bool
+    ensures { IsTrue result ↔ (cookie ≡ cookie_after history.now) }
+{
+    let periods = if is_running(history) { 2 } else { 1 };
+    cookie % 4 == 0 && cookie / 4 == ended_in(history) as u64 + periods
+}
+
+// Whether this is a cookie, and `done` the answer that it gets now.
+fn is_answer(history: &[Event], cookie: u64, done: bool) -> bool
+    ensures { IsTrue result ↔ (cookie % 4 ≡ 0) × (IsTrue done ↔ IsDone cookie history.now) }
+{
+    cookie % 4 == 0 && done == (cookie / 4 <= ended_in(history) as u64)
 }
 
 fn begins_of(history: &[Event], section: u64) -> usize
@@ -129,6 +179,13 @@ fn starts_in(history: &[Event]) -> usize
     history.iter().filter(|event| is_start(**event)).count()
 }
 
+fn ended_in(history: &[Event]) -> usize
+    ensures ended { result ≡ ended_in history.now }
+    ensures within { result ≤ length history.now }
+{
+    history.iter().filter(|event| is_finish(**event)).count()
+}
+
 fn begins(section: u64, event: Event) -> bool
     ensures { result ≡ begins section event }
 {
@@ -145,4 +202,10 @@ fn is_start(event: Event) -> bool
     ensures { result ≡ is_start event }
 {
     matches!(event, Event::Start { .. })
+}
+
+fn is_finish(event: Event) -> bool
+    ensures { result ≡ is_finish event }
+{
+    matches!(event, Event::Finish { .. })
 }

@@ -25,6 +25,20 @@ fn end(section: u64) -> Event {
 
 const START: Event = Event::Start { by: Maker::Engine };
 
+const FINISH: Event = Event::Finish { by: Maker::Engine };
+
+fn note(cookie: u64) -> Event {
+    Event::Note { cookie, by: READER }
+}
+
+fn ask(cookie: u64, done: bool) -> Event {
+    Event::Ask {
+        cookie,
+        done,
+        by: READER,
+    }
+}
+
 #[test]
 fn one_domain(rt: HostRuntime) -> Result<(), Fail> {
     let events = [begin(0), START, begin(1), end(0)];
@@ -42,6 +56,159 @@ fn one_domain(rt: HostRuntime) -> Result<(), Fail> {
     assert_eq!(rt; legal(rt.alloc(), &events), Ok(true));
     let too_many = [begin(0), START, begin(1), end(0), end(0)];
     assert_eq!(rt; legal(rt.alloc(), &too_many), Ok(false));
+    Ok(())
+}
+
+// A grace period from its cookie to its end, and the next one.
+#[test]
+fn whole_periods(rt: HostRuntime) -> Result<(), Fail> {
+    let events = [
+        begin(0),
+        note(4),
+        START,
+        ask(4, false),
+        note(8),
+        begin(1),
+        end(0),
+        FINISH,
+        ask(4, true),
+        ask(8, false),
+        START,
+        end(1),
+        FINISH,
+        ask(8, true),
+        note(12),
+    ];
+    let mut domain = OneDomain::new(rt.alloc());
+    for event in events {
+        assert_eq!(rt; domain.apply(event), Ok(()));
+    }
+    assert_eq!(rt; domain.history(), events.as_slice());
+    assert_eq!(rt; legal(rt.alloc(), &events), Ok(true));
+    Ok(())
+}
+
+// A grace period waits for each section that was open at its start, and for no other.
+#[test]
+fn periods_wait_for_sections(rt: HostRuntime) -> Result<(), Fail> {
+    let steps = [
+        (FINISH, Err(Illegal::NoPeriod)),
+        (begin(0), Ok(())),
+        (begin(1), Ok(())),
+        (START, Ok(())),
+        (begin(2), Ok(())),
+        (FINISH, Err(Illegal::StillOpen)),
+        (end(1), Ok(())),
+        (FINISH, Err(Illegal::StillOpen)),
+        (end(0), Ok(())),
+        (FINISH, Ok(())),
+        (FINISH, Err(Illegal::NoPeriod)),
+        (START, Ok(())),
+        (FINISH, Err(Illegal::StillOpen)),
+        (end(2), Ok(())),
+        (FINISH, Ok(())),
+    ];
+    let accepted = [
+        begin(0),
+        begin(1),
+        START,
+        begin(2),
+        end(1),
+        end(0),
+        FINISH,
+        START,
+        end(2),
+        FINISH,
+    ];
+    let mut domain = OneDomain::new(rt.alloc());
+    for (event, answer) in steps {
+        assert_eq!(rt; domain.apply(event), answer);
+    }
+    assert_eq!(rt; domain.history(), accepted.as_slice());
+
+    assert_eq!(rt; legal(rt.alloc(), &accepted), Ok(true));
+    assert_eq!(rt; legal(rt.alloc(), &[FINISH]), Ok(false));
+    assert_eq!(rt; legal(rt.alloc(), &[START, FINISH, FINISH]), Ok(false));
+    assert_eq!(rt; legal(rt.alloc(), &[begin(0), START, FINISH]), Ok(false));
+    assert_eq!(rt; legal(rt.alloc(), &[START, begin(0), FINISH]), Ok(true));
+    Ok(())
+}
+
+// A cookie is four times the count of ended periods with the next one, and with one more while a period runs.
+#[test]
+fn cookies_given(rt: HostRuntime) -> Result<(), Fail> {
+    let wrong = Err(Illegal::WrongCookie);
+    let steps = [
+        (note(0), wrong),
+        (note(5), wrong),
+        (note(8), wrong),
+        (note(4), Ok(())),
+        (START, Ok(())),
+        (note(4), wrong),
+        (note(9), wrong),
+        (note(12), wrong),
+        (note(8), Ok(())),
+        (FINISH, Ok(())),
+        (note(4), wrong),
+        (note(12), wrong),
+        (note(8), Ok(())),
+        (START, Ok(())),
+        (note(8), wrong),
+        (note(12), Ok(())),
+        (note(u64::MAX), wrong),
+    ];
+    let accepted = [note(4), START, note(8), FINISH, note(8), START, note(12)];
+    let mut domain = OneDomain::new(rt.alloc());
+    for (event, answer) in steps {
+        assert_eq!(rt; domain.apply(event), answer);
+    }
+    assert_eq!(rt; domain.history(), accepted.as_slice());
+
+    assert_eq!(rt; legal(rt.alloc(), &accepted), Ok(true));
+    assert_eq!(rt; legal(rt.alloc(), &[note(8)]), Ok(false));
+    assert_eq!(rt; legal(rt.alloc(), &[START, note(4)]), Ok(false));
+    Ok(())
+}
+
+// Only multiples of four are cookies. 0 is done at once, and any other once its period has ended.
+#[test]
+fn answers_to_cookies(rt: HostRuntime) -> Result<(), Fail> {
+    let wrong = Err(Illegal::WrongPoll);
+    let steps = [
+        (ask(0, true), Ok(())),
+        (ask(0, false), wrong),
+        (ask(4, false), Ok(())),
+        (ask(4, true), wrong),
+        (ask(6, false), wrong),
+        (ask(u64::MAX, false), wrong),
+        (ask(u64::MAX - 3, false), Ok(())),
+        (START, Ok(())),
+        (ask(4, true), wrong),
+        (FINISH, Ok(())),
+        (ask(4, false), wrong),
+        (ask(4, true), Ok(())),
+        (ask(2, true), wrong),
+        (ask(8, true), wrong),
+        (ask(8, false), Ok(())),
+    ];
+    let accepted = [
+        ask(0, true),
+        ask(4, false),
+        ask(u64::MAX - 3, false),
+        START,
+        FINISH,
+        ask(4, true),
+        ask(8, false),
+    ];
+    let mut domain = OneDomain::new(rt.alloc());
+    for (event, answer) in steps {
+        assert_eq!(rt; domain.apply(event), answer);
+    }
+    assert_eq!(rt; domain.history(), accepted.as_slice());
+
+    assert_eq!(rt; legal(rt.alloc(), &accepted), Ok(true));
+    assert_eq!(rt; legal(rt.alloc(), &[ask(4, true)]), Ok(false));
+    assert_eq!(rt; legal(rt.alloc(), &[ask(6, false)]), Ok(false));
     Ok(())
 }
 
@@ -88,6 +255,18 @@ fn refusals_outside(rt: HostRuntime) -> Result<(), Fail> {
         ),
         (Illegal::NotOpen, 2, "the section is not open"),
         (Illegal::PeriodRunning, 3, "a grace period runs"),
+        (Illegal::NoPeriod, 4, "no grace period runs"),
+        (
+            Illegal::StillOpen,
+            5,
+            "a section that was open at the start is open",
+        ),
+        (Illegal::WrongCookie, 6, "another cookie is given now"),
+        (
+            Illegal::WrongPoll,
+            7,
+            "that is not the answer to this cookie",
+        ),
         (Illegal::Memory, 10, "out of memory"),
     ];
     for (cause, number, text) in table {
