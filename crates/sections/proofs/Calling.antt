@@ -1,5 +1,5 @@
 -- From what a step tells a seat to what a caller of a processor sees.
-use Rattle.std.proofs.Common.{◌≡◌, ℕ, ◌+◌, ◌<◌, ◌≤◌, ◌≢◌, not, eqb, filter, List, [], ◌∷◌, ◌++◌, All, length, get_or, set, refl, sym, ap, ◌∙◌, subst, eq-eqb, arith, get_or-set_other, get_or-set_same}
+use Rattle.std.proofs.Common.{◌≡◌, ℕ, ◌+◌, ◌*◌, ◌%◌, ◌<◌, ◌≤◌, ◌≢◌, ◌==◌, if◌then◌else◌, Bool, true, false, nat_le, not, eqb, filter, List, [], ◌∷◌, ◌++◌, None, All, length, get_or, set, refl, sym, ap, ◌∙◌, subst, eq-eqb, leb-true, le-leb, append_assoc, arith, get_or-set_other, get_or-set_same}
 use Rattle.std.proofs.lemmas.List.Elements.{All-head}
 use mathlib.Core.Logic.{dite}
 use native.Mathlib.Decide.{ℕ_discrete}
@@ -10,87 +10,96 @@ use Rattle.sseq.specs.Indexes.{index_number, low_bit}
 use Rattle.onedom.specs.declared.event.Maker.{Maker}
 use Rattle.onedom.specs.declared.event.Maker.TheVariants.{Processor, Engine}
 use Rattle.onedom.specs.declared.event.Event.{Event}
-use Rattle.onedom.specs.declared.event.Event.TheVariants.{Begin, End, Start}
-use Rattle.onedom.specs.Histories.{begins_of, ends_of, MayFollow, IsLegal, IsLegalAfter, made_by, open_sections, IsBeginning}
-use Rattle.onedom.proofs.Pushes.{bit, no_ends, legal_after_append, ends_of_made, ends_of_push}
+use Rattle.onedom.specs.declared.event.Event.TheVariants.{Begin, End, Note, Ask}
+use Rattle.onedom.specs.Histories.{begins, ends, section_begun, IsOpen, begins_of, ends_of, MayFollow, IsLegal, IsLegalAfter, made_by, open_sections, IsBeginning}
+use Rattle.onedom.proofs.Periods.{law}
+use Rattle.onedom.proofs.Pushes.{bit, begins_of_push, no_ends, legal_after_append, ends_of_made, ends_of_push}
 use Rattle.onedom.proofs.Beginnings.{begins_grow}
-use Rattle.onedom.proofs.Opens.{times_open, one_more_open, one_less_open}
+use Rattle.onedom.proofs.Opens.{times_open, one_more_open, one_less_open, same_open_plain}
 use Rattle.sections.specs.declared.view.Role.{Role}
 use Rattle.sections.specs.declared.view.Role.TheVariants.{Cpu, Driver}
 use Rattle.sections.specs.declared.view.Right.{Right}
 use Rattle.sections.specs.declared.view.Right.TheVariants.{Nothing, Section}
-use Rattle.sections.specs.declared.view.Load.{Load}
+use Rattle.sections.specs.declared.view.Step.{Step}
 use Rattle.sections.specs.declared.view.View.{View}
-use Rattle.sections.specs.Words.{locks_at, locks, index_word}
-use Rattle.sections.specs.Rule.{HasItsMaker, informed, lacking}
-use Rattle.sections.specs.Plays.{Owns, IsSound, index_load, Looks, Adds}
+use Rattle.sections.specs.Words.{locks_at, locks, number_word}
+use Rattle.sections.specs.Rule.{HasItsMaker, GoesOn, moment_of, informed, lacking, bearer}
+use Rattle.sections.specs.Plays.{Owns, IsSound, Sees, Adds, FindsNumber}
 use Rattle.sections.specs.Insides.{IsAtRest, section_of}
-use Rattle.sections.specs.Views.{CpuView, EngineView}
-use Rattle.sections.specs.Calls.{IsHistoryOf, Loads, AddsEvent, AddsEngineEvent}
+use Rattle.sections.specs.Views.{CpuView, CookieView}
+use Rattle.sections.specs.Calls.{IsHistoryOf, Loads, AddsEvent, Notes, Asks, EndsWithNote, AllClosed}
+use Rattle.sseq.specs.Numbers.{periods_ended, cookie_at}
 use Rattle.sections.proofs.Counters.{locks_push, locks_here, elsewhere, index_low, index_number_same}
 
 abbrev pub seen_as : TableId → ℕ → ℕ → ℕ → View → CpuView
-seen_as d n limit p v = record { domain = d; processors = n; sections = limit; processor = p; seen = v.seen; mine = v.mine; loads = v.loads }
+seen_as d n limit p v = record { domain = d; processors = n; sections = limit; processor = p; seen = v.seen; changes = v.changes; mine = v.mine; steps = v.steps }
 
 -- What was seen
 
-pub history_of : (n p : ℕ) (w : View) → w.processors ≡ n → w.role ≡ Cpu p → IsSound w.processors w.role w.mine w.seen → IsHistoryOf n (Processor p) w.mine w.seen
+pub history_of : (n p : ℕ) (w : View) → w.processors ≡ n → w.role ≡ Cpu p → IsSound w.processors w.role w.mine w.seen w.changes → IsHistoryOf n (Processor p) w.mine w.seen w.changes
 history_of n p w sized is h = record {
   legal = h.legal;
   makers = subst (λ (z : ℕ). All (HasItsMaker z) w.seen) sized h.makers;
   own = subst (λ (z : Role). Owns z w.mine w.seen) is h.own;
+  reaches = h.reaches;
 }
 
-pub engine_history_of : (n k : ℕ) (w : View) → w.processors ≡ n → w.role ≡ Driver k → IsSound w.processors w.role w.mine w.seen → IsHistoryOf n Engine w.mine w.seen
+pub engine_history_of : (n k : ℕ) (w : View) → w.processors ≡ n → w.role ≡ Driver k → IsSound w.processors w.role w.mine w.seen w.changes → IsHistoryOf n Engine w.mine w.seen w.changes
 engine_history_of n k w sized is h = record {
   legal = h.legal;
   makers = subst (λ (z : ℕ). All (HasItsMaker z) w.seen) sized h.makers;
   own = subst (λ (z : Role). Owns z w.mine w.seen) is h.own;
+  reaches = h.reaches;
 }
 
-pub loads_from : (l : Load) (d d' : TableId) (n limit p : ℕ) (v w : View) → d' ≡ d → v.processors ≡ n → v.role ≡ Cpu p → Looks l v w → Loads l (seen_as d n limit p v) (seen_as d' n limit p w)
+pub loads_from : (l : Step) (d d' : TableId) (n limit p : ℕ) (v w : View) → d' ≡ d → v.processors ≡ n → v.role ≡ Cpu p → Sees l v w → Loads l (seen_as d n limit p v) (seen_as d' n limit p w)
 loads_from l d d' n limit p v w same sized is h = record {
   same = (same, refl, refl, refl);
   mine = h.mine;
-  loads = h.loads;
+  steps = h.steps;
   since = h.since;
+  later = h.later;
   history = history_of n p w (h.processors ∙ sized) (h.role ∙ is) h.sound;
 }
 
 -- the same where the right was given away afterwards
-pub loads_cut : (l : Load) (d d' : TableId) (n limit p : ℕ) (v w w' : View) → d' ≡ d → v.processors ≡ n → v.role ≡ Cpu p → w' ≡ lacking w → Looks l v w → Loads l (seen_as d n limit p v) (seen_as d' n limit p w')
+pub loads_cut : (l : Step) (d d' : TableId) (n limit p : ℕ) (v w w' : View) → d' ≡ d → v.processors ≡ n → v.role ≡ Cpu p → w' ≡ lacking w → Sees l v w → Loads l (seen_as d n limit p v) (seen_as d' n limit p w')
 loads_cut l d d' n limit p v w w' same sized is cut h = subst (λ (z : View). Loads l (seen_as d n limit p v) (seen_as d' n limit p z)) (sym cut) (loads_from l d d' n limit p v w same sized is h)
 
 -- an event, after what another had seen was handed in
-pub adds_event : (e : Event) (d d' : TableId) (n limit p : ℕ) (v o j w : View) → d' ≡ d → v.processors ≡ n → v.role ≡ Cpu p → j ≡ informed v o → Adds j e w → AddsEvent o.seen e (seen_as d n limit p v) (seen_as d' n limit p w)
+pub adds_event : (e : Event) (d d' : TableId) (n limit p : ℕ) (v o j w : View) → d' ≡ d → v.processors ≡ n → v.role ≡ Cpu p → j ≡ informed v o → Adds j e w → AddsEvent o.seen o.changes e (seen_as d n limit p v) (seen_as d' n limit p w)
 adds_event e d d' n limit p v o j w same sized is joined h =
     let a : Adds (informed v o) e w = subst (λ (z : View). Adds z e w) joined h in record {
       same = (same, refl, refl, refl);
       before = a.before;
       seen = a.seen;
       since = a.since;
-      covers = All-head (λ x. IsBeginning x a.before) o.seen v.told a.covers;
+      later = a.later;
+      covers = (All-head (λ m. GoesOn m (record { history = a.before; changes = w.changes })) (moment_of o) v.told a.covers).history;
+      not_before = (All-head (λ m. GoesOn m (record { history = a.before; changes = w.changes })) (moment_of o) v.told a.covers).changes;
       mine = a.mine;
-      loads = a.loads;
+      steps = a.steps;
       history = history_of n p w (a.processors ∙ sized) (a.role ∙ is) a.sound;
     }
 
 pub adds_cut : (e : Event) (d d' : TableId) (n limit p : ℕ) (v o j w w' : View) → d' ≡ d → v.processors ≡ n → v.role ≡ Cpu p → j ≡ informed v o → w' ≡ lacking w → Adds j e w
-    → AddsEvent o.seen e (seen_as d n limit p v) (seen_as d' n limit p w')
+    → AddsEvent o.seen o.changes e (seen_as d n limit p v) (seen_as d' n limit p w')
 adds_cut e d d' n limit p v o j w w' same sized is joined cut h =
-    subst (λ (z : View). AddsEvent o.seen e (seen_as d n limit p v) (seen_as d' n limit p z)) (sym cut) (adds_event e d d' n limit p v o j w same sized is joined h)
+    subst (λ (z : View). AddsEvent o.seen o.changes e (seen_as d n limit p v) (seen_as d' n limit p z)) (sym cut) (adds_event e d d' n limit p v o j w same sized is joined h)
 
 -- an event with nothing handed in
-pub adds_alone : (e : Event) (d d' : TableId) (n limit p : ℕ) (v w w' : View) → d' ≡ d → v.processors ≡ n → v.role ≡ Cpu p → w' ≡ lacking w → Adds v e w → AddsEvent v.seen e (seen_as d n limit p v) (seen_as d' n limit p w')
+pub adds_alone : (e : Event) (d d' : TableId) (n limit p : ℕ) (v w w' : View) → d' ≡ d → v.processors ≡ n → v.role ≡ Cpu p → w' ≡ lacking w → Adds v e w → AddsEvent v.seen v.changes e (seen_as d n limit p v) (seen_as d' n limit p w')
 adds_alone e d d' n limit p v w w' same sized is cut a =
-    subst (λ (z : View). AddsEvent v.seen e (seen_as d n limit p v) (seen_as d' n limit p z)) (sym cut) record {
+    subst (λ (z : View). AddsEvent v.seen v.changes e (seen_as d n limit p v) (seen_as d' n limit p z)) (sym cut) record {
       same = (same, refl, refl, refl);
       before = a.before;
       seen = a.seen;
       since = a.since;
+      later = a.later;
       covers = a.since;
+      not_before = a.later;
       mine = a.mine;
-      loads = a.loads;
+      steps = a.steps;
       history = history_of n p w (a.processors ∙ sized) (a.role ∙ is) a.sound;
     }
 
@@ -110,7 +119,7 @@ rests_cut v w w' e cut a = subst (λ (z : View). IsAtRest z) (sym cut) (record {
 pub rests_after : (v w : View) (e : Event) → w.right ≡ Nothing → Adds v e w → IsAtRest w
 rests_after v w e free a = record { free = free; told = a.told; sound = a.sound }
 
-pub rests_looked : (l : Load) (v w : View) → v.right ≡ Nothing → Looks l v w → IsAtRest w
+pub rests_looked : (l : Step) (v w : View) → v.right ≡ Nothing → Sees l v w → IsAtRest w
 rests_looked l v w free h = record { free = h.right ∙ free; told = h.told; sound = h.sound }
 
 locks_one_more : (p : ℕ) (k : Index) (s : ℕ) (by : Maker) (mine after : List Event) → after ≡ mine ++ Begin s p k by ∷ [] → locks p k after ≡ locks p k mine + 1
@@ -183,3 +192,74 @@ right_known r s p i is = is ∙ ap (λ z. Section z p i) (sym (ap section_of is)
 
 pub at_limit : (n l limit : ℕ) → n ≡ l → n ≡ limit → l ≡ limit
 at_limit n l limit a b = sym a ∙ b
+
+-- Cookies
+
+pub number_grows : (a b : ℕ) → a ≤ b → number_word a ≤ number_word b
+number_grows a b le = omega (arith, le)
+
+-- a cookie is given
+pub notes_from : (number : ℕ) (d d' : TableId) (n limit p : ℕ) (v w w' : View) → d' ≡ d → v.processors ≡ n → v.role ≡ Cpu p → w' ≡ lacking w → FindsNumber number w → Adds v (Note (cookie_at number) (Processor p)) w
+    → Notes number (seen_as d n limit p v) (seen_as d' n limit p w')
+notes_from number d d' n limit p v w w' same sized is cut found a = subst (λ (z : View). Notes number (seen_as d n limit p v) (seen_as d' n limit p z)) (sym cut) record {
+  adds = adds_alone (Note (cookie_at number) (Processor p)) d d' n limit p v w (lacking w) same sized is refl a;
+  current = found.current;
+  since = let le = number_grows v.changes w.changes a.later in let now = found.current in omega (arith, le, now);
+}
+
+-- somebody asks after one
+pub asks_from : (number cookie : ℕ) (answer : Bool) (d d' : TableId) (n limit p : ℕ) (v o j w : View) → d' ≡ d → v.processors ≡ n → v.role ≡ Cpu p → j ≡ informed v o → FindsNumber number w → answer ≡ nat_le cookie number
+    → Adds j (Ask cookie answer (Processor p)) w → Asks o.seen o.changes cookie answer (seen_as d n limit p v) (seen_as d' n limit p w)
+asks_from number cookie answer d d' n limit p v o j w same sized is joined found told h =
+    let adds = adds_event (Ask cookie answer (Processor p)) d d' n limit p v o j w same sized is joined h in record {
+      number = number;
+      adds = adds;
+      current = found.current;
+      since = let le = number_grows v.changes w.changes adds.later in let now = found.current in omega (arith, le, now);
+      answer_is = ((λ t. leb-true cookie number (sym told ∙ t)), (λ le. told ∙ le-leb cookie number le));
+    }
+
+-- the same with nothing handed in
+pub asks_alone : (number cookie : ℕ) (answer : Bool) (d d' : TableId) (n limit p : ℕ) (v w : View) → d' ≡ d → v.processors ≡ n → v.role ≡ Cpu p → FindsNumber number w → answer ≡ nat_le cookie number
+    → Adds v (Ask cookie answer (Processor p)) w → Asks v.seen v.changes cookie answer (seen_as d n limit p v) (seen_as d' n limit p w)
+asks_alone number cookie answer d d' n limit p v w same sized is found told h =
+    let adds = adds_alone (Ask cookie answer (Processor p)) d d' n limit p v w (lacking w) same sized is refl h in record {
+      number = number;
+      adds = adds;
+      current = found.current;
+      since = let le = number_grows v.changes w.changes h.later in let now = found.current in omega (arith, le, now);
+      answer_is = ((λ t. leb-true cookie number (sym told ∙ t)), (λ le. told ∙ le-leb cookie number le));
+    }
+
+-- an event that neither begins nor ends a section
+pub locks_told : (p : ℕ) (i : Index) (e : Event) (mine after : List Event) → locks_at p i e ≡ false → after ≡ mine ++ e ∷ [] → locks p i after ≡ locks p i mine
+locks_told p i e mine after none is = let c = locks_push p i mine e in let z : bit (locks_at p i e) ≡ 0 = ap bit none in ap (locks p i) is ∙ omega (arith, c, z)
+
+pub unclosed_told : (e : Event) (mine after : List Event) → section_begun e ≡ None → ((s : ℕ) → ends s e ≡ false) → after ≡ mine ++ e ∷ [] → length (open_sections after) ≡ length (open_sections mine)
+unclosed_told e mine after none unended is = ap (λ l. length (open_sections l)) is ∙ same_open_plain mine e none unended
+
+pub rests_told : (v w : View) (e : Event) → v.right ≡ Nothing → w.right ≡ v.right → Adds v e w → IsAtRest w
+rests_told v w e free same a = record { free = same ∙ free; told = a.told; sound = a.sound }
+
+pub whole_cookie : (n : ℕ) → cookie_at n % 4 ≡ 0
+whole_cookie n = whole (periods_ended n + (if n % 4 == 0 then 1 else 2))
+  where
+    whole : (k : ℕ) → (4 * k) % 4 ≡ 0
+    whole k = omega arith
+
+-- who is told that a cookie is done knows that all that was open when it was given is closed
+pub all_closed : (cookie : ℕ) (given before after : List Event) (by : Maker) → EndsWithNote cookie given → IsBeginning given before → after ≡ before ++ Ask cookie true by ∷ [] → IsLegal after → AllClosed given after
+all_closed cookie given before after by noted since is legal s was_open still =
+    let front : List Event = noted.before in
+    let note : Event = Note cookie noted.by in
+    let ask : Event = Ask cookie true by in
+    let split : before ≡ front ++ note ∷ since.rest = since.whole ∙ (ap (λ l. l ++ since.rest) noted.whole ∙ append_assoc front (note ∷ []) since.rest) in
+    let whole : after ≡ front ++ note ∷ since.rest ++ ask ∷ [] = is ∙ ap (λ l. l ++ ask ∷ []) split in
+    let opened : IsOpen front s = unplain s front note refl refl (subst (λ l. IsOpen l s) noted.whole was_open) in
+    let now : IsOpen (front ++ note ∷ since.rest) s = subst (λ l. IsOpen l s) split (unplain s before ask refl refl (subst (λ l. IsOpen l s) is still)) in
+    law front since.rest [] cookie cookie noted.by by (subst IsLegal whole legal) (omega arith) s opened now
+  where
+    -- an event that is no Begin and no End opens and closes nothing
+    unplain : (s : ℕ) (history : List Event) (e : Event) → begins s e ≡ false → ends s e ≡ false → IsOpen (history ++ e ∷ []) s → IsOpen history s
+    unplain s history e no_begin no_end o = let a = begins_of_push s history e in let b = ends_of_push s history e in let x : bit (begins s e) ≡ 0 = ap bit no_begin in let some = o.0 in let none = o.1 in
+        (omega (arith, a, x, some), omega (arith, b, none))

@@ -1,4 +1,5 @@
 -- What the counters count, after one more event and in all.
+use Rattle.std.specs.Prelude.{None}
 use Rattle.std.proofs.Common.{◌≡◌, ℕ, zero, suc, ◌+◌, ◌*◌, ◌<◌, ◌≤◌, ◌≢◌, Bool, true, false, cond, ◌&&◌, eqb, List, [], ◌∷◌, ◌++◌, All, length, count_by, refl, sym, ap, ◌∙◌, subst, eq-eqb, ne_eqb, append_assoc, append-nil, arith}
 use Rattle.std.proofs.lemmas.List.Elements.{All-append, All-cons, All-nil, All-head, All-tail}
 use mathlib.Core.Logic.{dite}
@@ -9,11 +10,12 @@ use Rattle.sseq.specs.Indexes.{index_number, same_index}
 use Rattle.onedom.specs.declared.event.Maker.{Maker}
 use Rattle.onedom.specs.declared.event.Maker.TheVariants.{Processor, Engine}
 use Rattle.onedom.specs.declared.event.Event.{Event}
-use Rattle.onedom.specs.declared.event.Event.TheVariants.{Begin, End, Start}
-use Rattle.onedom.specs.Histories.{index_of, MayFollow, IsLegal, maker_of, same_maker, made_by, open_sections}
+use Rattle.onedom.specs.declared.event.Event.TheVariants.{Begin, End, Start, Finish, Note, Ask}
+use Rattle.onedom.specs.Histories.{ends, section_begun, index_of, MayFollow, IsLegal, maker_of, same_maker, made_by, open_sections, IsBeginning}
 use Rattle.onedom.proofs.Pushes.{bit, count_push, count_cons, legal_push, along, no_ends, same_maker_refl}
-use Rattle.onedom.proofs.Opens.{one_more_open, one_less_open, same_open, open_once}
-use Rattle.sections.specs.Words.{locks_at, locks, unlocks_at, unlocks_after, unlocks}
+use Rattle.onedom.proofs.Beginnings.{count_grows}
+use Rattle.onedom.proofs.Opens.{one_more_open, one_less_open, same_open_plain, open_once}
+use Rattle.sections.specs.Words.{locks_at, locks, unlocks_at, unlocks_after, unlocks, sum_below}
 use Rattle.sections.specs.Rule.{HasItsMaker}
 
 -- Indexes
@@ -57,6 +59,16 @@ locks_here p i = ap (λ b. b && same_index i i) (eq-eqb p p refl) ∙ same_index
 pub elsewhere : (p q : ℕ) (i j : Index) → (p ≡ q → i ≢ j) → ((eqb p q) && same_index i j) ≡ false
 elsewhere p q i j h = dite (ℕ_discrete p q) (λ y. ap (λ b. b && same_index i j) (eq-eqb p q y) ∙ same_index_other i j (h y)) (λ n. ap (λ b. b && same_index i j) (ne_eqb p q n))
 
+unlocks_append : (q : ℕ) (i : Index) (before xs ys : List Event) → unlocks_after q i before (xs ++ ys) ≡ unlocks_after q i before xs + unlocks_after q i (before ++ xs) ys
+unlocks_append q i before [] ys = let same = ap (λ l. unlocks_after q i l ys) (append-nil before) in omega (arith, same)
+unlocks_append q i before (x ∷ xs) ys = let rest = unlocks_append q i (before ++ x ∷ []) xs ys in let same = ap (λ l. unlocks_after q i l ys) (append_assoc before (x ∷ []) xs) in omega (arith, rest, same)
+
+pub unlocks_grow : (q : ℕ) (i : Index) {seen history : List Event} → IsBeginning seen history → unlocks q i seen ≤ unlocks q i history
+unlocks_grow q i {seen = seen} {history = history} h = let whole : unlocks q i history ≡ unlocks q i (seen ++ h.rest) = ap (unlocks q i) h.whole in let parts = unlocks_append q i [] seen h.rest in omega (arith, whole, parts)
+
+pub locks_grow : (p : ℕ) (i : Index) {seen history : List Event} → IsBeginning seen history → locks p i seen ≤ locks p i history
+locks_grow p i h = count_grows (locks_at p i) h
+
 -- A processor's own events have all of its locks
 
 pub All-push : {X : Type 0} (P : X → Type 0) (xs : List X) (x : X) → All P xs → P x → All P (xs ++ x ∷ [])
@@ -66,6 +78,9 @@ not_mine : (n p : ℕ) (i : Index) (e : Event) → HasItsMaker n e → same_make
 not_mine n p i (Begin s q j by) has other = let by_q : same_maker (Processor q) (Processor p) ≡ false = ap (λ m. same_maker m (Processor p)) (sym has.1) ∙ other in ap (λ b. b && same_index j i) by_q
 not_mine n p i (End s q by) has other = refl
 not_mine n p i (Start by) has other = refl
+not_mine n p i (Finish by) has other = refl
+not_mine n p i (Note c by) has other = refl
+not_mine n p i (Ask c b by) has other = refl
 
 locks_case : (p : ℕ) (i : Index) (e : Event) (es mine : List Event) (b : Bool) → (b ≡ false → locks_at p i e ≡ false) → locks p i mine ≡ locks p i es → locks p i (cond b (e ∷ mine) mine) ≡ locks p i (e ∷ es)
 locks_case p i e es mine true h r = count_cons (locks_at p i) e mine ∙ (ap (λ n. bit (locks_at p i e) + n) r ∙ sym (count_cons (locks_at p i) e es))
@@ -79,28 +94,29 @@ locks_mine n p i (e ∷ es) all = locks_case p i e es (made_by (Processor p) es)
 
 abbrev is_begin : Event → Bool
 is_begin (Begin s p i by) = true
-is_begin (End s q by) = false
-is_begin (Start by) = false
+is_begin e = false
 
 abbrev is_end : Event → Bool
-is_end (Begin s p i by) = false
 is_end (End s q by) = true
-is_end (Start by) = false
+is_end e = false
 
 abbrev Balances : List Event → Type 0
 Balances log = count_by is_end log + length (open_sections log) ≡ count_by is_begin log
 
+balances_plain : (log : List Event) (e : Event) → section_begun e ≡ None → ((s : ℕ) → ends s e ≡ false) → is_begin e ≡ false → is_end e ≡ false → Balances log → Balances (log ++ e ∷ [])
+balances_plain log e none unended no_begin no_end h = let b = count_push is_begin log e in let d = count_push is_end log e in let o = same_open_plain log e none unended in
+    let y : bit (is_begin e) ≡ 0 = ap bit no_begin in let z : bit (is_end e) ≡ 0 = ap bit no_end in omega (arith, b, d, o, y, z, h)
+
 balances_push : (log : List Event) (e : Event) → IsLegal log → MayFollow log e → Balances log → Balances (log ++ e ∷ [])
 balances_push log (Begin s p i by) legal may h = let b = count_push is_begin log (Begin s p i by) in let d = count_push is_end log (Begin s p i by) in let o = one_more_open log s p i by (no_ends s log legal may) in omega (arith, b, d, o, h)
 balances_push log (End s q by) legal may h = let b = count_push is_begin log (End s q by) in let d = count_push is_end log (End s q by) in let o = one_less_open log s q by (open_once s log legal may) in omega (arith, b, d, o, h)
-balances_push log (Start by) legal may h = let b = count_push is_begin log (Start by) in let d = count_push is_end log (Start by) in let o = same_open log by in omega (arith, b, d, o, h)
+balances_push log (Start by) legal may h = balances_plain log (Start by) refl (λ _. refl) refl refl h
+balances_push log (Finish by) legal may h = balances_plain log (Finish by) refl (λ _. refl) refl refl h
+balances_push log (Note c by) legal may h = balances_plain log (Note c by) refl (λ _. refl) refl refl h
+balances_push log (Ask c b by) legal may h = balances_plain log (Ask c b by) refl (λ _. refl) refl refl h
 
 balances : (log : List Event) → IsLegal log → Balances log
 balances log legal = along Balances refl balances_push log legal
-
-abbrev pub sum_below : (ℕ → ℕ) → ℕ → ℕ
-sum_below f zero = 0
-sum_below f (suc k) = sum_below f k + f k
 
 pub sum_le : (f g : ℕ → ℕ) (k : ℕ) → ((q : ℕ) → f q ≤ g q) → sum_below f k ≤ sum_below g k
 sum_le f g zero h = omega arith
@@ -113,7 +129,7 @@ sum_bump f g p d (suc k) h up lt = dite (ℕ_discrete p k)
     (λ e. let a = sum_le f g k h in let F : ℕ → Type 0 = λ z. f z + d ≤ g z in let b = subst F e up in omega (arith, a, b))
     (λ n. let a = sum_bump f g p d k h up (omega arith) in let b = h k in omega (arith, a, b))
 
-sum_most : (f : ℕ → ℕ) (most k : ℕ) → ((q : ℕ) → f q ≤ most) → sum_below f k ≤ k * most
+pub sum_most : (f : ℕ → ℕ) (most k : ℕ) → ((q : ℕ) → f q ≤ most) → sum_below f k ≤ k * most
 sum_most f most zero h = omega arith
 sum_most f most (suc k) h = let a = sum_most f most k h in let b = h k in omega (arith, a, b)
 
@@ -142,6 +158,12 @@ begun_somewhere n (End s q by ∷ es) all = let rest = begun_somewhere n es (All
     let up = sum_le (λ p. both p es) (λ p. both p (End s q by ∷ es)) n (λ p. both_cons p (End s q by) es) in omega (arith, rest, c, up)
 begun_somewhere n (Start by ∷ es) all = let rest = begun_somewhere n es (All-tail (HasItsMaker n) (Start by) es all) in let c = count_cons is_begin (Start by) es in
     let up = sum_le (λ p. both p es) (λ p. both p (Start by ∷ es)) n (λ p. both_cons p (Start by) es) in omega (arith, rest, c, up)
+begun_somewhere n (Finish by ∷ es) all = let rest = begun_somewhere n es (All-tail (HasItsMaker n) (Finish by) es all) in let c = count_cons is_begin (Finish by) es in
+    let up = sum_le (λ p. both p es) (λ p. both p (Finish by ∷ es)) n (λ p. both_cons p (Finish by) es) in omega (arith, rest, c, up)
+begun_somewhere n (Note k by ∷ es) all = let rest = begun_somewhere n es (All-tail (HasItsMaker n) (Note k by) es all) in let c = count_cons is_begin (Note k by) es in
+    let up = sum_le (λ p. both p es) (λ p. both p (Note k by ∷ es)) n (λ p. both_cons p (Note k by) es) in omega (arith, rest, c, up)
+begun_somewhere n (Ask k b by ∷ es) all = let rest = begun_somewhere n es (All-tail (HasItsMaker n) (Ask k b by) es all) in let c = count_cons is_begin (Ask k b by) es in
+    let up = sum_le (λ p. both p es) (λ p. both p (Ask k b by ∷ es)) n (λ p. both_cons p (Ask k b by) es) in omega (arith, rest, c, up)
 
 unlocks_at_end : (q : ℕ) (i : Index) (before : List Event) (e : Event) → bit (unlocks_at q i before e) ≤ bit (is_end e)
 unlocks_at_end q i before (Begin s p j by) = omega arith
@@ -151,6 +173,9 @@ unlocks_at_end q i before (End s p by) = small (eqb p q && same_index (index_of 
     small true = omega arith
     small false = omega arith
 unlocks_at_end q i before (Start by) = omega arith
+unlocks_at_end q i before (Finish by) = omega arith
+unlocks_at_end q i before (Note c by) = omega arith
+unlocks_at_end q i before (Ask c b by) = omega arith
 
 unlocks_are_ends : (q : ℕ) (i : Index) (before log : List Event) → unlocks_after q i before log ≤ count_by is_end log
 unlocks_are_ends q i before [] = omega arith

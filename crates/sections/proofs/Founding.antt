@@ -11,7 +11,7 @@ use Rattle.sections.specs.Limits.{AreInRange}
 use Rattle.sections.specs.Views.{CpuView}
 use Rattle.sections.specs.Calls.{new_cpu, AreNew}
 use Rattle.sections.specs.declared.view.Role.TheVariants.{Driver}
-use Rattle.sections.specs.Rule.{HasItsMaker, founder}
+use Rattle.sections.specs.Rule.{HasItsMaker, AreSmall, founder}
 use Rattle.sections.specs.Insides.{IsAtRest}
 use Rattle.sections.specs.Making.{IsCount, IsSmall}
 use Rattle.std.proofs.lemmas.List.Elements.{All-nil}
@@ -31,11 +31,12 @@ new_pushed domain processors sections i cpus new count is all k d lt = dite (ℕ
     length_pushed (y ∷ ys) x = let r = length_pushed ys x in omega (arith, r)
 
 -- within the limits no counter comes near 2 ^ 64
-pub small_enough : (processors : ℕ) (limits : Limits) → IsCount processors → AreInRange limits → IsSmall (record { processors = processors; sections = limits.sections })
+pub small_enough : (processors : ℕ) (limits : Limits) → IsCount processors → AreInRange limits → IsSmall (record { processors = processors; sections = limits.sections; periods = limits.periods })
 small_enough processors limits count range = let most = count.1 in let few = range.sections in let product = mul-le-mul most few in record {
+  some = count.0;
   processors = omega arith;
-  product = omega (arith, product);
+  words = record { counters = omega (arith, product); periods = range.periods };
 }
 
 pub rests_founding : (bounds : Bounds) (k : ℕ) → IsAtRest (record (founder bounds) { role = Driver k })
-rests_founding bounds k = record { free = refl; told = refl; sound = record { legal = tt; makers = All-nil (HasItsMaker bounds.processors); own = refl } }
+rests_founding bounds k = record { free = refl; told = refl; sound = record { legal = tt; makers = All-nil (HasItsMaker bounds.processors); own = refl; reaches = record { started = refl; ended = refl } } }

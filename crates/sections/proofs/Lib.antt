@@ -1,8 +1,13 @@
 pub mod Counters
 pub mod Agreement
+pub mod Knowing
 pub mod Steps
+pub mod EngineSteps
+pub mod Sharing
 pub mod Seating
 pub mod Calling
 pub mod Meeting
-pub mod Starting
+pub mod Driven
 pub mod Founding
+pub mod Sums
+pub mod OneHistory

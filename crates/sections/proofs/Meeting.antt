@@ -11,11 +11,12 @@ use Rattle.onedom.specs.Histories.{made_by, IsBeginning}
 use Rattle.onedom.proofs.Beginnings.{beginning_trans, beginnings_compare, beginning_made_by}
 use Rattle.sections.specs.declared.view.Role.TheVariants.{Cpu}
 use Rattle.sections.specs.declared.view.View.{View}
-use Rattle.sections.specs.declared.view.Load.{Load}
-use Rattle.sections.specs.Plays.{index_load}
+use Rattle.sections.specs.declared.view.Step.{Step}
+use Rattle.sections.specs.declared.view.Step.TheVariants.{LoadIndex}
 use Rattle.sections.specs.Seats as seats
 use Rattle.sections.specs.Views.{CpuView, EngineView}
-use Rattle.sections.specs.Calls.{HasSeenOf, IsSameCpu, IsSameEngine, Loads, Covers, CoversAll, Accepts, Ties, TiesEngine, Joins, Meets}
+use Rattle.sections.specs.Calls.{HasSeenOf, Loads, Accepts, Ties}
+use Rattle.sections.specs.Driving.{Covers, CoversAll, TiesEngine, Joins, Meets}
 use Rattle.sections.proofs.Calling.{seen_as, history_of}
 
 -- of a maker, a beginning of a history has a beginning of the maker's events there
@@ -24,22 +25,24 @@ seen_of m mine mine' seen later own since same = let b = beginning_made_by m sin
 
 -- Two processors
 
-covers_loads : (d d' : TableId) (n limit p : ℕ) (v o w : View) → d' ≡ d → v.processors ≡ n → v.role ≡ Cpu p → (h : seats.Covers v o w) → Loads (index_load h.value) (seen_as d n limit p v) (seen_as d' n limit p w)
+covers_loads : (d d' : TableId) (n limit p : ℕ) (v o w : View) → d' ≡ d → v.processors ≡ n → v.role ≡ Cpu p → (h : seats.Covers v o w) → Loads (LoadIndex h.value) (seen_as d n limit p v) (seen_as d' n limit p w)
 covers_loads d d' n limit p v o w same sized is h = record {
   same = (same, refl, refl, refl);
   mine = h.mine;
-  loads = h.loads;
+  steps = h.steps;
   since = h.since;
+  later = h.later;
   history = history_of n p w (h.processors ∙ sized) (h.role ∙ is) h.sound;
 }
 
-accepts_seen : (d d' : TableId) (n limit p : ℕ) (v o w : View) → d' ≡ d → v.processors ≡ n → v.role ≡ Cpu p → seats.Accepts v o w → Accepts (seen_as d n limit p v) o.seen (seen_as d' n limit p w)
+accepts_seen : (d d' : TableId) (n limit p : ℕ) (v o w : View) → d' ≡ d → v.processors ≡ n → v.role ≡ Cpu p → seats.Accepts v o w → Accepts (seen_as d n limit p v) o.seen o.changes (seen_as d' n limit p w)
 accepts_seen d d' n limit p v o w same sized is h = record {
   value = h.value;
   same = (same, refl, refl, refl);
   mine = h.mine;
-  loads = h.loads;
+  steps = h.steps;
   seen = h.seen;
+  changes = h.changes;
   history = history_of n p w (h.processors ∙ sized) (h.role ∙ is) h.sound;
 }
 
@@ -52,6 +55,7 @@ ties_from d d' e e' n limit p m most q v w o w' o' ds es sized is other_sized ot
       looks = covers_loads d d' n limit p v o w ds sized is h;
       accepts = accepts_seen e e' m most q o w o' es other_sized other_is a;
       since = subst (λ (z : List Event). IsBeginning o.seen z) (sym a.seen) h.covers;
+      later = (let low = h.not_before in let same = a.changes in omega (arith, low, same));
       comparable = beginnings_compare h.since h.covers;
       first_known = seen_of (Processor p) _ _ _ _ (covers_loads d d' n limit p v o w ds sized is h).history.own h.covers (sym h.mine);
       second_known = seen_of (Processor q) _ _ _ _ (accepts_seen e e' m most q o w o' es other_sized other_is a).history.own (subst (λ (z : List Event). IsBeginning v.seen z) (sym a.seen) h.since) (sym a.mine);
@@ -59,19 +63,20 @@ ties_from d d' e e' n limit p m most q v w o w' o' ds es sized is other_sized ot
 
 -- The engine and a processor
 
-pub accepted : (d d' : TableId) (n limit p : ℕ) (v o w : View) → d' ≡ d → v.processors ≡ n → v.role ≡ Cpu p → seats.Accepts v o w → Accepts (seen_as d n limit p v) o.seen (seen_as d' n limit p w)
+pub accepted : (d d' : TableId) (n limit p : ℕ) (v o w : View) → d' ≡ d → v.processors ≡ n → v.role ≡ Cpu p → seats.Accepts v o w → Accepts (seen_as d n limit p v) o.seen o.changes (seen_as d' n limit p w)
 accepted = accepts_seen
 
-pub ties_engine : (e e' e'' : EngineView) (c c' c'' : CpuView) → Covers e c.seen e' → c' ≡ c → e'' ≡ e' → Accepts c' e'.seen c'' → TiesEngine e c e'' c''
+pub ties_engine : (e e' e'' : EngineView) (c c' c'' : CpuView) → Covers e c.seen c.changes e' → c' ≡ c → e'' ≡ e' → Accepts c' e'.seen e'.changes c'' → TiesEngine e c e'' c''
 ties_engine e e' e'' c c' c'' h same_cpu same_engine a =
-    let accepts : Accepts c e'.seen c'' = subst (λ (z : CpuView). Accepts z e'.seen c'') same_cpu a in
+    let accepts : Accepts c e'.seen e'.changes c'' = subst (λ (z : CpuView). Accepts z e'.seen e'.changes c'') same_cpu a in
     subst (λ (z : EngineView). TiesEngine e c z c'') (sym same_engine) record {
       covers = h;
       accepts = accepts;
       since = subst (λ (z : List Event). IsBeginning c.seen z) (sym accepts.seen) h.covers;
-      comparable = beginnings_compare h.since h.covers;
-      engine_known = seen_of Engine _ _ _ _ h.history.own h.covers (sym h.mine);
-      cpu_known = seen_of (Processor c.processor) _ _ _ _ (accepts.history.own ∙ ap (λ k. made_by (Processor k) c''.seen) accepts.same.3) (subst (λ (z : List Event). IsBeginning e.seen z) (sym accepts.seen) h.since) (sym accepts.mine);
+      later = (let low = h.not_before in let same = accepts.changes in omega (arith, low, same));
+      comparable = beginnings_compare h.step.since h.covers;
+      engine_known = seen_of Engine _ _ _ _ h.step.history.own h.covers (sym h.step.mine);
+      cpu_known = seen_of (Processor c.processor) _ _ _ _ (accepts.history.own ∙ ap (λ k. made_by (Processor k) c''.seen) accepts.same.3) (subst (λ (z : List Event). IsBeginning e.seen z) (sym accepts.seen) h.step.since) (sym accepts.mine);
     }
 
 -- The engine and several processors
@@ -82,41 +87,49 @@ covers_more cpus i item before after inside is since here so_far k d lt = dite (
     (λ e. let same : item ≡ get_or cpus k d = is ∙ (get_or_default cpus i item d inside ∙ ap (λ z. get_or cpus z d) (sym e)) in subst (λ (z : CpuView). IsBeginning z.seen after) same here)
     (λ n. beginning_trans (so_far k d (omega arith)) since)
 
+pub changes_more : (cpus : List CpuView) (i : ℕ) (item : CpuView) (before after : ℕ) → i < length cpus → item ≡ get_or cpus i item → before ≡ after → item.changes ≤ after
+    → ((k : ℕ) (d : CpuView) → k < i → (get_or cpus k d).changes ≤ before) → (k : ℕ) (d : CpuView) → k < i + 1 → (get_or cpus k d).changes ≤ after
+changes_more cpus i item before after inside is same here so_far k d lt = dite (ℕ_discrete k i)
+    (λ e. let same : item ≡ get_or cpus k d = is ∙ (get_or_default cpus i item d inside ∙ ap (λ z. get_or cpus z d) (sym e)) in subst (λ (z : CpuView). z.changes ≤ after) same here)
+    (λ n. let low = so_far k d (omega arith) in omega (arith, low, same))
+
 -- one load more
-pub one_more_load : (i : ℕ) (before between after : List Load) → (found : List ℕ) × (length found ≡ i) × (between ≡ before ++ map index_load found) → (n : ℕ) → after ≡ between ++ index_load n ∷ []
-    → (found : List ℕ) × (length found ≡ i + 1) × (after ≡ before ++ map index_load found)
-one_more_load i before between after so_far n e = let (found, count, loads) = so_far in (
+pub one_more_load : (i : ℕ) (before between after : List Step) → (found : List ℕ) × (length found ≡ i) × (between ≡ before ++ map LoadIndex found) → (n : ℕ) → after ≡ between ++ LoadIndex n ∷ []
+    → (found : List ℕ) × (length found ≡ i + 1) × (after ≡ before ++ map LoadIndex found)
+one_more_load i before between after so_far n e = let (found, count, steps) = so_far in (
   found ++ n ∷ [],
   (let more = length-append found (n ∷ []) in omega (arith, more, count)),
-  e ∙ (ap (λ l. l ++ index_load n ∷ []) loads ∙ (append_assoc before (map index_load found) (index_load n ∷ []) ∙ ap (λ l. before ++ l) (sym (map-append index_load found (n ∷ []))))),
+  e ∙ (ap (λ l. l ++ LoadIndex n ∷ []) steps ∙ (append_assoc before (map LoadIndex found) (LoadIndex n ∷ []) ∙ ap (λ l. before ++ l) (sym (map-append LoadIndex found (n ∷ []))))),
 )
 
-pub joins_more : (was now : List CpuView) (i : ℕ) (new : CpuView) (all : List Event) → length now ≡ length was → i < length now → ((k : ℕ) (d : CpuView) → k < length was → IsBeginning (get_or was k d).seen all)
-    → ((d : CpuView) → Accepts (get_or now i d) all new)
+pub joins_more : (was now : List CpuView) (i : ℕ) (new : CpuView) (all : List Event) (changes : ℕ) → length now ≡ length was → i < length now → ((k : ℕ) (d : CpuView) → k < length was → IsBeginning (get_or was k d).seen all)
+    → ((k : ℕ) (d : CpuView) → k < length was → (get_or was k d).changes ≤ changes)
+    → ((d : CpuView) → Accepts (get_or now i d) all changes new)
     → ((k : ℕ) (d : CpuView) → i ≤ k → get_or now k d ≡ get_or was k d)
-    → ((k : ℕ) (d : CpuView) → k < i → Joins (get_or was k d) all (get_or now k d))
-    → (k : ℕ) (d : CpuView) → k < i + 1 → Joins (get_or was k d) all (get_or (set now i new) k d)
-joins_more was now i new all long inside covers accepts rest so_far k d lt = dite (ℕ_discrete k i)
+    → ((k : ℕ) (d : CpuView) → k < i → Joins (get_or was k d) all changes (get_or now k d))
+    → (k : ℕ) (d : CpuView) → k < i + 1 → Joins (get_or was k d) all changes (get_or (set now i new) k d)
+joins_more was now i new all changes long inside covers reached accepts rest so_far k d lt = dite (ℕ_discrete k i)
     (λ e. let there : get_or (set now i new) k d ≡ new = ap (λ z. get_or (set now i new) z d) e ∙ get_or-set_same now i new d inside in
     let old : get_or now i d ≡ get_or was k d = rest i d (omega arith) ∙ ap (λ z. get_or was z d) (sym e) in
-    let here : Accepts (get_or was k d) all new = subst (λ (z : CpuView). Accepts z all new) old (accepts d) in
-    subst (λ (z : CpuView). Joins (get_or was k d) all z) (sym there) (record { accepts = here; since = covers k d (omega arith) }))
-    (λ n. let other : get_or (set now i new) k d ≡ get_or now k d = get_or-set_other now i k new d n in subst (λ (z : CpuView). Joins (get_or was k d) all z) (sym other) (so_far k d (omega arith)))
+    let here : Accepts (get_or was k d) all changes new = subst (λ (z : CpuView). Accepts z all changes new) old (accepts d) in
+    subst (λ (z : CpuView). Joins (get_or was k d) all changes z) (sym there) (record { accepts = here; since = covers k d (omega arith); later = reached k d (omega arith) }))
+    (λ n. let other : get_or (set now i new) k d ≡ get_or now k d = get_or-set_other now i k new d n in subst (λ (z : CpuView). Joins (get_or was k d) all changes z) (sym other) (so_far k d (omega arith)))
 
 pub rest_same : (was now : List CpuView) (i : ℕ) (new : CpuView) → ((k : ℕ) (d : CpuView) → i ≤ k → get_or now k d ≡ get_or was k d) → (k : ℕ) (d : CpuView) → i + 1 ≤ k → get_or (set now i new) k d ≡ get_or was k d
 rest_same was now i new rest k d le = get_or-set_other now i k new d (λ e. omega arith) ∙ rest k d (omega arith)
 
 pub meets_from : (e e' e'' : EngineView) (cpus cpus' cpus'' : List CpuView) → CoversAll e cpus e' → cpus' ≡ cpus → e'' ≡ e' → length cpus'' ≡ length cpus'
-    → ((k : ℕ) (d : CpuView) → k < length cpus' → Joins (get_or cpus' k d) e'.seen (get_or cpus'' k d)) → Meets e cpus e'' cpus''
+    → ((k : ℕ) (d : CpuView) → k < length cpus' → Joins (get_or cpus' k d) e'.seen e'.changes (get_or cpus'' k d)) → Meets e cpus e'' cpus''
 meets_from e e' e'' cpus cpus' cpus'' h same_cpus steady count joined =
     subst (λ (z : EngineView). Meets e cpus z cpus'') (sym steady) record {
       found = h.found;
       one_each = h.one_each;
-      loads = h.loads;
+      steps = h.steps;
       same = h.same;
       mine = h.mine;
+      changes_are = h.changes_are;
       since = h.since;
       history = h.history;
       count = count ∙ ap length same_cpus;
-      each = λ k d lt. subst (λ (xs : List CpuView). Joins (get_or xs k d) e'.seen (get_or cpus'' k d)) same_cpus (joined k d (subst (λ (xs : List CpuView). k < length xs) (sym same_cpus) lt));
+      each = λ k d lt. subst (λ (xs : List CpuView). Joins (get_or xs k d) e'.seen e'.changes (get_or cpus'' k d)) same_cpus (joined k d (subst (λ (xs : List CpuView). k < length xs) (sym same_cpus) lt));
     }

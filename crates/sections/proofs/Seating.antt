@@ -9,11 +9,12 @@ use Rattle.onedom.proofs.Beginnings.{beginning_made_by}
 use Rattle.sections.specs.declared.view.Role.{Role}
 use Rattle.sections.specs.declared.view.Role.TheVariants.{Bearer, Cpu, Driver}
 use Rattle.sections.specs.declared.view.Right.TheVariants.{Nothing}
-use Rattle.sections.specs.declared.view.Load.{Load}
+use Rattle.sections.specs.declared.view.Step.{Step}
+use Rattle.sections.specs.declared.view.Step.TheVariants.{LoadIndex}
 use Rattle.sections.specs.declared.view.View.{View}
 use Rattle.sections.specs.Words.{word_count, index_word}
-use Rattle.sections.specs.Rule.{HasItsMaker, lacking, bearer, informed, adopting}
-use Rattle.sections.specs.Plays.{Owns, IsSound, index_load, Looks, Adds}
+use Rattle.sections.specs.Rule.{HasItsMaker, GoesOn, moment_of, lacking, bearer, informed, adopting}
+use Rattle.sections.specs.Plays.{Owns, IsSound, Sees}
 use Rattle.sections.specs.Seats.{Covers, Accepts}
 use Rattle.sections.specs.Insides.{IsAtRest}
 
@@ -45,8 +46,8 @@ owns_between Bearer mine a b c from ab bc to = tt
 owns_between (Cpu p) mine a b c from ab bc to = from ∙ sym (between (beginning_made_by (Processor p) ab) (beginning_made_by (Processor p) bc) (sym to ∙ from))
 owns_between (Driver k) mine a b c from ab bc to = from ∙ sym (between (beginning_made_by Engine ab) (beginning_made_by Engine bc) (sym to ∙ from))
 
-pub covers_from : (n : ℕ) (v o j w : View) → o.right ≡ Nothing → j ≡ informed v (bearer o) → Looks (index_load n) j w → n ≡ index_word w.seen → Covers v o w
-covers_from n v o j w free joined h current = let l : Looks (index_load n) (informed v (bearer o)) w = subst (λ (z : View). Looks (index_load n) z w) joined h in record {
+pub covers_from : (n : ℕ) (v o j w : View) → o.right ≡ Nothing → j ≡ informed v (bearer o) → Sees (LoadIndex n) j w → n ≡ index_word w.changes → ((k : ℕ) → j.role ≡ Driver k → w.changes ≡ j.changes) → Covers v o w
+covers_from n v o j w free joined h current driven = let l : Sees (LoadIndex n) (informed v (bearer o)) w = subst (λ (z : View). Sees (LoadIndex n) z w) joined h in record {
   value = n;
   current = current;
   processors = l.processors;
@@ -54,16 +55,19 @@ covers_from n v o j w free joined h current = let l : Looks (index_load n) (info
   mine = l.mine;
   right = l.right ∙ free;
   told = l.told;
-  loads = l.loads;
+  steps = l.steps;
   since = l.since;
-  covers = All-head (λ x. IsBeginning x w.seen) o.seen v.told l.covers;
+  later = l.later;
+  driven = subst (λ (z : View). (k : ℕ) → z.role ≡ Driver k → w.changes ≡ z.changes) joined driven;
+  covers = (All-head (λ m. GoesOn m (moment_of w)) (moment_of o) v.told l.covers).history;
+  not_before = (All-head (λ m. GoesOn m (moment_of w)) (moment_of o) v.told l.covers).changes;
   sound = l.sound;
 }
 
-pub accepts_from : (n : ℕ) (v o j w w' : View) → IsAtRest v → IsAtRest o → v.processors ≡ o.processors → IsBeginning v.seen o.seen → j ≡ informed v (bearer o) → Looks (index_load n) j w → w' ≡ adopting w (bearer (lacking o)) → Accepts v o w'
+pub accepts_from : (n : ℕ) (v o j w w' : View) → IsAtRest v → IsAtRest o → v.processors ≡ o.processors → IsBeginning v.seen o.seen → j ≡ informed v (bearer o) → Sees (LoadIndex n) j w → w' ≡ adopting w (bearer (lacking o)) → Accepts v o w'
 accepts_from n v o j w w' rests other sized since joined h adopted =
-    let l : Looks (index_load n) (informed v (bearer o)) w = subst (λ (z : View). Looks (index_load n) z w) joined h in
-    let covers : IsBeginning o.seen w.seen = All-head (λ x. IsBeginning x w.seen) o.seen v.told l.covers in
+    let l : Sees (LoadIndex n) (informed v (bearer o)) w = subst (λ (z : View). Sees (LoadIndex n) z w) joined h in
+    let covers : IsBeginning o.seen w.seen = (All-head (λ m. GoesOn m (moment_of w)) (moment_of o) v.told l.covers).history in
     let before : Owns w.role w.mine v.seen = subst (λ (z : Role × List Event). Owns z.0 z.1 v.seen) (λ i. (sym l.role i, sym l.mine i)) rests.sound.own in
     subst (λ (z : View). Accepts v o z) (sym adopted) record {
       value = n;
@@ -72,11 +76,16 @@ accepts_from n v o j w w' rests other sized since joined h adopted =
       mine = l.mine;
       right = refl;
       told = l.told;
-      loads = l.loads;
+      steps = l.steps;
       seen = refl;
+      changes = refl;
       sound = record {
         legal = other.sound.legal;
         makers = subst (λ (z : ℕ). All (HasItsMaker z) o.seen) (sym (l.processors ∙ sized)) other.sound.makers;
         own = owns_between w.role w.mine v.seen o.seen w.seen before since covers l.sound.own;
+        reaches = other.sound.reaches;
       };
     }
+
+pub rests_seen : (l : Step) (v w : View) → v.right ≡ Nothing → Sees l v w → IsAtRest w
+rests_seen l v w free h = record { free = h.right ∙ free; told = h.told; sound = h.sound }

@@ -1,11 +1,11 @@
 -- How the fields of a processor, of the engine's seat and of what they give out are seen, and what is always true of them.
-use Rattle.std.specs.Prelude.{◌≡◌, ℕ, ◌+◌, ◌*◌, ◌^◌, ◌<◌, ◌≤◌, [], length, slice_index, All}
+use Rattle.std.specs.Prelude.{◌≡◌, ℕ, ◌+◌, ◌*◌, ◌%◌, ◌^◌, ◌<◌, ◌≤◌, List, [], ◌∷◌, ◌++◌, length, slice_index, All}
 use Rattle.std.specs.Arc.{arc_value}
 use Rattle.atomic_table.specs.Seated.{TableId}
 use Rattle.sseq.specs.declared.index.Index.{Index}
 use Rattle.sseq.specs.Indexes.{index_number}
 use Rattle.onedom.specs.declared.event.Maker.TheVariants.{Processor, Engine}
-use Rattle.onedom.specs.Histories.{IsLegal, made_by, open_sections, IsRunning}
+use Rattle.onedom.specs.Histories.{IsLegal, made_by, open_sections}
 use Rattle.sections.specs.declared.view.Bounds.{Bounds}
 use Rattle.sections.specs.declared.view.View.{View}
 use Rattle.sections.specs.declared.view.Right.{Right}
@@ -14,12 +14,14 @@ use Rattle.sections.specs.declared.view.Role.TheVariants.{Cpu, Driver}
 use Rattle.sections.specs.declared.cpu.Cpu.TheInside as cpu
 use Rattle.sections.specs.declared.cpu.Look.TheInside as look
 use Rattle.sections.specs.declared.cpu.Reading.TheInside as reading
+use Rattle.sections.specs.declared.cpu.Cookie.TheInside as cookie
 use Rattle.sections.specs.declared.engine.EngineSeat.TheInside as engine
 use Rattle.sections.specs.Words.{locks, number_word}
 use Rattle.sections.specs.Rule.{token}
 use Rattle.sections.specs.Seats.{IsPlaced}
 use Rattle.sections.specs.Plays.{IsSound}
-use Rattle.sections.specs.Views.{CpuView, EngineView, LookView, ReadingView}
+use Rattle.sections.specs.Calls.{EndsWithNote}
+use Rattle.sections.specs.Views.{CpuView, EngineView, LookView, ReadingView, CookieView}
 
 abbrev pub section_of : Right → ℕ
 section_of Nothing = 0
@@ -29,25 +31,34 @@ section_of (Section s p i) = s
 pub record IsAtRest (v : View) : Type 0 where
   pub free : v.right ≡ Nothing
   pub told : v.told ≡ []
-  pub sound : IsSound v.processors v.role v.mine v.seen
+  pub sound : IsSound v.processors v.role v.mine v.seen v.changes
 
 abbrev pub view_of_look : look.Inside → LookView
-view_of_look l = record { domain = l.seat.table_id; index = l.index; seen = l.seat.me.0.seen }
+view_of_look l = record { domain = l.seat.table_id; index = l.index; seen = l.seat.me.0.seen; changes = l.seat.me.0.changes }
 
 pub record IsLook (l : look.Inside) : Type 0 where
   pub bare : l.seat.me.1 ≡ []
-  pub plain : l.seat.me.0 ≡ token l.seat.me.0.seen Nothing
+  pub plain : l.seat.me.0 ≡ token l.seat.me.0.seen l.seat.me.0.changes Nothing
 
 abbrev pub view_of_reading : reading.Inside → ReadingView
-view_of_reading r = record { domain = r.seat.table_id; section = section_of r.seat.me.0.right; processor = r.processor; index = r.index; seen = r.seat.me.0.seen }
+view_of_reading r = record { domain = r.seat.table_id; section = section_of r.seat.me.0.right; processor = r.processor; index = r.index; seen = r.seat.me.0.seen; changes = r.seat.me.0.changes }
 
 pub record IsReading (r : reading.Inside) : Type 0 where
   pub bare : r.seat.me.1 ≡ []
   pub right : r.seat.me.0.right ≡ Section (section_of r.seat.me.0.right) r.processor r.index
 
+abbrev pub view_of_cookie : cookie.Inside → CookieView
+view_of_cookie k = record { domain = k.seat.table_id; number = k.number; seen = k.seat.me.0.seen; changes = k.seat.me.0.changes }
+
+pub record IsCookie (k : cookie.Inside) : Type 0 where
+  pub bare : k.seat.me.1 ≡ []
+  pub plain : k.seat.me.0 ≡ token k.seat.me.0.seen k.seat.me.0.changes Nothing
+  pub given : EndsWithNote k.number k.seat.me.0.seen
+  pub whole : k.number % 4 ≡ 0
+
 module _ {A : Type 0} where
   abbrev pub view_of_cpu : cpu.Inside A → CpuView
-  view_of_cpu c = record { domain = c.seat.table_id; processors = (arc_value c.table).shared.key.processors; sections = c.limit; processor = c.processor; seen = c.seat.me.0.seen; mine = c.seat.me.0.mine; loads = c.seat.me.0.loads }
+  view_of_cpu c = record { domain = c.seat.table_id; processors = (arc_value c.table).shared.key.processors; sections = c.limit; processor = c.processor; seen = c.seat.me.0.seen; changes = c.seat.me.0.changes; mine = c.seat.me.0.mine; steps = c.seat.me.0.steps }
 
   pub record IsCpu (c : cpu.Inside A) : Type 0 where
     pub placed : IsPlaced (arc_value c.table).shared.key (arc_value c.table).shared.table_id c.seat
@@ -62,11 +73,15 @@ module _ {A : Type 0} where
     pub few : c.unclosed ≤ slice_index c.begun 0 + slice_index c.begun 1
 
   abbrev pub view_of_engine : engine.Inside A → EngineView
-  view_of_engine e = record { domain = e.seat.table_id; processors = (arc_value e.table).shared.key.processors; periods = e.periods; seen = e.seat.me.0.seen; mine = e.seat.me.0.mine; loads = e.seat.me.0.loads }
+  view_of_engine e = record { domain = e.seat.table_id; processors = (arc_value e.table).shared.key.processors; periods = e.periods; seen = e.seat.me.0.seen; changes = e.seat.me.0.changes; mine = e.seat.me.0.mine; steps = e.seat.me.0.steps }
 
   pub record IsEngine (e : engine.Inside A) : Type 0 where
     pub placed : IsPlaced (arc_value e.table).shared.key (arc_value e.table).shared.table_id e.seat
     pub rests : IsAtRest e.seat.me.0
     pub role : e.seat.me.0.role ≡ Driver (arc_value e.table).shared.key.processors
-    pub number : e.number ≡ number_word e.seat.me.0.mine
-    pub periods : e.periods < 2 ^ 59
+    pub processors : e.processors ≡ (arc_value e.table).shared.key.processors
+    pub some : 1 ≤ e.processors
+    pub number : e.number ≡ number_word e.seat.me.0.changes
+    pub periods : e.periods ≡ (arc_value e.table).shared.key.periods
+    pub small : e.periods < 2 ^ 59
+    pub few : e.seat.me.0.changes ≤ 4 * e.periods

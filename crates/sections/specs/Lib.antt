@@ -7,6 +7,8 @@ pub mod Rule
 pub mod Plays
 pub mod Seats
 pub mod Views
-pub mod Insides
 pub mod Calls
+pub mod Driving
+pub mod Insides
+pub mod Laws
 pub mod Making

@@ -8,10 +8,11 @@ use Rattle.sections.specs.declared.limits.MakeError.TheVariants as refused
 use Rattle.sections.specs.declared.view.Role.TheVariants.{Driver}
 use Rattle.sections.specs.Limits.{AreInRange}
 use Rattle.sections.specs.Words.{word_count}
-use Rattle.sections.specs.Rule.{founder}
+use Rattle.sections.specs.Rule.{AreSmall, founder}
 use Rattle.sections.specs.Seats.{Place}
 use Rattle.sections.specs.Views.{CpuView, EngineView}
-use Rattle.sections.specs.Calls.{new_engine, AreNew}
+use Rattle.sections.specs.Calls.{AreNew}
+use Rattle.sections.specs.Driving.{new_engine}
 
 -- a domain has 1 or 2 processors
 abbrev pub IsCount : ℕ → Type 0
@@ -19,8 +20,9 @@ IsCount processors = (1 ≤ processors) × (processors ≤ 2)
 
 -- in a domain of these bounds no counter comes near 2 ^ 64
 pub record IsSmall (bounds : Bounds) : Type 0 where
+  pub some : 1 ≤ bounds.processors
   pub processors : bounds.processors ≤ 256
-  pub product : 2 * bounds.processors * bounds.sections < 2 ^ 62
+  pub words : AreSmall bounds
 
 -- the seat is the engine's and that of the processors from k on, and nothing has happened
 pub record IsFounder (bounds key : Bounds) (table : TableId) (k : ℕ) (seat : Place) : Type 0 where
@@ -33,13 +35,13 @@ abbrev pub NewTable : Bounds → Bounds → TableId → Place → Type 0
 NewTable bounds key table seat = IsFounder bounds key table 0 seat
 
 abbrev pub bounds_of : ℕ → Limits → Bounds
-bounds_of processors limits = record { processors = processors; sections = limits.sections }
+bounds_of processors limits = record { processors = processors; sections = limits.sections; periods = limits.periods }
 
 -- the processors in order, and the engine's seat, all knowing of nothing yet
-pub record IsMade (bounds : Bounds) (periods : ℕ) (cpus : List CpuView) (engine : EngineView) : Type 0 where
+pub record IsMade (bounds : Bounds) (cpus : List CpuView) (engine : EngineView) : Type 0 where
   pub count : length cpus ≡ bounds.processors
   pub cpus_new : AreNew engine.domain bounds.processors bounds.sections cpus
-  pub engine_new : engine ≡ new_engine engine.domain bounds.processors periods
+  pub engine_new : engine ≡ new_engine engine.domain bounds.processors bounds.periods
 
 -- a refusal holds, and none before it
 abbrev pub IsRefusal : ℕ → Limits → MakeError → Type 0

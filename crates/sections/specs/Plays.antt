@@ -1,20 +1,21 @@
 -- What each step on a domain's table tells the seat that makes it.
-use Rattle.std.specs.Prelude.{◌≡◌, ℕ, ◌<◌, List, [], ◌∷◌, ◌++◌, All, Option}
-use Rattle.atomic_table.specs.Table.{Me, Step}
+use Rattle.std.specs.Prelude.{◌≡◌, ℕ, ◌+◌, ◌%◌, ◌^◌, ◌<◌, ◌≤◌, nat_le, List, [], ◌∷◌, ◌++◌, length, All, Option}
+use Rattle.atomic_table.specs.Table.{Me, Step as TableStep}
 use Rattle.sseq.specs.declared.index.Index.{Index}
+use Rattle.sseq.specs.Numbers.{cookie_at}
 use Rattle.onedom.specs.declared.event.Maker.TheVariants.{Processor, Engine}
 use Rattle.onedom.specs.declared.event.Event.{Event}
-use Rattle.onedom.specs.declared.event.Event.TheVariants.{Begin, End, Start}
+use Rattle.onedom.specs.declared.event.Event.TheVariants.{Begin, End, Start, Finish, Note, Ask}
 use Rattle.onedom.specs.Histories.{begins_of, IsLegal, made_by, IsBeginning}
 use Rattle.sections.specs.declared.view.Role.{Role}
 use Rattle.sections.specs.declared.view.Role.TheVariants.{Bearer, Cpu, Driver}
 use Rattle.sections.specs.declared.view.Right.{Right}
 use Rattle.sections.specs.declared.view.Right.TheVariants.{Nothing, Section}
-use Rattle.sections.specs.declared.view.Word.TheVariants.{IndexWord}
-use Rattle.sections.specs.declared.view.Load.{Load}
+use Rattle.sections.specs.declared.view.Step.{Step}
+use Rattle.sections.specs.declared.view.Step.TheVariants.{LoadIndex, LoadUnlocks, LoadLocks, AddIndex, AddNumber}
 use Rattle.sections.specs.declared.view.View.{View}
-use Rattle.sections.specs.Words.{index_place, index_word, lock_place}
-use Rattle.sections.specs.Rule.{HasItsMaker}
+use Rattle.sections.specs.Words.{index_place, number_place, lock_place, unlock_place, locks, unlocks, all_locks, index_word, number_word, Reaches}
+use Rattle.sections.specs.Rule.{HasItsMaker, GoesOn, moment_of}
 
 -- the maker's own events are all of its events in what was seen
 abbrev pub Owns : Role → List Event → List Event → Type 0
@@ -23,56 +24,91 @@ Owns (Cpu p) mine seen = mine ≡ made_by (Processor p) seen
 Owns (Driver k) mine seen = mine ≡ made_by Engine seen
 
 -- what was seen is a legal history of a domain of so many processors, in which the maker finds its own events and no others of its own
-pub record IsSound (processors : ℕ) (role : Role) (mine seen : List Event) : Type 0 where
+pub record IsSound (processors : ℕ) (role : Role) (mine seen : List Event) (changes : ℕ) : Type 0 where
   pub legal : IsLegal seen
   pub makers : All (HasItsMaker processors) seen
   pub own : Owns role mine seen
+  pub reaches : Reaches changes seen
 
-abbrev pub index_load : ℕ → Load
-index_load n = record { word = IndexWord; value = n }
-
--- what is seen covers what was seen before and all that was told, the load is noted, and nothing else changes
-pub record Looks (l : Load) (v w : View) : Type 0 where
+-- what is seen covers what was seen before and all that was told, the step is noted, and nothing else changes
+pub record Sees (l : Step) (v w : View) : Type 0 where
   pub processors : w.processors ≡ v.processors
   pub role : w.role ≡ v.role
   pub mine : w.mine ≡ v.mine
   pub right : w.right ≡ v.right
   pub told : w.told ≡ []
-  pub loads : w.loads ≡ v.loads ++ l ∷ []
+  pub steps : w.steps ≡ v.steps ++ l ∷ []
   pub since : IsBeginning v.seen w.seen
-  pub covers : All (λ h. IsBeginning h w.seen) v.told
-  pub sound : IsSound w.processors w.role w.mine w.seen
+  pub later : v.changes ≤ w.changes
+  pub covers : All (λ m. GoesOn m (moment_of w)) v.told
+  pub sound : IsSound w.processors w.role w.mine w.seen w.changes
 
 -- the event was added behind all that was seen before and all that was told
 pub record Adds (v : View) (e : Event) (w : View) : Type 0 where
   pub before : List Event
   pub seen : w.seen ≡ before ++ e ∷ []
   pub since : IsBeginning v.seen before
-  pub covers : All (λ h. IsBeginning h before) v.told
+  pub later : v.changes ≤ w.changes
+  pub covers : All (λ m. GoesOn m record { history = before; changes = w.changes }) v.told
   pub processors : w.processors ≡ v.processors
   pub role : w.role ≡ v.role
   pub mine : w.mine ≡ v.mine ++ e ∷ []
   pub told : w.told ≡ []
-  pub loads : w.loads ≡ v.loads
-  pub sound : IsSound w.processors w.role w.mine w.seen
+  pub steps : w.steps ≡ v.steps
+  pub sound : IsSound w.processors w.role w.mine w.seen w.changes
 
 abbrev pub Sat : Type 0
 Sat = Me (Option ℕ) View
 
--- load of the index word
-abbrev pub looked : Step (Option ℕ) → Sat → ℕ → Sat → Type 0
-looked st m n m' = (m'.1 ≡ m.1) × Looks (index_load n) m.0 m'.0 × (n ≡ index_word m'.0.seen) × (st.word ≡ index_place)
+-- load of the index word. Nobody but the engine changes it, so the engine finds it as it left it
+abbrev pub looked : TableStep (Option ℕ) → Sat → ℕ → Sat → Type 0
+looked st m n m' = (m'.1 ≡ m.1) × Sees (LoadIndex n) m.0 m'.0 × (n ≡ index_word m'.0.changes) × (st.word ≡ index_place) × ((k : ℕ) → m.0.role ≡ Driver k → m'.0.changes ≡ m.0.changes)
 
 -- increment of a lock counter: a section that never was begins
-abbrev pub began : Step (Option ℕ) → Sat → ℕ → Sat → Type 0
+abbrev pub began : TableStep (Option ℕ) → Sat → ℕ → Sat → Type 0
 began st m n m' = (m'.1 ≡ m.1) × ((p : ℕ) (i : Index) → m.0.role ≡ Cpu p → st.word ≡ lock_place p i
     → (s : ℕ) × Adds m.0 (Begin s p i (Processor p)) m'.0 × (m'.0.right ≡ Section s p i))
 
 -- increment of an unlock counter: the section of the seat's right ends
-abbrev pub ended : Step (Option ℕ) → Sat → ℕ → Sat → Type 0
+abbrev pub ended : TableStep (Option ℕ) → Sat → ℕ → Sat → Type 0
 ended st m n m' = (m'.1 ≡ m.1) × (m'.0.right ≡ Nothing) × ((s p q : ℕ) (i : Index) → m.0.role ≡ Cpu q → m.0.right ≡ Section s p i
     → Adds m.0 (End s q (Processor q)) m'.0 × (p ≡ q → begins_of s m.0.mine ≡ 1))
 
--- addition of 1 to the number: a grace period starts
-abbrev pub started : Step (Option ℕ) → Sat → ℕ → Sat → Type 0
-started st m n m' = (m'.1 ≡ m.1) × (m'.0.right ≡ m.0.right) × ((k : ℕ) → m.0.role ≡ Driver k → Adds m.0 (Start Engine) m'.0)
+-- the number was found, as it then was
+pub record FindsNumber (n : ℕ) (w : View) : Type 0 where
+  pub current : n ≡ number_word w.changes
+  pub room : n + 4 ≤ 2 ^ 61
+
+-- load of the number: a cookie is given
+abbrev pub noted : TableStep (Option ℕ) → Sat → ℕ → Sat → Type 0
+noted st m n m' = (m'.1 ≡ m.1) × (m'.0.right ≡ m.0.right) × FindsNumber n m'.0 × ((p : ℕ) → m.0.role ≡ Cpu p → Adds m.0 (Note (cookie_at n) (Processor p)) m'.0)
+
+-- load of the number: somebody asks after this cookie
+abbrev pub asked : ℕ → TableStep (Option ℕ) → Sat → ℕ → Sat → Type 0
+asked cookie st m n m' = (m'.1 ≡ m.1) × (m'.0.right ≡ m.0.right) × FindsNumber n m'.0 × ((p : ℕ) → m.0.role ≡ Cpu p → Adds m.0 (Ask cookie (nat_le cookie n) (Processor p)) m'.0)
+
+-- The engine's
+
+-- load of an unlock counter
+abbrev pub counted_unlocks : TableStep (Option ℕ) → Sat → ℕ → Sat → Type 0
+counted_unlocks st m n m' = (m'.1 ≡ m.1) × (m'.0.changes ≡ m.0.changes) × ((q : ℕ) (i : Index) → st.word ≡ unlock_place q i → Sees (LoadUnlocks q i n (length m'.0.seen)) m.0 m'.0 × (n ≡ unlocks q i m'.0.seen) × (all_locks m.0.processors i m'.0.seen < 2 ^ 62))
+
+-- load of a lock counter
+abbrev pub counted_locks : TableStep (Option ℕ) → Sat → ℕ → Sat → Type 0
+counted_locks st m n m' = (m'.1 ≡ m.1) × (m'.0.changes ≡ m.0.changes) × ((p : ℕ) (i : Index) → st.word ≡ lock_place p i → Sees (LoadLocks p i n (length m'.0.seen)) m.0 m'.0 × (n ≡ locks p i m'.0.seen) × (all_locks m.0.processors i m'.0.seen < 2 ^ 62))
+
+-- addition of 1 to the number, at rest: a grace period starts
+abbrev pub started : TableStep (Option ℕ) → Sat → ℕ → Sat → Type 0
+started st m n m' = (m'.1 ≡ m.1) × (m'.0.right ≡ m.0.right) × (m'.0.changes ≡ m.0.changes + 1) × Adds m.0 (Start Engine) m'.0
+
+-- addition of 1 to the index word
+abbrev pub flipped : TableStep (Option ℕ) → Sat → ℕ → Sat → Type 0
+flipped st m n m' = (m'.1 ≡ m.1) × (m'.0.changes ≡ m.0.changes + 1) × Sees (AddIndex (n + 1)) m.0 m'.0 × (n + 1 ≡ index_word m'.0.changes)
+
+-- addition of 1 to the number, behind the flip
+abbrev pub moved_on : TableStep (Option ℕ) → Sat → ℕ → Sat → Type 0
+moved_on st m n m' = (m'.1 ≡ m.1) × (m'.0.changes ≡ m.0.changes + 1) × Sees (AddNumber (n + 1)) m.0 m'.0 × (n + 1 ≡ number_word m'.0.changes)
+
+-- addition of 2 to the number: the grace period ends
+abbrev pub finished : TableStep (Option ℕ) → Sat → ℕ → Sat → Type 0
+finished st m n m' = (m'.1 ≡ m.1) × (m'.0.right ≡ m.0.right) × (m'.0.changes ≡ m.0.changes + 1) × Adds m.0 (Finish Engine) m'.0

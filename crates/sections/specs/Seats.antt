@@ -1,17 +1,20 @@
 -- What the steps do to the seats that they are made with.
-use Rattle.std.specs.Prelude.{◌≡◌, ℕ, ◌<◌, List, [], ◌∷◌, ◌++◌, Option}
+use Rattle.std.specs.Prelude.{◌≡◌, ℕ, ◌<◌, ◌≤◌, nat_le, Bool, List, [], ◌∷◌, ◌++◌, Option}
 use Rattle.atomic_table.specs.Seated.{TableId}
 use Rattle.atomic_table.specs.declared.shared.Seat.{Seat}
 use Rattle.sseq.specs.declared.index.Index.{Index}
 use Rattle.onedom.specs.declared.event.Maker.TheVariants.{Processor}
-use Rattle.onedom.specs.declared.event.Event.TheVariants.{Begin}
+use Rattle.onedom.specs.declared.event.Event.TheVariants.{Begin, Note, Ask}
 use Rattle.onedom.specs.Histories.{IsBeginning}
 use Rattle.sections.specs.declared.view.Bounds.{Bounds}
 use Rattle.sections.specs.declared.view.View.{View}
 use Rattle.sections.specs.declared.view.Right.TheVariants.{Nothing, Section}
+use Rattle.sections.specs.declared.view.Step.TheVariants.{LoadIndex}
+use Rattle.sections.specs.declared.view.Role.TheVariants.{Cpu, Driver}
 use Rattle.sections.specs.Words.{word_count, index_word}
 use Rattle.sections.specs.Rule.{lacking, bearer}
-use Rattle.sections.specs.Plays.{IsSound, Adds, index_load}
+use Rattle.sections.specs.Plays.{IsSound, Adds, FindsNumber}
+use Rattle.sseq.specs.Numbers.{cookie_at}
 
 abbrev pub Place : Type 0
 Place = Seat (Option ℕ) View
@@ -33,21 +36,42 @@ pub record BeginsSection (p : ℕ) (i : Index) (seat seat' token : Place) : Type
   pub stays : seat'.me ≡ (lacking after, [])
   pub given : token.me ≡ (bearer after, [])
 
--- after one load, w has seen what v and o have, and else is as v was
+-- the number was loaded, and the cookie of it was given
+pub record NotesNumber (seat : Place) (number : ℕ) (seat' : Place) : Type 0 where
+  pub same_table : seat'.table_id ≡ seat.table_id
+  pub bare : seat'.me.1 ≡ seat.me.1
+  pub right : seat'.me.0.right ≡ seat.me.0.right
+  pub finds : FindsNumber number seat'.me.0
+  pub adds : (p : ℕ) → seat.me.0.role ≡ Cpu p → Adds seat.me.0 (Note (cookie_at number) (Processor p)) seat'.me.0
+
+-- the number was loaded, and who asked was told whether it has reached the cookie
+pub record AsksNumber (cookie : ℕ) (seat : Place) (answer : Bool) (seat' : Place) : Type 0 where
+  pub number : ℕ
+  pub same_table : seat'.table_id ≡ seat.table_id
+  pub bare : seat'.me.1 ≡ seat.me.1
+  pub right : seat'.me.0.right ≡ seat.me.0.right
+  pub finds : FindsNumber number seat'.me.0
+  pub answer_is : answer ≡ nat_le cookie number
+  pub adds : (p : ℕ) → seat.me.0.role ≡ Cpu p → Adds seat.me.0 (Ask cookie answer (Processor p)) seat'.me.0
+
+-- after one load of the index word, w has seen what v and o have, and else is as v was
 pub record Covers (v o w : View) : Type 0 where
   pub value : ℕ
-  pub current : value ≡ index_word w.seen
+  pub current : value ≡ index_word w.changes
   pub processors : w.processors ≡ v.processors
   pub role : w.role ≡ v.role
   pub mine : w.mine ≡ v.mine
   pub right : w.right ≡ Nothing
   pub told : w.told ≡ []
-  pub loads : w.loads ≡ v.loads ++ index_load value ∷ []
+  pub steps : w.steps ≡ v.steps ++ LoadIndex value ∷ []
   pub since : IsBeginning v.seen w.seen
+  pub later : v.changes ≤ w.changes
+  pub driven : (k : ℕ) → v.role ≡ Driver k → w.changes ≡ v.changes
   pub covers : IsBeginning o.seen w.seen
-  pub sound : IsSound w.processors w.role w.mine w.seen
+  pub not_before : o.changes ≤ w.changes
+  pub sound : IsSound w.processors w.role w.mine w.seen w.changes
 
--- after one load, w has seen just what o has, and else is as v was
+-- after one load of the index word, w has seen just what o has, and else is as v was
 pub record Accepts (v o w : View) : Type 0 where
   pub value : ℕ
   pub processors : w.processors ≡ v.processors
@@ -55,9 +79,14 @@ pub record Accepts (v o w : View) : Type 0 where
   pub mine : w.mine ≡ v.mine
   pub right : w.right ≡ Nothing
   pub told : w.told ≡ []
-  pub loads : w.loads ≡ v.loads ++ index_load value ∷ []
+  pub steps : w.steps ≡ v.steps ++ LoadIndex value ∷ []
   pub seen : w.seen ≡ o.seen
-  pub sound : IsSound w.processors w.role w.mine w.seen
+  pub changes : w.changes ≡ o.changes
+  pub sound : IsSound w.processors w.role w.mine w.seen w.changes
+
+-- it is the seat of one of so many processors
+abbrev pub IsOfProcessor : ℕ → View → Type 0
+IsOfProcessor processors v = (p : ℕ) × (v.role ≡ Cpu p) × (p < processors)
 
 -- the same seat at the same table
 pub record IsSameSeat (seat seat' : Place) : Type 0 where

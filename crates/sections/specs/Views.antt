@@ -3,30 +3,33 @@ use Rattle.std.specs.Prelude.{ℕ, List}
 use Rattle.atomic_table.specs.Seated.{TableId}
 use Rattle.sseq.specs.declared.index.Index.{Index}
 use Rattle.onedom.specs.declared.event.Event.{Event}
-use Rattle.sections.specs.declared.view.Load.{Load}
+use Rattle.sections.specs.declared.view.Step.{Step}
 
--- `domain` is the table of the domain, `processors` how many processors it has, `sections` how many sections of one index this one may begin, `processor` its number. `seen` is the history as far as this processor has seen it, `mine` its own events in it, and `loads` are the loads that it made
+-- `domain` is the table of the domain, `processors` how many processors it has, `sections` how many sections of one index this one may begin, `processor` its number. `seen` is the history as far as this processor has seen it, and `changes` how often the engine had changed the number and the index word by then. `mine` are its own events in the history, and `steps` its steps that are no events
 pub record CpuView : Type 0 where
   pub domain : TableId
   pub processors : ℕ
   pub sections : ℕ
   pub processor : ℕ
   pub seen : List Event
+  pub changes : ℕ
   pub mine : List Event
-  pub loads : List Load
+  pub steps : List Step
 
 pub record EngineView : Type 0 where
   pub domain : TableId
   pub processors : ℕ
   pub periods : ℕ
   pub seen : List Event
+  pub changes : ℕ
   pub mine : List Event
-  pub loads : List Load
+  pub steps : List Step
 
 pub record LookView : Type 0 where
   pub domain : TableId
   pub index : Index
   pub seen : List Event
+  pub changes : ℕ
 
 pub record ReadingView : Type 0 where
   pub domain : TableId
@@ -34,3 +37,10 @@ pub record ReadingView : Type 0 where
   pub processor : ℕ
   pub index : Index
   pub seen : List Event
+  pub changes : ℕ
+
+pub record CookieView : Type 0 where
+  pub domain : TableId
+  pub number : ℕ
+  pub seen : List Event
+  pub changes : ℕ

@@ -1,13 +1,12 @@
 -- The words of a domain's table, and what they say of its history.
 -- Word 0 is the index word and word 16 the number. Processor p has the words 16 p + 32 and 16 p + 33 as its lock counters, of index 0 and 1, and 16 p + 34 and 16 p + 35 as its unlock counters.
-use Rattle.std.specs.Prelude.{◌≡◌, ℕ, ◌+◌, ◌*◌, ◌<◌, ◌==◌, ◌&&◌, nat_lt, Bool, true, false, List, [], ◌∷◌, ◌++◌, length, slice_index, count_by, if◌then◌else◌}
+use Rattle.std.specs.Prelude.{◌≡◌, ℕ, zero, suc, ◌+◌, ◌*◌, ◌/◌, ◌%◌, ◌<◌, ◌==◌, ◌&&◌, ◌⊎◌, Bool, true, false, List, [], ◌∷◌, ◌++◌, length, slice_index, count_by, if◌then◌else◌}
 use Rattle.sseq.specs.declared.index.Index.{Index}
-use Rattle.sseq.specs.declared.number.Phase.TheVariants.{Idle, Scan1}
-use Rattle.sseq.specs.Indexes.{index_number, same_index}
-use Rattle.sseq.specs.Numbers.{number_at}
+use Rattle.sseq.specs.declared.index.Index.TheVariants.{Zero, One}
+use Rattle.sseq.specs.Indexes.{index_number, low_bit, same_index}
 use Rattle.onedom.specs.declared.event.Event.{Event}
-use Rattle.onedom.specs.declared.event.Event.TheVariants.{Begin, End, Start}
-use Rattle.onedom.specs.Histories.{index_of, ended_in, starts_in}
+use Rattle.onedom.specs.declared.event.Event.TheVariants.{Begin, End}
+use Rattle.onedom.specs.Histories.{index_of, ended_in, starts_in, IsRunning}
 
 -- Where the words stand
 
@@ -26,12 +25,11 @@ unlock_place p i = 16 * p + index_number i + 34
 abbrev pub word_count : ℕ → ℕ
 word_count processors = 16 * processors + 32
 
--- What they count
+-- What the counters count
 
 abbrev pub locks_at : ℕ → Index → Event → Bool
 locks_at p i (Begin s q j by) = (q == p) && same_index j i
-locks_at p i (End s q by) = false
-locks_at p i (Start by) = false
+locks_at p i e = false
 
 -- how many sections of index i were begun on processor p
 abbrev pub locks : ℕ → Index → List Event → ℕ
@@ -39,9 +37,8 @@ locks p i history = count_by (locks_at p i) history
 
 -- a section ends on processor q, and those events tell that it was begun with index i
 abbrev pub unlocks_at : ℕ → Index → List Event → Event → Bool
-unlocks_at q i before (Begin s p j by) = false
 unlocks_at q i before (End s p by) = (p == q) && same_index (index_of s before) i
-unlocks_at q i before (Start by) = false
+unlocks_at q i before e = false
 
 abbrev pub unlocks_after : ℕ → Index → List Event → List Event → ℕ
 unlocks_after q i before [] = 0
@@ -51,18 +48,62 @@ unlocks_after q i before (e ∷ es) = (if unlocks_at q i before e then 1 else 0)
 abbrev pub unlocks : ℕ → Index → List Event → ℕ
 unlocks q i history = unlocks_after q i [] history
 
--- the index word counts the flips: one in each grace period that has ended
-abbrev pub index_word : List Event → ℕ
-index_word history = ended_in history
+-- the sum over the processors below this one
+abbrev pub sum_below : (ℕ → ℕ) → ℕ → ℕ
+sum_below f zero = 0
+sum_below f (suc k) = sum_below f k + f k
 
--- the number: four for each period that has ended, and 1 more while one runs
-abbrev pub number_word : List Event → ℕ
-number_word history = number_at (ended_in history) (if nat_lt (ended_in history) (starts_in history) then Scan1 else Idle)
+-- how many sections of an index were begun, and how many have ended, on all processors of the domain
+abbrev pub all_locks : ℕ → Index → List Event → ℕ
+all_locks processors i history = sum_below (λ p. locks p i history) processors
 
--- the words agree with the history
-pub record Agree (processors : ℕ) (words : List ℕ) (history : List Event) : Type 0 where
+abbrev pub all_unlocks : ℕ → Index → List Event → ℕ
+all_unlocks processors i history = sum_below (λ q. unlocks q i history) processors
+
+-- What the engine changes
+-- It changes the words four times in each grace period: the number at its start, the index word and the number at the flip, and the number at its end.
+
+-- after so many changes, whether no period runs, one runs that has not flipped, one is between the two steps of the flip, or the second scan may begin
+abbrev pub IsIdle : ℕ → Type 0
+IsIdle changes = changes % 4 ≡ 0
+
+abbrev pub IsBeforeFlip : ℕ → Type 0
+IsBeforeFlip changes = changes % 4 ≡ 1
+
+abbrev pub IsFlipping : ℕ → Type 0
+IsFlipping changes = changes % 4 ≡ 2
+
+abbrev pub IsBehindFlip : ℕ → Type 0
+IsBehindFlip changes = changes % 4 ≡ 3
+
+-- the index word counts the flips
+abbrev pub index_word : ℕ → ℕ
+index_word changes = (changes + 2) / 4
+
+-- the number: four for each period that has ended, 1 more while one runs, and 2 more behind the flip
+abbrev pub number_word : ℕ → ℕ
+number_word changes = 4 * (changes / 4) + (changes % 4 + 1) / 2
+
+-- as many periods were started and have ended in the history
+pub record Reaches (changes : ℕ) (history : List Event) : Type 0 where
+  pub started : starts_in history ≡ (changes + 3) / 4
+  pub ended : ended_in history ≡ changes / 4
+
+-- What the words say
+
+-- the words agree with the history, in which the engine has changed two of them so often
+pub record Agree (processors : ℕ) (words : List ℕ) (history : List Event) (changes : ℕ) : Type 0 where
   pub wide : length words ≡ word_count processors
-  pub index : slice_index words index_place ≡ index_word history
-  pub number : slice_index words number_place ≡ number_word history
+  pub reaches : Reaches changes history
+  pub index : slice_index words index_place ≡ index_word changes
+  pub number : slice_index words number_place ≡ number_word changes
   pub lock_counters : (p : ℕ) (i : Index) → p < processors → slice_index words (lock_place p i) ≡ locks p i history
   pub unlock_counters : (q : ℕ) (i : Index) → q < processors → slice_index words (unlock_place q i) ≡ unlocks q i history
+
+-- a number and an index word that a domain with this history may have: four for each ended period, and 1 or 2 more while one runs; and as many flips as periods have ended, one more in the second scan, and one of the two before it
+pub record MayHave (history : List Event) (number index : ℕ) : Type 0 where
+  pub resting : ¬ IsRunning history → number ≡ 4 * ended_in history
+  pub running : IsRunning history → (number ≡ 4 * ended_in history + 1) ⊎ (number ≡ 4 * ended_in history + 2)
+  pub index_idle : number % 4 ≡ 0 → index ≡ ended_in history
+  pub index_first_scan : number % 4 ≡ 1 → (index ≡ ended_in history) ⊎ (index ≡ ended_in history + 1)
+  pub index_second_scan : number % 4 ≡ 2 → index ≡ ended_in history + 1

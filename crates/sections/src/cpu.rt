@@ -9,6 +9,7 @@ use std::fmt;
 use std::marker::Model;
 use std::sync::Arc;
 
+mod cookies;
 mod sections;
 pub(crate) mod steps;
 mod tokens;
@@ -84,6 +85,42 @@ impl Model for Reading {
 
     ghost invariant = { IsReading };
 }
+
+/// The number that the domain has once a full grace period has gone by that was still to start when the cookie was
+/// given (`get_state_synchronize_srcu`). Any processor of the domain may ask after it, as often as it likes.
+#[derive(Drop)]
+pub struct Cookie {
+    pub(crate) number: u64,
+    pub(crate) seat: Place,
+}
+
+impl Model for Cookie {
+    ghost use Rattle.sections.specs.Views.{CookieView};
+
+    ghost Value = { CookieView };
+
+    ghost use Rattle.sections.specs.Insides.{view_of_cookie, IsCookie};
+
+    ghost view = { view_of_cookie };
+
+    ghost invariant = { IsCookie };
+}
+
+/// This number is no cookie: it is not a multiple of four. Nothing was done.
+#[derive(Clone, Copy, Debug, PartialEq, Eq)]
+pub struct NotACookie;
+
+impl fmt::Display for NotACookie {
+    ghost use Rattle.std.specs.Prelude.{Some, codes};
+
+    ghost output = { λ _. Some (codes "a cookie is a multiple of four") };
+
+    fn fmt<W: fmt::Write>(&self, f: &mut fmt::Formatter<W>) -> fmt::Result {
+        f.write_str("a cookie is a multiple of four")
+    }
+}
+
+impl Error for NotACookie {}
 
 /// The processor has begun as many sections of this index as the limit allows. No section was begun.
 #[derive(Clone, Copy, Debug, PartialEq, Eq)]

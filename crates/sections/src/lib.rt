@@ -1,9 +1,10 @@
 //! The shared words of a sleepable RCU domain, its processors and its engine's seat. Each step of each thread is one
-//! event of one legal history, or a load that was made while that history stood still.
+//! event of one legal history, or none: a load, or a step of the flip, while that history stood still.
 #![tactic(auto)]
 
 mod cpu;
 mod engine;
+mod laws;
 mod limits;
 mod making;
 mod plays;
@@ -11,8 +12,9 @@ mod plays;
 mod tests;
 mod view;
 
-pub use cpu::{Cpu, Exhausted, Look, Reading};
+pub use cpu::{Cookie, Cpu, Exhausted, Look, NotACookie, Reading};
 pub use engine::EngineSeat;
+pub use laws::{sums_of_a_domain, words_of_a_domain};
 pub use limits::{Limits, MOST_PROCESSORS, MakeError};
 pub use making::{Made, make};
-pub use view::{Bounds, Load, Right, Role, View, Word};
+pub use view::{Bounds, Moment, Right, Role, Step, View};

@@ -61,14 +61,9 @@ fn deal<A: Allocator>(
     })
 }
 
-fn build<A: Allocator + Clone>(
-    alloc: A,
-    bounds: Bounds,
-    periods: u64,
-) -> Result<Made<A>, AllocError>
-    requires small { IsSmall bounds }
-    requires periods { periods < 2 ^ 59 }
-    ensures { IfOk result (λ m. IsMade bounds periods m.cpus.items m.engine) }
+fn build<A: Allocator + Clone>(alloc: A, bounds: Bounds) -> Result<Made<A>, AllocError>
+    requires { IsSmall bounds }
+    ensures { IfOk result (λ m. IsMade bounds m.cpus.items m.engine) }
 {
     let (table, mut seat) = new_table(alloc.clone()?, bounds)?;
     let table = Arc::new(alloc.clone()?, table)?;
@@ -81,8 +76,9 @@ fn build<A: Allocator + Clone>(
         engine: EngineSeat {
             table,
             seat,
+            processors: bounds.processors as u16,
             number: Number::zero(),
-            periods,
+            periods: bounds.periods,
         },
     })
 }
@@ -95,7 +91,7 @@ pub fn make<A: Allocator + Clone>(
     limits: Limits,
 ) -> Result<Made<A>, MakeError>
     ensures made { IfOk result (λ m.
-        IsMade (bounds_of processors limits) limits.periods m.cpus.items m.engine) }
+        IsMade (bounds_of processors limits) m.cpus.items m.engine) }
     ensures refused { IsRefused processors limits result }
 {
     if processors == 0 || processors > MOST_PROCESSORS {
@@ -107,8 +103,9 @@ pub fn make<A: Allocator + Clone>(
     let bounds = Bounds {
         processors,
         sections: limits.sections,
+        periods: limits.periods,
     };
-    match build(alloc, bounds, limits.periods) {
+    match build(alloc, bounds) {
         Ok(made) => Ok(made),
         Err(AllocError) => Err(MakeError::Memory),
     }

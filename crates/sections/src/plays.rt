@@ -1,9 +1,11 @@
 //! What each step on the table tells the one that makes it.
+ghost use Rattle.std.specs.Prelude.{ℕ};
 ghost use Rattle.sections.specs.Rule.{Kept, founder, lacking, bearer, informed, adopting, spent, dealer, dealt};
-ghost use Rattle.sections.specs.Plays.{looked, began, ended, started};
+ghost use Rattle.sections.specs.Plays.{looked, began, ended, noted, asked, counted_unlocks, counted_locks, started, flipped, moved_on, finished};
 
 use crate::view::{Bounds, View};
 use atomic_table::{Join, Play, Split, TableRule};
+use std::marker::{Brand, PhantomData};
 
 /// The table has no slots.
 pub(crate) type NoSlot = Option<u64>;
@@ -38,11 +40,69 @@ impl Play<NoSlot, View> for Unlock {
     ghost then = { ended };
 }
 
+/// Load of the number, for a cookie.
+pub(crate) struct NoteNumber;
+
+impl Play<NoSlot, View> for NoteNumber {
+    ghost then = { noted };
+}
+
+/// After which cookie somebody asks. Each call says it.
+pub trait Asked {
+    ghost cookie: { ℕ };
+}
+
+impl Asked for Brand {
+    ghost cookie = { 0 };
+}
+
+/// Load of the number, to tell whether a cookie is done.
+pub(crate) struct AskNumber<Q: Asked>(PhantomData<Q>);
+
+impl<Q: Asked> Play<NoSlot, View> for AskNumber<Q> {
+    ghost then = { asked Q.cookie };
+}
+
+/// Load of an unlock counter.
+pub(crate) struct CountUnlocks;
+
+impl Play<NoSlot, View> for CountUnlocks {
+    ghost then = { counted_unlocks };
+}
+
+/// Load of a lock counter.
+pub(crate) struct CountLocks;
+
+impl Play<NoSlot, View> for CountLocks {
+    ghost then = { counted_locks };
+}
+
 /// Addition of 1 to the number, at rest.
 pub(crate) struct StartPeriod;
 
 impl Play<NoSlot, View> for StartPeriod {
     ghost then = { started };
+}
+
+/// Addition of 1 to the index word.
+pub(crate) struct Flip;
+
+impl Play<NoSlot, View> for Flip {
+    ghost then = { flipped };
+}
+
+/// Addition of 1 to the number, behind the flip.
+pub(crate) struct MoveOn;
+
+impl Play<NoSlot, View> for MoveOn {
+    ghost then = { moved_on };
+}
+
+/// Addition of 2 to the number, behind both scans.
+pub(crate) struct FinishPeriod;
+
+impl Play<NoSlot, View> for FinishPeriod {
+    ghost then = { finished };
 }
 
 /// A new seat gets the right, and has seen as much.

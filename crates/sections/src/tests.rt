@@ -1,27 +1,32 @@
-ghost use Rattle.std.specs.Prelude.{◌≡◌, IfOk};
+ghost use Rattle.std.specs.Prelude.{◌≡◌, ◌+◌, IsTrue, IfOk, IfSome};
+ghost use Rattle.sseq.specs.Indexes.{low_bit};
+ghost use Rattle.sseq.specs.declared.index.Index.TheVariants.{One};
+ghost use Rattle.onedom.specs.Histories.{WasEmpty};
+ghost use Rattle.sections.specs.Words.{index_word, other_index, IsBeforeFlip, IsBehindFlip};
+ghost use Rattle.sections.specs.Driving.{IsSameEngine, IsSeenByEngine};
 
 use super::*;
 use crate::cpu::steps::{place_of_lock, place_of_unlock};
 use bumpalo::Bump;
 use linked_list_allocator::LocalHeap;
-use sseq::Index;
+use sseq::{Index, Number};
 use std::alloc::Global;
 use std::test::Fail;
 use std::thread::join;
 
 fn limits(sections: u64) -> Limits
-    ensures { result.periods ≡ 1 }
+    ensures { result.periods ≡ 2 }
 {
     Limits {
         sections,
-        periods: 1,
+        periods: 2,
         cells: 0,
     }
 }
 
 /// The two processors of a new domain and its engine's seat, once they have met.
 fn meet_in_new_domain(alloc: Global) -> Result<(Cpu, Cpu, EngineSeat), MakeError>
-    ensures { IfOk result (λ r. (r.0.domain ≡ r.2.domain) × (r.1.domain ≡ r.2.domain) × (r.2.periods ≡ 1)) }
+    ensures { IfOk result (λ r. (r.0.domain ≡ r.2.domain) × (r.1.domain ≡ r.2.domain) × (r.2.periods ≡ 2) × (r.2.processors ≡ 2) × (r.2.changes ≡ 0)) }
 {
     let Made {
         mut cpus,
@@ -31,6 +36,54 @@ fn meet_in_new_domain(alloc: Global) -> Result<(Cpu, Cpu, EngineSeat), MakeError
     let second = cpus.pop().unwrap();
     let first = cpus.pop().unwrap();
     Ok((first, second, engine))
+}
+
+/// A scan of the index: whether as many of its sections have ended on each processor as were begun there. Then none of
+/// them was open when the last unlock counter was loaded.
+fn scan(engine: &mut EngineSeat, index: Index) -> bool
+    requires { engine.old.processors ≡ 2 }
+    ensures same { IsSameEngine engine.old engine.new × (engine.new.changes ≡ engine.old.changes) }
+    ensures empty { IsTrue result → WasEmpty index engine.new.seen }
+    ensures still { (i : Index) → WasEmpty i engine.old.seen → WasEmpty i engine.new.seen }
+    ensures history { IsSeenByEngine engine.new }
+{
+    // For the proof: what holds of counters, and that the engine has seen a legal history.
+    sums_of_a_domain();
+    engine.processors();
+    let ended = engine.unlocks(0, index);
+    let ended_there = engine.unlocks(1, index);
+    let begun = engine.locks(0, index);
+    let begun_there = engine.locks(1, index);
+    ended == begun && ended_there == begun_there
+}
+
+/// The first scan of a period and both steps of the flip. `None` where a section of the index is open.
+fn flip_behind_scan(engine: &mut EngineSeat, index: Index) -> Option<(Index, Number)>
+    requires two { engine.old.processors ≡ 2 }
+    requires running { IsBeforeFlip engine.old.changes }
+    requires other { index ≡ other_index (low_bit (index_word engine.old.changes)) }
+    ensures same { IsSameEngine engine.old engine.new }
+    ensures flipped { IfSome result (λ _. (engine.new.changes ≡ engine.old.changes + 2) × WasEmpty index engine.new.seen) }
+{
+    if !scan(engine, index) {
+        return None;
+    }
+    let current = engine.flip();
+    Some((current, engine.add_scan2()))
+}
+
+/// The second scan of the first period, and its end. `None` where a section of index 0 is open.
+fn end_behind_scan(engine: &mut EngineSeat) -> Option<Number>
+    requires two { engine.old.processors ≡ 2 }
+    requires behind { IsBehindFlip engine.old.changes }
+    requires scanned { WasEmpty One engine.old.seen }
+    ensures same { IsSameEngine engine.old engine.new }
+    ensures ended { IfSome result (λ _. engine.new.changes ≡ engine.old.changes + 1) }
+{
+    if !scan(engine, Index::Zero) {
+        return None;
+    }
+    Some(engine.add_end())
 }
 
 /// Would catch calls that no caller can meet, and answers that every clause leaves open.
@@ -52,9 +105,11 @@ fn makes_a_domain(rt: HostRuntime) -> Result<(), Fail> {
     };
     assert_eq!(rt; (locked.index(), locked.processor()), (Index::Zero, 0));
 
+    assert_eq!(rt; (engine.processors(), engine.periods()), (2, 2));
     assert_eq!(rt; engine.number().get(), 0);
     assert_eq!(rt; engine.add_start().get(), 1);
     assert_eq!(rt; engine.number().get(), 1);
+    assert_eq!(rt; (first.number().get(), second.number().get()), (1, 1));
     first.tie(&mut second);
     engine.tie(&mut first);
 
@@ -79,6 +134,109 @@ fn makes_a_domain(rt: HostRuntime) -> Result<(), Fail> {
     };
     assert!(rt; full);
     assert_eq!(rt; (first.open_here(), second.open_here()), (0, 0));
+    Ok(())
+}
+
+/// Would catch a cookie that is done too early or too late, counters of the wrong processor or index, and a flip that
+/// leaves the index as it is. The look of the first period is older than the flip, so its section holds up the second.
+#[test]
+fn whole_period(rt: HostRuntime) -> Result<(), Fail> {
+    let (mut first, mut second, mut engine) = meet_in_new_domain(rt.alloc())?;
+    let mut at_rest = first.cookie();
+    assert_eq!(rt; (at_rest.number(), first.number().get()), (4, 0));
+    let look = first.look();
+    let Ok(reading) = second.read_lock() else {
+        panic!(rt; "there is room");
+    };
+    assert_eq!(rt; engine.add_start().get(), 1);
+    let mut running = second.cookie();
+    assert_eq!(rt; (running.number(), second.number().get()), (8, 1));
+    assert_eq!(rt;
+        (engine.locks(1, Index::Zero), engine.unlocks(1, Index::Zero)),
+        (1, 0)
+    );
+    assert_eq!(rt;
+        (engine.locks(0, Index::Zero), engine.unlocks(0, Index::Zero)),
+        (0, 0)
+    );
+    let Some((current, number)) = flip_behind_scan(&mut engine, Index::One) else {
+        panic!(rt; "no section of index 1 was begun");
+    };
+    assert_eq!(rt;
+        (current, number.get(), engine.number().get()),
+        (Index::One, 2, 2)
+    );
+    assert!(rt; !scan(&mut engine, Index::Zero));
+    assert!(rt; !first.poll(&mut at_rest));
+    second.read_unlock(reading);
+    let Some(number) = end_behind_scan(&mut engine) else {
+        panic!(rt; "the section is closed");
+    };
+    assert_eq!(rt; (number.get(), engine.number().get()), (4, 4));
+    assert_eq!(rt;
+        (engine.locks(1, Index::Zero), engine.unlocks(1, Index::Zero)),
+        (1, 1)
+    );
+    assert!(rt; second.poll(&mut at_rest));
+    assert!(rt; first.poll(&mut at_rest));
+    assert!(rt; !first.poll(&mut running));
+    assert_eq!(rt; (at_rest.number(), running.number()), (4, 8));
+    let newer = first.look();
+    assert_eq!(rt; newer.index(), Index::One);
+    assert_eq!(rt; engine.add_start().get(), 5);
+    let Ok(late) = first.enter(look) else {
+        panic!(rt; "there is room");
+    };
+    assert_eq!(rt; late.index(), Index::Zero);
+    assert!(rt; !scan(&mut engine, Index::Zero));
+    first.read_unlock(late);
+    let Some((current, number)) = flip_behind_scan(&mut engine, Index::Zero) else {
+        panic!(rt; "the section is closed");
+    };
+    assert_eq!(rt; (current, number.get()), (Index::Zero, 6));
+    Ok(())
+}
+
+/// Starts the first period and drives it to its end. `None` where a section holds it up.
+fn drive(engine: &mut EngineSeat) -> Option<Number>
+    requires two { engine.old.processors ≡ 2 }
+    requires rests { engine.old.changes ≡ 0 }
+    requires room { engine.old.periods ≡ 2 }
+{
+    engine.add_start();
+    flip_behind_scan(engine, Index::One)?;
+    end_behind_scan(engine)
+}
+
+/// Would catch a cookie that another thread's processor can't ask after, and an answer that goes back.
+#[test]
+fn one_thread_gives_and_another_asks(rt: HostRuntime) -> Result<(), Fail> {
+    let (mut first, mut second, mut engine) = meet_in_new_domain(rt.alloc())?;
+    let mut cookie = first.cookie();
+    let (ended, (early, late)) = join(
+        &rt,
+        move || -> Option<Number> { drive(&mut engine) },
+        move || -> (bool, bool) {
+            let early = second.poll(&mut cookie);
+            (early, second.poll(&mut cookie))
+        },
+    );
+    assert_eq!(rt; ended.map(Number::get), Some(4));
+    assert!(rt; late || !early);
+    assert_eq!(rt; first.poll_number(4), Ok(true));
+    Ok(())
+}
+
+/// Would catch a number that is taken for a cookie, or a cookie for no cookie.
+#[test]
+fn polls_numbers(rt: HostRuntime) -> Result<(), Fail> {
+    let (mut first, _, _) = meet_in_new_domain(rt.alloc())?;
+    for (number, done) in [(0, true), (4, false), (8, false), (u64::MAX - 3, false)] {
+        assert_eq!(rt; first.poll_number(number), Ok(done), "at {number}");
+    }
+    for number in [1, 2, 3, 5, 6, 7, u64::MAX] {
+        assert_eq!(rt; first.poll_number(number), Err(NotACookie), "at {number}");
+    }
     Ok(())
 }
 

@@ -2,14 +2,15 @@
 use onedom::Event;
 use sseq::Index;
 
-/// What the rule of a domain's table is told when the table is made: how many processors there are, and how many
-/// sections of one index each of them may begin.
+/// What the rule of a domain's table is told when the table is made.
 #[derive(Clone, Copy, Debug)]
 pub struct Bounds {
     /// How many processors the domain has.
     pub processors: usize,
     /// How many sections of one index each of them may ever begin.
     pub sections: u64,
+    /// How many grace periods there may ever be.
+    pub periods: u64,
 }
 
 /// Whose events a seat makes.
@@ -33,15 +34,36 @@ pub enum Right {
     },
 }
 
-/// The words whose loads are counted.
-pub enum Word {
-    IndexWord,
+/// A step on a word that is no event of the history: a load, with what it found, or one of the additions of the flip,
+/// with what it left.
+pub enum Step {
+    /// Load of the index word.
+    LoadIndex(u64),
+    /// Load of an unlock counter, and how long the history was that was seen then.
+    LoadUnlocks {
+        processor: u16,
+        index: Index,
+        found: u64,
+        seen: usize,
+    },
+    /// Load of a lock counter, and how long the history was that was seen then.
+    LoadLocks {
+        processor: u16,
+        index: Index,
+        found: u64,
+        seen: usize,
+    },
+    /// The flip: 1 is added to the index word.
+    AddIndex(u64),
+    /// Behind the flip 1 is added to the number, and the second scan may begin.
+    AddNumber(u64),
 }
 
-/// A load of a word, and what was found there.
-pub struct Load {
-    pub word: Word,
-    pub value: u64,
+/// Somebody's knowledge of a domain: a beginning of its history, and how often the engine had changed the number and
+/// the index word by then, which it does four times in a grace period.
+pub struct Moment {
+    pub history: [Event; 0],
+    pub changes: u64,
 }
 
 /// What one seat knows. A clause reads an array as a list of any length.
@@ -53,9 +75,12 @@ pub struct View {
     pub mine: [Event; 0],
     /// A beginning of the domain's history.
     pub seen: [Event; 0],
-    /// Beginnings that were handed in, which the next step covers.
-    pub told: [[Event; 0]; 0],
+    /// How often the engine had changed the number and the index word by then, at least. The engine's own seat knows
+    /// it exactly.
+    pub changes: u64,
+    /// What was handed in, which the next step covers.
+    pub told: [Moment; 0],
     pub right: Right,
-    /// The loads that this seat made, in order.
-    pub loads: [Load; 0],
+    /// The steps of this seat that are no events, in order.
+    pub steps: [Step; 0],
 }

@@ -1,11 +1,9 @@
 //! What a processor does.
 ghost use Rattle.std.specs.Prelude.{◌≡◌, length, MatchResult};
-ghost use Rattle.onedom.specs.declared.event.Event.TheVariants.{End};
-ghost use Rattle.onedom.specs.declared.event.Maker.TheVariants.{Processor};
 ghost use Rattle.onedom.specs.Histories.{open_sections};
-ghost use Rattle.sections.specs.Calls.{AddsEvent, Looks, Enters, ReadLocks, LooksInVain, IsExhausted, IsHere, Ties};
+ghost use Rattle.sections.specs.Calls.{Looks, Enters, ReadLocks, Unlocks, LooksInVain, IsExhausted, IsHere, Ties};
 
-use super::steps::{accept, begin_section, cover, place_of_unlock};
+use super::steps::{INDEX_PLACE, accept, begin_section, cover, place_of_unlock};
 use super::{Cpu, Exhausted, Look, Reading};
 use crate::plays;
 use sseq::Index;
@@ -24,7 +22,7 @@ impl<A: Allocator> Cpu<A> {
         ensures { Looks self.old self.new result }
     {
         let top = &self.table.shared;
-        let index = Index::of_word(top.load::<plays::LoadIndex>(&mut self.seat, 0));
+        let index = Index::of_word(top.load::<plays::LoadIndex>(&mut self.seat, INDEX_PLACE));
         let seat = top.split_seat::<plays::GiveToken>(&mut self.seat);
         Look { index, seat }
     }
@@ -57,7 +55,7 @@ impl<A: Allocator> Cpu<A> {
         ensures { MatchResult result (λ r. ReadLocks self.old self.new r) (λ _. LooksInVain self.old self.new) }
     {
         let top = &self.table.shared;
-        let index = Index::of_word(top.load::<plays::LoadIndex>(&mut self.seat, 0));
+        let index = Index::of_word(top.load::<plays::LoadIndex>(&mut self.seat, INDEX_PLACE));
         if self.begun[index.place()] == self.limit {
             return Err(Exhausted);
         }
@@ -74,7 +72,7 @@ impl<A: Allocator> Cpu<A> {
     /// Ends the reading's section, which was begun on this processor (`srcu_read_unlock`).
     pub fn read_unlock(&mut self, reading: Reading)
         requires { IsHere self.old reading }
-        ensures { AddsEvent reading.seen (End reading.section self.old.processor (Processor self.old.processor)) self.old self.new }
+        ensures { Unlocks reading self.old self.new }
     {
         let Reading {
             index,

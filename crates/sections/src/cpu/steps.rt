@@ -1,17 +1,23 @@
 //! Steps on a seat, which several calls share.
-ghost use Rattle.std.specs.Prelude.{◌≡◌, ◌<◌};
+ghost use Rattle.std.specs.Prelude.{◌≡◌, ◌%◌, ◌<◌, ◌≤◌};
 ghost use Rattle.onedom.specs.Histories.{IsBeginning};
 ghost use Rattle.sections.specs.declared.view.Role.TheVariants.{Cpu};
 ghost use Rattle.sections.specs.Words.{lock_place, unlock_place, locks};
-ghost use Rattle.sections.specs.Seats.{IsPlaced, BeginsSection, Covers, Accepts, IsSameSeat};
+ghost use Rattle.sections.specs.Seats.{IsPlaced, BeginsSection, NotesNumber, AsksNumber, Covers, Accepts, IsOfProcessor, IsSameSeat};
 ghost use Rattle.sections.specs.Insides.{IsAtRest};
 
 use super::{Place, Top};
 use crate::plays;
-use crate::plays::InOneHistory;
+use crate::plays::{Asked, InOneHistory};
 use crate::view::{Bounds, View};
 use atomic_table::Shared;
-use sseq::Index;
+use sseq::{Index, Number, is_done};
+
+/// Where the index word stands.
+pub(crate) const INDEX_PLACE: usize = 0;
+
+/// Where the number stands, on a cache line of its own.
+pub(crate) const NUMBER_PLACE: usize = 16;
 
 /// Where the lock counter of a processor stands. Each processor has a stride of 16 words, so that no two of them
 /// share a cache line of 64 bytes, wherever the table begins.
@@ -40,6 +46,26 @@ pub(crate) fn begin_section(top: &Top, seat: &mut Place, processor: u16, index: 
     top.split_seat::<plays::GiveToken>(seat)
 }
 
+/// Loads the number, and notes the cookie of it.
+pub(crate) fn note_number(top: &Top, seat: &mut Place) -> Number
+    requires placed { IsPlaced top.now.key top.now.table_id seat.old }
+    requires role { IsOfProcessor top.now.key.processors seat.old.me.0 }
+    ensures { NotesNumber seat.old result seat.new }
+{
+    let found = top.load::<plays::NoteNumber>(seat, NUMBER_PLACE);
+    Number::new(found).unwrap()
+}
+
+/// Loads the number, and tells whether the cookie is done.
+pub(crate) fn ask_number<Q: Asked>(top: &Top, seat: &mut Place, cookie: u64) -> bool
+    requires cookie { (cookie ≡ Q.cookie) × (cookie % 4 ≡ 0) }
+    requires placed { IsPlaced top.now.key top.now.table_id seat.old }
+    requires role { IsOfProcessor top.now.key.processors seat.old.me.0 }
+    ensures { AsksNumber cookie seat.old result seat.new }
+{
+    top.load::<plays::AskNumber<Q>>(seat, NUMBER_PLACE) >= cookie
+}
+
 /// One load of the index word by the first seat, which then covers what the second has seen.
 pub(crate) fn cover(top: &Top, first: &mut Place, second: &mut Place)
     requires first { IsPlaced top.now.key top.now.table_id first.old × IsAtRest first.old.me.0 }
@@ -50,7 +76,7 @@ pub(crate) fn cover(top: &Top, first: &mut Place, second: &mut Place)
 {
     let token = top.split_seat::<plays::GiveToken>(second);
     top.join_seat::<plays::TakeToken>(first, token);
-    top.load::<plays::LoadIndex>(first, 0);
+    top.load::<plays::LoadIndex>(first, INDEX_PLACE);
 }
 
 /// One load of the index word by the first seat, which shows that it made no event that the second has not seen.
@@ -58,14 +84,15 @@ pub(crate) fn cover(top: &Top, first: &mut Place, second: &mut Place)
 pub(crate) fn accept(top: &Top, first: &mut Place, second: &mut Place)
     requires first { IsPlaced top.now.key top.now.table_id first.old × IsAtRest first.old.me.0 }
     requires second { IsPlaced top.now.key top.now.table_id second.old × IsAtRest second.old.me.0 }
-    requires covered { IsBeginning first.old.me.0.seen second.old.me.0.seen }
+    requires role { IsOfProcessor top.now.key.processors first.old.me.0 }
+    requires covered { IsBeginning first.old.me.0.seen second.old.me.0.seen × (first.old.me.0.changes ≤ second.old.me.0.changes) }
     ensures placed { IsPlaced top.now.key top.now.table_id first.new }
     ensures first { Accepts first.old.me.0 second.old.me.0 first.new.me.0 }
     ensures second { IsSameSeat second.old second.new }
 {
     let token = top.split_seat::<plays::GiveToken>(second);
     top.join_seat::<plays::TakeToken>(first, token);
-    top.load::<plays::LoadIndex>(first, 0);
+    top.load::<plays::LoadIndex>(first, INDEX_PLACE);
     let token = top.split_seat::<plays::GiveToken>(second);
     top.join_seat::<plays::SeeAsMuch>(first, token);
 }

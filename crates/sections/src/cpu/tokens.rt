@@ -1,7 +1,8 @@
 //! What a token tells without a step.
-ghost use Rattle.std.specs.Prelude.{◌≡◌};
+ghost use Rattle.std.specs.Prelude.{◌≡◌, ◌%◌};
+ghost use Rattle.sections.specs.Calls.{EndsWithNote};
 
-use super::{Look, Reading};
+use super::{Cookie, Look, Reading};
 use sseq::Index;
 
 impl Look {
@@ -26,5 +27,16 @@ impl Reading {
         ensures { result ≡ self.now.processor }
     {
         self.processor
+    }
+}
+
+impl Cookie {
+    /// The number of the domain at which it is done: a multiple of four. What the cookie has seen ends with its giving.
+    pub fn number(&self) -> u64
+        ensures value { result ≡ self.now.number }
+        ensures whole { result % 4 ≡ 0 }
+        ensures given { EndsWithNote self.now.number self.now.seen }
+    {
+        self.number
     }
 }

@@ -1,25 +1,41 @@
-//! What the engine's seat does.
-ghost use Rattle.std.specs.Prelude.{◌≡◌, ◌*◌, ◌<◌};
-ghost use Rattle.onedom.specs.declared.event.Event.TheVariants.{Start};
+//! What the engine's seat does in a grace period.
+ghost use Rattle.std.specs.Prelude.{◌≡◌, ◌*◌, ◌^◌, ◌<◌, ◌≤◌};
+ghost use Rattle.sseq.specs.declared.index.Index.{Index};
+ghost use Rattle.sseq.specs.Indexes.{low_bit, other_index};
+ghost use Rattle.onedom.specs.declared.event.Event.TheVariants.{Start, Finish};
 ghost use Rattle.onedom.specs.declared.event.Maker.TheVariants.{Engine};
-ghost use Rattle.onedom.specs.Histories.{IsBeginning, IsRunning};
-ghost use Rattle.sections.specs.Words.{number_word};
-ghost use Rattle.sections.specs.Calls.{AddsEngineEvent, Covers, CoversAll, Accepts, TiesEngine, Meets, AreInDomain};
+ghost use Rattle.onedom.specs.Histories.{WasEmpty};
+ghost use Rattle.sections.specs.Words.{number_word, index_word, IsIdle, IsBeforeFlip, IsFlipping, IsBehindFlip};
+ghost use Rattle.sections.specs.Driving.{AddsEngineEvent, CountsUnlocks, CountsLocks, Flips, MovesOn, OpenAtStartAreClosed, IsSeenByEngine};
 
 use super::EngineSeat;
-use crate::cpu::Cpu;
-use crate::cpu::steps::{accept, cover};
+use crate::cpu::steps::{INDEX_PLACE, NUMBER_PLACE, place_of_lock, place_of_unlock};
 use crate::plays;
-use sseq::Number;
+use sseq::{Index, Number};
 use std::alloc::Allocator;
 
-/// Where the number stands, on a cache line of its own.
-const NUMBER_PLACE: usize = 16;
-
 impl<A: Allocator> EngineSeat<A> {
-    /// The number of the domain, which this seat alone changes.
+    /// How many processors the domain has: one at least.
+    pub fn processors(&self) -> u16
+        ensures count { result ≡ self.now.processors }
+        ensures some { 1 ≤ result }
+        ensures history { IsSeenByEngine self.now }
+    {
+        self.processors
+    }
+
+    /// How many grace periods there may ever be.
+    pub fn periods(&self) -> u64
+        ensures value { result ≡ self.now.periods }
+        ensures small { result < 2 ^ 59 }
+    {
+        self.periods
+    }
+
+    /// The number of the domain, which this seat alone changes: at most four times as much as there may be periods.
     pub fn number(&self) -> Number
-        ensures { result ≡ number_word self.now.mine }
+        ensures value { result ≡ number_word self.now.changes }
+        ensures most { result ≤ 4 * self.now.periods }
     {
         self.number
     }
@@ -27,10 +43,10 @@ impl<A: Allocator> EngineSeat<A> {
     /// Starts a grace period (`rcu_seq_start`), and answers the number from then on. None may run, and fewer than
     /// `periods` may have ended.
     pub fn add_start(&mut self) -> Number
-        requires idle { ¬ IsRunning self.old.mine }
-        requires room { number_word self.old.mine < 4 * self.old.periods }
+        requires idle { IsIdle self.old.changes }
+        requires room { number_word self.old.changes < 4 * self.old.periods }
         ensures event { AddsEngineEvent (Start Engine) self.old self.new }
-        ensures number { result ≡ number_word self.new.mine }
+        ensures number { result ≡ number_word self.new.changes }
     {
         let top = &self.table.shared;
         top.fetch_add::<plays::StartPeriod>(&mut self.seat, NUMBER_PLACE, 1);
@@ -38,56 +54,63 @@ impl<A: Allocator> EngineSeat<A> {
         self.number
     }
 
-    /// A load after which the engine has seen what the processor has.
-    fn cover(&mut self, cpu: &mut Cpu<A>)
-        requires { cpu.old.domain ≡ self.old.domain }
-        ensures engine { Covers self.old cpu.old.seen self.new }
-        ensures cpu { cpu.new ≡ cpu.old }
+    /// How many sections of the index have ended on the processor: one load of its unlock counter.
+    pub fn unlocks(&mut self, processor: u16, index: Index) -> u64
+        requires { processor < self.old.processors }
+        ensures { CountsUnlocks processor index result self.old self.new }
     {
-        cover(&self.table.shared, &mut self.seat, &mut cpu.seat);
+        let top = &self.table.shared;
+        top.load::<plays::CountUnlocks>(&mut self.seat, place_of_unlock(processor, index))
     }
 
-    /// A load by the processor, which then has seen just as much as the engine.
-    fn admit(&mut self, cpu: &mut Cpu<A>)
-        requires domain { cpu.old.domain ≡ self.old.domain }
-        requires covered { IsBeginning cpu.old.seen self.old.seen }
-        ensures engine { self.new ≡ self.old }
-        ensures cpu { Accepts cpu.old self.old.seen cpu.new }
+    /// How many sections of the index were begun on the processor: one load of its lock counter.
+    pub fn locks(&mut self, processor: u16, index: Index) -> u64
+        requires { processor < self.old.processors }
+        ensures { CountsLocks processor index result self.old self.new }
     {
-        accept(&self.table.shared, &mut cpu.seat, &mut self.seat);
+        let top = &self.table.shared;
+        top.load::<plays::CountLocks>(&mut self.seat, place_of_lock(processor, index))
     }
 
-    /// One load of the index word by the engine, and then one by the processor. Both have then seen one history.
-    pub fn tie(&mut self, cpu: &mut Cpu<A>)
-        requires { cpu.old.domain ≡ self.old.domain }
-        ensures { TiesEngine self.old cpu.old self.new cpu.new }
+    /// The first step of the flip: sections that begin from now on get the other index, but for those whose look is
+    /// older. It answers that index. The first scan must have passed: since the start there was a moment at which no
+    /// section of this index was open.
+    pub fn flip(&mut self) -> Index
+        requires running { IsBeforeFlip self.old.changes }
+        requires empty { WasEmpty (other_index (low_bit (index_word self.old.changes))) self.old.seen }
+        ensures step { Flips self.old self.new }
+        ensures index { result ≡ low_bit (index_word self.new.changes) }
     {
-        self.cover(cpu);
-        self.admit(cpu);
+        let top = &self.table.shared;
+        let before = top.fetch_add::<plays::Flip>(&mut self.seat, INDEX_PLACE, 1);
+        Index::of_word(before + 1)
     }
 
-    /// The engine has then seen what each of these processors has.
-    fn cover_all(&mut self, cpus: &mut [Cpu<A>])
-        requires { AreInDomain self.old.domain cpus.old }
-        ensures engine { CoversAll self.old cpus.old self.new }
-        ensures cpus { cpus.new ≡ cpus.old }
+    /// The second step of the flip: the number says that the second scan may begin. It answers the number.
+    pub fn add_scan2(&mut self) -> Number
+        requires { IsFlipping self.old.changes }
+        ensures step { MovesOn self.old self.new }
+        ensures number { result ≡ number_word self.new.changes }
     {
-        // For the proof: without a processor too, what the engine has seen is a legal history.
-        let _seat = &self.seat;
-        for cpu in cpus.iter_mut() {
-            self.cover(cpu);
-        }
+        let top = &self.table.shared;
+        top.fetch_add::<plays::MoveOn>(&mut self.seat, NUMBER_PLACE, 1);
+        self.number = self.number.flipped();
+        self.number
     }
 
-    /// The engine and all of these processors have then seen one history, in which each has just its own events. Each
-    /// processor loads the index word once, and the engine once for each of them.
-    pub fn meet(&mut self, cpus: &mut [Cpu<A>])
-        requires { AreInDomain self.old.domain cpus.old }
-        ensures { Meets self.old cpus.old self.new cpus.new }
+    /// Ends the grace period (`rcu_seq_end`), and answers the number from then on. Both scans must have passed: for
+    /// each index there was a moment since the start at which no section of it was open. So every section is closed
+    /// that was open at the start.
+    pub fn add_end(&mut self) -> Number
+        requires flipped { IsBehindFlip self.old.changes }
+        requires empty { (i : Index) → WasEmpty i self.old.seen }
+        ensures event { AddsEngineEvent (Finish Engine) self.old self.new }
+        ensures number { result ≡ number_word self.new.changes }
+        ensures closed { OpenAtStartAreClosed self.old.seen self.new.seen }
     {
-        self.cover_all(cpus);
-        for cpu in cpus.iter_mut() {
-            self.admit(cpu);
-        }
+        let top = &self.table.shared;
+        top.fetch_add::<plays::FinishPeriod>(&mut self.seat, NUMBER_PLACE, 2);
+        self.number = self.number.finished();
+        self.number
     }
 }

@@ -36,12 +36,19 @@ invariant_of-result g c =
     let f = c.loop-processor.invariant.founder in
     let done = c.loop-processor-test.false in
     let all : c.loop-processor.processor ≡ c.args.bounds.processors = omega arith in
-    let key = ap (λ (b : Bounds). b.processors) f.key_is in record {
+    let key = ap (λ (b : Bounds). b.processors) f.key_is in
+    let few = c.requires.processors in
+    let some = c.requires.some in
+    record {
       placed = record { seated = f.seated; wide = f.wide ∙ ap word_count (sym key); bare = ap (λ m. m.1) f.me; sized = ap (λ m. m.0.processors) f.me ∙ sym key };
       rests = subst (λ (v : View). IsAtRest v) (sym (ap (λ m. m.0) f.me)) (rests_founding c.args.bounds c.loop-processor.processor);
       role = ap (λ m. m.0.role) f.me ∙ ap Driver (all ∙ sym key);
-      number = c.zero.ensures ∙ sym (ap (λ m. number_word m.0.mine) f.me);
-      periods = c.requires.periods;
+      processors = omega (arith, key, few);
+      some = omega (arith, key, few, some);
+      number = c.zero.ensures ∙ sym (ap (λ m. number_word m.0.changes) f.me);
+      periods = ap (λ (b : Bounds). b.periods) (sym f.key_is);
+      small = c.requires.words.periods;
+      few = (let none = ap (λ m. m.0.changes) f.me in omega (arith, none));
     }
 
 pub returns : goal.returns
@@ -52,5 +59,5 @@ returns g c =
     let all : c.loop-processor.processor ≡ c.args.bounds.processors = omega arith in record {
       count = v.count ∙ all;
       cpus_new = subst (λ t. AreNew t c.args.bounds.processors c.args.bounds.sections c.loop-processor.cpus.items) (sym f.seated) v.cpus_new;
-      engine_new = λ k. record { domain = c.loop-processor.seat.table_id; processors = (f.key_is k).processors; periods = c.args.periods; seen = (f.me k).0.seen; mine = (f.me k).0.mine; loads = (f.me k).0.loads };
+      engine_new = λ k. record { domain = c.loop-processor.seat.table_id; processors = (f.key_is k).processors; periods = c.args.bounds.periods; seen = (f.me k).0.seen; changes = (f.me k).0.changes; mine = (f.me k).0.mine; steps = (f.me k).0.steps };
     }

@@ -1,6 +1,6 @@
 use Rattle.std.proofs.Common.{rules, ◌≡◌, ap}
 use Rattle.sections.specs.Words.{word_count}
-use Rattle.sections.proofs.Steps.{deals}
+use Rattle.sections.proofs.Sharing.{deals}
 use Rattle.sections.proofs.Seating.{some_words}
 use Rattle.sections.proofs.making.deal.Goals as goal
 

@@ -32,4 +32,4 @@ returns c =
     let s = c.meet.ensures.same.0 in
     let a : c.unwrap-first.result ≡ get_or ys 0 d = cc first in
     let b : d ≡ get_or ys 1 d = cc second in
-    (ap (λ (z : CpuView). z.domain) a ∙ (zero ∙ sym s), ap (λ (z : CpuView). z.domain) b ∙ (one ∙ sym s), c.meet.ensures.same.2 ∙ (ap (λ (z : EngineView). z.periods) m.engine_new ∙ c.limits.ensures))
+    (ap (λ (z : CpuView). z.domain) a ∙ (zero ∙ sym s), ap (λ (z : CpuView). z.domain) b ∙ (one ∙ sym s), c.meet.ensures.same.2 ∙ (ap (λ (z : EngineView). z.periods) m.engine_new ∙ c.limits.ensures), c.meet.ensures.same.1 ∙ ap (λ (z : EngineView). z.processors) m.engine_new, c.meet.ensures.changes_are ∙ ap (λ (z : EngineView). z.changes) m.engine_new)

@@ -7,7 +7,7 @@ use Rattle.onedom.specs.Histories.{begins_of, open_sections}
 use Rattle.sseq.specs.declared.index.Index.TheVariants.{Zero, One}
 use Rattle.sections.specs.declared.view.View.{View}
 use Rattle.sections.specs.Insides.{section_of}
-use Rattle.sections.proofs.Steps.{takes_token}
+use Rattle.sections.proofs.Sharing.{takes_token}
 use Rattle.sections.proofs.Calling.{adds_cut, fresh_section, rests_cut, begun_more, limited_more, sum_more, one_more_unclosed, has_room}
 use Rattle.sections.proofs.cpu.Cpu.enter.Goals as goal
 
@@ -61,5 +61,5 @@ returns g c =
       room = has_room _ _ _ (c.self.invariant.begun i) (c.self.invariant.limited i) full;
       fresh = ap (λ m. begins_of b.section m.0.seen) (sym joined) ∙ fresh_section _ _ _ _ _ _ b.adds;
       adds = adds_cut _ _ _ _ _ _ c.self.inside.seat.me.0 c.look.inside.seat.me.0 _ _ _ same c.self.invariant.placed.sized c.self.invariant.role (ap (λ m. m.0) joined) (ap (λ m. m.0) b.stays) b.adds;
-      reading = λ k. record { domain = (b.same_table.1 ∙ c.join_seat.ensures.0) k; section = section_of (right k); processor = p; index = i; seen = (ap (λ m. m.0.seen) b.given ∙ sym (ap (λ m. m.0.seen) b.stays)) k };
+      reading = λ k. record { domain = (b.same_table.1 ∙ c.join_seat.ensures.0) k; section = section_of (right k); processor = p; index = i; seen = (ap (λ m. m.0.seen) b.given ∙ sym (ap (λ m. m.0.seen) b.stays)) k; changes = (ap (λ m. m.0.changes) b.given ∙ sym (ap (λ m. m.0.changes) b.stays)) k };
     })

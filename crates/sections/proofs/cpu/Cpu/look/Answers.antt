@@ -1,6 +1,7 @@
 use Rattle.std.proofs.Common.{rules, ◌≡◌, ap, ◌∙◌, sym}
-use Rattle.sseq.specs.Indexes.{low_bit}
-use Rattle.sections.proofs.Steps.{looks, gives_token}
+use Rattle.sections.specs.Words.{index_word}
+use Rattle.sections.proofs.Steps.{looks}
+use Rattle.sections.proofs.Sharing.{gives_token}
 use Rattle.sections.proofs.Calling.{loads_cut}
 use Rattle.sections.proofs.cpu.Cpu.look.Goals as goal
 
@@ -17,6 +18,6 @@ returns g c =
     rw (← c.self.view_is) (record {
       value = c.load.result;
       load = loads_cut _ _ _ _ _ _ _ _ _ (s.0 ∙ h.0) c.self.invariant.placed.sized c.self.invariant.role (ap (λ m. m.0) s.2) h.2.1;
-      current = h.2.2 ∙ ap (λ m. Rattle.sections.specs.Words.index_word m.0.seen) (sym s.2);
-      look_is = λ i. record { domain = (s.3 ∙ h.0) i; index = c.of_word-index.ensures i; seen = (ap (λ m. m.0.seen) s.4 ∙ sym (ap (λ m. m.0.seen) s.2)) i };
+      current = h.2.2 ∙ ap (λ m. index_word m.0.changes) (sym s.2);
+      look_is = λ i. record { domain = (s.3 ∙ h.0) i; index = c.of_word-index.ensures i; seen = (ap (λ m. m.0.seen) s.4 ∙ sym (ap (λ m. m.0.seen) s.2)) i; changes = (ap (λ m. m.0.changes) s.4 ∙ sym (ap (λ m. m.0.changes) s.2)) i };
     })

@@ -25,12 +25,12 @@ returns-then-self-place g c =
     let p : ℕ = c.self.inside.processor in
     let full : get_or c.self.inside.begun (index_number i) 0 ≡ c.self.inside.limit = rw (← c.place.ensures) c.if-self-place.true in
     rw (← c.self.view_is) (record {
-      look = record { domain = c.self.inside.seat.table_id; index = i; seen = c.load.new.seat.me.0.seen };
+      look = record { domain = c.self.inside.seat.table_id; index = i; seen = c.load.new.seat.me.0.seen; changes = c.load.new.seat.me.0.changes };
       looks = record {
         value = c.load.result;
         load = loads_from _ _ _ _ _ _ _ _ h.0 c.self.invariant.placed.sized c.self.invariant.role h.2.1;
         current = h.2.2;
-        look_is = λ k. record { domain = c.self.inside.seat.table_id; index = c.of_word-index.ensures k; seen = c.load.new.seat.me.0.seen };
+        look_is = λ k. record { domain = c.self.inside.seat.table_id; index = c.of_word-index.ensures k; seen = c.load.new.seat.me.0.seen; changes = c.load.new.seat.me.0.changes };
       };
       exhausted = ap (locks p i) h.2.1.mine ∙ at_limit _ _ _ (c.self.invariant.begun i) full;
     })
@@ -76,18 +76,18 @@ returns g c =
     let full : get_or c.self.inside.begun (index_number i) 0 ≢ c.self.inside.limit = rw (← c.place.ensures) c.if-self-place.false in
     rw (← c.self.view_is) (record {
       between = seen_as c.load.new.seat.table_id _ c.self.inside.limit p v;
-      look = record { domain = c.self.inside.seat.table_id; index = i; seen = v.seen };
+      look = record { domain = c.self.inside.seat.table_id; index = i; seen = v.seen; changes = v.changes };
       looks = record {
         value = c.load.result;
         load = loads_from _ _ _ _ _ _ _ _ h.0 c.self.invariant.placed.sized c.self.invariant.role h.2.1;
         current = h.2.2;
-        look_is = λ k. record { domain = c.self.inside.seat.table_id; index = c.of_word-index.ensures k; seen = v.seen };
+        look_is = λ k. record { domain = c.self.inside.seat.table_id; index = c.of_word-index.ensures k; seen = v.seen; changes = v.changes };
       };
       enters = record {
         section = b.section;
         room = has_room _ _ _ (c.self.invariant.begun i ∙ ap (locks p i) (sym h.2.1.mine)) (c.self.invariant.limited i) full;
         fresh = fresh_section _ _ _ _ _ _ b.adds;
         adds = adds_alone _ _ _ _ _ _ v _ _ b.same_table.0 (h.2.1.processors ∙ c.self.invariant.placed.sized) (h.2.1.role ∙ c.self.invariant.role) (ap (λ m. m.0) b.stays) b.adds;
-        reading = λ k. record { domain = b.same_table.1 k; section = section_of (right k); processor = p; index = i; seen = (ap (λ m. m.0.seen) b.given ∙ sym (ap (λ m. m.0.seen) b.stays)) k };
+        reading = λ k. record { domain = b.same_table.1 k; section = section_of (right k); processor = p; index = i; seen = (ap (λ m. m.0.seen) b.given ∙ sym (ap (λ m. m.0.seen) b.stays)) k; changes = (ap (λ m. m.0.changes) b.given ∙ sym (ap (λ m. m.0.changes) b.stays)) k };
       };
     })

@@ -3,7 +3,8 @@ use Rattle.onedom.specs.Histories.{open_sections}
 use Rattle.sections.specs.Words.{locks}
 use Rattle.sections.specs.Insides.{section_of}
 use Rattle.sections.proofs.Agreement.{unlock_there}
-use Rattle.sections.proofs.Steps.{takes_token, ends_here}
+use Rattle.sections.proofs.Steps.{ends_here}
+use Rattle.sections.proofs.Sharing.{takes_token}
 use Rattle.sections.proofs.Calling.{adds_event, rests_after, one_less_unclosed, locks_unchanged}
 use Rattle.sections.proofs.cpu.Cpu.read_unlock.Goals as goal
 

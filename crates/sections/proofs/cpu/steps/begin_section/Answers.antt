@@ -1,7 +1,8 @@
 use Rattle.std.proofs.Common.{ap, ◌∙◌}
 use Rattle.sections.specs.Rule.{lacking, bearer}
 use Rattle.sections.proofs.Agreement.{lock_there}
-use Rattle.sections.proofs.Steps.{begins_here, gives_token}
+use Rattle.sections.proofs.Steps.{begins_here}
+use Rattle.sections.proofs.Sharing.{gives_token}
 use Rattle.sections.proofs.Seating.{some_words}
 use Rattle.sections.proofs.cpu.steps.begin_section.Goals as goal
 

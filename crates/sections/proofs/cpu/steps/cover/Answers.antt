@@ -1,6 +1,8 @@
 use Rattle.std.proofs.Common.{ap, ◌∙◌}
-use Rattle.sections.proofs.Steps.{gives_token, takes_token, looks}
-use Rattle.sections.proofs.Seating.{some_words}
+use Rattle.sections.proofs.Steps.{looks}
+use Rattle.sections.proofs.Sharing.{gives_token, takes_token}
+use Rattle.sections.specs.Rule.{informed}
+use Rattle.sections.proofs.Seating.{some_words, covers_from}
 use Rattle.sections.proofs.cpu.steps.cover.Goals as goal
 
 pub split_seat-token-requires : goal.split_seat-token-requires
@@ -11,3 +13,8 @@ join_seat-requires c = (c.requires.first.0.seated, c.split_seat-token.ensures.3 
 
 pub load-requires : goal.load-requires
 load-requires c = (c.join_seat.ensures.0 ∙ c.requires.first.0.seated, some_words _ _ c.requires.first.0.wide, looks _ _ _ _ (ap (λ m. m.0.processors) c.join_seat.ensures.2 ∙ c.requires.first.0.sized))
+
+pub returns-clause-first : goal.returns-clause-first
+returns-clause-first c =
+    let joined = ap (λ m. m.0) c.join_seat.ensures.2 ∙ ap (λ m. informed c.args.first.now.me.0 m.0) c.split_seat-token.ensures.4 in
+    covers_from c.load.result c.args.first.now.me.0 c.args.second.now.me.0 _ _ c.requires.second.1.free joined c.load.ensures.2.1 c.load.ensures.2.2 c.load.ensures.2.4

@@ -1,18 +1,20 @@
 -- The engine has seen what each of the processors so far has.
-use Rattle.std.proofs.Common.{◌≡◌, ℕ, ◌<◌, List, ◌++◌, length, map, slice_index_or}
-use Rattle.sections.specs.Plays.{index_load}
+use Rattle.std.proofs.Common.{◌≡◌, ℕ, ◌<◌, ◌≤◌, List, ◌++◌, length, map, slice_index_or}
+use Rattle.sections.specs.declared.view.Step.TheVariants.{LoadIndex}
 use Rattle.onedom.specs.Histories.{IsBeginning}
 use Rattle.sections.specs.Views.{CpuView}
-use Rattle.sections.specs.Calls.{IsSameEngine, IsSeenByEngine}
+use Rattle.sections.specs.Driving.{IsSameEngine, IsSeenByEngine}
 use Rattle.sections.proofs.engine.EngineSeat.cover_all.Given as goal
 
 abbrev pub invariant-loop-cpu : goal.invariant-loop-cpu
 invariant-loop-cpu g l = record {
-  loads : (found : List ℕ) × (length found ≡ l.cpu-index) × (l.self.loads ≡ l.initial.self.loads ++ map index_load found);
+  steps : (found : List ℕ) × (length found ≡ l.cpu-index) × (l.self.steps ≡ l.initial.self.steps ++ map LoadIndex found);
   same : IsSameEngine l.initial.self l.self;
   mine : l.self.mine ≡ l.initial.self.mine;
+  changes_are : l.self.changes ≡ l.initial.self.changes;
   since : IsBeginning l.initial.self.seen l.self.seen;
   unchanged : l.cpus ≡ l.initial.cpus;
   covers : (k : ℕ) (d : CpuView) → k < l.cpu-index → IsBeginning (slice_index_or l.initial.cpus k d).seen l.self.seen;
+  not_before : (k : ℕ) (d : CpuView) → k < l.cpu-index → (slice_index_or l.initial.cpus k d).changes ≤ l.self.changes;
   history : IsSeenByEngine l.self;
 }

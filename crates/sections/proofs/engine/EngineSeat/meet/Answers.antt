@@ -3,7 +3,8 @@ use Rattle.std.proofs.lemmas.List.{get_or_default}
 use Rattle.onedom.specs.declared.event.Event.{Event}
 use Rattle.onedom.specs.Histories.{IsBeginning}
 use Rattle.sections.specs.Views.{CpuView, EngineView}
-use Rattle.sections.specs.Calls.{Accepts, Joins, Meets}
+use Rattle.sections.specs.Calls.{Accepts}
+use Rattle.sections.specs.Driving.{Joins, Meets}
 use Rattle.sections.proofs.Meeting.{joins_more, rest_same, meets_from}
 use Rattle.sections.proofs.engine.EngineSeat.meet.Goals as goal
 
@@ -29,7 +30,7 @@ admit-requires-clause-covered g c =
     let i : ℕ = c.loop-cpu.cpu-index in
     let item = c.cpu-item.result in
     let same : get_or c.args.cpus.now i item ≡ get_or c.loop-cpu.cpus i item = sym (v.rest i item (omega arith) ∙ ap (λ (xs : List CpuView). get_or xs i item) e.cpus) in
-    subst (λ (z : CpuView × EngineView). IsBeginning z.0.seen z.1.seen) (λ k. (same k, sym v.steady k)) (e.engine.covers i item (omega arith))
+    subst (λ (z : CpuView × EngineView). IsBeginning z.0.seen z.1.seen × (z.0.changes ≤ z.1.changes)) (λ k. (same k, sym v.steady k)) (e.engine.covers i item (omega arith), e.engine.not_before i item (omega arith))
 
 pub loop-cpu-preserved : goal.loop-cpu-preserved
 loop-cpu-preserved g c =
@@ -42,12 +43,14 @@ loop-cpu-preserved g c =
     let within : i < length c.loop-cpu.cpus = omega arith in
     let covers : (k : ℕ) (d : CpuView) → k < length c.cover_all.new.cpus → IsBeginning (get_or c.cover_all.new.cpus k d).seen all =
     λ k d lt. subst (λ (xs : List CpuView). IsBeginning (get_or xs k d).seen all) (sym e.cpus) (e.engine.covers k d (subst (λ (xs : List CpuView). k < length xs) e.cpus lt)) in
-    let accepts : (d : CpuView) → Accepts (get_or c.loop-cpu.cpus i d) all c.admit.new.cpu =
-    λ d. subst (λ (z : CpuView × List Event). Accepts z.0 z.1 c.admit.new.cpu) (λ k. (get_or_default c.loop-cpu.cpus i item d within k, (ap (λ (s : EngineView). s.seen) v.steady) k)) c.admit.ensures.cpu in record {
+    let reached : (k : ℕ) (d : CpuView) → k < length c.cover_all.new.cpus → (get_or c.cover_all.new.cpus k d).changes ≤ c.cover_all.new.self.changes =
+    λ k d lt. subst (λ (xs : List CpuView). (get_or xs k d).changes ≤ c.cover_all.new.self.changes) (sym e.cpus) (e.engine.not_before k d (subst (λ (xs : List CpuView). k < length xs) e.cpus lt)) in
+    let accepts : (d : CpuView) → Accepts (get_or c.loop-cpu.cpus i d) all c.cover_all.new.self.changes c.admit.new.cpu =
+    λ d. subst (λ (z : CpuView × EngineView). Accepts z.0 z.1.seen z.1.changes c.admit.new.cpu) (λ k. (get_or_default c.loop-cpu.cpus i item d within k, v.steady k)) c.admit.ensures.cpu in record {
       steady = c.admit.ensures.engine ∙ v.steady;
       count = length-set c.loop-cpu.cpus i c.admit.new.cpu ∙ v.count;
       rest = rest_same c.cover_all.new.cpus c.loop-cpu.cpus i c.admit.new.cpu v.rest;
-      joined = joins_more c.cover_all.new.cpus c.loop-cpu.cpus i c.admit.new.cpu all v.count within covers accepts v.rest v.joined;
+      joined = joins_more c.cover_all.new.cpus c.loop-cpu.cpus i c.admit.new.cpu all c.cover_all.new.self.changes v.count within covers reached accepts v.rest v.joined;
     }
 
 pub returns : goal.returns

@@ -1,0 +1,234 @@
+-- Each step of the engine's seat keeps the rule.
+use Rattle.std.proofs.Common.{◌≡◌, ℕ, ◌+◌, ◌*◌, ◌/◌, ◌%◌, ◌^◌, ◌<◌, ◌≤◌, ◌≢◌, true, false, List, [], ◌∷◌, ◌++◌, All, Option, length, get_or, set, refl, sym, ap, ◌∙◌, subst, arith}
+use Rattle.std.proofs.lemmas.List.Elements.{All-nil}
+use mathlib.Core.Option.{none, some}
+use lib.ListN.{get_elem?}
+use Rattle.atomic_table.specs.Table.{State, step, keeps, stepped, Allows}
+use Rattle.sseq.specs.declared.index.Index.{Index}
+use Rattle.onedom.specs.declared.event.Maker.TheVariants.{Processor, Engine}
+use Rattle.onedom.specs.declared.event.Event.{Event}
+use Rattle.onedom.specs.declared.event.Event.TheVariants.{Start, Finish}
+use Rattle.onedom.specs.Histories.{ends, starts_in, is_start, is_finish, WasEmpty, IsRunning, MayFollow, maker_of, same_maker, made_by, IsBeginning}
+use Rattle.onedom.proofs.Pushes.{bit, made_by_own, made_by_other, same_maker_refl}
+use Rattle.onedom.proofs.Beginnings.{beginning_refl}
+use Rattle.onedom.proofs.Periods.{empty_grows, empty_may_end}
+use Rattle.sections.specs.declared.view.Bounds.{Bounds}
+use Rattle.sections.specs.declared.view.Role.{Role}
+use Rattle.sections.specs.declared.view.Role.TheVariants.{Bearer, Cpu, Driver}
+use Rattle.sections.specs.declared.view.Step.{Step}
+use Rattle.sections.specs.declared.view.Step.TheVariants.{LoadUnlocks, LoadLocks, AddIndex, AddNumber}
+use Rattle.sections.specs.declared.view.View.{View}
+use Rattle.sections.specs.Words.{index_place, number_place, lock_place, unlock_place, locks_at, locks, unlocks_at, unlocks, all_locks, index_word, number_word, IsIdle, IsBeforeFlip, IsFlipping, IsBehindFlip, Reaches, Agree}
+use Rattle.sections.specs.Rule.{HasItsMaker, GoesOn, Makes, Has, Knows, Fits, Kept}
+use Rattle.sections.specs.Plays.{Owns, IsSound, Sees, Adds, Sat, counted_unlocks, counted_locks, started, flipped, moved_on, finished}
+use Rattle.sections.proofs.Counters.{locks_push, sum_most}
+use Rattle.sections.proofs.Agreement.{lock_places, unlock_places, agrees_numbered, agrees_flipped, locks_not_at, unlocks_not_at, reaches_started, reaches_finished, reaches_on, idle_not_running, busy_running}
+use Rattle.sections.proofs.Knowing.{now, told_later, views_set, has_stays, fits_later, makes_later, has_later, known_before, knows_all, owns_from_makes, false≠true}
+use Rattle.sections.proofs.Steps.{exact, loads_here, added, alone, sound_after}
+
+-- the engine's events
+record IsDriven (e : Event) : Type 0 where
+  by : maker_of e ≡ Engine
+  no_lock : (q : ℕ) (i : Index) → locks_at q i e ≡ false
+  no_unlock : (before : List Event) (q : ℕ) (i : Index) → unlocks_at q i before e ≡ false
+  no_end : (s : ℕ) → ends s e ≡ false
+  maker : (n : ℕ) → HasItsMaker n e
+
+start_driven : IsDriven (Start Engine)
+start_driven = record { by = refl; no_lock = λ _ _. refl; no_unlock = λ _ _ _. refl; no_end = λ _. refl; maker = λ _. refl }
+
+finish_driven : IsDriven (Finish Engine)
+finish_driven = record { by = refl; no_lock = λ _ _. refl; no_unlock = λ _ _ _. refl; no_end = λ _. refl; maker = λ _. refl }
+
+module _ (bounds : Bounds) where
+  -- Loads of counters
+
+  -- in all no more sections of an index were begun than the limits allow
+  bounded : (s : State (Option ℕ) View) (r : Kept bounds s) (n : ℕ) (i : Index) (seen : List Event) → n ≡ bounds.processors → seen ≡ r.log → all_locks n i seen < 2 ^ 62
+  bounded s r n i seen sized same = subst (λ (z : ℕ × List Event). all_locks z.0 i z.1 < 2 ^ 62) (λ k. (sym sized k, sym same k))
+      (let most = sum_most (λ p. locks p i r.log) (2 * bounds.sections) bounds.processors (λ p. let few = r.within.limited p i in omega (arith, few)) in let small = r.small.counters in omega (arith, most, small))
+
+  pub counts_unlocks : (slots id k : ℕ) (me : Sat) (d q : ℕ) (i : Index) → me.0.processors ≡ bounds.processors → me.0.role ≡ Driver d → q < bounds.processors → k ≡ unlock_place q i
+      → Allows (Kept bounds) slots id me k (λ x. x) (counted_unlocks (step slots k 0 0 none) me)
+  counts_unlocks slots id k me d q i sized is lt place = loads_here bounds slots id k me (λ n h. LoadUnlocks q i n (length h)) (counted_unlocks (step slots k 0 0 none) me) sized
+      (λ s r w at seen changes sees.
+      let n : ℕ = get_or s.words k 0 in
+      let found : n ≡ unlocks q i w.seen = ap (λ z. get_or s.words z 0) place ∙ (r.words.unlock_counters q i lt ∙ ap (unlocks q i) (sym seen)) in (
+        refl,
+        changes ∙ sym (exact bounds s r id me.0 d at is),
+        λ p j word. let same = unlock_places q p i j (sym place ∙ word) in
+            subst (λ (z : ℕ × Index). Sees (LoadUnlocks z.0 z.1 n (length w.seen)) me.0 w × (n ≡ unlocks z.0 z.1 w.seen) × (all_locks me.0.processors z.1 w.seen < 2 ^ 62)) (λ h. (same.0 h, same.1 h)) (sees, found, bounded s r me.0.processors i w.seen sized seen),
+      ))
+
+  pub counts_locks : (slots id k : ℕ) (me : Sat) (d q : ℕ) (i : Index) → me.0.processors ≡ bounds.processors → me.0.role ≡ Driver d → q < bounds.processors → k ≡ lock_place q i
+      → Allows (Kept bounds) slots id me k (λ x. x) (counted_locks (step slots k 0 0 none) me)
+  counts_locks slots id k me d q i sized is lt place = loads_here bounds slots id k me (λ n h. LoadLocks q i n (length h)) (counted_locks (step slots k 0 0 none) me) sized
+      (λ s r w at seen changes sees.
+      let n : ℕ = get_or s.words k 0 in
+      let found : n ≡ locks q i w.seen = ap (λ z. get_or s.words z 0) place ∙ (r.words.lock_counters q i lt ∙ ap (locks q i) (sym seen)) in (
+        refl,
+        changes ∙ sym (exact bounds s r id me.0 d at is),
+        λ p j word. let same = lock_places q p i j (sym place ∙ word) in
+            subst (λ (z : ℕ × Index). Sees (LoadLocks z.0 z.1 n (length w.seen)) me.0 w × (n ≡ locks z.0 z.1 w.seen) × (all_locks me.0.processors z.1 w.seen < 2 ^ 62)) (λ h. (same.0 h, same.1 h)) (sees, found, bounded s r me.0.processors i w.seen sized seen),
+      ))
+
+  -- Changes that are events
+
+  -- an event that an addition to the number makes
+  drives : (slots id a : ℕ) (me : Sat) (d : ℕ) (e : Event) (told_of : ℕ → Sat → Type 0) → me.0.processors ≡ bounds.processors → me.0.role ≡ Driver d → IsDriven e
+      → number_word (me.0.changes + 1) ≡ number_word me.0.changes + a → index_word (me.0.changes + 1) ≡ index_word me.0.changes → number_word me.0.changes < 2 ^ 62 → a < 4
+      → ((s : State (Option ℕ) View) (r : Kept bounds s) → r.changes ≡ me.0.changes → IsBeginning me.0.seen r.log → made_by Engine r.log ≡ me.0.mine → MayFollow r.log e × Reaches (r.changes + 1) (r.log ++ e ∷ []) × (r.changes + 1 ≤ 4 * bounds.periods))
+      → ((n : ℕ) (w : View) → w.right ≡ me.0.right → w.changes ≡ me.0.changes + 1 → Adds me.0 e w → told_of n (w, me.1))
+      → Allows (Kept bounds) slots id me number_place (λ x. (x + a) % 2 ^ 64) told_of
+  drives slots id a me d e told_of sized is driven grows same_index small few follows tells s r _ at _ =
+      let v : View = me.0 in
+      let f = r.each_view id v at in
+      let known : v.changes ≡ r.changes = exact bounds s r id v d at is in
+      let made : Makes r.log r.changes r.seat_of r.holder r.engine id (Driver d) v.mine = subst (λ (m : Role). Makes r.log r.changes r.seat_of r.holder r.engine id m v.mine) is f.makes in
+      let may = follows s r (sym known) f.seen (sym made.1) in
+      let changes' : ℕ = r.changes + 1 in
+      let log' : List Event = r.log ++ e ∷ [] in
+      let k : ℕ = number_place in
+      let x : ℕ = get_or s.words k 0 in
+      let y : ℕ = (x + a) % 2 ^ 64 in
+      let found : x ≡ number_word v.changes = r.words.number ∙ ap number_word (sym known) in
+      let up : y ≡ number_word changes' = omega (arith, found, small, few, grows, known) in
+      let still : index_word changes' ≡ index_word r.changes = ap (λ c. index_word (c + 1)) (sym known) ∙ (same_index ∙ ap index_word known) in
+      let agree : Agree bounds.processors (set s.words k y) log' changes' = agrees_numbered bounds.processors s.words r.log r.changes r.words y log' may.1 still up
+      (λ p i. locks_not_at p i r.log e (driven.no_lock p i)) (λ q i. unlocks_not_at q i r.log e (driven.no_unlock r.log q i)) in
+      let by_engine : same_maker (maker_of e) Engine ≡ true = ap (λ m. same_maker m Engine) driven.by ∙ same_maker_refl Engine in
+      let mine' : v.mine ++ e ∷ [] ≡ made_by Engine log' = ap (λ l. l ++ e ∷ []) made.1 ∙ sym (made_by_own Engine r.log e by_engine) in
+      let w : View = record { processors = v.processors; role = v.role; mine = v.mine ++ e ∷ []; seen = log'; changes = changes'; told = []; right = v.right; steps = v.steps } in
+      let fits : Fits log' changes' r.seat_of r.holder r.engine id w = record {
+        seen = beginning_refl log';
+        knows = knows_all log' changes' r.seat_of r.holder r.engine id v.role;
+        told = All-nil (λ m. GoesOn m (now log' changes'));
+        makes = subst (λ (m : Role). Makes log' changes' r.seat_of r.holder r.engine id m (v.mine ++ e ∷ [])) (sym is)
+            (made.0, mine', λ p le. let q = made.2 p le in (q.0, made_by_other (Processor p) r.log e (ap (λ m. same_maker m (Processor p)) driven.by) ∙ q.1));
+        has = has_later log' r.changes changes' r.seat_of r.holder r.engine id v.right
+            (has_stays r.log r.changes r.seat_of r.holder r.holder r.engine id e may.0 (λ t _. driven.no_end t) (λ t _. refl) v.right f.has);
+      } in (
+        w,
+        keeps,
+        tt,
+        added bounds s r id k y me.1 w e changes' r.holder may.0 (driven.maker bounds.processors) agree (omega arith) may.2 (λ j ne here. absurd (ne (sym here ∙ made.0)))
+            (λ o j. let c = locks_push o j r.log e in let z = ap bit (driven.no_lock o j) in let was = r.within.limited o j in omega (arith, c, z, was))
+            (λ j ne m there. ap (λ o. same_maker o m) driven.by ∙ alone bounds r.seat_of r.engine id Engine made.0 j ne m there)
+            (λ u hit. absurd (false≠true (sym (driven.no_end u) ∙ hit)))
+            (λ u _. refl)
+            fits,
+        tells x w refl (ap (λ c. c + 1) (sym known)) record {
+          before = r.log;
+          seen = refl;
+          since = f.seen;
+          later = omega (arith, known);
+          covers = told_later v.told r.log r.changes changes' (omega arith) f.told;
+          processors = refl;
+          role = refl;
+          mine = refl;
+          told = refl;
+          steps = refl;
+          sound = sound_after bounds s r e v.processors v.role (v.mine ++ e ∷ []) changes' may.0 (driven.maker bounds.processors) sized may.1 (subst (λ (m : Role). Owns m (v.mine ++ e ∷ []) log') (sym is) mine');
+        },
+      )
+
+  pub starts_here : (slots id : ℕ) (me : Sat) (d : ℕ) → me.0.processors ≡ bounds.processors → me.0.role ≡ Driver d → IsIdle me.0.changes → number_word me.0.changes < 4 * bounds.periods → bounds.periods < 2 ^ 59
+      → Allows (Kept bounds) slots id me number_place (λ x. (x + 1) % 2 ^ 64) (started (step slots number_place 1 0 none) me)
+  starts_here slots id me d sized is idle room few = drives slots id 1 me d (Start Engine) (started (step slots number_place 1 0 none) me) sized is start_driven (omega (arith, idle)) (omega (arith, idle)) (omega (arith, room, few)) (omega arith)
+      (λ s r same seen mine. let idle' : IsIdle r.changes = omega (arith, same, idle) in
+      (idle_not_running r.changes r.log idle' r.words.reaches, reaches_started r.changes r.log Engine idle' r.words.reaches, omega (arith, same, idle, room)))
+      (λ n w right changes adds. (refl, right, changes, adds))
+
+  pub finishes_here : (slots id : ℕ) (me : Sat) (d : ℕ) → me.0.processors ≡ bounds.processors → me.0.role ≡ Driver d → IsBehindFlip me.0.changes → number_word me.0.changes < 2 ^ 62
+      → Reaches me.0.changes me.0.seen → ((i : Index) → WasEmpty i me.0.seen)
+      → Allows (Kept bounds) slots id me number_place (λ x. (x + 2) % 2 ^ 64) (finished (step slots number_place 2 0 none) me)
+  finishes_here slots id me d sized is behind small reached empty = drives slots id 2 me d (Finish Engine) (finished (step slots number_place 2 0 none) me) sized is finish_driven (omega (arith, behind)) (omega (arith, behind)) small (omega arith)
+      (λ s r same seen mine. let behind' : IsBehindFlip r.changes = omega (arith, same, behind) in let a = reached.started in let b = r.words.reaches.started in
+      let starts : starts_in me.0.seen ≡ starts_in r.log = omega (arith, a, b, same) in let most = r.within.periods in (
+        empty_may_end r.log Engine r.within.legal (busy_running r.changes r.log (omega (arith, behind')) r.words.reaches) (λ i. empty_grows i seen starts (empty i)),
+        reaches_finished r.changes r.log Engine behind' r.words.reaches,
+        omega (arith, most, behind'),
+      ))
+      (λ n w right changes adds. (refl, right, changes, adds))
+
+  -- Changes that are no events
+
+  -- the rule after a change of a word
+  changed : (s : State (Option ℕ) View) (r : Kept bounds s) (id k x : ℕ) (cs : List (ℕ × Option ℕ)) (w : View) → Agree bounds.processors (set s.words k x) r.log (r.changes + 1) → r.changes + 1 ≤ 4 * bounds.periods → r.engine ≡ id
+      → Fits r.log (r.changes + 1) r.seat_of r.holder r.engine id w → Kept bounds (stepped s k x id cs w keeps)
+  changed s r id k x cs w agree most here fits = record {
+    log = r.log;
+    changes = r.changes + 1;
+    seat_of = r.seat_of;
+    holder = r.holder;
+    engine = r.engine;
+    small = r.small;
+    within = record { legal = r.within.legal; makers = r.within.makers; limited = r.within.limited; periods = most };
+    words = agree;
+    each_view = views_set (Fits r.log (r.changes + 1) r.seat_of r.holder r.engine) s.views id w fits
+        (λ j d ne at. fits_later r.log r.changes (r.changes + 1) r.seat_of r.holder r.engine j (omega arith) (λ there. absurd (ne (sym there ∙ here))) d (r.each_view j d at));
+  }
+
+  -- an addition of 1 that is no event
+  changes_here : (slots id k : ℕ) (me : Sat) (d : ℕ) (word : ℕ → ℕ) (l : ℕ → Step) (told_of : ℕ → Sat → Type 0) → me.0.processors ≡ bounds.processors → me.0.role ≡ Driver d
+      → word me.0.changes < 2 ^ 62 → 0 < me.0.changes % 4 → me.0.changes % 4 < 3 → word (me.0.changes + 1) ≡ word me.0.changes + 1
+      → ((s : State (Option ℕ) View) (r : Kept bounds s) → (get_or s.words k 0 ≡ word r.changes)
+      × ((y : ℕ) → y ≡ word (r.changes + 1) → r.changes ≡ me.0.changes → Agree bounds.processors (set s.words k y) r.log (r.changes + 1)))
+      → ((n : ℕ) (w : View) → w.changes ≡ me.0.changes + 1 → n + 1 ≡ word w.changes → Sees (l (n + 1)) me.0 w → told_of n (w, me.1))
+      → Allows (Kept bounds) slots id me k (λ x. (x + 1) % 2 ^ 64) told_of
+  changes_here slots id k me d word l told_of sized is small busy few grows agrees tells s r _ at _ =
+      let v : View = me.0 in
+      let f = r.each_view id v at in
+      let known : v.changes ≡ r.changes = exact bounds s r id v d at is in
+      let made : Makes r.log r.changes r.seat_of r.holder r.engine id (Driver d) v.mine = subst (λ (m : Role). Makes r.log r.changes r.seat_of r.holder r.engine id m v.mine) is f.makes in
+      let changes' : ℕ = r.changes + 1 in
+      let x : ℕ = get_or s.words k 0 in
+      let y : ℕ = (x + 1) % 2 ^ 64 in
+      let found : x ≡ word v.changes = (agrees s r).0 ∙ ap word (sym known) in
+      let next : word changes' ≡ word (v.changes + 1) = ap (λ c. word (c + 1)) (sym known) in
+      let up : y ≡ word changes' = omega (arith, found, small, grows, next) in
+      let one : x + 1 ≡ word changes' = omega (arith, found, grows, next) in
+      let most = r.within.periods in
+      let reached = reaches_on r.changes r.log (omega (arith, known, busy)) (omega (arith, known, few)) r.words.reaches in
+      let w : View = record { processors = v.processors; role = v.role; mine = v.mine; seen = r.log; changes = changes'; told = []; right = v.right; steps = v.steps ++ l (x + 1) ∷ [] } in
+      let fits : Fits r.log changes' r.seat_of r.holder r.engine id w = record {
+        seen = beginning_refl r.log;
+        knows = knows_all r.log changes' r.seat_of r.holder r.engine id v.role;
+        told = All-nil (λ m. GoesOn m (now r.log changes'));
+        makes = makes_later r.log r.changes changes' r.seat_of r.holder r.engine id v.role v.mine f.makes;
+        has = has_later r.log r.changes changes' r.seat_of r.holder r.engine id v.right f.has;
+      } in (
+        w,
+        keeps,
+        tt,
+        changed s r id k y me.1 w ((agrees s r).1 y up (sym known)) (omega (arith, most, known, busy, few)) made.0 fits,
+        tells x w (ap (λ c. c + 1) (sym known)) one record {
+          processors = refl;
+          role = refl;
+          mine = refl;
+          right = refl;
+          told = refl;
+          steps = refl;
+          since = f.seen;
+          later = omega (arith, known);
+          covers = told_later v.told r.log r.changes changes' (omega arith) f.told;
+          sound = record {
+            legal = r.within.legal;
+            makers = subst (λ (z : ℕ). All (HasItsMaker z) r.log) (sym sized) r.within.makers;
+            own = owns_from_makes r.log r.changes r.seat_of r.holder r.engine id v.role v.mine f.makes;
+            reaches = reached;
+          };
+        },
+      )
+
+  pub flips_here : (slots id : ℕ) (me : Sat) (d : ℕ) → me.0.processors ≡ bounds.processors → me.0.role ≡ Driver d → IsBeforeFlip me.0.changes → number_word me.0.changes < 2 ^ 62
+      → Allows (Kept bounds) slots id me index_place (λ x. (x + 1) % 2 ^ 64) (flipped (step slots index_place 1 0 none) me)
+  flips_here slots id me d sized is before small = changes_here slots id index_place me d index_word AddIndex (flipped (step slots index_place 1 0 none) me) sized is (omega (arith, small, before)) (omega (arith, before)) (omega (arith, before)) (omega (arith, before))
+      (λ s r. (r.words.index, λ y is' same. agrees_flipped bounds.processors s.words r.log r.changes r.words y (reaches_on r.changes r.log (omega (arith, same, before)) (omega (arith, same, before)) r.words.reaches) is' (omega (arith, same, before))))
+      (λ n w changes one sees. (refl, changes, sees, one))
+
+  pub moves_on_here : (slots id : ℕ) (me : Sat) (d : ℕ) → me.0.processors ≡ bounds.processors → me.0.role ≡ Driver d → IsFlipping me.0.changes → number_word me.0.changes < 2 ^ 62
+      → Allows (Kept bounds) slots id me number_place (λ x. (x + 1) % 2 ^ 64) (moved_on (step slots number_place 1 0 none) me)
+  moves_on_here slots id me d sized is flipping small = changes_here slots id number_place me d number_word AddNumber (moved_on (step slots number_place 1 0 none) me) sized is small (omega (arith, flipping)) (omega (arith, flipping)) (omega (arith, flipping))
+      (λ s r. (r.words.number, λ y is' same. agrees_numbered bounds.processors s.words r.log r.changes r.words y r.log (reaches_on r.changes r.log (omega (arith, same, flipping)) (omega (arith, same, flipping)) r.words.reaches) (omega (arith, same, flipping)) is' (λ _ _. refl) (λ _ _. refl)))
+      (λ n w changes one sees. (refl, changes, sees, one))

@@ -1,0 +1,37 @@
+-- What the rule says of the words, in terms of the history alone.
+use Rattle.std.proofs.Common.{◌≡◌, ℕ, ◌+◌, ◌*◌, ◌/◌, ◌%◌, ◌<◌, ◌≤◌, ◌⊎◌, inl, inr, List, Option, slice_index, refl, sym, ap, ◌∙◌, subst, arith}
+use mathlib.Core.Logic.{dite}
+use native.Mathlib.Decide.{ℕ_discrete}
+use Rattle.atomic_table.specs.Table.{State}
+use Rattle.onedom.specs.declared.event.Event.{Event}
+use Rattle.onedom.specs.Histories.{starts_in, ended_in, IsRunning}
+use Rattle.sections.specs.declared.view.Bounds.{Bounds}
+use Rattle.sections.specs.declared.view.View.{View}
+use Rattle.sections.specs.Words.{index_place, number_place, index_word, number_word, Reaches, MayHave}
+use Rattle.sections.specs.Rule.{Kept}
+use Rattle.sections.specs.Laws.{HasOneHistory, OneHistory, WordsAgree}
+
+pub words_agree : WordsAgree
+words_agree changes history r = let started = r.started in let ended = r.ended in record {
+  resting = λ resting. idle_number changes history r (not_running_idle changes history r resting);
+  running = λ running. dite (ℕ_discrete (changes % 4) 3) (λ three. inr (omega (arith, ended, three))) (λ other. inl (omega (arith, started, ended, running, other)));
+  index_idle = λ idle. omega (arith, ended, idle);
+  index_first_scan = λ first. dite (ℕ_discrete (changes % 4) 1) (λ one. inl (omega (arith, ended, one))) (λ other. inr (omega (arith, ended, first, other)));
+  index_second_scan = λ second. omega (arith, ended, second);
+}
+  where
+    not_running_idle : (changes : ℕ) (history : List Event) → Reaches changes history → (IsRunning history → ⊥) → changes % 4 ≡ 0
+    not_running_idle changes history r resting = dite (ℕ_discrete (changes % 4) 0) (λ e. e) (λ n. let started = r.started in let ended = r.ended in absurd (resting (omega (arith, started, ended, n))))
+
+    idle_number : (changes : ℕ) (history : List Event) → Reaches changes history → changes % 4 ≡ 0 → number_word changes ≡ 4 * ended_in history
+    idle_number changes history r idle = let ended = r.ended in omega (arith, ended, idle)
+
+pub one_history : OneHistory
+one_history bounds s r = record {
+  log = r.log;
+  legal = r.within.legal;
+  words = subst (λ (z : ℕ × ℕ). MayHave r.log z.0 z.1) (λ k. (sym r.words.number k, sym r.words.index k)) (words_agree r.changes r.log r.words.reaches);
+  lock_counters = r.words.lock_counters;
+  unlock_counters = r.words.unlock_counters;
+  seen = λ j v at. (r.each_view j v at).seen;
+}

@@ -1,0 +1,147 @@
+-- Seats that are cut in two, joined and dealt keep the rule.
+use Rattle.std.proofs.Common.{◌≡◌, ℕ, zero, suc, ◌+◌, ◌*◌, ◌^◌, ◌<◌, ◌≤◌, ◌≢◌, List, [], ◌∷◌, ◌++◌, All, Option, get_or, length, set, refl, sym, ap, ◌∙◌, subst, ⊎_elim, arith}
+use Rattle.std.proofs.lemmas.List.Elements.{All-nil, All-cons}
+use mathlib.Core.Option.{none, some, some-injective, some-ne-none}
+use lib.ListN.{get_elem?}
+use Rattle.atomic_table.specs.Table.{State, Splits, Joins, opening}
+use Rattle.atomic_table.proofs.Lists.{at_set}
+use Rattle.onedom.specs.declared.event.Maker.TheVariants.{Processor, Engine}
+use Rattle.onedom.specs.declared.event.Event.{Event}
+use Rattle.onedom.specs.Histories.{made_by, IsBeginning}
+use Rattle.onedom.proofs.Beginnings.{beginning_empty}
+use Rattle.sections.specs.declared.view.Bounds.{Bounds}
+use Rattle.sections.specs.declared.view.Role.{Role}
+use Rattle.sections.specs.declared.view.Role.TheVariants.{Bearer, Cpu, Driver}
+use Rattle.sections.specs.declared.view.Right.{Right}
+use Rattle.sections.specs.declared.view.View.{View}
+use Rattle.sections.specs.Words.{word_count}
+use Rattle.sections.specs.Rule.{HasItsMaker, GoesOn, moment_of, Makes, Has, Knows, Fits, AreSmall, Kept, founder, lacking, bearer, informed, adopting, spent, without_next, next_role, dealer, dealt}
+use Rattle.sections.proofs.Agreement.{agrees_new}
+use Rattle.sections.proofs.Knowing.{now, views_set, views_split, given, given_here, given_else, makes_as, has_as, knows_as, reheld, moved, moved_has, moved_else, known_before}
+
+module _ (bounds : Bounds) where
+  -- Splits and joins
+
+  -- the same words and history, and other views
+  reviewed : (s : State (Option ℕ) View) (r : Kept bounds s) (views : List View) (seat_of holder : ℕ → ℕ) → ((j : ℕ) (d : View) → get_elem? views j ≡ some d → Fits r.log r.changes seat_of holder r.engine j d)
+      → Kept bounds record { words = s.words; homes = s.homes; views = views }
+  reviewed s r views seat_of holder each = record {
+    log = r.log;
+    changes = r.changes;
+    seat_of = seat_of;
+    holder = holder;
+    engine = r.engine;
+    small = r.small;
+    within = r.within;
+    words = r.words;
+    each_view = each;
+  }
+
+  pub gives_token : (id : ℕ) (v : View) → Splits (Kept bounds) id v (lacking v) (bearer v)
+  gives_token id v s r at = let f = r.each_view id v at in let m : ℕ = length s.views in let holder' : ℕ → ℕ = moved v.right m r.holder in
+      reviewed s r (set s.views id (lacking v) ++ bearer v ∷ []) r.seat_of holder' (views_split (Fits r.log r.changes r.seat_of holder' r.engine) s.views id v (lacking v) (bearer v) at
+      record { seen = f.seen; knows = knows_as r.log r.changes r.seat_of r.holder holder' r.engine id v.role v.changes f.knows; told = f.told; makes = makes_as r.log r.changes r.seat_of r.holder holder' r.engine id v.role v.mine f.makes; has = tt }
+      record { seen = f.seen; knows = known_before r.log r.changes r.seat_of r.holder r.engine id v.role v.changes f.knows; told = All-nil (λ m. GoesOn m (now r.log r.changes)); makes = tt; has = moved_has r.log r.changes r.seat_of r.holder r.engine id m v.right f.has }
+      (λ j d ne e. reheld r.log r.changes r.seat_of r.holder holder' r.engine j (moved_else r.log r.changes r.seat_of r.holder r.engine id m v.right f.has j ne) d (r.each_view j d e)))
+
+  -- two seats become one, which takes over the right of the other
+  joined : (id : ℕ) (v : View) (other : ℕ) (w both : View) → both.role ≡ v.role → both.mine ≡ v.mine → both.right ≡ w.right
+      → ((log : List Event) (changes : ℕ) (seat_of holder : ℕ → ℕ) (engine : ℕ) → Fits log changes seat_of holder engine id v → IsBeginning w.seen log → w.changes ≤ changes
+      → IsBeginning both.seen log × Knows log changes seat_of holder engine id both.role both.changes × All (λ m. GoesOn m (now log changes)) both.told)
+      → Joins (Kept bounds) id v other w both spent
+  joined id v other w both same_role same_mine same_right learns s r at apart there =
+      let f = r.each_view id v at in
+      let was : get_elem? s.views other ≡ some w = ⊎_elim (λ (t : (other ≡ id) × (both ≡ w)). absurd (apart t.0)) (λ (t : (other ≢ id) × (get_elem? s.views other ≡ some w)). t.1) (at_set s.views id other both w there) in
+      let g = r.each_view other w was in
+      let holder' : ℕ → ℕ = moved w.right id r.holder in
+      let K : ℕ → View → Type 0 = Fits r.log r.changes r.seat_of holder' r.engine in
+      let learned = learns r.log r.changes r.seat_of r.holder r.engine f g.seen (known_before r.log r.changes r.seat_of r.holder r.engine other w.role w.changes g.knows) in
+      let whole : K id both = record {
+        seen = learned.0;
+        knows = knows_as r.log r.changes r.seat_of r.holder holder' r.engine id both.role both.changes learned.1;
+        told = learned.2;
+        makes = subst (λ (z : Role × List Event). Makes r.log r.changes r.seat_of holder' r.engine id z.0 z.1) (λ i. (sym same_role i, sym same_mine i)) (makes_as r.log r.changes r.seat_of r.holder holder' r.engine id v.role v.mine f.makes);
+        has = subst (λ (t : Right). Has r.log r.changes r.seat_of holder' r.engine id t) (sym same_right) (moved_has r.log r.changes r.seat_of r.holder r.engine other id w.right g.has);
+      } in
+      reviewed s r (set (set s.views id both) other spent) r.seat_of holder' (views_set K (set s.views id both) other spent
+      record { seen = beginning_empty r.log; knows = omega arith; told = All-nil (λ m. GoesOn m (now r.log r.changes)); makes = tt; has = tt }
+      (λ j d ne e. ⊎_elim (λ (t : (j ≡ id) × (both ≡ d)). subst (λ (x : ℕ × View). K x.0 x.1) (λ i. (sym t.0 i, t.1 i)) whole)
+      (λ (t : (j ≢ id) × (get_elem? s.views j ≡ some d)). reheld r.log r.changes r.seat_of r.holder holder' r.engine j (moved_else r.log r.changes r.seat_of r.holder r.engine other id w.right g.has j ne) d (r.each_view j d t.1))
+      (at_set s.views id j both d e)))
+
+  pub takes_token : (id : ℕ) (v : View) (other : ℕ) (w : View) → Joins (Kept bounds) id v other w (informed v w) spent
+  takes_token id v other w = joined id v other w (informed v w) refl refl refl (λ log changes seat_of holder engine f seen known.
+      (f.seen, f.knows, All-cons (λ m. GoesOn m (now log changes)) (moment_of w) v.told (record { history = seen; changes = known }) f.told))
+
+  -- a processor's seat may do so: the engine's knows of all changes
+  pub sees_as_much : (id : ℕ) (v : View) (other : ℕ) (w : View) (p : ℕ) → v.role ≡ Cpu p → Joins (Kept bounds) id v other w (adopting v w) spent
+  sees_as_much id v other w p is = joined id v other w (adopting v w) refl refl refl (λ log changes seat_of holder engine f seen known.
+      (seen, subst (λ (m : Role). Knows log changes seat_of holder engine id m w.changes) (sym is) known, f.told))
+
+  -- Dealing
+
+  reseated : (log : List Event) (changes : ℕ) (seat_of seat_of' holder : ℕ → ℕ) (engine j : ℕ) → ((p : ℕ) → seat_of p ≡ j → seat_of' p ≡ j) → (m : Role) (mine : List Event) → Makes log changes seat_of holder engine j m mine → Makes log changes seat_of' holder engine j m mine
+  reseated log changes seat_of seat_of' holder engine j same Bearer mine h = tt
+  reseated log changes seat_of seat_of' holder engine j same (Cpu p) mine h = (same p h.0, h.1)
+  reseated log changes seat_of seat_of' holder engine j same (Driver k) mine h = (h.0, h.1, λ p le. (same p (h.2 p le).0, (h.2 p le).1))
+
+  knows_reseated : (log : List Event) (changes : ℕ) (seat_of seat_of' holder : ℕ → ℕ) (engine j : ℕ) (m : Role) (known : ℕ) → Knows log changes seat_of holder engine j m known → Knows log changes seat_of' holder engine j m known
+  knows_reseated log changes seat_of seat_of' holder engine j Bearer known h = h
+  knows_reseated log changes seat_of seat_of' holder engine j (Cpu p) known h = h
+  knows_reseated log changes seat_of seat_of' holder engine j (Driver k) known h = h
+
+  pub deals : (id : ℕ) (v : View) (k : ℕ) → v.role ≡ Driver k → Splits (Kept bounds) id v (dealer v) (dealt v)
+  deals id v k is s r at =
+      let f = r.each_view id v at in
+      let m : ℕ = length s.views in
+      let seat_of' : ℕ → ℕ = given k m r.seat_of in
+      let made : Makes r.log r.changes r.seat_of r.holder r.engine id (Driver k) v.mine = subst (λ (x : Role). Makes r.log r.changes r.seat_of r.holder r.engine id x v.mine) is f.makes in
+      let known : v.changes ≡ r.changes = subst (λ (x : Role). Knows r.log r.changes r.seat_of r.holder r.engine id x v.changes) is f.knows in
+      let next : (r.seat_of k ≡ id) × (made_by (Processor k) r.log ≡ []) = made.2 k (omega arith) in
+      reviewed s r (set s.views id (dealer v) ++ dealt v ∷ []) seat_of' r.holder (views_split (Fits r.log r.changes seat_of' r.holder r.engine) s.views id v (dealer v) (dealt v) at
+      record {
+        seen = f.seen;
+        knows = subst (λ (x : Role). Knows r.log r.changes seat_of' r.holder r.engine id (without_next x) v.changes) (sym is) known;
+        told = f.told;
+        makes = subst (λ (x : Role). Makes r.log r.changes seat_of' r.holder r.engine id (without_next x) v.mine) (sym is)
+            (made.0, made.1, λ p le. (given_else k m r.seat_of p (λ h. omega arith) ∙ (made.2 p (omega arith)).0, (made.2 p (omega arith)).1));
+        has = has_as r.log r.changes r.seat_of seat_of' r.holder r.holder r.engine id (λ _ h. h) v.right f.has;
+      }
+      record {
+        seen = f.seen;
+        knows = subst (λ (x : Role). Knows r.log r.changes seat_of' r.holder r.engine m (next_role x) v.changes) (sym is) (omega (arith, known));
+        told = All-nil (λ m. GoesOn m (now r.log r.changes));
+        makes = subst (λ (x : Role). Makes r.log r.changes seat_of' r.holder r.engine m (next_role x) []) (sym is) (given_here k m r.seat_of, sym next.1);
+        has = tt;
+      }
+      (λ j d ne e. let u = r.each_view j d e in record {
+        seen = u.seen;
+        knows = knows_reseated r.log r.changes r.seat_of seat_of' r.holder r.engine j d.role d.changes u.knows;
+        told = u.told;
+        makes = reseated r.log r.changes r.seat_of seat_of' r.holder r.engine j (λ p h. given_else k m r.seat_of p (λ pk. ne (sym h ∙ (ap r.seat_of pk ∙ next.0))) ∙ h) d.role d.mine u.makes;
+        has = has_as r.log r.changes r.seat_of seat_of' r.holder r.holder r.engine j (λ _ h. h) d.right u.has;
+      }))
+
+  first_view : (j : ℕ) (d : View) → get_elem? (founder bounds ∷ []) j ≡ some d → Fits [] 0 (λ _. 0) (λ _. 0) 0 j d
+  first_view zero d e = subst (λ (v : View). Fits [] 0 (λ _. 0) (λ _. 0) 0 0 v) (some-injective (founder bounds) d e) record {
+    seen = beginning_empty [];
+    knows = refl;
+    told = All-nil (λ m. GoesOn m (now [] 0));
+    makes = (refl, refl, λ p _. (refl, refl));
+    has = tt;
+  }
+  first_view (suc j) d e = absurd (some-ne-none d (sym e))
+
+  -- a table whose words are all 0 has an empty history
+  pub opens : (words : List ℕ) → length words ≡ word_count bounds.processors → ((k : ℕ) → get_or words k 0 ≡ 0) → AreSmall bounds → Kept bounds (opening words [] (founder bounds))
+  opens words wide zeros small = record {
+    log = [];
+    changes = 0;
+    seat_of = λ _. 0;
+    holder = λ _. 0;
+    engine = 0;
+    small = small;
+    within = record { legal = tt; makers = All-nil (HasItsMaker bounds.processors); limited = λ p i. omega arith; periods = omega arith };
+    words = agrees_new bounds.processors words wide zeros;
+    each_view = first_view;
+  }

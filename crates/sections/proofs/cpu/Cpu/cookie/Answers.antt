@@ -1,0 +1,72 @@
+use Rattle.std.proofs.Common.{rules, ◌≡◌, ◌%◌, ◌≤◌, ℕ, List, [], ◌∷◌, ◌++◌, refl, sym, ap, ◌∙◌, subst, arith}
+use Rattle.sseq.specs.Numbers.{cookie_at}
+use Rattle.onedom.specs.declared.event.Event.{Event}
+use Rattle.onedom.specs.declared.event.Event.TheVariants.{Note}
+use Rattle.onedom.specs.declared.event.Maker.TheVariants.{Processor}
+use Rattle.sections.specs.declared.view.View.{View}
+use Rattle.sections.specs.Words.{word_count}
+use Rattle.sections.specs.Rule.{lacking, bearer, token}
+use Rattle.sections.proofs.Sharing.{gives_token}
+use Rattle.sections.proofs.Seating.{some_words}
+use Rattle.sections.proofs.Calling.{notes_from, locks_told, unclosed_told, rests_cut, whole_cookie}
+use Rattle.sections.proofs.cpu.Cpu.cookie.Goals as goal
+
+pub split_seat-seat-requires : goal.split_seat-seat-requires
+split_seat-seat-requires g c = let wide : c.deref.result.now.shared.table_id.words ≡ word_count c.deref.result.now.shared.key.processors = search rules in
+    (c.note_number-number.ensures.same_table ∙ search rules, some_words _ _ wide, gives_token _ _ _)
+
+pub invariant_of-self : goal.invariant_of-self
+invariant_of-self g c =
+    let told = c.note_number-number.ensures in
+    let s = c.split_seat-seat.ensures in
+    let a = told.adds c.self.inside.processor c.self.invariant.role in
+    let p : ℕ = c.self.inside.processor in
+    let e : Event = Note (cookie_at c.note_number-number.result) (Processor p) in
+    let cut = ap (λ m. m.0) s.2 in
+    let mine = ap (λ (v : View). v.mine) cut ∙ a.mine in record {
+      placed = record {
+        seated = s.0 ∙ (told.same_table ∙ c.self.invariant.placed.seated);
+        wide = c.self.invariant.placed.wide;
+        bare = ap (λ m. m.1) s.2 ∙ (told.bare ∙ c.self.invariant.placed.bare);
+        sized = ap (λ (v : View). v.processors) cut ∙ (a.processors ∙ c.self.invariant.placed.sized);
+      };
+      rests = rests_cut _ _ _ _ cut a;
+      role = ap (λ (v : View). v.role) cut ∙ (a.role ∙ c.self.invariant.role);
+      there = c.self.invariant.there;
+      limit = c.self.invariant.limit;
+      begun = λ i. c.self.invariant.begun i ∙ sym (locks_told p i e c.self.inside.seat.me.0.mine _ refl mine);
+      limited = c.self.invariant.limited;
+      small = c.self.invariant.small;
+      unclosed = c.self.invariant.unclosed ∙ sym (unclosed_told e c.self.inside.seat.me.0.mine _ refl (λ _. refl) mine);
+      few = c.self.invariant.few;
+    }
+
+pub invariant_of-result : goal.invariant_of-result
+invariant_of-result g c =
+    let told = c.note_number-number.ensures in
+    let s = c.split_seat-seat.ensures in
+    let a = told.adds c.self.inside.processor c.self.invariant.role in
+    let free = told.right ∙ c.self.invariant.rests.free in
+    let seen = ap (λ m. m.0.seen) s.4 in
+    let is = c.snap.ensures.meaning in record {
+      bare = ap (λ m. m.1) s.4;
+      plain = ap (λ m. m.0) s.4 ∙ (λ i. token (ap (λ m. m.0.seen) (sym s.4) i) (ap (λ m. m.0.changes) (sym s.4) i) (free i));
+      given = record { before = a.before; by = Processor c.self.inside.processor; whole = seen ∙ (a.seen ∙ ap (λ n. a.before ++ Note n (Processor c.self.inside.processor) ∷ []) (sym is)) };
+      whole = subst (λ (n : ℕ). n % 4 ≡ 0) (sym is) (whole_cookie c.note_number-number.result);
+    }
+
+pub returns : goal.returns
+returns g c =
+    let told = c.note_number-number.ensures in
+    let s = c.split_seat-seat.ensures in
+    let a = told.adds c.self.inside.processor c.self.invariant.role in
+    rw (← c.self.view_is) (record {
+      number = c.note_number-number.result;
+      notes = notes_from _ _ _ _ _ _ c.self.inside.seat.me.0 c.note_number-number.new.seat.me.0 _ (s.0 ∙ told.same_table) c.self.invariant.placed.sized c.self.invariant.role (ap (λ m. m.0) s.2) told.finds a;
+      cookie_is = λ i. record {
+        domain = (s.3 ∙ told.same_table) i;
+        number = c.snap.ensures.meaning i;
+        seen = (ap (λ m. m.0.seen) s.4 ∙ sym (ap (λ m. m.0.seen) s.2)) i;
+        changes = (ap (λ m. m.0.changes) s.4 ∙ sym (ap (λ m. m.0.changes) s.2)) i;
+      };
+    })

@@ -1,0 +1,15 @@
+use Rattle.std.proofs.Common.{rules, ◌≡◌, ◌*◌, ◌+◌, ◌^◌, ◌<◌, ◌≤◌, ℕ, refl, sym, ap, ◌∙◌, subst, arith}
+use Rattle.sections.specs.Views.{EngineView}
+use Rattle.sections.specs.Words.{word_count, number_word, IsBeforeFlip}
+use Rattle.sections.proofs.EngineSteps.{flips_here}
+use Rattle.sections.proofs.Seating.{some_words}
+use Rattle.sections.proofs.engine.EngineSeat.flip.Goals as goal
+
+pub fetch_add-before-requires : goal.fetch_add-before-requires
+fetch_add-before-requires g c =
+    let e = c.self.invariant in
+    let wide : c.deref.result.now.shared.table_id.words ≡ word_count c.deref.result.now.shared.key.processors = search rules in
+    let here : IsBeforeFlip c.self.inside.seat.me.0.changes = subst (λ (z : EngineView). IsBeforeFlip z.changes) (sym c.self.view_is) c.requires.running in
+    let few = e.few in
+    let small = e.small in
+    (search rules, some_words _ _ wide, flips_here _ _ _ _ _ (search rules) e.role here (omega (arith, few, small, here)))

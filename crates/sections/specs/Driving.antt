@@ -1,0 +1,122 @@
+-- What the calls of the engine's seat do.
+use Rattle.std.specs.Prelude.{◌≡◌, ℕ, ◌+◌, ◌^◌, ◌<◌, ◌≤◌, ◌⊎◌, List, [], ◌∷◌, ◌++◌, length, map, slice_index_or}
+use Rattle.atomic_table.specs.Seated.{TableId}
+use Rattle.sseq.specs.declared.index.Index.{Index}
+use Rattle.onedom.specs.declared.event.Maker.TheVariants.{Processor, Engine}
+use Rattle.onedom.specs.declared.event.Event.{Event}
+use Rattle.onedom.specs.Histories.{IsOpen, WasOpenAtStart, IsBeginning}
+use Rattle.sections.specs.declared.view.Step.{Step}
+use Rattle.sections.specs.declared.view.Step.TheVariants.{LoadIndex, LoadUnlocks, LoadLocks, AddIndex, AddNumber}
+use Rattle.sections.specs.Words.{index_word, number_word, locks, unlocks, all_locks}
+use Rattle.sections.specs.Views.{CpuView, EngineView}
+use Rattle.sections.specs.Calls.{IsHistoryOf, HasSeenOf, Accepts}
+
+abbrev pub IsSeenByEngine : EngineView → Type 0
+IsSeenByEngine e = IsHistoryOf e.processors Engine e.mine e.seen e.changes
+
+abbrev pub IsSameEngine : EngineView → EngineView → Type 0
+IsSameEngine e f = (f.domain ≡ e.domain) × (f.processors ≡ e.processors) × (f.periods ≡ e.periods)
+
+abbrev pub new_engine : TableId → ℕ → ℕ → EngineView
+new_engine domain processors periods = record { domain = domain; processors = processors; periods = periods; seen = []; changes = 0; mine = []; steps = [] }
+
+-- Steps
+
+-- one step was made that is no event, after which the engine has made so many changes; what is then seen goes on from what was seen before
+pub record TakesStep (l : Step) (changes : ℕ) (e f : EngineView) : Type 0 where
+  pub same : IsSameEngine e f
+  pub mine : f.mine ≡ e.mine
+  pub steps : f.steps ≡ e.steps ++ l ∷ []
+  pub changes_are : f.changes ≡ changes
+  pub since : IsBeginning e.seen f.seen
+  pub history : IsSeenByEngine f
+
+-- one load of an unlock counter found as many as have ended there, with this index, in what is then seen
+pub record CountsUnlocks (q : ℕ) (i : Index) (found : ℕ) (e f : EngineView) : Type 0 where
+  pub step : TakesStep (LoadUnlocks q i found (length f.seen)) e.changes e f
+  pub exact : found ≡ unlocks q i f.seen
+  pub bound : all_locks f.processors i f.seen < 2 ^ 62
+
+-- one load of a lock counter found as many as were begun there, with this index, in what is then seen
+pub record CountsLocks (p : ℕ) (i : Index) (found : ℕ) (e f : EngineView) : Type 0 where
+  pub step : TakesStep (LoadLocks p i found (length f.seen)) e.changes e f
+  pub exact : found ≡ locks p i f.seen
+  pub bound : all_locks f.processors i f.seen < 2 ^ 62
+
+-- 1 was added to the index word
+abbrev pub Flips : EngineView → EngineView → Type 0
+Flips e f = TakesStep (AddIndex (index_word f.changes)) (e.changes + 1) e f
+
+-- behind the flip 1 was added to the number
+abbrev pub MovesOn : EngineView → EngineView → Type 0
+MovesOn e f = TakesStep (AddNumber (number_word f.changes)) (e.changes + 1) e f
+
+-- the engine's event was made, behind all that it had seen, by a change of the number
+pub record AddsEngineEvent (ev : Event) (e f : EngineView) : Type 0 where
+  pub same : IsSameEngine e f
+  pub before : List Event
+  pub seen : f.seen ≡ before ++ ev ∷ []
+  pub since : IsBeginning e.seen before
+  pub changes_are : f.changes ≡ e.changes + 1
+  pub mine : f.mine ≡ e.mine ++ ev ∷ []
+  pub steps : f.steps ≡ e.steps
+  pub history : IsSeenByEngine f
+
+-- no section that was open at the start of the period is open now
+abbrev pub OpenAtStartAreClosed : List Event → List Event → Type 0
+OpenAtStartAreClosed seen now = (s : ℕ) → WasOpenAtStart seen s → ¬ IsOpen now s
+
+-- Ties
+
+-- one load of the index word by the engine, after which it has seen what the processor has
+pub record Covers (e : EngineView) (seen : List Event) (reached : ℕ) (e' : EngineView) : Type 0 where
+  pub value : ℕ
+  pub current : value ≡ index_word e'.changes
+  pub step : TakesStep (LoadIndex value) e.changes e e'
+  pub covers : IsBeginning seen e'.seen
+  pub not_before : reached ≤ e'.changes
+
+-- the engine has seen what each of these processors has, and did nothing but to load the index word once for each
+pub record CoversAll (e : EngineView) (cpus : List CpuView) (e' : EngineView) : Type 0 where
+  pub found : List ℕ
+  pub one_each : length found ≡ length cpus
+  pub steps : e'.steps ≡ e.steps ++ map LoadIndex found
+  pub same : IsSameEngine e e'
+  pub mine : e'.mine ≡ e.mine
+  pub changes_are : e'.changes ≡ e.changes
+  pub since : IsBeginning e.seen e'.seen
+  pub covers : (k : ℕ) (d : CpuView) → k < length cpus → IsBeginning (slice_index_or cpus k d).seen e'.seen
+  pub not_before : (k : ℕ) (d : CpuView) → k < length cpus → (slice_index_or cpus k d).changes ≤ e'.changes
+  pub history : IsSeenByEngine e'
+
+-- the engine and the processor made one load each, and no event, and have then seen one history, which covers what each had seen
+pub record TiesEngine (e : EngineView) (c : CpuView) (e' : EngineView) (c' : CpuView) : Type 0 where
+  pub covers : Covers e c.seen c.changes e'
+  pub accepts : Accepts c e'.seen e'.changes c'
+  pub since : IsBeginning c.seen c'.seen
+  pub later : c.changes ≤ c'.changes
+  pub comparable : IsBeginning e.seen c.seen ⊎ IsBeginning c.seen e.seen
+  pub engine_known : HasSeenOf Engine e.mine c.seen
+  pub cpu_known : HasSeenOf (Processor c.processor) c.mine e.seen
+
+-- the processor made a load and no event, and has seen this history, which goes on from what it had seen
+pub record Joins (c : CpuView) (seen : List Event) (changes : ℕ) (c' : CpuView) : Type 0 where
+  pub accepts : Accepts c seen changes c'
+  pub since : IsBeginning c.seen seen
+  pub later : c.changes ≤ changes
+
+-- the engine and the processors have seen one history, in which each has just its own events. The engine loaded the index word once for each processor, and each processor once
+pub record Meets (e : EngineView) (cpus : List CpuView) (e' : EngineView) (cpus' : List CpuView) : Type 0 where
+  pub found : List ℕ
+  pub one_each : length found ≡ length cpus
+  pub steps : e'.steps ≡ e.steps ++ map LoadIndex found
+  pub same : IsSameEngine e e'
+  pub mine : e'.mine ≡ e.mine
+  pub changes_are : e'.changes ≡ e.changes
+  pub since : IsBeginning e.seen e'.seen
+  pub history : IsSeenByEngine e'
+  pub count : length cpus' ≡ length cpus
+  pub each : (k : ℕ) (d : CpuView) → k < length cpus → Joins (slice_index_or cpus k d) e'.seen e'.changes (slice_index_or cpus' k d)
+
+abbrev pub AreInDomain : TableId → List CpuView → Type 0
+AreInDomain domain cpus = (k : ℕ) (d : CpuView) → k < length cpus → (slice_index_or cpus k d).domain ≡ domain

@@ -1,0 +1,58 @@
+//! Cookies: how a processor learns that a grace period has gone by, without waiting for it.
+ghost use Rattle.std.specs.Prelude.{◌≡◌, ◌%◌, ◌≤◌, ◌↔◌, IsTrue, MatchResult};
+ghost use Rattle.sections.specs.Calls.{Notes, GivesCookie, Asks, IsNoCookie, AllClosed};
+
+use super::steps::{ask_number, note_number};
+use super::{Cookie, Cpu, NotACookie};
+use crate::plays;
+use sseq::{Number, is_done, snap};
+use std::alloc::Allocator;
+use std::marker::Brand;
+
+impl<A: Allocator> Cpu<A> {
+    /// The number of the domain, as one load finds it: never an older one than this processor has seen. It notes the
+    /// cookie of this number, as [`Cpu::cookie`] does.
+    pub fn number(&mut self) -> Number
+        ensures { Notes result self.old self.new }
+    {
+        note_number(&self.table.shared, &mut self.seat)
+    }
+
+    /// A cookie of now (`get_state_synchronize_srcu`): once it is done, every section is closed that is open now. It
+    /// asks for no grace period.
+    pub fn cookie(&mut self) -> Cookie
+        ensures { GivesCookie self.old self.new result }
+    {
+        let top = &self.table.shared;
+        let number = note_number(top, &mut self.seat);
+        let seat = top.split_seat::<plays::GiveToken>(&mut self.seat);
+        Cookie {
+            number: snap(number),
+            seat,
+        }
+    }
+
+    /// Whether the cookie is done (`poll_state_synchronize_srcu`): then no section is open that was open when it was
+    /// given. It never waits. The cookie stays as it is.
+    pub fn poll(&mut self, cookie: &mut Cookie) -> bool
+        requires { cookie.old.domain ≡ self.old.domain }
+        ensures asks { Asks cookie.old.seen cookie.old.changes cookie.old.number result self.old self.new }
+        ensures cookie { cookie.new ≡ cookie.old }
+        ensures closed { IsTrue result → AllClosed cookie.old.seen self.new.seen }
+    {
+        let top = &self.table.shared;
+        let token = top.split_seat::<plays::GiveToken>(&mut cookie.seat);
+        top.join_seat::<plays::TakeToken>(&mut self.seat, token);
+        ask_number::<Brand>(top, &mut self.seat, cookie.number)
+    }
+
+    /// The same for a cookie's number. What is no multiple of four is refused, with no step.
+    pub fn poll_number(&mut self, cookie: u64) -> Result<bool, NotACookie>
+        ensures { MatchResult result (λ b. Asks self.old.seen self.old.changes cookie b self.old self.new) (λ _. IsNoCookie cookie × (self.new ≡ self.old)) }
+    {
+        if cookie % 4 != 0 {
+            return Err(NotACookie);
+        }
+        Ok(ask_number::<Brand>(&self.table.shared, &mut self.seat, cookie))
+    }
+}
