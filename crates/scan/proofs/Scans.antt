@@ -1,0 +1,280 @@
+-- What the loads of a scan tell.
+use Rattle.std.proofs.Common.{◌≡◌, ℕ, zero, suc, ◌+◌, ◌*◌, ◌/◌, ◌%◌, ◌^◌, ◌<◌, ◌≤◌, ◌≢◌, ◌⊎◌, inl, inr, ⊎_elim, List, [], ◌∷◌, ◌++◌, All, length, refl, sym, ap, ◌∙◌, subst, append_assoc, append-nil, length-append, arith}
+use mathlib.Core.Logic.{dite}
+use native.Mathlib.Decide.{ℕ_discrete}
+use Rattle.sseq.specs.declared.index.Index.{Index}
+use Rattle.sseq.specs.Indexes.{low_bit, other_index}
+use Rattle.onedom.specs.declared.event.Event.{Event}
+use Rattle.onedom.specs.Histories.{starts_in, ended_in, IsRunning, WasEmpty, IsEmpty, IsLegal, IsBeginning}
+use Rattle.onedom.proofs.Beginnings.{beginning_refl, beginning_trans, legal_beginning, length_grows}
+use Rattle.onedom.proofs.Periods.{empty_grows}
+use Rattle.onedom.proofs.Pushes.{count_append}
+use Rattle.sections.specs.declared.view.Step.{Step}
+use Rattle.sections.specs.declared.view.Step.TheVariants.{LoadUnlocks, LoadLocks}
+use Rattle.sections.specs.Words.{index_word, number_word, locks, unlocks, sum_below, all_locks, all_unlocks, IsBeforeFlip, IsBehindFlip}
+use Rattle.sections.specs.Views.{EngineView}
+use Rattle.sections.specs.Driving.{IsSeenByEngine, TakesStep, CountsUnlocks, CountsLocks}
+use Rattle.sections.proofs.Counters.{sum_le, unlocks_grow, locks_grow}
+use Rattle.sections.proofs.Agreement.{busy_running}
+use Rattle.sections.proofs.Sums.{equal_sums}
+use Rattle.scan.specs.declared.place.Place.{Place}
+use Rattle.scan.specs.declared.place.Place.TheVariants.{Wanted}
+use Rattle.scan.specs.declared.progress.Progress.{Progress}
+use Rattle.scan.specs.declared.progress.Progress.TheVariants as answer
+use Rattle.scan.specs.Places.{current, scanned, half, IsScanning, BeganScan, InUnlocks, InLocks, HasPassed, IsAt, SaysAt, Moves}
+use Rattle.scan.specs.Progress.{events_of, IsStepAt, is_counter_load, counter_loads, Waits, Counts}
+use Rattle.scan.proofs.Between.{open_between, makers_of}
+
+sum_more : (f : ℕ → ℕ) (p : ℕ) → sum_below f (p + 1) ≡ sum_below f p + f p
+sum_more f p = ap (sum_below f) one
+  where
+    one : p + 1 ≡ suc p
+    one = omega arith
+
+pub sum_fewer : (f : ℕ → ℕ) (p n : ℕ) → p ≤ n → sum_below f p ≤ sum_below f n
+sum_fewer f p zero le = let none : p ≡ 0 = omega arith in let same : sum_below f p ≡ sum_below f 0 = ap (sum_below f) none in omega (arith, same)
+sum_fewer f p (suc n) le = dite (ℕ_discrete p (suc n))
+    (λ e. let same : sum_below f p ≡ sum_below f (suc n) = ap (sum_below f) e in omega (arith, same))
+    (λ ne. let r = sum_fewer f p n (omega arith) in omega (arith, r))
+
+-- As long as the engine changes no word
+
+module _ (e f : EngineView) (seen : IsSeenByEngine e) (later : IsSeenByEngine f) (since : IsBeginning e.seen f.seen) (changes : f.changes ≡ e.changes) where
+  pub same_scanned : scanned f ≡ scanned e
+  same_scanned = ap (λ c. other_index (low_bit (index_word c))) changes
+
+  pub no_start : starts_in e.seen ≡ starts_in f.seen
+  no_start = let a = seen.reaches.started in let b = later.reaches.started in omega (arith, a, b, changes)
+
+  pub still_scanning : IsScanning e → IsScanning f
+  still_scanning s = record {
+    running = subst (λ c. IsBeforeFlip c ⊎ IsBehindFlip c) (sym changes) s.running;
+    first_scan = λ behind. subst (λ i. WasEmpty i f.seen) (ap (λ c. low_bit (index_word c)) (sym changes)) (empty_grows (current e) since no_start (s.first_scan (subst IsBehindFlip changes behind)));
+  }
+
+  -- so many more loads of counters
+  pub began_still : (k more : ℕ) (first : List Event) (extra : List Step) → f.steps ≡ e.steps ++ extra → counter_loads extra ≡ more → BeganScan k e first → BeganScan (k + more) f first
+  began_still k more first extra steps is b = record {
+    before = b.before;
+    found = b.found;
+    rest = b.rest ++ extra;
+    steps = steps ∙ (ap (λ x. x ++ extra) b.steps ∙ (append_assoc b.before (LoadUnlocks 0 (scanned e) b.found (length first) ∷ b.rest) extra
+        ∙ ap (λ i. b.before ++ LoadUnlocks 0 i b.found (length first) ∷ (b.rest ++ extra)) (sym same_scanned)));
+    count = let c = b.count in let both = count_append is_counter_load b.rest extra in omega (arith, c, both, is);
+    seen = beginning_trans b.seen since;
+    since_start = b.since_start ∙ no_start;
+  }
+
+-- Unlock counters
+
+-- what is known after the load
+pub record Unlocked (f : EngineView) (p ended : ℕ) : Type 0 where
+  pub first : List Event
+  pub began : BeganScan (p + 1) f first
+  pub least : sum_below (λ q. unlocks q (scanned f) first) (p + 1) ≤ ended
+  pub most : ended ≤ sum_below (λ q. unlocks q (scanned f) f.seen) (p + 1)
+
+module _ (e f : EngineView) (p ended found : ℕ) (i : Index) (seen : IsSeenByEngine e) (here : InUnlocks e p ended) (is : i ≡ scanned e) (counts : CountsUnlocks p i found e f) where
+  now_scanned : i ≡ scanned f
+  now_scanned = is ∙ sym (same_scanned e f seen counts.step.history counts.step.since counts.step.changes_are)
+
+  most_so_far : ended + found ≤ sum_below (λ q. unlocks q i f.seen) (p + 1)
+  most_so_far =
+      let was : ended ≤ sum_below (λ q. unlocks q i e.seen) p = subst (λ j. ended ≤ sum_below (λ q. unlocks q j e.seen) p) (sym is) here.most in
+      let grown = sum_le (λ q. unlocks q i e.seen) (λ q. unlocks q i f.seen) p (λ q. unlocks_grow q i counts.step.since) in
+      let more = sum_more (λ q. unlocks q i f.seen) p in let exact = counts.exact in omega (arith, was, grown, more, exact)
+
+  first_load : p ≡ 0 → Unlocked f p (ended + found)
+  first_load none = record {
+    first = f.seen;
+    began = record {
+      before = e.steps;
+      found = found;
+      rest = [];
+      steps = counts.step.steps ∙ (λ k. e.steps ++ LoadUnlocks (none k) (now_scanned k) found (length f.seen) ∷ []);
+      count = omega (arith, none);
+      seen = beginning_refl f.seen;
+      since_start = refl;
+    };
+    least = subst (λ j. sum_below (λ q. unlocks q j f.seen) (p + 1) ≤ ended + found) now_scanned
+        (let more = sum_more (λ q. unlocks q i f.seen) p in let nothing : sum_below (λ q. unlocks q i f.seen) p ≡ 0 = ap (sum_below (λ q. unlocks q i f.seen)) none in let exact = counts.exact in omega (arith, more, nothing, exact));
+    most = subst (λ j. ended + found ≤ sum_below (λ q. unlocks q j f.seen) (p + 1)) now_scanned most_so_far;
+  }
+
+  later_load : 0 < p → Unlocked f p (ended + found)
+  later_load some = let b = here.began some in let first : List Event = b.0 in record {
+    first = first;
+    began = began_still e f seen counts.step.history counts.step.since counts.step.changes_are p 1 first (LoadUnlocks p i found (length f.seen) ∷ []) counts.step.steps refl b.1;
+    least = subst (λ j. sum_below (λ q. unlocks q j first) (p + 1) ≤ ended + found) now_scanned
+        (let was : sum_below (λ q. unlocks q i first) p ≤ ended = subst (λ j. sum_below (λ q. unlocks q j first) p ≤ ended) (sym is) b.2 in
+        let more = sum_more (λ q. unlocks q i first) p in let grown = unlocks_grow p i (beginning_trans b.1.seen counts.step.since) in let exact = counts.exact in omega (arith, was, more, grown, exact));
+    most = subst (λ j. ended + found ≤ sum_below (λ q. unlocks q j f.seen) (p + 1)) now_scanned most_so_far;
+  }
+
+  pub unlocked : Unlocked f p (ended + found)
+  unlocked = dite (ℕ_discrete p 0) (λ none. first_load none) (λ some. later_load (omega arith))
+
+  -- the sum is no more than there were sections
+  pub unlocks_fit : ended + found < 2 ^ 62
+  unlocks_fit =
+      let there = here.there in let same = counts.step.same.1 in
+      let all = sum_fewer (λ q. unlocks q i f.seen) (p + 1) f.processors (omega (arith, there, same)) in
+      let sums = (equal_sums f.processors i f.seen counts.step.history.legal counts.step.history.makers).0 in
+      let bound = counts.bound in let most = most_so_far in omega (arith, all, sums, bound, most)
+
+  pub next_unlocks : p + 1 < f.processors → InUnlocks f (p + 1) (ended + found)
+  next_unlocks more = let u = unlocked in record {
+    scanning = still_scanning e f seen counts.step.history counts.step.since counts.step.changes_are here.scanning;
+    there = more;
+    began = λ _. (u.first, u.began, u.least);
+    most = u.most;
+  }
+
+  pub first_locks : f.processors ≤ p + 1 → InLocks f 0 (ended + found) 0
+  first_locks last = let u = unlocked in let there = here.there in let same = counts.step.same.1 in
+      let n : p + 1 ≡ f.processors = omega (arith, last, there, same) in record {
+        scanning = still_scanning e f seen counts.step.history counts.step.since counts.step.changes_are here.scanning;
+        there = omega (arith, there, same);
+        first = u.first;
+        middle = f.seen;
+        began = subst (λ k. BeganScan k f u.first) (omega (arith, n)) u.began;
+        in_order = u.began.seen;
+        seen = beginning_refl f.seen;
+        since_start = refl;
+        ended_least = subst (λ k. sum_below (λ q. unlocks q (scanned f) u.first) k ≤ ended + found) n u.least;
+        ended_most = subst (λ k. ended + found ≤ sum_below (λ q. unlocks q (scanned f) f.seen) k) n u.most;
+        begun_least = omega arith;
+        begun_most = omega arith;
+      }
+
+-- Lock counters
+
+module _ (e f : EngineView) (p ended begun found : ℕ) (i : Index) (seen : IsSeenByEngine e) (here : InLocks e p ended begun) (is : i ≡ scanned e) (counts : CountsLocks p i found e f) where
+  now_scanned_l : i ≡ scanned f
+  now_scanned_l = is ∙ sym (same_scanned e f seen counts.step.history counts.step.since counts.step.changes_are)
+
+  least_begun : sum_below (λ q. locks q i here.middle) (p + 1) ≤ begun + found
+  least_begun =
+      let was : sum_below (λ q. locks q i here.middle) p ≤ begun = subst (λ j. sum_below (λ q. locks q j here.middle) p ≤ begun) (sym is) here.begun_least in
+      let more = sum_more (λ q. locks q i here.middle) p in let grown = locks_grow p i (beginning_trans here.seen counts.step.since) in let exact = counts.exact in omega (arith, was, more, grown, exact)
+
+  most_begun : begun + found ≤ sum_below (λ q. locks q i f.seen) (p + 1)
+  most_begun =
+      let was : begun ≤ sum_below (λ q. locks q i e.seen) p = subst (λ j. begun ≤ sum_below (λ q. locks q j e.seen) p) (sym is) here.begun_most in
+      let grown = sum_le (λ q. locks q i e.seen) (λ q. locks q i f.seen) p (λ q. locks_grow q i counts.step.since) in
+      let more = sum_more (λ q. locks q i f.seen) p in let exact = counts.exact in omega (arith, was, grown, more, exact)
+
+  pub locks_fit : begun + found < 2 ^ 62
+  locks_fit = let there = here.there in let same = counts.step.same.1 in
+      let all = sum_fewer (λ q. locks q i f.seen) (p + 1) f.processors (omega (arith, there, same)) in let bound = counts.bound in let most = most_begun in omega (arith, all, bound, most)
+
+  same_count : f.processors ≡ e.processors
+  same_count = counts.step.same.1
+
+  least_ended : all_unlocks f.processors (scanned f) here.first ≤ ended
+  least_ended = subst (λ (z : ℕ × Index). all_unlocks z.0 z.1 here.first ≤ ended) (λ k. (sym same_count k, (sym is ∙ now_scanned_l) k)) here.ended_least
+
+  most_ended : ended ≤ all_unlocks f.processors (scanned f) here.middle
+  most_ended = subst (λ (z : ℕ × Index). ended ≤ all_unlocks z.0 z.1 here.middle) (λ k. (sym same_count k, (sym is ∙ now_scanned_l) k)) here.ended_most
+
+  began_now : BeganScan (f.processors + (p + 1)) f here.first
+  began_now = let same = same_count in subst (λ k. BeganScan k f here.first) (omega (arith, same)) (began_still e f seen counts.step.history counts.step.since counts.step.changes_are (e.processors + p) 1 here.first (LoadLocks p i found (length f.seen) ∷ []) counts.step.steps refl here.began)
+
+  pub still : IsScanning f
+  still = still_scanning e f seen counts.step.history counts.step.since counts.step.changes_are here.scanning
+
+  pub next_locks : p + 1 < f.processors → InLocks f (p + 1) ended (begun + found)
+  next_locks more = record {
+    scanning = still;
+    there = more;
+    first = here.first;
+    middle = here.middle;
+    began = began_now;
+    in_order = here.in_order;
+    seen = beginning_trans here.seen counts.step.since;
+    since_start = here.since_start ∙ no_start e f seen counts.step.history counts.step.since counts.step.changes_are;
+    ended_least = least_ended;
+    ended_most = most_ended;
+    begun_least = subst (λ j. sum_below (λ q. locks q j here.middle) (p + 1) ≤ begun + found) now_scanned_l least_begun;
+    begun_most = subst (λ j. begun + found ≤ sum_below (λ q. locks q j f.seen) (p + 1)) now_scanned_l most_begun;
+  }
+
+  -- the sums at the moment of the last unlock load
+  middle_sums : all_unlocks f.processors i here.middle ≤ all_locks f.processors i here.middle
+  middle_sums = let upto = beginning_trans here.seen counts.step.since in (equal_sums f.processors i here.middle (legal_beginning upto counts.step.history.legal) (makers_of f.processors here.middle f.seen upto counts.step.history.makers)).0
+
+  -- equal sums: none was open then
+  pub passed : f.processors ≤ p + 1 → ended ≡ begun + found → HasPassed f
+  passed last equal =
+      let there = here.there in let same = same_count in
+      let n : p + 1 ≡ f.processors = omega (arith, last, there, same) in
+      let upto = beginning_trans here.seen counts.step.since in
+      let least : all_locks f.processors i here.middle ≤ begun + found = subst (λ k. sum_below (λ q. locks q i here.middle) k ≤ begun + found) n least_begun in
+      let most : ended ≤ all_unlocks f.processors i here.middle = subst (λ j. ended ≤ all_unlocks f.processors j here.middle) (sym now_scanned_l) most_ended in
+      let sums = middle_sums in
+      let empty = (equal_sums f.processors i here.middle (legal_beginning upto counts.step.history.legal) (makers_of f.processors here.middle f.seen upto counts.step.history.makers)).1.0 (omega (arith, sums, least, most, equal)) in record {
+        scanning = still;
+        empty = record {
+          moment = here.middle;
+          upto = upto;
+          since_start = here.since_start ∙ no_start e f seen counts.step.history counts.step.since counts.step.changes_are;
+          empty = subst (λ j. IsEmpty j here.middle) now_scanned_l empty;
+        };
+      }
+
+  -- unequal sums: one was open at some moment of the scan
+  pub waits : f.processors ≤ p + 1 → ended ≢ begun + found → Waits i f
+  waits last unequal =
+      let there = here.there in let same = same_count in
+      let n : p + 1 ≡ f.processors = omega (arith, last, there, same) in
+      let least : all_locks f.processors i here.middle ≤ begun + found = subst (λ k. sum_below (λ q. locks q i here.middle) k ≤ begun + found) n least_begun in
+      let most : ended ≤ all_unlocks f.processors i here.middle = subst (λ j. ended ≤ all_unlocks f.processors j here.middle) (sym now_scanned_l) most_ended in
+      let sums = middle_sums in
+      let early : all_unlocks f.processors i here.first ≤ ended = subst (λ j. all_unlocks f.processors j here.first ≤ ended) (sym now_scanned_l) least_ended in
+      let late : begun + found ≤ all_locks f.processors i f.seen = subst (λ k. begun + found ≤ sum_below (λ q. locks q i f.seen) k) n most_begun in
+      let b = began_now in
+      let found_open = open_between f.processors i here.first f.seen b.seen counts.step.history.legal counts.step.history.makers (omega (arith, early, late, least, most, sums, unequal)) in
+      let count = b.count in record {
+        running = busy_running f.changes f.seen (busy still.running) counts.step.history.reaches;
+        before = b.before;
+        found = b.found;
+        since = length here.first;
+        rest = b.rest;
+        steps = b.steps ∙ ap (λ j. b.before ++ LoadUnlocks 0 j b.found (length here.first) ∷ b.rest) (sym now_scanned_l);
+        loads = omega (arith, count, n);
+        not_current = now_scanned_l;
+        moment = found_open.moment;
+        seen = found_open.upto;
+        after = length_grows found_open.after;
+        section = found_open.section;
+        is_open = found_open.is_open;
+        of_index = found_open.of_index;
+      }
+    where
+      busy : IsBeforeFlip f.changes ⊎ IsBehindFlip f.changes → 0 < f.changes % 4
+      busy (inl h) = omega (arith, h)
+      busy (inr h) = omega (arith, h)
+
+pub first_unlocks : (e : EngineView) → IsScanning e → 1 ≤ e.processors → InUnlocks e 0 0
+first_unlocks e s some = record { scanning = s; there = some; began = λ none. absurd (omega (arith, none)); most = omega arith }
+
+-- Steps at the seat
+
+pub moves_by_load : (e f : EngineView) (l : Step) (place next : Place) (a : Progress) → TakesStep l e.changes e f → IsStepAt e.processors (half e.processors place) (scanned e) l → events_of a ≡ []
+    → Counts e.processors a (half e.processors place) (half e.processors next) → IsAt f next → next ≢ Wanted → SaysAt a f → ((n : ℕ) → a ≢ answer.Started n) → Moves e place f next a
+moves_by_load e f l place next a takes here none counts at other says no_start = record {
+  same = takes.same;
+  since = takes.since;
+  history = takes.history;
+  later = let same = takes.changes_are in omega (arith, same);
+  events = takes.mine ∙ (sym (append-nil e.mine) ∙ ap (λ x. e.mine ++ x) (sym none));
+  made = l ∷ [];
+  steps = takes.steps;
+  one = let zero : length (events_of a) ≡ 0 = ap length none in omega (arith, zero);
+  in_order = inr (l, refl, here);
+  counts = counts;
+  place_is = at;
+  not_wanted = other;
+  says = says;
+  started = λ n is. absurd (no_start n is);
+}

@@ -1,0 +1,24 @@
+use Rattle.std.proofs.Common.{◌≡◌, [], ◌∷◌, map, refl, arith}
+use Rattle.sections.specs.declared.view.Step.TheVariants.{LoadIndex}
+use Rattle.scan.proofs.Standing.{OnlySees, index_loads, at_still, ended_still}
+use Rattle.scan.proofs.engine.Engine.meet.Goals as goal
+
+pub invariant_of-self : goal.invariant_of-self
+invariant_of-self g c =
+    let h : OnlySees c.self.inside.seat c.meet.new.self = record {
+      same = c.meet.ensures.same;
+      seen = c.self.invariant.history;
+      history = c.meet.ensures.history;
+      since = c.meet.ensures.since;
+      changes = c.meet.ensures.changes_are;
+      extra = map LoadIndex c.meet.ensures.found;
+      steps = c.meet.ensures.steps;
+      none = index_loads c.meet.ensures.found;
+    } in
+    let some = c.self.invariant.some in
+    let same = h.same.1 in record {
+      history = h.history;
+      some = omega (arith, some, same);
+      place_is = at_still _ _ h c.self.inside.place c.self.invariant.place_is;
+      wanted = λ is. let asked = c.self.invariant.wanted is in let beyond = asked.beyond in let ended = ended_still _ _ h in record { before = asked.before; need = asked.need; load = asked.load; beyond = omega (arith, beyond, ended) };
+    }

@@ -1,0 +1,14 @@
+use Rattle.std.proofs.Common.{◌≡◌, ◌≤◌, subst, arith}
+use Rattle.scan.proofs.Standing.{untouched}
+use Rattle.scan.proofs.engine.Engine.new.Goals as goal
+
+pub invariant_of-result : goal.invariant_of-result
+invariant_of-result g c =
+    let all = c.processors-processors.ensures in
+    let some = all.some in
+    let count = all.count in record {
+      history = all.history;
+      some = omega (arith, some, count);
+      place_is = untouched c.args.seat all.history c.requires;
+      wanted = λ h. absurd cc;
+    }

@@ -1,0 +1,215 @@
+-- What the engine's answers say.
+use Rattle.std.specs.Prelude.{◌≡◌, ◌≢◌, ℕ, ◌+◌, ◌*◌, ◌<◌, ◌≤◌, ◌⊎◌, Bool, true, false, List, [], ◌∷◌, ◌++◌, length, count_by, codes}
+use Rattle.sseq.specs.declared.index.Index.{Index}
+use Rattle.sseq.specs.Indexes.{low_bit, other_index}
+use Rattle.onedom.specs.declared.event.Maker.TheVariants.{Engine}
+use Rattle.onedom.specs.declared.event.Event.{Event}
+use Rattle.onedom.specs.declared.event.Event.TheVariants.{Start, Finish}
+use Rattle.onedom.specs.Histories.{starts_in, ended_in, IsOpen, index_of, IsRunning, WasEmpty, IsBeginning}
+use Rattle.sections.specs.declared.view.Step.{Step}
+use Rattle.sections.specs.declared.view.Step.TheVariants.{LoadIndex, LoadUnlocks, LoadLocks, AddIndex, AddNumber}
+use Rattle.sections.specs.Words.{index_word, IsBehindFlip}
+use Rattle.sections.specs.Views.{CpuView, EngineView}
+use Rattle.sections.specs.Driving.{IsSeenByEngine, IsSameEngine, AddsEngineEvent}
+use Rattle.scan.specs.declared.progress.Progress.{Progress}
+use Rattle.scan.specs.declared.progress.Progress.TheVariants as answer
+use Rattle.scan.specs.declared.progress.StartRefusal.{StartRefusal}
+use Rattle.scan.specs.declared.progress.StartRefusal.TheVariants as refusal
+
+-- `seat` is the engine's seat, `found` what the loads of the need found, `known` the greatest need that is known, and `half` how many steps were made of what is half done
+pub record ScanView : Type 0 where
+  pub seat : EngineView
+  pub found : List ℕ
+  pub known : ℕ
+  pub half : ℕ
+
+-- how many atomic steps were made: events, other steps at the seat, and loads of the need
+abbrev pub steps_made : ScanView → ℕ
+steps_made v = length v.seat.mine + length v.seat.steps + length v.found
+
+-- a load of a counter
+abbrev pub is_counter_load : Step → Bool
+is_counter_load (LoadUnlocks p i found seen) = true
+is_counter_load (LoadLocks p i found seen) = true
+is_counter_load s = false
+
+abbrev pub counter_loads : List Step → ℕ
+counter_loads steps = count_by is_counter_load steps
+
+-- Answers
+
+-- the number of a domain in which no period runs
+abbrev pub number_at_rest : List Event → ℕ
+number_at_rest history = 4 * ended_in history
+
+-- the last load of the need found no number that is still to come
+pub record NothingIsAsked (v : ScanView) : Type 0 where
+  pub before : List ℕ
+  pub need : ℕ
+  pub load : v.found ≡ before ++ need ∷ []
+  pub done : need ≤ number_at_rest v.seat.seen
+
+-- the last load of the need found a number that is still to come
+pub record IsAskedFor (v : ScanView) : Type 0 where
+  pub before : List ℕ
+  pub need : ℕ
+  pub load : v.found ≡ before ++ need ∷ []
+  pub beyond : number_at_rest v.seat.seen < need
+
+-- the last that was seen is that a period started, at which the number became n
+pub record HasStarted (n : ℕ) (e : EngineView) : Type 0 where
+  pub before : List Event
+  pub seen : e.seen ≡ before ++ Start Engine ∷ []
+  pub number : n ≡ number_at_rest e.seen + 1
+
+-- the last step at the seat was the second one of the flip; this is now the current index, and at a moment since the start no section of it was open
+pub record HasFlipped (i : Index) (e : EngineView) : Type 0 where
+  pub running : IsRunning e.seen
+  pub behind : IsBehindFlip e.changes
+  pub before : List Step
+  pub number : ℕ
+  pub flip : e.steps ≡ before ++ AddNumber number ∷ []
+  pub index : i ≡ low_bit (ended_in e.seen + 1)
+  pub empty : WasEmpty i e.seen
+
+-- the last that was seen is that the period ended, at which the number became n; for each index, at a moment since the start no section of it was open
+pub record HasEnded (n : ℕ) (e : EngineView) : Type 0 where
+  pub before : List Event
+  pub seen : e.seen ≡ before ++ Finish Engine ∷ []
+  pub number : n ≡ number_at_rest e.seen
+  pub empty : (i : Index) → WasEmpty i e.seen
+
+-- the last loads of counters were those of a scan of this index, which is not the current one; at a moment since the first of them a section of the index was open
+pub record Waits (i : Index) (e : EngineView) : Type 0 where
+  pub running : IsRunning e.seen
+  pub before : List Step
+  pub found : ℕ
+  pub since : ℕ
+  pub rest : List Step
+  pub steps : e.steps ≡ before ++ LoadUnlocks 0 i found since ∷ rest
+  pub loads : counter_loads rest + 1 ≡ 2 * e.processors
+  pub not_current : i ≡ other_index (low_bit (index_word e.changes))
+  pub moment : List Event
+  pub seen : IsBeginning moment e.seen
+  pub after : since ≤ length moment
+  pub section : ℕ
+  pub is_open : IsOpen moment section
+  pub of_index : index_of section moment ≡ i
+
+abbrev pub Says : Progress → ScanView → Type 0
+Says answer.Idle v = (¬ IsRunning v.seat.seen) × NothingIsAsked v
+Says (answer.Started n) v = HasStarted n v.seat × IsAskedFor v
+Says (answer.Flipped i) v = HasFlipped i v.seat
+Says (answer.Ended n) v = HasEnded n v.seat
+Says (answer.Waiting i) v = Waits i v.seat
+Says answer.Step v = Unit {0}
+
+-- how many atomic steps an answer takes in all, in a domain of so many processors: a scan loads two counters of each
+abbrev pub steps_for : ℕ → Progress → ℕ
+steps_for processors answer.Idle = 1
+steps_for processors (answer.Started n) = 2
+steps_for processors (answer.Waiting i) = 2 * processors
+steps_for processors (answer.Flipped i) = 2 * processors + 2
+steps_for processors (answer.Ended n) = 2 * processors + 1
+steps_for processors answer.Step = 0
+
+-- what was half done: one step more of it, or it is done
+abbrev pub Counts : ℕ → Progress → ℕ → ℕ → Type 0
+Counts processors answer.Step before after = after ≡ before + 1
+Counts processors a before after = (before + 1 ≡ steps_for processors a) × (after ≡ 0)
+
+-- the events that are made with an answer
+abbrev pub events_of : Progress → List Event
+events_of (answer.Started n) = Start Engine ∷ []
+events_of (answer.Ended n) = Finish Engine ∷ []
+events_of a = []
+
+-- where so many steps are half done of a scan of index i and of what follows it, the step at the seat is this: the unlock counters by rising processor, then the lock counters, then the two steps of the flip
+abbrev pub IsStepAt : ℕ → ℕ → Index → Step → Type 0
+IsStepAt processors half i (LoadUnlocks p j found seen) = (p ≡ half) × (p < processors) × (j ≡ i)
+IsStepAt processors half i (LoadLocks p j found seen) = (p + processors ≡ half) × (p < processors) × (j ≡ i)
+IsStepAt processors half i (AddIndex n) = half ≡ 2 * processors
+IsStepAt processors half i (AddNumber n) = half ≡ 2 * processors + 1
+IsStepAt processors half i (LoadIndex n) = ⊥
+
+-- the index that is not current
+abbrev pub not_current : EngineView → Index
+not_current e = other_index (low_bit (index_word e.changes))
+
+-- Calls
+
+-- one load of the need, which found no less than was known
+pub record LoadsNeed (v w : ScanView) : Type 0 where
+  pub need : ℕ
+  pub found : w.found ≡ v.found ++ need ∷ []
+  pub since : v.known ≤ need
+  pub known : w.known ≡ need
+
+-- the need is loaded at rest where nothing is half done, once, and nowhere else
+pub record NeedsLoaded (v w : ScanView) : Type 0 where
+  pub at_rest : ¬ IsRunning v.seat.seen → v.half ≡ 0 → LoadsNeed v w
+  pub busy : IsRunning v.seat.seen ⊎ (0 < v.half) → (w.found ≡ v.found) × (w.known ≡ v.known)
+
+-- the same engine, which knows what it knew, and has made no event but those that it saw
+pub record GoesOn (v w : ScanView) : Type 0 where
+  pub same : IsSameEngine v.seat w.seat
+  pub since : IsBeginning v.seat.seen w.seat.seen
+  pub history : IsSeenByEngine w.seat
+  pub later : v.seat.changes ≤ w.seat.changes
+  pub made : List Step
+  pub steps : w.seat.steps ≡ v.seat.steps ++ made
+
+-- one atomic step was made: an event, a load of the need, or the step at the seat that comes next
+pub record StepsTo (v : ScanView) (a : Progress) (w : ScanView) : Type 0 where
+  pub goes_on : GoesOn v w
+  pub one : steps_made w ≡ steps_made v + 1
+  pub events : w.seat.mine ≡ v.seat.mine ++ events_of a
+  pub needs : NeedsLoaded v w
+  pub in_order : (goes_on.made ≡ []) ⊎ (l : Step) × (goes_on.made ≡ l ∷ []) × IsStepAt v.seat.processors v.half (not_current v.seat) l
+  pub counts : Counts v.seat.processors a v.half w.half
+  pub few : w.half ≤ 2 * v.seat.processors + 1
+  pub says : Says a w
+
+-- as many steps were made as the answer takes, those among them that were made before the call
+pub record AdvancesTo (v : ScanView) (a : Progress) (w : ScanView) : Type 0 where
+  pub goes_on : GoesOn v w
+  pub answer : a ≢ answer.Step
+  pub steps : steps_made w + v.half ≡ steps_made v + steps_for v.seat.processors a
+  pub events : w.seat.mine ≡ v.seat.mine ++ events_of a
+  pub needs : NeedsLoaded v w
+  pub done : w.half ≡ 0
+  pub says : Says a w
+
+-- a period is asked for, and as many have ended as there may be; just the need was loaded
+pub record FindsExhausted (v w : ScanView) : Type 0 where
+  pub nothing_half : v.half ≡ 0
+  pub seat : w.seat ≡ v.seat
+  pub need : LoadsNeed v w
+  pub still_nothing : w.half ≡ 0
+  pub resting : ¬ IsRunning w.seat.seen
+  pub ended : ended_in w.seat.seen ≡ w.seat.periods
+  pub asked : IsAskedFor w
+
+-- a period starts, asked for or not
+pub record Starts (v : ScanView) (n : ℕ) (w : ScanView) : Type 0 where
+  pub room : ended_in v.seat.seen < v.seat.periods
+  pub event : AddsEngineEvent (Start Engine) v.seat w.seat
+  pub started : HasStarted n w.seat
+  pub needs : (w.found ≡ v.found) × (w.known ≡ v.known)
+  pub done : w.half ≡ 0
+
+abbrev pub IsNoStart : ScanView → StartRefusal → Type 0
+IsNoStart v refusal.Running = IsRunning v.seat.seen
+IsNoStart v refusal.Exhausted = (¬ IsRunning v.seat.seen) × (ended_in v.seat.seen ≡ v.seat.periods)
+
+-- an engine with this seat, and needs that know so much
+abbrev pub new_engine : EngineView → List ℕ → ℕ → ScanView
+new_engine seat found known = record { seat = seat; found = found; known = known; half = 0 }
+
+-- as a refusal is printed
+abbrev pub refusal_text : StartRefusal → List ℕ
+refusal_text refusal.Running = codes "a grace period runs"
+refusal_text refusal.Exhausted = codes "no more grace periods may start"
+
+abbrev pub with_seat : EngineView → ScanView → ScanView
+with_seat seat v = record v { seat = seat }

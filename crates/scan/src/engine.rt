@@ -1,0 +1,119 @@
+//! The engine.
+ghost use Rattle.std.specs.Prelude.{◌≡◌, [], MatchResult};
+ghost use Rattle.sections.specs.Driving.{TiesEngine, Meets, AreInDomain};
+ghost use Rattle.scan.specs.Progress.{StepsTo, AdvancesTo, FindsExhausted, Starts, IsNoStart, new_engine, with_seat};
+
+use crate::place::Place;
+use crate::progress::{Exhausted, Progress, StartRefusal};
+use crate::scanning::move_on;
+use sections::{Cpu, EngineSeat};
+use sseq::{Needs, Number, Phase, state};
+use std::alloc::{Allocator, Global};
+use std::marker::Model;
+
+/// Carries the grace periods of a domain, one atomic step at a time. Its needs tell which grace period is asked for.
+/// Contracts see its seat, what its needs have found, and how many steps it made of what is half done.
+#[derive(Drop)]
+pub struct Engine<N: Needs, A: Allocator = Global> {
+    seat: EngineSeat<A>,
+    needs: N,
+    place: Place,
+}
+
+impl<N: Needs, A: Allocator> Model for Engine<N, A> {
+    ghost use Rattle.scan.specs.Progress.{ScanView};
+
+    ghost Value = { ScanView };
+
+    ghost use Rattle.scan.specs.Insides.{view_of_engine, IsEngine};
+
+    ghost view = { view_of_engine N.found N.known };
+
+    ghost invariant = { IsEngine N.found N.known };
+}
+
+impl<N: Needs, A: Allocator> Engine<N, A> {
+    /// The engine of a domain in which no grace period was started.
+    pub fn new(seat: EngineSeat<A>, needs: N) -> Engine<N, A>
+        requires { seat.mine ≡ [] }
+        ensures { result ≡ new_engine seat (N.found needs) (N.known needs) }
+    {
+        let _processors = seat.processors();
+        Engine {
+            seat,
+            needs,
+            place: Place::Idle,
+        }
+    }
+
+    /// Makes one atomic step. `Step` is the answer as long as there is no other: after some steps there is.
+    pub fn step(&mut self) -> Result<Progress, Exhausted>
+        ensures { MatchResult result (λ answer. StepsTo self.old answer self.new) (λ _. FindsExhausted self.old self.new) }
+    {
+        match self.place {
+            Place::Idle => {
+                let number = self.seat.number();
+                if self.needs.root_need().get() <= number.get() {
+                    return Ok(Progress::Idle);
+                }
+                if number.get() == 4 * self.seat.periods() {
+                    return Err(Exhausted);
+                }
+                self.place = Place::Wanted;
+                Ok(Progress::Step)
+            }
+            place => {
+                let (next, answer) = move_on(&mut self.seat, place);
+                self.place = next;
+                Ok(answer)
+            }
+        }
+    }
+
+    /// Makes steps until there is an answer.
+    pub fn advance(&mut self) -> Result<Progress, Exhausted>
+        ensures { MatchResult result (λ answer. AdvancesTo self.old answer self.new) (λ _. FindsExhausted self.old self.new) }
+    {
+        loop {
+            match self.step()? {
+                Progress::Step => {}
+                answer => return Ok(answer),
+            }
+        }
+    }
+
+    /// Starts a grace period, whether it is asked for or not, and answers the number from then on. A need that was
+    /// found before is used up.
+    pub fn start(&mut self) -> Result<Number, StartRefusal>
+        ensures { MatchResult result (λ n. Starts self.old n self.new) (λ refusal. IsNoStart self.old refusal × (self.new ≡ self.old)) }
+    {
+        let number = self.seat.number();
+        let Phase::Idle = state(number) else {
+            return Err(StartRefusal::Running);
+        };
+        if number.get() == 4 * self.seat.periods() {
+            return Err(StartRefusal::Exhausted);
+        }
+        let started = self.seat.add_start();
+        self.place = Place::SCAN;
+        Ok(started)
+    }
+
+    /// One load of the index word by the engine, and then one by the processor. Both have then seen one history.
+    pub fn tie(&mut self, cpu: &mut Cpu<A>)
+        requires { cpu.old.domain ≡ self.old.seat.domain }
+        ensures tied { TiesEngine self.old.seat cpu.old self.new.seat cpu.new }
+        ensures rest { self.new ≡ with_seat self.new.seat self.old }
+    {
+        self.seat.tie(cpu);
+    }
+
+    /// The engine and all of these processors have then seen one history, in which each has just its own events.
+    pub fn meet(&mut self, cpus: &mut [Cpu<A>])
+        requires { AreInDomain self.old.seat.domain cpus.old }
+        ensures met { Meets self.old.seat cpus.old self.new.seat cpus.new }
+        ensures rest { self.new ≡ with_seat self.new.seat self.old }
+    {
+        self.seat.meet(cpus);
+    }
+}

@@ -1,0 +1,14 @@
+//! The engine that carries a grace period of a sleepable RCU domain from its start to its end, one atomic step at a
+//! time.
+#![tactic(auto)]
+
+mod engine;
+mod place;
+mod progress;
+mod scanning;
+#[cfg(test)]
+mod tests;
+
+pub use engine::Engine;
+pub use place::Place;
+pub use progress::{Exhausted, Progress, StartRefusal};

@@ -1,0 +1,251 @@
+ghost use Rattle.std.specs.Prelude.{◌≡◌, map, IfOk};
+ghost use Rattle.sections.specs.Driving.{AreInDomain};
+
+use super::*;
+use sections::{Cpu, Limits, Made, MakeError, make};
+use sseq::{Index, Needs, Number};
+use std::alloc::Global;
+use std::sync::atomic::{AtomicBool, Ordering};
+use std::test::Fail;
+use std::thread::join;
+
+const MANY: u64 = 10_000;
+
+fn limits(periods: u64) -> Limits {
+    Limits {
+        sections: MANY,
+        periods,
+        cells: 0,
+    }
+}
+
+fn number(value: u64) -> Number {
+    Number::new(value).unwrap_or(Number::zero())
+}
+
+/// Needs that ask for one number for good. A processor of a domain of its own counts the loads.
+#[derive(Drop)]
+struct Asks {
+    number: Number,
+    counter: Cpu,
+}
+
+impl Needs for Asks {
+    ghost found = { λ a. map (λ _. a.number) a.counter.steps };
+
+    ghost known = { λ a. a.number };
+
+    fn root_need(&mut self) -> Number {
+        let _look = self.counter.look();
+        self.number
+    }
+}
+
+/// The processors of a new domain, and its engine, whose needs ask for this number.
+fn new_domain(
+    alloc: Global,
+    processors: usize,
+    periods: u64,
+    need: u64,
+) -> Result<(Vec<Cpu>, Engine<Asks>), MakeError>
+    ensures { IfOk result (λ r. AreInDomain r.1.seat.domain r.0.items) }
+{
+    let mut counting = make(alloc, 1, limits(1))?;
+    let counter = counting.cpus.pop().unwrap();
+    let Made { cpus, engine } = make(alloc, processors, limits(periods))?;
+    let asks = Asks {
+        number: number(need),
+        counter,
+    };
+    Ok((cpus, Engine::new(engine, asks)))
+}
+
+/// Would catch an answer that no clause tells apart from another, and a period that does not get on.
+#[test]
+fn advances(rt: HostRuntime) -> Result<(), Fail> {
+    for processors in [1, 2] {
+        let (_cpus, mut engine) = new_domain(rt.alloc(), processors, 1, 4)?;
+        for answer in [
+            Progress::Started(number(1)),
+            Progress::Flipped(Index::One),
+            Progress::Ended(number(4)),
+            Progress::Idle,
+            Progress::Idle,
+        ] {
+            assert_eq!(rt; engine.advance(), Ok(answer), "of {processors}");
+        }
+    }
+    Ok(())
+}
+
+/// Would catch steps that are counted and not made, and an order of them that nobody meant.
+#[test]
+fn steps(rt: HostRuntime) -> Result<(), Fail> {
+    let (_cpus, mut engine) = new_domain(rt.alloc(), 1, 1, 4)?;
+    for (at, answer) in [
+        Progress::Step,
+        Progress::Started(number(1)),
+        Progress::Step,
+        Progress::Step,
+        Progress::Step,
+        Progress::Flipped(Index::One),
+        Progress::Step,
+        Progress::Step,
+        Progress::Ended(number(4)),
+        Progress::Idle,
+    ]
+    .into_iter()
+    .enumerate()
+    {
+        assert_eq!(rt; engine.step(), Ok(answer), "at {at}");
+    }
+    Ok(())
+}
+
+/// Would catch refusals that no caller gets, and a need that is asked twice for one period.
+#[test]
+fn starts(rt: HostRuntime) -> Result<(), Fail> {
+    let (_cpus, mut engine) = new_domain(rt.alloc(), 1, 1, 8)?;
+    assert_eq!(rt; engine.start(), Ok(number(1)));
+    assert_eq!(rt; engine.start(), Err(StartRefusal::Running));
+    assert_eq!(rt; engine.advance(), Ok(Progress::Flipped(Index::One)));
+    assert_eq!(rt; engine.start(), Err(StartRefusal::Running));
+    assert_eq!(rt; engine.advance(), Ok(Progress::Ended(number(4))));
+    assert_eq!(rt; engine.start(), Err(StartRefusal::Exhausted));
+    assert_eq!(rt; engine.advance(), Err(Exhausted));
+    assert_eq!(rt; engine.step(), Err(Exhausted));
+
+    let (_cpus, mut engine) = new_domain(rt.alloc(), 1, 2, 4)?;
+    assert_eq!(rt; engine.step(), Ok(Progress::Step));
+    assert_eq!(rt; engine.start(), Ok(number(1)));
+    assert_eq!(rt; engine.advance(), Ok(Progress::Flipped(Index::One)));
+    assert_eq!(rt; engine.advance(), Ok(Progress::Ended(number(4))));
+    assert_eq!(rt; engine.advance(), Ok(Progress::Idle));
+    Ok(())
+}
+
+/// Would catch a scan that waits for nobody, or for a section of the other index.
+#[test]
+fn waits(rt: HostRuntime) -> Result<(), Fail> {
+    let (mut cpus, mut engine) = new_domain(rt.alloc(), 2, 2, 8)?;
+    engine.meet(cpus.as_mut_slice());
+    let (Some(mut second), Some(mut first)) = (cpus.pop(), cpus.pop()) else {
+        panic!(rt; "there are two");
+    };
+    let look = first.look();
+    for answer in [
+        Progress::Started(number(1)),
+        Progress::Flipped(Index::One),
+        Progress::Ended(number(4)),
+    ] {
+        assert_eq!(rt; engine.advance(), Ok(answer));
+    }
+    let Ok(late) = first.enter(look) else {
+        panic!(rt; "there is room");
+    };
+    let Ok(current) = second.read_lock() else {
+        panic!(rt; "there is room");
+    };
+    assert_eq!(rt; (late.index(), current.index()), (Index::Zero, Index::One));
+
+    assert_eq!(rt; engine.advance(), Ok(Progress::Started(number(5))));
+    assert_eq!(rt; engine.advance(), Ok(Progress::Waiting(Index::Zero)));
+    assert_eq!(rt; engine.advance(), Ok(Progress::Waiting(Index::Zero)));
+    first.read_unlock(late);
+    assert_eq!(rt; engine.advance(), Ok(Progress::Flipped(Index::Zero)));
+    assert_eq!(rt; engine.advance(), Ok(Progress::Waiting(Index::One)));
+    assert_eq!(rt; engine.advance(), Ok(Progress::Waiting(Index::One)));
+    second.read_unlock(current);
+    assert_eq!(rt; engine.advance(), Ok(Progress::Ended(number(8))));
+    assert_eq!(rt; engine.advance(), Ok(Progress::Idle));
+    Ok(())
+}
+
+/// What the thread of the reader and the thread of the engine tell each other.
+#[derive(Drop)]
+struct Told {
+    open: AtomicBool,
+    tried: AtomicBool,
+    closing: AtomicBool,
+}
+
+/// Opens and closes sections. Then it opens one, keeps it for as long as the engine tries, or a while, and closes it,
+/// which it tells first. It answers whether none was refused.
+fn read(cpu: &mut Cpu, told: &Told) -> bool {
+    for _ in 0..MANY / 4 {
+        let Ok(reading) = cpu.read_lock() else {
+            return false;
+        };
+        cpu.read_unlock(reading);
+    }
+    let Ok(reading) = cpu.read_lock() else {
+        return false;
+    };
+    told.open.store(true, Ordering::SeqCst);
+    for _ in 0..1_000 * MANY {
+        if told.tried.load(Ordering::SeqCst) {
+            break;
+        }
+    }
+    told.closing.store(true, Ordering::SeqCst);
+    cpu.read_unlock(reading);
+    true
+}
+
+/// Whether the next answer is that a period ended.
+fn ends(engine: &mut Engine<Asks>) -> bool {
+    matches!(engine.advance(), Ok(Progress::Ended(_)))
+}
+
+/// Advances until it is told that the section is open, or a while, and then some more. It answers whether two periods
+/// ended from then on before it was told that the section is being closed: the second of them began with it open.
+fn end_early(engine: &mut Engine<Asks>, told: &Told) -> bool {
+    for _ in 0..100 * MANY {
+        if told.open.load(Ordering::SeqCst) {
+            break;
+        }
+        let _progress = engine.advance();
+    }
+    if !told.open.load(Ordering::SeqCst) {
+        return false;
+    }
+    let mut one_has = false;
+    let mut two_have = false;
+    for _ in 0..MANY {
+        if ends(engine) && !told.closing.load(Ordering::SeqCst) {
+            two_have = one_has;
+            one_has = true;
+        }
+    }
+    told.tried.store(true, Ordering::SeqCst);
+    two_have
+}
+
+/// Whether one of the next answers is that a period ended.
+fn ends_soon(engine: &mut Engine<Asks>) -> bool {
+    ends(engine) || ends(engine) || ends(engine)
+}
+
+/// Would catch a period that ends too early, or never, in a schedule that no test on one thread has.
+#[test]
+fn two_threads(rt: HostRuntime) -> Result<(), Fail> {
+    let (mut cpus, mut engine) = new_domain(rt.alloc(), 2, 1 << 40, 1 << 42)?;
+    let Some(mut cpu) = cpus.pop() else {
+        panic!(rt; "there are two");
+    };
+    let told = Told {
+        open: AtomicBool::new(false),
+        tried: AtomicBool::new(false),
+        closing: AtomicBool::new(false),
+    };
+    let (none_was_refused, ended_early) = join(
+        &rt,
+        || -> bool { read(&mut cpu, &told) },
+        || -> bool { end_early(&mut engine, &told) },
+    );
+    assert!(rt; none_was_refused);
+    assert!(rt; !ended_early);
+    assert!(rt; told.closing.load(Ordering::SeqCst));
+    assert!(rt; ends_soon(&mut engine));
+    Ok(())
+}
