@@ -21,12 +21,12 @@ pub record MakesPairs (n : ℕ) (c d : CpuView) : Type 0 where
 -- all pairs were made that were asked for, with one load of the index word for each
 pub record AllMade (pairs made : ℕ) (c d : CpuView) : Type 0 where
   pub all : made ≡ pairs
-  pub loads : length d.loads ≡ length c.loads + made
+  pub steps : length d.steps ≡ length c.steps + made
 
 -- fewer were made, since no more sections of the index that was loaded then may be begun here
 pub record StopsEarly (pairs made : ℕ) (c d : CpuView) : Type 0 where
   pub fewer : made < pairs
-  pub loads : length d.loads ≡ length c.loads + made + 1
+  pub steps : length d.steps ≡ length c.steps + made + 1
   pub index : Index
   pub full : IsExhausted d index
 

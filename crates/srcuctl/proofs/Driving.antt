@@ -1,46 +1,42 @@
 -- What each call of a domain answers, and what it leaves.
-use Rattle.std.proofs.Common.{◌≡◌, ℕ, zero, suc, ◌+◌, ◌*◌, ◌%◌, ◌<◌, ◌≤◌, true, List, [], ◌∷◌, ◌++◌, length, get_or, set, refl, sym, ap, ◌∙◌, subst, arith}
-use Rattle.std.specs.Prelude.{All, Result, Ok, Err, MatchResult, nat_lt, if◌then◌else◌}
-use Rattle.std.proofs.lemmas.Bool.Decides.{nat_tests}
+use Rattle.std.proofs.Common.{◌≡◌, ℕ, ◌+◌, ◌*◌, ◌%◌, ◌<◌, ◌≤◌, List, [], ◌∷◌, ◌++◌, length, get_or, set, refl, sym, ap, ◌∙◌, subst, arith}
+use Rattle.std.specs.Prelude.{Bool, Result, Ok, Err, MatchResult}
 use Rattle.sseq.specs.declared.index.Index.{Index}
 use Rattle.sseq.specs.declared.number.Phase.{Phase}
 use Rattle.sseq.specs.declared.number.Phase.TheVariants.{Idle, Scan1, Scan2}
 use Rattle.sseq.specs.Indexes.{low_bit}
-use Rattle.sseq.specs.Numbers.{number_at, state_bits}
+use Rattle.sseq.specs.Numbers.{state_bits, cookie_at}
 use Rattle.onedom.specs.declared.event.Maker.TheVariants.{Processor, Engine}
 use Rattle.onedom.specs.declared.event.Event.{Event}
-use Rattle.onedom.specs.declared.event.Event.TheVariants.{Begin, End, Start}
-use Rattle.onedom.specs.Histories.{MayFollow, IsLegal, IsRunning, starts_in, made_by, IsBeginning}
+use Rattle.onedom.specs.declared.event.Event.TheVariants.{Begin, End, Start, Note, Ask}
+use Rattle.onedom.specs.Histories.{MayFollow, IsLegal, IsRunning, made_by, IsBeginning}
 use Rattle.onedom.proofs.Pushes.{made_by_other, made_by_own}
-use Rattle.onedom.proofs.Beginnings.{beginning_trans}
+use Rattle.onedom.proofs.Beginnings.{beginning_refl, beginning_trans}
 use Rattle.sections.specs.declared.limits.Limits.{Limits}
-use Rattle.sections.specs.Limits.{AreInRange}
-use Rattle.sections.specs.Words.{index_word, number_word, locks}
-use Rattle.sections.specs.Rule.{HasItsMaker}
-use Rattle.sections.specs.Views.{CpuView, EngineView, LookView, ReadingView}
+use Rattle.sections.specs.Words.{index_word, number_word, locks, IsIdle, Reaches}
+use Rattle.sections.specs.Views.{CpuView, EngineView, LookView, ReadingView, CookieView}
 use Rattle.sections.specs.declared.cpu.Exhausted.{Exhausted}
-use Rattle.sections.specs.Calls.{AddsEvent, AddsEngineEvent, Looks, ReadLocks, LooksInVain, Meets}
+use Rattle.sections.specs.declared.cpu.NotACookie.{NotACookie}
+use Rattle.sections.specs.Calls.{AddsEvent, Looks, Enters, ReadLocks, LooksInVain, IsExhausted, GivesCookie, Asks, IsNoCookie}
+use Rattle.sections.specs.Driving.{AddsEngineEvent, Meets}
 use Rattle.sections.proofs.Calling.{last_may_follow}
 use Rattle.sections.proofs.Counters.{locks_mine}
-use Rattle.sections.proofs.Agreement.{starts_mine, number_at_rest}
-use Rattle.sections.proofs.Starting.{at_rest}
-use Rattle.srcuctl.specs.Histories.{index_now}
-use Rattle.srcuctl.specs.Domains.{DomainView, grown, BeginsSection, BeginsNone, EndsSection, StartsPeriod}
+use Rattle.srcuctl.specs.Domains.{DomainView, grown, index_in, IsLookNow, BeginsSection, BeginsNone, EndsSection, GivesNumber, AsksAfter, StartsPeriod}
 use Rattle.srcuctl.specs.Together.{AllHold, AreTogether}
-use Rattle.srcuctl.proofs.OneHistory.{just_this, between_same}
-use Rattle.srcuctl.proofs.Meeting.{Grows, Idles, held_before, seen_before, all_makers, counted, together_after, grown_seen, before_is, grown_follows, grown_together, idle_seen, idle_here, idle_together}
+use Rattle.srcuctl.proofs.OneHistory.{just_this}
+use Rattle.srcuctl.proofs.Meeting.{Grows, Idles, held_before, seen_before, all_makers, counted, together_after, grown_seen, before_is, grown_follows, grown_together, idle_seen, idle_here, idle_together, all_changes, changes_before}
 
 abbrev pub seen_as : Limits → EngineView → DomainView
-seen_as limits e = record { table = e.domain; limits = limits; processors = e.processors; history = e.seen }
+seen_as limits e = record { table = e.domain; limits = limits; processors = e.processors; history = e.seen; changes = e.changes }
 
 pub idles_of_look : (c c' : CpuView) (l : LookView) → Looks c c' l → Idles c c'
-idles_of_look c c' l h = record { same = h.load.same; since = h.load.since; mine = h.load.mine }
+idles_of_look c c' l h = record { same = h.load.same; since = h.load.since; mine = h.load.mine; later = h.load.later }
 
 pub idles_in_vain : (c c' : CpuView) → LooksInVain c c' → Idles c c'
 idles_in_vain c c' h = idles_of_look c c' h.look h.looks
 
-pub look_index : (c c' : CpuView) (l : LookView) (h : List Event) → Looks c c' l → c'.seen ≡ h → l.index ≡ index_now h
-look_index c c' l h looks same = ap (λ (x : LookView). x.index) looks.look_is ∙ ap low_bit (looks.current ∙ ap index_word same)
+pub look_index : (c c' : CpuView) (l : LookView) (changes : ℕ) → Looks c c' l → c'.changes ≡ changes → l.index ≡ low_bit (index_word changes)
+look_index c c' l changes looks same = ap (λ (x : LookView). x.index) looks.look_is ∙ ap low_bit (looks.current ∙ ap index_word same)
 
 abbrev pub begin_of : (c c' : CpuView) (r : ReadingView) → ReadLocks c c' r → Event
 begin_of c c' r h = Begin h.enters.section h.between.processor h.look.index (Processor h.between.processor)
@@ -58,15 +54,24 @@ grows_of_lock c c' r h =
       history = adds.history;
     }
 
-abbrev pub grows_of_event : (other : List Event) (ev : Event) (c c' : CpuView) → AddsEvent other ev c c' → Grows ev c c'
-grows_of_event other ev c c' a = record { same = a.same; before = a.before; seen = a.seen; since = a.since; mine = a.mine; history = a.history }
+abbrev pub grows_of_event : (other : List Event) (reached : ℕ) (ev : Event) (c c' : CpuView) → AddsEvent other reached ev c c' → Grows ev c c'
+grows_of_event other reached ev c c' a = record { same = a.same; before = a.before; seen = a.seen; since = a.since; mine = a.mine; history = a.history }
 
 module _ (limits : Limits) (cpus : List CpuView) (e : EngineView) (p : ℕ) (c c' : CpuView) (together : AreTogether limits cpus e) (inside : p < length cpus) (is : c ≡ get_or cpus p c)
     (cpus' : List CpuView) (e' : EngineView) (meets : Meets e (set cpus p c') e' cpus') where
-  own_locks : (q : ℕ) (i : Index) (mine : List Event) → q ≡ p → i ≡ index_now e.seen → mine ≡ made_by (Processor p) e.seen → locks q i mine ≡ locks p (index_now e.seen) e.seen
-  own_locks q i mine qp ii mm = (λ j. locks (qp j) (ii j) (mm j)) ∙ locks_mine e.processors p (index_now e.seen) e.seen together.history.makers
+  own_locks : (q : ℕ) (i j : Index) (mine : List Event) → q ≡ p → i ≡ j → mine ≡ made_by (Processor p) e.seen → locks q i mine ≡ locks p j e.seen
+  own_locks q i j mine qp ij mm = (λ t. locks (qp t) (ij t) (mm t)) ∙ locks_mine e.processors p j e.seen together.history.makers
 
-  pub locked : (r : ReadingView) → ReadLocks c c' r → BeginsSection p (seen_as limits e) r (seen_as limits e')
+  grown_to : (ev ev' : Event) → ev ≡ ev' → e'.seen ≡ e.seen ++ ev ∷ [] → seen_as limits e' ≡ grown ev' (seen_as limits e)
+  grown_to ev ev' is seen = λ t. record {
+    table = meets.same.0 t;
+    limits = limits;
+    processors = meets.same.1 t;
+    history = (seen ∙ ap (λ x. e.seen ++ x ∷ []) is) t;
+    changes = meets.changes_are t;
+  }
+
+  pub locked : (r : ReadingView) → ReadLocks c c' r → BeginsSection p (index_in (seen_as limits e)) (seen_as limits e) r (seen_as limits e')
   locked r h =
       let ev = begin_of c c' r h in
       let grows : Grows ev c c' = grows_of_lock c c' r h in
@@ -74,37 +79,137 @@ module _ (limits : Limits) (cpus : List CpuView) (e : EngineView) (p : ℕ) (c c
       let load = h.looks.load in
       let processor_is : h.between.processor ≡ p = load.same.3 ∙ held.processor in
       let own = ap Processor processor_is in
-      let front : h.enters.adds.before ≡ e.seen = before_is limits cpus e p c c' together inside is cpus' e' meets ev grows own in
-      let between_seen : h.between.seen ≡ e.seen = between_same e.seen h.between.seen h.enters.adds.before (subst (λ l. IsBeginning l h.between.seen) (seen_before limits cpus e p c c' together inside is cpus' e' meets) load.since) h.enters.adds.since front in
-      let index_is : h.look.index ≡ index_now e.seen = look_index c h.between h.look e.seen h.looks between_seen in
+      let all : c'.changes ≡ e.changes = all_changes limits cpus e p c c' together inside is cpus' e' meets (omega (arith, load.later, h.enters.adds.later)) in
+      let between_changes : h.between.changes ≡ e.changes = omega (arith, load.later, h.enters.adds.later, all, changes_before limits cpus e p c c' together inside is cpus' e' meets) in
+      let index_is : h.look.index ≡ index_in (seen_as limits e) = look_index c h.between h.look e.changes h.looks between_changes in
       let section_is : h.enters.section ≡ r.section = ap (λ (x : ReadingView). x.section) (sym h.enters.reading) in
-      let event_is : ev ≡ Begin r.section p (index_now e.seen) (Processor p) = λ i. Begin (section_is i) (processor_is i) (index_is i) (Processor (processor_is i)) in
-      let counted_is = own_locks h.between.processor h.look.index h.between.mine processor_is index_is (load.mine ∙ held.mine) in
+      let event_is : ev ≡ Begin r.section p (index_in (seen_as limits e)) (Processor p) = λ t. Begin (section_is t) (processor_is t) (index_is t) (Processor (processor_is t)) in
+      let counted_is = own_locks h.between.processor h.look.index (index_in (seen_as limits e)) h.between.mine processor_is index_is (load.mine ∙ held.mine) in
       let sections_is : h.between.sections ≡ limits.sections = load.same.2 ∙ held.sections in
       let room : locks h.between.processor h.look.index h.between.mine < h.between.sections = h.enters.room in
       record {
         room = omega (arith, counted_is, sections_is, room);
         follows = subst (MayFollow e.seen) event_is (grown_follows limits cpus e p c c' together inside is cpus' e' meets ev grows own);
-        after = λ i. record {
-          table = meets.same.0 i;
-          limits = limits;
-          processors = meets.same.1 i;
-          history = (grown_seen limits cpus e p c c' together inside is cpus' e' meets ev grows own ∙ ap (λ x. e.seen ++ x ∷ []) event_is) i;
-        };
+        after = grown_to ev (Begin r.section p (index_in (seen_as limits e)) (Processor p)) event_is (grown_seen limits cpus e p c c' together inside is cpus' e' meets ev grows own);
         table = ap (λ (x : ReadingView). x.domain) h.enters.reading ∙ (load.same.0 ∙ held.domain);
         processor = ap (λ (x : ReadingView). x.processor) h.enters.reading ∙ processor_is;
         index = ap (λ (x : ReadingView). x.index) h.enters.reading ∙ index_is;
       }
 
-  pub locked_none : LooksInVain c c' → BeginsNone p (seen_as limits e) (seen_as limits e')
+  pub locked_none : LooksInVain c c' → BeginsNone p (index_in (seen_as limits e)) (seen_as limits e) (seen_as limits e')
   locked_none h =
       let idles = idles_in_vain c c' h in
       let held = held_before limits cpus e p c c' together inside is cpus' e' meets in
-      let here = idle_here limits cpus e p c c' together inside is cpus' e' meets idles in
+      let here = all_changes limits cpus e p c c' together inside is cpus' e' meets idles.later in
       record {
-        full = sym (own_locks c'.processor h.look.index c'.mine (idles.same.3 ∙ held.processor) (look_index c c' h.look e.seen h.looks here) (idles.mine ∙ held.mine)) ∙ (h.exhausted ∙ (idles.same.2 ∙ held.sections));
-        after = λ i. record { table = meets.same.0 i; limits = limits; processors = meets.same.1 i; history = idle_seen limits cpus e p c c' together inside is cpus' e' meets idles i };
+        full = sym (own_locks c'.processor h.look.index (index_in (seen_as limits e)) c'.mine (idles.same.3 ∙ held.processor) (look_index c c' h.look e.changes h.looks here) (idles.mine ∙ held.mine)) ∙ (h.exhausted ∙ (idles.same.2 ∙ held.sections));
+        after = λ i. record { table = meets.same.0 i; limits = limits; processors = meets.same.1 i; history = idle_seen limits cpus e p c c' together inside is cpus' e' meets idles i; changes = meets.changes_are i };
       }
+
+  still : c' ≡ c → Idles c c'
+  still same = subst (λ (x : CpuView). Idles c x) (sym same) (record { same = (refl, refl, refl, refl); since = beginning_refl c.seen; mine = refl; later = omega arith })
+
+  module _ (look : LookView) where
+    abbrev enter_event : (r : ReadingView) → Enters c look c' r → Event
+    enter_event r h = Begin h.section c.processor look.index (Processor c.processor)
+
+    entered_grows : (r : ReadingView) (h : Enters c look c' r) → Grows (enter_event r h) c c'
+    entered_grows r h = grows_of_event look.seen look.changes (enter_event r h) c c' h.adds
+
+    pub entered : (r : ReadingView) → Enters c look c' r → BeginsSection p look.index (seen_as limits e) r (seen_as limits e')
+    entered r h =
+        let ev = enter_event r h in
+        let grows = entered_grows r h in
+        let held = held_before limits cpus e p c c' together inside is cpus' e' meets in
+        let own = ap Processor held.processor in
+        let section_is : h.section ≡ r.section = ap (λ (x : ReadingView). x.section) (sym h.reading) in
+        let event_is : ev ≡ Begin r.section p look.index (Processor p) = λ t. Begin (section_is t) (held.processor t) look.index (Processor (held.processor t)) in
+        let counted_is = own_locks c.processor look.index look.index c.mine held.processor refl held.mine in
+        let sections_is : c.sections ≡ limits.sections = held.sections in
+        let room : locks c.processor look.index c.mine < c.sections = h.room in
+        record {
+          room = omega (arith, counted_is, sections_is, room);
+          follows = subst (MayFollow e.seen) event_is (grown_follows limits cpus e p c c' together inside is cpus' e' meets ev grows own);
+          after = grown_to ev (Begin r.section p look.index (Processor p)) event_is (grown_seen limits cpus e p c c' together inside is cpus' e' meets ev grows own);
+          table = ap (λ (x : ReadingView). x.domain) h.reading ∙ held.domain;
+          processor = ap (λ (x : ReadingView). x.processor) h.reading ∙ held.processor;
+          index = ap (λ (x : ReadingView). x.index) h.reading;
+        }
+
+    pub entered_none : IsExhausted c look.index → c' ≡ c → BeginsNone p look.index (seen_as limits e) (seen_as limits e')
+    entered_none exhausted same =
+        let idles = still same in
+        let held = held_before limits cpus e p c c' together inside is cpus' e' meets in
+        record {
+          full = sym (own_locks c.processor look.index look.index c.mine held.processor refl held.mine) ∙ (exhausted ∙ held.sections);
+          after = λ i. record { table = meets.same.0 i; limits = limits; processors = meets.same.1 i; history = idle_seen limits cpus e p c c' together inside is cpus' e' meets idles i; changes = meets.changes_are i };
+        }
+
+    pub enter_together : (taken : Result ReadingView Exhausted) → MatchResult taken (λ r. Enters c look c' r) (λ _. IsExhausted c look.index × (c' ≡ c)) → AreTogether limits cpus' e'
+    enter_together (Ok r) h =
+        let held = held_before limits cpus e p c c' together inside is cpus' e' meets in
+        grown_together limits cpus e p c c' together inside is cpus' e' meets (enter_event r h) (entered_grows r h) (ap Processor held.processor)
+    enter_together (Err x) h = idle_together limits cpus e p c c' together inside is cpus' e' meets (still h.1)
+
+  -- Cookies
+
+  abbrev note_event : (k : CookieView) → GivesCookie c c' k → Event
+  note_event k h = Note (cookie_at h.number) (Processor c.processor)
+
+  pub given_together : (k : CookieView) → GivesCookie c c' k → AreTogether limits cpus' e'
+  given_together k h =
+      let held = held_before limits cpus e p c c' together inside is cpus' e' meets in
+      grown_together limits cpus e p c c' together inside is cpus' e' meets (note_event k h) (grows_of_event c.seen c.changes (note_event k h) c c' h.notes.adds) (ap Processor held.processor)
+
+  pub given : (k : CookieView) → GivesCookie c c' k → GivesNumber p (seen_as limits e) k.number (seen_as limits e')
+  given k h =
+      let held = held_before limits cpus e p c c' together inside is cpus' e' meets in
+      let grows = grows_of_event c.seen c.changes (note_event k h) c c' h.notes.adds in
+      let own = ap Processor held.processor in
+      let number_is : cookie_at h.number ≡ k.number = ap (λ (x : CookieView). x.number) (sym h.cookie_is) in
+      let event_is : note_event k h ≡ Note k.number (Processor p) = λ t. Note (number_is t) (Processor (held.processor t)) in
+      record {
+        follows = subst (MayFollow e.seen) event_is (grown_follows limits cpus e p c c' together inside is cpus' e' meets (note_event k h) grows own);
+        after = grown_to (note_event k h) (Note k.number (Processor p)) event_is (grown_seen limits cpus e p c c' together inside is cpus' e' meets (note_event k h) grows own);
+      }
+
+  module _ (cookie : ℕ) where
+    abbrev ask_event : Bool → Event
+    ask_event done = Ask cookie done (Processor c.processor)
+
+    pub polled_together : (answer : Result Bool NotACookie) → MatchResult answer (λ done. Asks c.seen c.changes cookie done c c') (λ _. IsNoCookie cookie × (c' ≡ c)) → AreTogether limits cpus' e'
+    polled_together (Ok done) h =
+        let held = held_before limits cpus e p c c' together inside is cpus' e' meets in
+        grown_together limits cpus e p c c' together inside is cpus' e' meets (ask_event done) (grows_of_event c.seen c.changes (ask_event done) c c' h.adds) (ap Processor held.processor)
+    polled_together (Err x) h = idle_together limits cpus e p c c' together inside is cpus' e' meets (still h.1)
+
+    pub polled : (done : Bool) → Asks c.seen c.changes cookie done c c' → AsksAfter p cookie (seen_as limits e) done (seen_as limits e')
+    polled done h =
+        let held = held_before limits cpus e p c c' together inside is cpus' e' meets in
+        let grows = grows_of_event c.seen c.changes (ask_event done) c c' h.adds in
+        let own = ap Processor held.processor in
+        let event_is : ask_event done ≡ Ask cookie done (Processor p) = ap (λ q. Ask cookie done (Processor q)) held.processor in
+        record {
+          follows = subst (MayFollow e.seen) event_is (grown_follows limits cpus e p c c' together inside is cpus' e' meets (ask_event done) grows own);
+          after = grown_to (ask_event done) (Ask cookie done (Processor p)) event_is (grown_seen limits cpus e p c c' together inside is cpus' e' meets (ask_event done) grows own);
+        }
+
+    pub polled_none : c' ≡ c → seen_as limits e' ≡ seen_as limits e
+    polled_none same = λ i. record { table = meets.same.0 i; limits = limits; processors = meets.same.1 i; history = idle_seen limits cpus e p c c' together inside is cpus' e' meets (still same) i; changes = meets.changes_are i }
+
+  pub looked : (l : LookView) → Looks c c' l → IsLookNow (seen_as limits e) l
+  looked l h =
+      let held = held_before limits cpus e p c c' together inside is cpus' e' meets in
+      record {
+        table = ap (λ (x : LookView). x.domain) h.look_is ∙ held.domain;
+        index = look_index c c' l e.changes h (all_changes limits cpus e p c c' together inside is cpus' e' meets h.load.later);
+      }
+
+  pub look_idle : (l : LookView) → Looks c c' l → seen_as limits e' ≡ seen_as limits e
+  look_idle l h = λ i. record { table = meets.same.0 i; limits = limits; processors = meets.same.1 i; history = idle_seen limits cpus e p c c' together inside is cpus' e' meets (idles_of_look c c' l h) i; changes = meets.changes_are i }
+
+  pub look_together : (l : LookView) → Looks c c' l → AreTogether limits cpus' e'
+  look_together l h = idle_together limits cpus e p c c' together inside is cpus' e' meets (idles_of_look c c' l h)
 
   pub lock_together : (taken : Result ReadingView Exhausted) → MatchResult taken (λ r. ReadLocks c c' r) (λ _. LooksInVain c c') → AreTogether limits cpus' e'
   lock_together (Ok r) h =
@@ -112,15 +217,15 @@ module _ (limits : Limits) (cpus : List CpuView) (e : EngineView) (p : ℕ) (c c
       grown_together limits cpus e p c c' together inside is cpus' e' meets (begin_of c c' r h) (grows_of_lock c c' r h) (ap Processor (h.looks.load.same.3 ∙ held.processor))
   lock_together (Err x) h = idle_together limits cpus e p c c' together inside is cpus' e' meets (idles_in_vain c c' h)
 
-  pub ended_together : (other : List Event) (r : ReadingView) → AddsEvent other (End r.section c.processor (Processor c.processor)) c c' → AreTogether limits cpus' e'
-  ended_together other r a =
+  pub ended_together : (other : List Event) (reached : ℕ) (r : ReadingView) → AddsEvent other reached (End r.section c.processor (Processor c.processor)) c c' → AreTogether limits cpus' e'
+  ended_together other reached r a =
       let held = held_before limits cpus e p c c' together inside is cpus' e' meets in
-      grown_together limits cpus e p c c' together inside is cpus' e' meets (End r.section c.processor (Processor c.processor)) (grows_of_event other (End r.section c.processor (Processor c.processor)) c c' a) (ap Processor held.processor)
+      grown_together limits cpus e p c c' together inside is cpus' e' meets (End r.section c.processor (Processor c.processor)) (grows_of_event other reached (End r.section c.processor (Processor c.processor)) c c' a) (ap Processor held.processor)
 
-  pub ended : (other : List Event) (r : ReadingView) → r.processor ≡ p → AddsEvent other (End r.section c.processor (Processor c.processor)) c c' → EndsSection r (seen_as limits e) (seen_as limits e')
-  ended other r here a =
+  pub ended : (other : List Event) (reached : ℕ) (r : ReadingView) → r.processor ≡ p → AddsEvent other reached (End r.section c.processor (Processor c.processor)) c c' → EndsSection r (seen_as limits e) (seen_as limits e')
+  ended other reached r here a =
       let held = held_before limits cpus e p c c' together inside is cpus' e' meets in
-      let grows = grows_of_event other (End r.section c.processor (Processor c.processor)) c c' a in
+      let grows = grows_of_event other reached (End r.section c.processor (Processor c.processor)) c c' a in
       let same : c.processor ≡ r.processor = held.processor ∙ sym here in
       let own = ap Processor held.processor in
       record {
@@ -130,40 +235,22 @@ module _ (limits : Limits) (cpus : List CpuView) (e : EngineView) (p : ℕ) (c c
           limits = limits;
           processors = meets.same.1 i;
           history = (grown_seen limits cpus e p c c' together inside is cpus' e' meets (End r.section c.processor (Processor c.processor)) grows own ∙ ap (λ (q : ℕ). e.seen ++ End r.section q (Processor q) ∷ []) same) i;
+          changes = meets.changes_are i;
         };
       }
 
 -- Grace periods
 
-some_lt : (n : ℕ) → true ≡ nat_lt 0 (suc n)
-some_lt n = grind (arith, nat_tests)
+-- one runs just where the number is not at rest
+pub idle_by : (changes : ℕ) (h : List Event) (phase : Phase) → Reaches changes h → number_word changes % 4 ≡ state_bits phase → phase ≡ Idle → (IsIdle changes) × (IsRunning h → ⊥)
+idle_by changes h Idle r n is = let s = r.started in let e = r.ended in (omega (arith, n), λ running. omega (arith, n, s, e, running))
+idle_by changes h Scan1 r n is = absurd (cc)
+idle_by changes h Scan2 r n is = absurd (cc)
 
-scanned : (n : ℕ) → number_at 0 Scan1 % 4 ≡ number_at 0 (if nat_lt 0 (suc n) then Scan1 else Idle) % 4
-scanned n = ap (λ b. number_at 0 (if b then Scan1 else Idle) % 4) (some_lt n)
-
-phase_case : (n : ℕ) (phase : Phase) → number_at 0 (if nat_lt 0 n then Scan1 else Idle) % 4 ≡ state_bits phase → (phase ≡ Idle → n ≡ 0) × ((phase ≡ Idle → ⊥) → 0 < n)
-phase_case zero Idle h = (λ _. refl, λ other. absurd (other refl))
-phase_case zero Scan1 h = absurd (omega (arith, h))
-phase_case zero Scan2 h = absurd (omega (arith, h))
-phase_case (suc n) Idle h = let one : number_at 0 Scan1 % 4 ≡ state_bits Idle = scanned n ∙ h in absurd (omega (arith, one))
-phase_case (suc n) Scan1 h = (λ idle. cc, λ _. omega arith)
-phase_case (suc n) Scan2 h = let one : number_at 0 Scan1 % 4 ≡ state_bits Scan2 = scanned n ∙ h in absurd (omega (arith, one))
-
-pub idle_by : (h : List Event) (phase : Phase) → number_word h % 4 ≡ state_bits phase → phase ≡ Idle → IsRunning h → ⊥
-idle_by h phase n idle running = let none : starts_in h ≡ 0 = (phase_case (starts_in h) phase n).0 idle in omega (arith, none, running)
-
-pub running_by : (h : List Event) (phase : Phase) → number_word h % 4 ≡ state_bits phase → (phase ≡ Idle → ⊥) → IsRunning h
-running_by h phase n other = (phase_case (starts_in h) phase n).1 other
-
--- no grace period runs and none has ended: there is room for one
-pub room_at_rest : (limits : Limits) (h : List Event) (phase : Phase) → AreInRange limits → number_word h % 4 ≡ state_bits phase → phase ≡ Idle → number_word h < 4 * limits.periods
-room_at_rest limits h phase range n idle = let none = number_at_rest h ((phase_case (starts_in h) phase n).0 idle) in omega (arith, none, range.some_periods)
-
-pub number_mine : (n : ℕ) (mine h : List Event) → mine ≡ made_by Engine h → All (HasItsMaker n) h → number_word mine ≡ number_word h
-number_mine n mine h is all = ap number_word is ∙ ap (λ k. number_at 0 (if nat_lt 0 k then Scan1 else Idle)) (starts_mine n h all)
-
-pub running_mine : (n : ℕ) (mine h : List Event) → mine ≡ made_by Engine h → All (HasItsMaker n) h → starts_in mine ≡ starts_in h
-running_mine n mine h is all = ap starts_in is ∙ starts_mine n h all
+pub running_by : (changes : ℕ) (h : List Event) (phase : Phase) → Reaches changes h → number_word changes % 4 ≡ state_bits phase → (phase ≡ Idle → ⊥) → IsRunning h
+running_by changes h Idle r n other = absurd (other refl)
+running_by changes h Scan1 r n other = let s = r.started in let e = r.ended in omega (arith, n, s, e)
+running_by changes h Scan2 r n other = let s = r.started in let e = r.ended in omega (arith, n, s, e)
 
 module _ (limits : Limits) (cpus : List CpuView) (e e' : EngineView) (together : AreTogether limits cpus e) (a : AddsEngineEvent (Start Engine) e e')
     (cpus' : List CpuView) (e'' : EngineView) (meets : Meets e' cpus e'' cpus') where
@@ -190,10 +277,10 @@ module _ (limits : Limits) (cpus : List CpuView) (e e' : EngineView) (together :
   pub started_together : AreTogether limits cpus' e''
   started_together = together_after limits (e.seen ++ Start Engine ∷ []) cpus cpus' e' e'' started_hold meets started_by.1
 
-  pub started : (n : ℕ) → n ≡ number_word e'.mine → number_word e.seen < 4 * limits.periods → StartsPeriod (seen_as limits e) n (seen_as limits e'')
+  pub started : (n : ℕ) → n ≡ number_word e'.changes → number_word e.changes < 4 * limits.periods → StartsPeriod (seen_as limits e) n (seen_as limits e'')
   started n is room = record {
     follows = subst (λ l. MayFollow l (Start Engine)) started_by.0 (last_may_follow a.before (Start Engine) (subst IsLegal a.seen a.history.legal));
     room = room;
-    after = λ i. record { table = (meets.same.0 ∙ a.same.0) i; limits = limits; processors = (meets.same.1 ∙ a.same.1) i; history = started_by.1 i };
-    number = is ∙ (ap number_word (sym meets.mine) ∙ number_mine e''.processors e''.mine e''.seen meets.history.own meets.history.makers);
+    after = λ i. record { table = (meets.same.0 ∙ a.same.0) i; limits = limits; processors = (meets.same.1 ∙ a.same.1) i; history = started_by.1 i; changes = (meets.changes_are ∙ a.changes_are) i };
+    number = is ∙ ap number_word (sym meets.changes_are);
   }

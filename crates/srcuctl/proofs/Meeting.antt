@@ -1,31 +1,23 @@
 -- What the calls of a domain in one hand do: its history grows by their own events alone.
-use Rattle.std.proofs.Common.{◌≡◌, ◌≢◌, ℕ, ◌<◌, Bool, true, false, List, [], ◌∷◌, ◌++◌, length, get_or, set, take, drop, refl, sym, ap, ◌∙◌, subst, arith, length-set, get_or-set_other, get_or-set_same, ne_eqb}
+use Rattle.std.proofs.Common.{◌≡◌, ◌≢◌, ℕ, ◌<◌, ◌≤◌, List, [], ◌∷◌, ◌++◌, length, get_or, set, take, refl, sym, ap, ◌∙◌, subst, arith, length-set, get_or-set_other, get_or-set_same, ne_eqb}
 use Rattle.std.specs.Prelude.{All}
 use Rattle.std.proofs.Math.Seq.{take-append_seam}
 use mathlib.Core.Logic.{dite}
 use native.Mathlib.Decide.{ℕ_discrete}
-use Rattle.atomic_table.specs.Seated.{TableId}
-use Rattle.sseq.specs.declared.index.Index.{Index}
-use Rattle.sseq.specs.Indexes.{low_bit}
 use Rattle.onedom.specs.declared.event.Maker.{Maker}
 use Rattle.onedom.specs.declared.event.Maker.TheVariants.{Processor, Engine}
 use Rattle.onedom.specs.declared.event.Event.{Event}
-use Rattle.onedom.specs.declared.event.Event.TheVariants.{Begin, End, Start}
 use Rattle.onedom.specs.Histories.{MayFollow, IsLegal, maker_of, same_maker, made_by, IsBeginning}
 use Rattle.onedom.proofs.Pushes.{made_by_other, made_by_own, same_maker_refl}
-use Rattle.onedom.proofs.Beginnings.{beginning_trans}
 use Rattle.sections.specs.declared.limits.Limits.{Limits}
-use Rattle.sections.specs.Words.{index_word, locks}
 use Rattle.sections.specs.Rule.{HasItsMaker}
-use Rattle.sections.specs.Views.{CpuView, EngineView, LookView, ReadingView}
-use Rattle.sections.specs.Calls.{IsSameCpu, IsSeenBy, AddsEvent, AddsEngineEvent, Looks, Enters, ReadLocks, LooksInVain, Meets, new_cpu}
+use Rattle.sections.specs.Views.{CpuView, EngineView}
+use Rattle.sections.specs.Calls.{IsSameCpu, IsSeenBy, new_cpu}
+use Rattle.sections.specs.Driving.{Meets}
 use Rattle.sections.proofs.Calling.{last_may_follow}
-use Rattle.sections.proofs.Counters.{locks_mine}
 use Rattle.sections.specs.Making.{IsCount}
-use Rattle.srcuctl.specs.Histories.{index_now}
-use Rattle.srcuctl.specs.Domains.{DomainView, grown, BeginsSection, BeginsNone, EndsSection}
 use Rattle.srcuctl.specs.Together.{Holds, AllHold, AreTogether}
-use Rattle.srcuctl.proofs.OneHistory.{made, IsMaker, all_of_beginning, nothing_new, just_this, between_same}
+use Rattle.srcuctl.proofs.OneHistory.{made, IsMaker, nothing_new, just_this, between_same}
 
 -- the processors as they are kept, all of them
 pub all_kept : (n : ℕ) (cpus rest : List CpuView) → n ≡ length cpus → take n (cpus ++ rest) ≡ cpus
@@ -75,6 +67,7 @@ module _ (limits : Limits) (h : List Event) (cpus cpus' : List CpuView) (e e' : 
     };
     history = meets.history;
     seen = λ k d lt. let inside : k < length cpus = omega (arith, meets.count, lt) in (meets.each k d inside).accepts.seen;
+    changes = λ k d lt. let inside : k < length cpus = omega (arith, meets.count, lt) in (meets.each k d inside).accepts.changes;
   }
 
 -- Before a meeting
@@ -107,14 +100,28 @@ pub record Idles (c c' : CpuView) : Type 0 where
   pub same : IsSameCpu c c'
   pub since : IsBeginning c.seen c'.seen
   pub mine : c'.mine ≡ c.mine
+  pub later : c.changes ≤ c'.changes
 
 module _ (limits : Limits) (cpus : List CpuView) (e : EngineView) (p : ℕ) (c c' : CpuView) (together : AreTogether limits cpus e) (inside : p < length cpus) (is : c ≡ get_or cpus p c)
     (cpus' : List CpuView) (e' : EngineView) (meets : Meets e (set cpus p c') e' cpus') where
   pub held_before : Holds limits e.domain e.processors e.seen p c
   held_before = subst (Holds limits e.domain e.processors e.seen p) (sym is) (together.hold.each p c inside)
 
+  pub changes_before : c.changes ≡ e.changes
+  changes_before = ap (λ (x : CpuView). x.changes) is ∙ together.changes p c inside
+
   pub seen_before : c.seen ≡ e.seen
   seen_before = ap (λ (x : CpuView). x.seen) is ∙ together.seen p c inside
+
+  no_later : c'.changes ≤ e'.changes
+  no_later = subst (λ (x : CpuView). x.changes ≤ e'.changes) here (meets.each p c (omega (arith, length-set cpus p c', inside))).later
+    where
+      here : get_or (set cpus p c') p c ≡ c'
+      here = rw get_or-set_same refl
+
+  -- what the processor has seen of the engine's changes is all of them
+  pub all_changes : c.changes ≤ c'.changes → c'.changes ≡ e.changes
+  all_changes later = omega (arith, later, no_later, changes_before, meets.changes_are)
 
   joined : IsBeginning c'.seen e'.seen
   joined = subst (λ (x : CpuView). IsBeginning x.seen e'.seen) here (meets.each p c (omega (arith, length-set cpus p c', inside))).since

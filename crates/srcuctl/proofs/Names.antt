@@ -1,10 +1,10 @@
 -- Names as texts, and words that are copied into names.
-use Rattle.std.proofs.Common.{◌≡◌, ℕ, zero, suc, ◌+◌, ◌-◌, ◌<◌, ◌≤◌, Bool, true, false, not, ◌&&◌, ◌||◌, List, [], ◌∷◌, ◌++◌, length, take, drop, replicate, refl, sym, ap, ◌∙◌, subst, arith, rules, length-append, length-drop}
-use Rattle.std.specs.Prelude.{IsAscii, IsUtf8, nat_le, slice_index, Result, Ok, Err, MatchResult, IsOk}
+use Rattle.std.proofs.Common.{◌≡◌, ℕ, zero, suc, ◌<◌, ◌≤◌, Bool, true, false, not, ◌&&◌, ◌||◌, List, [], ◌∷◌, ◌++◌, length, drop, replicate, refl, sym, ◌∙◌, subst, arith, rules, length-append, length-drop}
+use Rattle.std.specs.Prelude.{IsUtf8, nat_le, slice_index, Result, Ok, Err, MatchResult, IsOk}
 use Rattle.std.specs.List.{list_all}
 use Rattle.std.proofs.lemmas.Str.{IsUtf8-from_ascii}
 use Rattle.std.proofs.lemmas.Bool.Decides.{nat_tests}
-use Rattle.std.proofs.lemmas.List.{drop-replicate, length-replicate}
+use Rattle.std.proofs.lemmas.List.{drop-replicate}
 use Rattle.std.proofs.Math.Seq.{take-append_seam, drop-append_seam}
 use Rattle.srcuctl.specs.Lines.{is_name, is_empty, is_letter, is_digit}
 use Rattle.srcuctl.specs.Names.{IsPadded}

@@ -1,14 +1,14 @@
 -- A history that grows by what those in hand have done, and by nothing else.
-use Rattle.std.proofs.Common.{◌≡◌, ℕ, suc, ◌+◌, ◌<◌, ◌≤◌, Bool, true, false, cond, List, [], ◌∷◌, ◌++◌, length, All, refl, sym, ap, ◌∙◌, subst, append_assoc, append-nil, length-append, arith, rules}
+use Rattle.std.proofs.Common.{◌≡◌, ℕ, suc, ◌+◌, ◌<◌, ◌≤◌, cond, List, [], ◌∷◌, ◌++◌, length, All, refl, sym, ap, ◌∙◌, subst, append-nil, length-append, arith, rules}
 use Rattle.std.proofs.lemmas.List.Elements.{filter-append, All-head, All-tail, All-cons}
 use Rattle.onedom.specs.declared.event.Maker.{Maker}
 use Rattle.onedom.specs.declared.event.Maker.TheVariants.{Processor, Engine}
 use Rattle.onedom.specs.declared.event.Event.{Event}
-use Rattle.onedom.specs.declared.event.Event.TheVariants.{Begin, End, Start}
+use Rattle.onedom.specs.declared.event.Event.TheVariants.{Begin, End, Start, Finish, Note, Ask}
 use Rattle.onedom.specs.Histories.{maker_of, same_maker, made_by, IsBeginning}
 use Rattle.onedom.proofs.Pushes.{same_maker_refl}
 use Rattle.onedom.proofs.Beginnings.{beginning_made_by, length_grows}
-use Rattle.sections.specs.Rule.{HasItsMaker}
+use Rattle.sections.specs.Rule.{HasItsMaker, IsProcessor}
 
 -- how many events a maker made
 abbrev pub made : Maker → List Event → ℕ
@@ -21,10 +21,17 @@ IsMaker n Engine = Unit {0}
 made_append : (m : Maker) (a b : List Event) → made m (a ++ b) ≡ made m a + made m b
 made_append m a b = ap length (filter-append (λ e. same_maker (maker_of e) m) a b) ∙ length-append (made_by m a) (made_by m b)
 
+a_processor : (n : ℕ) (by : Maker) → IsProcessor n by → IsMaker n by
+a_processor n (Processor p) h = h
+a_processor n Engine h = absurd h
+
 its_maker : (n : ℕ) (e : Event) → HasItsMaker n e → IsMaker n (maker_of e)
 its_maker n (Begin s p i by) h = subst (IsMaker n) (sym h.1) h.0
 its_maker n (End s q by) h = subst (IsMaker n) (sym h.1) h.0
 its_maker n (Start by) h = subst (IsMaker n) (sym h) tt
+its_maker n (Finish by) h = subst (IsMaker n) (sym h) tt
+its_maker n (Note c by) h = a_processor n by h
+its_maker n (Ask c b by) h = a_processor n by h
 
 made_first : (e : Event) (es : List Event) → made (maker_of e) (e ∷ es) ≡ suc (made (maker_of e) es)
 made_first e es = ap (λ b. length (cond b (e ∷ made_by (maker_of e) es) (made_by (maker_of e) es))) (same_maker_refl (maker_of e))
@@ -33,7 +40,7 @@ pub all_front : {X : Type 0} (P : X → Type 0) (a b : List X) → All P (a ++ b
 all_front P [] b h = search rules
 all_front P (x ∷ a) b h = All-cons P x a (All-head P x (a ++ b) h) (all_front P a b (All-tail P x (a ++ b) h))
 
-all_back : {X : Type 0} (P : X → Type 0) (a b : List X) → All P (a ++ b) → All P b
+pub all_back : {X : Type 0} (P : X → Type 0) (a b : List X) → All P (a ++ b) → All P b
 all_back P [] b h = h
 all_back P (x ∷ a) b h = all_back P a b (All-tail P x (a ++ b) h)
 

@@ -1,8 +1,8 @@
 -- Names in use, one more or one fewer, and how they are counted.
-use Rattle.std.proofs.Common.{◌≡◌, ℕ, zero, suc, ◌+◌, ◌%◌, ◌<◌, cond, List, [], ◌∷◌, map, length, get_or, set, refl, sym, ap, ◌∙◌, subst, arith}
-use Rattle.std.specs.Prelude.{Some, slice_get, option_map, count_by, remove, All, ◌⊎◌}
+use Rattle.std.proofs.Common.{◌≡◌, ℕ, zero, suc, ◌+◌, ◌%◌, ◌<◌, cond, List, [], ◌∷◌, ◌++◌, inl, inr, map, length, get_or, set, refl, sym, ap, ◌∙◌, subst, arith}
+use Rattle.std.specs.Prelude.{Bool, true, false, if◌then◌else◌, Some, slice_get, option_map, count_by, remove, All, ◌⊎◌}
 use Rattle.std.proofs.lemmas.Option.{slice_get-map, slice_get_read}
-use Rattle.std.proofs.lemmas.List.{length-map, map-set}
+use Rattle.std.proofs.lemmas.List.{length-map, map-set, map-append}
 use Rattle.std.proofs.lemmas.List.Elements.{All-get_or}
 use Rattle.std.proofs.Math.Seq.{map-set_same}
 use Rattle.onedom.proofs.Pushes.{count_cons}
@@ -11,18 +11,19 @@ use Rattle.sseq.specs.declared.index.Index.TheVariants.{Zero, One}
 use Rattle.sseq.specs.declared.number.Phase.{Phase}
 use Rattle.sseq.specs.Numbers.{state_bits}
 use Rattle.sections.specs.declared.limits.Limits.{Limits}
-use Rattle.sections.specs.Words.{number_word}
 use Rattle.srcuctl.specs.declared.reply.Reply.{Reply}
 use Rattle.srcuctl.specs.declared.reply.Reply.TheVariants as reply
 use Rattle.srcuctl.specs.declared.request.Request.TheVariants as request
-use Rattle.srcuctl.specs.Histories.{index_now}
-use Rattle.srcuctl.specs.Domains.{DomainView, EndsSection}
-use Rattle.srcuctl.specs.Scripts.{Shows, Ends, Begins, IsOutOfSections, Starts, IsRunningAlready, IsOutOfPeriods, GoesOn, Answers as AnswersTo}
+use Rattle.srcuctl.specs.Domains.{DomainView, index_in, number_in, IsLookNow, BeginsSection, BeginsNone, EndsSection, GivesNumber, AsksAfter}
+use Rattle.srcuctl.specs.Scripts.{Shows, Looks, Enters, Locks, Ends, Gives, Polls, IsNotACookie, Starts, IsRunningAlready, IsOutOfPeriods, GoesOn, Answers as AnswersTo}
 use Rattle.srcuctl.proofs.Places.{state_there}
-use Rattle.sseq.specs.Indexes.{same_index}
-use Rattle.srcuctl.specs.declared.session.entry.Opened.{Opened}
-use Rattle.srcuctl.specs.States.{Named, EntryView, states_of, open_of}
-use Rattle.srcuctl.specs.Entries.{named_of, state_with}
+use Rattle.sections.specs.Views.{LookView, ReadingView}
+use Rattle.srcuctl.specs.declared.command.Command.TheVariants as command
+use Rattle.srcuctl.specs.declared.command.Cause.TheVariants as cause
+use Rattle.srcuctl.specs.declared.session.entry.NameInUse.{NameInUse}
+use Rattle.srcuctl.specs.declared.session.entry.Token.TheVariants as token
+use Rattle.srcuctl.specs.States.{Look, Section, Named, EntryView, HasLook, HasSection, states_of, is_open_of, open_of}
+use Rattle.srcuctl.specs.Entries.{bearer_of, named_of, state_with}
 
 pub map-remove : {X Y : Type 0} (f : X → Y) (xs : List X) (i : ℕ) → map f (remove xs i) ≡ remove (map f xs) i
 map-remove f [] zero = refl
@@ -30,19 +31,27 @@ map-remove f [] (suc i) = refl
 map-remove f (x ∷ xs) zero = refl
 map-remove f (x ∷ xs) (suc i) = ap (λ l. f x ∷ l) (map-remove f xs i)
 
-pub named_there : (all : List Opened) (which : ℕ) (o : Opened) → which < length all → o ≡ get_or all which o → slice_get (map named_of all) which ≡ Some (named_of o)
-named_there all which o h is = slice_get-map named_of all which ∙ ap (option_map named_of) (slice_get_read all (length all) which o refl h is)
+pub named_there : (all : List NameInUse) (which : ℕ) (n : NameInUse) → which < length all → n ≡ get_or all which n → slice_get (map named_of all) which ≡ Some (named_of n)
+named_there all which n h is = slice_get-map named_of all which ∙ ap (option_map named_of) (slice_get_read all (length all) which n refl h is)
 
-pub open_of_named : (i : Index) (all : List Opened) → count_by (λ o. same_index o.reading.index i) all ≡ open_of i (map named_of all)
+pub open_of_named : (i : Index) (all : List NameInUse) → count_by (λ n. is_open_of i (bearer_of n.token)) all ≡ open_of i (map named_of all)
 open_of_named i [] = refl
-open_of_named i (o ∷ all) =
-    count_cons (λ (x : Opened). same_index x.reading.index i) o all ∙ (ap (λ n. cond (same_index o.reading.index i) 1 0 + n) (open_of_named i all)
-    ∙ sym (count_cons (λ (n : Named). same_index n.index i) (named_of o) (map named_of all)))
+open_of_named i (n ∷ all) =
+    count_cons (λ (x : NameInUse). is_open_of i (bearer_of x.token)) n all ∙ (ap (λ k. cond (is_open_of i (bearer_of n.token)) 1 0 + k) (open_of_named i all)
+    ∙ sym (count_cons (λ (x : Named). is_open_of i x.bearer) (named_of n) (map named_of all)))
+
+-- the name at the place, and what has it
+module _ (all : List NameInUse) (which : ℕ) (n : NameInUse) (within : which < length all) (is : n ≡ get_or all which n) where
+  pub look_there : (l : LookView) → n.token ≡ token.Look l → HasLook (map named_of all) which n.name l.index
+  look_there l t = named_there all which n within is ∙ ap (λ x. Some (record { name = n.name; bearer = bearer_of x })) t
+
+  pub section_there : (r : ReadingView) → n.token ≡ token.Reading r → HasSection (map named_of all) which n.name (record { section = r.section; processor = r.processor; index = r.index })
+  section_there r t = named_there all which n within is ∙ ap (λ x. Some (record { name = n.name; bearer = bearer_of x })) t
 
 -- What one domain answers
 
-pub shown : (name : List ℕ) (all : List Opened) (d : DomainView) (number : ℕ) (phase : Phase) (index : Index) (counted counted' : ℕ) → number ≡ number_word d.history → number % 4 ≡ state_bits phase → index ≡ index_now d.history
-    → counted ≡ count_by (λ (o : Opened). same_index o.reading.index Zero) all → counted' ≡ count_by (λ (o : Opened). same_index o.reading.index One) all
+pub shown : (name : List ℕ) (all : List NameInUse) (d : DomainView) (number : ℕ) (phase : Phase) (index : Index) (counted counted' : ℕ) → number ≡ number_in d → number % 4 ≡ state_bits phase → index ≡ index_in d
+    → counted ≡ count_by (λ (n : NameInUse). is_open_of Zero (bearer_of n.token)) all → counted' ≡ count_by (λ (n : NameInUse). is_open_of One (bearer_of n.token)) all
     → Shows (state_with name (map named_of all) d) (reply.State name (record { number = number; phase = phase }) (record { index = index; zero = counted; one = counted'; need = 0 }))
 shown name all d number phase index counted ones n p x z o = record {
   phase = phase;
@@ -50,15 +59,79 @@ shown name all d number phase index counted ones n p x z o = record {
   reply = λ i. reply.State name (record { number = n i; phase = phase }) (record { index = x i; zero = (z ∙ open_of_named Zero all) i; one = (o ∙ open_of_named One all) i; need = 0 });
 }
 
-pub unlocked : (name : List ℕ) (all all' : List Opened) (which : ℕ) (o : Opened) (d d' : DomainView) → which < length all → o ≡ get_or all which o → all' ≡ remove all which → EndsSection o.reading d d'
-    → Ends which (state_with name (map named_of all) d) reply.Closed (state_with name (map named_of all') d')
-unlocked name all all' which o d d' h is left ended = record {
-  named = named_of o;
-  there = named_there all which o h is;
-  follows = ended.follows;
-  after = λ i. state_with name ((ap (map named_of) left ∙ map-remove named_of all which) i) (ended.after i);
-  reply = refl;
+named_section : (name : List ℕ) (p : ℕ) (i : Index) (d d' : DomainView) (r : ReadingView) → BeginsSection p i d r d'
+    → named_of (record { name = name; token = token.Reading r }) ≡ record { name = name; bearer = Section (record { section = r.section; processor = p; index = i }) }
+named_section name p i d d' r h = λ t. record { name = name; bearer = Section (record { section = r.section; processor = h.processor t; index = h.index t }) }
+
+one_more : (all all' : List NameInUse) (n : NameInUse) (m : Named) → all' ≡ all ++ n ∷ [] → named_of n ≡ m → map named_of all' ≡ map named_of all ++ m ∷ []
+one_more all all' n m more is = ap (map named_of) more ∙ (map-append named_of all (n ∷ []) ∙ ap (λ x. map named_of all ++ x ∷ []) is)
+
+pub looked : (name own : List ℕ) (all all' : List NameInUse) (d d' : DomainView) (l : LookView) → all' ≡ all ++ record { name = name; token = token.Look l } ∷ [] → IsLookNow d l → d' ≡ d
+    → Looks name (state_with own (map named_of all) d) (reply.Look l.index) (state_with own (map named_of all') d')
+looked name own all all' d d' l more now same = record {
+  after = λ i. state_with own (one_more all all' (record { name = name; token = token.Look l }) (record { name = name; bearer = Look (index_in d) }) more (ap (λ x. record { name = name; bearer = Look x }) now.index) i) (same i);
+  reply = ap reply.Look now.index;
 }
+
+pub locked : (p : ℕ) (name own : List ℕ) (all all' : List NameInUse) (d d' : DomainView) (r : ReadingView) → all' ≡ all ++ record { name = name; token = token.Reading r } ∷ [] → BeginsSection p (index_in d) d r d'
+    → Locks d.limits p name (state_with own (map named_of all) d) (reply.Index r.index) (state_with own (map named_of all') d')
+locked p name own all all' d d' r more h = inl (record {
+  section = r.section;
+  room = h.room;
+  follows = h.follows;
+  after = λ i. state_with own (one_more all all' (record { name = name; token = token.Reading r }) _ more (named_section name p (index_in d) d d' r h) i) (h.after i);
+  reply = ap reply.Index h.index;
+})
+
+pub locked_none : (p : ℕ) (name own : List ℕ) (all : List NameInUse) (d d' : DomainView) → BeginsNone p (index_in d) d d'
+    → Locks d.limits p name (state_with own (map named_of all) d) (reply.Refused command.Lock cause.Exhausted) (state_with own (map named_of all) d')
+locked_none p name own all d d' h = inr (record { full = h.full; after = ap (state_with own (map named_of all)) h.after; reply = refl })
+
+module _ (own : List ℕ) (all left : List NameInUse) (which : ℕ) (n : NameInUse) (d d' : DomainView) (within : which < length all) (is : n ≡ get_or all which n) (rest : left ≡ remove all which) where
+  names_left : map named_of left ≡ remove (map named_of all) which
+  names_left = ap (map named_of) rest ∙ map-remove named_of all which
+
+  pub entered : (p : ℕ) (l : LookView) (r : ReadingView) (all' : List NameInUse) → n.token ≡ token.Look l → all' ≡ left ++ record { name = n.name; token = token.Reading r } ∷ [] → BeginsSection p l.index d r d'
+      → Enters d.limits p which (state_with own (map named_of all) d) (reply.Index r.index) (state_with own (map named_of all') d')
+  entered p l r all' t more h = record {
+    name = n.name;
+    index = l.index;
+    there = look_there all which n within is l t;
+    enters = inl (record {
+      section = r.section;
+      room = h.room;
+      follows = h.follows;
+      after = λ i. state_with own ((one_more left all' (record { name = n.name; token = token.Reading r }) _ more (named_section n.name p l.index d d' r h)
+          ∙ ap (λ x. x ++ record { name = n.name; bearer = Section (record { section = r.section; processor = p; index = l.index }) } ∷ []) names_left) i) (h.after i);
+      reply = ap reply.Index h.index;
+    });
+  }
+
+  pub entered_none : (p : ℕ) (l : LookView) → n.token ≡ token.Look l → BeginsNone p l.index d d'
+      → Enters d.limits p which (state_with own (map named_of all) d) (reply.Refused command.Enter cause.Exhausted) (state_with own (map named_of left) d')
+  entered_none p l t h = record {
+    name = n.name;
+    index = l.index;
+    there = look_there all which n within is l t;
+    enters = inr (record { full = h.full; after = λ i. state_with own (names_left i) (h.after i); reply = refl });
+  }
+
+  pub unlocked : (r : ReadingView) → n.token ≡ token.Reading r → EndsSection r d d' → Ends which (state_with own (map named_of all) d) reply.Closed (state_with own (map named_of left) d')
+  unlocked r t ended = record {
+    name = n.name;
+    closed = record { section = r.section; processor = r.processor; index = r.index };
+    there = section_there all which n within is r t;
+    follows = ended.follows;
+    after = λ i. state_with own (names_left i) (ended.after i);
+    reply = refl;
+  }
+
+module _ (own : List ℕ) (names : List Named) (p : ℕ) (d d' : DomainView) where
+  pub gave : (cookie : ℕ) → GivesNumber p d cookie d' → Gives p (state_with own names d) (reply.Cookie cookie) (state_with own names d')
+  gave cookie h = record { cookie = cookie; follows = h.follows; after = ap (state_with own names) h.after; reply = refl }
+
+  pub polled : (cookie : ℕ) (done : Bool) (r : Reply) → AsksAfter p cookie d done d' → r ≡ (if done then reply.Done else reply.NotYet) → Polls p cookie (state_with own names d) r (state_with own names d')
+  polled cookie done r h is = record { done = done; follows = h.follows; after = ap (state_with own names) h.after; reply = is }
 
 -- What the session answers
 
@@ -76,11 +149,23 @@ module _ (limits : Limits) (entries : List EntryView) (k : ℕ) (e e' : EntryVie
   pub state_given : e' ≡ e → Shows e.state r → AnswersTo limits (states_of entries) (request.State k) r (states_of (set entries k e'))
   state_given same shows = (e.state, goes_on.there, shows, map-set_same (λ (x : EntryView). x.state) entries k e' e (ap (λ (x : EntryView). x.state) (same ∙ is)))
 
-  pub lock_given : (p : ℕ) (name : List ℕ) → e.limits ≡ limits → Begins e.limits p name e.state r e'.state ⊎ IsOutOfSections e.limits p e.state r e'.state → AnswersTo limits (states_of entries) (request.Lock k p name) r (states_of (set entries k e'))
-  lock_given p name same given = (e.state, e'.state, goes_on, subst (λ l. Begins l p name e.state r e'.state ⊎ IsOutOfSections l p e.state r e'.state) same given)
+  pub look_given : (p : ℕ) (name : List ℕ) → Looks name e.state r e'.state → AnswersTo limits (states_of entries) (request.Look k p name) r (states_of (set entries k e'))
+  look_given p name given = (e.state, e'.state, goes_on, given)
+
+  pub enter_given : (p which : ℕ) → e.limits ≡ limits → Enters e.limits p which e.state r e'.state → AnswersTo limits (states_of entries) (request.Enter k p which) r (states_of (set entries k e'))
+  enter_given p which same given = (e.state, e'.state, goes_on, subst (λ l. Enters l p which e.state r e'.state) same given)
+
+  pub lock_given : (p : ℕ) (name : List ℕ) → e.limits ≡ limits → Locks e.limits p name e.state r e'.state → AnswersTo limits (states_of entries) (request.Lock k p name) r (states_of (set entries k e'))
+  lock_given p name same given = (e.state, e'.state, goes_on, subst (λ l. Locks l p name e.state r e'.state) same given)
 
   pub unlock_given : (which : ℕ) → Ends which e.state r e'.state → AnswersTo limits (states_of entries) (request.Unlock k which) r (states_of (set entries k e'))
   unlock_given which given = (e.state, e'.state, goes_on, given)
+
+  pub get_given : (p : ℕ) → Gives p e.state r e'.state → AnswersTo limits (states_of entries) (request.Get k p) r (states_of (set entries k e'))
+  get_given p given = (e.state, e'.state, goes_on, given)
+
+  pub poll_given : (p cookie : ℕ) → Polls p cookie e.state r e'.state ⊎ IsNotACookie cookie e.state r e'.state → AnswersTo limits (states_of entries) (request.Poll k p cookie) r (states_of (set entries k e'))
+  poll_given p cookie given = (e.state, e'.state, goes_on, given)
 
   pub start_given : (p : ℕ) → e.limits ≡ limits → Starts e.limits e.state r e'.state ⊎ IsRunningAlready e.state r e'.state ⊎ IsOutOfPeriods e.limits e.state r e'.state
       → AnswersTo limits (states_of entries) (request.Start k p) r (states_of (set entries k e'))

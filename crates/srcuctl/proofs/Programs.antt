@@ -1,5 +1,5 @@
 -- From a run of a session to a run of the definitions.
-use Rattle.std.proofs.Common.{◌≡◌, ℕ, ◌+◌, ◌<◌, Bool, false, ◌||◌, List, [], ◌∷◌, ◌++◌, Option, length, take, refl, sym, ap, ◌∙◌, subst, inr, Result, Ok, Err, MatchResult}
+use Rattle.std.proofs.Common.{◌≡◌, ℕ, ◌+◌, Bool, List, [], ◌∷◌, Option, length, ap, ◌∙◌, subst, inr, Result, Ok, Err, MatchResult}
 use Rattle.sections.specs.declared.limits.Limits.{Limits}
 use Rattle.srcuctl.specs.declared.error.Outcome.{Outcome}
 use Rattle.srcuctl.specs.declared.error.RunError.{RunError}

@@ -1,31 +1,42 @@
 -- What a session knows of one of its domains, and what each call of it does.
-use Rattle.std.specs.Prelude.{◌≡◌, ℕ, ◌*◌, ◌<◌, List, [], ◌∷◌, ◌++◌}
+use Rattle.std.specs.Prelude.{◌≡◌, ℕ, ◌+◌, ◌*◌, ◌<◌, Bool, List, [], ◌∷◌, ◌++◌}
+use Rattle.sseq.specs.declared.index.Index.{Index}
+use Rattle.sseq.specs.Indexes.{low_bit}
 use Rattle.atomic_table.specs.Seated.{TableId}
 use Rattle.onedom.specs.declared.event.Maker.TheVariants.{Processor, Engine}
 use Rattle.onedom.specs.declared.event.Event.{Event}
-use Rattle.onedom.specs.declared.event.Event.TheVariants.{Begin, End, Start}
+use Rattle.onedom.specs.declared.event.Event.TheVariants.{Begin, End, Start, Note, Ask}
 use Rattle.onedom.specs.Histories.{MayFollow, IsRunning}
 use Rattle.sections.specs.declared.limits.Limits.{Limits}
 use Rattle.sections.specs.declared.limits.MakeError.{MakeError}
 use Rattle.sections.specs.declared.limits.MakeError.TheVariants as make
-use Rattle.sections.specs.Words.{number_word, locks}
-use Rattle.sections.specs.Views.{ReadingView}
+use Rattle.sections.specs.Words.{index_word, number_word, locks}
+use Rattle.sections.specs.Views.{LookView, ReadingView}
 use Rattle.sections.specs.Making.{IsCount}
-use Rattle.srcuctl.specs.Histories.{index_now}
 use Rattle.srcuctl.specs.declared.domain.StartRefusal.{StartRefusal}
 use Rattle.srcuctl.specs.declared.domain.StartRefusal.TheVariants as refusal
 
--- `table` tells which readings are of this domain
+-- `table` tells which readings are of this domain, and `changes` how often the engine has changed the number and the index word
 pub record DomainView : Type 0 where
   pub table : TableId
   pub limits : Limits
   pub processors : ℕ
   pub history : List Event
+  pub changes : ℕ
+
+-- the index that a section gets that begins now
+abbrev pub index_in : DomainView → Index
+index_in d = low_bit (index_word d.changes)
+
+-- the number
+abbrev pub number_in : DomainView → ℕ
+number_in d = number_word d.changes
 
 pub record IsNew (limits : Limits) (processors : ℕ) (d : DomainView) : Type 0 where
   pub limits_are : d.limits ≡ limits
   pub processors_are : d.processors ≡ processors
   pub empty : d.history ≡ []
+  pub unchanged : d.changes ≡ 0
   pub count : IsCount processors
 
 abbrev pub IsNotMade : ℕ → MakeError → Type 0
@@ -41,31 +52,46 @@ pub record IsOf (table : TableId) (processors : ℕ) (r : ReadingView) : Type 0 
   pub table_is : r.domain ≡ table
   pub processor : r.processor < processors
 
--- a section begins, of the index that now is
-pub record BeginsSection (p : ℕ) (d : DomainView) (r : ReadingView) (d' : DomainView) : Type 0 where
-  pub room : locks p (index_now d.history) d.history < d.limits.sections
-  pub follows : MayFollow d.history (Begin r.section p (index_now d.history) (Processor p))
-  pub after : d' ≡ grown (Begin r.section p (index_now d.history) (Processor p)) d
+-- a look of this domain, which has the index that now is
+pub record IsLookNow (d : DomainView) (look : LookView) : Type 0 where
+  pub table : look.domain ≡ d.table
+  pub index : look.index ≡ index_in d
+
+-- a section of index i begins on the processor
+pub record BeginsSection (p : ℕ) (i : Index) (d : DomainView) (r : ReadingView) (d' : DomainView) : Type 0 where
+  pub room : locks p i d.history < d.limits.sections
+  pub follows : MayFollow d.history (Begin r.section p i (Processor p))
+  pub after : d' ≡ grown (Begin r.section p i (Processor p)) d
   pub table : r.domain ≡ d.table
   pub processor : r.processor ≡ p
-  pub index : r.index ≡ index_now d.history
+  pub index : r.index ≡ i
 
--- nothing happened, since as many sections were begun as may
-pub record BeginsNone (p : ℕ) (d d' : DomainView) : Type 0 where
-  pub full : locks p (index_now d.history) d.history ≡ d.limits.sections
+-- nothing happened, since as many sections of index i were begun on the processor as may
+pub record BeginsNone (p : ℕ) (i : Index) (d d' : DomainView) : Type 0 where
+  pub full : locks p i d.history ≡ d.limits.sections
   pub after : d' ≡ d
 
 pub record EndsSection (r : ReadingView) (d d' : DomainView) : Type 0 where
   pub follows : MayFollow d.history (End r.section r.processor (Processor r.processor))
   pub after : d' ≡ grown (End r.section r.processor (Processor r.processor)) d
 
+-- the processor is given the cookie of now, of this number
+pub record GivesNumber (p : ℕ) (d : DomainView) (cookie : ℕ) (d' : DomainView) : Type 0 where
+  pub follows : MayFollow d.history (Note cookie (Processor p))
+  pub after : d' ≡ grown (Note cookie (Processor p)) d
+
+-- the processor asks whether the cookie is done, and is told
+pub record AsksAfter (p cookie : ℕ) (d : DomainView) (done : Bool) (d' : DomainView) : Type 0 where
+  pub follows : MayFollow d.history (Ask cookie done (Processor p))
+  pub after : d' ≡ grown (Ask cookie done (Processor p)) d
+
 -- a grace period starts, and `n` is the number then
 pub record StartsPeriod (d : DomainView) (n : ℕ) (d' : DomainView) : Type 0 where
   pub follows : MayFollow d.history (Start Engine)
-  pub room : number_word d.history < 4 * d.limits.periods
-  pub after : d' ≡ grown (Start Engine) d
-  pub number : n ≡ number_word d'.history
+  pub room : number_in d < 4 * d.limits.periods
+  pub after : d' ≡ record (grown (Start Engine) d) { changes = d.changes + 1 }
+  pub number : n ≡ number_in d'
 
 abbrev pub StartsNone : DomainView → StartRefusal → Type 0
 StartsNone d refusal.Running = IsRunning d.history
-StartsNone d refusal.Exhausted = number_word d.history ≡ 4 * d.limits.periods
+StartsNone d refusal.Exhausted = number_in d ≡ 4 * d.limits.periods

@@ -1,15 +1,15 @@
 -- The words of a script: commands, what each takes, and what can be wrong with a line.
-use Rattle.std.specs.Prelude.{ℕ, ◌+◌, ◌==◌, nat_lt, not, ◌||◌, Bool, true, false, List, [], ◌∷◌, length, map, find, Option, Some, None, is_some, codes, bytes_eq, if◌then◌else◌}
+use Rattle.std.specs.Prelude.{ℕ, ◌==◌, nat_lt, not, Bool, List, [], ◌∷◌, length, find, Option, Some, None, is_some, codes, bytes_eq, if◌then◌else◌}
 use Rattle.srcuctl.specs.declared.fault.Fault.{Fault}
 use Rattle.srcuctl.specs.declared.fault.Fault.TheVariants as fault
 use Rattle.srcuctl.specs.declared.command.Command.{Command}
 use Rattle.srcuctl.specs.declared.command.Command.TheVariants as command
 use Rattle.srcuctl.specs.declared.command.Argument.{Argument}
-use Rattle.srcuctl.specs.declared.command.Argument.TheVariants.{NewDomain, AnyNumber, ADomain, AProcessor, NewName, ASection}
+use Rattle.srcuctl.specs.declared.command.Argument.TheVariants.{NewDomain, AnyNumber, ADomain, AProcessor, NewName, ALook, ASection}
 use Rattle.srcuctl.specs.declared.command.Cause.{Cause}
 use Rattle.srcuctl.specs.declared.command.Cause.TheVariants as cause
 use Rattle.srcuctl.specs.Lines.{is_name, number_of}
-use Rattle.srcuctl.specs.States.{State, DomainState, Named, domain_place, domain_named, name_place}
+use Rattle.srcuctl.specs.States.{State, DomainState, Named, domain_place, domain_named, name_place, look_place, section_place}
 
 -- The words
 
@@ -26,8 +26,12 @@ fault_word fault.Processor = codes "processor"
 abbrev pub command_word : Command → List ℕ
 command_word command.Domain = codes "domain"
 command_word command.State = codes "state"
+command_word command.Look = codes "look"
+command_word command.Enter = codes "enter"
 command_word command.Lock = codes "lock"
 command_word command.Unlock = codes "unlock"
+command_word command.Get = codes "get"
+command_word command.Poll = codes "poll"
 command_word command.Start = codes "start"
 
 abbrev pub cause_word : Cause → List ℕ
@@ -36,9 +40,10 @@ cause_word cause.Processors = codes "processors"
 cause_word cause.Memory = codes "memory"
 cause_word cause.Exhausted = codes "exhausted"
 cause_word cause.Running = codes "running"
+cause_word cause.NotACookie = codes "not-a-cookie"
 
 abbrev pub commands : List Command
-commands = command.Domain ∷ command.State ∷ command.Lock ∷ command.Unlock ∷ command.Start ∷ []
+commands = command.Domain ∷ command.State ∷ command.Look ∷ command.Enter ∷ command.Lock ∷ command.Unlock ∷ command.Get ∷ command.Poll ∷ command.Start ∷ []
 
 -- the command that a word is
 abbrev pub command_of : List ℕ → Option Command
@@ -49,8 +54,12 @@ command_of w = find (λ c. bytes_eq w (command_word c)) commands
 abbrev pub arguments : Command → List Argument
 arguments command.Domain = NewDomain ∷ AnyNumber ∷ []
 arguments command.State = ADomain ∷ []
+arguments command.Look = ADomain ∷ AProcessor ∷ NewName ∷ []
+arguments command.Enter = ADomain ∷ AProcessor ∷ ALook ∷ []
 arguments command.Lock = ADomain ∷ AProcessor ∷ NewName ∷ []
 arguments command.Unlock = ADomain ∷ ASection ∷ []
+arguments command.Get = ADomain ∷ AProcessor ∷ []
+arguments command.Poll = ADomain ∷ AProcessor ∷ AnyNumber ∷ []
 arguments command.Start = ADomain ∷ AProcessor ∷ []
 
 -- What is wrong
@@ -84,7 +93,8 @@ argument_fault state named AnyNumber w = if is_some (number_of w) then None else
 argument_fault state named ADomain w = domain_fault w (domain_place w state)
 argument_fault state named AProcessor w = processor_fault (processors_of named) (number_of w)
 argument_fault state named NewName w = new_name_fault w (is_some (name_place w (names_of named)))
-argument_fault state named ASection w = if is_some (name_place w (names_of named)) then None else Some fault.Name
+argument_fault state named ALook w = if is_some (look_place w (names_of named)) then None else Some fault.Name
+argument_fault state named ASection w = if is_some (section_place w (names_of named)) then None else Some fault.Name
 
 -- the domain that the words up to this one have named
 abbrev pub named_after : State → Option DomainState → Argument → List ℕ → Option DomainState
@@ -93,6 +103,7 @@ named_after state named NewDomain w = named
 named_after state named AnyNumber w = named
 named_after state named AProcessor w = named
 named_after state named NewName w = named
+named_after state named ALook w = named
 named_after state named ASection w = named
 
 abbrev pub or_else : Option Fault → Option Fault → Option Fault
@@ -105,9 +116,13 @@ arguments_fault state named [] ws = None
 arguments_fault state named (a ∷ rest) [] = None
 arguments_fault state named (a ∷ rest) (w ∷ ws) = or_else (argument_fault state named a w) (arguments_fault state (named_after state named a w) rest ws)
 
+-- the fault of words that should be these arguments: their number, or the first fault of one
+abbrev pub words_fault : State → List Argument → List (List ℕ) → Option Fault
+words_fault state taken ws = if length ws == length taken then arguments_fault state None taken ws else Some fault.Words
+
 abbrev pub command_fault : State → Option Command → List (List ℕ) → Option Fault
 command_fault state None ws = Some fault.Command
-command_fault state (Some c) ws = if length ws == length (arguments c) then arguments_fault state None (arguments c) ws else Some fault.Words
+command_fault state (Some c) ws = words_fault state (arguments c) ws
 
 -- what is wrong with the words of a line: the first of a fault of the command, of the number of words, and of each argument
 abbrev pub fault_of : State → List (List ℕ) → Option Fault

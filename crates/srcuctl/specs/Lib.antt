@@ -4,7 +4,6 @@ pub mod Runs
 pub mod States
 pub mod Names
 pub mod Replies
-pub mod Histories
 pub mod Scripts
 pub mod Domains
 pub mod Together
@@ -12,3 +11,4 @@ pub mod Entries
 pub mod Sessions
 pub mod Requests
 pub mod Programs
+pub mod Options

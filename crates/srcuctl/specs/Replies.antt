@@ -5,7 +5,7 @@ use Rattle.sseq.specs.Numbers.{phase_text}
 use Rattle.srcuctl.specs.declared.reply.Period.{Period}
 use Rattle.srcuctl.specs.declared.reply.Sections.{Sections}
 use Rattle.srcuctl.specs.declared.reply.Reply.{Reply}
-use Rattle.srcuctl.specs.declared.reply.Reply.TheVariants.{Made, State, Index, Closed, Started, Refused, Faulty}
+use Rattle.srcuctl.specs.declared.reply.Reply.TheVariants.{Made, State, Look, Index, Closed, Cookie, Done, NotYet, Started, Refused, Faulty}
 use Rattle.srcuctl.specs.Faults.{command_word, cause_word, fault_word}
 
 abbrev pub period_text : Period → List ℕ
@@ -17,8 +17,12 @@ sections_text s = codes "index " ++ index_text s.index ++ codes " open " ++ deci
 abbrev pub words_text : Reply → List ℕ
 words_text (Made d n) = codes "made " ++ d ++ codes " " ++ decimal n
 words_text (State d period sections) = codes "state " ++ d ++ codes " " ++ period_text period ++ codes " " ++ sections_text sections
+words_text (Look i) = codes "look " ++ index_text i
 words_text (Index i) = codes "index " ++ index_text i
 words_text Closed = codes "closed"
+words_text (Cookie c) = codes "cookie " ++ decimal c
+words_text Done = codes "done"
+words_text NotYet = codes "not yet"
 words_text (Started n) = codes "started " ++ decimal n
 words_text (Refused c cause) = codes "refused " ++ command_word c ++ codes " " ++ cause_word cause
 words_text (Faulty n f) = codes "line " ++ decimal n ++ codes ": " ++ fault_word f

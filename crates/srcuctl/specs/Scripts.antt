@@ -1,26 +1,28 @@
 -- What a line of a script means: which reply it gets, and what it changes.
-use Rattle.std.specs.Prelude.{◌≡◌, ℕ, ◌*◌, ◌%◌, ◌<◌, ◌≤◌, ◌==◌, ◌||◌, Bool, true, false, List, [], ◌∷◌, ◌++◌, length, Option, Some, None, slice_get, slice_set, remove, codes, ◌⊎◌, if◌then◌else◌}
+use Rattle.std.specs.Prelude.{◌≡◌, ℕ, ◌+◌, ◌*◌, ◌%◌, ◌<◌, ◌≤◌, ◌==◌, Bool, true, false, List, [], ◌∷◌, ◌++◌, length, Option, Some, None, slice_get, slice_set, remove, codes, if◌then◌else◌, ◌⊎◌}
+use Rattle.sseq.specs.declared.index.Index.{Index}
 use Rattle.sseq.specs.declared.index.Index.TheVariants.{Zero, One}
 use Rattle.sseq.specs.declared.number.Phase.{Phase}
 use Rattle.sseq.specs.Numbers.{state_bits}
 use Rattle.onedom.specs.declared.event.Maker.TheVariants.{Processor, Engine}
 use Rattle.onedom.specs.declared.event.Event.{Event}
-use Rattle.onedom.specs.declared.event.Event.TheVariants.{Begin, End, Start}
+use Rattle.onedom.specs.declared.event.Event.TheVariants.{Begin, End, Start, Note, Ask}
 use Rattle.onedom.specs.Histories.{MayFollow, IsRunning}
 use Rattle.sections.specs.declared.limits.Limits.{Limits}
-use Rattle.sections.specs.Words.{number_word, locks}
+use Rattle.sections.specs.Words.{locks}
+use Rattle.sections.specs.Calls.{IsNoCookie}
 use Rattle.srcuctl.specs.declared.fault.Fault.{Fault}
 use Rattle.srcuctl.specs.declared.fault.Fault.TheVariants.{Text}
+use Rattle.srcuctl.specs.declared.command.Command.{Command}
 use Rattle.srcuctl.specs.declared.command.Command.TheVariants as command
-use Rattle.srcuctl.specs.declared.command.Cause.TheVariants.{Full, Processors, Memory, Exhausted, Running}
+use Rattle.srcuctl.specs.declared.command.Cause.TheVariants.{Full, Processors, Memory, Exhausted, Running, NotACookie}
 use Rattle.srcuctl.specs.declared.request.Request.{Request}
 use Rattle.srcuctl.specs.declared.request.Request.TheVariants as request
 use Rattle.srcuctl.specs.declared.reply.Reply.{Reply}
 use Rattle.srcuctl.specs.declared.reply.Reply.TheVariants as reply
 use Rattle.srcuctl.specs.Lines.{words_of, number_of}
 use Rattle.sections.specs.Making.{IsCount}
-use Rattle.srcuctl.specs.Histories.{index_now}
-use Rattle.srcuctl.specs.States.{State, DomainState, Named, domain_place, name_place, open_of}
+use Rattle.srcuctl.specs.States.{State, DomainState, Bearer, Look, Section, OpenSection, HasLook, HasSection, index_now, number_now, domain_place, look_place, section_place, open_of}
 use Rattle.srcuctl.specs.Faults.{fault_of}
 use Rattle.srcuctl.specs.Replies.{reply_text}
 
@@ -32,11 +34,20 @@ Asks state words (request.Domain name processors) = (n : List ℕ)
     × (words ≡ codes "domain" ∷ name ∷ n ∷ []) × (number_of n ≡ Some processors)
 Asks state words (request.State place) = (d : List ℕ)
     × (words ≡ codes "state" ∷ d ∷ []) × (domain_place d state ≡ Some place)
+Asks state words (request.Look place p name) = (d : List ℕ) × (n : List ℕ)
+    × (words ≡ codes "look" ∷ d ∷ n ∷ name ∷ []) × (domain_place d state ≡ Some place) × (number_of n ≡ Some p)
+Asks state words (request.Enter place p which) = (d : List ℕ) × (n : List ℕ) × (l : List ℕ) × (domain : DomainState)
+    × (words ≡ codes "enter" ∷ d ∷ n ∷ l ∷ []) × (domain_place d state ≡ Some place) × (number_of n ≡ Some p)
+    × (slice_get state place ≡ Some domain) × (look_place l domain.names ≡ Some which)
 Asks state words (request.Lock place p name) = (d : List ℕ) × (n : List ℕ)
     × (words ≡ codes "lock" ∷ d ∷ n ∷ name ∷ []) × (domain_place d state ≡ Some place) × (number_of n ≡ Some p)
 Asks state words (request.Unlock place which) = (d : List ℕ) × (s : List ℕ) × (domain : DomainState)
     × (words ≡ codes "unlock" ∷ d ∷ s ∷ []) × (domain_place d state ≡ Some place)
-    × (slice_get state place ≡ Some domain) × (name_place s domain.names ≡ Some which)
+    × (slice_get state place ≡ Some domain) × (section_place s domain.names ≡ Some which)
+Asks state words (request.Get place p) = (d : List ℕ) × (n : List ℕ)
+    × (words ≡ codes "get" ∷ d ∷ n ∷ []) × (domain_place d state ≡ Some place) × (number_of n ≡ Some p)
+Asks state words (request.Poll place p cookie) = (d : List ℕ) × (n : List ℕ) × (c : List ℕ)
+    × (words ≡ codes "poll" ∷ d ∷ n ∷ c ∷ []) × (domain_place d state ≡ Some place) × (number_of n ≡ Some p) × (number_of c ≡ Some cookie)
 Asks state words (request.Start place p) = (d : List ℕ) × (n : List ℕ)
     × (words ≡ codes "start" ∷ d ∷ n ∷ []) × (domain_place d state ≡ Some place) × (number_of n ≡ Some p)
 
@@ -45,40 +56,87 @@ Asks state words (request.Start place p) = (d : List ℕ) × (n : List ℕ)
 abbrev pub with_event : Event → DomainState → DomainState
 with_event e d = record d { history = d.history ++ e ∷ [] }
 
-abbrev pub begun : ℕ → ℕ → List ℕ → DomainState → DomainState
-begun section p name d = record d {
-  history = d.history ++ Begin section p (index_now d.history) (Processor p) ∷ [];
-  names = d.names ++ record { name = name; section = section; processor = p; index = index_now d.history } ∷ [];
-}
+-- the engine changes the number or the index word
+abbrev pub with_change : DomainState → DomainState
+with_change d = record d { changes = d.changes + 1 }
 
--- a section begins on the processor, and has the name
-pub record Begins (limits : Limits) (p : ℕ) (name : List ℕ) (d : DomainState) (r : Reply) (d' : DomainState) : Type 0 where
+-- a name comes into use
+abbrev pub with_name : List ℕ → Bearer → DomainState → DomainState
+with_name name bearer d = record d { names = d.names ++ record { name = name; bearer = bearer } ∷ [] }
+
+-- the name at this place is free again
+abbrev pub without_name : ℕ → DomainState → DomainState
+without_name which d = record d { names = remove d.names which }
+
+-- a section of index i has begun on the processor, and has the name
+abbrev pub begun : ℕ → ℕ → Index → List ℕ → DomainState → DomainState
+begun section p i name d = with_name name (Section (record { section = section; processor = p; index = i })) (with_event (Begin section p i (Processor p)) d)
+
+-- a section of index i begins on the processor, and has the name
+pub record Begins (limits : Limits) (p : ℕ) (i : Index) (name : List ℕ) (d : DomainState) (r : Reply) (d' : DomainState) : Type 0 where
   pub section : ℕ
-  pub room : locks p (index_now d.history) d.history < limits.sections
-  pub follows : MayFollow d.history (Begin section p (index_now d.history) (Processor p))
-  pub after : d' ≡ begun section p name d
-  pub reply : r ≡ reply.Index (index_now d.history)
+  pub room : locks p i d.history < limits.sections
+  pub follows : MayFollow d.history (Begin section p i (Processor p))
+  pub after : d' ≡ begun section p i name d
+  pub reply : r ≡ reply.Index i
 
--- as many sections of the index were begun on the processor as may
-pub record IsOutOfSections (limits : Limits) (p : ℕ) (d : DomainState) (r : Reply) (d' : DomainState) : Type 0 where
-  pub full : locks p (index_now d.history) d.history ≡ limits.sections
+-- the command is refused: as many sections of index i were begun on the processor as may
+pub record IsOutOfSections (limits : Limits) (c : Command) (p : ℕ) (i : Index) (d : DomainState) (r : Reply) (d' : DomainState) : Type 0 where
+  pub full : locks p i d.history ≡ limits.sections
   pub after : d' ≡ d
-  pub reply : r ≡ reply.Refused command.Lock Exhausted
+  pub reply : r ≡ reply.Refused c Exhausted
 
--- the section of a name ends, on its own processor
+-- a look has the index that now is, and the name
+pub record Looks (name : List ℕ) (d : DomainState) (r : Reply) (d' : DomainState) : Type 0 where
+  pub after : d' ≡ with_name name (Look (index_now d)) d
+  pub reply : r ≡ reply.Look (index_now d)
+
+-- a section of the index that now is begins on the processor
+abbrev pub Locks : Limits → ℕ → List ℕ → DomainState → Reply → DomainState → Type 0
+Locks limits p name d r d' = Begins limits p (index_now d) name d r d' ⊎ IsOutOfSections limits command.Lock p (index_now d) d r d'
+
+-- the look at this place is used up, and a section of its index begins on the processor, under the same name. Where it is refused, the name is free
+pub record Enters (limits : Limits) (p which : ℕ) (d : DomainState) (r : Reply) (d' : DomainState) : Type 0 where
+  pub name : List ℕ
+  pub index : Index
+  pub there : HasLook d.names which name index
+  pub enters : Begins limits p index name (without_name which d) r d' ⊎ IsOutOfSections limits command.Enter p index (without_name which d) r d'
+
+-- the section at this place ends, on its own processor, and its name is free
 pub record Ends (which : ℕ) (d : DomainState) (r : Reply) (d' : DomainState) : Type 0 where
-  pub named : Named
-  pub there : slice_get d.names which ≡ Some named
-  pub follows : MayFollow d.history (End named.section named.processor (Processor named.processor))
-  pub after : d' ≡ record d { history = d.history ++ End named.section named.processor (Processor named.processor) ∷ []; names = remove d.names which }
+  pub name : List ℕ
+  pub closed : OpenSection
+  pub there : HasSection d.names which name closed
+  pub follows : MayFollow d.history (End closed.section closed.processor (Processor closed.processor))
+  pub after : d' ≡ without_name which (with_event (End closed.section closed.processor (Processor closed.processor)) d)
   pub reply : r ≡ reply.Closed
+
+-- the cookie of now is given
+pub record Gives (p : ℕ) (d : DomainState) (r : Reply) (d' : DomainState) : Type 0 where
+  pub cookie : ℕ
+  pub follows : MayFollow d.history (Note cookie (Processor p))
+  pub after : d' ≡ with_event (Note cookie (Processor p)) d
+  pub reply : r ≡ reply.Cookie cookie
+
+-- the answer is whether as many grace periods have ended as the cookie waits for
+pub record Polls (p cookie : ℕ) (d : DomainState) (r : Reply) (d' : DomainState) : Type 0 where
+  pub done : Bool
+  pub follows : MayFollow d.history (Ask cookie done (Processor p))
+  pub after : d' ≡ with_event (Ask cookie done (Processor p)) d
+  pub reply : r ≡ if done then reply.Done else reply.NotYet
+
+-- the poll is refused: no cookie has this number
+pub record IsNotACookie (cookie : ℕ) (d : DomainState) (r : Reply) (d' : DomainState) : Type 0 where
+  pub none : IsNoCookie cookie
+  pub after : d' ≡ d
+  pub reply : r ≡ reply.Refused command.Poll NotACookie
 
 -- a grace period starts
 pub record Starts (limits : Limits) (d : DomainState) (r : Reply) (d' : DomainState) : Type 0 where
   pub follows : MayFollow d.history (Start Engine)
-  pub room : number_word d.history < 4 * limits.periods
-  pub after : d' ≡ with_event (Start Engine) d
-  pub reply : r ≡ reply.Started (number_word d'.history)
+  pub room : number_now d < 4 * limits.periods
+  pub after : d' ≡ with_change (with_event (Start Engine) d)
+  pub reply : r ≡ reply.Started (number_now d')
 
 pub record IsRunningAlready (d : DomainState) (r : Reply) (d' : DomainState) : Type 0 where
   pub running : IsRunning d.history
@@ -87,17 +145,17 @@ pub record IsRunningAlready (d : DomainState) (r : Reply) (d' : DomainState) : T
 
 -- no grace period runs, and as many have ended as may
 pub record IsOutOfPeriods (limits : Limits) (d : DomainState) (r : Reply) (d' : DomainState) : Type 0 where
-  pub full : number_word d.history ≡ 4 * limits.periods
+  pub full : number_now d ≡ 4 * limits.periods
   pub after : d' ≡ d
   pub reply : r ≡ reply.Refused command.Start Exhausted
 
 -- where the domain stands; the root need is 0, as long as nobody can ask
 pub record Shows (d : DomainState) (r : Reply) : Type 0 where
   pub phase : Phase
-  pub state : number_word d.history % 4 ≡ state_bits phase
+  pub state : number_now d % 4 ≡ state_bits phase
   pub reply : r ≡ reply.State d.name
-      (record { number = number_word d.history; phase = phase })
-      (record { index = index_now d.history; zero = open_of Zero d.names; one = open_of One d.names; need = 0 })
+      (record { number = number_now d; phase = phase })
+      (record { index = index_now d; zero = open_of Zero d.names; one = open_of One d.names; need = 0 })
 
 -- What a script does
 
@@ -107,7 +165,7 @@ pub record GoesOn (state : State) (place : ℕ) (d d' : DomainState) (state' : S
   pub others : state' ≡ slice_set state place d'
 
 abbrev pub new_domain : List ℕ → ℕ → DomainState
-new_domain name processors = record { name = name; processors = processors; names = []; history = [] }
+new_domain name processors = record { name = name; processors = processors; names = []; history = []; changes = 0 }
 
 -- a domain comes behind those that are there
 pub record Makes (state : State) (name : List ℕ) (processors : ℕ) (r : Reply) (state' : State) : Type 0 where
@@ -127,9 +185,13 @@ pub record MakesNone (state : State) (processors : ℕ) (r : Reply) (state' : St
 abbrev pub Answers : Limits → State → Request → Reply → State → Type 0
 Answers limits state (request.Domain name processors) r state' = Makes state name processors r state' ⊎ MakesNone state processors r state'
 Answers limits state (request.State place) r state' = (d : DomainState) × (slice_get state place ≡ Some d) × Shows d r × (state' ≡ state)
-Answers limits state (request.Lock place p name) r state' = (d d' : DomainState) × GoesOn state place d d' state'
-    × (Begins limits p name d r d' ⊎ IsOutOfSections limits p d r d')
+Answers limits state (request.Look place p name) r state' = (d d' : DomainState) × GoesOn state place d d' state' × Looks name d r d'
+Answers limits state (request.Enter place p which) r state' = (d d' : DomainState) × GoesOn state place d d' state' × Enters limits p which d r d'
+Answers limits state (request.Lock place p name) r state' = (d d' : DomainState) × GoesOn state place d d' state' × Locks limits p name d r d'
 Answers limits state (request.Unlock place which) r state' = (d d' : DomainState) × GoesOn state place d d' state' × Ends which d r d'
+Answers limits state (request.Get place p) r state' = (d d' : DomainState) × GoesOn state place d d' state' × Gives p d r d'
+Answers limits state (request.Poll place p cookie) r state' = (d d' : DomainState) × GoesOn state place d d' state'
+    × (Polls p cookie d r d' ⊎ IsNotACookie cookie d r d')
 Answers limits state (request.Start place p) r state' = (d d' : DomainState) × GoesOn state place d d' state'
     × (Starts limits d r d' ⊎ IsRunningAlready d r d' ⊎ IsOutOfPeriods limits d r d')
 

@@ -1,8 +1,8 @@
 -- How a session is seen.
-use Rattle.std.specs.Prelude.{◌≡◌, List, map, All}
+use Rattle.std.specs.Prelude.{◌≡◌, All}
 use Rattle.sections.specs.Limits.{AreInRange}
 use Rattle.srcuctl.specs.declared.session.Session.TheInside as session
-use Rattle.srcuctl.specs.States.{State, EntryView, SessionView, states_of}
+use Rattle.srcuctl.specs.States.{EntryView, SessionView, states_of}
 
 module _ {A : Type 0} where
   abbrev pub view_of_session : session.Inside A → SessionView

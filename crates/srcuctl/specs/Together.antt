@@ -1,5 +1,5 @@
 -- The processors and the engine of one domain, all in one hand.
-use Rattle.std.specs.Prelude.{◌≡◌, ℕ, ◌<◌, ◌≤◌, List, length, slice_index_or}
+use Rattle.std.specs.Prelude.{◌≡◌, ℕ, ◌<◌, List, length, slice_index_or}
 use Rattle.atomic_table.specs.Seated.{TableId}
 use Rattle.onedom.specs.declared.event.Maker.TheVariants.{Processor, Engine}
 use Rattle.onedom.specs.declared.event.Event.{Event}
@@ -7,7 +7,7 @@ use Rattle.onedom.specs.Histories.{made_by}
 use Rattle.sections.specs.declared.limits.Limits.{Limits}
 use Rattle.sections.specs.Limits.{AreInRange}
 use Rattle.sections.specs.Views.{CpuView, EngineView}
-use Rattle.sections.specs.Calls.{IsSeenByEngine}
+use Rattle.sections.specs.Driving.{IsSeenByEngine}
 use Rattle.srcuctl.specs.declared.domain.Domain.TheInside as domain
 use Rattle.sections.specs.Making.{IsCount}
 use Rattle.srcuctl.specs.Domains.{DomainView}
@@ -29,15 +29,16 @@ pub record AllHold (limits : Limits) (history : List Event) (cpus : List CpuView
   pub engine : e.mine ≡ made_by Engine history
   pub each : (k : ℕ) (d : CpuView) → k < length cpus → Holds limits e.domain e.processors history k (slice_index_or cpus k d)
 
--- all of them have seen one history
+-- all of them have seen one history, and all changes of the engine
 pub record AreTogether (limits : Limits) (cpus : List CpuView) (e : EngineView) : Type 0 where
   pub hold : AllHold limits e.seen cpus e
   pub history : IsSeenByEngine e
   pub seen : (k : ℕ) (d : CpuView) → k < length cpus → (slice_index_or cpus k d).seen ≡ e.seen
+  pub changes : (k : ℕ) (d : CpuView) → k < length cpus → (slice_index_or cpus k d).changes ≡ e.changes
 
 module _ {A : Type 0} where
   abbrev pub view_of_domain : domain.Inside A → DomainView
-  view_of_domain d = record { table = d.engine.domain; limits = d.limits; processors = d.engine.processors; history = d.engine.seen }
+  view_of_domain d = record { table = d.engine.domain; limits = d.limits; processors = d.engine.processors; history = d.engine.seen; changes = d.engine.changes }
 
   abbrev pub IsDomain : domain.Inside A → Type 0
   IsDomain d = AreTogether d.limits d.cpus.items d.engine

@@ -9,8 +9,12 @@ use std::fmt;
 pub enum Command {
     Domain,
     State,
+    Look,
+    Enter,
     Lock,
     Unlock,
+    Get,
+    Poll,
     Start,
 }
 
@@ -24,10 +28,18 @@ impl Command {
             Some(Command::Domain)
         } else if word == b"state".as_slice() {
             Some(Command::State)
+        } else if word == b"look".as_slice() {
+            Some(Command::Look)
+        } else if word == b"enter".as_slice() {
+            Some(Command::Enter)
         } else if word == b"lock".as_slice() {
             Some(Command::Lock)
         } else if word == b"unlock".as_slice() {
             Some(Command::Unlock)
+        } else if word == b"get".as_slice() {
+            Some(Command::Get)
+        } else if word == b"poll".as_slice() {
+            Some(Command::Poll)
         } else if word == b"start".as_slice() {
             Some(Command::Start)
         } else {
@@ -46,8 +58,12 @@ impl fmt::Display for Command {
         match self {
             Command::Domain => f.write_str("domain"),
             Command::State => f.write_str("state"),
+            Command::Look => f.write_str("look"),
+            Command::Enter => f.write_str("enter"),
             Command::Lock => f.write_str("lock"),
             Command::Unlock => f.write_str("unlock"),
+            Command::Get => f.write_str("get"),
+            Command::Poll => f.write_str("poll"),
             Command::Start => f.write_str("start"),
         }
     }
@@ -66,6 +82,8 @@ pub enum Argument {
     AProcessor,
     /// A name that is not in use in the domain.
     NewName,
+    /// The name of a look.
+    ALook,
     /// The name of a section that is open.
     ASection,
 }
@@ -83,6 +101,8 @@ pub enum Cause {
     Exhausted,
     /// A grace period runs.
     Running,
+    /// The number is no cookie.
+    NotACookie,
 }
 
 impl fmt::Display for Cause {
@@ -98,6 +118,7 @@ impl fmt::Display for Cause {
             Cause::Memory => f.write_str("memory"),
             Cause::Exhausted => f.write_str("exhausted"),
             Cause::Running => f.write_str("running"),
+            Cause::NotACookie => f.write_str("not-a-cookie"),
         }
     }
 }

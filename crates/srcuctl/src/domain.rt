@@ -1,8 +1,11 @@
 //! One domain of a session: all of its processors and its engine's seat in one hand.
 ghost use Rattle.std.specs.Prelude.{◌≡◌, ◌<◌, MatchResult};
 ghost use Rattle.sections.specs.Limits.{AreInRange};
+ghost use Rattle.sections.specs.Calls.{IsNoCookie};
 
-use sections::{Cpu, EngineSeat, Exhausted, Limits, Made, MakeError, Reading, make};
+use sections::{
+    Cpu, EngineSeat, Exhausted, Limits, Look, Made, MakeError, NotACookie, Reading, make,
+};
 use sseq::{Index, Number, Phase, state};
 use std::alloc::Allocator;
 use std::marker::Model;
@@ -38,9 +41,7 @@ impl<A: Allocator> Model for Domain<A> {
 }
 
 impl<A: Allocator> Domain<A> {
-    ghost use Rattle.srcuctl.specs.Histories.{index_now};
-    ghost use Rattle.srcuctl.specs.Domains.{IsNew, IsNotMade, IsOf, BeginsSection, BeginsNone, EndsSection, StartsPeriod, StartsNone};
-    ghost use Rattle.sections.specs.Words.{number_word};
+    ghost use Rattle.srcuctl.specs.Domains.{IsNew, IsNotMade, IsOf, index_in, number_in, IsLookNow, BeginsSection, BeginsNone, EndsSection, GivesNumber, AsksAfter, StartsPeriod, StartsNone};
 
     /// A domain in which nothing has happened.
     pub fn new(alloc: A, processors: u64, limits: Limits) -> Result<Domain<A>, MakeError>
@@ -64,10 +65,33 @@ impl<A: Allocator> Domain<A> {
         self.cpus.len() as u64
     }
 
-    /// Begins a section on a processor.
+    /// Reads the index word on a processor.
+    pub fn look(&mut self, processor: u64) -> Look
+        requires { processor < self.old.processors }
+        ensures look { IsLookNow self.old result }
+        ensures after { self.new ≡ self.old }
+    {
+        let look = self.cpus[processor as usize].look();
+        self.engine.meet(&mut self.cpus);
+        look
+    }
+
+    /// Begins a section of the look's index on a processor, which need not be the one of the look.
+    pub fn enter(&mut self, processor: u64, look: Look) -> Result<Reading, Exhausted>
+        requires processor { processor < self.old.processors }
+        requires look { look.domain ≡ self.old.table }
+        ensures { MatchResult result (λ r. BeginsSection processor look.index self.old r self.new) (λ _. BeginsNone processor look.index self.old self.new) }
+    {
+        let taken = self.cpus[processor as usize].enter(look);
+        self.engine.meet(&mut self.cpus);
+        taken
+    }
+
+    /// Begins a section of the current index on a processor.
     pub fn read_lock(&mut self, processor: u64) -> Result<Reading, Exhausted>
         requires { processor < self.old.processors }
-        ensures { MatchResult result (λ r. BeginsSection processor self.old r self.new) (λ _. BeginsNone processor self.old self.new) }
+        ensures { MatchResult result (λ r. BeginsSection processor (index_in self.old) self.old r self.new)
+            (λ _. BeginsNone processor (index_in self.old) self.old self.new) }
     {
         let taken = self.cpus[processor as usize].read_lock();
         self.engine.meet(&mut self.cpus);
@@ -82,6 +106,27 @@ impl<A: Allocator> Domain<A> {
         let processor = usize::from(reading.processor());
         self.cpus[processor].read_unlock(reading);
         self.engine.meet(&mut self.cpus);
+    }
+
+    /// The number of the cookie that a processor is given now.
+    pub fn cookie(&mut self, processor: u64) -> u64
+        requires { processor < self.old.processors }
+        ensures { GivesNumber processor self.old result self.new }
+    {
+        let cookie = self.cpus[processor as usize].cookie();
+        self.engine.meet(&mut self.cpus);
+        cookie.number()
+    }
+
+    /// Whether the cookie of this number is done, as a processor finds it.
+    pub fn poll(&mut self, processor: u64, cookie: u64) -> Result<bool, NotACookie>
+        requires { processor < self.old.processors }
+        ensures { MatchResult result (λ done. AsksAfter processor cookie self.old done self.new)
+            (λ _. IsNoCookie cookie × (self.new ≡ self.old)) }
+    {
+        let answer = self.cpus[processor as usize].poll_number(cookie);
+        self.engine.meet(&mut self.cpus);
+        answer
     }
 
     /// Starts a grace period, whether it is asked for or not, and answers the number from then on.
@@ -101,8 +146,8 @@ impl<A: Allocator> Domain<A> {
     }
 
     /// The current index, as processor 0 finds it.
-    pub fn look(&mut self) -> Index
-        ensures value { result ≡ index_now self.old.history }
+    pub fn index(&mut self) -> Index
+        ensures value { result ≡ index_in self.old }
         ensures after { self.new ≡ self.old }
     {
         let look = self.cpus[0].look();
@@ -112,7 +157,7 @@ impl<A: Allocator> Domain<A> {
 
     /// The number, as the engine has it.
     pub fn number(&self) -> Number
-        ensures { result ≡ number_word self.now.history }
+        ensures { result ≡ number_in self.now }
     {
         self.engine.number()
     }

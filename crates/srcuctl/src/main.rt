@@ -1,6 +1,8 @@
 //! `srcuctl` drives sleepable RCU domains by a script.
 #![tactic(auto)]
 
+ghost use Rattle.sections.specs.Limits.{AreInRange};
+
 mod command;
 mod command_line;
 mod domain;
@@ -33,12 +35,9 @@ const FAULTY: u8 = 1;
 const STOPPED: u8 = 2;
 
 /// Runs the script of standard input, and gives the status to end with.
-fn run_script(rt: &(impl Wait + Input + Print + Eprint + AllocGlobal)) -> u8 {
-    let limits = Limits {
-        sections: Limits::MOST_SECTIONS,
-        periods: Limits::MOST_PERIODS,
-        cells: 0,
-    };
+fn run_script(rt: &(impl Wait + Input + Print + Eprint + AllocGlobal), limits: Limits) -> u8
+    requires { AreInRange limits }
+{
     match script::run(
         rt.alloc(),
         rt,
@@ -63,7 +62,14 @@ fn act(
 ) -> Result<u8, clap::Error> {
     let matches = command_line::command(rt.alloc())?.try_get_matches_from(words)?;
     Ok(match matches.subcommand() {
-        Some(("run", _)) => run_script(rt),
+        Some(("run", options)) => {
+            let limits = command_line::limits_of(options);
+            // The command line takes numbers of the ranges alone. No clause of `clap` says so of a subcommand's options.
+            if !limits.are_in_range() {
+                return Ok(STOPPED);
+            }
+            run_script(rt, limits)
+        }
         _ => STOPPED,
     })
 }

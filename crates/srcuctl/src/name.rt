@@ -1,4 +1,4 @@
-//! Names of domains and sections.
+//! Names of domains, looks and sections.
 ghost use Rattle.std.specs.Prelude.{◌≡◌, if◌then◌else◌, Some, None, bytes_eq, true};
 ghost use Rattle.srcuctl.specs.Lines.{is_name};
 
@@ -6,7 +6,7 @@ use crate::words::is_name;
 use std::fmt;
 use std::marker::Model;
 
-/// The name of a domain or of a section: 1 to 16 characters of a to z and 0 to 9. Contracts see its bytes.
+/// The name of a domain, of a look or of a section: 1 to 16 characters of a to z and 0 to 9. Contracts see its bytes.
 #[derive(Clone, Copy)]
 pub struct Name {
     bytes: [u8; 16],

@@ -1,10 +1,11 @@
 //! From the words of a line to what it asks for, or to its first fault.
-ghost use Rattle.std.specs.Prelude.{◌≡◌, ◌<◌, Some, None, is_some, length, IfOk, MatchResult};
+ghost use Rattle.std.specs.Prelude.{◌≡◌, ℕ, ◌<◌, List, [], ◌∷◌, Some, None, is_some, length, IfOk, MatchResult};
+ghost use Rattle.sseq.specs.declared.index.Index.{Index};
 ghost use Rattle.srcuctl.specs.Lines.{number_of};
-ghost use Rattle.srcuctl.specs.States.{domain_place, name_place, states_of};
-ghost use Rattle.srcuctl.specs.Faults.{fault_of, new_name_fault, domain_fault, processor_fault};
+ghost use Rattle.srcuctl.specs.States.{OpenSection, HasLook, HasSection, domain_place, name_place, look_place, section_place, states_of};
+ghost use Rattle.srcuctl.specs.Faults.{fault_of, words_fault, new_name_fault, domain_fault, processor_fault};
 ghost use Rattle.srcuctl.specs.Scripts.{Asks};
-ghost use Rattle.srcuctl.specs.Requests.{texts, IsFor, AreRight, AreWrong};
+ghost use Rattle.srcuctl.specs.Requests.{texts, IsFor, a_processor_alone, a_processor_and_a_name, IsPlace, AreAPlace, AreAPlaceAndAName, AreRight, AreWrong};
 
 use crate::command::Command;
 use crate::fault::Fault;
@@ -27,8 +28,12 @@ pub fn parse<A: Allocator>(words: &[&[u8]], entries: &[Entry<A>]) -> Result<Requ
     match command {
         Command::Domain => domain(arguments, entries),
         Command::State => state(arguments, entries),
+        Command::Look => look(arguments, entries),
+        Command::Enter => enter(arguments, entries),
         Command::Lock => lock(arguments, entries),
         Command::Unlock => unlock(arguments, entries),
+        Command::Get => get(arguments, entries),
+        Command::Poll => poll(arguments, entries),
         Command::Start => start(arguments, entries),
     }
 }
@@ -54,16 +59,36 @@ fn state<A: Allocator>(words: &[&[u8]], entries: &[Entry<A>]) -> Result<Request,
     Ok(Request::State { domain })
 }
 
+fn look<A: Allocator>(words: &[&[u8]], entries: &[Entry<A>]) -> Result<Request, Fault>
+    ensures { MatchResult result (AreRight (states_of entries.now) Command.Look (texts words.now)) (AreWrong (states_of entries.now) Command.Look (texts words.now)) }
+{
+    let (domain, processor, name) = processor_and_new_name(words, entries)?;
+    Ok(Request::Look {
+        domain,
+        processor,
+        name,
+    })
+}
+
+fn enter<A: Allocator>(words: &[&[u8]], entries: &[Entry<A>]) -> Result<Request, Fault>
+    ensures { MatchResult result (AreRight (states_of entries.now) Command.Enter (texts words.now)) (AreWrong (states_of entries.now) Command.Enter (texts words.now)) }
+{
+    let [domain, processor, look] = words else {
+        return Err(Fault::Words);
+    };
+    let (domain, processor) = a_place(domain, processor, entries)?;
+    let look = a_look(look, &entries[domain])?;
+    Ok(Request::Enter {
+        domain,
+        processor,
+        look,
+    })
+}
+
 fn lock<A: Allocator>(words: &[&[u8]], entries: &[Entry<A>]) -> Result<Request, Fault>
     ensures { MatchResult result (AreRight (states_of entries.now) Command.Lock (texts words.now)) (AreWrong (states_of entries.now) Command.Lock (texts words.now)) }
 {
-    let [domain, processor, name] = words else {
-        return Err(Fault::Words);
-    };
-    let domain = a_domain(domain, entries)?;
-    let entry = &entries[domain];
-    let processor = a_processor(processor, entry)?;
-    let name = new_name(name, entry)?;
+    let (domain, processor, name) = processor_and_new_name(words, entries)?;
     Ok(Request::Lock {
         domain,
         processor,
@@ -82,15 +107,66 @@ fn unlock<A: Allocator>(words: &[&[u8]], entries: &[Entry<A>]) -> Result<Request
     Ok(Request::Unlock { domain, section })
 }
 
+fn get<A: Allocator>(words: &[&[u8]], entries: &[Entry<A>]) -> Result<Request, Fault>
+    ensures { MatchResult result (AreRight (states_of entries.now) Command.Get (texts words.now)) (AreWrong (states_of entries.now) Command.Get (texts words.now)) }
+{
+    let (domain, processor) = just_a_processor(words, entries)?;
+    Ok(Request::Get { domain, processor })
+}
+
+fn poll<A: Allocator>(words: &[&[u8]], entries: &[Entry<A>]) -> Result<Request, Fault>
+    ensures { MatchResult result (AreRight (states_of entries.now) Command.Poll (texts words.now)) (AreWrong (states_of entries.now) Command.Poll (texts words.now)) }
+{
+    let [domain, processor, cookie] = words else {
+        return Err(Fault::Words);
+    };
+    let (domain, processor) = a_place(domain, processor, entries)?;
+    let cookie = any_number(cookie)?;
+    Ok(Request::Poll {
+        domain,
+        processor,
+        cookie,
+    })
+}
+
 fn start<A: Allocator>(words: &[&[u8]], entries: &[Entry<A>]) -> Result<Request, Fault>
     ensures { MatchResult result (AreRight (states_of entries.now) Command.Start (texts words.now)) (AreWrong (states_of entries.now) Command.Start (texts words.now)) }
+{
+    let (domain, processor) = just_a_processor(words, entries)?;
+    Ok(Request::Start { domain, processor })
+}
+
+/// What a command of the form `COMMAND D P` takes: the place of a domain, and one of its processors.
+fn just_a_processor<A: Allocator>(
+    words: &[&[u8]],
+    entries: &[Entry<A>],
+) -> Result<(usize, u64), Fault>
+    ensures { MatchResult result
+        (λ at. AreAPlace (states_of entries.now) (texts words.now) at.0 at.1)
+        (λ f. words_fault (states_of entries.now) a_processor_alone (texts words.now) ≡ Some f) }
 {
     let [domain, processor] = words else {
         return Err(Fault::Words);
     };
-    let domain = a_domain(domain, entries)?;
-    let processor = a_processor(processor, &entries[domain])?;
-    Ok(Request::Start { domain, processor })
+    a_place(domain, processor, entries)
+}
+
+/// What a command of the form `COMMAND D P NAME` takes, where the name is to be new: the place of a domain, one of its
+/// processors, and the name.
+fn processor_and_new_name<A: Allocator>(
+    words: &[&[u8]],
+    entries: &[Entry<A>],
+) -> Result<(usize, u64, Name), Fault>
+    ensures { MatchResult result
+        (λ at. AreAPlaceAndAName (states_of entries.now) (texts words.now) at.0 at.1 at.2)
+        (λ f. words_fault (states_of entries.now) a_processor_and_a_name (texts words.now) ≡ Some f) }
+{
+    let [domain, processor, name] = words else {
+        return Err(Fault::Words);
+    };
+    let (domain, processor) = a_place(domain, processor, entries)?;
+    let name = new_name(name, &entries[domain])?;
+    Ok((domain, processor, name))
 }
 
 /// The place of the domain of a name.
@@ -144,6 +220,21 @@ fn a_processor<A: Allocator>(word: &[u8], entry: &Entry<A>) -> Result<u64, Fault
     }
 }
 
+/// The place of the domain of a name, and one of its processors.
+fn a_place<A: Allocator>(
+    domain: &[u8],
+    processor: &[u8],
+    entries: &[Entry<A>],
+) -> Result<(usize, u64), Fault>
+    ensures { MatchResult result
+        (λ at. IsPlace (states_of entries.now) domain.now processor.now at.0 at.1)
+        (λ f. words_fault (states_of entries.now) a_processor_alone (domain.now ∷ processor.now ∷ []) ≡ Some f) }
+{
+    let place = a_domain(domain, entries)?;
+    let processor = a_processor(processor, &entries[place])?;
+    Ok((place, processor))
+}
+
 fn new_name<A: Allocator>(word: &[u8], entry: &Entry<A>) -> Result<Name, Fault>
     ensures { MatchResult result
         (λ name. (new_name_fault word.now (is_some (name_place word.now entry.now.state.names)) ≡ None) × (name ≡ word.now))
@@ -156,10 +247,20 @@ fn new_name<A: Allocator>(word: &[u8], entry: &Entry<A>) -> Result<Name, Fault>
     }
 }
 
+fn a_look<A: Allocator>(word: &[u8], entry: &Entry<A>) -> Result<usize, Fault>
+    ensures { MatchResult result
+        (λ place. (look_place word.now entry.now.state.names ≡ Some place)
+        × (name : List ℕ) × (i : Index) × HasLook entry.now.state.names place name i)
+        (λ f. (look_place word.now entry.now.state.names ≡ None) × (f ≡ Fault.Name)) }
+{
+    entry.place_of_look(word).ok_or(Fault::Name)
+}
+
 fn a_section<A: Allocator>(word: &[u8], entry: &Entry<A>) -> Result<usize, Fault>
     ensures { MatchResult result
-        (λ place. (name_place word.now entry.now.state.names ≡ Some place) × (place < length entry.now.state.names))
-        (λ f. (name_place word.now entry.now.state.names ≡ None) × (f ≡ Fault.Name)) }
+        (λ place. (section_place word.now entry.now.state.names ≡ Some place)
+        × (name : List ℕ) × (s : OpenSection) × HasSection entry.now.state.names place name s)
+        (λ f. (section_place word.now entry.now.state.names ≡ None) × (f ≡ Fault.Name)) }
 {
-    entry.place_of_name(word).ok_or(Fault::Name)
+    entry.place_of_section(word).ok_or(Fault::Name)
 }

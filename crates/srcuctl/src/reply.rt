@@ -41,10 +41,18 @@ pub enum Reply {
         period: Period,
         sections: Sections,
     },
+    /// A look found this index.
+    Look(Index),
     /// A section began, of this index.
     Index(Index),
     /// A section ended.
     Closed,
+    /// The number of the cookie that was given.
+    Cookie(u64),
+    /// The cookie is done.
+    Done,
+    /// The cookie is not done.
+    NotYet,
     /// A grace period started, and this is the number then.
     Started(Number),
     /// The line did nothing, for this cause.
@@ -99,8 +107,12 @@ impl fmt::Display for Reply {
                 period,
                 sections,
             } => writeln!(f, "state {domain} {period} {sections}"),
+            Reply::Look(index) => writeln!(f, "look {index}"),
             Reply::Index(index) => writeln!(f, "index {index}"),
             Reply::Closed => writeln!(f, "closed"),
+            Reply::Cookie(cookie) => writeln!(f, "cookie {cookie}"),
+            Reply::Done => writeln!(f, "done"),
+            Reply::NotYet => writeln!(f, "not yet"),
             Reply::Started(number) => writeln!(f, "started {number}"),
             Reply::Refused(command, cause) => writeln!(f, "refused {command} {cause}"),
             Reply::Faulty { line, fault } => writeln!(f, "line {line}: {fault}"),

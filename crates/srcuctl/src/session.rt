@@ -72,12 +72,28 @@ impl<A: Allocator + Clone> Session<A> {
         match request {
             Request::Domain { name, processors } => self.make(name, processors),
             Request::State { domain } => Ok(self.entries[domain].show()),
+            Request::Look {
+                domain,
+                processor,
+                name,
+            } => self.entries[domain].look(processor, name),
+            Request::Enter {
+                domain,
+                processor,
+                look,
+            } => Ok(self.entries[domain].enter(processor, look)),
             Request::Lock {
                 domain,
                 processor,
                 name,
             } => self.entries[domain].lock(processor, name),
             Request::Unlock { domain, section } => Ok(self.entries[domain].unlock(section)),
+            Request::Get { domain, processor } => Ok(self.entries[domain].get(processor)),
+            Request::Poll {
+                domain,
+                processor,
+                cookie,
+            } => Ok(self.entries[domain].poll(processor, cookie)),
             Request::Start { domain, .. } => Ok(self.entries[domain].start()),
         }
     }

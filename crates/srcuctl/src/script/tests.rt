@@ -1,7 +1,10 @@
+ghost use Rattle.sections.specs.Limits.{AreInRange};
+
 use super::*;
 use crate::fakes::{Reader, Writer};
 use bumpalo::Bump;
 use std::alloc::Global;
+use std::process::Abort;
 use std::test::Fail;
 
 const LIMITS: Limits = Limits {
@@ -135,6 +138,41 @@ state web number 1 scan1 index 0 open 1 0 need 0
 state db number 1 scan1 index 0 open 0 0 need 0
 ";
 
+const LOOKS: &str = "\
+# A section can be begun in two steps: a look reads the current index, and enter
+# begins a section of that index, however old the look is by then.
+domain web 2
+look web 0 early
+start web 0
+
+# Any processor may use the look. The section keeps its name.
+enter web 1 early
+state web
+unlock web early
+
+# Looks and sections share their names, and no command takes the other kind.
+look web 0 late
+lock web 0 late
+unlock web late
+enter web 0 late
+enter web 0 late
+# The section that is open at the end is closed there.
+";
+
+const LOOKS_REPLIES: &str = "\
+made web 2
+look 0
+started 1
+index 0
+state web number 1 scan1 index 0 open 1 0 need 0
+closed
+look 0
+line 14: taken
+line 15: name
+index 0
+line 17: name
+";
+
 /// The replies to some first lines of `STARTED`.
 fn first_replies(alloc: Global, lines: usize) -> Result<String, AllocError> {
     let mut text = String::new(alloc);
@@ -156,7 +194,9 @@ fn runs_scripts(rt: HostRuntime) -> Result<(), Fail> {
         ),
         (STARTED, started.as_str(), false),
         ("domain a 1\nlock a 0 s", "made a 1\nindex 0\n", false),
+        ("domain a 1\nlook a 0 r", "made a 1\nlook 0\n", false),
         (TWO_READERS, TWO_READERS_REPLIES, false),
+        (LOOKS, LOOKS_REPLIES, true),
         (FAULTS, FAULTS_REPLIES, true),
     ];
     for (script, replies, faulty) in table {
@@ -368,4 +408,55 @@ fn first_fault_of_two(rt: HostRuntime) -> Result<(), Fail> {
         assert_eq!(rt; written.as_slice(), replies.as_bytes());
     }
     Ok(())
+}
+
+/// Runs the lines of these rows, and compares what is written with their replies.
+fn check(
+    rt: &(impl Abort + Wait + AllocGlobal),
+    limits: Limits,
+    rows: &[(&str, &str)],
+) -> Result<(), Fail>
+    requires { AreInRange limits }
+{
+    let mut script = String::new(rt.alloc());
+    let mut replies = String::new(rt.alloc());
+    for (line, reply) in rows {
+        write!(script, "{line}\n")?;
+        write!(replies, "{reply}\n")?;
+    }
+    let mut written = Vec::new(rt.alloc());
+    let mut reader = script.as_bytes();
+    let outcome = run(rt.alloc(), rt, &mut reader, &mut written, limits);
+    assert_eq!(rt; outcome, Ok(Outcome { faulty: false }));
+    assert_eq!(rt; written.as_slice(), replies.as_bytes());
+    Ok(())
+}
+
+#[test]
+fn polls(rt: HostRuntime) -> Result<(), Fail> {
+    check(
+        &rt,
+        LIMITS,
+        &[
+            ("domain a 1", "made a 1"),
+            ("poll a 0 6", "refused poll not-a-cookie"),
+            ("poll a 0 0", "done"),
+            ("poll a 0 4", "not yet"),
+        ],
+    )
+}
+
+// A cookie that is given while a grace period runs waits for the next one.
+#[test]
+fn gives_cookies(rt: HostRuntime) -> Result<(), Fail> {
+    check(
+        &rt,
+        LIMITS,
+        &[
+            ("domain a 1", "made a 1"),
+            ("get a 0", "cookie 4"),
+            ("start a 0", "started 1"),
+            ("get a 0", "cookie 8"),
+        ],
+    )
 }

@@ -103,7 +103,6 @@ fn finds_the_first_fault(rt: HostRuntime) -> Result<(), Fail> {
             ("frob", "! command"),
             ("Domain a 1", "! command"),
             ("domain# a 1", "! command"),
-            ("look a 0 r", "! command"),
             // the command before the number of words, a name, a number
             ("frob A B C D E F", "! command"),
             ("domain", "! words"),
@@ -114,6 +113,12 @@ fn finds_the_first_fault(rt: HostRuntime) -> Result<(), Fail> {
             ("lock a 0", "! words"),
             ("unlock a", "! words"),
             ("start a", "! words"),
+            ("look a 0", "! words"),
+            ("look a 0 r r", "! words"),
+            ("enter a 0", "! words"),
+            ("get a", "! words"),
+            ("poll a 0", "! words"),
+            ("poll a 0 4 4", "! words"),
             // the number of words before a name, a domain, a number
             ("domain A", "! words"),
             ("state b c", "! words"),
@@ -133,6 +138,8 @@ fn finds_the_first_fault(rt: HostRuntime) -> Result<(), Fail> {
             ("lock b 0 S", "! domain"),
             ("unlock b S", "! domain"),
             ("start b 99", "! domain"),
+            ("look b x R", "! domain"),
+            ("enter b x R", "! domain"),
             ("domain a x", "! number"),
             ("domain a -1", "! number"),
             ("domain a 01", "! number"),
@@ -145,6 +152,10 @@ fn finds_the_first_fault(rt: HostRuntime) -> Result<(), Fail> {
             ("lock a 00 s", "! number"),
             ("lock a 18446744073709551616 s", "! number"),
             ("start a +0", "! number"),
+            ("poll a 0 x", "! number"),
+            ("poll a x x", "! number"),
+            ("poll a 1 x", "! processor"),
+            ("get a 1", "! processor"),
             ("lock a 1 s", "! processor"),
             ("lock a 18446744073709551615 s", "! processor"),
             ("start a 1", "! processor"),
@@ -212,6 +223,85 @@ fn refuses(rt: HostRuntime) -> Result<(), Fail> {
             ("domain h 1", "! taken"),
             ("domain i x", "! number"),
             ("state i", "! domain"),
+        ],
+    )
+}
+
+/// Looks and sections share the names of a domain.
+#[test]
+fn knows_kinds_of_names(rt: HostRuntime) -> Result<(), Fail> {
+    check(
+        &rt,
+        AMPLE,
+        &[
+            ("domain a 2", "made a 2"),
+            ("look a 0 r", "look 0"),
+            ("lock a 0 s", "index 0"),
+            // a name in use, whatever has it
+            ("look a 0 r", "! taken"),
+            ("look a 1 s", "! taken"),
+            ("lock a 0 r", "! taken"),
+            // another kind, or nothing
+            ("unlock a r", "! name"),
+            ("enter a 0 s", "! name"),
+            ("enter a 0 t", "! name"),
+            ("enter a 0 R", "! name"),
+            // a number and a processor before the name behind them
+            ("enter a x s", "! number"),
+            ("enter a 2 s", "! processor"),
+            ("look a 00 r", "! number"),
+            ("look a 2 R", "! processor"),
+            ("look a 1 R", "! name"),
+            // looks are not open
+            ("state a", "state a number 0 idle index 0 open 1 0 need 0"),
+            // a look of processor 0, used on processor 1
+            ("enter a 1 r", "index 0"),
+            ("enter a 1 r", "! name"),
+            ("state a", "state a number 0 idle index 0 open 2 0 need 0"),
+            ("look a 1 r", "! taken"),
+            ("unlock a r", "closed"),
+            ("unlock a r", "! name"),
+            ("look a 1 r", "look 0"),
+            ("unlock a s", "closed"),
+            ("lock a 0 s", "index 0"),
+            ("domain b 1", "made b 1"),
+            ("look b 0 s", "look 0"),
+            ("enter b 0 r", "! name"),
+            // some looks are never used
+            ("look b 0 t", "look 0"),
+            ("state b", "state b number 0 idle index 0 open 0 0 need 0"),
+        ],
+    )
+}
+
+/// A look that is refused a section is gone, and its name is free.
+#[test]
+fn refuses_to_enter(rt: HostRuntime) -> Result<(), Fail> {
+    let one = Limits {
+        sections: 1,
+        periods: 1,
+        cells: 0,
+    };
+    check(
+        &rt,
+        one,
+        &[
+            ("domain a 2", "made a 2"),
+            ("lock a 0 s", "index 0"),
+            ("lock a 0 t", "refused lock exhausted"),
+            ("look a 1 r", "look 0"),
+            ("enter a 1 r", "index 0"),
+            ("look a 1 u", "look 0"),
+            ("enter a 1 u", "refused enter exhausted"),
+            ("enter a 1 u", "! name"),
+            ("look a 1 u", "look 0"),
+            ("look a 0 v", "look 0"),
+            ("enter a 0 u", "refused enter exhausted"),
+            ("unlock a r", "closed"),
+            ("enter a 1 v", "refused enter exhausted"),
+            ("state a", "state a number 0 idle index 0 open 1 0 need 0"),
+            ("unlock a s", "closed"),
+            ("lock a 0 v", "refused lock exhausted"),
         ],
     )
 }

@@ -6,5 +6,5 @@ use Rattle.srcubench.proofs.pairs.make_pairs.Given as goal
 abbrev pub invariant-loop-made : goal.invariant-loop-made
 invariant-loop-made g l = record {
   pairs : MakesPairs l.made l.initial.cpu l.cpu;
-  loads : length l.cpu.loads ≡ length l.initial.cpu.loads + l.made;
+  steps : length l.cpu.steps ≡ length l.initial.cpu.steps + l.made;
 }

@@ -1,7 +1,5 @@
-use Rattle.std.proofs.Common.{◌≡◌, true, false, rules, arith}
-use Rattle.std.proofs.lemmas.Grind.{common_steps}
+use Rattle.std.proofs.Common.{◌≡◌, true, rules}
 use Rattle.srcuctl.specs.Lines.{is_name as is_name_lem}
-use Rattle.srcuctl.specs.States.{states_of, domain_place}
 use Rattle.srcuctl.proofs.Places.{a_domain_answer}
 use Rattle.srcuctl.proofs.parse.a_domain.Goals as goal
 

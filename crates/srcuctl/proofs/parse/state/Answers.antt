@@ -1,7 +1,5 @@
-use Rattle.std.proofs.Common.{length, ap, subst, rules, arith, ◌<◌, sym}
 use Rattle.std.proofs.lemmas.Result.{err_from_is_err_and}
-use Rattle.std.proofs.lemmas.List.{length-map}
-use Rattle.srcuctl.specs.States.{EntryView, states_of}
+use Rattle.srcuctl.specs.States.{states_of}
 use Rattle.srcuctl.proofs.Places.{within_states}
 use Rattle.srcuctl.proofs.Parsing.{state_wrong, state_right}
 use Rattle.srcuctl.proofs.parse.state.Goals as goal

@@ -21,5 +21,5 @@ pub returns : goal.returns
 returns g c =
     let (fine, place, within) = c.in_ok-domain.ensures in
     let there = state_there c.args.entries.now _ c.index-entries-domain.result within c.index-entries-domain.is in
-    let (found, inside) = c.in_ok-section.ensures in
-    unlock_right (states_of c.args.entries.now) c.args.words.now c.in-len2.len_at_least c.in-len2.len_below _ c.index-entries-domain.result.state fine place there _ found inside
+    let (found, name, one, has) = c.in_ok-section.ensures in
+    unlock_right (states_of c.args.entries.now) c.args.words.now c.in-len2.len_at_least c.in-len2.len_below _ c.index-entries-domain.result.state fine place there _ found name one has

@@ -1,10 +1,8 @@
-use Rattle.std.proofs.Common.{◌≡◌, ◌<◌, length, subst, sym, ◌∙◌, refl, arith, length-set}
-use Rattle.sections.specs.Views.{CpuView}
-use Rattle.sections.specs.Calls.{Meets}
-use Rattle.srcuctl.specs.Domains.{DomainView}
+use Rattle.std.proofs.Common.{◌≡◌, ◌<◌, length, subst, sym, ◌∙◌, arith, length-set}
+use Rattle.sections.specs.Driving.{Meets}
 use Rattle.srcuctl.specs.Together.{AreTogether}
-use Rattle.srcuctl.proofs.Meeting.{all_kept, idle_seen, idle_together, idle_here}
-use Rattle.srcuctl.proofs.Driving.{idles_of_look, look_index}
+use Rattle.srcuctl.proofs.Meeting.{all_kept}
+use Rattle.srcuctl.proofs.Driving.{looked, look_idle, look_together}
 use Rattle.srcuctl.proofs.domain.Domain.look.Goals as goal
 
 pub invariant_of-self : goal.invariant_of-self
@@ -15,10 +13,23 @@ invariant_of-self g c =
     let was = c.index_mut.result.now in
     let new = c.look-look.new.self in
     let meets = subst (λ l. Meets e l c.meet.new.self c.meet.new.cpus) c.deref_mut.ensures.value c.meet.ensures in
-    let inside : 0 < length cpus = omega (arith, together.hold.all, together.hold.count.0) in
-    let kept : c.self.inside.cpus.len ≡ length c.meet.new.cpus = omega (arith, c.self.inside.cpus.ok.0, meets.count, length-set cpus 0 new) in
+    let small = rw (← c.self.view_is) at c.requires in
+    let inside : c.args.processor < length cpus = omega (arith, together.hold.all, small) in
+    let kept : c.self.inside.cpus.len ≡ length c.meet.new.cpus = omega (arith, c.self.inside.cpus.ok.0, meets.count, length-set cpus c.args.processor new) in
     subst (λ l. AreTogether c.self.inside.limits l c.meet.new.self) (sym (all_kept c.self.inside.cpus.len c.meet.new.cpus _ kept))
-    (idle_together c.self.inside.limits cpus e 0 was new together inside c.index_mut.ensures.value c.meet.new.cpus c.meet.new.self meets (idles_of_look was new c.look-look.result c.look-look.ensures))
+    (look_together c.self.inside.limits cpus e c.args.processor was new together inside c.index_mut.ensures.value c.meet.new.cpus c.meet.new.self meets c.look-look.result c.look-look.ensures)
+
+pub returns-clause-look : goal.returns-clause-look
+returns-clause-look g c =
+    let together = c.self.invariant in
+    let cpus = c.self.inside.cpus.items in
+    let e = c.self.inside.engine in
+    let was = c.index_mut.result.now in
+    let new = c.look-look.new.self in
+    let meets = subst (λ l. Meets e l c.meet.new.self c.meet.new.cpus) c.deref_mut.ensures.value c.meet.ensures in
+    let small = rw (← c.self.view_is) at c.requires in
+    let inside : c.args.processor < length cpus = omega (arith, together.hold.all, small) in
+    rw (← c.self.view_is) (looked c.self.inside.limits cpus e c.args.processor was new together inside c.index_mut.ensures.value c.meet.new.cpus c.meet.new.self meets c.look-look.result c.look-look.ensures)
 
 pub returns-clause-after : goal.returns-clause-after
 returns-clause-after g c =
@@ -28,18 +39,6 @@ returns-clause-after g c =
     let was = c.index_mut.result.now in
     let new = c.look-look.new.self in
     let meets = subst (λ l. Meets e l c.meet.new.self c.meet.new.cpus) c.deref_mut.ensures.value c.meet.ensures in
-    let inside : 0 < length cpus = omega (arith, together.hold.all, together.hold.count.0) in
-    let same = idle_seen c.self.inside.limits cpus e 0 was new together inside c.index_mut.ensures.value c.meet.new.cpus c.meet.new.self meets (idles_of_look was new c.look-look.result c.look-look.ensures) in
-    (λ i. record { table = meets.same.0 i; limits = c.self.inside.limits; processors = meets.same.1 i; history = same i }) ∙ c.self.view_is
-
-pub returns-clause-value : goal.returns-clause-value
-returns-clause-value g c =
-    let together = c.self.invariant in
-    let cpus = c.self.inside.cpus.items in
-    let e = c.self.inside.engine in
-    let was = c.index_mut.result.now in
-    let new = c.look-look.new.self in
-    let meets = subst (λ l. Meets e l c.meet.new.self c.meet.new.cpus) c.deref_mut.ensures.value c.meet.ensures in
-    let inside : 0 < length cpus = omega (arith, together.hold.all, together.hold.count.0) in
-    let here = idle_here c.self.inside.limits cpus e 0 was new together inside c.index_mut.ensures.value c.meet.new.cpus c.meet.new.self meets (idles_of_look was new c.look-look.result c.look-look.ensures) in
-    c.index.ensures ∙ look_index was new c.look-look.result e.seen c.look-look.ensures here
+    let small = rw (← c.self.view_is) at c.requires in
+    let inside : c.args.processor < length cpus = omega (arith, together.hold.all, small) in
+    look_idle c.self.inside.limits cpus e c.args.processor was new together inside c.index_mut.ensures.value c.meet.new.cpus c.meet.new.self meets c.look-look.result c.look-look.ensures ∙ c.self.view_is

@@ -1,13 +1,9 @@
-use Rattle.std.proofs.Common.{◌≡◌, ◌<◌, length, subst, sym, ◌∙◌, refl, arith, length-set}
-use Rattle.sections.specs.Views.{CpuView}
-use Rattle.sections.specs.Calls.{Meets}
-use Rattle.srcuctl.specs.Domains.{DomainView}
+use Rattle.std.proofs.Common.{◌≡◌, ◌<◌, length, subst, sym, arith, length-set}
+use Rattle.sections.specs.Driving.{Meets}
 use Rattle.srcuctl.specs.Together.{AreTogether}
-use Rattle.std.specs.Prelude.{MatchResult}
 use Rattle.std.proofs.lemmas.Result.{MatchResult-weaker}
-use Rattle.srcuctl.specs.Domains.{BeginsSection, BeginsNone}
 use Rattle.srcuctl.proofs.Meeting.{all_kept}
-use Rattle.srcuctl.proofs.Driving.{seen_as, locked, locked_none, lock_together}
+use Rattle.srcuctl.proofs.Driving.{locked, locked_none, lock_together}
 use Rattle.srcuctl.proofs.domain.Domain.read_lock.Goals as goal
 
 pub invariant_of-self : goal.invariant_of-self

@@ -1,7 +1,5 @@
-use Rattle.std.proofs.Common.{◌≡◌, ◌*◌, ◌%◌, ◌<◌, length, subst, sym, ap, ◌∙◌, refl, arith, rules, length-set}
-use Rattle.sections.specs.Views.{CpuView}
-use Rattle.sections.specs.Calls.{Meets}
-use Rattle.srcuctl.specs.Domains.{DomainView}
+use Rattle.std.proofs.Common.{◌≡◌, ◌<◌, length, subst, sym, arith, rules, length-set}
+use Rattle.sections.specs.Driving.{Meets}
 use Rattle.srcuctl.specs.Together.{AreTogether}
 use Rattle.srcuctl.proofs.Meeting.{all_kept}
 use Rattle.srcuctl.proofs.Driving.{ended, ended_together}
@@ -21,7 +19,7 @@ invariant_of-self g c =
     let inside : p < length cpus = omega (arith, together.hold.all, small, here) in
     let kept : c.self.inside.cpus.len ≡ length c.meet.new.cpus = omega (arith, c.self.inside.cpus.ok.0, meets.count, length-set cpus p new) in
     subst (λ l. AreTogether c.self.inside.limits l c.meet.new.self) (sym (all_kept c.self.inside.cpus.len c.meet.new.cpus _ kept))
-    (ended_together c.self.inside.limits cpus e p was new together inside c.index_mut.ensures.value c.meet.new.cpus c.meet.new.self meets c.args.reading.seen c.args.reading c.read_unlock.ensures)
+    (ended_together c.self.inside.limits cpus e p was new together inside c.index_mut.ensures.value c.meet.new.cpus c.meet.new.self meets c.args.reading.seen c.args.reading.changes c.args.reading c.read_unlock.ensures)
 
 pub returns : goal.returns
 returns g c =
@@ -35,4 +33,4 @@ returns g c =
     let meets = subst (λ l. Meets e l c.meet.new.self c.meet.new.cpus) c.deref_mut.ensures.value c.meet.ensures in
     let small = rw (← c.self.view_is) at c.requires.processor in
     let inside : p < length cpus = omega (arith, together.hold.all, small, here) in
-    rw (← c.self.view_is) (ended c.self.inside.limits cpus e p was new together inside c.index_mut.ensures.value c.meet.new.cpus c.meet.new.self meets c.args.reading.seen c.args.reading here c.read_unlock.ensures)
+    rw (← c.self.view_is) (ended c.self.inside.limits cpus e p was new together inside c.index_mut.ensures.value c.meet.new.cpus c.meet.new.self meets c.args.reading.seen c.args.reading.changes c.args.reading here c.read_unlock.ensures)

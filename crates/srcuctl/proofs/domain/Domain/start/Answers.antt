@@ -1,22 +1,23 @@
-use Rattle.std.proofs.Common.{◌≡◌, ◌*◌, ◌%◌, ◌<◌, length, subst, sym, ap, ◌∙◌, refl, arith, rules, length-set}
-use Rattle.sections.specs.Views.{CpuView}
-use Rattle.sections.specs.Calls.{Meets}
-use Rattle.srcuctl.specs.Domains.{DomainView}
-use Rattle.srcuctl.specs.Together.{AreTogether}
-use Rattle.onedom.specs.Histories.{IsRunning}
+use Rattle.std.proofs.Common.{◌≡◌, ◌%◌, ◌*◌, ◌<◌, length, subst, sym, ap, ◌∙◌, refl, arith}
 use Rattle.sections.specs.Words.{number_word}
-use Rattle.sseq.specs.Numbers.{state_bits}
+use Rattle.sections.specs.Driving.{Meets}
+use Rattle.srcuctl.specs.Together.{AreTogether}
 use Rattle.srcuctl.proofs.Meeting.{all_kept}
-use Rattle.srcuctl.proofs.Driving.{started, started_together, running_by, number_mine, room_at_rest}
+use Rattle.srcuctl.proofs.Driving.{started, started_together, running_by, idle_by}
 use Rattle.srcuctl.proofs.domain.Domain.start.Goals as goal
 
 pub returns-in_default : goal.returns-in_default
 returns-in_default g c =
     let together = c.self.invariant in
     let e = c.self.inside.engine in
-    let number = c.number-number.ensures ∙ number_mine e.processors e.mine e.seen together.history.own together.history.makers in
-    let state = ap (λ n. n % 4) (sym number) ∙ c.state.ensures in
-    (rw (← c.self.view_is) (running_by e.seen c.state.result state c.in_default.not-Idle), refl)
+    let state = ap (λ n. n % 4) (sym c.number-number.ensures.value) ∙ c.state.ensures in
+    (rw (← c.self.view_is) (running_by e.changes e.seen c.state.result together.history.reaches state c.in_default.not-Idle), refl)
+
+pub add_start-started-requires-clause-idle : goal.add_start-started-requires-clause-idle
+add_start-started-requires-clause-idle g c =
+    let e = c.self.inside.engine in
+    let state = ap (λ n. n % 4) (sym c.number-number.ensures.value) ∙ c.state.ensures in
+    (idle_by e.changes e.seen c.state.result c.self.invariant.history.reaches state c.in-Idle.is).0
 
 pub invariant_of-self : goal.invariant_of-self
 invariant_of-self g c =
@@ -38,7 +39,8 @@ returns g c =
     let e = c.self.inside.engine in
     let new = c.add_start-started.new.self in
     let meets = subst (λ l. Meets new l c.meet.new.self c.meet.new.cpus) c.deref_mut.ensures.value c.meet.ensures in
-    let number = c.number-number.ensures ∙ number_mine e.processors e.mine e.seen together.history.own together.history.makers in
-    let state = ap (λ n. n % 4) (sym number) ∙ c.state.ensures in
-    rw (← c.self.view_is) (started limits cpus e new together c.add_start-started.ensures.event c.meet.new.cpus c.meet.new.self meets c.add_start-started.result c.add_start-started.ensures.number
-    (room_at_rest limits e.seen c.state.result together.hold.in_range state c.in-Idle.is))
+    let is = c.number-number.ensures.value in
+    let most = c.number-number.ensures.most in
+    let other = c.number-number.ensures.most in
+    let room : number_word e.changes < 4 * limits.periods = omega (arith, is, most, together.hold.periods) in
+    rw (← c.self.view_is) (started limits cpus e new together c.add_start-started.ensures.event c.meet.new.cpus c.meet.new.self meets c.add_start-started.result c.add_start-started.ensures.number room)

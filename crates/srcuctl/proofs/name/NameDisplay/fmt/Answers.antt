@@ -1,4 +1,4 @@
-use Rattle.std.proofs.Common.{rules, subst, sym}
+use Rattle.std.proofs.Common.{subst, sym}
 use Rattle.std.specs.Prelude.{IsUtf8}
 use Rattle.srcuctl.proofs.Names.{name_is_text, ok_of_text}
 use Rattle.srcuctl.proofs.name.NameDisplay.fmt.Goals as goal

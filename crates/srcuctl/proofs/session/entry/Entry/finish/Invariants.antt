@@ -1,10 +1,10 @@
 use Rattle.std.proofs.Common.{vec_len}
 use Rattle.std.specs.Prelude.{All}
-use Rattle.srcuctl.specs.Domains.{IsOf}
+use Rattle.srcuctl.specs.Entries.{IsTokenOf}
 use Rattle.srcuctl.proofs.session.entry.Entry.finish.Given as goal
 
-abbrev pub invariant-loop-reading : goal.invariant-loop-reading
-invariant-loop-reading g l = All (λ o. IsOf l.domain.table l.domain.processors o.reading) l.open.items
+abbrev pub invariant-loop-token : goal.invariant-loop-token
+invariant-loop-token g l = All (λ n. IsTokenOf l.domain.table l.domain.processors n.token) l.names.items
 
-abbrev pub decreases-loop-reading : goal.decreases-loop-reading
-decreases-loop-reading g l = vec_len l.open
+abbrev pub decreases-loop-token : goal.decreases-loop-token
+decreases-loop-token g l = vec_len l.names

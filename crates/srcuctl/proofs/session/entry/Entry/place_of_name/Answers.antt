@@ -3,12 +3,12 @@ use Rattle.std.specs.Prelude.{bytes_eq}
 use borrow.Author.Tests.{tests}
 use Rattle.std.proofs.lemmas.Iterator.{YieldsList-from_slice}
 use Rattle.std.proofs.lemmas.Iterator.Search.{position_from_yields_List}
-use Rattle.srcuctl.specs.declared.session.entry.Opened.{Opened}
+use Rattle.srcuctl.specs.declared.session.entry.NameInUse.{NameInUse}
 use Rattle.srcuctl.specs.States.{EntryView, name_place}
 use Rattle.srcuctl.proofs.Places.{name_place_is}
 use Rattle.srcuctl.proofs.session.entry.Entry.place_of_name.Goals as goal
 
 pub returns : goal.returns
 returns g c =
-    position_from_yields_List (λ (o : Opened). bytes_eq o.name c.args.word.now) _ _ c.position.result c.position.ensures.ran (YieldsList-from_slice c.self.inside.open.items cc) (λ x b q k. search (rules, tests))
-    ∙ (name_place_is c.args.word.now c.self.inside.open.items ∙ ap (λ (v : EntryView). name_place c.args.word.now v.state.names) c.self.view_is)
+    position_from_yields_List (λ (o : NameInUse). bytes_eq o.name c.args.word.now) _ _ c.position.result c.position.ensures.ran (YieldsList-from_slice c.self.inside.names.items cc) (λ x b q k. search (rules, tests))
+    ∙ (name_place_is c.args.word.now c.self.inside.names.items ∙ ap (λ (v : EntryView). name_place c.args.word.now v.state.names) c.self.view_is)
