@@ -1,8 +1,8 @@
 ghost use Rattle.std.specs.Prelude.{◌≡◌, ◌+◌, IsTrue, IfOk, IfSome};
-ghost use Rattle.sseq.specs.Indexes.{low_bit};
+ghost use Rattle.sseq.specs.Indexes.{low_bit, other_index};
 ghost use Rattle.sseq.specs.declared.index.Index.TheVariants.{One};
 ghost use Rattle.onedom.specs.Histories.{WasEmpty};
-ghost use Rattle.sections.specs.Words.{index_word, other_index, IsBeforeFlip, IsBehindFlip};
+ghost use Rattle.sections.specs.Words.{index_word, IsBeforeFlip, IsBehindFlip};
 ghost use Rattle.sections.specs.Driving.{IsSameEngine, IsSeenByEngine};
 
 use super::*;
