@@ -46,6 +46,15 @@ function pair_rows(size) {
     row("(d) liburcu memb, " threads(size), "urcu-memb", size, "model")
 }
 
+function processors(size) {
+    return size == 1 ? "1 processor" : size " processors"
+}
+
+function period_rows(size) {
+    row("this domain, " processors(size), "srcubench-quiet-period", size, "model-quiet-period")
+    row("C11 model of it, " processors(size), "model-quiet-period", size, "model-quiet-period")
+}
+
 function growth_row(label, name) {
     if ((1, name, 2) in ns)
         printf "%-44s %s\n", label, ratios(name, 2, name, 1)
@@ -67,7 +76,7 @@ END {
     print ""
     printf "%-44s %-28s %s\n", "one quiet grace period", "      ns", "ratio to the model"
     for (size = 1; size <= most; size *= 2)
-        row("C11 model, " size (size == 1 ? " processor" : " processors"), "model-quiet-period", size, "model-quiet-period")
+        period_rows(size)
     print ""
     printf "%-44s %s\n", "a pair at 2 threads against one at 1", "   ratio"
     growth_row("this domain", "srcubench")

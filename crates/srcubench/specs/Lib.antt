@@ -1,5 +1,6 @@
 pub use Rattle.sections.specs.Calls
 pub mod Jobs
 pub mod Pairs
+pub mod Periods
 pub mod Readers
 pub mod Spreads

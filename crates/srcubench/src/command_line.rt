@@ -10,9 +10,9 @@ const MOST_REPETITIONS: u64 = 1_000;
 /// What to do.
 #[derive(Clone, Copy, Debug, PartialEq, Eq)]
 pub enum Job {
-    /// Count pairs, and look at no clock.
+    /// Count pairs and grace periods, and print no times.
     Count,
-    /// Measure so many pairs in each thread, so many times.
+    /// Measure so many pairs in each thread, and a quarter of that in grace periods, so many times.
     Time { pairs: u64, repetitions: u64 },
 }
 

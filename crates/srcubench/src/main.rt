@@ -1,10 +1,13 @@
-//! `srcubench` measures what a pair of `read_lock` and `read_unlock` costs, on one processor and on several at once.
+//! `srcubench` measures what a pair of `read_lock` and `read_unlock` costs, on one processor and on several at once, and
+//! what a grace period costs with nobody reading.
 #![tactic(auto)]
 
 ghost use Rattle.std.specs.Prelude.{◌≤◌};
 
 mod command_line;
 mod pairs;
+mod periods;
+mod quiet;
 mod spread;
 #[cfg(test)]
 mod tests;
@@ -20,18 +23,24 @@ use std::rt::Env;
 use std::thread::Threads;
 use std::time::Clock;
 
-/// The numbers of threads to measure with, as far as a domain may have so many processors.
-const THREADS: [usize; 3] = [1, 2, 4];
+/// The numbers of processors to measure with, as far as a domain may have so many.
+const SIZES: [usize; 3] = [1, 2, 4];
 
 /// How many pairs each thread makes where they are only counted.
 const COUNTED_PAIRS: u64 = 1_000;
 
+/// How many grace periods a domain has where they are only counted.
+const COUNTED_PERIODS: u64 = 1_000;
+
+/// A grace period is measured so many times less often than a pair, since it takes longer.
+const LESS_OFTEN: u64 = 4;
+
 /// The status of a run whose command line can't be read.
 const MISUSED: u8 = 2;
 
-/// Prints how many pairs were made, which is the same on every machine.
+/// Prints how many pairs and grace periods were made, which is the same on every machine.
 fn count<R: Threads + Sync + Clock + Print + AllocGlobal>(rt: &R) -> Result<()> {
-    for threads in THREADS {
+    for threads in SIZES {
         if threads <= MOST_PROCESSORS {
             let trial = trial::run(rt, threads, COUNTED_PAIRS)?;
             for (thread, reader) in trial.readers.iter().enumerate() {
@@ -39,10 +48,17 @@ fn count<R: Threads + Sync + Clock + Print + AllocGlobal>(rt: &R) -> Result<()> 
             }
         }
     }
+    for processors in SIZES {
+        if processors <= MOST_PROCESSORS {
+            let trial = quiet::run(rt, processors, COUNTED_PERIODS)?;
+            println!(rt; "processors {processors}: {} quiet periods", trial.ended)?;
+        }
+    }
     Ok(())
 }
 
-/// Prints for each number of threads what one pair took, in nanoseconds.
+/// Prints for each number of threads what one pair took, and for each number of processors what one grace period took
+/// with nobody reading, in nanoseconds.
 fn time<R: Threads + Sync + Clock + Print + AllocGlobal>(
     rt: &R,
     pairs: u64,
@@ -51,10 +67,20 @@ fn time<R: Threads + Sync + Clock + Print + AllocGlobal>(
     requires pairs { 1 ≤ pairs }
     requires repetitions { 1 ≤ repetitions }
 {
-    for threads in THREADS {
+    for threads in SIZES {
         if threads <= MOST_PROCESSORS {
             let samples = trial::samples(rt, threads, pairs, repetitions)?;
             println!(rt; "srcubench {threads} {}", Spread::of(samples)?)?;
+        }
+    }
+    let periods = pairs / LESS_OFTEN + 1;
+    for processors in SIZES {
+        if processors <= MOST_PROCESSORS {
+            let samples = quiet::samples(rt, processors, periods, repetitions)?;
+            println!(rt;
+                "srcubench-quiet-period {processors} {}",
+                Spread::of(samples)?
+            )?;
         }
     }
     Ok(())

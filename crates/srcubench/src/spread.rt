@@ -5,7 +5,7 @@ ghost use Rattle.srcubench.specs.Spreads.{IsSpreadOf};
 use std::alloc::AllocError;
 use std::fmt;
 
-/// What one pair took in several repetitions, in hundredths of a nanosecond.
+/// What one pair or one grace period took in several repetitions, in hundredths of a nanosecond.
 #[derive(Clone, Copy, Debug, PartialEq, Eq)]
 pub struct Spread {
     pub median: u64,

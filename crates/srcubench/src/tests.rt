@@ -1,8 +1,11 @@
 use crate::command_line::{Job, job_of};
 use crate::pairs::make_pairs;
+use crate::periods::{EveryPeriod, Stop, make_periods};
 use crate::spread::Spread;
-use crate::trial;
+use crate::{quiet, trial};
+use scan::{Engine, Progress};
 use sections::{Limits, Made, make};
+use sseq::Index;
 use std::test::Fail;
 
 /// Would catch words that are read as another job, and numbers out of their ranges.
@@ -62,6 +65,58 @@ fn tries_two_threads(rt: HostRuntime) -> Result<(), Fail> {
         assert_eq!(rt; (reader.cpu.processor(), reader.made), (processor, 1_000));
     }
     assert_eq!(rt; trial::samples(&rt, 2, 10, 3)?.len(), 3);
+    Ok(())
+}
+
+/// Would catch a loop that makes a period fewer or more, and one that counts a period that was refused.
+#[test]
+fn stops_where_no_more_periods_may_start(rt: HostRuntime) -> Result<(), Fail> {
+    for (most, periods, outcome) in [(5, 5, Ok(5)), (5, 2, Ok(2)), (2, 5, Err(Stop::Exhausted))] {
+        let limits = Limits {
+            sections: 1,
+            periods: most,
+            cells: 0,
+        };
+        let Made { mut cpus, engine } = make(rt.alloc(), 2, limits)?;
+        let cpu = cpus.pop().unwrap();
+        let mut engine = Engine::new(engine, EveryPeriod { cpu });
+        let made = make_periods(&mut engine, periods);
+        assert_eq!(rt; made, outcome, "{periods} of {most}");
+    }
+    Ok(())
+}
+
+/// Would catch a loop that waits for a reader, or counts the period that it holds up.
+#[test]
+fn stops_at_an_open_section(rt: HostRuntime) -> Result<(), Fail> {
+    let limits = Limits {
+        sections: 1,
+        periods: 3,
+        cells: 0,
+    };
+    let Made { mut cpus, engine } = make(rt.alloc(), 2, limits)?;
+    let cpu = cpus.pop().unwrap();
+    let mut reader = cpus.pop().unwrap();
+    let reading = reader.read_lock()?;
+    let mut engine = Engine::new(engine, EveryPeriod { cpu });
+    let made = make_periods(&mut engine, 3);
+    reader.read_unlock(reading);
+    let held_up = Stop::Answered(Progress::Waiting(Index::Zero));
+    assert_eq!(rt; made, Err(held_up));
+    assert_eq!(rt;
+        format!(in rt.alloc(); "{held_up}")?.as_str(),
+        "the engine answered Waiting(Zero)"
+    );
+    Ok(())
+}
+
+/// Would catch a trial of other periods than were asked for, and want of memory where there is some.
+#[test]
+fn tries_quiet_periods(rt: HostRuntime) -> Result<(), Fail> {
+    for processors in [1, 2] {
+        assert_eq!(rt; quiet::run(&rt, processors, 100)?.ended, 100);
+    }
+    assert_eq!(rt; quiet::samples(&rt, 2, 10, 3)?.len(), 3);
     Ok(())
 }
 

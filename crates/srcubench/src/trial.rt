@@ -53,12 +53,12 @@ pub fn run<R: Threads + Sync + Clock + AllocGlobal>(
     Ok(Trial { readers, elapsed })
 }
 
-/// What one of so many pairs took, in hundredths of a nanosecond, or the largest number where that is more.
-fn cost_of_one(elapsed: Duration, pairs: u64) -> u64
-    requires { 1 ≤ pairs }
-    ensures { let hundredths = as_nanos elapsed * 100 / pairs in hundredths < 2 ^ 64 → result ≡ hundredths }
+/// What one of so many took, in hundredths of a nanosecond, or the largest number where that is more.
+pub fn cost_of_one(elapsed: Duration, count: u64) -> u64
+    requires { 1 ≤ count }
+    ensures { let hundredths = as_nanos elapsed * 100 / count in hundredths < 2 ^ 64 → result ≡ hundredths }
 {
-    let hundredths = elapsed.as_nanos() * 100 / u128::from(pairs);
+    let hundredths = elapsed.as_nanos() * 100 / u128::from(count);
     u64::try_from(hundredths).unwrap_or(u64::MAX)
 }
 

@@ -1,0 +1,74 @@
+-- What a quiet period adds.
+use Rattle.std.proofs.Common.{◌≡◌, ℕ, ◌+◌, ◌*◌, ◌≤◌, List, [], ◌∷◌, ◌++◌, length, sym, ap, ◌∙◌, subst, length-append, add-one, arith}
+use Rattle.std.proofs.Math.Nat.{suc-mul}
+use Rattle.onedom.specs.declared.event.Maker.TheVariants.{Engine}
+use Rattle.onedom.specs.declared.event.Event.{Event}
+use Rattle.onedom.specs.declared.event.Event.TheVariants.{Start, Finish}
+use Rattle.onedom.specs.Histories.{ended_in, IsBeginning}
+use Rattle.onedom.proofs.Pushes.{ended_in_push}
+use Rattle.onedom.proofs.Beginnings.{beginning_append, beginning_trans, beginning_by_length, ended_grow, length_grows}
+use Rattle.sseq.specs.Numbers.{periods_ended}
+use Rattle.scan.specs.Progress.{ScanView, steps_made}
+use Rattle.srcubench.specs.Periods.{CarriesPeriod, CarriesPeriods, quiet_steps}
+
+-- where the last event was a start, and now is an end, a period has ended since
+ended_since : (b c : List Event) → IsBeginning (b ++ Start Engine ∷ []) (c ++ Finish Engine ∷ []) → ended_in (b ++ Start Engine ∷ []) + 1 ≤ ended_in (c ++ Finish Engine ∷ [])
+ended_since b c h =
+    let long = length_grows h in
+    let short : length b ≤ length c = omega (arith, long, length-append b (Start Engine ∷ []), length-append c (Finish Engine ∷ [])) in
+    let within = beginning_by_length (beginning_trans (beginning_append b (Start Engine ∷ [])) h) (beginning_append c (Finish Engine ∷ [])) short in
+    let few = ended_grow within in
+    let b' = ended_in_push b (Start Engine) in
+    let c' = ended_in_push c (Finish Engine) in
+    omega (arith, few, b', c')
+
+pub one_more : (v w : ScanView) (n : ℕ) → CarriesPeriod v n w → ended_in v.seat.seen + 1 ≤ ended_in w.seat.seen
+one_more v w n p =
+    let s = p.starts.says.0 in
+    let e = p.ends.says in
+    let before = ended_grow p.starts.goes_on.since in
+    let whole = beginning_trans p.flips.goes_on.since p.ends.goes_on.since in
+    let more = subst (λ (h : List Event). ended_in h + 1 ≤ ended_in w.seat.seen) (sym s.seen)
+    (subst (λ (h : List Event). ended_in (s.before ++ Start Engine ∷ []) + 1 ≤ ended_in h) (sym e.seen)
+    (ended_since s.before e.before (rw (s.seen, e.seen) at whole))) in
+    omega (arith, before, more)
+
+pub steps_of_one : (v w : ScanView) (n : ℕ) → CarriesPeriod v n w → v.half ≡ 0 → steps_made w ≡ steps_made v + quiet_steps v.seat.processors
+steps_of_one v w n p none =
+    let a = p.starts.steps in
+    let b = p.flips.steps in
+    let c = p.ends.steps in
+    let a' = p.starts.done in
+    let b' = p.flips.done in
+    let same = p.starts.goes_on.same.1 in
+    let same' = p.flips.goes_on.same.1 in
+    omega (arith, none, a, b, c, a', b', same, same')
+
+-- nothing went by yet
+pub none_carried : (v : ScanView) → v.half ≡ 0 → ended_in v.seat.seen ≡ 0 → CarriesPeriods 0 v 0 v
+none_carried v rests none = record { counted = sym none; all = omega arith; steps = omega arith; done = rests }
+
+next_times : (k q : ℕ) → (k + 1) * q ≡ k * q + q
+next_times k q = ap (λ n. n * q) (add-one k) ∙ suc-mul k q
+
+pub carried_on : (k ended n : ℕ) (v u w : ScanView) → CarriesPeriods k v ended u → u.seat.processors ≡ v.seat.processors → CarriesPeriod u n w → CarriesPeriods (k + 1) v (periods_ended n) w
+carried_on k ended n v u w h same p =
+    let number = p.ends.says.number in
+    let count : periods_ended n ≡ ended_in w.seat.seen = omega (arith, number) in
+    let more = one_more u w n p in
+    let before = h.counted in
+    let so_far = h.all in
+    let steps = h.steps in
+    let one : steps_made w ≡ steps_made u + quiet_steps v.seat.processors = subst (λ q. steps_made w ≡ steps_made u + quiet_steps q) same (steps_of_one u w n p h.done) in
+    record {
+      counted = count;
+      all = omega (arith, count, more, before, so_far);
+      steps = one ∙ (ap (λ m. m + quiet_steps v.seat.processors) steps ∙ together (steps_made v) k (quiet_steps v.seat.processors));
+      done = p.ends.done;
+    }
+  where
+    together : (m k q : ℕ) → m + k * q + q ≡ m + (k + 1) * q
+    together m k q = let next = next_times k q in omega (arith, next)
+
+pub same_after : (v w : ScanView) (n : ℕ) → CarriesPeriod v n w → w.seat.processors ≡ v.seat.processors
+same_after v w n p = p.ends.goes_on.same.1 ∙ (p.flips.goes_on.same.1 ∙ p.starts.goes_on.same.1)

@@ -1,0 +1,93 @@
+//! The loop of quiet grace periods that is measured.
+ghost use Rattle.std.specs.Prelude.{◌≡◌, ◌^◌, length, replicate, MatchResult};
+ghost use Rattle.onedom.specs.Histories.{ended_in};
+ghost use Rattle.srcubench.specs.Periods.{AnswersTo, CarriesPeriod, IsHeldUp, CarriesPeriods, StopsBefore};
+
+use scan::{Engine, Exhausted, Progress};
+use sections::Cpu;
+use sseq::{Needs, Number, completed};
+use std::alloc::Allocator;
+use std::error::Error;
+use std::fmt;
+
+/// Asks for every grace period that there may be. Each load of the need is a load of the index word by a processor
+/// that does nothing else: it stands for the load of the word that a domain keeps its need in.
+#[derive(Drop)]
+pub struct EveryPeriod {
+    pub cpu: Cpu,
+}
+
+impl Needs for EveryPeriod {
+    ghost found = { λ needs. replicate (length needs.cpu.steps) (2 ^ 61) };
+
+    ghost known = { λ _. 2 ^ 61 };
+
+    fn root_need(&mut self) -> Number {
+        self.cpu.look();
+        Number::new(Number::MAX).unwrap()
+    }
+}
+
+/// What the engine answered in place of what comes next where nobody reads.
+#[derive(Clone, Copy, Debug, PartialEq, Eq)]
+pub enum Stop {
+    /// As many periods have ended as there may be.
+    Exhausted,
+    /// Something else.
+    Answered(Progress),
+}
+
+impl fmt::Display for Stop {
+    fn fmt<W: fmt::Write>(&self, f: &mut fmt::Formatter<W>) -> fmt::Result {
+        match self {
+            Stop::Exhausted => write!(f, "{Exhausted}"),
+            Stop::Answered(other) => write!(f, "the engine answered {other:?}"),
+        }
+    }
+}
+
+impl Error for Stop {}
+
+fn answer<N: Needs, A: Allocator>(engine: &mut Engine<N, A>) -> Result<Progress, Stop>
+    ensures { AnswersTo engine.old result engine.new }
+{
+    match engine.advance() {
+        Ok(answer) => Ok(answer),
+        Err(Exhausted) => Err(Stop::Exhausted),
+    }
+}
+
+/// Has the engine carry one grace period from its start to its end, and answers the number from then on.
+fn make_period<N: Needs, A: Allocator>(engine: &mut Engine<N, A>) -> Result<Number, Stop>
+    ensures { MatchResult result (λ number. CarriesPeriod engine.old number engine.new) (λ stop. IsHeldUp engine.old stop engine.new) }
+{
+    match answer(engine)? {
+        Progress::Started(_) => {}
+        other => return Err(Stop::Answered(other)),
+    }
+    match answer(engine)? {
+        Progress::Flipped(_) => {}
+        other => return Err(Stop::Answered(other)),
+    }
+    match answer(engine)? {
+        Progress::Ended(number) => Ok(number),
+        other => Err(Stop::Answered(other)),
+    }
+}
+
+/// Has the engine carry so many grace periods, one behind the other, in a domain in which none has ended, and answers
+/// how many have ended then, by the number of the domain.
+pub fn make_periods<N: Needs, A: Allocator>(
+    engine: &mut Engine<N, A>,
+    periods: u64,
+) -> Result<u64, Stop>
+    requires rests { engine.old.half ≡ 0 }
+    requires new { ended_in engine.old.seat.seen ≡ 0 }
+    ensures { MatchResult result (λ ended. CarriesPeriods periods engine.old ended engine.new) (λ stop. StopsBefore periods engine.old stop engine.new) }
+{
+    let mut ended = 0;
+    for _ in 0..periods {
+        ended = completed(make_period(engine)?);
+    }
+    Ok(ended)
+}
