@@ -24,9 +24,9 @@ use Rattle.scan.specs.declared.place.Place.{Place}
 use Rattle.scan.specs.declared.place.Place.TheVariants as place
 use Rattle.scan.specs.declared.progress.Progress.{Progress}
 use Rattle.scan.specs.declared.progress.Progress.TheVariants as answer
-use Rattle.scan.specs.Places.{current, scanned, half, IsScanning, HasPassed, IsHalfFlipped, IsAt, SaysAt, Moves}
+use Rattle.scan.specs.Places.{current, scanned, half, seen_at_load, IsScanning, HasPassed, IsHalfFlipped, IsAt, SaysAt, Moves}
 use Rattle.scan.specs.Progress.{HasStarted, HasFlipped, HasEnded, Counts}
-use Rattle.scan.proofs.Scans.{first_unlocks}
+use Rattle.scan.proofs.Scans.{first_unlocks, seen_still}
 
 -- Indexes
 
@@ -55,8 +55,8 @@ module _ (e f : EngineView) (seen : IsSeenByEngine e) (now : IsSeenByEngine f) (
 
 -- A step that is no event
 
-pub flipped_moves : (e f : EngineView) (i : Index) → IsSeenByEngine e → HasPassed e → IsBeforeFlip e.changes → Flips e f → i ≡ low_bit (index_word f.changes) → Moves e place.Passed f (place.Flipped i) answer.Step
-flipped_moves e f i seen here before flips is =
+pub flipped_moves : (e f : EngineView) (i : Index) → IsSeenByEngine e → 1 ≤ e.processors → HasPassed e → IsBeforeFlip e.changes → Flips e f → i ≡ low_bit (index_word f.changes) → Moves e place.Passed f (place.Flipped i) answer.Step
+flipped_moves e f i seen some here before flips is =
     let changes = flips.changes_are in
     let word : index_word f.changes ≡ index_word e.changes + 1 = omega (arith, changes, before) in
     let new : i ≡ scanned e = is ∙ (ap low_bit word ∙ flipped_bit (index_word e.changes)) in record {
@@ -69,14 +69,16 @@ flipped_moves e f i seen here before flips is =
       steps = flips.steps;
       one = refl;
       in_order = inr (AddIndex (index_word f.changes), refl, refl);
+      changes = omega (arith, changes);
       counts = refl;
       place_is = record {
         flipping = omega (arith, changes, before);
         index = is;
         empty = subst (λ j. WasEmpty j f.seen) (sym new) (empty_still e f seen flips.history flips.since changes (scanned e) (omega (arith, before)) here.empty);
       };
-      not_wanted = λ h. cc;
       says = tt;
+      not_wanted = λ n h. cc;
+      scan = λ _. record { before = λ _. (ap (λ l. seen_at_load (2 * f.processors) l) flips.steps ∙ (seen_still (2 * f.processors) e.steps (AddIndex (index_word f.changes) ∷ []) refl ∙ ap (λ n. seen_at_load (2 * n) e.steps) flips.same.1)); now = λ none. absurd (omega (arith, none, some)) };
       started = λ n h. absurd cc;
     }
 
@@ -98,9 +100,9 @@ second_scan_moves e f i seen some here moves =
       steps = moves.steps;
       one = refl;
       in_order = inr (AddNumber (number_word f.changes), refl, refl);
+      changes = omega (arith, changes);
       counts = (omega arith, refl);
       place_is = first_unlocks f (record { running = inr (omega (arith, changes, flipping)); first_scan = λ _. subst (λ j. WasEmpty j f.seen) index empty }) (omega (arith, some, same));
-      not_wanted = λ h. cc;
       says = record {
         behind = omega (arith, changes, flipping);
         before = e.steps;
@@ -110,6 +112,8 @@ second_scan_moves e f i seen some here moves =
         index = index ∙ ap low_bit (omega (arith, changes, flipping, ended));
         empty = empty;
       };
+      not_wanted = λ n h. cc;
+      scan = λ half. absurd (omega (arith, half));
       started = λ n h. absurd cc;
     }
 
@@ -135,15 +139,17 @@ ended_moves e f n seen here behind a is =
       steps = a.steps ∙ sym (append-nil e.steps);
       one = refl;
       in_order = inl refl;
+      changes = omega (arith, changes);
       counts = (refl, refl);
       place_is = omega (arith, changes, behind);
-      not_wanted = λ h. cc;
       says = record {
         before = a.before;
         seen = a.seen;
         number = omega (arith, is, ended, changes, behind);
         empty = λ i. empty_still e f seen a.history since changes i (omega (arith, behind)) (all_empty e here behind i);
       };
+      not_wanted = λ n h. cc;
+      scan = λ half. absurd (omega (arith, half));
       started = λ m h. absurd cc;
     }
 
@@ -154,8 +160,8 @@ pub in_first_scan : (e f : EngineView) → IsIdle e.changes → 1 ≤ e.processo
 in_first_scan e f idle some a = let changes = a.changes_are in let same = a.same.1 in
     first_unlocks f (record { running = inl (omega (arith, changes, idle)); first_scan = λ behind. absurd (omega (arith, changes, idle, behind)) }) (omega (arith, some, same))
 
-pub started_moves : (e f : EngineView) (n : ℕ) → IsSeenByEngine e → 1 ≤ e.processors → IsIdle e.changes → AddsEngineEvent (Start Engine) e f → n ≡ number_word f.changes → Moves e place.Wanted f (place.Unlocks 0 0) (answer.Started n)
-started_moves e f n seen some idle a is =
+pub started_moves : (e f : EngineView) (need n : ℕ) → IsSeenByEngine e → 1 ≤ e.processors → IsIdle e.changes → AddsEngineEvent (Start Engine) e f → n ≡ number_word f.changes → Moves e (place.Wanted need) f (place.Unlocks 0 0) (answer.Started n)
+started_moves e f need n seen some idle a is =
     let changes = a.changes_are in
     let was = seen.reaches.ended in
     let now = a.history.reaches.ended in record {
@@ -168,11 +174,13 @@ started_moves e f n seen some idle a is =
       steps = a.steps ∙ sym (append-nil e.steps);
       one = refl;
       in_order = inl refl;
+      changes = omega (arith, changes, some);
       counts = (refl, refl);
       place_is = in_first_scan e f idle some a;
-      not_wanted = λ h. cc;
       says = has_started e f n idle a is;
-      started = λ m h. (refl, omega (arith, was, now, changes, idle));
+      not_wanted = λ n h. cc;
+      scan = λ half. absurd (omega (arith, half));
+      started = λ m h. (need, refl, omega (arith, was, now, changes, idle));
     }
 
 -- Which of the two scans

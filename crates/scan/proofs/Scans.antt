@@ -1,5 +1,5 @@
 -- What the loads of a scan tell.
-use Rattle.std.proofs.Common.{◌≡◌, ℕ, zero, suc, ◌+◌, ◌*◌, ◌/◌, ◌%◌, ◌^◌, ◌<◌, ◌≤◌, ◌≢◌, ◌⊎◌, inl, inr, ⊎_elim, List, [], ◌∷◌, ◌++◌, All, length, refl, sym, ap, ◌∙◌, subst, append_assoc, append-nil, length-append, arith}
+use Rattle.std.proofs.Common.{◌≡◌, ℕ, zero, suc, ◌+◌, ◌*◌, ◌/◌, ◌%◌, ◌^◌, ◌<◌, ◌≤◌, ◌≢◌, ◌⊎◌, inl, inr, ⊎_elim, Bool, if◌then◌else◌, eq-eqb, ne_eqb, ◌==◌, List, [], ◌∷◌, ◌++◌, All, length, refl, sym, ap, ◌∙◌, subst, append_assoc, append-nil, length-append, arith}
 use mathlib.Core.Logic.{dite}
 use native.Mathlib.Decide.{ℕ_discrete}
 use Rattle.sseq.specs.declared.index.Index.{Index}
@@ -8,9 +8,9 @@ use Rattle.onedom.specs.declared.event.Event.{Event}
 use Rattle.onedom.specs.Histories.{starts_in, ended_in, IsRunning, WasEmpty, IsEmpty, IsLegal, IsBeginning}
 use Rattle.onedom.proofs.Beginnings.{beginning_refl, beginning_trans, legal_beginning, length_grows}
 use Rattle.onedom.proofs.Periods.{empty_grows}
-use Rattle.onedom.proofs.Pushes.{count_append}
+use Rattle.onedom.proofs.Pushes.{count_append, count_cons}
 use Rattle.sections.specs.declared.view.Step.{Step}
-use Rattle.sections.specs.declared.view.Step.TheVariants.{LoadUnlocks, LoadLocks}
+use Rattle.sections.specs.declared.view.Step.TheVariants.{LoadIndex, LoadUnlocks, LoadLocks, AddIndex, AddNumber}
 use Rattle.sections.specs.Words.{index_word, number_word, locks, unlocks, sum_below, all_locks, all_unlocks, IsBeforeFlip, IsBehindFlip}
 use Rattle.sections.specs.Views.{EngineView}
 use Rattle.sections.specs.Driving.{IsSeenByEngine, TakesStep, CountsUnlocks, CountsLocks}
@@ -21,9 +21,50 @@ use Rattle.scan.specs.declared.place.Place.{Place}
 use Rattle.scan.specs.declared.place.Place.TheVariants.{Wanted}
 use Rattle.scan.specs.declared.progress.Progress.{Progress}
 use Rattle.scan.specs.declared.progress.Progress.TheVariants as answer
-use Rattle.scan.specs.Places.{current, scanned, half, IsScanning, BeganScan, InUnlocks, InLocks, HasPassed, IsAt, SaysAt, Moves}
-use Rattle.scan.specs.Progress.{events_of, IsStepAt, is_counter_load, counter_loads, Waits, Counts}
+use Rattle.scan.specs.Places.{current, scanned, half, seen_at_load, began, IsScanning, BeganScan, InUnlocks, InLocks, HasPassed, IsAt, SaysAt, Moves}
+use Rattle.scan.specs.Progress.{events_of, changes_for, IsStepAt, is_counter_load, counter_loads, Waits, FirstLoaded, Counts}
 use Rattle.scan.proofs.Between.{open_between, makers_of}
+
+-- The first load of a scan
+
+loads_of_rest : (b : List Step) (i : Index) (found seen : ℕ) (rest : List Step) → counter_loads (b ++ LoadUnlocks 0 i found seen ∷ rest) ≡ counter_loads b + (1 + counter_loads rest)
+loads_of_rest b i found seen rest = count_append is_counter_load b (LoadUnlocks 0 i found seen ∷ rest) ∙ ap (λ n. counter_loads b + n) (count_cons is_counter_load (LoadUnlocks 0 i found seen) rest)
+
+abbrev pick : ℕ → ℕ → Bool → ℕ
+pick seen other b = if b then seen else other
+
+pub seen_at_first : (loads : ℕ) (before : List Step) (i : Index) (found seen : ℕ) (rest : List Step) → counter_loads rest + 1 ≡ loads → seen_at_load loads (before ++ LoadUnlocks 0 i found seen ∷ rest) ≡ seen
+seen_at_first loads [] i found seen rest is = ap (pick seen (seen_at_load loads rest)) (eq-eqb (counter_loads rest + 1) loads is)
+seen_at_first loads (LoadUnlocks q j n m ∷ b) i found seen rest is = ap (pick m (seen_at_load loads (b ++ LoadUnlocks 0 i found seen ∷ rest))) (ne_eqb (counter_loads (b ++ LoadUnlocks 0 i found seen ∷ rest) + 1) loads (λ h. let more = loads_of_rest b i found seen rest in omega (arith, h, more, is))) ∙ seen_at_first loads b i found seen rest is
+seen_at_first loads (LoadLocks q j n m ∷ b) i found seen rest is = ap (pick m (seen_at_load loads (b ++ LoadUnlocks 0 i found seen ∷ rest))) (ne_eqb (counter_loads (b ++ LoadUnlocks 0 i found seen ∷ rest) + 1) loads (λ h. let more = loads_of_rest b i found seen rest in omega (arith, h, more, is))) ∙ seen_at_first loads b i found seen rest is
+seen_at_first loads (LoadIndex n ∷ b) i found seen rest is = seen_at_first loads b i found seen rest is
+seen_at_first loads (AddIndex n ∷ b) i found seen rest is = seen_at_first loads b i found seen rest is
+seen_at_first loads (AddNumber n ∷ b) i found seen rest is = seen_at_first loads b i found seen rest is
+
+pub began_seen : (loads : ℕ) (e : EngineView) (first : List Event) → BeganScan loads e first → seen_at_load loads e.steps ≡ length first
+began_seen loads e first b = ap (seen_at_load loads) b.steps ∙ seen_at_first loads b.before (scanned e) b.found (length first) b.rest b.count
+
+seen_none : (loads : ℕ) (extra : List Step) → counter_loads extra ≡ 0 → seen_at_load loads extra ≡ 0
+seen_none loads [] none = refl
+seen_none loads (LoadUnlocks q j n m ∷ b) none = absurd (let c = count_cons is_counter_load (LoadUnlocks q j n m) b in omega (arith, none, c))
+seen_none loads (LoadLocks q j n m ∷ b) none = absurd (let c = count_cons is_counter_load (LoadLocks q j n m) b in omega (arith, none, c))
+seen_none loads (LoadIndex n ∷ b) none = seen_none loads b (let c = count_cons is_counter_load (LoadIndex n) b in omega (arith, none, c))
+seen_none loads (AddIndex n ∷ b) none = seen_none loads b (let c = count_cons is_counter_load (AddIndex n) b in omega (arith, none, c))
+seen_none loads (AddNumber n ∷ b) none = seen_none loads b (let c = count_cons is_counter_load (AddNumber n) b in omega (arith, none, c))
+
+-- what is no load of a counter changes nothing of it
+pub seen_still : (loads : ℕ) (steps extra : List Step) → counter_loads extra ≡ 0 → seen_at_load loads (steps ++ extra) ≡ seen_at_load loads steps
+seen_still loads [] extra none = seen_none loads extra none
+seen_still loads (LoadUnlocks q j n m ∷ b) extra none = let same : counter_loads (b ++ extra) ≡ counter_loads b = (let c = count_append is_counter_load b extra in omega (arith, c, none)) in λ k. if same k + 1 == loads then m else seen_still loads b extra none k
+seen_still loads (LoadLocks q j n m ∷ b) extra none = let same : counter_loads (b ++ extra) ≡ counter_loads b = (let c = count_append is_counter_load b extra in omega (arith, c, none)) in λ k. if same k + 1 == loads then m else seen_still loads b extra none k
+seen_still loads (LoadIndex n ∷ b) extra none = seen_still loads b extra none
+seen_still loads (AddIndex n ∷ b) extra none = seen_still loads b extra none
+seen_still loads (AddNumber n ∷ b) extra none = seen_still loads b extra none
+
+first_as : (since since' half began : ℕ) (seen seen' : List Event) → since' ≡ since → FirstLoaded since half began seen seen' → FirstLoaded since' half began seen seen'
+first_as since since' half began seen seen' is h = subst (λ n. FirstLoaded n half began seen seen') (sym is) h
+
+-- Sums
 
 sum_more : (f : ℕ → ℕ) (p : ℕ) → sum_below f (p + 1) ≡ sum_below f p + f p
 sum_more f p = ap (sum_below f) one
@@ -68,9 +109,10 @@ module _ (e f : EngineView) (seen : IsSeenByEngine e) (later : IsSeenByEngine f)
 -- Unlock counters
 
 -- what is known after the load
-pub record Unlocked (f : EngineView) (p ended : ℕ) : Type 0 where
+pub record Unlocked (e f : EngineView) (p ended : ℕ) : Type 0 where
   pub first : List Event
   pub began : BeganScan (p + 1) f first
+  pub scan : FirstLoaded (length first) p (seen_at_load p e.steps) e.seen f.seen
   pub least : sum_below (λ q. unlocks q (scanned f) first) (p + 1) ≤ ended
   pub most : ended ≤ sum_below (λ q. unlocks q (scanned f) f.seen) (p + 1)
 
@@ -84,7 +126,7 @@ module _ (e f : EngineView) (p ended found : ℕ) (i : Index) (seen : IsSeenByEn
       let grown = sum_le (λ q. unlocks q i e.seen) (λ q. unlocks q i f.seen) p (λ q. unlocks_grow q i counts.step.since) in
       let more = sum_more (λ q. unlocks q i f.seen) p in let exact = counts.exact in omega (arith, was, grown, more, exact)
 
-  first_load : p ≡ 0 → Unlocked f p (ended + found)
+  first_load : p ≡ 0 → Unlocked e f p (ended + found)
   first_load none = record {
     first = f.seen;
     began = record {
@@ -96,22 +138,24 @@ module _ (e f : EngineView) (p ended found : ℕ) (i : Index) (seen : IsSeenByEn
       seen = beginning_refl f.seen;
       since_start = refl;
     };
+    scan = record { before = λ some. absurd (omega (arith, some, none)); now = λ _. (length_grows counts.step.since, omega arith) };
     least = subst (λ j. sum_below (λ q. unlocks q j f.seen) (p + 1) ≤ ended + found) now_scanned
         (let more = sum_more (λ q. unlocks q i f.seen) p in let nothing : sum_below (λ q. unlocks q i f.seen) p ≡ 0 = ap (sum_below (λ q. unlocks q i f.seen)) none in let exact = counts.exact in omega (arith, more, nothing, exact));
     most = subst (λ j. ended + found ≤ sum_below (λ q. unlocks q j f.seen) (p + 1)) now_scanned most_so_far;
   }
 
-  later_load : 0 < p → Unlocked f p (ended + found)
+  later_load : 0 < p → Unlocked e f p (ended + found)
   later_load some = let b = here.began some in let first : List Event = b.0 in record {
     first = first;
     began = began_still e f seen counts.step.history counts.step.since counts.step.changes_are p 1 first (LoadUnlocks p i found (length f.seen) ∷ []) counts.step.steps refl b.1;
+    scan = record { before = λ _. sym (began_seen p e first b.1); now = λ none. absurd (omega (arith, none, some)) };
     least = subst (λ j. sum_below (λ q. unlocks q j first) (p + 1) ≤ ended + found) now_scanned
         (let was : sum_below (λ q. unlocks q i first) p ≤ ended = subst (λ j. sum_below (λ q. unlocks q j first) p ≤ ended) (sym is) b.2 in
         let more = sum_more (λ q. unlocks q i first) p in let grown = unlocks_grow p i (beginning_trans b.1.seen counts.step.since) in let exact = counts.exact in omega (arith, was, more, grown, exact));
     most = subst (λ j. ended + found ≤ sum_below (λ q. unlocks q j f.seen) (p + 1)) now_scanned most_so_far;
   }
 
-  pub unlocked : Unlocked f p (ended + found)
+  pub unlocked : Unlocked e f p (ended + found)
   unlocked = dite (ℕ_discrete p 0) (λ none. first_load none) (λ some. later_load (omega arith))
 
   -- the sum is no more than there were sections
@@ -129,6 +173,13 @@ module _ (e f : EngineView) (p ended found : ℕ) (i : Index) (seen : IsSeenByEn
     began = λ _. (u.first, u.began, u.least);
     most = u.most;
   }
+
+  pub scan_unlocks : FirstLoaded (seen_at_load (p + 1) f.steps) p (seen_at_load p e.steps) e.seen f.seen
+  scan_unlocks = let u = unlocked in first_as _ _ _ _ _ _ (began_seen (p + 1) f u.first u.began) u.scan
+
+  pub scan_last_unlocks : f.processors ≤ p + 1 → FirstLoaded (seen_at_load (f.processors + 0) f.steps) p (seen_at_load p e.steps) e.seen f.seen
+  scan_last_unlocks last = let there = here.there in let same = counts.step.same.1 in
+      subst (λ k. FirstLoaded (seen_at_load k f.steps) p (seen_at_load p e.steps) e.seen f.seen) (omega (arith, last, there, same)) scan_unlocks
 
   pub first_locks : f.processors ≤ p + 1 → InLocks f 0 (ended + found) 0
   first_locks last = let u = unlocked in let there = here.there in let same = counts.step.same.1 in
@@ -180,6 +231,17 @@ module _ (e f : EngineView) (p ended begun found : ℕ) (i : Index) (seen : IsSe
   began_now : BeganScan (f.processors + (p + 1)) f here.first
   began_now = let same = same_count in subst (λ k. BeganScan k f here.first) (omega (arith, same)) (began_still e f seen counts.step.history counts.step.since counts.step.changes_are (e.processors + p) 1 here.first (LoadLocks p i found (length f.seen) ∷ []) counts.step.steps refl here.began)
 
+  -- the scan is the one that was half done
+  scan_on : FirstLoaded (length here.first) (e.processors + p) (seen_at_load (e.processors + p) e.steps) e.seen f.seen
+  scan_on = let there = here.there in record { before = λ _. sym (began_seen (e.processors + p) e here.first here.began); now = λ none. absurd (omega (arith, none, there)) }
+
+  pub scan_locks : FirstLoaded (seen_at_load (f.processors + (p + 1)) f.steps) (e.processors + p) (seen_at_load (e.processors + p) e.steps) e.seen f.seen
+  scan_locks = first_as _ _ _ _ _ _ (began_seen (f.processors + (p + 1)) f here.first began_now) scan_on
+
+  pub scan_passed : f.processors ≤ p + 1 → FirstLoaded (seen_at_load (2 * f.processors) f.steps) (e.processors + p) (seen_at_load (e.processors + p) e.steps) e.seen f.seen
+  scan_passed last = let there = here.there in let same = same_count in
+      subst (λ k. FirstLoaded (seen_at_load k f.steps) (e.processors + p) (seen_at_load (e.processors + p) e.steps) e.seen f.seen) (omega (arith, last, there, same)) scan_locks
+
   pub still : IsScanning f
   still = still_scanning e f seen counts.step.history counts.step.since counts.step.changes_are here.scanning
 
@@ -223,7 +285,7 @@ module _ (e f : EngineView) (p ended begun found : ℕ) (i : Index) (seen : IsSe
       }
 
   -- unequal sums: one was open at some moment of the scan
-  pub waits : f.processors ≤ p + 1 → ended ≢ begun + found → Waits i f
+  pub waits : f.processors ≤ p + 1 → ended ≢ begun + found → (since : ℕ) × Waits i since f × FirstLoaded since (e.processors + p) (seen_at_load (e.processors + p) e.steps) e.seen f.seen
   waits last unequal =
       let there = here.there in let same = same_count in
       let n : p + 1 ≡ f.processors = omega (arith, last, there, same) in
@@ -234,11 +296,10 @@ module _ (e f : EngineView) (p ended begun found : ℕ) (i : Index) (seen : IsSe
       let late : begun + found ≤ all_locks f.processors i f.seen = subst (λ k. begun + found ≤ sum_below (λ q. locks q i f.seen) k) n most_begun in
       let b = began_now in
       let found_open = open_between f.processors i here.first f.seen b.seen counts.step.history.legal counts.step.history.makers (omega (arith, early, late, least, most, sums, unequal)) in
-      let count = b.count in record {
+      let count = b.count in (length here.first, record {
         running = busy_running f.changes f.seen (busy still.running) counts.step.history.reaches;
         before = b.before;
         found = b.found;
-        since = length here.first;
         rest = b.rest;
         steps = b.steps ∙ ap (λ j. b.before ++ LoadUnlocks 0 j b.found (length here.first) ∷ b.rest) (sym now_scanned_l);
         loads = omega (arith, count, n);
@@ -249,7 +310,7 @@ module _ (e f : EngineView) (p ended begun found : ℕ) (i : Index) (seen : IsSe
         section = found_open.section;
         is_open = found_open.is_open;
         of_index = found_open.of_index;
-      }
+      }, scan_on)
     where
       busy : IsBeforeFlip f.changes ⊎ IsBehindFlip f.changes → 0 < f.changes % 4
       busy (inl h) = omega (arith, h)
@@ -260,9 +321,10 @@ first_unlocks e s some = record { scanning = s; there = some; began = λ none. a
 
 -- Steps at the seat
 
-pub moves_by_load : (e f : EngineView) (l : Step) (place next : Place) (a : Progress) → TakesStep l e.changes e f → IsStepAt e.processors (half e.processors place) (scanned e) l → events_of a ≡ []
-    → Counts e.processors a (half e.processors place) (half e.processors next) → IsAt f next → next ≢ Wanted → SaysAt a f → ((n : ℕ) → a ≢ answer.Started n) → Moves e place f next a
-moves_by_load e f l place next a takes here none counts at other says no_start = record {
+pub moves_by_load : (e f : EngineView) (l : Step) (place next : Place) (a : Progress) → TakesStep l e.changes e f → IsStepAt e.processors (half e.processors place) (scanned e) l → events_of a ≡ [] → changes_for a ≡ 0
+    → (half e.processors place ≤ 2 * e.processors) × (half e.processors next ≤ 2 * e.processors) → Counts e.processors a (half e.processors place) (half e.processors next) → IsAt f next → ((n : ℕ) → next ≢ Wanted n)
+    → (0 < half e.processors next → FirstLoaded (began f next) (half e.processors place) (began e place) e.seen f.seen) → SaysAt a e place f → ((n : ℕ) → a ≢ answer.Started n) → Moves e place f next a
+moves_by_load e f l place next a takes here none unchanged within counts at other scan says no_start = record {
   same = takes.same;
   since = takes.since;
   history = takes.history;
@@ -272,9 +334,11 @@ moves_by_load e f l place next a takes here none counts at other says no_start =
   steps = takes.steps;
   one = let zero : length (events_of a) ≡ 0 = ap length none in omega (arith, zero);
   in_order = inr (l, refl, here);
+  changes = let same = takes.changes_are in let before = within.0 in let after = within.1 in omega (arith, same, before, after, unchanged);
   counts = counts;
   place_is = at;
-  not_wanted = other;
   says = says;
+  not_wanted = other;
+  scan = scan;
   started = λ n is. absurd (no_start n is);
 }

@@ -15,11 +15,12 @@ use Rattle.sections.specs.Driving.{IsSeenByEngine, IsSameEngine}
 use Rattle.sections.proofs.Counters.{sum_le, unlocks_grow, locks_grow}
 use Rattle.scan.specs.declared.place.Place.{Place}
 use Rattle.scan.specs.declared.place.Place.TheVariants.{Idle, Wanted, Unlocks, Locks, Passed, Flipped}
-use Rattle.scan.specs.Places.{scanned, BeganScan, InUnlocks, InLocks, HasPassed, IsHalfFlipped, IsAt}
+use Rattle.scan.specs.Places.{scanned, half, wanted, began, seen_at_load, BeganScan, InUnlocks, InLocks, HasPassed, IsHalfFlipped, IsAt}
 use Rattle.onedom.proofs.Pushes.{count_cons}
 use Rattle.sections.proofs.Agreement.{starts_mine}
-use Rattle.scan.specs.Progress.{is_counter_load, counter_loads}
-use Rattle.scan.proofs.Scans.{same_scanned, no_start, still_scanning, began_still}
+use Rattle.scan.specs.Progress.{is_counter_load, counter_loads, with_seat}
+use Rattle.scan.proofs.Scans.{same_scanned, no_start, still_scanning, began_still, seen_still}
+use Rattle.scan.proofs.Stepping.{viewed}
 
 -- only loads were made, and none of a counter
 pub record OnlySees (e f : EngineView) : Type 0 where
@@ -72,15 +73,26 @@ module _ (e f : EngineView) (h : OnlySees e f) where
 
   pub at_still : (p : Place) → IsAt e p → IsAt f p
   at_still Idle at = let same = h.changes in omega (arith, at, same)
-  at_still Wanted at = let same = h.changes in let periods = h.same.2 in let idle = at.0 in let room = at.1 in (omega (arith, idle, same), omega (arith, room, same, periods))
+  at_still (Wanted n) at = let idle = at.0 in let room = at.1 in let below = at.2 in let same = h.changes in let periods = h.same.2 in (omega (arith, idle, same), omega (arith, room, same, periods), omega (arith, below, same))
   at_still (Unlocks p ended) at = unlocks_on p ended at
   at_still (Locks p ended begun) at = locks_on p ended begun at
   at_still Passed at = record { scanning = still_scanning e f h.seen h.history h.since h.changes at.scanning; empty = subst (λ i. WasEmpty i f.seen) (sym scanned_still) (empty_on (scanned e) at.empty) }
   at_still (Flipped i) at = let same = h.changes in let flipping = at.flipping in record { flipping = omega (arith, flipping, same); index = at.index ∙ ap (λ c. low_bit (index_word c)) (sym same); empty = empty_on i at.empty }
 
-  -- no period has ended
-  pub ended_still : ended_in f.seen ≡ ended_in e.seen
-  ended_still = let a = h.seen.reaches.ended in let b = h.history.reaches.ended in let same = h.changes in omega (arith, a, b, same)
+  -- the scan that is half done began when it did
+  seen_at_load_still : (loads loads' : ℕ) → loads' ≡ loads → seen_at_load loads' f.steps ≡ seen_at_load loads e.steps
+  seen_at_load_still loads loads' is = ap (λ k. seen_at_load k f.steps) is ∙ (ap (seen_at_load loads) h.steps ∙ seen_still loads e.steps h.extra h.none)
+
+  began_still_there : (place : Place) → began f place ≡ began e place
+  began_still_there Idle = refl
+  began_still_there (Wanted n) = refl
+  began_still_there (Unlocks p ended) = seen_at_load_still p p refl
+  began_still_there (Locks p ended begun) = seen_at_load_still (e.processors + p) (f.processors + p) (ap (λ n. n + p) h.same.1)
+  began_still_there Passed = seen_at_load_still (2 * e.processors) (2 * f.processors) (ap (λ n. 2 * n) h.same.1)
+  began_still_there (Flipped i) = seen_at_load_still (2 * e.processors) (2 * f.processors) (ap (λ n. 2 * n) h.same.1)
+
+  pub still_viewed : {N : Type 0} (needs : N) (place : Place) → viewed f needs place ≡ with_seat f (viewed e needs place)
+  still_viewed needs place = λ k. record { seat = f; needs = needs; need = wanted place; half = half (h.same.1 k) place; began = began_still_there place k }
 
 -- a seat that made no event has started no period
 pub untouched : (e : EngineView) → IsSeenByEngine e → e.mine ≡ [] → IsIdle e.changes

@@ -1,7 +1,7 @@
 -- From a step at the seat to a step of the engine.
 use Rattle.std.proofs.Common.{◌≡◌, ℕ, ◌+◌, ◌*◌, ◌%◌, ◌<◌, ◌≤◌, ◌≢◌, ◌⊎◌, inl, inr, ⊎_elim, Result, Ok, Err, IsErr, MatchResult, List, [], ◌∷◌, ◌++◌, length, refl, sym, ap, ◌∙◌, subst, append_assoc, append-nil, length-append, arith}
 use Rattle.onedom.specs.declared.event.Event.{Event}
-use Rattle.onedom.specs.Histories.{ended_in, IsRunning}
+use Rattle.onedom.specs.Histories.{ended_in, IsRunning, IsBeginning}
 use Rattle.sections.specs.Words.{number_word, IsIdle, IsBeforeFlip, IsBehindFlip}
 use Rattle.sections.specs.Driving.{IsSeenByEngine}
 use Rattle.sections.proofs.Agreement.{busy_running, idle_not_running}
@@ -10,28 +10,30 @@ use Rattle.scan.specs.declared.place.Place.{Place}
 use Rattle.scan.specs.declared.place.Place.TheVariants.{Idle, Wanted, Unlocks, Locks, Passed, Flipped}
 use Rattle.scan.specs.declared.progress.Progress.{Progress}
 use Rattle.scan.specs.declared.progress.Progress.TheVariants as answer
-use Rattle.scan.specs.Places.{half, IsAt, SaysAt, Moves}
+use Rattle.scan.specs.Places.{half, began, wanted, IsScanning, IsAt, SaysAt, Moves}
 use Rattle.scan.specs.declared.progress.Exhausted.{Exhausted}
-use Rattle.scan.specs.Progress.{ScanView, steps_made, steps_for, events_of, Says, NothingIsAsked, IsAskedFor, Counts, NeedsLoaded, GoesOn, StepsTo, AdvancesTo, FindsExhausted}
-use Rattle.onedom.proofs.Beginnings.{beginning_refl, beginning_trans}
+use Rattle.scan.specs.Progress.{ScanView, number_at_rest, steps_for, events_of, changes_for, half_changes, FirstLoaded, Says, Counts, NeedsLoaded, GoesOn, StepsTo, AdvancesTo, FindsExhausted}
+use Rattle.onedom.proofs.Beginnings.{beginning_refl, beginning_trans, length_grows}
 
-abbrev pub viewed : EngineView → List ℕ → ℕ → Place → ScanView
-viewed e found known place = record { seat = e; found = found; known = known; half = half e.processors place }
+module _ {N : Type 0} where
+  abbrev pub viewed : EngineView → N → Place → ScanView N
+  viewed e needs place = record { seat = e; needs = needs; need = wanted place; half = half e.processors place; began = began e place }
 
-still_asked : (e f : EngineView) (found : List ℕ) (known known' h h' : ℕ) → ended_in f.seen ≡ ended_in e.seen → IsAskedFor (record { seat = e; found = found; known = known; half = h }) → IsAskedFor (record { seat = f; found = found; known = known'; half = h' })
-still_asked e f found known known' h h' same asked = let beyond = asked.beyond in record { before = asked.before; need = asked.need; load = asked.load; beyond = omega (arith, beyond, same) }
-
-says_from : (e f : EngineView) (found : List ℕ) (known : ℕ) (place next : Place) (a : Progress) → Moves e place f next a → SaysAt a f → (place ≡ Wanted → IsAskedFor (viewed e found known place)) → Says a (viewed f found known next)
-says_from e f found known place next answer.Idle m says asked = absurd says
-says_from e f found known place next (answer.Started n) m says asked = let w = m.started n refl in (says, still_asked e f found known known _ _ w.1 (asked w.0))
-says_from e f found known place next (answer.Flipped i) m says asked = says
-says_from e f found known place next (answer.Ended n) m says asked = says
-says_from e f found known place next (answer.Waiting i) m says asked = says
-says_from e f found known place next answer.Step m says asked = tt
+-- what an answer says of the seat, the engine says
+says_from : {N : Type 0} (e f : EngineView) (needs : N) (place next : Place) (a : Progress) → IsSeenByEngine e → IsAt e place → Moves e place f next a → SaysAt a e place f → Says a (wanted place) (viewed e needs place) (viewed f needs next)
+says_from e f needs place next answer.Idle seen at m says = absurd says
+says_from e f needs place next (answer.Started n) seen at m says = let w = m.started n refl in
+    let is : place ≡ Wanted w.0 = w.1 in let here : IsIdle e.changes × (number_word e.changes < 4 * e.periods) × (number_word e.changes < w.0) = subst (λ p. IsAt e p) is at in
+    let idle = here.0 in let below = here.2 in let same = w.2 in let ended = seen.reaches.ended in
+    (says, subst (λ p. number_at_rest f.seen < wanted p) (sym is) (omega (arith, idle, below, same, ended)))
+says_from e f needs place next (answer.Flipped i) seen at m says = says
+says_from e f needs place next (answer.Ended n) seen at m says = says
+says_from e f needs place next (answer.Waiting i) seen at m says = (says.0, says.1, λ _. says.2)
+says_from e f needs place next answer.Step seen at m says = tt
 
 pub half_few : (e : EngineView) (p : Place) → IsAt e p → 1 ≤ e.processors → half e.processors p ≤ 2 * e.processors + 1
 half_few e Idle at some = omega arith
-half_few e Wanted at some = omega (arith, some)
+half_few e (Wanted n) at some = omega (arith, some)
 half_few e (Unlocks p ended) at some = let there = at.there in omega (arith, there)
 half_few e (Locks p ended begun) at some = let there = at.there in omega (arith, there)
 half_few e Passed at some = omega arith
@@ -40,7 +42,7 @@ half_few e (Flipped i) at some = omega arith
 -- where something is to be done and nothing is half done, a period runs
 pub nothing_half_runs : (e : EngineView) (p : Place) → p ≢ Idle → IsSeenByEngine e → IsAt e p → 1 ≤ e.processors → half e.processors p ≡ 0 → IsRunning e.seen
 nothing_half_runs e Idle other seen at some none = absurd (other refl)
-nothing_half_runs e Wanted other seen at some none = absurd (omega (arith, none))
+nothing_half_runs e (Wanted n) other seen at some none = absurd (omega (arith, none))
 nothing_half_runs e (Unlocks p ended) other seen at some none = busy_running e.changes e.seen (busy at.scanning.running) seen.reaches
   where
     busy : IsBeforeFlip e.changes ⊎ IsBehindFlip e.changes → 0 < e.changes % 4
@@ -50,101 +52,212 @@ nothing_half_runs e (Locks p ended begun) other seen at some none = absurd (omeg
 nothing_half_runs e Passed other seen at some none = absurd (omega (arith, none, some))
 nothing_half_runs e (Flipped i) other seen at some none = absurd (omega (arith, none))
 
-pub steps_from : (e f : EngineView) (found : List ℕ) (known : ℕ) (place next : Place) (a : Progress) → 1 ≤ e.processors → place ≢ Idle → IsSeenByEngine e → IsAt e place → (place ≡ Wanted → IsAskedFor (viewed e found known place)) → Moves e place f next a
-    → StepsTo (viewed e found known place) a (viewed f found known next)
-steps_from e f found known place next a some not_idle seen at asked m = let same = m.same.1 in record {
-  goes_on = record { same = m.same; since = m.since; history = m.history; later = m.later; made = m.made; steps = m.steps };
-  one = let one = m.one in let x : length f.mine ≡ length (e.mine ++ events_of a) = ap length m.events in let y : length f.steps ≡ length (e.steps ++ m.made) = ap length m.steps in
-      let more = length-append e.mine (events_of a) in let most = length-append e.steps m.made in omega (arith, one, x, y, more, most);
-  events = m.events;
-  needs = record { at_rest = λ resting none. absurd (resting (nothing_half_runs e place not_idle seen at some none)); busy = λ _. (refl, refl) };
-  in_order = m.in_order;
-  counts = subst (λ n. Counts e.processors a (half e.processors place) (half n next)) (sym same) m.counts;
-  few = let few = half_few f next m.place_is (omega (arith, some, same)) in omega (arith, few, same);
-  says = says_from e f found known place next a m m.says asked;
-}
+scanning_runs : (e : EngineView) → IsSeenByEngine e → IsScanning e → IsRunning e.seen
+scanning_runs e seen s = busy_running e.changes e.seen (busy s.running) seen.reaches
+  where
+    busy : IsBeforeFlip e.changes ⊎ IsBehindFlip e.changes → 0 < e.changes % 4
+    busy (inl h) = omega (arith, h)
+    busy (inr h) = omega (arith, h)
+
+-- at each place but two a period runs
+pub place_runs : (e : EngineView) (p : Place) → p ≢ Idle → ((n : ℕ) → p ≢ Wanted n) → IsSeenByEngine e → IsAt e p → IsRunning e.seen
+place_runs e Idle some other seen at = absurd (some refl)
+place_runs e (Wanted n) some other seen at = absurd (other n refl)
+place_runs e (Unlocks p ended) some other seen at = scanning_runs e seen at.scanning
+place_runs e (Locks p ended begun) some other seen at = scanning_runs e seen at.scanning
+place_runs e Passed some other seen at = scanning_runs e seen at.scanning
+place_runs e (Flipped i) some other seen at = let flipping = at.flipping in busy_running e.changes e.seen (omega (arith, flipping)) seen.reaches
+
+not_idle : (n : ℕ) (p : Place) → 0 < half n p → p ≢ Idle
+not_idle n p some is = let none : half n p ≡ 0 = ap (half n) is in omega (arith, some, none)
+
+-- where something is half done, a period runs, unless one is wanted
+half_runs : (n : ℕ) (e : EngineView) (p : Place) → ((n : ℕ) → p ≢ Wanted n) → IsSeenByEngine e → IsAt e p → 0 < half n p → IsRunning e.seen
+half_runs n e p other seen at some = place_runs e p (not_idle n p some) other seen at
+
+-- what was wanted is started, in one step
+after_wanted : (e f : EngineView) (n : ℕ) (next : Place) (a : Progress) → 1 ≤ e.processors → IsIdle e.changes → Moves e (Wanted n) f next a → half e.processors next ≡ 0
+after_wanted e f n next answer.Idle some idle m = m.counts.1
+after_wanted e f n next (answer.Started k) some idle m = m.counts.1
+after_wanted e f n next (answer.Flipped i) some idle m = m.counts.1
+after_wanted e f n next (answer.Ended k) some idle m = m.counts.1
+after_wanted e f n next (answer.Waiting i) some idle m = m.counts.1
+after_wanted e f n next answer.Step some idle m =
+    let two = m.counts in let changes = m.changes in
+    absurd (idle_not_running f.changes f.seen (omega (arith, idle, two, changes, some)) m.history.reaches (half_runs e.processors f next m.not_wanted m.history m.place_is (omega (arith, two))))
+
+none_wanted : (p : Place) → ((n : ℕ) → p ≢ Wanted n) → wanted p ≡ 0
+none_wanted Idle other = refl
+none_wanted (Wanted n) other = absurd (other n refl)
+none_wanted (Unlocks p ended) other = refl
+none_wanted (Locks p ended begun) other = refl
+none_wanted Passed other = refl
+none_wanted (Flipped i) other = refl
+
+-- where there is more to do, nothing else is wanted than before
+need_kept : (e f : EngineView) (place next : Place) (a : Progress) → 1 ≤ e.processors → IsAt e place → Moves e place f next a → 0 < half e.processors next → wanted next ≡ wanted place
+need_kept e f Idle next a some at m more = none_wanted next m.not_wanted
+need_kept e f (Wanted n) next a some at m more = absurd (let done = after_wanted e f n next a some at.0 m in omega (arith, more, done))
+need_kept e f (Unlocks p ended) next a some at m more = none_wanted next m.not_wanted
+need_kept e f (Locks p ended begun) next a some at m more = none_wanted next m.not_wanted
+need_kept e f Passed next a some at m more = none_wanted next m.not_wanted
+need_kept e f (Flipped i) next a some at m more = none_wanted next m.not_wanted
+
+-- at rest nothing more is to be done
+resting_done : (e f : EngineView) (place next : Place) (a : Progress) → 1 ≤ e.processors → place ≢ Idle → IsSeenByEngine e → IsAt e place → Moves e place f next a → ¬ IsRunning e.seen → half e.processors next ≡ 0
+resting_done e f Idle next a some other seen at m resting = absurd (other refl)
+resting_done e f (Wanted n) next a some other seen at m resting = after_wanted e f n next a some at.0 m
+resting_done e f (Unlocks p ended) next a some other seen at m resting = absurd (resting (place_runs e (Unlocks p ended) other (λ n h. cc) seen at))
+resting_done e f (Locks p ended begun) next a some other seen at m resting = absurd (resting (place_runs e (Locks p ended begun) other (λ n h. cc) seen at))
+resting_done e f Passed next a some other seen at m resting = absurd (resting (place_runs e Passed other (λ n h. cc) seen at))
+resting_done e f (Flipped i) next a some other seen at m resting = absurd (resting (place_runs e (Flipped i) other (λ n h. cc) seen at))
+
+module _ {N : Type 0} (loads : N → ℕ → N → Type 0) where
+  pub steps_from : (e f : EngineView) (needs : N) (place next : Place) (a : Progress) → 1 ≤ e.processors → place ≢ Idle → IsSeenByEngine e → IsAt e place → Moves e place f next a → StepsTo loads (viewed e needs place) a (viewed f needs next)
+  steps_from e f needs place next a some not_idle seen at m = let same = m.same.1 in
+      let there : (p : Place) → half f.processors p ≡ half e.processors p = λ p. ap (λ n. half n p) same in record {
+    goes_on = record { same = m.same; since = m.since; history = m.history; later = m.later; made = m.made; steps = m.steps };
+    events = m.events;
+    needs = record { count = 0; need = wanted place; at_rest = λ resting none. absurd (resting (nothing_half_runs e place not_idle seen at some none)); busy = λ _. (refl, refl, refl) };
+    one = let one = m.one in omega (arith, one);
+    in_order = m.in_order;
+    changes = let changes = m.changes in let here = there next in omega (arith, changes, here);
+    counts = subst (λ n. Counts e.processors a (half e.processors place) n) (sym (there next)) m.counts;
+    few = let few = half_few f next m.place_is (omega (arith, some, same)) in omega (arith, few, same);
+    says = says_from e f needs place next a seen at m m.says;
+    need = λ more. need_kept e f place next a some at m (subst (λ n. 0 < n) (there next) more);
+    wanted = λ resting more. absurd (let done = resting_done e f place next a some not_idle seen at m resting in let here = there next in omega (arith, more, done, here));
+    scan = λ running more. (half_runs f.processors f next m.not_wanted m.history m.place_is more, m.scan (subst (λ n. 0 < n) (there next) more));
+  }
 
 -- Several steps
 
--- after some steps without an answer: none, or more is half done than there was
-pub record HasMoved (v w : ScanView) : Type 0 where
+-- after some steps without an answer more is half done than there was
+pub record HasMoved {N : Type 0} (loads : N → ℕ → N → Type 0) (v w : ScanView N) : Type 0 where
   pub goes_on : GoesOn v w
   pub more : v.half < w.half
   pub events : w.seat.mine ≡ v.seat.mine
-  pub needs : NeedsLoaded v w
+  pub needs : NeedsLoaded loads v w
+  pub steps : length goes_on.made + needs.count + v.half ≡ w.half
+  pub changes : w.seat.changes + half_changes v.seat.processors v.half ≡ v.seat.changes + half_changes v.seat.processors w.half
+  pub need : w.need ≡ needs.need
+  pub scan : IsRunning v.seat.seen → IsRunning w.seat.seen × FirstLoaded w.began v.half v.began v.seat.seen w.seat.seen
 
-pub record IsUnderWay (v w : ScanView) : Type 0 where
-  pub moved : (w ≡ v) ⊎ HasMoved v w
-  pub steps : steps_made w + v.half ≡ steps_made v + w.half
-  pub same : w.seat.processors ≡ v.seat.processors
+module _ {N : Type 0} (loads : N → ℕ → N → Type 0) where
+  abbrev goes_further : (u v w : ScanView N) → GoesOn u v → GoesOn v w → GoesOn u w
+  goes_further u v w a b = let x = a.later in let y = b.later in record {
+    same = (b.same.0 ∙ a.same.0, b.same.1 ∙ a.same.1, b.same.2 ∙ a.same.2);
+    since = beginning_trans a.since b.since;
+    history = b.history;
+    later = omega (arith, x, y);
+    made = a.made ++ b.made;
+    steps = b.steps ∙ (ap (λ l. l ++ b.made) a.steps ∙ append_assoc u.seat.steps a.made b.made);
+  }
 
-pub nothing_yet : (v : ScanView) → IsUnderWay v v
-nothing_yet v = record { moved = inl refl; steps = refl; same = refl }
+  -- where more is half done, the need was loaded before
+  abbrev needs_further : (u v w : ScanView N) → HasMoved loads u v → NeedsLoaded loads v w → NeedsLoaded loads u w
+  needs_further u v w moved n =
+      let some = moved.more in
+      let still = n.busy (inr (omega (arith, some))) in record {
+        count = moved.needs.count + n.count;
+        need = n.need;
+        at_rest = λ resting none. let l = moved.needs.at_rest resting none in let one = l.0 in let zero = still.0 in
+            (omega (arith, one, zero), subst (λ m. loads u.needs m w.needs) (sym (still.2 ∙ moved.need)) (subst (λ x. loads u.needs moved.needs.need x) (sym still.1) l.1));
+        busy = λ b. let s = moved.needs.busy b in let x = s.0 in let y = still.0 in (omega (arith, x, y), still.1 ∙ s.1, still.2 ∙ (moved.need ∙ s.2));
+      }
 
-goes_further : (u v w : ScanView) → GoesOn u v → GoesOn v w → GoesOn u w
-goes_further u v w a b = let x = a.later in let y = b.later in record {
-  same = (b.same.0 ∙ a.same.0, b.same.1 ∙ a.same.1, b.same.2 ∙ a.same.2);
-  since = beginning_trans a.since b.since;
-  history = b.history;
-  later = omega (arith, x, y);
-  made = a.made ++ b.made;
-  steps = b.steps ∙ (ap (λ l. l ++ b.made) a.steps ∙ append_assoc u.seat.steps a.made b.made);
-}
+  scan_further : (u v w : ScanView N) (since : ℕ) → HasMoved loads u v → IsBeginning v.seat.seen w.seat.seen → FirstLoaded since v.half v.began v.seat.seen w.seat.seen → IsRunning u.seat.seen → FirstLoaded since u.half u.began u.seat.seen w.seat.seen
+  scan_further u v w since moved later first running = let some = moved.more in let is = first.before (omega (arith, some)) in let before = (moved.scan running).1 in record {
+    before = λ h. is ∙ before.before h;
+    now = λ none. let here = before.now none in let low = here.0 in let high = here.1 in let longer = length_grows later in (omega (arith, low, is), omega (arith, high, is, longer));
+  }
 
-all_the_way : (u v w : ScanView) → (v ≡ u) ⊎ HasMoved u v → GoesOn v w → GoesOn u w
-all_the_way u v w (inl same) b = subst (λ z. GoesOn z w) same b
-all_the_way u v w (inr moved) b = goes_further u v w moved.goes_on b
+  says_further : (u v w : ScanView N) (a : Progress) (need : ℕ) → HasMoved loads u v → IsBeginning v.seat.seen w.seat.seen → Says a need v w → Says a need u w
+  says_further u v w answer.Idle need moved later says = says
+  says_further u v w (answer.Started n) need moved later says = says
+  says_further u v w (answer.Flipped i) need moved later says = says
+  says_further u v w (answer.Ended n) need moved later says = says
+  says_further u v w (answer.Waiting i) need moved later says = (says.0, says.1, λ running. scan_further u v w says.0 moved later (says.2 (moved.scan running).0) running)
+  says_further u v w answer.Step need moved later says = says
 
--- where more is half done, the need was loaded before
-needs_further : (u v w : ScanView) → (v ≡ u) ⊎ HasMoved u v → NeedsLoaded v w → NeedsLoaded u w
-needs_further u v w (inl same) n = subst (λ z. NeedsLoaded z w) same n
-needs_further u v w (inr moved) n =
-    let some = moved.more in
-    let still = n.busy (inr (omega (arith, some))) in record {
-      at_rest = λ resting none. let l = moved.needs.at_rest resting none in record { need = l.need; found = still.0 ∙ l.found; since = l.since; known = still.1 ∙ l.known };
-      busy = λ b. let s = moved.needs.busy b in (still.0 ∙ s.0, still.1 ∙ s.1);
-    }
+  counted : (n : ℕ) (a : Progress) (before after : ℕ) → a ≢ answer.Step → Counts n a before after → (before + 1 ≡ steps_for n a) × (after ≡ 0)
+  counted n answer.Idle before after other c = c
+  counted n (answer.Started m) before after other c = c
+  counted n (answer.Flipped i) before after other c = c
+  counted n (answer.Ended m) before after other c = c
+  counted n (answer.Waiting i) before after other c = c
+  counted n answer.Step before after other c = absurd (other refl)
 
-events_further : (u v w : ScanView) (es : List Event) → (v ≡ u) ⊎ HasMoved u v → w.seat.mine ≡ v.seat.mine ++ es → w.seat.mine ≡ u.seat.mine ++ es
-events_further u v w es (inl same) h = h ∙ ap (λ (z : ScanView). z.seat.mine ++ es) same
-events_further u v w es (inr moved) h = h ∙ ap (λ l. l ++ es) moved.events
+  first_step : (u w : ScanView N) → StepsTo loads u answer.Step w → HasMoved loads u w
+  first_step u w s = let next = s.counts in let one = s.one in let changes = s.changes in record {
+    goes_on = s.goes_on;
+    more = omega (arith, next);
+    events = s.events ∙ append-nil u.seat.mine;
+    needs = s.needs;
+    steps = omega (arith, one, next);
+    changes = omega (arith, changes);
+    need = s.need (omega (arith, next));
+    scan = λ running. s.scan running (omega (arith, next));
+  }
 
-pub under_way : (u v w : ScanView) → IsUnderWay u v → StepsTo v answer.Step w → IsUnderWay u w
-under_way u v w h s = let steps = h.steps in let one = s.one in let next = s.counts in record {
-  moved = inr (record { goes_on = all_the_way u v w h.moved s.goes_on; more = further u v w h.moved next; events = events_further u v w [] h.moved s.events ∙ append-nil u.seat.mine; needs = needs_further u v w h.moved s.needs });
-  steps = omega (arith, steps, one, next);
-  same = s.goes_on.same.1 ∙ h.same;
-}
-  where
-    further : (u v w : ScanView) → (v ≡ u) ⊎ HasMoved u v → w.half ≡ v.half + 1 → u.half < w.half
-    further u v w (inl same) next = let e : v.half ≡ u.half = ap (λ (z : ScanView). z.half) same in omega (arith, e, next)
-    further u v w (inr moved) next = let more = moved.more in omega (arith, more, next)
+  next_step : (u v w : ScanView N) → HasMoved loads u v → StepsTo loads v answer.Step w → HasMoved loads u w
+  next_step u v w moved s =
+      let next = s.counts in let one = s.one in let before = moved.steps in let more = moved.more in let same = moved.goes_on.same.1 in
+      let was = moved.changes in let changes = s.changes in
+      let made = length-append moved.goes_on.made s.goes_on.made in record {
+        goes_on = goes_further u v w moved.goes_on s.goes_on;
+        more = omega (arith, next, more);
+        events = s.events ∙ (append-nil v.seat.mine ∙ moved.events);
+        needs = needs_further u v w moved s.needs;
+        steps = omega (arith, made, one, next, before);
+        changes = omega (arith, was, changes, same);
+        need = s.need (omega (arith, next));
+        scan = λ running. let first = s.scan (moved.scan running).0 (omega (arith, next)) in (first.0, scan_further u v w w.began moved s.goes_on.since first.1 running);
+      }
 
-counted : (n : ℕ) (a : Progress) (before after : ℕ) → a ≢ answer.Step → Counts n a before after → (before + 1 ≡ steps_for n a) × (after ≡ 0)
-counted n answer.Idle before after other c = c
-counted n (answer.Started m) before after other c = c
-counted n (answer.Flipped i) before after other c = c
-counted n (answer.Ended m) before after other c = c
-counted n (answer.Waiting i) before after other c = c
-counted n answer.Step before after other c = absurd (other refl)
+  pub under_way : (u v w : ScanView N) → (v ≡ u) ⊎ HasMoved loads u v → StepsTo loads v answer.Step w → (w ≡ u) ⊎ HasMoved loads u w
+  under_way u v w (inl same) s = inr (first_step u w (subst (λ z. StepsTo loads z answer.Step w) same s))
+  under_way u v w (inr moved) s = inr (next_step u v w moved s)
 
-pub arrives : (u v w : ScanView) (a : Progress) → IsUnderWay u v → StepsTo v a w → a ≢ answer.Step → AdvancesTo u a w
-arrives u v w a h s other =
-    let c = counted v.seat.processors a v.half w.half other s.counts in
-    let steps = h.steps in
-    let one = s.one in
-    let taken : v.half + 1 ≡ steps_for u.seat.processors a = c.0 ∙ ap (λ n. steps_for n a) h.same in record {
-      goes_on = all_the_way u v w h.moved s.goes_on;
-      answer = other;
-      steps = omega (arith, steps, one, taken);
-      events = events_further u v w (events_of a) h.moved s.events;
-      needs = needs_further u v w h.moved s.needs;
-      done = c.1;
-      says = s.says;
-    }
+  at_once : (u w : ScanView N) (a : Progress) → StepsTo loads u a w → a ≢ answer.Step → AdvancesTo loads u a w
+  at_once u w a s other = let c = counted u.seat.processors a u.half w.half other s.counts in let one = s.one in let taken = c.0 in let none = c.1 in let changes = s.changes in record {
+    goes_on = s.goes_on;
+    answer = other;
+    events = s.events;
+    needs = s.needs;
+    steps = omega (arith, one, taken);
+    changes = omega (arith, changes, none);
+    done = none;
+    says = s.says;
+  }
 
-pub exhausted : (u v w : ScanView) → IsUnderWay u v → FindsExhausted v w → FindsExhausted u w
-exhausted u v w h x = ⊎_elim (λ (same : v ≡ u). subst (λ z. FindsExhausted z w) same x) (λ (moved : HasMoved u v). let more = moved.more in let none = x.nothing_half in absurd (omega (arith, more, none))) h.moved
+  at_last : (u v w : ScanView N) (a : Progress) → HasMoved loads u v → StepsTo loads v a w → a ≢ answer.Step → AdvancesTo loads u a w
+  at_last u v w a moved s other =
+      let c = counted v.seat.processors a v.half w.half other s.counts in let one = s.one in let none = c.1 in let before = moved.steps in
+      let was = moved.changes in let changes = s.changes in let same = moved.goes_on.same.1 in
+      let taken : v.half + 1 ≡ steps_for u.seat.processors a = c.0 ∙ ap (λ n. steps_for n a) same in
+      let made = length-append moved.goes_on.made s.goes_on.made in record {
+        goes_on = goes_further u v w moved.goes_on s.goes_on;
+        answer = other;
+        events = s.events ∙ ap (λ l. l ++ events_of a) moved.events;
+        needs = needs_further u v w moved s.needs;
+        steps = omega (arith, made, one, before, taken);
+        changes = omega (arith, was, changes, same, none);
+        done = none;
+        says = says_further u v w a s.needs.need moved s.goes_on.since s.says;
+      }
+
+  pub arrives : (u v w : ScanView N) (a : Progress) → (v ≡ u) ⊎ HasMoved loads u v → StepsTo loads v a w → a ≢ answer.Step → AdvancesTo loads u a w
+  arrives u v w a (inl same) s other = at_once u w a (subst (λ z. StepsTo loads z a w) same s) other
+  arrives u v w a (inr moved) s other = at_last u v w a moved s other
+
+  pub exhausted : (u v w : ScanView N) → (v ≡ u) ⊎ HasMoved loads u v → FindsExhausted loads v w → FindsExhausted loads u w
+  exhausted u v w (inl same) x = subst (λ z. FindsExhausted loads z w) same x
+  exhausted u v w (inr moved) x = let more = moved.more in let none = x.nothing_half in absurd (omega (arith, more, none))
+
+  pub same_processors : (u v : ScanView N) → (v ≡ u) ⊎ HasMoved loads u v → v.seat.processors ≡ u.seat.processors
+  same_processors u v (inl same) = ap (λ (z : ScanView N). z.seat.processors) same
+  same_processors u v (inr moved) = moved.goes_on.same.1
 
 pub at_error : (r : Result Progress Exhausted) (P : Progress → Type 0) (Q : Type 0) → IsErr r → Q → MatchResult r P (λ _. Q)
 at_error (Ok a) P Q is q = absurd cc
@@ -152,23 +265,50 @@ at_error (Err x) P Q is q = q
 
 -- At rest
 
--- the need was loaded, and nothing was done
-pub needs_at_rest : (e : EngineView) (found found' : List ℕ) (known known' need : ℕ) (place next : Place) (a : Progress) → place ≡ Idle → 1 ≤ e.processors → IsSeenByEngine e → IsIdle e.changes → found' ≡ found ++ need ∷ [] → known ≤ need → known' ≡ need
-    → events_of a ≡ [] → Counts e.processors a 0 (half e.processors next) → half e.processors next ≤ 1 → Says a (viewed e found' known' next) → StepsTo (viewed e found known place) a (viewed e found' known' next)
-needs_at_rest e found found' known known' need place next a here some seen idle load since now none counts few says = subst (λ p. StepsTo (viewed e found known p) a (viewed e found' known' next)) (sym here) record {
-  goes_on = record { same = (refl, refl, refl); since = beginning_refl e.seen; history = seen; later = omega arith; made = []; steps = sym (append-nil e.steps) };
-  one = let x : length found' ≡ length (found ++ need ∷ []) = ap length load in let more = length-append found (need ∷ []) in omega (arith, x, more);
-  events = sym (append-nil e.mine) ∙ ap (λ l. e.mine ++ l) (sym none);
-  needs = record {
-    at_rest = λ _ _. record { need = need; found = load; since = since; known = now };
-    busy = λ b. absurd (⊎_elim (λ (running : IsRunning e.seen). idle_not_running e.changes e.seen idle seen.reaches running) (λ (some_half : 0 < 0). omega (arith, some_half)) b);
-  };
-  in_order = inl refl;
-  counts = counts;
-  few = omega (arith, few, some);
-  says = says;
-}
+module _ {N : Type 0} (loads : N → ℕ → N → Type 0) (e : EngineView) (some : 1 ≤ e.processors) (seen : IsSeenByEngine e) (idle : IsIdle e.changes) (needs needs' : N) (need : ℕ) (found : loads needs need needs') where
+  resting : ¬ IsRunning e.seen
+  resting running = idle_not_running e.changes e.seen idle seen.reaches running
 
-pub nothing_asked : (e : EngineView) (found found' : List ℕ) (known known' need number h : ℕ) → IsSeenByEngine e → IsIdle e.changes → found' ≡ found ++ need ∷ [] → number ≡ number_word e.changes → need ≤ number → (¬ IsRunning e.seen) × NothingIsAsked (record { seat = e; found = found'; known = known'; half = h })
-nothing_asked e found found' known known' need number h seen idle load is low =
-    (idle_not_running e.changes e.seen idle seen.reaches, record { before = found; need = need; load = load; done = let ended = seen.reaches.ended in omega (arith, ended, idle, is, low) })
+  -- the need was loaded, and nothing was done
+  pub loaded_at_rest : (next : Place) (a : Progress) → events_of a ≡ [] → changes_for a ≡ 0 → Counts e.processors a 0 (half e.processors next) → half e.processors next ≤ 1
+      → Says a need (viewed e needs Idle) (viewed e needs' next) → (0 < half e.processors next → (wanted next ≡ need) × (number_at_rest e.seen < need)) → StepsTo loads (viewed e needs Idle) a (viewed e needs' next)
+  loaded_at_rest next a none unchanged counts few says more = record {
+    goes_on = record { same = (refl, refl, refl); since = beginning_refl e.seen; history = seen; later = omega arith; made = []; steps = sym (append-nil e.steps) };
+    events = sym (append-nil e.mine) ∙ ap (λ l. e.mine ++ l) (sym none);
+    needs = record {
+      count = 1;
+      need = need;
+      at_rest = λ _ _. (refl, found);
+      busy = λ b. absurd (⊎_elim resting (λ (some_half : 0 < 0). omega (arith, some_half)) b);
+    };
+    one = let nothing : length (events_of a) ≡ 0 = ap length none in omega (arith, nothing);
+    in_order = inl refl;
+    changes = omega (arith, few, some, unchanged);
+    counts = counts;
+    few = omega (arith, few, some);
+    says = says;
+    need = λ h. (more h).0;
+    wanted = λ _ h. (more h).1;
+    scan = λ running h. absurd (resting running);
+  }
+
+  -- it tells of no period that is still to come
+  pub nothing_asked : need ≤ number_word e.changes → StepsTo loads (viewed e needs Idle) answer.Idle (viewed e needs' Idle)
+  nothing_asked low = loaded_at_rest Idle answer.Idle refl refl (refl, refl) (omega arith) (resting, let ended = seen.reaches.ended in omega (arith, ended, idle, low)) (λ h. absurd (omega (arith, h)))
+
+  -- it tells of one
+  pub is_asked : number_word e.changes < need → StepsTo loads (viewed e needs Idle) answer.Step (viewed e needs' (Wanted need))
+  is_asked high = loaded_at_rest (Wanted need) answer.Step refl refl refl (omega arith) tt (λ h. (refl, let ended = seen.reaches.ended in omega (arith, ended, idle, high)))
+
+  -- and there may be no more
+  pub none_left : number_word e.changes < need → number_word e.changes ≡ 4 * e.periods → FindsExhausted loads (viewed e needs Idle) (viewed e needs' Idle)
+  none_left high full = let ended = seen.reaches.ended in record {
+    nothing_half = refl;
+    seat = refl;
+    need = need;
+    load = found;
+    still_nothing = refl;
+    resting = resting;
+    ended = omega (arith, ended, idle, full);
+    asked = omega (arith, ended, idle, high);
+  }

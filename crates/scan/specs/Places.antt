@@ -1,15 +1,15 @@
 -- What is known at each place of a grace period.
-use Rattle.std.specs.Prelude.{◌≡◌, ◌≢◌, ℕ, ◌+◌, ◌*◌, ◌<◌, ◌≤◌, ◌⊎◌, List, [], ◌∷◌, ◌++◌, length}
+use Rattle.std.specs.Prelude.{◌≡◌, ◌≢◌, ℕ, ◌+◌, ◌*◌, ◌<◌, ◌≤◌, ◌⊎◌, ◌==◌, List, [], ◌∷◌, ◌++◌, length, if◌then◌else◌}
 use Rattle.sseq.specs.declared.index.Index.{Index}
 use Rattle.sseq.specs.Indexes.{low_bit, other_index}
 use Rattle.onedom.specs.declared.event.Event.{Event}
 use Rattle.onedom.specs.Histories.{starts_in, ended_in, WasEmpty, IsBeginning}
 use Rattle.sections.specs.declared.view.Step.{Step}
-use Rattle.sections.specs.declared.view.Step.TheVariants.{LoadUnlocks}
+use Rattle.sections.specs.declared.view.Step.TheVariants.{LoadIndex, LoadUnlocks, LoadLocks, AddIndex, AddNumber}
 use Rattle.sections.specs.Words.{index_word, number_word, locks, unlocks, sum_below, all_unlocks, IsIdle, IsBeforeFlip, IsFlipping, IsBehindFlip}
 use Rattle.sections.specs.Views.{EngineView}
 use Rattle.sections.specs.Driving.{IsSeenByEngine, IsSameEngine}
-use Rattle.scan.specs.Progress.{events_of, IsStepAt, counter_loads, HasStarted, HasFlipped, HasEnded, Waits, Counts}
+use Rattle.scan.specs.Progress.{events_of, IsStepAt, counter_loads, HasStarted, HasFlipped, HasEnded, Waits, FirstLoaded, Counts, changes_for, half_changes}
 use Rattle.scan.specs.declared.place.Place.{Place}
 use Rattle.scan.specs.declared.place.Place.TheVariants.{Idle, Wanted, Unlocks, Locks, Passed, Flipped}
 use Rattle.scan.specs.declared.progress.Progress.{Progress}
@@ -25,11 +25,38 @@ scanned e = other_index (current e)
 -- how many steps were made of what is half done, in a domain of so many processors
 abbrev pub half : ℕ → Place → ℕ
 half processors Idle = 0
-half processors Wanted = 1
+half processors (Wanted n) = 1
 half processors (Unlocks p ended) = p
 half processors (Locks p ended begun) = processors + p
 half processors Passed = 2 * processors
 half processors (Flipped i) = 2 * processors + 1
+
+-- how long the history was that was seen at the load of a counter that is so many from the last one
+abbrev pub seen_at_load : ℕ → List Step → ℕ
+seen_at_load loads [] = 0
+seen_at_load loads (LoadUnlocks p i found seen ∷ rest) = if counter_loads rest + 1 == loads then seen else seen_at_load loads rest
+seen_at_load loads (LoadLocks p i found seen ∷ rest) = if counter_loads rest + 1 == loads then seen else seen_at_load loads rest
+seen_at_load loads (LoadIndex n ∷ rest) = seen_at_load loads rest
+seen_at_load loads (AddIndex n ∷ rest) = seen_at_load loads rest
+seen_at_load loads (AddNumber n ∷ rest) = seen_at_load loads rest
+
+-- how long it was at the first load of the scan
+abbrev pub began : EngineView → Place → ℕ
+began e Idle = 0
+began e (Wanted n) = 0
+began e (Unlocks p ended) = seen_at_load p e.steps
+began e (Locks p ended begun) = seen_at_load (e.processors + p) e.steps
+began e Passed = seen_at_load (2 * e.processors) e.steps
+began e (Flipped i) = seen_at_load (2 * e.processors) e.steps
+
+-- the number that was found to be asked for
+abbrev pub wanted : Place → ℕ
+wanted Idle = 0
+wanted (Wanted n) = n
+wanted (Unlocks p ended) = 0
+wanted (Locks p ended begun) = 0
+wanted Passed = 0
+wanted (Flipped i) = 0
 
 -- a grace period runs, and behind the flip the first scan had passed: it was of the index that now is current
 pub record IsScanning (e : EngineView) : Type 0 where
@@ -79,20 +106,20 @@ pub record IsHalfFlipped (e : EngineView) (i : Index) : Type 0 where
 
 abbrev pub IsAt : EngineView → Place → Type 0
 IsAt e Idle = IsIdle e.changes
-IsAt e Wanted = IsIdle e.changes × (number_word e.changes < 4 * e.periods)
+IsAt e (Wanted n) = IsIdle e.changes × (number_word e.changes < 4 * e.periods) × (number_word e.changes < n)
 IsAt e (Unlocks p ended) = InUnlocks e p ended
 IsAt e (Locks p ended begun) = InLocks e p ended begun
 IsAt e Passed = HasPassed e
 IsAt e (Flipped i) = IsHalfFlipped e i
 
--- what an answer of a step at the seat says by itself
-abbrev pub SaysAt : Progress → EngineView → Type 0
-SaysAt (answer.Started n) e = HasStarted n e
-SaysAt (answer.Flipped i) e = HasFlipped i e
-SaysAt (answer.Ended n) e = HasEnded n e
-SaysAt (answer.Waiting i) e = Waits i e
-SaysAt answer.Step e = Unit {0}
-SaysAt answer.Idle e = ⊥
+-- what an answer of a step at the seat from this place says by itself
+abbrev pub SaysAt : Progress → EngineView → Place → EngineView → Type 0
+SaysAt (answer.Started n) e place f = HasStarted n f
+SaysAt (answer.Flipped i) e place f = HasFlipped i f
+SaysAt (answer.Ended n) e place f = HasEnded n f
+SaysAt (answer.Waiting i) e place f = (since : ℕ) × Waits i since f × FirstLoaded since (half e.processors place) (began e place) e.seen f.seen
+SaysAt answer.Step e place f = Unit {0}
+SaysAt answer.Idle e place f = ⊥
 
 -- one step was made at the seat, from a place to a place, with this answer
 pub record Moves (e : EngineView) (place : Place) (f : EngineView) (next : Place) (a : Progress) : Type 0 where
@@ -105,9 +132,12 @@ pub record Moves (e : EngineView) (place : Place) (f : EngineView) (next : Place
   pub steps : f.steps ≡ e.steps ++ made
   pub one : length (events_of a) + length made ≡ 1
   pub in_order : (made ≡ []) ⊎ (l : Step) × (made ≡ l ∷ []) × IsStepAt e.processors (half e.processors place) (scanned e) l
+  pub changes : f.changes + half_changes e.processors (half e.processors place) ≡ e.changes + changes_for a + half_changes e.processors (half e.processors next)
   pub counts : Counts e.processors a (half e.processors place) (half e.processors next)
   pub place_is : IsAt f next
-  pub not_wanted : next ≢ Wanted
-  pub says : SaysAt a f
+  pub says : SaysAt a e place f
+  -- none is wanted from then on, and a scan that goes on is the one that began
+  pub not_wanted : (n : ℕ) → next ≢ Wanted n
+  pub scan : 0 < half e.processors next → FirstLoaded (began f next) (half e.processors place) (began e place) e.seen f.seen
   -- a period starts only where one was wanted, and no period ends then
-  pub started : (n : ℕ) → a ≡ answer.Started n → (place ≡ Wanted) × (ended_in f.seen ≡ ended_in e.seen)
+  pub started : (n : ℕ) → a ≡ answer.Started n → (need : ℕ) × (place ≡ Wanted need) × (ended_in f.seen ≡ ended_in e.seen)

@@ -1,5 +1,5 @@
 -- What the engine's answers say.
-use Rattle.std.specs.Prelude.{◌≡◌, ◌≢◌, ℕ, ◌+◌, ◌*◌, ◌<◌, ◌≤◌, ◌⊎◌, Bool, true, false, List, [], ◌∷◌, ◌++◌, length, count_by, codes}
+use Rattle.std.specs.Prelude.{◌≡◌, ◌≢◌, ℕ, ◌+◌, ◌-◌, ◌*◌, ◌<◌, ◌≤◌, ◌⊎◌, Bool, true, false, List, [], ◌∷◌, ◌++◌, length, count_by, codes}
 use Rattle.sseq.specs.declared.index.Index.{Index}
 use Rattle.sseq.specs.Indexes.{low_bit, other_index}
 use Rattle.onedom.specs.declared.event.Maker.TheVariants.{Engine}
@@ -16,16 +16,13 @@ use Rattle.scan.specs.declared.progress.Progress.TheVariants as answer
 use Rattle.scan.specs.declared.progress.StartRefusal.{StartRefusal}
 use Rattle.scan.specs.declared.progress.StartRefusal.TheVariants as refusal
 
--- `seat` is the engine's seat, `found` what the loads of the need found, `known` the greatest need that is known, and `half` how many steps were made of what is half done
-pub record ScanView : Type 0 where
+-- `seat` is the engine's seat, and `needs` are its needs. Of what is half done, `half` says how many steps were made; `need` is the number that was found to be asked for, where a period is wanted, and `began` how long the history was at the first load, where it is a scan
+pub record ScanView (N : Type 0) : Type 0 where
   pub seat : EngineView
-  pub found : List ℕ
-  pub known : ℕ
+  pub needs : N
+  pub need : ℕ
   pub half : ℕ
-
--- how many atomic steps were made: events, other steps at the seat, and loads of the need
-abbrev pub steps_made : ScanView → ℕ
-steps_made v = length v.seat.mine + length v.seat.steps + length v.found
+  pub began : ℕ
 
 -- a load of a counter
 abbrev pub is_counter_load : Step → Bool
@@ -41,20 +38,6 @@ counter_loads steps = count_by is_counter_load steps
 -- the number of a domain in which no period runs
 abbrev pub number_at_rest : List Event → ℕ
 number_at_rest history = 4 * ended_in history
-
--- the last load of the need found no number that is still to come
-pub record NothingIsAsked (v : ScanView) : Type 0 where
-  pub before : List ℕ
-  pub need : ℕ
-  pub load : v.found ≡ before ++ need ∷ []
-  pub done : need ≤ number_at_rest v.seat.seen
-
--- the last load of the need found a number that is still to come
-pub record IsAskedFor (v : ScanView) : Type 0 where
-  pub before : List ℕ
-  pub need : ℕ
-  pub load : v.found ≡ before ++ need ∷ []
-  pub beyond : number_at_rest v.seat.seen < need
 
 -- the last that was seen is that a period started, at which the number became n
 pub record HasStarted (n : ℕ) (e : EngineView) : Type 0 where
@@ -79,12 +62,11 @@ pub record HasEnded (n : ℕ) (e : EngineView) : Type 0 where
   pub number : n ≡ number_at_rest e.seen
   pub empty : (i : Index) → WasEmpty i e.seen
 
--- the last loads of counters were those of a scan of this index, which is not the current one; at a moment since the first of them a section of the index was open
-pub record Waits (i : Index) (e : EngineView) : Type 0 where
+-- the last loads of counters were those of a scan of this index, which is not the current one; at a moment since the first of them, at which the history was so long, a section of the index was open
+pub record Waits (i : Index) (since : ℕ) (e : EngineView) : Type 0 where
   pub running : IsRunning e.seen
   pub before : List Step
   pub found : ℕ
-  pub since : ℕ
   pub rest : List Step
   pub steps : e.steps ≡ before ++ LoadUnlocks 0 i found since ∷ rest
   pub loads : counter_loads rest + 1 ≡ 2 * e.processors
@@ -96,13 +78,10 @@ pub record Waits (i : Index) (e : EngineView) : Type 0 where
   pub is_open : IsOpen moment section
   pub of_index : index_of section moment ≡ i
 
-abbrev pub Says : Progress → ScanView → Type 0
-Says answer.Idle v = (¬ IsRunning v.seat.seen) × NothingIsAsked v
-Says (answer.Started n) v = HasStarted n v.seat × IsAskedFor v
-Says (answer.Flipped i) v = HasFlipped i v.seat
-Says (answer.Ended n) v = HasEnded n v.seat
-Says (answer.Waiting i) v = Waits i v.seat
-Says answer.Step v = Unit {0}
+-- the first load of a scan was made when the history was so long: before a call where something was half done already, and in it else
+pub record FirstLoaded (since half began : ℕ) (seen seen' : List Event) : Type 0 where
+  pub before : 0 < half → since ≡ began
+  pub now : half ≡ 0 → (length seen ≤ since) × (since ≤ length seen')
 
 -- how many atomic steps an answer takes in all, in a domain of so many processors: a scan loads two counters of each
 abbrev pub steps_for : ℕ → Progress → ℕ
@@ -132,84 +111,111 @@ IsStepAt processors half i (AddIndex n) = half ≡ 2 * processors
 IsStepAt processors half i (AddNumber n) = half ≡ 2 * processors + 1
 IsStepAt processors half i (LoadIndex n) = ⊥
 
+-- how often the number and the index word are changed in all on the way to an answer
+abbrev pub changes_for : Progress → ℕ
+changes_for answer.Idle = 0
+changes_for (answer.Started n) = 1
+changes_for (answer.Flipped i) = 2
+changes_for (answer.Ended n) = 1
+changes_for (answer.Waiting i) = 0
+changes_for answer.Step = 0
+
+-- how often they were changed where so many steps are half done: what comes behind the loads of a scan are the steps of the flip, and each is a change
+abbrev pub half_changes : ℕ → ℕ → ℕ
+half_changes processors half = half - 2 * processors
+
 -- the index that is not current
 abbrev pub not_current : EngineView → Index
 not_current e = other_index (low_bit (index_word e.changes))
 
 -- Calls
 
--- one load of the need, which found no less than was known
-pub record LoadsNeed (v w : ScanView) : Type 0 where
-  pub need : ℕ
-  pub found : w.found ≡ v.found ++ need ∷ []
-  pub since : v.known ≤ need
-  pub known : w.known ≡ need
+module _ {N : Type 0} where
+  -- what an answer says at the end of a call, where this was found to be the need
+  abbrev pub Says : Progress → ℕ → ScanView N → ScanView N → Type 0
+  Says answer.Idle need v w = (¬ IsRunning w.seat.seen) × (need ≤ number_at_rest w.seat.seen)
+  Says (answer.Started n) need v w = HasStarted n w.seat × (number_at_rest w.seat.seen < need)
+  Says (answer.Flipped i) need v w = HasFlipped i w.seat
+  Says (answer.Ended n) need v w = HasEnded n w.seat
+  Says (answer.Waiting i) need v w = (since : ℕ) × Waits i since w.seat × (IsRunning v.seat.seen → FirstLoaded since v.half v.began v.seat.seen w.seat.seen)
+  Says answer.Step need v w = Unit {0}
 
--- the need is loaded at rest where nothing is half done, once, and nowhere else
-pub record NeedsLoaded (v w : ScanView) : Type 0 where
-  pub at_rest : ¬ IsRunning v.seat.seen → v.half ≡ 0 → LoadsNeed v w
-  pub busy : IsRunning v.seat.seen ⊎ (0 < v.half) → (w.found ≡ v.found) × (w.known ≡ v.known)
+  -- the same engine, which knows what it knew, and has made no event but those that it saw
+  pub record GoesOn (v w : ScanView N) : Type 0 where
+    pub same : IsSameEngine v.seat w.seat
+    pub since : IsBeginning v.seat.seen w.seat.seen
+    pub history : IsSeenByEngine w.seat
+    pub later : v.seat.changes ≤ w.seat.changes
+    pub made : List Step
+    pub steps : w.seat.steps ≡ v.seat.steps ++ made
 
--- the same engine, which knows what it knew, and has made no event but those that it saw
-pub record GoesOn (v w : ScanView) : Type 0 where
-  pub same : IsSameEngine v.seat w.seat
-  pub since : IsBeginning v.seat.seen w.seat.seen
-  pub history : IsSeenByEngine w.seat
-  pub later : v.seat.changes ≤ w.seat.changes
-  pub made : List Step
-  pub steps : w.seat.steps ≡ v.seat.steps ++ made
+  -- a period starts, asked for or not; the need is not loaded
+  pub record Starts (v : ScanView N) (n : ℕ) (w : ScanView N) : Type 0 where
+    pub room : ended_in v.seat.seen < v.seat.periods
+    pub event : AddsEngineEvent (Start Engine) v.seat w.seat
+    pub started : HasStarted n w.seat
+    pub needs : w.needs ≡ v.needs
+    pub done : w.half ≡ 0
 
--- one atomic step was made: an event, a load of the need, or the step at the seat that comes next
-pub record StepsTo (v : ScanView) (a : Progress) (w : ScanView) : Type 0 where
-  pub goes_on : GoesOn v w
-  pub one : steps_made w ≡ steps_made v + 1
-  pub events : w.seat.mine ≡ v.seat.mine ++ events_of a
-  pub needs : NeedsLoaded v w
-  pub in_order : (goes_on.made ≡ []) ⊎ (l : Step) × (goes_on.made ≡ l ∷ []) × IsStepAt v.seat.processors v.half (not_current v.seat) l
-  pub counts : Counts v.seat.processors a v.half w.half
-  pub few : w.half ≤ 2 * v.seat.processors + 1
-  pub says : Says a w
+  abbrev pub IsNoStart : ScanView N → StartRefusal → Type 0
+  IsNoStart v refusal.Running = IsRunning v.seat.seen
+  IsNoStart v refusal.Exhausted = (¬ IsRunning v.seat.seen) × (ended_in v.seat.seen ≡ v.seat.periods)
 
--- as many steps were made as the answer takes, those among them that were made before the call
-pub record AdvancesTo (v : ScanView) (a : Progress) (w : ScanView) : Type 0 where
-  pub goes_on : GoesOn v w
-  pub answer : a ≢ answer.Step
-  pub steps : steps_made w + v.half ≡ steps_made v + steps_for v.seat.processors a
-  pub events : w.seat.mine ≡ v.seat.mine ++ events_of a
-  pub needs : NeedsLoaded v w
-  pub done : w.half ≡ 0
-  pub says : Says a w
+  -- an engine with this seat and these needs
+  abbrev pub new_engine : EngineView → N → ScanView N
+  new_engine seat needs = record { seat = seat; needs = needs; need = 0; half = 0; began = 0 }
 
--- a period is asked for, and as many have ended as there may be; just the need was loaded
-pub record FindsExhausted (v w : ScanView) : Type 0 where
-  pub nothing_half : v.half ≡ 0
-  pub seat : w.seat ≡ v.seat
-  pub need : LoadsNeed v w
-  pub still_nothing : w.half ≡ 0
-  pub resting : ¬ IsRunning w.seat.seen
-  pub ended : ended_in w.seat.seen ≡ w.seat.periods
-  pub asked : IsAskedFor w
+  abbrev pub with_seat : EngineView → ScanView N → ScanView N
+  with_seat seat v = record v { seat = seat }
 
--- a period starts, asked for or not
-pub record Starts (v : ScanView) (n : ℕ) (w : ScanView) : Type 0 where
-  pub room : ended_in v.seat.seen < v.seat.periods
-  pub event : AddsEngineEvent (Start Engine) v.seat w.seat
-  pub started : HasStarted n w.seat
-  pub needs : (w.found ≡ v.found) × (w.known ≡ v.known)
-  pub done : w.half ≡ 0
+  -- `loads` says what one load of the needs does
+  module _ (loads : N → ℕ → N → Type 0) where
+    -- the need is loaded at rest where nothing is half done, once, and nowhere else; `need` is the number that is then found to be asked for, or that was found before
+    pub record NeedsLoaded (v w : ScanView N) : Type 0 where
+      pub count : ℕ
+      pub need : ℕ
+      pub at_rest : ¬ IsRunning v.seat.seen → v.half ≡ 0 → (count ≡ 1) × loads v.needs need w.needs
+      pub busy : IsRunning v.seat.seen ⊎ (0 < v.half) → (count ≡ 0) × (w.needs ≡ v.needs) × (need ≡ v.need)
 
-abbrev pub IsNoStart : ScanView → StartRefusal → Type 0
-IsNoStart v refusal.Running = IsRunning v.seat.seen
-IsNoStart v refusal.Exhausted = (¬ IsRunning v.seat.seen) × (ended_in v.seat.seen ≡ v.seat.periods)
+    -- one atomic step was made: an event, a load of the need, or the step at the seat that comes next
+    pub record StepsTo (v : ScanView N) (a : Progress) (w : ScanView N) : Type 0 where
+      pub goes_on : GoesOn v w
+      pub events : w.seat.mine ≡ v.seat.mine ++ events_of a
+      pub needs : NeedsLoaded v w
+      pub one : length (events_of a) + length goes_on.made + needs.count ≡ 1
+      pub in_order : (goes_on.made ≡ []) ⊎ (l : Step) × (goes_on.made ≡ l ∷ []) × IsStepAt v.seat.processors v.half (not_current v.seat) l
+      pub changes : w.seat.changes + half_changes v.seat.processors v.half ≡ v.seat.changes + changes_for a + half_changes v.seat.processors w.half
+      pub counts : Counts v.seat.processors a v.half w.half
+      pub few : w.half ≤ 2 * v.seat.processors + 1
+      pub says : Says a needs.need v w
+      -- where there is more to do: what is known of it
+      pub need : 0 < w.half → w.need ≡ needs.need
+      pub wanted : ¬ IsRunning v.seat.seen → 0 < w.half → number_at_rest w.seat.seen < needs.need
+      pub scan : IsRunning v.seat.seen → 0 < w.half → IsRunning w.seat.seen × FirstLoaded w.began v.half v.began v.seat.seen w.seat.seen
 
--- an engine with this seat, and needs that know so much
-abbrev pub new_engine : EngineView → List ℕ → ℕ → ScanView
-new_engine seat found known = record { seat = seat; found = found; known = known; half = 0 }
+    -- as many steps were made as the answer takes, those among them that were made before the call
+    pub record AdvancesTo (v : ScanView N) (a : Progress) (w : ScanView N) : Type 0 where
+      pub goes_on : GoesOn v w
+      pub answer : a ≢ answer.Step
+      pub events : w.seat.mine ≡ v.seat.mine ++ events_of a
+      pub needs : NeedsLoaded v w
+      pub steps : length (events_of a) + length goes_on.made + needs.count + v.half ≡ steps_for v.seat.processors a
+      pub changes : w.seat.changes + half_changes v.seat.processors v.half ≡ v.seat.changes + changes_for a
+      pub done : w.half ≡ 0
+      pub says : Says a needs.need v w
+
+    -- a period is asked for, and as many have ended as there may be; just the need was loaded
+    pub record FindsExhausted (v w : ScanView N) : Type 0 where
+      pub nothing_half : v.half ≡ 0
+      pub seat : w.seat ≡ v.seat
+      pub need : ℕ
+      pub load : loads v.needs need w.needs
+      pub still_nothing : w.half ≡ 0
+      pub resting : ¬ IsRunning w.seat.seen
+      pub ended : ended_in w.seat.seen ≡ w.seat.periods
+      pub asked : number_at_rest w.seat.seen < need
 
 -- as a refusal is printed
 abbrev pub refusal_text : StartRefusal → List ℕ
 refusal_text refusal.Running = codes "a grace period runs"
 refusal_text refusal.Exhausted = codes "no more grace periods may start"
-
-abbrev pub with_seat : EngineView → ScanView → ScanView
-with_seat seat v = record v { seat = seat }

@@ -1,5 +1,6 @@
 //! The engine.
-ghost use Rattle.std.specs.Prelude.{◌≡◌, [], MatchResult};
+ghost use Rattle.std.specs.Prelude.{◌≡◌, ◌*◌, ◌≤◌, [], MatchResult};
+ghost use Rattle.sections.specs.Words.{number_word};
 ghost use Rattle.sections.specs.Driving.{TiesEngine, Meets, AreInDomain};
 ghost use Rattle.scan.specs.Progress.{StepsTo, AdvancesTo, FindsExhausted, Starts, IsNoStart, new_engine, with_seat};
 
@@ -12,7 +13,7 @@ use std::alloc::{Allocator, Global};
 use std::marker::Model;
 
 /// Carries the grace periods of a domain, one atomic step at a time. Its needs tell which grace period is asked for.
-/// Contracts see its seat, what its needs have found, and how many steps it made of what is half done.
+/// Contracts see its seat, its needs, and what it knows of what is half done.
 #[derive(Drop)]
 pub struct Engine<N: Needs, A: Allocator = Global> {
     seat: EngineSeat<A>,
@@ -23,21 +24,22 @@ pub struct Engine<N: Needs, A: Allocator = Global> {
 impl<N: Needs, A: Allocator> Model for Engine<N, A> {
     ghost use Rattle.scan.specs.Progress.{ScanView};
 
-    ghost Value = { ScanView };
+    ghost Value = { ScanView N };
 
     ghost use Rattle.scan.specs.Insides.{view_of_engine, IsEngine};
 
-    ghost view = { view_of_engine N.found N.known };
+    ghost view = { view_of_engine };
 
-    ghost invariant = { IsEngine N.found N.known };
+    ghost invariant = { IsEngine };
 }
 
 impl<N: Needs, A: Allocator> Engine<N, A> {
     /// The engine of a domain in which no grace period was started.
     pub fn new(seat: EngineSeat<A>, needs: N) -> Engine<N, A>
         requires { seat.mine ≡ [] }
-        ensures { result ≡ new_engine seat (N.found needs) (N.known needs) }
+        ensures { result ≡ new_engine seat needs }
     {
+        // For the proof: there is at least one.
         let _processors = seat.processors();
         Engine {
             seat,
@@ -48,18 +50,19 @@ impl<N: Needs, A: Allocator> Engine<N, A> {
 
     /// Makes one atomic step. `Step` is the answer as long as there is no other: after some steps there is.
     pub fn step(&mut self) -> Result<Progress, Exhausted>
-        ensures { MatchResult result (λ answer. StepsTo self.old answer self.new) (λ _. FindsExhausted self.old self.new) }
+        ensures { MatchResult result (λ answer. StepsTo N.loads self.old answer self.new) (λ _. FindsExhausted N.loads self.old self.new) }
     {
         match self.place {
             Place::Idle => {
-                let number = self.seat.number();
-                if self.needs.root_need().get() <= number.get() {
+                let number = self.number();
+                let need = self.needs.root_need();
+                if need.get() <= number.get() {
                     return Ok(Progress::Idle);
                 }
                 if number.get() == 4 * self.seat.periods() {
                     return Err(Exhausted);
                 }
-                self.place = Place::Wanted;
+                self.place = Place::Wanted(need);
                 Ok(Progress::Step)
             }
             place => {
@@ -72,7 +75,7 @@ impl<N: Needs, A: Allocator> Engine<N, A> {
 
     /// Makes steps until there is an answer.
     pub fn advance(&mut self) -> Result<Progress, Exhausted>
-        ensures { MatchResult result (λ answer. AdvancesTo self.old answer self.new) (λ _. FindsExhausted self.old self.new) }
+        ensures { MatchResult result (λ answer. AdvancesTo N.loads self.old answer self.new) (λ _. FindsExhausted N.loads self.old self.new) }
     {
         loop {
             match self.step()? {
@@ -87,7 +90,7 @@ impl<N: Needs, A: Allocator> Engine<N, A> {
     pub fn start(&mut self) -> Result<Number, StartRefusal>
         ensures { MatchResult result (λ n. Starts self.old n self.new) (λ refusal. IsNoStart self.old refusal × (self.new ≡ self.old)) }
     {
-        let number = self.seat.number();
+        let number = self.number();
         let Phase::Idle = state(number) else {
             return Err(StartRefusal::Running);
         };
@@ -97,6 +100,14 @@ impl<N: Needs, A: Allocator> Engine<N, A> {
         let started = self.seat.add_start();
         self.place = Place::SCAN;
         Ok(started)
+    }
+
+    /// The number of the domain. No step: the engine alone changes it.
+    pub fn number(&self) -> Number
+        ensures value { result ≡ number_word self.now.seat.changes }
+        ensures most { result ≤ 4 * self.now.seat.periods }
+    {
+        self.seat.number()
     }
 
     /// One load of the index word by the engine, and then one by the processor. Both have then seen one history.

@@ -10,5 +10,4 @@ mod scanning;
 mod tests;
 
 pub use engine::Engine;
-pub use place::Place;
 pub use progress::{Exhausted, Progress, StartRefusal};

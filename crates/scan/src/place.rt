@@ -1,13 +1,13 @@
 //! Where a grace period stands between two steps.
-use sseq::Index;
+use sseq::{Index, Number};
 
 /// Where the engine stands, and what it knows there. The number tells which of the two scans it is.
 #[derive(Clone, Copy, Debug, PartialEq, Eq)]
-pub enum Place {
+pub(crate) enum Place {
     /// No grace period runs.
     Idle,
-    /// None runs, and one is asked for: the next step starts it.
-    Wanted,
+    /// None runs, and this number was found to be asked for: the next step starts one.
+    Wanted(Number),
     /// In a scan, the unlock counter of this processor comes next. Those before it add up to `ended`.
     Unlocks {
         processor: u16,
@@ -28,7 +28,7 @@ pub enum Place {
 
 impl Place {
     /// Before the first load of a scan.
-    pub const SCAN: Place = Place::Unlocks {
+    pub(crate) const SCAN: Place = Place::Unlocks {
         processor: 0,
         ended: 0,
     };

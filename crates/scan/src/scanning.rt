@@ -34,7 +34,7 @@ pub(crate) fn move_on<A: Allocator>(seat: &mut EngineSeat<A>, place: Place) -> (
 {
     match place {
         Place::Idle => unreachable!(),
-        Place::Wanted => (Place::SCAN, Progress::Started(seat.add_start())),
+        Place::Wanted(_) => (Place::SCAN, Progress::Started(seat.add_start())),
         Place::Unlocks { processor, ended } => {
             (count_unlocks(seat, processor, ended), Progress::Step)
         }
@@ -124,6 +124,7 @@ fn count_locks<A: Allocator>(
 /// Behind the second scan the grace period ends.
 fn leave_scan<A: Allocator>(seat: &mut EngineSeat<A>) -> (Place, Progress)
     requires history { IsSeenByEngine seat.old }
+    requires some { 1 ≤ seat.old.processors }
     requires place { HasPassed seat.old }
     ensures { Moves seat.old places.Passed seat.new result.0 result.1 }
 {

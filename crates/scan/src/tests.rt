@@ -1,4 +1,4 @@
-ghost use Rattle.std.specs.Prelude.{◌≡◌, map, IfOk};
+ghost use Rattle.std.specs.Prelude.{◌≡◌, IfOk};
 ghost use Rattle.sections.specs.Driving.{AreInDomain};
 
 use super::*;
@@ -23,21 +23,15 @@ fn number(value: u64) -> Number {
     Number::new(value).unwrap_or(Number::zero())
 }
 
-/// Needs that ask for one number for good. A processor of a domain of its own counts the loads.
+/// Needs that ask for one number for good.
 #[derive(Drop)]
-struct Asks {
-    number: Number,
-    counter: Cpu,
-}
+struct Asks(Number);
 
 impl Needs for Asks {
-    ghost found = { λ a. map (λ _. a.number) a.counter.steps };
-
-    ghost known = { λ a. a.number };
+    ghost loads = { λ a found b. (found ≡ a.0) × (b ≡ a) };
 
     fn root_need(&mut self) -> Number {
-        let _look = self.counter.look();
-        self.number
+        self.0
     }
 }
 
@@ -50,14 +44,8 @@ fn new_domain(
 ) -> Result<(Vec<Cpu>, Engine<Asks>), MakeError>
     ensures { IfOk result (λ r. AreInDomain r.1.seat.domain r.0.items) }
 {
-    let mut counting = make(alloc, 1, limits(1))?;
-    let counter = counting.cpus.pop().unwrap();
     let Made { cpus, engine } = make(alloc, processors, limits(periods))?;
-    let asks = Asks {
-        number: number(need),
-        counter,
-    };
-    Ok((cpus, Engine::new(engine, asks)))
+    Ok((cpus, Engine::new(engine, Asks(number(need)))))
 }
 
 /// Would catch an answer that no clause tells apart from another, and a period that does not get on.

@@ -1,15 +1,19 @@
 -- What a quiet period adds.
-use Rattle.std.proofs.Common.{◌≡◌, ℕ, ◌+◌, ◌*◌, ◌≤◌, List, [], ◌∷◌, ◌++◌, length, sym, ap, ◌∙◌, subst, length-append, add-one, arith}
+use Rattle.std.proofs.Common.{◌≡◌, ℕ, ◌+◌, ◌*◌, ◌≤◌, ◌⊎◌, inl, List, [], ◌∷◌, ◌++◌, length, sym, ap, ◌∙◌, subst, length-append, add-one, arith}
 use Rattle.std.proofs.Math.Nat.{suc-mul}
+use mathlib.Core.Logic.{dite}
+use native.Mathlib.Decide.{dec_lt}
+use Rattle.srcubench.specs.declared.periods.EveryPeriod.{EveryPeriod}
 use Rattle.onedom.specs.declared.event.Maker.TheVariants.{Engine}
 use Rattle.onedom.specs.declared.event.Event.{Event}
 use Rattle.onedom.specs.declared.event.Event.TheVariants.{Start, Finish}
-use Rattle.onedom.specs.Histories.{ended_in, IsBeginning}
+use Rattle.onedom.specs.Histories.{ended_in, starts_in, IsBeginning}
 use Rattle.onedom.proofs.Pushes.{ended_in_push}
 use Rattle.onedom.proofs.Beginnings.{beginning_append, beginning_trans, beginning_by_length, ended_grow, length_grows}
 use Rattle.sseq.specs.Numbers.{periods_ended}
-use Rattle.scan.specs.Progress.{ScanView, steps_made}
-use Rattle.srcubench.specs.Periods.{CarriesPeriod, CarriesPeriods, quiet_steps}
+use Rattle.scan.specs.declared.progress.Progress.{Progress}
+use Rattle.scan.specs.Progress.{AdvancesTo, events_of, steps_for}
+use Rattle.srcubench.specs.Periods.{View, LoadsNeed, steps_made, CarriesPeriod, CarriesPeriods, quiet_steps}
 
 -- where the last event was a start, and now is an end, a period has ended since
 ended_since : (b c : List Event) → IsBeginning (b ++ Start Engine ∷ []) (c ++ Finish Engine ∷ []) → ended_in (b ++ Start Engine ∷ []) + 1 ≤ ended_in (c ++ Finish Engine ∷ [])
@@ -22,7 +26,7 @@ ended_since b c h =
     let c' = ended_in_push c (Finish Engine) in
     omega (arith, few, b', c')
 
-pub one_more : (v w : ScanView) (n : ℕ) → CarriesPeriod v n w → ended_in v.seat.seen + 1 ≤ ended_in w.seat.seen
+pub one_more : (v w : View) (n : ℕ) → CarriesPeriod v n w → ended_in v.seat.seen + 1 ≤ ended_in w.seat.seen
 one_more v w n p =
     let s = p.starts.says.0 in
     let e = p.ends.says in
@@ -33,25 +37,34 @@ one_more v w n p =
     (ended_since s.before e.before (rw (s.seen, e.seen) at whole))) in
     omega (arith, before, more)
 
-pub steps_of_one : (v w : ScanView) (n : ℕ) → CarriesPeriod v n w → v.half ≡ 0 → steps_made w ≡ steps_made v + quiet_steps v.seat.processors
+-- a call that found nothing half done made as many steps as its answer takes
+steps_of_call : (v w : View) (a : Progress) → AdvancesTo LoadsNeed v a w → v.half ≡ 0 → steps_made w ≡ steps_made v + steps_for v.seat.processors a
+steps_of_call v w a h none =
+    let steps = h.steps in
+    let mine : length w.seat.mine ≡ length v.seat.mine + length (events_of a) = ap length h.events ∙ length-append v.seat.mine (events_of a) in
+    let made : length w.seat.steps ≡ length v.seat.steps + length h.goes_on.made = ap length h.goes_on.steps ∙ length-append v.seat.steps h.goes_on.made in
+    let loads : length w.needs.cpu.steps ≡ length v.needs.cpu.steps + h.needs.count = dite (dec_lt (ended_in v.seat.seen) (starts_in v.seat.seen))
+        (λ running. let b = h.needs.busy (inl running) in let zero = b.0 in let same : length w.needs.cpu.steps ≡ length v.needs.cpu.steps = ap (λ (n : EveryPeriod). length n.cpu.steps) b.1 in omega (arith, zero, same))
+        (λ resting. let r = h.needs.at_rest resting none in let one = r.0 in let once = r.1.once in omega (arith, one, once)) in
+    omega (arith, steps, mine, made, loads, none)
+
+pub steps_of_one : (v w : View) (n : ℕ) → CarriesPeriod v n w → v.half ≡ 0 → steps_made w ≡ steps_made v + quiet_steps v.seat.processors
 steps_of_one v w n p none =
-    let a = p.starts.steps in
-    let b = p.flips.steps in
-    let c = p.ends.steps in
-    let a' = p.starts.done in
-    let b' = p.flips.done in
+    let a = steps_of_call v p.started _ p.starts none in
+    let b = steps_of_call p.started p.flipped _ p.flips p.starts.done in
+    let c = steps_of_call p.flipped w _ p.ends p.flips.done in
     let same = p.starts.goes_on.same.1 in
     let same' = p.flips.goes_on.same.1 in
-    omega (arith, none, a, b, c, a', b', same, same')
+    omega (arith, a, b, c, same, same')
 
 -- nothing went by yet
-pub none_carried : (v : ScanView) → v.half ≡ 0 → ended_in v.seat.seen ≡ 0 → CarriesPeriods 0 v 0 v
+pub none_carried : (v : View) → v.half ≡ 0 → ended_in v.seat.seen ≡ 0 → CarriesPeriods 0 v 0 v
 none_carried v rests none = record { counted = sym none; all = omega arith; steps = omega arith; done = rests }
 
 next_times : (k q : ℕ) → (k + 1) * q ≡ k * q + q
 next_times k q = ap (λ n. n * q) (add-one k) ∙ suc-mul k q
 
-pub carried_on : (k ended n : ℕ) (v u w : ScanView) → CarriesPeriods k v ended u → u.seat.processors ≡ v.seat.processors → CarriesPeriod u n w → CarriesPeriods (k + 1) v (periods_ended n) w
+pub carried_on : (k ended n : ℕ) (v u w : View) → CarriesPeriods k v ended u → u.seat.processors ≡ v.seat.processors → CarriesPeriod u n w → CarriesPeriods (k + 1) v (periods_ended n) w
 carried_on k ended n v u w h same p =
     let number = p.ends.says.number in
     let count : periods_ended n ≡ ended_in w.seat.seen = omega (arith, number) in
@@ -70,5 +83,5 @@ carried_on k ended n v u w h same p =
     together : (m k q : ℕ) → m + k * q + q ≡ m + (k + 1) * q
     together m k q = let next = next_times k q in omega (arith, next)
 
-pub same_after : (v w : ScanView) (n : ℕ) → CarriesPeriod v n w → w.seat.processors ≡ v.seat.processors
+pub same_after : (v w : View) (n : ℕ) → CarriesPeriod v n w → w.seat.processors ≡ v.seat.processors
 same_after v w n p = p.ends.goes_on.same.1 ∙ (p.flips.goes_on.same.1 ∙ p.starts.goes_on.same.1)

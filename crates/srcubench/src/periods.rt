@@ -1,6 +1,7 @@
 //! The loop of quiet grace periods that is measured.
-ghost use Rattle.std.specs.Prelude.{◌≡◌, ◌^◌, length, replicate, MatchResult};
+ghost use Rattle.std.specs.Prelude.{◌≡◌, MatchResult};
 ghost use Rattle.onedom.specs.Histories.{ended_in};
+ghost use Rattle.srcubench.specs.Needed.{LoadsOnce};
 ghost use Rattle.srcubench.specs.Periods.{AnswersTo, CarriesPeriod, IsHeldUp, CarriesPeriods, StopsBefore};
 
 use scan::{Engine, Exhausted, Progress};
@@ -18,9 +19,7 @@ pub struct EveryPeriod {
 }
 
 impl Needs for EveryPeriod {
-    ghost found = { λ needs. replicate (length needs.cpu.steps) (2 ^ 61) };
-
-    ghost known = { λ _. 2 ^ 61 };
+    ghost loads = { λ a found b. LoadsOnce found a.cpu b.cpu };
 
     fn root_need(&mut self) -> Number {
         self.cpu.look();
@@ -48,7 +47,7 @@ impl fmt::Display for Stop {
 
 impl Error for Stop {}
 
-fn answer<N: Needs, A: Allocator>(engine: &mut Engine<N, A>) -> Result<Progress, Stop>
+fn answer<A: Allocator>(engine: &mut Engine<EveryPeriod, A>) -> Result<Progress, Stop>
     ensures { AnswersTo engine.old result engine.new }
 {
     match engine.advance() {
@@ -58,7 +57,7 @@ fn answer<N: Needs, A: Allocator>(engine: &mut Engine<N, A>) -> Result<Progress,
 }
 
 /// Has the engine carry one grace period from its start to its end, and answers the number from then on.
-fn make_period<N: Needs, A: Allocator>(engine: &mut Engine<N, A>) -> Result<Number, Stop>
+fn make_period<A: Allocator>(engine: &mut Engine<EveryPeriod, A>) -> Result<Number, Stop>
     ensures { MatchResult result (λ number. CarriesPeriod engine.old number engine.new) (λ stop. IsHeldUp engine.old stop engine.new) }
 {
     match answer(engine)? {
@@ -77,8 +76,8 @@ fn make_period<N: Needs, A: Allocator>(engine: &mut Engine<N, A>) -> Result<Numb
 
 /// Has the engine carry so many grace periods, one behind the other, in a domain in which none has ended, and answers
 /// how many have ended then, by the number of the domain.
-pub fn make_periods<N: Needs, A: Allocator>(
-    engine: &mut Engine<N, A>,
+pub fn make_periods<A: Allocator>(
+    engine: &mut Engine<EveryPeriod, A>,
     periods: u64,
 ) -> Result<u64, Stop>
     requires rests { engine.old.half ≡ 0 }

@@ -1,18 +1,14 @@
 //! The need of a domain.
-ghost use Rattle.std.specs.Prelude.{◌≡◌, ℕ, ◌≤◌, List, [], ◌∷◌, ◌++◌};
+ghost use Rattle.std.specs.Prelude.{ℕ};
 
 use crate::number::Number;
 
 /// Where the engine learns which grace period is asked for.
 pub trait Needs {
-    /// What each load found, in order.
-    ghost found: { Self → List ℕ };
-    /// The greatest need that its holder knows of.
-    ghost known: { Self → ℕ };
+    /// What one load of the need does: what was there before, the number that is found, and what is there then.
+    ghost loads: { Self → ℕ → Self → Type 0 };
 
-    /// What one load of the need finds: no less than was known before.
+    /// Loads the need once: the greatest number that is asked for.
     fn root_need(&mut self) -> Number
-        ensures load { found self.new ≡ found self.old ++ result ∷ [] }
-        ensures since { known self.old ≤ result }
-        ensures known { known self.new ≡ result };
+        ensures { loads self.old result self.new };
 }

@@ -1,6 +1,6 @@
 use Rattle.std.proofs.Common.{◌≡◌, [], ◌∷◌, map, refl, arith}
 use Rattle.sections.specs.declared.view.Step.TheVariants.{LoadIndex}
-use Rattle.scan.proofs.Standing.{OnlySees, index_loads, at_still, ended_still}
+use Rattle.scan.proofs.Standing.{OnlySees, index_loads, at_still, still_viewed}
 use Rattle.scan.proofs.engine.Engine.meet.Goals as goal
 
 pub invariant_of-self : goal.invariant_of-self
@@ -20,5 +20,18 @@ invariant_of-self g c =
       history = h.history;
       some = omega (arith, some, same);
       place_is = at_still _ _ h c.self.inside.place c.self.invariant.place_is;
-      wanted = λ is. let asked = c.self.invariant.wanted is in let beyond = asked.beyond in let ended = ended_still _ _ h in record { before = asked.before; need = asked.need; load = asked.load; beyond = omega (arith, beyond, ended) };
     }
+
+pub returns-clause-rest : goal.returns-clause-rest
+returns-clause-rest g c =
+    let h : OnlySees c.self.inside.seat c.meet.new.self = record {
+      same = c.meet.ensures.same;
+      seen = c.self.invariant.history;
+      history = c.meet.ensures.history;
+      since = c.meet.ensures.since;
+      changes = c.meet.ensures.changes_are;
+      extra = map LoadIndex c.meet.ensures.found;
+      steps = c.meet.ensures.steps;
+      none = index_loads c.meet.ensures.found;
+    } in
+    rw (← c.self.view_is) (still_viewed _ _ h c.self.inside.needs c.self.inside.place)

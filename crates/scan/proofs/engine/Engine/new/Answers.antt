@@ -10,5 +10,4 @@ invariant_of-result g c =
       history = all.history;
       some = omega (arith, some, count);
       place_is = untouched c.args.seat all.history c.requires;
-      wanted = λ h. absurd cc;
     }

@@ -1,6 +1,6 @@
 use Rattle.std.proofs.Common.{◌≡◌, [], ◌∷◌, map, refl, arith}
 use Rattle.sections.specs.declared.view.Step.TheVariants.{LoadIndex}
-use Rattle.scan.proofs.Standing.{OnlySees, index_loads, at_still, ended_still}
+use Rattle.scan.proofs.Standing.{OnlySees, index_loads, at_still, still_viewed}
 use Rattle.scan.proofs.engine.Engine.tie.Goals as goal
 
 pub invariant_of-self : goal.invariant_of-self
@@ -20,5 +20,18 @@ invariant_of-self g c =
       history = h.history;
       some = omega (arith, some, same);
       place_is = at_still _ _ h c.self.inside.place c.self.invariant.place_is;
-      wanted = λ is. let asked = c.self.invariant.wanted is in let beyond = asked.beyond in let ended = ended_still _ _ h in record { before = asked.before; need = asked.need; load = asked.load; beyond = omega (arith, beyond, ended) };
     }
+
+pub returns-clause-rest : goal.returns-clause-rest
+returns-clause-rest g c =
+    let h : OnlySees c.self.inside.seat c.tie.new.self = record {
+      same = c.tie.ensures.covers.step.same;
+      seen = c.self.invariant.history;
+      history = c.tie.ensures.covers.step.history;
+      since = c.tie.ensures.covers.step.since;
+      changes = c.tie.ensures.covers.step.changes_are;
+      extra = LoadIndex c.tie.ensures.covers.value ∷ [];
+      steps = c.tie.ensures.covers.step.steps;
+      none = refl;
+    } in
+    rw (← c.self.view_is) (still_viewed _ _ h c.self.inside.needs c.self.inside.place)
