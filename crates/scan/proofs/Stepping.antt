@@ -226,6 +226,7 @@ module _ {N : Type 0} (loads : N → ℕ → N → Type 0) where
     events = s.events;
     needs = s.needs;
     steps = omega (arith, one, taken);
+    due = omega (arith, taken);
     changes = omega (arith, changes, none);
     done = none;
     says = s.says;
@@ -242,6 +243,7 @@ module _ {N : Type 0} (loads : N → ℕ → N → Type 0) where
         events = s.events ∙ ap (λ l. l ++ events_of a) moved.events;
         needs = needs_further u v w moved s.needs;
         steps = omega (arith, made, one, before, taken);
+        due = let more = moved.more in omega (arith, taken, more);
         changes = omega (arith, was, changes, same, none);
         done = none;
         says = says_further u v w a s.needs.need moved s.goes_on.since s.says;

@@ -200,6 +200,7 @@ module _ {N : Type 0} where
       pub events : w.seat.mine ≡ v.seat.mine ++ events_of a
       pub needs : NeedsLoaded v w
       pub steps : length (events_of a) + length goes_on.made + needs.count + v.half ≡ steps_for v.seat.processors a
+      pub due : v.half < steps_for v.seat.processors a
       pub changes : w.seat.changes + half_changes v.seat.processors v.half ≡ v.seat.changes + changes_for a
       pub done : w.half ≡ 0
       pub says : Says a needs.need v w

@@ -7,6 +7,7 @@ mod Openings
 mod Parsing
 mod Pieces
 mod Places
+mod Progressing
 mod Reading
 mod SoFar
 mod Writing

@@ -13,16 +13,24 @@ use Rattle.sections.specs.declared.limits.MakeError.TheVariants as make
 use Rattle.sections.specs.Words.{index_word, number_word, locks}
 use Rattle.sections.specs.Views.{LookView, ReadingView}
 use Rattle.sections.specs.Making.{IsCount}
-use Rattle.srcuctl.specs.declared.domain.StartRefusal.{StartRefusal}
-use Rattle.srcuctl.specs.declared.domain.StartRefusal.TheVariants as refusal
+use Rattle.scan.specs.declared.progress.Progress.{Progress}
+use Rattle.scan.specs.declared.progress.StartRefusal.{StartRefusal}
+use Rattle.scan.specs.declared.progress.StartRefusal.TheVariants as refusal
+use Rattle.srcuctl.specs.Standings.{Standing, Steps, Advances}
 
--- `table` tells which readings are of this domain, and `changes` how often the engine has changed the number and the index word
+-- `table` tells which readings are of this domain, and `changes` how often the engine has changed the number and the index word. Of what the engine has half done, `half` says how many steps were made, and `began` how long the history was at the first load of the scan
 pub record DomainView : Type 0 where
   pub table : TableId
   pub limits : Limits
   pub processors : ℕ
   pub history : List Event
   pub changes : ℕ
+  pub half : ℕ
+  pub began : ℕ
+
+-- how far its grace periods have come
+abbrev pub standing_in : DomainView → Standing
+standing_in d = record { processors = d.processors; history = d.history; changes = d.changes; half = d.half; began = d.began }
 
 -- the index that a section gets that begins now
 abbrev pub index_in : DomainView → Index
@@ -37,6 +45,8 @@ pub record IsNew (limits : Limits) (processors : ℕ) (d : DomainView) : Type 0 
   pub processors_are : d.processors ≡ processors
   pub empty : d.history ≡ []
   pub unchanged : d.changes ≡ 0
+  pub nothing_half : d.half ≡ 0
+  pub no_scan : d.began ≡ 0
   pub count : IsCount processors
 
 abbrev pub IsNotMade : ℕ → MakeError → Type 0
@@ -85,13 +95,27 @@ pub record AsksAfter (p cookie : ℕ) (d : DomainView) (done : Bool) (d' : Domai
   pub follows : MayFollow d.history (Ask cookie done (Processor p))
   pub after : d' ≡ grown (Ask cookie done (Processor p)) d
 
--- a grace period starts, and `n` is the number then
+-- a grace period starts, and `n` is the number then. Nothing is half done of it
 pub record StartsPeriod (d : DomainView) (n : ℕ) (d' : DomainView) : Type 0 where
   pub follows : MayFollow d.history (Start Engine)
   pub room : number_in d < 4 * d.limits.periods
-  pub after : d' ≡ record (grown (Start Engine) d) { changes = d.changes + 1 }
+  pub after : d' ≡ record (grown (Start Engine) d) { changes = d.changes + 1; half = 0; began = d'.began }
   pub number : n ≡ number_in d'
 
 abbrev pub StartsNone : DomainView → StartRefusal → Type 0
 StartsNone d refusal.Running = IsRunning d.history
 StartsNone d refusal.Exhausted = number_in d ≡ 4 * d.limits.periods
+
+-- only the engine has gone on
+abbrev pub IsSameBut : DomainView → DomainView → Type 0
+IsSameBut d d' = d' ≡ record d { history = d'.history; changes = d'.changes; half = d'.half; began = d'.began }
+
+-- the engine makes one step, and answers
+pub record StepsOn (d : DomainView) (a : Progress) (d' : DomainView) : Type 0 where
+  pub steps : Steps a (standing_in d) (standing_in d')
+  pub after : IsSameBut d d'
+
+-- the engine makes steps until there is an answer
+pub record AdvancesBy (d : DomainView) (a : Progress) (d' : DomainView) : Type 0 where
+  pub advances : Advances a (standing_in d) (standing_in d')
+  pub after : IsSameBut d d'

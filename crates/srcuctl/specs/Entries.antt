@@ -21,7 +21,7 @@ IsTokenOf table processors (token.Look l) = l.domain ≡ table
 IsTokenOf table processors (token.Reading r) = IsOf table processors r
 
 abbrev pub state_with : List ℕ → List Named → DomainView → DomainState
-state_with name names d = record { name = name; processors = d.processors; names = names; history = d.history; changes = d.changes }
+state_with name names d = record { name = name; processors = d.processors; names = names; history = d.history; changes = d.changes; half = d.half; began = d.began }
 
 abbrev pub entry_with : List ℕ → List Named → DomainView → EntryView
 entry_with name names d = record { limits = d.limits; state = state_with name names d }

@@ -1,6 +1,7 @@
 pub mod Lines
 pub mod Faults
 pub mod Runs
+pub mod Standings
 pub mod States
 pub mod Names
 pub mod Replies

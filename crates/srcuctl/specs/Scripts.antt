@@ -131,11 +131,11 @@ pub record IsNotACookie (cookie : ℕ) (d : DomainState) (r : Reply) (d' : Domai
   pub after : d' ≡ d
   pub reply : r ≡ reply.Refused command.Poll NotACookie
 
--- a grace period starts
+-- a grace period starts, of which nothing is half done
 pub record Starts (limits : Limits) (d : DomainState) (r : Reply) (d' : DomainState) : Type 0 where
   pub follows : MayFollow d.history (Start Engine)
   pub room : number_now d < 4 * limits.periods
-  pub after : d' ≡ with_change (with_event (Start Engine) d)
+  pub after : d' ≡ record (with_change (with_event (Start Engine) d)) { half = 0; began = d'.began }
   pub reply : r ≡ reply.Started (number_now d')
 
 pub record IsRunningAlready (d : DomainState) (r : Reply) (d' : DomainState) : Type 0 where
@@ -165,7 +165,7 @@ pub record GoesOn (state : State) (place : ℕ) (d d' : DomainState) (state' : S
   pub others : state' ≡ slice_set state place d'
 
 abbrev pub new_domain : List ℕ → ℕ → DomainState
-new_domain name processors = record { name = name; processors = processors; names = []; history = []; changes = 0 }
+new_domain name processors = record { name = name; processors = processors; names = []; history = []; changes = 0; half = 0; began = 0 }
 
 -- a domain comes behind those that are there
 pub record Makes (state : State) (name : List ℕ) (processors : ℕ) (r : Reply) (state' : State) : Type 0 where

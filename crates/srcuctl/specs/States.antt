@@ -5,6 +5,7 @@ use Rattle.onedom.specs.declared.event.Event.{Event}
 use Rattle.sections.specs.declared.limits.Limits.{Limits}
 use Rattle.sseq.specs.Indexes.{low_bit, same_index}
 use Rattle.sections.specs.Words.{index_word, number_word}
+use Rattle.srcuctl.specs.Standings.{Standing}
 
 -- a section that is open: its number, the processor where it was begun, and its index
 pub record OpenSection : Type 0 where
@@ -22,13 +23,19 @@ pub record Named : Type 0 where
   pub name : List ℕ
   pub bearer : Bearer
 
--- `changes` is how often the engine has changed the number and the index word
+-- `changes` is how often the engine has changed the number and the index word. Of what the engine has half done, `half` says how many steps were made, and `began` how long the history was at the first load of the scan
 pub record DomainState : Type 0 where
   pub name : List ℕ
   pub processors : ℕ
   pub names : List Named
   pub history : List Event
   pub changes : ℕ
+  pub half : ℕ
+  pub began : ℕ
+
+-- how far its grace periods have come
+abbrev pub standing_of : DomainState → Standing
+standing_of d = record { processors = d.processors; history = d.history; changes = d.changes; half = d.half; began = d.began }
 
 -- the index that a section gets that begins now
 abbrev pub index_now : DomainState → Index

@@ -6,6 +6,7 @@ use Rattle.onedom.specs.declared.event.Event.{Event}
 use Rattle.onedom.specs.Histories.{made_by}
 use Rattle.sections.specs.declared.limits.Limits.{Limits}
 use Rattle.sections.specs.Limits.{AreInRange}
+use Rattle.sections.specs.Words.{IsIdle}
 use Rattle.sections.specs.Views.{CpuView, EngineView}
 use Rattle.sections.specs.Driving.{IsSeenByEngine}
 use Rattle.srcuctl.specs.declared.domain.Domain.TheInside as domain
@@ -38,7 +39,17 @@ pub record AreTogether (limits : Limits) (cpus : List CpuView) (e : EngineView) 
 
 module _ {A : Type 0} where
   abbrev pub view_of_domain : domain.Inside A → DomainView
-  view_of_domain d = record { table = d.engine.domain; limits = d.limits; processors = d.engine.processors; history = d.engine.seen; changes = d.engine.changes }
+  view_of_domain d = record {
+    table = d.engine.seat.domain;
+    limits = d.limits;
+    processors = d.engine.seat.processors;
+    history = d.engine.seat.seen;
+    changes = d.engine.seat.changes;
+    half = d.engine.half;
+    began = d.engine.began;
+  }
 
-  abbrev pub IsDomain : domain.Inside A → Type 0
-  IsDomain d = AreTogether d.limits d.cpus.items d.engine
+  -- at rest nothing is half done: nobody asks for a period
+  pub record IsDomain (d : domain.Inside A) : Type 0 where
+    pub together : AreTogether d.limits d.cpus.items d.engine.seat
+    pub rests : IsIdle d.engine.seat.changes → d.engine.half ≡ 0

@@ -1,30 +1,21 @@
-//! One domain of a session: all of its processors and its engine's seat in one hand.
+//! One domain of a session: all of its processors and its engine in one hand.
 ghost use Rattle.std.specs.Prelude.{◌≡◌, ◌<◌, MatchResult};
 ghost use Rattle.sections.specs.Limits.{AreInRange};
 ghost use Rattle.sections.specs.Calls.{IsNoCookie};
 
-use sections::{
-    Cpu, EngineSeat, Exhausted, Limits, Look, Made, MakeError, NotACookie, Reading, make,
-};
-use sseq::{Index, Number, Phase, state};
+use crate::needs::NoNeeds;
+use scan::{Engine, Progress, StartRefusal};
+use sections::{Cpu, Exhausted, Limits, Look, Made, MakeError, NotACookie, Reading, make};
+use sseq::{Index, Number};
 use std::alloc::Allocator;
 use std::marker::Model;
-
-/// Why no grace period was started. Nothing has changed.
-#[derive(Clone, Copy, Debug, PartialEq, Eq)]
-pub enum StartRefusal {
-    /// A grace period runs.
-    Running,
-    /// As many grace periods have ended as may.
-    Exhausted,
-}
 
 /// A domain that one thread drives. After each call its processors and its engine meet, so that all have seen one
 /// history, in which nothing stands but what the calls have done. Contracts see that history.
 #[derive(Drop)]
 pub struct Domain<A: Allocator> {
     cpus: Vec<Cpu<A>, A>,
-    engine: EngineSeat<A>,
+    engine: Engine<NoNeeds, A>,
     limits: Limits,
 }
 
@@ -41,7 +32,7 @@ impl<A: Allocator> Model for Domain<A> {
 }
 
 impl<A: Allocator> Domain<A> {
-    ghost use Rattle.srcuctl.specs.Domains.{IsNew, IsNotMade, IsOf, index_in, number_in, IsLookNow, BeginsSection, BeginsNone, EndsSection, GivesNumber, AsksAfter, StartsPeriod, StartsNone};
+    ghost use Rattle.srcuctl.specs.Domains.{IsNew, IsNotMade, IsOf, index_in, number_in, IsLookNow, BeginsSection, BeginsNone, EndsSection, GivesNumber, AsksAfter, StartsPeriod, StartsNone, StepsOn, AdvancesBy};
 
     /// A domain in which nothing has happened.
     pub fn new(alloc: A, processors: u64, limits: Limits) -> Result<Domain<A>, MakeError>
@@ -53,7 +44,7 @@ impl<A: Allocator> Domain<A> {
         let Made { cpus, engine } = make(alloc, processors as usize, limits)?;
         Ok(Domain {
             cpus,
-            engine,
+            engine: Engine::new(engine, NoNeeds),
             limits,
         })
     }
@@ -133,16 +124,29 @@ impl<A: Allocator> Domain<A> {
     pub fn start(&mut self) -> Result<Number, StartRefusal>
         ensures { MatchResult result (λ n. StartsPeriod self.old n self.new) (λ e. StartsNone self.old e × (self.new ≡ self.old)) }
     {
-        let number = self.engine.number();
-        let Phase::Idle = state(number) else {
-            return Err(StartRefusal::Running);
-        };
-        if number.get() == 4 * self.limits.periods {
-            return Err(StartRefusal::Exhausted);
-        }
-        let started = self.engine.add_start();
+        let number = self.engine.start()?;
         self.engine.meet(&mut self.cpus);
-        Ok(started)
+        Ok(number)
+    }
+
+    /// Has the engine make steps until there is an answer.
+    pub fn advance(&mut self) -> Progress
+        ensures { AdvancesBy self.old result self.new }
+    {
+        // Nobody asks for a grace period, so none is refused.
+        let answer = self.engine.advance().unwrap();
+        self.engine.meet(&mut self.cpus);
+        answer
+    }
+
+    /// Has the engine make one step.
+    pub fn step(&mut self) -> Progress
+        ensures { StepsOn self.old result self.new }
+    {
+        // As in `advance`.
+        let answer = self.engine.step().unwrap();
+        self.engine.meet(&mut self.cpus);
+        answer
     }
 
     /// The current index, as processor 0 finds it.

@@ -12,6 +12,7 @@ mod fakes;
 mod fault;
 mod line;
 mod name;
+mod needs;
 mod output;
 mod parse;
 mod reply;

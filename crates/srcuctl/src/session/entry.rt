@@ -7,9 +7,10 @@ ghost use Rattle.srcuctl.specs.Entries.{bearer_of};
 ghost use Rattle.srcuctl.specs.Scripts.{Looks, Enters, Locks, Ends, Gives, Polls, IsNotACookie, Starts, IsRunningAlready, IsOutOfPeriods, Shows};
 
 use crate::command::{Cause, Command};
-use crate::domain::{Domain, StartRefusal};
+use crate::domain::Domain;
 use crate::name::Name;
 use crate::reply::{Period, Reply, Sections};
+use scan::StartRefusal;
 use sections::{Exhausted, Look, NotACookie, Reading};
 use sseq::{Index, state};
 use std::alloc::{AllocError, Allocator};

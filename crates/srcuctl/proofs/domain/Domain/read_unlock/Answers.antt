@@ -2,35 +2,40 @@ use Rattle.std.proofs.Common.{◌≡◌, ◌<◌, length, subst, sym, arith, rul
 use Rattle.sections.specs.Driving.{Meets}
 use Rattle.srcuctl.specs.Together.{AreTogether}
 use Rattle.srcuctl.proofs.Meeting.{all_kept}
-use Rattle.srcuctl.proofs.Driving.{ended, ended_together}
+use Rattle.srcuctl.proofs.Driving.{rests_on, ended, ended_together}
 use Rattle.srcuctl.proofs.domain.Domain.read_unlock.Goals as goal
 
 pub invariant_of-self : goal.invariant_of-self
 invariant_of-self g c =
-    let together = c.self.invariant in
+    let together = c.self.invariant.together in
     let cpus = c.self.inside.cpus.items in
-    let e = c.self.inside.engine in
+    let v = c.self.inside.engine in
+    let e = v.seat in
     let was = c.index_mut.result.now in
     let new = c.read_unlock.new.self in
     let p = c.from-processor.result in
     let here : c.args.reading.processor ≡ p = search rules in
-    let meets = subst (λ l. Meets e l c.meet.new.self c.meet.new.cpus) c.deref_mut.ensures.value c.meet.ensures in
+    let meets = subst (λ l. Meets e l c.meet.new.self.seat c.meet.new.cpus) c.deref_mut.ensures.value c.meet.ensures.met in
     let small = rw (← c.self.view_is) at c.requires.processor in
     let inside : p < length cpus = omega (arith, together.hold.all, small, here) in
     let kept : c.self.inside.cpus.len ≡ length c.meet.new.cpus = omega (arith, c.self.inside.cpus.ok.0, meets.count, length-set cpus p new) in
-    subst (λ l. AreTogether c.self.inside.limits l c.meet.new.self) (sym (all_kept c.self.inside.cpus.len c.meet.new.cpus _ kept))
-    (ended_together c.self.inside.limits cpus e p was new together inside c.index_mut.ensures.value c.meet.new.cpus c.meet.new.self meets c.args.reading.seen c.args.reading.changes c.args.reading c.read_unlock.ensures)
+    record {
+      together = subst (λ l. AreTogether c.self.inside.limits l c.meet.new.self.seat) (sym (all_kept c.self.inside.cpus.len c.meet.new.cpus _ kept))
+          (ended_together c.self.inside.limits cpus v p was new together inside c.index_mut.ensures.value c.meet.new.cpus c.meet.new.self meets c.meet.ensures.rest c.args.reading.seen c.args.reading.changes c.args.reading c.read_unlock.ensures);
+      rests = rests_on c.self.inside.engine c.meet.new.self c.self.invariant.rests meets.changes_are c.meet.ensures.rest;
+    }
 
 pub returns : goal.returns
 returns g c =
-    let together = c.self.invariant in
+    let together = c.self.invariant.together in
     let cpus = c.self.inside.cpus.items in
-    let e = c.self.inside.engine in
+    let v = c.self.inside.engine in
+    let e = v.seat in
     let was = c.index_mut.result.now in
     let new = c.read_unlock.new.self in
     let p = c.from-processor.result in
     let here : c.args.reading.processor ≡ p = search rules in
-    let meets = subst (λ l. Meets e l c.meet.new.self c.meet.new.cpus) c.deref_mut.ensures.value c.meet.ensures in
+    let meets = subst (λ l. Meets e l c.meet.new.self.seat c.meet.new.cpus) c.deref_mut.ensures.value c.meet.ensures.met in
     let small = rw (← c.self.view_is) at c.requires.processor in
     let inside : p < length cpus = omega (arith, together.hold.all, small, here) in
-    rw (← c.self.view_is) (ended c.self.inside.limits cpus e p was new together inside c.index_mut.ensures.value c.meet.new.cpus c.meet.new.self meets c.args.reading.seen c.args.reading.changes c.args.reading here c.read_unlock.ensures)
+    rw (← c.self.view_is) (ended c.self.inside.limits cpus v p was new together inside c.index_mut.ensures.value c.meet.new.cpus c.meet.new.self meets c.meet.ensures.rest c.args.reading.seen c.args.reading.changes c.args.reading here c.read_unlock.ensures)

@@ -1,0 +1,33 @@
+use Rattle.std.proofs.Common.{◌≡◌, length, subst, sym, ap, ◌∙◌, arith}
+use Rattle.std.specs.Prelude.{Result, Ok, Err, MatchResult}
+use Rattle.sections.specs.Driving.{Meets}
+use Rattle.srcuctl.specs.Together.{AreTogether}
+use Rattle.srcuctl.proofs.Meeting.{all_kept}
+use Rattle.srcuctl.proofs.Progressing.{moves_by_step, moved_together, moved_rests, when_ok, steps_on}
+use Rattle.srcuctl.proofs.domain.Domain.step.Goals as goal
+
+pub invariant_of-self : goal.invariant_of-self
+invariant_of-self g c =
+    let together = c.self.invariant.together in
+    let limits = c.self.inside.limits in
+    let cpus = c.self.inside.cpus.items in
+    let v = c.self.inside.engine in
+    let w = c.step.new.self in
+    let meets = subst (λ l. Meets w.seat l c.meet.new.self.seat c.meet.new.cpus) c.deref_mut.ensures.value c.meet.ensures.met in
+    let moves = moves_by_step v w c.unwrap-answer.result (when_ok c.step.result _ _ c.unwrap-answer.result c.step.ensures c.unwrap-answer.ensures) in
+    let kept : c.self.inside.cpus.len ≡ length c.meet.new.cpus = omega (arith, c.self.inside.cpus.ok.0, meets.count) in
+    record {
+      together = subst (λ l. AreTogether limits l c.meet.new.self.seat) (sym (all_kept c.self.inside.cpus.len c.meet.new.cpus _ kept))
+          (moved_together limits cpus v w together c.self.invariant.rests c.meet.new.cpus c.meet.new.self meets c.meet.ensures.rest c.unwrap-answer.result moves);
+      rests = moved_rests limits cpus v w together c.self.invariant.rests c.meet.new.cpus c.meet.new.self meets c.meet.ensures.rest c.unwrap-answer.result moves;
+    }
+
+pub returns : goal.returns
+returns g c =
+    let together = c.self.invariant.together in
+    let limits = c.self.inside.limits in
+    let cpus = c.self.inside.cpus.items in
+    let v = c.self.inside.engine in
+    let w = c.step.new.self in
+    let meets = subst (λ l. Meets w.seat l c.meet.new.self.seat c.meet.new.cpus) c.deref_mut.ensures.value c.meet.ensures.met in
+    rw (← c.self.view_is) (steps_on limits cpus v w together c.self.invariant.rests c.meet.new.cpus c.meet.new.self meets c.meet.ensures.rest c.unwrap-answer.result (when_ok c.step.result _ _ c.unwrap-answer.result c.step.ensures c.unwrap-answer.ensures))
