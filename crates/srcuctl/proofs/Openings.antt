@@ -15,7 +15,7 @@ use Rattle.srcuctl.specs.declared.reply.Reply.{Reply}
 use Rattle.srcuctl.specs.declared.reply.Reply.TheVariants as reply
 use Rattle.srcuctl.specs.declared.request.Request.TheVariants as request
 use Rattle.srcuctl.specs.Domains.{DomainView, index_in, number_in, IsLookNow, BeginsSection, BeginsNone, EndsSection, GivesNumber, AsksAfter}
-use Rattle.srcuctl.specs.Scripts.{Shows, Looks, Enters, Locks, Ends, Gives, Polls, IsNotACookie, Starts, IsRunningAlready, IsOutOfPeriods, GoesOn, Answers as AnswersTo}
+use Rattle.srcuctl.specs.Scripts.{Shows, Looks, Enters, Locks, Ends, Gives, Polls, IsNotACookie, Starts, IsRunningAlready, IsOutOfPeriods, Advances, StepsOn, GoesOn, Answers as AnswersTo}
 use Rattle.srcuctl.proofs.Places.{state_there}
 use Rattle.sections.specs.Views.{LookView, ReadingView}
 use Rattle.srcuctl.specs.declared.command.Command.TheVariants as command
@@ -170,3 +170,9 @@ module _ (limits : Limits) (entries : List EntryView) (k : ℕ) (e e' : EntryVie
   pub start_given : (p : ℕ) → e.limits ≡ limits → Starts e.limits e.state r e'.state ⊎ IsRunningAlready e.state r e'.state ⊎ IsOutOfPeriods e.limits e.state r e'.state
       → AnswersTo limits (states_of entries) (request.Start k p) r (states_of (set entries k e'))
   start_given p same given = (e.state, e'.state, goes_on, subst (λ l. Starts l e.state r e'.state ⊎ IsRunningAlready e.state r e'.state ⊎ IsOutOfPeriods l e.state r e'.state) same given)
+
+  pub advance_given : (p : ℕ) → Advances e.state r e'.state → AnswersTo limits (states_of entries) (request.Advance k p) r (states_of (set entries k e'))
+  advance_given p given = (e.state, e'.state, goes_on, given)
+
+  pub step_given : (p : ℕ) → StepsOn e.state r e'.state → AnswersTo limits (states_of entries) (request.Step k p) r (states_of (set entries k e'))
+  step_given p given = (e.state, e'.state, goes_on, given)

@@ -11,6 +11,8 @@ use Rattle.onedom.specs.Histories.{MayFollow, IsRunning}
 use Rattle.sections.specs.declared.limits.Limits.{Limits}
 use Rattle.sections.specs.Words.{locks}
 use Rattle.sections.specs.Calls.{IsNoCookie}
+use Rattle.scan.specs.declared.progress.Progress.{Progress}
+use Rattle.scan.specs.declared.progress.Progress.TheVariants as progress
 use Rattle.srcuctl.specs.declared.fault.Fault.{Fault}
 use Rattle.srcuctl.specs.declared.fault.Fault.TheVariants.{Text}
 use Rattle.srcuctl.specs.declared.command.Command.{Command}
@@ -50,6 +52,10 @@ Asks state words (request.Poll place p cookie) = (d : List ℕ) × (n : List ℕ
     × (words ≡ codes "poll" ∷ d ∷ n ∷ c ∷ []) × (domain_place d state ≡ Some place) × (number_of n ≡ Some p) × (number_of c ≡ Some cookie)
 Asks state words (request.Start place p) = (d : List ℕ) × (n : List ℕ)
     × (words ≡ codes "start" ∷ d ∷ n ∷ []) × (domain_place d state ≡ Some place) × (number_of n ≡ Some p)
+Asks state words (request.Advance place p) = (d : List ℕ) × (n : List ℕ)
+    × (words ≡ codes "advance" ∷ d ∷ n ∷ []) × (domain_place d state ≡ Some place) × (number_of n ≡ Some p)
+Asks state words (request.Step place p) = (d : List ℕ) × (n : List ℕ)
+    × (words ≡ codes "step" ∷ d ∷ n ∷ []) × (domain_place d state ≡ Some place) × (number_of n ≡ Some p)
 
 -- What one domain does
 
@@ -136,7 +142,7 @@ pub record Starts (limits : Limits) (d : DomainState) (r : Reply) (d' : DomainSt
   pub follows : MayFollow d.history (Start Engine)
   pub room : number_now d < 4 * limits.periods
   pub after : d' ≡ with_change (with_event (Start Engine) d)
-  pub reply : r ≡ reply.Started (number_now d')
+  pub reply : r ≡ reply.Progress (progress.Started (number_now d'))
 
 pub record IsRunningAlready (d : DomainState) (r : Reply) (d' : DomainState) : Type 0 where
   pub running : IsRunning d.history
@@ -148,6 +154,18 @@ pub record IsOutOfPeriods (limits : Limits) (d : DomainState) (r : Reply) (d' : 
   pub full : number_now d ≡ 4 * limits.periods
   pub after : d' ≡ d
   pub reply : r ≡ reply.Refused command.Start Exhausted
+
+-- the engine is asked to go on until it has an answer, which is given
+pub record Advances (d : DomainState) (r : Reply) (d' : DomainState) : Type 0 where
+  pub said : Progress
+  pub after : d' ≡ d
+  pub reply : r ≡ reply.Progress said
+
+-- the engine is asked for one step, and its answer is given
+pub record StepsOn (d : DomainState) (r : Reply) (d' : DomainState) : Type 0 where
+  pub said : Progress
+  pub after : d' ≡ d
+  pub reply : r ≡ reply.Progress said
 
 -- where the domain stands; the root need is 0, as long as nobody can ask
 pub record Shows (d : DomainState) (r : Reply) : Type 0 where
@@ -194,6 +212,8 @@ Answers limits state (request.Poll place p cookie) r state' = (d d' : DomainStat
     × (Polls p cookie d r d' ⊎ IsNotACookie cookie d r d')
 Answers limits state (request.Start place p) r state' = (d d' : DomainState) × GoesOn state place d d' state'
     × (Starts limits d r d' ⊎ IsRunningAlready d r d' ⊎ IsOutOfPeriods limits d r d')
+Answers limits state (request.Advance place p) r state' = (d d' : DomainState) × GoesOn state place d d' state' × Advances d r d'
+Answers limits state (request.Step place p) r state' = (d d' : DomainState) × GoesOn state place d d' state' × StepsOn d r d'
 
 -- Lines
 
