@@ -14,8 +14,10 @@ use Rattle.sections.specs.declared.limits.Limits.{Limits}
 use Rattle.srcuctl.specs.declared.reply.Reply.{Reply}
 use Rattle.srcuctl.specs.declared.reply.Reply.TheVariants as reply
 use Rattle.srcuctl.specs.declared.request.Request.TheVariants as request
-use Rattle.srcuctl.specs.Domains.{DomainView, index_in, number_in, IsLookNow, BeginsSection, BeginsNone, EndsSection, GivesNumber, AsksAfter}
-use Rattle.srcuctl.specs.Scripts.{Shows, Looks, Enters, Locks, Ends, Gives, Polls, IsNotACookie, Starts, IsRunningAlready, IsOutOfPeriods, GoesOn, Answers as AnswersTo}
+use Rattle.scan.specs.declared.progress.Progress.{Progress}
+use Rattle.srcuctl.specs.Domains as domain
+use Rattle.srcuctl.specs.Domains.{DomainView, AdvancesBy, index_in, number_in, IsLookNow, BeginsSection, BeginsNone, EndsSection, GivesNumber, AsksAfter}
+use Rattle.srcuctl.specs.Scripts.{Shows, Looks, Enters, Locks, Ends, Gives, Polls, IsNotACookie, Starts, IsRunningAlready, IsOutOfPeriods, Advances, StepsOn, GoesOn, Answers as AnswersTo}
 use Rattle.srcuctl.proofs.Places.{state_there}
 use Rattle.sections.specs.Views.{LookView, ReadingView}
 use Rattle.srcuctl.specs.declared.command.Command.TheVariants as command
@@ -139,6 +141,12 @@ pub same_limits : (limits : Limits) (entries : List EntryView) (k : ℕ) (e : En
 same_limits limits entries k e within is same =
     ap (λ (x : EntryView). x.limits) is ∙ All-get_or (λ (x : EntryView). x.limits ≡ limits) entries k e (omega (arith, length-map entries (λ (x : EntryView). x.state), within)) same
 
+pub advanced : (own : List ℕ) (names : List Named) (d d' : DomainView) (a : Progress) → AdvancesBy d a d' → Advances (state_with own names d) (reply.Progress a) (state_with own names d')
+advanced own names d d' a h = record { said = a; advances = h.advances; after = ap (state_with own names) h.after; reply = refl }
+
+pub stepped : (own : List ℕ) (names : List Named) (d d' : DomainView) (a : Progress) → domain.StepsOn d a d' → StepsOn (state_with own names d) (reply.Progress a) (state_with own names d')
+stepped own names d d' a h = record { said = a; steps = h.steps; after = ap (state_with own names) h.after; reply = refl }
+
 module _ (limits : Limits) (entries : List EntryView) (k : ℕ) (e e' : EntryView) (r : Reply) (within : k < length (states_of entries)) (is : e ≡ get_or entries k e) where
   goes_on : GoesOn (states_of entries) k e.state e'.state (states_of (set entries k e'))
   goes_on = record {
@@ -170,3 +178,9 @@ module _ (limits : Limits) (entries : List EntryView) (k : ℕ) (e e' : EntryVie
   pub start_given : (p : ℕ) → e.limits ≡ limits → Starts e.limits e.state r e'.state ⊎ IsRunningAlready e.state r e'.state ⊎ IsOutOfPeriods e.limits e.state r e'.state
       → AnswersTo limits (states_of entries) (request.Start k p) r (states_of (set entries k e'))
   start_given p same given = (e.state, e'.state, goes_on, subst (λ l. Starts l e.state r e'.state ⊎ IsRunningAlready e.state r e'.state ⊎ IsOutOfPeriods l e.state r e'.state) same given)
+
+  pub advance_given : (p : ℕ) → Advances e.state r e'.state → AnswersTo limits (states_of entries) (request.Advance k p) r (states_of (set entries k e'))
+  advance_given p given = (e.state, e'.state, goes_on, given)
+
+  pub step_given : (p : ℕ) → StepsOn e.state r e'.state → AnswersTo limits (states_of entries) (request.Step k p) r (states_of (set entries k e'))
+  step_given p given = (e.state, e'.state, goes_on, given)

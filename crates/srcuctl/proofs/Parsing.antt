@@ -249,6 +249,20 @@ module _ (s : State) (words : List (List ℕ)) (k p : ℕ) where
     there = on.there;
   }
 
+  pub advance_right : AreAPlace s words k p → AreRight s command.Advance words (request.Advance k p)
+  advance_right (d, n, words_are, on) = record {
+    right = ap (words_fault s a_processor_alone) words_are ∙ on.fine;
+    asks = (d, n, ap (λ t. command_word command.Advance ∷ t) words_are, on.domain, on.number);
+    there = on.there;
+  }
+
+  pub step_right : AreAPlace s words k p → AreRight s command.Step words (request.Step k p)
+  step_right (d, n, words_are, on) = record {
+    right = ap (words_fault s a_processor_alone) words_are ∙ on.fine;
+    asks = (d, n, ap (λ t. command_word command.Step ∷ t) words_are, on.domain, on.number);
+    there = on.there;
+  }
+
   pub get_right : AreAPlace s words k p → AreRight s command.Get words (request.Get k p)
   get_right (d, n, words_are, on) = record {
     right = ap (words_fault s a_processor_alone) words_are ∙ on.fine;

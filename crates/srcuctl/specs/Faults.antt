@@ -33,6 +33,8 @@ command_word command.Unlock = codes "unlock"
 command_word command.Get = codes "get"
 command_word command.Poll = codes "poll"
 command_word command.Start = codes "start"
+command_word command.Advance = codes "advance"
+command_word command.Step = codes "step"
 
 abbrev pub cause_word : Cause → List ℕ
 cause_word cause.Full = codes "full"
@@ -43,7 +45,7 @@ cause_word cause.Running = codes "running"
 cause_word cause.NotACookie = codes "not-a-cookie"
 
 abbrev pub commands : List Command
-commands = command.Domain ∷ command.State ∷ command.Look ∷ command.Enter ∷ command.Lock ∷ command.Unlock ∷ command.Get ∷ command.Poll ∷ command.Start ∷ []
+commands = command.Domain ∷ command.State ∷ command.Look ∷ command.Enter ∷ command.Lock ∷ command.Unlock ∷ command.Get ∷ command.Poll ∷ command.Start ∷ command.Advance ∷ command.Step ∷ []
 
 -- the command that a word is
 abbrev pub command_of : List ℕ → Option Command
@@ -61,6 +63,8 @@ arguments command.Unlock = ADomain ∷ ASection ∷ []
 arguments command.Get = ADomain ∷ AProcessor ∷ []
 arguments command.Poll = ADomain ∷ AProcessor ∷ AnyNumber ∷ []
 arguments command.Start = ADomain ∷ AProcessor ∷ []
+arguments command.Advance = ADomain ∷ AProcessor ∷ []
+arguments command.Step = ADomain ∷ AProcessor ∷ []
 
 -- What is wrong
 

@@ -34,6 +34,8 @@ IsFor state (request.Unlock place which) = (d : DomainState) × (slice_get state
 IsFor state (request.Get place p) = IsOn state place p
 IsFor state (request.Poll place p cookie) = IsOn state place p
 IsFor state (request.Start place p) = IsOn state place p
+IsFor state (request.Advance place p) = IsOn state place p
+IsFor state (request.Step place p) = IsOn state place p
 
 -- What commands of one form take
 

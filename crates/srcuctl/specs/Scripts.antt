@@ -11,6 +11,8 @@ use Rattle.onedom.specs.Histories.{MayFollow, IsRunning}
 use Rattle.sections.specs.declared.limits.Limits.{Limits}
 use Rattle.sections.specs.Words.{locks}
 use Rattle.sections.specs.Calls.{IsNoCookie}
+use Rattle.scan.specs.declared.progress.Progress.{Progress}
+use Rattle.scan.specs.declared.progress.Progress.TheVariants as progress
 use Rattle.srcuctl.specs.declared.fault.Fault.{Fault}
 use Rattle.srcuctl.specs.declared.fault.Fault.TheVariants.{Text}
 use Rattle.srcuctl.specs.declared.command.Command.{Command}
@@ -22,7 +24,8 @@ use Rattle.srcuctl.specs.declared.reply.Reply.{Reply}
 use Rattle.srcuctl.specs.declared.reply.Reply.TheVariants as reply
 use Rattle.srcuctl.specs.Lines.{words_of, number_of}
 use Rattle.sections.specs.Making.{IsCount}
-use Rattle.srcuctl.specs.States.{State, DomainState, Bearer, Look, Section, OpenSection, HasLook, HasSection, index_now, number_now, domain_place, look_place, section_place, open_of}
+use Rattle.srcuctl.specs.States.{State, DomainState, Bearer, Look, Section, OpenSection, HasLook, HasSection, standing_of, index_now, number_now, domain_place, look_place, section_place, open_of}
+use Rattle.srcuctl.specs.Standings as standing
 use Rattle.srcuctl.specs.Faults.{fault_of}
 use Rattle.srcuctl.specs.Replies.{reply_text}
 
@@ -50,6 +53,10 @@ Asks state words (request.Poll place p cookie) = (d : List ℕ) × (n : List ℕ
     × (words ≡ codes "poll" ∷ d ∷ n ∷ c ∷ []) × (domain_place d state ≡ Some place) × (number_of n ≡ Some p) × (number_of c ≡ Some cookie)
 Asks state words (request.Start place p) = (d : List ℕ) × (n : List ℕ)
     × (words ≡ codes "start" ∷ d ∷ n ∷ []) × (domain_place d state ≡ Some place) × (number_of n ≡ Some p)
+Asks state words (request.Advance place p) = (d : List ℕ) × (n : List ℕ)
+    × (words ≡ codes "advance" ∷ d ∷ n ∷ []) × (domain_place d state ≡ Some place) × (number_of n ≡ Some p)
+Asks state words (request.Step place p) = (d : List ℕ) × (n : List ℕ)
+    × (words ≡ codes "step" ∷ d ∷ n ∷ []) × (domain_place d state ≡ Some place) × (number_of n ≡ Some p)
 
 -- What one domain does
 
@@ -136,7 +143,7 @@ pub record Starts (limits : Limits) (d : DomainState) (r : Reply) (d' : DomainSt
   pub follows : MayFollow d.history (Start Engine)
   pub room : number_now d < 4 * limits.periods
   pub after : d' ≡ record (with_change (with_event (Start Engine) d)) { half = 0; began = d'.began }
-  pub reply : r ≡ reply.Started (number_now d')
+  pub reply : r ≡ reply.Progress (progress.Started (number_now d'))
 
 pub record IsRunningAlready (d : DomainState) (r : Reply) (d' : DomainState) : Type 0 where
   pub running : IsRunning d.history
@@ -148,6 +155,24 @@ pub record IsOutOfPeriods (limits : Limits) (d : DomainState) (r : Reply) (d' : 
   pub full : number_now d ≡ 4 * limits.periods
   pub after : d' ≡ d
   pub reply : r ≡ reply.Refused command.Start Exhausted
+
+-- only the engine has gone on
+abbrev pub IsSameBut : DomainState → DomainState → Type 0
+IsSameBut d d' = d' ≡ record d { history = d'.history; changes = d'.changes; half = d'.half; began = d'.began }
+
+-- the engine goes on until it has an answer, which is given
+pub record Advances (d : DomainState) (r : Reply) (d' : DomainState) : Type 0 where
+  pub said : Progress
+  pub advances : standing.Advances said (standing_of d) (standing_of d')
+  pub after : IsSameBut d d'
+  pub reply : r ≡ reply.Progress said
+
+-- the engine makes one step, and its answer is given
+pub record StepsOn (d : DomainState) (r : Reply) (d' : DomainState) : Type 0 where
+  pub said : Progress
+  pub steps : standing.Steps said (standing_of d) (standing_of d')
+  pub after : IsSameBut d d'
+  pub reply : r ≡ reply.Progress said
 
 -- where the domain stands; the root need is 0, as long as nobody can ask
 pub record Shows (d : DomainState) (r : Reply) : Type 0 where
@@ -194,6 +219,8 @@ Answers limits state (request.Poll place p cookie) r state' = (d d' : DomainStat
     × (Polls p cookie d r d' ⊎ IsNotACookie cookie d r d')
 Answers limits state (request.Start place p) r state' = (d d' : DomainState) × GoesOn state place d d' state'
     × (Starts limits d r d' ⊎ IsRunningAlready d r d' ⊎ IsOutOfPeriods limits d r d')
+Answers limits state (request.Advance place p) r state' = (d d' : DomainState) × GoesOn state place d d' state' × Advances d r d'
+Answers limits state (request.Step place p) r state' = (d d' : DomainState) × GoesOn state place d d' state' × StepsOn d r d'
 
 -- Lines
 

@@ -16,6 +16,8 @@ pub enum Command {
     Get,
     Poll,
     Start,
+    Advance,
+    Step,
 }
 
 impl Command {
@@ -42,6 +44,10 @@ impl Command {
             Some(Command::Poll)
         } else if word == b"start".as_slice() {
             Some(Command::Start)
+        } else if word == b"advance".as_slice() {
+            Some(Command::Advance)
+        } else if word == b"step".as_slice() {
+            Some(Command::Step)
         } else {
             None
         }
@@ -65,6 +71,8 @@ impl fmt::Display for Command {
             Command::Get => f.write_str("get"),
             Command::Poll => f.write_str("poll"),
             Command::Start => f.write_str("start"),
+            Command::Advance => f.write_str("advance"),
+            Command::Step => f.write_str("step"),
         }
     }
 }

@@ -23,6 +23,8 @@ A script has a line for each thing that a domain should do:
   get NAME P         gives a cookie
   poll NAME P C      tells whether a grace period has gone by since cookie C
   start NAME P       starts a grace period
+  advance NAME P     lets the engine work until it has an answer
+  step NAME P        lets the engine make one step
   state NAME         shows where the domain stands
 
 Each line gets one reply line. Empty lines, and lines that begin with #, are

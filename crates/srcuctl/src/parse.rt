@@ -35,6 +35,8 @@ pub fn parse<A: Allocator>(words: &[&[u8]], entries: &[Entry<A>]) -> Result<Requ
         Command::Get => get(arguments, entries),
         Command::Poll => poll(arguments, entries),
         Command::Start => start(arguments, entries),
+        Command::Advance => advance(arguments, entries),
+        Command::Step => step(arguments, entries),
     }
 }
 
@@ -134,6 +136,20 @@ fn start<A: Allocator>(words: &[&[u8]], entries: &[Entry<A>]) -> Result<Request,
 {
     let (domain, processor) = just_a_processor(words, entries)?;
     Ok(Request::Start { domain, processor })
+}
+
+fn advance<A: Allocator>(words: &[&[u8]], entries: &[Entry<A>]) -> Result<Request, Fault>
+    ensures { MatchResult result (AreRight (states_of entries.now) Command.Advance (texts words.now)) (AreWrong (states_of entries.now) Command.Advance (texts words.now)) }
+{
+    let (domain, processor) = just_a_processor(words, entries)?;
+    Ok(Request::Advance { domain, processor })
+}
+
+fn step<A: Allocator>(words: &[&[u8]], entries: &[Entry<A>]) -> Result<Request, Fault>
+    ensures { MatchResult result (AreRight (states_of entries.now) Command.Step (texts words.now)) (AreWrong (states_of entries.now) Command.Step (texts words.now)) }
+{
+    let (domain, processor) = just_a_processor(words, entries)?;
+    Ok(Request::Step { domain, processor })
 }
 
 /// What a command of the form `COMMAND D P` takes: the place of a domain, and one of its processors.

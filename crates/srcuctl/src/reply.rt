@@ -5,6 +5,7 @@ ghost use Rattle.srcuctl.specs.Replies.{reply_text};
 use crate::command::{Cause, Command};
 use crate::fault::Fault;
 use crate::name::Name;
+use scan::Progress;
 use sseq::{Index, Number, Phase};
 use std::alloc::{AllocError, Allocator};
 use std::fmt;
@@ -53,8 +54,8 @@ pub enum Reply {
     Done,
     /// The cookie is not done.
     NotYet,
-    /// A grace period started, and this is the number then.
-    Started(Number),
+    /// What the engine answered.
+    Progress(Progress),
     /// The line did nothing, for this cause.
     Refused(Command, Cause),
     /// The line of this number, from 1, is faulty.
@@ -113,7 +114,12 @@ impl fmt::Display for Reply {
             Reply::Cookie(cookie) => writeln!(f, "cookie {cookie}"),
             Reply::Done => writeln!(f, "done"),
             Reply::NotYet => writeln!(f, "not yet"),
-            Reply::Started(number) => writeln!(f, "started {number}"),
+            Reply::Progress(Progress::Idle) => writeln!(f, "idle"),
+            Reply::Progress(Progress::Started(number)) => writeln!(f, "started {number}"),
+            Reply::Progress(Progress::Flipped(index)) => writeln!(f, "flipped {index}"),
+            Reply::Progress(Progress::Ended(number)) => writeln!(f, "ended {number}"),
+            Reply::Progress(Progress::Waiting(index)) => writeln!(f, "waiting {index}"),
+            Reply::Progress(Progress::Step) => writeln!(f, "step"),
             Reply::Refused(command, cause) => writeln!(f, "refused {command} {cause}"),
             Reply::Faulty { line, fault } => writeln!(f, "line {line}: {fault}"),
         }
@@ -125,4 +131,29 @@ pub fn push_reply<A: Allocator>(bytes: &mut Vec<u8, A>, reply: &Reply) -> Result
     ensures { OnOk result (bytes.new.items ≡ bytes.old.items ++ reply_text reply.now) }
 {
     write!(bytes, "{reply}").map_err(|_| AllocError)
+}
+
+#[cfg(test)]
+mod tests {
+    use super::*;
+    use std::test::Fail;
+
+    #[test]
+    fn answers_of_the_engine(rt: HostRuntime) -> Result<(), Fail> {
+        let number = Number::new(6).ok_or("a number")?;
+        let rows = [
+            (Progress::Idle, "idle\n"),
+            (Progress::Started(number), "started 6\n"),
+            (Progress::Flipped(Index::One), "flipped 1\n"),
+            (Progress::Ended(number), "ended 6\n"),
+            (Progress::Waiting(Index::Zero), "waiting 0\n"),
+            (Progress::Step, "step\n"),
+        ];
+        for (progress, text) in rows {
+            let mut bytes = Vec::new(rt.alloc());
+            push_reply(&mut bytes, &Reply::Progress(progress))?;
+            assert_eq!(rt; bytes.as_slice(), text.as_bytes());
+        }
+        Ok(())
+    }
 }

@@ -44,4 +44,12 @@ pub enum Request {
         domain: usize,
         processor: u64,
     },
+    Advance {
+        domain: usize,
+        processor: u64,
+    },
+    Step {
+        domain: usize,
+        processor: u64,
+    },
 }

@@ -95,6 +95,8 @@ impl<A: Allocator + Clone> Session<A> {
                 cookie,
             } => Ok(self.entries[domain].poll(processor, cookie)),
             Request::Start { domain, .. } => Ok(self.entries[domain].start()),
+            Request::Advance { domain, .. } => Ok(self.entries[domain].advance()),
+            Request::Step { domain, .. } => Ok(self.entries[domain].step()),
         }
     }
 

@@ -4,13 +4,13 @@ ghost use Rattle.sseq.specs.declared.index.Index.{Index};
 ghost use Rattle.sseq.specs.Indexes.{same_index};
 ghost use Rattle.srcuctl.specs.States.{OpenSection, HasLook, HasSection, is_look, is_section, is_open_of, name_place, look_place, section_place};
 ghost use Rattle.srcuctl.specs.Entries.{bearer_of};
-ghost use Rattle.srcuctl.specs.Scripts.{Looks, Enters, Locks, Ends, Gives, Polls, IsNotACookie, Starts, IsRunningAlready, IsOutOfPeriods, Shows};
+ghost use Rattle.srcuctl.specs.Scripts.{Looks, Enters, Locks, Ends, Gives, Polls, IsNotACookie, Starts, IsRunningAlready, IsOutOfPeriods, Advances, StepsOn, Shows};
 
 use crate::command::{Cause, Command};
 use crate::domain::Domain;
 use crate::name::Name;
 use crate::reply::{Period, Reply, Sections};
-use scan::StartRefusal;
+use scan::{Progress, StartRefusal};
 use sections::{Exhausted, Look, NotACookie, Reading};
 use sseq::{Index, state};
 use std::alloc::{AllocError, Allocator};
@@ -224,10 +224,26 @@ impl<A: Allocator> Entry<A> {
             ⊎ IsOutOfPeriods self.old.limits self.old.state result self.new.state }
     {
         match self.domain.start() {
-            Ok(number) => Reply::Started(number),
+            Ok(number) => Reply::Progress(Progress::Started(number)),
             Err(StartRefusal::Running) => Reply::Refused(Command::Start, Cause::Running),
             Err(StartRefusal::Exhausted) => Reply::Refused(Command::Start, Cause::Exhausted),
         }
+    }
+
+    /// Lets the engine go on until it has an answer.
+    pub fn advance(&mut self) -> Reply
+        ensures limits { self.new.limits ≡ self.old.limits }
+        ensures advances { Advances self.old.state result self.new.state }
+    {
+        Reply::Progress(self.domain.advance())
+    }
+
+    /// Lets the engine make one step.
+    pub fn step(&mut self) -> Reply
+        ensures limits { self.new.limits ≡ self.old.limits }
+        ensures steps { StepsOn self.old.state result self.new.state }
+    {
+        Reply::Progress(self.domain.step())
     }
 
     /// Where the domain stands.

@@ -71,6 +71,8 @@ fn answers_scripts(rt: HostRuntime) -> Result<(), Fail> {
         &[
             ("domain a 1", "made a 1"),
             ("state a", "state a number 0 idle index 0 open 0 0 need 0"),
+            ("advance a 0", "idle"),
+            ("step a 0", "idle"),
         ],
     )?;
     check(
@@ -113,6 +115,10 @@ fn finds_the_first_fault(rt: HostRuntime) -> Result<(), Fail> {
             ("lock a 0", "! words"),
             ("unlock a", "! words"),
             ("start a", "! words"),
+            ("advance", "! words"),
+            ("advance a", "! words"),
+            ("advance a 0 1", "! words"),
+            ("step a", "! words"),
             ("look a 0", "! words"),
             ("look a 0 r r", "! words"),
             ("enter a 0", "! words"),
@@ -133,6 +139,7 @@ fn finds_the_first_fault(rt: HostRuntime) -> Result<(), Fail> {
             ("lock b 0 s", "! domain"),
             ("unlock b s", "! domain"),
             ("start b 0", "! domain"),
+            ("advance b 0", "! domain"),
             // a domain before a number and a name behind it
             ("lock b x s", "! domain"),
             ("lock b 0 S", "! domain"),
@@ -152,6 +159,7 @@ fn finds_the_first_fault(rt: HostRuntime) -> Result<(), Fail> {
             ("lock a 00 s", "! number"),
             ("lock a 18446744073709551616 s", "! number"),
             ("start a +0", "! number"),
+            ("advance a x", "! number"),
             ("poll a 0 x", "! number"),
             ("poll a x x", "! number"),
             ("poll a 1 x", "! processor"),
@@ -159,6 +167,8 @@ fn finds_the_first_fault(rt: HostRuntime) -> Result<(), Fail> {
             ("lock a 1 s", "! processor"),
             ("lock a 18446744073709551615 s", "! processor"),
             ("start a 1", "! processor"),
+            ("advance a 9", "! processor"),
+            ("step a 9", "! processor"),
             ("start a 00", "! number"),
             // a number and a processor before a name behind them
             ("lock a x S", "! number"),

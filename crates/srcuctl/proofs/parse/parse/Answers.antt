@@ -50,3 +50,13 @@ pub returns-in-Start-clause-asks : goal.returns-in-Start-clause-asks
 returns-in-Start-clause-asks g c =
     let found : c.of_word.result ≡ Some command.Start = search rules in
     asks_of (states_of c.args.entries.now) c.args.words.now command.Start _ _ c.requires (word_is _ _ _ found c.of_word.ensures.word) (take_rest c.args.words.now 1) c.start.ensures
+
+pub returns-in-Advance-clause-asks : goal.returns-in-Advance-clause-asks
+returns-in-Advance-clause-asks g c =
+    let found : c.of_word.result ≡ Some command.Advance = search rules in
+    asks_of (states_of c.args.entries.now) c.args.words.now command.Advance _ _ c.requires (word_is _ _ _ found c.of_word.ensures.word) (take_rest c.args.words.now 1) c.advance.ensures
+
+pub returns-in-Step-clause-asks : goal.returns-in-Step-clause-asks
+returns-in-Step-clause-asks g c =
+    let found : c.of_word.result ≡ Some command.Step = search rules in
+    asks_of (states_of c.args.entries.now) c.args.words.now command.Step _ _ c.requires (word_is _ _ _ found c.of_word.ensures.word) (take_rest c.args.words.now 1) c.step.ensures

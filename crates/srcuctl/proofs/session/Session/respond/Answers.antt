@@ -2,7 +2,7 @@ use Rattle.std.proofs.Common.{◌<◌, length}
 use Rattle.std.proofs.lemmas.Option.{slice_get_within}
 use Rattle.std.proofs.lemmas.Result.{IfOk-weaker}
 use Rattle.srcuctl.specs.States.{states_of}
-use Rattle.srcuctl.proofs.Openings.{same_limits, state_given, look_given, enter_given, lock_given, unlock_given, get_given, poll_given, start_given}
+use Rattle.srcuctl.proofs.Openings.{same_limits, state_given, look_given, enter_given, lock_given, unlock_given, get_given, poll_given, start_given, advance_given, step_given}
 use Rattle.srcuctl.proofs.session.Session.respond.Goals as goal
 
 pub returns-in-State-clause-ok : goal.returns-in-State-clause-ok
@@ -63,3 +63,17 @@ returns-in-Start-clause-ok g c =
     let within : c.in-Start.domain < length (states_of entries) = slice_get_within (states_of entries) c.in-Start.domain asked.0 asked.1 in
     let same = same_limits c.self-in-Start.inside.limits entries c.in-Start.domain c.index_mut-in-Start.result.now within c.index_mut-in-Start.ensures.value c.self-in-Start.invariant.same in
     rw (c.in-Start.is, ← c.self-in-Start.view_is) (start_given c.self-in-Start.inside.limits entries c.in-Start.domain c.index_mut-in-Start.result.now c.start.new.self _ within c.index_mut-in-Start.ensures.value c.in-Start.processor same c.start.ensures.starts)
+
+pub returns-in-Advance-clause-ok : goal.returns-in-Advance-clause-ok
+returns-in-Advance-clause-ok g c =
+    let entries = c.self-in-Advance.inside.entries.items in
+    let asked = rw (c.in-Advance.is, ← c.self-in-Advance.view_is) at c.requires in
+    let within : c.in-Advance.domain < length (states_of entries) = slice_get_within (states_of entries) c.in-Advance.domain asked.0 asked.1 in
+    rw (c.in-Advance.is, ← c.self-in-Advance.view_is) (advance_given c.self-in-Advance.inside.limits entries c.in-Advance.domain c.index_mut-in-Advance.result.now c.advance.new.self _ within c.index_mut-in-Advance.ensures.value c.in-Advance.processor c.advance.ensures.advances)
+
+pub returns-in-Step-clause-ok : goal.returns-in-Step-clause-ok
+returns-in-Step-clause-ok g c =
+    let entries = c.self-in-Step.inside.entries.items in
+    let asked = rw (c.in-Step.is, ← c.self-in-Step.view_is) at c.requires in
+    let within : c.in-Step.domain < length (states_of entries) = slice_get_within (states_of entries) c.in-Step.domain asked.0 asked.1 in
+    rw (c.in-Step.is, ← c.self-in-Step.view_is) (step_given c.self-in-Step.inside.limits entries c.in-Step.domain c.index_mut-in-Step.result.now c.step.new.self _ within c.index_mut-in-Step.ensures.value c.in-Step.processor c.step.ensures.steps)
