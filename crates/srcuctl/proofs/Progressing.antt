@@ -184,10 +184,10 @@ module _ (limits : Limits) (cpus : List CpuView) (v w : View) (together : AreTog
       let h : AllHold limits (v.seat.seen ++ x ∷ []) cpus w.seat = subst (λ l. AllHold limits (v.seat.seen ++ l) cpus w.seat) one hold in
       let all : v.seat.seen ++ x ∷ [] ≡ v.seat.seen ++ made = ap (λ l. v.seat.seen ++ l) (sym one) in
       let other : w.seat.seen ≢ v.seat.seen = λ same.
-          let own : w.seat.mine ≡ v.seat.mine = g.history.own ∙ (ap (made_by Engine) same ∙ sym together.hold.engine) in
-          let longer = ap length (sym g.events ∙ own) in let more = length-append v.seat.mine made in let some : length made ≡ 1 = ap length one in omega (arith, longer, more, some) in
+      let own : w.seat.mine ≡ v.seat.mine = g.history.own ∙ (ap (made_by Engine) same ∙ sym together.hold.engine) in
+      let longer = ap length (sym g.events ∙ own) in let more = length-append v.seat.mine made in let some : length made ≡ 1 = ap length one in omega (arith, longer, more, some) in
       let just = just_this w.seat.processors v.seat.seen before w'.seat.seen x (before_event v.seat.seen before w.seat.seen x g.since is other) (subst (λ l. IsBeginning l w'.seat.seen) is meets.since)
-          (all_makers limits (v.seat.seen ++ x ∷ []) cpus cpus' w.seat w'.seat h meets) (counted limits (v.seat.seen ++ x ∷ []) cpus cpus' w.seat w'.seat h meets) in
+      (all_makers limits (v.seat.seen ++ x ∷ []) cpus cpus' w.seat w'.seat h meets) (counted limits (v.seat.seen ++ x ∷ []) cpus cpus' w.seat w'.seat h meets) in
       (is ∙ (ap (λ l. l ++ x ∷ []) just.0 ∙ all), just.1 ∙ all)
 
   pub are_grown : AreGrown
@@ -236,7 +236,7 @@ module _ (v w w' : View) where
   scan_is : (since : ℕ) → FirstLoaded since v.half v.began v.seat.seen w.seat.seen → w.seat.seen ≡ v.seat.seen → since ≡ scan_began (standing_at v)
   scan_is since first same = dite (ℕ_discrete v.half 0)
       (λ none. let now = first.now none in let low = now.0 in let high = now.1 in let long : length w.seat.seen ≡ length v.seat.seen = ap length same in
-          let is : since ≡ length v.seat.seen = omega (arith, low, high, long) in is ∙ sym (ap (pick (length v.seat.seen) v.began) (eq-eqb v.half 0 none)))
+      let is : since ≡ length v.seat.seen = omega (arith, low, high, long) in is ∙ sym (ap (pick (length v.seat.seen) v.began) (eq-eqb v.half 0 none)))
       (λ some. first.before (omega (arith, some)) ∙ sym (ap (pick (length v.seat.seen) v.began) (ne_eqb v.half 0 some)))
 
   waits_for : (i : Index) → Met v (answer.Waiting i) w w' → WaitsFor i (standing_at v)

@@ -7,6 +7,8 @@ use std::alloc::Global;
 use std::process::Abort;
 use std::test::Fail;
 
+mod periods;
+
 const LIMITS: Limits = Limits {
     sections: 18_014_398_509_481_984,
     periods: 576_460_752_303_423_487,
@@ -38,7 +40,7 @@ const STARTED_REPLIES: [&str; 8] = [
 
 /// The scripts of the folder `examples`, and the replies beside them there.
 const TWO_READERS: &str = "\
-# Two readers of one domain, and the start of a grace period.
+# Two readers of one domain, and a grace period from its start to its end.
 #
 # A domain has a name and one or two processors. Each line below gets one reply.
 domain web 2
@@ -52,21 +54,29 @@ lock web 1 second
 # index, and the open sections of each index.
 state web
 
-# A grace period starts. It runs until every section that is open now is closed
-# (ending it comes with a later version).
+# A grace period starts. It ends once every section that is open now is closed.
 start web 0
 state web
 
 # Only one grace period runs at a time.
 start web 1
 
-# Readers come and go while it runs.
+# The engine scans the index that is not current. No section of it is open, so
+# it becomes the current one: the index is flipped.
+advance web 0
+
+# Then it scans the other index, and waits for the sections of it.
+advance web 0
+
+# Readers come and go while the grace period runs. A section that begins now has
+# the new index, and nobody waits for it.
 unlock web first
 lock web 0 third
-state web
+advance web 0
 unlock web second
-unlock web third
+advance web 0
 state web
+unlock web third
 ";
 
 const TWO_READERS_REPLIES: &str = "\
@@ -77,12 +87,15 @@ state web number 0 idle index 0 open 2 0 need 0
 started 1
 state web number 1 scan1 index 0 open 2 0 need 0
 refused start running
+flipped 1
+waiting 0
 closed
-index 0
-state web number 1 scan1 index 0 open 2 0 need 0
+index 1
+waiting 0
 closed
+ended 4
+state web number 4 idle index 1 open 0 1 need 0
 closed
-state web number 1 scan1 index 0 open 0 0 need 0
 ";
 
 const FAULTS: &str = "\
