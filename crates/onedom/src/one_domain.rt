@@ -1,5 +1,5 @@
 //! A domain of one thread, which keeps its whole history and asks the definitions of it.
-ghost use Rattle.std.specs.Prelude.{◌≡◌, ℕ, ◌*◌, ◌%◌, ◌<◌, ◌≤◌, ◌↔◌, [], ◌∷◌, ◌++◌, length, count_by, IfOk, IfErr, OnOk, OnErr, MatchOption, IsTrue};
+ghost use Rattle.std.specs.Prelude.{◌≡◌, ℕ, ◌%◌, ◌≤◌, ◌↔◌, [], ◌∷◌, ◌++◌, length, IfOk, IfErr, OnOk, OnErr, MatchOption, IsTrue};
 ghost use Rattle.onedom.specs.Histories.{begins, ends, is_start, is_finish, begins_of, ends_of, starts_in, ended_in, IsOpen, IsRunning, IsBeforeLastStart, WasOpenAtStart, cookie_after, IsDone, MayFollow, IsLegal};
 ghost use Rattle.onedom.specs.Refusals.{IsRefusal};
 

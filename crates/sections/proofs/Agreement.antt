@@ -1,14 +1,13 @@
 -- The words agree with the history after each step.
-use Rattle.std.proofs.Common.{◌≡◌, ℕ, ◌+◌, ◌*◌, ◌/◌, ◌^◌, ◌%◌, ◌<◌, ◌≤◌, ◌≢◌, Bool, true, false, cond, ◌&&◌, eqb, List, [], ◌∷◌, ◌++◌, All, length, get_or, set, refl, sym, ap, ◌∙◌, subst, eq-eqb, ne_eqb, arith, length-set, get_or-set_other, get_or-set_same}
+use Rattle.std.proofs.Common.{◌≡◌, ℕ, ◌+◌, ◌%◌, ◌<◌, ◌≢◌, Bool, true, false, cond, ◌&&◌, eqb, List, [], ◌∷◌, ◌++◌, All, length, get_or, set, refl, sym, ap, ◌∙◌, arith, length-set, get_or-set_other, get_or-set_same}
 use mathlib.Core.Logic.{dite}
 use native.Mathlib.Decide.{ℕ_discrete}
 use Rattle.sseq.specs.declared.index.Index.{Index}
-use Rattle.sseq.specs.declared.index.Index.TheVariants.{Zero, One}
-use Rattle.sseq.specs.Indexes.{index_number, same_index}
+use Rattle.sseq.specs.Indexes.{same_index}
 use Rattle.onedom.specs.declared.event.Maker.{Maker}
 use Rattle.onedom.specs.declared.event.Event.{Event}
 use Rattle.onedom.specs.declared.event.Event.TheVariants.{Begin, End, Start, Finish, Note, Ask}
-use Rattle.onedom.specs.Histories.{maker_of, same_maker, made_by, index_of, is_start, is_finish, starts_in, ended_in, IsRunning}
+use Rattle.onedom.specs.Histories.{maker_of, same_maker, made_by, index_of, is_start, is_finish, starts_in, IsRunning}
 use Rattle.onedom.specs.declared.event.Maker.TheVariants.{Engine}
 use Rattle.onedom.proofs.Pushes.{bit, count_cons, starts_in_push, ended_in_push}
 use Rattle.std.proofs.lemmas.List.Elements.{All-head, All-tail}

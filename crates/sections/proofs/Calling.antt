@@ -1,17 +1,17 @@
 -- From what a step tells a seat to what a caller of a processor sees.
-use Rattle.std.proofs.Common.{◌≡◌, ℕ, ◌+◌, ◌*◌, ◌%◌, ◌<◌, ◌≤◌, ◌≢◌, ◌==◌, if◌then◌else◌, Bool, true, false, nat_le, not, eqb, filter, List, [], ◌∷◌, ◌++◌, None, All, length, get_or, set, refl, sym, ap, ◌∙◌, subst, eq-eqb, leb-true, le-leb, append_assoc, arith, get_or-set_other, get_or-set_same}
+use Rattle.std.proofs.Common.{◌≡◌, ℕ, ◌+◌, ◌*◌, ◌%◌, ◌<◌, ◌≤◌, ◌≢◌, ◌==◌, if◌then◌else◌, Bool, true, false, nat_le, eqb, List, [], ◌∷◌, ◌++◌, None, All, length, get_or, set, refl, sym, ap, ◌∙◌, subst, eq-eqb, leb-true, le-leb, append_assoc, arith, get_or-set_other, get_or-set_same}
 use Rattle.std.proofs.lemmas.List.Elements.{All-head}
 use mathlib.Core.Logic.{dite}
 use native.Mathlib.Decide.{ℕ_discrete}
 use Rattle.atomic_table.specs.Seated.{TableId}
 use Rattle.sseq.specs.declared.index.Index.{Index}
 use Rattle.sseq.specs.declared.index.Index.TheVariants.{Zero, One}
-use Rattle.sseq.specs.Indexes.{index_number, low_bit}
+use Rattle.sseq.specs.Indexes.{index_number}
 use Rattle.onedom.specs.declared.event.Maker.{Maker}
 use Rattle.onedom.specs.declared.event.Maker.TheVariants.{Processor, Engine}
 use Rattle.onedom.specs.declared.event.Event.{Event}
 use Rattle.onedom.specs.declared.event.Event.TheVariants.{Begin, End, Note, Ask}
-use Rattle.onedom.specs.Histories.{begins, ends, section_begun, IsOpen, begins_of, ends_of, MayFollow, IsLegal, IsLegalAfter, made_by, open_sections, IsBeginning}
+use Rattle.onedom.specs.Histories.{begins, ends, section_begun, IsOpen, begins_of, ends_of, MayFollow, IsLegal, made_by, open_sections, IsBeginning}
 use Rattle.onedom.proofs.Periods.{law}
 use Rattle.onedom.proofs.Pushes.{bit, begins_of_push, no_ends, legal_after_append, ends_of_made, ends_of_push}
 use Rattle.onedom.proofs.Beginnings.{begins_grow}
@@ -23,10 +23,10 @@ use Rattle.sections.specs.declared.view.Right.TheVariants.{Nothing, Section}
 use Rattle.sections.specs.declared.view.Step.{Step}
 use Rattle.sections.specs.declared.view.View.{View}
 use Rattle.sections.specs.Words.{locks_at, locks, number_word}
-use Rattle.sections.specs.Rule.{HasItsMaker, GoesOn, moment_of, informed, lacking, bearer}
+use Rattle.sections.specs.Rule.{HasItsMaker, GoesOn, moment_of, informed, lacking}
 use Rattle.sections.specs.Plays.{Owns, IsSound, Sees, Adds, FindsNumber}
 use Rattle.sections.specs.Insides.{IsAtRest, section_of}
-use Rattle.sections.specs.Views.{CpuView, CookieView}
+use Rattle.sections.specs.Views.{CpuView}
 use Rattle.sections.specs.Calls.{IsHistoryOf, Loads, AddsEvent, Notes, Asks, EndsWithNote, AllClosed}
 use Rattle.sseq.specs.Numbers.{periods_ended, cookie_at}
 use Rattle.sections.proofs.Counters.{locks_push, locks_here, elsewhere, index_low, index_number_same}

@@ -1,29 +1,28 @@
 -- Each step of the engine's seat keeps the rule.
-use Rattle.std.proofs.Common.{◌≡◌, ℕ, ◌+◌, ◌*◌, ◌/◌, ◌%◌, ◌^◌, ◌<◌, ◌≤◌, ◌≢◌, true, false, List, [], ◌∷◌, ◌++◌, All, Option, length, get_or, set, refl, sym, ap, ◌∙◌, subst, arith}
+use Rattle.std.proofs.Common.{◌≡◌, ℕ, ◌+◌, ◌*◌, ◌%◌, ◌^◌, ◌<◌, ◌≤◌, true, false, List, [], ◌∷◌, ◌++◌, All, Option, length, get_or, set, refl, sym, ap, ◌∙◌, subst, arith}
 use Rattle.std.proofs.lemmas.List.Elements.{All-nil}
-use mathlib.Core.Option.{none, some}
-use lib.ListN.{get_elem?}
+use mathlib.Core.Option.{none}
 use Rattle.atomic_table.specs.Table.{State, step, keeps, stepped, Allows}
 use Rattle.sseq.specs.declared.index.Index.{Index}
 use Rattle.onedom.specs.declared.event.Maker.TheVariants.{Processor, Engine}
 use Rattle.onedom.specs.declared.event.Event.{Event}
 use Rattle.onedom.specs.declared.event.Event.TheVariants.{Start, Finish}
-use Rattle.onedom.specs.Histories.{ends, starts_in, is_start, is_finish, WasEmpty, IsRunning, MayFollow, maker_of, same_maker, made_by, IsBeginning}
+use Rattle.onedom.specs.Histories.{ends, starts_in, WasEmpty, MayFollow, maker_of, same_maker, made_by, IsBeginning}
 use Rattle.onedom.proofs.Pushes.{bit, made_by_own, made_by_other, same_maker_refl}
 use Rattle.onedom.proofs.Beginnings.{beginning_refl}
 use Rattle.onedom.proofs.Periods.{empty_grows, empty_may_end}
 use Rattle.sections.specs.declared.view.Bounds.{Bounds}
 use Rattle.sections.specs.declared.view.Role.{Role}
-use Rattle.sections.specs.declared.view.Role.TheVariants.{Bearer, Cpu, Driver}
+use Rattle.sections.specs.declared.view.Role.TheVariants.{Driver}
 use Rattle.sections.specs.declared.view.Step.{Step}
 use Rattle.sections.specs.declared.view.Step.TheVariants.{LoadUnlocks, LoadLocks, AddIndex, AddNumber}
 use Rattle.sections.specs.declared.view.View.{View}
 use Rattle.sections.specs.Words.{index_place, number_place, lock_place, unlock_place, locks_at, locks, unlocks_at, unlocks, all_locks, index_word, number_word, IsIdle, IsBeforeFlip, IsFlipping, IsBehindFlip, Reaches, Agree}
-use Rattle.sections.specs.Rule.{HasItsMaker, GoesOn, Makes, Has, Knows, Fits, Kept}
-use Rattle.sections.specs.Plays.{Owns, IsSound, Sees, Adds, Sat, counted_unlocks, counted_locks, started, flipped, moved_on, finished}
+use Rattle.sections.specs.Rule.{HasItsMaker, GoesOn, Makes, Fits, Kept}
+use Rattle.sections.specs.Plays.{Owns, Sees, Adds, Sat, counted_unlocks, counted_locks, started, flipped, moved_on, finished}
 use Rattle.sections.proofs.Counters.{locks_push, sum_most}
 use Rattle.sections.proofs.Agreement.{lock_places, unlock_places, agrees_numbered, agrees_flipped, locks_not_at, unlocks_not_at, reaches_started, reaches_finished, reaches_on, idle_not_running, busy_running}
-use Rattle.sections.proofs.Knowing.{now, told_later, views_set, has_stays, fits_later, makes_later, has_later, known_before, knows_all, owns_from_makes, false≠true}
+use Rattle.sections.proofs.Knowing.{now, told_later, views_set, has_stays, fits_later, makes_later, has_later, knows_all, owns_from_makes, false≠true}
 use Rattle.sections.proofs.Steps.{exact, loads_here, added, alone, sound_after}
 
 -- the engine's events

@@ -1,5 +1,5 @@
 -- A new domain.
-use Rattle.std.proofs.Common.{◌≡◌, ℕ, ◌+◌, ◌*◌, ◌^◌, ◌<◌, ◌≤◌, List, [], ◌∷◌, ◌++◌, length, get_or, replicate, refl, sym, ap, ◌∙◌, subst, arith}
+use Rattle.std.proofs.Common.{◌≡◌, ℕ, ◌+◌, ◌<◌, List, [], ◌∷◌, ◌++◌, length, get_or, replicate, refl, sym, ap, ◌∙◌, arith}
 use Rattle.std.proofs.lemmas.List.{get_or_push, get_or_append_left, get_or-replicate, length-replicate, get_or_past}
 use Rattle.std.proofs.Math.Nat.{mul-le-mul}
 use mathlib.Core.Logic.{dite}
@@ -11,7 +11,7 @@ use Rattle.sections.specs.Limits.{AreInRange}
 use Rattle.sections.specs.Views.{CpuView}
 use Rattle.sections.specs.Calls.{new_cpu, AreNew}
 use Rattle.sections.specs.declared.view.Role.TheVariants.{Driver}
-use Rattle.sections.specs.Rule.{HasItsMaker, AreSmall, founder}
+use Rattle.sections.specs.Rule.{HasItsMaker, founder}
 use Rattle.sections.specs.Insides.{IsAtRest}
 use Rattle.sections.specs.Making.{IsCount, IsSmall}
 use Rattle.std.proofs.lemmas.List.Elements.{All-nil}

@@ -1,15 +1,11 @@
 -- What the rule says of the words, in terms of the history alone.
-use Rattle.std.proofs.Common.{◌≡◌, ℕ, ◌+◌, ◌*◌, ◌/◌, ◌%◌, ◌<◌, ◌≤◌, ◌⊎◌, inl, inr, List, Option, slice_index, refl, sym, ap, ◌∙◌, subst, arith}
+use Rattle.std.proofs.Common.{◌≡◌, ℕ, ◌*◌, ◌%◌, inl, inr, List, sym, subst, arith}
 use mathlib.Core.Logic.{dite}
 use native.Mathlib.Decide.{ℕ_discrete}
-use Rattle.atomic_table.specs.Table.{State}
 use Rattle.onedom.specs.declared.event.Event.{Event}
-use Rattle.onedom.specs.Histories.{starts_in, ended_in, IsRunning}
-use Rattle.sections.specs.declared.view.Bounds.{Bounds}
-use Rattle.sections.specs.declared.view.View.{View}
-use Rattle.sections.specs.Words.{index_place, number_place, index_word, number_word, Reaches, MayHave}
-use Rattle.sections.specs.Rule.{Kept}
-use Rattle.sections.specs.Laws.{HasOneHistory, OneHistory, WordsAgree}
+use Rattle.onedom.specs.Histories.{ended_in, IsRunning}
+use Rattle.sections.specs.Words.{number_word, Reaches, MayHave}
+use Rattle.sections.specs.Laws.{OneHistory, WordsAgree}
 
 pub words_agree : WordsAgree
 words_agree changes history r = let started = r.started in let ended = r.ended in record {

@@ -1,10 +1,9 @@
 -- From what a step tells a seat to what the calls say of it.
-use Rattle.std.proofs.Common.{◌≡◌, ℕ, zero, suc, ◌+◌, ◌<◌, ◌≤◌, List, [], ◌∷◌, ◌++◌, All, length, refl, sym, ap, ◌∙◌, subst, arith, append-nil, length-append}
+use Rattle.std.proofs.Common.{◌≡◌, ℕ, ◌+◌, ◌<◌, List, [], ◌∷◌, ◌++◌, All, length, refl, sym, ap, ◌∙◌, subst, arith, append-nil, length-append}
 use Rattle.std.proofs.lemmas.List.Elements.{All-head}
-use Rattle.atomic_table.specs.Seated.{TableId}
 use Rattle.onedom.specs.declared.event.Maker.TheVariants.{Processor, Engine}
 use Rattle.onedom.specs.declared.event.Event.{Event}
-use Rattle.onedom.specs.Histories.{made_by, IsBeginning}
+use Rattle.onedom.specs.Histories.{IsBeginning}
 use Rattle.onedom.proofs.Beginnings.{beginning_made_by}
 use Rattle.sections.specs.declared.view.Role.{Role}
 use Rattle.sections.specs.declared.view.Role.TheVariants.{Bearer, Cpu, Driver}
@@ -14,7 +13,7 @@ use Rattle.sections.specs.declared.view.Step.TheVariants.{LoadIndex}
 use Rattle.sections.specs.declared.view.View.{View}
 use Rattle.sections.specs.Words.{word_count, index_word}
 use Rattle.sections.specs.Rule.{HasItsMaker, GoesOn, moment_of, lacking, bearer, informed, adopting}
-use Rattle.sections.specs.Plays.{Owns, IsSound, Sees}
+use Rattle.sections.specs.Plays.{Owns, Sees}
 use Rattle.sections.specs.Seats.{Covers, Accepts}
 use Rattle.sections.specs.Insides.{IsAtRest}
 

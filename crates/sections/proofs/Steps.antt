@@ -1,5 +1,5 @@
 -- Each step of a processor keeps the rule.
-use Rattle.std.proofs.Common.{◌≡◌, ℕ, zero, suc, ◌+◌, ◌*◌, ◌/◌, ◌%◌, ◌^◌, ◌<◌, ◌≤◌, ◌≢◌, ◌↔◌, Bool, true, false, cond, eqb, ltb, leb, ◌&&◌, nat_lt, nat_le, IsTrue, if◌then◌else◌, ◌==◌, List, [], ◌∷◌, ◌++◌, All, Option, get_or, length, set, refl, sym, ap, ◌∙◌, subst, eq-eqb, ne_eqb, lt-ltb, le-ltb, leb-true, le-leb, arith}
+use Rattle.std.proofs.Common.{◌≡◌, ℕ, ◌+◌, ◌*◌, ◌%◌, ◌^◌, ◌<◌, ◌≤◌, ◌≢◌, Bool, true, false, cond, eqb, ltb, ◌&&◌, nat_le, List, [], ◌∷◌, ◌++◌, All, Option, get_or, set, refl, sym, ap, ◌∙◌, subst, eq-eqb, ne_eqb, lt-ltb, le-ltb, leb-true, le-leb, arith}
 use Rattle.std.proofs.lemmas.List.Elements.{All-nil}
 use mathlib.Core.Logic.{dite}
 use mathlib.Core.Option.{none, some}
@@ -11,24 +11,24 @@ use Rattle.atomic_table.specs.Table.{State, step, keeps, stepped, Allows}
 use Rattle.sseq.specs.declared.index.Index.{Index}
 use Rattle.sseq.specs.declared.index.Index.TheVariants.{Zero, One}
 use Rattle.sseq.specs.Indexes.{index_number, same_index}
-use Rattle.sseq.specs.Numbers.{periods_ended, cookie_at}
+use Rattle.sseq.specs.Numbers.{cookie_at}
 use Rattle.onedom.specs.declared.event.Maker.{Maker}
-use Rattle.onedom.specs.declared.event.Maker.TheVariants.{Processor, Engine}
+use Rattle.onedom.specs.declared.event.Maker.TheVariants.{Processor}
 use Rattle.onedom.specs.declared.event.Event.{Event}
 use Rattle.onedom.specs.declared.event.Event.TheVariants.{Begin, End, Note, Ask}
-use Rattle.onedom.specs.Histories.{ends, begins_of, IsOpen, index_of, is_start, is_finish, starts_in, ended_in, cookie_after, IsDone, MayFollow, maker_of, same_maker, made_by, IsBeginning}
+use Rattle.onedom.specs.Histories.{ends, begins_of, IsOpen, is_start, is_finish, starts_in, ended_in, cookie_after, MayFollow, maker_of, same_maker, made_by}
 use Rattle.onedom.proofs.Pushes.{bit, legal_push, made_by_own, same_maker_refl, same_maker_false, begins_of_push, open_begun, index_of_begun, fresh, begins_of_made}
 use Rattle.onedom.proofs.Beginnings.{beginning_refl}
 use Rattle.sections.specs.declared.view.Bounds.{Bounds}
 use Rattle.sections.specs.declared.view.Role.{Role}
-use Rattle.sections.specs.declared.view.Role.TheVariants.{Bearer, Cpu, Driver}
+use Rattle.sections.specs.declared.view.Role.TheVariants.{Cpu, Driver}
 use Rattle.sections.specs.declared.view.Right.{Right}
 use Rattle.sections.specs.declared.view.Right.TheVariants.{Nothing, Section}
 use Rattle.sections.specs.declared.view.Step.{Step}
 use Rattle.sections.specs.declared.view.Step.TheVariants.{LoadIndex}
 use Rattle.sections.specs.declared.view.View.{View}
-use Rattle.sections.specs.Words.{index_place, number_place, lock_place, unlock_place, locks_at, locks, unlocks_at, unlocks, index_word, number_word, Reaches, Agree}
-use Rattle.sections.specs.Rule.{HasItsMaker, GoesOn, Makes, Has, Knows, Fits, IsWithin, Kept}
+use Rattle.sections.specs.Words.{number_place, lock_place, unlock_place, locks_at, locks, unlocks_at, unlocks, index_word, number_word, Reaches, Agree}
+use Rattle.sections.specs.Rule.{HasItsMaker, GoesOn, Makes, Has, Knows, Fits, Kept}
 use Rattle.sections.specs.Plays.{Owns, IsSound, Sees, Adds, Sat, looked, began, ended, FindsNumber, noted, asked}
 use Rattle.sections.proofs.Counters.{index_number_same, locks_push, elsewhere, locks_mine, All-push, unlocks_bounded}
 use Rattle.sections.proofs.Agreement.{agrees_begun, agrees_ended, agrees_plain}

@@ -15,7 +15,7 @@ use Rattle.onedom.specs.Laws.{times}
 use Rattle.onedom.proofs.Pushes.{bit, count_push, count_cons, index_of_push, index_of_begun, index_of_kept, along, no_ends}
 use Rattle.onedom.proofs.Beginnings.{count_grows}
 use Rattle.onedom.proofs.Opens.{times_cons, times_open_le, open_sections_begun, open_sections_plain, open_sections_ended, open_once, open_there}
-use Rattle.sections.specs.Words.{locks_at, locks, unlocks_at, unlocks_after, sum_below, all_locks, all_unlocks}
+use Rattle.sections.specs.Words.{locks_at, locks, unlocks_at, unlocks_after, sum_below, all_locks}
 use Rattle.sections.specs.Rule.{HasItsMaker}
 use Rattle.sections.specs.Laws.{EqualSumsAreEmpty, FewerEndsShowOne, CountersGrow}
 use Rattle.sections.proofs.Counters.{same_index_refl, same_index_other, unlocks_grow}

@@ -1,12 +1,9 @@
 -- How the fields of a processor, of the engine's seat and of what they give out are seen, and what is always true of them.
-use Rattle.std.specs.Prelude.{◌≡◌, ℕ, ◌+◌, ◌*◌, ◌%◌, ◌^◌, ◌<◌, ◌≤◌, List, [], ◌∷◌, ◌++◌, length, slice_index, All}
+use Rattle.std.specs.Prelude.{◌≡◌, ℕ, ◌+◌, ◌*◌, ◌%◌, ◌^◌, ◌<◌, ◌≤◌, [], length, slice_index}
 use Rattle.std.specs.Arc.{arc_value}
-use Rattle.atomic_table.specs.Seated.{TableId}
 use Rattle.sseq.specs.declared.index.Index.{Index}
 use Rattle.sseq.specs.Indexes.{index_number}
-use Rattle.onedom.specs.declared.event.Maker.TheVariants.{Processor, Engine}
-use Rattle.onedom.specs.Histories.{IsLegal, made_by, open_sections}
-use Rattle.sections.specs.declared.view.Bounds.{Bounds}
+use Rattle.onedom.specs.Histories.{open_sections}
 use Rattle.sections.specs.declared.view.View.{View}
 use Rattle.sections.specs.declared.view.Right.{Right}
 use Rattle.sections.specs.declared.view.Right.TheVariants.{Nothing, Section}

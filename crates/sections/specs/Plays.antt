@@ -1,5 +1,5 @@
 -- What each step on a domain's table tells the seat that makes it.
-use Rattle.std.specs.Prelude.{◌≡◌, ℕ, ◌+◌, ◌%◌, ◌^◌, ◌<◌, ◌≤◌, nat_le, List, [], ◌∷◌, ◌++◌, length, All, Option}
+use Rattle.std.specs.Prelude.{◌≡◌, ℕ, ◌+◌, ◌^◌, ◌<◌, ◌≤◌, nat_le, List, [], ◌∷◌, ◌++◌, length, All, Option}
 use Rattle.atomic_table.specs.Table.{Me, Step as TableStep}
 use Rattle.sseq.specs.declared.index.Index.{Index}
 use Rattle.sseq.specs.Numbers.{cookie_at}
@@ -9,12 +9,11 @@ use Rattle.onedom.specs.declared.event.Event.TheVariants.{Begin, End, Start, Fin
 use Rattle.onedom.specs.Histories.{begins_of, IsLegal, made_by, IsBeginning}
 use Rattle.sections.specs.declared.view.Role.{Role}
 use Rattle.sections.specs.declared.view.Role.TheVariants.{Bearer, Cpu, Driver}
-use Rattle.sections.specs.declared.view.Right.{Right}
 use Rattle.sections.specs.declared.view.Right.TheVariants.{Nothing, Section}
 use Rattle.sections.specs.declared.view.Step.{Step}
 use Rattle.sections.specs.declared.view.Step.TheVariants.{LoadIndex, LoadUnlocks, LoadLocks, AddIndex, AddNumber}
 use Rattle.sections.specs.declared.view.View.{View}
-use Rattle.sections.specs.Words.{index_place, number_place, lock_place, unlock_place, locks, unlocks, all_locks, index_word, number_word, Reaches}
+use Rattle.sections.specs.Words.{index_place, lock_place, unlock_place, locks, unlocks, all_locks, index_word, number_word, Reaches}
 use Rattle.sections.specs.Rule.{HasItsMaker, GoesOn, moment_of}
 
 -- the maker's own events are all of its events in what was seen

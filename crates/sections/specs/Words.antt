@@ -1,9 +1,8 @@
 -- The words of a domain's table, and what they say of its history.
 -- Word 0 is the index word and word 16 the number. Processor p has the words 16 p + 32 and 16 p + 33 as its lock counters, of index 0 and 1, and 16 p + 34 and 16 p + 35 as its unlock counters.
-use Rattle.std.specs.Prelude.{◌≡◌, ℕ, zero, suc, ◌+◌, ◌*◌, ◌/◌, ◌%◌, ◌<◌, ◌==◌, ◌&&◌, ◌⊎◌, Bool, true, false, List, [], ◌∷◌, ◌++◌, length, slice_index, count_by, if◌then◌else◌}
+use Rattle.std.specs.Prelude.{◌≡◌, ℕ, zero, suc, ◌+◌, ◌*◌, ◌/◌, ◌%◌, ◌<◌, ◌==◌, ◌&&◌, ◌⊎◌, Bool, false, List, [], ◌∷◌, ◌++◌, length, slice_index, count_by, if◌then◌else◌}
 use Rattle.sseq.specs.declared.index.Index.{Index}
-use Rattle.sseq.specs.declared.index.Index.TheVariants.{Zero, One}
-use Rattle.sseq.specs.Indexes.{index_number, low_bit, same_index}
+use Rattle.sseq.specs.Indexes.{index_number, same_index}
 use Rattle.onedom.specs.declared.event.Event.{Event}
 use Rattle.onedom.specs.declared.event.Event.TheVariants.{Begin, End}
 use Rattle.onedom.specs.Histories.{index_of, ended_in, starts_in, IsRunning}

@@ -1,8 +1,6 @@
 //! A new domain.
-ghost use Rattle.std.specs.Prelude.{◌≡◌, ◌+◌, ◌*◌, ◌^◌, ◌<◌, ◌≤◌, [], IfOk, IfErr};
+ghost use Rattle.std.specs.Prelude.{◌≡◌, ◌+◌, ◌<◌, IfOk};
 ghost use Rattle.std.specs.Arc.{arc_value};
-ghost use Rattle.sections.specs.Words.{word_count};
-ghost use Rattle.sections.specs.Rule.{founder};
 ghost use Rattle.sections.specs.Calls.{new_cpu};
 ghost use Rattle.sections.specs.Making.{IsSmall, IsFounder, IsMade, IsRefused, NewTable, bounds_of};
 
@@ -10,7 +8,7 @@ use crate::cpu::{Cpu, Place, Words};
 use crate::engine::EngineSeat;
 use crate::limits::{Limits, MOST_PROCESSORS, MakeError};
 use crate::plays;
-use crate::view::{Bounds, View};
+use crate::view::Bounds;
 use atomic_table::Table;
 use sseq::Number;
 use std::alloc::{AllocError, Allocator, Global};

@@ -68,7 +68,7 @@ pub struct Moment {
 
 /// What one seat knows. A clause reads an array as a list of any length.
 pub struct View {
-    /// How many processors the domain has.
+    /// How many processors the domain has; 0 in what a token knows.
     pub processors: usize,
     pub role: Role,
     /// The events that this seat made.

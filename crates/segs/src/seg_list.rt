@@ -1,7 +1,7 @@
 //! The segmented list, and its calls.
-ghost use Rattle.std.specs.Prelude.{◌≡◌, ◌+◌, ◌<◌, ◌≤◌, ◌↔◌, List, [], ◌∷◌, ◌++◌, length, min, IsOk, IsSome, IfSome, IfErr, OnOk, OnErr};
+ghost use Rattle.std.specs.Prelude.{◌≡◌, ◌+◌, ◌<◌, ◌≤◌, ◌↔◌, [], ◌∷◌, ◌++◌, length, min, IsOk, IsSome, IfSome, IfErr, OnOk, OnErr};
 ghost use Rattle.std.specs.VecDeque.{deque_len, deque_capacity};
-ghost use Rattle.segs.specs.MarkedList.{Mark, Done, Next, marked, assigned, advanced, lens, numbers, count_done, count_next, EndsInNext, IsInOrder};
+ghost use Rattle.segs.specs.MarkedList.{Done, Next, marked, assigned, advanced, lens, numbers, count_done, count_next, EndsInNext, IsInOrder};
 
 use crate::segment::Segment;
 use smallvec::SmallVec;

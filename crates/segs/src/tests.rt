@@ -1,6 +1,6 @@
 use super::*;
 use linked_list_allocator::LocalHeap;
-use std::alloc::{AllocError, Allocator, Global};
+use std::alloc::AllocError;
 use std::process::Abort;
 use std::test::Fail;
 

@@ -46,7 +46,7 @@ impl Index {
 
 /// Prints `0` or `1`.
 impl fmt::Display for Index {
-    ghost use Rattle.std.specs.Prelude.{Some, ◌∷◌, [], ◌+◌};
+    ghost use Rattle.std.specs.Prelude.{Some};
     ghost use Rattle.sseq.specs.Indexes.{index_text};
 
     ghost output = { λ index. Some (index_text index) };

@@ -1,11 +1,11 @@
 //! Cookies: how a processor learns that a grace period has gone by, without waiting for it.
-ghost use Rattle.std.specs.Prelude.{◌≡◌, ◌%◌, ◌≤◌, ◌↔◌, IsTrue, MatchResult};
+ghost use Rattle.std.specs.Prelude.{◌≡◌, IsTrue, MatchResult};
 ghost use Rattle.sections.specs.Calls.{Notes, GivesCookie, Asks, IsNoCookie, AllClosed};
 
 use super::steps::{ask_number, note_number};
 use super::{Cookie, Cpu, NotACookie};
 use crate::plays;
-use sseq::{Number, is_done, snap};
+use sseq::{Number, snap};
 use std::alloc::Allocator;
 use std::marker::Brand;
 

@@ -8,10 +8,8 @@ ghost use Rattle.sections.specs.Insides.{IsAtRest};
 
 use super::{Place, Top};
 use crate::plays;
-use crate::plays::{Asked, InOneHistory};
-use crate::view::{Bounds, View};
-use atomic_table::Shared;
-use sseq::{Index, Number, is_done};
+use crate::plays::Asked;
+use sseq::{Index, Number};
 
 /// Where the index word stands.
 pub(crate) const INDEX_PLACE: usize = 0;

@@ -1,11 +1,11 @@
-use Rattle.std.proofs.Common.{rules, ◌≡◌, ◌%◌, ◌≤◌, ℕ, List, [], ◌∷◌, ◌++◌, refl, sym, ap, ◌∙◌, subst, arith}
+use Rattle.std.proofs.Common.{rules, ◌≡◌, ◌%◌, ℕ, [], ◌∷◌, ◌++◌, refl, sym, ap, ◌∙◌, subst}
 use Rattle.sseq.specs.Numbers.{cookie_at}
 use Rattle.onedom.specs.declared.event.Event.{Event}
 use Rattle.onedom.specs.declared.event.Event.TheVariants.{Note}
 use Rattle.onedom.specs.declared.event.Maker.TheVariants.{Processor}
 use Rattle.sections.specs.declared.view.View.{View}
 use Rattle.sections.specs.Words.{word_count}
-use Rattle.sections.specs.Rule.{lacking, bearer, token}
+use Rattle.sections.specs.Rule.{token}
 use Rattle.sections.proofs.Sharing.{gives_token}
 use Rattle.sections.proofs.Seating.{some_words}
 use Rattle.sections.proofs.Calling.{notes_from, locks_told, unclosed_told, rests_cut, whole_cookie}

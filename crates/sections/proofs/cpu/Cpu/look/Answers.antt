@@ -1,4 +1,4 @@
-use Rattle.std.proofs.Common.{rules, ◌≡◌, ap, ◌∙◌, sym}
+use Rattle.std.proofs.Common.{rules, ap, ◌∙◌, sym}
 use Rattle.sections.specs.Words.{index_word}
 use Rattle.sections.proofs.Steps.{looks}
 use Rattle.sections.proofs.Sharing.{gives_token}

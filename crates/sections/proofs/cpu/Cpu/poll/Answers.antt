@@ -1,14 +1,13 @@
-use Rattle.std.proofs.Common.{rules, ◌≡◌, ℕ, Bool, true, IsTrue, List, [], ◌∷◌, ◌++◌, length, refl, sym, ap, ◌∙◌, subst, arith}
+use Rattle.std.proofs.Common.{rules, ◌≡◌, ℕ, Bool, [], ◌∷◌, ◌++◌, refl, sym, ap, ◌∙◌}
 use Rattle.onedom.specs.declared.event.Event.{Event}
 use Rattle.onedom.specs.declared.event.Event.TheVariants.{Ask}
 use Rattle.onedom.specs.declared.event.Maker.TheVariants.{Processor}
-use Rattle.onedom.specs.Histories.{open_sections, IsBeginning}
 use Rattle.sections.specs.declared.view.View.{View}
-use Rattle.sections.specs.Words.{word_count, locks}
-use Rattle.sections.specs.Rule.{lacking, bearer, informed}
+use Rattle.sections.specs.Words.{word_count}
+use Rattle.sections.specs.Rule.{bearer, informed}
 use Rattle.sections.proofs.Sharing.{gives_token, takes_token}
 use Rattle.sections.proofs.Seating.{some_words}
-use Rattle.sections.proofs.Calling.{asks_from, all_closed, locks_told, unclosed_told, rests_told}
+use Rattle.sections.proofs.Calling.{asks_from, all_closed, locks_told, unclosed_told}
 use Rattle.sections.proofs.cpu.Cpu.poll.Goals as goal
 
 pub split_seat-token-requires : goal.split_seat-token-requires

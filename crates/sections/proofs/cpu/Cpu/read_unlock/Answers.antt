@@ -1,4 +1,4 @@
-use Rattle.std.proofs.Common.{rules, ◌≡◌, ℕ, ◌+◌, length, ap, ◌∙◌, sym, arith}
+use Rattle.std.proofs.Common.{rules, ◌≡◌, ℕ, length, ap, ◌∙◌, sym, arith}
 use Rattle.onedom.specs.Histories.{open_sections}
 use Rattle.sections.specs.Words.{locks}
 use Rattle.sections.specs.Insides.{section_of}

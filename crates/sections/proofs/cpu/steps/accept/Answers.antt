@@ -1,7 +1,7 @@
 use Rattle.std.proofs.Common.{ap, sym, ◌∙◌}
 use Rattle.sections.proofs.Steps.{looks}
 use Rattle.sections.proofs.Sharing.{gives_token, takes_token, sees_as_much}
-use Rattle.sections.specs.Rule.{informed, adopting, bearer, lacking}
+use Rattle.sections.specs.Rule.{informed, adopting, bearer}
 use Rattle.sections.proofs.Seating.{some_words, accepts_from}
 use Rattle.sections.proofs.cpu.steps.accept.Goals as goal
 

@@ -1,4 +1,4 @@
-use Rattle.std.proofs.Common.{◌≡◌, ◌%◌, ◌∙◌, sym, ap, subst, arith, ℕ}
+use Rattle.std.proofs.Common.{◌≡◌, ◌%◌, subst, ℕ}
 use Rattle.sections.proofs.Steps.{asks_here}
 use Rattle.sections.proofs.Seating.{two_words}
 use Rattle.sections.proofs.cpu.steps.ask_number.Goals as goal

@@ -1,5 +1,5 @@
 use Rattle.std.proofs.Common.{ap, ◌∙◌}
-use Rattle.sections.specs.Rule.{lacking, bearer}
+use Rattle.sections.specs.Rule.{lacking}
 use Rattle.sections.proofs.Agreement.{lock_there}
 use Rattle.sections.proofs.Steps.{begins_here}
 use Rattle.sections.proofs.Sharing.{gives_token}

@@ -1,4 +1,3 @@
-use Rattle.std.proofs.Common.{◌≡◌, ◌∙◌, sym, ap, arith, rules}
 use Rattle.sections.proofs.Steps.{notes_here}
 use Rattle.sections.proofs.Seating.{two_words}
 use Rattle.sections.proofs.cpu.steps.note_number.Goals as goal

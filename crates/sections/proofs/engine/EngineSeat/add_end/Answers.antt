@@ -1,8 +1,8 @@
-use Rattle.std.proofs.Common.{rules, ◌≡◌, ◌*◌, ◌+◌, ◌^◌, ◌<◌, ◌≤◌, ℕ, refl, sym, ap, ◌∙◌, subst, arith}
+use Rattle.std.proofs.Common.{rules, ◌≡◌, sym, subst, arith}
 use Rattle.sections.specs.Views.{EngineView}
 use Rattle.sseq.specs.declared.index.Index.{Index}
 use Rattle.onedom.specs.Histories.{WasEmpty}
-use Rattle.sections.specs.Words.{word_count, number_word, IsBehindFlip}
+use Rattle.sections.specs.Words.{word_count, IsBehindFlip}
 use Rattle.sections.proofs.EngineSteps.{finishes_here}
 use Rattle.sections.proofs.Seating.{two_words}
 use Rattle.sections.proofs.Driven.{all_closed}

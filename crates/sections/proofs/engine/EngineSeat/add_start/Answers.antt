@@ -1,4 +1,4 @@
-use Rattle.std.proofs.Common.{rules, ◌≡◌, ◌*◌, ◌^◌, ◌<◌, ℕ, ap, sym, subst, arith}
+use Rattle.std.proofs.Common.{rules, ◌≡◌, ◌*◌, ◌<◌, sym, subst, arith}
 use Rattle.sections.specs.Views.{EngineView}
 use Rattle.sections.specs.Words.{word_count, number_word, IsIdle}
 use Rattle.sections.proofs.EngineSteps.{starts_here}

@@ -1,4 +1,4 @@
-use Rattle.std.proofs.Common.{rules, ◌≡◌, ◌≤◌, ℕ, refl, sym, ap, ◌∙◌, subst, arith}
+use Rattle.std.proofs.Common.{sym, ap, ◌∙◌, subst, arith}
 use Rattle.sections.specs.Words.{number_word}
 use Rattle.sections.specs.Seats.{IsPlaced}
 use Rattle.sections.proofs.Driven.{covers_engine}

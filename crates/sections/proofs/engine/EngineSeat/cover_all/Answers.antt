@@ -1,4 +1,4 @@
-use Rattle.std.proofs.Common.{rules, ◌≡◌, ◌<◌, ◌≤◌, length, get_or, set, refl, sym, ap, ◌∙◌, subst, arith, [], append-nil}
+use Rattle.std.proofs.Common.{◌≡◌, ◌≤◌, get_or, set, refl, sym, ap, ◌∙◌, subst, arith, [], append-nil}
 use Rattle.std.proofs.lemmas.List.{set-get_or}
 use Rattle.onedom.specs.Histories.{IsBeginning}
 use Rattle.onedom.proofs.Beginnings.{beginning_refl, beginning_trans}

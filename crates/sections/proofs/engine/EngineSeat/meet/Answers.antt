@@ -1,10 +1,9 @@
-use Rattle.std.proofs.Common.{rules, ◌≡◌, ◌<◌, ◌≤◌, ℕ, List, length, get_or, refl, sym, ap, ◌∙◌, subst, arith, length-set}
+use Rattle.std.proofs.Common.{◌≡◌, ◌<◌, ◌≤◌, ℕ, List, length, get_or, refl, sym, ap, ◌∙◌, subst, arith, length-set}
 use Rattle.std.proofs.lemmas.List.{get_or_default}
 use Rattle.onedom.specs.declared.event.Event.{Event}
 use Rattle.onedom.specs.Histories.{IsBeginning}
 use Rattle.sections.specs.Views.{CpuView, EngineView}
 use Rattle.sections.specs.Calls.{Accepts}
-use Rattle.sections.specs.Driving.{Joins, Meets}
 use Rattle.sections.proofs.Meeting.{joins_more, rest_same, meets_from}
 use Rattle.sections.proofs.engine.EngineSeat.meet.Goals as goal
 

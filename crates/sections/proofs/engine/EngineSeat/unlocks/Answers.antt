@@ -1,6 +1,5 @@
-use Rattle.std.proofs.Common.{rules, ◌≡◌, ◌*◌, ◌+◌, ◌^◌, ◌<◌, ◌≤◌, ℕ, refl, sym, ap, ◌∙◌, subst, arith}
+use Rattle.std.proofs.Common.{rules, ◌≡◌, ◌^◌, ◌<◌, ℕ, sym, ap, ◌∙◌, subst, arith}
 use Rattle.sections.specs.Views.{EngineView}
-use Rattle.sections.specs.declared.view.Step.TheVariants.{LoadUnlocks}
 use Rattle.sections.specs.Words.{word_count, number_word, all_locks}
 use Rattle.sections.proofs.Agreement.{unlock_there}
 use Rattle.sections.proofs.EngineSteps.{counts_unlocks}
