@@ -1,18 +1,17 @@
 -- Where more sections of an index were begun later than had ended earlier, one was open in between.
-use Rattle.std.proofs.Common.{◌≡◌, ℕ, zero, suc, ◌+◌, ◌<◌, ◌≤◌, ◌≢◌, true, false, ◌&&◌, eqb, List, [], ◌∷◌, ◌++◌, All, refl, sym, ap, ◌∙◌, subst, append_assoc, append-nil, arith}
+use Rattle.std.proofs.Common.{◌≡◌, ℕ, ◌<◌, ◌≤◌, ◌≢◌, false, List, [], ◌∷◌, ◌++◌, All, refl, sym, ap, ◌∙◌, subst, append_assoc, append-nil, arith}
 use Rattle.std.proofs.lemmas.List.Elements.{All-nil, All-cons, All-head, All-tail}
 use mathlib.Core.Logic.{dite}
 use native.Mathlib.Decide.{dec_le}
 use Rattle.sseq.specs.declared.index.Index.{Index}
 use Rattle.sseq.specs.declared.index.Index.TheVariants.{Zero, One}
-use Rattle.sseq.specs.Indexes.{index_number, same_index}
-use Rattle.onedom.specs.declared.event.Maker.{Maker}
+use Rattle.sseq.specs.Indexes.{index_number}
 use Rattle.onedom.specs.declared.event.Event.{Event}
 use Rattle.onedom.specs.declared.event.Event.TheVariants.{Begin, End, Start, Finish, Note, Ask}
-use Rattle.onedom.specs.Histories.{IsOpen, index_of, MayFollow, IsLegal, IsBeginning}
+use Rattle.onedom.specs.Histories.{IsOpen, index_of, IsLegal, IsBeginning}
 use Rattle.onedom.proofs.Pushes.{legal_after_append, open_begun, index_of_begun}
 use Rattle.onedom.proofs.Beginnings.{legal_beginning, beginning_append, beginning_refl, beginning_trans}
-use Rattle.sections.specs.Words.{locks_at, locks, sum_below, all_locks, all_unlocks}
+use Rattle.sections.specs.Words.{locks_at, locks, all_locks, all_unlocks}
 use Rattle.sections.specs.Rule.{HasItsMaker}
 use Rattle.sections.proofs.Counters.{sum_le, elsewhere}
 use Rattle.sections.proofs.Agreement.{locks_not_at}

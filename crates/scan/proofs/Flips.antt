@@ -1,5 +1,5 @@
 -- What is known after the steps between two scans.
-use Rattle.std.proofs.Common.{◌≡◌, ℕ, ◌+◌, ◌*◌, ◌/◌, ◌%◌, ◌<◌, ◌≤◌, ◌≢◌, ◌⊎◌, inl, inr, ⊎_elim, ◌==◌, Bool, true, false, cond, eqb, List, [], ◌∷◌, ◌++◌, length, refl, sym, ap, ◌∙◌, subst, eq-eqb, ne_eqb, append-nil, arith}
+use Rattle.std.proofs.Common.{◌≡◌, ℕ, ◌+◌, ◌*◌, ◌%◌, ◌<◌, ◌≤◌, ◌≢◌, inl, inr, ⊎_elim, Bool, cond, [], ◌∷◌, refl, sym, ap, ◌∙◌, subst, eq-eqb, ne_eqb, append-nil, arith}
 use mathlib.Core.Logic.{dite}
 use native.Mathlib.Decide.{ℕ_discrete}
 use Rattle.sseq.specs.declared.index.Index.{Index}
@@ -11,21 +11,18 @@ use Rattle.sseq.specs.Numbers.{state_bits}
 use Rattle.onedom.specs.declared.event.Maker.TheVariants.{Engine}
 use Rattle.onedom.specs.declared.event.Event.{Event}
 use Rattle.onedom.specs.declared.event.Event.TheVariants.{Start, Finish}
-use Rattle.onedom.specs.Histories.{starts_in, ended_in, IsRunning, WasEmpty, IsBeginning}
+use Rattle.onedom.specs.Histories.{starts_in, WasEmpty, IsBeginning}
 use Rattle.onedom.proofs.Beginnings.{beginning_trans, beginning_append}
 use Rattle.onedom.proofs.Periods.{empty_grows}
-use Rattle.sections.specs.declared.view.Step.{Step}
 use Rattle.sections.specs.declared.view.Step.TheVariants.{AddIndex, AddNumber}
-use Rattle.sections.specs.Words.{index_word, number_word, IsIdle, IsBeforeFlip, IsFlipping, IsBehindFlip}
+use Rattle.sections.specs.Words.{index_word, number_word, IsIdle, IsBeforeFlip, IsBehindFlip}
 use Rattle.sections.specs.Views.{EngineView}
-use Rattle.sections.specs.Driving.{IsSeenByEngine, TakesStep, AddsEngineEvent, Flips, MovesOn}
+use Rattle.sections.specs.Driving.{IsSeenByEngine, AddsEngineEvent, Flips, MovesOn}
 use Rattle.sections.proofs.Agreement.{busy_running}
-use Rattle.scan.specs.declared.place.Place.{Place}
 use Rattle.scan.specs.declared.place.Place.TheVariants as place
-use Rattle.scan.specs.declared.progress.Progress.{Progress}
 use Rattle.scan.specs.declared.progress.Progress.TheVariants as answer
-use Rattle.scan.specs.Places.{current, scanned, half, seen_at_load, IsScanning, HasPassed, IsHalfFlipped, IsAt, SaysAt, Moves}
-use Rattle.scan.specs.Progress.{HasStarted, HasFlipped, HasEnded, Counts}
+use Rattle.scan.specs.Places.{current, scanned, seen_at_load, IsScanning, HasPassed, IsHalfFlipped, IsAt, Moves}
+use Rattle.scan.specs.Progress.{HasStarted}
 use Rattle.scan.proofs.Scans.{first_unlocks, seen_still}
 
 -- Indexes

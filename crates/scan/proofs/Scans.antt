@@ -1,17 +1,17 @@
 -- What the loads of a scan tell.
-use Rattle.std.proofs.Common.{◌≡◌, ℕ, zero, suc, ◌+◌, ◌*◌, ◌/◌, ◌%◌, ◌^◌, ◌<◌, ◌≤◌, ◌≢◌, ◌⊎◌, inl, inr, ⊎_elim, Bool, if◌then◌else◌, eq-eqb, ne_eqb, ◌==◌, List, [], ◌∷◌, ◌++◌, All, length, refl, sym, ap, ◌∙◌, subst, append_assoc, append-nil, length-append, arith}
+use Rattle.std.proofs.Common.{◌≡◌, ℕ, zero, suc, ◌+◌, ◌*◌, ◌%◌, ◌^◌, ◌<◌, ◌≤◌, ◌≢◌, ◌⊎◌, inl, inr, Bool, if◌then◌else◌, eq-eqb, ne_eqb, ◌==◌, List, [], ◌∷◌, ◌++◌, length, refl, sym, ap, ◌∙◌, subst, append_assoc, append-nil, arith}
 use mathlib.Core.Logic.{dite}
 use native.Mathlib.Decide.{ℕ_discrete}
 use Rattle.sseq.specs.declared.index.Index.{Index}
 use Rattle.sseq.specs.Indexes.{low_bit, other_index}
 use Rattle.onedom.specs.declared.event.Event.{Event}
-use Rattle.onedom.specs.Histories.{starts_in, ended_in, IsRunning, WasEmpty, IsEmpty, IsLegal, IsBeginning}
+use Rattle.onedom.specs.Histories.{starts_in, WasEmpty, IsEmpty, IsBeginning}
 use Rattle.onedom.proofs.Beginnings.{beginning_refl, beginning_trans, legal_beginning, length_grows}
 use Rattle.onedom.proofs.Periods.{empty_grows}
 use Rattle.onedom.proofs.Pushes.{count_append, count_cons}
 use Rattle.sections.specs.declared.view.Step.{Step}
 use Rattle.sections.specs.declared.view.Step.TheVariants.{LoadIndex, LoadUnlocks, LoadLocks, AddIndex, AddNumber}
-use Rattle.sections.specs.Words.{index_word, number_word, locks, unlocks, sum_below, all_locks, all_unlocks, IsBeforeFlip, IsBehindFlip}
+use Rattle.sections.specs.Words.{index_word, locks, unlocks, sum_below, all_locks, all_unlocks, IsBeforeFlip, IsBehindFlip}
 use Rattle.sections.specs.Views.{EngineView}
 use Rattle.sections.specs.Driving.{IsSeenByEngine, TakesStep, CountsUnlocks, CountsLocks}
 use Rattle.sections.proofs.Counters.{sum_le, unlocks_grow, locks_grow}
@@ -296,21 +296,25 @@ module _ (e f : EngineView) (p ended begun found : ℕ) (i : Index) (seen : IsSe
       let late : begun + found ≤ all_locks f.processors i f.seen = subst (λ k. begun + found ≤ sum_below (λ q. locks q i f.seen) k) n most_begun in
       let b = began_now in
       let found_open = open_between f.processors i here.first f.seen b.seen counts.step.history.legal counts.step.history.makers (omega (arith, early, late, least, most, sums, unequal)) in
-      let count = b.count in (length here.first, record {
-        running = busy_running f.changes f.seen (busy still.running) counts.step.history.reaches;
-        before = b.before;
-        found = b.found;
-        rest = b.rest;
-        steps = b.steps ∙ ap (λ j. b.before ++ LoadUnlocks 0 j b.found (length here.first) ∷ b.rest) (sym now_scanned_l);
-        loads = omega (arith, count, n);
-        not_current = now_scanned_l;
-        moment = found_open.moment;
-        seen = found_open.upto;
-        after = length_grows found_open.after;
-        section = found_open.section;
-        is_open = found_open.is_open;
-        of_index = found_open.of_index;
-      }, scan_on)
+      let count = b.count in (
+        length here.first,
+        record {
+          running = busy_running f.changes f.seen (busy still.running) counts.step.history.reaches;
+          before = b.before;
+          found = b.found;
+          rest = b.rest;
+          steps = b.steps ∙ ap (λ j. b.before ++ LoadUnlocks 0 j b.found (length here.first) ∷ b.rest) (sym now_scanned_l);
+          loads = omega (arith, count, n);
+          not_current = now_scanned_l;
+          moment = found_open.moment;
+          seen = found_open.upto;
+          after = length_grows found_open.after;
+          section = found_open.section;
+          is_open = found_open.is_open;
+          of_index = found_open.of_index;
+        },
+        scan_on,
+      )
     where
       busy : IsBeforeFlip f.changes ⊎ IsBehindFlip f.changes → 0 < f.changes % 4
       busy (inl h) = omega (arith, h)

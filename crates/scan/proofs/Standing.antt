@@ -1,21 +1,20 @@
 -- A place is left as it is by what the engine only sees.
-use Rattle.std.proofs.Common.{◌≡◌, ℕ, ◌+◌, ◌*◌, ◌%◌, ◌<◌, ◌≤◌, List, [], ◌∷◌, ◌++◌, map, count_by, false, refl, sym, ap, ◌∙◌, subst, arith}
+use Rattle.std.proofs.Common.{◌≡◌, ℕ, ◌+◌, ◌*◌, ◌≤◌, List, [], ◌∷◌, ◌++◌, map, refl, sym, ap, ◌∙◌, subst, arith}
 use Rattle.sseq.specs.declared.index.Index.{Index}
 use Rattle.sseq.specs.Indexes.{low_bit}
 use Rattle.onedom.specs.declared.event.Event.{Event}
-use Rattle.onedom.specs.Histories.{ended_in, starts_in, is_start, IsRunning, WasEmpty, IsBeginning, made_by}
-use Rattle.onedom.specs.declared.event.Maker.TheVariants.{Engine}
+use Rattle.onedom.specs.Histories.{starts_in, WasEmpty, IsBeginning}
 use Rattle.onedom.proofs.Beginnings.{beginning_trans}
 use Rattle.onedom.proofs.Periods.{empty_grows}
 use Rattle.sections.specs.declared.view.Step.{Step}
 use Rattle.sections.specs.declared.view.Step.TheVariants.{LoadIndex}
-use Rattle.sections.specs.Words.{index_word, number_word, locks, unlocks, sum_below, all_unlocks, IsIdle, IsFlipping}
+use Rattle.sections.specs.Words.{index_word, locks, unlocks, sum_below, all_unlocks, IsIdle}
 use Rattle.sections.specs.Views.{EngineView}
 use Rattle.sections.specs.Driving.{IsSeenByEngine, IsSameEngine}
 use Rattle.sections.proofs.Counters.{sum_le, unlocks_grow, locks_grow}
 use Rattle.scan.specs.declared.place.Place.{Place}
 use Rattle.scan.specs.declared.place.Place.TheVariants.{Idle, Wanted, Unlocks, Locks, Passed, Flipped}
-use Rattle.scan.specs.Places.{scanned, half, wanted, began, seen_at_load, BeganScan, InUnlocks, InLocks, HasPassed, IsHalfFlipped, IsAt}
+use Rattle.scan.specs.Places.{scanned, half, wanted, began, seen_at_load, BeganScan, InUnlocks, InLocks, IsAt}
 use Rattle.onedom.proofs.Pushes.{count_cons}
 use Rattle.sections.proofs.Agreement.{starts_mine}
 use Rattle.scan.specs.Progress.{is_counter_load, counter_loads, with_seat}

@@ -1,7 +1,6 @@
 -- From a step at the seat to a step of the engine.
-use Rattle.std.proofs.Common.{◌≡◌, ℕ, ◌+◌, ◌*◌, ◌%◌, ◌<◌, ◌≤◌, ◌≢◌, ◌⊎◌, inl, inr, ⊎_elim, Result, Ok, Err, IsErr, MatchResult, List, [], ◌∷◌, ◌++◌, length, refl, sym, ap, ◌∙◌, subst, append_assoc, append-nil, length-append, arith}
-use Rattle.onedom.specs.declared.event.Event.{Event}
-use Rattle.onedom.specs.Histories.{ended_in, IsRunning, IsBeginning}
+use Rattle.std.proofs.Common.{◌≡◌, ℕ, ◌+◌, ◌*◌, ◌%◌, ◌<◌, ◌≤◌, ◌≢◌, ◌⊎◌, inl, inr, ⊎_elim, Result, Ok, Err, IsErr, MatchResult, [], ◌++◌, length, refl, sym, ap, ◌∙◌, subst, append_assoc, append-nil, length-append, arith}
+use Rattle.onedom.specs.Histories.{IsRunning, IsBeginning}
 use Rattle.sections.specs.Words.{number_word, IsIdle, IsBeforeFlip, IsBehindFlip}
 use Rattle.sections.specs.Driving.{IsSeenByEngine}
 use Rattle.sections.proofs.Agreement.{busy_running, idle_not_running}
@@ -116,19 +115,19 @@ module _ {N : Type 0} (loads : N → ℕ → N → Type 0) where
   pub steps_from : (e f : EngineView) (needs : N) (place next : Place) (a : Progress) → 1 ≤ e.processors → place ≢ Idle → IsSeenByEngine e → IsAt e place → Moves e place f next a → StepsTo loads (viewed e needs place) a (viewed f needs next)
   steps_from e f needs place next a some not_idle seen at m = let same = m.same.1 in
       let there : (p : Place) → half f.processors p ≡ half e.processors p = λ p. ap (λ n. half n p) same in record {
-    goes_on = record { same = m.same; since = m.since; history = m.history; later = m.later; made = m.made; steps = m.steps };
-    events = m.events;
-    needs = record { count = 0; need = wanted place; at_rest = λ resting none. absurd (resting (nothing_half_runs e place not_idle seen at some none)); busy = λ _. (refl, refl, refl) };
-    one = let one = m.one in omega (arith, one);
-    in_order = m.in_order;
-    changes = let changes = m.changes in let here = there next in omega (arith, changes, here);
-    counts = subst (λ n. Counts e.processors a (half e.processors place) n) (sym (there next)) m.counts;
-    few = let few = half_few f next m.place_is (omega (arith, some, same)) in omega (arith, few, same);
-    says = says_from e f needs place next a seen at m m.says;
-    need = λ more. need_kept e f place next a some at m (subst (λ n. 0 < n) (there next) more);
-    wanted = λ resting more. absurd (let done = resting_done e f place next a some not_idle seen at m resting in let here = there next in omega (arith, more, done, here));
-    scan = λ running more. (half_runs f.processors f next m.not_wanted m.history m.place_is more, m.scan (subst (λ n. 0 < n) (there next) more));
-  }
+        goes_on = record { same = m.same; since = m.since; history = m.history; later = m.later; made = m.made; steps = m.steps };
+        events = m.events;
+        needs = record { count = 0; need = wanted place; at_rest = λ resting none. absurd (resting (nothing_half_runs e place not_idle seen at some none)); busy = λ _. (refl, refl, refl) };
+        one = let one = m.one in omega (arith, one);
+        in_order = m.in_order;
+        changes = let changes = m.changes in let here = there next in omega (arith, changes, here);
+        counts = subst (λ n. Counts e.processors a (half e.processors place) n) (sym (there next)) m.counts;
+        few = let few = half_few f next m.place_is (omega (arith, some, same)) in omega (arith, few, same);
+        says = says_from e f needs place next a seen at m m.says;
+        need = λ more. need_kept e f place next a some at m (subst (λ n. 0 < n) (there next) more);
+        wanted = λ resting more. absurd (let done = resting_done e f place next a some not_idle seen at m resting in let here = there next in omega (arith, more, done, here));
+        scan = λ running more. (half_runs f.processors f next m.not_wanted m.history m.place_is more, m.scan (subst (λ n. 0 < n) (there next) more));
+      }
 
 -- Several steps
 

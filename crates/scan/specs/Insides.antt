@@ -1,5 +1,5 @@
 -- How the fields of an engine are seen, and what is always true of them.
-use Rattle.std.specs.Prelude.{◌≡◌, ℕ, ◌≤◌}
+use Rattle.std.specs.Prelude.{◌≤◌}
 use Rattle.sections.specs.Driving.{IsSeenByEngine}
 use Rattle.scan.specs.declared.engine.Engine.TheInside as engine
 use Rattle.scan.specs.Places.{half, began, wanted, IsAt}

@@ -5,11 +5,11 @@ use Rattle.sseq.specs.Indexes.{low_bit, other_index}
 use Rattle.onedom.specs.declared.event.Maker.TheVariants.{Engine}
 use Rattle.onedom.specs.declared.event.Event.{Event}
 use Rattle.onedom.specs.declared.event.Event.TheVariants.{Start, Finish}
-use Rattle.onedom.specs.Histories.{starts_in, ended_in, IsOpen, index_of, IsRunning, WasEmpty, IsBeginning}
+use Rattle.onedom.specs.Histories.{ended_in, IsOpen, index_of, IsRunning, WasEmpty, IsBeginning}
 use Rattle.sections.specs.declared.view.Step.{Step}
 use Rattle.sections.specs.declared.view.Step.TheVariants.{LoadIndex, LoadUnlocks, LoadLocks, AddIndex, AddNumber}
 use Rattle.sections.specs.Words.{index_word, IsBehindFlip}
-use Rattle.sections.specs.Views.{CpuView, EngineView}
+use Rattle.sections.specs.Views.{EngineView}
 use Rattle.sections.specs.Driving.{IsSeenByEngine, IsSameEngine, AddsEngineEvent}
 use Rattle.scan.specs.declared.progress.Progress.{Progress}
 use Rattle.scan.specs.declared.progress.Progress.TheVariants as answer

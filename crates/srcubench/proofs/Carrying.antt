@@ -1,5 +1,5 @@
 -- What a quiet period adds.
-use Rattle.std.proofs.Common.{◌≡◌, ℕ, ◌+◌, ◌*◌, ◌≤◌, ◌⊎◌, inl, List, [], ◌∷◌, ◌++◌, length, sym, ap, ◌∙◌, subst, length-append, add-one, arith}
+use Rattle.std.proofs.Common.{◌≡◌, ℕ, ◌+◌, ◌*◌, ◌≤◌, inl, List, [], ◌∷◌, ◌++◌, length, sym, ap, ◌∙◌, subst, length-append, add-one, arith}
 use Rattle.std.proofs.Math.Nat.{suc-mul}
 use mathlib.Core.Logic.{dite}
 use native.Mathlib.Decide.{dec_lt}
@@ -44,8 +44,8 @@ steps_of_call v w a h none =
     let mine : length w.seat.mine ≡ length v.seat.mine + length (events_of a) = ap length h.events ∙ length-append v.seat.mine (events_of a) in
     let made : length w.seat.steps ≡ length v.seat.steps + length h.goes_on.made = ap length h.goes_on.steps ∙ length-append v.seat.steps h.goes_on.made in
     let loads : length w.needs.cpu.steps ≡ length v.needs.cpu.steps + h.needs.count = dite (dec_lt (ended_in v.seat.seen) (starts_in v.seat.seen))
-        (λ running. let b = h.needs.busy (inl running) in let zero = b.0 in let same : length w.needs.cpu.steps ≡ length v.needs.cpu.steps = ap (λ (n : EveryPeriod). length n.cpu.steps) b.1 in omega (arith, zero, same))
-        (λ resting. let r = h.needs.at_rest resting none in let one = r.0 in let once = r.1.once in omega (arith, one, once)) in
+    (λ running. let b = h.needs.busy (inl running) in let zero = b.0 in let same : length w.needs.cpu.steps ≡ length v.needs.cpu.steps = ap (λ (n : EveryPeriod). length n.cpu.steps) b.1 in omega (arith, zero, same))
+    (λ resting. let r = h.needs.at_rest resting none in let one = r.0 in let once = r.1.once in omega (arith, one, once)) in
     omega (arith, steps, mine, made, loads, none)
 
 pub steps_of_one : (v w : View) (n : ℕ) → CarriesPeriod v n w → v.half ≡ 0 → steps_made w ≡ steps_made v + quiet_steps v.seat.processors

@@ -1,31 +1,27 @@
 -- What each call of a domain answers, and what it leaves.
-use Rattle.std.proofs.Common.{◌≡◌, ℕ, ◌+◌, ◌*◌, ◌%◌, ◌<◌, ◌≤◌, List, [], ◌∷◌, ◌++◌, length, get_or, set, refl, sym, ap, ◌∙◌, subst, arith}
+use Rattle.std.proofs.Common.{◌≡◌, ℕ, ◌<◌, List, [], ◌∷◌, ◌++◌, length, get_or, set, refl, sym, ap, ◌∙◌, subst, arith}
 use Rattle.std.specs.Prelude.{Bool, Result, Ok, Err, MatchResult}
 use Rattle.sseq.specs.declared.index.Index.{Index}
-use Rattle.sseq.specs.declared.number.Phase.{Phase}
-use Rattle.sseq.specs.declared.number.Phase.TheVariants.{Idle, Scan1, Scan2}
 use Rattle.sseq.specs.Indexes.{low_bit}
-use Rattle.sseq.specs.Numbers.{state_bits, cookie_at}
-use Rattle.onedom.specs.declared.event.Maker.TheVariants.{Processor, Engine}
+use Rattle.sseq.specs.Numbers.{cookie_at}
+use Rattle.onedom.specs.declared.event.Maker.TheVariants.{Processor}
 use Rattle.onedom.specs.declared.event.Event.{Event}
-use Rattle.onedom.specs.declared.event.Event.TheVariants.{Begin, End, Start, Note, Ask}
-use Rattle.onedom.specs.Histories.{MayFollow, IsLegal, IsRunning, made_by, IsBeginning}
-use Rattle.onedom.proofs.Pushes.{made_by_other, made_by_own}
+use Rattle.onedom.specs.declared.event.Event.TheVariants.{Begin, End, Note, Ask}
+use Rattle.onedom.specs.Histories.{MayFollow, made_by}
 use Rattle.onedom.proofs.Beginnings.{beginning_refl, beginning_trans}
 use Rattle.sections.specs.declared.limits.Limits.{Limits}
-use Rattle.sections.specs.Words.{index_word, number_word, locks, IsIdle, Reaches}
-use Rattle.sections.specs.Views.{CpuView, EngineView, LookView, ReadingView, CookieView}
+use Rattle.sections.specs.Words.{index_word, locks, IsIdle}
+use Rattle.sections.specs.Views.{CpuView, LookView, ReadingView, CookieView}
 use Rattle.sections.specs.declared.cpu.Exhausted.{Exhausted}
 use Rattle.sections.specs.declared.cpu.NotACookie.{NotACookie}
 use Rattle.sections.specs.Calls.{AddsEvent, Looks, Enters, ReadLocks, LooksInVain, IsExhausted, GivesCookie, Asks, IsNoCookie}
 use Rattle.sections.specs.Driving.{Meets}
-use Rattle.sections.proofs.Calling.{last_may_follow}
 use Rattle.sections.proofs.Counters.{locks_mine}
 use Rattle.srcuctl.specs.Domains.{DomainView, grown, index_in, IsLookNow, BeginsSection, BeginsNone, EndsSection, GivesNumber, AsksAfter}
-use Rattle.srcuctl.specs.Together.{AllHold, AreTogether}
+use Rattle.srcuctl.specs.Together.{AreTogether}
 use Rattle.scan.specs.Progress.{ScanView, with_seat}
 use Rattle.srcuctl.specs.declared.needs.NoNeeds.{NoNeeds}
-use Rattle.srcuctl.proofs.Meeting.{Grows, Idles, held_before, seen_before, all_makers, counted, together_after, grown_seen, before_is, grown_follows, grown_together, idle_seen, idle_here, idle_together, all_changes, changes_before}
+use Rattle.srcuctl.proofs.Meeting.{Grows, Idles, held_before, grown_seen, grown_follows, grown_together, idle_seen, idle_together, all_changes, changes_before}
 
 -- the engine of a domain
 abbrev pub View : Type 0

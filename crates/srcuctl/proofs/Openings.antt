@@ -1,6 +1,6 @@
 -- Names in use, one more or one fewer, and how they are counted.
 use Rattle.std.proofs.Common.{◌≡◌, ℕ, zero, suc, ◌+◌, ◌%◌, ◌<◌, cond, List, [], ◌∷◌, ◌++◌, inl, inr, map, length, get_or, set, refl, sym, ap, ◌∙◌, subst, arith}
-use Rattle.std.specs.Prelude.{Bool, true, false, if◌then◌else◌, Some, slice_get, option_map, count_by, remove, All, ◌⊎◌}
+use Rattle.std.specs.Prelude.{Bool, if◌then◌else◌, Some, slice_get, option_map, count_by, remove, All, ◌⊎◌}
 use Rattle.std.proofs.lemmas.Option.{slice_get-map, slice_get_read}
 use Rattle.std.proofs.lemmas.List.{length-map, map-set, map-append}
 use Rattle.std.proofs.lemmas.List.Elements.{All-get_or}

@@ -1,4 +1,4 @@
-use Rattle.std.proofs.Common.{rules, ◌≡◌, ◌≤◌, ℕ, ◌+◌, refl, sym, ap, ◌∙◌, subst, arith}
+use Rattle.std.proofs.Common.{refl, arith}
 use Rattle.scan.proofs.Scans.{locks_fit, still, next_locks, scan_locks, scan_passed, passed, waits, first_unlocks, moves_by_load}
 use Rattle.scan.proofs.scanning.count_locks.Goals as goal
 

@@ -1,4 +1,4 @@
-use Rattle.std.proofs.Common.{rules, ◌≡◌, ◌≤◌, ℕ, ◌+◌, refl, sym, ap, ◌∙◌, subst, arith}
+use Rattle.std.proofs.Common.{refl, arith}
 use Rattle.scan.proofs.Scans.{unlocks_fit, next_unlocks, first_locks, scan_unlocks, scan_last_unlocks, moves_by_load}
 use Rattle.scan.proofs.scanning.count_unlocks.Goals as goal
 

@@ -1,4 +1,3 @@
-use Rattle.std.proofs.Common.{◌≡◌, refl}
 use Rattle.scan.proofs.Flips.{flipped_moves, ended_moves, in_second_scan, in_other_scan}
 use Rattle.scan.proofs.scanning.leave_scan.Goals as goal
 

@@ -1,4 +1,4 @@
-use Rattle.std.proofs.Common.{◌≡◌, sym, subst}
+use Rattle.std.proofs.Common.{sym, subst}
 use Rattle.scan.specs.declared.place.Place.TheVariants as places
 use Rattle.scan.specs.declared.progress.Progress.TheVariants as answers
 use Rattle.scan.specs.Places.{IsAt, Moves}

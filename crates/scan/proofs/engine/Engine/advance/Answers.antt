@@ -1,6 +1,6 @@
-use Rattle.std.proofs.Common.{◌≡◌, ◌+◌, ◌-◌, ◌*◌, ◌<◌, inl, refl, subst, arith}
+use Rattle.std.proofs.Common.{inl, refl, subst, arith}
 use Rattle.scan.specs.Progress.{StepsTo}
-use Rattle.scan.proofs.Stepping.{same_processors, under_way, arrives, exhausted, at_error}
+use Rattle.scan.proofs.Stepping.{under_way, arrives, exhausted, at_error}
 use Rattle.scan.proofs.engine.Engine.advance.Goals as goal
 
 pub loop-answer-init : goal.loop-answer-init

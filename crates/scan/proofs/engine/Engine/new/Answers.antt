@@ -1,4 +1,4 @@
-use Rattle.std.proofs.Common.{◌≡◌, ◌≤◌, subst, arith}
+use Rattle.std.proofs.Common.{arith}
 use Rattle.scan.proofs.Standing.{untouched}
 use Rattle.scan.proofs.engine.Engine.new.Goals as goal
 

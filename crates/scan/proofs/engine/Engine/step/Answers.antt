@@ -1,9 +1,9 @@
-use Rattle.std.proofs.Common.{◌≡◌, ◌≤◌, refl, sym, ap, subst, ◌∙◌, arith}
-use Rattle.scan.specs.Progress.{StepsTo, FindsExhausted}
+use Rattle.std.proofs.Common.{sym, ap, subst, arith}
+use Rattle.scan.specs.Progress.{StepsTo}
 use Rattle.scan.specs.Places.{IsAt}
-use Rattle.scan.specs.declared.place.Place.TheVariants.{Idle, Wanted}
+use Rattle.scan.specs.declared.place.Place.TheVariants.{Wanted}
 use Rattle.scan.specs.declared.progress.Progress.TheVariants as answer
-use Rattle.scan.proofs.Stepping.{viewed, steps_from, nothing_asked, is_asked, none_left}
+use Rattle.scan.proofs.Stepping.{viewed, steps_from, nothing_asked, is_asked}
 use Rattle.scan.proofs.engine.Engine.step.Goals as goal
 
 pub invariant_of-self-in_default : goal.invariant_of-self-in_default

@@ -1,4 +1,4 @@
-use Rattle.std.proofs.Common.{◌≡◌, ◌<◌, length, subst, sym, ap, ◌∙◌, arith, length-set}
+use Rattle.std.proofs.Common.{◌≡◌, ◌<◌, length, subst, sym, arith, length-set}
 use Rattle.sections.specs.Driving.{Meets}
 use Rattle.srcuctl.specs.Together.{AreTogether}
 use Rattle.srcuctl.specs.Domains.{GivesNumber}

@@ -1,5 +1,4 @@
-use Rattle.std.proofs.Common.{◌≡◌, length, subst, sym, ap, ◌∙◌, arith}
-use Rattle.std.specs.Prelude.{Result, Ok, Err, MatchResult}
+use Rattle.std.proofs.Common.{◌≡◌, length, subst, sym, arith}
 use Rattle.sections.specs.Driving.{Meets}
 use Rattle.srcuctl.specs.Together.{AreTogether}
 use Rattle.srcuctl.proofs.Meeting.{all_kept}
