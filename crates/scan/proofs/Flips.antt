@@ -75,6 +75,7 @@ flipped_moves e f i seen some here before flips is =
       };
       says = tt;
       not_wanted = λ n h. cc;
+      passed = λ _. empty_still e f seen flips.history flips.since changes (scanned e) (omega (arith, before)) here.empty;
       scan = λ _. record { before = λ _. (ap (λ l. seen_at_load (2 * f.processors) l) flips.steps ∙ (seen_still (2 * f.processors) e.steps (AddIndex (index_word f.changes) ∷ []) refl ∙ ap (λ n. seen_at_load (2 * n) e.steps) flips.same.1)); now = λ none. absurd (omega (arith, none, some)) };
       started = λ n h. absurd cc;
     }
@@ -110,6 +111,7 @@ second_scan_moves e f i seen some here moves =
         empty = empty;
       };
       not_wanted = λ n h. cc;
+      passed = λ all. absurd (omega (arith, all, some));
       scan = λ half. absurd (omega (arith, half));
       started = λ n h. absurd cc;
     }
@@ -122,8 +124,8 @@ since_event e f ev a = subst (λ l. IsBeginning e.seen l) (sym a.seen) (beginnin
 pub all_empty : (e : EngineView) → HasPassed e → IsBehindFlip e.changes → (i : Index) → WasEmpty i e.seen
 all_empty e here behind = either_index (λ i. WasEmpty i e.seen) (current e) (here.scanning.first_scan behind) here.empty
 
-pub ended_moves : (e f : EngineView) (n : ℕ) → IsSeenByEngine e → HasPassed e → IsBehindFlip e.changes → AddsEngineEvent (Finish Engine) e f → n ≡ number_word f.changes → Moves e place.Passed f place.Idle (answer.Ended n)
-ended_moves e f n seen here behind a is =
+pub ended_moves : (e f : EngineView) (n : ℕ) → IsSeenByEngine e → 1 ≤ e.processors → HasPassed e → IsBehindFlip e.changes → AddsEngineEvent (Finish Engine) e f → n ≡ number_word f.changes → Moves e place.Passed f place.Idle (answer.Ended n)
+ended_moves e f n seen some here behind a is =
     let changes = a.changes_are in
     let ended = a.history.reaches.ended in
     let since = since_event e f (Finish Engine) a in record {
@@ -146,6 +148,7 @@ ended_moves e f n seen here behind a is =
         empty = λ i. empty_still e f seen a.history since changes i (omega (arith, behind)) (all_empty e here behind i);
       };
       not_wanted = λ n h. cc;
+      passed = λ all. absurd (omega (arith, all, some));
       scan = λ half. absurd (omega (arith, half));
       started = λ m h. absurd cc;
     }
@@ -176,6 +179,7 @@ started_moves e f need n seen some idle a is =
       place_is = in_first_scan e f idle some a;
       says = has_started e f n idle a is;
       not_wanted = λ n h. cc;
+      passed = λ all. absurd (omega (arith, all, some));
       scan = λ half. absurd (omega (arith, half));
       started = λ m h. (need, refl, omega (arith, was, now, changes, idle));
     }

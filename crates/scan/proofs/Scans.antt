@@ -284,6 +284,9 @@ module _ (e f : EngineView) (p ended begun found : ℕ) (i : Index) (seen : IsSe
         };
       }
 
+  pub passed_empty : f.processors ≤ p + 1 → ended ≡ begun + found → WasEmpty (scanned e) f.seen
+  passed_empty last equal = subst (λ j. WasEmpty j f.seen) (same_scanned e f seen counts.step.history counts.step.since counts.step.changes_are) (passed last equal).empty
+
   -- unequal sums: one was open at some moment of the scan
   pub waits : f.processors ≤ p + 1 → ended ≢ begun + found → (since : ℕ) × Waits i since f × FirstLoaded since (e.processors + p) (seen_at_load (e.processors + p) e.steps) e.seen f.seen
   waits last unequal =
@@ -327,8 +330,8 @@ first_unlocks e s some = record { scanning = s; there = some; began = λ none. a
 
 pub moves_by_load : (e f : EngineView) (l : Step) (place next : Place) (a : Progress) → TakesStep l e.changes e f → IsStepAt e.processors (half e.processors place) (scanned e) l → events_of a ≡ [] → changes_for a ≡ 0
     → (half e.processors place ≤ 2 * e.processors) × (half e.processors next ≤ 2 * e.processors) → Counts e.processors a (half e.processors place) (half e.processors next) → IsAt f next → ((n : ℕ) → next ≢ Wanted n)
-    → (0 < half e.processors next → FirstLoaded (began f next) (half e.processors place) (began e place) e.seen f.seen) → SaysAt a e place f → ((n : ℕ) → a ≢ answer.Started n) → Moves e place f next a
-moves_by_load e f l place next a takes here none unchanged within counts at other scan says no_start = record {
+    → (0 < half e.processors next → FirstLoaded (began f next) (half e.processors place) (began e place) e.seen f.seen) → (2 * e.processors ≤ half e.processors next → WasEmpty (scanned e) f.seen) → SaysAt a e place f → ((n : ℕ) → a ≢ answer.Started n) → Moves e place f next a
+moves_by_load e f l place next a takes here none unchanged within counts at other scan passed says no_start = record {
   same = takes.same;
   since = takes.since;
   history = takes.history;
@@ -344,5 +347,6 @@ moves_by_load e f l place next a takes here none unchanged within counts at othe
   says = says;
   not_wanted = other;
   scan = scan;
+  passed = passed;
   started = λ n is. absurd (no_start n is);
 }

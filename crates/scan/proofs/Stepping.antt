@@ -1,6 +1,6 @@
 -- From a step at the seat to a step of the engine.
-use Rattle.std.proofs.Common.{◌≡◌, ℕ, ◌+◌, ◌*◌, ◌%◌, ◌<◌, ◌≤◌, ◌≢◌, ◌⊎◌, inl, inr, ⊎_elim, Result, Ok, Err, IsErr, MatchResult, [], ◌++◌, length, refl, sym, ap, ◌∙◌, subst, append_assoc, append-nil, length-append, arith}
-use Rattle.onedom.specs.Histories.{IsRunning, IsBeginning}
+use Rattle.std.proofs.Common.{◌≡◌, ℕ, ◌+◌, ◌*◌, ◌%◌, ◌<◌, ◌≤◌, ◌≢◌, ◌⊎◌, inl, inr, ⊎_elim, Result, Ok, Err, IsErr, MatchResult, [], ◌++◌, length, refl, sym, ap, ◌∙◌, subst, append_assoc, append-nil, length-append, arith, List, ◌∷◌}
+use Rattle.onedom.specs.Histories.{ended_in, IsRunning, IsBeginning}
 use Rattle.sections.specs.Words.{number_word, IsIdle, IsBeforeFlip, IsBehindFlip}
 use Rattle.sections.specs.Driving.{IsSeenByEngine}
 use Rattle.sections.proofs.Agreement.{busy_running, idle_not_running}
@@ -11,7 +11,7 @@ use Rattle.scan.specs.declared.progress.Progress.{Progress}
 use Rattle.scan.specs.declared.progress.Progress.TheVariants as answer
 use Rattle.scan.specs.Places.{half, began, wanted, IsScanning, IsAt, SaysAt, Moves}
 use Rattle.scan.specs.declared.progress.Exhausted.{Exhausted}
-use Rattle.scan.specs.Progress.{ScanView, number_at_rest, steps_for, events_of, changes_for, half_changes, FirstLoaded, Says, Counts, NeedsLoaded, GoesOn, StepsTo, AdvancesTo, FindsExhausted}
+use Rattle.scan.specs.Progress.{ScanView, number_at_rest, steps_for, events_of, changes_for, half_changes, FirstLoaded, Says, Counts, NeedsLoaded, GoesOn, StepsTo, StepsThrough, AdvancesTo, FindsExhausted}
 use Rattle.onedom.proofs.Beginnings.{beginning_refl, beginning_trans, length_grows}
 
 module _ {N : Type 0} where
@@ -24,11 +24,12 @@ says_from e f needs place next answer.Idle seen at m says = absurd says
 says_from e f needs place next (answer.Started n) seen at m says = let w = m.started n refl in
     let is : place ≡ Wanted w.0 = w.1 in let here : IsIdle e.changes × (number_word e.changes < 4 * e.periods) × (number_word e.changes < w.0) = subst (λ p. IsAt e p) is at in
     let idle = here.0 in let below = here.2 in let same = w.2 in let ended = seen.reaches.ended in
-    (says, subst (λ p. number_at_rest f.seen < wanted p) (sym is) (omega (arith, idle, below, same, ended)))
+    let room = here.1 in let periods = m.same.2 in
+    (says, subst (λ p. number_at_rest f.seen < wanted p) (sym is) (omega (arith, idle, below, same, ended)), omega (arith, idle, room, same, ended, periods))
 says_from e f needs place next (answer.Flipped i) seen at m says = says
 says_from e f needs place next (answer.Ended n) seen at m says = says
 says_from e f needs place next (answer.Waiting i) seen at m says = (says.0, says.1, λ _. says.2)
-says_from e f needs place next answer.Step seen at m says = tt
+says_from e f needs place next answer.Step seen at m says = λ all. m.passed (subst (λ n. 2 * e.processors ≤ half n next) m.same.1 all)
 
 pub half_few : (e : EngineView) (p : Place) → IsAt e p → 1 ≤ e.processors → half e.processors p ≤ 2 * e.processors + 1
 half_few e Idle at some = omega arith
@@ -171,13 +172,13 @@ module _ {N : Type 0} (loads : N → ℕ → N → Type 0) where
     now = λ none. let here = before.now none in let low = here.0 in let high = here.1 in let longer = length_grows later in (omega (arith, low, is), omega (arith, high, is, longer));
   }
 
-  says_further : (u v w : ScanView N) (a : Progress) (need : ℕ) → HasMoved loads u v → IsBeginning v.seat.seen w.seat.seen → Says a need v w → Says a need u w
-  says_further u v w answer.Idle need moved later says = says
-  says_further u v w (answer.Started n) need moved later says = says
-  says_further u v w (answer.Flipped i) need moved later says = says
-  says_further u v w (answer.Ended n) need moved later says = says
-  says_further u v w (answer.Waiting i) need moved later says = (says.0, says.1, λ running. scan_further u v w says.0 moved later (says.2 (moved.scan running).0) running)
-  says_further u v w answer.Step need moved later says = says
+  says_further : (u v w : ScanView N) (a : Progress) (need : ℕ) → a ≢ answer.Step → HasMoved loads u v → IsBeginning v.seat.seen w.seat.seen → Says a need v w → Says a need u w
+  says_further u v w answer.Idle need other moved later says = says
+  says_further u v w (answer.Started n) need other moved later says = says
+  says_further u v w (answer.Flipped i) need other moved later says = says
+  says_further u v w (answer.Ended n) need other moved later says = says
+  says_further u v w (answer.Waiting i) need other moved later says = (says.0, says.1, λ running. scan_further u v w says.0 moved later (says.2 (moved.scan running).0) running)
+  says_further u v w answer.Step need other moved later says = absurd (other refl)
 
   counted : (n : ℕ) (a : Progress) (before after : ℕ) → a ≢ answer.Step → Counts n a before after → (before + 1 ≡ steps_for n a) × (after ≡ 0)
   counted n answer.Idle before after other c = c
@@ -214,12 +215,39 @@ module _ {N : Type 0} (loads : N → ℕ → N → Type 0) where
         scan = λ running. let first = s.scan (moved.scan running).0 (omega (arith, next)) in (first.0, scan_further u v w w.began moved s.goes_on.since first.1 running);
       }
 
-  pub under_way : (u v w : ScanView N) → (v ≡ u) ⊎ HasMoved loads u v → StepsTo loads v answer.Step w → (w ≡ u) ⊎ HasMoved loads u w
-  under_way u v w (inl same) s = inr (first_step u w (subst (λ z. StepsTo loads z answer.Step w) same s))
-  under_way u v w (inr moved) s = inr (next_step u v w moved s)
+  has_moved : (u v w : ScanView N) → (v ≡ u) ⊎ HasMoved loads u v → StepsTo loads v answer.Step w → HasMoved loads u w
+  has_moved u v w (inl same) s = first_step u w (subst (λ z. StepsTo loads z answer.Step w) same s)
+  has_moved u v w (inr moved) s = next_step u v w moved s
 
-  at_once : (u w : ScanView N) (a : Progress) → StepsTo loads u a w → a ≢ answer.Step → AdvancesTo loads u a w
-  at_once u w a s other = let c = counted u.seat.processors a u.half w.half other s.counts in let one = s.one in let taken = c.0 in let none = c.1 in let changes = s.changes in record {
+  -- steps without an answer, after each of which the engine was as one of these
+  abbrev pub Stepped : List (ScanView N) → ScanView N → ScanView N → Type 0
+  Stepped [] u v = v ≡ u
+  Stepped (x ∷ xs) u v = StepsTo loads u answer.Step x × Stepped xs x v
+
+  one_step_more : (xs : List (ScanView N)) (u v w : ScanView N) → Stepped xs u v → StepsTo loads v answer.Step w → Stepped (xs ++ w ∷ []) u w
+  one_step_more [] u v w same s = (subst (λ z. StepsTo loads z answer.Step w) same s, refl)
+  one_step_more (x ∷ xs) u v w h s = (h.0, one_step_more xs x v w h.1 s)
+
+  and_the_answer : (xs : List (ScanView N)) (u v w : ScanView N) (a : Progress) → Stepped xs u v → StepsTo loads v a w → StepsThrough loads xs u a w
+  and_the_answer [] u v w a same s = subst (λ z. StepsTo loads z a w) same s
+  and_the_answer (x ∷ xs) u v w a h s = (h.0, and_the_answer xs x v w a h.1 s)
+
+  -- so far there was no answer
+  pub record IsUnderWay (u v : ScanView N) : Type 0 where
+    pub between : List (ScanView N)
+    pub stepped : Stepped between u v
+    pub moved : (v ≡ u) ⊎ HasMoved loads u v
+
+  pub nothing_yet : (u : ScanView N) → IsUnderWay u u
+  nothing_yet u = record { between = []; stepped = refl; moved = inl refl }
+
+  pub under_way : (u v w : ScanView N) → IsUnderWay u v → StepsTo loads v answer.Step w → IsUnderWay u w
+  under_way u v w h s = record { between = h.between ++ w ∷ []; stepped = one_step_more h.between u v w h.stepped s; moved = inr (has_moved u v w h.moved s) }
+
+  at_once : (u w : ScanView N) (a : Progress) (xs : List (ScanView N)) → StepsThrough loads xs u a w → StepsTo loads u a w → a ≢ answer.Step → AdvancesTo loads u a w
+  at_once u w a xs through s other = let c = counted u.seat.processors a u.half w.half other s.counts in let one = s.one in let taken = c.0 in let none = c.1 in let changes = s.changes in record {
+    between = xs;
+    through = through;
     goes_on = s.goes_on;
     answer = other;
     events = s.events;
@@ -231,12 +259,14 @@ module _ {N : Type 0} (loads : N → ℕ → N → Type 0) where
     says = s.says;
   }
 
-  at_last : (u v w : ScanView N) (a : Progress) → HasMoved loads u v → StepsTo loads v a w → a ≢ answer.Step → AdvancesTo loads u a w
-  at_last u v w a moved s other =
+  at_last : (u v w : ScanView N) (a : Progress) (xs : List (ScanView N)) → StepsThrough loads xs u a w → HasMoved loads u v → StepsTo loads v a w → a ≢ answer.Step → AdvancesTo loads u a w
+  at_last u v w a xs through moved s other =
       let c = counted v.seat.processors a v.half w.half other s.counts in let one = s.one in let none = c.1 in let before = moved.steps in
       let was = moved.changes in let changes = s.changes in let same = moved.goes_on.same.1 in
       let taken : v.half + 1 ≡ steps_for u.seat.processors a = c.0 ∙ ap (λ n. steps_for n a) same in
       let made = length-append moved.goes_on.made s.goes_on.made in record {
+        between = xs;
+        through = through;
         goes_on = goes_further u v w moved.goes_on s.goes_on;
         answer = other;
         events = s.events ∙ ap (λ l. l ++ events_of a) moved.events;
@@ -245,20 +275,22 @@ module _ {N : Type 0} (loads : N → ℕ → N → Type 0) where
         due = let more = moved.more in omega (arith, taken, more);
         changes = omega (arith, was, changes, same, none);
         done = none;
-        says = says_further u v w a s.needs.need moved s.goes_on.since s.says;
+        says = says_further u v w a s.needs.need other moved s.goes_on.since s.says;
       }
 
-  pub arrives : (u v w : ScanView N) (a : Progress) → (v ≡ u) ⊎ HasMoved loads u v → StepsTo loads v a w → a ≢ answer.Step → AdvancesTo loads u a w
-  arrives u v w a (inl same) s other = at_once u w a (subst (λ z. StepsTo loads z a w) same s) other
-  arrives u v w a (inr moved) s other = at_last u v w a moved s other
+  arrived : (u v w : ScanView N) (a : Progress) (xs : List (ScanView N)) → StepsThrough loads xs u a w → (v ≡ u) ⊎ HasMoved loads u v → StepsTo loads v a w → a ≢ answer.Step → AdvancesTo loads u a w
+  arrived u v w a xs through (inl same) s other = at_once u w a xs through (subst (λ z. StepsTo loads z a w) same s) other
+  arrived u v w a xs through (inr moved) s other = at_last u v w a xs through moved s other
 
-  pub exhausted : (u v w : ScanView N) → (v ≡ u) ⊎ HasMoved loads u v → FindsExhausted loads v w → FindsExhausted loads u w
-  exhausted u v w (inl same) x = subst (λ z. FindsExhausted loads z w) same x
-  exhausted u v w (inr moved) x = let more = moved.more in let none = x.nothing_half in absurd (omega (arith, more, none))
+  pub arrives : (u v w : ScanView N) (a : Progress) → IsUnderWay u v → StepsTo loads v a w → a ≢ answer.Step → AdvancesTo loads u a w
+  arrives u v w a h s other = arrived u v w a h.between (and_the_answer h.between u v w a h.stepped s) h.moved s other
 
-  pub same_processors : (u v : ScanView N) → (v ≡ u) ⊎ HasMoved loads u v → v.seat.processors ≡ u.seat.processors
-  same_processors u v (inl same) = ap (λ (z : ScanView N). z.seat.processors) same
-  same_processors u v (inr moved) = moved.goes_on.same.1
+  none_moved : (u v w : ScanView N) → (v ≡ u) ⊎ HasMoved loads u v → FindsExhausted loads v w → FindsExhausted loads u w
+  none_moved u v w (inl same) x = subst (λ z. FindsExhausted loads z w) same x
+  none_moved u v w (inr moved) x = let more = moved.more in let none = x.nothing_half in absurd (omega (arith, more, none))
+
+  pub exhausted : (u v w : ScanView N) → IsUnderWay u v → FindsExhausted loads v w → FindsExhausted loads u w
+  exhausted u v w h x = none_moved u v w h.moved x
 
 pub at_error : (r : Result Progress Exhausted) (P : Progress → Type 0) (Q : Type 0) → IsErr r → Q → MatchResult r P (λ _. Q)
 at_error (Ok a) P Q is q = absurd cc
@@ -272,7 +304,7 @@ module _ {N : Type 0} (loads : N → ℕ → N → Type 0) (e : EngineView) (som
 
   -- the need was loaded, and nothing was done
   pub loaded_at_rest : (next : Place) (a : Progress) → events_of a ≡ [] → changes_for a ≡ 0 → Counts e.processors a 0 (half e.processors next) → half e.processors next ≤ 1
-      → Says a need (viewed e needs Idle) (viewed e needs' next) → (0 < half e.processors next → (wanted next ≡ need) × (number_at_rest e.seen < need)) → StepsTo loads (viewed e needs Idle) a (viewed e needs' next)
+      → Says a need (viewed e needs Idle) (viewed e needs' next) → (0 < half e.processors next → (wanted next ≡ need) × (number_at_rest e.seen < need) × (ended_in e.seen < e.periods)) → StepsTo loads (viewed e needs Idle) a (viewed e needs' next)
   loaded_at_rest next a none unchanged counts few says more = record {
     goes_on = record { same = (refl, refl, refl); since = beginning_refl e.seen; history = seen; later = omega arith; made = []; steps = sym (append-nil e.steps) };
     events = sym (append-nil e.mine) ∙ ap (λ l. e.mine ++ l) (sym none);
@@ -289,7 +321,7 @@ module _ {N : Type 0} (loads : N → ℕ → N → Type 0) (e : EngineView) (som
     few = omega (arith, few, some);
     says = says;
     need = λ h. (more h).0;
-    wanted = λ _ h. (more h).1;
+    wanted = λ _ h. let m = more h in (m.1, m.2);
     scan = λ running h. absurd (resting running);
   }
 
@@ -298,8 +330,9 @@ module _ {N : Type 0} (loads : N → ℕ → N → Type 0) (e : EngineView) (som
   nothing_asked low = loaded_at_rest Idle answer.Idle refl refl (refl, refl) (omega arith) (resting, let ended = seen.reaches.ended in omega (arith, ended, idle, low)) (λ h. absurd (omega (arith, h)))
 
   -- it tells of one
-  pub is_asked : number_word e.changes < need → StepsTo loads (viewed e needs Idle) answer.Step (viewed e needs' (Wanted need))
-  is_asked high = loaded_at_rest (Wanted need) answer.Step refl refl refl (omega arith) tt (λ h. (refl, let ended = seen.reaches.ended in omega (arith, ended, idle, high)))
+  pub is_asked : number_word e.changes < need → number_word e.changes < 4 * e.periods → StepsTo loads (viewed e needs Idle) answer.Step (viewed e needs' (Wanted need))
+  is_asked high room = let ended = seen.reaches.ended in
+      loaded_at_rest (Wanted need) answer.Step refl refl refl (omega arith) (λ all. absurd (omega (arith, all, some))) (λ _. (refl, omega (arith, ended, idle, high), omega (arith, ended, idle, room)))
 
   -- and there may be no more
   pub none_left : number_word e.changes < need → number_word e.changes ≡ 4 * e.periods → FindsExhausted loads (viewed e needs Idle) (viewed e needs' Idle)

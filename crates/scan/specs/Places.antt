@@ -136,6 +136,7 @@ pub record Moves (e : EngineView) (place : Place) (f : EngineView) (next : Place
   pub counts : Counts e.processors a (half e.processors place) (half e.processors next)
   pub place_is : IsAt f next
   pub says : SaysAt a e place f
+  pub passed : 2 * e.processors ≤ half e.processors next → WasEmpty (scanned e) f.seen
   -- none is wanted from then on, and a scan that goes on is the one that began
   pub not_wanted : (n : ℕ) → next ≢ Wanted n
   pub scan : 0 < half e.processors next → FirstLoaded (began f next) (half e.processors place) (began e place) e.seen f.seen

@@ -131,14 +131,18 @@ not_current e = other_index (low_bit (index_word e.changes))
 -- Calls
 
 module _ {N : Type 0} where
+  -- behind the loads of a scan: it has passed, so at a moment since the start no section of its index was open
+  abbrev pub HasPassed : ScanView N → ScanView N → Type 0
+  HasPassed v w = 2 * v.seat.processors ≤ w.half → WasEmpty (not_current v.seat) w.seat.seen
+
   -- what an answer says at the end of a call, where this was found to be the need
   abbrev pub Says : Progress → ℕ → ScanView N → ScanView N → Type 0
   Says answer.Idle need v w = (¬ IsRunning w.seat.seen) × (need ≤ number_at_rest w.seat.seen)
-  Says (answer.Started n) need v w = HasStarted n w.seat × (number_at_rest w.seat.seen < need)
+  Says (answer.Started n) need v w = HasStarted n w.seat × (number_at_rest w.seat.seen < need) × (ended_in w.seat.seen < w.seat.periods)
   Says (answer.Flipped i) need v w = HasFlipped i w.seat
   Says (answer.Ended n) need v w = HasEnded n w.seat
   Says (answer.Waiting i) need v w = (since : ℕ) × Waits i since w.seat × (IsRunning v.seat.seen → FirstLoaded since v.half v.began v.seat.seen w.seat.seen)
-  Says answer.Step need v w = Unit {0}
+  Says answer.Step need v w = HasPassed v w
 
   -- the same engine, which knows what it knew, and has made no event but those that it saw
   pub record GoesOn (v w : ScanView N) : Type 0 where
@@ -190,13 +194,20 @@ module _ {N : Type 0} where
       pub says : Says a needs.need v w
       -- where there is more to do: what is known of it
       pub need : 0 < w.half → w.need ≡ needs.need
-      pub wanted : ¬ IsRunning v.seat.seen → 0 < w.half → number_at_rest w.seat.seen < needs.need
+      pub wanted : ¬ IsRunning v.seat.seen → 0 < w.half → (number_at_rest w.seat.seen < needs.need) × (ended_in w.seat.seen < w.seat.periods)
       pub scan : IsRunning v.seat.seen → 0 < w.half → IsRunning w.seat.seen × FirstLoaded w.began v.half v.began v.seat.seen w.seat.seen
 
-    -- as many steps were made as the answer takes, those among them that were made before the call
+    -- steps without an answer, after each of which the engine was as one of these, and then one with this answer
+    abbrev pub StepsThrough : List (ScanView N) → ScanView N → Progress → ScanView N → Type 0
+    StepsThrough [] v a w = StepsTo v a w
+    StepsThrough (u ∷ us) v a w = StepsTo v answer.Step u × StepsThrough us u a w
+
+    -- steps were made until there was an answer: as many as it takes, those among them that were made before the call
     pub record AdvancesTo (v : ScanView N) (a : Progress) (w : ScanView N) : Type 0 where
-      pub goes_on : GoesOn v w
+      pub between : List (ScanView N)
+      pub through : StepsThrough between v a w
       pub answer : a ≢ answer.Step
+      pub goes_on : GoesOn v w
       pub events : w.seat.mine ≡ v.seat.mine ++ events_of a
       pub needs : NeedsLoaded v w
       pub steps : length (events_of a) + length goes_on.made + needs.count + v.half ≡ steps_for v.seat.processors a

@@ -1,10 +1,10 @@
 use Rattle.std.proofs.Common.{inl, refl, subst, arith}
 use Rattle.scan.specs.Progress.{StepsTo}
-use Rattle.scan.proofs.Stepping.{under_way, arrives, exhausted, at_error}
+use Rattle.scan.proofs.Stepping.{nothing_yet, under_way, arrives, exhausted, at_error}
 use Rattle.scan.proofs.engine.Engine.advance.Goals as goal
 
 pub loop-answer-init : goal.loop-answer-init
-loop-answer-init g c = inl refl
+loop-answer-init g c = nothing_yet g.N.Needs.loads c.args.self.now
 
 pub returns-in_err-answer : goal.returns-in_err-answer
 returns-in_err-answer g c = at_error _ _ _ c.from_residual.ensures.0 (exhausted g.N.Needs.loads _ _ _ c.loop-answer.invariant c.in_err-answer.ensures)

@@ -33,6 +33,6 @@ returns-else-get-periods g c =
     let own = c.self.invariant in
     let e = c.self.inside.seat in
     let idle = subst (λ p. IsAt e p) c.in-Idle.is own.place_is in
-    let high = c.if-get.false in let need = c.get.ensures.value in let number = c.get-in-Idle.ensures.value in let word = c.number-number.ensures.value in let same = ap (λ v. v.seat.changes) c.self.view_is in
+    let high = c.if-get.false in let left = c.if-get-periods.false in let number' = c.get-in-Idle-2.ensures.value in let periods = c.periods.ensures.value in let most = c.number-number.ensures.most in let same' = ap (λ v. v.seat.periods) c.self.view_is in let need = c.get.ensures.value in let number = c.get-in-Idle.ensures.value in let word = c.number-number.ensures.value in let same = ap (λ v. v.seat.changes) c.self.view_is in
     rw (← c.self.view_is) (subst (λ p. StepsTo g.N.Needs.loads (viewed e c.self.inside.needs p) answer.Step (viewed e c.root_need-need.new.self (Wanted c.root_need-need.result))) (sym c.in-Idle.is)
-    (is_asked g.N.Needs.loads e own.some own.history idle _ _ c.root_need-need.result c.root_need-need.ensures (omega (arith, high, need, number, word, same))))
+    (is_asked g.N.Needs.loads e own.some own.history idle _ _ c.root_need-need.result c.root_need-need.ensures (omega (arith, high, need, number, word, same)) (omega (arith, left, number', periods, most, word, same, same'))))
