@@ -1,4 +1,5 @@
 mod Driving
+mod Growing
 mod Meeting
 mod Names
 mod Numerals

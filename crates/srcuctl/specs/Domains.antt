@@ -6,14 +6,15 @@ use Rattle.atomic_table.specs.Seated.{TableId}
 use Rattle.onedom.specs.declared.event.Maker.TheVariants.{Processor, Engine}
 use Rattle.onedom.specs.declared.event.Event.{Event}
 use Rattle.onedom.specs.declared.event.Event.TheVariants.{Begin, End, Start, Note, Ask}
-use Rattle.onedom.specs.Histories.{MayFollow, IsRunning}
+use Rattle.onedom.specs.Histories.{MayFollow, ended_in, IsRunning}
 use Rattle.sections.specs.declared.limits.Limits.{Limits}
 use Rattle.sections.specs.declared.limits.MakeError.{MakeError}
 use Rattle.sections.specs.declared.limits.MakeError.TheVariants as make
-use Rattle.sections.specs.Words.{index_word, number_word, locks}
+use Rattle.sections.specs.Words.{index_word, number_word, locks, Reaches}
 use Rattle.sections.specs.Views.{LookView, ReadingView}
 use Rattle.sections.specs.Making.{IsCount}
 use Rattle.scan.specs.declared.progress.Progress.{Progress}
+use Rattle.scan.specs.Progress.{number_at_rest}
 use Rattle.scan.specs.declared.progress.StartRefusal.{StartRefusal}
 use Rattle.scan.specs.declared.progress.StartRefusal.TheVariants as refusal
 use Rattle.srcuctl.specs.Standings.{Standing, Steps, Advances}
@@ -98,13 +99,14 @@ pub record AsksAfter (p cookie : ℕ) (d : DomainView) (done : Bool) (d' : Domai
 -- a grace period starts, and `n` is the number then. Nothing is half done of it
 pub record StartsPeriod (d : DomainView) (n : ℕ) (d' : DomainView) : Type 0 where
   pub follows : MayFollow d.history (Start Engine)
-  pub room : number_in d < 4 * d.limits.periods
+  pub room : ended_in d.history < d.limits.periods
   pub after : d' ≡ record (grown (Start Engine) d) { changes = d.changes + 1; half = 0; began = d'.began }
-  pub number : n ≡ number_in d'
+  pub agree : Reaches d'.changes d'.history
+  pub number : n ≡ number_at_rest d.history + 1
 
 abbrev pub StartsNone : DomainView → StartRefusal → Type 0
 StartsNone d refusal.Running = IsRunning d.history
-StartsNone d refusal.Exhausted = number_in d ≡ 4 * d.limits.periods
+StartsNone d refusal.Exhausted = (¬ IsRunning d.history) × (ended_in d.history ≡ d.limits.periods)
 
 -- only the engine has gone on
 abbrev pub IsSameBut : DomainView → DomainView → Type 0

@@ -7,9 +7,10 @@ use Rattle.sseq.specs.Numbers.{state_bits}
 use Rattle.onedom.specs.declared.event.Maker.TheVariants.{Processor, Engine}
 use Rattle.onedom.specs.declared.event.Event.{Event}
 use Rattle.onedom.specs.declared.event.Event.TheVariants.{Begin, End, Start, Note, Ask}
-use Rattle.onedom.specs.Histories.{MayFollow, IsRunning}
+use Rattle.onedom.specs.Histories.{MayFollow, ended_in, IsRunning}
 use Rattle.sections.specs.declared.limits.Limits.{Limits}
-use Rattle.sections.specs.Words.{locks}
+use Rattle.sections.specs.Words.{locks, Reaches}
+use Rattle.scan.specs.Progress.{number_at_rest}
 use Rattle.sections.specs.Calls.{IsNoCookie}
 use Rattle.scan.specs.declared.progress.Progress.{Progress}
 use Rattle.scan.specs.declared.progress.Progress.TheVariants as progress
@@ -141,9 +142,10 @@ pub record IsNotACookie (cookie : ℕ) (d : DomainState) (r : Reply) (d' : Domai
 -- a grace period starts, of which nothing is half done
 pub record Starts (limits : Limits) (d : DomainState) (r : Reply) (d' : DomainState) : Type 0 where
   pub follows : MayFollow d.history (Start Engine)
-  pub room : number_now d < 4 * limits.periods
+  pub room : ended_in d.history < limits.periods
   pub after : d' ≡ record (with_change (with_event (Start Engine) d)) { half = 0; began = d'.began }
-  pub reply : r ≡ reply.Progress (progress.Started (number_now d'))
+  pub agree : Reaches d'.changes d'.history
+  pub reply : r ≡ reply.Progress (progress.Started (number_at_rest d.history + 1))
 
 pub record IsRunningAlready (d : DomainState) (r : Reply) (d' : DomainState) : Type 0 where
   pub running : IsRunning d.history
@@ -152,7 +154,8 @@ pub record IsRunningAlready (d : DomainState) (r : Reply) (d' : DomainState) : T
 
 -- no grace period runs, and as many have ended as may
 pub record IsOutOfPeriods (limits : Limits) (d : DomainState) (r : Reply) (d' : DomainState) : Type 0 where
-  pub full : number_now d ≡ 4 * limits.periods
+  pub resting : ¬ IsRunning d.history
+  pub full : ended_in d.history ≡ limits.periods
   pub after : d' ≡ d
   pub reply : r ≡ reply.Refused command.Start Exhausted
 

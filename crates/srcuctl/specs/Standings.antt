@@ -1,15 +1,15 @@
 -- How far the grace periods of a domain have come, and what the engine's answers say of it.
-use Rattle.std.specs.Prelude.{◌≡◌, ◌≢◌, ℕ, ◌+◌, ◌*◌, ◌<◌, ◌≤◌, ◌==◌, List, ◌++◌, length, if◌then◌else◌}
+use Rattle.std.specs.Prelude.{◌≡◌, ◌≢◌, ℕ, ◌+◌, ◌*◌, ◌<◌, ◌≤◌, ◌==◌, List, [], ◌∷◌, ◌++◌, length, if◌then◌else◌}
 use Rattle.sseq.specs.declared.index.Index.{Index}
 use Rattle.sseq.specs.Indexes.{low_bit, other_index}
 use Rattle.onedom.specs.declared.event.Maker.TheVariants.{Engine}
 use Rattle.onedom.specs.declared.event.Event.{Event}
 use Rattle.onedom.specs.declared.event.Event.TheVariants.{Finish}
-use Rattle.onedom.specs.Histories.{IsOpen, index_of, IsRunning, WasEmpty, MayFollow, IsBeginning}
-use Rattle.sections.specs.Words.{index_word, number_word}
+use Rattle.onedom.specs.Histories.{IsOpen, index_of, ended_in, IsRunning, WasEmpty, MayFollow, IsBeginning}
+use Rattle.sections.specs.Words.{index_word, Reaches}
 use Rattle.scan.specs.declared.progress.Progress.{Progress}
 use Rattle.scan.specs.declared.progress.Progress.TheVariants as answer
-use Rattle.scan.specs.Progress.{steps_for, Counts, events_of, changes_for, half_changes}
+use Rattle.scan.specs.Progress.{number_at_rest, Counts, events_of, changes_for, half_changes}
 
 -- `changes` is how often the engine has changed the number and the index word. Of what is half done, `half` says how many steps were made, and `began` how long the history was at the first load of the scan
 pub record Standing : Type 0 where
@@ -23,10 +23,14 @@ pub record Standing : Type 0 where
 abbrev pub scan_began : Standing → ℕ
 scan_began s = if s.half == 0 then length s.history else s.began
 
+-- the index that is scanned: the one that is not current
+abbrev pub not_current : Standing → Index
+not_current s = other_index (low_bit (index_word s.changes))
+
 -- the index is not the current one, and at a moment since the first load of the scan a section of it was open
 pub record WaitsFor (i : Index) (s : Standing) : Type 0 where
   pub running : IsRunning s.history
-  pub not_current : i ≡ other_index (low_bit (index_word s.changes))
+  pub index : i ≡ not_current s
   pub moment : List Event
   pub upto : IsBeginning moment s.history
   pub since : scan_began s ≤ length moment
@@ -34,31 +38,32 @@ pub record WaitsFor (i : Index) (s : Standing) : Type 0 where
   pub is_open : IsOpen moment section
   pub of_index : index_of section moment ≡ i
 
--- what an answer says; a period is started by nobody's need, as long as nobody can ask
+-- what an answer says; no period is started by a need, as long as nobody can ask
 abbrev pub Says : Progress → Standing → Standing → Type 0
 Says answer.Idle s s' = ¬ IsRunning s.history
 Says (answer.Started n) s s' = ⊥
-Says (answer.Flipped i) s s' = IsRunning s.history × (i ≡ low_bit (index_word s'.changes)) × WasEmpty i s.history
-Says (answer.Ended n) s s' = MayFollow s.history (Finish Engine) × (n ≡ number_word s'.changes) × ((i : Index) → WasEmpty i s'.history)
+Says (answer.Flipped i) s s' = IsRunning s.history × (i ≡ low_bit (ended_in s.history + 1)) × WasEmpty i s.history
+Says (answer.Ended n) s s' = MayFollow s.history (Finish Engine) × (n ≡ number_at_rest s'.history) × ((i : Index) → WasEmpty i s'.history)
 Says (answer.Waiting i) s s' = WaitsFor i s
-Says answer.Step s s' = IsRunning s.history
+Says answer.Step s s' = IsRunning s.history × (2 * s.processors ≤ s'.half → WasEmpty (not_current s) s.history)
 
--- what every answer means: what was done, and what is half done then
-pub record Answers (a : Progress) (s s' : Standing) : Type 0 where
+-- one atomic step was made. The history has its event, if it is one, and the number and the index word agree with it still
+pub record Steps (a : Progress) (s s' : Standing) : Type 0 where
   pub says : Says a s s'
   pub events : s'.history ≡ s.history ++ events_of a
+  pub agree : Reaches s'.changes s'.history
   pub changes : s'.changes + half_changes s.processors s.half ≡ s.changes + changes_for a + half_changes s.processors s'.half
-
--- one atomic step was made
-pub record Steps (a : Progress) (s s' : Standing) : Type 0 where
-  pub answers : Answers a s s'
   pub counts : Counts s.processors a s.half s'.half
   pub few : s'.half ≤ 2 * s.processors + 1
   pub scan : 0 < s'.half → s'.began ≡ scan_began s
 
+-- steps without an answer, after each of which the domain stood as one of these, and then one with this answer
+abbrev pub StepsThrough : List Standing → Standing → Progress → Standing → Type 0
+StepsThrough [] s a s' = Steps a s s'
+StepsThrough (t ∷ ts) s a s' = Steps answer.Step s t × StepsThrough ts t a s'
+
 -- steps were made until there was an answer
 pub record Advances (a : Progress) (s s' : Standing) : Type 0 where
-  pub answers : Answers a s s'
+  pub between : List Standing
+  pub through : StepsThrough between s a s'
   pub answer : a ≢ answer.Step
-  pub due : s.half < steps_for s.processors a
-  pub done : s'.half ≡ 0

@@ -2,7 +2,8 @@ use Rattle.std.proofs.Common.{◌≡◌, length, subst, sym, arith}
 use Rattle.sections.specs.Driving.{Meets}
 use Rattle.srcuctl.specs.Together.{AreTogether}
 use Rattle.srcuctl.proofs.Meeting.{all_kept}
-use Rattle.srcuctl.proofs.Progressing.{moves_by_advance, moved_together, moved_rests, when_ok, advances_by}
+use Rattle.srcuctl.proofs.Progressing.{moved_together, moved_rests, when_ok, advances_by}
+use Rattle.srcuctl.proofs.Growing.{moves_by_advance}
 use Rattle.srcuctl.proofs.domain.Domain.advance.Goals as goal
 
 pub invariant_of-self : goal.invariant_of-self
