@@ -48,7 +48,8 @@ impl<N: Needs, A: Allocator> Engine<N, A> {
         }
     }
 
-    /// Makes one atomic step. `Step` is the answer as long as there is no other: after some steps there is.
+    /// Makes one atomic step. `Step` is the answer as long as there is no other, at most 2P + 1 times in a row, of P
+    /// processors.
     pub fn step(&mut self) -> Result<Progress, Exhausted>
         ensures { MatchResult result (λ answer. StepsTo N.loads self.old answer self.new) (λ _. FindsExhausted N.loads self.old self.new) }
     {

@@ -116,7 +116,7 @@ fn count_locks<A: Allocator>(
     }
 }
 
-/// What follows a scan that has passed. Behind the first one the current index is flipped: sections that begin from
+/// What follows a scan that has passed. Behind the first one the current index is flipped: sections that look from
 /// now on get the index that was found empty, so that the second scan, of the index that was current until now, has
 /// an end. Without the flip new sections of the current index could hold it up for ever; without the second scan a
 /// section that was open at the start with the current index would be forgotten. The flip has two steps, first the

@@ -56,7 +56,7 @@ pub enum Reply {
     NotYet,
     /// What the engine answered.
     Progress(Progress),
-    /// The line did nothing, for this cause.
+    /// The line was refused, for this cause.
     Refused(Command, Cause),
     /// The line of this number, from 1, is faulty.
     Faulty {

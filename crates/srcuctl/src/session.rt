@@ -1,7 +1,7 @@
 //! The domains of a script, and what a line does to them.
 ghost use Rattle.std.specs.Prelude.{◌≡◌, ◌⊎◌, ◌++◌, [], true, IfOk};
 ghost use Rattle.sections.specs.Limits.{AreInRange};
-ghost use Rattle.srcuctl.specs.Scripts.{Makes, MakesNone, is_skipped as is_skipped_lem};
+ghost use Rattle.srcuctl.specs.Scripts.{Makes, MakesNone, is_skipped};
 ghost use Rattle.srcuctl.specs.Replies.{reply_text};
 ghost use Rattle.srcuctl.specs.Requests.{texts};
 
@@ -158,7 +158,7 @@ impl<A: Allocator + Clone> Answers<A> for Session<A> {
             return faulty(number, Fault::Text, reply);
         };
         let words = words(self.alloc.clone()?, line)?;
-        if is_skipped(&words) {
+        if skips(&words) {
             return Ok(false);
         }
         match parse(&words, &self.entries) {
@@ -181,8 +181,8 @@ fn faulty<A: Allocator>(line: u64, fault: Fault, reply: &mut Vec<u8, A>) -> Resu
 }
 
 /// A line without a word, or whose first word begins with `#`, gets no reply.
-fn is_skipped(words: &[&[u8]]) -> bool
-    ensures { result ≡ is_skipped_lem (texts words.now) }
+fn skips(words: &[&[u8]]) -> bool
+    ensures { result ≡ is_skipped (texts words.now) }
 {
     match words.first() {
         None => true,
