@@ -7,17 +7,17 @@ use Rattle.sseq.specs.Numbers.{cookie_at}
 use Rattle.onedom.specs.declared.event.Maker.TheVariants.{Processor}
 use Rattle.onedom.specs.declared.event.Event.{Event}
 use Rattle.onedom.specs.declared.event.Event.TheVariants.{Begin, End, Note, Ask}
-use Rattle.onedom.specs.Histories.{MayFollow, made_by}
+use Rattle.onedom.specs.Histories.{MayFollow, cookie_after, made_by}
 use Rattle.onedom.proofs.Beginnings.{beginning_refl, beginning_trans}
 use Rattle.sections.specs.declared.limits.Limits.{Limits}
-use Rattle.sections.specs.Words.{index_word, locks, IsIdle}
+use Rattle.sections.specs.Words.{index_word, number_word, locks, IsIdle}
 use Rattle.sections.specs.Views.{CpuView, LookView, ReadingView, CookieView}
 use Rattle.sections.specs.declared.cpu.Exhausted.{Exhausted}
 use Rattle.sections.specs.declared.cpu.NotACookie.{NotACookie}
-use Rattle.sections.specs.Calls.{AddsEvent, Looks, Enters, ReadLocks, LooksInVain, IsExhausted, GivesCookie, Asks, IsNoCookie}
+use Rattle.sections.specs.Calls.{AddsEvent, Looks, Enters, ReadLocks, LooksInVain, IsExhausted, Notes, GivesCookie, Asks, IsNoCookie}
 use Rattle.sections.specs.Driving.{Meets}
 use Rattle.sections.proofs.Counters.{locks_mine}
-use Rattle.srcuctl.specs.Domains.{DomainView, grown, index_in, IsLookNow, BeginsSection, BeginsNone, EndsSection, GivesNumber, AsksAfter}
+use Rattle.srcuctl.specs.Domains.{DomainView, grown, index_in, number_in, IsLookNow, BeginsSection, BeginsNone, EndsSection, GivesNumber, AsksAfter}
 use Rattle.srcuctl.specs.Together.{AreTogether}
 use Rattle.scan.specs.Progress.{ScanView, with_seat}
 use Rattle.srcuctl.specs.declared.needs.NoNeeds.{NoNeeds}
@@ -166,24 +166,39 @@ module _ (limits : Limits) (cpus : List CpuView) (v : View) (p : ℕ) (c c' : Cp
 
   -- Cookies
 
-  abbrev note_event : (k : CookieView) → GivesCookie c c' k → Event
-  note_event k h = Note (cookie_at h.number) (Processor c.processor)
+  module _ (number : ℕ) (h : Notes number c c') where
+    abbrev load_event : Event
+    load_event = Note (cookie_at number) (Processor c.processor)
+
+    loaded_grows : Grows load_event c c'
+    loaded_grows = grows_of_event c.seen c.changes load_event c c' h.adds
+
+    loaded_own : Processor c.processor ≡ Processor p
+    loaded_own = ap Processor (held_before limits cpus v.seat p c c' together inside is cpus' v'.seat meets).processor
+
+    pub loaded_together : AreTogether limits cpus' v'.seat
+    loaded_together = grown_together limits cpus v.seat p c c' together inside is cpus' v'.seat meets load_event loaded_grows loaded_own
+
+    pub loaded_number : number ≡ number_in (seen_as limits v)
+    loaded_number = h.current ∙ ap number_word (all_changes limits cpus v.seat p c c' together inside is cpus' v'.seat meets h.adds.later)
+
+    cookie_now : cookie_at number ≡ cookie_after v.seat.seen
+    cookie_now = grown_follows limits cpus v.seat p c c' together inside is cpus' v'.seat meets load_event loaded_grows loaded_own
+
+    pub loaded : seen_as limits v' ≡ grown (Note (cookie_after v.seat.seen) (Processor p)) (seen_as limits v)
+    loaded =
+        let event_is : load_event ≡ Note (cookie_after v.seat.seen) (Processor p) = λ t. Note (cookie_now t) (loaded_own t) in
+        grown_to load_event (Note (cookie_after v.seat.seen) (Processor p)) event_is (grown_seen limits cpus v.seat p c c' together inside is cpus' v'.seat meets load_event loaded_grows loaded_own)
 
   pub given_together : (k : CookieView) → GivesCookie c c' k → AreTogether limits cpus' v'.seat
-  given_together k h =
-      let held = held_before limits cpus v.seat p c c' together inside is cpus' v'.seat meets in
-      grown_together limits cpus v.seat p c c' together inside is cpus' v'.seat meets (note_event k h) (grows_of_event c.seen c.changes (note_event k h) c c' h.notes.adds) (ap Processor held.processor)
+  given_together k h = loaded_together h.number h.notes
 
   pub given : (k : CookieView) → GivesCookie c c' k → GivesNumber p (seen_as limits v) k.number (seen_as limits v')
   given k h =
-      let held = held_before limits cpus v.seat p c c' together inside is cpus' v'.seat meets in
-      let grows = grows_of_event c.seen c.changes (note_event k h) c c' h.notes.adds in
-      let own = ap Processor held.processor in
-      let number_is : cookie_at h.number ≡ k.number = ap (λ (x : CookieView). x.number) (sym h.cookie_is) in
-      let event_is : note_event k h ≡ Note k.number (Processor p) = λ t. Note (number_is t) (Processor (held.processor t)) in
+      let follows : k.number ≡ cookie_after v.seat.seen = ap (λ (x : CookieView). x.number) h.cookie_is ∙ cookie_now h.number h.notes in
       record {
-        follows = subst (MayFollow v.seat.seen) event_is (grown_follows limits cpus v.seat p c c' together inside is cpus' v'.seat meets (note_event k h) grows own);
-        after = grown_to (note_event k h) (Note k.number (Processor p)) event_is (grown_seen limits cpus v.seat p c c' together inside is cpus' v'.seat meets (note_event k h) grows own);
+        follows = follows;
+        after = loaded h.number h.notes ∙ ap (λ n. grown (Note n (Processor p)) (seen_as limits v)) (sym follows);
       }
 
   module _ (cookie : ℕ) where

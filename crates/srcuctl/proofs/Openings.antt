@@ -4,7 +4,6 @@ use Rattle.std.specs.Prelude.{Bool, if◌then◌else◌, Some, slice_get, option
 use Rattle.std.proofs.lemmas.Option.{slice_get-map, slice_get_read}
 use Rattle.std.proofs.lemmas.List.{length-map, map-set, map-append}
 use Rattle.std.proofs.lemmas.List.Elements.{All-get_or}
-use Rattle.std.proofs.Math.Seq.{map-set_same}
 use Rattle.onedom.proofs.Pushes.{count_cons}
 use Rattle.sseq.specs.declared.index.Index.{Index}
 use Rattle.sseq.specs.declared.index.Index.TheVariants.{Zero, One}
@@ -16,7 +15,7 @@ use Rattle.srcuctl.specs.declared.reply.Reply.TheVariants as reply
 use Rattle.srcuctl.specs.declared.request.Request.TheVariants as request
 use Rattle.scan.specs.declared.progress.Progress.{Progress}
 use Rattle.srcuctl.specs.Domains as domain
-use Rattle.srcuctl.specs.Domains.{DomainView, AdvancesBy, index_in, number_in, IsLookNow, BeginsSection, BeginsNone, EndsSection, GivesNumber, AsksAfter}
+use Rattle.srcuctl.specs.Domains.{DomainView, AdvancesBy, index_in, IsLookNow, BeginsSection, BeginsNone, EndsSection, GivesNumber, AsksAfter, ReadsNumber}
 use Rattle.srcuctl.specs.Scripts.{Shows, Looks, Enters, Locks, Ends, Gives, Polls, IsNotACookie, Starts, IsRunningAlready, IsOutOfPeriods, Advances, StepsOn, GoesOn, Answers as AnswersTo}
 use Rattle.srcuctl.proofs.Places.{state_there}
 use Rattle.sections.specs.Views.{LookView, ReadingView}
@@ -52,13 +51,14 @@ module _ (all : List NameInUse) (which : ℕ) (n : NameInUse) (within : which < 
 
 -- What one domain answers
 
-pub shown : (name : List ℕ) (all : List NameInUse) (d : DomainView) (number : ℕ) (phase : Phase) (index : Index) (counted counted' : ℕ) → number ≡ number_in d → number % 4 ≡ state_bits phase → index ≡ index_in d
+pub shown : (name : List ℕ) (all : List NameInUse) (d d' : DomainView) (number : ℕ) (phase : Phase) (index : Index) (counted counted' : ℕ) → ReadsNumber d number d' → number % 4 ≡ state_bits phase → index ≡ index_in d'
     → counted ≡ count_by (λ (n : NameInUse). is_open_of Zero (bearer_of n.token)) all → counted' ≡ count_by (λ (n : NameInUse). is_open_of One (bearer_of n.token)) all
-    → Shows (state_with name (map named_of all) d) (reply.State name (record { number = number; phase = phase }) (record { index = index; zero = counted; one = counted'; need = 0 }))
-shown name all d number phase index counted ones n p x z o = record {
+    → Shows (state_with name (map named_of all) d) (reply.State name (record { number = number; phase = phase }) (record { index = index; zero = counted; one = counted'; need = 0 })) (state_with name (map named_of all) d')
+shown name all d d' number phase index counted ones reads p x z o = record {
   phase = phase;
-  state = ap (λ k. k % 4) (sym n) ∙ p;
-  reply = λ i. reply.State name (record { number = n i; phase = phase }) (record { index = x i; zero = (z ∙ open_of_named Zero all) i; one = (o ∙ open_of_named One all) i; need = 0 });
+  state = ap (λ k. k % 4) (sym reads.number) ∙ p;
+  after = ap (state_with name (map named_of all)) reads.after;
+  reply = λ i. reply.State name (record { number = reads.number i; phase = phase }) (record { index = (x ∙ ap index_in reads.after) i; zero = (z ∙ open_of_named Zero all) i; one = (o ∙ open_of_named One all) i; need = 0 });
 }
 
 named_section : (name : List ℕ) (p : ℕ) (i : Index) (d d' : DomainView) (r : ReadingView) → BeginsSection p i d r d'
@@ -154,8 +154,8 @@ module _ (limits : Limits) (entries : List EntryView) (k : ℕ) (e e' : EntryVie
     others = map-set (λ (x : EntryView). x.state) entries k e';
   }
 
-  pub state_given : e' ≡ e → Shows e.state r → AnswersTo limits (states_of entries) (request.State k) r (states_of (set entries k e'))
-  state_given same shows = (e.state, goes_on.there, shows, map-set_same (λ (x : EntryView). x.state) entries k e' e (ap (λ (x : EntryView). x.state) (same ∙ is)))
+  pub state_given : Shows e.state r e'.state → AnswersTo limits (states_of entries) (request.State k) r (states_of (set entries k e'))
+  state_given given = (e.state, e'.state, goes_on, given)
 
   pub look_given : (p : ℕ) (name : List ℕ) → Looks name e.state r e'.state → AnswersTo limits (states_of entries) (request.Look k p name) r (states_of (set entries k e'))
   look_given p name given = (e.state, e'.state, goes_on, given)

@@ -6,7 +6,7 @@ use Rattle.atomic_table.specs.Seated.{TableId}
 use Rattle.onedom.specs.declared.event.Maker.TheVariants.{Processor, Engine}
 use Rattle.onedom.specs.declared.event.Event.{Event}
 use Rattle.onedom.specs.declared.event.Event.TheVariants.{Begin, End, Start, Note, Ask}
-use Rattle.onedom.specs.Histories.{MayFollow, ended_in, IsRunning}
+use Rattle.onedom.specs.Histories.{MayFollow, ended_in, IsRunning, cookie_after}
 use Rattle.sections.specs.declared.limits.Limits.{Limits}
 use Rattle.sections.specs.declared.limits.MakeError.{MakeError}
 use Rattle.sections.specs.declared.limits.MakeError.TheVariants as make
@@ -95,6 +95,11 @@ pub record GivesNumber (p : ℕ) (d : DomainView) (cookie : ℕ) (d' : DomainVie
 pub record AsksAfter (p cookie : ℕ) (d : DomainView) (done : Bool) (d' : DomainView) : Type 0 where
   pub follows : MayFollow d.history (Ask cookie done (Processor p))
   pub after : d' ≡ grown (Ask cookie done (Processor p)) d
+
+-- `n` is the number, and processor 0 has noted the cookie of now
+pub record ReadsNumber (d : DomainView) (n : ℕ) (d' : DomainView) : Type 0 where
+  pub number : n ≡ number_in d
+  pub after : d' ≡ grown (Note (cookie_after d.history) (Processor 0)) d
 
 -- a grace period starts, and `n` is the number then. Nothing is half done of it
 pub record StartsPeriod (d : DomainView) (n : ℕ) (d' : DomainView) : Type 0 where

@@ -7,7 +7,7 @@ use Rattle.sseq.specs.Numbers.{state_bits}
 use Rattle.onedom.specs.declared.event.Maker.TheVariants.{Processor, Engine}
 use Rattle.onedom.specs.declared.event.Event.{Event}
 use Rattle.onedom.specs.declared.event.Event.TheVariants.{Begin, End, Start, Note, Ask}
-use Rattle.onedom.specs.Histories.{MayFollow, ended_in, IsRunning}
+use Rattle.onedom.specs.Histories.{MayFollow, ended_in, IsRunning, cookie_after}
 use Rattle.sections.specs.declared.limits.Limits.{Limits}
 use Rattle.sections.specs.Words.{locks, Reaches}
 use Rattle.scan.specs.Progress.{number_at_rest}
@@ -177,10 +177,11 @@ pub record StepsOn (d : DomainState) (r : Reply) (d' : DomainState) : Type 0 whe
   pub after : IsSameBut d d'
   pub reply : r ≡ reply.Progress said
 
--- where the domain stands; the root need is 0, as long as nobody can ask
-pub record Shows (d : DomainState) (r : Reply) : Type 0 where
+-- where the domain stands; the root need is 0, as long as nobody can ask. Processor 0 loads the number, and so notes the cookie of now
+pub record Shows (d : DomainState) (r : Reply) (d' : DomainState) : Type 0 where
   pub phase : Phase
   pub state : number_now d % 4 ≡ state_bits phase
+  pub after : d' ≡ with_event (Note (cookie_after d.history) (Processor 0)) d
   pub reply : r ≡ reply.State d.name
       (record { number = number_now d; phase = phase })
       (record { index = index_now d; zero = open_of Zero d.names; one = open_of One d.names; need = 0 })
@@ -212,7 +213,7 @@ pub record MakesNone (state : State) (processors : ℕ) (r : Reply) (state' : St
 -- the reply to what was asked, and the state behind it
 abbrev pub Answers : Limits → State → Request → Reply → State → Type 0
 Answers limits state (request.Domain name processors) r state' = Makes state name processors r state' ⊎ MakesNone state processors r state'
-Answers limits state (request.State place) r state' = (d : DomainState) × (slice_get state place ≡ Some d) × Shows d r × (state' ≡ state)
+Answers limits state (request.State place) r state' = (d d' : DomainState) × GoesOn state place d d' state' × Shows d r d'
 Answers limits state (request.Look place p name) r state' = (d d' : DomainState) × GoesOn state place d d' state' × Looks name d r d'
 Answers limits state (request.Enter place p which) r state' = (d d' : DomainState) × GoesOn state place d d' state' × Enters limits p which d r d'
 Answers limits state (request.Lock place p name) r state' = (d d' : DomainState) × GoesOn state place d d' state' × Locks limits p name d r d'

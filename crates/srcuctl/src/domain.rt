@@ -32,7 +32,7 @@ impl<A: Allocator> Model for Domain<A> {
 }
 
 impl<A: Allocator> Domain<A> {
-    ghost use Rattle.srcuctl.specs.Domains.{IsNew, IsNotMade, IsOf, index_in, number_in, IsLookNow, BeginsSection, BeginsNone, EndsSection, GivesNumber, AsksAfter, StartsPeriod, StartsNone, StepsOn, AdvancesBy};
+    ghost use Rattle.srcuctl.specs.Domains.{IsNew, IsNotMade, IsOf, index_in, IsLookNow, BeginsSection, BeginsNone, EndsSection, GivesNumber, AsksAfter, ReadsNumber, StartsPeriod, StartsNone, StepsOn, AdvancesBy};
 
     /// A domain in which nothing has happened.
     pub fn new(alloc: A, processors: u64, limits: Limits) -> Result<Domain<A>, MakeError>
@@ -159,10 +159,12 @@ impl<A: Allocator> Domain<A> {
         look.index()
     }
 
-    /// The number, as the engine has it.
-    pub fn number(&self) -> Number
-        ensures { result ≡ number_in self.now }
+    /// The number, as processor 0 loads it. The load is a note of the cookie of now.
+    pub fn number(&mut self) -> Number
+        ensures { ReadsNumber self.old result self.new }
     {
-        self.engine.number()
+        let number = self.cpus[0].number();
+        self.engine.meet(&mut self.cpus);
+        number
     }
 }

@@ -246,10 +246,10 @@ impl<A: Allocator> Entry<A> {
         Reply::Progress(self.domain.step())
     }
 
-    /// Where the domain stands.
+    /// Where the domain stands, as processor 0 finds it.
     pub fn show(&mut self) -> Reply
-        ensures after { self.new ≡ self.old }
-        ensures shows { Shows self.old.state result }
+        ensures limits { self.new.limits ≡ self.old.limits }
+        ensures shows { Shows self.old.state result self.new.state }
     {
         let number = self.domain.number();
         let period = Period {

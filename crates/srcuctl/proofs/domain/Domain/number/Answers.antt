@@ -1,7 +1,38 @@
-use Rattle.std.proofs.Common.{◌∙◌, ap}
-use Rattle.sections.specs.Words.{number_word}
-use Rattle.srcuctl.specs.Domains.{DomainView}
+use Rattle.std.proofs.Common.{◌≡◌, ◌<◌, length, subst, sym, arith, length-set}
+use Rattle.sections.specs.Driving.{Meets}
+use Rattle.srcuctl.specs.Together.{AreTogether}
+use Rattle.srcuctl.proofs.Meeting.{all_kept}
+use Rattle.srcuctl.proofs.Driving.{rests_on, loaded, loaded_number, loaded_together}
 use Rattle.srcuctl.proofs.domain.Domain.number.Goals as goal
 
+pub invariant_of-self : goal.invariant_of-self
+invariant_of-self g c =
+    let together = c.self.invariant.together in
+    let cpus = c.self.inside.cpus.items in
+    let v = c.self.inside.engine in
+    let e = v.seat in
+    let was = c.index_mut.result.now in
+    let new = c.number-number.new.self in
+    let meets = subst (λ l. Meets e l c.meet.new.self.seat c.meet.new.cpus) c.deref_mut.ensures.value c.meet.ensures.met in
+    let inside : 0 < length cpus = omega (arith, together.hold.all, together.hold.count.0) in
+    let kept : c.self.inside.cpus.len ≡ length c.meet.new.cpus = omega (arith, c.self.inside.cpus.ok.0, meets.count, length-set cpus 0 new) in
+    record {
+      together = subst (λ l. AreTogether c.self.inside.limits l c.meet.new.self.seat) (sym (all_kept c.self.inside.cpus.len c.meet.new.cpus _ kept))
+          (loaded_together c.self.inside.limits cpus v 0 was new together inside c.index_mut.ensures.value c.meet.new.cpus c.meet.new.self meets c.meet.ensures.rest c.number-number.result c.number-number.ensures);
+      rests = rests_on c.self.inside.engine c.meet.new.self c.self.invariant.rests meets.changes_are c.meet.ensures.rest;
+    }
+
 pub returns : goal.returns
-returns g c = c.number.ensures.value ∙ ap (λ (d : DomainView). number_word d.changes) c.self.view_is
+returns g c =
+    let together = c.self.invariant.together in
+    let cpus = c.self.inside.cpus.items in
+    let v = c.self.inside.engine in
+    let e = v.seat in
+    let was = c.index_mut.result.now in
+    let new = c.number-number.new.self in
+    let meets = subst (λ l. Meets e l c.meet.new.self.seat c.meet.new.cpus) c.deref_mut.ensures.value c.meet.ensures.met in
+    let inside : 0 < length cpus = omega (arith, together.hold.all, together.hold.count.0) in
+    rw (← c.self.view_is) (record {
+      number = loaded_number c.self.inside.limits cpus v 0 was new together inside c.index_mut.ensures.value c.meet.new.cpus c.meet.new.self meets c.meet.ensures.rest c.number-number.result c.number-number.ensures;
+      after = loaded c.self.inside.limits cpus v 0 was new together inside c.index_mut.ensures.value c.meet.new.cpus c.meet.new.self meets c.meet.ensures.rest c.number-number.result c.number-number.ensures;
+    })

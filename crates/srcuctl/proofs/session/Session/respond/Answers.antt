@@ -10,7 +10,7 @@ returns-in-State-clause-ok g c =
     let entries = c.self.inside.entries.items in
     let asked = rw (c.in-State.is, ← c.self.view_is) at c.requires in
     let within : c.in-State.domain < length (states_of entries) = asked in
-    rw (c.in-State.is, ← c.self.view_is) (state_given c.self.inside.limits entries c.in-State.domain c.index_mut.result.now c.show.new.self _ within c.index_mut.ensures.value c.show.ensures.after c.show.ensures.shows)
+    rw (c.in-State.is, ← c.self.view_is) (state_given c.self.inside.limits entries c.in-State.domain c.index_mut.result.now c.show.new.self _ within c.index_mut.ensures.value c.show.ensures.shows)
 
 pub returns-in-Look-clause-ok : goal.returns-in-Look-clause-ok
 returns-in-Look-clause-ok g c =
