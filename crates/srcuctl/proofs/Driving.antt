@@ -17,7 +17,8 @@ use Rattle.sections.specs.declared.cpu.NotACookie.{NotACookie}
 use Rattle.sections.specs.Calls.{AddsEvent, Looks, Enters, ReadLocks, LooksInVain, IsExhausted, Notes, GivesCookie, Asks, IsNoCookie}
 use Rattle.sections.specs.Driving.{Meets}
 use Rattle.sections.proofs.Counters.{locks_mine}
-use Rattle.srcuctl.specs.Domains.{DomainView, grown, index_in, number_in, IsLookNow, BeginsSection, BeginsNone, EndsSection, GivesNumber, AsksAfter}
+use Rattle.srcuctl.specs.Domains.{DomainView, grown, IsLookNow, BeginsSection, BeginsNone, EndsSection, GivesNumber, AsksAfter}
+use Rattle.srcuctl.specs.Standings.{index_now, number_now}
 use Rattle.srcuctl.specs.Together.{AreTogether}
 use Rattle.scan.specs.Progress.{ScanView, with_seat}
 use Rattle.srcuctl.specs.declared.needs.NoNeeds.{NoNeeds}
@@ -28,7 +29,7 @@ abbrev pub View : Type 0
 View = ScanView NoNeeds
 
 abbrev pub seen_as : Limits → View → DomainView
-seen_as limits v = record { table = v.seat.domain; limits = limits; processors = v.seat.processors; history = v.seat.seen; changes = v.seat.changes; half = v.half; began = v.began }
+seen_as limits v = record { table = v.seat.domain; limits = limits; standing = record { processors = v.seat.processors; history = v.seat.seen; changes = v.seat.changes; half = v.half; began = v.began } }
 
 -- at rest nothing is half done still, where the engine has but met the others
 pub rests_on : (v w : View) → (IsIdle v.seat.changes → v.half ≡ 0) → w.seat.changes ≡ v.seat.changes → w ≡ with_seat w.seat v → IsIdle w.seat.changes → w.half ≡ 0
@@ -64,27 +65,25 @@ grows_of_event other reached ev c c' a = record { same = a.same; before = a.befo
 
 module _ (limits : Limits) (cpus : List CpuView) (v : View) (p : ℕ) (c c' : CpuView) (together : AreTogether limits cpus v.seat) (inside : p < length cpus) (is : c ≡ get_or cpus p c)
     (cpus' : List CpuView) (v' : View) (meets : Meets v.seat (set cpus p c') v'.seat cpus') (rest : v' ≡ with_seat v'.seat v) where
-  same_half : v'.half ≡ v.half
-  same_half = ap (λ (x : View). x.half) rest
-
-  same_began : v'.began ≡ v.began
-  same_began = ap (λ (x : View). x.began) rest
-
   own_locks : (q : ℕ) (i j : Index) (mine : List Event) → q ≡ p → i ≡ j → mine ≡ made_by (Processor p) v.seat.seen → locks q i mine ≡ locks p j v.seat.seen
   own_locks q i j mine qp ij mm = (λ t. locks (qp t) (ij t) (mm t)) ∙ locks_mine v.seat.processors p j v.seat.seen together.history.makers
 
-  grown_to : (ev ev' : Event) → ev ≡ ev' → v'.seat.seen ≡ v.seat.seen ++ ev ∷ [] → seen_as limits v' ≡ grown ev' (seen_as limits v)
-  grown_to ev ev' is seen = λ t. record {
+  -- the history alone has changed
+  seen_with : (history : List Event) → v'.seat.seen ≡ history
+      → seen_as limits v' ≡ record { table = v.seat.domain; limits = limits; standing = record { processors = v.seat.processors; history = history; changes = v.seat.changes; half = v.half; began = v.began } }
+  seen_with history is = λ t. record {
     table = meets.same.0 t;
     limits = limits;
-    processors = meets.same.1 t;
-    history = (seen ∙ ap (λ x. v.seat.seen ++ x ∷ []) is) t;
-    changes = meets.changes_are t;
-    half = same_half t;
-    began = same_began t;
+    standing = record { processors = meets.same.1 t; history = is t; changes = meets.changes_are t; half = ap (λ (x : View). x.half) rest t; began = ap (λ (x : View). x.began) rest t };
   }
 
-  pub locked : (r : ReadingView) → ReadLocks c c' r → BeginsSection p (index_in (seen_as limits v)) (seen_as limits v) r (seen_as limits v')
+  seen_idle : Idles c c' → seen_as limits v' ≡ seen_as limits v
+  seen_idle idles = seen_with v.seat.seen (idle_seen limits cpus v.seat p c c' together inside is cpus' v'.seat meets idles)
+
+  grown_to : (ev ev' : Event) → ev ≡ ev' → v'.seat.seen ≡ v.seat.seen ++ ev ∷ [] → seen_as limits v' ≡ grown ev' (seen_as limits v)
+  grown_to ev ev' is seen = seen_with (v.seat.seen ++ ev' ∷ []) (seen ∙ ap (λ x. v.seat.seen ++ x ∷ []) is)
+
+  pub locked : (r : ReadingView) → ReadLocks c c' r → BeginsSection p (index_now (seen_as limits v).standing) (seen_as limits v) r (seen_as limits v')
   locked r h =
       let ev = begin_of c c' r h in
       let grows : Grows ev c c' = grows_of_lock c c' r h in
@@ -94,29 +93,29 @@ module _ (limits : Limits) (cpus : List CpuView) (v : View) (p : ℕ) (c c' : Cp
       let own = ap Processor processor_is in
       let all : c'.changes ≡ v.seat.changes = all_changes limits cpus v.seat p c c' together inside is cpus' v'.seat meets (omega (arith, load.later, h.enters.adds.later)) in
       let between_changes : h.between.changes ≡ v.seat.changes = omega (arith, load.later, h.enters.adds.later, all, changes_before limits cpus v.seat p c c' together inside is cpus' v'.seat meets) in
-      let index_is : h.look.index ≡ index_in (seen_as limits v) = look_index c h.between h.look v.seat.changes h.looks between_changes in
+      let index_is : h.look.index ≡ index_now (seen_as limits v).standing = look_index c h.between h.look v.seat.changes h.looks between_changes in
       let section_is : h.enters.section ≡ r.section = ap (λ (x : ReadingView). x.section) (sym h.enters.reading) in
-      let event_is : ev ≡ Begin r.section p (index_in (seen_as limits v)) (Processor p) = λ t. Begin (section_is t) (processor_is t) (index_is t) (Processor (processor_is t)) in
-      let counted_is = own_locks h.between.processor h.look.index (index_in (seen_as limits v)) h.between.mine processor_is index_is (load.mine ∙ held.mine) in
+      let event_is : ev ≡ Begin r.section p (index_now (seen_as limits v).standing) (Processor p) = λ t. Begin (section_is t) (processor_is t) (index_is t) (Processor (processor_is t)) in
+      let counted_is = own_locks h.between.processor h.look.index (index_now (seen_as limits v).standing) h.between.mine processor_is index_is (load.mine ∙ held.mine) in
       let sections_is : h.between.sections ≡ limits.sections = load.same.2 ∙ held.sections in
       let room : locks h.between.processor h.look.index h.between.mine < h.between.sections = h.enters.room in
       record {
         room = omega (arith, counted_is, sections_is, room);
         follows = subst (MayFollow v.seat.seen) event_is (grown_follows limits cpus v.seat p c c' together inside is cpus' v'.seat meets ev grows own);
-        after = grown_to ev (Begin r.section p (index_in (seen_as limits v)) (Processor p)) event_is (grown_seen limits cpus v.seat p c c' together inside is cpus' v'.seat meets ev grows own);
+        after = grown_to ev (Begin r.section p (index_now (seen_as limits v).standing) (Processor p)) event_is (grown_seen limits cpus v.seat p c c' together inside is cpus' v'.seat meets ev grows own);
         table = ap (λ (x : ReadingView). x.domain) h.enters.reading ∙ (load.same.0 ∙ held.domain);
         processor = ap (λ (x : ReadingView). x.processor) h.enters.reading ∙ processor_is;
         index = ap (λ (x : ReadingView). x.index) h.enters.reading ∙ index_is;
       }
 
-  pub locked_none : LooksInVain c c' → BeginsNone p (index_in (seen_as limits v)) (seen_as limits v) (seen_as limits v')
+  pub locked_none : LooksInVain c c' → BeginsNone p (index_now (seen_as limits v).standing) (seen_as limits v) (seen_as limits v')
   locked_none h =
       let idles = idles_in_vain c c' h in
       let held = held_before limits cpus v.seat p c c' together inside is cpus' v'.seat meets in
       let here = all_changes limits cpus v.seat p c c' together inside is cpus' v'.seat meets idles.later in
       record {
-        full = sym (own_locks c'.processor h.look.index (index_in (seen_as limits v)) c'.mine (idles.same.3 ∙ held.processor) (look_index c c' h.look v.seat.changes h.looks here) (idles.mine ∙ held.mine)) ∙ (h.exhausted ∙ (idles.same.2 ∙ held.sections));
-        after = λ i. record { table = meets.same.0 i; limits = limits; processors = meets.same.1 i; history = idle_seen limits cpus v.seat p c c' together inside is cpus' v'.seat meets idles i; changes = meets.changes_are i; half = same_half i; began = same_began i };
+        full = sym (own_locks c'.processor h.look.index (index_now (seen_as limits v).standing) c'.mine (idles.same.3 ∙ held.processor) (look_index c c' h.look v.seat.changes h.looks here) (idles.mine ∙ held.mine)) ∙ (h.exhausted ∙ (idles.same.2 ∙ held.sections));
+        after = seen_idle idles;
       }
 
   still : c' ≡ c → Idles c c'
@@ -155,7 +154,7 @@ module _ (limits : Limits) (cpus : List CpuView) (v : View) (p : ℕ) (c c' : Cp
         let held = held_before limits cpus v.seat p c c' together inside is cpus' v'.seat meets in
         record {
           full = sym (own_locks c.processor look.index look.index c.mine held.processor refl held.mine) ∙ (exhausted ∙ held.sections);
-          after = λ i. record { table = meets.same.0 i; limits = limits; processors = meets.same.1 i; history = idle_seen limits cpus v.seat p c c' together inside is cpus' v'.seat meets idles i; changes = meets.changes_are i; half = same_half i; began = same_began i };
+          after = seen_idle idles;
         }
 
     pub enter_together : (taken : Result ReadingView Exhausted) → MatchResult taken (λ r. Enters c look c' r) (λ _. IsExhausted c look.index × (c' ≡ c)) → AreTogether limits cpus' v'.seat
@@ -179,7 +178,7 @@ module _ (limits : Limits) (cpus : List CpuView) (v : View) (p : ℕ) (c c' : Cp
     pub loaded_together : AreTogether limits cpus' v'.seat
     loaded_together = grown_together limits cpus v.seat p c c' together inside is cpus' v'.seat meets load_event loaded_grows loaded_own
 
-    pub loaded_number : number ≡ number_in (seen_as limits v)
+    pub loaded_number : number ≡ number_now (seen_as limits v).standing
     loaded_number = h.current ∙ ap number_word (all_changes limits cpus v.seat p c c' together inside is cpus' v'.seat meets h.adds.later)
 
     cookie_now : cookie_at number ≡ cookie_after v.seat.seen
@@ -223,7 +222,7 @@ module _ (limits : Limits) (cpus : List CpuView) (v : View) (p : ℕ) (c c' : Cp
         }
 
     pub polled_none : c' ≡ c → seen_as limits v' ≡ seen_as limits v
-    polled_none same = λ i. record { table = meets.same.0 i; limits = limits; processors = meets.same.1 i; history = idle_seen limits cpus v.seat p c c' together inside is cpus' v'.seat meets (still same) i; changes = meets.changes_are i; half = same_half i; began = same_began i }
+    polled_none same = seen_idle (still same)
 
   pub looked : (l : LookView) → Looks c c' l → IsLookNow (seen_as limits v) l
   looked l h =
@@ -234,7 +233,7 @@ module _ (limits : Limits) (cpus : List CpuView) (v : View) (p : ℕ) (c c' : Cp
       }
 
   pub look_idle : (l : LookView) → Looks c c' l → seen_as limits v' ≡ seen_as limits v
-  look_idle l h = λ i. record { table = meets.same.0 i; limits = limits; processors = meets.same.1 i; history = idle_seen limits cpus v.seat p c c' together inside is cpus' v'.seat meets (idles_of_look c c' l h) i; changes = meets.changes_are i; half = same_half i; began = same_began i }
+  look_idle l h = seen_idle (idles_of_look c c' l h)
 
   pub look_together : (l : LookView) → Looks c c' l → AreTogether limits cpus' v'.seat
   look_together l h = idle_together limits cpus v.seat p c c' together inside is cpus' v'.seat meets (idles_of_look c c' l h)
@@ -258,13 +257,5 @@ module _ (limits : Limits) (cpus : List CpuView) (v : View) (p : ℕ) (c c' : Cp
       let own = ap Processor held.processor in
       record {
         follows = subst (λ (q : ℕ). MayFollow v.seat.seen (End r.section q (Processor q))) same (grown_follows limits cpus v.seat p c c' together inside is cpus' v'.seat meets (End r.section c.processor (Processor c.processor)) grows own);
-        after = λ i. record {
-          table = meets.same.0 i;
-          limits = limits;
-          processors = meets.same.1 i;
-          history = (grown_seen limits cpus v.seat p c c' together inside is cpus' v'.seat meets (End r.section c.processor (Processor c.processor)) grows own ∙ ap (λ (q : ℕ). v.seat.seen ++ End r.section q (Processor q) ∷ []) same) i;
-          changes = meets.changes_are i;
-          half = same_half i;
-          began = same_began i;
-        };
+        after = seen_with (v.seat.seen ++ End r.section r.processor (Processor r.processor) ∷ []) (grown_seen limits cpus v.seat p c c' together inside is cpus' v'.seat meets (End r.section c.processor (Processor c.processor)) grows own ∙ ap (λ (q : ℕ). v.seat.seen ++ End r.section q (Processor q) ∷ []) same);
       }

@@ -15,7 +15,8 @@ use Rattle.srcuctl.specs.declared.reply.Reply.TheVariants as reply
 use Rattle.srcuctl.specs.declared.request.Request.TheVariants as request
 use Rattle.scan.specs.declared.progress.Progress.{Progress}
 use Rattle.srcuctl.specs.Domains as domain
-use Rattle.srcuctl.specs.Domains.{DomainView, AdvancesBy, index_in, IsLookNow, BeginsSection, BeginsNone, EndsSection, GivesNumber, AsksAfter, ReadsNumber}
+use Rattle.srcuctl.specs.Standings.{index_now}
+use Rattle.srcuctl.specs.Domains.{DomainView, AdvancesBy, IsLookNow, BeginsSection, BeginsNone, EndsSection, GivesNumber, AsksAfter, ReadsNumber}
 use Rattle.srcuctl.specs.Scripts.{Shows, Looks, Enters, Locks, Ends, Gives, Polls, IsNotACookie, Starts, IsRunningAlready, IsOutOfPeriods, Advances, StepsOn, GoesOn, Answers as AnswersTo}
 use Rattle.srcuctl.proofs.Places.{state_there}
 use Rattle.sections.specs.Views.{LookView, ReadingView}
@@ -51,14 +52,14 @@ module _ (all : List NameInUse) (which : ℕ) (n : NameInUse) (within : which < 
 
 -- What one domain answers
 
-pub shown : (name : List ℕ) (all : List NameInUse) (d d' : DomainView) (number : ℕ) (phase : Phase) (index : Index) (counted counted' : ℕ) → ReadsNumber d number d' → number % 4 ≡ state_bits phase → index ≡ index_in d'
+pub shown : (name : List ℕ) (all : List NameInUse) (d d' : DomainView) (number : ℕ) (phase : Phase) (index : Index) (counted counted' : ℕ) → ReadsNumber d number d' → number % 4 ≡ state_bits phase → index ≡ index_now d'.standing
     → counted ≡ count_by (λ (n : NameInUse). is_open_of Zero (bearer_of n.token)) all → counted' ≡ count_by (λ (n : NameInUse). is_open_of One (bearer_of n.token)) all
     → Shows (state_with name (map named_of all) d) (reply.State name (record { number = number; phase = phase }) (record { index = index; zero = counted; one = counted'; need = 0 })) (state_with name (map named_of all) d')
 shown name all d d' number phase index counted ones reads p x z o = record {
   phase = phase;
   state = ap (λ k. k % 4) (sym reads.number) ∙ p;
   after = ap (state_with name (map named_of all)) reads.after;
-  reply = λ i. reply.State name (record { number = reads.number i; phase = phase }) (record { index = (x ∙ ap index_in reads.after) i; zero = (z ∙ open_of_named Zero all) i; one = (o ∙ open_of_named One all) i; need = 0 });
+  reply = λ i. reply.State name (record { number = reads.number i; phase = phase }) (record { index = (x ∙ ap (λ (x : DomainView). index_now x.standing) reads.after) i; zero = (z ∙ open_of_named Zero all) i; one = (o ∙ open_of_named One all) i; need = 0 });
 }
 
 named_section : (name : List ℕ) (p : ℕ) (i : Index) (d d' : DomainView) (r : ReadingView) → BeginsSection p i d r d'
@@ -71,21 +72,21 @@ one_more all all' n m more is = ap (map named_of) more ∙ (map-append named_of 
 pub looked : (name own : List ℕ) (all all' : List NameInUse) (d d' : DomainView) (l : LookView) → all' ≡ all ++ record { name = name; token = token.Look l } ∷ [] → IsLookNow d l → d' ≡ d
     → Looks name (state_with own (map named_of all) d) (reply.Look l.index) (state_with own (map named_of all') d')
 looked name own all all' d d' l more now same = record {
-  after = λ i. state_with own (one_more all all' (record { name = name; token = token.Look l }) (record { name = name; bearer = Look (index_in d) }) more (ap (λ x. record { name = name; bearer = Look x }) now.index) i) (same i);
+  after = λ i. state_with own (one_more all all' (record { name = name; token = token.Look l }) (record { name = name; bearer = Look (index_now d.standing) }) more (ap (λ x. record { name = name; bearer = Look x }) now.index) i) (same i);
   reply = ap reply.Look now.index;
 }
 
-pub locked : (p : ℕ) (name own : List ℕ) (all all' : List NameInUse) (d d' : DomainView) (r : ReadingView) → all' ≡ all ++ record { name = name; token = token.Reading r } ∷ [] → BeginsSection p (index_in d) d r d'
+pub locked : (p : ℕ) (name own : List ℕ) (all all' : List NameInUse) (d d' : DomainView) (r : ReadingView) → all' ≡ all ++ record { name = name; token = token.Reading r } ∷ [] → BeginsSection p (index_now d.standing) d r d'
     → Locks d.limits p name (state_with own (map named_of all) d) (reply.Index r.index) (state_with own (map named_of all') d')
 locked p name own all all' d d' r more h = inl (record {
   section = r.section;
   room = h.room;
   follows = h.follows;
-  after = λ i. state_with own (one_more all all' (record { name = name; token = token.Reading r }) _ more (named_section name p (index_in d) d d' r h) i) (h.after i);
+  after = λ i. state_with own (one_more all all' (record { name = name; token = token.Reading r }) _ more (named_section name p (index_now d.standing) d d' r h) i) (h.after i);
   reply = ap reply.Index h.index;
 })
 
-pub locked_none : (p : ℕ) (name own : List ℕ) (all : List NameInUse) (d d' : DomainView) → BeginsNone p (index_in d) d d'
+pub locked_none : (p : ℕ) (name own : List ℕ) (all : List NameInUse) (d d' : DomainView) → BeginsNone p (index_now d.standing) d d'
     → Locks d.limits p name (state_with own (map named_of all) d) (reply.Refused command.Lock cause.Exhausted) (state_with own (map named_of all) d')
 locked_none p name own all d d' h = inr (record { full = h.full; after = ap (state_with own (map named_of all)) h.after; reply = refl })
 

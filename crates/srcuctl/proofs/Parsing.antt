@@ -126,14 +126,14 @@ module _ (s : State) (d n : List ℕ) where
   place_wrong_domain f h = place_is ∙ ap (λ o. or_else o (processor_fault (processors_of (domain_named d s)) (number_of n))) h
 
   module _ (k : ℕ) (e : DomainState) (fine : domain_fault d (domain_place d s) ≡ None) (place : domain_place d s ≡ Some k) (there : slice_get s k ≡ Some e) where
-    place_past : words_fault s a_processor_alone (d ∷ n ∷ []) ≡ processor_fault e.processors (number_of n)
+    place_past : words_fault s a_processor_alone (d ∷ n ∷ []) ≡ processor_fault e.standing.processors (number_of n)
     place_past = place_is ∙ ap (λ o. or_else o (processor_fault (processors_of (domain_named d s)) (number_of n))) fine
         ∙ ap (λ x. processor_fault (processors_of x) (number_of n)) (named_is s d k e place there)
 
-    pub place_wrong_processor : (f : Fault) → processor_fault e.processors (number_of n) ≡ Some f → words_fault s a_processor_alone (d ∷ n ∷ []) ≡ Some f
+    pub place_wrong_processor : (f : Fault) → processor_fault e.standing.processors (number_of n) ≡ Some f → words_fault s a_processor_alone (d ∷ n ∷ []) ≡ Some f
     place_wrong_processor f h = place_past ∙ h
 
-    pub place_right : (p : ℕ) → processor_fault e.processors (number_of n) ≡ None → number_of n ≡ Some p → p < e.processors → IsPlace s d n k p
+    pub place_right : (p : ℕ) → processor_fault e.standing.processors (number_of n) ≡ None → number_of n ≡ Some p → p < e.standing.processors → IsPlace s d n k p
     place_right p h some within = record { fine = place_past ∙ h; domain = place; number = some; there = (e, there, within) }
 
   pub third_wrong_place : (third : Argument) (m : List ℕ) (f : Fault) → words_fault s a_processor_alone (d ∷ n ∷ []) ≡ Some f → words_fault s (ADomain ∷ AProcessor ∷ third ∷ []) (d ∷ n ∷ m ∷ []) ≡ Some f
@@ -221,7 +221,7 @@ module _ (s : State) (ws : List (Bor (List ℕ))) where
       pub enter_wrong_look : (f : Fault) → look_place (word ws 2) e.names ≡ None → f ≡ fault.Name → AreWrong s command.Enter (texts ws) f
       enter_wrong_look f none is = past ALook ∙ (look_fault_none s e (word ws 2) none ∙ ap Some (sym is))
 
-      pub enter_right : (which : ℕ) → look_place (word ws 2) e.names ≡ Some which → p < e.processors → (name : List ℕ) (i : Index) → HasLook e.names which name i
+      pub enter_right : (which : ℕ) → look_place (word ws 2) e.names ≡ Some which → p < e.standing.processors → (name : List ℕ) (i : Index) → HasLook e.names which name i
           → AreRight s command.Enter (texts ws) (request.Enter k p which)
       enter_right which some within name i has = record {
         right = past ALook ∙ look_fault_some s e (word ws 2) which some;

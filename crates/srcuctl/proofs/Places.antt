@@ -92,8 +92,8 @@ pub within_entries : (entries : List EntryView) (k : ℕ) (d : DomainState) → 
 within_entries entries k d h = omega (arith, length-map entries (λ (x : EntryView). x.state), slice_get_within (states_of entries) k d h)
 
 -- there is one state at a place
-pub on_same : (entries : List EntryView) (k p : ℕ) (e : DomainState) → IsOn (states_of entries) k p → slice_get (states_of entries) k ≡ Some e → p < e.processors
-on_same entries k p e (d, there, small) h = subst (λ (x : DomainState). p < x.processors) (same_Some d e (sym there ∙ h)) small
+pub on_same : (entries : List EntryView) (k p : ℕ) (e : DomainState) → IsOn (states_of entries) k p → slice_get (states_of entries) k ≡ Some e → p < e.standing.processors
+on_same entries k p e (d, there, small) h = subst (λ (x : DomainState). p < x.standing.processors) (same_Some d e (sym there ∙ h)) small
 
 -- what is answered by a look-up
 

@@ -42,11 +42,12 @@ pub record Met (v : View) (a : Progress) (w w' : View) : Type 0 where
   pub moves : Moves v a w
   pub grown : w.seat.seen ≡ v.seat.seen ++ events_of a
   pub after : w'.seat.seen ≡ v.seat.seen ++ events_of a
+  pub same : w'.seat.processors ≡ w.seat.processors
   pub changes : w'.seat.changes ≡ w.seat.changes
   pub agree : Reaches w'.seat.changes w'.seat.seen
   pub rest : w' ≡ with_seat w'.seat w
 
-abbrev standing_at : View → Standing
+abbrev pub standing_at : View → Standing
 standing_at v = record { processors = v.seat.processors; history = v.seat.seen; changes = v.seat.changes; half = v.half; began = v.began }
 
 idle_or_runs : {P : Type 0} (e : EngineView) → IsSeenByEngine e → (IsIdle e.changes → P) → (IsRunning e.seen → P) → P
@@ -158,6 +159,7 @@ scan_on v w w' a s m some =
 steps_in : (v w w' : View) (a : Progress) → StepsTo FindsNothing v a w → Met v a w w' → Steps a (standing_at v) (standing_at w')
 steps_in v w w' a s m =
     let half : w'.half ≡ w.half = ap (λ (x : View). x.half) m.rest in record {
+      same = m.same ∙ s.goes_on.same.1;
       says = says_in v w w' a m (half_of_step v.seat.processors a v.half w.half s.counts);
       events = m.after;
       agree = m.agree;
@@ -210,12 +212,13 @@ record MetAtLast (v : View) (a : Progress) (w w' : View) : Type 0 where
   pub rests : IsIdle v.seat.changes → v.half ≡ 0
   pub grown : w.seat.seen ≡ v.seat.seen ++ events_of a
   pub after : w'.seat.seen ≡ v.seat.seen ++ events_of a
+  pub same : w'.seat.processors ≡ w.seat.processors
   pub changes : w'.seat.changes ≡ w.seat.changes
   pub agree : Reaches w'.seat.changes w'.seat.seen
   pub rest : w' ≡ with_seat w'.seat w
 
 steps_through : (us : List View) (v w w' : View) (a : Progress) → StepsThrough FindsNothing us v a w → MetAtLast v a w w' → standing.StepsThrough (map standing_at us) (standing_at v) a (standing_at w')
-steps_through [] v w w' a s m = steps_in v w w' a s (record { before = m.before; rests = m.rests; moves = moves_by_step v w a s; grown = m.grown; after = m.after; changes = m.changes; agree = m.agree; rest = m.rest })
+steps_through [] v w w' a s m = steps_in v w w' a s (record { before = m.before; rests = m.rests; moves = moves_by_step v w a s; grown = m.grown; after = m.after; same = m.same; changes = m.changes; agree = m.agree; rest = m.rest })
 steps_through (u ∷ us) v w w' a h m =
     let s = h.0 in
     let own : made_by Engine u.seat.seen ≡ made_by Engine v.seat.seen = sym s.goes_on.history.own ∙ (s.events ∙ (append-nil v.seat.mine ∙ m.before.own)) in
@@ -226,25 +229,29 @@ steps_through (u ∷ us) v w w' a h m =
       moves = moves_by_step v u answer.Step s;
       grown = same ∙ sym (append-nil v.seat.seen);
       after = same ∙ sym (append-nil v.seat.seen);
+      same = refl;
       changes = refl;
       agree = s.goes_on.history.reaches;
       rest = refl;
-    } in
-    (steps_in v u u answer.Step s first, steps_through us u w w' a h.1 (record {
-      before = s.goes_on.history;
-      rests = rests_still v u u answer.Step first;
-      grown = m.grown ∙ ap (λ l. l ++ events_of a) (sym same);
-      after = m.after ∙ ap (λ l. l ++ events_of a) (sym same);
-      changes = m.changes;
-      agree = m.agree;
-      rest = m.rest;
-    }))
+    } in (
+      steps_in v u u answer.Step s first,
+      steps_through us u w w' a h.1 (record {
+        before = s.goes_on.history;
+        rests = rests_still v u u answer.Step first;
+        grown = m.grown ∙ ap (λ l. l ++ events_of a) (sym same);
+        after = m.after ∙ ap (λ l. l ++ events_of a) (sym same);
+        same = m.same;
+        changes = m.changes;
+        agree = m.agree;
+        rest = m.rest;
+      }),
+    )
 
 -- Calls
 
 module _ (limits : Limits) (cpus : List CpuView) (v w : View) (together : AreTogether limits cpus v.seat) (rests : IsIdle v.seat.changes → v.half ≡ 0) (cpus' : List CpuView) (w' : View) (meets : Meets w.seat cpus w'.seat cpus') (rest : w' ≡ with_seat w'.seat w) where
   same_but : IsSameEngine v.seat w.seat → IsSameBut (seen_as limits v) (seen_as limits w')
-  same_but same = λ i. record { table = (meets.same.0 ∙ same.0) i; limits = limits; processors = (meets.same.1 ∙ same.1) i; history = w'.seat.seen; changes = w'.seat.changes; half = w'.half; began = w'.began }
+  same_but same = λ i. record { table = (meets.same.0 ∙ same.0) i; limits = limits; standing = record (standing_at w') { processors = (meets.same.1 ∙ same.1) i } }
 
   module _ (a : Progress) (moves : Moves v a w) where
     met : Met v a w w'
@@ -254,13 +261,14 @@ module _ (limits : Limits) (cpus : List CpuView) (v w : View) (together : AreTog
       moves = moves;
       grown = grown.0;
       after = grown.1;
+      same = meets.same.1;
       changes = meets.changes_are;
       agree = meets.history.reaches;
       rest = rest;
     }
 
     met_at_last : MetAtLast v a w w'
-    met_at_last = record { before = met.before; rests = met.rests; grown = met.grown; after = met.after; changes = met.changes; agree = met.agree; rest = met.rest }
+    met_at_last = record { before = met.before; rests = met.rests; grown = met.grown; after = met.after; same = met.same; changes = met.changes; agree = met.agree; rest = met.rest }
 
     pub moved_together : AreTogether limits cpus' w'.seat
     moved_together = together_still limits cpus v w together (events_of a) (grew v w a moves) cpus' w' meets
@@ -305,19 +313,20 @@ module _ (limits : Limits) (cpus : List CpuView) (v w : View) (together : AreTog
       let periods = together.hold.periods in
       let number = s.started.number in
       let same : ended_in w.seat.seen ≡ ended_in v.seat.seen = ap ended_in grown.0 ∙ (let none = ended_in_push v.seat.seen (Start Engine) in omega (arith, none)) in record {
-        follows = last_may_follow v.seat.seen (Start Engine) (subst IsLegal grown.0 s.event.history.legal);
-        room = omega (arith, room, periods);
-        after = λ i. record {
-          table = (meets.same.0 ∙ s.event.same.0) i;
-          limits = limits;
-          processors = (meets.same.1 ∙ s.event.same.1) i;
-          history = grown.1 i;
-          changes = (meets.changes_are ∙ s.event.changes_are) i;
-          half = (ap (λ (x : View). x.half) rest ∙ s.done) i;
-          began = w'.began;
+        starts = record {
+          follows = last_may_follow v.seat.seen (Start Engine) (subst IsLegal grown.0 s.event.history.legal);
+          room = omega (arith, room, periods);
+          after = λ i. record {
+            processors = (meets.same.1 ∙ s.event.same.1) i;
+            history = grown.1 i;
+            changes = (meets.changes_are ∙ s.event.changes_are) i;
+            half = (ap (λ (x : View). x.half) rest ∙ s.done) i;
+            began = w'.began;
+          };
+          agree = meets.history.reaches;
+          number = omega (arith, number, same);
         };
-        agree = meets.history.reaches;
-        number = omega (arith, number, same);
+        after = same_but s.event.same;
       }
 
 -- what a call ensures of the value that it answered

@@ -21,7 +21,7 @@ IsTokenOf table processors (token.Look l) = l.domain ≡ table
 IsTokenOf table processors (token.Reading r) = IsOf table processors r
 
 abbrev pub state_with : List ℕ → List Named → DomainView → DomainState
-state_with name names d = record { name = name; processors = d.processors; names = names; history = d.history; changes = d.changes; half = d.half; began = d.began }
+state_with name names d = record { name = name; names = names; standing = d.standing }
 
 abbrev pub entry_with : List ℕ → List Named → DomainView → EntryView
 entry_with name names d = record { limits = d.limits; state = state_with name names d }
@@ -31,4 +31,4 @@ module _ {A : Type 0} where
   view_of_entry e = entry_with e.name (map named_of e.names.items) e.domain
 
   abbrev pub IsEntry : entry.Inside A → Type 0
-  IsEntry e = All (λ n. IsTokenOf e.domain.table e.domain.processors n.token) e.names.items
+  IsEntry e = All (λ n. IsTokenOf e.domain.table e.domain.standing.processors n.token) e.names.items

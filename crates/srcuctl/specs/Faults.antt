@@ -79,7 +79,7 @@ domain_fault w place = if not (is_name w) then Some fault.Name else (if is_some 
 -- the processors of the domain that a line named, and the names in use there
 abbrev pub processors_of : Option DomainState → ℕ
 processors_of None = 0
-processors_of (Some d) = d.processors
+processors_of (Some d) = d.standing.processors
 
 abbrev pub names_of : Option DomainState → List Named
 names_of None = []

@@ -19,14 +19,14 @@ texts words = map (λ w. w.now) words
 
 -- the domain at this place is there, and has the processor
 abbrev pub IsOn : State → ℕ → ℕ → Type 0
-IsOn state place p = (d : DomainState) × (slice_get state place ≡ Some d) × (p < d.processors)
+IsOn state place p = (d : DomainState) × (slice_get state place ≡ Some d) × (p < d.standing.processors)
 
 -- the domain that is asked for is there, and in it the processor, the look, or the section
 abbrev pub IsFor : State → Request → Type 0
 IsFor state (request.Domain name processors) = Unit {0}
 IsFor state (request.State place) = place < length state
 IsFor state (request.Look place p name) = IsOn state place p
-IsFor state (request.Enter place p which) = (d : DomainState) × (slice_get state place ≡ Some d) × (p < d.processors)
+IsFor state (request.Enter place p which) = (d : DomainState) × (slice_get state place ≡ Some d) × (p < d.standing.processors)
     × (name : List ℕ) × (i : Index) × HasLook d.names which name i
 IsFor state (request.Lock place p name) = IsOn state place p
 IsFor state (request.Unlock place which) = (d : DomainState) × (slice_get state place ≡ Some d)

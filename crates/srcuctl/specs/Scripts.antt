@@ -25,8 +25,9 @@ use Rattle.srcuctl.specs.declared.reply.Reply.{Reply}
 use Rattle.srcuctl.specs.declared.reply.Reply.TheVariants as reply
 use Rattle.srcuctl.specs.Lines.{words_of, number_of}
 use Rattle.sections.specs.Making.{IsCount}
-use Rattle.srcuctl.specs.States.{State, DomainState, Bearer, Look, Section, OpenSection, HasLook, HasSection, standing_of, index_now, number_now, domain_place, look_place, section_place, open_of}
+use Rattle.srcuctl.specs.States.{State, DomainState, Bearer, Look, Section, OpenSection, HasLook, HasSection, domain_place, look_place, section_place, open_of}
 use Rattle.srcuctl.specs.Standings as standing
+use Rattle.srcuctl.specs.Standings.{index_now, number_now, new_standing, AreUsedUp}
 use Rattle.srcuctl.specs.Faults.{fault_of}
 use Rattle.srcuctl.specs.Replies.{reply_text}
 
@@ -62,11 +63,7 @@ Asks state words (request.Step place p) = (d : List ℕ) × (n : List ℕ)
 -- What one domain does
 
 abbrev pub with_event : Event → DomainState → DomainState
-with_event e d = record d { history = d.history ++ e ∷ [] }
-
--- the engine changes the number or the index word
-abbrev pub with_change : DomainState → DomainState
-with_change d = record d { changes = d.changes + 1 }
+with_event e d = record d { standing = standing.with_event e d.standing }
 
 -- a name comes into use
 abbrev pub with_name : List ℕ → Bearer → DomainState → DomainState
@@ -83,25 +80,25 @@ begun section p i name d = with_name name (Section (record { section = section; 
 -- a section of index i begins on the processor, and has the name
 pub record Begins (limits : Limits) (p : ℕ) (i : Index) (name : List ℕ) (d : DomainState) (r : Reply) (d' : DomainState) : Type 0 where
   pub section : ℕ
-  pub room : locks p i d.history < limits.sections
-  pub follows : MayFollow d.history (Begin section p i (Processor p))
+  pub room : locks p i d.standing.history < limits.sections
+  pub follows : MayFollow d.standing.history (Begin section p i (Processor p))
   pub after : d' ≡ begun section p i name d
   pub reply : r ≡ reply.Index i
 
 -- the command is refused: as many sections of index i were begun on the processor as may
 pub record IsOutOfSections (limits : Limits) (c : Command) (p : ℕ) (i : Index) (d : DomainState) (r : Reply) (d' : DomainState) : Type 0 where
-  pub full : locks p i d.history ≡ limits.sections
+  pub full : locks p i d.standing.history ≡ limits.sections
   pub after : d' ≡ d
   pub reply : r ≡ reply.Refused c Exhausted
 
 -- a look has the index that now is, and the name
 pub record Looks (name : List ℕ) (d : DomainState) (r : Reply) (d' : DomainState) : Type 0 where
-  pub after : d' ≡ with_name name (Look (index_now d)) d
-  pub reply : r ≡ reply.Look (index_now d)
+  pub after : d' ≡ with_name name (Look (index_now d.standing)) d
+  pub reply : r ≡ reply.Look (index_now d.standing)
 
 -- a section of the index that now is begins on the processor
 abbrev pub Locks : Limits → ℕ → List ℕ → DomainState → Reply → DomainState → Type 0
-Locks limits p name d r d' = Begins limits p (index_now d) name d r d' ⊎ IsOutOfSections limits command.Lock p (index_now d) d r d'
+Locks limits p name d r d' = Begins limits p (index_now d.standing) name d r d' ⊎ IsOutOfSections limits command.Lock p (index_now d.standing) d r d'
 
 -- the look at this place is used up, and a section of its index begins on the processor, under the same name. Where it is refused, the name is free
 pub record Enters (limits : Limits) (p which : ℕ) (d : DomainState) (r : Reply) (d' : DomainState) : Type 0 where
@@ -115,21 +112,21 @@ pub record Ends (which : ℕ) (d : DomainState) (r : Reply) (d' : DomainState) :
   pub name : List ℕ
   pub closed : OpenSection
   pub there : HasSection d.names which name closed
-  pub follows : MayFollow d.history (End closed.section closed.processor (Processor closed.processor))
+  pub follows : MayFollow d.standing.history (End closed.section closed.processor (Processor closed.processor))
   pub after : d' ≡ without_name which (with_event (End closed.section closed.processor (Processor closed.processor)) d)
   pub reply : r ≡ reply.Closed
 
 -- the cookie of now is given
 pub record Gives (p : ℕ) (d : DomainState) (r : Reply) (d' : DomainState) : Type 0 where
   pub cookie : ℕ
-  pub follows : MayFollow d.history (Note cookie (Processor p))
+  pub follows : MayFollow d.standing.history (Note cookie (Processor p))
   pub after : d' ≡ with_event (Note cookie (Processor p)) d
   pub reply : r ≡ reply.Cookie cookie
 
 -- the answer is whether as many grace periods have ended as the cookie waits for
 pub record Polls (p cookie : ℕ) (d : DomainState) (r : Reply) (d' : DomainState) : Type 0 where
   pub done : Bool
-  pub follows : MayFollow d.history (Ask cookie done (Processor p))
+  pub follows : MayFollow d.standing.history (Ask cookie done (Processor p))
   pub after : d' ≡ with_event (Ask cookie done (Processor p)) d
   pub reply : r ≡ if done then reply.Done else reply.NotYet
 
@@ -139,52 +136,49 @@ pub record IsNotACookie (cookie : ℕ) (d : DomainState) (r : Reply) (d' : Domai
   pub after : d' ≡ d
   pub reply : r ≡ reply.Refused command.Poll NotACookie
 
--- a grace period starts, of which nothing is half done
+-- only the engine has gone on, with the same processors
+abbrev pub IsSameBut : DomainState → DomainState → Type 0
+IsSameBut d d' = d' ≡ record d { standing = record d'.standing { processors = d.standing.processors } }
+
+-- a grace period starts
 pub record Starts (limits : Limits) (d : DomainState) (r : Reply) (d' : DomainState) : Type 0 where
-  pub follows : MayFollow d.history (Start Engine)
-  pub room : ended_in d.history < limits.periods
-  pub after : d' ≡ record (with_change (with_event (Start Engine) d)) { half = 0; began = d'.began }
-  pub agree : Reaches d'.changes d'.history
-  pub reply : r ≡ reply.Progress (progress.Started (number_at_rest d.history + 1))
+  pub number : ℕ
+  pub starts : standing.Starts limits.periods number d.standing d'.standing
+  pub after : IsSameBut d d'
+  pub reply : r ≡ reply.Progress (progress.Started number)
 
 pub record IsRunningAlready (d : DomainState) (r : Reply) (d' : DomainState) : Type 0 where
-  pub running : IsRunning d.history
+  pub running : IsRunning d.standing.history
   pub after : d' ≡ d
   pub reply : r ≡ reply.Refused command.Start Running
 
--- no grace period runs, and as many have ended as may
 pub record IsOutOfPeriods (limits : Limits) (d : DomainState) (r : Reply) (d' : DomainState) : Type 0 where
-  pub resting : ¬ IsRunning d.history
-  pub full : ended_in d.history ≡ limits.periods
+  pub used_up : AreUsedUp limits.periods d.standing
   pub after : d' ≡ d
   pub reply : r ≡ reply.Refused command.Start Exhausted
-
--- only the engine has gone on
-abbrev pub IsSameBut : DomainState → DomainState → Type 0
-IsSameBut d d' = d' ≡ record d { history = d'.history; changes = d'.changes; half = d'.half; began = d'.began }
 
 -- the engine goes on until it has an answer, which is given
 pub record Advances (d : DomainState) (r : Reply) (d' : DomainState) : Type 0 where
   pub said : Progress
-  pub advances : standing.Advances said (standing_of d) (standing_of d')
+  pub advances : standing.Advances said d.standing d'.standing
   pub after : IsSameBut d d'
   pub reply : r ≡ reply.Progress said
 
 -- the engine makes one step, and its answer is given
 pub record StepsOn (d : DomainState) (r : Reply) (d' : DomainState) : Type 0 where
   pub said : Progress
-  pub steps : standing.Steps said (standing_of d) (standing_of d')
+  pub steps : standing.Steps said d.standing d'.standing
   pub after : IsSameBut d d'
   pub reply : r ≡ reply.Progress said
 
 -- where the domain stands; the root need is 0, as long as nobody can ask. Processor 0 loads the number, and so notes the cookie of now
 pub record Shows (d : DomainState) (r : Reply) (d' : DomainState) : Type 0 where
   pub phase : Phase
-  pub state : number_now d % 4 ≡ state_bits phase
-  pub after : d' ≡ with_event (Note (cookie_after d.history) (Processor 0)) d
+  pub state : number_now d.standing % 4 ≡ state_bits phase
+  pub after : d' ≡ with_event (Note (cookie_after d.standing.history) (Processor 0)) d
   pub reply : r ≡ reply.State d.name
-      (record { number = number_now d; phase = phase })
-      (record { index = index_now d; zero = open_of Zero d.names; one = open_of One d.names; need = 0 })
+      (record { number = number_now d.standing; phase = phase })
+      (record { index = index_now d.standing; zero = open_of Zero d.names; one = open_of One d.names; need = 0 })
 
 -- What a script does
 
@@ -194,7 +188,7 @@ pub record GoesOn (state : State) (place : ℕ) (d d' : DomainState) (state' : S
   pub others : state' ≡ slice_set state place d'
 
 abbrev pub new_domain : List ℕ → ℕ → DomainState
-new_domain name processors = record { name = name; processors = processors; names = []; history = []; changes = 0; half = 0; began = 0 }
+new_domain name processors = record { name = name; names = []; standing = new_standing processors }
 
 -- a domain comes behind those that are there
 pub record Makes (state : State) (name : List ℕ) (processors : ℕ) (r : Reply) (state' : State) : Type 0 where

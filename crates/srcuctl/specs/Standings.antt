@@ -4,9 +4,9 @@ use Rattle.sseq.specs.declared.index.Index.{Index}
 use Rattle.sseq.specs.Indexes.{low_bit, other_index}
 use Rattle.onedom.specs.declared.event.Maker.TheVariants.{Engine}
 use Rattle.onedom.specs.declared.event.Event.{Event}
-use Rattle.onedom.specs.declared.event.Event.TheVariants.{Finish}
+use Rattle.onedom.specs.declared.event.Event.TheVariants.{Start, Finish}
 use Rattle.onedom.specs.Histories.{IsOpen, index_of, ended_in, IsRunning, WasEmpty, MayFollow, IsBeginning}
-use Rattle.sections.specs.Words.{index_word, Reaches}
+use Rattle.sections.specs.Words.{index_word, number_word, Reaches}
 use Rattle.scan.specs.declared.progress.Progress.{Progress}
 use Rattle.scan.specs.declared.progress.Progress.TheVariants as answer
 use Rattle.scan.specs.Progress.{number_at_rest, Counts, events_of, changes_for, half_changes}
@@ -19,13 +19,41 @@ pub record Standing : Type 0 where
   pub half : ℕ
   pub began : ℕ
 
+-- the index that a section gets that begins now
+abbrev pub index_now : Standing → Index
+index_now s = low_bit (index_word s.changes)
+
+-- the number
+abbrev pub number_now : Standing → ℕ
+number_now s = number_word s.changes
+
+-- nothing has happened yet
+abbrev pub new_standing : ℕ → Standing
+new_standing processors = record { processors = processors; history = []; changes = 0; half = 0; began = 0 }
+
+abbrev pub with_event : Event → Standing → Standing
+with_event e s = record s { history = s.history ++ e ∷ [] }
+
+-- a grace period starts, of which nothing is half done, and `n` is the number then
+pub record Starts (periods n : ℕ) (s s' : Standing) : Type 0 where
+  pub follows : MayFollow s.history (Start Engine)
+  pub room : ended_in s.history < periods
+  pub after : s' ≡ record (with_event (Start Engine) s) { changes = s.changes + 1; half = 0; began = s'.began }
+  pub agree : Reaches s'.changes s'.history
+  pub number : n ≡ number_at_rest s.history + 1
+
+-- as many have ended as there may be
+pub record AreUsedUp (periods : ℕ) (s : Standing) : Type 0 where
+  pub resting : ¬ IsRunning s.history
+  pub full : ended_in s.history ≡ periods
+
 -- how long the history was at the first load of the scan that is half done; where none is, one begins now
 abbrev pub scan_began : Standing → ℕ
 scan_began s = if s.half == 0 then length s.history else s.began
 
 -- the index that is scanned: the one that is not current
 abbrev pub not_current : Standing → Index
-not_current s = other_index (low_bit (index_word s.changes))
+not_current s = other_index (index_now s)
 
 -- the index is not the current one, and at a moment since the first load of the scan a section of it was open
 pub record WaitsFor (i : Index) (s : Standing) : Type 0 where
@@ -49,6 +77,7 @@ Says answer.Step s s' = IsRunning s.history × (2 * s.processors ≤ s'.half →
 
 -- one atomic step was made. The history has its event, if it is one, and the number and the index word agree with it still
 pub record Steps (a : Progress) (s s' : Standing) : Type 0 where
+  pub same : s'.processors ≡ s.processors
   pub says : Says a s s'
   pub events : s'.history ≡ s.history ++ events_of a
   pub agree : Reaches s'.changes s'.history

@@ -23,27 +23,11 @@ pub record Named : Type 0 where
   pub name : List ℕ
   pub bearer : Bearer
 
--- `changes` is how often the engine has changed the number and the index word. Of what the engine has half done, `half` says how many steps were made, and `began` how long the history was at the first load of the scan
+-- a domain: its name, the names in use there, and how far its grace periods have come
 pub record DomainState : Type 0 where
   pub name : List ℕ
-  pub processors : ℕ
   pub names : List Named
-  pub history : List Event
-  pub changes : ℕ
-  pub half : ℕ
-  pub began : ℕ
-
--- how far its grace periods have come
-abbrev pub standing_of : DomainState → Standing
-standing_of d = record { processors = d.processors; history = d.history; changes = d.changes; half = d.half; began = d.began }
-
--- the index that a section gets that begins now
-abbrev pub index_now : DomainState → Index
-index_now d = low_bit (index_word d.changes)
-
--- the number
-abbrev pub number_now : DomainState → ℕ
-number_now d = number_word d.changes
+  pub standing : Standing
 
 -- the domains, in the order in which they were made
 abbrev pub State : Type 0

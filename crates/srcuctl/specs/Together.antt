@@ -42,11 +42,7 @@ module _ {A : Type 0} where
   view_of_domain d = record {
     table = d.engine.seat.domain;
     limits = d.limits;
-    processors = d.engine.seat.processors;
-    history = d.engine.seat.seen;
-    changes = d.engine.seat.changes;
-    half = d.engine.half;
-    began = d.engine.began;
+    standing = record { processors = d.engine.seat.processors; history = d.engine.seat.seen; changes = d.engine.seat.changes; half = d.engine.half; began = d.engine.began };
   }
 
   -- at rest nothing is half done: nobody asks for a period

@@ -32,7 +32,8 @@ impl<A: Allocator> Model for Domain<A> {
 }
 
 impl<A: Allocator> Domain<A> {
-    ghost use Rattle.srcuctl.specs.Domains.{IsNew, IsNotMade, IsOf, index_in, IsLookNow, BeginsSection, BeginsNone, EndsSection, GivesNumber, AsksAfter, ReadsNumber, StartsPeriod, StartsNone, StepsOn, AdvancesBy};
+    ghost use Rattle.srcuctl.specs.Standings.{index_now};
+    ghost use Rattle.srcuctl.specs.Domains.{IsNew, IsNotMade, IsOf, IsLookNow, BeginsSection, BeginsNone, EndsSection, GivesNumber, AsksAfter, ReadsNumber, StartsPeriod, StartsNone, StepsOn, AdvancesBy};
 
     /// A domain in which nothing has happened.
     pub fn new(alloc: A, processors: u64, limits: Limits) -> Result<Domain<A>, MakeError>
@@ -51,14 +52,14 @@ impl<A: Allocator> Domain<A> {
 
     /// How many processors there are.
     pub fn processors(&self) -> u64
-        ensures { result ≡ self.now.processors }
+        ensures { result ≡ self.now.standing.processors }
     {
         self.cpus.len() as u64
     }
 
     /// Reads the index word on a processor.
     pub fn look(&mut self, processor: u64) -> Look
-        requires { processor < self.old.processors }
+        requires { processor < self.old.standing.processors }
         ensures look { IsLookNow self.old result }
         ensures after { self.new ≡ self.old }
     {
@@ -69,7 +70,7 @@ impl<A: Allocator> Domain<A> {
 
     /// Begins a section of the look's index on a processor, which need not be the one of the look.
     pub fn enter(&mut self, processor: u64, look: Look) -> Result<Reading, Exhausted>
-        requires processor { processor < self.old.processors }
+        requires processor { processor < self.old.standing.processors }
         requires look { look.domain ≡ self.old.table }
         ensures { MatchResult result (λ r. BeginsSection processor look.index self.old r self.new) (λ _. BeginsNone processor look.index self.old self.new) }
     {
@@ -80,9 +81,9 @@ impl<A: Allocator> Domain<A> {
 
     /// Begins a section of the current index on a processor.
     pub fn read_lock(&mut self, processor: u64) -> Result<Reading, Exhausted>
-        requires { processor < self.old.processors }
-        ensures { MatchResult result (λ r. BeginsSection processor (index_in self.old) self.old r self.new)
-            (λ _. BeginsNone processor (index_in self.old) self.old self.new) }
+        requires { processor < self.old.standing.processors }
+        ensures { MatchResult result (λ r. BeginsSection processor (index_now self.old.standing) self.old r self.new)
+            (λ _. BeginsNone processor (index_now self.old.standing) self.old self.new) }
     {
         let taken = self.cpus[processor as usize].read_lock();
         self.engine.meet(&mut self.cpus);
@@ -91,7 +92,7 @@ impl<A: Allocator> Domain<A> {
 
     /// Ends the reading's section, on its own processor.
     pub fn read_unlock(&mut self, reading: Reading)
-        requires { IsOf self.old.table self.old.processors reading }
+        requires { IsOf self.old.table self.old.standing.processors reading }
         ensures { EndsSection reading self.old self.new }
     {
         let processor = usize::from(reading.processor());
@@ -101,7 +102,7 @@ impl<A: Allocator> Domain<A> {
 
     /// The number of the cookie that a processor is given now.
     pub fn cookie(&mut self, processor: u64) -> u64
-        requires { processor < self.old.processors }
+        requires { processor < self.old.standing.processors }
         ensures { GivesNumber processor self.old result self.new }
     {
         let cookie = self.cpus[processor as usize].cookie();
@@ -111,7 +112,7 @@ impl<A: Allocator> Domain<A> {
 
     /// Whether the cookie of this number is done, as a processor finds it.
     pub fn poll(&mut self, processor: u64, cookie: u64) -> Result<bool, NotACookie>
-        requires { processor < self.old.processors }
+        requires { processor < self.old.standing.processors }
         ensures { MatchResult result (λ done. AsksAfter processor cookie self.old done self.new)
             (λ _. IsNoCookie cookie × (self.new ≡ self.old)) }
     {
@@ -151,7 +152,7 @@ impl<A: Allocator> Domain<A> {
 
     /// The current index, as processor 0 finds it.
     pub fn index(&mut self) -> Index
-        ensures value { result ≡ index_in self.old }
+        ensures value { result ≡ index_now self.old.standing }
         ensures after { self.new ≡ self.old }
     {
         let look = self.cpus[0].look();

@@ -224,9 +224,9 @@ fn a_domain<A: Allocator>(word: &[u8], entries: &[Entry<A>]) -> Result<usize, Fa
 
 fn a_processor<A: Allocator>(word: &[u8], entry: &Entry<A>) -> Result<u64, Fault>
     ensures { MatchResult result
-        (λ p. (processor_fault entry.now.state.processors (number_of word.now) ≡ None)
-        × (number_of word.now ≡ Some p) × (p < entry.now.state.processors))
-        (λ f. processor_fault entry.now.state.processors (number_of word.now) ≡ Some f) }
+        (λ p. (processor_fault entry.now.state.standing.processors (number_of word.now) ≡ None)
+        × (number_of word.now ≡ Some p) × (p < entry.now.state.standing.processors))
+        (λ f. processor_fault entry.now.state.standing.processors (number_of word.now) ≡ Some f) }
 {
     let processor = any_number(word)?;
     if processor < entry.processors() {

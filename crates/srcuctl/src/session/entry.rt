@@ -94,7 +94,7 @@ impl<A: Allocator> Entry<A> {
     }
 
     pub fn processors(&self) -> u64
-        ensures { result ≡ self.now.state.processors }
+        ensures { result ≡ self.now.state.standing.processors }
     {
         self.domain.processors()
     }
@@ -122,7 +122,7 @@ impl<A: Allocator> Entry<A> {
 
     /// Reads the index word on a processor, and gives the look the name.
     pub fn look(&mut self, processor: u64, name: Name) -> Result<Reply, AllocError>
-        requires { processor < self.old.state.processors }
+        requires { processor < self.old.state.standing.processors }
         ensures limits { self.new.limits ≡ self.old.limits }
         ensures ok { IfOk result (λ r. Looks name self.old.state r self.new.state) }
         ensures err { OnErr result (self.new ≡ self.old) }
@@ -138,7 +138,7 @@ impl<A: Allocator> Entry<A> {
     /// Uses up the look at a place, and begins a section of its index on a processor, which gets the look's name. Where
     /// it is refused, the name is free.
     pub fn enter(&mut self, processor: u64, which: usize) -> Reply
-        requires processor { processor < self.old.state.processors }
+        requires processor { processor < self.old.state.standing.processors }
         requires look { (name : List ℕ) × (i : Index) × HasLook self.old.state.names which name i }
         ensures limits { self.new.limits ≡ self.old.limits }
         ensures enters { Enters self.old.limits processor which self.old.state result self.new.state }
@@ -161,7 +161,7 @@ impl<A: Allocator> Entry<A> {
 
     /// Begins a section on a processor, and gives it the name.
     pub fn lock(&mut self, processor: u64, name: Name) -> Result<Reply, AllocError>
-        requires { processor < self.old.state.processors }
+        requires { processor < self.old.state.standing.processors }
         ensures limits { self.new.limits ≡ self.old.limits }
         ensures ok { IfOk result (λ r. Locks self.old.limits processor name self.old.state r self.new.state) }
         ensures err { OnErr result (self.new ≡ self.old) }
@@ -195,7 +195,7 @@ impl<A: Allocator> Entry<A> {
 
     /// Gives a processor the cookie of now.
     pub fn get(&mut self, processor: u64) -> Reply
-        requires { processor < self.old.state.processors }
+        requires { processor < self.old.state.standing.processors }
         ensures limits { self.new.limits ≡ self.old.limits }
         ensures gives { Gives processor self.old.state result self.new.state }
     {
@@ -204,7 +204,7 @@ impl<A: Allocator> Entry<A> {
 
     /// Whether a cookie is done, as a processor finds it.
     pub fn poll(&mut self, processor: u64, cookie: u64) -> Reply
-        requires { processor < self.old.state.processors }
+        requires { processor < self.old.state.standing.processors }
         ensures limits { self.new.limits ≡ self.old.limits }
         ensures polls { Polls processor cookie self.old.state result self.new.state
             ⊎ IsNotACookie cookie self.old.state result self.new.state }
