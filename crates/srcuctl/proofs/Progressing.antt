@@ -1,35 +1,29 @@
 -- What the engine of a domain answers, where nobody comes between its steps.
-use Rattle.std.proofs.Common.{◌≡◌, ◌≢◌, ℕ, ◌+◌, ◌%◌, ◌<◌, ◌≤◌, map, ◌⊎◌, inl, inr, ⊎_elim, Bool, if◌then◌else◌, eq-eqb, ne_eqb, List, [], ◌∷◌, ◌++◌, length, refl, sym, ap, ◌∙◌, subst, append-nil, length-append, arith}
+use Rattle.std.proofs.Common.{◌≡◌, ◌≢◌, ℕ, ◌+◌, ◌%◌, ◌<◌, ◌≤◌, map, inr, Bool, if◌then◌else◌, eq-eqb, ne_eqb, List, [], ◌∷◌, ◌++◌, length, refl, sym, ap, ◌∙◌, subst, append-nil, length-append, arith}
 use Rattle.std.specs.Prelude.{Result, Ok, MatchResult}
-use Rattle.std.proofs.lemmas.List.Elements.{filter-append}
 use mathlib.Core.Logic.{dite}
 use native.Mathlib.Decide.{ℕ_discrete}
 use Rattle.sseq.specs.declared.index.Index.{Index}
 use Rattle.sseq.specs.Indexes.{low_bit, other_index}
-use Rattle.onedom.specs.declared.event.Maker.{Maker}
-use Rattle.onedom.specs.declared.event.Maker.TheVariants.{Processor, Engine}
+use Rattle.onedom.specs.declared.event.Maker.TheVariants.{Engine}
 use Rattle.onedom.specs.declared.event.Event.{Event}
 use Rattle.onedom.specs.declared.event.Event.TheVariants.{Start, Finish}
-use Rattle.onedom.specs.Histories.{maker_of, same_maker, made_by, ended_in, IsRunning, WasEmpty, IsLegal, IsBeginning}
-use Rattle.onedom.proofs.Beginnings.{beginning_trans, beginning_append, beginning_by_length, length_grows}
+use Rattle.onedom.specs.Histories.{made_by, ended_in, IsRunning, WasEmpty, IsLegal, IsBeginning}
+use Rattle.onedom.proofs.Beginnings.{beginning_trans, beginning_append}
 use Rattle.sections.specs.declared.limits.Limits.{Limits}
 use Rattle.sections.specs.Words.{index_word, Reaches, IsIdle}
 use Rattle.sections.specs.Views.{CpuView, EngineView}
-use Rattle.sections.specs.Making.{IsCount}
 use Rattle.sections.specs.Driving.{IsSeenByEngine, IsSameEngine, Meets}
 use Rattle.onedom.proofs.Pushes.{ended_in_push}
 use Rattle.sections.proofs.Agreement.{busy_running, idle_not_running}
 use Rattle.sections.proofs.Calling.{last_may_follow}
 use Rattle.scan.specs.declared.progress.Progress.{Progress}
 use Rattle.scan.specs.declared.progress.Progress.TheVariants as answer
-use Rattle.scan.specs.Progress.{number_at_rest, steps_for, Counts, events_of, changes_for, half_changes, FirstLoaded, GoesOn, Says, NeedsLoaded, StepsTo, StepsThrough, AdvancesTo, Starts, with_seat}
-use Rattle.srcuctl.specs.declared.needs.NoNeeds.{NoNeeds}
+use Rattle.scan.specs.Progress.{number_at_rest, Counts, events_of, FirstLoaded, StepsTo, StepsThrough, AdvancesTo, Starts, with_seat}
 use Rattle.srcuctl.specs.Standings.{Standing, scan_began, not_current, WaitsFor, Steps, Advances}
 use Rattle.srcuctl.specs.Standings as standing
 use Rattle.srcuctl.specs.Domains.{StartsPeriod, StepsOn, AdvancesBy, IsSameBut}
-use Rattle.srcuctl.specs.Together.{AllHold, AreTogether}
-use Rattle.srcuctl.proofs.OneHistory.{nothing_new, just_this, between_same}
-use Rattle.srcuctl.proofs.Meeting.{counted, all_makers, together_after}
+use Rattle.srcuctl.specs.Together.{AreTogether}
 use Rattle.srcuctl.proofs.Driving.{View, seen_as}
 use Rattle.srcuctl.proofs.Growing.{FindsNothing, Moves, moves_by_step, moves_by_advance, Grew, grew, are_grown, together_still, made_by_append, all_the_engines}
 

@@ -1,20 +1,18 @@
 -- What a session knows of one of its domains, and what each call of it does.
-use Rattle.std.specs.Prelude.{◌≡◌, ℕ, ◌+◌, ◌*◌, ◌<◌, Bool, List, [], ◌∷◌, ◌++◌}
+use Rattle.std.specs.Prelude.{◌≡◌, ℕ, ◌<◌, Bool}
 use Rattle.sseq.specs.declared.index.Index.{Index}
-use Rattle.sseq.specs.Indexes.{low_bit}
 use Rattle.atomic_table.specs.Seated.{TableId}
-use Rattle.onedom.specs.declared.event.Maker.TheVariants.{Processor, Engine}
+use Rattle.onedom.specs.declared.event.Maker.TheVariants.{Processor}
 use Rattle.onedom.specs.declared.event.Event.{Event}
-use Rattle.onedom.specs.declared.event.Event.TheVariants.{Begin, End, Start, Note, Ask}
-use Rattle.onedom.specs.Histories.{MayFollow, ended_in, IsRunning, cookie_after}
+use Rattle.onedom.specs.declared.event.Event.TheVariants.{Begin, End, Note, Ask}
+use Rattle.onedom.specs.Histories.{MayFollow, IsRunning, cookie_after}
 use Rattle.sections.specs.declared.limits.Limits.{Limits}
 use Rattle.sections.specs.declared.limits.MakeError.{MakeError}
 use Rattle.sections.specs.declared.limits.MakeError.TheVariants as make
-use Rattle.sections.specs.Words.{index_word, number_word, locks, Reaches}
+use Rattle.sections.specs.Words.{locks}
 use Rattle.sections.specs.Views.{LookView, ReadingView}
 use Rattle.sections.specs.Making.{IsCount}
 use Rattle.scan.specs.declared.progress.Progress.{Progress}
-use Rattle.scan.specs.Progress.{number_at_rest}
 use Rattle.scan.specs.declared.progress.StartRefusal.{StartRefusal}
 use Rattle.scan.specs.declared.progress.StartRefusal.TheVariants as refusal
 use Rattle.srcuctl.specs.Standings.{Standing, index_now, number_now, new_standing, with_event, Starts, AreUsedUp, Steps, Advances}

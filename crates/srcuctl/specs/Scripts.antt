@@ -1,16 +1,15 @@
 -- What a line of a script means: which reply it gets, and what it changes.
-use Rattle.std.specs.Prelude.{◌≡◌, ℕ, ◌+◌, ◌*◌, ◌%◌, ◌<◌, ◌≤◌, ◌==◌, Bool, true, false, List, [], ◌∷◌, ◌++◌, length, Option, Some, None, slice_get, slice_set, remove, codes, if◌then◌else◌, ◌⊎◌}
+use Rattle.std.specs.Prelude.{◌≡◌, ℕ, ◌%◌, ◌<◌, ◌≤◌, ◌==◌, Bool, true, false, List, [], ◌∷◌, ◌++◌, length, Option, Some, None, slice_get, slice_set, remove, codes, if◌then◌else◌, ◌⊎◌}
 use Rattle.sseq.specs.declared.index.Index.{Index}
 use Rattle.sseq.specs.declared.index.Index.TheVariants.{Zero, One}
 use Rattle.sseq.specs.declared.number.Phase.{Phase}
 use Rattle.sseq.specs.Numbers.{state_bits}
-use Rattle.onedom.specs.declared.event.Maker.TheVariants.{Processor, Engine}
+use Rattle.onedom.specs.declared.event.Maker.TheVariants.{Processor}
 use Rattle.onedom.specs.declared.event.Event.{Event}
-use Rattle.onedom.specs.declared.event.Event.TheVariants.{Begin, End, Start, Note, Ask}
-use Rattle.onedom.specs.Histories.{MayFollow, ended_in, IsRunning, cookie_after}
+use Rattle.onedom.specs.declared.event.Event.TheVariants.{Begin, End, Note, Ask}
+use Rattle.onedom.specs.Histories.{MayFollow, IsRunning, cookie_after}
 use Rattle.sections.specs.declared.limits.Limits.{Limits}
-use Rattle.sections.specs.Words.{locks, Reaches}
-use Rattle.scan.specs.Progress.{number_at_rest}
+use Rattle.sections.specs.Words.{locks}
 use Rattle.sections.specs.Calls.{IsNoCookie}
 use Rattle.scan.specs.declared.progress.Progress.{Progress}
 use Rattle.scan.specs.declared.progress.Progress.TheVariants as progress

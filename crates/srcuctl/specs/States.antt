@@ -1,10 +1,8 @@
 -- The state of a script: its domains, each with the names in use and its history.
 use Rattle.std.specs.Prelude.{◌≡◌, ℕ, ◌&&◌, Bool, true, false, List, Option, Some, map, count_by, position, option_and_then, slice_get, bytes_eq}
 use Rattle.sseq.specs.declared.index.Index.{Index}
-use Rattle.onedom.specs.declared.event.Event.{Event}
 use Rattle.sections.specs.declared.limits.Limits.{Limits}
-use Rattle.sseq.specs.Indexes.{low_bit, same_index}
-use Rattle.sections.specs.Words.{index_word, number_word}
+use Rattle.sseq.specs.Indexes.{same_index}
 use Rattle.srcuctl.specs.Standings.{Standing}
 
 -- a section that is open: its number, the processor where it was begun, and its index

@@ -1,4 +1,4 @@
-use Rattle.std.proofs.Common.{inl, refl, subst, arith}
+use Rattle.std.proofs.Common.{subst, arith}
 use Rattle.scan.specs.Progress.{StepsTo}
 use Rattle.scan.proofs.Stepping.{nothing_yet, under_way, arrives, exhausted, at_error}
 use Rattle.scan.proofs.engine.Engine.advance.Goals as goal
