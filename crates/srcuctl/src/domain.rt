@@ -10,8 +10,8 @@ use sseq::{Index, Number};
 use std::alloc::Allocator;
 use std::marker::Model;
 
-/// A domain that one thread drives. After each call that made a step its processors and its engine meet, so that all have seen one
-/// history, in which nothing stands but what the calls have done. Contracts see that history.
+/// A domain that one thread drives. After each call that made a step its processors and its engine meet, so that all
+/// have seen one history, in which nothing stands but what the calls have done. Contracts see that history.
 #[derive(Drop)]
 pub struct Domain<A: Allocator> {
     cpus: Vec<Cpu<A>, A>,
