@@ -21,7 +21,8 @@ use Rattle.sections.specs.Driving.{IsSeenByEngine, AddsEngineEvent, Flips, Moves
 use Rattle.sections.proofs.Agreement.{busy_running}
 use Rattle.scan.specs.declared.place.Place.TheVariants as place
 use Rattle.scan.specs.declared.progress.Progress.TheVariants as answer
-use Rattle.scan.specs.Places.{current, scanned, seen_at_load, IsScanning, HasPassed, IsHalfFlipped, IsAt, Moves}
+use Rattle.scan.specs.Progress.{not_current}
+use Rattle.scan.specs.Places.{current, seen_at_load, IsScanning, HasPassed, IsHalfFlipped, IsAt, Moves}
 use Rattle.scan.specs.Progress.{HasStarted}
 use Rattle.scan.proofs.Scans.{first_unlocks, seen_still}
 
@@ -56,11 +57,10 @@ pub flipped_moves : (e f : EngineView) (i : Index) → IsSeenByEngine e → 1 �
 flipped_moves e f i seen some here before flips is =
     let changes = flips.changes_are in
     let word : index_word f.changes ≡ index_word e.changes + 1 = omega (arith, changes, before) in
-    let new : i ≡ scanned e = is ∙ (ap low_bit word ∙ flipped_bit (index_word e.changes)) in record {
+    let new : i ≡ not_current e = is ∙ (ap low_bit word ∙ flipped_bit (index_word e.changes)) in record {
       same = flips.same;
       since = flips.since;
       history = flips.history;
-      later = omega (arith, changes);
       events = flips.mine ∙ sym (append-nil e.mine);
       made = AddIndex (index_word f.changes) ∷ [];
       steps = flips.steps;
@@ -71,11 +71,11 @@ flipped_moves e f i seen some here before flips is =
       place_is = record {
         flipping = omega (arith, changes, before);
         index = is;
-        empty = subst (λ j. WasEmpty j f.seen) (sym new) (empty_still e f seen flips.history flips.since changes (scanned e) (omega (arith, before)) here.empty);
+        empty = subst (λ j. WasEmpty j f.seen) (sym new) (empty_still e f seen flips.history flips.since changes (not_current e) (omega (arith, before)) here.empty);
       };
       says = tt;
       not_wanted = λ n h. cc;
-      passed = λ _. empty_still e f seen flips.history flips.since changes (scanned e) (omega (arith, before)) here.empty;
+      passed = λ _. empty_still e f seen flips.history flips.since changes (not_current e) (omega (arith, before)) here.empty;
       scan = λ _. record { before = λ _. (ap (λ l. seen_at_load (2 * f.processors) l) flips.steps ∙ (seen_still (2 * f.processors) e.steps (AddIndex (index_word f.changes) ∷ []) refl ∙ ap (λ n. seen_at_load (2 * n) e.steps) flips.same.1)); now = λ none. absurd (omega (arith, none, some)) };
       started = λ n h. absurd cc;
     }
@@ -92,7 +92,6 @@ second_scan_moves e f i seen some here moves =
       same = moves.same;
       since = moves.since;
       history = moves.history;
-      later = omega (arith, changes);
       events = moves.mine ∙ sym (append-nil e.mine);
       made = AddNumber (number_word f.changes) ∷ [];
       steps = moves.steps;
@@ -132,7 +131,6 @@ ended_moves e f n seen some here behind a is =
       same = a.same;
       since = since;
       history = a.history;
-      later = omega (arith, changes);
       events = a.mine;
       made = [];
       steps = a.steps ∙ sym (append-nil e.steps);
@@ -168,7 +166,6 @@ started_moves e f need n seen some idle a is =
       same = a.same;
       since = since_event e f (Start Engine) a;
       history = a.history;
-      later = omega (arith, changes);
       events = a.mine;
       made = [];
       steps = a.steps ∙ sym (append-nil e.steps);

@@ -21,7 +21,8 @@ use Rattle.scan.specs.declared.place.Place.{Place}
 use Rattle.scan.specs.declared.place.Place.TheVariants.{Wanted}
 use Rattle.scan.specs.declared.progress.Progress.{Progress}
 use Rattle.scan.specs.declared.progress.Progress.TheVariants as answer
-use Rattle.scan.specs.Places.{current, scanned, half, seen_at_load, began, IsScanning, BeganScan, InUnlocks, InLocks, HasPassed, IsAt, SaysAt, Moves}
+use Rattle.scan.specs.Progress.{not_current}
+use Rattle.scan.specs.Places.{current, half, seen_at_load, began, IsScanning, BeganScan, InUnlocks, InLocks, HasPassed, IsAt, SaysAt, Moves}
 use Rattle.scan.specs.Progress.{events_of, changes_for, IsStepAt, is_counter_load, counter_loads, Waits, FirstLoaded, Counts}
 use Rattle.scan.proofs.Between.{open_between, makers_of}
 
@@ -42,7 +43,7 @@ seen_at_first loads (AddIndex n ∷ b) i found seen rest is = seen_at_first load
 seen_at_first loads (AddNumber n ∷ b) i found seen rest is = seen_at_first loads b i found seen rest is
 
 pub began_seen : (loads : ℕ) (e : EngineView) (first : List Event) → BeganScan loads e first → seen_at_load loads e.steps ≡ length first
-began_seen loads e first b = ap (seen_at_load loads) b.steps ∙ seen_at_first loads b.before (scanned e) b.found (length first) b.rest b.count
+began_seen loads e first b = ap (seen_at_load loads) b.steps ∙ seen_at_first loads b.before (not_current e) b.found (length first) b.rest b.count
 
 seen_none : (loads : ℕ) (extra : List Step) → counter_loads extra ≡ 0 → seen_at_load loads extra ≡ 0
 seen_none loads [] none = refl
@@ -81,7 +82,7 @@ sum_fewer f p (suc n) le = dite (ℕ_discrete p (suc n))
 -- As long as the engine changes no word
 
 module _ (e f : EngineView) (seen : IsSeenByEngine e) (later : IsSeenByEngine f) (since : IsBeginning e.seen f.seen) (changes : f.changes ≡ e.changes) where
-  pub same_scanned : scanned f ≡ scanned e
+  pub same_scanned : not_current f ≡ not_current e
   same_scanned = ap (λ c. other_index (low_bit (index_word c))) changes
 
   pub no_start : starts_in e.seen ≡ starts_in f.seen
@@ -99,7 +100,7 @@ module _ (e f : EngineView) (seen : IsSeenByEngine e) (later : IsSeenByEngine f)
     before = b.before;
     found = b.found;
     rest = b.rest ++ extra;
-    steps = steps ∙ (ap (λ x. x ++ extra) b.steps ∙ (append_assoc b.before (LoadUnlocks 0 (scanned e) b.found (length first) ∷ b.rest) extra
+    steps = steps ∙ (ap (λ x. x ++ extra) b.steps ∙ (append_assoc b.before (LoadUnlocks 0 (not_current e) b.found (length first) ∷ b.rest) extra
         ∙ ap (λ i. b.before ++ LoadUnlocks 0 i b.found (length first) ∷ (b.rest ++ extra)) (sym same_scanned)));
     count = let c = b.count in let both = count_append is_counter_load b.rest extra in omega (arith, c, both, is);
     seen = beginning_trans b.seen since;
@@ -113,11 +114,11 @@ pub record Unlocked (e f : EngineView) (p ended : ℕ) : Type 0 where
   pub first : List Event
   pub began : BeganScan (p + 1) f first
   pub scan : FirstLoaded (length first) p (seen_at_load p e.steps) e.seen f.seen
-  pub least : sum_below (λ q. unlocks q (scanned f) first) (p + 1) ≤ ended
-  pub most : ended ≤ sum_below (λ q. unlocks q (scanned f) f.seen) (p + 1)
+  pub least : sum_below (λ q. unlocks q (not_current f) first) (p + 1) ≤ ended
+  pub most : ended ≤ sum_below (λ q. unlocks q (not_current f) f.seen) (p + 1)
 
-module _ (e f : EngineView) (p ended found : ℕ) (i : Index) (seen : IsSeenByEngine e) (here : InUnlocks e p ended) (is : i ≡ scanned e) (counts : CountsUnlocks p i found e f) where
-  now_scanned : i ≡ scanned f
+module _ (e f : EngineView) (p ended found : ℕ) (i : Index) (seen : IsSeenByEngine e) (here : InUnlocks e p ended) (is : i ≡ not_current e) (counts : CountsUnlocks p i found e f) where
+  now_scanned : i ≡ not_current f
   now_scanned = is ∙ sym (same_scanned e f seen counts.step.history counts.step.since counts.step.changes_are)
 
   most_so_far : ended + found ≤ sum_below (λ q. unlocks q i f.seen) (p + 1)
@@ -192,16 +193,16 @@ module _ (e f : EngineView) (p ended found : ℕ) (i : Index) (seen : IsSeenByEn
         in_order = u.began.seen;
         seen = beginning_refl f.seen;
         since_start = refl;
-        ended_least = subst (λ k. sum_below (λ q. unlocks q (scanned f) u.first) k ≤ ended + found) n u.least;
-        ended_most = subst (λ k. ended + found ≤ sum_below (λ q. unlocks q (scanned f) f.seen) k) n u.most;
+        ended_least = subst (λ k. sum_below (λ q. unlocks q (not_current f) u.first) k ≤ ended + found) n u.least;
+        ended_most = subst (λ k. ended + found ≤ sum_below (λ q. unlocks q (not_current f) f.seen) k) n u.most;
         begun_least = omega arith;
         begun_most = omega arith;
       }
 
 -- Lock counters
 
-module _ (e f : EngineView) (p ended begun found : ℕ) (i : Index) (seen : IsSeenByEngine e) (here : InLocks e p ended begun) (is : i ≡ scanned e) (counts : CountsLocks p i found e f) where
-  now_scanned_l : i ≡ scanned f
+module _ (e f : EngineView) (p ended begun found : ℕ) (i : Index) (seen : IsSeenByEngine e) (here : InLocks e p ended begun) (is : i ≡ not_current e) (counts : CountsLocks p i found e f) where
+  now_scanned_l : i ≡ not_current f
   now_scanned_l = is ∙ sym (same_scanned e f seen counts.step.history counts.step.since counts.step.changes_are)
 
   least_begun : sum_below (λ q. locks q i here.middle) (p + 1) ≤ begun + found
@@ -222,10 +223,10 @@ module _ (e f : EngineView) (p ended begun found : ℕ) (i : Index) (seen : IsSe
   same_count : f.processors ≡ e.processors
   same_count = counts.step.same.1
 
-  least_ended : all_unlocks f.processors (scanned f) here.first ≤ ended
+  least_ended : all_unlocks f.processors (not_current f) here.first ≤ ended
   least_ended = subst (λ (z : ℕ × Index). all_unlocks z.0 z.1 here.first ≤ ended) (λ k. (sym same_count k, (sym is ∙ now_scanned_l) k)) here.ended_least
 
-  most_ended : ended ≤ all_unlocks f.processors (scanned f) here.middle
+  most_ended : ended ≤ all_unlocks f.processors (not_current f) here.middle
   most_ended = subst (λ (z : ℕ × Index). ended ≤ all_unlocks z.0 z.1 here.middle) (λ k. (sym same_count k, (sym is ∙ now_scanned_l) k)) here.ended_most
 
   began_now : BeganScan (f.processors + (p + 1)) f here.first
@@ -284,7 +285,7 @@ module _ (e f : EngineView) (p ended begun found : ℕ) (i : Index) (seen : IsSe
         };
       }
 
-  pub passed_empty : f.processors ≤ p + 1 → ended ≡ begun + found → WasEmpty (scanned e) f.seen
+  pub passed_empty : f.processors ≤ p + 1 → ended ≡ begun + found → WasEmpty (not_current e) f.seen
   passed_empty last equal = subst (λ j. WasEmpty j f.seen) (same_scanned e f seen counts.step.history counts.step.since counts.step.changes_are) (passed last equal).empty
 
   -- unequal sums: one was open at some moment of the scan
@@ -328,14 +329,13 @@ first_unlocks e s some = record { scanning = s; there = some; began = λ none. a
 
 -- Steps at the seat
 
-pub moves_by_load : (e f : EngineView) (l : Step) (place next : Place) (a : Progress) → TakesStep l e.changes e f → IsStepAt e.processors (half e.processors place) (scanned e) l → events_of a ≡ [] → changes_for a ≡ 0
+pub moves_by_load : (e f : EngineView) (l : Step) (place next : Place) (a : Progress) → TakesStep l e.changes e f → IsStepAt e.processors (half e.processors place) (not_current e) l → events_of a ≡ [] → changes_for a ≡ 0
     → (half e.processors place ≤ 2 * e.processors) × (half e.processors next ≤ 2 * e.processors) → Counts e.processors a (half e.processors place) (half e.processors next) → IsAt f next → ((n : ℕ) → next ≢ Wanted n)
-    → (0 < half e.processors next → FirstLoaded (began f next) (half e.processors place) (began e place) e.seen f.seen) → (2 * e.processors ≤ half e.processors next → WasEmpty (scanned e) f.seen) → SaysAt a e place f → ((n : ℕ) → a ≢ answer.Started n) → Moves e place f next a
+    → (0 < half e.processors next → FirstLoaded (began f next) (half e.processors place) (began e place) e.seen f.seen) → (2 * e.processors ≤ half e.processors next → WasEmpty (not_current e) f.seen) → SaysAt a e place f → ((n : ℕ) → a ≢ answer.Started n) → Moves e place f next a
 moves_by_load e f l place next a takes here none unchanged within counts at other scan passed says no_start = record {
   same = takes.same;
   since = takes.since;
   history = takes.history;
-  later = let same = takes.changes_are in omega (arith, same);
   events = takes.mine ∙ (sym (append-nil e.mine) ∙ ap (λ x. e.mine ++ x) (sym none));
   made = l ∷ [];
   steps = takes.steps;

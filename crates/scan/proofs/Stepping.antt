@@ -1,6 +1,9 @@
 -- From a step at the seat to a step of the engine.
+use Rattle.sseq.specs.declared.index.Index.{Index}
+use native.Mathlib.Decide.{ℕ_discrete, dec_lt}
+use mathlib.Core.Logic.{dite}
 use Rattle.std.proofs.Common.{◌≡◌, ℕ, ◌+◌, ◌*◌, ◌%◌, ◌<◌, ◌≤◌, ◌≢◌, ◌⊎◌, inl, inr, ⊎_elim, Result, Ok, Err, IsErr, MatchResult, [], ◌++◌, length, refl, sym, ap, ◌∙◌, subst, append_assoc, append-nil, length-append, arith, List, ◌∷◌}
-use Rattle.onedom.specs.Histories.{ended_in, IsRunning, IsBeginning}
+use Rattle.onedom.specs.Histories.{ended_in, IsRunning, IsBeginning, starts_in}
 use Rattle.sections.specs.Words.{number_word, IsIdle, IsBeforeFlip, IsBehindFlip}
 use Rattle.sections.specs.Driving.{IsSeenByEngine}
 use Rattle.sections.proofs.Agreement.{busy_running, idle_not_running}
@@ -28,7 +31,7 @@ says_from e f needs place next (answer.Started n) seen at m says = let w = m.sta
     (says, subst (λ p. number_at_rest f.seen < wanted p) (sym is) (omega (arith, idle, below, same, ended)), omega (arith, idle, room, same, ended, periods))
 says_from e f needs place next (answer.Flipped i) seen at m says = says
 says_from e f needs place next (answer.Ended n) seen at m says = says
-says_from e f needs place next (answer.Waiting i) seen at m says = (says.0, says.1, λ _. says.2)
+says_from e f needs place next (answer.Waiting i) seen at m says = says
 says_from e f needs place next answer.Step seen at m says = λ all. m.passed (subst (λ n. 2 * e.processors ≤ half n next) m.same.1 all)
 
 pub half_few : (e : EngineView) (p : Place) → IsAt e p → 1 ≤ e.processors → half e.processors p ≤ 2 * e.processors + 1
@@ -116,10 +119,11 @@ module _ {N : Type 0} (loads : N → ℕ → N → Type 0) where
   pub steps_from : (e f : EngineView) (needs : N) (place next : Place) (a : Progress) → 1 ≤ e.processors → place ≢ Idle → IsSeenByEngine e → IsAt e place → Moves e place f next a → StepsTo loads (viewed e needs place) a (viewed f needs next)
   steps_from e f needs place next a some not_idle seen at m = let same = m.same.1 in
       let there : (p : Place) → half f.processors p ≡ half e.processors p = λ p. ap (λ n. half n p) same in record {
-        goes_on = record { same = m.same; since = m.since; history = m.history; later = m.later; made = m.made; steps = m.steps };
+        goes_on = record { same = m.same; since = m.since; history = m.history; made = m.made; steps = m.steps };
         events = m.events;
         needs = record { count = 0; need = wanted place; at_rest = λ resting none. absurd (resting (nothing_half_runs e place not_idle seen at some none)); busy = λ _. (refl, refl, refl) };
         one = let one = m.one in omega (arith, one);
+    alone = λ some_load. absurd (omega (arith, some_load));
         in_order = m.in_order;
         changes = let changes = m.changes in let here = there next in omega (arith, changes, here);
         counts = subst (λ n. Counts e.processors a (half e.processors place) n) (sym (there next)) m.counts;
@@ -142,14 +146,15 @@ pub record HasMoved {N : Type 0} (loads : N → ℕ → N → Type 0) (v w : Sca
   pub changes : w.seat.changes + half_changes v.seat.processors v.half ≡ v.seat.changes + half_changes v.seat.processors w.half
   pub need : w.need ≡ needs.need
   pub scan : IsRunning v.seat.seen → IsRunning w.seat.seen × FirstLoaded w.began v.half v.began v.seat.seen w.seat.seen
+  -- at rest a period is wanted by now, and that is all
+  pub resting : ¬ IsRunning v.seat.seen → (w.seat ≡ v.seat) × (w.half ≡ 1)
 
 module _ {N : Type 0} (loads : N → ℕ → N → Type 0) where
   abbrev goes_further : (u v w : ScanView N) → GoesOn u v → GoesOn v w → GoesOn u w
-  goes_further u v w a b = let x = a.later in let y = b.later in record {
+  goes_further u v w a b = record {
     same = (b.same.0 ∙ a.same.0, b.same.1 ∙ a.same.1, b.same.2 ∙ a.same.2);
     since = beginning_trans a.since b.since;
     history = b.history;
-    later = omega (arith, x, y);
     made = a.made ++ b.made;
     steps = b.steps ∙ (ap (λ l. l ++ b.made) a.steps ∙ append_assoc u.seat.steps a.made b.made);
   }
@@ -172,13 +177,25 @@ module _ {N : Type 0} (loads : N → ℕ → N → Type 0) where
     now = λ none. let here = before.now none in let low = here.0 in let high = here.1 in let longer = length_grows later in (omega (arith, low, is), omega (arith, high, is, longer));
   }
 
-  says_further : (u v w : ScanView N) (a : Progress) (need : ℕ) → a ≢ answer.Step → HasMoved loads u v → IsBeginning v.seat.seen w.seat.seen → Says a need v w → Says a need u w
-  says_further u v w answer.Idle need other moved later says = says
-  says_further u v w (answer.Started n) need other moved later says = says
-  says_further u v w (answer.Flipped i) need other moved later says = says
-  says_further u v w (answer.Ended n) need other moved later says = says
-  says_further u v w (answer.Waiting i) need other moved later says = (says.0, says.1, λ running. scan_further u v w says.0 moved later (says.2 (moved.scan running).0) running)
-  says_further u v w answer.Step need other moved later says = absurd (other refl)
+  -- a scan waits only while a period runs
+  not_at_rest : (u v w : ScanView N) (i : Index) → HasMoved loads u v → StepsTo loads v (answer.Waiting i) w → IsRunning u.seat.seen
+  not_at_rest u v w i moved s = dite (dec_lt (ended_in u.seat.seen) (starts_in u.seat.seen)) (λ running. running) (λ rests.
+      let same = (moved.resting rests).0 in
+      let before = moved.goes_on.history in
+      let counts = s.counts in
+      let due = counts.0 in
+      let done = counts.1 in
+      let changes = s.changes in
+      let idle : IsIdle v.seat.changes = dite (ℕ_discrete (v.seat.changes % 4) 0) (λ h. h) (λ busy. absurd (rests (subst (λ e. IsRunning e.seen) same (busy_running v.seat.changes v.seat.seen (omega (arith, busy)) before.reaches)))) in
+      absurd (idle_not_running w.seat.changes w.seat.seen (omega (arith, idle, changes, due, done)) s.goes_on.history.reaches s.says.1.running))
+
+  says_further : (u v w : ScanView N) (a : Progress) → a ≢ answer.Step → HasMoved loads u v → (s : StepsTo loads v a w) → Says a s.needs.need u w
+  says_further u v w answer.Idle other moved s = s.says
+  says_further u v w (answer.Started n) other moved s = s.says
+  says_further u v w (answer.Flipped i) other moved s = s.says
+  says_further u v w (answer.Ended n) other moved s = s.says
+  says_further u v w (answer.Waiting i) other moved s = (s.says.0, s.says.1, scan_further u v w s.says.0 moved s.goes_on.since s.says.2 (not_at_rest u v w i moved s))
+  says_further u v w answer.Step other moved s = absurd (other refl)
 
   counted : (n : ℕ) (a : Progress) (before after : ℕ) → a ≢ answer.Step → Counts n a before after → (before + 1 ≡ steps_for n a) × (after ≡ 0)
   counted n answer.Idle before after other c = c
@@ -198,6 +215,10 @@ module _ {N : Type 0} (loads : N → ℕ → N → Type 0) where
     changes = omega (arith, changes);
     need = s.need (omega (arith, next));
     scan = λ running. s.scan running (omega (arith, next));
+    resting = λ rests.
+        let one_half = (s.wanted rests (omega (arith, next))).2 in
+        let loaded = (s.needs.at_rest rests (omega (arith, next, one_half))).0 in
+        (s.alone (omega (arith, loaded)), one_half);
   }
 
   next_step : (u v w : ScanView N) → HasMoved loads u v → StepsTo loads v answer.Step w → HasMoved loads u w
@@ -213,6 +234,11 @@ module _ {N : Type 0} (loads : N → ℕ → N → Type 0) where
         changes = omega (arith, was, changes, same);
         need = s.need (omega (arith, next));
         scan = λ running. let first = s.scan (moved.scan running).0 (omega (arith, next)) in (first.0, scan_further u v w w.began moved s.goes_on.since first.1 running);
+        resting = λ rests.
+            let before = moved.resting rests in
+            let half = before.1 in
+            let one_half = (s.wanted (subst (λ e. ¬ IsRunning e.seen) (sym before.0) rests) (omega (arith, next))).2 in
+            absurd (omega (arith, next, half, one_half));
       }
 
   has_moved : (u v w : ScanView N) → (v ≡ u) ⊎ HasMoved loads u v → StepsTo loads v answer.Step w → HasMoved loads u w
@@ -275,7 +301,7 @@ module _ {N : Type 0} (loads : N → ℕ → N → Type 0) where
         due = let more = moved.more in omega (arith, taken, more);
         changes = omega (arith, was, changes, same, none);
         done = none;
-        says = says_further u v w a s.needs.need other moved s.goes_on.since s.says;
+        says = says_further u v w a other moved s;
       }
 
   arrived : (u v w : ScanView N) (a : Progress) (xs : List (ScanView N)) → StepsThrough loads xs u a w → (v ≡ u) ⊎ HasMoved loads u v → StepsTo loads v a w → a ≢ answer.Step → AdvancesTo loads u a w
@@ -306,7 +332,7 @@ module _ {N : Type 0} (loads : N → ℕ → N → Type 0) (e : EngineView) (som
   pub loaded_at_rest : (next : Place) (a : Progress) → events_of a ≡ [] → changes_for a ≡ 0 → Counts e.processors a 0 (half e.processors next) → half e.processors next ≤ 1
       → Says a need (viewed e needs Idle) (viewed e needs' next) → (0 < half e.processors next → (wanted next ≡ need) × (number_at_rest e.seen < need) × (ended_in e.seen < e.periods)) → StepsTo loads (viewed e needs Idle) a (viewed e needs' next)
   loaded_at_rest next a none unchanged counts few says more = record {
-    goes_on = record { same = (refl, refl, refl); since = beginning_refl e.seen; history = seen; later = omega arith; made = []; steps = sym (append-nil e.steps) };
+    goes_on = record { same = (refl, refl, refl); since = beginning_refl e.seen; history = seen; made = []; steps = sym (append-nil e.steps) };
     events = sym (append-nil e.mine) ∙ ap (λ l. e.mine ++ l) (sym none);
     needs = record {
       count = 1;
@@ -315,13 +341,14 @@ module _ {N : Type 0} (loads : N → ℕ → N → Type 0) (e : EngineView) (som
       busy = λ b. absurd (⊎_elim resting (λ (some_half : 0 < 0). omega (arith, some_half)) b);
     };
     one = let nothing : length (events_of a) ≡ 0 = ap length none in omega (arith, nothing);
+    alone = λ _. refl;
     in_order = inl refl;
     changes = omega (arith, few, some, unchanged);
     counts = counts;
     few = omega (arith, few, some);
     says = says;
     need = λ h. (more h).0;
-    wanted = λ _ h. let m = more h in (m.1, m.2);
+    wanted = λ _ h. let m = more h in (m.1, m.2, omega (arith, few, h));
     scan = λ running h. absurd (resting running);
   }
 

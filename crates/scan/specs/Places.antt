@@ -9,18 +9,15 @@ use Rattle.sections.specs.declared.view.Step.TheVariants.{LoadIndex, LoadUnlocks
 use Rattle.sections.specs.Words.{index_word, number_word, locks, unlocks, sum_below, all_unlocks, IsIdle, IsBeforeFlip, IsFlipping, IsBehindFlip}
 use Rattle.sections.specs.Views.{EngineView}
 use Rattle.sections.specs.Driving.{IsSeenByEngine, IsSameEngine}
-use Rattle.scan.specs.Progress.{events_of, IsStepAt, counter_loads, HasStarted, HasFlipped, HasEnded, Waits, FirstLoaded, Counts, changes_for, half_changes}
+use Rattle.scan.specs.Progress.{not_current, events_of, IsStepAt, counter_loads, HasStarted, HasFlipped, HasEnded, Waits, FirstLoaded, Counts, changes_for, half_changes}
 use Rattle.scan.specs.declared.place.Place.{Place}
 use Rattle.scan.specs.declared.place.Place.TheVariants.{Idle, Wanted, Unlocks, Locks, Passed, Flipped}
 use Rattle.scan.specs.declared.progress.Progress.{Progress}
 use Rattle.scan.specs.declared.progress.Progress.TheVariants as answer
 
--- the index that sections now get, and the other one, which is scanned
+-- the index that a look finds now; the other one is scanned
 abbrev pub current : EngineView → Index
 current e = low_bit (index_word e.changes)
-
-abbrev pub scanned : EngineView → Index
-scanned e = other_index (current e)
 
 -- how many steps were made of what is half done, in a domain of so many processors
 abbrev pub half : ℕ → Place → ℕ
@@ -31,7 +28,7 @@ half processors (Locks p ended begun) = processors + p
 half processors Passed = 2 * processors
 half processors (Flipped i) = 2 * processors + 1
 
--- how long the history was that was seen at the load of a counter that is so many from the last one
+-- how long the history was that was seen at the load of a counter that is so many from the end; 1 is the last one
 abbrev pub seen_at_load : ℕ → List Step → ℕ
 seen_at_load loads [] = 0
 seen_at_load loads (LoadUnlocks p i found seen ∷ rest) = if counter_loads rest + 1 == loads then seen else seen_at_load loads rest
@@ -58,7 +55,7 @@ wanted (Locks p ended begun) = 0
 wanted Passed = 0
 wanted (Flipped i) = 0
 
--- a grace period runs, and behind the flip the first scan had passed: it was of the index that now is current
+-- a grace period runs, not between the two steps of the flip; and behind the flip the first scan had passed: it was of the index that now is current
 pub record IsScanning (e : EngineView) : Type 0 where
   pub running : IsBeforeFlip e.changes ⊎ IsBehindFlip e.changes
   pub first_scan : IsBehindFlip e.changes → WasEmpty (current e) e.seen
@@ -68,7 +65,7 @@ pub record BeganScan (loads : ℕ) (e : EngineView) (first : List Event) : Type 
   pub before : List Step
   pub found : ℕ
   pub rest : List Step
-  pub steps : e.steps ≡ before ++ LoadUnlocks 0 (scanned e) found (length first) ∷ rest
+  pub steps : e.steps ≡ before ++ LoadUnlocks 0 (not_current e) found (length first) ∷ rest
   pub count : counter_loads rest + 1 ≡ loads
   pub seen : IsBeginning first e.seen
   pub since_start : starts_in first ≡ starts_in e.seen
@@ -77,10 +74,10 @@ pub record BeganScan (loads : ℕ) (e : EngineView) (first : List Event) : Type 
 pub record InUnlocks (e : EngineView) (p ended : ℕ) : Type 0 where
   pub scanning : IsScanning e
   pub there : p < e.processors
-  pub began : 0 < p → (first : List Event) × BeganScan p e first × (sum_below (λ q. unlocks q (scanned e) first) p ≤ ended)
-  pub most : ended ≤ sum_below (λ q. unlocks q (scanned e) e.seen) p
+  pub began : 0 < p → (first : List Event) × BeganScan p e first × (sum_below (λ q. unlocks q (not_current e) first) p ≤ ended)
+  pub most : ended ≤ sum_below (λ q. unlocks q (not_current e) e.seen) p
 
--- all unlock counters were added up at `middle`, and of the lock counters those before p since then
+-- all unlock counters were added up by `middle`, and of the lock counters those before p since then
 pub record InLocks (e : EngineView) (p ended begun : ℕ) : Type 0 where
   pub scanning : IsScanning e
   pub there : p < e.processors
@@ -90,14 +87,14 @@ pub record InLocks (e : EngineView) (p ended begun : ℕ) : Type 0 where
   pub in_order : IsBeginning first middle
   pub seen : IsBeginning middle e.seen
   pub since_start : starts_in middle ≡ starts_in e.seen
-  pub ended_least : all_unlocks e.processors (scanned e) first ≤ ended
-  pub ended_most : ended ≤ all_unlocks e.processors (scanned e) middle
-  pub begun_least : sum_below (λ q. locks q (scanned e) middle) p ≤ begun
-  pub begun_most : begun ≤ sum_below (λ q. locks q (scanned e) e.seen) p
+  pub ended_least : all_unlocks e.processors (not_current e) first ≤ ended
+  pub ended_most : ended ≤ all_unlocks e.processors (not_current e) middle
+  pub begun_least : sum_below (λ q. locks q (not_current e) middle) p ≤ begun
+  pub begun_most : begun ≤ sum_below (λ q. locks q (not_current e) e.seen) p
 
 pub record HasPassed (e : EngineView) : Type 0 where
   pub scanning : IsScanning e
-  pub empty : WasEmpty (scanned e) e.seen
+  pub empty : WasEmpty (not_current e) e.seen
 
 pub record IsHalfFlipped (e : EngineView) (i : Index) : Type 0 where
   pub flipping : IsFlipping e.changes
@@ -126,17 +123,16 @@ pub record Moves (e : EngineView) (place : Place) (f : EngineView) (next : Place
   pub same : IsSameEngine e f
   pub since : IsBeginning e.seen f.seen
   pub history : IsSeenByEngine f
-  pub later : e.changes ≤ f.changes
   pub events : f.mine ≡ e.mine ++ events_of a
   pub made : List Step
   pub steps : f.steps ≡ e.steps ++ made
   pub one : length (events_of a) + length made ≡ 1
-  pub in_order : (made ≡ []) ⊎ (l : Step) × (made ≡ l ∷ []) × IsStepAt e.processors (half e.processors place) (scanned e) l
+  pub in_order : (made ≡ []) ⊎ (l : Step) × (made ≡ l ∷ []) × IsStepAt e.processors (half e.processors place) (not_current e) l
   pub changes : f.changes + half_changes e.processors (half e.processors place) ≡ e.changes + changes_for a + half_changes e.processors (half e.processors next)
   pub counts : Counts e.processors a (half e.processors place) (half e.processors next)
   pub place_is : IsAt f next
   pub says : SaysAt a e place f
-  pub passed : 2 * e.processors ≤ half e.processors next → WasEmpty (scanned e) f.seen
+  pub passed : 2 * e.processors ≤ half e.processors next → WasEmpty (not_current e) f.seen
   -- none is wanted from then on, and a scan that goes on is the one that began
   pub not_wanted : (n : ℕ) → next ≢ Wanted n
   pub scan : 0 < half e.processors next → FirstLoaded (began f next) (half e.processors place) (began e place) e.seen f.seen

@@ -35,7 +35,7 @@ counter_loads steps = count_by is_counter_load steps
 
 -- Answers
 
--- the number of a domain in which no period runs
+-- four times the ended periods: the number of a domain in which no period runs
 abbrev pub number_at_rest : List Event → ℕ
 number_at_rest history = 4 * ended_in history
 
@@ -62,7 +62,7 @@ pub record HasEnded (n : ℕ) (e : EngineView) : Type 0 where
   pub number : n ≡ number_at_rest e.seen
   pub empty : (i : Index) → WasEmpty i e.seen
 
--- the last loads of counters were those of a scan of this index, which is not the current one; at a moment since the first of them, at which the history was so long, a section of the index was open
+-- as many loads of counters as a scan makes were the last ones, the first of them of this index, which is not the current one; at a moment since that load, at which the history was so long, a section of the index was open
 pub record Waits (i : Index) (since : ℕ) (e : EngineView) : Type 0 where
   pub running : IsRunning e.seen
   pub before : List Step
@@ -78,7 +78,7 @@ pub record Waits (i : Index) (since : ℕ) (e : EngineView) : Type 0 where
   pub is_open : IsOpen moment section
   pub of_index : index_of section moment ≡ i
 
--- the first load of a scan was made when the history was so long: before a call where something was half done already, and in it else
+-- in a call that leads from one history to another, of a scan whose first load was made when the history was `since` long: where so much was half done before, that was noted (`began`); where nothing was, the load was made in the call
 pub record FirstLoaded (since half began : ℕ) (seen seen' : List Event) : Type 0 where
   pub before : 0 < half → since ≡ began
   pub now : half ≡ 0 → (length seen ≤ since) × (since ≤ length seen')
@@ -131,25 +131,20 @@ not_current e = other_index (low_bit (index_word e.changes))
 -- Calls
 
 module _ {N : Type 0} where
-  -- behind the loads of a scan: it has passed, so at a moment since the start no section of its index was open
-  abbrev pub HasPassed : ScanView N → ScanView N → Type 0
-  HasPassed v w = 2 * v.seat.processors ≤ w.half → WasEmpty (not_current v.seat) w.seat.seen
-
-  -- what an answer says at the end of a call, where this was found to be the need
+  -- what an answer says at the end of a call, where this was found to be the need. A step that leaves a whole scan half done says that it has passed
   abbrev pub Says : Progress → ℕ → ScanView N → ScanView N → Type 0
   Says answer.Idle need v w = (¬ IsRunning w.seat.seen) × (need ≤ number_at_rest w.seat.seen)
   Says (answer.Started n) need v w = HasStarted n w.seat × (number_at_rest w.seat.seen < need) × (ended_in w.seat.seen < w.seat.periods)
   Says (answer.Flipped i) need v w = HasFlipped i w.seat
   Says (answer.Ended n) need v w = HasEnded n w.seat
-  Says (answer.Waiting i) need v w = (since : ℕ) × Waits i since w.seat × (IsRunning v.seat.seen → FirstLoaded since v.half v.began v.seat.seen w.seat.seen)
-  Says answer.Step need v w = HasPassed v w
+  Says (answer.Waiting i) need v w = (since : ℕ) × Waits i since w.seat × FirstLoaded since v.half v.began v.seat.seen w.seat.seen
+  Says answer.Step need v w = 2 * v.seat.processors ≤ w.half → WasEmpty (not_current v.seat) w.seat.seen
 
-  -- the same engine, which knows what it knew, and has made no event but those that it saw
+  -- the same engine, which knows what it knew; `made` are the steps at its seat, without its events
   pub record GoesOn (v w : ScanView N) : Type 0 where
     pub same : IsSameEngine v.seat w.seat
     pub since : IsBeginning v.seat.seen w.seat.seen
     pub history : IsSeenByEngine w.seat
-    pub later : v.seat.changes ≤ w.seat.changes
     pub made : List Step
     pub steps : w.seat.steps ≡ v.seat.steps ++ made
 
@@ -187,6 +182,7 @@ module _ {N : Type 0} where
       pub events : w.seat.mine ≡ v.seat.mine ++ events_of a
       pub needs : NeedsLoaded v w
       pub one : length (events_of a) + length goes_on.made + needs.count ≡ 1
+      pub alone : 0 < needs.count → w.seat ≡ v.seat
       pub in_order : (goes_on.made ≡ []) ⊎ (l : Step) × (goes_on.made ≡ l ∷ []) × IsStepAt v.seat.processors v.half (not_current v.seat) l
       pub changes : w.seat.changes + half_changes v.seat.processors v.half ≡ v.seat.changes + changes_for a + half_changes v.seat.processors w.half
       pub counts : Counts v.seat.processors a v.half w.half
@@ -194,7 +190,7 @@ module _ {N : Type 0} where
       pub says : Says a needs.need v w
       -- where there is more to do: what is known of it
       pub need : 0 < w.half → w.need ≡ needs.need
-      pub wanted : ¬ IsRunning v.seat.seen → 0 < w.half → (number_at_rest w.seat.seen < needs.need) × (ended_in w.seat.seen < w.seat.periods)
+      pub wanted : ¬ IsRunning v.seat.seen → 0 < w.half → (number_at_rest w.seat.seen < needs.need) × (ended_in w.seat.seen < w.seat.periods) × (w.half ≡ 1)
       pub scan : IsRunning v.seat.seen → 0 < w.half → IsRunning w.seat.seen × FirstLoaded w.began v.half v.began v.seat.seen w.seat.seen
 
     -- steps without an answer, after each of which the engine was as one of these, and then one with this answer
@@ -202,7 +198,7 @@ module _ {N : Type 0} where
     StepsThrough [] v a w = StepsTo v a w
     StepsThrough (u ∷ us) v a w = StepsTo v answer.Step u × StepsThrough us u a w
 
-    -- steps were made until there was an answer: as many as it takes, those among them that were made before the call
+    -- steps were made until there was an answer. What that says of all of them together: there were as many as the answer takes, including those that were made before the call
     pub record AdvancesTo (v : ScanView N) (a : Progress) (w : ScanView N) : Type 0 where
       pub between : List (ScanView N)
       pub through : StepsThrough between v a w

@@ -48,8 +48,8 @@ impl<N: Needs, A: Allocator> Engine<N, A> {
         }
     }
 
-    /// Makes one atomic step. `Step` is the answer as long as there is no other, at most 2P + 1 times in a row, of P
-    /// processors.
+    /// Makes one atomic step. `Step` is the answer as long as there is no other: in a domain of P processors at most
+    /// 2P + 1 times in a row.
     pub fn step(&mut self) -> Result<Progress, Exhausted>
         ensures { MatchResult result (λ answer. StepsTo N.loads self.old answer self.new) (λ _. FindsExhausted N.loads self.old self.new) }
     {
@@ -74,7 +74,9 @@ impl<N: Needs, A: Allocator> Engine<N, A> {
         }
     }
 
-    /// Makes steps until there is an answer.
+    /// Makes steps until there is an answer, which is never `Step`. It goes on with what `step` has left half done. In
+    /// a domain of P processors an answer takes 1 step (`Idle`), 2 (`Started`), 2P (`Waiting`), 2P + 2 (`Flipped`) or
+    /// 2P + 1 (`Ended`), including those that were made before.
     pub fn advance(&mut self) -> Result<Progress, Exhausted>
         ensures { MatchResult result (λ answer. AdvancesTo N.loads self.old answer self.new) (λ _. FindsExhausted N.loads self.old self.new) }
     {
@@ -120,7 +122,8 @@ impl<N: Needs, A: Allocator> Engine<N, A> {
         self.seat.tie(cpu);
     }
 
-    /// The engine and all of these processors have then seen one history, in which each has just its own events.
+    /// One load of the index word by the engine for each processor, and then one by each processor. All of them have
+    /// then seen one history, in which each has just its own events.
     pub fn meet(&mut self, cpus: &mut [Cpu<A>])
         requires { AreInDomain self.old.seat.domain cpus.old }
         ensures met { Meets self.old.seat cpus.old self.new.seat cpus.new }

@@ -20,7 +20,7 @@ pub enum Progress {
     Step,
 }
 
-/// A grace period is asked for, but there were as many as there may be. Only the need was loaded.
+/// A grace period is asked for, but as many have ended as `Limits.periods` allows. Only the need was loaded.
 #[derive(Clone, Copy, Debug, PartialEq, Eq)]
 pub struct Exhausted;
 
@@ -41,7 +41,7 @@ impl Error for Exhausted {}
 pub enum StartRefusal {
     /// A grace period runs.
     Running = 1,
-    /// There were as many as there may be.
+    /// As many have ended as `Limits.periods` allows.
     Exhausted = 2,
 }
 

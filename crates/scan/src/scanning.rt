@@ -7,8 +7,8 @@
 //!   sum of the unlock loads <= sections ended by then <= sections begun by then <= sum of the lock loads,
 //!
 //! since counters only grow, and each section is begun before it ends. Were the locks added up first, a section that
-//! begins behind its lock load and ends before its unlock load, on another processor, would be counted out and not in,
-//! and could stand in for one that is still open: the sums would be equal with a reader inside.
+//! begins behind its lock load and ends before its unlock load would be counted out and not in, and could stand in for
+//! one that is still open: the sums would be equal with a reader inside.
 //!
 //! A reader that looked at the index word long ago may still begin a section of the index that is being scanned. Begun
 //! before the last unlock load it is waited for, or it has ended. Begun behind that, it began after the grace period
@@ -17,7 +17,8 @@ ghost use Rattle.std.specs.Prelude.{◌≡◌, ◌≢◌, ◌≤◌};
 ghost use Rattle.sections.specs.Driving.{IsSeenByEngine};
 ghost use Rattle.scan.specs.declared.place.Place.TheVariants as places;
 ghost use Rattle.scan.specs.declared.progress.Progress.TheVariants as answers;
-ghost use Rattle.scan.specs.Places.{scanned, IsScanning, InUnlocks, InLocks, HasPassed, IsAt, Moves};
+ghost use Rattle.scan.specs.Progress.{not_current};
+ghost use Rattle.scan.specs.Places.{IsScanning, InUnlocks, InLocks, HasPassed, IsAt, Moves};
 
 use crate::place::Place;
 use crate::progress::Progress;
@@ -54,7 +55,7 @@ pub(crate) fn move_on<A: Allocator>(seat: &mut EngineSeat<A>, place: Place) -> (
 /// The index that a scan looks at: the one that sections no longer get, or not yet.
 fn scanned_index<A: Allocator>(seat: &EngineSeat<A>) -> Index
     requires { IsScanning seat.now }
-    ensures { result ≡ scanned seat.now }
+    ensures { result ≡ not_current seat.now }
 {
     let number = seat.number();
     let ended = Index::of_word(completed(number));

@@ -17,7 +17,7 @@ use Rattle.sections.specs.declared.cpu.NotACookie.{NotACookie}
 use Rattle.sections.specs.Calls.{AddsEvent, Looks, Enters, ReadLocks, LooksInVain, IsExhausted, Notes, GivesCookie, Asks, IsNoCookie}
 use Rattle.sections.specs.Driving.{Meets}
 use Rattle.sections.proofs.Counters.{locks_mine}
-use Rattle.srcuctl.specs.Domains.{DomainView, grown, IsLookNow, BeginsSection, BeginsNone, EndsSection, GivesNumber, AsksAfter}
+use Rattle.srcuctl.specs.Domains.{DomainView, grown, IsLookNow, BeginsSection, BeginsNone, EndsSection, GivesCookieNow, AsksAfter}
 use Rattle.srcuctl.specs.Standings.{index_now, number_now}
 use Rattle.srcuctl.specs.Together.{AreTogether}
 use Rattle.scan.specs.Progress.{ScanView, with_seat}
@@ -192,7 +192,7 @@ module _ (limits : Limits) (cpus : List CpuView) (v : View) (p : ℕ) (c c' : Cp
   pub given_together : (k : CookieView) → GivesCookie c c' k → AreTogether limits cpus' v'.seat
   given_together k h = loaded_together h.number h.notes
 
-  pub given : (k : CookieView) → GivesCookie c c' k → GivesNumber p (seen_as limits v) k.number (seen_as limits v')
+  pub given : (k : CookieView) → GivesCookie c c' k → GivesCookieNow p (seen_as limits v) k.number (seen_as limits v')
   given k h =
       let follows : k.number ≡ cookie_after v.seat.seen = ap (λ (x : CookieView). x.number) h.cookie_is ∙ cookie_now h.number h.notes in
       record {

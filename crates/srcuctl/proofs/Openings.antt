@@ -16,7 +16,7 @@ use Rattle.srcuctl.specs.declared.request.Request.TheVariants as request
 use Rattle.scan.specs.declared.progress.Progress.{Progress}
 use Rattle.srcuctl.specs.Domains as domain
 use Rattle.srcuctl.specs.Standings.{index_now}
-use Rattle.srcuctl.specs.Domains.{DomainView, AdvancesBy, IsLookNow, BeginsSection, BeginsNone, EndsSection, GivesNumber, AsksAfter, ReadsNumber}
+use Rattle.srcuctl.specs.Domains.{DomainView, AdvancesBy, IsLookNow, BeginsSection, BeginsNone, EndsSection, GivesCookieNow, AsksAfter, ReadsNumber}
 use Rattle.srcuctl.specs.Scripts.{Shows, Looks, Enters, Locks, Ends, Gives, Polls, IsNotACookie, Starts, IsRunningAlready, IsOutOfPeriods, Advances, StepsOn, GoesOn, Answers as AnswersTo}
 use Rattle.srcuctl.proofs.Places.{state_there}
 use Rattle.sections.specs.Views.{LookView, ReadingView}
@@ -130,7 +130,7 @@ module _ (own : List ℕ) (all left : List NameInUse) (which : ℕ) (n : NameInU
   }
 
 module _ (own : List ℕ) (names : List Named) (p : ℕ) (d d' : DomainView) where
-  pub gave : (cookie : ℕ) → GivesNumber p d cookie d' → Gives p (state_with own names d) (reply.Cookie cookie) (state_with own names d')
+  pub gave : (cookie : ℕ) → GivesCookieNow p d cookie d' → Gives p (state_with own names d) (reply.Cookie cookie) (state_with own names d')
   gave cookie h = record { cookie = cookie; follows = h.follows; after = ap (state_with own names) h.after; reply = refl }
 
   pub polled : (cookie : ℕ) (done : Bool) (r : Reply) → AsksAfter p cookie d done d' → r ≡ (if done then reply.Done else reply.NotYet) → Polls p cookie (state_with own names d) r (state_with own names d')

@@ -78,7 +78,7 @@ module _ (v w w' : View) where
       let waits = says.1 in
       let same : w.seat.seen ≡ v.seat.seen = m.grown ∙ append-nil v.seat.seen in
       let running : IsRunning v.seat.seen = subst IsRunning same waits.running in
-      let since = scan_is says.0 (says.2 running) same in
+      let since = scan_is says.0 says.2 same in
       let due = m.moves.due (λ h. cc) in
       let early = due.0 in
       let done = due.1 in

@@ -17,7 +17,7 @@ use Rattle.scan.specs.declared.progress.StartRefusal.{StartRefusal}
 use Rattle.scan.specs.declared.progress.StartRefusal.TheVariants as refusal
 use Rattle.srcuctl.specs.Standings.{Standing, index_now, number_now, new_standing, with_event, Starts, AreUsedUp, Steps, Advances}
 
--- `table` tells which readings are of this domain, and `standing` how far its grace periods have come
+-- `table` tells which looks and readings are of this domain; `standing` has its processors, its history, and how far its grace periods have come
 pub record DomainView : Type 0 where
   pub table : TableId
   pub limits : Limits
@@ -65,7 +65,7 @@ pub record EndsSection (r : ReadingView) (d d' : DomainView) : Type 0 where
   pub after : d' ≡ grown (End r.section r.processor (Processor r.processor)) d
 
 -- the processor is given the cookie of now, of this number
-pub record GivesNumber (p : ℕ) (d : DomainView) (cookie : ℕ) (d' : DomainView) : Type 0 where
+pub record GivesCookieNow (p : ℕ) (d : DomainView) (cookie : ℕ) (d' : DomainView) : Type 0 where
   pub follows : MayFollow d.standing.history (Note cookie (Processor p))
   pub after : d' ≡ grown (Note cookie (Processor p)) d
 

@@ -1,4 +1,4 @@
--- How far the grace periods of a domain have come, and what the engine's answers say of it.
+-- What has happened in a domain, how far its grace periods have come, and what the engine's answers say of it.
 use Rattle.std.specs.Prelude.{◌≡◌, ◌≢◌, ℕ, ◌+◌, ◌*◌, ◌<◌, ◌≤◌, ◌==◌, List, [], ◌∷◌, ◌++◌, length, if◌then◌else◌}
 use Rattle.sseq.specs.declared.index.Index.{Index}
 use Rattle.sseq.specs.Indexes.{low_bit, other_index}
@@ -19,7 +19,7 @@ pub record Standing : Type 0 where
   pub half : ℕ
   pub began : ℕ
 
--- the index that a section gets that begins now
+-- the index that a look finds now
 abbrev pub index_now : Standing → Index
 index_now s = low_bit (index_word s.changes)
 
@@ -42,7 +42,7 @@ pub record Starts (periods n : ℕ) (s s' : Standing) : Type 0 where
   pub agree : Reaches s'.changes s'.history
   pub number : n ≡ number_at_rest s.history + 1
 
--- as many have ended as there may be
+-- no grace period runs, and as many have ended as there may be
 pub record AreUsedUp (periods : ℕ) (s : Standing) : Type 0 where
   pub resting : ¬ IsRunning s.history
   pub full : ended_in s.history ≡ periods

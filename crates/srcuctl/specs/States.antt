@@ -21,7 +21,7 @@ pub record Named : Type 0 where
   pub name : List ℕ
   pub bearer : Bearer
 
--- a domain: its name, the names in use there, and how far its grace periods have come
+-- a domain: its name, the names in use there, and its processors, its history and how far its grace periods have come
 pub record DomainState : Type 0 where
   pub name : List ℕ
   pub names : List Named

@@ -33,9 +33,9 @@ impl<A: Allocator> Model for Domain<A> {
 
 impl<A: Allocator> Domain<A> {
     ghost use Rattle.srcuctl.specs.Standings.{index_now};
-    ghost use Rattle.srcuctl.specs.Domains.{IsNew, IsNotMade, IsOf, IsLookNow, BeginsSection, BeginsNone, EndsSection, GivesNumber, AsksAfter, ReadsNumber, StartsPeriod, StartsNone, StepsOn, AdvancesBy};
+    ghost use Rattle.srcuctl.specs.Domains.{IsNew, IsNotMade, IsOf, IsLookNow, BeginsSection, BeginsNone, EndsSection, GivesCookieNow, AsksAfter, ReadsNumber, StartsPeriod, StartsNone, StepsOn, AdvancesBy};
 
-    /// A domain in which nothing has happened.
+    /// A domain in which nothing has happened; refused where it can't have so many processors (1 or 2), or memory is.
     pub fn new(alloc: A, processors: u64, limits: Limits) -> Result<Domain<A>, MakeError>
     where
         A: Clone,
@@ -68,7 +68,8 @@ impl<A: Allocator> Domain<A> {
         look
     }
 
-    /// Begins a section of the look's index on a processor, which need not be the one of the look.
+    /// Begins a section of the look's index on a processor, which need not be the one of the look. It is refused where
+    /// the processor has begun as many of this index as it may: the look is gone, and nothing else has changed.
     pub fn enter(&mut self, processor: u64, look: Look) -> Result<Reading, Exhausted>
         requires processor { processor < self.old.standing.processors }
         requires look { look.domain ≡ self.old.table }
@@ -79,7 +80,7 @@ impl<A: Allocator> Domain<A> {
         taken
     }
 
-    /// Begins a section of the current index on a processor.
+    /// Begins a section of the current index on a processor; refused as `enter` is.
     pub fn read_lock(&mut self, processor: u64) -> Result<Reading, Exhausted>
         requires { processor < self.old.standing.processors }
         ensures { MatchResult result (λ r. BeginsSection processor (index_now self.old.standing) self.old r self.new)
@@ -103,14 +104,15 @@ impl<A: Allocator> Domain<A> {
     /// The number of the cookie that a processor is given now.
     pub fn cookie(&mut self, processor: u64) -> u64
         requires { processor < self.old.standing.processors }
-        ensures { GivesNumber processor self.old result self.new }
+        ensures { GivesCookieNow processor self.old result self.new }
     {
         let cookie = self.cpus[processor as usize].cookie();
         self.engine.meet(&mut self.cpus);
         cookie.number()
     }
 
-    /// Whether the cookie of this number is done, as a processor finds it.
+    /// Whether the cookie of this number is done, as a processor finds it; refused, with nothing done, where the number
+    /// is no multiple of four.
     pub fn poll(&mut self, processor: u64, cookie: u64) -> Result<bool, NotACookie>
         requires { processor < self.old.standing.processors }
         ensures { MatchResult result (λ done. AsksAfter processor cookie self.old done self.new)
@@ -121,7 +123,8 @@ impl<A: Allocator> Domain<A> {
         answer
     }
 
-    /// Starts a grace period, whether it is asked for or not, and answers the number from then on.
+    /// Starts a grace period, whether it is asked for or not, and answers the number from then on. It is refused, with
+    /// nothing done, where one runs or as many have ended as may.
     pub fn start(&mut self) -> Result<Number, StartRefusal>
         ensures { MatchResult result (λ n. StartsPeriod self.old n self.new) (λ e. StartsNone self.old e × (self.new ≡ self.old)) }
     {

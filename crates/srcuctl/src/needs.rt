@@ -3,7 +3,7 @@ ghost use Rattle.std.specs.Prelude.{◌≡◌};
 
 use sseq::{Needs, Number};
 
-/// Nothing is asked for: each load finds 0.
+/// Nothing is asked for: the need is always 0, with nothing to load it from.
 #[derive(Clone, Copy, Debug, PartialEq, Eq, Drop)]
 pub struct NoNeeds;
 

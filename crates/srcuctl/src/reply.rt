@@ -18,7 +18,7 @@ pub struct Period {
     pub phase: Phase,
 }
 
-/// The index that a section gets that begins now, how many sections of index 0 and of index 1 are open, and the
+/// The index that a look finds now, how many sections of index 0 and of index 1 are open, and the
 /// number that the domain is asked for: `index I open A B need R`.
 #[derive(Clone, Copy, Debug, PartialEq, Eq)]
 pub struct Sections {

@@ -87,12 +87,14 @@ impl<A: Allocator> Entry<A> {
         }
     }
 
+    /// Whether the domain has this name.
     pub fn is_named(&self, word: &[u8]) -> bool
         ensures { result ≡ bytes_eq self.now.state.name word.now }
     {
         self.name.is(word)
     }
 
+    /// How many processors the domain has.
     pub fn processors(&self) -> u64
         ensures { result ≡ self.now.state.standing.processors }
     {
@@ -120,7 +122,7 @@ impl<A: Allocator> Entry<A> {
         self.names.iter().position(|used| used.is_section(word))
     }
 
-    /// Reads the index word on a processor, and gives the look the name.
+    /// Reads the index word on a processor, and gives the look the name. Where memory is refused, nothing is done.
     pub fn look(&mut self, processor: u64, name: Name) -> Result<Reply, AllocError>
         requires { processor < self.old.state.standing.processors }
         ensures limits { self.new.limits ≡ self.old.limits }
@@ -159,7 +161,8 @@ impl<A: Allocator> Entry<A> {
         }
     }
 
-    /// Begins a section on a processor, and gives it the name.
+    /// Begins a section on a processor, and gives it the name; refused where the processor has begun as many of its
+    /// index as it may. Where it is refused, or memory is, nothing is done.
     pub fn lock(&mut self, processor: u64, name: Name) -> Result<Reply, AllocError>
         requires { processor < self.old.state.standing.processors }
         ensures limits { self.new.limits ≡ self.old.limits }
@@ -202,7 +205,7 @@ impl<A: Allocator> Entry<A> {
         Reply::Cookie(self.domain.cookie(processor))
     }
 
-    /// Whether a cookie is done, as a processor finds it.
+    /// Whether a cookie is done, as a processor finds it; refused where no cookie has this number.
     pub fn poll(&mut self, processor: u64, cookie: u64) -> Reply
         requires { processor < self.old.state.standing.processors }
         ensures limits { self.new.limits ≡ self.old.limits }
@@ -216,7 +219,7 @@ impl<A: Allocator> Entry<A> {
         }
     }
 
-    /// Starts a grace period.
+    /// Starts a grace period; refused where one runs, or as many have ended as may.
     pub fn start(&mut self) -> Reply
         ensures limits { self.new.limits ≡ self.old.limits }
         ensures starts { Starts self.old.limits self.old.state result self.new.state

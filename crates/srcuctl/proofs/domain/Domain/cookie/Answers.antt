@@ -1,7 +1,7 @@
 use Rattle.std.proofs.Common.{◌≡◌, ◌<◌, length, subst, sym, arith, length-set}
 use Rattle.sections.specs.Driving.{Meets}
 use Rattle.srcuctl.specs.Together.{AreTogether}
-use Rattle.srcuctl.specs.Domains.{GivesNumber}
+use Rattle.srcuctl.specs.Domains.{GivesCookieNow}
 use Rattle.srcuctl.proofs.Meeting.{all_kept}
 use Rattle.srcuctl.proofs.Driving.{rests_on, seen_as, given, given_together}
 use Rattle.srcuctl.proofs.domain.Domain.cookie.Goals as goal
@@ -35,4 +35,4 @@ returns g c =
     let meets = subst (λ l. Meets e l c.meet.new.self.seat c.meet.new.cpus) c.deref_mut.ensures.value c.meet.ensures.met in
     let small = rw (← c.self.view_is) at c.requires in
     let inside : c.args.processor < length cpus = omega (arith, together.hold.all, small) in
-    rw (← c.self.view_is) (subst (λ n. GivesNumber c.args.processor (seen_as c.self.inside.limits v) n (seen_as c.self.inside.limits c.meet.new.self)) (sym c.number.ensures.value) (given c.self.inside.limits cpus v c.args.processor was new together inside c.index_mut.ensures.value c.meet.new.cpus c.meet.new.self meets c.meet.ensures.rest c.cookie-cookie.result c.cookie-cookie.ensures))
+    rw (← c.self.view_is) (subst (λ n. GivesCookieNow c.args.processor (seen_as c.self.inside.limits v) n (seen_as c.self.inside.limits c.meet.new.self)) (sym c.number.ensures.value) (given c.self.inside.limits cpus v c.args.processor was new together inside c.index_mut.ensures.value c.meet.new.cpus c.meet.new.self meets c.meet.ensures.rest c.cookie-cookie.result c.cookie-cookie.ensures))
