@@ -123,7 +123,7 @@ module _ {N : Type 0} (loads : N → ℕ → N → Type 0) where
         events = m.events;
         needs = record { count = 0; need = wanted place; at_rest = λ resting none. absurd (resting (nothing_half_runs e place not_idle seen at some none)); busy = λ _. (refl, refl, refl) };
         one = let one = m.one in omega (arith, one);
-    alone = λ some_load. absurd (omega (arith, some_load));
+        alone = λ some_load. absurd (omega (arith, some_load));
         in_order = m.in_order;
         changes = let changes = m.changes in let here = there next in omega (arith, changes, here);
         counts = subst (λ n. Counts e.processors a (half e.processors place) n) (sym (there next)) m.counts;

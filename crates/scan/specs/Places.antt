@@ -1,7 +1,7 @@
 -- What is known at each place of a grace period.
 use Rattle.std.specs.Prelude.{◌≡◌, ◌≢◌, ℕ, ◌+◌, ◌*◌, ◌<◌, ◌≤◌, ◌⊎◌, ◌==◌, List, [], ◌∷◌, ◌++◌, length, if◌then◌else◌}
 use Rattle.sseq.specs.declared.index.Index.{Index}
-use Rattle.sseq.specs.Indexes.{low_bit, other_index}
+use Rattle.sseq.specs.Indexes.{low_bit}
 use Rattle.onedom.specs.declared.event.Event.{Event}
 use Rattle.onedom.specs.Histories.{starts_in, ended_in, WasEmpty, IsBeginning}
 use Rattle.sections.specs.declared.view.Step.{Step}
