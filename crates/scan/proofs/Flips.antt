@@ -111,7 +111,7 @@ second_scan_moves e f i seen some here moves =
       };
       not_wanted = λ n h. cc;
       passed = λ all. absurd (omega (arith, all, some));
-      scan = λ half. absurd (omega (arith, half));
+      scan = λ so_far. absurd (omega (arith, so_far));
       started = λ n h. absurd cc;
     }
 
@@ -147,7 +147,7 @@ ended_moves e f n seen some here behind a is =
       };
       not_wanted = λ n h. cc;
       passed = λ all. absurd (omega (arith, all, some));
-      scan = λ half. absurd (omega (arith, half));
+      scan = λ so_far. absurd (omega (arith, so_far));
       started = λ m h. absurd cc;
     }
 
@@ -177,7 +177,7 @@ started_moves e f need n seen some idle a is =
       says = has_started e f n idle a is;
       not_wanted = λ n h. cc;
       passed = λ all. absurd (omega (arith, all, some));
-      scan = λ half. absurd (omega (arith, half));
+      scan = λ so_far. absurd (omega (arith, so_far));
       started = λ m h. (need, refl, omega (arith, was, now, changes, idle));
     }
 

@@ -22,7 +22,7 @@ use Rattle.scan.specs.declared.place.Place.TheVariants.{Wanted}
 use Rattle.scan.specs.declared.progress.Progress.{Progress}
 use Rattle.scan.specs.declared.progress.Progress.TheVariants as answer
 use Rattle.scan.specs.Progress.{not_current}
-use Rattle.scan.specs.Places.{current, half, seen_at_load, began, IsScanning, BeganScan, InUnlocks, InLocks, HasPassed, IsAt, SaysAt, Moves}
+use Rattle.scan.specs.Places.{current, so_far, seen_at_load, began, IsScanning, BeganScan, InUnlocks, InLocks, HasPassed, IsAt, SaysAt, Moves}
 use Rattle.scan.specs.Progress.{events_of, changes_for, IsStepAt, is_counter_load, counter_loads, Waits, FirstLoaded, Counts}
 use Rattle.scan.proofs.Between.{open_between, makers_of}
 
@@ -62,8 +62,8 @@ seen_still loads (LoadIndex n ∷ b) extra none = seen_still loads b extra none
 seen_still loads (AddIndex n ∷ b) extra none = seen_still loads b extra none
 seen_still loads (AddNumber n ∷ b) extra none = seen_still loads b extra none
 
-first_as : (since since' half began : ℕ) (seen seen' : List Event) → since' ≡ since → FirstLoaded since half began seen seen' → FirstLoaded since' half began seen seen'
-first_as since since' half began seen seen' is h = subst (λ n. FirstLoaded n half began seen seen') (sym is) h
+first_as : (since since' so_far began : ℕ) (seen seen' : List Event) → since' ≡ since → FirstLoaded since so_far began seen seen' → FirstLoaded since' so_far began seen seen'
+first_as since since' so_far began seen seen' is h = subst (λ n. FirstLoaded n so_far began seen seen') (sym is) h
 
 -- Sums
 
@@ -329,9 +329,9 @@ first_unlocks e s some = record { scanning = s; there = some; began = λ none. a
 
 -- Steps at the seat
 
-pub moves_by_load : (e f : EngineView) (l : Step) (place next : Place) (a : Progress) → TakesStep l e.changes e f → IsStepAt e.processors (half e.processors place) (not_current e) l → events_of a ≡ [] → changes_for a ≡ 0
-    → (half e.processors place ≤ 2 * e.processors) × (half e.processors next ≤ 2 * e.processors) → Counts e.processors a (half e.processors place) (half e.processors next) → IsAt f next → ((n : ℕ) → next ≢ Wanted n)
-    → (0 < half e.processors next → FirstLoaded (began f next) (half e.processors place) (began e place) e.seen f.seen) → (2 * e.processors ≤ half e.processors next → WasEmpty (not_current e) f.seen) → SaysAt a e place f → ((n : ℕ) → a ≢ answer.Started n) → Moves e place f next a
+pub moves_by_load : (e f : EngineView) (l : Step) (place next : Place) (a : Progress) → TakesStep l e.changes e f → IsStepAt e.processors (so_far e.processors place) (not_current e) l → events_of a ≡ [] → changes_for a ≡ 0
+    → (so_far e.processors place ≤ 2 * e.processors) × (so_far e.processors next ≤ 2 * e.processors) → Counts e.processors a (so_far e.processors place) (so_far e.processors next) → IsAt f next → ((n : ℕ) → next ≢ Wanted n)
+    → (0 < so_far e.processors next → FirstLoaded (began f next) (so_far e.processors place) (began e place) e.seen f.seen) → (2 * e.processors ≤ so_far e.processors next → WasEmpty (not_current e) f.seen) → SaysAt a e place f → ((n : ℕ) → a ≢ answer.Started n) → Moves e place f next a
 moves_by_load e f l place next a takes here none unchanged within counts at other scan passed says no_start = record {
   same = takes.same;
   since = takes.since;

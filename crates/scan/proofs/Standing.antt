@@ -15,7 +15,7 @@ use Rattle.sections.proofs.Counters.{sum_le, unlocks_grow, locks_grow}
 use Rattle.scan.specs.declared.place.Place.{Place}
 use Rattle.scan.specs.declared.place.Place.TheVariants.{Idle, Wanted, Unlocks, Locks, Passed, Flipped}
 use Rattle.scan.specs.Progress.{not_current}
-use Rattle.scan.specs.Places.{half, wanted, began, seen_at_load, BeganScan, InUnlocks, InLocks, IsAt}
+use Rattle.scan.specs.Places.{so_far, wanted, began, seen_at_load, BeganScan, InUnlocks, InLocks, IsAt}
 use Rattle.onedom.proofs.Pushes.{count_cons}
 use Rattle.sections.proofs.Agreement.{starts_mine}
 use Rattle.scan.specs.Progress.{is_counter_load, counter_loads, with_seat}
@@ -92,7 +92,7 @@ module _ (e f : EngineView) (h : OnlySees e f) where
   began_still_there (Flipped i) = seen_at_load_still (2 * e.processors) (2 * f.processors) (ap (λ n. 2 * n) h.same.1)
 
   pub still_viewed : {N : Type 0} (needs : N) (place : Place) → viewed f needs place ≡ with_seat f (viewed e needs place)
-  still_viewed needs place = λ k. record { seat = f; needs = needs; need = wanted place; half = half (h.same.1 k) place; began = began_still_there place k }
+  still_viewed needs place = λ k. record { seat = f; needs = needs; need = wanted place; so_far = so_far (h.same.1 k) place; began = began_still_there place k }
 
 -- a seat that made no event has started no period
 pub untouched : (e : EngineView) → IsSeenByEngine e → e.mine ≡ [] → IsIdle e.changes

@@ -12,14 +12,14 @@ use Rattle.scan.specs.declared.place.Place.{Place}
 use Rattle.scan.specs.declared.place.Place.TheVariants.{Idle, Wanted, Unlocks, Locks, Passed, Flipped}
 use Rattle.scan.specs.declared.progress.Progress.{Progress}
 use Rattle.scan.specs.declared.progress.Progress.TheVariants as answer
-use Rattle.scan.specs.Places.{half, began, wanted, IsScanning, IsAt, SaysAt, Moves}
+use Rattle.scan.specs.Places.{so_far, began, wanted, IsScanning, IsAt, SaysAt, Moves}
 use Rattle.scan.specs.declared.progress.Exhausted.{Exhausted}
-use Rattle.scan.specs.Progress.{ScanView, number_at_rest, steps_for, events_of, changes_for, half_changes, FirstLoaded, Says, Counts, NeedsLoaded, GoesOn, StepsTo, StepsThrough, AdvancesTo, FindsExhausted}
+use Rattle.scan.specs.Progress.{ScanView, number_at_rest, steps_for, events_of, changes_for, changes_so_far, FirstLoaded, Says, Counts, NeedsLoaded, GoesOn, StepsTo, StepsThrough, AdvancesTo, FindsExhausted}
 use Rattle.onedom.proofs.Beginnings.{beginning_refl, beginning_trans, length_grows}
 
 module _ {N : Type 0} where
   abbrev pub viewed : EngineView → N → Place → ScanView N
-  viewed e needs place = record { seat = e; needs = needs; need = wanted place; half = half e.processors place; began = began e place }
+  viewed e needs place = record { seat = e; needs = needs; need = wanted place; so_far = so_far e.processors place; began = began e place }
 
 -- what an answer says of the seat, the engine says
 says_from : {N : Type 0} (e f : EngineView) (needs : N) (place next : Place) (a : Progress) → IsSeenByEngine e → IsAt e place → Moves e place f next a → SaysAt a e place f → Says a (wanted place) (viewed e needs place) (viewed f needs next)
@@ -32,9 +32,9 @@ says_from e f needs place next (answer.Started n) seen at m says = let w = m.sta
 says_from e f needs place next (answer.Flipped i) seen at m says = says
 says_from e f needs place next (answer.Ended n) seen at m says = says
 says_from e f needs place next (answer.Waiting i) seen at m says = says
-says_from e f needs place next answer.Step seen at m says = λ all. m.passed (subst (λ n. 2 * e.processors ≤ half n next) m.same.1 all)
+says_from e f needs place next answer.Step seen at m says = λ all. m.passed (subst (λ n. 2 * e.processors ≤ so_far n next) m.same.1 all)
 
-pub half_few : (e : EngineView) (p : Place) → IsAt e p → 1 ≤ e.processors → half e.processors p ≤ 2 * e.processors + 1
+pub half_few : (e : EngineView) (p : Place) → IsAt e p → 1 ≤ e.processors → so_far e.processors p ≤ 2 * e.processors + 1
 half_few e Idle at some = omega arith
 half_few e (Wanted n) at some = omega (arith, some)
 half_few e (Unlocks p ended) at some = let there = at.there in omega (arith, there)
@@ -43,7 +43,7 @@ half_few e Passed at some = omega arith
 half_few e (Flipped i) at some = omega arith
 
 -- where something is to be done and nothing is half done, a period runs
-pub nothing_half_runs : (e : EngineView) (p : Place) → p ≢ Idle → IsSeenByEngine e → IsAt e p → 1 ≤ e.processors → half e.processors p ≡ 0 → IsRunning e.seen
+pub nothing_half_runs : (e : EngineView) (p : Place) → p ≢ Idle → IsSeenByEngine e → IsAt e p → 1 ≤ e.processors → so_far e.processors p ≡ 0 → IsRunning e.seen
 nothing_half_runs e Idle other seen at some none = absurd (other refl)
 nothing_half_runs e (Wanted n) other seen at some none = absurd (omega (arith, none))
 nothing_half_runs e (Unlocks p ended) other seen at some none = busy_running e.changes e.seen (busy at.scanning.running) seen.reaches
@@ -71,15 +71,15 @@ place_runs e (Locks p ended begun) some other seen at = scanning_runs e seen at.
 place_runs e Passed some other seen at = scanning_runs e seen at.scanning
 place_runs e (Flipped i) some other seen at = let flipping = at.flipping in busy_running e.changes e.seen (omega (arith, flipping)) seen.reaches
 
-not_idle : (n : ℕ) (p : Place) → 0 < half n p → p ≢ Idle
-not_idle n p some is = let none : half n p ≡ 0 = ap (half n) is in omega (arith, some, none)
+not_idle : (n : ℕ) (p : Place) → 0 < so_far n p → p ≢ Idle
+not_idle n p some is = let none : so_far n p ≡ 0 = ap (so_far n) is in omega (arith, some, none)
 
 -- where something is half done, a period runs, unless one is wanted
-half_runs : (n : ℕ) (e : EngineView) (p : Place) → ((n : ℕ) → p ≢ Wanted n) → IsSeenByEngine e → IsAt e p → 0 < half n p → IsRunning e.seen
+half_runs : (n : ℕ) (e : EngineView) (p : Place) → ((n : ℕ) → p ≢ Wanted n) → IsSeenByEngine e → IsAt e p → 0 < so_far n p → IsRunning e.seen
 half_runs n e p other seen at some = place_runs e p (not_idle n p some) other seen at
 
 -- what was wanted is started, in one step
-after_wanted : (e f : EngineView) (n : ℕ) (next : Place) (a : Progress) → 1 ≤ e.processors → IsIdle e.changes → Moves e (Wanted n) f next a → half e.processors next ≡ 0
+after_wanted : (e f : EngineView) (n : ℕ) (next : Place) (a : Progress) → 1 ≤ e.processors → IsIdle e.changes → Moves e (Wanted n) f next a → so_far e.processors next ≡ 0
 after_wanted e f n next answer.Idle some idle m = m.counts.1
 after_wanted e f n next (answer.Started k) some idle m = m.counts.1
 after_wanted e f n next (answer.Flipped i) some idle m = m.counts.1
@@ -98,7 +98,7 @@ none_wanted Passed other = refl
 none_wanted (Flipped i) other = refl
 
 -- where there is more to do, nothing else is wanted than before
-need_kept : (e f : EngineView) (place next : Place) (a : Progress) → 1 ≤ e.processors → IsAt e place → Moves e place f next a → 0 < half e.processors next → wanted next ≡ wanted place
+need_kept : (e f : EngineView) (place next : Place) (a : Progress) → 1 ≤ e.processors → IsAt e place → Moves e place f next a → 0 < so_far e.processors next → wanted next ≡ wanted place
 need_kept e f Idle next a some at m more = none_wanted next m.not_wanted
 need_kept e f (Wanted n) next a some at m more = absurd (let done = after_wanted e f n next a some at.0 m in omega (arith, more, done))
 need_kept e f (Unlocks p ended) next a some at m more = none_wanted next m.not_wanted
@@ -107,7 +107,7 @@ need_kept e f Passed next a some at m more = none_wanted next m.not_wanted
 need_kept e f (Flipped i) next a some at m more = none_wanted next m.not_wanted
 
 -- at rest nothing more is to be done
-resting_done : (e f : EngineView) (place next : Place) (a : Progress) → 1 ≤ e.processors → place ≢ Idle → IsSeenByEngine e → IsAt e place → Moves e place f next a → ¬ IsRunning e.seen → half e.processors next ≡ 0
+resting_done : (e f : EngineView) (place next : Place) (a : Progress) → 1 ≤ e.processors → place ≢ Idle → IsSeenByEngine e → IsAt e place → Moves e place f next a → ¬ IsRunning e.seen → so_far e.processors next ≡ 0
 resting_done e f Idle next a some other seen at m resting = absurd (other refl)
 resting_done e f (Wanted n) next a some other seen at m resting = after_wanted e f n next a some at.0 m
 resting_done e f (Unlocks p ended) next a some other seen at m resting = absurd (resting (place_runs e (Unlocks p ended) other (λ n h. cc) seen at))
@@ -118,7 +118,7 @@ resting_done e f (Flipped i) next a some other seen at m resting = absurd (resti
 module _ {N : Type 0} (loads : N → ℕ → N → Type 0) where
   pub steps_from : (e f : EngineView) (needs : N) (place next : Place) (a : Progress) → 1 ≤ e.processors → place ≢ Idle → IsSeenByEngine e → IsAt e place → Moves e place f next a → StepsTo loads (viewed e needs place) a (viewed f needs next)
   steps_from e f needs place next a some not_idle seen at m = let same = m.same.1 in
-      let there : (p : Place) → half f.processors p ≡ half e.processors p = λ p. ap (λ n. half n p) same in record {
+      let there : (p : Place) → so_far f.processors p ≡ so_far e.processors p = λ p. ap (λ n. so_far n p) same in record {
         goes_on = record { same = m.same; since = m.since; history = m.history; made = m.made; steps = m.steps };
         events = m.events;
         needs = record { count = 0; need = wanted place; at_rest = λ resting none. absurd (resting (nothing_half_runs e place not_idle seen at some none)); busy = λ _. (refl, refl, refl) };
@@ -126,7 +126,7 @@ module _ {N : Type 0} (loads : N → ℕ → N → Type 0) where
         alone = λ some_load. absurd (omega (arith, some_load));
         in_order = m.in_order;
         changes = let changes = m.changes in let here = there next in omega (arith, changes, here);
-        counts = subst (λ n. Counts e.processors a (half e.processors place) n) (sym (there next)) m.counts;
+        counts = subst (λ n. Counts e.processors a (so_far e.processors place) n) (sym (there next)) m.counts;
         few = let few = half_few f next m.place_is (omega (arith, some, same)) in omega (arith, few, same);
         says = says_from e f needs place next a seen at m m.says;
         need = λ more. need_kept e f place next a some at m (subst (λ n. 0 < n) (there next) more);
@@ -139,15 +139,15 @@ module _ {N : Type 0} (loads : N → ℕ → N → Type 0) where
 -- after some steps without an answer more is half done than there was
 pub record HasMoved {N : Type 0} (loads : N → ℕ → N → Type 0) (v w : ScanView N) : Type 0 where
   pub goes_on : GoesOn v w
-  pub more : v.half < w.half
+  pub more : v.so_far < w.so_far
   pub events : w.seat.mine ≡ v.seat.mine
   pub needs : NeedsLoaded loads v w
-  pub steps : length goes_on.made + needs.count + v.half ≡ w.half
-  pub changes : w.seat.changes + half_changes v.seat.processors v.half ≡ v.seat.changes + half_changes v.seat.processors w.half
+  pub steps : length goes_on.made + needs.count + v.so_far ≡ w.so_far
+  pub changes : w.seat.changes + changes_so_far v.seat.processors v.so_far ≡ v.seat.changes + changes_so_far v.seat.processors w.so_far
   pub need : w.need ≡ needs.need
-  pub scan : IsRunning v.seat.seen → IsRunning w.seat.seen × FirstLoaded w.began v.half v.began v.seat.seen w.seat.seen
+  pub scan : IsRunning v.seat.seen → IsRunning w.seat.seen × FirstLoaded w.began v.so_far v.began v.seat.seen w.seat.seen
   -- at rest a period is wanted by now, and that is all
-  pub resting : ¬ IsRunning v.seat.seen → (w.seat ≡ v.seat) × (w.half ≡ 1)
+  pub resting : ¬ IsRunning v.seat.seen → (w.seat ≡ v.seat) × (w.so_far ≡ 1)
 
 module _ {N : Type 0} (loads : N → ℕ → N → Type 0) where
   abbrev goes_further : (u v w : ScanView N) → GoesOn u v → GoesOn v w → GoesOn u w
@@ -171,7 +171,7 @@ module _ {N : Type 0} (loads : N → ℕ → N → Type 0) where
         busy = λ b. let s = moved.needs.busy b in let x = s.0 in let y = still.0 in (omega (arith, x, y), still.1 ∙ s.1, still.2 ∙ (moved.need ∙ s.2));
       }
 
-  scan_further : (u v w : ScanView N) (since : ℕ) → HasMoved loads u v → IsBeginning v.seat.seen w.seat.seen → FirstLoaded since v.half v.began v.seat.seen w.seat.seen → IsRunning u.seat.seen → FirstLoaded since u.half u.began u.seat.seen w.seat.seen
+  scan_further : (u v w : ScanView N) (since : ℕ) → HasMoved loads u v → IsBeginning v.seat.seen w.seat.seen → FirstLoaded since v.so_far v.began v.seat.seen w.seat.seen → IsRunning u.seat.seen → FirstLoaded since u.so_far u.began u.seat.seen w.seat.seen
   scan_further u v w since moved later first running = let some = moved.more in let is = first.before (omega (arith, some)) in let before = (moved.scan running).1 in record {
     before = λ h. is ∙ before.before h;
     now = λ none. let here = before.now none in let low = here.0 in let high = here.1 in let longer = length_grows later in (omega (arith, low, is), omega (arith, high, is, longer));
@@ -236,9 +236,9 @@ module _ {N : Type 0} (loads : N → ℕ → N → Type 0) where
         scan = λ running. let first = s.scan (moved.scan running).0 (omega (arith, next)) in (first.0, scan_further u v w w.began moved s.goes_on.since first.1 running);
         resting = λ rests.
             let before = moved.resting rests in
-            let half = before.1 in
+            let so_far = before.1 in
             let one_half = (s.wanted (subst (λ e. ¬ IsRunning e.seen) (sym before.0) rests) (omega (arith, next))).2 in
-            absurd (omega (arith, next, half, one_half));
+            absurd (omega (arith, next, so_far, one_half));
       }
 
   has_moved : (u v w : ScanView N) → (v ≡ u) ⊎ HasMoved loads u v → StepsTo loads v answer.Step w → HasMoved loads u w
@@ -271,7 +271,7 @@ module _ {N : Type 0} (loads : N → ℕ → N → Type 0) where
   under_way u v w h s = record { between = h.between ++ w ∷ []; stepped = one_step_more h.between u v w h.stepped s; moved = inr (has_moved u v w h.moved s) }
 
   at_once : (u w : ScanView N) (a : Progress) (xs : List (ScanView N)) → StepsThrough loads xs u a w → StepsTo loads u a w → a ≢ answer.Step → AdvancesTo loads u a w
-  at_once u w a xs through s other = let c = counted u.seat.processors a u.half w.half other s.counts in let one = s.one in let taken = c.0 in let none = c.1 in let changes = s.changes in record {
+  at_once u w a xs through s other = let c = counted u.seat.processors a u.so_far w.so_far other s.counts in let one = s.one in let taken = c.0 in let none = c.1 in let changes = s.changes in record {
     between = xs;
     through = through;
     goes_on = s.goes_on;
@@ -287,9 +287,9 @@ module _ {N : Type 0} (loads : N → ℕ → N → Type 0) where
 
   at_last : (u v w : ScanView N) (a : Progress) (xs : List (ScanView N)) → StepsThrough loads xs u a w → HasMoved loads u v → StepsTo loads v a w → a ≢ answer.Step → AdvancesTo loads u a w
   at_last u v w a xs through moved s other =
-      let c = counted v.seat.processors a v.half w.half other s.counts in let one = s.one in let none = c.1 in let before = moved.steps in
+      let c = counted v.seat.processors a v.so_far w.so_far other s.counts in let one = s.one in let none = c.1 in let before = moved.steps in
       let was = moved.changes in let changes = s.changes in let same = moved.goes_on.same.1 in
-      let taken : v.half + 1 ≡ steps_for u.seat.processors a = c.0 ∙ ap (λ n. steps_for n a) same in
+      let taken : v.so_far + 1 ≡ steps_for u.seat.processors a = c.0 ∙ ap (λ n. steps_for n a) same in
       let made = length-append moved.goes_on.made s.goes_on.made in record {
         between = xs;
         through = through;
@@ -329,8 +329,8 @@ module _ {N : Type 0} (loads : N → ℕ → N → Type 0) (e : EngineView) (som
   resting running = idle_not_running e.changes e.seen idle seen.reaches running
 
   -- the need was loaded, and nothing was done
-  pub loaded_at_rest : (next : Place) (a : Progress) → events_of a ≡ [] → changes_for a ≡ 0 → Counts e.processors a 0 (half e.processors next) → half e.processors next ≤ 1
-      → Says a need (viewed e needs Idle) (viewed e needs' next) → (0 < half e.processors next → (wanted next ≡ need) × (number_at_rest e.seen < need) × (ended_in e.seen < e.periods)) → StepsTo loads (viewed e needs Idle) a (viewed e needs' next)
+  pub loaded_at_rest : (next : Place) (a : Progress) → events_of a ≡ [] → changes_for a ≡ 0 → Counts e.processors a 0 (so_far e.processors next) → so_far e.processors next ≤ 1
+      → Says a need (viewed e needs Idle) (viewed e needs' next) → (0 < so_far e.processors next → (wanted next ≡ need) × (number_at_rest e.seen < need) × (ended_in e.seen < e.periods)) → StepsTo loads (viewed e needs Idle) a (viewed e needs' next)
   loaded_at_rest next a none unchanged counts few says more = record {
     goes_on = record { same = (refl, refl, refl); since = beginning_refl e.seen; history = seen; made = []; steps = sym (append-nil e.steps) };
     events = sym (append-nil e.mine) ∙ ap (λ l. e.mine ++ l) (sym none);

@@ -2,12 +2,12 @@
 use Rattle.std.specs.Prelude.{◌≤◌}
 use Rattle.sections.specs.Driving.{IsSeenByEngine}
 use Rattle.scan.specs.declared.engine.Engine.TheInside as engine
-use Rattle.scan.specs.Places.{half, began, wanted, IsAt}
+use Rattle.scan.specs.Places.{so_far, began, wanted, IsAt}
 use Rattle.scan.specs.Progress.{ScanView}
 
 module _ {N A : Type 0} where
   abbrev pub view_of_engine : engine.Inside N A → ScanView N
-  view_of_engine e = record { seat = e.seat; needs = e.needs; need = wanted e.place; half = half e.seat.processors e.place; began = began e.seat e.place }
+  view_of_engine e = record { seat = e.seat; needs = e.needs; need = wanted e.place; so_far = so_far e.seat.processors e.place; began = began e.seat e.place }
 
   pub record IsEngine (e : engine.Inside N A) : Type 0 where
     pub history : IsSeenByEngine e.seat

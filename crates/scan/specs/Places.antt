@@ -9,7 +9,7 @@ use Rattle.sections.specs.declared.view.Step.TheVariants.{LoadIndex, LoadUnlocks
 use Rattle.sections.specs.Words.{index_word, number_word, locks, unlocks, sum_below, all_unlocks, IsIdle, IsBeforeFlip, IsFlipping, IsBehindFlip}
 use Rattle.sections.specs.Views.{EngineView}
 use Rattle.sections.specs.Driving.{IsSeenByEngine, IsSameEngine}
-use Rattle.scan.specs.Progress.{not_current, events_of, IsStepAt, counter_loads, HasStarted, HasFlipped, HasEnded, Waits, FirstLoaded, Counts, changes_for, half_changes}
+use Rattle.scan.specs.Progress.{not_current, events_of, IsStepAt, counter_loads, HasStarted, HasFlipped, HasEnded, Waits, FirstLoaded, Counts, changes_for, changes_so_far}
 use Rattle.scan.specs.declared.place.Place.{Place}
 use Rattle.scan.specs.declared.place.Place.TheVariants.{Idle, Wanted, Unlocks, Locks, Passed, Flipped}
 use Rattle.scan.specs.declared.progress.Progress.{Progress}
@@ -20,13 +20,13 @@ abbrev pub current : EngineView → Index
 current e = low_bit (index_word e.changes)
 
 -- how many steps were made of what is half done, in a domain of so many processors
-abbrev pub half : ℕ → Place → ℕ
-half processors Idle = 0
-half processors (Wanted n) = 1
-half processors (Unlocks p ended) = p
-half processors (Locks p ended begun) = processors + p
-half processors Passed = 2 * processors
-half processors (Flipped i) = 2 * processors + 1
+abbrev pub so_far : ℕ → Place → ℕ
+so_far processors Idle = 0
+so_far processors (Wanted n) = 1
+so_far processors (Unlocks p ended) = p
+so_far processors (Locks p ended begun) = processors + p
+so_far processors Passed = 2 * processors
+so_far processors (Flipped i) = 2 * processors + 1
 
 -- how long the history was that was seen at the load of a counter that is so many from the end; 1 is the last one
 abbrev pub seen_at_load : ℕ → List Step → ℕ
@@ -114,7 +114,7 @@ abbrev pub SaysAt : Progress → EngineView → Place → EngineView → Type 0
 SaysAt (answer.Started n) e place f = HasStarted n f
 SaysAt (answer.Flipped i) e place f = HasFlipped i f
 SaysAt (answer.Ended n) e place f = HasEnded n f
-SaysAt (answer.Waiting i) e place f = (since : ℕ) × Waits i since f × FirstLoaded since (half e.processors place) (began e place) e.seen f.seen
+SaysAt (answer.Waiting i) e place f = (since : ℕ) × Waits i since f × FirstLoaded since (so_far e.processors place) (began e place) e.seen f.seen
 SaysAt answer.Step e place f = Unit {0}
 SaysAt answer.Idle e place f = ⊥
 
@@ -127,14 +127,14 @@ pub record Moves (e : EngineView) (place : Place) (f : EngineView) (next : Place
   pub made : List Step
   pub steps : f.steps ≡ e.steps ++ made
   pub one : length (events_of a) + length made ≡ 1
-  pub in_order : (made ≡ []) ⊎ (l : Step) × (made ≡ l ∷ []) × IsStepAt e.processors (half e.processors place) (not_current e) l
-  pub changes : f.changes + half_changes e.processors (half e.processors place) ≡ e.changes + changes_for a + half_changes e.processors (half e.processors next)
-  pub counts : Counts e.processors a (half e.processors place) (half e.processors next)
+  pub in_order : (made ≡ []) ⊎ (l : Step) × (made ≡ l ∷ []) × IsStepAt e.processors (so_far e.processors place) (not_current e) l
+  pub changes : f.changes + changes_so_far e.processors (so_far e.processors place) ≡ e.changes + changes_for a + changes_so_far e.processors (so_far e.processors next)
+  pub counts : Counts e.processors a (so_far e.processors place) (so_far e.processors next)
   pub place_is : IsAt f next
   pub says : SaysAt a e place f
-  pub passed : 2 * e.processors ≤ half e.processors next → WasEmpty (not_current e) f.seen
+  pub passed : 2 * e.processors ≤ so_far e.processors next → WasEmpty (not_current e) f.seen
   -- none is wanted from then on, and a scan that goes on is the one that began
   pub not_wanted : (n : ℕ) → next ≢ Wanted n
-  pub scan : 0 < half e.processors next → FirstLoaded (began f next) (half e.processors place) (began e place) e.seen f.seen
+  pub scan : 0 < so_far e.processors next → FirstLoaded (began f next) (so_far e.processors place) (began e place) e.seen f.seen
   -- a period starts only where one was wanted, and no period ends then
   pub started : (n : ℕ) → a ≡ answer.Started n → (need : ℕ) × (place ≡ Wanted need) × (ended_in f.seen ≡ ended_in e.seen)

@@ -16,12 +16,12 @@ use Rattle.scan.specs.declared.progress.Progress.TheVariants as answer
 use Rattle.scan.specs.declared.progress.StartRefusal.{StartRefusal}
 use Rattle.scan.specs.declared.progress.StartRefusal.TheVariants as refusal
 
--- `seat` is the engine's seat, and `needs` are its needs. Of what is half done, `half` says how many steps were made; `need` is the number that was found to be asked for, where a period is wanted, and `began` how long the history was at the first load, where it is a scan
+-- `seat` is the engine's seat, and `needs` are its needs. Of what is half done, `so_far` says how many steps were made; `need` is the number that was found to be asked for, where a period is wanted, and `began` how long the history was at the first load, where it is a scan
 pub record ScanView (N : Type 0) : Type 0 where
   pub seat : EngineView
   pub needs : N
   pub need : ℕ
-  pub half : ℕ
+  pub so_far : ℕ
   pub began : ℕ
 
 -- a load of a counter
@@ -79,9 +79,9 @@ pub record Waits (i : Index) (since : ℕ) (e : EngineView) : Type 0 where
   pub of_index : index_of section moment ≡ i
 
 -- in a call that leads from one history to another, of a scan whose first load was made when the history was `since` long: where so much was half done before, that was noted (`began`); where nothing was, the load was made in the call
-pub record FirstLoaded (since half began : ℕ) (seen seen' : List Event) : Type 0 where
-  pub before : 0 < half → since ≡ began
-  pub now : half ≡ 0 → (length seen ≤ since) × (since ≤ length seen')
+pub record FirstLoaded (since so_far began : ℕ) (seen seen' : List Event) : Type 0 where
+  pub before : 0 < so_far → since ≡ began
+  pub now : so_far ≡ 0 → (length seen ≤ since) × (since ≤ length seen')
 
 -- how many atomic steps an answer takes in all, in a domain of so many processors: a scan loads two counters of each
 abbrev pub steps_for : ℕ → Progress → ℕ
@@ -105,11 +105,11 @@ events_of a = []
 
 -- where so many steps are half done of a scan of index i and of what follows it, the step at the seat is this: the unlock counters by rising processor, then the lock counters, then the two steps of the flip
 abbrev pub IsStepAt : ℕ → ℕ → Index → Step → Type 0
-IsStepAt processors half i (LoadUnlocks p j found seen) = (p ≡ half) × (p < processors) × (j ≡ i)
-IsStepAt processors half i (LoadLocks p j found seen) = (p + processors ≡ half) × (p < processors) × (j ≡ i)
-IsStepAt processors half i (AddIndex n) = half ≡ 2 * processors
-IsStepAt processors half i (AddNumber n) = half ≡ 2 * processors + 1
-IsStepAt processors half i (LoadIndex n) = ⊥
+IsStepAt processors so_far i (LoadUnlocks p j found seen) = (p ≡ so_far) × (p < processors) × (j ≡ i)
+IsStepAt processors so_far i (LoadLocks p j found seen) = (p + processors ≡ so_far) × (p < processors) × (j ≡ i)
+IsStepAt processors so_far i (AddIndex n) = so_far ≡ 2 * processors
+IsStepAt processors so_far i (AddNumber n) = so_far ≡ 2 * processors + 1
+IsStepAt processors so_far i (LoadIndex n) = ⊥
 
 -- how often the number and the index word are changed in all on the way to an answer
 abbrev pub changes_for : Progress → ℕ
@@ -121,8 +121,8 @@ changes_for (answer.Waiting i) = 0
 changes_for answer.Step = 0
 
 -- how often they were changed where so many steps are half done: what comes behind the loads of a scan are the steps of the flip, and each is a change
-abbrev pub half_changes : ℕ → ℕ → ℕ
-half_changes processors half = half - 2 * processors
+abbrev pub changes_so_far : ℕ → ℕ → ℕ
+changes_so_far processors so_far = so_far - 2 * processors
 
 -- the index that is not current
 abbrev pub not_current : EngineView → Index
@@ -137,8 +137,8 @@ module _ {N : Type 0} where
   Says (answer.Started n) need v w = HasStarted n w.seat × (number_at_rest w.seat.seen < need) × (ended_in w.seat.seen < w.seat.periods)
   Says (answer.Flipped i) need v w = HasFlipped i w.seat
   Says (answer.Ended n) need v w = HasEnded n w.seat
-  Says (answer.Waiting i) need v w = (since : ℕ) × Waits i since w.seat × FirstLoaded since v.half v.began v.seat.seen w.seat.seen
-  Says answer.Step need v w = 2 * v.seat.processors ≤ w.half → WasEmpty (not_current v.seat) w.seat.seen
+  Says (answer.Waiting i) need v w = (since : ℕ) × Waits i since w.seat × FirstLoaded since v.so_far v.began v.seat.seen w.seat.seen
+  Says answer.Step need v w = 2 * v.seat.processors ≤ w.so_far → WasEmpty (not_current v.seat) w.seat.seen
 
   -- the same engine, which knows what it knew; `made` are the steps at its seat, without its events
   pub record GoesOn (v w : ScanView N) : Type 0 where
@@ -154,7 +154,7 @@ module _ {N : Type 0} where
     pub event : AddsEngineEvent (Start Engine) v.seat w.seat
     pub started : HasStarted n w.seat
     pub needs : w.needs ≡ v.needs
-    pub done : w.half ≡ 0
+    pub done : w.so_far ≡ 0
 
   abbrev pub IsNoStart : ScanView N → StartRefusal → Type 0
   IsNoStart v refusal.Running = IsRunning v.seat.seen
@@ -162,7 +162,7 @@ module _ {N : Type 0} where
 
   -- an engine with this seat and these needs
   abbrev pub new_engine : EngineView → N → ScanView N
-  new_engine seat needs = record { seat = seat; needs = needs; need = 0; half = 0; began = 0 }
+  new_engine seat needs = record { seat = seat; needs = needs; need = 0; so_far = 0; began = 0 }
 
   abbrev pub with_seat : EngineView → ScanView N → ScanView N
   with_seat seat v = record v { seat = seat }
@@ -173,8 +173,8 @@ module _ {N : Type 0} where
     pub record NeedsLoaded (v w : ScanView N) : Type 0 where
       pub count : ℕ
       pub need : ℕ
-      pub at_rest : ¬ IsRunning v.seat.seen → v.half ≡ 0 → (count ≡ 1) × loads v.needs need w.needs
-      pub busy : IsRunning v.seat.seen ⊎ (0 < v.half) → (count ≡ 0) × (w.needs ≡ v.needs) × (need ≡ v.need)
+      pub at_rest : ¬ IsRunning v.seat.seen → v.so_far ≡ 0 → (count ≡ 1) × loads v.needs need w.needs
+      pub busy : IsRunning v.seat.seen ⊎ (0 < v.so_far) → (count ≡ 0) × (w.needs ≡ v.needs) × (need ≡ v.need)
 
     -- one atomic step was made: an event, a load of the need, or the step at the seat that comes next
     pub record StepsTo (v : ScanView N) (a : Progress) (w : ScanView N) : Type 0 where
@@ -183,15 +183,15 @@ module _ {N : Type 0} where
       pub needs : NeedsLoaded v w
       pub one : length (events_of a) + length goes_on.made + needs.count ≡ 1
       pub alone : 0 < needs.count → w.seat ≡ v.seat
-      pub in_order : (goes_on.made ≡ []) ⊎ (l : Step) × (goes_on.made ≡ l ∷ []) × IsStepAt v.seat.processors v.half (not_current v.seat) l
-      pub changes : w.seat.changes + half_changes v.seat.processors v.half ≡ v.seat.changes + changes_for a + half_changes v.seat.processors w.half
-      pub counts : Counts v.seat.processors a v.half w.half
-      pub few : w.half ≤ 2 * v.seat.processors + 1
+      pub in_order : (goes_on.made ≡ []) ⊎ (l : Step) × (goes_on.made ≡ l ∷ []) × IsStepAt v.seat.processors v.so_far (not_current v.seat) l
+      pub changes : w.seat.changes + changes_so_far v.seat.processors v.so_far ≡ v.seat.changes + changes_for a + changes_so_far v.seat.processors w.so_far
+      pub counts : Counts v.seat.processors a v.so_far w.so_far
+      pub few : w.so_far ≤ 2 * v.seat.processors + 1
       pub says : Says a needs.need v w
       -- where there is more to do: what is known of it
-      pub need : 0 < w.half → w.need ≡ needs.need
-      pub wanted : ¬ IsRunning v.seat.seen → 0 < w.half → (number_at_rest w.seat.seen < needs.need) × (ended_in w.seat.seen < w.seat.periods) × (w.half ≡ 1)
-      pub scan : IsRunning v.seat.seen → 0 < w.half → IsRunning w.seat.seen × FirstLoaded w.began v.half v.began v.seat.seen w.seat.seen
+      pub need : 0 < w.so_far → w.need ≡ needs.need
+      pub wanted : ¬ IsRunning v.seat.seen → 0 < w.so_far → (number_at_rest w.seat.seen < needs.need) × (ended_in w.seat.seen < w.seat.periods) × (w.so_far ≡ 1)
+      pub scan : IsRunning v.seat.seen → 0 < w.so_far → IsRunning w.seat.seen × FirstLoaded w.began v.so_far v.began v.seat.seen w.seat.seen
 
     -- steps without an answer, after each of which the engine was as one of these, and then one with this answer
     abbrev pub StepsThrough : List (ScanView N) → ScanView N → Progress → ScanView N → Type 0
@@ -206,19 +206,19 @@ module _ {N : Type 0} where
       pub goes_on : GoesOn v w
       pub events : w.seat.mine ≡ v.seat.mine ++ events_of a
       pub needs : NeedsLoaded v w
-      pub steps : length (events_of a) + length goes_on.made + needs.count + v.half ≡ steps_for v.seat.processors a
-      pub due : v.half < steps_for v.seat.processors a
-      pub changes : w.seat.changes + half_changes v.seat.processors v.half ≡ v.seat.changes + changes_for a
-      pub done : w.half ≡ 0
+      pub steps : length (events_of a) + length goes_on.made + needs.count + v.so_far ≡ steps_for v.seat.processors a
+      pub due : v.so_far < steps_for v.seat.processors a
+      pub changes : w.seat.changes + changes_so_far v.seat.processors v.so_far ≡ v.seat.changes + changes_for a
+      pub done : w.so_far ≡ 0
       pub says : Says a needs.need v w
 
     -- a period is asked for, and as many have ended as there may be; just the need was loaded
     pub record FindsExhausted (v w : ScanView N) : Type 0 where
-      pub nothing_half : v.half ≡ 0
+      pub nothing_half : v.so_far ≡ 0
       pub seat : w.seat ≡ v.seat
       pub need : ℕ
       pub load : loads v.needs need w.needs
-      pub still_nothing : w.half ≡ 0
+      pub still_nothing : w.so_far ≡ 0
       pub resting : ¬ IsRunning w.seat.seen
       pub ended : ended_in w.seat.seen ≡ w.seat.periods
       pub asked : number_at_rest w.seat.seen < need

@@ -38,7 +38,7 @@ one_more v w n p =
     omega (arith, before, more)
 
 -- a call that found nothing half done made as many steps as its answer takes
-steps_of_call : (v w : View) (a : Progress) → AdvancesTo LoadsNeed v a w → v.half ≡ 0 → steps_made w ≡ steps_made v + steps_for v.seat.processors a
+steps_of_call : (v w : View) (a : Progress) → AdvancesTo LoadsNeed v a w → v.so_far ≡ 0 → steps_made w ≡ steps_made v + steps_for v.seat.processors a
 steps_of_call v w a h none =
     let steps = h.steps in
     let mine : length w.seat.mine ≡ length v.seat.mine + length (events_of a) = ap length h.events ∙ length-append v.seat.mine (events_of a) in
@@ -48,7 +48,7 @@ steps_of_call v w a h none =
     (λ resting. let r = h.needs.at_rest resting none in let one = r.0 in let once = r.1.once in omega (arith, one, once)) in
     omega (arith, steps, mine, made, loads, none)
 
-pub steps_of_one : (v w : View) (n : ℕ) → CarriesPeriod v n w → v.half ≡ 0 → steps_made w ≡ steps_made v + quiet_steps v.seat.processors
+pub steps_of_one : (v w : View) (n : ℕ) → CarriesPeriod v n w → v.so_far ≡ 0 → steps_made w ≡ steps_made v + quiet_steps v.seat.processors
 steps_of_one v w n p none =
     let a = steps_of_call v p.started _ p.starts none in
     let b = steps_of_call p.started p.flipped _ p.flips p.starts.done in
@@ -58,7 +58,7 @@ steps_of_one v w n p none =
     omega (arith, a, b, c, same, same')
 
 -- nothing went by yet
-pub none_carried : (v : View) → v.half ≡ 0 → ended_in v.seat.seen ≡ 0 → CarriesPeriods 0 v 0 v
+pub none_carried : (v : View) → v.so_far ≡ 0 → ended_in v.seat.seen ≡ 0 → CarriesPeriods 0 v 0 v
 none_carried v rests none = record { counted = sym none; all = omega arith; steps = omega arith; done = rests }
 
 next_times : (k q : ℕ) → (k + 1) * q ≡ k * q + q
@@ -70,12 +70,12 @@ carried_on k ended n v u w h same p =
     let count : periods_ended n ≡ ended_in w.seat.seen = omega (arith, number) in
     let more = one_more u w n p in
     let before = h.counted in
-    let so_far = h.all in
+    let enough = h.all in
     let steps = h.steps in
     let one : steps_made w ≡ steps_made u + quiet_steps v.seat.processors = subst (λ q. steps_made w ≡ steps_made u + quiet_steps q) same (steps_of_one u w n p h.done) in
     record {
       counted = count;
-      all = omega (arith, count, more, before, so_far);
+      all = omega (arith, count, more, before, enough);
       steps = one ∙ (ap (λ m. m + quiet_steps v.seat.processors) steps ∙ together (steps_made v) k (quiet_steps v.seat.processors));
       done = p.ends.done;
     }

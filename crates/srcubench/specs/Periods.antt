@@ -71,7 +71,7 @@ pub record CarriesPeriods (periods : ℕ) (v : View) (ended : ℕ) (w : View) : 
   pub counted : ended ≡ ended_in w.seat.seen
   pub all : periods ≤ ended
   pub steps : steps_made w ≡ steps_made v + periods * quiet_steps v.seat.processors
-  pub done : w.half ≡ 0
+  pub done : w.so_far ≡ 0
 
 -- fewer went by, and then one was held up
 pub record StopsBefore (periods : ℕ) (v : View) (s : Stop) (w : View) : Type 0 where

@@ -80,7 +80,7 @@ pub fn make_periods<A: Allocator>(
     engine: &mut Engine<EveryPeriod, A>,
     periods: u64,
 ) -> Result<u64, Stop>
-    requires rests { engine.old.half ≡ 0 }
+    requires rests { engine.old.so_far ≡ 0 }
     requires new { ended_in engine.old.seat.seen ≡ 0 }
     ensures { MatchResult result (λ ended. CarriesPeriods periods engine.old ended engine.new) (λ stop. StopsBefore periods engine.old stop engine.new) }
 {

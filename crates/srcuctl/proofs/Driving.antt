@@ -29,11 +29,11 @@ abbrev pub View : Type 0
 View = ScanView NoNeeds
 
 abbrev pub seen_as : Limits → View → DomainView
-seen_as limits v = record { table = v.seat.domain; limits = limits; standing = record { processors = v.seat.processors; history = v.seat.seen; changes = v.seat.changes; half = v.half; began = v.began } }
+seen_as limits v = record { table = v.seat.domain; limits = limits; standing = record { processors = v.seat.processors; history = v.seat.seen; changes = v.seat.changes; so_far = v.so_far; began = v.began } }
 
 -- at rest nothing is half done still, where the engine has but met the others
-pub rests_on : (v w : View) → (IsIdle v.seat.changes → v.half ≡ 0) → w.seat.changes ≡ v.seat.changes → w ≡ with_seat w.seat v → IsIdle w.seat.changes → w.half ≡ 0
-rests_on v w rests same rest idle = ap (λ (x : View). x.half) rest ∙ rests (subst IsIdle same idle)
+pub rests_on : (v w : View) → (IsIdle v.seat.changes → v.so_far ≡ 0) → w.seat.changes ≡ v.seat.changes → w ≡ with_seat w.seat v → IsIdle w.seat.changes → w.so_far ≡ 0
+rests_on v w rests same rest idle = ap (λ (x : View). x.so_far) rest ∙ rests (subst IsIdle same idle)
 
 pub idles_of_look : (c c' : CpuView) (l : LookView) → Looks c c' l → Idles c c'
 idles_of_look c c' l h = record { same = h.load.same; since = h.load.since; mine = h.load.mine; later = h.load.later }
@@ -70,11 +70,11 @@ module _ (limits : Limits) (cpus : List CpuView) (v : View) (p : ℕ) (c c' : Cp
 
   -- the history alone has changed
   seen_with : (history : List Event) → v'.seat.seen ≡ history
-      → seen_as limits v' ≡ record { table = v.seat.domain; limits = limits; standing = record { processors = v.seat.processors; history = history; changes = v.seat.changes; half = v.half; began = v.began } }
+      → seen_as limits v' ≡ record { table = v.seat.domain; limits = limits; standing = record { processors = v.seat.processors; history = history; changes = v.seat.changes; so_far = v.so_far; began = v.began } }
   seen_with history is = λ t. record {
     table = meets.same.0 t;
     limits = limits;
-    standing = record { processors = meets.same.1 t; history = is t; changes = meets.changes_are t; half = ap (λ (x : View). x.half) rest t; began = ap (λ (x : View). x.began) rest t };
+    standing = record { processors = meets.same.1 t; history = is t; changes = meets.changes_are t; so_far = ap (λ (x : View). x.so_far) rest t; began = ap (λ (x : View). x.began) rest t };
   }
 
   seen_idle : Idles c c' → seen_as limits v' ≡ seen_as limits v

@@ -15,7 +15,7 @@ use Rattle.sections.specs.Making.{IsCount}
 use Rattle.sections.specs.Driving.{IsSeenByEngine, IsSameEngine, Meets}
 use Rattle.scan.specs.declared.progress.Progress.{Progress}
 use Rattle.scan.specs.declared.progress.Progress.TheVariants as answer
-use Rattle.scan.specs.Progress.{number_at_rest, steps_for, Counts, events_of, changes_for, half_changes, GoesOn, Says, NeedsLoaded, StepsTo, AdvancesTo}
+use Rattle.scan.specs.Progress.{number_at_rest, steps_for, Counts, events_of, changes_for, changes_so_far, GoesOn, Says, NeedsLoaded, StepsTo, AdvancesTo}
 use Rattle.srcuctl.specs.declared.needs.NoNeeds.{NoNeeds}
 use Rattle.srcuctl.specs.Together.{AllHold, AreTogether}
 use Rattle.srcuctl.proofs.OneHistory.{nothing_new, just_this, between_same}
@@ -31,11 +31,11 @@ pub record Moves (v : View) (a : Progress) (w : View) : Type 0 where
   pub goes_on : GoesOn v w
   pub events : w.seat.mine ≡ v.seat.mine ++ events_of a
   pub needs : NeedsLoaded FindsNothing v w
-  pub changes : w.seat.changes + half_changes v.seat.processors v.half ≡ v.seat.changes + changes_for a + half_changes v.seat.processors w.half
-  pub due : a ≢ answer.Step → (v.half < steps_for v.seat.processors a) × (w.half ≡ 0)
+  pub changes : w.seat.changes + changes_so_far v.seat.processors v.so_far ≡ v.seat.changes + changes_for a + changes_so_far v.seat.processors w.so_far
+  pub due : a ≢ answer.Step → (v.so_far < steps_for v.seat.processors a) × (w.so_far ≡ 0)
   pub says : Says a needs.need v w
-  pub wanted : ¬ IsRunning v.seat.seen → 0 < w.half → number_at_rest w.seat.seen < needs.need
-  pub running : IsRunning v.seat.seen → 0 < w.half → IsRunning w.seat.seen
+  pub wanted : ¬ IsRunning v.seat.seen → 0 < w.so_far → number_at_rest w.seat.seen < needs.need
+  pub running : IsRunning v.seat.seen → 0 < w.so_far → IsRunning w.seat.seen
 
 by_counts : (n : ℕ) (a : Progress) (before after : ℕ) → Counts n a before after → a ≢ answer.Step → (before < steps_for n a) × (after ≡ 0)
 by_counts n answer.Idle before after c other = let one = c.0 in (omega (arith, one), c.1)
@@ -51,7 +51,7 @@ moves_by_step v w a s = record {
   events = s.events;
   needs = s.needs;
   changes = s.changes;
-  due = by_counts v.seat.processors a v.half w.half s.counts;
+  due = by_counts v.seat.processors a v.so_far w.so_far s.counts;
   says = s.says;
   wanted = λ resting some. (s.wanted resting some).0;
   running = λ running some. (s.scan running some).0;

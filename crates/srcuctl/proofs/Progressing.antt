@@ -32,7 +32,7 @@ use Rattle.srcuctl.proofs.Growing.{FindsNothing, Moves, moves_by_step, moves_by_
 -- what is known behind the meeting
 pub record Met (v : View) (a : Progress) (w w' : View) : Type 0 where
   pub before : IsSeenByEngine v.seat
-  pub rests : IsIdle v.seat.changes → v.half ≡ 0
+  pub rests : IsIdle v.seat.changes → v.so_far ≡ 0
   pub moves : Moves v a w
   pub grown : w.seat.seen ≡ v.seat.seen ++ events_of a
   pub after : w'.seat.seen ≡ v.seat.seen ++ events_of a
@@ -42,23 +42,23 @@ pub record Met (v : View) (a : Progress) (w w' : View) : Type 0 where
   pub rest : w' ≡ with_seat w'.seat w
 
 abbrev pub standing_at : View → Standing
-standing_at v = record { processors = v.seat.processors; history = v.seat.seen; changes = v.seat.changes; half = v.half; began = v.began }
+standing_at v = record { processors = v.seat.processors; history = v.seat.seen; changes = v.seat.changes; so_far = v.so_far; began = v.began }
 
 idle_or_runs : {P : Type 0} (e : EngineView) → IsSeenByEngine e → (IsIdle e.changes → P) → (IsRunning e.seen → P) → P
 idle_or_runs e h idle runs = dite (ℕ_discrete (e.changes % 4) 0) idle (λ busy. runs (busy_running e.changes e.seen (omega (arith, busy)) h.reaches))
 
 module _ (v w w' : View) where
   -- at rest nothing more is to be done
-  nothing_wanted : (a : Progress) → Met v a w w' → IsIdle v.seat.changes → 0 < w.half → ⊥
+  nothing_wanted : (a : Progress) → Met v a w w' → IsIdle v.seat.changes → 0 < w.so_far → ⊥
   nothing_wanted a m idle some =
       let resting = idle_not_running v.seat.changes v.seat.seen idle m.before.reaches in
       let found = (m.moves.needs.at_rest resting (m.rests idle)).1 in
       let wanted = m.moves.wanted resting some in omega (arith, found, wanted)
 
-  pub rests_still : (a : Progress) → Met v a w w' → IsIdle w'.seat.changes → w'.half ≡ 0
+  pub rests_still : (a : Progress) → Met v a w w' → IsIdle w'.seat.changes → w'.so_far ≡ 0
   rests_still a m idle =
-      let same : w'.half ≡ w.half = ap (λ (x : View). x.half) m.rest in
-      dite (ℕ_discrete w.half 0) (λ none. same ∙ none) (λ some. absurd (idle_or_runs v.seat m.before
+      let same : w'.so_far ≡ w.so_far = ap (λ (x : View). x.so_far) m.rest in
+      dite (ℕ_discrete w.so_far 0) (λ none. same ∙ none) (λ some. absurd (idle_or_runs v.seat m.before
       (λ before. nothing_wanted a m before (omega (arith, some)))
       (λ running. idle_not_running w.seat.changes w.seat.seen (subst IsIdle m.changes idle) m.moves.goes_on.history.reaches (m.moves.running running (omega (arith, some))))))
 
@@ -66,11 +66,11 @@ module _ (v w w' : View) where
   pick x y b = if b then x else y
 
   -- the first load of a scan, in a call between whose steps nobody came
-  scan_is : (since : ℕ) → FirstLoaded since v.half v.began v.seat.seen w.seat.seen → w.seat.seen ≡ v.seat.seen → since ≡ scan_began (standing_at v)
-  scan_is since first same = dite (ℕ_discrete v.half 0)
+  scan_is : (since : ℕ) → FirstLoaded since v.so_far v.began v.seat.seen w.seat.seen → w.seat.seen ≡ v.seat.seen → since ≡ scan_began (standing_at v)
+  scan_is since first same = dite (ℕ_discrete v.so_far 0)
       (λ none. let now = first.now none in let low = now.0 in let high = now.1 in let long : length w.seat.seen ≡ length v.seat.seen = ap length same in
-      let is : since ≡ length v.seat.seen = omega (arith, low, high, long) in is ∙ sym (ap (pick (length v.seat.seen) v.began) (eq-eqb v.half 0 none)))
-      (λ some. first.before (omega (arith, some)) ∙ sym (ap (pick (length v.seat.seen) v.began) (ne_eqb v.half 0 some)))
+      let is : since ≡ length v.seat.seen = omega (arith, low, high, long) in is ∙ sym (ap (pick (length v.seat.seen) v.began) (eq-eqb v.so_far 0 none)))
+      (λ some. first.before (omega (arith, some)) ∙ sym (ap (pick (length v.seat.seen) v.began) (ne_eqb v.so_far 0 some)))
 
   waits_for : (i : Index) → Met v (answer.Waiting i) w w' → WaitsFor i (standing_at v)
   waits_for i m =
@@ -94,7 +94,7 @@ module _ (v w w' : View) where
         of_index = waits.of_index;
       }
 
-  is_running : Met v answer.Step w w' → 0 < w.half → IsRunning v.seat.seen
+  is_running : Met v answer.Step w w' → 0 < w.so_far → IsRunning v.seat.seen
   is_running m some = idle_or_runs v.seat m.before (λ idle. absurd (nothing_wanted answer.Step m idle some)) (λ running. running)
 
   starts_not : (n : ℕ) → Met v (answer.Started n) w w' → ⊥
@@ -116,13 +116,13 @@ module _ (v w w' : View) where
       let same : w.seat.seen ≡ v.seat.seen = m.grown ∙ append-nil v.seat.seen in
       (subst IsRunning same says.running, says.index ∙ ap (λ h. low_bit (ended_in h + 1)) same, subst (WasEmpty i) same says.empty)
 
-  step_says : Met v answer.Step w w' → 0 < w.half → standing.Says answer.Step (standing_at v) (standing_at w')
+  step_says : Met v answer.Step w w' → 0 < w.so_far → standing.Says answer.Step (standing_at v) (standing_at w')
   step_says m some =
       let same : w.seat.seen ≡ v.seat.seen = m.grown ∙ append-nil v.seat.seen in
-      let half : w'.half ≡ w.half = ap (λ (x : View). x.half) m.rest in
-      (is_running m some, λ all. subst (WasEmpty (not_current (standing_at v))) same (m.moves.says (omega (arith, all, half))))
+      let so_far : w'.so_far ≡ w.so_far = ap (λ (x : View). x.so_far) m.rest in
+      (is_running m some, λ all. subst (WasEmpty (not_current (standing_at v))) same (m.moves.says (omega (arith, all, so_far))))
 
-says_in : (v w w' : View) (a : Progress) → Met v a w w' → (a ≡ answer.Step → 0 < w.half) → standing.Says a (standing_at v) (standing_at w')
+says_in : (v w w' : View) (a : Progress) → Met v a w w' → (a ≡ answer.Step → 0 < w.so_far) → standing.Says a (standing_at v) (standing_at w')
 says_in v w w' answer.Idle m some = subst (λ l. ¬ IsRunning l) (m.grown ∙ append-nil v.seat.seen) m.moves.says.0
 says_in v w w' (answer.Started n) m some = starts_not v w w' n m
 says_in v w w' (answer.Flipped i) m some = flipped_says v w w' i m
@@ -142,7 +142,7 @@ is_step answer.Step only = refl
 half_of_step : (n : ℕ) (a : Progress) (before after : ℕ) → Counts n a before after → a ≡ answer.Step → 0 < after
 half_of_step n a before after c is = let one : after ≡ before + 1 = subst (λ x. Counts n x before after) is c in omega (arith, one)
 
-scan_on : (v w w' : View) (a : Progress) → StepsTo FindsNothing v a w → Met v a w w' → 0 < w.half → w.began ≡ scan_began (standing_at v)
+scan_on : (v w w' : View) (a : Progress) → StepsTo FindsNothing v a w → Met v a w w' → 0 < w.so_far → w.began ≡ scan_began (standing_at v)
 scan_on v w w' a s m some =
     let is : a ≡ answer.Step = is_step a (λ other. let done = (m.moves.due other).1 in omega (arith, some, done)) in
     let same : w.seat.seen ≡ v.seat.seen = m.grown ∙ (ap (λ x. v.seat.seen ++ events_of x) is ∙ append-nil v.seat.seen) in
@@ -152,15 +152,15 @@ scan_on v w w' a s m some =
 -- one step, behind which the others were met
 steps_in : (v w w' : View) (a : Progress) → StepsTo FindsNothing v a w → Met v a w w' → Steps a (standing_at v) (standing_at w')
 steps_in v w w' a s m =
-    let half : w'.half ≡ w.half = ap (λ (x : View). x.half) m.rest in record {
+    let so_far : w'.so_far ≡ w.so_far = ap (λ (x : View). x.so_far) m.rest in record {
       same = m.same ∙ s.goes_on.same.1;
-      says = says_in v w w' a m (half_of_step v.seat.processors a v.half w.half s.counts);
+      says = says_in v w w' a m (half_of_step v.seat.processors a v.so_far w.so_far s.counts);
       events = m.after;
       agree = m.agree;
-      changes = let changes = m.moves.changes in let same = m.changes in omega (arith, changes, same, half);
-      counts = subst (λ n. Counts v.seat.processors a v.half n) (sym half) s.counts;
-      few = let few = s.few in omega (arith, few, half);
-      scan = λ some. ap (λ (x : View). x.began) m.rest ∙ scan_on v w w' a s m (omega (arith, some, half));
+      changes = let changes = m.moves.changes in let same = m.changes in omega (arith, changes, same, so_far);
+      counts = subst (λ n. Counts v.seat.processors a v.so_far n) (sym so_far) s.counts;
+      few = let few = s.few in omega (arith, few, so_far);
+      scan = λ some. ap (λ (x : View). x.began) m.rest ∙ scan_on v w w' a s m (omega (arith, some, so_far));
     }
 
 -- Several steps
@@ -203,7 +203,7 @@ seen_later (u ∷ us) v w a h = beginning_trans h.0.goes_on.since (seen_later us
 -- what is known behind the meeting that comes after the last step
 record MetAtLast (v : View) (a : Progress) (w w' : View) : Type 0 where
   pub before : IsSeenByEngine v.seat
-  pub rests : IsIdle v.seat.changes → v.half ≡ 0
+  pub rests : IsIdle v.seat.changes → v.so_far ≡ 0
   pub grown : w.seat.seen ≡ v.seat.seen ++ events_of a
   pub after : w'.seat.seen ≡ v.seat.seen ++ events_of a
   pub same : w'.seat.processors ≡ w.seat.processors
@@ -243,7 +243,7 @@ steps_through (u ∷ us) v w w' a h m =
 
 -- Calls
 
-module _ (limits : Limits) (cpus : List CpuView) (v w : View) (together : AreTogether limits cpus v.seat) (rests : IsIdle v.seat.changes → v.half ≡ 0) (cpus' : List CpuView) (w' : View) (meets : Meets w.seat cpus w'.seat cpus') (rest : w' ≡ with_seat w'.seat w) where
+module _ (limits : Limits) (cpus : List CpuView) (v w : View) (together : AreTogether limits cpus v.seat) (rests : IsIdle v.seat.changes → v.so_far ≡ 0) (cpus' : List CpuView) (w' : View) (meets : Meets w.seat cpus w'.seat cpus') (rest : w' ≡ with_seat w'.seat w) where
   same_but : IsSameEngine v.seat w.seat → IsSameBut (seen_as limits v) (seen_as limits w')
   same_but same = λ i. record { table = (meets.same.0 ∙ same.0) i; limits = limits; standing = record (standing_at w') { processors = (meets.same.1 ∙ same.1) i } }
 
@@ -267,7 +267,7 @@ module _ (limits : Limits) (cpus : List CpuView) (v w : View) (together : AreTog
     pub moved_together : AreTogether limits cpus' w'.seat
     moved_together = together_still limits cpus v w together (events_of a) (grew v w a moves) cpus' w' meets
 
-    pub moved_rests : IsIdle w'.seat.changes → w'.half ≡ 0
+    pub moved_rests : IsIdle w'.seat.changes → w'.so_far ≡ 0
     moved_rests = rests_still v w w' a met
 
   pub steps_on : (a : Progress) → StepsTo FindsNothing v a w → StepsOn (seen_as limits v) a (seen_as limits w')
@@ -297,8 +297,8 @@ module _ (limits : Limits) (cpus : List CpuView) (v w : View) (together : AreTog
   pub started_together : (n : ℕ) → Starts v n w → AreTogether limits cpus' w'.seat
   started_together n s = together_still limits cpus v w together (Start Engine ∷ []) (starts_alone n s) cpus' w' meets
 
-  pub started_rests : (n : ℕ) → Starts v n w → IsIdle w'.seat.changes → w'.half ≡ 0
-  started_rests n s idle = ap (λ (x : View). x.half) rest ∙ s.done
+  pub started_rests : (n : ℕ) → Starts v n w → IsIdle w'.seat.changes → w'.so_far ≡ 0
+  started_rests n s idle = ap (λ (x : View). x.so_far) rest ∙ s.done
 
   pub started : (n : ℕ) → Starts v n w → StartsPeriod (seen_as limits v) n (seen_as limits w')
   started n s =
@@ -314,7 +314,7 @@ module _ (limits : Limits) (cpus : List CpuView) (v w : View) (together : AreTog
             processors = (meets.same.1 ∙ s.event.same.1) i;
             history = grown.1 i;
             changes = (meets.changes_are ∙ s.event.changes_are) i;
-            half = (ap (λ (x : View). x.half) rest ∙ s.done) i;
+            so_far = (ap (λ (x : View). x.so_far) rest ∙ s.done) i;
             began = w'.began;
           };
           agree = meets.history.reaches;

@@ -9,14 +9,14 @@ use Rattle.onedom.specs.Histories.{IsOpen, index_of, ended_in, IsRunning, WasEmp
 use Rattle.sections.specs.Words.{index_word, number_word, Reaches}
 use Rattle.scan.specs.declared.progress.Progress.{Progress}
 use Rattle.scan.specs.declared.progress.Progress.TheVariants as answer
-use Rattle.scan.specs.Progress.{number_at_rest, Counts, events_of, changes_for, half_changes}
+use Rattle.scan.specs.Progress.{number_at_rest, Counts, events_of, changes_for, changes_so_far}
 
--- `changes` is how often the engine has changed the number and the index word. Of what is half done, `half` says how many steps were made, and `began` how long the history was at the first load of the scan
+-- `changes` is how often the engine has changed the number and the index word. Of what is half done, `so_far` says how many steps were made, and `began` how long the history was at the first load of the scan
 pub record Standing : Type 0 where
   pub processors : ℕ
   pub history : List Event
   pub changes : ℕ
-  pub half : ℕ
+  pub so_far : ℕ
   pub began : ℕ
 
 -- the index that a look finds now
@@ -29,7 +29,7 @@ number_now s = number_word s.changes
 
 -- nothing has happened yet
 abbrev pub new_standing : ℕ → Standing
-new_standing processors = record { processors = processors; history = []; changes = 0; half = 0; began = 0 }
+new_standing processors = record { processors = processors; history = []; changes = 0; so_far = 0; began = 0 }
 
 abbrev pub with_event : Event → Standing → Standing
 with_event e s = record s { history = s.history ++ e ∷ [] }
@@ -38,7 +38,7 @@ with_event e s = record s { history = s.history ++ e ∷ [] }
 pub record Starts (periods n : ℕ) (s s' : Standing) : Type 0 where
   pub follows : MayFollow s.history (Start Engine)
   pub room : ended_in s.history < periods
-  pub after : s' ≡ record (with_event (Start Engine) s) { changes = s.changes + 1; half = 0; began = s'.began }
+  pub after : s' ≡ record (with_event (Start Engine) s) { changes = s.changes + 1; so_far = 0; began = s'.began }
   pub agree : Reaches s'.changes s'.history
   pub number : n ≡ number_at_rest s.history + 1
 
@@ -49,7 +49,7 @@ pub record AreUsedUp (periods : ℕ) (s : Standing) : Type 0 where
 
 -- how long the history was at the first load of the scan that is half done; where none is, one begins now
 abbrev pub scan_began : Standing → ℕ
-scan_began s = if s.half == 0 then length s.history else s.began
+scan_began s = if s.so_far == 0 then length s.history else s.began
 
 -- the index that is scanned: the one that is not current
 abbrev pub not_current : Standing → Index
@@ -73,7 +73,7 @@ Says (answer.Started n) s s' = ⊥
 Says (answer.Flipped i) s s' = IsRunning s.history × (i ≡ low_bit (ended_in s.history + 1)) × WasEmpty i s.history
 Says (answer.Ended n) s s' = MayFollow s.history (Finish Engine) × (n ≡ number_at_rest s'.history) × ((i : Index) → WasEmpty i s'.history)
 Says (answer.Waiting i) s s' = WaitsFor i s
-Says answer.Step s s' = IsRunning s.history × (2 * s.processors ≤ s'.half → WasEmpty (not_current s) s.history)
+Says answer.Step s s' = IsRunning s.history × (2 * s.processors ≤ s'.so_far → WasEmpty (not_current s) s.history)
 
 -- one atomic step was made. The history has its event, if it is one, and the number and the index word agree with it still
 pub record Steps (a : Progress) (s s' : Standing) : Type 0 where
@@ -81,10 +81,10 @@ pub record Steps (a : Progress) (s s' : Standing) : Type 0 where
   pub says : Says a s s'
   pub events : s'.history ≡ s.history ++ events_of a
   pub agree : Reaches s'.changes s'.history
-  pub changes : s'.changes + half_changes s.processors s.half ≡ s.changes + changes_for a + half_changes s.processors s'.half
-  pub counts : Counts s.processors a s.half s'.half
-  pub few : s'.half ≤ 2 * s.processors + 1
-  pub scan : 0 < s'.half → s'.began ≡ scan_began s
+  pub changes : s'.changes + changes_so_far s.processors s.so_far ≡ s.changes + changes_for a + changes_so_far s.processors s'.so_far
+  pub counts : Counts s.processors a s.so_far s'.so_far
+  pub few : s'.so_far ≤ 2 * s.processors + 1
+  pub scan : 0 < s'.so_far → s'.began ≡ scan_began s
 
 -- steps without an answer, after each of which the domain stood as one of these, and then one with this answer
 abbrev pub StepsThrough : List Standing → Standing → Progress → Standing → Type 0

@@ -42,10 +42,10 @@ module _ {A : Type 0} where
   view_of_domain d = record {
     table = d.engine.seat.domain;
     limits = d.limits;
-    standing = record { processors = d.engine.seat.processors; history = d.engine.seat.seen; changes = d.engine.seat.changes; half = d.engine.half; began = d.engine.began };
+    standing = record { processors = d.engine.seat.processors; history = d.engine.seat.seen; changes = d.engine.seat.changes; so_far = d.engine.so_far; began = d.engine.began };
   }
 
   -- at rest nothing is half done: nobody asks for a period
   pub record IsDomain (d : domain.Inside A) : Type 0 where
     pub together : AreTogether d.limits d.cpus.items d.engine.seat
-    pub rests : IsIdle d.engine.seat.changes → d.engine.half ≡ 0
+    pub rests : IsIdle d.engine.seat.changes → d.engine.so_far ≡ 0

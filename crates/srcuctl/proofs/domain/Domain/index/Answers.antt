@@ -35,7 +35,7 @@ returns-clause-after g c =
     let meets = subst (λ l. Meets e l c.meet.new.self.seat c.meet.new.cpus) c.deref_mut.ensures.value c.meet.ensures.met in
     let inside : 0 < length cpus = omega (arith, together.hold.all, together.hold.count.0) in
     let same = idle_seen c.self.inside.limits cpus e 0 was new together inside c.index_mut.ensures.value c.meet.new.cpus c.meet.new.self.seat meets (idles_of_look was new c.look-look.result c.look-look.ensures) in
-    (λ i. record { table = meets.same.0 i; limits = c.self.inside.limits; standing = record { processors = meets.same.1 i; history = same i; changes = meets.changes_are i; half = ap (λ x. x.half) c.meet.ensures.rest i; began = ap (λ x. x.began) c.meet.ensures.rest i } }) ∙ c.self.view_is
+    (λ i. record { table = meets.same.0 i; limits = c.self.inside.limits; standing = record { processors = meets.same.1 i; history = same i; changes = meets.changes_are i; so_far = ap (λ x. x.so_far) c.meet.ensures.rest i; began = ap (λ x. x.began) c.meet.ensures.rest i } }) ∙ c.self.view_is
 
 pub returns-clause-value : goal.returns-clause-value
 returns-clause-value g c =
