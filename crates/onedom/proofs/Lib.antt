@@ -1,6 +1,7 @@
-pub mod Pushes
-pub mod Beginnings
-pub mod Opens
-pub mod Refused
-pub mod Periods
-pub mod Lawful
+pub mod CallerLemmas
+mod Pushes
+mod Beginnings
+mod Opens
+mod Refused
+mod Periods
+mod Lawful

@@ -1,5 +1,6 @@
-pub mod Answered
-pub mod Cuts
-pub mod Last
-pub mod Lists
-pub mod Moves
+pub mod CallerLemmas
+mod Answered
+mod Cuts
+mod Last
+mod Lists
+mod Moves

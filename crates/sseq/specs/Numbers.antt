@@ -1,5 +1,5 @@
 -- The number of a domain: four times the count of its ended grace periods, and the state of the running one in the low two bits.
-use Rattle.std.specs.Prelude.{ℕ, ◌+◌, ◌*◌, ◌/◌, ◌%◌, ◌^◌, ◌≤◌, ◌==◌, if◌then◌else◌, List, codes}
+use Rattle.std.specs.Prelude.{ℕ, ◌+◌, ◌*◌, ◌/◌, ◌%◌, ◌^◌, ◌≤◌, ◌==◌, if◌then◌else◌, List, ◌++◌, codes, decimal}
 use Rattle.sseq.specs.declared.number.Phase.{Phase}
 use Rattle.sseq.specs.declared.number.Phase.TheVariants.{Idle, Scan1, Scan2}
 
@@ -31,3 +31,7 @@ abbrev pub phase_text : Phase → List ℕ
 phase_text Idle = codes "idle"
 phase_text Scan1 = codes "scan1"
 phase_text Scan2 = codes "scan2"
+
+-- as a number is shown in the messages of tests
+abbrev pub shown_number : ℕ → List ℕ
+shown_number n = codes "Number(" ++ decimal n ++ codes ")"

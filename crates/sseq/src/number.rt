@@ -62,7 +62,7 @@ impl Number {
         ensures { result ≡ self + 1 }
     {
         Number {
-            value: self.value + 1,
+            value: self.value + 1, // from idle to the first scan
         }
     }
 
@@ -72,7 +72,7 @@ impl Number {
         ensures { result ≡ self + 1 }
     {
         Number {
-            value: self.value + 1,
+            value: self.value + 1, // from the first scan to the second
         }
     }
 
@@ -89,6 +89,11 @@ impl Number {
 }
 
 impl fmt::Debug for Number {
+    ghost use Rattle.std.specs.Prelude.{Some};
+    ghost use Rattle.sseq.specs.Numbers.{shown_number};
+
+    ghost debug_output = { λ n. Some (shown_number n) };
+
     fn fmt<W: fmt::Write>(&self, f: &mut fmt::Formatter<W>) -> fmt::Result {
         write!(f, "Number({})", self.get())
     }

@@ -57,6 +57,10 @@ fn numbers_are_printed(rt: HostRuntime) -> Result<(), Fail> {
         Number::zero().started().to_string(rt.alloc())?.as_str(),
         "1"
     );
+    assert_eq!(rt;
+        format!(in rt.alloc(); "{:?}", Number::zero().started())?.as_str(),
+        "Number(1)"
+    );
     for (index, text, other) in [(Index::Zero, "0", "1"), (Index::One, "1", "0")] {
         assert_eq!(rt; index.to_string(rt.alloc())?.as_str(), text);
         assert_eq!(rt; index.other().to_string(rt.alloc())?.as_str(), other);
