@@ -9,7 +9,7 @@ use Rattle.onedom.specs.declared.event.Event.{Event}
 use Rattle.onedom.specs.declared.event.Event.TheVariants.{Begin, End, Start, Finish, Note, Ask}
 use Rattle.onedom.specs.Histories.{maker_of, same_maker, made_by, index_of, is_start, is_finish, starts_in, IsRunning}
 use Rattle.onedom.specs.declared.event.Maker.TheVariants.{Engine}
-use Rattle.onedom.proofs.Pushes.{bit, count_cons, starts_in_push, ended_in_push}
+use Rattle.onedom.proofs.CallerLemmas.{bit, count_cons, starts_in_push, ended_in_push}
 use Rattle.std.proofs.lemmas.List.Elements.{All-head, All-tail}
 use Rattle.sections.specs.Rule.{HasItsMaker}
 use Rattle.sections.specs.Words.{index_place, number_place, lock_place, unlock_place, word_count, locks_at, locks, unlocks_at, unlocks, index_word, number_word, IsIdle, IsBehindFlip, Reaches, Agree}

@@ -1,5 +1,5 @@
 -- What the seats of a domain know, and how it stays so.
-use Rattle.std.proofs.Common.{◌≡◌, ℕ, zero, suc, ◌<◌, ◌≤◌, ◌≢◌, ◌⊎◌, Bool, true, false, cond, eqb, List, [], ◌∷◌, ◌++◌, All, length, set, refl, sym, ap, ◌∙◌, subst, inl, inr, ⊎_elim, eq-eqb, ne_eqb, arith, length-set}
+use Rattle.std.proofs.Common.{◌≡◌, ℕ, zero, suc, ◌+◌, ◌<◌, ◌≤◌, ◌≢◌, ◌⊎◌, Bool, true, false, cond, eqb, List, [], ◌∷◌, ◌++◌, All, length, set, refl, sym, ap, ◌∙◌, subst, inl, inr, ⊎_elim, eq-eqb, ne_eqb, arith, append-nil, length-append, length-set}
 use Rattle.std.proofs.lemmas.List.Elements.{All-weaker}
 use mathlib.Core.Logic.{dite}
 use mathlib.Core.Option.{some, some-injective, some-ne-none}
@@ -9,9 +9,8 @@ use Rattle.atomic_table.proofs.Lists.{at_set}
 use Rattle.onedom.specs.declared.event.Maker.{Maker}
 use Rattle.onedom.specs.declared.event.Maker.TheVariants.{Processor, Engine}
 use Rattle.onedom.specs.declared.event.Event.{Event}
-use Rattle.onedom.specs.Histories.{begins, ends, begins_of, IsOpen, MayFollow, maker_of, same_maker, made_by}
-use Rattle.onedom.proofs.Pushes.{bit, made_by_other, made_by_own, begins_of_push, not_again, open_stays, open_index_stays}
-use Rattle.onedom.proofs.Beginnings.{beginning_push}
+use Rattle.onedom.specs.Histories.{begins, ends, begins_of, IsOpen, MayFollow, maker_of, same_maker, made_by, IsBeginning}
+use Rattle.onedom.proofs.CallerLemmas.{bit, made_by_other, made_by_own, begins_of_push, not_again, open_stays, open_index_stays, beginning_push, beginning_made_by}
 use Rattle.sections.specs.declared.view.Moment.{Moment}
 use Rattle.sections.specs.declared.view.Role.{Role}
 use Rattle.sections.specs.declared.view.Role.TheVariants.{Bearer, Cpu, Driver}
@@ -195,6 +194,26 @@ pub owns_from_makes : (log : List Event) (changes : ℕ) (seat_of holder : ℕ �
 owns_from_makes log changes seat_of holder engine j Bearer mine h = tt
 owns_from_makes log changes seat_of holder engine j (Cpu p) mine h = h.1
 owns_from_makes log changes seat_of holder engine j (Driver k) mine h = h.1
+
+-- What is made between two histories
+
+nothing_more : (rest : List Event) → length rest ≡ 0 → rest ≡ []
+nothing_more [] e = refl
+nothing_more (x ∷ xs) e = absurd (omega arith)
+
+-- a list between two equal ones
+between : {x y z : List Event} → IsBeginning x y → IsBeginning y z → z ≡ x → y ≡ x
+between {x} {y} {z} a b e =
+    let up : length y ≡ length x + length a.rest = ap length a.whole ∙ length-append x a.rest in
+    let over : length z ≡ length y + length b.rest = ap length b.whole ∙ length-append y b.rest in
+    let same : length z ≡ length x = ap length e in
+    a.whole ∙ (ap (λ r. x ++ r) (nothing_more a.rest (omega (arith, up, over, same))) ∙ append-nil x)
+
+-- a maker whose events do not change from one history to another has just these in all that lie between
+pub owns_between : (role : Role) (mine a b c : List Event) → Owns role mine a → IsBeginning a b → IsBeginning b c → Owns role mine c → Owns role mine b
+owns_between Bearer mine a b c from ab bc to = tt
+owns_between (Cpu p) mine a b c from ab bc to = from ∙ sym (between (beginning_made_by (Processor p) ab) (beginning_made_by (Processor p) bc) (sym to ∙ from))
+owns_between (Driver k) mine a b c from ab bc to = from ∙ sym (between (beginning_made_by Engine ab) (beginning_made_by Engine bc) (sym to ∙ from))
 
 pub not_false : (b : Bool) → (b ≡ true → ⊥) → b ≡ false
 not_false true h = absurd (h refl)

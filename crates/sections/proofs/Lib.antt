@@ -1,13 +1,16 @@
-pub mod Counters
-pub mod Agreement
-pub mod Knowing
-pub mod Steps
-pub mod EngineSteps
-pub mod Sharing
-pub mod Seating
-pub mod Calling
-pub mod Meeting
-pub mod Driven
-pub mod Founding
-pub mod Sums
-pub mod OneHistory
+pub mod CallerLemmas
+mod Counters
+mod Agreement
+mod Knowing
+mod Deeds
+mod Steps
+mod EngineSteps
+mod Sharing
+mod Seating
+mod CpuViews
+mod Meeting
+mod EngineViews
+mod Founding
+mod Forging
+mod Sums
+mod OneHistory

@@ -8,16 +8,17 @@ use Rattle.onedom.specs.declared.event.Maker.{Maker}
 use Rattle.onedom.specs.declared.event.Maker.TheVariants.{Processor, Engine}
 use Rattle.onedom.specs.declared.event.Event.{Event}
 use Rattle.onedom.specs.Histories.{made_by, IsBeginning}
-use Rattle.onedom.proofs.Beginnings.{beginning_trans, beginnings_compare, beginning_made_by}
+use Rattle.onedom.proofs.CallerLemmas.{beginning_trans, beginnings_compare, beginning_made_by}
 use Rattle.sections.specs.declared.view.Role.TheVariants.{Cpu}
 use Rattle.sections.specs.declared.view.View.{View}
 use Rattle.sections.specs.declared.view.Step.{Step}
 use Rattle.sections.specs.declared.view.Step.TheVariants.{LoadIndex}
 use Rattle.sections.specs.Seats as seats
 use Rattle.sections.specs.Views.{CpuView, EngineView}
-use Rattle.sections.specs.Calls.{HasSeenOf, Loads, Accepts, Ties}
-use Rattle.sections.specs.Driving.{Covers, CoversAll, TiesEngine, Joins, Meets}
-use Rattle.sections.proofs.Calling.{seen_as, history_of}
+use Rattle.sections.specs.Calls.{HasSeenOf, Hears, Accepts, Ties}
+use Rattle.sections.specs.EngineCalls.{Covers, CoversAll, TiesEngine, Joins, Meets}
+use Rattle.sections.proofs.Deeds.{cpu_makes}
+use Rattle.sections.proofs.CpuViews.{seen_as, history_of}
 
 -- of a maker, a beginning of a history has a beginning of the maker's events there
 seen_of : (m : Maker) (mine mine' seen later : List Event) → mine' ≡ made_by m later → IsBeginning seen later → mine ≡ mine' → HasSeenOf m mine seen
@@ -25,46 +26,50 @@ seen_of m mine mine' seen later own since same = let b = beginning_made_by m sin
 
 -- Two processors
 
-covers_loads : (d d' : TableId) (n limit p : ℕ) (v o w : View) → d' ≡ d → v.processors ≡ n → v.role ≡ Cpu p → (h : seats.Covers v o w) → Loads (LoadIndex h.value) (seen_as d n limit p v) (seen_as d' n limit p w)
-covers_loads d d' n limit p v o w same sized is h = record {
-  same = (same, refl, refl, refl);
-  mine = h.mine;
-  steps = h.steps;
-  since = h.since;
-  later = h.later;
-  history = history_of n p w (h.processors ∙ sized) (h.role ∙ is) h.sound;
+pub hears_from : (d d' : TableId) (n limit p : ℕ) (v o w : View) → d' ≡ d → v.processors ≡ n → v.role ≡ Cpu p → seats.Covers v o w → Hears (seen_as d n limit p v) o.seen o.changes (seen_as d' n limit p w)
+hears_from d d' n limit p v o w same sized is h = record {
+  value = h.value;
+  current = h.current;
+  looks = record {
+    same = (same, refl, refl, refl);
+    mine = h.mine;
+    steps = h.steps (Processor p) (cpu_makes p v.role is);
+    since = h.since;
+    later = h.later;
+    history = history_of n p w (h.processors ∙ sized) (h.role ∙ is) h.sound;
+  };
+  covers = h.covers;
+  not_before = h.not_before;
 }
 
-accepts_seen : (d d' : TableId) (n limit p : ℕ) (v o w : View) → d' ≡ d → v.processors ≡ n → v.role ≡ Cpu p → seats.Accepts v o w → Accepts (seen_as d n limit p v) o.seen o.changes (seen_as d' n limit p w)
-accepts_seen d d' n limit p v o w same sized is h = record {
+pub accepted : (d d' : TableId) (n limit p : ℕ) (v o w : View) → d' ≡ d → v.processors ≡ n → v.role ≡ Cpu p → seats.Accepts v o w → Accepts (seen_as d n limit p v) o.seen o.changes (seen_as d' n limit p w)
+accepted d d' n limit p v o w same sized is h = record {
   value = h.value;
   same = (same, refl, refl, refl);
   mine = h.mine;
-  steps = h.steps;
+  steps = h.steps (Processor p) (cpu_makes p v.role is);
   seen = h.seen;
   changes = h.changes;
+  found = h.found;
   history = history_of n p w (h.processors ∙ sized) (h.role ∙ is) h.sound;
 }
 
-pub ties_from : (d d' e e' : TableId) (n limit p m most q : ℕ) (v w o w' o' : View) → d' ≡ d → e' ≡ e → v.processors ≡ n → v.role ≡ Cpu p → o.processors ≡ m → o.role ≡ Cpu q → w' ≡ w → seats.Covers v o w → seats.Accepts o w o'
-    → Ties (seen_as d n limit p v) (seen_as e m most q o) (seen_as d' n limit p w') (seen_as e' m most q o')
-ties_from d d' e e' n limit p m most q v w o w' o' ds es sized is other_sized other_is same h a =
-    subst (λ (z : View). Ties (seen_as d n limit p v) (seen_as e m most q o) (seen_as d' n limit p z) (seen_as e' m most q o')) (sym same) record {
+pub ties_from : (c c' c'' d d' d'' : CpuView) → Hears c d.seen d.changes c' → d' ≡ d → c'' ≡ c' → Accepts d' c'.seen c'.changes d'' → Ties c d c'' d''
+ties_from c c' c'' d d' d'' h same_other same a =
+    let accepts : Accepts d c'.seen c'.changes d'' = subst (λ (z : CpuView). Accepts z c'.seen c'.changes d'') same_other a in
+    subst (λ (z : CpuView). Ties c d z d'') (sym same) record {
       value = h.value;
       current = h.current;
-      looks = covers_loads d d' n limit p v o w ds sized is h;
-      accepts = accepts_seen e e' m most q o w o' es other_sized other_is a;
-      since = subst (λ (z : List Event). IsBeginning o.seen z) (sym a.seen) h.covers;
-      later = (let low = h.not_before in let same = a.changes in omega (arith, low, same));
-      comparable = beginnings_compare h.since h.covers;
-      first_known = seen_of (Processor p) _ _ _ _ (covers_loads d d' n limit p v o w ds sized is h).history.own h.covers (sym h.mine);
-      second_known = seen_of (Processor q) _ _ _ _ (accepts_seen e e' m most q o w o' es other_sized other_is a).history.own (subst (λ (z : List Event). IsBeginning v.seen z) (sym a.seen) h.since) (sym a.mine);
+      looks = h.looks;
+      accepts = accepts;
+      since = subst (λ (z : List Event). IsBeginning d.seen z) (sym accepts.seen) h.covers;
+      later = (let low = h.not_before in let same = accepts.changes in omega (arith, low, same));
+      comparable = beginnings_compare h.looks.since h.covers;
+      first_known = seen_of (Processor c.processor) _ _ _ _ (h.looks.history.own ∙ ap (λ k. made_by (Processor k) c'.seen) h.looks.same.3) h.covers (sym h.looks.mine);
+      second_known = seen_of (Processor d.processor) _ _ _ _ (accepts.history.own ∙ ap (λ k. made_by (Processor k) d''.seen) accepts.same.3) (subst (λ (z : List Event). IsBeginning c.seen z) (sym accepts.seen) h.looks.since) (sym accepts.mine);
     }
 
 -- The engine and a processor
-
-pub accepted : (d d' : TableId) (n limit p : ℕ) (v o w : View) → d' ≡ d → v.processors ≡ n → v.role ≡ Cpu p → seats.Accepts v o w → Accepts (seen_as d n limit p v) o.seen o.changes (seen_as d' n limit p w)
-accepted = accepts_seen
 
 pub ties_engine : (e e' e'' : EngineView) (c c' c'' : CpuView) → Covers e c.seen c.changes e' → c' ≡ c → e'' ≡ e' → Accepts c' e'.seen e'.changes c'' → TiesEngine e c e'' c''
 ties_engine e e' e'' c c' c'' h same_cpu same_engine a =

@@ -1,9 +1,14 @@
 -- What the rule says of the words, in terms of the history alone.
-use Rattle.std.proofs.Common.{◌≡◌, ℕ, ◌*◌, ◌%◌, inl, inr, List, sym, subst, arith}
+use Rattle.std.proofs.Common.{◌≡◌, ℕ, ◌*◌, ◌%◌, inl, inr, List, sym, ap, ◌∙◌, subst, arith}
 use mathlib.Core.Logic.{dite}
 use native.Mathlib.Decide.{ℕ_discrete}
+use Rattle.onedom.specs.declared.event.Maker.{Maker}
 use Rattle.onedom.specs.declared.event.Event.{Event}
-use Rattle.onedom.specs.Histories.{ended_in, IsRunning}
+use Rattle.onedom.specs.Histories.{ended_in, IsRunning, made_by}
+use Rattle.onedom.proofs.CallerLemmas.{beginning_made_by}
+use Rattle.sections.specs.declared.view.Role.{Role}
+use Rattle.sections.specs.declared.view.Role.TheVariants.{Bearer, Cpu, Driver}
+use Rattle.sections.specs.Rule.{IsMaker, Makes}
 use Rattle.sections.specs.Words.{number_word, Reaches, MayHave}
 use Rattle.sections.specs.Laws.{OneHistory, WordsAgree}
 
@@ -30,4 +35,12 @@ one_history bounds s r = record {
   lock_counters = r.words.lock_counters;
   unlock_counters = r.words.unlock_counters;
   seen = λ j v at. (r.each_view j v at).seen;
+  known = λ j k u v at there m is. let f = r.each_view j u at in
+      let own : u.mine ≡ made_by m r.log = made r.log r.changes r.seat_of r.holder r.engine j u.role u.mine m is f.makes in
+      let b = beginning_made_by m (r.each_view k v there).seen in record { rest = b.rest; whole = own ∙ b.whole };
 }
+  where
+    made : (log : List Event) (changes : ℕ) (seat_of holder : ℕ → ℕ) (engine j : ℕ) (role : Role) (mine : List Event) (m : Maker) → IsMaker role m → Makes log changes seat_of holder engine j role mine → mine ≡ made_by m log
+    made log changes seat_of holder engine j Bearer mine m is h = absurd is
+    made log changes seat_of holder engine j (Cpu p) mine m is h = h.1 ∙ ap (λ z. made_by z log) (sym is)
+    made log changes seat_of holder engine j (Driver k) mine m is h = h.1 ∙ ap (λ z. made_by z log) (sym is)

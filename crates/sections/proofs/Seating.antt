@@ -1,21 +1,22 @@
 -- From what a step tells a seat to what the calls say of it.
-use Rattle.std.proofs.Common.{◌≡◌, ℕ, ◌+◌, ◌<◌, List, [], ◌∷◌, ◌++◌, All, length, refl, sym, ap, ◌∙◌, subst, arith, append-nil, length-append}
+use Rattle.std.proofs.Common.{◌≡◌, ℕ, ◌<◌, ◌≤◌, [], ◌∷◌, All, sym, ap, ◌∙◌, subst, arith}
 use Rattle.std.proofs.lemmas.List.Elements.{All-head}
-use Rattle.onedom.specs.declared.event.Maker.TheVariants.{Processor, Engine}
-use Rattle.onedom.specs.declared.event.Event.{Event}
+use mathlib.Core.Option.{none}
+use Rattle.atomic_table.specs.Table.{step, Allows}
 use Rattle.onedom.specs.Histories.{IsBeginning}
-use Rattle.onedom.proofs.Beginnings.{beginning_made_by}
-use Rattle.sections.specs.declared.view.Role.{Role}
-use Rattle.sections.specs.declared.view.Role.TheVariants.{Bearer, Cpu, Driver}
+use Rattle.sections.specs.declared.view.Bounds.{Bounds}
+use Rattle.sections.specs.declared.view.Moment.{Moment}
+use Rattle.sections.specs.declared.view.Role.TheVariants.{Cpu, Driver}
 use Rattle.sections.specs.declared.view.Right.TheVariants.{Nothing}
 use Rattle.sections.specs.declared.view.Step.{Step}
 use Rattle.sections.specs.declared.view.Step.TheVariants.{LoadIndex}
 use Rattle.sections.specs.declared.view.View.{View}
 use Rattle.sections.specs.Words.{word_count, index_word}
-use Rattle.sections.specs.Rule.{HasItsMaker, GoesOn, moment_of, lacking, bearer, informed, adopting}
-use Rattle.sections.specs.Plays.{Owns, Sees}
+use Rattle.sections.specs.Rule.{HasItsMaker, GoesOn, Kept, moment_of, bearer, informed}
+use Rattle.sections.specs.Plays.{Sat, Sees, Admits, admitted}
 use Rattle.sections.specs.Seats.{Covers, Accepts}
 use Rattle.sections.specs.Insides.{IsAtRest}
+use Rattle.sections.proofs.Steps.{admits_here}
 
 pub some_words : (words n : ℕ) → words ≡ word_count n → 0 < words
 some_words words n e = omega arith
@@ -26,24 +27,6 @@ two_words words n e = omega arith
 -- a domain's table has one number of processors
 pub same_count : (words n m : ℕ) → words ≡ word_count n → words ≡ word_count m → n ≡ m
 same_count words n m a b = omega arith
-
-nothing_more : (rest : List Event) → length rest ≡ 0 → rest ≡ []
-nothing_more [] e = refl
-nothing_more (x ∷ xs) e = absurd (omega arith)
-
--- a list between two equal ones
-between : {x y z : List Event} → IsBeginning x y → IsBeginning y z → z ≡ x → y ≡ x
-between {x} {y} {z} a b e =
-    let up : length y ≡ length x + length a.rest = ap length a.whole ∙ length-append x a.rest in
-    let over : length z ≡ length y + length b.rest = ap length b.whole ∙ length-append y b.rest in
-    let same : length z ≡ length x = ap length e in
-    a.whole ∙ (ap (λ r. x ++ r) (nothing_more a.rest (omega (arith, up, over, same))) ∙ append-nil x)
-
--- a maker whose events do not change from one history to another has just these in all that lie between
-pub owns_between : (role : Role) (mine a b c : List Event) → Owns role mine a → IsBeginning a b → IsBeginning b c → Owns role mine c → Owns role mine b
-owns_between Bearer mine a b c from ab bc to = tt
-owns_between (Cpu p) mine a b c from ab bc to = from ∙ sym (between (beginning_made_by (Processor p) ab) (beginning_made_by (Processor p) bc) (sym to ∙ from))
-owns_between (Driver k) mine a b c from ab bc to = from ∙ sym (between (beginning_made_by Engine ab) (beginning_made_by Engine bc) (sym to ∙ from))
 
 pub covers_from : (n : ℕ) (v o j w : View) → o.right ≡ Nothing → j ≡ informed v (bearer o) → Sees (LoadIndex n) j w → n ≡ index_word w.changes → ((k : ℕ) → j.role ≡ Driver k → w.changes ≡ j.changes) → Covers v o w
 covers_from n v o j w free joined h current driven = let l : Sees (LoadIndex n) (informed v (bearer o)) w = subst (λ (z : View). Sees (LoadIndex n) z w) joined h in record {
@@ -63,27 +46,28 @@ covers_from n v o j w free joined h current driven = let l : Sees (LoadIndex n) 
   sound = l.sound;
 }
 
-pub accepts_from : (n : ℕ) (v o j w w' : View) → IsAtRest v → IsAtRest o → v.processors ≡ o.processors → IsBeginning v.seen o.seen → j ≡ informed v (bearer o) → Sees (LoadIndex n) j w → w' ≡ adopting w (bearer (lacking o)) → Accepts v o w'
-accepts_from n v o j w w' rests other sized since joined h adopted =
-    let l : Sees (LoadIndex n) (informed v (bearer o)) w = subst (λ (z : View). Sees (LoadIndex n) z w) joined h in
-    let covers : IsBeginning o.seen w.seen = (All-head (λ m. GoesOn m (moment_of w)) (moment_of o) v.told l.covers).history in
-    let before : Owns w.role w.mine v.seen = subst (λ (z : Role × List Event). Owns z.0 z.1 v.seen) (λ i. (sym l.role i, sym l.mine i)) rests.sound.own in
-    subst (λ (z : View). Accepts v o z) (sym adopted) record {
+-- a processor that was told of a history, which covers its own, may accept it
+pub may_accept : (bounds : Bounds) (slots id p : ℕ) (v o : View) (me : Sat) → me.0 ≡ informed v (bearer o) → v.processors ≡ bounds.processors → o.processors ≡ bounds.processors → v.role ≡ Cpu p → IsAtRest v → IsAtRest o → IsBeginning v.seen o.seen → v.changes ≤ o.changes
+    → Allows (Kept bounds) slots id me 0 (λ x. x) (admitted (step slots 0 0 0 none) me)
+may_accept bounds slots id p v o me joined sized other_sized is rests other since later =
+    subst (λ (z : View). Allows (Kept bounds) slots id (z, me.1) 0 (λ x. x) (admitted (step slots 0 0 0 none) (z, me.1))) (sym joined)
+    (admits_here bounds slots id (informed v (bearer o), me.1) p (moment_of o) sized is (ap (λ t. moment_of o ∷ t) rests.told) since later rests.sound.own other.sound.legal
+    (subst (λ (z : ℕ). All (HasItsMaker z) o.seen) other_sized other.sound.makers) other.sound.reaches)
+
+pub accepts_from : (n : ℕ) (v o j w : View) → v.told ≡ [] → o.right ≡ Nothing → j ≡ informed v (bearer o) → ((m : Moment) → j.told ≡ m ∷ [] → Admits n m j w) → Accepts v o w
+accepts_from n v o j w untold free joined admits =
+    let l : Admits n (moment_of o) (informed v (bearer o)) w = subst (λ (z : View). Admits n (moment_of o) z w) joined (admits (moment_of o) (ap (λ (z : View). z.told) joined ∙ ap (λ t. moment_of o ∷ t) untold)) in record {
       value = n;
       processors = l.processors;
       role = l.role;
       mine = l.mine;
-      right = refl;
+      right = l.right ∙ free;
       told = l.told;
       steps = l.steps;
-      seen = refl;
-      changes = refl;
-      sound = record {
-        legal = other.sound.legal;
-        makers = subst (λ (z : ℕ). All (HasItsMaker z) o.seen) (sym (l.processors ∙ sized)) other.sound.makers;
-        own = owns_between w.role w.mine v.seen o.seen w.seen before since covers l.sound.own;
-        reaches = other.sound.reaches;
-      };
+      seen = l.seen;
+      changes = l.changes;
+      found = l.found;
+      sound = l.sound;
     }
 
 pub rests_seen : (l : Step) (v w : View) → v.right ≡ Nothing → Sees l v w → IsAtRest w

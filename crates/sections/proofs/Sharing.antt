@@ -1,22 +1,24 @@
 -- Seats that are cut in two, joined and dealt keep the rule.
-use Rattle.std.proofs.Common.{◌≡◌, ℕ, zero, suc, ◌≤◌, ◌≢◌, List, [], ◌∷◌, ◌++◌, All, Option, get_or, length, set, refl, sym, ap, ◌∙◌, subst, ⊎_elim, arith}
+use Rattle.std.proofs.Common.{◌≡◌, ℕ, zero, suc, ◌+◌, ◌≤◌, ◌≢◌, List, [], ◌∷◌, ◌++◌, All, Option, get_or, length, set, refl, sym, ap, ◌∙◌, subst, ⊎_elim, arith}
 use Rattle.std.proofs.lemmas.List.Elements.{All-nil, All-cons}
 use mathlib.Core.Option.{some, some-injective, some-ne-none}
 use lib.ListN.{get_elem?}
 use Rattle.atomic_table.specs.Table.{State, Splits, Joins, opening}
 use Rattle.atomic_table.proofs.Lists.{at_set}
-use Rattle.onedom.specs.declared.event.Maker.TheVariants.{Processor}
+use Rattle.onedom.specs.declared.event.Maker.{Maker}
+use Rattle.onedom.specs.declared.event.Maker.TheVariants.{Processor, Engine}
 use Rattle.onedom.specs.declared.event.Event.{Event}
 use Rattle.onedom.specs.Histories.{made_by, IsBeginning}
-use Rattle.onedom.proofs.Beginnings.{beginning_empty}
+use Rattle.onedom.proofs.CallerLemmas.{beginning_empty}
 use Rattle.sections.specs.declared.view.Bounds.{Bounds}
 use Rattle.sections.specs.declared.view.Role.{Role}
 use Rattle.sections.specs.declared.view.Role.TheVariants.{Bearer, Cpu, Driver}
 use Rattle.sections.specs.declared.view.Right.{Right}
 use Rattle.sections.specs.declared.view.View.{View}
 use Rattle.sections.specs.Words.{word_count}
-use Rattle.sections.specs.Rule.{HasItsMaker, GoesOn, moment_of, Makes, Has, Knows, Fits, AreSmall, Kept, founder, lacking, bearer, informed, adopting, spent, without_next, next_role, dealer, dealt}
+use Rattle.sections.specs.Rule.{HasItsMaker, GoesOn, IsTrueOf, StandsFor, HasDone, moment_of, Makes, Has, Knows, Fits, AreSmall, Kept, founder, lacking, bearer, informed, spent, without_next, next_role, dealer, dealt}
 use Rattle.sections.proofs.Agreement.{agrees_new}
+use Rattle.sections.proofs.Deeds.{upto_empty, has_done_as, has_done_none}
 use Rattle.sections.proofs.Knowing.{now, views_set, views_split, given, given_here, given_else, makes_as, has_as, knows_as, reheld, moved, moved_has, moved_else, known_before}
 
 module _ (bounds : Bounds) where
@@ -24,8 +26,9 @@ module _ (bounds : Bounds) where
 
   -- the same words and history, and other views
   reviewed : (s : State (Option ℕ) View) (r : Kept bounds s) (views : List View) (seat_of holder : ℕ → ℕ) → ((j : ℕ) (d : View) → get_elem? views j ≡ some d → Fits r.log r.changes seat_of holder r.engine j d)
+      → ((j : ℕ) (d : View) → get_elem? views j ≡ some d → HasDone r.deeds d)
       → Kept bounds record { words = s.words; homes = s.homes; views = views }
-  reviewed s r views seat_of holder each = record {
+  reviewed s r views seat_of holder each each_done = record {
     log = r.log;
     changes = r.changes;
     seat_of = seat_of;
@@ -35,6 +38,9 @@ module _ (bounds : Bounds) where
     within = r.within;
     words = r.words;
     each_view = each;
+    deeds = r.deeds;
+    done = r.done;
+    each_done = each_done;
   }
 
   pub gives_token : (id : ℕ) (v : View) → Splits (Kept bounds) id v (lacking v) (bearer v)
@@ -43,13 +49,14 @@ module _ (bounds : Bounds) where
       record { seen = f.seen; knows = knows_as r.log r.changes r.seat_of r.holder holder' r.engine id v.role v.changes f.knows; told = f.told; makes = makes_as r.log r.changes r.seat_of r.holder holder' r.engine id v.role v.mine f.makes; has = tt }
       record { seen = f.seen; knows = known_before r.log r.changes r.seat_of r.holder r.engine id v.role v.changes f.knows; told = All-nil (λ m. GoesOn m (now r.log r.changes)); makes = tt; has = moved_has r.log r.changes r.seat_of r.holder r.engine id m v.right f.has }
       (λ j d ne e. reheld r.log r.changes r.seat_of r.holder holder' r.engine j (moved_else r.log r.changes r.seat_of r.holder r.engine id m v.right f.has j ne) d (r.each_view j d e)))
+      (views_split (λ _ u. HasDone r.deeds u) s.views id v (lacking v) (bearer v) at (has_done_as r.deeds v (lacking v) refl refl (r.each_done id v at)) (has_done_none r.deeds (bearer v) refl refl) (λ j u _ e. r.each_done j u e))
 
   -- two seats become one, which takes over the right of the other
-  joined : (id : ℕ) (v : View) (other : ℕ) (w both : View) → both.role ≡ v.role → both.mine ≡ v.mine → both.right ≡ w.right
+  joined : (id : ℕ) (v : View) (other : ℕ) (w both : View) → both.role ≡ v.role → both.mine ≡ v.mine → both.done ≡ v.done → both.right ≡ w.right
       → ((log : List Event) (changes : ℕ) (seat_of holder : ℕ → ℕ) (engine : ℕ) → Fits log changes seat_of holder engine id v → IsBeginning w.seen log → w.changes ≤ changes
       → IsBeginning both.seen log × Knows log changes seat_of holder engine id both.role both.changes × All (λ m. GoesOn m (now log changes)) both.told)
       → Joins (Kept bounds) id v other w both spent
-  joined id v other w both same_role same_mine same_right learns s r at apart there =
+  joined id v other w both same_role same_mine same_done same_right learns s r at apart there =
       let f = r.each_view id v at in
       let was : get_elem? s.views other ≡ some w = ⊎_elim (λ (t : (other ≡ id) × (both ≡ w)). absurd (apart t.0)) (λ (t : (other ≢ id) × (get_elem? s.views other ≡ some w)). t.1) (at_set s.views id other both w there) in
       let g = r.each_view other w was in
@@ -68,15 +75,12 @@ module _ (bounds : Bounds) where
       (λ j d ne e. ⊎_elim (λ (t : (j ≡ id) × (both ≡ d)). subst (λ (x : ℕ × View). K x.0 x.1) (λ i. (sym t.0 i, t.1 i)) whole)
       (λ (t : (j ≢ id) × (get_elem? s.views j ≡ some d)). reheld r.log r.changes r.seat_of r.holder holder' r.engine j (moved_else r.log r.changes r.seat_of r.holder r.engine other id w.right g.has j ne) d (r.each_view j d t.1))
       (at_set s.views id j both d e)))
+      (views_set (λ _ u. HasDone r.deeds u) (set s.views id both) other spent (has_done_none r.deeds spent refl refl)
+      (λ j u _ e. views_set (λ _ z. HasDone r.deeds z) s.views id both (has_done_as r.deeds v both same_role same_done (r.each_done id v at)) (λ i z _ h. r.each_done i z h) j u e))
 
   pub takes_token : (id : ℕ) (v : View) (other : ℕ) (w : View) → Joins (Kept bounds) id v other w (informed v w) spent
-  takes_token id v other w = joined id v other w (informed v w) refl refl refl (λ log changes seat_of holder engine f seen known.
+  takes_token id v other w = joined id v other w (informed v w) refl refl refl refl (λ log changes seat_of holder engine f seen known.
       (f.seen, f.knows, All-cons (λ m. GoesOn m (now log changes)) (moment_of w) v.told (record { history = seen; changes = known }) f.told))
-
-  -- a processor's seat may do so: the engine's knows of all changes
-  pub sees_as_much : (id : ℕ) (v : View) (other : ℕ) (w : View) (p : ℕ) → v.role ≡ Cpu p → Joins (Kept bounds) id v other w (adopting v w) spent
-  sees_as_much id v other w p is = joined id v other w (adopting v w) refl refl refl (λ log changes seat_of holder engine f seen known.
-      (seen, subst (λ (m : Role). Knows log changes seat_of holder engine id m w.changes) (sym is) known, f.told))
 
   -- Dealing
 
@@ -121,6 +125,23 @@ module _ (bounds : Bounds) where
         makes = reseated r.log r.changes r.seat_of seat_of' r.holder r.engine j (λ p h. given_else k m r.seat_of p (λ pk. ne (sym h ∙ (ap r.seat_of pk ∙ next.0))) ∙ h) d.role d.mine u.makes;
         has = has_as r.log r.changes r.seat_of seat_of' r.holder r.holder r.engine j (λ _ h. h) d.right u.has;
       }))
+      (let g = r.each_done id v at in views_split (λ _ u. HasDone r.deeds u) s.views id v (dealer v) (dealt v) at
+      record { upto = g.upto; own = λ n h. g.own n (still_stands k v.role n is h) }
+      record { upto = g.upto; own = λ n h. g.own n (stood_before k v.role n is h) }
+      (λ j u _ e. r.each_done j u e))
+    where
+      fewer : (k : ℕ) (n : Maker) → StandsFor (Driver (k + 1)) n → StandsFor (Driver k) n
+      fewer k Engine h = tt
+      fewer k (Processor p) h = omega (arith, h)
+
+      still_stands : (k : ℕ) (role : Role) (n : Maker) → role ≡ Driver k → StandsFor (without_next role) n → StandsFor role n
+      still_stands k role n is h = subst (λ (z : Role). StandsFor z n) (sym is) (fewer k n (subst (λ (z : Role). StandsFor (without_next z) n) is h))
+
+      next_one : (k : ℕ) (n : Maker) → n ≡ Processor k → StandsFor (Driver k) n
+      next_one k n h = subst (λ (z : Maker). StandsFor (Driver k) z) (sym h) (omega arith)
+
+      stood_before : (k : ℕ) (role : Role) (n : Maker) → role ≡ Driver k → StandsFor (next_role role) n → StandsFor role n
+      stood_before k role n is h = subst (λ (z : Role). StandsFor z n) (sym is) (next_one k n (subst (λ (z : Role). StandsFor (next_role z) n) is h))
 
   first_view : (j : ℕ) (d : View) → get_elem? (founder bounds ∷ []) j ≡ some d → Fits [] 0 (λ _. 0) (λ _. 0) 0 j d
   first_view zero d e = subst (λ (v : View). Fits [] 0 (λ _. 0) (λ _. 0) 0 0 v) (some-injective (founder bounds) d e) record {
@@ -131,6 +152,10 @@ module _ (bounds : Bounds) where
     has = tt;
   }
   first_view (suc j) d e = absurd (some-ne-none d (sym e))
+
+  first_done : (j : ℕ) (d : View) → get_elem? (founder bounds ∷ []) j ≡ some d → HasDone [] d
+  first_done zero d e = subst (λ (v : View). HasDone [] v) (some-injective (founder bounds) d e) record { upto = upto_empty []; own = λ m _. refl }
+  first_done (suc j) d e = absurd (some-ne-none d (sym e))
 
   -- a table whose words are all 0 has an empty history
   pub opens : (words : List ℕ) → length words ≡ word_count bounds.processors → ((k : ℕ) → get_or words k 0 ≡ 0) → AreSmall bounds → Kept bounds (opening words [] (founder bounds))
@@ -144,4 +169,7 @@ module _ (bounds : Bounds) where
     within = record { legal = tt; makers = All-nil (HasItsMaker bounds.processors); limited = λ p i. omega arith; periods = omega arith };
     words = agrees_new bounds.processors words wide zeros;
     each_view = first_view;
+    deeds = [];
+    done = record { words = All-nil (λ d. IsTrueOf d.at d.step); ordered = tt; until = All-nil (λ d. GoesOn d.at (now [] 0)) };
+    each_done = first_done;
   }

@@ -1,6 +1,6 @@
 -- Each step of a processor keeps the rule.
 use Rattle.std.proofs.Common.{◌≡◌, ℕ, ◌+◌, ◌*◌, ◌%◌, ◌^◌, ◌<◌, ◌≤◌, ◌≢◌, Bool, true, false, cond, eqb, ltb, ◌&&◌, nat_le, List, [], ◌∷◌, ◌++◌, All, Option, get_or, set, refl, sym, ap, ◌∙◌, subst, eq-eqb, ne_eqb, lt-ltb, le-ltb, leb-true, le-leb, arith}
-use Rattle.std.proofs.lemmas.List.Elements.{All-nil}
+use Rattle.std.proofs.lemmas.List.Elements.{All-nil, All-head}
 use mathlib.Core.Logic.{dite}
 use mathlib.Core.Option.{none, some}
 use native.Mathlib.Decide.{ℕ_discrete}
@@ -16,10 +16,10 @@ use Rattle.onedom.specs.declared.event.Maker.{Maker}
 use Rattle.onedom.specs.declared.event.Maker.TheVariants.{Processor}
 use Rattle.onedom.specs.declared.event.Event.{Event}
 use Rattle.onedom.specs.declared.event.Event.TheVariants.{Begin, End, Note, Ask}
-use Rattle.onedom.specs.Histories.{ends, begins_of, IsOpen, is_start, is_finish, starts_in, ended_in, cookie_after, MayFollow, maker_of, same_maker, made_by}
-use Rattle.onedom.proofs.Pushes.{bit, legal_push, made_by_own, same_maker_refl, same_maker_false, begins_of_push, open_begun, index_of_begun, fresh, begins_of_made}
-use Rattle.onedom.proofs.Beginnings.{beginning_refl}
+use Rattle.onedom.specs.Histories.{ends, begins_of, IsOpen, is_start, is_finish, starts_in, ended_in, cookie_after, IsLegal, MayFollow, maker_of, same_maker, made_by, IsBeginning}
+use Rattle.onedom.proofs.CallerLemmas.{bit, legal_push, made_by_own, same_maker_refl, same_maker_false, begins_of_push, open_begun, index_of_begun, fresh, begins_of_made, beginning_refl, beginning_push}
 use Rattle.sections.specs.declared.view.Bounds.{Bounds}
+use Rattle.sections.specs.declared.view.Moment.{Moment}
 use Rattle.sections.specs.declared.view.Role.{Role}
 use Rattle.sections.specs.declared.view.Role.TheVariants.{Cpu, Driver}
 use Rattle.sections.specs.declared.view.Right.{Right}
@@ -28,11 +28,13 @@ use Rattle.sections.specs.declared.view.Step.{Step}
 use Rattle.sections.specs.declared.view.Step.TheVariants.{LoadIndex}
 use Rattle.sections.specs.declared.view.View.{View}
 use Rattle.sections.specs.Words.{number_place, lock_place, unlock_place, locks_at, locks, unlocks_at, unlocks, index_word, number_word, Reaches, Agree}
-use Rattle.sections.specs.Rule.{HasItsMaker, GoesOn, Makes, Has, Knows, Fits, Kept}
-use Rattle.sections.specs.Plays.{Owns, IsSound, Sees, Adds, Sat, looked, began, ended, FindsNumber, noted, asked}
+use Rattle.sections.specs.declared.view.Deed.{Deed}
+use Rattle.sections.specs.Rule.{HasItsMaker, GoesOn, IsTrueOf, IsMaker, HasDone, Makes, Has, Knows, Fits, Kept}
+use Rattle.sections.specs.Plays.{Owns, IsSound, Sees, Admits, Adds, Sat, looked, admitted, began, ended, FindsNumber, noted, asked}
 use Rattle.sections.proofs.Counters.{index_number_same, locks_push, elsewhere, locks_mine, All-push, unlocks_bounded}
 use Rattle.sections.proofs.Agreement.{agrees_begun, agrees_ended, agrees_plain}
-use Rattle.sections.proofs.Knowing.{now, views_set, given, given_here, given_else, seat_at, has_stays, fits_stay, fits_later, known_before, knows_all, owns_from_makes, not_false, false≠true, hits}
+use Rattle.sections.proofs.Deeds.{cpu_makes, stands_at, maker_at, deed, done_later, done_push, has_done_push, has_done_all, has_done_as, one_more_step}
+use Rattle.sections.proofs.Knowing.{now, views_set, given, given_here, given_else, seat_at, has_stays, fits_stay, fits_later, known_before, knows_all, owns_from_makes, owns_between, not_false, false≠true, hits}
 
 -- The cookie of the number, and what is asked of it
 
@@ -82,11 +84,28 @@ same_section s t p q i j h = (λ k. section_in (h k), λ k. processor_in (h k), 
     index_in (Section s p i) = i
 
 module _ (bounds : Bounds) where
+  -- What was done
+
+  -- the maker of a step at this seat is no maker of another seat
+  pub alone : (seat_of : ℕ → ℕ) (engine id : ℕ) (m : Maker) → seat_at seat_of engine m ≡ id → (j : ℕ) → j ≢ id → (o : Maker) → seat_at seat_of engine o ≡ j → same_maker m o ≡ false
+  alone seat_of engine id m here j ne o there = same_maker_false m o (λ e. ne (sym there ∙ (ap (seat_at seat_of engine) (sym e) ∙ here)))
+
+  -- a step of the maker at this seat was added
+  pub each_more : (s : State (Option ℕ) View) (r : Kept bounds s) (id : ℕ) (d : Deed) (w : View) → seat_at r.seat_of r.engine d.by ≡ id → w.done ≡ r.deeds ++ d ∷ []
+      → (j : ℕ) (u : View) → get_elem? (set s.views id w) j ≡ some u → HasDone (r.deeds ++ d ∷ []) u
+  each_more s r id d w here all = views_set (λ _ u. HasDone (r.deeds ++ d ∷ []) u) s.views id w (has_done_all (r.deeds ++ d ∷ []) w all)
+      (λ j u ne at. has_done_push r.deeds d u (λ m g. alone r.seat_of r.engine id d.by here j ne m (stands_at r.log r.changes r.seat_of r.holder r.engine j u.role u.mine m (r.each_view j u at).makes g)) (r.each_done j u at))
+
+  -- none was
+  pub each_as : (s : State (Option ℕ) View) (r : Kept bounds s) (id : ℕ) (v w : View) → get_elem? s.views id ≡ some v → w.role ≡ v.role → w.done ≡ v.done
+      → (j : ℕ) (u : View) → get_elem? (set s.views id w) j ≡ some u → HasDone r.deeds u
+  each_as s r id v w at role done = views_set (λ _ u. HasDone r.deeds u) s.views id w (has_done_as r.deeds v w role done (r.each_done id v at)) (λ j u _ e. r.each_done j u e)
+
   -- Loads that are no events
 
   -- a load changes no word, and its seat has then seen all
-  unmoved : (s : State (Option ℕ) View) (r : Kept bounds s) (k id : ℕ) (cs : List (ℕ × Option ℕ)) (w : View) → Fits r.log r.changes r.seat_of r.holder r.engine id w → Kept bounds (stepped s k (get_or s.words k 0) id cs w keeps)
-  unmoved s r k id cs w fits = subst (λ (ws : List ℕ). Kept bounds record { words = ws; homes = s.homes; views = set s.views id w }) (sym (set-get_or s.words k 0)) record {
+  unmoved : (s : State (Option ℕ) View) (r : Kept bounds s) (k id : ℕ) (cs : List (ℕ × Option ℕ)) (w : View) (by : Maker) (l : Step) → IsTrueOf (now r.log r.changes) l → seat_at r.seat_of r.engine by ≡ id → w.done ≡ r.deeds ++ deed by l (now r.log r.changes) ∷ [] → Fits r.log r.changes r.seat_of r.holder r.engine id w → Kept bounds (stepped s k (get_or s.words k 0) id cs w keeps)
+  unmoved s r k id cs w by l is here all fits = subst (λ (ws : List ℕ). Kept bounds record { words = ws; homes = s.homes; views = set s.views id w }) (sym (set-get_or s.words k 0)) record {
     log = r.log;
     changes = r.changes;
     seat_of = r.seat_of;
@@ -96,18 +115,22 @@ module _ (bounds : Bounds) where
     within = r.within;
     words = r.words;
     each_view = views_set (Fits r.log r.changes r.seat_of r.holder r.engine) s.views id w fits (λ j d _ e. r.each_view j d e);
+    deeds = r.deeds ++ deed by l (now r.log r.changes) ∷ [];
+    done = done_push r.deeds by l (now r.log r.changes) is r.done;
+    each_done = each_more s r id (deed by l (now r.log r.changes)) w here all;
   }
 
   -- what the seat is told by such a load, it may be told whatever the table is
-  pub loads_here : (slots id k : ℕ) (me : Sat) (l : ℕ → List Event → Step) (told_of : ℕ → Sat → Type 0) → me.0.processors ≡ bounds.processors
+  pub loads_here : (slots id k : ℕ) (me : Sat) (m : Maker) (l : ℕ → List Event → Step) (told_of : ℕ → Sat → Type 0) → IsMaker me.0.role m → me.0.processors ≡ bounds.processors
+      → ((s : State (Option ℕ) View) (r : Kept bounds s) → IsTrueOf (now r.log r.changes) (l (get_or s.words k 0) r.log))
       → ((s : State (Option ℕ) View) (r : Kept bounds s) (w : View) → get_elem? s.views id ≡ some me.0 → w.seen ≡ r.log → w.changes ≡ r.changes → Sees (l (get_or s.words k 0) w.seen) me.0 w → told_of (get_or s.words k 0) (w, me.1))
       → Allows (Kept bounds) slots id me k (λ x. x) told_of
-  loads_here slots id k me l told_of sized tells s r _ at _ = let v : View = me.0 in let f = r.each_view id v at in let n : ℕ = get_or s.words k 0 in
-      let w : View = record { processors = v.processors; role = v.role; mine = v.mine; seen = r.log; changes = r.changes; told = []; right = v.right; steps = v.steps ++ l n r.log ∷ [] } in (
+  loads_here slots id k me m l told_of is sized true_of tells s r _ at _ = let v : View = me.0 in let f = r.each_view id v at in let n : ℕ = get_or s.words k 0 in
+      let w : View = record { processors = v.processors; role = v.role; mine = v.mine; seen = r.log; changes = r.changes; told = []; right = v.right; done = r.deeds ++ deed m (l n r.log) (now r.log r.changes) ∷ [] } in (
         w,
         keeps,
         tt,
-        unmoved s r k id me.1 w record {
+        unmoved s r k id me.1 w m (l n r.log) (true_of s r) (maker_at r.log r.changes r.seat_of r.holder r.engine id v.role v.mine m f.makes is) refl record {
           seen = beginning_refl r.log;
           knows = knows_all r.log r.changes r.seat_of r.holder r.engine id v.role;
           told = All-nil (λ m. GoesOn m (now r.log r.changes));
@@ -120,7 +143,7 @@ module _ (bounds : Bounds) where
           mine = refl;
           right = refl;
           told = refl;
-          steps = refl;
+          steps = one_more_step v.role m (l n r.log) (now r.log r.changes) v.done r.deeds is (r.each_done id v at).own;
           since = f.seen;
           later = known_before r.log r.changes r.seat_of r.holder r.engine id v.role v.changes f.knows;
           covers = f.told;
@@ -137,8 +160,57 @@ module _ (bounds : Bounds) where
   pub exact : (s : State (Option ℕ) View) (r : Kept bounds s) (id : ℕ) (v : View) (d : ℕ) → get_elem? s.views id ≡ some v → v.role ≡ Driver d → v.changes ≡ r.changes
   exact s r id v d at is = subst (λ (m : Role). Knows r.log r.changes r.seat_of r.holder r.engine id m v.changes) is (r.each_view id v at).knows
 
-  pub looks : (slots id : ℕ) (me : Sat) → me.0.processors ≡ bounds.processors → Allows (Kept bounds) slots id me 0 (λ x. x) (looked (step slots 0 0 0 none) me)
-  looks slots id me sized = loads_here slots id 0 me (λ n _. LoadIndex n) (looked (step slots 0 0 0 none) me) sized (λ s r w at seen changes sees. (refl, sees, r.words.index ∙ ap index_word (sym changes), refl, λ d is. changes ∙ sym (exact s r id me.0 d at is)))
+  pub looks : (slots id : ℕ) (me : Sat) (m : Maker) → IsMaker me.0.role m → me.0.processors ≡ bounds.processors → Allows (Kept bounds) slots id me 0 (λ x. x) (looked (step slots 0 0 0 none) me)
+  looks slots id me m is sized = loads_here slots id 0 me m (λ n _. LoadIndex n) (looked (step slots 0 0 0 none) me) is sized (λ s r. r.words.index) (λ s r w at seen changes sees. (refl, sees, r.words.index ∙ ap index_word (sym changes), refl, λ d is. changes ∙ sym (exact s r id me.0 d at is)))
+
+  -- a load by a processor that was told of a history, which covers its own: it made no event that is not there
+  pub admits_here : (slots id : ℕ) (me : Sat) (p : ℕ) (o : Moment) → me.0.processors ≡ bounds.processors → me.0.role ≡ Cpu p → me.0.told ≡ o ∷ [] → IsBeginning me.0.seen o.history → me.0.changes ≤ o.changes
+      → Owns me.0.role me.0.mine me.0.seen → IsLegal o.history → All (HasItsMaker bounds.processors) o.history → Reaches o.changes o.history
+      → Allows (Kept bounds) slots id me 0 (λ x. x) (admitted (step slots 0 0 0 none) me)
+  admits_here slots id me p o sized is told since later own legal makers reaches s r _ at _ =
+      let v : View = me.0 in
+      let f = r.each_view id v at in
+      let n : ℕ = get_or s.words 0 0 in
+      let m : Maker = Processor p in
+      let makes : IsMaker v.role m = cpu_makes p v.role is in
+      let goes : GoesOn o (now r.log r.changes) = All-head (λ x. GoesOn x (now r.log r.changes)) o [] (subst (λ (l : List Moment). All (λ x. GoesOn x (now r.log r.changes)) l) told f.told) in
+      let w : View = record { processors = v.processors; role = v.role; mine = v.mine; seen = o.history; changes = o.changes; told = []; right = v.right; done = r.deeds ++ deed m (LoadIndex n) (now r.log r.changes) ∷ [] } in (
+        w,
+        keeps,
+        tt,
+        unmoved s r 0 id me.1 w m (LoadIndex n) r.words.index (maker_at r.log r.changes r.seat_of r.holder r.engine id v.role v.mine m f.makes makes) refl record {
+          seen = goes.history;
+          knows = subst (λ (x : Role). Knows r.log r.changes r.seat_of r.holder r.engine id x o.changes) (sym is) goes.changes;
+          told = All-nil (λ x. GoesOn x (now r.log r.changes));
+          makes = f.makes;
+          has = f.has;
+        },
+        (
+          refl,
+          refl,
+          λ o' told'. subst (λ (z : Moment). Admits n z v w) (ap (head_or o) (sym told ∙ told')) record {
+            processors = refl;
+            role = refl;
+            mine = refl;
+            right = refl;
+            told = refl;
+            steps = one_more_step v.role m (LoadIndex n) (now r.log r.changes) v.done r.deeds makes (r.each_done id v at).own;
+            seen = refl;
+            changes = refl;
+            found = record { moment = r.changes; word = r.words.index; not_before = goes.changes };
+            sound = record {
+              legal = legal;
+              makers = subst (λ (z : ℕ). All (HasItsMaker z) o.history) (sym sized) makers;
+              own = owns_between v.role v.mine v.seen o.history r.log own since goes.history (owns_from_makes r.log r.changes r.seat_of r.holder r.engine id v.role v.mine f.makes);
+              reaches = reaches;
+            };
+          },
+        ),
+      )
+    where
+      head_or : Moment → List Moment → Moment
+      head_or d [] = d
+      head_or d (x ∷ xs) = x
 
   -- Events
 
@@ -151,8 +223,9 @@ module _ (bounds : Bounds) where
       → ((t : ℕ) → ends t e ≡ true → r.holder t ≡ id)
       → ((t : ℕ) → IsOpen r.log t → holder' t ≡ r.holder t)
       → Fits (r.log ++ e ∷ []) changes' r.seat_of holder' r.engine id w
+      → (v : View) → get_elem? s.views id ≡ some v → w.role ≡ v.role → w.done ≡ v.done
       → Kept bounds (stepped s k x id cs w keeps)
-  added s r id k x cs w e changes' holder' may made agree forth most same_changes limited other ended_here same fits = record {
+  added s r id k x cs w e changes' holder' may made agree forth most same_changes limited other ended_here same fits v at role done = record {
     log = r.log ++ e ∷ [];
     changes = changes';
     seat_of = r.seat_of;
@@ -164,6 +237,9 @@ module _ (bounds : Bounds) where
     each_view = views_set (Fits (r.log ++ e ∷ []) changes' r.seat_of holder' r.engine) s.views id w fits (λ j d ne at. fits_later (r.log ++ e ∷ []) r.changes changes' r.seat_of holder' r.engine j forth (same_changes j ne) d
         (fits_stay r.log r.changes r.seat_of r.holder holder' r.engine j e may (other j ne)
         (λ t h. not_false (ends t e) (λ y. ne (sym h ∙ ended_here t y))) same d (r.each_view j d at)));
+    deeds = r.deeds;
+    done = done_later r.deeds (now r.log r.changes) (now (r.log ++ e ∷ []) changes') (record { history = beginning_push e (beginning_refl r.log); changes = forth }) r.done;
+    each_done = each_as s r id v w at role done;
   }
 
   -- an event of a processor leaves the number and the index word as they are
@@ -174,12 +250,9 @@ module _ (bounds : Bounds) where
       → ((t : ℕ) → ends t e ≡ true → r.holder t ≡ id)
       → ((t : ℕ) → IsOpen r.log t → holder' t ≡ r.holder t)
       → Fits (r.log ++ e ∷ []) r.changes r.seat_of holder' r.engine id w
+      → (v : View) → get_elem? s.views id ≡ some v → w.role ≡ v.role → w.done ≡ v.done
       → Kept bounds (stepped s k x id cs w keeps)
-  happened s r id k x cs w e holder' may made agree limited other ended_here same fits = let most = r.within.periods in added s r id k x cs w e r.changes holder' may made agree (omega arith) most (λ _ _ _. refl) limited other ended_here same fits
-
-  -- the maker of an event at this seat is no maker of another seat
-  pub alone : (seat_of : ℕ → ℕ) (engine id : ℕ) (m : Maker) → seat_at seat_of engine m ≡ id → (j : ℕ) → j ≢ id → (o : Maker) → seat_at seat_of engine o ≡ j → same_maker m o ≡ false
-  alone seat_of engine id m here j ne o there = same_maker_false m o (λ e. ne (sym there ∙ (ap (seat_at seat_of engine) (sym e) ∙ here)))
+  happened s r id k x cs w e holder' may made agree limited other ended_here same fits v at role done = let most = r.within.periods in added s r id k x cs w e r.changes holder' may made agree (omega arith) most (λ _ _ _. refl) limited other ended_here same fits v at role done
 
   pub sound_after : (s : State (Option ℕ) View) (r : Kept bounds s) (e : Event) (n : ℕ) (role : Role) (mine : List Event) (changes' : ℕ) → MayFollow r.log e → HasItsMaker bounds.processors e → n ≡ bounds.processors
       → Reaches changes' (r.log ++ e ∷ []) → Owns role mine (r.log ++ e ∷ []) → IsSound n role mine (r.log ++ e ∷ []) changes'
@@ -193,7 +266,7 @@ module _ (bounds : Bounds) where
   -- A section begins: its number is new, and no other seat can know it
   pub begins_here : (slots id k : ℕ) (me : Sat) (p : ℕ) (i : Index) → me.0.processors ≡ bounds.processors → me.0.role ≡ Cpu p → p < bounds.processors → k ≡ lock_place p i → locks p i me.0.mine < bounds.sections
       → Allows (Kept bounds) slots id me k (λ x. (x + 1) % 2 ^ 64) (began (step slots k 1 0 none) me)
-  begins_here slots id k me p i sized is lt place room s r _ at fits_word =
+  begins_here slots id k me p i sized is lt place room s r _ at _ =
       let v : View = me.0 in
       let f = r.each_view id v at in
       let made : Makes r.log r.changes r.seat_of r.holder r.engine id (Cpu p) v.mine = subst (λ (m : Role). Makes r.log r.changes r.seat_of r.holder r.engine id m v.mine) is f.makes in
@@ -210,7 +283,7 @@ module _ (bounds : Bounds) where
       let small = r.small.counters in
       let below : bounds.sections < 2 ^ 62 = small_limit bounds.processors bounds.sections p lt small in
       let up : y ≡ x + 1 = omega (arith, found, same, room, below) in
-      let w : View = record { processors = v.processors; role = v.role; mine = v.mine ++ e ∷ []; seen = log'; changes = r.changes; told = []; right = Section t p i; steps = v.steps } in
+      let w : View = record { processors = v.processors; role = v.role; mine = v.mine ++ e ∷ []; seen = log'; changes = r.changes; told = []; right = Section t p i; done = v.done } in
       let holder' : ℕ → ℕ = given t id r.holder in
       let by_p : same_maker (Processor p) (Processor p) ≡ true = same_maker_refl (Processor p) in
       let mine' : v.mine ++ e ∷ [] ≡ made_by (Processor p) log' = ap (λ l. l ++ e ∷ []) made.1 ∙ sym (made_by_own (Processor p) r.log e by_p) in
@@ -235,7 +308,7 @@ module _ (bounds : Bounds) where
             (λ j ne m there. alone r.seat_of r.engine id (Processor p) made.0 j ne m there)
             (λ u no_end. absurd (false≠true no_end))
             (λ u is_open. given_else t id r.holder u (λ ut. let begun : 0 < begins_of t r.log = subst (λ (z : ℕ). 0 < begins_of z r.log) ut is_open.0 in let unbegun = new.1 in omega (arith, begun, unbegun)))
-            fits,
+            fits v at refl refl,
         (
           refl,
           λ q j is' word. let pq : p ≡ q = same_cpu p q (sym is ∙ is') in let ij : i ≡ j = same_lock p q i j pq (sym place ∙ word) in
@@ -251,7 +324,7 @@ module _ (bounds : Bounds) where
                   role = refl;
                   mine = refl;
                   told = refl;
-                  steps = refl;
+                  done = refl;
                   sound = sound_after s r e v.processors v.role (v.mine ++ e ∷ []) r.changes new.1 (lt, refl) sized agree.reaches (subst (λ (m : Role). Owns m (v.mine ++ e ∷ []) log') (sym is) mine');
                 },
                 refl,
@@ -311,7 +384,7 @@ module _ (bounds : Bounds) where
       let up : y ≡ x + 1 = omega (arith, found, most, small) in
       let by_q : same_maker (Processor q) (Processor q) ≡ true = same_maker_refl (Processor q) in
       let mine' : v.mine ++ e ∷ [] ≡ made_by (Processor q) log' = ap (λ l. l ++ e ∷ []) made.1 ∙ sym (made_by_own (Processor q) r.log e by_q) in
-      let w : View = record { processors = v.processors; role = v.role; mine = v.mine ++ e ∷ []; seen = log'; changes = r.changes; told = []; right = Nothing; steps = v.steps } in
+      let w : View = record { processors = v.processors; role = v.role; mine = v.mine ++ e ∷ []; seen = log'; changes = r.changes; told = []; right = Nothing; done = v.done } in
       let fits : Fits log' r.changes r.seat_of r.holder r.engine id w = record {
         seen = beginning_refl log';
         knows = knows_all log' r.changes r.seat_of r.holder r.engine id v.role;
@@ -328,7 +401,7 @@ module _ (bounds : Bounds) where
             (λ j ne m there. alone r.seat_of r.engine id (Processor q) made.0 j ne m there)
             (λ u hit. ap r.holder (sym (hits t u hit)) ∙ has.0)
             (λ u _. refl)
-            fits,
+            fits v at refl refl,
         (
           refl,
           refl,
@@ -343,7 +416,7 @@ module _ (bounds : Bounds) where
               role = refl;
               mine = refl;
               told = refl;
-              steps = refl;
+              done = refl;
               sound = sound_after s r e v.processors v.role (v.mine ++ e ∷ []) r.changes has.1 (lt, refl) sized agree.reaches (subst (λ (m : Role). Owns m (v.mine ++ e ∷ []) log') (sym is) mine');
             },
             λ oc. let qp : q ≡ p = qc ∙ (sym oc ∙ sym same.1) in (λ h. begins_of (sym same.0 h) v.mine) ∙ (ap (begins_of t) (made.1 ∙ (λ h. made_by (Processor (qp h)) r.log)) ∙ has.3),
@@ -377,7 +450,7 @@ module _ (bounds : Bounds) where
       let agree : Agree bounds.processors s.words log' r.changes = agrees_plain bounds.processors s.words r.log r.changes r.words e t.no_start t.no_finish t.no_lock (t.no_unlock r.log) in
       let by_p : same_maker (maker_of e) (Processor p) ≡ true = ap (λ m. same_maker m (Processor p)) t.by ∙ same_maker_refl (Processor p) in
       let mine' : v.mine ++ e ∷ [] ≡ made_by (Processor p) log' = ap (λ l. l ++ e ∷ []) made.1 ∙ sym (made_by_own (Processor p) r.log e by_p) in
-      let w : View = record { processors = v.processors; role = v.role; mine = v.mine ++ e ∷ []; seen = log'; changes = r.changes; told = []; right = v.right; steps = v.steps } in
+      let w : View = record { processors = v.processors; role = v.role; mine = v.mine ++ e ∷ []; seen = log'; changes = r.changes; told = []; right = v.right; done = v.done } in
       let fits : Fits log' r.changes r.seat_of r.holder r.engine id w = record {
         seen = beginning_refl log';
         knows = knows_all log' r.changes r.seat_of r.holder r.engine id v.role;
@@ -394,7 +467,7 @@ module _ (bounds : Bounds) where
             (λ j ne m there. ap (λ x. same_maker x m) t.by ∙ alone r.seat_of r.engine id (Processor p) made.0 j ne m there)
             (λ u hit. absurd (false≠true (sym (t.no_end u) ∙ hit)))
             (λ u _. refl)
-            fits,
+            fits v at refl refl,
         tells n w (finds s r w refl) refl record {
           before = r.log;
           seen = refl;
@@ -405,7 +478,7 @@ module _ (bounds : Bounds) where
           role = refl;
           mine = refl;
           told = refl;
-          steps = refl;
+          done = refl;
           sound = sound_after s r e v.processors v.role (v.mine ++ e ∷ []) r.changes may (t.maker bounds.processors lt) sized agree.reaches (subst (λ (m : Role). Owns m (v.mine ++ e ∷ []) log') (sym is) mine');
         },
       )

@@ -12,9 +12,7 @@ use Rattle.onedom.specs.declared.event.Event.{Event}
 use Rattle.onedom.specs.declared.event.Event.TheVariants.{Begin, End, Start, Finish, Note, Ask}
 use Rattle.onedom.specs.Histories.{begins, ends, section_begun, open_sections, index_of, IsEmpty, MayFollow, IsLegal}
 use Rattle.onedom.specs.Laws.{times}
-use Rattle.onedom.proofs.Pushes.{bit, count_push, count_cons, index_of_push, index_of_begun, index_of_kept, along, no_ends}
-use Rattle.onedom.proofs.Beginnings.{count_grows}
-use Rattle.onedom.proofs.Opens.{times_cons, times_open_le, open_sections_begun, open_sections_plain, open_sections_ended, open_once, open_there}
+use Rattle.onedom.proofs.CallerLemmas.{bit, count_push, count_cons, index_of_push, index_of_begun, index_of_kept, along, no_ends, count_grows, times_cons, times_open_le, open_sections_begun, open_sections_plain, open_sections_ended, open_once, open_there}
 use Rattle.sections.specs.Words.{locks_at, locks, unlocks_at, unlocks_after, sum_below, all_locks}
 use Rattle.sections.specs.Rule.{HasItsMaker}
 use Rattle.sections.specs.Laws.{EqualSumsAreEmpty, FewerEndsShowOne, CountersGrow}

@@ -1,5 +1,5 @@
 -- What the calls of a processor do.
-use Rattle.std.specs.Prelude.{◌≡◌, ◌≢◌, ℕ, ◌%◌, ◌<◌, ◌≤◌, ◌⊎◌, ◌↔◌, Bool, IsTrue, List, [], ◌∷◌, ◌++◌, All, length, slice_index_or}
+use Rattle.std.specs.Prelude.{◌≡◌, ◌≢◌, ℕ, ◌%◌, ◌<◌, ◌^◌, ◌+◌, ◌≤◌, ◌⊎◌, ◌↔◌, Bool, IsTrue, List, [], ◌∷◌, ◌++◌, All, Contains, length, slice_index_or}
 use Rattle.atomic_table.specs.Seated.{TableId}
 use Rattle.sseq.specs.declared.index.Index.{Index}
 use Rattle.sseq.specs.Indexes.{low_bit}
@@ -13,6 +13,7 @@ use Rattle.sections.specs.declared.view.Step.{Step}
 use Rattle.sections.specs.declared.view.Step.TheVariants.{LoadIndex}
 use Rattle.sections.specs.Words.{index_word, number_word, locks, Reaches}
 use Rattle.sections.specs.Rule.{HasItsMaker}
+use Rattle.sections.specs.Plays.{IsIndexWord}
 use Rattle.sections.specs.Views.{CpuView, LookView, ReadingView, CookieView}
 
 -- a legal history of a domain of so many processors, in which a maker has just these events and the engine has made so many changes
@@ -79,6 +80,15 @@ pub record ReadLocks (c d : CpuView) (r : ReadingView) : Type 0 where
   pub looks : Looks c between look
   pub enters : Enters between look d r
 
+-- what a reading has seen ends with the beginning of its section, on its processor and with its index
+pub record EndsWithBegin (r : ReadingView) : Type 0 where
+  pub before : List Event
+  pub whole : r.seen ≡ before ++ Begin r.section r.processor r.index (Processor r.processor) ∷ []
+
+-- the reading's section is among those that were begun here
+abbrev pub HasBegun : CpuView → ReadingView → Type 0
+HasBegun c r = Contains c.mine (Begin r.section r.processor r.index (Processor r.processor))
+
 -- the section of the reading ends
 abbrev pub Unlocks : ReadingView → CpuView → CpuView → Type 0
 Unlocks r c d = AddsEvent r.seen r.changes (End r.section c.processor (Processor c.processor)) c d
@@ -104,6 +114,7 @@ pub record Notes (number : ℕ) (c d : CpuView) : Type 0 where
   pub adds : AddsEvent c.seen c.changes (Note (cookie_at number) (Processor c.processor)) c d
   pub current : number ≡ number_word d.changes
   pub since : number_word c.changes ≤ number
+  pub small : number + 4 ≤ 2 ^ 61
 
 pub record GivesCookie (c d : CpuView) (cookie : CookieView) : Type 0 where
   pub number : ℕ
@@ -117,6 +128,7 @@ pub record Asks (other : List Event) (reached cookie : ℕ) (answer : Bool) (c d
   pub current : number ≡ number_word d.changes
   pub since : number_word c.changes ≤ number
   pub answer_is : IsTrue answer ↔ (cookie ≤ number)
+  pub small : number + 4 ≤ 2 ^ 61
 
 -- the last thing that was seen is that the cookie was given
 pub record EndsWithNote (number : ℕ) (seen : List Event) : Type 0 where
@@ -144,7 +156,15 @@ AreNew domain processors sections cpus = (k : ℕ) (d : CpuView) → k < length 
 
 -- Ties
 
--- one load of the index word by the processor, after which it has seen just this
+-- one load of the index word by the processor, after which it has seen what another has, who has seen so many changes
+pub record Hears (c : CpuView) (other : List Event) (reached : ℕ) (c' : CpuView) : Type 0 where
+  pub value : ℕ
+  pub current : value ≡ index_word c'.changes
+  pub looks : Loads (LoadIndex value) c c'
+  pub covers : IsBeginning other c'.seen
+  pub not_before : reached ≤ c'.changes
+
+-- one load of the index word by the processor, after which it has seen just this. The word is no older than that
 pub record Accepts (c : CpuView) (all : List Event) (reached : ℕ) (c' : CpuView) : Type 0 where
   pub value : ℕ
   pub same : IsSameCpu c c'
@@ -152,6 +172,7 @@ pub record Accepts (c : CpuView) (all : List Event) (reached : ℕ) (c' : CpuVie
   pub steps : c'.steps ≡ c.steps ++ LoadIndex value ∷ []
   pub seen : c'.seen ≡ all
   pub changes : c'.changes ≡ reached
+  pub found : IsIndexWord value reached
   pub history : IsSeenBy c'
 
 -- both made one load, and no event, and have then seen one history, which covers what each had seen. So each of the two has there just its own events

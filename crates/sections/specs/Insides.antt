@@ -3,6 +3,7 @@ use Rattle.std.specs.Prelude.{◌≡◌, ℕ, ◌+◌, ◌*◌, ◌%◌, ◌^◌
 use Rattle.std.specs.Arc.{arc_value}
 use Rattle.sseq.specs.declared.index.Index.{Index}
 use Rattle.sseq.specs.Indexes.{index_number}
+use Rattle.onedom.specs.declared.event.Maker.TheVariants.{Processor, Engine}
 use Rattle.onedom.specs.Histories.{open_sections}
 use Rattle.sections.specs.declared.view.View.{View}
 use Rattle.sections.specs.declared.view.Right.{Right}
@@ -14,10 +15,10 @@ use Rattle.sections.specs.declared.cpu.Reading.TheInside as reading
 use Rattle.sections.specs.declared.cpu.Cookie.TheInside as cookie
 use Rattle.sections.specs.declared.engine.EngineSeat.TheInside as engine
 use Rattle.sections.specs.Words.{locks, number_word}
-use Rattle.sections.specs.Rule.{token}
+use Rattle.sections.specs.Rule.{steps_of, token}
 use Rattle.sections.specs.Seats.{IsPlaced}
 use Rattle.sections.specs.Plays.{IsSound}
-use Rattle.sections.specs.Calls.{EndsWithNote}
+use Rattle.sections.specs.Calls.{EndsWithBegin, EndsWithNote}
 use Rattle.sections.specs.Views.{CpuView, EngineView, LookView, ReadingView, CookieView}
 
 abbrev pub section_of : Right → ℕ
@@ -43,6 +44,7 @@ view_of_reading r = record { domain = r.seat.table_id; section = section_of r.se
 pub record IsReading (r : reading.Inside) : Type 0 where
   pub bare : r.seat.me.1 ≡ []
   pub right : r.seat.me.0.right ≡ Section (section_of r.seat.me.0.right) r.processor r.index
+  pub begun : EndsWithBegin (view_of_reading r)
 
 abbrev pub view_of_cookie : cookie.Inside → CookieView
 view_of_cookie k = record { domain = k.seat.table_id; number = k.number; seen = k.seat.me.0.seen; changes = k.seat.me.0.changes }
@@ -52,10 +54,11 @@ pub record IsCookie (k : cookie.Inside) : Type 0 where
   pub plain : k.seat.me.0 ≡ token k.seat.me.0.seen k.seat.me.0.changes Nothing
   pub given : EndsWithNote k.number k.seat.me.0.seen
   pub whole : k.number % 4 ≡ 0
+  pub small : k.number ≤ 2 ^ 61
 
 module _ {A : Type 0} where
   abbrev pub view_of_cpu : cpu.Inside A → CpuView
-  view_of_cpu c = record { domain = c.seat.table_id; processors = (arc_value c.table).shared.key.processors; sections = c.limit; processor = c.processor; seen = c.seat.me.0.seen; changes = c.seat.me.0.changes; mine = c.seat.me.0.mine; steps = c.seat.me.0.steps }
+  view_of_cpu c = record { domain = c.seat.table_id; processors = (arc_value c.table).shared.key.processors; sections = c.limit; processor = c.processor; seen = c.seat.me.0.seen; changes = c.seat.me.0.changes; mine = c.seat.me.0.mine; steps = steps_of (Processor c.processor) c.seat.me.0.done }
 
   pub record IsCpu (c : cpu.Inside A) : Type 0 where
     pub placed : IsPlaced (arc_value c.table).shared.key (arc_value c.table).shared.table_id c.seat
@@ -70,7 +73,7 @@ module _ {A : Type 0} where
     pub few : c.unclosed ≤ slice_index c.begun 0 + slice_index c.begun 1
 
   abbrev pub view_of_engine : engine.Inside A → EngineView
-  view_of_engine e = record { domain = e.seat.table_id; processors = (arc_value e.table).shared.key.processors; periods = e.periods; seen = e.seat.me.0.seen; changes = e.seat.me.0.changes; mine = e.seat.me.0.mine; steps = e.seat.me.0.steps }
+  view_of_engine e = record { domain = e.seat.table_id; processors = (arc_value e.table).shared.key.processors; periods = e.periods; seen = e.seat.me.0.seen; changes = e.seat.me.0.changes; mine = e.seat.me.0.mine; steps = steps_of Engine e.seat.me.0.done }
 
   pub record IsEngine (e : engine.Inside A) : Type 0 where
     pub placed : IsPlaced (arc_value e.table).shared.key (arc_value e.table).shared.table_id e.seat

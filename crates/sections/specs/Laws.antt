@@ -1,17 +1,20 @@
 -- What holds of the words of every domain, whatever its history.
-use Rattle.std.specs.Prelude.{◌≡◌, ℕ, ◌<◌, ◌≤◌, ◌↔◌, List, All, Option, slice_index}
+use Rattle.std.specs.Prelude.{◌≡◌, ℕ, ◌<◌, ◌≤◌, ◌↔◌, List, ◌++◌, All, Option, slice_index}
 use Rattle.sseq.specs.declared.index.Index.{Index}
+use Rattle.onedom.specs.declared.event.Maker.{Maker}
 use Rattle.onedom.specs.declared.event.Event.{Event}
 use Rattle.onedom.specs.Histories.{IsOpen, index_of, IsEmpty, IsLegal, IsBeginning}
 use mathlib.Core.Option.{some}
 use lib.ListN.{get_elem?}
-use Rattle.atomic_table.specs.Table.{State}
+use Rattle.atomic_table.specs.Table.{State, Splits, Joins}
 use Rattle.sections.specs.declared.view.Bounds.{Bounds}
+use Rattle.sections.specs.declared.view.Step.{Step}
 use Rattle.sections.specs.declared.view.View.{View}
 use Rattle.sections.specs.Words.{number_place, index_place, lock_place, unlock_place, locks, unlocks, all_locks, all_unlocks, number_word, index_word, Reaches, MayHave}
-use Rattle.sections.specs.Rule.{HasItsMaker, Kept}
+use Rattle.sections.specs.Rule.{HasItsMaker, steps_of, IsMaker, StandsFor, Kept}
+use Rattle.sections.specs.Calls.{HasSeenOf}
 
--- there is one legal history, with which the number, the index word and the counters agree, and of which every seat has seen a beginning
+-- there is one legal history, with which the number, the index word and the counters agree, and of which every seat has seen a beginning. In what any seat has seen, each maker's events are a beginning of that maker's own
 pub record HasOneHistory (bounds : Bounds) (s : State (Option ℕ) View) : Type 0 where
   pub log : List Event
   pub legal : IsLegal log
@@ -19,6 +22,7 @@ pub record HasOneHistory (bounds : Bounds) (s : State (Option ℕ) View) : Type 
   pub lock_counters : (p : ℕ) (i : Index) → p < bounds.processors → slice_index s.words (lock_place p i) ≡ locks p i log
   pub unlock_counters : (q : ℕ) (i : Index) → q < bounds.processors → slice_index s.words (unlock_place q i) ≡ unlocks q i log
   pub seen : (j : ℕ) (v : View) → get_elem? s.views j ≡ some v → IsBeginning v.seen log
+  pub known : (j k : ℕ) (u v : View) → get_elem? s.views j ≡ some u → get_elem? s.views k ≡ some v → (m : Maker) → IsMaker u.role m → HasSeenOf m u.mine v.seen
 
 -- the rule, which holds between any two steps, says so
 abbrev pub OneHistory : Type 0
@@ -41,3 +45,14 @@ FewerEndsShowOne = (processors : ℕ) (i : Index) (history : List Event) → IsL
 -- the counters only grow
 abbrev pub CountersGrow : Type 0
 CountersGrow = (p : ℕ) (i : Index) (seen history : List Event) → IsBeginning seen history → (locks p i seen ≤ locks p i history) × (unlocks p i seen ≤ unlocks p i history)
+
+-- the second view has no step of this maker that the first one doesn't have
+pub record HasNoStepMore (m : Maker) (v w : View) : Type 0 where
+  pub rest : List Step
+  pub whole : steps_of m v.done ≡ steps_of m w.done ++ rest
+
+-- however a seat is cut in two or takes another in, it has no step more of its maker m, as long as there is a maker o that has a seat elsewhere: at the place of that step, o may have made a step of its own. So only a step on the table gives a step
+abbrev pub NoStepIsForged : Type 0
+NoStepIsForged = (bounds : Bounds) (s : State (Option ℕ) View) → Kept bounds s → (id : ℕ) (v : View) → get_elem? s.views id ≡ some v → (m o : Maker) → StandsFor v.role m → ¬ StandsFor v.role o
+    → ((left right : View) → Splits (Kept bounds) id v left right → HasNoStepMore m v left × HasNoStepMore m v right)
+    × ((other : ℕ) (w both spent : View) → ¬ (other ≡ id) → get_elem? s.views other ≡ some w → ¬ StandsFor w.role o → Joins (Kept bounds) id v other w both spent → HasNoStepMore m v both)

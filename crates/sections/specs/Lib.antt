@@ -8,7 +8,8 @@ pub mod Plays
 pub mod Seats
 pub mod Views
 pub mod Calls
-pub mod Driving
+pub mod EngineCalls
 pub mod Insides
+pub mod Homes
 pub mod Laws
 pub mod Making

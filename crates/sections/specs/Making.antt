@@ -9,10 +9,10 @@ use Rattle.sections.specs.declared.view.Role.TheVariants.{Driver}
 use Rattle.sections.specs.Limits.{AreInRange}
 use Rattle.sections.specs.Words.{word_count}
 use Rattle.sections.specs.Rule.{AreSmall, founder}
-use Rattle.sections.specs.Seats.{Place}
+use Rattle.sections.specs.Seats.{DomainSeat}
 use Rattle.sections.specs.Views.{CpuView, EngineView}
 use Rattle.sections.specs.Calls.{AreNew}
-use Rattle.sections.specs.Driving.{new_engine}
+use Rattle.sections.specs.EngineCalls.{new_engine}
 
 -- a domain has 1 or 2 processors
 abbrev pub IsCount : ℕ → Type 0
@@ -25,13 +25,13 @@ pub record IsSmall (bounds : Bounds) : Type 0 where
   pub words : AreSmall bounds
 
 -- the seat is the engine's and that of the processors from k on, and nothing has happened
-pub record IsFounder (bounds key : Bounds) (table : TableId) (k : ℕ) (seat : Place) : Type 0 where
+pub record IsFounder (bounds key : Bounds) (table : TableId) (k : ℕ) (seat : DomainSeat) : Type 0 where
   pub key_is : key ≡ bounds
   pub wide : table.words ≡ word_count bounds.processors
   pub seated : seat.table_id ≡ table
   pub me : seat.me ≡ (record (founder bounds) { role = Driver k }, [])
 
-abbrev pub NewTable : Bounds → Bounds → TableId → Place → Type 0
+abbrev pub NewTable : Bounds → Bounds → TableId → DomainSeat → Type 0
 NewTable bounds key table seat = IsFounder bounds key table 0 seat
 
 abbrev pub bounds_of : ℕ → Limits → Bounds

@@ -3,6 +3,7 @@ use Rattle.std.specs.Prelude.{◌≡◌, ℕ, ◌+◌, ◌^◌, ◌<◌, ◌≤�
 use Rattle.atomic_table.specs.Table.{Me, Step as TableStep}
 use Rattle.sseq.specs.declared.index.Index.{Index}
 use Rattle.sseq.specs.Numbers.{cookie_at}
+use Rattle.onedom.specs.declared.event.Maker.{Maker}
 use Rattle.onedom.specs.declared.event.Maker.TheVariants.{Processor, Engine}
 use Rattle.onedom.specs.declared.event.Event.{Event}
 use Rattle.onedom.specs.declared.event.Event.TheVariants.{Begin, End, Start, Finish, Note, Ask}
@@ -10,11 +11,12 @@ use Rattle.onedom.specs.Histories.{begins_of, IsLegal, made_by, IsBeginning}
 use Rattle.sections.specs.declared.view.Role.{Role}
 use Rattle.sections.specs.declared.view.Role.TheVariants.{Bearer, Cpu, Driver}
 use Rattle.sections.specs.declared.view.Right.TheVariants.{Nothing, Section}
+use Rattle.sections.specs.declared.view.Moment.{Moment}
 use Rattle.sections.specs.declared.view.Step.{Step}
 use Rattle.sections.specs.declared.view.Step.TheVariants.{LoadIndex, LoadUnlocks, LoadLocks, AddIndex, AddNumber}
 use Rattle.sections.specs.declared.view.View.{View}
 use Rattle.sections.specs.Words.{index_place, lock_place, unlock_place, locks, unlocks, all_locks, index_word, number_word, Reaches}
-use Rattle.sections.specs.Rule.{HasItsMaker, GoesOn, moment_of}
+use Rattle.sections.specs.Rule.{HasItsMaker, GoesOn, moment_of, steps_of, IsMaker}
 
 -- the maker's own events are all of its events in what was seen
 abbrev pub Owns : Role → List Event → List Event → Type 0
@@ -36,7 +38,7 @@ pub record Sees (l : Step) (v w : View) : Type 0 where
   pub mine : w.mine ≡ v.mine
   pub right : w.right ≡ v.right
   pub told : w.told ≡ []
-  pub steps : w.steps ≡ v.steps ++ l ∷ []
+  pub steps : (m : Maker) → IsMaker v.role m → steps_of m w.done ≡ steps_of m v.done ++ l ∷ []
   pub since : IsBeginning v.seen w.seen
   pub later : v.changes ≤ w.changes
   pub covers : All (λ m. GoesOn m (moment_of w)) v.told
@@ -53,7 +55,7 @@ pub record Adds (v : View) (e : Event) (w : View) : Type 0 where
   pub role : w.role ≡ v.role
   pub mine : w.mine ≡ v.mine ++ e ∷ []
   pub told : w.told ≡ []
-  pub steps : w.steps ≡ v.steps
+  pub done : w.done ≡ v.done
   pub sound : IsSound w.processors w.role w.mine w.seen w.changes
 
 abbrev pub Sat : Type 0
@@ -62,6 +64,29 @@ Sat = Me (Option ℕ) View
 -- load of the index word. Nobody but the engine changes it, so the engine finds it as it left it
 abbrev pub looked : TableStep (Option ℕ) → Sat → ℕ → Sat → Type 0
 looked st m n m' = (m'.1 ≡ m.1) × Sees (LoadIndex n) m.0 m'.0 × (n ≡ index_word m'.0.changes) × (st.word ≡ index_place) × ((k : ℕ) → m.0.role ≡ Driver k → m'.0.changes ≡ m.0.changes)
+
+-- the index word, as it was at a moment that is no older than so many changes
+pub record IsIndexWord (n changes : ℕ) : Type 0 where
+  pub moment : ℕ
+  pub word : n ≡ index_word moment
+  pub not_before : changes ≤ moment
+
+-- just what was told is seen: the seat's maker made no event that is not there. The step is noted, and nothing else changes
+pub record Admits (n : ℕ) (o : Moment) (v w : View) : Type 0 where
+  pub processors : w.processors ≡ v.processors
+  pub role : w.role ≡ v.role
+  pub mine : w.mine ≡ v.mine
+  pub right : w.right ≡ v.right
+  pub told : w.told ≡ []
+  pub steps : (m : Maker) → IsMaker v.role m → steps_of m w.done ≡ steps_of m v.done ++ LoadIndex n ∷ []
+  pub seen : w.seen ≡ o.history
+  pub changes : w.changes ≡ o.changes
+  pub found : IsIndexWord n o.changes
+  pub sound : IsSound w.processors w.role w.mine w.seen w.changes
+
+-- load of the index word by one that was told of a history
+abbrev pub admitted : TableStep (Option ℕ) → Sat → ℕ → Sat → Type 0
+admitted st m n m' = (m'.1 ≡ m.1) × (st.word ≡ index_place) × ((o : Moment) → m.0.told ≡ o ∷ [] → Admits n o m.0 m'.0)
 
 -- increment of a lock counter: a section that never was begins
 abbrev pub began : TableStep (Option ℕ) → Sat → ℕ → Sat → Type 0

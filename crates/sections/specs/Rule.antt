@@ -1,5 +1,5 @@
 -- The rule of a domain's table: there is one legal history, the words agree with it, and each seat knows a part of it.
-use Rattle.std.specs.Prelude.{◌≡◌, ℕ, ◌+◌, ◌*◌, ◌^◌, ◌<◌, ◌≤◌, List, [], ◌∷◌, All, Option}
+use Rattle.std.specs.Prelude.{◌≡◌, ℕ, ◌+◌, ◌*◌, ◌^◌, ◌<◌, ◌≤◌, List, [], ◌∷◌, ◌++◌, All, Option, length, filter, map}
 use mathlib.Core.Option.{some}
 use lib.ListN.{get_elem?}
 use Rattle.atomic_table.specs.Table.{State}
@@ -8,15 +8,18 @@ use Rattle.onedom.specs.declared.event.Maker.{Maker}
 use Rattle.onedom.specs.declared.event.Maker.TheVariants.{Processor, Engine}
 use Rattle.onedom.specs.declared.event.Event.{Event}
 use Rattle.onedom.specs.declared.event.Event.TheVariants.{Begin, End, Start, Finish, Note, Ask}
-use Rattle.onedom.specs.Histories.{begins_of, IsOpen, index_of, IsLegal, made_by, IsBeginning}
+use Rattle.onedom.specs.Histories.{begins_of, IsOpen, index_of, IsLegal, same_maker, made_by, IsBeginning}
 use Rattle.sections.specs.declared.view.Bounds.{Bounds}
 use Rattle.sections.specs.declared.view.Role.{Role}
 use Rattle.sections.specs.declared.view.Role.TheVariants.{Bearer, Cpu, Driver}
 use Rattle.sections.specs.declared.view.Right.{Right}
 use Rattle.sections.specs.declared.view.Right.TheVariants.{Nothing, Section}
 use Rattle.sections.specs.declared.view.Moment.{Moment}
+use Rattle.sections.specs.declared.view.Step.{Step}
+use Rattle.sections.specs.declared.view.Step.TheVariants.{LoadIndex, LoadUnlocks, LoadLocks, AddIndex, AddNumber}
+use Rattle.sections.specs.declared.view.Deed.{Deed}
 use Rattle.sections.specs.declared.view.View.{View}
-use Rattle.sections.specs.Words.{locks, Agree}
+use Rattle.sections.specs.Words.{locks, unlocks, index_word, number_word, Agree}
 
 abbrev pub IsProcessor : ℕ → Maker → Type 0
 IsProcessor processors (Processor p) = p < processors
@@ -40,6 +43,56 @@ pub record GoesOn (a b : Moment) : Type 0 where
 
 abbrev pub moment_of : View → Moment
 moment_of v = record { history = v.seen; changes = v.changes }
+
+-- Steps that are no events
+
+-- the word is what the moment behind the step says
+abbrev pub IsTrueOf : Moment → Step → Type 0
+IsTrueOf m (LoadIndex n) = n ≡ index_word m.changes
+IsTrueOf m (LoadUnlocks q i n long) = (n ≡ unlocks q i m.history) × (long ≡ length m.history)
+IsTrueOf m (LoadLocks p i n long) = (n ≡ locks p i m.history) × (long ≡ length m.history)
+IsTrueOf m (AddIndex n) = n ≡ index_word m.changes
+IsTrueOf m (AddNumber n) = n ≡ number_word m.changes
+
+-- each was done at a moment that goes on from those of the ones before
+abbrev pub AreOrdered : List Deed → Type 0
+AreOrdered [] = Unit {0}
+AreOrdered (d ∷ ds) = All (λ e. GoesOn d.at e.at) ds × AreOrdered ds
+
+-- all that was done until now
+pub record AreDone (deeds : List Deed) (now : Moment) : Type 0 where
+  pub words : All (λ d. IsTrueOf d.at d.step) deeds
+  pub ordered : AreOrdered deeds
+  pub until : All (λ d. GoesOn d.at now) deeds
+
+abbrev pub done_by : Maker → List Deed → List Deed
+done_by m deeds = filter (λ d. same_maker d.by m) deeds
+
+-- the steps of one maker
+abbrev pub steps_of : Maker → List Deed → List Step
+steps_of m deeds = map (λ d. d.step) (done_by m deeds)
+
+pub record IsUpto (done deeds : List Deed) : Type 0 where
+  pub rest : List Deed
+  pub whole : deeds ≡ done ++ rest
+
+-- whose steps a seat makes
+abbrev pub IsMaker : Role → Maker → Type 0
+IsMaker Bearer m = ⊥
+IsMaker (Cpu p) m = m ≡ Processor p
+IsMaker (Driver k) m = m ≡ Engine
+
+-- the engine's seat stands for the processors that are still to be dealt too
+abbrev pub StandsFor : Role → Maker → Type 0
+StandsFor Bearer m = ⊥
+StandsFor (Cpu p) m = m ≡ Processor p
+StandsFor (Driver k) Engine = Unit {0}
+StandsFor (Driver k) (Processor p) = k ≤ p
+
+-- what a seat knows of all that was done is a beginning of it, in which all of its own steps are
+pub record HasDone (deeds : List Deed) (v : View) : Type 0 where
+  pub upto : IsUpto v.done deeds
+  pub own : (m : Maker) → StandsFor v.role m → done_by m v.done ≡ done_by m deeds
 
 -- What a seat knows
 
@@ -92,14 +145,17 @@ pub record Kept (bounds : Bounds) (s : State (Option ℕ) View) : Type 0 where
   pub within : IsWithin bounds log changes
   pub words : Agree bounds.processors s.words log changes
   pub each_view : (j : ℕ) (v : View) → get_elem? s.views j ≡ some v → Fits log changes seat_of holder engine j v
+  pub deeds : List Deed
+  pub done : AreDone deeds record { history = log; changes = changes }
+  pub each_done : (j : ℕ) (v : View) → get_elem? s.views j ≡ some v → HasDone deeds v
 
 -- Views that are made
 
 abbrev pub founder : Bounds → View
-founder bounds = record { processors = bounds.processors; role = Driver 0; mine = []; seen = []; changes = 0; told = []; right = Nothing; steps = [] }
+founder bounds = record { processors = bounds.processors; role = Driver 0; mine = []; seen = []; changes = 0; told = []; right = Nothing; done = [] }
 
 abbrev pub token : List Event → ℕ → Right → View
-token seen changes right = record { processors = 0; role = Bearer; mine = []; seen = seen; changes = changes; told = []; right = right; steps = [] }
+token seen changes right = record { processors = 0; role = Bearer; mine = []; seen = seen; changes = changes; told = []; right = right; done = [] }
 
 -- a seat of its own takes the right, and has seen as much
 abbrev pub lacking : View → View
@@ -111,10 +167,6 @@ bearer v = token v.seen v.changes v.right
 -- what the other seat has seen is told, and its right is taken over
 abbrev pub informed : View → View → View
 informed v w = record v { told = moment_of w ∷ v.told; right = w.right }
-
--- just that is seen which the other seat has seen
-abbrev pub adopting : View → View → View
-adopting v w = record v { seen = w.seen; changes = w.changes; right = w.right }
 
 -- what is left of a seat that was taken in
 abbrev pub spent : View
@@ -135,4 +187,4 @@ abbrev pub dealer : View → View
 dealer v = record v { role = without_next v.role }
 
 abbrev pub dealt : View → View
-dealt v = record { processors = v.processors; role = next_role v.role; mine = []; seen = v.seen; changes = v.changes; told = []; right = Nothing; steps = [] }
+dealt v = record { processors = v.processors; role = next_role v.role; mine = []; seen = v.seen; changes = v.changes; told = []; right = Nothing; done = v.done }

@@ -3,6 +3,7 @@ use Rattle.std.specs.Prelude.{◌≡◌, ℕ, ◌<◌, ◌≤◌, nat_le, Bool, 
 use Rattle.atomic_table.specs.Seated.{TableId}
 use Rattle.atomic_table.specs.declared.shared.Seat.{Seat}
 use Rattle.sseq.specs.declared.index.Index.{Index}
+use Rattle.onedom.specs.declared.event.Maker.{Maker}
 use Rattle.onedom.specs.declared.event.Maker.TheVariants.{Processor}
 use Rattle.onedom.specs.declared.event.Event.TheVariants.{Begin, Note, Ask}
 use Rattle.onedom.specs.Histories.{IsBeginning}
@@ -12,22 +13,22 @@ use Rattle.sections.specs.declared.view.Right.TheVariants.{Nothing, Section}
 use Rattle.sections.specs.declared.view.Step.TheVariants.{LoadIndex}
 use Rattle.sections.specs.declared.view.Role.TheVariants.{Cpu, Driver}
 use Rattle.sections.specs.Words.{word_count, index_word}
-use Rattle.sections.specs.Rule.{lacking, bearer}
-use Rattle.sections.specs.Plays.{IsSound, Adds, FindsNumber}
+use Rattle.sections.specs.Rule.{steps_of, IsMaker, lacking, bearer}
+use Rattle.sections.specs.Plays.{IsSound, Adds, IsIndexWord, FindsNumber}
 use Rattle.sseq.specs.Numbers.{cookie_at}
 
-abbrev pub Place : Type 0
-Place = Seat (Option ℕ) View
+abbrev pub DomainSeat : Type 0
+DomainSeat = Seat (Option ℕ) View
 
 -- the seat is at the table of a domain with these bounds
-pub record IsPlaced (bounds : Bounds) (table : TableId) (seat : Place) : Type 0 where
+pub record IsPlaced (bounds : Bounds) (table : TableId) (seat : DomainSeat) : Type 0 where
   pub seated : seat.table_id ≡ table
   pub wide : table.words ≡ word_count bounds.processors
   pub bare : seat.me.1 ≡ []
   pub sized : seat.me.0.processors ≡ bounds.processors
 
 -- a section begins, and a token has the right to end it
-pub record BeginsSection (p : ℕ) (i : Index) (seat seat' token : Place) : Type 0 where
+pub record BeginsSection (p : ℕ) (i : Index) (seat seat' token : DomainSeat) : Type 0 where
   pub section : ℕ
   pub after : View
   pub adds : Adds seat.me.0 (Begin section p i (Processor p)) after
@@ -37,7 +38,7 @@ pub record BeginsSection (p : ℕ) (i : Index) (seat seat' token : Place) : Type
   pub given : token.me ≡ (bearer after, [])
 
 -- the number was loaded, and the cookie of it was given
-pub record NotesNumber (seat : Place) (number : ℕ) (seat' : Place) : Type 0 where
+pub record NotesNumber (seat : DomainSeat) (number : ℕ) (seat' : DomainSeat) : Type 0 where
   pub same_table : seat'.table_id ≡ seat.table_id
   pub bare : seat'.me.1 ≡ seat.me.1
   pub right : seat'.me.0.right ≡ seat.me.0.right
@@ -45,7 +46,7 @@ pub record NotesNumber (seat : Place) (number : ℕ) (seat' : Place) : Type 0 wh
   pub adds : (p : ℕ) → seat.me.0.role ≡ Cpu p → Adds seat.me.0 (Note (cookie_at number) (Processor p)) seat'.me.0
 
 -- the number was loaded, and who asked was told whether it has reached the cookie
-pub record AsksNumber (cookie : ℕ) (seat : Place) (answer : Bool) (seat' : Place) : Type 0 where
+pub record AsksNumber (cookie : ℕ) (seat : DomainSeat) (answer : Bool) (seat' : DomainSeat) : Type 0 where
   pub number : ℕ
   pub same_table : seat'.table_id ≡ seat.table_id
   pub bare : seat'.me.1 ≡ seat.me.1
@@ -63,7 +64,7 @@ pub record Covers (v o w : View) : Type 0 where
   pub mine : w.mine ≡ v.mine
   pub right : w.right ≡ Nothing
   pub told : w.told ≡ []
-  pub steps : w.steps ≡ v.steps ++ LoadIndex value ∷ []
+  pub steps : (m : Maker) → IsMaker v.role m → steps_of m w.done ≡ steps_of m v.done ++ LoadIndex value ∷ []
   pub since : IsBeginning v.seen w.seen
   pub later : v.changes ≤ w.changes
   pub driven : (k : ℕ) → v.role ≡ Driver k → w.changes ≡ v.changes
@@ -79,16 +80,21 @@ pub record Accepts (v o w : View) : Type 0 where
   pub mine : w.mine ≡ v.mine
   pub right : w.right ≡ Nothing
   pub told : w.told ≡ []
-  pub steps : w.steps ≡ v.steps ++ LoadIndex value ∷ []
+  pub steps : (m : Maker) → IsMaker v.role m → steps_of m w.done ≡ steps_of m v.done ++ LoadIndex value ∷ []
   pub seen : w.seen ≡ o.seen
   pub changes : w.changes ≡ o.changes
+  pub found : IsIndexWord value o.changes
   pub sound : IsSound w.processors w.role w.mine w.seen w.changes
 
 -- it is the seat of one of so many processors
 abbrev pub IsOfProcessor : ℕ → View → Type 0
 IsOfProcessor processors v = (p : ℕ) × (v.role ≡ Cpu p) × (p < processors)
 
+-- it is the seat of a processor or of the engine
+abbrev pub IsOfMaker : View → Type 0
+IsOfMaker v = (m : Maker) × IsMaker v.role m
+
 -- the same seat at the same table
-pub record IsSameSeat (seat seat' : Place) : Type 0 where
+pub record IsSameSeat (seat seat' : DomainSeat) : Type 0 where
   pub table : seat'.table_id ≡ seat.table_id
   pub me : seat'.me ≡ seat.me

@@ -1,7 +1,5 @@
 //! A processor, and the tokens that it gives out.
-use crate::plays::{InOneHistory, NoSlot};
-use crate::view::{Bounds, View};
-use atomic_table::{Seat, Shared, Table};
+use crate::board::{DomainSeat, Words};
 use sseq::Index;
 use std::alloc::{Allocator, Global};
 use std::error::Error;
@@ -10,22 +8,17 @@ use std::marker::Model;
 use std::sync::Arc;
 
 mod cookies;
+mod readings;
 mod sections;
 pub(crate) mod steps;
 mod tokens;
-
-pub(crate) type Words<A> = Table<NoSlot, View, Bounds, InOneHistory, A>;
-
-pub(crate) type Top = Shared<NoSlot, View, Bounds, InOneHistory>;
-
-pub(crate) type Place = Seat<NoSlot, View>;
 
 /// A processor of a domain. It is a value that one thread owns: which processor of the machine the thread runs on
 /// makes no difference. Contracts see what it has seen of the domain's history, its own events there, and its loads.
 #[derive(Drop)]
 pub struct Cpu<A: Allocator = Global> {
     pub(crate) table: Arc<Words<A>, A>,
-    pub(crate) seat: Place,
+    pub(crate) seat: DomainSeat,
     pub(crate) processor: u16,
     /// How many sections of one index may begin here.
     pub(crate) limit: u64,
@@ -51,7 +44,7 @@ impl<A: Allocator> Model for Cpu<A> {
 #[derive(Drop)]
 pub struct Look {
     pub(crate) index: Index,
-    pub(crate) seat: Place,
+    pub(crate) seat: DomainSeat,
 }
 
 impl Model for Look {
@@ -71,7 +64,7 @@ impl Model for Look {
 pub struct Reading {
     pub(crate) index: Index,
     pub(crate) processor: u16,
-    pub(crate) seat: Place,
+    pub(crate) seat: DomainSeat,
 }
 
 impl Model for Reading {
@@ -91,7 +84,7 @@ impl Model for Reading {
 #[derive(Drop)]
 pub struct Cookie {
     pub(crate) number: u64,
-    pub(crate) seat: Place,
+    pub(crate) seat: DomainSeat,
 }
 
 impl Model for Cookie {

@@ -1,11 +1,12 @@
 //! The seat with which the grace periods of a domain are driven.
-use crate::cpu::{Place, Words};
+use crate::board::{DomainSeat, Words};
 use sseq::Number;
 use std::alloc::{Allocator, Global};
 use std::marker::Model;
 use std::sync::Arc;
 
 mod periods;
+mod standing;
 mod ties;
 
 /// The engine's seat at a domain's words: there is one, and it alone changes the number and the index word. Contracts
@@ -13,7 +14,7 @@ mod ties;
 #[derive(Drop)]
 pub struct EngineSeat<A: Allocator = Global> {
     pub(crate) table: Arc<Words<A>, A>,
-    pub(crate) seat: Place,
+    pub(crate) seat: DomainSeat,
     /// How many processors the domain has.
     pub(crate) processors: u16,
     /// The number as it stands, since nobody else changes it.

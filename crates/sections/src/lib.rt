@@ -2,6 +2,7 @@
 //! event of one legal history, or none: a load, or a step of the flip, while that history stood still.
 #![tactic(auto)]
 
+mod board;
 mod cpu;
 mod engine;
 mod laws;
@@ -10,11 +11,12 @@ mod making;
 mod plays;
 #[cfg(test)]
 mod tests;
+mod token;
 mod view;
 
 pub use cpu::{Cookie, Cpu, Exhausted, Look, NotACookie, Reading};
 pub use engine::EngineSeat;
-pub use laws::{sums_of_a_domain, words_of_a_domain};
+pub use laws::{steps_of_a_domain, sums_of_a_domain, words_of_a_domain};
 pub use limits::{Limits, MOST_PROCESSORS, MakeError};
 pub use making::{Made, make};
-pub use view::{Bounds, Moment, Right, Role, Step, View};
+pub use token::{Home, Token};

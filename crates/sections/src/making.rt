@@ -4,7 +4,8 @@ ghost use Rattle.std.specs.Arc.{arc_value};
 ghost use Rattle.sections.specs.Calls.{new_cpu};
 ghost use Rattle.sections.specs.Making.{IsSmall, IsFounder, IsMade, IsRefused, NewTable, bounds_of};
 
-use crate::cpu::{Cpu, Place, Words};
+use crate::board::{DomainSeat, Words};
+use crate::cpu::Cpu;
 use crate::engine::EngineSeat;
 use crate::limits::{Limits, MOST_PROCESSORS, MakeError};
 use crate::plays;
@@ -25,7 +26,7 @@ pub struct Made<A: Allocator = Global> {
 fn new_table<A: Allocator + Clone>(
     alloc: A,
     bounds: Bounds,
-) -> Result<(Words<A>, Place), AllocError>
+) -> Result<(Words<A>, DomainSeat), AllocError>
     requires { IsSmall bounds }
     ensures { IfOk result (λ t. NewTable bounds t.0.shared.key t.0.shared.table_id t.1) }
 {
@@ -36,7 +37,7 @@ fn new_table<A: Allocator + Clone>(
 /// The next processor.
 fn deal<A: Allocator>(
     table: &Arc<Words<A>, A>,
-    seat: &mut Place,
+    seat: &mut DomainSeat,
     processor: u16,
     bounds: Bounds,
 ) -> Result<Cpu<A>, AllocError>

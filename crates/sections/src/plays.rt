@@ -1,29 +1,25 @@
 //! What each step on the table tells the one that makes it.
 ghost use Rattle.std.specs.Prelude.{ℕ};
-ghost use Rattle.sections.specs.Rule.{Kept, founder, lacking, bearer, informed, adopting, spent, dealer, dealt};
-ghost use Rattle.sections.specs.Plays.{looked, began, ended, noted, asked, counted_unlocks, counted_locks, started, flipped, moved_on, finished};
+ghost use Rattle.sections.specs.Rule.{lacking, bearer, informed, spent, dealer, dealt};
+ghost use Rattle.sections.specs.Plays.{looked, admitted, began, ended, noted, asked, counted_unlocks, counted_locks, started, flipped, moved_on, finished};
 
-use crate::view::{Bounds, View};
-use atomic_table::{Join, Play, Split, TableRule};
+use crate::board::NoSlot;
+use crate::view::View;
+use atomic_table::{Join, Play, Split};
 use std::marker::{Brand, PhantomData};
-
-/// The table has no slots.
-pub(crate) type NoSlot = Option<u64>;
-
-/// Each step is one event of one legal history, or none.
-pub struct InOneHistory;
-
-impl TableRule<NoSlot, View, Bounds> for InOneHistory {
-    ghost holds = { Kept };
-
-    ghost first = { founder };
-}
 
 /// Load of the index word.
 pub(crate) struct LoadIndex;
 
 impl Play<NoSlot, View> for LoadIndex {
     ghost then = { looked };
+}
+
+/// Load of the index word by a processor, which then has seen just what it was told.
+pub(crate) struct Admit;
+
+impl Play<NoSlot, View> for Admit {
+    ghost then = { admitted };
 }
 
 /// Increment of a lock counter.
@@ -119,15 +115,6 @@ pub(crate) struct TakeToken;
 
 impl Join<View> for TakeToken {
     ghost both = { informed };
-
-    ghost spent = { spent };
-}
-
-/// From now on just that is seen which the other seat has seen.
-pub(crate) struct SeeAsMuch;
-
-impl Join<View> for SeeAsMuch {
-    ghost both = { adopting };
 
     ghost spent = { spent };
 }

@@ -3,16 +3,20 @@ ghost use Rattle.sseq.specs.Indexes.{low_bit, other_index};
 ghost use Rattle.sseq.specs.declared.index.Index.TheVariants.{One};
 ghost use Rattle.onedom.specs.Histories.{WasEmpty};
 ghost use Rattle.sections.specs.Words.{index_word, IsBeforeFlip, IsBehindFlip};
-ghost use Rattle.sections.specs.Driving.{IsSameEngine, IsSeenByEngine};
+ghost use Rattle.sections.specs.EngineCalls.{IsSameEngine, IsSeenByEngine};
 
 use super::*;
-use crate::cpu::steps::{place_of_lock, place_of_unlock};
+use crate::board::{place_of_lock, place_of_unlock};
 use bumpalo::Bump;
 use linked_list_allocator::LocalHeap;
 use sseq::{Index, Number};
 use std::alloc::Global;
+use std::sync::atomic::AtomicBool;
+use std::sync::atomic::Ordering::SeqCst;
 use std::test::Fail;
+use std::thread;
 use std::thread::join;
+use std::time::{Clock, Duration};
 
 fn limits(sections: u64) -> Limits
     ensures { result.periods ≡ 2 }
@@ -112,6 +116,10 @@ fn makes_a_domain(rt: HostRuntime) -> Result<(), Fail> {
     assert_eq!(rt; (first.number().get(), second.number().get()), (1, 1));
     first.tie(&mut second);
     engine.tie(&mut first);
+    second.cover(&mut first);
+    second.admit(&mut first);
+    engine.cover(&mut second);
+    engine.admit(&mut second);
 
     first.read_unlock(locked);
     second.read_unlock(entered);
@@ -240,6 +248,17 @@ fn polls_numbers(rt: HostRuntime) -> Result<(), Fail> {
     Ok(())
 }
 
+/// Would catch another number of a refusal: callers hand it on.
+#[test]
+fn numbers_of_refusals(rt: HostRuntime) {
+    let numbers = [
+        MakeError::Processors as u8,
+        MakeError::Limits as u8,
+        MakeError::Memory as u8,
+    ];
+    assert_eq!(rt; numbers, [1, 2, 3]);
+}
+
 /// Would catch a wrong bound in the limits' ranges, and refusals in another order.
 #[test]
 fn refuses_to_make(rt: HostRuntime) {
@@ -283,6 +302,30 @@ fn refuses_to_make(rt: HostRuntime) {
 
 const VISITS: u64 = 1_000;
 
+/// Opens a section, says so, and closes it once the other thread has said the same. Answers whether it did: it looks at
+/// most 10,000 times, one millisecond apart.
+fn wait_inside<C: Clock>(
+    clock: &C,
+    cpu: &mut Cpu,
+    inside: &AtomicBool,
+    other_inside: &AtomicBool,
+) -> bool {
+    let Ok(reading) = cpu.read_lock() else {
+        return false;
+    };
+    inside.store(true, SeqCst);
+    let mut met = false;
+    for _ in 0..10_000 {
+        met = other_inside.load(SeqCst);
+        if met {
+            break;
+        }
+        thread::sleep(clock, Duration::from_millis(1));
+    }
+    cpu.read_unlock(reading);
+    met
+}
+
 /// Opens and closes sections, and answers how many are open then. `None` where one was refused.
 fn visit(cpu: &mut Cpu) -> Option<u64> {
     for _ in 0..VISITS {
@@ -292,20 +335,29 @@ fn visit(cpu: &mut Cpu) -> Option<u64> {
     Some(cpu.open_here())
 }
 
-/// Would catch an addition that another thread's addition can undo, or that goes to the other processor's counters.
+/// Two threads that are inside at once: each keeps its first section open until the other one has begun one too. Would
+/// catch a processor that keeps another one out, and additions that undo one another or go to the other processor's
+/// counters.
 #[test]
 fn two_threads(rt: HostRuntime) -> Result<(), Fail> {
-    let Made { mut cpus, engine } = make(rt.alloc(), 2, limits(VISITS))?;
+    let Made { mut cpus, engine } = make(rt.alloc(), 2, limits(VISITS + 1))?;
     let mut second = cpus.pop().unwrap();
     let mut first = cpus.pop().unwrap();
+    let (one, two) = (AtomicBool::new(false), AtomicBool::new(false));
     let (here, there) = join(
         &rt,
-        move || -> Option<u64> { visit(&mut first) },
-        move || -> Option<u64> { visit(&mut second) },
+        || -> (bool, Option<u64>) {
+            let met = wait_inside(&rt, &mut first, &one, &two);
+            (met, visit(&mut first))
+        },
+        || -> (bool, Option<u64>) {
+            let met = wait_inside(&rt, &mut second, &two, &one);
+            (met, visit(&mut second))
+        },
     );
-    assert_eq!(rt; (here, there), (Some(0), Some(0)));
+    assert_eq!(rt; (here, there), ((true, Some(0)), (true, Some(0))));
     for processor in [0, 1] {
-        for (index, count) in [(Index::Zero, VISITS), (Index::One, 0)] {
+        for (index, count) in [(Index::Zero, VISITS + 1), (Index::One, 0)] {
             let words = &engine.table.shared;
             let locks = words.peek(place_of_lock(processor, index));
             let unlocks = words.peek(place_of_unlock(processor, index));

@@ -1,5 +1,5 @@
 //! What the proofs know of a holder. But for `Bounds`, no value of these types is ever made.
-use onedom::Event;
+use onedom::{Event, Maker};
 use sseq::Index;
 
 /// What the rule of a domain's table is told when the table is made.
@@ -66,6 +66,13 @@ pub struct Moment {
     pub changes: u64,
 }
 
+/// A step that is no event, who made it, and the moment behind it: all that had happened by then.
+pub struct Deed {
+    pub by: Maker,
+    pub step: Step,
+    pub at: Moment,
+}
+
 /// What one seat knows. A clause reads an array as a list of any length.
 pub struct View {
     /// How many processors the domain has; 0 in what a token knows.
@@ -81,6 +88,6 @@ pub struct View {
     /// What was handed in, which the next step covers.
     pub told: [Moment; 0],
     pub right: Right,
-    /// The steps of this seat that are no events, in order.
-    pub steps: [Step; 0],
+    /// All that anybody did that was no event, up to this seat's last such step.
+    pub done: [Deed; 0],
 }

@@ -11,7 +11,7 @@ use std::marker::Brand;
 
 impl<A: Allocator> Cpu<A> {
     /// The number of the domain, as one load finds it: never an older one than this processor has seen. It notes the
-    /// cookie of this number, as [`Cpu::cookie`] does.
+    /// cookie of this number, as [`Cpu::cookie`] does. It is at most 2^61 - 4, so that [`snap`] may be asked of it.
     pub fn number(&mut self) -> Number
         ensures { Notes result self.old self.new }
     {

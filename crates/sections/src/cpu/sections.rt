@@ -1,10 +1,11 @@
 //! What a processor does.
-ghost use Rattle.std.specs.Prelude.{◌≡◌, length, MatchResult};
-ghost use Rattle.onedom.specs.Histories.{open_sections};
-ghost use Rattle.sections.specs.Calls.{Looks, Enters, ReadLocks, Unlocks, LooksInVain, IsExhausted, IsHere, Ties};
+ghost use Rattle.std.specs.Prelude.{◌≡◌, ◌≤◌, MatchResult};
+ghost use Rattle.onedom.specs.Histories.{index_of, IsBeginning};
+ghost use Rattle.sections.specs.Calls.{Looks, Enters, ReadLocks, Unlocks, HasBegun, LooksInVain, IsExhausted, IsHere, Hears, Accepts, Ties};
 
-use super::steps::{INDEX_PLACE, accept, begin_section, cover, place_of_unlock};
+use super::steps::{accept, begin_section, cover};
 use super::{Cpu, Exhausted, Look, Reading};
+use crate::board::{INDEX_PLACE, place_of_unlock};
 use crate::plays;
 use sseq::Index;
 use std::alloc::Allocator;
@@ -55,24 +56,26 @@ impl<A: Allocator> Cpu<A> {
         ensures { MatchResult result (λ r. ReadLocks self.old self.new r) (λ _. LooksInVain self.old self.new) }
     {
         let top = &self.table.shared;
-        let index = Index::of_word(top.load::<plays::LoadIndex>(&mut self.seat, INDEX_PLACE));
-        if self.begun[index.place()] == self.limit {
+        let current = Index::of_word(top.load::<plays::LoadIndex>(&mut self.seat, INDEX_PLACE));
+        if self.begun[current.place()] == self.limit {
             return Err(Exhausted);
         }
-        let seat = begin_section(top, &mut self.seat, self.processor, index);
-        self.begun[index.place()] += 1;
+        let seat = begin_section(top, &mut self.seat, self.processor, current);
+        self.begun[current.place()] += 1;
         self.unclosed += 1;
         Ok(Reading {
-            index,
+            index: current,
             processor: self.processor,
             seat,
         })
     }
 
-    /// Ends the reading's section, which was begun on this processor (`srcu_read_unlock`).
+    /// Ends the reading's section, which was begun on this processor (`srcu_read_unlock`), with the reading's index.
     pub fn read_unlock(&mut self, reading: Reading)
         requires { IsHere self.old reading }
-        ensures { Unlocks reading self.old self.new }
+        ensures ends { Unlocks reading self.old self.new }
+        ensures begun { HasBegun self.old reading }
+        ensures index { index_of reading.section self.new.seen ≡ reading.index }
     {
         let Reading {
             index,
@@ -85,11 +88,24 @@ impl<A: Allocator> Cpu<A> {
         self.unclosed -= 1;
     }
 
-    /// How many readings were given out here and are not closed.
-    pub fn open_here(&self) -> u64
-        ensures { result ≡ length (open_sections self.now.mine) }
+    /// One load of the index word by this processor, which has then seen what the other has. Both are of one domain.
+    pub fn cover(&mut self, other: &mut Cpu<A>)
+        requires { other.old.domain ≡ self.old.domain }
+        ensures hears { Hears self.old other.old.seen other.old.changes self.new }
+        ensures other { other.new ≡ other.old }
     {
-        self.unclosed
+        cover(&self.table.shared, &mut self.seat, &mut other.seat);
+    }
+
+    /// One load of the index word by the other processor, which has then seen just as much as this one. This one must
+    /// have seen what the other has, as after [`Cpu::cover`]. Both are of one domain.
+    pub fn admit(&mut self, other: &mut Cpu<A>)
+        requires domain { other.old.domain ≡ self.old.domain }
+        requires covered { IsBeginning other.old.seen self.old.seen × (other.old.changes ≤ self.old.changes) }
+        ensures this { self.new ≡ self.old }
+        ensures other { Accepts other.old self.old.seen self.old.changes other.new }
+    {
+        accept(&self.table.shared, &mut other.seat, &mut self.seat);
     }
 
     /// One load of the index word by this processor, and then one by the other. Both have then seen one history, in
@@ -98,8 +114,7 @@ impl<A: Allocator> Cpu<A> {
         requires { other.old.domain ≡ self.old.domain }
         ensures { Ties self.old other.old self.new other.new }
     {
-        let top = &self.table.shared;
-        cover(top, &mut self.seat, &mut other.seat);
-        accept(top, &mut other.seat, &mut self.seat);
+        self.cover(other);
+        self.admit(other);
     }
 }

@@ -1,45 +1,20 @@
 //! What the engine's seat does in a grace period.
-ghost use Rattle.std.specs.Prelude.{◌≡◌, ◌*◌, ◌^◌, ◌<◌, ◌≤◌};
+ghost use Rattle.std.specs.Prelude.{◌≡◌, ◌+◌, ◌*◌, ◌^◌, ◌<◌, ◌≤◌};
 ghost use Rattle.sseq.specs.declared.index.Index.{Index};
 ghost use Rattle.sseq.specs.Indexes.{low_bit, other_index};
 ghost use Rattle.onedom.specs.declared.event.Event.TheVariants.{Start, Finish};
 ghost use Rattle.onedom.specs.declared.event.Maker.TheVariants.{Engine};
 ghost use Rattle.onedom.specs.Histories.{WasEmpty};
 ghost use Rattle.sections.specs.Words.{number_word, index_word, IsIdle, IsBeforeFlip, IsFlipping, IsBehindFlip};
-ghost use Rattle.sections.specs.Driving.{AddsEngineEvent, CountsUnlocks, CountsLocks, Flips, MovesOn, OpenAtStartAreClosed, IsSeenByEngine};
+ghost use Rattle.sections.specs.EngineCalls.{AddsEngineEvent, CountsUnlocks, CountsLocks, Flips, MovesOn, OpenAtStartAreClosed, IsSeenByEngine};
 
 use super::EngineSeat;
-use crate::cpu::steps::{INDEX_PLACE, NUMBER_PLACE, place_of_lock, place_of_unlock};
+use crate::board::{INDEX_PLACE, NUMBER_PLACE, place_of_lock, place_of_unlock};
 use crate::plays;
 use sseq::{Index, Number};
 use std::alloc::Allocator;
 
 impl<A: Allocator> EngineSeat<A> {
-    /// How many processors the domain has: one at least.
-    pub fn processors(&self) -> u16
-        ensures count { result ≡ self.now.processors }
-        ensures some { 1 ≤ result }
-        ensures history { IsSeenByEngine self.now }
-    {
-        self.processors
-    }
-
-    /// How many grace periods there may ever be.
-    pub fn periods(&self) -> u64
-        ensures value { result ≡ self.now.periods }
-        ensures small { result < 2 ^ 59 }
-    {
-        self.periods
-    }
-
-    /// The number of the domain, which this seat alone changes: at most four times as much as there may be periods.
-    pub fn number(&self) -> Number
-        ensures value { result ≡ number_word self.now.changes }
-        ensures most { result ≤ 4 * self.now.periods }
-    {
-        self.number
-    }
-
     /// Starts a grace period (`rcu_seq_start`), and answers the number from then on. None may run, and fewer than
     /// `periods` may have ended.
     pub fn add_start(&mut self) -> Number

@@ -2,7 +2,7 @@
 ghost use Rattle.std.specs.Prelude.{◌≡◌, ◌≤◌};
 ghost use Rattle.onedom.specs.Histories.{IsBeginning};
 ghost use Rattle.sections.specs.Calls.{Accepts};
-ghost use Rattle.sections.specs.Driving.{Covers, CoversAll, TiesEngine, Meets, AreInDomain};
+ghost use Rattle.sections.specs.EngineCalls.{Covers, CoversAll, TiesEngine, Meets, AreInDomain};
 
 use super::EngineSeat;
 use crate::cpu::Cpu;
@@ -10,8 +10,8 @@ use crate::cpu::steps::{accept, cover};
 use std::alloc::Allocator;
 
 impl<A: Allocator> EngineSeat<A> {
-    /// A load after which the engine has seen what the processor has.
-    fn cover(&mut self, cpu: &mut Cpu<A>)
+    /// One load of the index word by the engine, which has then seen what the processor has. Both are of one domain.
+    pub fn cover(&mut self, cpu: &mut Cpu<A>)
         requires { cpu.old.domain ≡ self.old.domain }
         ensures engine { Covers self.old cpu.old.seen cpu.old.changes self.new }
         ensures cpu { cpu.new ≡ cpu.old }
@@ -19,8 +19,9 @@ impl<A: Allocator> EngineSeat<A> {
         cover(&self.table.shared, &mut self.seat, &mut cpu.seat);
     }
 
-    /// A load by the processor, which then has seen just as much as the engine.
-    fn admit(&mut self, cpu: &mut Cpu<A>)
+    /// One load of the index word by the processor, which has then seen just as much as the engine. The engine must have
+    /// seen what the processor has, as after [`EngineSeat::cover`]. Both are of one domain.
+    pub fn admit(&mut self, cpu: &mut Cpu<A>)
         requires domain { cpu.old.domain ≡ self.old.domain }
         requires covered { IsBeginning cpu.old.seen self.old.seen × (cpu.old.changes ≤ self.old.changes) }
         ensures engine { self.new ≡ self.old }
@@ -46,8 +47,8 @@ impl<A: Allocator> EngineSeat<A> {
     {
         // For the proof: without a processor too, what the engine has seen is a legal history.
         let _seat = &self.seat;
-        for cpu in cpus.iter_mut() {
-            self.cover(cpu);
+        for next in cpus.iter_mut() {
+            self.cover(next);
         }
     }
 
@@ -58,8 +59,8 @@ impl<A: Allocator> EngineSeat<A> {
         ensures { Meets self.old cpus.old self.new cpus.new }
     {
         self.cover_all(cpus);
-        for cpu in cpus.iter_mut() {
-            self.admit(cpu);
+        for next in cpus.iter_mut() {
+            self.admit(next);
         }
     }
 }

@@ -6,6 +6,8 @@ use Rattle.sections.specs.declared.view.Bounds.{Bounds}
 use Rattle.sections.specs.declared.view.View.{View}
 use Rattle.sections.specs.declared.view.Role.TheVariants.{Driver}
 use Rattle.sections.specs.Words.{word_count, number_word}
+use Rattle.onedom.specs.declared.event.Maker.TheVariants.{Engine}
+use Rattle.sections.specs.Rule.{steps_of}
 use Rattle.sections.specs.Insides.{IsAtRest}
 use Rattle.sections.proofs.Founding.{new_pushed, rests_founding}
 use Rattle.sections.proofs.making.build.Goals as goal
@@ -59,5 +61,5 @@ returns g c =
     let all : c.loop-processor.processor ≡ c.args.bounds.processors = omega arith in record {
       count = v.count ∙ all;
       cpus_new = subst (λ t. AreNew t c.args.bounds.processors c.args.bounds.sections c.loop-processor.cpus.items) (sym f.seated) v.cpus_new;
-      engine_new = λ k. record { domain = c.loop-processor.seat.table_id; processors = (f.key_is k).processors; periods = c.args.bounds.periods; seen = (f.me k).0.seen; changes = (f.me k).0.changes; mine = (f.me k).0.mine; steps = (f.me k).0.steps };
+      engine_new = λ k. record { domain = c.loop-processor.seat.table_id; processors = (f.key_is k).processors; periods = c.args.bounds.periods; seen = (f.me k).0.seen; changes = (f.me k).0.changes; mine = (f.me k).0.mine; steps = steps_of Engine (f.me k).0.done };
     }

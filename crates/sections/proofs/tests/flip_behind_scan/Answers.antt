@@ -1,6 +1,6 @@
 use Rattle.std.proofs.Common.{rules, ◌≡◌, ◌∙◌, arith}
 use Rattle.onedom.specs.Histories.{starts_in}
-use Rattle.onedom.proofs.Beginnings.{beginning_trans}
+use Rattle.onedom.proofs.CallerLemmas.{beginning_trans}
 use Rattle.sections.proofs.tests.flip_behind_scan.Goals as goal
 
 pub returns-clause-flipped : goal.returns-clause-flipped

@@ -1,9 +1,9 @@
 use Rattle.std.proofs.Common.{◌≡◌, ◌+◌, ◌/◌, ℕ, sym, ap, ◌∙◌}
 use Rattle.sseq.specs.declared.index.Index.{Index}
 use Rattle.onedom.specs.Histories.{WasEmpty, IsBeginning}
-use Rattle.onedom.proofs.Beginnings.{beginning_trans}
+use Rattle.onedom.proofs.CallerLemmas.{beginning_trans}
 use Rattle.sections.specs.Views.{EngineView}
-use Rattle.sections.specs.Driving.{IsSeenByEngine}
+use Rattle.sections.specs.EngineCalls.{IsSeenByEngine}
 use Rattle.sections.proofs.tests.scan.Goals as goal
 
 -- what was empty since the start was so later too, while the engine changes nothing

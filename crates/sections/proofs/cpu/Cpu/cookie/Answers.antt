@@ -1,4 +1,4 @@
-use Rattle.std.proofs.Common.{rules, ◌≡◌, ◌%◌, ℕ, [], ◌∷◌, ◌++◌, refl, sym, ap, ◌∙◌, subst}
+use Rattle.std.proofs.Common.{rules, ◌≡◌, ◌%◌, ◌^◌, ◌≤◌, ℕ, [], ◌∷◌, ◌++◌, refl, sym, ap, ◌∙◌, subst}
 use Rattle.sseq.specs.Numbers.{cookie_at}
 use Rattle.onedom.specs.declared.event.Event.{Event}
 use Rattle.onedom.specs.declared.event.Event.TheVariants.{Note}
@@ -8,7 +8,7 @@ use Rattle.sections.specs.Words.{word_count}
 use Rattle.sections.specs.Rule.{token}
 use Rattle.sections.proofs.Sharing.{gives_token}
 use Rattle.sections.proofs.Seating.{some_words}
-use Rattle.sections.proofs.Calling.{notes_from, locks_told, unclosed_told, rests_cut, whole_cookie}
+use Rattle.sections.proofs.CpuViews.{notes_from, locks_told, unclosed_told, rests_cut, whole_cookie, small_cookie}
 use Rattle.sections.proofs.cpu.Cpu.cookie.Goals as goal
 
 pub split_seat-seat-requires : goal.split_seat-seat-requires
@@ -53,6 +53,7 @@ invariant_of-result g c =
       plain = ap (λ m. m.0) s.4 ∙ (λ i. token (ap (λ m. m.0.seen) (sym s.4) i) (ap (λ m. m.0.changes) (sym s.4) i) (free i));
       given = record { before = a.before; by = Processor c.self.inside.processor; whole = seen ∙ (a.seen ∙ ap (λ n. a.before ++ Note n (Processor c.self.inside.processor) ∷ []) (sym is)) };
       whole = subst (λ (n : ℕ). n % 4 ≡ 0) (sym is) (whole_cookie c.note_number-number.result);
+      small = subst (λ (n : ℕ). n ≤ 2 ^ 61) (sym is) (small_cookie c.note_number-number.result told.finds.room);
     }
 
 pub returns : goal.returns

@@ -8,7 +8,7 @@ use Rattle.sseq.specs.declared.index.Index.TheVariants.{Zero, One}
 use Rattle.sections.specs.declared.view.View.{View}
 use Rattle.sections.specs.Insides.{section_of}
 use Rattle.sections.proofs.Sharing.{takes_token}
-use Rattle.sections.proofs.Calling.{adds_cut, fresh_section, rests_cut, begun_more, limited_more, sum_more, one_more_unclosed, has_room}
+use Rattle.sections.proofs.CpuViews.{adds_cut, fresh_section, rests_cut, begun_more, limited_more, sum_more, one_more_unclosed, has_room}
 use Rattle.sections.proofs.cpu.Cpu.enter.Goals as goal
 
 pub join_seat-requires : goal.join_seat-requires

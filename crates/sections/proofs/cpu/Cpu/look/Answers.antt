@@ -1,12 +1,14 @@
 use Rattle.std.proofs.Common.{rules, ap, ◌∙◌, sym}
 use Rattle.sections.specs.Words.{index_word}
+use Rattle.onedom.specs.declared.event.Maker.TheVariants.{Processor}
+use Rattle.sections.proofs.Deeds.{cpu_makes}
 use Rattle.sections.proofs.Steps.{looks}
 use Rattle.sections.proofs.Sharing.{gives_token}
-use Rattle.sections.proofs.Calling.{loads_cut}
+use Rattle.sections.proofs.CpuViews.{loads_cut}
 use Rattle.sections.proofs.cpu.Cpu.look.Goals as goal
 
 pub load-requires : goal.load-requires
-load-requires g c = (search rules, search rules, looks _ _ _ _ (search rules))
+load-requires g c = (search rules, search rules, looks _ _ _ _ (Processor c.self.inside.processor) (cpu_makes _ _ c.self.invariant.role) (search rules))
 
 pub split_seat-seat-requires : goal.split_seat-seat-requires
 split_seat-seat-requires g c = (search rules, search rules, gives_token _ _ _)

@@ -3,7 +3,7 @@ use Rattle.sseq.specs.Numbers.{cookie_at}
 use Rattle.onedom.specs.declared.event.Event.{Event}
 use Rattle.onedom.specs.declared.event.Event.TheVariants.{Note}
 use Rattle.onedom.specs.declared.event.Maker.TheVariants.{Processor}
-use Rattle.sections.proofs.Calling.{notes_from, locks_told, unclosed_told, rests_told}
+use Rattle.sections.proofs.CpuViews.{notes_from, locks_told, unclosed_told, rests_told}
 use Rattle.sections.proofs.cpu.Cpu.number.Goals as goal
 
 pub invariant_of-self : goal.invariant_of-self

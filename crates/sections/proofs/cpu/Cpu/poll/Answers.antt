@@ -7,7 +7,7 @@ use Rattle.sections.specs.Words.{word_count}
 use Rattle.sections.specs.Rule.{bearer, informed}
 use Rattle.sections.proofs.Sharing.{gives_token, takes_token}
 use Rattle.sections.proofs.Seating.{some_words}
-use Rattle.sections.proofs.Calling.{asks_from, all_closed, locks_told, unclosed_told}
+use Rattle.sections.proofs.CpuViews.{asks_from, all_closed, locks_told, unclosed_told}
 use Rattle.sections.proofs.cpu.Cpu.poll.Goals as goal
 
 pub split_seat-token-requires : goal.split_seat-token-requires

@@ -2,7 +2,7 @@ use Rattle.std.proofs.Common.{◌≡◌, ℕ, List, [], ◌∷◌, ◌++◌, ref
 use Rattle.onedom.specs.declared.event.Event.{Event}
 use Rattle.onedom.specs.declared.event.Event.TheVariants.{Ask}
 use Rattle.onedom.specs.declared.event.Maker.TheVariants.{Processor}
-use Rattle.sections.proofs.Calling.{asks_alone, locks_told, unclosed_told, rests_told}
+use Rattle.sections.proofs.CpuViews.{asks_alone, locks_told, unclosed_told, rests_told}
 use Rattle.sections.proofs.cpu.Cpu.poll_number.Goals as goal
 
 pub invariant_of-self : goal.invariant_of-self

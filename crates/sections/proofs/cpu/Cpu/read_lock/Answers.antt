@@ -8,12 +8,13 @@ use Rattle.onedom.specs.Histories.{open_sections}
 use Rattle.sections.specs.declared.view.View.{View}
 use Rattle.sections.specs.Words.{locks}
 use Rattle.sections.specs.Insides.{section_of}
+use Rattle.sections.proofs.Deeds.{cpu_makes}
 use Rattle.sections.proofs.Steps.{looks}
-use Rattle.sections.proofs.Calling.{seen_as, loads_from, adds_alone, fresh_section, rests_cut, begun_more, limited_more, sum_more, one_more_unclosed, has_room, at_limit}
+use Rattle.sections.proofs.CpuViews.{seen_as, loads_from, adds_alone, fresh_section, rests_cut, begun_more, limited_more, sum_more, one_more_unclosed, has_room, at_limit}
 use Rattle.sections.proofs.cpu.Cpu.read_lock.Goals as goal
 
 pub load-requires : goal.load-requires
-load-requires g c = (search rules, search rules, looks _ _ _ _ (search rules))
+load-requires g c = (search rules, search rules, looks _ _ _ _ (Processor c.self.inside.processor) (cpu_makes _ _ c.self.invariant.role) (search rules))
 
 pub overflow_add-self-2 : goal.overflow_add-self-2
 overflow_add-self-2 g c = let few = c.self.invariant.few in let a = c.self.invariant.limited Zero in let b = c.self.invariant.limited One in let small = c.self.invariant.small in omega (arith, few, a, b, small)
@@ -21,7 +22,7 @@ overflow_add-self-2 g c = let few = c.self.invariant.few in let a = c.self.invar
 pub returns-then-self-place : goal.returns-then-self-place
 returns-then-self-place g c =
     let h = c.load.ensures in
-    let i = c.of_word-index.result in
+    let i = c.of_word-current.result in
     let p : ℕ = c.self.inside.processor in
     let full : get_or c.self.inside.begun (index_number i) 0 ≡ c.self.inside.limit = rw (← c.place.ensures) c.if-self-place.true in
     rw (← c.self.view_is) (record {
@@ -30,7 +31,7 @@ returns-then-self-place g c =
         value = c.load.result;
         load = loads_from _ _ _ _ _ _ _ _ h.0 c.self.invariant.placed.sized c.self.invariant.role h.2.1;
         current = h.2.2;
-        look_is = λ k. record { domain = c.self.inside.seat.table_id; index = c.of_word-index.ensures k; seen = c.load.new.seat.me.0.seen; changes = c.load.new.seat.me.0.changes };
+        look_is = λ k. record { domain = c.self.inside.seat.table_id; index = c.of_word-current.ensures k; seen = c.load.new.seat.me.0.seen; changes = c.load.new.seat.me.0.changes };
       };
       exhausted = ap (locks p i) h.2.1.mine ∙ at_limit _ _ _ (c.self.invariant.begun i) full;
     })
@@ -39,7 +40,7 @@ pub invariant_of-self-2 : goal.invariant_of-self-2
 invariant_of-self-2 g c =
     let b = c.begin_section-seat.ensures in
     let h = c.load.ensures.2.1 in
-    let i = c.of_word-index.result in
+    let i = c.of_word-current.result in
     let p : ℕ = c.self.inside.processor in
     let two : length c.self.inside.begun ≡ 2 = search rules in
     let stays = ap (λ m. m.0) b.stays in
@@ -69,7 +70,7 @@ pub returns : goal.returns
 returns g c =
     let b = c.begin_section-seat.ensures in
     let h = c.load.ensures in
-    let i = c.of_word-index.result in
+    let i = c.of_word-current.result in
     let p : ℕ = c.self.inside.processor in
     let v : View = c.load.new.seat.me.0 in
     let right = ap (λ m. m.0.right) b.given ∙ b.right in
@@ -81,7 +82,7 @@ returns g c =
         value = c.load.result;
         load = loads_from _ _ _ _ _ _ _ _ h.0 c.self.invariant.placed.sized c.self.invariant.role h.2.1;
         current = h.2.2;
-        look_is = λ k. record { domain = c.self.inside.seat.table_id; index = c.of_word-index.ensures k; seen = v.seen; changes = v.changes };
+        look_is = λ k. record { domain = c.self.inside.seat.table_id; index = c.of_word-current.ensures k; seen = v.seen; changes = v.changes };
       };
       enters = record {
         section = b.section;

@@ -1,11 +1,13 @@
-use Rattle.std.proofs.Common.{rules, ◌≡◌, ℕ, length, ap, ◌∙◌, sym, arith}
+use Rattle.std.proofs.Common.{rules, ◌≡◌, ℕ, length, ap, ◌∙◌, sym, subst, arith}
 use Rattle.onedom.specs.Histories.{open_sections}
 use Rattle.sections.specs.Words.{locks}
 use Rattle.sections.specs.Insides.{section_of}
+use Rattle.sections.specs.Views.{ReadingView}
+use Rattle.sections.specs.Calls.{EndsWithBegin}
 use Rattle.sections.proofs.Agreement.{unlock_there}
 use Rattle.sections.proofs.Steps.{ends_here}
 use Rattle.sections.proofs.Sharing.{takes_token}
-use Rattle.sections.proofs.Calling.{adds_event, rests_after, one_less_unclosed, locks_unchanged}
+use Rattle.sections.proofs.CpuViews.{begun_here, ended_index, adds_event, rests_after, one_less_unclosed, locks_unchanged}
 use Rattle.sections.proofs.cpu.Cpu.read_unlock.Goals as goal
 
 pub join_seat-requires : goal.join_seat-requires
@@ -59,10 +61,16 @@ invariant_of-self g c =
       few = omega (arith, few);
     }
 
-pub returns : goal.returns
-returns g c =
+pub returns-clause-ends : goal.returns-clause-ends
+returns-clause-ends g c =
     let joined = c.join_seat.ensures.2 in
     let q : ℕ = c.self.inside.processor in
     let role = ap (λ m. m.0.role) joined ∙ c.self.invariant.role in
     let told = c.fetch_add.ensures.2.2 _ _ q _ role (ap (λ m. m.0.right) joined ∙ c.reading.invariant.right) in
     rw (← c.self.view_is, ← c.reading.view_is) (adds_event _ _ _ _ _ _ c.self.inside.seat.me.0 c.reading.inside.seat.me.0 _ _ (c.fetch_add.ensures.0 ∙ c.join_seat.ensures.0) c.self.invariant.placed.sized c.self.invariant.role (ap (λ m. m.0) joined) told.0)
+
+pub returns-clause-begun : goal.returns-clause-begun
+returns-clause-begun g c = begun_here _ _ _ (subst (λ (r : ReadingView). EndsWithBegin r) c.reading.view_is c.reading.invariant.begun) c.requires.1 (returns-clause-ends g c)
+
+pub returns-clause-index : goal.returns-clause-index
+returns-clause-index g c = ended_index _ _ _ (subst (λ (r : ReadingView). EndsWithBegin r) c.reading.view_is c.reading.invariant.begun) (returns-clause-ends g c)

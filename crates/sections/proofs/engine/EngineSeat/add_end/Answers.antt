@@ -5,7 +5,7 @@ use Rattle.onedom.specs.Histories.{WasEmpty}
 use Rattle.sections.specs.Words.{word_count, IsBehindFlip}
 use Rattle.sections.proofs.EngineSteps.{finishes_here}
 use Rattle.sections.proofs.Seating.{two_words}
-use Rattle.sections.proofs.Driven.{all_closed}
+use Rattle.sections.proofs.EngineViews.{all_closed}
 use Rattle.sections.proofs.engine.EngineSeat.add_end.Goals as goal
 
 pub fetch_add-requires : goal.fetch_add-requires

@@ -1,7 +1,9 @@
 use Rattle.std.proofs.Common.{sym, ap, ◌∙◌, subst, arith}
 use Rattle.sections.specs.Words.{number_word}
 use Rattle.sections.specs.Seats.{IsPlaced}
-use Rattle.sections.proofs.Driven.{covers_engine}
+use Rattle.onedom.specs.declared.event.Maker.TheVariants.{Engine}
+use Rattle.sections.proofs.Deeds.{engine_makes}
+use Rattle.sections.proofs.EngineViews.{covers_engine}
 use Rattle.sections.proofs.engine.EngineSeat.cover.Goals as goal
 
 pub invariant_of-self : goal.invariant_of-self
@@ -26,3 +28,6 @@ returns-clause-engine g c =
     let e = c.self.invariant in
     let moved = c.cover.ensures.placed.seated ∙ (ap (λ t. t.shared.table_id) c.deref.ensures ∙ sym e.placed.seated) in
     rw (← c.self.view_is, ← c.cpu.view_is) (covers_engine _ _ _ _ _ c.self.inside.seat.me.0 c.cpu.inside.seat.me.0 c.cover.new.first.me.0 moved e.placed.sized e.role c.cover.ensures.first)
+
+pub cover-requires-clause-maker : goal.cover-requires-clause-maker
+cover-requires-clause-maker g c = (Engine, engine_makes _ _ c.self.invariant.role)

@@ -3,18 +3,18 @@ use Rattle.std.proofs.Common.{◌≡◌, ℕ, ◌<◌, ◌≤◌, List, ◌++◌
 use Rattle.sections.specs.declared.view.Step.TheVariants.{LoadIndex}
 use Rattle.onedom.specs.Histories.{IsBeginning}
 use Rattle.sections.specs.Views.{CpuView}
-use Rattle.sections.specs.Driving.{IsSameEngine, IsSeenByEngine}
+use Rattle.sections.specs.EngineCalls.{IsSameEngine, IsSeenByEngine}
 use Rattle.sections.proofs.engine.EngineSeat.cover_all.Given as goal
 
-abbrev pub invariant-loop-cpu : goal.invariant-loop-cpu
-invariant-loop-cpu g l = record {
-  steps : (found : List ℕ) × (length found ≡ l.cpu-index) × (l.self.steps ≡ l.initial.self.steps ++ map LoadIndex found);
+abbrev pub invariant-loop-next : goal.invariant-loop-next
+invariant-loop-next g l = record {
+  steps : (found : List ℕ) × (length found ≡ l.next-index) × (l.self.steps ≡ l.initial.self.steps ++ map LoadIndex found);
   same : IsSameEngine l.initial.self l.self;
   mine : l.self.mine ≡ l.initial.self.mine;
   changes_are : l.self.changes ≡ l.initial.self.changes;
   since : IsBeginning l.initial.self.seen l.self.seen;
   unchanged : l.cpus ≡ l.initial.cpus;
-  covers : (k : ℕ) (d : CpuView) → k < l.cpu-index → IsBeginning (slice_index_or l.initial.cpus k d).seen l.self.seen;
-  not_before : (k : ℕ) (d : CpuView) → k < l.cpu-index → (slice_index_or l.initial.cpus k d).changes ≤ l.self.changes;
+  covers : (k : ℕ) (d : CpuView) → k < l.next-index → IsBeginning (slice_index_or l.initial.cpus k d).seen l.self.seen;
+  not_before : (k : ℕ) (d : CpuView) → k < l.next-index → (slice_index_or l.initial.cpus k d).changes ≤ l.self.changes;
   history : IsSeenByEngine l.self;
 }

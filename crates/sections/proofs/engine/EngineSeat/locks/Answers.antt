@@ -4,7 +4,7 @@ use Rattle.sections.specs.Words.{word_count, number_word, all_locks}
 use Rattle.sections.proofs.Agreement.{lock_there}
 use Rattle.sections.proofs.EngineSteps.{counts_locks}
 use Rattle.sections.proofs.Seating.{rests_seen}
-use Rattle.sections.proofs.Driven.{takes_step}
+use Rattle.sections.proofs.EngineViews.{takes_step}
 use Rattle.sections.proofs.engine.EngineSeat.locks.Goals as goal
 
 pub load-requires : goal.load-requires

@@ -4,7 +4,7 @@ use Rattle.sections.specs.Words.{word_count, number_word, all_locks}
 use Rattle.sections.proofs.Agreement.{unlock_there}
 use Rattle.sections.proofs.EngineSteps.{counts_unlocks}
 use Rattle.sections.proofs.Seating.{rests_seen}
-use Rattle.sections.proofs.Driven.{takes_step}
+use Rattle.sections.proofs.EngineViews.{takes_step}
 use Rattle.sections.proofs.engine.EngineSeat.unlocks.Goals as goal
 
 pub load-requires : goal.load-requires

@@ -1,0 +1,33 @@
+-- What a crate above may cite of this one; the other files of proofs/ are its own.
+-- Three of these are clauses of `sums_of_a_domain` too, which anyone may call: `equal_sums` is `empty`, `fewer_ends` is `one`, and `locks_grow` and `unlocks_grow` are the two halves of `grow`.
+
+-- The lock counters
+
+-- another processor's counter is another, and so is that of the other index
+pub use Rattle.sections.proofs.Counters.{elsewhere}
+-- an event that is no Begin of the processor and the index leaves the counter as it was
+pub use Rattle.sections.proofs.Agreement.{locks_not_at}
+-- all of a processor's locks are its own events
+pub use Rattle.sections.proofs.Counters.{locks_mine}
+-- Sums
+
+-- a counter of a longer history is no smaller
+pub use Rattle.sections.proofs.Counters.{locks_grow, unlocks_grow}
+-- of counters that are no smaller the sum is no smaller
+pub use Rattle.sections.proofs.Counters.{sum_le}
+-- as many sections of an index have ended as were begun just where none is open
+pub use Rattle.sections.proofs.Sums.{equal_sums}
+-- where fewer have ended one is open
+pub use Rattle.sections.proofs.Sums.{fewer_ends}
+-- Grace periods
+
+-- in the middle of a period one runs
+pub use Rattle.sections.proofs.Agreement.{busy_running}
+-- and between two of them none does
+pub use Rattle.sections.proofs.Agreement.{idle_not_running}
+-- all starts are the engine's own events
+pub use Rattle.sections.proofs.Agreement.{starts_mine}
+-- Legal histories
+
+-- the last event may follow those before it
+pub use Rattle.sections.proofs.CpuViews.{last_may_follow}

@@ -1,0 +1,5 @@
+use Rattle.sections.proofs.Forging.{never_forged}
+use Rattle.sections.proofs.laws.steps_of_a_domain.Goals as goal
+
+pub returns : goal.returns
+returns c = never_forged

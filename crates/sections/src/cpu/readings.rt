@@ -1,0 +1,36 @@
+//! What a reading tells, and how many are open, without a step.
+ghost use Rattle.std.specs.Prelude.{◌≡◌, length};
+ghost use Rattle.onedom.specs.Histories.{index_of, open_sections};
+ghost use Rattle.sections.specs.Calls.{EndsWithBegin};
+
+use super::{Cpu, Reading};
+use sseq::Index;
+use std::alloc::Allocator;
+
+impl Reading {
+    /// The index with which the section was begun.
+    pub fn index(&self) -> Index
+        ensures value { result ≡ self.now.index }
+        ensures section { result ≡ index_of self.now.section self.now.seen }
+    {
+        self.index
+    }
+
+    /// The number of the processor where the section was begun, and where it is closed. What the reading has seen ends
+    /// with this beginning.
+    pub fn processor(&self) -> u16
+        ensures value { result ≡ self.now.processor }
+        ensures begun { EndsWithBegin self.now }
+    {
+        self.processor
+    }
+}
+
+impl<A: Allocator> Cpu<A> {
+    /// How many readings were given out here and are not closed.
+    pub fn open_here(&self) -> u64
+        ensures { result ≡ length (open_sections self.now.mine) }
+    {
+        self.unclosed
+    }
+}
