@@ -1,5 +1,5 @@
 -- What is known after the steps between two scans.
-use Rattle.std.proofs.Common.{◌≡◌, ℕ, ◌+◌, ◌*◌, ◌%◌, ◌<◌, ◌≤◌, ◌≢◌, inl, inr, ⊎_elim, Bool, cond, [], ◌∷◌, refl, sym, ap, ◌∙◌, subst, eq-eqb, ne_eqb, append-nil, arith}
+use Rattle.std.proofs.Common.{◌≡◌, ℕ, ◌+◌, ◌*◌, ◌%◌, ◌<◌, ◌≤◌, ◌≢◌, inl, inr, ⊎_elim, Bool, cond, [], ◌∷◌, refl, sym, ap, ◌∙◌, subst, eq-eqb, ne_eqb, ◌++◌, append-nil, append_assoc, arith}
 use mathlib.Core.Logic.{dite}
 use native.Mathlib.Decide.{ℕ_discrete}
 use Rattle.sseq.specs.declared.index.Index.{Index}
@@ -12,19 +12,17 @@ use Rattle.onedom.specs.declared.event.Maker.TheVariants.{Engine}
 use Rattle.onedom.specs.declared.event.Event.{Event}
 use Rattle.onedom.specs.declared.event.Event.TheVariants.{Start, Finish}
 use Rattle.onedom.specs.Histories.{starts_in, WasEmpty, IsBeginning}
-use Rattle.onedom.proofs.Beginnings.{beginning_trans, beginning_append}
-use Rattle.onedom.proofs.Periods.{empty_grows}
+use Rattle.onedom.proofs.CallerLemmas.{beginning_trans, beginning_append, empty_grows}
 use Rattle.sections.specs.declared.view.Step.TheVariants.{AddIndex, AddNumber}
 use Rattle.sections.specs.Words.{index_word, number_word, IsIdle, IsBeforeFlip, IsBehindFlip}
 use Rattle.sections.specs.Views.{EngineView}
-use Rattle.sections.specs.Driving.{IsSeenByEngine, AddsEngineEvent, Flips, MovesOn}
-use Rattle.sections.proofs.Agreement.{busy_running}
+use Rattle.sections.specs.EngineCalls.{IsSeenByEngine, AddsEngineEvent, Flips, MovesOn}
+use Rattle.sections.proofs.CallerLemmas.{busy_running}
 use Rattle.scan.specs.declared.place.Place.TheVariants as place
 use Rattle.scan.specs.declared.progress.Progress.TheVariants as answer
-use Rattle.scan.specs.Progress.{not_current}
-use Rattle.scan.specs.Places.{current, seen_at_load, IsScanning, HasPassed, IsHalfFlipped, IsAt, Moves}
-use Rattle.scan.specs.Progress.{HasStarted}
-use Rattle.scan.proofs.Scans.{first_unlocks, seen_still}
+use Rattle.scan.specs.Standings.{current, not_current, number_at_rest}
+use Rattle.scan.specs.Places.{seen_at_load, IsScanning, HasPassed, IsHalfFlipped, IsAt, Moves}
+use Rattle.scan.proofs.Scans.{first_unlocks, seen_still, others_before}
 
 -- Indexes
 
@@ -56,28 +54,34 @@ module _ (e f : EngineView) (seen : IsSeenByEngine e) (now : IsSeenByEngine f) (
 pub flipped_moves : (e f : EngineView) (i : Index) → IsSeenByEngine e → 1 ≤ e.processors → HasPassed e → IsBeforeFlip e.changes → Flips e f → i ≡ low_bit (index_word f.changes) → Moves e place.Passed f (place.Flipped i) answer.Step
 flipped_moves e f i seen some here before flips is =
     let changes = flips.changes_are in
+    let same = flips.same.1 in
     let word : index_word f.changes ≡ index_word e.changes + 1 = omega (arith, changes, before) in
-    let new : i ≡ not_current e = is ∙ (ap low_bit word ∙ flipped_bit (index_word e.changes)) in record {
+    let new : i ≡ not_current e.changes = is ∙ (ap low_bit word ∙ flipped_bit (index_word e.changes)) in record {
       same = flips.same;
-      since = flips.since;
       history = flips.history;
       events = flips.mine ∙ sym (append-nil e.mine);
       made = AddIndex (index_word f.changes) ∷ [];
       steps = flips.steps;
       one = refl;
       in_order = inr (AddIndex (index_word f.changes), refl, refl);
-      changes = omega (arith, changes);
-      counts = refl;
+      others = flips.since.rest;
+      answered = record {
+        same = (flips.same.1, flips.same.2);
+        events = others_before e f answer.Step flips.since refl;
+        legal = flips.history.legal;
+        agree = flips.history.reaches;
+        changes = omega (arith, changes, same);
+        says = λ _. empty_still e f seen flips.history flips.since changes (not_current e.changes) (omega (arith, before)) here.empty;
+      };
+      shows = tt;
+      counts = omega (arith, same);
       place_is = record {
         flipping = omega (arith, changes, before);
         index = is;
-        empty = subst (λ j. WasEmpty j f.seen) (sym new) (empty_still e f seen flips.history flips.since changes (not_current e) (omega (arith, before)) here.empty);
+        empty = subst (λ j. WasEmpty j f.seen) (sym new) (empty_still e f seen flips.history flips.since changes (not_current e.changes) (omega (arith, before)) here.empty);
       };
-      says = tt;
       not_wanted = λ n h. cc;
-      passed = λ _. empty_still e f seen flips.history flips.since changes (not_current e) (omega (arith, before)) here.empty;
       scan = λ _. record { before = λ _. (ap (λ l. seen_at_load (2 * f.processors) l) flips.steps ∙ (seen_still (2 * f.processors) e.steps (AddIndex (index_word f.changes) ∷ []) refl ∙ ap (λ n. seen_at_load (2 * n) e.steps) flips.same.1)); now = λ none. absurd (omega (arith, none, some)) };
-      started = λ n h. absurd cc;
     }
 
 pub second_scan_moves : (e f : EngineView) (i : Index) → IsSeenByEngine e → 1 ≤ e.processors → IsHalfFlipped e i → MovesOn e f → Moves e (place.Flipped i) f (place.Unlocks 0 0) (answer.Flipped i)
@@ -85,34 +89,36 @@ second_scan_moves e f i seen some here moves =
     let changes = moves.changes_are in
     let flipping = here.flipping in
     let word : index_word f.changes ≡ index_word e.changes = omega (arith, changes, flipping) in
-    let index : i ≡ current f = here.index ∙ ap low_bit (sym word) in
+    let index : i ≡ current f.changes = here.index ∙ ap low_bit (sym word) in
     let empty = empty_still e f seen moves.history moves.since changes i (omega (arith, flipping)) here.empty in
     let ended = moves.history.reaches.ended in
     let same = moves.same.1 in record {
       same = moves.same;
-      since = moves.since;
       history = moves.history;
       events = moves.mine ∙ sym (append-nil e.mine);
       made = AddNumber (number_word f.changes) ∷ [];
       steps = moves.steps;
       one = refl;
       in_order = inr (AddNumber (number_word f.changes), refl, refl);
-      changes = omega (arith, changes);
+      others = moves.since.rest;
+      answered = record {
+        same = (moves.same.1, moves.same.2);
+        events = others_before e f (answer.Flipped i) moves.since refl;
+        legal = moves.history.legal;
+        agree = moves.history.reaches;
+        changes = omega (arith, changes);
+        says = record {
+          running = busy_running f.changes f.seen (omega (arith, changes, flipping)) moves.history.reaches;
+          behind = omega (arith, changes, flipping);
+          index = index ∙ ap low_bit (omega (arith, changes, flipping, ended));
+          empty = empty;
+        };
+      };
+      shows = record { before = e.steps; number = number_word f.changes; flip = moves.steps };
       counts = (omega arith, refl);
       place_is = first_unlocks f (record { running = inr (omega (arith, changes, flipping)); first_scan = λ _. subst (λ j. WasEmpty j f.seen) index empty }) (omega (arith, some, same));
-      says = record {
-        behind = omega (arith, changes, flipping);
-        before = e.steps;
-        number = number_word f.changes;
-        flip = moves.steps;
-        running = busy_running f.changes f.seen (omega (arith, changes, flipping)) moves.history.reaches;
-        index = index ∙ ap low_bit (omega (arith, changes, flipping, ended));
-        empty = empty;
-      };
       not_wanted = λ n h. cc;
-      passed = λ all. absurd (omega (arith, all, some));
       scan = λ so_far. absurd (omega (arith, so_far));
-      started = λ n h. absurd cc;
     }
 
 -- Events
@@ -121,7 +127,11 @@ since_event : (e f : EngineView) (ev : Event) → AddsEngineEvent ev e f → IsB
 since_event e f ev a = subst (λ l. IsBeginning e.seen l) (sym a.seen) (beginning_trans a.since (beginning_append a.before (ev ∷ [])))
 
 pub all_empty : (e : EngineView) → HasPassed e → IsBehindFlip e.changes → (i : Index) → WasEmpty i e.seen
-all_empty e here behind = either_index (λ i. WasEmpty i e.seen) (current e) (here.scanning.first_scan behind) here.empty
+all_empty e here behind = either_index (λ i. WasEmpty i e.seen) (current e.changes) (here.scanning.first_scan behind) here.empty
+
+-- what was seen since: what others did, and then this event
+pub others_first : (e f : EngineView) (ev : Event) (a : AddsEngineEvent ev e f) → f.seen ≡ e.seen ++ (a.since.rest ++ ev ∷ [])
+others_first e f ev a = a.seen ∙ (ap (λ l. l ++ ev ∷ []) a.since.whole ∙ append_assoc e.seen a.since.rest (ev ∷ []))
 
 pub ended_moves : (e f : EngineView) (n : ℕ) → IsSeenByEngine e → 1 ≤ e.processors → HasPassed e → IsBehindFlip e.changes → AddsEngineEvent (Finish Engine) e f → n ≡ number_word f.changes → Moves e place.Passed f place.Idle (answer.Ended n)
 ended_moves e f n seen some here behind a is =
@@ -129,56 +139,64 @@ ended_moves e f n seen some here behind a is =
     let ended = a.history.reaches.ended in
     let since = since_event e f (Finish Engine) a in record {
       same = a.same;
-      since = since;
       history = a.history;
       events = a.mine;
       made = [];
       steps = a.steps ∙ sym (append-nil e.steps);
       one = refl;
       in_order = inl refl;
-      changes = omega (arith, changes);
+      others = a.since.rest;
+      answered = record {
+        same = (a.same.1, a.same.2);
+        events = others_first e f (Finish Engine) a;
+        legal = a.history.legal;
+        agree = a.history.reaches;
+        changes = omega (arith, changes);
+        says = (omega (arith, is, ended, changes, behind), λ i. empty_still e f seen a.history since changes i (omega (arith, behind)) (all_empty e here behind i));
+      };
+      shows = tt;
       counts = (refl, refl);
       place_is = omega (arith, changes, behind);
-      says = record {
-        before = a.before;
-        seen = a.seen;
-        number = omega (arith, is, ended, changes, behind);
-        empty = λ i. empty_still e f seen a.history since changes i (omega (arith, behind)) (all_empty e here behind i);
-      };
       not_wanted = λ n h. cc;
-      passed = λ all. absurd (omega (arith, all, some));
       scan = λ so_far. absurd (omega (arith, so_far));
-      started = λ m h. absurd cc;
     }
 
-pub has_started : (e f : EngineView) (n : ℕ) → IsIdle e.changes → AddsEngineEvent (Start Engine) e f → n ≡ number_word f.changes → HasStarted n f
-has_started e f n idle a is = let changes = a.changes_are in let ended = a.history.reaches.ended in record { before = a.before; seen = a.seen; number = omega (arith, is, ended, changes, idle) }
+pub number_at_start : (e f : EngineView) (n : ℕ) → IsIdle e.changes → AddsEngineEvent (Start Engine) e f → n ≡ number_word f.changes → n ≡ number_at_rest f.seen + 1
+number_at_start e f n idle a is = let changes = a.changes_are in let ended = a.history.reaches.ended in omega (arith, is, ended, changes, idle)
 
 pub in_first_scan : (e f : EngineView) → IsIdle e.changes → 1 ≤ e.processors → AddsEngineEvent (Start Engine) e f → IsAt f (place.Unlocks 0 0)
 in_first_scan e f idle some a = let changes = a.changes_are in let same = a.same.1 in
     first_unlocks f (record { running = inl (omega (arith, changes, idle)); first_scan = λ behind. absurd (omega (arith, changes, idle, behind)) }) (omega (arith, some, same))
 
-pub started_moves : (e f : EngineView) (need n : ℕ) → IsSeenByEngine e → 1 ≤ e.processors → IsIdle e.changes → AddsEngineEvent (Start Engine) e f → n ≡ number_word f.changes → Moves e (place.Wanted need) f (place.Unlocks 0 0) (answer.Started n)
-started_moves e f need n seen some idle a is =
+pub started_moves : (e f : EngineView) (need n : ℕ) → IsSeenByEngine e → 1 ≤ e.processors → IsAt e (place.Wanted need) → AddsEngineEvent (Start Engine) e f → n ≡ number_word f.changes → Moves e (place.Wanted need) f (place.Unlocks 0 0) (answer.Started n)
+started_moves e f need n seen some at a is =
+    let idle = at.0 in
+    let room = at.1 in
+    let below = at.2 in
+    let periods = a.same.2 in
     let changes = a.changes_are in
-    let was = seen.reaches.ended in
     let now = a.history.reaches.ended in record {
       same = a.same;
-      since = since_event e f (Start Engine) a;
       history = a.history;
       events = a.mine;
       made = [];
       steps = a.steps ∙ sym (append-nil e.steps);
       one = refl;
       in_order = inl refl;
-      changes = omega (arith, changes, some);
+      others = a.since.rest;
+      answered = record {
+        same = (a.same.1, a.same.2);
+        events = others_first e f (Start Engine) a;
+        legal = a.history.legal;
+        agree = a.history.reaches;
+        changes = omega (arith, changes, some);
+        says = (number_at_start e f n idle a is, omega (arith, now, changes, idle, below), omega (arith, now, changes, idle, room, periods));
+      };
+      shows = tt;
       counts = (refl, refl);
       place_is = in_first_scan e f idle some a;
-      says = has_started e f n idle a is;
       not_wanted = λ n h. cc;
-      passed = λ all. absurd (omega (arith, all, some));
       scan = λ so_far. absurd (omega (arith, so_far));
-      started = λ m h. (need, refl, omega (arith, was, now, changes, idle));
     }
 
 -- Which of the two scans

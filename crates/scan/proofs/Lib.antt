@@ -1,5 +1,5 @@
-pub mod Between
-pub mod Scans
-pub mod Flips
-pub mod Stepping
-pub mod Standing
+mod OpenBetween
+mod Scans
+mod Flips
+mod Stepping
+mod PlaceKept

@@ -6,25 +6,20 @@ use Rattle.sseq.specs.declared.index.Index.{Index}
 use Rattle.sseq.specs.Indexes.{low_bit, other_index}
 use Rattle.onedom.specs.declared.event.Event.{Event}
 use Rattle.onedom.specs.Histories.{starts_in, WasEmpty, IsEmpty, IsBeginning}
-use Rattle.onedom.proofs.Beginnings.{beginning_refl, beginning_trans, legal_beginning, length_grows}
-use Rattle.onedom.proofs.Periods.{empty_grows}
-use Rattle.onedom.proofs.Pushes.{count_append, count_cons}
+use Rattle.onedom.proofs.CallerLemmas.{beginning_refl, beginning_trans, legal_beginning, length_grows, empty_grows, count_append, count_cons}
 use Rattle.sections.specs.declared.view.Step.{Step}
 use Rattle.sections.specs.declared.view.Step.TheVariants.{LoadIndex, LoadUnlocks, LoadLocks, AddIndex, AddNumber}
 use Rattle.sections.specs.Words.{index_word, locks, unlocks, sum_below, all_locks, all_unlocks, IsBeforeFlip, IsBehindFlip}
 use Rattle.sections.specs.Views.{EngineView}
-use Rattle.sections.specs.Driving.{IsSeenByEngine, TakesStep, CountsUnlocks, CountsLocks}
-use Rattle.sections.proofs.Counters.{sum_le, unlocks_grow, locks_grow}
-use Rattle.sections.proofs.Agreement.{busy_running}
-use Rattle.sections.proofs.Sums.{equal_sums}
+use Rattle.sections.specs.EngineCalls.{IsSeenByEngine, TakesStep, CountsUnlocks, CountsLocks}
+use Rattle.sections.proofs.CallerLemmas.{sum_le, unlocks_grow, locks_grow, busy_running, equal_sums}
 use Rattle.scan.specs.declared.place.Place.{Place}
-use Rattle.scan.specs.declared.place.Place.TheVariants.{Wanted}
+use Rattle.scan.specs.declared.place.Place.TheVariants.{Wanted, Unlocks, Locks}
 use Rattle.scan.specs.declared.progress.Progress.{Progress}
-use Rattle.scan.specs.declared.progress.Progress.TheVariants as answer
-use Rattle.scan.specs.Progress.{not_current}
-use Rattle.scan.specs.Places.{current, so_far, seen_at_load, began, IsScanning, BeganScan, InUnlocks, InLocks, HasPassed, IsAt, SaysAt, Moves}
-use Rattle.scan.specs.Progress.{events_of, changes_for, IsStepAt, is_counter_load, counter_loads, Waits, FirstLoaded, Counts}
-use Rattle.scan.proofs.Between.{open_between, makers_of}
+use Rattle.scan.specs.Standings.{current, not_current, events_of, changes_for, FirstLoaded, WaitsFor, Says, Counts}
+use Rattle.scan.specs.Places.{so_far, seen_at_load, began, wanted, standing_at, IsScanning, BeganScan, InUnlocks, InLocks, HasPassed, IsAt, Moves}
+use Rattle.scan.specs.Progress.{IsStepAt, is_counter_load, counter_loads, HasScanned, Shows}
+use Rattle.scan.proofs.OpenBetween.{open_between, makers_of}
 
 -- The first load of a scan
 
@@ -43,7 +38,7 @@ seen_at_first loads (AddIndex n ∷ b) i found seen rest is = seen_at_first load
 seen_at_first loads (AddNumber n ∷ b) i found seen rest is = seen_at_first loads b i found seen rest is
 
 pub began_seen : (loads : ℕ) (e : EngineView) (first : List Event) → BeganScan loads e first → seen_at_load loads e.steps ≡ length first
-began_seen loads e first b = ap (seen_at_load loads) b.steps ∙ seen_at_first loads b.before (not_current e) b.found (length first) b.rest b.count
+began_seen loads e first b = ap (seen_at_load loads) b.steps ∙ seen_at_first loads b.before (not_current e.changes) b.found (length first) b.rest b.count
 
 seen_none : (loads : ℕ) (extra : List Step) → counter_loads extra ≡ 0 → seen_at_load loads extra ≡ 0
 seen_none loads [] none = refl
@@ -82,7 +77,7 @@ sum_fewer f p (suc n) le = dite (ℕ_discrete p (suc n))
 -- As long as the engine changes no word
 
 module _ (e f : EngineView) (seen : IsSeenByEngine e) (later : IsSeenByEngine f) (since : IsBeginning e.seen f.seen) (changes : f.changes ≡ e.changes) where
-  pub same_scanned : not_current f ≡ not_current e
+  pub same_scanned : not_current f.changes ≡ not_current e.changes
   same_scanned = ap (λ c. other_index (low_bit (index_word c))) changes
 
   pub no_start : starts_in e.seen ≡ starts_in f.seen
@@ -91,7 +86,7 @@ module _ (e f : EngineView) (seen : IsSeenByEngine e) (later : IsSeenByEngine f)
   pub still_scanning : IsScanning e → IsScanning f
   still_scanning s = record {
     running = subst (λ c. IsBeforeFlip c ⊎ IsBehindFlip c) (sym changes) s.running;
-    first_scan = λ behind. subst (λ i. WasEmpty i f.seen) (ap (λ c. low_bit (index_word c)) (sym changes)) (empty_grows (current e) since no_start (s.first_scan (subst IsBehindFlip changes behind)));
+    first_scan = λ behind. subst (λ i. WasEmpty i f.seen) (ap (λ c. low_bit (index_word c)) (sym changes)) (empty_grows (current e.changes) since no_start (s.first_scan (subst IsBehindFlip changes behind)));
   }
 
   -- so many more loads of counters
@@ -100,7 +95,7 @@ module _ (e f : EngineView) (seen : IsSeenByEngine e) (later : IsSeenByEngine f)
     before = b.before;
     found = b.found;
     rest = b.rest ++ extra;
-    steps = steps ∙ (ap (λ x. x ++ extra) b.steps ∙ (append_assoc b.before (LoadUnlocks 0 (not_current e) b.found (length first) ∷ b.rest) extra
+    steps = steps ∙ (ap (λ x. x ++ extra) b.steps ∙ (append_assoc b.before (LoadUnlocks 0 (not_current e.changes) b.found (length first) ∷ b.rest) extra
         ∙ ap (λ i. b.before ++ LoadUnlocks 0 i b.found (length first) ∷ (b.rest ++ extra)) (sym same_scanned)));
     count = let c = b.count in let both = count_append is_counter_load b.rest extra in omega (arith, c, both, is);
     seen = beginning_trans b.seen since;
@@ -114,11 +109,11 @@ pub record Unlocked (e f : EngineView) (p ended : ℕ) : Type 0 where
   pub first : List Event
   pub began : BeganScan (p + 1) f first
   pub scan : FirstLoaded (length first) p (seen_at_load p e.steps) e.seen f.seen
-  pub least : sum_below (λ q. unlocks q (not_current f) first) (p + 1) ≤ ended
-  pub most : ended ≤ sum_below (λ q. unlocks q (not_current f) f.seen) (p + 1)
+  pub least : sum_below (λ q. unlocks q (not_current f.changes) first) (p + 1) ≤ ended
+  pub most : ended ≤ sum_below (λ q. unlocks q (not_current f.changes) f.seen) (p + 1)
 
-module _ (e f : EngineView) (p ended found : ℕ) (i : Index) (seen : IsSeenByEngine e) (here : InUnlocks e p ended) (is : i ≡ not_current e) (counts : CountsUnlocks p i found e f) where
-  now_scanned : i ≡ not_current f
+module _ (e f : EngineView) (p ended found : ℕ) (i : Index) (seen : IsSeenByEngine e) (here : InUnlocks e p ended) (is : i ≡ not_current e.changes) (counts : CountsUnlocks p i found e f) where
+  now_scanned : i ≡ not_current f.changes
   now_scanned = is ∙ sym (same_scanned e f seen counts.step.history counts.step.since counts.step.changes_are)
 
   most_so_far : ended + found ≤ sum_below (λ q. unlocks q i f.seen) (p + 1)
@@ -193,16 +188,16 @@ module _ (e f : EngineView) (p ended found : ℕ) (i : Index) (seen : IsSeenByEn
         in_order = u.began.seen;
         seen = beginning_refl f.seen;
         since_start = refl;
-        ended_least = subst (λ k. sum_below (λ q. unlocks q (not_current f) u.first) k ≤ ended + found) n u.least;
-        ended_most = subst (λ k. ended + found ≤ sum_below (λ q. unlocks q (not_current f) f.seen) k) n u.most;
+        ended_least = subst (λ k. sum_below (λ q. unlocks q (not_current f.changes) u.first) k ≤ ended + found) n u.least;
+        ended_most = subst (λ k. ended + found ≤ sum_below (λ q. unlocks q (not_current f.changes) f.seen) k) n u.most;
         begun_least = omega arith;
         begun_most = omega arith;
       }
 
 -- Lock counters
 
-module _ (e f : EngineView) (p ended begun found : ℕ) (i : Index) (seen : IsSeenByEngine e) (here : InLocks e p ended begun) (is : i ≡ not_current e) (counts : CountsLocks p i found e f) where
-  now_scanned_l : i ≡ not_current f
+module _ (e f : EngineView) (p ended begun found : ℕ) (i : Index) (seen : IsSeenByEngine e) (here : InLocks e p ended begun) (is : i ≡ not_current e.changes) (counts : CountsLocks p i found e f) where
+  now_scanned_l : i ≡ not_current f.changes
   now_scanned_l = is ∙ sym (same_scanned e f seen counts.step.history counts.step.since counts.step.changes_are)
 
   least_begun : sum_below (λ q. locks q i here.middle) (p + 1) ≤ begun + found
@@ -223,10 +218,10 @@ module _ (e f : EngineView) (p ended begun found : ℕ) (i : Index) (seen : IsSe
   same_count : f.processors ≡ e.processors
   same_count = counts.step.same.1
 
-  least_ended : all_unlocks f.processors (not_current f) here.first ≤ ended
+  least_ended : all_unlocks f.processors (not_current f.changes) here.first ≤ ended
   least_ended = subst (λ (z : ℕ × Index). all_unlocks z.0 z.1 here.first ≤ ended) (λ k. (sym same_count k, (sym is ∙ now_scanned_l) k)) here.ended_least
 
-  most_ended : ended ≤ all_unlocks f.processors (not_current f) here.middle
+  most_ended : ended ≤ all_unlocks f.processors (not_current f.changes) here.middle
   most_ended = subst (λ (z : ℕ × Index). ended ≤ all_unlocks z.0 z.1 here.middle) (λ k. (sym same_count k, (sym is ∙ now_scanned_l) k)) here.ended_most
 
   began_now : BeganScan (f.processors + (p + 1)) f here.first
@@ -285,11 +280,11 @@ module _ (e f : EngineView) (p ended begun found : ℕ) (i : Index) (seen : IsSe
         };
       }
 
-  pub passed_empty : f.processors ≤ p + 1 → ended ≡ begun + found → WasEmpty (not_current e) f.seen
+  pub passed_empty : f.processors ≤ p + 1 → ended ≡ begun + found → WasEmpty (not_current e.changes) f.seen
   passed_empty last equal = subst (λ j. WasEmpty j f.seen) (same_scanned e f seen counts.step.history counts.step.since counts.step.changes_are) (passed last equal).empty
 
   -- unequal sums: one was open at some moment of the scan
-  pub waits : f.processors ≤ p + 1 → ended ≢ begun + found → (since : ℕ) × Waits i since f × FirstLoaded since (e.processors + p) (seen_at_load (e.processors + p) e.steps) e.seen f.seen
+  pub waits : f.processors ≤ p + 1 → ended ≢ begun + found → (says : WaitsFor i (standing_at e (Locks p ended begun)) (standing_at f (Unlocks 0 0))) × HasScanned i says.since f
   waits last unequal =
       let there = here.there in let same = same_count in
       let n : p + 1 ≡ f.processors = omega (arith, last, there, same) in
@@ -301,23 +296,25 @@ module _ (e f : EngineView) (p ended begun found : ℕ) (i : Index) (seen : IsSe
       let b = began_now in
       let found_open = open_between f.processors i here.first f.seen b.seen counts.step.history.legal counts.step.history.makers (omega (arith, early, late, least, most, sums, unequal)) in
       let count = b.count in (
-        length here.first,
         record {
           running = busy_running f.changes f.seen (busy still.running) counts.step.history.reaches;
-          before = b.before;
-          found = b.found;
-          rest = b.rest;
-          steps = b.steps ∙ ap (λ j. b.before ++ LoadUnlocks 0 j b.found (length here.first) ∷ b.rest) (sym now_scanned_l);
-          loads = omega (arith, count, n);
-          not_current = now_scanned_l;
+          index = now_scanned_l;
+          since = length here.first;
+          first = scan_on;
           moment = found_open.moment;
-          seen = found_open.upto;
+          upto = found_open.upto;
           after = length_grows found_open.after;
           section = found_open.section;
           is_open = found_open.is_open;
           of_index = found_open.of_index;
         },
-        scan_on,
+        record {
+          before = b.before;
+          found = b.found;
+          rest = b.rest;
+          steps = b.steps ∙ ap (λ j. b.before ++ LoadUnlocks 0 j b.found (length here.first) ∷ b.rest) (sym now_scanned_l);
+          loads = omega (arith, count, n);
+        },
       )
     where
       busy : IsBeforeFlip f.changes ⊎ IsBehindFlip f.changes → 0 < f.changes % 4
@@ -329,24 +326,34 @@ first_unlocks e s some = record { scanning = s; there = some; began = λ none. a
 
 -- Steps at the seat
 
-pub moves_by_load : (e f : EngineView) (l : Step) (place next : Place) (a : Progress) → TakesStep l e.changes e f → IsStepAt e.processors (so_far e.processors place) (not_current e) l → events_of a ≡ [] → changes_for a ≡ 0
-    → (so_far e.processors place ≤ 2 * e.processors) × (so_far e.processors next ≤ 2 * e.processors) → Counts e.processors a (so_far e.processors place) (so_far e.processors next) → IsAt f next → ((n : ℕ) → next ≢ Wanted n)
-    → (0 < so_far e.processors next → FirstLoaded (began f next) (so_far e.processors place) (began e place) e.seen f.seen) → (2 * e.processors ≤ so_far e.processors next → WasEmpty (not_current e) f.seen) → SaysAt a e place f → ((n : ℕ) → a ≢ answer.Started n) → Moves e place f next a
-moves_by_load e f l place next a takes here none unchanged within counts at other scan passed says no_start = record {
+-- what was seen since: what others did, and then what the engine did with this answer
+pub others_before : (e f : EngineView) (a : Progress) (since : IsBeginning e.seen f.seen) → events_of a ≡ [] → f.seen ≡ e.seen ++ (since.rest ++ events_of a)
+others_before e f a since none = since.whole ∙ ap (λ l. e.seen ++ l) (sym (append-nil since.rest) ∙ ap (λ l. since.rest ++ l) (sym none))
+
+pub moves_by_load : (e f : EngineView) (l : Step) (place next : Place) (a : Progress) → TakesStep l e.changes e f → IsStepAt e.processors (so_far e.processors place) (not_current e.changes) l → events_of a ≡ [] → changes_for a ≡ 0
+    → (so_far e.processors place ≤ 2 * e.processors) × (so_far f.processors next ≤ 2 * e.processors) → Counts e.processors a (so_far e.processors place) (so_far f.processors next) → IsAt f next → ((n : ℕ) → next ≢ Wanted n)
+    → (0 < so_far f.processors next → FirstLoaded (began f next) (so_far e.processors place) (began e place) e.seen f.seen)
+    → (says : Says a (wanted place) (standing_at e place) (standing_at f next)) → Shows a (wanted place) (standing_at e place) (standing_at f next) says f → Moves e place f next a
+moves_by_load e f l place next a takes here none unchanged within counts at other scan says shows = record {
   same = takes.same;
-  since = takes.since;
   history = takes.history;
   events = takes.mine ∙ (sym (append-nil e.mine) ∙ ap (λ x. e.mine ++ x) (sym none));
   made = l ∷ [];
   steps = takes.steps;
   one = let zero : length (events_of a) ≡ 0 = ap length none in omega (arith, zero);
   in_order = inr (l, refl, here);
-  changes = let same = takes.changes_are in let before = within.0 in let after = within.1 in omega (arith, same, before, after, unchanged);
+  others = takes.since.rest;
+  answered = record {
+    same = (takes.same.1, takes.same.2);
+    events = others_before e f a takes.since none;
+    legal = takes.history.legal;
+    agree = takes.history.reaches;
+    changes = let same = takes.changes_are in let before = within.0 in let after = within.1 in omega (arith, same, before, after, unchanged);
+    says = says;
+  };
+  shows = shows;
   counts = counts;
   place_is = at;
-  says = says;
   not_wanted = other;
   scan = scan;
-  passed = passed;
-  started = λ n is. absurd (no_start n is);
 }

@@ -3,36 +3,25 @@ use Rattle.sseq.specs.declared.index.Index.{Index}
 use native.Mathlib.Decide.{ℕ_discrete, dec_lt}
 use mathlib.Core.Logic.{dite}
 use Rattle.std.proofs.Common.{◌≡◌, ℕ, ◌+◌, ◌*◌, ◌%◌, ◌<◌, ◌≤◌, ◌≢◌, ◌⊎◌, inl, inr, ⊎_elim, Result, Ok, Err, IsErr, MatchResult, [], ◌++◌, length, refl, sym, ap, ◌∙◌, subst, append_assoc, append-nil, length-append, arith, List, ◌∷◌}
+use Rattle.onedom.specs.declared.event.Event.{Event}
 use Rattle.onedom.specs.Histories.{ended_in, IsRunning, IsBeginning, starts_in}
 use Rattle.sections.specs.Words.{number_word, IsIdle, IsBeforeFlip, IsBehindFlip}
-use Rattle.sections.specs.Driving.{IsSeenByEngine}
-use Rattle.sections.proofs.Agreement.{busy_running, idle_not_running}
+use Rattle.sections.specs.EngineCalls.{IsSeenByEngine}
+use Rattle.sections.proofs.CallerLemmas.{busy_running, idle_not_running}
 use Rattle.sections.specs.Views.{EngineView}
 use Rattle.scan.specs.declared.place.Place.{Place}
 use Rattle.scan.specs.declared.place.Place.TheVariants.{Idle, Wanted, Unlocks, Locks, Passed, Flipped}
 use Rattle.scan.specs.declared.progress.Progress.{Progress}
 use Rattle.scan.specs.declared.progress.Progress.TheVariants as answer
-use Rattle.scan.specs.Places.{so_far, began, wanted, IsScanning, IsAt, SaysAt, Moves}
+use Rattle.scan.specs.Places.{so_far, began, wanted, IsScanning, IsAt, Moves}
 use Rattle.scan.specs.declared.progress.Exhausted.{Exhausted}
-use Rattle.scan.specs.Progress.{ScanView, number_at_rest, steps_for, events_of, changes_for, changes_so_far, FirstLoaded, Says, Counts, NeedsLoaded, GoesOn, StepsTo, StepsThrough, AdvancesTo, FindsExhausted}
-use Rattle.onedom.proofs.Beginnings.{beginning_refl, beginning_trans, length_grows}
+use Rattle.scan.specs.Standings.{number_at_rest, steps_for, events_of, changes_for, changes_so_far, FirstLoaded, WaitsFor, Says, Counts, StepsThrough}
+use Rattle.scan.specs.Progress.{ScanView, standing_of, Shows, NeedsLoaded, GetsOn, StepsTo, AdvancesTo, FindsExhausted}
+use Rattle.onedom.proofs.CallerLemmas.{length_grows}
 
 module _ {N : Type 0} where
   abbrev pub viewed : EngineView → N → Place → ScanView N
   viewed e needs place = record { seat = e; needs = needs; need = wanted place; so_far = so_far e.processors place; began = began e place }
-
--- what an answer says of the seat, the engine says
-says_from : {N : Type 0} (e f : EngineView) (needs : N) (place next : Place) (a : Progress) → IsSeenByEngine e → IsAt e place → Moves e place f next a → SaysAt a e place f → Says a (wanted place) (viewed e needs place) (viewed f needs next)
-says_from e f needs place next answer.Idle seen at m says = absurd says
-says_from e f needs place next (answer.Started n) seen at m says = let w = m.started n refl in
-    let is : place ≡ Wanted w.0 = w.1 in let here : IsIdle e.changes × (number_word e.changes < 4 * e.periods) × (number_word e.changes < w.0) = subst (λ p. IsAt e p) is at in
-    let idle = here.0 in let below = here.2 in let same = w.2 in let ended = seen.reaches.ended in
-    let room = here.1 in let periods = m.same.2 in
-    (says, subst (λ p. number_at_rest f.seen < wanted p) (sym is) (omega (arith, idle, below, same, ended)), omega (arith, idle, room, same, ended, periods))
-says_from e f needs place next (answer.Flipped i) seen at m says = says
-says_from e f needs place next (answer.Ended n) seen at m says = says
-says_from e f needs place next (answer.Waiting i) seen at m says = says
-says_from e f needs place next answer.Step seen at m says = λ all. m.passed (subst (λ n. 2 * e.processors ≤ so_far n next) m.same.1 all)
 
 pub half_few : (e : EngineView) (p : Place) → IsAt e p → 1 ≤ e.processors → so_far e.processors p ≤ 2 * e.processors + 1
 half_few e Idle at some = omega arith
@@ -79,15 +68,15 @@ half_runs : (n : ℕ) (e : EngineView) (p : Place) → ((n : ℕ) → p ≢ Want
 half_runs n e p other seen at some = place_runs e p (not_idle n p some) other seen at
 
 -- what was wanted is started, in one step
-after_wanted : (e f : EngineView) (n : ℕ) (next : Place) (a : Progress) → 1 ≤ e.processors → IsIdle e.changes → Moves e (Wanted n) f next a → so_far e.processors next ≡ 0
+after_wanted : (e f : EngineView) (n : ℕ) (next : Place) (a : Progress) → 1 ≤ e.processors → IsIdle e.changes → Moves e (Wanted n) f next a → so_far f.processors next ≡ 0
 after_wanted e f n next answer.Idle some idle m = m.counts.1
 after_wanted e f n next (answer.Started k) some idle m = m.counts.1
 after_wanted e f n next (answer.Flipped i) some idle m = m.counts.1
 after_wanted e f n next (answer.Ended k) some idle m = m.counts.1
 after_wanted e f n next (answer.Waiting i) some idle m = m.counts.1
 after_wanted e f n next answer.Step some idle m =
-    let two = m.counts in let changes = m.changes in
-    absurd (idle_not_running f.changes f.seen (omega (arith, idle, two, changes, some)) m.history.reaches (half_runs e.processors f next m.not_wanted m.history m.place_is (omega (arith, two))))
+    let two = m.counts in let changes = m.answered.changes in
+    absurd (idle_not_running f.changes f.seen (omega (arith, idle, two, changes, some)) m.history.reaches (half_runs f.processors f next m.not_wanted m.history m.place_is (omega (arith, two))))
 
 none_wanted : (p : Place) → ((n : ℕ) → p ≢ Wanted n) → wanted p ≡ 0
 none_wanted Idle other = refl
@@ -98,7 +87,7 @@ none_wanted Passed other = refl
 none_wanted (Flipped i) other = refl
 
 -- where there is more to do, nothing else is wanted than before
-need_kept : (e f : EngineView) (place next : Place) (a : Progress) → 1 ≤ e.processors → IsAt e place → Moves e place f next a → 0 < so_far e.processors next → wanted next ≡ wanted place
+need_kept : (e f : EngineView) (place next : Place) (a : Progress) → 1 ≤ e.processors → IsAt e place → Moves e place f next a → 0 < so_far f.processors next → wanted next ≡ wanted place
 need_kept e f Idle next a some at m more = none_wanted next m.not_wanted
 need_kept e f (Wanted n) next a some at m more = absurd (let done = after_wanted e f n next a some at.0 m in omega (arith, more, done))
 need_kept e f (Unlocks p ended) next a some at m more = none_wanted next m.not_wanted
@@ -107,7 +96,7 @@ need_kept e f Passed next a some at m more = none_wanted next m.not_wanted
 need_kept e f (Flipped i) next a some at m more = none_wanted next m.not_wanted
 
 -- at rest nothing more is to be done
-resting_done : (e f : EngineView) (place next : Place) (a : Progress) → 1 ≤ e.processors → place ≢ Idle → IsSeenByEngine e → IsAt e place → Moves e place f next a → ¬ IsRunning e.seen → so_far e.processors next ≡ 0
+resting_done : (e f : EngineView) (place next : Place) (a : Progress) → 1 ≤ e.processors → place ≢ Idle → IsSeenByEngine e → IsAt e place → Moves e place f next a → ¬ IsRunning e.seen → so_far f.processors next ≡ 0
 resting_done e f Idle next a some other seen at m resting = absurd (other refl)
 resting_done e f (Wanted n) next a some other seen at m resting = after_wanted e f n next a some at.0 m
 resting_done e f (Unlocks p ended) next a some other seen at m resting = absurd (resting (place_runs e (Unlocks p ended) other (λ n h. cc) seen at))
@@ -117,30 +106,31 @@ resting_done e f (Flipped i) next a some other seen at m resting = absurd (resti
 
 module _ {N : Type 0} (loads : N → ℕ → N → Type 0) where
   pub steps_from : (e f : EngineView) (needs : N) (place next : Place) (a : Progress) → 1 ≤ e.processors → place ≢ Idle → IsSeenByEngine e → IsAt e place → Moves e place f next a → StepsTo loads (viewed e needs place) a (viewed f needs next)
-  steps_from e f needs place next a some not_idle seen at m = let same = m.same.1 in
-      let there : (p : Place) → so_far f.processors p ≡ so_far e.processors p = λ p. ap (λ n. so_far n p) same in record {
-        goes_on = record { same = m.same; since = m.since; history = m.history; made = m.made; steps = m.steps };
-        events = m.events;
-        needs = record { count = 0; need = wanted place; at_rest = λ resting none. absurd (resting (nothing_half_runs e place not_idle seen at some none)); busy = λ _. (refl, refl, refl) };
-        one = let one = m.one in omega (arith, one);
-        alone = λ some_load. absurd (omega (arith, some_load));
-        in_order = m.in_order;
-        changes = let changes = m.changes in let here = there next in omega (arith, changes, here);
-        counts = subst (λ n. Counts e.processors a (so_far e.processors place) n) (sym (there next)) m.counts;
-        few = let few = half_few f next m.place_is (omega (arith, some, same)) in omega (arith, few, same);
-        says = says_from e f needs place next a seen at m m.says;
-        need = λ more. need_kept e f place next a some at m (subst (λ n. 0 < n) (there next) more);
-        wanted = λ resting more. absurd (let done = resting_done e f place next a some not_idle seen at m resting in let here = there next in omega (arith, more, done, here));
-        scan = λ running more. (half_runs f.processors f next m.not_wanted m.history m.place_is more, m.scan (subst (λ n. 0 < n) (there next) more));
-      }
+  steps_from e f needs place next a some not_idle seen at m = record {
+    goes_on = record { same = m.same; history = m.history; events = m.events; made = m.made; steps = m.steps; others = m.others };
+    needs = record { count = 0; need = wanted place; at_rest = λ resting none. absurd (resting (nothing_half_runs e place not_idle seen at some none)); busy = λ _. (refl, refl, refl) };
+    step = record {
+      answered = m.answered;
+      counts = m.counts;
+      few = let same = m.same.1 in let few = half_few f next m.place_is (omega (arith, some, same)) in omega (arith, few, same);
+      wanted = λ resting more. absurd (let done = resting_done e f place next a some not_idle seen at m resting in omega (arith, more, done));
+      scan = λ running more. (half_runs f.processors f next m.not_wanted m.history m.place_is more, m.scan more);
+    };
+    shows = m.shows;
+    one = let one = m.one in omega (arith, one);
+    alone = λ some_load. absurd (omega (arith, some_load));
+    in_order = m.in_order;
+    need = λ more. need_kept e f place next a some at m more;
+    no_need = λ _. none_wanted next m.not_wanted;
+  }
 
 -- Several steps
 
 -- after some steps without an answer more is half done than there was
 pub record HasMoved {N : Type 0} (loads : N → ℕ → N → Type 0) (v w : ScanView N) : Type 0 where
-  pub goes_on : GoesOn v w
+  pub goes_on : GetsOn answer.Step v w
+  pub seen : w.seat.seen ≡ v.seat.seen ++ (goes_on.others ++ [])
   pub more : v.so_far < w.so_far
-  pub events : w.seat.mine ≡ v.seat.mine
   pub needs : NeedsLoaded loads v w
   pub steps : length goes_on.made + needs.count + v.so_far ≡ w.so_far
   pub changes : w.seat.changes + changes_so_far v.seat.processors v.so_far ≡ v.seat.changes + changes_so_far v.seat.processors w.so_far
@@ -150,14 +140,25 @@ pub record HasMoved {N : Type 0} (loads : N → ℕ → N → Type 0) (v w : Sca
   pub resting : ¬ IsRunning v.seat.seen → (w.seat ≡ v.seat) × (w.so_far ≡ 1)
 
 module _ {N : Type 0} (loads : N → ℕ → N → Type 0) where
-  abbrev goes_further : (u v w : ScanView N) → GoesOn u v → GoesOn v w → GoesOn u w
-  goes_further u v w a b = record {
-    same = (b.same.0 ∙ a.same.0, b.same.1 ∙ a.same.1, b.same.2 ∙ a.same.2);
-    since = beginning_trans a.since b.since;
-    history = b.history;
-    made = a.made ++ b.made;
-    steps = b.steps ∙ (ap (λ l. l ++ b.made) a.steps ∙ append_assoc u.seat.steps a.made b.made);
+  abbrev goes_further : (u v w : ScanView N) (a : Progress) → GetsOn answer.Step u v → GetsOn a v w → GetsOn a u w
+  goes_further u v w a b c = record {
+    same = (c.same.0 ∙ b.same.0, c.same.1 ∙ b.same.1, c.same.2 ∙ b.same.2);
+    history = c.history;
+    events = c.events ∙ ap (λ l. l ++ events_of a) (b.events ∙ append-nil u.seat.mine);
+    made = b.made ++ c.made;
+    steps = c.steps ∙ (ap (λ l. l ++ c.made) b.steps ∙ append_assoc u.seat.steps b.made c.made);
+    others = b.others ++ c.others;
   }
+
+  -- others came between, and then others again
+  between_both : (h x y events : List Event) → (h ++ (x ++ [])) ++ (y ++ events) ≡ h ++ ((x ++ y) ++ events)
+  between_both h x y events = ap (λ l. (h ++ l) ++ (y ++ events)) (append-nil x) ∙ (append_assoc h x (y ++ events) ∙ ap (λ l. h ++ l) (sym (append_assoc x y events)))
+
+  seen_further : (u v w : ScanView N) (x y events : List Event) → v.seat.seen ≡ u.seat.seen ++ (x ++ []) → w.seat.seen ≡ v.seat.seen ++ (y ++ events) → w.seat.seen ≡ u.seat.seen ++ ((x ++ y) ++ events)
+  seen_further u v w x y events before after = after ∙ (ap (λ l. l ++ (y ++ events)) before ∙ between_both u.seat.seen x y events)
+
+  seen_since : (u v : ScanView N) (rest : List Event) → v.seat.seen ≡ u.seat.seen ++ rest → IsBeginning u.seat.seen v.seat.seen
+  seen_since u v rest whole = record { rest = rest; whole = whole }
 
   -- where more is half done, the need was loaded before
   abbrev needs_further : (u v w : ScanView N) → HasMoved loads u v → NeedsLoaded loads v w → NeedsLoaded loads u w
@@ -182,19 +183,35 @@ module _ {N : Type 0} (loads : N → ℕ → N → Type 0) where
   not_at_rest u v w i moved s = dite (dec_lt (ended_in u.seat.seen) (starts_in u.seat.seen)) (λ running. running) (λ rests.
       let same = (moved.resting rests).0 in
       let before = moved.goes_on.history in
-      let counts = s.counts in
+      let counts = s.step.counts in
       let due = counts.0 in
       let done = counts.1 in
-      let changes = s.changes in
+      let changes = s.step.answered.changes in
       let idle : IsIdle v.seat.changes = dite (ℕ_discrete (v.seat.changes % 4) 0) (λ h. h) (λ busy. absurd (rests (subst (λ e. IsRunning e.seen) same (busy_running v.seat.changes v.seat.seen (omega (arith, busy)) before.reaches)))) in
-      absurd (idle_not_running w.seat.changes w.seat.seen (omega (arith, idle, changes, due, done)) s.goes_on.history.reaches s.says.1.running))
+      absurd (idle_not_running w.seat.changes w.seat.seen (omega (arith, idle, changes, due, done)) s.goes_on.history.reaches s.step.answered.says.running))
 
-  says_further : (u v w : ScanView N) (a : Progress) → a ≢ answer.Step → HasMoved loads u v → (s : StepsTo loads v a w) → Says a s.needs.need u w
-  says_further u v w answer.Idle other moved s = s.says
-  says_further u v w (answer.Started n) other moved s = s.says
-  says_further u v w (answer.Flipped i) other moved s = s.says
-  says_further u v w (answer.Ended n) other moved s = s.says
-  says_further u v w (answer.Waiting i) other moved s = (s.says.0, s.says.1, scan_further u v w s.says.0 moved s.goes_on.since s.says.2 (not_at_rest u v w i moved s))
+  abbrev waits_further : (u v w : ScanView N) (i : Index) → HasMoved loads u v → (s : StepsTo loads v (answer.Waiting i) w) → WaitsFor i (standing_of u) (standing_of w)
+  waits_further u v w i moved s = let says = s.step.answered.says in
+      record {
+        running = says.running;
+        index = says.index;
+        since = says.since;
+        first = scan_further u v w says.since moved (seen_since v w _ s.step.answered.events) says.first (not_at_rest u v w i moved s);
+        moment = says.moment;
+        upto = says.upto;
+        after = says.after;
+        section = says.section;
+        is_open = says.is_open;
+        of_index = says.of_index;
+      }
+
+  -- what the last step answers, all of them together do
+  says_further : (u v w : ScanView N) (a : Progress) → a ≢ answer.Step → HasMoved loads u v → (s : StepsTo loads v a w) → (says : Says a s.needs.need (standing_of u) (standing_of w)) × Shows a s.needs.need (standing_of u) (standing_of w) says w.seat
+  says_further u v w answer.Idle other moved s = (s.step.answered.says, tt)
+  says_further u v w (answer.Started n) other moved s = (s.step.answered.says, tt)
+  says_further u v w (answer.Flipped i) other moved s = (s.step.answered.says, s.shows)
+  says_further u v w (answer.Ended n) other moved s = (s.step.answered.says, tt)
+  says_further u v w (answer.Waiting i) other moved s = (waits_further u v w i moved s, s.shows)
   says_further u v w answer.Step other moved s = absurd (other refl)
 
   counted : (n : ℕ) (a : Progress) (before after : ℕ) → a ≢ answer.Step → Counts n a before after → (before + 1 ≡ steps_for n a) × (after ≡ 0)
@@ -206,38 +223,38 @@ module _ {N : Type 0} (loads : N → ℕ → N → Type 0) where
   counted n answer.Step before after other c = absurd (other refl)
 
   first_step : (u w : ScanView N) → StepsTo loads u answer.Step w → HasMoved loads u w
-  first_step u w s = let next = s.counts in let one = s.one in let changes = s.changes in record {
+  first_step u w s = let next = s.step.counts in let one = s.one in let changes = s.step.answered.changes in record {
     goes_on = s.goes_on;
+    seen = s.step.answered.events;
     more = omega (arith, next);
-    events = s.events ∙ append-nil u.seat.mine;
     needs = s.needs;
     steps = omega (arith, one, next);
     changes = omega (arith, changes);
     need = s.need (omega (arith, next));
-    scan = λ running. s.scan running (omega (arith, next));
+    scan = λ running. s.step.scan running (omega (arith, next));
     resting = λ rests.
-        let one_half = (s.wanted rests (omega (arith, next))).2 in
+        let one_half = (s.step.wanted rests (omega (arith, next))).2 in
         let loaded = (s.needs.at_rest rests (omega (arith, next, one_half))).0 in
         (s.alone (omega (arith, loaded)), one_half);
   }
 
   next_step : (u v w : ScanView N) → HasMoved loads u v → StepsTo loads v answer.Step w → HasMoved loads u w
   next_step u v w moved s =
-      let next = s.counts in let one = s.one in let before = moved.steps in let more = moved.more in let same = moved.goes_on.same.1 in
-      let was = moved.changes in let changes = s.changes in
+      let next = s.step.counts in let one = s.one in let before = moved.steps in let more = moved.more in let same = moved.goes_on.same.1 in
+      let was = moved.changes in let changes = s.step.answered.changes in
       let made = length-append moved.goes_on.made s.goes_on.made in record {
-        goes_on = goes_further u v w moved.goes_on s.goes_on;
+        goes_on = goes_further u v w answer.Step moved.goes_on s.goes_on;
+        seen = seen_further u v w moved.goes_on.others s.goes_on.others [] moved.seen s.step.answered.events;
         more = omega (arith, next, more);
-        events = s.events ∙ (append-nil v.seat.mine ∙ moved.events);
         needs = needs_further u v w moved s.needs;
         steps = omega (arith, made, one, next, before);
         changes = omega (arith, was, changes, same);
         need = s.need (omega (arith, next));
-        scan = λ running. let first = s.scan (moved.scan running).0 (omega (arith, next)) in (first.0, scan_further u v w w.began moved s.goes_on.since first.1 running);
+        scan = λ running. let first = s.step.scan (moved.scan running).0 (omega (arith, next)) in (first.0, scan_further u v w w.began moved (seen_since v w _ s.step.answered.events) first.1 running);
         resting = λ rests.
             let before = moved.resting rests in
             let so_far = before.1 in
-            let one_half = (s.wanted (subst (λ e. ¬ IsRunning e.seen) (sym before.0) rests) (omega (arith, next))).2 in
+            let one_half = (s.step.wanted (subst (λ e. ¬ IsRunning e.seen) (sym before.0) rests) (omega (arith, next))).2 in
             absurd (omega (arith, next, so_far, one_half));
       }
 
@@ -254,7 +271,10 @@ module _ {N : Type 0} (loads : N → ℕ → N → Type 0) where
   one_step_more [] u v w same s = (subst (λ z. StepsTo loads z answer.Step w) same s, refl)
   one_step_more (x ∷ xs) u v w h s = (h.0, one_step_more xs x v w h.1 s)
 
-  and_the_answer : (xs : List (ScanView N)) (u v w : ScanView N) (a : Progress) → Stepped xs u v → StepsTo loads v a w → StepsThrough loads xs u a w
+  abbrev Through : List (ScanView N) → ScanView N → Progress → ScanView N → Type 0
+  Through xs u a w = StepsThrough (λ b x y. StepsTo loads x b y) xs a u w
+
+  and_the_answer : (xs : List (ScanView N)) (u v w : ScanView N) (a : Progress) → Stepped xs u v → StepsTo loads v a w → Through xs u a w
   and_the_answer [] u v w a same s = subst (λ z. StepsTo loads z a w) same s
   and_the_answer (x ∷ xs) u v w a h s = (h.0, and_the_answer xs x v w a h.1 s)
 
@@ -270,41 +290,45 @@ module _ {N : Type 0} (loads : N → ℕ → N → Type 0) where
   pub under_way : (u v w : ScanView N) → IsUnderWay u v → StepsTo loads v answer.Step w → IsUnderWay u w
   under_way u v w h s = record { between = h.between ++ w ∷ []; stepped = one_step_more h.between u v w h.stepped s; moved = inr (has_moved u v w h.moved s) }
 
-  at_once : (u w : ScanView N) (a : Progress) (xs : List (ScanView N)) → StepsThrough loads xs u a w → StepsTo loads u a w → a ≢ answer.Step → AdvancesTo loads u a w
-  at_once u w a xs through s other = let c = counted u.seat.processors a u.so_far w.so_far other s.counts in let one = s.one in let taken = c.0 in let none = c.1 in let changes = s.changes in record {
-    between = xs;
-    through = through;
+  at_once : (u w : ScanView N) (a : Progress) (xs : List (ScanView N)) → Through xs u a w → StepsTo loads u a w → a ≢ answer.Step → AdvancesTo loads u a w
+  at_once u w a xs through s other = let c = counted u.seat.processors a u.so_far w.so_far other s.step.counts in let one = s.one in let taken = c.0 in let none = c.1 in record {
+    advances = record { between = xs; through = through; answer = other };
     goes_on = s.goes_on;
-    answer = other;
-    events = s.events;
     needs = s.needs;
+    answered = s.step.answered;
+    shows = s.shows;
     steps = omega (arith, one, taken);
     due = omega (arith, taken);
-    changes = omega (arith, changes, none);
     done = none;
-    says = s.says;
+    no_need = s.no_need none;
   }
 
-  at_last : (u v w : ScanView N) (a : Progress) (xs : List (ScanView N)) → StepsThrough loads xs u a w → HasMoved loads u v → StepsTo loads v a w → a ≢ answer.Step → AdvancesTo loads u a w
+  at_last : (u v w : ScanView N) (a : Progress) (xs : List (ScanView N)) → Through xs u a w → HasMoved loads u v → StepsTo loads v a w → a ≢ answer.Step → AdvancesTo loads u a w
   at_last u v w a xs through moved s other =
-      let c = counted v.seat.processors a v.so_far w.so_far other s.counts in let one = s.one in let none = c.1 in let before = moved.steps in
-      let was = moved.changes in let changes = s.changes in let same = moved.goes_on.same.1 in
+      let c = counted v.seat.processors a v.so_far w.so_far other s.step.counts in let one = s.one in let none = c.1 in let before = moved.steps in
+      let was = moved.changes in let changes = s.step.answered.changes in let same = moved.goes_on.same.1 in
       let taken : v.so_far + 1 ≡ steps_for u.seat.processors a = c.0 ∙ ap (λ n. steps_for n a) same in
-      let made = length-append moved.goes_on.made s.goes_on.made in record {
-        between = xs;
-        through = through;
-        goes_on = goes_further u v w moved.goes_on s.goes_on;
-        answer = other;
-        events = s.events ∙ ap (λ l. l ++ events_of a) moved.events;
+      let made = length-append moved.goes_on.made s.goes_on.made in
+      let further = says_further u v w a other moved s in record {
+        advances = record { between = xs; through = through; answer = other };
+        goes_on = goes_further u v w a moved.goes_on s.goes_on;
         needs = needs_further u v w moved s.needs;
+        answered = record {
+          same = (s.step.answered.same.0 ∙ moved.goes_on.same.1, s.step.answered.same.1 ∙ moved.goes_on.same.2);
+          events = seen_further u v w moved.goes_on.others s.goes_on.others (events_of a) moved.seen s.step.answered.events;
+          legal = s.step.answered.legal;
+          agree = s.step.answered.agree;
+          changes = omega (arith, was, changes, same, none);
+          says = further.0;
+        };
+        shows = further.1;
         steps = omega (arith, made, one, before, taken);
         due = let more = moved.more in omega (arith, taken, more);
-        changes = omega (arith, was, changes, same, none);
         done = none;
-        says = says_further u v w a other moved s;
+        no_need = s.no_need none;
       }
 
-  arrived : (u v w : ScanView N) (a : Progress) (xs : List (ScanView N)) → StepsThrough loads xs u a w → (v ≡ u) ⊎ HasMoved loads u v → StepsTo loads v a w → a ≢ answer.Step → AdvancesTo loads u a w
+  arrived : (u v w : ScanView N) (a : Progress) (xs : List (ScanView N)) → Through xs u a w → (v ≡ u) ⊎ HasMoved loads u v → StepsTo loads v a w → a ≢ answer.Step → AdvancesTo loads u a w
   arrived u v w a xs through (inl same) s other = at_once u w a xs through (subst (λ z. StepsTo loads z a w) same s) other
   arrived u v w a xs through (inr moved) s other = at_last u v w a xs through moved s other
 
@@ -330,36 +354,46 @@ module _ {N : Type 0} (loads : N → ℕ → N → Type 0) (e : EngineView) (som
 
   -- the need was loaded, and nothing was done
   pub loaded_at_rest : (next : Place) (a : Progress) → events_of a ≡ [] → changes_for a ≡ 0 → Counts e.processors a 0 (so_far e.processors next) → so_far e.processors next ≤ 1
-      → Says a need (viewed e needs Idle) (viewed e needs' next) → (0 < so_far e.processors next → (wanted next ≡ need) × (number_at_rest e.seen < need) × (ended_in e.seen < e.periods)) → StepsTo loads (viewed e needs Idle) a (viewed e needs' next)
-  loaded_at_rest next a none unchanged counts few says more = record {
-    goes_on = record { same = (refl, refl, refl); since = beginning_refl e.seen; history = seen; made = []; steps = sym (append-nil e.steps) };
-    events = sym (append-nil e.mine) ∙ ap (λ l. e.mine ++ l) (sym none);
+      → (says : Says a need (standing_of (viewed e needs Idle)) (standing_of (viewed e needs' next))) → Shows a need (standing_of (viewed e needs Idle)) (standing_of (viewed e needs' next)) says e
+      → (0 < so_far e.processors next → (wanted next ≡ need) × (number_at_rest e.seen < need) × (ended_in e.seen < e.periods)) → (so_far e.processors next ≡ 0 → wanted next ≡ 0) → StepsTo loads (viewed e needs Idle) a (viewed e needs' next)
+  loaded_at_rest next a none unchanged counts few says shows more no_need = record {
+    goes_on = record { same = (refl, refl, refl); history = seen; events = sym (append-nil e.mine) ∙ ap (λ l. e.mine ++ l) (sym none); made = []; steps = sym (append-nil e.steps); others = [] };
     needs = record {
       count = 1;
       need = need;
       at_rest = λ _ _. (refl, found);
       busy = λ b. absurd (⊎_elim resting (λ (some_half : 0 < 0). omega (arith, some_half)) b);
     };
+    step = record {
+      answered = record {
+        same = (refl, refl);
+        events = sym (append-nil e.seen) ∙ ap (λ l. e.seen ++ l) (sym none);
+        legal = seen.legal;
+        agree = seen.reaches;
+        changes = omega (arith, few, some, unchanged);
+        says = says;
+      };
+      counts = counts;
+      few = omega (arith, few, some);
+      wanted = λ _ h. let m = more h in (m.1, m.2, omega (arith, few, h));
+      scan = λ running h. absurd (resting running);
+    };
+    shows = shows;
     one = let nothing : length (events_of a) ≡ 0 = ap length none in omega (arith, nothing);
     alone = λ _. refl;
     in_order = inl refl;
-    changes = omega (arith, few, some, unchanged);
-    counts = counts;
-    few = omega (arith, few, some);
-    says = says;
     need = λ h. (more h).0;
-    wanted = λ _ h. let m = more h in (m.1, m.2, omega (arith, few, h));
-    scan = λ running h. absurd (resting running);
+    no_need = no_need;
   }
 
   -- it tells of no period that is still to come
   pub nothing_asked : need ≤ number_word e.changes → StepsTo loads (viewed e needs Idle) answer.Idle (viewed e needs' Idle)
-  nothing_asked low = loaded_at_rest Idle answer.Idle refl refl (refl, refl) (omega arith) (resting, let ended = seen.reaches.ended in omega (arith, ended, idle, low)) (λ h. absurd (omega (arith, h)))
+  nothing_asked low = loaded_at_rest Idle answer.Idle refl refl (refl, refl) (omega arith) (resting, let ended = seen.reaches.ended in omega (arith, ended, idle, low)) tt (λ h. absurd (omega (arith, h))) (λ _. refl)
 
   -- it tells of one
   pub is_asked : number_word e.changes < need → number_word e.changes < 4 * e.periods → StepsTo loads (viewed e needs Idle) answer.Step (viewed e needs' (Wanted need))
   is_asked high room = let ended = seen.reaches.ended in
-      loaded_at_rest (Wanted need) answer.Step refl refl refl (omega arith) (λ all. absurd (omega (arith, all, some))) (λ _. (refl, omega (arith, ended, idle, high), omega (arith, ended, idle, room)))
+      loaded_at_rest (Wanted need) answer.Step refl refl refl (omega arith) (λ all. absurd (omega (arith, all, some))) tt (λ _. (refl, omega (arith, ended, idle, high), omega (arith, ended, idle, room))) (λ none. absurd (omega (arith, none)))
 
   -- and there may be no more
   pub none_left : number_word e.changes < need → number_word e.changes ≡ 4 * e.periods → FindsExhausted loads (viewed e needs Idle) (viewed e needs' Idle)
@@ -369,7 +403,6 @@ module _ {N : Type 0} (loads : N → ℕ → N → Type 0) (e : EngineView) (som
     need = need;
     load = found;
     still_nothing = refl;
-    resting = resting;
-    ended = omega (arith, ended, idle, full);
+    out = record { resting = resting; full = omega (arith, ended, idle, full) };
     asked = omega (arith, ended, idle, high);
   }

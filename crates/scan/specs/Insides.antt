@@ -1,6 +1,6 @@
 -- How the fields of an engine are seen, and what is always true of them.
 use Rattle.std.specs.Prelude.{◌≤◌}
-use Rattle.sections.specs.Driving.{IsSeenByEngine}
+use Rattle.sections.specs.EngineCalls.{IsSeenByEngine}
 use Rattle.scan.specs.declared.engine.Engine.TheInside as engine
 use Rattle.scan.specs.Places.{so_far, began, wanted, IsAt}
 use Rattle.scan.specs.Progress.{ScanView}

@@ -1,5 +1,6 @@
 pub use Rattle.sections.specs.Words
-pub use Rattle.sections.specs.Driving
+pub use Rattle.sections.specs.EngineCalls
+pub mod Standings
 pub mod Progress
 pub mod Places
 pub mod Insides

@@ -1,23 +1,18 @@
 -- What is known at each place of a grace period.
 use Rattle.std.specs.Prelude.{◌≡◌, ◌≢◌, ℕ, ◌+◌, ◌*◌, ◌<◌, ◌≤◌, ◌⊎◌, ◌==◌, List, [], ◌∷◌, ◌++◌, length, if◌then◌else◌}
 use Rattle.sseq.specs.declared.index.Index.{Index}
-use Rattle.sseq.specs.Indexes.{low_bit}
 use Rattle.onedom.specs.declared.event.Event.{Event}
-use Rattle.onedom.specs.Histories.{starts_in, ended_in, WasEmpty, IsBeginning}
+use Rattle.onedom.specs.Histories.{starts_in, WasEmpty, IsBeginning}
 use Rattle.sections.specs.declared.view.Step.{Step}
 use Rattle.sections.specs.declared.view.Step.TheVariants.{LoadIndex, LoadUnlocks, LoadLocks, AddIndex, AddNumber}
-use Rattle.sections.specs.Words.{index_word, number_word, locks, unlocks, sum_below, all_unlocks, IsIdle, IsBeforeFlip, IsFlipping, IsBehindFlip}
+use Rattle.sections.specs.Words.{number_word, locks, unlocks, sum_below, all_unlocks, IsIdle, IsBeforeFlip, IsFlipping, IsBehindFlip}
 use Rattle.sections.specs.Views.{EngineView}
-use Rattle.sections.specs.Driving.{IsSeenByEngine, IsSameEngine}
-use Rattle.scan.specs.Progress.{not_current, events_of, IsStepAt, counter_loads, HasStarted, HasFlipped, HasEnded, Waits, FirstLoaded, Counts, changes_for, changes_so_far}
+use Rattle.sections.specs.EngineCalls.{IsSeenByEngine, IsSameEngine}
+use Rattle.scan.specs.Standings.{Standing, current, not_current, events_of, FirstLoaded, Counts, IsAnswered}
+use Rattle.scan.specs.Progress.{IsStepAt, counter_loads, Shows}
 use Rattle.scan.specs.declared.place.Place.{Place}
 use Rattle.scan.specs.declared.place.Place.TheVariants.{Idle, Wanted, Unlocks, Locks, Passed, Flipped}
 use Rattle.scan.specs.declared.progress.Progress.{Progress}
-use Rattle.scan.specs.declared.progress.Progress.TheVariants as answer
-
--- the index that a look finds now; the other one is scanned
-abbrev pub current : EngineView → Index
-current e = low_bit (index_word e.changes)
 
 -- how many steps were made of what is half done, in a domain of so many processors
 abbrev pub so_far : ℕ → Place → ℕ
@@ -58,14 +53,14 @@ wanted (Flipped i) = 0
 -- a grace period runs, not between the two steps of the flip; and behind the flip the first scan had passed: it was of the index that now is current
 pub record IsScanning (e : EngineView) : Type 0 where
   pub running : IsBeforeFlip e.changes ⊎ IsBehindFlip e.changes
-  pub first_scan : IsBehindFlip e.changes → WasEmpty (current e) e.seen
+  pub first_scan : IsBehindFlip e.changes → WasEmpty (current e.changes) e.seen
 
 -- so many loads of counters were made by this scan, and this history was seen at the first of them
 pub record BeganScan (loads : ℕ) (e : EngineView) (first : List Event) : Type 0 where
   pub before : List Step
   pub found : ℕ
   pub rest : List Step
-  pub steps : e.steps ≡ before ++ LoadUnlocks 0 (not_current e) found (length first) ∷ rest
+  pub steps : e.steps ≡ before ++ LoadUnlocks 0 (not_current e.changes) found (length first) ∷ rest
   pub count : counter_loads rest + 1 ≡ loads
   pub seen : IsBeginning first e.seen
   pub since_start : starts_in first ≡ starts_in e.seen
@@ -74,8 +69,8 @@ pub record BeganScan (loads : ℕ) (e : EngineView) (first : List Event) : Type 
 pub record InUnlocks (e : EngineView) (p ended : ℕ) : Type 0 where
   pub scanning : IsScanning e
   pub there : p < e.processors
-  pub began : 0 < p → (first : List Event) × BeganScan p e first × (sum_below (λ q. unlocks q (not_current e) first) p ≤ ended)
-  pub most : ended ≤ sum_below (λ q. unlocks q (not_current e) e.seen) p
+  pub began : 0 < p → (first : List Event) × BeganScan p e first × (sum_below (λ q. unlocks q (not_current e.changes) first) p ≤ ended)
+  pub most : ended ≤ sum_below (λ q. unlocks q (not_current e.changes) e.seen) p
 
 -- all unlock counters were added up by `middle`, and of the lock counters those before p since then
 pub record InLocks (e : EngineView) (p ended begun : ℕ) : Type 0 where
@@ -87,18 +82,18 @@ pub record InLocks (e : EngineView) (p ended begun : ℕ) : Type 0 where
   pub in_order : IsBeginning first middle
   pub seen : IsBeginning middle e.seen
   pub since_start : starts_in middle ≡ starts_in e.seen
-  pub ended_least : all_unlocks e.processors (not_current e) first ≤ ended
-  pub ended_most : ended ≤ all_unlocks e.processors (not_current e) middle
-  pub begun_least : sum_below (λ q. locks q (not_current e) middle) p ≤ begun
-  pub begun_most : begun ≤ sum_below (λ q. locks q (not_current e) e.seen) p
+  pub ended_least : all_unlocks e.processors (not_current e.changes) first ≤ ended
+  pub ended_most : ended ≤ all_unlocks e.processors (not_current e.changes) middle
+  pub begun_least : sum_below (λ q. locks q (not_current e.changes) middle) p ≤ begun
+  pub begun_most : begun ≤ sum_below (λ q. locks q (not_current e.changes) e.seen) p
 
 pub record HasPassed (e : EngineView) : Type 0 where
   pub scanning : IsScanning e
-  pub empty : WasEmpty (not_current e) e.seen
+  pub empty : WasEmpty (not_current e.changes) e.seen
 
 pub record IsHalfFlipped (e : EngineView) (i : Index) : Type 0 where
   pub flipping : IsFlipping e.changes
-  pub index : i ≡ current e
+  pub index : i ≡ current e.changes
   pub empty : WasEmpty i e.seen
 
 abbrev pub IsAt : EngineView → Place → Type 0
@@ -109,32 +104,24 @@ IsAt e (Locks p ended begun) = InLocks e p ended begun
 IsAt e Passed = HasPassed e
 IsAt e (Flipped i) = IsHalfFlipped e i
 
--- what an answer of a step at the seat from this place says by itself
-abbrev pub SaysAt : Progress → EngineView → Place → EngineView → Type 0
-SaysAt (answer.Started n) e place f = HasStarted n f
-SaysAt (answer.Flipped i) e place f = HasFlipped i f
-SaysAt (answer.Ended n) e place f = HasEnded n f
-SaysAt (answer.Waiting i) e place f = (since : ℕ) × Waits i since f × FirstLoaded since (so_far e.processors place) (began e place) e.seen f.seen
-SaysAt answer.Step e place f = Unit {0}
-SaysAt answer.Idle e place f = ⊥
+-- how far the domain has come at this place
+abbrev pub standing_at : EngineView → Place → Standing
+standing_at e place = record { processors = e.processors; periods = e.periods; history = e.seen; changes = e.changes; so_far = so_far e.processors place; began = began e place }
 
 -- one step was made at the seat, from a place to a place, with this answer
 pub record Moves (e : EngineView) (place : Place) (f : EngineView) (next : Place) (a : Progress) : Type 0 where
   pub same : IsSameEngine e f
-  pub since : IsBeginning e.seen f.seen
   pub history : IsSeenByEngine f
   pub events : f.mine ≡ e.mine ++ events_of a
   pub made : List Step
   pub steps : f.steps ≡ e.steps ++ made
   pub one : length (events_of a) + length made ≡ 1
-  pub in_order : (made ≡ []) ⊎ (l : Step) × (made ≡ l ∷ []) × IsStepAt e.processors (so_far e.processors place) (not_current e) l
-  pub changes : f.changes + changes_so_far e.processors (so_far e.processors place) ≡ e.changes + changes_for a + changes_so_far e.processors (so_far e.processors next)
-  pub counts : Counts e.processors a (so_far e.processors place) (so_far e.processors next)
+  pub in_order : (made ≡ []) ⊎ (l : Step) × (made ≡ l ∷ []) × IsStepAt e.processors (so_far e.processors place) (not_current e.changes) l
+  pub others : List Event
+  pub answered : IsAnswered others (wanted place) a (standing_at e place) (standing_at f next)
+  pub shows : Shows a (wanted place) (standing_at e place) (standing_at f next) answered.says f
+  pub counts : Counts e.processors a (so_far e.processors place) (so_far f.processors next)
   pub place_is : IsAt f next
-  pub says : SaysAt a e place f
-  pub passed : 2 * e.processors ≤ so_far e.processors next → WasEmpty (not_current e) f.seen
   -- none is wanted from then on, and a scan that goes on is the one that began
   pub not_wanted : (n : ℕ) → next ≢ Wanted n
-  pub scan : 0 < so_far e.processors next → FirstLoaded (began f next) (so_far e.processors place) (began e place) e.seen f.seen
-  -- a period starts only where one was wanted, and no period ends then
-  pub started : (n : ℕ) → a ≡ answer.Started n → (need : ℕ) × (place ≡ Wanted need) × (ended_in f.seen ≡ ended_in e.seen)
+  pub scan : 0 < so_far f.processors next → FirstLoaded (began f next) (so_far e.processors place) (began e place) e.seen f.seen

@@ -1,8 +1,10 @@
 //! The engine.
-ghost use Rattle.std.specs.Prelude.{◌≡◌, ◌*◌, ◌≤◌, [], MatchResult};
+ghost use Rattle.std.specs.Prelude.{◌≡◌, ◌+◌, ◌*◌, ◌^◌, ◌≤◌, [], MatchResult};
+ghost use Rattle.onedom.specs.Histories.{IsBeginning};
 ghost use Rattle.sections.specs.Words.{number_word};
-ghost use Rattle.sections.specs.Driving.{TiesEngine, Meets, AreInDomain};
-ghost use Rattle.scan.specs.Progress.{StepsTo, AdvancesTo, FindsExhausted, Starts, IsNoStart, new_engine, with_seat};
+ghost use Rattle.sections.specs.Calls.{Accepts};
+ghost use Rattle.sections.specs.EngineCalls.{Covers, TiesEngine, Meets, AreInDomain};
+ghost use Rattle.scan.specs.Progress.{StepsTo, AdvancesTo, FindsExhausted, StartsTo, IsNoStart, new_engine, with_seat};
 
 use crate::place::Place;
 use crate::progress::{Exhausted, Progress, StartRefusal};
@@ -91,7 +93,7 @@ impl<N: Needs, A: Allocator> Engine<N, A> {
     /// Starts a grace period, whether it is asked for or not, and answers the number from then on. A need that was
     /// found before is used up.
     pub fn start(&mut self) -> Result<Number, StartRefusal>
-        ensures { MatchResult result (λ n. Starts self.old n self.new) (λ refusal. IsNoStart self.old refusal × (self.new ≡ self.old)) }
+        ensures { MatchResult result (λ n. StartsTo self.old n self.new) (λ refusal. IsNoStart self.old refusal × (self.new ≡ self.old)) }
     {
         let number = self.number();
         let Phase::Idle = state(number) else {
@@ -105,12 +107,35 @@ impl<N: Needs, A: Allocator> Engine<N, A> {
         Ok(started)
     }
 
-    /// The number of the domain. No step: the engine alone changes it.
+    /// The number of the domain: at most 2^61 - 4, so that [`snap`](sseq::snap) may be asked of it. No step: the engine
+    /// alone changes it.
     pub fn number(&self) -> Number
         ensures value { result ≡ number_word self.now.seat.changes }
         ensures most { result ≤ 4 * self.now.seat.periods }
+        ensures small { result + 4 ≤ 2 ^ 61 }
     {
         self.seat.number()
+    }
+
+    /// One load of the index word by the engine, which has then seen what the processor has. Both are of one domain.
+    pub fn cover(&mut self, cpu: &mut Cpu<A>)
+        requires { cpu.old.domain ≡ self.old.seat.domain }
+        ensures engine { Covers self.old.seat cpu.old.seen cpu.old.changes self.new.seat }
+        ensures cpu { cpu.new ≡ cpu.old }
+        ensures rest { self.new ≡ with_seat self.new.seat self.old }
+    {
+        self.seat.cover(cpu);
+    }
+
+    /// One load of the index word by the processor, which has then seen just as much as the engine. The engine must have
+    /// seen what the processor has, as after [`Engine::cover`]. Both are of one domain.
+    pub fn admit(&mut self, cpu: &mut Cpu<A>)
+        requires domain { cpu.old.domain ≡ self.old.seat.domain }
+        requires covered { IsBeginning cpu.old.seen self.old.seat.seen × (cpu.old.changes ≤ self.old.seat.changes) }
+        ensures engine { self.new ≡ self.old }
+        ensures cpu { Accepts cpu.old self.old.seat.seen self.old.seat.changes cpu.new }
+    {
+        self.seat.admit(cpu);
     }
 
     /// One load of the index word by the engine, and then one by the processor. Both have then seen one history.

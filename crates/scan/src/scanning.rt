@@ -1,23 +1,16 @@
 //! Scans, and what lies between them.
 //!
 //! A scan asks whether a section of the index that is not current is open. It adds up first the unlock counters of
-//! that index on all processors, and then the lock counters. Where the two sums are equal, no section of the index was
-//! open at the moment of the last unlock load:
-//!
-//!   sum of the unlock loads <= sections ended by then <= sections begun by then <= sum of the lock loads,
-//!
-//! since counters only grow, and each section is begun before it ends. Were the locks added up first, a section that
-//! begins behind its lock load and ends before its unlock load would be counted out and not in, and could stand in for
-//! one that is still open: the sums would be equal with a reader inside.
+//! that index on all processors, and then the lock counters: `srcu_readers_active_idx_check`, one load at a time.
 //!
 //! A reader that looked at the index word long ago may still begin a section of the index that is being scanned. Begun
 //! before the last unlock load it is waited for, or it has ended. Begun behind that, it began after the grace period
 //! did, and need not be waited for: but its lock may be counted, and then the scan is made again.
 ghost use Rattle.std.specs.Prelude.{◌≡◌, ◌≢◌, ◌≤◌};
-ghost use Rattle.sections.specs.Driving.{IsSeenByEngine};
+ghost use Rattle.sections.specs.EngineCalls.{IsSeenByEngine};
 ghost use Rattle.scan.specs.declared.place.Place.TheVariants as places;
 ghost use Rattle.scan.specs.declared.progress.Progress.TheVariants as answers;
-ghost use Rattle.scan.specs.Progress.{not_current};
+ghost use Rattle.scan.specs.Standings.{not_current};
 ghost use Rattle.scan.specs.Places.{IsScanning, InUnlocks, InLocks, HasPassed, IsAt, Moves};
 
 use crate::place::Place;
@@ -52,14 +45,19 @@ pub(crate) fn move_on<A: Allocator>(seat: &mut EngineSeat<A>, place: Place) -> (
     }
 }
 
-/// The index that a scan looks at: the one that sections no longer get, or not yet.
+/// The index that a scan looks at: the one that is not current.
 fn scanned_index<A: Allocator>(seat: &EngineSeat<A>) -> Index
     requires { IsScanning seat.now }
-    ensures { result ≡ not_current seat.now }
+    ensures { result ≡ not_current seat.now.changes }
 {
+    // Not the current index: a reader that looks now gets that one, and new sections could hold its scan up for ever.
+    // The other one is got only by readers that looked before the last flip, so its scan has an end.
+    // It comes from the number, which the engine alone changes and so knows without a step. A load of the index word
+    // would be one step more, and between the two steps of the flip the word is ahead of the number.
     let number = seat.number();
     let ended = Index::of_word(completed(number));
     match state(number) {
+        // The current index is that of so many ended periods before the flip, and the other one behind it.
         Phase::Scan2 => ended,
         _ => ended.other(),
     }
@@ -80,6 +78,7 @@ fn count_unlocks<A: Allocator>(seat: &mut EngineSeat<A>, processor: u16, ended: 
             ended,
         }
     } else {
+        // No lock counter is loaded before the last unlock counter was: see `count_locks`.
         Place::Locks {
             processor: 0,
             ended,
@@ -111,8 +110,17 @@ fn count_locks<A: Allocator>(
         };
         (next, Progress::Step)
     } else if ended == begun {
+        // No section of the index was open at the moment of the last unlock load, since counters only grow, and each
+        // section begins before it ends:
+        //
+        //   sum of the unlock loads <= sections ended by then <= sections begun by then <= sum of the lock loads.
+        //
+        // Were the locks added up first, a section that begins behind its lock load and ends before its unlock load
+        // would be counted out and not in, and could stand in for one that is still open: the sums would be equal
+        // with a reader inside.
         (Place::Passed, Progress::Step)
     } else {
+        // More are begun by now than had ended at the scan's first load: one was open in between.
         (Place::SCAN, Progress::Waiting(index))
     }
 }

@@ -1,5 +1,5 @@
 ghost use Rattle.std.specs.Prelude.{◌≡◌, IfOk};
-ghost use Rattle.sections.specs.Driving.{AreInDomain};
+ghost use Rattle.sections.specs.EngineCalls.{AreInDomain};
 
 use super::*;
 use sections::{Cpu, Limits, Made, MakeError, make};
@@ -112,6 +112,14 @@ fn starts(rt: HostRuntime) -> Result<(), Fail> {
     Ok(())
 }
 
+/// Would catch numbers of refusals that have changed: a status may be made of them.
+#[test]
+fn refusals(rt: HostRuntime) -> Result<(), Fail> {
+    assert_eq!(rt; StartRefusal::Running as u8, 1);
+    assert_eq!(rt; StartRefusal::Exhausted as u8, 2);
+    Ok(())
+}
+
 /// Would catch a scan that waits for nobody, or for a section of the other index.
 #[test]
 fn waits(rt: HostRuntime) -> Result<(), Fail> {
@@ -146,6 +154,33 @@ fn waits(rt: HostRuntime) -> Result<(), Fail> {
     second.read_unlock(current);
     assert_eq!(rt; engine.advance(), Ok(Progress::Ended(number(8))));
     assert_eq!(rt; engine.advance(), Ok(Progress::Idle));
+    Ok(())
+}
+
+/// The lines that the README shows. Would catch a cookie that is done too early, or never.
+#[test]
+fn the_library_in_use(rt: HostRuntime) -> Result<(), Fail> {
+    let (mut cpus, mut engine) = new_domain(rt.alloc(), 2, 1, 0)?;
+    engine.meet(cpus.as_mut_slice());
+    let (Some(mut second), Some(mut first)) = (cpus.pop(), cpus.pop()) else {
+        panic!(rt; "there are two");
+    };
+    let Ok(section) = first.read_lock() else {
+        panic!(rt; "there is room");
+    };
+    let mut cookie = second.cookie();
+    let started = engine.start();
+    let flipped = engine.advance();
+    let waiting = engine.advance();
+    let early = second.poll(&mut cookie);
+    first.read_unlock(section);
+    let ended = engine.advance();
+    let done = second.poll(&mut cookie);
+    assert_eq!(rt; started, Ok(number(1)));
+    assert_eq!(rt; flipped, Ok(Progress::Flipped(Index::One)));
+    assert_eq!(rt; waiting, Ok(Progress::Waiting(Index::Zero)));
+    assert_eq!(rt; ended, Ok(Progress::Ended(number(4))));
+    assert_eq!(rt; (early, done), (false, true));
     Ok(())
 }
 

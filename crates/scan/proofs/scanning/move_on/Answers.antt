@@ -15,4 +15,4 @@ pub returns-in-Wanted : goal.returns-in-Wanted
 returns-in-Wanted g c =
     let is = c.in-Wanted.is in
     let here = subst (λ p. IsAt c.args.seat.now p) is c.requires.place.1 in
-    subst (λ p. Moves c.args.seat.now p c.add_start.new.self (places.Unlocks 0 0) (answers.Started c.add_start.result)) (sym is) (started_moves _ _ _ _ c.requires.history c.requires.some here.0 c.add_start.ensures.event c.add_start.ensures.number)
+    subst (λ p. Moves c.args.seat.now p c.add_start.new.self (places.Unlocks 0 0) (answers.Started c.add_start.result)) (sym is) (started_moves _ _ _ _ c.requires.history c.requires.some here c.add_start.ensures.event c.add_start.ensures.number)

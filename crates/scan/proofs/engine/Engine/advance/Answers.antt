@@ -13,8 +13,8 @@ pub loop-answer-smaller : goal.loop-answer-smaller
 loop-answer-smaller g c =
     let s = subst (λ a. StepsTo g.N.Needs.loads c.loop-answer.self a c.step.new.self) c.in-Step.is c.in_ok-answer.ensures in
     let same = s.goes_on.same.1 in
-    let next = s.counts in
-    let few = s.few in omega (arith, same, next, few)
+    let next = s.step.counts in
+    let few = s.step.few in omega (arith, same, next, few)
 
 pub loop-answer-preserved : goal.loop-answer-preserved
 loop-answer-preserved g c = under_way g.N.Needs.loads _ _ _ c.loop-answer.invariant (subst (λ a. StepsTo g.N.Needs.loads c.loop-answer.self a c.step.new.self) c.in-Step.is c.in_ok-answer.ensures)

@@ -1,6 +1,6 @@
 use Rattle.std.proofs.Common.{map, arith}
 use Rattle.sections.specs.declared.view.Step.TheVariants.{LoadIndex}
-use Rattle.scan.proofs.Standing.{OnlySees, index_loads, at_still, still_viewed}
+use Rattle.scan.proofs.PlaceKept.{OnlySees, index_loads, at_still, still_viewed}
 use Rattle.scan.proofs.engine.Engine.meet.Goals as goal
 
 pub invariant_of-self : goal.invariant_of-self

@@ -1,5 +1,5 @@
 use Rattle.std.proofs.Common.{arith}
-use Rattle.scan.proofs.Standing.{untouched}
+use Rattle.scan.proofs.PlaceKept.{untouched}
 use Rattle.scan.proofs.engine.Engine.new.Goals as goal
 
 pub invariant_of-result : goal.invariant_of-result

@@ -1,6 +1,6 @@
 use Rattle.std.proofs.Common.{[], ◌∷◌, refl, arith}
 use Rattle.sections.specs.declared.view.Step.TheVariants.{LoadIndex}
-use Rattle.scan.proofs.Standing.{OnlySees, at_still, still_viewed}
+use Rattle.scan.proofs.PlaceKept.{OnlySees, at_still, still_viewed}
 use Rattle.scan.proofs.engine.Engine.tie.Goals as goal
 
 pub invariant_of-self : goal.invariant_of-self

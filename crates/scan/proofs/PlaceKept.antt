@@ -4,20 +4,17 @@ use Rattle.sseq.specs.declared.index.Index.{Index}
 use Rattle.sseq.specs.Indexes.{low_bit}
 use Rattle.onedom.specs.declared.event.Event.{Event}
 use Rattle.onedom.specs.Histories.{starts_in, WasEmpty, IsBeginning}
-use Rattle.onedom.proofs.Beginnings.{beginning_trans}
-use Rattle.onedom.proofs.Periods.{empty_grows}
+use Rattle.onedom.proofs.CallerLemmas.{beginning_trans, empty_grows, count_cons}
 use Rattle.sections.specs.declared.view.Step.{Step}
 use Rattle.sections.specs.declared.view.Step.TheVariants.{LoadIndex}
 use Rattle.sections.specs.Words.{index_word, locks, unlocks, sum_below, all_unlocks, IsIdle}
 use Rattle.sections.specs.Views.{EngineView}
-use Rattle.sections.specs.Driving.{IsSeenByEngine, IsSameEngine}
-use Rattle.sections.proofs.Counters.{sum_le, unlocks_grow, locks_grow}
+use Rattle.sections.specs.EngineCalls.{IsSeenByEngine, IsSameEngine}
+use Rattle.sections.proofs.CallerLemmas.{sum_le, unlocks_grow, locks_grow, starts_mine}
 use Rattle.scan.specs.declared.place.Place.{Place}
 use Rattle.scan.specs.declared.place.Place.TheVariants.{Idle, Wanted, Unlocks, Locks, Passed, Flipped}
-use Rattle.scan.specs.Progress.{not_current}
+use Rattle.scan.specs.Standings.{not_current}
 use Rattle.scan.specs.Places.{so_far, wanted, began, seen_at_load, BeganScan, InUnlocks, InLocks, IsAt}
-use Rattle.onedom.proofs.Pushes.{count_cons}
-use Rattle.sections.proofs.Agreement.{starts_mine}
 use Rattle.scan.specs.Progress.{is_counter_load, counter_loads, with_seat}
 use Rattle.scan.proofs.Scans.{same_scanned, no_start, still_scanning, began_still, seen_still}
 use Rattle.scan.proofs.Stepping.{viewed}
@@ -38,7 +35,7 @@ index_loads [] = refl
 index_loads (n ∷ ns) = let rest = index_loads ns in let c = count_cons is_counter_load (LoadIndex n) (map LoadIndex ns) in omega (arith, rest, c)
 
 module _ (e f : EngineView) (h : OnlySees e f) where
-  scanned_still : not_current f ≡ not_current e
+  scanned_still : not_current f.changes ≡ not_current e.changes
   scanned_still = same_scanned e f h.seen h.history h.since h.changes
 
   began_on : (k : ℕ) (first : List Event) → BeganScan k e first → BeganScan k f first
@@ -49,11 +46,11 @@ module _ (e f : EngineView) (h : OnlySees e f) where
     scanning = still_scanning e f h.seen h.history h.since h.changes at.scanning;
     there = let there = at.there in let same = h.same.1 in omega (arith, there, same);
     began = λ some. let b = at.began some in (b.0, began_on p b.0 b.1, subst (λ i. sum_below (λ q. unlocks q i b.0) p ≤ ended) (sym scanned_still) b.2);
-    most = subst (λ i. ended ≤ sum_below (λ q. unlocks q i f.seen) p) (sym scanned_still) (let most = at.most in let grown = sum_le (λ q. unlocks q (not_current e) e.seen) (λ q. unlocks q (not_current e) f.seen) p (λ q. unlocks_grow q (not_current e) h.since) in omega (arith, most, grown));
+    most = subst (λ i. ended ≤ sum_below (λ q. unlocks q i f.seen) p) (sym scanned_still) (let most = at.most in let grown = sum_le (λ q. unlocks q (not_current e.changes) e.seen) (λ q. unlocks q (not_current e.changes) f.seen) p (λ q. unlocks_grow q (not_current e.changes) h.since) in omega (arith, most, grown));
   }
 
   locks_on : (p ended begun : ℕ) → InLocks e p ended begun → InLocks f p ended begun
-  locks_on p ended begun at = let same : f.processors ≡ e.processors = h.same.1 in let both : ◌≡◌ {A = ℕ × Index} (f.processors, not_current f) (e.processors, not_current e) = λ k. (same k, scanned_still k) in record {
+  locks_on p ended begun at = let same : f.processors ≡ e.processors = h.same.1 in let both : ◌≡◌ {A = ℕ × Index} (f.processors, not_current f.changes) (e.processors, not_current e.changes) = λ k. (same k, scanned_still k) in record {
     scanning = still_scanning e f h.seen h.history h.since h.changes at.scanning;
     there = let there = at.there in omega (arith, there, same);
     first = at.first;
@@ -65,7 +62,7 @@ module _ (e f : EngineView) (h : OnlySees e f) where
     ended_least = subst (λ (z : ℕ × Index). all_unlocks z.0 z.1 at.first ≤ ended) (sym both) at.ended_least;
     ended_most = subst (λ (z : ℕ × Index). ended ≤ all_unlocks z.0 z.1 at.middle) (sym both) at.ended_most;
     begun_least = subst (λ i. sum_below (λ q. locks q i at.middle) p ≤ begun) (sym scanned_still) at.begun_least;
-    begun_most = subst (λ i. begun ≤ sum_below (λ q. locks q i f.seen) p) (sym scanned_still) (let most = at.begun_most in let grown = sum_le (λ q. locks q (not_current e) e.seen) (λ q. locks q (not_current e) f.seen) p (λ q. locks_grow q (not_current e) h.since) in omega (arith, most, grown));
+    begun_most = subst (λ i. begun ≤ sum_below (λ q. locks q i f.seen) p) (sym scanned_still) (let most = at.begun_most in let grown = sum_le (λ q. locks q (not_current e.changes) e.seen) (λ q. locks q (not_current e.changes) f.seen) p (λ q. locks_grow q (not_current e.changes) h.since) in omega (arith, most, grown));
   }
 
   empty_on : (i : Index) → WasEmpty i e.seen → WasEmpty i f.seen
@@ -76,7 +73,7 @@ module _ (e f : EngineView) (h : OnlySees e f) where
   at_still (Wanted n) at = let idle = at.0 in let room = at.1 in let below = at.2 in let same = h.changes in let periods = h.same.2 in (omega (arith, idle, same), omega (arith, room, same, periods), omega (arith, below, same))
   at_still (Unlocks p ended) at = unlocks_on p ended at
   at_still (Locks p ended begun) at = locks_on p ended begun at
-  at_still Passed at = record { scanning = still_scanning e f h.seen h.history h.since h.changes at.scanning; empty = subst (λ i. WasEmpty i f.seen) (sym scanned_still) (empty_on (not_current e) at.empty) }
+  at_still Passed at = record { scanning = still_scanning e f h.seen h.history h.since h.changes at.scanning; empty = subst (λ i. WasEmpty i f.seen) (sym scanned_still) (empty_on (not_current e.changes) at.empty) }
   at_still (Flipped i) at = let same = h.changes in let flipping = at.flipping in record { flipping = omega (arith, flipping, same); index = at.index ∙ ap (λ c. low_bit (index_word c)) (sym same); empty = empty_on i at.empty }
 
   -- the scan that is half done began when it did

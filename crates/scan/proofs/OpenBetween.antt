@@ -9,13 +9,10 @@ use Rattle.sseq.specs.Indexes.{index_number}
 use Rattle.onedom.specs.declared.event.Event.{Event}
 use Rattle.onedom.specs.declared.event.Event.TheVariants.{Begin, End, Start, Finish, Note, Ask}
 use Rattle.onedom.specs.Histories.{IsOpen, index_of, IsLegal, IsBeginning}
-use Rattle.onedom.proofs.Pushes.{legal_after_append, open_begun, index_of_begun}
-use Rattle.onedom.proofs.Beginnings.{legal_beginning, beginning_append, beginning_refl, beginning_trans}
+use Rattle.onedom.proofs.CallerLemmas.{legal_after_append, open_begun, index_of_begun, legal_beginning, beginning_append, beginning_refl, beginning_trans}
 use Rattle.sections.specs.Words.{locks_at, locks, all_locks, all_unlocks}
 use Rattle.sections.specs.Rule.{HasItsMaker}
-use Rattle.sections.proofs.Counters.{sum_le, elsewhere}
-use Rattle.sections.proofs.Agreement.{locks_not_at}
-use Rattle.sections.proofs.Sums.{fewer_ends}
+use Rattle.sections.proofs.CallerLemmas.{sum_le, elsewhere, locks_not_at, fewer_ends}
 
 -- a history from `first` on and up to `all`, after which a section of the index is open
 pub record OpenBetween (i : Index) (first all : List Event) : Type 0 where

@@ -1,0 +1,4 @@
+mod NothingBetween
+mod Settled
+mod ProcessorActs
+mod EngineActs
