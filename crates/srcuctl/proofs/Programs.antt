@@ -1,13 +1,13 @@
 -- From a run of a session to a run of the definitions.
-use Rattle.std.proofs.Common.{◌≡◌, ℕ, ◌+◌, Bool, List, [], ◌∷◌, Option, length, ap, ◌∙◌, subst, inr, Result, Ok, Err, MatchResult}
+use Rattle.std.proofs.Common.{◌≡◌, ℕ, ◌+◌, Bool, List, [], ◌∷◌, Option, length, ap, ◌∙◌, subst, Result, Ok, Err, MatchResult}
 use Rattle.sections.specs.declared.limits.Limits.{Limits}
-use Rattle.srcuctl.specs.declared.error.Outcome.{Outcome}
-use Rattle.srcuctl.specs.declared.error.RunError.{RunError}
-use Rattle.srcuctl.specs.declared.error.RunError.TheVariants as error
-use Rattle.srcuctl.specs.Lines.{lines_of, text_of, whole_lines_of}
-use Rattle.srcuctl.specs.States.{State, SessionView}
-use Rattle.srcuctl.specs.Scripts.{LineGives}
-use Rattle.srcuctl.specs.Runs.{IsRun, BreaksOff, EndsEarly}
+use Rattle.lines.specs.declared.error.Outcome.{Outcome}
+use Rattle.lines.specs.declared.error.RunError.{RunError}
+use Rattle.lines.specs.declared.error.RunError.TheVariants as error
+use Rattle.lines.specs.Lines.{lines_of, text_of, whole_lines_of}
+use Rattle.session.specs.States.{State, SessionView}
+use Rattle.session.specs.Scripts.{LineGives}
+use Rattle.lines.specs.Runs.{IsRun, BreaksOff, EndsEarly}
 use Rattle.srcuctl.specs.Programs.{Runs, RunsInPart}
 
 -- what a session gives
@@ -51,7 +51,7 @@ runs_in_part limits s taken given error.Write s' start (ended, reply, faulty, co
     (s'.domains, subst (λ (d : State). EndsEarly (LineGives limits) d taken given error.Write s'.domains) (ap (λ z. z.domains) start) (b, reply, faulty, count, here, some, written))
 runs_in_part limits s taken given error.Memory s' start (ended, written) =
     let b = breaks_off limits s (lines_of taken) (ap (λ z. z.limits) start) ended in
-    inr (s'.domains, subst (λ (d : State). EndsEarly (LineGives limits) d taken given error.Memory s'.domains) (ap (λ z. z.domains) start) (b, written))
+    (s'.domains, subst (λ (d : State). EndsEarly (LineGives limits) d taken given error.Memory s'.domains) (ap (λ z. z.domains) start) (b, written))
 
 pub runs : (limits : Limits) (s : SessionView) (taken given : List ℕ) (faulty : Bool) (s' : SessionView) → s ≡ record { limits = limits; domains = [] } → IsRun gives s 1 (lines_of taken) given faulty s' → Runs limits taken given faulty
 runs limits s taken given faulty s' start run =

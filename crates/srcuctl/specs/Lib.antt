@@ -1,15 +1,3 @@
-pub mod Lines
-pub mod Faults
-pub mod Runs
-pub mod Standings
-pub mod States
-pub mod Names
-pub mod Replies
-pub mod Scripts
-pub mod Domains
-pub mod Together
-pub mod Entries
-pub mod Sessions
-pub mod Requests
-pub mod Programs
 pub mod Options
+pub mod Programs
+pub mod Statuses

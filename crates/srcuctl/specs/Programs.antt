@@ -1,23 +1,16 @@
 -- What the program writes for a whole script.
-use Rattle.std.specs.Prelude.{◌≡◌, ℕ, Bool, List, [], ◌⊎◌}
+use Rattle.std.specs.Prelude.{ℕ, Bool, List, []}
 use Rattle.sections.specs.declared.limits.Limits.{Limits}
-use Rattle.srcuctl.specs.declared.error.RunError.{RunError}
-use Rattle.srcuctl.specs.declared.error.RunError.TheVariants as error
-use Rattle.srcuctl.specs.Lines.{lines_of}
-use Rattle.srcuctl.specs.States.{State}
-use Rattle.srcuctl.specs.Scripts.{LineGives}
-use Rattle.srcuctl.specs.Runs.{IsRun, EndsEarly}
+use Rattle.lines.specs.declared.error.RunError.{RunError}
+use Rattle.lines.specs.Lines.{lines_of}
+use Rattle.session.specs.States.{State}
+use Rattle.session.specs.Scripts.{LineGives}
+use Rattle.lines.specs.Runs.{IsRun, EndsEarly}
 
 -- `given` is what a run of the lines of `taken` writes, from a state without domains, and `faulty` is whether one of the lines is faulty
 abbrev pub Runs : Limits → List ℕ → List ℕ → Bool → Type 0
 Runs limits taken given faulty = (after : State) × IsRun (LineGives limits) [] 1 (lines_of taken) given faulty after
 
 -- `given` is what such a run has written when it ended with this error
-abbrev pub EndsWith : Limits → List ℕ → List ℕ → RunError → Type 0
-EndsWith limits taken given error = (after : State) × EndsEarly (LineGives limits) [] taken given error after
-
--- the same of a run for which there may have been no memory before anything was read
 abbrev pub RunsInPart : Limits → List ℕ → List ℕ → RunError → Type 0
-RunsInPart limits taken given error.Read = EndsWith limits taken given error.Read
-RunsInPart limits taken given error.Write = EndsWith limits taken given error.Write
-RunsInPart limits taken given error.Memory = ((taken ≡ []) × (given ≡ [])) ⊎ EndsWith limits taken given error.Memory
+RunsInPart limits taken given error = (after : State) × EndsEarly (LineGives limits) [] taken given error after

@@ -11,37 +11,8 @@ use std::alloc::Global;
 #[cfg(test)]
 mod tests;
 
-/// What a newcomer has to know of a script.
-const OF_SCRIPTS: &str = "\
-A script has a line for each thing that a domain should do:
-
-  domain NAME N      makes a domain of N processors (1 or 2)
-  look NAME P R      reads the current index on processor P, a look called R
-  enter NAME P R     begins a section of that index on processor P, called R too
-  lock NAME P S      a look and a section at once; the section is called S
-  unlock NAME S      ends a section
-  get NAME P         gives a cookie
-  poll NAME P C      tells whether a grace period has gone by since cookie C
-  start NAME P       starts a grace period
-  advance NAME P     lets the engine work until it has an answer
-  step NAME P        lets the engine make one step
-  state NAME         shows where the domain stands
-
-Each line gets one reply line. Empty lines, and lines that begin with #, are
-skipped. A faulty line gets the reply 'line N: WORD', what can't be done gets
-'refused COMMAND CAUSE', and the run goes on. The status is 0 where no line was
-faulty, 1 where one or more were, and 2 where reading or writing failed or
-memory ran out.
-
-An example:
-
-  srcuctl run <<END
-  domain web 2
-  lock web 0 reader
-  start web 1
-  state web
-  unlock web reader
-  END";
+/// What `--version` writes behind the program's name.
+const VERSION: &str = "0.1.0";
 
 const OF_SECTIONS: &str = "\
 How many sections of one index a processor may begin:
@@ -51,8 +22,8 @@ const OF_PERIODS: &str = "\
 How many grace periods a domain may have:
 1 to 576460752303423487 (2^59 - 1); if left out, the most";
 
-/// What the program takes.
-pub fn command<'a>(alloc: Global) -> Result<Command<'a>, Error> {
+/// What the program takes. `of_scripts` is what its help says of scripts.
+pub fn command<'a>(alloc: Global, of_scripts: &'a str) -> Result<Command<'a>, Error> {
     let sections = Arg::new(alloc, "sections")
         .long("sections")
         .value_name("N")
@@ -67,10 +38,11 @@ pub fn command<'a>(alloc: Global) -> Result<Command<'a>, Error> {
         .about("Reads a script from standard input, and writes a reply to each line")
         .arg(sections)?
         .arg(periods)?
-        .after_help(OF_SCRIPTS);
+        .after_help(of_scripts);
     let srcuctl = Command::new(alloc, "srcuctl")
+        .version(VERSION)
         .about("Drives sleepable RCU domains by a script")
-        .after_help(OF_SCRIPTS)
+        .after_help(of_scripts)
         .subcommand_required(true)
         .subcommand(run)?;
     Ok(srcuctl)

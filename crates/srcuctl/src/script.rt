@@ -1,14 +1,13 @@
 //! A script, from bytes to bytes.
-ghost use Rattle.std.specs.Prelude.{◌≡◌, ℕ, List, [], IfOk, MatchResult};
+ghost use Rattle.std.specs.Prelude.{ℕ, List, MatchResult};
 ghost use Rattle.std.specs.Io.KnownBytes.{Appends, Consumes, IsAtEnd};
 ghost use Rattle.sections.specs.Limits.{AreInRange};
 ghost use Rattle.srcuctl.specs.Programs.{Runs, RunsInPart};
 
-use crate::error::{Outcome, RunError};
-use crate::run::run_lines;
-use crate::session::Session;
+use lines::{Outcome, RunError, run_lines};
 use sections::Limits;
-use std::alloc::{AllocError, Allocator};
+use session::Session;
+use std::alloc::Allocator;
 use std::io::{Read, Write};
 use std::sync::Wait;
 
@@ -22,7 +21,7 @@ mod tests;
 /// Every error of the reader or the writer ends the run, and so does a write that takes no byte: after `Read` the
 /// replies of all whole lines are written, after `Write` a beginning of the replies, and after `Memory` (no room for the
 /// program's own names and tables) the replies of some first lines, whole.
-pub fn run<A: Allocator + Clone, R: Read, W: Write>(
+pub fn run<A: Allocator, R: Read, W: Write>(
     alloc: A,
     rt: &impl Wait,
     reader: &mut R,
@@ -37,18 +36,8 @@ pub fn run<A: Allocator + Clone, R: Read, W: Write>(
         (λ outcome. Runs limits taken given outcome.faulty × IsAtEnd (R.remaining reader.new))
         (λ error. RunsInPart limits taken given error) }
 {
-    let Ok(mut session) = open_session(&alloc, limits) else {
-        return Err(RunError::Memory);
-    };
-    let outcome = run_lines(alloc, rt, &mut session, reader, writer);
+    let mut session = Session::new(&alloc, limits);
+    let outcome = run_lines(&alloc, rt, &mut session, reader, writer);
     session.finish();
     outcome
-}
-
-/// A session without domains.
-fn open_session<A: Allocator + Clone>(alloc: &A, limits: Limits) -> Result<Session<A>, AllocError>
-    requires { AreInRange limits }
-    ensures { IfOk result (λ s. s ≡ record { limits = limits; domains = [] }) }
-{
-    Session::new(alloc.clone()?, limits)
 }

@@ -3,7 +3,7 @@ use std::test::Fail;
 
 /// The limits that these words set, or `None` where the command line refuses them.
 fn limits_by(alloc: Global, words: &[&str]) -> Result<Option<Limits>, Error> {
-    match command(alloc)?.try_get_matches_from(words) {
+    match command(alloc, "of scripts")?.try_get_matches_from(words) {
         Ok(matches) => Ok(matches.subcommand().map(|(_, options)| limits_of(options))),
         Err(error) if error.exit_code() == 2 => Ok(None),
         Err(error) => Err(error),
@@ -62,9 +62,8 @@ fn options_set_limits(rt: HostRuntime) -> Result<(), Fail> {
 
 #[test]
 fn help_fits_80_columns(rt: HostRuntime) -> Result<(), Fail> {
-    for text in [OF_SCRIPTS, OF_SECTIONS, OF_PERIODS] {
-        let indent = if text.starts_with("How") { 22 } else { 0 };
-        assert!(rt; text.lines().all(|line| line.len() + indent <= 80));
+    for text in [OF_SECTIONS, OF_PERIODS] {
+        assert!(rt; text.lines().all(|line| line.len() + 22 <= 80));
     }
     Ok(())
 }

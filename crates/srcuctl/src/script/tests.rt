@@ -1,9 +1,9 @@
 ghost use Rattle.sections.specs.Limits.{AreInRange};
 
 use super::*;
-use crate::fakes::{Reader, Writer};
 use bumpalo::Bump;
-use std::alloc::Global;
+use lines::fakes::{Reader, Writer};
+use std::alloc::{AllocError, Global};
 use std::process::Abort;
 use std::test::Fail;
 
@@ -338,14 +338,22 @@ fn refused_domains(alloc: Global, written: &[u8]) -> Result<Option<usize>, Alloc
     Ok(Some(usize::from(refused[0]) + usize::from(refused[1])))
 }
 
-/// A run in an arena with so much room: whether it got to the script's end, or `None` if it did not end as a run should
-/// that lacks nothing but memory.
-fn gets_to_end(
+/// How a run ended that had little memory.
+#[derive(Drop)]
+struct Ended {
+    /// Whether it ended before the script did.
+    is_early: bool,
+    /// How many domains were refused.
+    refused: usize,
+}
+
+/// A run in an arena with so much room; `None` if it did not end as a run should that lacks nothing but memory.
+fn run_in(
     rt: &(impl Wait + AllocGlobal),
     script: &str,
     zeros: &[u8],
     room: usize,
-) -> Result<Option<bool>, AllocError> {
+) -> Result<Option<Ended>, AllocError> {
     let arena = Bump::try_with_capacity(rt.alloc(), 16384)?;
     arena.set_allocation_limit(Some(arena.allocated_bytes()));
     let filled = arena.chunk_capacity().saturating_sub(room).min(zeros.len());
@@ -362,11 +370,12 @@ fn gets_to_end(
         Ok(outcome) => outcome.faulty == (refused > 0) && lines == 10,
     };
     let is_of_lines = written.last().is_none_or(|byte| *byte == b'\n');
-    Ok((agrees && is_of_lines).then_some(outcome.is_ok()))
+    let is_early = outcome.is_err();
+    Ok((agrees && is_of_lines).then_some(Ended { is_early, refused }))
 }
 
 // In an arena that gives nothing back, with a little more room each time, each allocation of the run is the first to be
-// refused once.
+// refused once. Where it is one of a domain's own, the domain is refused, and the run goes on.
 #[test]
 fn each_allocation_refused_in_turn(rt: HostRuntime) -> Result<(), Fail> {
     let mut script = String::new(rt.alloc());
@@ -376,15 +385,17 @@ fn each_allocation_refused_in_turn(rt: HostRuntime) -> Result<(), Fail> {
     }
     let zeros = vec![in rt.alloc(); 0u8; 32768]?;
     let mut has_ended_early = false;
+    let mut has_refused = false;
     let mut has_ended = false;
     for room in (0..16384).step_by(16) {
-        match gets_to_end(&rt, &script, &zeros, room)? {
+        match run_in(&rt, &script, &zeros, room)? {
             None => panic!(rt; "another reply, with room for {room}"),
-            Some(true) => has_ended = true,
-            Some(false) => has_ended_early = true,
+            Some(Ended { is_early: true, .. }) => has_ended_early = true,
+            Some(Ended { refused: 0, .. }) => has_ended = true,
+            Some(Ended { .. }) => has_refused = true,
         }
     }
-    assert!(rt; has_ended_early && has_ended);
+    assert!(rt; has_ended_early && has_refused && has_ended);
     Ok(())
 }
 

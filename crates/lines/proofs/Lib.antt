@@ -1,0 +1,6 @@
+mod Names
+mod Numerals
+mod Pieces
+mod Reading
+mod SoFar
+mod Writing

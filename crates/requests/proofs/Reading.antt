@@ -1,0 +1,192 @@
+-- Words that are read as the arguments of a row, from left to right.
+use Rattle.std.proofs.Common.{◌≡◌, ℕ, ◌<◌, Bool, true, false, not, ◌&&◌, ◌⊎◌, List, [], ◌∷◌, length, refl, sym, ap, ◌∙◌, subst, inl, inr, arith, rules}
+use borrow.Author.Tests.{tests}
+use Rattle.std.specs.Borrow.{Bor}
+use Rattle.std.specs.Prelude.{Option, Some, None, is_some, unwrap_or, nat_lt, if◌then◌else◌}
+use Rattle.std.specs.List.{list_all}
+use Rattle.std.proofs.lemmas.Bool.Decides.{nat_tests}
+use Rattle.lines.specs.Lines.{is_name, number_of}
+use Rattle.requests.specs.declared.fault.Fault.{Fault}
+use Rattle.requests.specs.declared.fault.Fault.TheVariants as fault
+use Rattle.requests.specs.declared.command.Argument.{Argument}
+use Rattle.requests.specs.declared.command.Argument.TheVariants.{NewDomain, AnyNumber, ADomain, AProcessor, NewName, ALook, ASection}
+use Rattle.requests.specs.declared.given.Given.{Given}
+use Rattle.requests.specs.declared.scene.Kind.{Kind}
+use Rattle.requests.specs.declared.scene.Kind.TheVariants as kind
+use Rattle.requests.specs.Scenes.{SceneView, IsPlace}
+use Rattle.requests.specs.Faults.{number_fault, processor_fault, has_kind, argument_fault, place_after, or_else, arguments_fault, words_fault, texts}
+use Rattle.requests.specs.Requests.{Names, AllName}
+use Rattle.requests.specs.Given.{filled, Suits, AllSuit, needs_domain, may_follow, names_domain_first, fill_apart}
+
+-- One word without a fault
+
+both : (a b : Bool) → (a && b) ≡ true → (a ≡ true) × (b ≡ true)
+both true b h = (refl, h)
+both false b h = cc
+
+or_else_none : (first second : Option Fault) → or_else first second ≡ None → (first ≡ None) × (second ≡ None)
+or_else_none None second h = (refl, h)
+or_else_none (Some f) second h = cc
+
+new_name_none : {X : Type 0} (named : Bool) (found : Option X) → (if not named then Some fault.Name else (if is_some found then Some fault.Taken else None)) ≡ None → found ≡ None
+new_name_none true None h = refl
+new_name_none true (Some x) h = cc
+new_name_none false found h = cc
+
+domain_there : (named : Bool) (found : Option ℕ) (other : ℕ) → (if not named then Some fault.Name else (if is_some found then None else Some fault.Domain)) ≡ None → found ≡ Some (unwrap_or found other)
+domain_there true None other h = cc
+domain_there true (Some place) other h = refl
+domain_there false found other h = cc
+
+number_there : (found : Option ℕ) → number_fault found ≡ None → found ≡ Some (unwrap_or found 0)
+number_there None h = cc
+number_there (Some n) h = refl
+
+below : (p processors : ℕ) (b : Bool) → nat_lt p processors ≡ b → (if b then None else Some fault.Processor) ≡ None → p < processors
+below p processors true e h = grind (arith, nat_tests)
+below p processors false e h = cc
+
+processor_there : (processors : ℕ) (found : Option ℕ) → processor_fault processors found ≡ None → (found ≡ Some (unwrap_or found 0)) × (unwrap_or found 0 < processors)
+processor_there processors None h = cc
+processor_there processors (Some p) h = (refl, below p processors (nat_lt p processors) refl h)
+
+kind_there : (named : Bool) (k : Kind) (found : Option Kind) → (if named && has_kind k found then None else Some fault.Name) ≡ None → found ≡ Some k
+kind_there false k found h = cc
+kind_there true kind.Look None h = cc
+kind_there true kind.Look (Some kind.Look) h = refl
+kind_there true kind.Look (Some kind.Section) h = cc
+kind_there true kind.Section None h = cc
+kind_there true kind.Section (Some kind.Look) h = cc
+kind_there true kind.Section (Some kind.Section) h = refl
+
+-- the word, as this argument, names what is given, and it is what the argument should be
+abbrev IsKnown : SceneView → Given → Argument → List ℕ → Type 0
+IsKnown s g a w = Names s g a w × Suits s g a
+
+module _ (s : SceneView) where
+  reads : (g : Given) (a : Argument) (w : List ℕ) → argument_fault s g.domain a w ≡ None → IsKnown s (filled s g a w) a w
+  unfolding argument_fault
+  reads g NewDomain w h = (refl, new_name_none (is_name w) (s.place_of w) h)
+  reads g AnyNumber w h = (number_there (number_of w) h, tt)
+  reads g ADomain w h = let there = domain_there (is_name w) (s.place_of w) g.domain h in (there, (w, there))
+  reads g AProcessor w h = processor_there (s.processors_of g.domain) (number_of w) h
+  reads g NewName w h = (refl, new_name_none (is_name w) (s.kind_of g.domain w) h)
+  reads g ALook w h = (refl, kind_there (is_name w) kind.Look (s.kind_of g.domain w) h)
+  reads g ASection w h = (refl, kind_there (is_name w) kind.Section (s.kind_of g.domain w) h)
+
+  -- an argument behind it changes nothing of what is known of a word
+  keeps : (g : Given) (b a : Argument) (v w : List ℕ) → may_follow b a ≡ true → IsKnown s g b v → IsKnown s (filled s g a w) b v
+  keeps g NewDomain NewDomain v w e h = cc
+  keeps g b NewDomain v w e h = first_of (cc, assumption h)
+  keeps g NewDomain AnyNumber v w e h = h
+  keeps g b AnyNumber v w e h = first_of (cc, assumption h)
+  keeps g NewDomain ADomain v w e h = cc
+  keeps g b ADomain v w e h = cc
+  keeps g NewDomain AProcessor v w e h = h
+  keeps g b AProcessor v w e h = first_of (cc, assumption h)
+  keeps g NewDomain NewName v w e h = cc
+  keeps g b NewName v w e h = first_of (cc, assumption h)
+  keeps g NewDomain ALook v w e h = cc
+  keeps g b ALook v w e h = first_of (cc, assumption h)
+  keeps g NewDomain ASection v w e h = cc
+  keeps g b ASection v w e h = first_of (cc, assumption h)
+
+  filled_domain : (g : Given) (a : Argument) (w : List ℕ) → (filled s g a w).domain ≡ place_after s g.domain a w
+  unfolding place_after
+  filled_domain g NewDomain w = refl
+  filled_domain g _ w = refl
+
+  -- Several words
+
+  pub all_filled : Given → List Argument → List (List ℕ) → Given
+  all_filled g [] ws = g
+  all_filled g (a ∷ rest) [] = g
+  all_filled g (a ∷ rest) (w ∷ ws) = all_filled (filled s g a w) rest ws
+
+  keeps_all : (g : Given) (b : Argument) (v : List ℕ) (rest : List Argument) (ws : List (List ℕ)) → list_all (may_follow b) rest ≡ true → IsKnown s g b v → IsKnown s (all_filled g rest ws) b v
+  unfolding all_filled
+  keeps_all g b v [] ws e h = h
+  keeps_all g b v (a ∷ rest) [] e h = h
+  keeps_all g b v (a ∷ rest) (w ∷ ws) e h =
+      let (here, behind) = both (may_follow b a) (list_all (may_follow b) rest) e in
+      keeps_all (filled s g a w) b v rest ws behind (keeps g b a v w here h)
+
+  -- the words, read as these arguments without a fault, name what is then given
+  known : (g : Given) (taken : List Argument) (ws : List (List ℕ)) → length ws ≡ length taken → fill_apart taken ≡ true → arguments_fault s g.domain taken ws ≡ None
+      → AllName s (all_filled g taken ws) taken ws × AllSuit s (all_filled g taken ws) taken
+  unfolding all_filled
+  known g [] [] long e h = (tt, tt)
+  known g [] (w ∷ ws) long e h = absurd (omega arith)
+  known g (a ∷ rest) [] long e h = absurd (omega arith)
+  known g (a ∷ rest) (w ∷ ws) long e h =
+      let (here, behind) = both (list_all (may_follow a) rest) (fill_apart rest) e in
+      let (fine, fine_behind) = or_else_none (argument_fault s g.domain a w) (arguments_fault s (place_after s g.domain a w) rest ws) h in
+      let next : arguments_fault s (filled s g a w).domain rest ws ≡ None = ap (λ place. arguments_fault s place rest ws) (filled_domain g a w) ∙ fine_behind in
+      let (names, suits) = known (filled s g a w) rest ws (omega arith) behind next in
+      let (name, suit) = keeps_all (filled s g a w) a w rest ws here (reads g a w fine) in
+      ((name, names), (suit, suits))
+
+  -- an argument of a domain stands behind the word that names it
+  needs : (place : ℕ) (a : Argument) (rest : List Argument) → IsPlace s place ⊎ (names_domain_first (a ∷ rest) ≡ true) → needs_domain a ≡ true → IsPlace s place
+  needs place a rest (inl there) h = there
+  needs place NewDomain rest (inr e) h = cc
+  needs place _ rest (inr e) h = cc
+
+  ready : (g : Given) (a : Argument) (w : List ℕ) (rest : List Argument) → argument_fault s g.domain a w ≡ None → IsPlace s g.domain ⊎ (names_domain_first (a ∷ rest) ≡ true)
+      → IsPlace s (filled s g a w).domain ⊎ (names_domain_first rest ≡ true)
+  ready g ADomain w rest fine h = inl (reads g ADomain w fine).1
+  ready g a w rest fine (inl there) = inl there
+  ready g NewDomain w rest fine (inr e) = inr e
+  ready g AnyNumber w rest fine (inr e) = inr e
+  ready g _ w rest fine (inr e) = cc
+
+-- so far words were read as arguments without a fault, and `rest` and `behind` are left of them
+pub record IsSoFar (s : SceneView) (start : Given) (taken : List Argument) (words : List (List ℕ)) (g : Given) (rest : List Argument) (behind : List (List ℕ)) : Type 0 where
+  pub long : length behind ≡ length rest
+  pub ready_for : IsPlace s g.domain ⊎ (names_domain_first rest ≡ true)
+  pub faults : arguments_fault s start.domain taken words ≡ arguments_fault s g.domain rest behind
+  pub filled_are : all_filled s start taken words ≡ all_filled s g rest behind
+
+module _ (s : SceneView) (start : Given) (taken : List Argument) (words : List (List ℕ)) where
+  pub at_first : length words ≡ length taken → names_domain_first taken ≡ true → IsSoFar s start taken words start taken words
+  at_first long first = record { long = long; ready_for = inr first; faults = refl; filled_are = refl }
+
+  module _ (g : Given) (a : Argument) (w : List ℕ) (rest : List Argument) (behind : List (List ℕ)) (h : IsSoFar s start taken words g (a ∷ rest) (w ∷ behind)) where
+    pub domain_there_for : needs_domain a ≡ true → IsPlace s g.domain
+    domain_there_for e = needs s g.domain a rest h.ready_for e
+
+    pub wrong : (f : Fault) → argument_fault s g.domain a w ≡ Some f → arguments_fault s start.domain taken words ≡ Some f
+    wrong f e = h.faults ∙ ap (λ o. or_else o (arguments_fault s (place_after s g.domain a w) rest behind)) e
+
+    pub one_more : argument_fault s g.domain a w ≡ None → IsSoFar s start taken words (filled s g a w) rest behind
+    unfolding all_filled
+    one_more fine = record {
+      long = omega (arith, h.long);
+      ready_for = ready s g a w rest fine h.ready_for;
+      faults = h.faults ∙ ap (λ o. or_else o (arguments_fault s (place_after s g.domain a w) rest behind)) fine
+          ∙ sym (ap (λ place. arguments_fault s place rest behind) (filled_domain s g a w));
+      filled_are = h.filled_are;
+    }
+
+  pub one_more_of : (g : Given) (a : Argument) (w : List ℕ) (left rest : List Argument) (left_words behind : List (List ℕ)) → left ≡ a ∷ rest → left_words ≡ w ∷ behind
+      → argument_fault s g.domain a w ≡ None → IsSoFar s start taken words g left left_words → IsSoFar s start taken words (filled s g a w) rest behind
+  one_more_of g a w left rest left_words behind e d fine h = one_more g a w rest behind (rw (e, d) at h) fine
+
+  pub at_end : (g : Given) → fill_apart taken ≡ true → length words ≡ length taken → IsSoFar s start taken words g [] []
+      → (arguments_fault s start.domain taken words ≡ None) × AllName s g taken words × AllSuit s g taken
+  unfolding all_filled
+  at_end g apart long h =
+      let (names, suits) = known s start taken words long apart h.faults in
+      (h.faults, subst (λ (g : Given). AllName s g taken words) h.filled_are names, subst (λ (g : Given). AllSuit s g taken) h.filled_are suits)
+
+  pub at_end_of : (g : Given) (left : List Argument) (behind : List (Bor (List ℕ))) → (left ≡ []) ⊎ (behind ≡ []) → fill_apart taken ≡ true → length words ≡ length taken
+      → IsSoFar s start taken words g left (texts behind) → (arguments_fault s start.domain taken words ≡ None) × AllName s g taken words × AllSuit s g taken
+  at_end_of g [] [] e apart long h = at_end g apart long h
+  at_end_of g [] (w ∷ behind) e apart long h = absurd (omega (arith, h.long))
+  at_end_of g (a ∷ left) [] e apart long h = absurd (omega (arith, h.long))
+  at_end_of g (a ∷ left) (w ∷ behind) (inl e) apart long h = cc
+  at_end_of g (a ∷ left) (w ∷ behind) (inr e) apart long h = cc
+
+-- a number of words that differs is a fault, and none is where it is the same
+pub words_are : (s : SceneView) (taken : List Argument) (ws : List (List ℕ)) → length ws ≡ length taken → words_fault s taken ws ≡ arguments_fault s 0 taken ws
+words_are s taken ws e = search (rules, tests)

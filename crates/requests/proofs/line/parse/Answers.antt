@@ -1,0 +1,44 @@
+use Rattle.std.proofs.Common.{◌≡◌, drop, refl, sym, subst, rules}
+use Rattle.std.specs.Prelude.{None, Some}
+use Rattle.std.proofs.lemmas.List.{take_rest}
+use Rattle.std.proofs.lemmas.Result.{err_from_is_err_and}
+use Rattle.requests.specs.declared.fault.Fault.TheVariants as fault
+use Rattle.requests.specs.Given.{AreOfARow}
+use Rattle.requests.proofs.Asking.{rows, no_command, fault_of_words, asked_of_words}
+use Rattle.requests.proofs.line.parse.Goals as goal
+
+pub given_by-requires : goal.given_by-requires
+given_by-requires g c = subst AreOfARow (sym c.takes.ensures) (rows c.in_ok-command.command)
+
+pub returns-in_err-command-clause-fault : goal.returns-in_err-command-clause-fault
+returns-in_err-command-clause-fault g c =
+    let p = err_from_is_err_and c.from_residual.result c.from_residual.ensures.1 in
+    let missing : c.of_word.result ≡ None = search rules in
+    let why : c.in_err-command.field-0.0 ≡ fault.Command = search rules in
+    rw (p.1, p.2, why) (no_command (g.S.Scene.scene c.args.scene.now) c.args.words.now (drop 1 c.args.words.now) c.requires refl _ c.of_word.ensures missing)
+
+pub returns-in_err-given-clause-fault : goal.returns-in_err-given-clause-fault
+returns-in_err-given-clause-fault g c =
+    let p = err_from_is_err_and c.from_residual-in_err-given.result c.from_residual-in_err-given.ensures.1 in
+    let found : c.of_word.result ≡ Some c.in_ok-command.command = search rules in
+    rw (p.1, p.2) (fault_of_words (g.S.Scene.scene c.args.scene.now) c.args.words.now _ c.requires (take_rest c.args.words.now 1) _ c.of_word.ensures _ found _ c.takes.ensures _ c.in_err-given.ensures)
+
+pub returns-clause-fault : goal.returns-clause-fault
+returns-clause-fault g c =
+    let found : c.of_word.result ≡ Some c.in_ok-command.command = search rules in
+    let (fine, names, suits) = c.in_ok-given.ensures in
+    fault_of_words (g.S.Scene.scene c.args.scene.now) c.args.words.now _ c.requires (take_rest c.args.words.now 1) _ c.of_word.ensures _ found _ c.takes.ensures _ fine
+
+pub returns-clause-asks : goal.returns-clause-asks
+returns-clause-asks g c =
+    let found : c.of_word.result ≡ Some c.in_ok-command.command = search rules in
+    let (fine, names, suits) = c.in_ok-given.ensures in
+    let (asks, there, only) = asked_of_words (g.S.Scene.scene c.args.scene.now) c.args.words.now _ c.requires (take_rest c.args.words.now 1) _ c.of_word.ensures _ found _ c.takes.ensures _ _ names suits c.asked_by.ensures in
+    (asks, there)
+
+pub returns-clause-only : goal.returns-clause-only
+returns-clause-only g c =
+    let found : c.of_word.result ≡ Some c.in_ok-command.command = search rules in
+    let (fine, names, suits) = c.in_ok-given.ensures in
+    let (asks, there, only) = asked_of_words (g.S.Scene.scene c.args.scene.now) c.args.words.now _ c.requires (take_rest c.args.words.now 1) _ c.of_word.ensures _ found _ c.takes.ensures _ _ names suits c.asked_by.ensures in
+    only

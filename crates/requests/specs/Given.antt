@@ -1,0 +1,95 @@
+-- How the words of a line are read, one by one.
+use Rattle.std.specs.Prelude.{◌≡◌, ℕ, ◌<◌, not, ◌&&◌, ◌||◌, Bool, true, false, List, [], ◌∷◌, Some, None, Result, MatchResult, unwrap_or}
+use Rattle.std.specs.List.{list_all}
+use Rattle.lines.specs.Lines.{number_of}
+use Rattle.requests.specs.declared.fault.Fault.{Fault}
+use Rattle.requests.specs.declared.command.Argument.{Argument}
+use Rattle.requests.specs.declared.command.Argument.TheVariants.{NewDomain, AnyNumber, ADomain, AProcessor, NewName, ALook, ASection}
+use Rattle.requests.specs.declared.given.Given.{Given}
+use Rattle.requests.specs.declared.scene.Kind.TheVariants as kind
+use Rattle.requests.specs.Scenes.{SceneView, IsPlace}
+use Rattle.requests.specs.Faults.{argument_fault}
+
+-- what is given with one word more, which is this argument
+abbrev pub filled : SceneView → Given → Argument → List ℕ → Given
+filled s g NewDomain w = record g { name = w }
+filled s g AnyNumber w = record g { number = unwrap_or (number_of w) 0 }
+filled s g ADomain w = record g { domain = unwrap_or (s.place_of w) g.domain }
+filled s g AProcessor w = record g { processor = unwrap_or (number_of w) 0 }
+filled s g NewName w = record g { name = w }
+filled s g ALook w = record g { name = w }
+filled s g ASection w = record g { name = w }
+
+-- the word is read as this argument, or has this fault
+abbrev pub IsRead : SceneView → Given → Argument → List ℕ → Result Given Fault → Type 0
+IsRead s g a w r = MatchResult r
+    (λ g'. (argument_fault s g.domain a w ≡ None) × (g' ≡ filled s g a w))
+    (λ f. argument_fault s g.domain a w ≡ Some f)
+
+-- what is given is what the argument should be
+abbrev pub Suits : SceneView → Given → Argument → Type 0
+Suits s g NewDomain = s.place_of g.name ≡ None
+Suits s g AnyNumber = Unit {0}
+Suits s g ADomain = IsPlace s g.domain
+Suits s g AProcessor = g.processor < s.processors_of g.domain
+Suits s g NewName = s.kind_of g.domain g.name ≡ None
+Suits s g ALook = s.kind_of g.domain g.name ≡ Some kind.Look
+Suits s g ASection = s.kind_of g.domain g.name ≡ Some kind.Section
+
+abbrev pub AllSuit : SceneView → Given → List Argument → Type 0
+AllSuit s g [] = Unit {0}
+AllSuit s g (a ∷ rest) = Suits s g a × AllSuit s g rest
+
+-- the argument is one of a domain, which a word before it has named
+abbrev pub needs_domain : Argument → Bool
+needs_domain NewDomain = false
+needs_domain AnyNumber = false
+needs_domain ADomain = false
+needs_domain AProcessor = true
+needs_domain NewName = true
+needs_domain ALook = true
+needs_domain ASection = true
+
+-- the fields of what is given
+pub data Field : Type 0 where
+  Domain : Field
+  Processor : Field
+  Name : Field
+  Number : Field
+
+abbrev pub same_field : Field → Field → Bool
+same_field Domain Domain = true
+same_field Processor Processor = true
+same_field Name Name = true
+same_field Number Number = true
+same_field _ _ = false
+
+-- the field that an argument fills
+abbrev pub field_of : Argument → Field
+field_of NewDomain = Name
+field_of AnyNumber = Number
+field_of ADomain = Domain
+field_of AProcessor = Processor
+field_of NewName = Name
+field_of ALook = Name
+field_of ASection = Name
+
+abbrev pub names_domain : Argument → Bool
+names_domain a = same_field (field_of a) Domain
+
+-- the second argument may stand behind the first: it fills another field, and names no domain
+abbrev pub may_follow : Argument → Argument → Bool
+may_follow a b = not (same_field (field_of a) (field_of b)) && not (names_domain b)
+
+abbrev pub names_domain_first : List Argument → Bool
+names_domain_first [] = true
+names_domain_first (a ∷ rest) = names_domain a || (not (needs_domain a) && names_domain_first rest)
+
+abbrev pub fill_apart : List Argument → Bool
+fill_apart [] = true
+fill_apart (a ∷ rest) = list_all (may_follow a) rest && fill_apart rest
+
+-- arguments as a row has them: a domain is named before an argument of it, and each argument fills a field of its own
+pub record AreOfARow (taken : List Argument) : Type 0 where
+  pub first : names_domain_first taken ≡ true
+  pub apart : fill_apart taken ≡ true

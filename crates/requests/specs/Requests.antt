@@ -1,0 +1,77 @@
+-- What the words of a line ask for, and what is known of it.
+use Rattle.std.specs.Prelude.{◌≡◌, ℕ, ◌<◌, List, [], ◌∷◌, Some, None}
+use Rattle.lines.specs.Lines.{number_of}
+use Rattle.requests.specs.declared.command.Command.{Command}
+use Rattle.requests.specs.declared.command.Command.TheVariants as command
+use Rattle.requests.specs.declared.command.Argument.{Argument}
+use Rattle.requests.specs.declared.command.Argument.TheVariants.{NewDomain, AnyNumber, ADomain, AProcessor, NewName, ALook, ASection}
+use Rattle.requests.specs.declared.given.Given.{Given}
+use Rattle.requests.specs.declared.scene.Kind.TheVariants as kind
+use Rattle.requests.specs.declared.request.Act.{Act}
+use Rattle.requests.specs.declared.request.Act.TheVariants as act
+use Rattle.requests.specs.declared.request.Request.{Request}
+use Rattle.requests.specs.declared.request.Request.TheVariants.{Domain, On}
+use Rattle.requests.specs.Commands.{command_of, arguments}
+use Rattle.requests.specs.Scenes.{SceneView, IsPlace}
+
+-- What is asked
+
+-- the word, as this argument, names what is given
+abbrev pub Names : SceneView → Given → Argument → List ℕ → Type 0
+Names s g NewDomain w = g.name ≡ w
+Names s g AnyNumber w = number_of w ≡ Some g.number
+Names s g ADomain w = s.place_of w ≡ Some g.domain
+Names s g AProcessor w = number_of w ≡ Some g.processor
+Names s g NewName w = g.name ≡ w
+Names s g ALook w = g.name ≡ w
+Names s g ASection w = g.name ≡ w
+
+-- each of the words, as the argument at its place, names what is given
+abbrev pub AllName : SceneView → Given → List Argument → List (List ℕ) → Type 0
+AllName s g [] [] = Unit {0}
+AllName s g [] (w ∷ ws) = ⊥
+AllName s g (a ∷ rest) [] = ⊥
+AllName s g (a ∷ rest) (w ∷ ws) = Names s g a w × AllName s g rest ws
+
+-- what a command asks for, of what is given
+abbrev pub request_of : Command → Given → Request
+request_of command.Domain g = Domain g.name g.number
+request_of command.Look g = On g.domain (act.Look g.processor g.name)
+request_of command.Enter g = On g.domain (act.Enter g.processor g.name)
+request_of command.Lock g = On g.domain (act.Lock g.processor g.name)
+request_of command.Unlock g = On g.domain (act.Unlock g.name)
+request_of command.Get g = On g.domain (act.Get g.processor)
+request_of command.Poll g = On g.domain (act.Poll g.processor g.number)
+request_of command.Start g = On g.domain (act.Start g.processor)
+request_of command.Advance g = On g.domain (act.Advance g.processor)
+request_of command.Step g = On g.domain (act.Step g.processor)
+request_of command.State g = On g.domain act.State
+
+-- the first word is a command, the words behind it name what is given, and that is what the command asks for
+unfoldable pub Asks : SceneView → List (List ℕ) → Request → Type 0
+Asks s [] asked = ⊥
+Asks s (w ∷ ws) asked = (c : Command) × (given : Given) × (command_of w ≡ Some c) × AllName s given (arguments c) ws × (asked ≡ request_of c given)
+
+-- the words ask for nothing else
+abbrev pub AskOnly : SceneView → List (List ℕ) → Request → Type 0
+AskOnly s words asked = (other : Request) → Asks s words other → other ≡ asked
+
+-- What is known of a request
+
+-- the processor is one of the domain's, and the name is in use or not as the act wants it
+abbrev pub Fits : SceneView → ℕ → Act → Type 0
+Fits s place act.State = Unit {0}
+Fits s place (act.Look p look) = (p < s.processors_of place) × (s.kind_of place look ≡ None)
+Fits s place (act.Enter p look) = (p < s.processors_of place) × (s.kind_of place look ≡ Some kind.Look)
+Fits s place (act.Lock p section) = (p < s.processors_of place) × (s.kind_of place section ≡ None)
+Fits s place (act.Unlock section) = s.kind_of place section ≡ Some kind.Section
+Fits s place (act.Get p) = p < s.processors_of place
+Fits s place (act.Poll p cookie) = p < s.processors_of place
+Fits s place (act.Start p) = p < s.processors_of place
+Fits s place (act.Advance p) = p < s.processors_of place
+Fits s place (act.Step p) = p < s.processors_of place
+
+-- a new domain's name is no other's, and a domain that should do something is there
+abbrev pub IsFor : SceneView → Request → Type 0
+IsFor s (Domain name processors) = s.place_of name ≡ None
+IsFor s (On place a) = IsPlace s place × Fits s place a

@@ -1,0 +1,176 @@
+//! The table of commands.
+ghost use Rattle.std.specs.Prelude.{◌≡◌, Some};
+ghost use Rattle.lines.specs.Lines.{words_of};
+ghost use Rattle.requests.specs.Commands.{IsForm, arguments, command_of, command_word};
+
+use std::fmt;
+
+/// A command of a script, which is the first word of a line. What its lines do stands in its row.
+#[derive(Clone, Copy, Debug, PartialEq, Eq)]
+pub enum Command {
+    Domain,
+    State,
+    Look,
+    Enter,
+    Lock,
+    Unlock,
+    Get,
+    Poll,
+    Start,
+    Advance,
+    Step,
+}
+
+/// What a word of a line should be.
+#[derive(Clone, Copy, Debug, PartialEq, Eq)]
+pub enum Argument {
+    /// A name that no domain has.
+    NewDomain,
+    /// Any number.
+    AnyNumber,
+    /// The name of a domain. The arguments behind it are of that domain.
+    ADomain,
+    /// The number of a processor.
+    AProcessor,
+    /// A name that is not in use in the domain.
+    NewName,
+    /// The name of a look.
+    ALook,
+    /// The name of a section that is open.
+    ASection,
+}
+
+/// A row of the table of commands.
+#[derive(Clone, Copy, Debug)]
+pub struct Row {
+    /// The first word of the command's lines.
+    pub word: &'static str,
+    /// What the words behind it should be.
+    pub takes: &'static [Argument],
+    /// A line of the command, as the help shows it.
+    pub form: &'static str,
+    /// What such a line does, for the help.
+    pub does: &'static str,
+}
+
+impl Command {
+    /// All commands, in the order of the help.
+    pub const ALL: [Command; 11] = [
+        Command::Domain,
+        Command::Look,
+        Command::Enter,
+        Command::Lock,
+        Command::Unlock,
+        Command::Get,
+        Command::Poll,
+        Command::Start,
+        Command::Advance,
+        Command::Step,
+        Command::State,
+    ];
+
+    /// The command's row of the table.
+    pub fn row(self) -> Row
+        ensures word { result.word.now ≡ command_word self }
+        ensures found { command_of result.word.now ≡ Some self }
+        ensures takes { result.takes.now ≡ arguments self }
+        ensures form { IsForm self (words_of result.form.now) }
+    {
+        match self {
+            Command::Domain => Row {
+                word: "domain",
+                takes: &[Argument::NewDomain, Argument::AnyNumber],
+                form: "domain NAME N",
+                does: "makes a domain of N processors (1 or 2)",
+            },
+            Command::Look => Row {
+                word: "look",
+                takes: &[Argument::ADomain, Argument::AProcessor, Argument::NewName],
+                form: "look NAME P R",
+                does: "reads the current index on processor P, a look called R",
+            },
+            Command::Enter => Row {
+                word: "enter",
+                takes: &[Argument::ADomain, Argument::AProcessor, Argument::ALook],
+                form: "enter NAME P R",
+                does: "begins a section of that index on processor P, called R too",
+            },
+            Command::Lock => Row {
+                word: "lock",
+                takes: &[Argument::ADomain, Argument::AProcessor, Argument::NewName],
+                form: "lock NAME P S",
+                does: "a look and a section at once; the section is called S",
+            },
+            Command::Unlock => Row {
+                word: "unlock",
+                takes: &[Argument::ADomain, Argument::ASection],
+                form: "unlock NAME S",
+                does: "ends a section",
+            },
+            Command::Get => Row {
+                word: "get",
+                takes: &[Argument::ADomain, Argument::AProcessor],
+                form: "get NAME P",
+                does: "gives a cookie",
+            },
+            Command::Poll => Row {
+                word: "poll",
+                takes: &[Argument::ADomain, Argument::AProcessor, Argument::AnyNumber],
+                form: "poll NAME P C",
+                does: "tells whether a grace period has gone by since cookie C",
+            },
+            Command::Start => Row {
+                word: "start",
+                takes: &[Argument::ADomain, Argument::AProcessor],
+                form: "start NAME P",
+                does: "starts a grace period",
+            },
+            Command::Advance => Row {
+                word: "advance",
+                takes: &[Argument::ADomain, Argument::AProcessor],
+                form: "advance NAME P",
+                does: "lets the engine work until it has an answer",
+            },
+            Command::Step => Row {
+                word: "step",
+                takes: &[Argument::ADomain, Argument::AProcessor],
+                form: "step NAME P",
+                does: "lets the engine make one step",
+            },
+            Command::State => Row {
+                word: "state",
+                takes: &[Argument::ADomain],
+                form: "state NAME",
+                does: "shows where the domain stands",
+            },
+        }
+    }
+
+    /// What the words behind the command should be.
+    pub fn takes(self) -> &'static [Argument]
+        ensures { result.now ≡ arguments self }
+    {
+        self.row().takes
+    }
+
+    /// The command of this word; `None` where the word is no command.
+    pub fn of_word(word: &[u8]) -> Option<Command>
+        ensures { result ≡ command_of word.now }
+    {
+        Command::ALL
+            .iter()
+            .copied()
+            .find(|command| command.row().word.as_bytes() == word)
+    }
+}
+
+impl fmt::Display for Command {
+    ghost use Rattle.std.specs.Prelude.{Some};
+    ghost use Rattle.requests.specs.Commands.{command_word};
+
+    ghost output = { λ command. Some (command_word command) };
+
+    fn fmt<W: fmt::Write>(&self, f: &mut fmt::Formatter<W>) -> fmt::Result {
+        f.write_str(self.row().word)
+    }
+}

@@ -1,0 +1,166 @@
+//! What the words of a line name.
+ghost use Rattle.std.specs.Prelude.{◌≡◌, true, None, Some, MatchResult, unwrap_or};
+ghost use Rattle.lines.specs.Lines.{number_of};
+ghost use Rattle.requests.specs.Faults.{number_fault, kind_fault};
+ghost use Rattle.requests.specs.Scenes.{IsPlace};
+ghost use Rattle.requests.specs.Requests.{request_of};
+ghost use Rattle.requests.specs.Given.{IsRead, needs_domain};
+
+use crate::command::{Argument, Command};
+use crate::fault::Fault;
+use crate::request::{Act, Request};
+use crate::scene::{Kind, Scene};
+use lines::{Name, is_name, number};
+
+/// What the words of a line name. Each argument fills one field.
+#[derive(Clone, Copy)]
+pub struct Given {
+    /// The place of the domain.
+    pub domain: usize,
+    pub processor: u64,
+    pub name: Name,
+    pub number: u64,
+}
+
+impl Given {
+    /// What is given before any word was read. A field that no word fills is in no request.
+    pub fn nothing() -> Given
+        ensures { result.domain ≡ 0 }
+    {
+        Given {
+            domain: 0,
+            processor: 0,
+            name: Name::new(b"0").unwrap(),
+            number: 0,
+        }
+    }
+
+    /// What is given with one word more, which should be this argument.
+    #[tactic(auto, unfolding(crate::specs::Faults::argument_fault))]
+    pub fn with<S: Scene>(self, argument: Argument, word: &[u8], scene: &S) -> Result<Given, Fault>
+        requires { needs_domain argument ≡ true → IsPlace (S.scene scene.now) self.domain }
+        ensures { IsRead (S.scene scene.now) self argument word.now result }
+    {
+        match argument {
+            Argument::NewDomain => self.with_new_domain(word, scene),
+            Argument::AnyNumber => self.with_number(word),
+            Argument::ADomain => self.with_domain(word, scene),
+            Argument::AProcessor => self.with_processor(word, scene),
+            Argument::NewName => self.with_new_name(word, scene),
+            Argument::ALook => self.with_name_of(Kind::Look, word, scene),
+            Argument::ASection => self.with_name_of(Kind::Section, word, scene),
+        }
+    }
+
+    #[tactic(auto, unfolding(crate::specs::Faults::argument_fault))]
+    fn with_new_domain<S: Scene>(self, word: &[u8], scene: &S) -> Result<Given, Fault>
+        ensures { IsRead (S.scene scene.now) self Argument.NewDomain word.now result }
+    {
+        let name = Name::new(word).ok_or(Fault::Name)?;
+        match scene.place_of(word) {
+            Some(_) => Err(Fault::Taken),
+            None => Ok(Given { name, ..self }),
+        }
+    }
+
+    fn with_number(self, word: &[u8]) -> Result<Given, Fault>
+        ensures { let found = number_of word.now in MatchResult result
+            (λ g. (number_fault found ≡ None) × (g ≡ record self { number = unwrap_or found 0 }))
+            (λ f. number_fault found ≡ Some f) }
+    {
+        let number = number(word).ok_or(Fault::Number)?;
+        Ok(Given { number, ..self })
+    }
+
+    #[tactic(auto, unfolding(crate::specs::Faults::argument_fault))]
+    fn with_domain<S: Scene>(self, word: &[u8], scene: &S) -> Result<Given, Fault>
+        ensures { IsRead (S.scene scene.now) self Argument.ADomain word.now result }
+    {
+        if !is_name(word) {
+            return Err(Fault::Name);
+        }
+        let domain = scene.place_of(word).ok_or(Fault::Domain)?;
+        Ok(Given { domain, ..self })
+    }
+
+    #[tactic(auto, unfolding(crate::specs::Faults::argument_fault))]
+    fn with_processor<S: Scene>(self, word: &[u8], scene: &S) -> Result<Given, Fault>
+        requires { IsPlace (S.scene scene.now) self.domain }
+        ensures { IsRead (S.scene scene.now) self Argument.AProcessor word.now result }
+    {
+        let processor = number(word).ok_or(Fault::Number)?;
+        if processor >= scene.processors_of(self.domain) {
+            return Err(Fault::Processor);
+        }
+        Ok(Given { processor, ..self })
+    }
+
+    #[tactic(auto, unfolding(crate::specs::Faults::argument_fault))]
+    fn with_new_name<S: Scene>(self, word: &[u8], scene: &S) -> Result<Given, Fault>
+        requires { IsPlace (S.scene scene.now) self.domain }
+        ensures { IsRead (S.scene scene.now) self Argument.NewName word.now result }
+    {
+        let name = Name::new(word).ok_or(Fault::Name)?;
+        match scene.kind_of(self.domain, &name) {
+            Some(_) => Err(Fault::Taken),
+            None => Ok(Given { name, ..self }),
+        }
+    }
+
+    /// What is given with the name of a thing of this kind.
+    fn with_name_of<S: Scene>(self, kind: Kind, word: &[u8], scene: &S) -> Result<Given, Fault>
+        requires { IsPlace (S.scene scene.now) self.domain }
+        ensures { let found = (S.scene scene.now).kind_of self.domain word.now in MatchResult result
+            (λ g. (kind_fault kind word.now found ≡ None) × (g ≡ record self { name = word.now }))
+            (λ f. kind_fault kind word.now found ≡ Some f) }
+    {
+        let name = Name::new(word).ok_or(Fault::Name)?;
+        match scene.kind_of(self.domain, &name) {
+            Some(found) if found == kind => Ok(Given { name, ..self }),
+            _ => Err(Fault::Name),
+        }
+    }
+
+    /// What the command asks for.
+    pub fn asked_by(self, command: Command) -> Request
+        ensures { result ≡ request_of command self }
+    {
+        let Given {
+            domain,
+            processor,
+            name,
+            number,
+        } = self;
+        let act = match command {
+            Command::Domain => {
+                return Request::Domain {
+                    name,
+                    processors: number,
+                };
+            }
+            Command::Look => Act::Look {
+                processor,
+                look: name,
+            },
+            Command::Enter => Act::Enter {
+                processor,
+                look: name,
+            },
+            Command::Lock => Act::Lock {
+                processor,
+                section: name,
+            },
+            Command::Unlock => Act::Unlock { section: name },
+            Command::Get => Act::Get { processor },
+            Command::Poll => Act::Poll {
+                processor,
+                cookie: number,
+            },
+            Command::Start => Act::Start { processor },
+            Command::Advance => Act::Advance { processor },
+            Command::Step => Act::Step { processor },
+            Command::State => Act::State,
+        };
+        Request::On { domain, act }
+    }
+}

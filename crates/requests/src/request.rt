@@ -1,0 +1,36 @@
+//! What a line without fault asks for.
+use lines::Name;
+
+/// What a line asks for.
+#[derive(Clone, Copy, PartialEq, Eq)]
+pub enum Request {
+    /// A new domain, of so many processors.
+    Domain { name: Name, processors: u64 },
+    /// That the domain at this place does something.
+    On { domain: usize, act: Act },
+}
+
+/// What a domain is to do.
+#[derive(Clone, Copy, PartialEq, Eq)]
+pub enum Act {
+    /// To show where it stands.
+    State,
+    /// To find the current index on the processor: a look of this name.
+    Look { processor: u64, look: Name },
+    /// To begin a section of the look's index on the processor, under the look's name.
+    Enter { processor: u64, look: Name },
+    /// To begin a section of the current index on the processor, under this name.
+    Lock { processor: u64, section: Name },
+    /// To end the section.
+    Unlock { section: Name },
+    /// To give the processor a cookie.
+    Get { processor: u64 },
+    /// To tell the processor whether the cookie of this number is done.
+    Poll { processor: u64, cookie: u64 },
+    /// To start a grace period.
+    Start { processor: u64 },
+    /// To let the engine work until it has an answer.
+    Advance { processor: u64 },
+    /// To let the engine make one step.
+    Step { processor: u64 },
+}

@@ -1,0 +1,34 @@
+//! What is there when a line is read.
+ghost use Rattle.std.specs.Prelude.{◌≡◌};
+ghost use Rattle.requests.specs.Scenes.{SceneView, IsPlace};
+
+use lines::Name;
+
+/// What has a name in a domain.
+#[derive(Clone, Copy, Debug, PartialEq, Eq)]
+pub enum Kind {
+    /// A look.
+    Look,
+    /// An open section.
+    Section,
+}
+
+/// The domains of a script, and the names in use in each, as a line finds them. A domain goes by its place, a number
+/// that is the scene's own. Contracts see the three answers as functions, all of one moment.
+pub trait Scene {
+    ghost scene: { Self → SceneView };
+
+    /// The place of the domain of this name, or `None` where no domain has it.
+    fn place_of(&self, domain: &[u8]) -> Option<usize>
+        ensures { result ≡ (scene self.now).place_of domain.now };
+
+    /// How many processors the domain at this place has.
+    fn processors_of(&self, place: usize) -> u64
+        requires { IsPlace (scene self.now) place }
+        ensures { result ≡ (scene self.now).processors_of place };
+
+    /// What has this name in the domain at this place, or `None` where the name is not in use there.
+    fn kind_of(&self, place: usize, name: &Name) -> Option<Kind>
+        requires { IsPlace (scene self.now) place }
+        ensures { result ≡ (scene self.now).kind_of place name.now };
+}

@@ -1,0 +1,38 @@
+use crate::scene::{Kind, Scene};
+use lines::Name;
+
+/// What is there in the tests: a domain `a` of 2 processors, with a look `r` and a section `s`.
+pub struct Stage;
+
+impl Scene for Stage {
+    ghost use Rattle.std.specs.Prelude.{bytes_eq, codes, Some, None, if◌then◌else◌};
+    ghost use Rattle.requests.specs.declared.scene.Kind.TheVariants.{Look, Section};
+
+    ghost scene = { λ _. record {
+      place_of = λ w. if bytes_eq w (codes "a") then Some 0 else None;
+      processors_of = λ _. 2;
+      kind_of = λ _ w. if bytes_eq w (codes "r") then Some Look else (if bytes_eq w (codes "s") then Some Section else None);
+    } };
+
+    fn place_of(&self, domain: &[u8]) -> Option<usize> {
+        if domain == b"a".as_slice() {
+            Some(0)
+        } else {
+            None
+        }
+    }
+
+    fn processors_of(&self, _place: usize) -> u64 {
+        2
+    }
+
+    fn kind_of(&self, _place: usize, name: &Name) -> Option<Kind> {
+        if name.is(b"r") {
+            Some(Kind::Look)
+        } else if name.is(b"s") {
+            Some(Kind::Section)
+        } else {
+            None
+        }
+    }
+}

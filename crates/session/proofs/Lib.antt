@@ -1,0 +1,8 @@
+mod Acting
+mod Held
+mod Holding
+mod Naming
+mod OpenSections
+mod Places
+mod Quiet
+mod Taken

@@ -1,0 +1,31 @@
+use Rattle.std.proofs.Common.{rules, ◌≡◌, ◌<◌, [], ◌∷◌, ◌++◌, length, refl, inl, inr, ap, ◌∙◌, arith}
+use Rattle.std.proofs.lemmas.List.{length-map}
+use Rattle.std.proofs.lemmas.List.Elements.{All-same, All-push}
+use Rattle.session.specs.States.{EntryView}
+use Rattle.session.proofs.session.Session.make.Goals as goal
+
+pub invariant_of-self : goal.invariant_of-self
+invariant_of-self g c = record { in_range = c.self.invariant.in_range; same = All-same (λ (e : EntryView). e.limits ≡ c.self.inside.limits) c.reserve.new.self.items c.self.inside.entries.items c.reserve.ensures.items c.self.invariant.same }
+
+pub invariant_of-self-in-Err-Processors : goal.invariant_of-self-in-Err-Processors
+invariant_of-self-in-Err-Processors g c = record { in_range = c.self.invariant.in_range; same = All-same (λ (e : EntryView). e.limits ≡ c.self.inside.limits) c.reserve.new.self.items c.self.inside.entries.items c.reserve.ensures.items c.self.invariant.same }
+
+pub invariant_of-self-in-Err-Memory : goal.invariant_of-self-in-Err-Memory
+invariant_of-self-in-Err-Memory g c = record { in_range = c.self.invariant.in_range; same = All-same (λ (e : EntryView). e.limits ≡ c.self.inside.limits) c.reserve.new.self.items c.self.inside.entries.items c.reserve.ensures.items c.self.invariant.same }
+
+pub invariant_of-self-2 : goal.invariant_of-self-2
+invariant_of-self-2 g c =
+    let limits = c.self.inside.limits in
+    let entries = c.self.inside.entries.items in
+    let entry = c.new-entry.result in
+    let pushed : c.push.new.self.items ≡ entries ++ entry ∷ [] = search rules in
+    record {
+      in_range = c.self.invariant.in_range;
+      same = All-same (λ (e : EntryView). e.limits ≡ limits) _ _ pushed (All-push (λ (e : EntryView). e.limits ≡ limits) entries entry c.self.invariant.same (ap (λ (e : EntryView). e.limits) c.new-entry.ensures ∙ c.in-Ok.ensures.limits_are));
+    }
+
+pub returns-in-Err-Processors-clause-ok : goal.returns-in-Err-Processors-clause-ok
+returns-in-Err-Processors-clause-ok g c =
+    let none = rw c.in-Err-Processors.field-0-is at c.in-Err-Processors.ensures in
+    let few : length c.self.inside.entries.items < 8 = omega (arith, c.if-len-ge-MOST_DOMAINS.false, c.len.ensures, c.self.inside.entries.ok.0) in
+    rw (← c.self.view_is, c.reserve.ensures.items) (inr (record { after = refl; cause = inr (inl (omega (arith, few, length-map c.self.inside.entries.items (λ (e : EntryView). e.state)), none, refl)) }))

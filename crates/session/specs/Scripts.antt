@@ -1,0 +1,179 @@
+-- What a line of a script means: which reply it gets, and what it changes.
+use Rattle.std.specs.Prelude.{◌≡◌, ℕ, ◌%◌, ◌<◌, ◌≤◌, Bool, true, false, List, [], ◌∷◌, ◌++◌, length, Option, Some, None, slice_get, slice_set, if◌then◌else◌, ◌⊎◌}
+use Rattle.sseq.specs.declared.index.Index.{Index}
+use Rattle.sseq.specs.declared.index.Index.TheVariants.{Zero, One}
+use Rattle.sseq.specs.declared.number.Phase.{Phase}
+use Rattle.sseq.specs.Numbers.{state_bits}
+use Rattle.sections.specs.declared.limits.Limits.{Limits}
+use Rattle.sections.specs.Calls.{IsNoCookie}
+use Rattle.sections.specs.Making.{IsCount}
+use Rattle.scan.specs.declared.progress.Progress.{Progress}
+use Rattle.scan.specs.declared.progress.Progress.TheVariants as progress
+use Rattle.scan.specs.declared.progress.StartRefusal.{StartRefusal}
+use Rattle.scan.specs.declared.progress.StartRefusal.TheVariants as refusal
+use Rattle.scan.specs.Standings.{index_now}
+use Rattle.solo.specs.Calls.{new_standing, Begins, IsOutOfSections, Ends, GivesCookie, Asks as AsksIfDone, ReadsNumber, Starts, StartsNone, Steps, Advances}
+use Rattle.lines.specs.Lines.{words_of}
+use Rattle.requests.specs.declared.fault.Fault.{Fault}
+use Rattle.requests.specs.declared.fault.Fault.TheVariants.{Text}
+use Rattle.requests.specs.declared.command.Command.{Command}
+use Rattle.requests.specs.declared.command.Command.TheVariants as command
+use Rattle.requests.specs.declared.cause.Cause.{Cause}
+use Rattle.requests.specs.declared.cause.Cause.TheVariants.{Full, Processors, Memory, Exhausted, Running, NotACookie}
+use Rattle.requests.specs.declared.request.Act.{Act}
+use Rattle.requests.specs.declared.request.Act.TheVariants as act
+use Rattle.requests.specs.declared.request.Request.{Request}
+use Rattle.requests.specs.declared.request.Request.TheVariants as request
+use Rattle.requests.specs.declared.reply.Reply.{Reply}
+use Rattle.requests.specs.declared.reply.Reply.TheVariants as reply
+use Rattle.requests.specs.Faults.{fault_of, is_skipped}
+use Rattle.requests.specs.Requests.{Asks}
+use Rattle.requests.specs.Replies.{reply_text}
+use Rattle.session.specs.OpenSections.{open_of}
+use Rattle.session.specs.States.{State, DomainState, Look, Section, Becomes, bearer_at, scene_of}
+
+-- What one domain does
+
+-- the command is refused for this cause, and nothing is done
+pub record IsRefused (c : Command) (cause : Cause) (d : DomainState) (r : Reply) (d' : DomainState) : Type 0 where
+  pub after : d' ≡ d
+  pub reply : r ≡ reply.Refused c cause
+
+-- a section of index i begins on the processor, and has the name
+pub record BeginsUnder (limits : Limits) (p : ℕ) (i : Index) (name : List ℕ) (d : DomainState) (r : Reply) (d' : DomainState) : Type 0 where
+  pub section : ℕ
+  pub begins : Begins limits p i section d.standing d'.standing
+  pub names : Becomes name (Some (Section section p)) d.names d'.names
+  pub reply : r ≡ reply.Index i
+
+-- a look has the index that now is, and the name
+pub record LooksUnder (name : List ℕ) (d : DomainState) (r : Reply) (d' : DomainState) : Type 0 where
+  pub after : d'.standing ≡ d.standing
+  pub names : Becomes name (Some (Look (index_now d.standing))) d.names d'.names
+  pub reply : r ≡ reply.Look (index_now d.standing)
+
+-- a section of the index that now is begins on the processor, unless as many were begun there as may
+abbrev pub Locks : Limits → ℕ → List ℕ → DomainState → Reply → DomainState → Type 0
+Locks limits p name d r d' = BeginsUnder limits p (index_now d.standing) name d r d'
+    ⊎ IsOutOfSections limits p (index_now d.standing) d.standing × IsRefused command.Lock Exhausted d r d'
+
+-- the look is used up in vain: as many sections of its index were begun on the processor as may. Its name is free
+pub record LosesLook (limits : Limits) (p : ℕ) (i : Index) (name : List ℕ) (d : DomainState) (r : Reply) (d' : DomainState) : Type 0 where
+  pub full : IsOutOfSections limits p i d.standing
+  pub after : d'.standing ≡ d.standing
+  pub names : Becomes name None d.names d'.names
+  pub reply : r ≡ reply.Refused command.Enter Exhausted
+
+-- the look of this name is used up, and a section of its index begins on the processor, under the same name
+pub record Enters (limits : Limits) (p : ℕ) (name : List ℕ) (d : DomainState) (r : Reply) (d' : DomainState) : Type 0 where
+  pub index : Index
+  pub there : bearer_at name d.names ≡ Some (Look index)
+  pub enters : BeginsUnder limits p index name d r d' ⊎ LosesLook limits p index name d r d'
+
+-- the section of this name ends, on its own processor, and the name is free
+pub record Unlocks (name : List ℕ) (d : DomainState) (r : Reply) (d' : DomainState) : Type 0 where
+  pub section : ℕ
+  pub processor : ℕ
+  pub there : bearer_at name d.names ≡ Some (Section section processor)
+  pub ends : Ends section processor d.standing d'.standing
+  pub names : Becomes name None d.names d'.names
+  pub reply : r ≡ reply.Closed
+
+-- the names stay, and this is the reply
+pub record Replies (given : Reply) (d : DomainState) (r : Reply) (d' : DomainState) : Type 0 where
+  pub names : d'.names ≡ d.names
+  pub reply : r ≡ given
+
+abbrev pub cause_of : StartRefusal → Cause
+cause_of refusal.Running = Running
+cause_of refusal.Exhausted = Exhausted
+
+-- where the domain stands; the root need is 0, as long as nobody can ask
+pub record Shows (d : DomainState) (r : Reply) (d' : DomainState) : Type 0 where
+  pub number : ℕ
+  pub phase : Phase
+  pub reads : ReadsNumber number d.standing d'.standing
+  pub state : number % 4 ≡ state_bits phase
+  pub replies : Replies (reply.State d.name
+      (record { number = number; phase = phase })
+      (record { index = index_now d.standing; zero = open_of Zero d.standing.history; one = open_of One d.standing.history; need = 0 })) d r d'
+
+-- what an act does to the domain, and its reply
+abbrev pub Does : Limits → Act → DomainState → Reply → DomainState → Type 0
+Does limits act.State d r d' = Shows d r d'
+Does limits (act.Look p name) d r d' = LooksUnder name d r d'
+Does limits (act.Enter p name) d r d' = Enters limits p name d r d'
+Does limits (act.Lock p name) d r d' = Locks limits p name d r d'
+Does limits (act.Unlock name) d r d' = Unlocks name d r d'
+Does limits (act.Get p) d r d' = (cookie : ℕ) × GivesCookie p cookie d.standing d'.standing × Replies (reply.Cookie cookie) d r d'
+Does limits (act.Poll p cookie) d r d' = ((done : Bool) × AsksIfDone p cookie done d.standing d'.standing × Replies (if done then reply.Done else reply.NotYet) d r d')
+    ⊎ IsNoCookie cookie × IsRefused command.Poll NotACookie d r d'
+Does limits (act.Start p) d r d' = ((number : ℕ) × Starts number d.standing d'.standing × Replies (reply.Progress (progress.Started number)) d r d')
+    ⊎ (why : StartRefusal) × StartsNone why d.standing × IsRefused command.Start (cause_of why) d r d'
+Does limits (act.Advance p) d r d' = (said : Progress) × Advances said d.standing d'.standing × Replies (reply.Progress said) d r d'
+Does limits (act.Step p) d r d' = (said : Progress) × Steps said d.standing d'.standing × Replies (reply.Progress said) d r d'
+
+-- What a script does
+
+-- the domain at the place goes on, with its name, and no other does
+pub record GoesOn (state : State) (place : ℕ) (d d' : DomainState) (state' : State) : Type 0 where
+  pub there : slice_get state place ≡ Some d
+  pub same : d'.name ≡ d.name
+  pub others : state' ≡ slice_set state place d'
+
+abbrev pub new_domain : Limits → List ℕ → ℕ → DomainState
+new_domain limits name processors = record { name = name; names = []; standing = new_standing limits processors }
+
+-- a domain comes behind those that are there
+pub record Makes (limits : Limits) (state : State) (name : List ℕ) (processors : ℕ) (r : Reply) (state' : State) : Type 0 where
+  pub room : length state < 8
+  pub count : IsCount processors
+  pub after : state' ≡ state ++ new_domain limits name processors ∷ []
+  pub reply : r ≡ reply.Made name processors
+
+-- no domain comes: eight are there, or else it can't have so many processors, or else there was no memory
+pub record MakesNone (state : State) (processors : ℕ) (r : Reply) (state' : State) : Type 0 where
+  pub after : state' ≡ state
+  pub cause : ((8 ≤ length state) × (r ≡ reply.Refused command.Domain Full))
+      ⊎ (length state < 8) × (¬ IsCount processors) × (r ≡ reply.Refused command.Domain Processors)
+      ⊎ (length state < 8) × IsCount processors × (r ≡ reply.Refused command.Domain Memory)
+
+-- the reply to what was asked, and the state behind it
+abbrev pub Answers : Limits → State → Request → Reply → State → Type 0
+Answers limits state (request.Domain name processors) r state' = Makes limits state name processors r state' ⊎ MakesNone state processors r state'
+Answers limits state (request.On place what) r state' = (d d' : DomainState) × GoesOn state place d d' state' × Does limits what d r d'
+
+-- Lines
+
+-- nothing is done, and the reply is the fault
+pub record IsFaulty (number : ℕ) (f : Fault) (state : State) (bytes : List ℕ) (faulty : Bool) (state' : State) : Type 0 where
+  pub reply : bytes ≡ reply_text (reply.Faulty number f)
+  pub faulty_is : faulty ≡ true
+  pub after : state' ≡ state
+
+pub record IsSkipped (state : State) (bytes : List ℕ) (faulty : Bool) (state' : State) : Type 0 where
+  pub reply : bytes ≡ []
+  pub faulty_is : faulty ≡ false
+  pub after : state' ≡ state
+
+pub record IsAnswered (limits : Limits) (state : State) (words : List (List ℕ)) (bytes : List ℕ) (faulty : Bool) (state' : State) : Type 0 where
+  pub asked : Request
+  pub asks : Asks (scene_of state) words asked
+  pub given : Reply
+  pub answers : Answers limits state asked given state'
+  pub reply : bytes ≡ reply_text given
+  pub faulty_is : faulty ≡ false
+
+abbrev pub FaultGives : Limits → State → ℕ → List (List ℕ) → Option Fault → List ℕ → Bool → State → Type 0
+FaultGives limits state number words None bytes faulty state' = IsAnswered limits state words bytes faulty state'
+FaultGives limits state number words (Some f) bytes faulty state' = IsFaulty number f state bytes faulty state'
+
+-- what these words give as the line of this number: the bytes that are written, whether it is faulty, and the state behind it
+abbrev pub WordsGive : Limits → State → ℕ → List (List ℕ) → List ℕ → Bool → State → Type 0
+WordsGive limits state number words bytes faulty state' = (is_skipped words ≡ true → IsSkipped state bytes faulty state')
+    × (is_skipped words ≡ false → FaultGives limits state number words (fault_of (scene_of state) words) bytes faulty state')
+
+-- what a line gives, which is text or not
+abbrev pub LineGives : Limits → State → ℕ → Option (List ℕ) → List ℕ → Bool → State → Type 0
+LineGives limits state number None bytes faulty state' = IsFaulty number Text state bytes faulty state'
+LineGives limits state number (Some line) bytes faulty state' = WordsGive limits state number (words_of line) bytes faulty state'

@@ -1,0 +1,12 @@
+//! The session of a script: its domains, the tokens that have names there, and what each line does to them.
+#![tactic(auto)]
+
+mod entry;
+mod names;
+mod open;
+mod scene;
+mod session;
+#[cfg(test)]
+mod tests;
+
+pub use session::Session;

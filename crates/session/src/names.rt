@@ -1,0 +1,136 @@
+//! The names in use in a domain, and what has each of them.
+ghost use Rattle.std.specs.Prelude.{◌≡◌, ℕ, ◌<◌, ◌++◌, List, [], ◌∷◌, None, length, IfSome, IfNone, OnOk, IsPermutation};
+ghost use Rattle.std.specs.Option.{option_copied};
+ghost use Rattle.session.specs.Tokens.{token_at, open_index, held_of, Frees};
+
+use crate::open::Open;
+use indexmap::IndexMap;
+use lines::Name;
+use sections::{Look, Reading};
+use sseq::Index;
+use std::alloc::{AllocError, Allocator};
+use std::hash::{BuildHasherDefault, FoldHasher};
+use std::marker::Model;
+
+/// What has a name: a look, or an open section.
+pub enum Token {
+    Look(Look),
+    Section(Reading),
+}
+
+/// Tokens under names. To find, to add and to take out one costs the same however many there are.
+pub type Tokens<A> = IndexMap<Name, Token, BuildHasherDefault<FoldHasher>, A>;
+
+/// The names in use in a domain, each with its token, and how many of these are open sections of each index. Open
+/// sections must be ended: spend it by [`Names::into_tokens`].
+pub struct Names<A: Allocator> {
+    tokens: Tokens<A>,
+    open: Open,
+}
+
+impl<A: Allocator> Model for Names<A> {
+    ghost use Rattle.session.specs.Tokens.{NamesView};
+
+    ghost Value = { NamesView };
+
+    ghost use Rattle.session.specs.Held.{view_of_names, AreNames};
+
+    ghost view = { view_of_names };
+
+    ghost invariant = { AreNames };
+}
+
+impl<A: Allocator> Names<A> {
+    /// No name is in use.
+    pub fn new(alloc: A) -> Names<A>
+    where
+        A: Copy,
+        ensures { result.tokens ≡ [] }
+    {
+        Names {
+            tokens: IndexMap::with_hasher(alloc, BuildHasherDefault::new()),
+            open: Open::NONE,
+        }
+    }
+
+    /// What has the name.
+    pub fn get(&self, name: &Name) -> Option<&Token>
+        ensures { option_copied result ≡ token_at name.now self.now.tokens }
+    {
+        self.tokens.get(name)
+    }
+
+    /// How many open sections of an index have names.
+    pub fn open(&self, index: Index) -> usize
+        ensures { result ≡ held_of index self.now.tokens }
+    {
+        self.open.of(index)
+    }
+
+    /// Makes room for one more name.
+    pub fn reserve(&mut self) -> Result<(), AllocError>
+        ensures tokens { self.new.tokens ≡ self.old.tokens }
+        ensures room { OnOk result (0 < self.new.room) }
+    {
+        self.tokens.reserve(1)
+    }
+
+    /// Gives a free name to a token. There must be room.
+    pub fn insert(&mut self, name: Name, token: Token)
+        requires free { token_at name self.old.tokens ≡ None }
+        requires room { 0 < self.old.room }
+        ensures { self.new.tokens ≡ self.old.tokens ++ (name, token) ∷ [] }
+    {
+        // It says that there are less than 2 ^ 63 names, so that one more can be counted.
+        let _len = self.tokens.len();
+        self.open.raise(token.open_index());
+        match self.tokens.insert(name, token) {
+            Ok(None) => {}
+            Ok(Some(_old)) => unreachable!(),
+            Err(_failed) => unreachable!(),
+        }
+    }
+
+    /// Takes a token out. Its name is then free, and there is no less room than there was.
+    pub fn remove(&mut self, name: &Name) -> Option<Token>
+        ensures token { result ≡ token_at name.now self.old.tokens }
+        ensures frees { Frees name.now self.old.tokens self.new.tokens }
+        ensures others { IfSome result (λ t. (stored : List ℕ) × IsPermutation self.old.tokens ((stored, t) ∷ self.new.tokens)) }
+        ensures room { 0 < self.old.room → 0 < self.new.room }
+    {
+        let place = self.tokens.get_index_of(name)?;
+        let (_name, token) = self.tokens.swap_remove_index(place)?;
+        self.open.lower(token.open_index());
+        Some(token)
+    }
+
+    /// All names with their tokens.
+    pub fn into_tokens(self) -> Tokens<A>
+        ensures { result.entries ≡ self.tokens }
+    {
+        let Names { tokens, open: _ } = self;
+        tokens
+    }
+}
+
+/// Takes the last token out, or `None` where there is none.
+pub fn take_last<A: Allocator>(tokens: &mut Tokens<A>) -> Option<Token>
+    ensures none { IfNone result (tokens.new.entries ≡ []) }
+    ensures last { IfSome result (λ t. (name : List ℕ) × (tokens.old.entries ≡ tokens.new.entries ++ (name, t) ∷ [])) }
+    ensures fewer { IfSome result (λ t. length tokens.new.entries < length tokens.old.entries) }
+{
+    let (_name, token) = tokens.pop()?;
+    Some(token)
+}
+
+impl Token {
+    /// The index of the open section that this stands for.
+    fn open_index(&self) -> Option<Index>
+        ensures { result ≡ open_index self.now }
+    {
+        match self {
+            Token::Look(_) => None,
+            Token::Section(reading) => Some(reading.index()),
+        }
+    }
+}

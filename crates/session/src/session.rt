@@ -1,0 +1,142 @@
+//! The domains of a script, and what a line does to them.
+ghost use Rattle.std.specs.Prelude.{◌≡◌, ◌⊎◌, ◌++◌, [], true, IfOk, OnErr};
+ghost use Rattle.sections.specs.Limits.{AreInRange};
+ghost use Rattle.requests.specs.Replies.{reply_text};
+ghost use Rattle.requests.specs.Requests.{IsFor};
+ghost use Rattle.session.specs.States.{scene_of};
+ghost use Rattle.session.specs.Scripts.{Makes, MakesNone, Answers as AnswersTo};
+
+use crate::entry::Entry;
+use lines::{Answers, Name, words};
+use requests::{Cause, Command, Fault, Reply, Request, is_skipped, parse, push_reply};
+use sections::{Limits, MakeError};
+use solo::Solo;
+use std::alloc::{AllocError, Allocator};
+use std::marker::Model;
+
+/// The domains of a script. Open sections must be ended: spend it by [`Session::finish`].
+pub struct Session<A: Allocator> {
+    alloc: A,
+    limits: Limits,
+    pub(crate) entries: Vec<Entry<A>, A>,
+}
+
+impl<A: Allocator> Model for Session<A> {
+    ghost use Rattle.session.specs.States.{SessionView};
+
+    ghost Value = { SessionView };
+
+    ghost use Rattle.session.specs.Sessions.{view_of_session, IsSession};
+
+    ghost view = { view_of_session };
+
+    ghost invariant = { IsSession };
+}
+
+/// How many domains a script may have.
+const MOST_DOMAINS: usize = 8;
+
+impl<A: Allocator + Copy> Session<A> {
+    /// A session without domains. Each domain that it makes has these limits.
+    pub fn new(alloc: A, limits: Limits) -> Session<A>
+        requires { AreInRange limits }
+        ensures { result ≡ record { limits = limits; domains = [] } }
+    {
+        Session {
+            alloc,
+            limits,
+            entries: Vec::new(alloc),
+        }
+    }
+
+    /// Does what a line asks for.
+    fn respond(&mut self, request: Request) -> Result<Reply, AllocError>
+        requires { IsFor (scene_of self.old.domains) request }
+        ensures limits { self.new.limits ≡ self.old.limits }
+        ensures ok { IfOk result (λ r. AnswersTo self.old.limits self.old.domains request r self.new.domains) }
+    {
+        match request {
+            Request::Domain { name, processors } => self.make(name, processors),
+            Request::On { domain, act } => self.entries[domain].act(act),
+        }
+    }
+
+    /// Makes a domain, unless a cause stands against it. Where memory for the session is refused, nothing is done.
+    fn make(&mut self, name: Name, processors: u64) -> Result<Reply, AllocError>
+        ensures limits { self.new.limits ≡ self.old.limits }
+        ensures ok { IfOk result (λ r. Makes self.old.limits self.old.domains name processors r self.new.domains
+            ⊎ MakesNone self.old.domains processors r self.new.domains) }
+        ensures err { OnErr result (self.new ≡ self.old) }
+    {
+        if self.entries.len() >= MOST_DOMAINS {
+            return Ok(Reply::Refused(Command::Domain, Cause::Full));
+        }
+        self.entries.reserve(1)?;
+        let entry = match Solo::new(self.alloc, processors, self.limits) {
+            Ok(domain) => Entry::new(self.alloc, name, domain),
+            Err(MakeError::Processors) => {
+                return Ok(Reply::Refused(Command::Domain, Cause::Processors));
+            }
+            Err(MakeError::Memory) => {
+                return Ok(Reply::Refused(Command::Domain, Cause::Memory));
+            }
+            Err(MakeError::Limits) => unreachable!(),
+        };
+        self.entries.push(entry).unwrap();
+        Ok(Reply::Made {
+            domain: name,
+            processors,
+        })
+    }
+
+    /// Ends all open sections, and drops the domains.
+    pub fn finish(self) {
+        let Session {
+            alloc: _,
+            limits: _,
+            mut entries,
+        } = self;
+        while let Some(entry) = entries.pop() {
+            entry.finish();
+        }
+        entries.destroy_empty();
+    }
+}
+
+impl<A: Allocator + Copy> Answers<A> for Session<A> {
+    ghost use Rattle.std.specs.Prelude.{◌≡◌};
+    ghost use Rattle.session.specs.Scripts.{LineGives};
+
+    ghost gives = { λ s number line reply faulty s'. LineGives s.limits s.domains number line reply faulty s'.domains × (s'.limits ≡ s.limits) };
+
+    fn answer(
+        &mut self,
+        number: u64,
+        line: Option<&[u8]>,
+        reply: &mut Vec<u8, A>,
+    ) -> Result<bool, AllocError> {
+        let Some(line) = line else {
+            return faulty(number, Fault::Text, reply);
+        };
+        let words = words(self.alloc, line)?;
+        if is_skipped(&words) {
+            return Ok(false);
+        }
+        match parse(&words, self) {
+            Ok(request) => {
+                let given = self.respond(request)?;
+                push_reply(reply, &given)?;
+                Ok(false)
+            }
+            Err(fault) => faulty(number, fault, reply),
+        }
+    }
+}
+
+/// The reply to a faulty line.
+fn faulty<A: Allocator>(line: u64, fault: Fault, reply: &mut Vec<u8, A>) -> Result<bool, AllocError>
+    ensures { IfOk result (λ b. (b ≡ true) × (reply.new.items ≡ reply.old.items ++ reply_text (Reply.Faulty line fault))) }
+{
+    push_reply(reply, &Reply::Faulty { line, fault })?;
+    Ok(true)
+}

@@ -1,7 +1,0 @@
-use Rattle.srcuctl.specs.States.{states_of}
-use Rattle.srcuctl.specs.Requests.{texts}
-use Rattle.srcuctl.proofs.Parsing.{look_right}
-use Rattle.srcuctl.proofs.parse.look.Goals as goal
-
-pub returns : goal.returns
-returns g c = look_right (states_of c.args.entries.now) (texts c.args.words.now) _ _ _ c.in_ok-domain.ensures
