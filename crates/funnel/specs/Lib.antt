@@ -1,0 +1,10 @@
+pub mod Tree
+pub mod Histories
+pub mod Rule
+pub mod Plays
+pub mod Seats
+pub mod Views
+pub mod Calls
+pub mod Insides
+pub mod Making
+pub mod Laws
