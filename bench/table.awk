@@ -55,6 +55,13 @@ function period_rows(size) {
     row("C11 model of it, " processors(size), "model-quiet-period", size, "model-quiet-period")
 }
 
+function entry_rows() {
+    row("callback list, all at once", "srcubench-list", 1, "srcubench-queue")
+    row("plain queue, all at once", "srcubench-queue", 1, "srcubench-queue")
+    row("callback list, eight at a time", "srcubench-list-in-batches", 1, "srcubench-queue-in-batches")
+    row("plain queue, eight at a time", "srcubench-queue-in-batches", 1, "srcubench-queue-in-batches")
+}
+
 function growth_row(label, name) {
     if ((1, name, 2) in ns)
         printf "%-44s %s\n", label, ratios(name, 2, name, 1)
@@ -77,6 +84,9 @@ END {
     printf "%-44s %-28s %s\n", "one quiet grace period", "      ns", "ratio to the model"
     for (size = 1; size <= most; size *= 2)
         period_rows(size)
+    print ""
+    printf "%-44s %-28s %s\n", "one entry of a list", "      ns", "ratio to the queue"
+    entry_rows()
     print ""
     printf "%-44s %s\n", "a pair at 2 threads against one at 1", "   ratio"
     growth_row("this domain", "srcubench")

@@ -1,47 +1,40 @@
 -- What a quiet period adds.
-use Rattle.std.proofs.Common.{◌≡◌, ℕ, ◌+◌, ◌*◌, ◌≤◌, inl, List, [], ◌∷◌, ◌++◌, length, sym, ap, ◌∙◌, subst, length-append, add-one, arith}
+use Rattle.std.proofs.Common.{◌≡◌, ℕ, ◌+◌, ◌*◌, ◌≤◌, inl, List, [], ◌∷◌, ◌++◌, length, sym, ap, ◌∙◌, subst, append_assoc, length-append, add-one, arith}
 use Rattle.std.proofs.Math.Nat.{suc-mul}
 use mathlib.Core.Logic.{dite}
 use native.Mathlib.Decide.{dec_lt}
 use Rattle.srcubench.specs.declared.periods.EveryPeriod.{EveryPeriod}
 use Rattle.onedom.specs.declared.event.Maker.TheVariants.{Engine}
 use Rattle.onedom.specs.declared.event.Event.{Event}
-use Rattle.onedom.specs.declared.event.Event.TheVariants.{Start, Finish}
+use Rattle.onedom.specs.declared.event.Event.TheVariants.{Finish}
 use Rattle.onedom.specs.Histories.{ended_in, starts_in, IsBeginning}
-use Rattle.onedom.proofs.Pushes.{ended_in_push}
-use Rattle.onedom.proofs.Beginnings.{beginning_append, beginning_trans, beginning_by_length, ended_grow, length_grows}
+use Rattle.onedom.proofs.CallerLemmas.{ended_in_push, beginning_append, ended_grow}
 use Rattle.sseq.specs.Numbers.{periods_ended}
 use Rattle.scan.specs.declared.progress.Progress.{Progress}
-use Rattle.scan.specs.Progress.{AdvancesTo, events_of, steps_for}
+use Rattle.scan.specs.Standings.{events_of, steps_for}
+use Rattle.scan.specs.Progress.{AdvancesTo}
 use Rattle.srcubench.specs.Periods.{View, LoadsNeed, steps_made, CarriesPeriod, CarriesPeriods, quiet_steps}
-
--- where the last event was a start, and now is an end, a period has ended since
-ended_since : (b c : List Event) → IsBeginning (b ++ Start Engine ∷ []) (c ++ Finish Engine ∷ []) → ended_in (b ++ Start Engine ∷ []) + 1 ≤ ended_in (c ++ Finish Engine ∷ [])
-ended_since b c h =
-    let long = length_grows h in
-    let short : length b ≤ length c = omega (arith, long, length-append b (Start Engine ∷ []), length-append c (Finish Engine ∷ [])) in
-    let within = beginning_by_length (beginning_trans (beginning_append b (Start Engine ∷ [])) h) (beginning_append c (Finish Engine ∷ [])) short in
-    let few = ended_grow within in
-    let b' = ended_in_push b (Start Engine) in
-    let c' = ended_in_push c (Finish Engine) in
-    omega (arith, few, b', c')
 
 pub one_more : (v w : View) (n : ℕ) → CarriesPeriod v n w → ended_in v.seat.seen + 1 ≤ ended_in w.seat.seen
 one_more v w n p =
-    let s = p.starts.says.0 in
-    let e = p.ends.says in
-    let before = ended_grow p.starts.goes_on.since in
-    let whole = beginning_trans p.flips.goes_on.since p.ends.goes_on.since in
-    let more = subst (λ (h : List Event). ended_in h + 1 ≤ ended_in w.seat.seen) (sym s.seen)
-    (subst (λ (h : List Event). ended_in (s.before ++ Start Engine ∷ []) + 1 ≤ ended_in h) (sym e.seen)
-    (ended_since s.before e.before (rw (s.seen, e.seen) at whole))) in
-    omega (arith, before, more)
+    let begun = ended_grow (since v p.started _ p.starts.answered.events) in
+    let flipped = ended_grow (since p.started p.flipped _ p.flips.answered.events) in
+    let others = p.ends.goes_on.others in
+    let before : List Event = p.flipped.seat.seen ++ others in
+    let last : w.seat.seen ≡ before ++ Finish Engine ∷ [] = p.ends.answered.events ∙ sym (append_assoc p.flipped.seat.seen others (Finish Engine ∷ [])) in
+    let grown = ended_grow (beginning_append p.flipped.seat.seen others) in
+    let more = ended_in_push before (Finish Engine) in
+    let all : ended_in w.seat.seen ≡ ended_in (before ++ Finish Engine ∷ []) = ap ended_in last in
+    omega (arith, begun, flipped, grown, more, all)
+  where
+    since : (x y : View) (rest : List Event) → y.seat.seen ≡ x.seat.seen ++ rest → IsBeginning x.seat.seen y.seat.seen
+    since x y rest whole = record { rest = rest; whole = whole }
 
 -- a call that found nothing half done made as many steps as its answer takes
 steps_of_call : (v w : View) (a : Progress) → AdvancesTo LoadsNeed v a w → v.so_far ≡ 0 → steps_made w ≡ steps_made v + steps_for v.seat.processors a
 steps_of_call v w a h none =
     let steps = h.steps in
-    let mine : length w.seat.mine ≡ length v.seat.mine + length (events_of a) = ap length h.events ∙ length-append v.seat.mine (events_of a) in
+    let mine : length w.seat.mine ≡ length v.seat.mine + length (events_of a) = ap length h.goes_on.events ∙ length-append v.seat.mine (events_of a) in
     let made : length w.seat.steps ≡ length v.seat.steps + length h.goes_on.made = ap length h.goes_on.steps ∙ length-append v.seat.steps h.goes_on.made in
     let loads : length w.needs.cpu.steps ≡ length v.needs.cpu.steps + h.needs.count = dite (dec_lt (ended_in v.seat.seen) (starts_in v.seat.seen))
     (λ running. let b = h.needs.busy (inl running) in let zero = b.0 in let same : length w.needs.cpu.steps ≡ length v.needs.cpu.steps = ap (λ (n : EveryPeriod). length n.cpu.steps) b.1 in omega (arith, zero, same))
@@ -66,7 +59,7 @@ next_times k q = ap (λ n. n * q) (add-one k) ∙ suc-mul k q
 
 pub carried_on : (k ended n : ℕ) (v u w : View) → CarriesPeriods k v ended u → u.seat.processors ≡ v.seat.processors → CarriesPeriod u n w → CarriesPeriods (k + 1) v (periods_ended n) w
 carried_on k ended n v u w h same p =
-    let number = p.ends.says.number in
+    let number = p.ends.answered.says.0 in
     let count : periods_ended n ≡ ended_in w.seat.seen = omega (arith, number) in
     let more = one_more u w n p in
     let before = h.counted in

@@ -1,2 +1,4 @@
 mod Carrying
+mod Passing
 mod Rooms
+mod Sampling

@@ -1,10 +1,10 @@
 -- Where there is room for all pairs, all are made.
-use Rattle.std.proofs.Common.{◌≡◌, ℕ, zero, suc, Bool, true, false, ◌+◌, ◌≤◌, List, [], ◌∷◌, ◌++◌, ◌⊎◌, inl, inr, arith}
+use Rattle.std.proofs.Common.{ℕ, zero, suc, Bool, true, false, ◌+◌, ◌≤◌, List, [], ◌∷◌, ◌++◌, ◌⊎◌, inl, inr, arith}
 use Rattle.sseq.specs.declared.index.Index.{Index}
 use Rattle.onedom.specs.declared.event.Maker.TheVariants.{Processor}
 use Rattle.onedom.specs.declared.event.Event.{Event}
 use Rattle.onedom.specs.declared.event.Event.TheVariants.{Begin, End}
-use Rattle.onedom.proofs.Pushes.{bit, count_push}
+use Rattle.onedom.proofs.CallerLemmas.{bit, count_push}
 use Rattle.sections.specs.Words.{locks_at, locks}
 use Rattle.sections.specs.Views.{CpuView}
 use Rattle.srcubench.specs.Pairs.{AddsPairs, MakesPairs, AllMade, StopsEarly, HasRoom}
@@ -23,8 +23,8 @@ locks_of_pairs p i (suc n) before after (between, s, j, h, e) =
     let one = bit_small (locks_at p i (Begin s p j (Processor p))) in
     rw e (omega (arith, rest, begun, ended, one))
 
-pub all_made : (pairs n : ℕ) (c d : CpuView) → HasRoom pairs c → MakesPairs n c d → AllMade pairs n c d ⊎ StopsEarly pairs n c d → n ≡ pairs
-all_made pairs n c d room made (inl all) = all.all
+pub all_made : (pairs n : ℕ) (c d : CpuView) → HasRoom pairs c → MakesPairs n c d → AllMade pairs n c d ⊎ StopsEarly pairs n c d → AllMade pairs n c d
+all_made pairs n c d room made (inl all) = all
 all_made pairs n c d room made (inr early) =
     let few = locks_of_pairs c.processor early.index n c.mine d.mine made.mine in
     let few' = rw room.unused at few in

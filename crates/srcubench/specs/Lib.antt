@@ -1,7 +1,9 @@
 pub use Rattle.sections.specs.Calls
 pub mod Jobs
+pub mod Lists
 pub mod Pairs
 pub mod Needed
 pub mod Periods
 pub mod Readers
+pub mod Samples
 pub mod Spreads

@@ -3,7 +3,7 @@ use Rattle.std.specs.Prelude.{◌≡◌, ℕ, ◌+◌, ◌*◌, ◌<◌, ◌≤�
 use Rattle.atomic_table.specs.Seated.{TableId}
 use Rattle.sseq.specs.declared.index.Index.{Index}
 use Rattle.onedom.specs.Histories.{ended_in}
-use Rattle.sections.specs.Driving.{new_engine as new_seat}
+use Rattle.sections.specs.EngineCalls.{new_engine as new_seat}
 use Rattle.scan.specs.declared.progress.Progress.{Progress}
 use Rattle.scan.specs.declared.progress.Progress.TheVariants.{Started, Flipped, Ended}
 use Rattle.scan.specs.Progress.{ScanView, AdvancesTo, FindsExhausted}

@@ -4,11 +4,11 @@ use Rattle.atomic_table.specs.Seated.{TableId}
 use Rattle.sections.specs.Views.{CpuView}
 use Rattle.sections.specs.Calls.{new_cpu}
 use Rattle.srcubench.specs.declared.pairs.Reader.{Reader}
-use Rattle.srcubench.specs.Pairs.{MakesPairs}
+use Rattle.srcubench.specs.Pairs.{MakesPairs, AllMade}
 
--- the processor made so many pairs, and counted them
+-- the processor made so many pairs, with one load of the index word for each, and counted them
 pub record HasMadeAll (pairs : ℕ) (c : CpuView) (reader : Reader) : Type 0 where
-  pub counted : reader.made ≡ pairs
+  pub all : AllMade pairs reader.made c reader.cpu
   pub pairs_made : MakesPairs pairs c reader.cpu
 
 -- each of these processors did so

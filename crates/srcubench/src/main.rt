@@ -1,11 +1,13 @@
 //! `srcubench` measures what a pair of `read_lock` and `read_unlock` costs, on one processor and on several at once, and
-//! what a grace period costs with nobody reading.
+//! what a grace period costs with nobody reading, and what an entry of a callback list costs.
 #![tactic(auto)]
 
-ghost use Rattle.std.specs.Prelude.{◌≤◌};
+ghost use Rattle.std.specs.Prelude.{◌≤◌, ◌^◌};
 
 mod command_line;
+mod lists;
 mod pairs;
+mod passage;
 mod periods;
 mod quiet;
 mod spread;
@@ -15,8 +17,9 @@ mod trial;
 
 use anyhow::Result;
 use command_line::{Job, job_of};
+use lists::BATCH;
+use passage::Way;
 use sections::MOST_PROCESSORS;
-use spread::Spread;
 use std::env;
 use std::process::ExitCode;
 use std::rt::Env;
@@ -32,8 +35,14 @@ const COUNTED_PAIRS: u64 = 1_000;
 /// How many grace periods a domain has where they are only counted.
 const COUNTED_PERIODS: u64 = 1_000;
 
+/// How many batches of entries go through a list where they are only counted.
+const COUNTED_BATCHES: u64 = 100;
+
 /// A grace period is measured so many times less often than a pair, since it takes longer.
 const LESS_OFTEN: u64 = 4;
+
+/// An entry goes through a list so many times less often than a pair is made, since all entries lie in memory at once.
+const LESS_OFTEN_IN_LISTS: u64 = 8;
 
 /// The status of a run whose command line can't be read.
 const MISUSED: u8 = 2;
@@ -54,34 +63,41 @@ fn count<R: Threads + Sync + Clock + Print + AllocGlobal>(rt: &R) -> Result<()> 
             println!(rt; "processors {processors}: {} quiet periods", trial.ended)?;
         }
     }
+    for way in Way::ALL {
+        let passage = passage::run(rt, way, COUNTED_BATCHES)?;
+        println!(rt; "{way}: {} entries", passage.came_out)?;
+    }
     Ok(())
 }
 
 /// Prints for each number of threads what one pair took, and for each number of processors what one grace period took
-/// with nobody reading, in nanoseconds.
+/// with nobody reading, and for each way through a list what one entry took, in nanoseconds.
 fn time<R: Threads + Sync + Clock + Print + AllocGlobal>(
     rt: &R,
     pairs: u64,
     repetitions: u64,
 ) -> Result<()>
     requires pairs { 1 ≤ pairs }
+    requires few { pairs ≤ 2 ^ 54 }
     requires repetitions { 1 ≤ repetitions }
 {
     for threads in SIZES {
         if threads <= MOST_PROCESSORS {
-            let samples = trial::samples(rt, threads, pairs, repetitions)?;
-            println!(rt; "srcubench {threads} {}", Spread::of(samples)?)?;
+            let spread = trial::measure(rt, threads, pairs, repetitions)?;
+            println!(rt; "srcubench {threads} {spread}")?;
         }
     }
     let periods = pairs / LESS_OFTEN + 1;
     for processors in SIZES {
         if processors <= MOST_PROCESSORS {
-            let samples = quiet::samples(rt, processors, periods, repetitions)?;
-            println!(rt;
-                "srcubench-quiet-period {processors} {}",
-                Spread::of(samples)?
-            )?;
+            let spread = quiet::measure(rt, processors, periods, repetitions)?;
+            println!(rt; "srcubench-quiet-period {processors} {spread}")?;
         }
+    }
+    let batches = pairs / (LESS_OFTEN_IN_LISTS * BATCH) + 1;
+    for way in Way::ALL {
+        let spread = passage::measure(rt, way, batches, repetitions)?;
+        println!(rt; "srcubench-{way} 1 {spread}")?;
     }
     Ok(())
 }

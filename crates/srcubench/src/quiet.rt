@@ -1,9 +1,11 @@
 //! One measurement of quiet grace periods: a new domain, and its engine.
-ghost use Rattle.std.specs.Prelude.{◌≡◌, ◌≤◌, vec_len, IfOk};
+ghost use Rattle.std.specs.Prelude.{ℕ, ◌≤◌, List, IfOk};
 ghost use Rattle.srcubench.specs.Periods.{HaveEnded};
+ghost use Rattle.srcubench.specs.Samples.{AreOfPeriods};
+ghost use Rattle.srcubench.specs.Spreads.{IsSpreadOf};
 
 use crate::periods::{EveryPeriod, make_periods};
-use crate::trial::cost_of_one;
+use crate::spread::{Spread, cost_of_one};
 use anyhow::Result;
 use scan::Engine;
 use sections::{Limits, Made, make};
@@ -41,14 +43,14 @@ pub fn run<R: Clock + AllocGlobal>(rt: &R, processors: usize, periods: u64) -> R
 }
 
 /// What one period took in each of the repetitions, in hundredths of a nanosecond.
-pub fn samples<R: Clock + AllocGlobal>(
+fn samples<R: Clock + AllocGlobal>(
     rt: &R,
     processors: usize,
     periods: u64,
     repetitions: u64,
 ) -> Result<Vec<u64>>
     requires { 1 ≤ periods }
-    ensures { IfOk result (λ samples. vec_len samples ≡ repetitions) }
+    ensures { IfOk result (λ samples. AreOfPeriods processors periods repetitions samples.items) }
 {
     let mut samples = Vec::new(rt.alloc());
     for _ in 0..repetitions {
@@ -56,4 +58,18 @@ pub fn samples<R: Clock + AllocGlobal>(
         samples.push(cost_of_one(trial.elapsed, periods))?;
     }
     Ok(samples)
+}
+
+/// The spread of what one period took in each of the repetitions.
+pub fn measure<R: Clock + AllocGlobal>(
+    rt: &R,
+    processors: usize,
+    periods: u64,
+    repetitions: u64,
+) -> Result<Spread>
+    requires periods { 1 ≤ periods }
+    requires repetitions { 1 ≤ repetitions }
+    ensures { IfOk result (λ spread. (samples : List ℕ) × AreOfPeriods processors periods repetitions samples × IsSpreadOf samples spread) }
+{
+    Ok(Spread::of(samples(rt, processors, periods, repetitions)?)?)
 }

@@ -1,9 +1,12 @@
 //! How far repetitions of one measurement lie apart.
-ghost use Rattle.std.specs.Prelude.{◌<◌, vec_len, IfOk};
+ghost use Rattle.std.specs.Prelude.{◌≡◌, ◌<◌, ◌≤◌, vec_len, IfOk};
+ghost use Rattle.std.specs.Duration.{as_nanos};
+ghost use Rattle.srcubench.specs.Samples.{cost_of_one};
 ghost use Rattle.srcubench.specs.Spreads.{IsSpreadOf};
 
 use std::alloc::AllocError;
 use std::fmt;
+use std::time::Duration;
 
 /// What one pair or one grace period took in several repetitions, in hundredths of a nanosecond.
 #[derive(Clone, Copy, Debug, PartialEq, Eq)]
@@ -27,6 +30,15 @@ impl Spread {
             most: sorted[sorted.len() - 1],
         })
     }
+}
+
+/// What one of so many took, in hundredths of a nanosecond, or the largest number where that is more.
+pub fn cost_of_one(elapsed: Duration, count: u64) -> u64
+    requires { 1 ≤ count }
+    ensures { result ≡ cost_of_one (as_nanos elapsed) count }
+{
+    let hundredths = elapsed.as_nanos() * 100 / u128::from(count);
+    u64::try_from(hundredths).unwrap_or(u64::MAX)
 }
 
 impl fmt::Display for Spread {

@@ -1,8 +1,9 @@
 use crate::command_line::{Job, job_of};
 use crate::pairs::make_pairs;
+use crate::passage::Way;
 use crate::periods::{EveryPeriod, Stop, make_periods};
 use crate::spread::Spread;
-use crate::{quiet, trial};
+use crate::{passage, quiet, trial};
 use scan::{Engine, Progress};
 use sections::{Limits, Made, make};
 use sseq::Index;
@@ -64,7 +65,8 @@ fn tries_two_threads(rt: HostRuntime) -> Result<(), Fail> {
     for (processor, reader) in (0u16..).zip(trial.readers.iter()) {
         assert_eq!(rt; (reader.cpu.processor(), reader.made), (processor, 1_000));
     }
-    assert_eq!(rt; trial::samples(&rt, 2, 10, 3)?.len(), 3);
+    let spread = trial::measure(&rt, 2, 10, 3)?;
+    assert!(rt; spread.least <= spread.median && spread.median <= spread.most);
     Ok(())
 }
 
@@ -116,7 +118,25 @@ fn tries_quiet_periods(rt: HostRuntime) -> Result<(), Fail> {
     for processors in [1, 2] {
         assert_eq!(rt; quiet::run(&rt, processors, 100)?.ended, 100);
     }
-    assert_eq!(rt; quiet::samples(&rt, 2, 10, 3)?.len(), 3);
+    let spread = quiet::measure(&rt, 2, 10, 3)?;
+    assert!(rt; spread.least <= spread.median && spread.median <= spread.most);
+    Ok(())
+}
+
+/// Would catch entries that are left behind, a way that is taken for another, and want of memory where there is some.
+#[test]
+fn sends_entries_through(rt: HostRuntime) -> Result<(), Fail> {
+    for (way, name) in [
+        (Way::List, "list"),
+        (Way::ListInBatches, "list-in-batches"),
+        (Way::Queue, "queue"),
+        (Way::QueueInBatches, "queue-in-batches"),
+    ] {
+        assert_eq!(rt; passage::run(&rt, way, 5)?.came_out, 40);
+        let spread = passage::measure(&rt, way, 5, 3)?;
+        assert!(rt; spread.least <= spread.median && spread.median <= spread.most);
+        assert_eq!(rt; format!(in rt.alloc(); "{way}")?.as_str(), name);
+    }
     Ok(())
 }
 

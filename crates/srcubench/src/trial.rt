@@ -1,10 +1,12 @@
 //! One measurement: a new domain, and a thread for each of its processors.
-ghost use Rattle.std.specs.Prelude.{◌≡◌, ◌*◌, ◌/◌, ◌^◌, ◌<◌, ◌≤◌, vec_len, All, IfOk};
-ghost use Rattle.std.specs.Duration.{as_nanos};
+ghost use Rattle.std.specs.Prelude.{ℕ, ◌≤◌, List, All, IfOk};
 ghost use Rattle.srcubench.specs.Pairs.{HasRoom};
 ghost use Rattle.srcubench.specs.Readers.{HaveMadeAll, AreReadersOfOne};
+ghost use Rattle.srcubench.specs.Samples.{AreOfTrials};
+ghost use Rattle.srcubench.specs.Spreads.{IsSpreadOf};
 
 use crate::pairs::{Reader, make_all_pairs};
+use crate::spread::{Spread, cost_of_one};
 use anyhow::Result;
 use sections::{Cpu, Limits, Made, make};
 use std::alloc::{AllocError, Allocator};
@@ -53,24 +55,15 @@ pub fn run<R: Threads + Sync + Clock + AllocGlobal>(
     Ok(Trial { readers, elapsed })
 }
 
-/// What one of so many took, in hundredths of a nanosecond, or the largest number where that is more.
-pub fn cost_of_one(elapsed: Duration, count: u64) -> u64
-    requires { 1 ≤ count }
-    ensures { let hundredths = as_nanos elapsed * 100 / count in hundredths < 2 ^ 64 → result ≡ hundredths }
-{
-    let hundredths = elapsed.as_nanos() * 100 / u128::from(count);
-    u64::try_from(hundredths).unwrap_or(u64::MAX)
-}
-
 /// What one pair took in each of the repetitions, in hundredths of a nanosecond.
-pub fn samples<R: Threads + Sync + Clock + AllocGlobal>(
+fn samples<R: Threads + Sync + Clock + AllocGlobal>(
     rt: &R,
     threads: usize,
     pairs: u64,
     repetitions: u64,
 ) -> Result<Vec<u64>>
     requires { 1 ≤ pairs }
-    ensures { IfOk result (λ samples. vec_len samples ≡ repetitions) }
+    ensures { IfOk result (λ samples. AreOfTrials threads pairs repetitions samples.items) }
 {
     let mut samples = Vec::new(rt.alloc());
     for _ in 0..repetitions {
@@ -78,4 +71,18 @@ pub fn samples<R: Threads + Sync + Clock + AllocGlobal>(
         samples.push(cost_of_one(trial.elapsed, pairs))?;
     }
     Ok(samples)
+}
+
+/// The spread of what one pair took in each of the repetitions.
+pub fn measure<R: Threads + Sync + Clock + AllocGlobal>(
+    rt: &R,
+    threads: usize,
+    pairs: u64,
+    repetitions: u64,
+) -> Result<Spread>
+    requires pairs { 1 ≤ pairs }
+    requires repetitions { 1 ≤ repetitions }
+    ensures { IfOk result (λ spread. (samples : List ℕ) × AreOfTrials threads pairs repetitions samples × IsSpreadOf samples spread) }
+{
+    Ok(Spread::of(samples(rt, threads, pairs, repetitions)?)?)
 }

@@ -6,4 +6,4 @@ pub returns : goal.returns
 returns c =
     let made = c.make_pairs-made.ensures.made in
     let all = all_made _ _ _ _ c.requires made c.make_pairs-made.ensures.all in
-    record { counted = all; pairs_made = rw all at made }
+    record { all = all; pairs_made = rw all.all at made }

@@ -1,6 +1,6 @@
--- There is a sample of each repetition so far.
-use Rattle.std.proofs.Common.{◌≡◌, vec_len}
+-- There is a sample of each trial so far.
+use Rattle.srcubench.specs.Samples.{AreOfPeriods}
 use Rattle.srcubench.proofs.quiet.samples.Given as goal
 
 abbrev pub invariant-loop : goal.invariant-loop
-invariant-loop g l = vec_len l.samples ≡ l.counter
+invariant-loop g l = AreOfPeriods l.initial.processors l.initial.periods l.counter l.samples.items
