@@ -4,7 +4,7 @@
 #include <stdatomic.h>
 #include <stddef.h>
 
-#define MOST_PROCESSORS 4
+#define MOST_PROCESSORS 64
 
 struct word {
 	_Alignas(STRIDE) _Atomic uint64_t value;
@@ -22,18 +22,19 @@ struct table {
 
 /*
  * What a processor of the domain keeps in memory: where the words are, the sections that it began of each index, and
- * those that are open.
+ * those that it ended.
  */
 struct cpu {
 	_Alignas(STRIDE) struct table *volatile table;
 	volatile uint64_t begun[2];
-	volatile uint64_t open;
+	volatile uint64_t settled;
 };
 
 static struct word current_index;
 static struct word number;
 static struct word need;
 static struct processor processors[MOST_PROCESSORS];
+static struct processor holders[2];
 static struct table table = { processors };
 static struct cpu cpus[MOST_PROCESSORS];
 static const uint64_t most_sections = (uint64_t)1 << 54;
@@ -75,9 +76,22 @@ static void make_kept_pairs(const struct worker *worker)
 			return;
 		atomic_fetch_add(&cpu->table->processors[number].locks[index], 1);
 		cpu->begun[index]++;
-		cpu->open++;
 		atomic_fetch_add(&cpu->table->processors[number].unlocks[index], 1);
-		cpu->open--;
+		cpu->settled++;
+	}
+}
+
+/*
+ * As `down_read` on one processor and `up_read` on another: the lock counter of the one, the unlock counter of the other.
+ * They are processors of another domain, since a scan of one alone would never find what ended on the other.
+ */
+static void make_held_pairs(const struct worker *worker)
+{
+	for (uint64_t round = 0; round < worker->rounds; round++) {
+		unsigned index = atomic_load(&current_index.value) & 1;
+
+		atomic_fetch_add(&holders[0].locks[index], 1);
+		atomic_fetch_add(&holders[1].unlocks[index], 1);
 	}
 }
 
@@ -87,12 +101,13 @@ static void make_kept_pairs(const struct worker *worker)
  */
 static int is_drained(unsigned index)
 {
+	const unsigned count = processor_count;
 	uint64_t unlocks = 0;
 	uint64_t locks = 0;
 
-	for (unsigned i = 0; i < processor_count; i++)
+	for (unsigned i = 0; i < count; i++)
 		unlocks += atomic_load(&processors[i].unlocks[index]);
-	for (unsigned i = 0; i < processor_count; i++)
+	for (unsigned i = 0; i < count; i++)
 		locks += atomic_load(&processors[i].locks[index]);
 	return locks == unlocks;
 }
@@ -133,10 +148,18 @@ const struct thing keeping_model_pair = {
 	.less_often = 1,
 };
 
+const struct thing model_held_pair = {
+	.name = "model-held",
+	.prepare = prepare_processors,
+	.work = make_held_pairs,
+	.less_often = 1,
+	.sizes = one_size,
+};
+
 const struct thing model_quiet_period = {
 	.name = "model-quiet-period",
 	.prepare = prepare_processors,
 	.work = run_quiet_periods,
 	.less_often = 4,
-	.one_thread = 1,
+	.sizes = processor_sizes,
 };

@@ -3,8 +3,8 @@
  *
  *     peers ROUNDS REPETITIONS MOST
  *
- * prints a line for each thing and each size of 1, 2, 4 up to MOST: its name, the size, and the median, the least and
- * the most of the repetitions in nanoseconds. As `srcubench` does, it looks at the clock before the threads are started
+ * prints a line for each thing and each size: its name, the size, and the median, the least and the most of the
+ * repetitions in nanoseconds. A thing is measured in 1, 2, 4 threads up to MOST, or at the sizes that it gives. As `srcubench` does, it looks at the clock before the threads are started
  * and after all have ended, and divides by the rounds of one thread.
  */
 #include "peers.h"
@@ -22,16 +22,24 @@ struct job {
 	struct worker worker;
 };
 
+const unsigned one_size[] = { 1, 0 };
+const unsigned processor_sizes[] = { 1, 2, 4, 64, 0 };
+
 static const struct thing *const things[] = {
 	&model_pair,
 	&keeping_model_pair,
+	&model_held_pair,
 	&rwlock_pair,
 	&counter_pair,
 #ifdef WITH_LIBURCU
 	&urcu_mb_pair,
 	&urcu_memb_pair,
+	&urcu_mb_synchronize,
+	&urcu_memb_synchronize,
 #endif
 	&model_quiet_period,
+	&max_of_new_numbers,
+	&max_of_one_number,
 };
 
 static void fail(const char *what)
@@ -62,8 +70,9 @@ static double measure(const struct thing *thing, unsigned size, uint64_t rounds)
 {
 	pthread_t threads[MOST_THREADS];
 	struct job jobs[MOST_THREADS];
-	unsigned count = thing->one_thread ? 1 : size;
+	unsigned count = thing->sizes ? 1 : size;
 	double start;
+	double end;
 
 	thing->prepare(size);
 	start = nanoseconds_now();
@@ -75,7 +84,10 @@ static double measure(const struct thing *thing, unsigned size, uint64_t rounds)
 	for (unsigned i = 0; i < count; i++)
 		if (pthread_join(threads[i], NULL) != 0)
 			fail("a thread can't be joined");
-	return (nanoseconds_now() - start) / (double)rounds;
+	end = nanoseconds_now();
+	if (thing->clear)
+		thing->clear();
+	return (end - start) / (double)rounds;
 }
 
 static int compare(const void *left, const void *right)
@@ -96,6 +108,17 @@ static void report(const struct thing *thing, unsigned size, uint64_t most_round
 	qsort(samples, repetitions, sizeof samples[0], compare);
 	printf("%s %u median %.2f least %.2f most %.2f\n", thing->name, size,
 	       samples[repetitions / 2], samples[0], samples[repetitions - 1]);
+}
+
+static void report_sizes(const struct thing *thing, uint64_t rounds, unsigned repetitions, unsigned most)
+{
+	if (thing->sizes) {
+		for (const unsigned *size = thing->sizes; *size != 0; size++)
+			report(thing, *size, rounds, repetitions);
+		return;
+	}
+	for (unsigned size = 1; size <= most; size *= 2)
+		report(thing, size, rounds, repetitions);
 }
 
 static unsigned long long number_up_to(const char *word, unsigned long long most)
@@ -120,7 +143,6 @@ int main(int count, char **words)
 	repetitions = (unsigned)number_up_to(words[2], MOST_REPETITIONS);
 	most = (unsigned)number_up_to(words[3], MOST_THREADS);
 	for (unsigned i = 0; i < sizeof things / sizeof things[0]; i++)
-		for (unsigned size = 1; size <= most; size *= 2)
-			report(things[i], size, rounds, repetitions);
+		report_sizes(things[i], rounds, repetitions, most);
 	return 0;
 }

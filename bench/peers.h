@@ -14,26 +14,35 @@ struct worker {
 };
 
 /*
- * A measured thing. The sizes that it is measured at are numbers of threads, each of which runs `work`; or, where
- * `one_thread` is set, numbers of processors, which one thread goes over. A thing that takes longer is done so many
- * times less often.
+ * A measured thing. It is measured at numbers of threads, each of which runs `work`; or, where `sizes` are given, at
+ * those, by one thread: they are numbers of processors, and end with 0. A thing that takes longer is done so many times
+ * less often. What `prepare` set up, `clear` takes down, where it is given.
  */
 struct thing {
 	const char *name;
 	void (*prepare)(unsigned size);
+	void (*clear)(void);
 	void (*work)(const struct worker *worker);
 	unsigned less_often;
-	int one_thread;
+	const unsigned *sizes;
 };
+
+extern const unsigned one_size[];
+extern const unsigned processor_sizes[];
 
 extern const struct thing model_pair;
 extern const struct thing keeping_model_pair;
+extern const struct thing model_held_pair;
 extern const struct thing model_quiet_period;
 extern const struct thing rwlock_pair;
 extern const struct thing counter_pair;
+extern const struct thing max_of_new_numbers;
+extern const struct thing max_of_one_number;
 #ifdef WITH_LIBURCU
 extern const struct thing urcu_mb_pair;
 extern const struct thing urcu_memb_pair;
+extern const struct thing urcu_mb_synchronize;
+extern const struct thing urcu_memb_synchronize;
 #endif
 
 #endif

@@ -46,14 +46,14 @@ function token_name() {
 
 function processor() {
     if (chance(faults))
-        return chance(50) ? bad_number() : one_of("2,3,7,18446744073709551615")
-    return below(2)
+        return chance(50) ? bad_number() : one_of("2,3,7,63,64,18446744073709551615")
+    return below(chance(50) ? 2 : most_processors)
 }
 
 function processors() {
     if (chance(faults))
         return bad_number()
-    return chance(20) ? one_of("0,3,4,16,18446744073709551615") : 1 + below(2)
+    return chance(20) ? one_of("0,65,66,256,18446744073709551615") : 1 + below(most_processors)
 }
 
 function cookie() {
@@ -67,11 +67,11 @@ function cookie() {
 function words_of(command) {
     if (command == "domain")
         return command " " domain_name() " " processors()
-    if (command == "state")
+    if (command == "state" || command == "unpark")
         return command " " domain_name()
-    if (command == "unlock")
+    if (command == "unlock" || command == "park")
         return command " " domain_name() " " token_name()
-    if (command == "look" || command == "enter" || command == "lock")
+    if (command == "look" || command == "enter" || command == "lock" || command == "down" || command == "up")
         return command " " domain_name() " " processor() " " token_name()
     if (command == "poll")
         return command " " domain_name() " " processor() " " cookie()
@@ -94,7 +94,7 @@ function spoilt(line,    words, count) {
     if (kind == 2)
         return repeated("x", 195 + below(400))
     if (kind == 3)
-        return one_of("Lock,locks,loc,advance1,help,exit,lookup,STATE,.,0,synchronize,barrier") substr(line, length(words[1]) + 1)
+        return one_of("Lock,locks,loc,advance1,help,exit,lookup,STATE,.,0,synchronize,barrier,downs,unpar") substr(line, length(words[1]) + 1)
     if (kind == 4)
         return words[1]
     if (kind == 5)
@@ -138,15 +138,16 @@ BEGIN {
     random = (seed * 7919 + 104729) % 2147483647
     for (i = 0; i < 20; i++)
         below(2)
-    acting = "look,enter,lock,lock,unlock,unlock,get,poll,poll,state,domain"
+    acting = "look,enter,lock,lock,unlock,unlock,down,down,up,up,park,park,unpark,unpark,get,ask,poll,poll,state,domain"
     driving = "start,advance,advance,step,step,step"
     faults = one_of("0,1,5,20")
     domains = one_of("1,2,3,12")
     tokens = one_of("1,3,8,30")
+    most_processors = one_of("2,2,5,64")
     long_names = chance(20)
     printf "#%s\n", chance(70) ? options() : ""
     for (i = 0; i < domains && chance(90); i++)
-        printf "domain %s %d\n", padded("d" i "x"), 1 + below(2)
+        printf "domain %s %d\n", padded("d" i "x"), 1 + below(most_processors)
     count = one_of("0,1,30,100,300")
     while (count-- > 0)
         printf "%s\n", script_line()

@@ -1,4 +1,5 @@
-# Makes the table of the samples: lines `ROUND NAME SIZE median NS least NS most NS`.
+# Makes the table of the samples: lines `ROUND NAME SIZE median NS least NS most NS`, of which it takes the medians, or the
+# least where `taken` says so.
 # For each thing and size: the median of the rounds with the least and the most, and the same of its ratio to the model
 # in the same round.
 
@@ -46,13 +47,32 @@ function pair_rows(size) {
     row("(d) liburcu memb, " threads(size), "urcu-memb", size, "model")
 }
 
+function held_row() {
+    row("this domain", "srcubench-held", 1, "model-held")
+    row("(a) C11 model of it", "model-held", 1, "model-held")
+}
+
 function processors(size) {
     return size == 1 ? "1 processor" : size " processors"
 }
 
 function period_rows(size) {
-    row("this domain, " processors(size), "srcubench-quiet-period", size, "model-quiet-period")
+    row("the engine, " processors(size), "srcubench-quiet-period", size, "model-quiet-period")
+    row("through Domain::advance, " processors(size), "srcubench-domain-period", size, "model-quiet-period")
     row("C11 model of it, " processors(size), "model-quiet-period", size, "model-quiet-period")
+}
+
+function ask_rows(size) {
+    row("tree of needs, new number, " threads(size), "srcubench-ask-new", size, "shared-max-new")
+    row("one shared word, new number, " threads(size), "shared-max-new", size, "shared-max-new")
+    row("tree of needs, known number, " threads(size), "srcubench-ask-known", size, "shared-max-known")
+    row("one shared word, known number, " threads(size), "shared-max-known", size, "shared-max-known")
+}
+
+function synchronize_rows(size) {
+    row("this domain, " processors(size), "srcubench-synchronize", size, "urcu-mb-synchronize")
+    row("liburcu mb, " size (size == 1 ? " reader" : " readers"), "urcu-mb-synchronize", size, "urcu-mb-synchronize")
+    row("liburcu memb, " size (size == 1 ? " reader" : " readers"), "urcu-memb-synchronize", size, "urcu-mb-synchronize")
 }
 
 function entry_rows() {
@@ -62,13 +82,13 @@ function entry_rows() {
     row("plain queue, eight at a time", "srcubench-queue-in-batches", 1, "srcubench-queue-in-batches")
 }
 
-function growth_row(label, name) {
-    if ((1, name, 2) in ns)
-        printf "%-44s %s\n", label, ratios(name, 2, name, 1)
+function growth_row(label, name, size) {
+    if ((1, name, size) in ns)
+        printf "%-44s %s\n", label ", " threads(size), ratios(name, size, name, 1)
 }
 
 {
-    ns[$1, $2, $3] = $5
+    ns[$1, $2, $3] = taken == "least" ? $7 : $5
     if ($1 > rounds)
         rounds = $1
     if ($3 > most)
@@ -81,15 +101,28 @@ END {
     for (size = 1; size <= most; size *= 2)
         pair_rows(size)
     print ""
+    printf "%-44s %-28s %s\n", "one held section, ended on another processor", "      ns", "ratio to (a)"
+    held_row()
+    print ""
     printf "%-44s %-28s %s\n", "one quiet grace period", "      ns", "ratio to the model"
     for (size = 1; size <= most; size *= 2)
         period_rows(size)
     print ""
+    printf "%-44s %-28s %s\n", "asking for one", "      ns", "ratio to the shared word"
+    for (size = 1; size <= most; size *= 2)
+        ask_rows(size)
+    print ""
+    printf "%-44s %-28s %s\n", "one synchronize with nobody reading", "      ns", "ratio to liburcu mb"
+    for (size = 1; size <= most; size *= 2)
+        synchronize_rows(size)
+    print ""
     printf "%-44s %-28s %s\n", "one entry of a list", "      ns", "ratio to the queue"
     entry_rows()
     print ""
-    printf "%-44s %s\n", "a pair at 2 threads against one at 1", "   ratio"
-    growth_row("this domain", "srcubench")
-    growth_row("(a) C11 model of it", "model")
+    printf "%-44s %s\n", "a pair at several threads against one at 1", "   ratio"
+    for (size = 2; size <= most; size *= 2) {
+        growth_row("this domain", "srcubench", size)
+        growth_row("(a) C11 model of it", "model", size)
+    }
 }
 

@@ -8,3 +8,12 @@ mod Emptying
 mod Closing
 mod Forging
 mod Seating
+mod Holders
+mod Growing
+mod BaySharing
+mod BaySteps
+mod Baying
+mod BayDealing
+mod BayTurns
+mod BayForging
+mod BothTied

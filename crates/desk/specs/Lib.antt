@@ -5,3 +5,12 @@ pub mod Rule
 pub mod Plays
 pub mod Seats
 pub mod Insides
+pub mod Holding
+pub mod BayViews
+pub mod BayCalls
+pub mod BayRule
+pub mod BayPlays
+pub mod BaySeats
+pub mod BayInsides
+pub mod BayLaws
+pub mod Forged

@@ -30,7 +30,7 @@ own_of Bearer h mine seen call is owns idle = absurd is
 own_of (Asker p) h mine seen call is owns idle = subst (λ (z : Holder). (mine ≡ made_by z seen) × IsIdle z seen) (sym is) (owns.0, sym owns.1 ∙ idle)
 own_of (Driver k) h mine seen call is owns idle = subst (λ (z : Holder). (mine ≡ made_by z seen) × IsIdle z seen) (sym is) (owns.0, tt)
 
-history_of : (shape : Shape) (h : Holder) (w : View) → w.shape ≡ shape → IsHolder w.role h → IsSound w → w.call ≡ Idle → IsHistoryOf shape h w.mine w.seen
+pub history_of : (shape : Shape) (h : Holder) (w : View) → w.shape ≡ shape → IsHolder w.role h → IsSound w → w.call ≡ Idle → IsHistoryOf shape h w.mine w.seen
 history_of shape h w shaped is sound idle = let own = own_of w.role h w.mine w.seen w.call is sound.owns idle in record {
   legal = subst (λ z. IsLegal z w.seen) shaped sound.legal;
   own = own.0;

@@ -1,3 +1,4 @@
+pub mod CallerLemmas
 mod Values
 mod Climbing
 mod Own
@@ -12,3 +13,5 @@ mod Asking
 mod Seating
 mod Calling
 mod Founding
+mod Meeting
+mod Alone

@@ -20,7 +20,7 @@ nothing_more : (xs : List Raise) → length xs ≡ 0 → xs ≡ []
 nothing_more [] e = refl
 nothing_more (x ∷ xs) e = absurd (omega arith)
 
-made_on : (p : ℕ) {a b : List Raise} (h : IsBeginning a b) → raised_by p b ≡ raised_by p a ++ raised_by p h.rest
+pub made_on : (p : ℕ) {a b : List Raise} (h : IsBeginning a b) → raised_by p b ≡ raised_by p a ++ raised_by p h.rest
 made_on p {a = a} h = ap (raised_by p) h.whole ∙ filter-append (λ r. r.by == p) a h.rest
 
 -- a processor whose steps do not change from one history to another has just these in all that lie between

@@ -68,6 +68,8 @@ pub use Rattle.onedom.proofs.Pushes.{along}
 pub use Rattle.onedom.proofs.Pushes.{no_ends}
 -- there is a number that no section has
 pub use Rattle.onedom.proofs.Pushes.{fresh}
+-- and one from which on none has
+pub use Rattle.onedom.proofs.Pushes.{bound}
 -- a new section is open
 pub use Rattle.onedom.proofs.Pushes.{open_begun}
 -- an event that may follow does not begin an open one again
@@ -102,6 +104,14 @@ pub use Rattle.onedom.proofs.Opens.{times_cons}
 pub use Rattle.onedom.proofs.Opens.{times_open}
 -- and any section no more often
 pub use Rattle.onedom.proofs.Opens.{times_open_le}
+-- what a filter keeps stands there as often as before
+pub use Rattle.onedom.proofs.Opens.{times_kept}
+-- and what it drops no more
+pub use Rattle.onedom.proofs.Opens.{times_gone}
+-- without a number a list is shorter by how often that stood there
+pub use Rattle.onedom.proofs.Opens.{without}
+-- two filters in a row are one
+pub use Rattle.onedom.proofs.Opens.{filter_twice}
 -- of a legal history an open section stands there once
 pub use Rattle.onedom.proofs.Opens.{open_once}
 -- what stands there is open

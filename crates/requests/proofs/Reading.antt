@@ -9,7 +9,7 @@ use Rattle.lines.specs.Lines.{is_name, number_of}
 use Rattle.requests.specs.declared.fault.Fault.{Fault}
 use Rattle.requests.specs.declared.fault.Fault.TheVariants as fault
 use Rattle.requests.specs.declared.command.Argument.{Argument}
-use Rattle.requests.specs.declared.command.Argument.TheVariants.{NewDomain, AnyNumber, ADomain, AProcessor, NewName, ALook, ASection}
+use Rattle.requests.specs.declared.command.Argument.TheVariants.{NewDomain, AnyNumber, ADomain, AProcessor, NewName, ALook, AReading, AHeld}
 use Rattle.requests.specs.declared.given.Given.{Given}
 use Rattle.requests.specs.declared.scene.Kind.{Kind}
 use Rattle.requests.specs.declared.scene.Kind.TheVariants as kind
@@ -52,12 +52,15 @@ processor_there processors (Some p) h = (refl, below p processors (nat_lt p proc
 
 kind_there : (named : Bool) (k : Kind) (found : Option Kind) → (if named && has_kind k found then None else Some fault.Name) ≡ None → found ≡ Some k
 kind_there false k found h = cc
-kind_there true kind.Look None h = cc
+kind_there true k None h = cc
 kind_there true kind.Look (Some kind.Look) h = refl
-kind_there true kind.Look (Some kind.Section) h = cc
-kind_there true kind.Section None h = cc
-kind_there true kind.Section (Some kind.Look) h = cc
-kind_there true kind.Section (Some kind.Section) h = refl
+kind_there true kind.Reading (Some kind.Reading) h = refl
+kind_there true kind.Held (Some kind.Held) h = refl
+kind_there true kind.Parked (Some kind.Parked) h = refl
+kind_there true kind.Look (Some _) h = cc
+kind_there true kind.Reading (Some _) h = cc
+kind_there true kind.Held (Some _) h = cc
+kind_there true kind.Parked (Some _) h = cc
 
 -- the word, as this argument, names what is given, and it is what the argument should be
 abbrev IsKnown : SceneView → Given → Argument → List ℕ → Type 0
@@ -72,7 +75,8 @@ module _ (s : SceneView) where
   reads g AProcessor w h = processor_there (s.processors_of g.domain) (number_of w) h
   reads g NewName w h = (refl, new_name_none (is_name w) (s.kind_of g.domain w) h)
   reads g ALook w h = (refl, kind_there (is_name w) kind.Look (s.kind_of g.domain w) h)
-  reads g ASection w h = (refl, kind_there (is_name w) kind.Section (s.kind_of g.domain w) h)
+  reads g AReading w h = (refl, kind_there (is_name w) kind.Reading (s.kind_of g.domain w) h)
+  reads g AHeld w h = (refl, kind_there (is_name w) kind.Held (s.kind_of g.domain w) h)
 
   -- an argument behind it changes nothing of what is known of a word
   keeps : (g : Given) (b a : Argument) (v w : List ℕ) → may_follow b a ≡ true → IsKnown s g b v → IsKnown s (filled s g a w) b v
@@ -88,8 +92,10 @@ module _ (s : SceneView) where
   keeps g b NewName v w e h = first_of (cc, assumption h)
   keeps g NewDomain ALook v w e h = cc
   keeps g b ALook v w e h = first_of (cc, assumption h)
-  keeps g NewDomain ASection v w e h = cc
-  keeps g b ASection v w e h = first_of (cc, assumption h)
+  keeps g NewDomain AReading v w e h = cc
+  keeps g b AReading v w e h = first_of (cc, assumption h)
+  keeps g NewDomain AHeld v w e h = cc
+  keeps g b AHeld v w e h = first_of (cc, assumption h)
 
   filled_domain : (g : Given) (a : Argument) (w : List ℕ) → (filled s g a w).domain ≡ place_after s g.domain a w
   unfolding place_after

@@ -3,7 +3,7 @@ use Rattle.std.specs.Prelude.{◌≡◌, ℕ, length, List, [], ◌∷◌, find,
 use Rattle.requests.specs.declared.command.Command.{Command}
 use Rattle.requests.specs.declared.command.Command.TheVariants as command
 use Rattle.requests.specs.declared.command.Argument.{Argument}
-use Rattle.requests.specs.declared.command.Argument.TheVariants.{NewDomain, AnyNumber, ADomain, AProcessor, NewName, ALook, ASection}
+use Rattle.requests.specs.declared.command.Argument.TheVariants.{NewDomain, AnyNumber, ADomain, AProcessor, NewName, ALook, AReading, AHeld}
 
 -- the word of a command, and what the words behind it should be
 pub record RowView : Type 0 where
@@ -15,8 +15,13 @@ row_of command.Domain = record { word = codes "domain"; takes = NewDomain ∷ An
 row_of command.Look = record { word = codes "look"; takes = ADomain ∷ AProcessor ∷ NewName ∷ [] }
 row_of command.Enter = record { word = codes "enter"; takes = ADomain ∷ AProcessor ∷ ALook ∷ [] }
 row_of command.Lock = record { word = codes "lock"; takes = ADomain ∷ AProcessor ∷ NewName ∷ [] }
-row_of command.Unlock = record { word = codes "unlock"; takes = ADomain ∷ ASection ∷ [] }
+row_of command.Unlock = record { word = codes "unlock"; takes = ADomain ∷ AReading ∷ [] }
+row_of command.Down = record { word = codes "down"; takes = ADomain ∷ AProcessor ∷ NewName ∷ [] }
+row_of command.Up = record { word = codes "up"; takes = ADomain ∷ AProcessor ∷ AHeld ∷ [] }
+row_of command.Park = record { word = codes "park"; takes = ADomain ∷ AHeld ∷ [] }
+row_of command.Unpark = record { word = codes "unpark"; takes = ADomain ∷ [] }
 row_of command.Get = record { word = codes "get"; takes = ADomain ∷ AProcessor ∷ [] }
+row_of command.Ask = record { word = codes "ask"; takes = ADomain ∷ AProcessor ∷ [] }
 row_of command.Poll = record { word = codes "poll"; takes = ADomain ∷ AProcessor ∷ AnyNumber ∷ [] }
 row_of command.Start = record { word = codes "start"; takes = ADomain ∷ AProcessor ∷ [] }
 row_of command.Advance = record { word = codes "advance"; takes = ADomain ∷ AProcessor ∷ [] }
@@ -24,7 +29,7 @@ row_of command.Step = record { word = codes "step"; takes = ADomain ∷ AProcess
 row_of command.State = record { word = codes "state"; takes = ADomain ∷ [] }
 
 abbrev pub commands : List Command
-commands = command.Domain ∷ command.Look ∷ command.Enter ∷ command.Lock ∷ command.Unlock ∷ command.Get ∷ command.Poll ∷ command.Start ∷ command.Advance ∷ command.Step ∷ command.State ∷ []
+commands = command.Domain ∷ command.Look ∷ command.Enter ∷ command.Lock ∷ command.Unlock ∷ command.Down ∷ command.Up ∷ command.Park ∷ command.Unpark ∷ command.Get ∷ command.Ask ∷ command.Poll ∷ command.Start ∷ command.Advance ∷ command.Step ∷ command.State ∷ []
 
 abbrev pub command_word : Command → List ℕ
 command_word c = (row_of c).word

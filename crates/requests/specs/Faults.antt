@@ -6,9 +6,9 @@ use Rattle.requests.specs.declared.fault.Fault.{Fault}
 use Rattle.requests.specs.declared.fault.Fault.TheVariants as fault
 use Rattle.requests.specs.declared.command.Command.{Command}
 use Rattle.requests.specs.declared.command.Argument.{Argument}
-use Rattle.requests.specs.declared.command.Argument.TheVariants.{NewDomain, AnyNumber, ADomain, AProcessor, NewName, ALook, ASection}
+use Rattle.requests.specs.declared.command.Argument.TheVariants.{NewDomain, AnyNumber, ADomain, AProcessor, NewName, ALook, AReading, AHeld}
 use Rattle.requests.specs.declared.scene.Kind.{Kind}
-use Rattle.requests.specs.declared.scene.Kind.TheVariants.{Look, Section}
+use Rattle.requests.specs.declared.scene.Kind.TheVariants.{Look, Reading, Held, Parked}
 use Rattle.requests.specs.Commands.{command_of, arguments}
 use Rattle.requests.specs.Scenes.{SceneView}
 
@@ -57,7 +57,9 @@ processor_fault processors (Some p) = if nat_lt p processors then None else Some
 
 abbrev pub same_kind : Kind → Kind → Bool
 same_kind Look Look = true
-same_kind Section Section = true
+same_kind Reading Reading = true
+same_kind Held Held = true
+same_kind Parked Parked = true
 same_kind _ _ = false
 
 abbrev pub has_kind : Kind → Option Kind → Bool
@@ -76,7 +78,8 @@ argument_fault s place ADomain w = domain_fault w (s.place_of w)
 argument_fault s place AProcessor w = processor_fault (s.processors_of place) (number_of w)
 argument_fault s place NewName w = new_name_fault w (is_some (s.kind_of place w))
 argument_fault s place ALook w = kind_fault Look w (s.kind_of place w)
-argument_fault s place ASection w = kind_fault Section w (s.kind_of place w)
+argument_fault s place AReading w = kind_fault Reading w (s.kind_of place w)
+argument_fault s place AHeld w = kind_fault Held w (s.kind_of place w)
 
 -- The words of a line
 

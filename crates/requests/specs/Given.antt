@@ -4,7 +4,7 @@ use Rattle.std.specs.List.{list_all}
 use Rattle.lines.specs.Lines.{number_of}
 use Rattle.requests.specs.declared.fault.Fault.{Fault}
 use Rattle.requests.specs.declared.command.Argument.{Argument}
-use Rattle.requests.specs.declared.command.Argument.TheVariants.{NewDomain, AnyNumber, ADomain, AProcessor, NewName, ALook, ASection}
+use Rattle.requests.specs.declared.command.Argument.TheVariants.{NewDomain, AnyNumber, ADomain, AProcessor, NewName, ALook, AReading, AHeld}
 use Rattle.requests.specs.declared.given.Given.{Given}
 use Rattle.requests.specs.declared.scene.Kind.TheVariants as kind
 use Rattle.requests.specs.Scenes.{SceneView, IsPlace}
@@ -18,7 +18,8 @@ filled s g ADomain w = record g { domain = unwrap_or (s.place_of w) g.domain }
 filled s g AProcessor w = record g { processor = unwrap_or (number_of w) 0 }
 filled s g NewName w = record g { name = w }
 filled s g ALook w = record g { name = w }
-filled s g ASection w = record g { name = w }
+filled s g AReading w = record g { name = w }
+filled s g AHeld w = record g { name = w }
 
 -- the word is read as this argument, or has this fault
 abbrev pub IsRead : SceneView → Given → Argument → List ℕ → Result Given Fault → Type 0
@@ -34,7 +35,8 @@ Suits s g ADomain = IsPlace s g.domain
 Suits s g AProcessor = g.processor < s.processors_of g.domain
 Suits s g NewName = s.kind_of g.domain g.name ≡ None
 Suits s g ALook = s.kind_of g.domain g.name ≡ Some kind.Look
-Suits s g ASection = s.kind_of g.domain g.name ≡ Some kind.Section
+Suits s g AReading = s.kind_of g.domain g.name ≡ Some kind.Reading
+Suits s g AHeld = s.kind_of g.domain g.name ≡ Some kind.Held
 
 abbrev pub AllSuit : SceneView → Given → List Argument → Type 0
 AllSuit s g [] = Unit {0}
@@ -48,7 +50,8 @@ needs_domain ADomain = false
 needs_domain AProcessor = true
 needs_domain NewName = true
 needs_domain ALook = true
-needs_domain ASection = true
+needs_domain AReading = true
+needs_domain AHeld = true
 
 -- the fields of what is given
 pub data Field : Type 0 where
@@ -72,7 +75,8 @@ field_of ADomain = Domain
 field_of AProcessor = Processor
 field_of NewName = Name
 field_of ALook = Name
-field_of ASection = Name
+field_of AReading = Name
+field_of AHeld = Name
 
 abbrev pub names_domain : Argument → Bool
 names_domain a = same_field (field_of a) Domain

@@ -15,6 +15,7 @@ use Rattle.requests.specs.Faults.{fault_word}
 
 abbrev pub cause_word : Cause → List ℕ
 cause_word cause.Full = codes "full"
+cause_word cause.Empty = codes "empty"
 cause_word cause.Processors = codes "processors"
 cause_word cause.Memory = codes "memory"
 cause_word cause.Exhausted = codes "exhausted"
@@ -42,6 +43,8 @@ words_text (reply.State d period sections) = codes "state " ++ d ++ codes " " ++
 words_text (reply.Look i) = codes "look " ++ index_text i
 words_text (reply.Index i) = codes "index " ++ index_text i
 words_text reply.Closed = codes "closed"
+words_text reply.Parked = codes "parked"
+words_text (reply.Took s) = codes "took " ++ s
 words_text (reply.Cookie c) = codes "cookie " ++ decimal c
 words_text reply.Done = codes "done"
 words_text reply.NotYet = codes "not yet"

@@ -4,7 +4,7 @@ use Rattle.lines.specs.Lines.{number_of}
 use Rattle.requests.specs.declared.command.Command.{Command}
 use Rattle.requests.specs.declared.command.Command.TheVariants as command
 use Rattle.requests.specs.declared.command.Argument.{Argument}
-use Rattle.requests.specs.declared.command.Argument.TheVariants.{NewDomain, AnyNumber, ADomain, AProcessor, NewName, ALook, ASection}
+use Rattle.requests.specs.declared.command.Argument.TheVariants.{NewDomain, AnyNumber, ADomain, AProcessor, NewName, ALook, AReading, AHeld}
 use Rattle.requests.specs.declared.given.Given.{Given}
 use Rattle.requests.specs.declared.scene.Kind.TheVariants as kind
 use Rattle.requests.specs.declared.request.Act.{Act}
@@ -24,7 +24,8 @@ Names s g ADomain w = s.place_of w ≡ Some g.domain
 Names s g AProcessor w = number_of w ≡ Some g.processor
 Names s g NewName w = g.name ≡ w
 Names s g ALook w = g.name ≡ w
-Names s g ASection w = g.name ≡ w
+Names s g AReading w = g.name ≡ w
+Names s g AHeld w = g.name ≡ w
 
 -- each of the words, as the argument at its place, names what is given
 abbrev pub AllName : SceneView → Given → List Argument → List (List ℕ) → Type 0
@@ -40,7 +41,12 @@ request_of command.Look g = On g.domain (act.Look g.processor g.name)
 request_of command.Enter g = On g.domain (act.Enter g.processor g.name)
 request_of command.Lock g = On g.domain (act.Lock g.processor g.name)
 request_of command.Unlock g = On g.domain (act.Unlock g.name)
+request_of command.Down g = On g.domain (act.Down g.processor g.name)
+request_of command.Up g = On g.domain (act.Up g.processor g.name)
+request_of command.Park g = On g.domain (act.Park g.name)
+request_of command.Unpark g = On g.domain act.Unpark
 request_of command.Get g = On g.domain (act.Get g.processor)
+request_of command.Ask g = On g.domain (act.Ask g.processor)
 request_of command.Poll g = On g.domain (act.Poll g.processor g.number)
 request_of command.Start g = On g.domain (act.Start g.processor)
 request_of command.Advance g = On g.domain (act.Advance g.processor)
@@ -64,8 +70,13 @@ Fits s place act.State = Unit {0}
 Fits s place (act.Look p look) = (p < s.processors_of place) × (s.kind_of place look ≡ None)
 Fits s place (act.Enter p look) = (p < s.processors_of place) × (s.kind_of place look ≡ Some kind.Look)
 Fits s place (act.Lock p section) = (p < s.processors_of place) × (s.kind_of place section ≡ None)
-Fits s place (act.Unlock section) = s.kind_of place section ≡ Some kind.Section
+Fits s place (act.Unlock section) = s.kind_of place section ≡ Some kind.Reading
+Fits s place (act.Down p section) = (p < s.processors_of place) × (s.kind_of place section ≡ None)
+Fits s place (act.Up p section) = (p < s.processors_of place) × (s.kind_of place section ≡ Some kind.Held)
+Fits s place (act.Park section) = s.kind_of place section ≡ Some kind.Held
+Fits s place act.Unpark = Unit {0}
 Fits s place (act.Get p) = p < s.processors_of place
+Fits s place (act.Ask p) = p < s.processors_of place
 Fits s place (act.Poll p cookie) = p < s.processors_of place
 Fits s place (act.Start p) = p < s.processors_of place
 Fits s place (act.Advance p) = p < s.processors_of place

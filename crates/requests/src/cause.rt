@@ -4,9 +4,11 @@ use std::fmt;
 /// Why a line was refused that is not faulty.
 #[derive(Clone, Copy, Debug, PartialEq, Eq)]
 pub enum Cause {
-    /// 8 domains are there.
+    /// 8 domains are there, or a section is parked already.
     Full,
-    /// A domain has 1 or 2 processors.
+    /// No section is parked.
+    Empty,
+    /// A domain has 1 to 64 processors.
     Processors,
     /// There was no memory for the domain.
     Memory,
@@ -27,6 +29,7 @@ impl fmt::Display for Cause {
     fn fmt<W: fmt::Write>(&self, f: &mut fmt::Formatter<W>) -> fmt::Result {
         match self {
             Cause::Full => f.write_str("full"),
+            Cause::Empty => f.write_str("empty"),
             Cause::Processors => f.write_str("processors"),
             Cause::Memory => f.write_str("memory"),
             Cause::Exhausted => f.write_str("exhausted"),

@@ -14,7 +14,12 @@ pub enum Command {
     Enter,
     Lock,
     Unlock,
+    Down,
+    Up,
+    Park,
+    Unpark,
     Get,
+    Ask,
     Poll,
     Start,
     Advance,
@@ -36,8 +41,10 @@ pub enum Argument {
     NewName,
     /// The name of a look.
     ALook,
-    /// The name of a section that is open.
-    ASection,
+    /// The name of a section that only its own processor may end.
+    AReading,
+    /// The name of a section that any processor may end, and that is not parked.
+    AHeld,
 }
 
 /// A row of the table of commands.
@@ -55,13 +62,18 @@ pub struct Row {
 
 impl Command {
     /// All commands, in the order of the help.
-    pub const ALL: [Command; 11] = [
+    pub const ALL: [Command; 16] = [
         Command::Domain,
         Command::Look,
         Command::Enter,
         Command::Lock,
         Command::Unlock,
+        Command::Down,
+        Command::Up,
+        Command::Park,
+        Command::Unpark,
         Command::Get,
+        Command::Ask,
         Command::Poll,
         Command::Start,
         Command::Advance,
@@ -81,7 +93,7 @@ impl Command {
                 word: "domain",
                 takes: &[Argument::NewDomain, Argument::AnyNumber],
                 form: "domain NAME N",
-                does: "makes a domain of N processors (1 or 2)",
+                does: "makes a domain of N processors (1 to 64)",
             },
             Command::Look => Row {
                 word: "look",
@@ -103,15 +115,45 @@ impl Command {
             },
             Command::Unlock => Row {
                 word: "unlock",
-                takes: &[Argument::ADomain, Argument::ASection],
+                takes: &[Argument::ADomain, Argument::AReading],
                 form: "unlock NAME S",
-                does: "ends a section",
+                does: "ends a section of `lock` or `enter` where it began",
+            },
+            Command::Down => Row {
+                word: "down",
+                takes: &[Argument::ADomain, Argument::AProcessor, Argument::NewName],
+                form: "down NAME P S",
+                does: "begins a section on processor P that any may end",
+            },
+            Command::Up => Row {
+                word: "up",
+                takes: &[Argument::ADomain, Argument::AProcessor, Argument::AHeld],
+                form: "up NAME P S",
+                does: "ends a section of `down` on processor P",
+            },
+            Command::Park => Row {
+                word: "park",
+                takes: &[Argument::ADomain, Argument::AHeld],
+                form: "park NAME S",
+                does: "puts a section of `down` on the domain's desk",
+            },
+            Command::Unpark => Row {
+                word: "unpark",
+                takes: &[Argument::ADomain],
+                form: "unpark NAME",
+                does: "takes what lies on the domain's desk",
             },
             Command::Get => Row {
                 word: "get",
                 takes: &[Argument::ADomain, Argument::AProcessor],
                 form: "get NAME P",
                 does: "gives a cookie",
+            },
+            Command::Ask => Row {
+                word: "ask",
+                takes: &[Argument::ADomain, Argument::AProcessor],
+                form: "ask NAME P",
+                does: "gives a cookie, and asks for its grace period",
             },
             Command::Poll => Row {
                 word: "poll",

@@ -48,7 +48,8 @@ impl Given {
             Argument::AProcessor => self.with_processor(word, scene),
             Argument::NewName => self.with_new_name(word, scene),
             Argument::ALook => self.with_name_of(Kind::Look, word, scene),
-            Argument::ASection => self.with_name_of(Kind::Section, word, scene),
+            Argument::AReading => self.with_name_of(Kind::Reading, word, scene),
+            Argument::AHeld => self.with_name_of(Kind::Held, word, scene),
         }
     }
 
@@ -151,7 +152,18 @@ impl Given {
                 section: name,
             },
             Command::Unlock => Act::Unlock { section: name },
+            Command::Down => Act::Down {
+                processor,
+                section: name,
+            },
+            Command::Up => Act::Up {
+                processor,
+                section: name,
+            },
+            Command::Park => Act::Park { section: name },
+            Command::Unpark => Act::Unpark,
             Command::Get => Act::Get { processor },
+            Command::Ask => Act::Ask { processor },
             Command::Poll => Act::Poll {
                 processor,
                 cookie: number,

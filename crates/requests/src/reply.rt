@@ -19,14 +19,14 @@ pub struct Period {
     pub phase: Phase,
 }
 
-/// The index that a look finds now, how many sections of index 0 and of index 1 are open, and the
-/// number that the domain is asked for: `index I open A B need R`.
+/// The index that a look finds now, how many sections of index 0 and of index 1 are open, and the greatest number that
+/// was asked for: `index I open A B need R`.
 #[derive(Clone, Copy, Debug, PartialEq, Eq)]
 pub struct Sections {
     pub index: Index,
     pub zero: usize,
     pub one: usize,
-    pub need: u64,
+    pub need: Number,
 }
 
 /// The reply to a line.
@@ -49,6 +49,10 @@ pub enum Reply {
     Index(Index),
     /// A section ended.
     Closed,
+    /// A section lies on the domain's desk now.
+    Parked,
+    /// The section of this name lay on the domain's desk, and lies there no more.
+    Took(Name),
     /// The number of the cookie that was given.
     Cookie(u64),
     /// The cookie is done.
@@ -112,6 +116,8 @@ impl fmt::Display for Reply {
             Reply::Look(index) => writeln!(f, "look {index}"),
             Reply::Index(index) => writeln!(f, "index {index}"),
             Reply::Closed => writeln!(f, "closed"),
+            Reply::Parked => writeln!(f, "parked"),
+            Reply::Took(section) => writeln!(f, "took {section}"),
             Reply::Cookie(cookie) => writeln!(f, "cookie {cookie}"),
             Reply::Done => writeln!(f, "done"),
             Reply::NotYet => writeln!(f, "not yet"),

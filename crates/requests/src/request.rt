@@ -21,10 +21,20 @@ pub enum Act {
     Enter { processor: u64, look: Name },
     /// To begin a section of the current index on the processor, under this name.
     Lock { processor: u64, section: Name },
-    /// To end the section.
+    /// To end the section, on the processor where it began.
     Unlock { section: Name },
+    /// To begin a section of the current index on the processor, under this name. Any processor may end it.
+    Down { processor: u64, section: Name },
+    /// To end the section, on this processor.
+    Up { processor: u64, section: Name },
+    /// To put the section on the domain's desk.
+    Park { section: Name },
+    /// To take what lies on the domain's desk.
+    Unpark,
     /// To give the processor a cookie.
     Get { processor: u64 },
+    /// To give the processor a cookie, and to ask for its grace period.
+    Ask { processor: u64 },
     /// To tell the processor whether the cookie of this number is done.
     Poll { processor: u64, cookie: u64 },
     /// To start a grace period.

@@ -9,8 +9,12 @@ use lines::Name;
 pub enum Kind {
     /// A look.
     Look,
-    /// An open section.
-    Section,
+    /// An open section that only its own processor may end.
+    Reading,
+    /// An open section that any processor may end.
+    Held,
+    /// Such a section that lies on the domain's desk. Nothing can be done with it there.
+    Parked,
 }
 
 /// The domains of a script, and the names in use in each, as a line finds them. A domain goes by its place, a number

@@ -14,12 +14,17 @@ use std::test::Fail;
 
 /// The table as the help of the command line shows it.
 const HELP: &str = "
-  domain NAME N      makes a domain of N processors (1 or 2)
+  domain NAME N      makes a domain of N processors (1 to 64)
   look NAME P R      reads the current index on processor P, a look called R
   enter NAME P R     begins a section of that index on processor P, called R too
   lock NAME P S      a look and a section at once; the section is called S
-  unlock NAME S      ends a section
+  unlock NAME S      ends a section of `lock` or `enter` where it began
+  down NAME P S      begins a section on processor P that any may end
+  up NAME P S        ends a section of `down` on processor P
+  park NAME S        puts a section of `down` on the domain's desk
+  unpark NAME        takes what lies on the domain's desk
   get NAME P         gives a cookie
+  ask NAME P         gives a cookie, and asks for its grace period
   poll NAME P C      tells whether a grace period has gone by since cookie C
   start NAME P       starts a grace period
   advance NAME P     lets the engine work until it has an answer
@@ -39,13 +44,18 @@ fn rows_make_the_help(rt: HostRuntime) -> Result<(), Fail> {
 
 #[test]
 fn words_of_commands(rt: HostRuntime) {
-    let rows: [(&[u8], Option<Command>); 16] = [
+    let rows: [(&[u8], Option<Command>); 22] = [
         (b"domain", Some(Command::Domain)),
         (b"state", Some(Command::State)),
         (b"look", Some(Command::Look)),
         (b"enter", Some(Command::Enter)),
         (b"lock", Some(Command::Lock)),
         (b"unlock", Some(Command::Unlock)),
+        (b"down", Some(Command::Down)),
+        (b"up", Some(Command::Up)),
+        (b"park", Some(Command::Park)),
+        (b"unpark", Some(Command::Unpark)),
+        (b"ask", Some(Command::Ask)),
         (b"get", Some(Command::Get)),
         (b"poll", Some(Command::Poll)),
         (b"start", Some(Command::Start)),
@@ -54,6 +64,7 @@ fn words_of_commands(rt: HostRuntime) {
         (b"", None),
         (b"loc", None),
         (b"locks", None),
+        (b"ups", None),
         (b"LOCK", None),
         (b"frob", None),
     ];
@@ -76,7 +87,7 @@ fn skipped_lines(rt: HostRuntime) {
     }
 }
 
-/// The fault of these words on the stage: a domain `a` of 2 processors with a look `r` and a section `s`.
+/// The fault of these words on the stage.
 fn fault_of(words: &[&[u8]]) -> Option<Fault>
     requires { 0 < length words.now }
 {
@@ -86,6 +97,7 @@ fn fault_of(words: &[&[u8]]) -> Option<Fault>
     }
 }
 
+/// Would catch a fault that is named before another to the left of it.
 #[test]
 fn faults_from_left_to_right(rt: HostRuntime) {
     let rows: [(&[&[u8]], Option<Fault>); 36] = [
@@ -135,6 +147,60 @@ fn faults_from_left_to_right(rt: HostRuntime) {
     }
 }
 
+/// Would catch a line that takes a section of the other kind or a parked one, or one that makes a second thing of a
+/// parked section's name.
+#[test]
+fn faults_of_held_sections(rt: HostRuntime) {
+    let rows: [(&[&[u8]], Option<Fault>); 40] = [
+        // `unlock` takes what `lock` and `enter` began, `up` and `park` what `down` began and is not parked
+        (&[b"unlock", b"a", b"h"], Some(Fault::Name)),
+        (&[b"unlock", b"a", b"p"], Some(Fault::Name)),
+        (&[b"enter", b"a", b"0", b"h"], Some(Fault::Name)),
+        (&[b"enter", b"a", b"0", b"p"], Some(Fault::Name)),
+        (&[b"up", b"a", b"0", b"r"], Some(Fault::Name)),
+        (&[b"up", b"a", b"0", b"s"], Some(Fault::Name)),
+        (&[b"up", b"a", b"0", b"p"], Some(Fault::Name)),
+        (&[b"up", b"a", b"0", b"t"], Some(Fault::Name)),
+        (&[b"up", b"a", b"0", b"H"], Some(Fault::Name)),
+        (&[b"up", b"a", b"1", b"h"], None),
+        (&[b"up", b"a", b"h"], Some(Fault::Words)),
+        (&[b"up", b"b", b"x", b"S"], Some(Fault::Domain)),
+        (&[b"up", b"a", b"x", b"S"], Some(Fault::Number)),
+        (&[b"up", b"a", b"2", b"S"], Some(Fault::Processor)),
+        (&[b"park", b"a", b"r"], Some(Fault::Name)),
+        (&[b"park", b"a", b"s"], Some(Fault::Name)),
+        (&[b"park", b"a", b"p"], Some(Fault::Name)),
+        (&[b"park", b"a", b"t"], Some(Fault::Name)),
+        (&[b"park", b"a", b"h"], None),
+        (&[b"park", b"a"], Some(Fault::Words)),
+        (&[b"park", b"a", b"0", b"h"], Some(Fault::Words)),
+        (&[b"park", b"b", b"S"], Some(Fault::Domain)),
+        // a name in use is taken, also that of a parked section
+        (&[b"down", b"a", b"0", b"r"], Some(Fault::Taken)),
+        (&[b"down", b"a", b"0", b"s"], Some(Fault::Taken)),
+        (&[b"down", b"a", b"0", b"h"], Some(Fault::Taken)),
+        (&[b"down", b"a", b"0", b"p"], Some(Fault::Taken)),
+        (&[b"look", b"a", b"0", b"p"], Some(Fault::Taken)),
+        (&[b"lock", b"a", b"0", b"p"], Some(Fault::Taken)),
+        (&[b"lock", b"a", b"0", b"h"], Some(Fault::Taken)),
+        (&[b"down", b"a", b"x", b"p"], Some(Fault::Number)),
+        (&[b"down", b"a", b"2", b"p"], Some(Fault::Processor)),
+        (&[b"down", b"a", b"1", b"S"], Some(Fault::Name)),
+        (&[b"down", b"a", b"1", b"t"], None),
+        (&[b"unpark", b"b"], Some(Fault::Domain)),
+        (&[b"unpark", b"a", b"p"], Some(Fault::Words)),
+        (&[b"unpark", b"a"], None),
+        (&[b"ask", b"a"], Some(Fault::Words)),
+        (&[b"ask", b"b", b"x"], Some(Fault::Domain)),
+        (&[b"ask", b"a", b"2"], Some(Fault::Processor)),
+        (&[b"ask", b"a", b"1"], None),
+    ];
+    for (words, fault) in rows {
+        assert!(rt; !words.is_empty());
+        assert_eq!(rt; fault_of(words), fault);
+    }
+}
+
 /// Whether these words ask the domain of the stage for this act.
 fn asks_for(words: &[&[u8]], act: Act) -> bool
     requires { 0 < length words.now }
@@ -147,7 +213,8 @@ fn words_ask(rt: HostRuntime) -> Result<(), Fail> {
     let r = Name::new(b"r").ok_or("a name")?;
     let s = Name::new(b"s").ok_or("a name")?;
     let t = Name::new(b"t").ok_or("a name")?;
-    let rows: [(&[&[u8]], Act); 10] = [
+    let h = Name::new(b"h").ok_or("a name")?;
+    let rows: [(&[&[u8]], Act); 15] = [
         (&[b"state", b"a"], Act::State),
         (
             &[b"look", b"a", b"1", b"t"],
@@ -171,7 +238,24 @@ fn words_ask(rt: HostRuntime) -> Result<(), Fail> {
             },
         ),
         (&[b"unlock", b"a", b"s"], Act::Unlock { section: s }),
+        (
+            &[b"down", b"a", b"1", b"t"],
+            Act::Down {
+                processor: 1,
+                section: t,
+            },
+        ),
+        (
+            &[b"up", b"a", b"1", b"h"],
+            Act::Up {
+                processor: 1,
+                section: h,
+            },
+        ),
+        (&[b"park", b"a", b"h"], Act::Park { section: h }),
+        (&[b"unpark", b"a"], Act::Unpark),
         (&[b"get", b"a", b"1"], Act::Get { processor: 1 }),
+        (&[b"ask", b"a", b"1"], Act::Ask { processor: 1 }),
         (
             &[b"poll", b"a", b"1", b"7"],
             Act::Poll {
@@ -215,7 +299,7 @@ fn texts_of_replies(rt: HostRuntime) -> Result<(), Fail> {
         index: Index::One,
         zero: 3,
         one: 4,
-        need: 8,
+        need: Number::new(8).ok_or("a number")?,
     };
     let rows = [
         (
@@ -236,6 +320,8 @@ fn texts_of_replies(rt: HostRuntime) -> Result<(), Fail> {
         (Reply::Look(Index::Zero), "look 0\n"),
         (Reply::Index(Index::One), "index 1\n"),
         (Reply::Closed, "closed\n"),
+        (Reply::Parked, "parked\n"),
+        (Reply::Took(domain), "took web0\n"),
         (
             Reply::Cookie(2_305_843_009_213_693_952),
             "cookie 2305843009213693952\n",
@@ -305,6 +391,15 @@ fn texts_of_refusals(rt: HostRuntime) -> Result<(), Fail> {
             Cause::Exhausted,
             "refused enter exhausted\n",
         ),
+        (Command::Down, Cause::Exhausted, "refused down exhausted\n"),
+        (Command::Park, Cause::Full, "refused park full\n"),
+        (Command::Unpark, Cause::Empty, "refused unpark empty\n"),
+        (
+            Command::Advance,
+            Cause::Exhausted,
+            "refused advance exhausted\n",
+        ),
+        (Command::Step, Cause::Exhausted, "refused step exhausted\n"),
         (Command::Start, Cause::Running, "refused start running\n"),
         (
             Command::Poll,

@@ -8,8 +8,8 @@ use Rattle.onedom.proofs.CallerLemmas.{beginning_trans, empty_grows, count_cons}
 use Rattle.sections.specs.declared.view.Step.{Step}
 use Rattle.sections.specs.declared.view.Step.TheVariants.{LoadIndex}
 use Rattle.sections.specs.Words.{index_word, locks, unlocks, sum_below, all_unlocks, IsIdle}
-use Rattle.sections.specs.Views.{EngineView}
-use Rattle.sections.specs.EngineCalls.{IsSeenByEngine, IsSameEngine}
+use Rattle.sections.specs.Views.{CpuView, EngineView}
+use Rattle.sections.specs.EngineCalls.{IsSeenByEngine, IsSameEngine, TiesEngine}
 use Rattle.sections.proofs.CallerLemmas.{sum_le, unlocks_grow, locks_grow, starts_mine}
 use Rattle.scan.specs.declared.place.Place.{Place}
 use Rattle.scan.specs.declared.place.Place.TheVariants.{Idle, Wanted, Unlocks, Locks, Passed, Flipped}
@@ -33,6 +33,19 @@ pub record OnlySees (e f : EngineView) : Type 0 where
 pub index_loads : (found : List ℕ) → counter_loads (map LoadIndex found) ≡ 0
 index_loads [] = refl
 index_loads (n ∷ ns) = let rest = index_loads ns in let c = count_cons is_counter_load (LoadIndex n) (map LoadIndex ns) in omega (arith, rest, c)
+
+-- a tie is a load, and then a processor is noted
+pub ties_only : (e f : EngineView) (c d : CpuView) → IsSeenByEngine e → TiesEngine e c f d → OnlySees e f
+ties_only e f c d seen h = subst (λ z. OnlySees e z) (sym h.notes) record {
+  same = h.covers.step.same;
+  seen = seen;
+  history = h.covers.step.history;
+  since = h.covers.step.since;
+  changes = h.covers.step.changes_are;
+  extra = LoadIndex h.covers.value ∷ [];
+  steps = h.covers.step.steps;
+  none = refl;
+}
 
 module _ (e f : EngineView) (h : OnlySees e f) where
   scanned_still : not_current f.changes ≡ not_current e.changes

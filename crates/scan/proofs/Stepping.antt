@@ -60,7 +60,7 @@ place_runs e (Locks p ended begun) some other seen at = scanning_runs e seen at.
 place_runs e Passed some other seen at = scanning_runs e seen at.scanning
 place_runs e (Flipped i) some other seen at = let flipping = at.flipping in busy_running e.changes e.seen (omega (arith, flipping)) seen.reaches
 
-not_idle : (n : ℕ) (p : Place) → 0 < so_far n p → p ≢ Idle
+pub not_idle : (n : ℕ) (p : Place) → 0 < so_far n p → p ≢ Idle
 not_idle n p some is = let none : so_far n p ≡ 0 = ap (so_far n) is in omega (arith, some, none)
 
 -- where something is half done, a period runs, unless one is wanted
@@ -405,4 +405,5 @@ module _ {N : Type 0} (loads : N → ℕ → N → Type 0) (e : EngineView) (som
     still_nothing = refl;
     out = record { resting = resting; full = omega (arith, ended, idle, full) };
     asked = omega (arith, ended, idle, high);
+    rest = refl;
   }

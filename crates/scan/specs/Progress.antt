@@ -137,6 +137,7 @@ module _ {N : Type 0} where
       pub still_nothing : w.so_far ≡ 0
       pub out : IsOutOfPeriods (standing_of w)
       pub asked : number_at_rest w.seat.seen < need
+      pub rest : w ≡ record v { needs = w.needs }
 
 -- as a refusal is printed
 abbrev pub refusal_text : StartRefusal → List ℕ

@@ -1,13 +1,17 @@
 //! The engine.
-ghost use Rattle.std.specs.Prelude.{◌≡◌, ◌+◌, ◌*◌, ◌^◌, ◌≤◌, [], MatchResult};
+ghost use Rattle.std.specs.Prelude.{◌≡◌, ℕ, ◌+◌, ◌*◌, ◌^◌, ◌≤◌, [], MatchResult};
+ghost use Rattle.std.specs.Borrow.{Lends, sem};
 ghost use Rattle.onedom.specs.Histories.{IsBeginning};
 ghost use Rattle.sections.specs.Words.{number_word};
-ghost use Rattle.sections.specs.Calls.{Accepts};
-ghost use Rattle.sections.specs.EngineCalls.{Covers, TiesEngine, Meets, AreInDomain};
+ghost use Rattle.sections.specs.declared.view.Shown.TheVariants.{To};
+ghost use Rattle.sections.specs.Calls.{Accepts, IsSeenBy};
+ghost use Rattle.sections.specs.EngineCalls.{Covers, IsTied, TiesEngine, Meets, AreInDomain, AreAllCpus, OneHasSeenAll};
 ghost use Rattle.scan.specs.Progress.{StepsTo, AdvancesTo, FindsExhausted, StartsTo, IsNoStart, new_engine, with_seat};
 
+use crate::needed::find_need;
 use crate::place::Place;
 use crate::progress::{Exhausted, Progress, StartRefusal};
+use crate::rows::go_on;
 use crate::scanning::move_on;
 use sections::{Cpu, EngineSeat};
 use sseq::{Needs, Number, Phase, state};
@@ -36,6 +40,8 @@ impl<N: Needs, A: Allocator> Model for Engine<N, A> {
 }
 
 impl<N: Needs, A: Allocator> Engine<N, A> {
+    ghost use Rattle.scan.specs.contracts.engine.Engine.{the_row};
+
     /// The engine of a domain in which no grace period was started.
     pub fn new(seat: EngineSeat<A>, needs: N) -> Engine<N, A>
         requires { seat.mine ≡ [] }
@@ -57,14 +63,9 @@ impl<N: Needs, A: Allocator> Engine<N, A> {
     {
         match self.place {
             Place::Idle => {
-                let number = self.number();
-                let need = self.needs.root_need();
-                if need.get() <= number.get() {
+                let Some(need) = find_need(&self.seat, &mut self.needs)? else {
                     return Ok(Progress::Idle);
-                }
-                if number.get() == 4 * self.seat.periods() {
-                    return Err(Exhausted);
-                }
+                };
                 self.place = Place::Wanted(need);
                 Ok(Progress::Step)
             }
@@ -76,16 +77,26 @@ impl<N: Needs, A: Allocator> Engine<N, A> {
         }
     }
 
-    /// Makes steps until there is an answer, which is never `Step`. It goes on with what `step` has left half done. In
-    /// a domain of P processors an answer takes 1 step (`Idle`), 2 (`Started`), 2P (`Waiting`), 2P + 2 (`Flipped`) or
-    /// 2P + 1 (`Ended`), including those that were made before.
+    /// Makes steps until there is an answer, which is never `Step`: those that [`Engine::step`] would make one by one,
+    /// with nothing written down between them. It goes on with what `step` has left half done. In a domain of P processors
+    /// an answer takes 1 step (`Idle`), 2 (`Started`), 2P (`Waiting`), 2P + 2 (`Flipped`) or 2P + 1 (`Ended`), including
+    /// those that were made before.
     pub fn advance(&mut self) -> Result<Progress, Exhausted>
         ensures { MatchResult result (λ answer. AdvancesTo N.loads self.old answer self.new) (λ _. FindsExhausted N.loads self.old self.new) }
     {
-        loop {
-            match self.step()? {
-                Progress::Step => {}
-                answer => return Ok(answer),
+        match self.place {
+            Place::Idle => {
+                let Some(_) = find_need(&self.seat, &mut self.needs)? else {
+                    return Ok(Progress::Idle);
+                };
+                let started = self.seat.add_start();
+                self.place = Place::SCAN;
+                Ok(Progress::Started(started))
+            }
+            place => {
+                let (next, answer) = go_on(&mut self.seat, place);
+                self.place = next;
+                Ok(answer)
             }
         }
     }
@@ -117,6 +128,14 @@ impl<N: Needs, A: Allocator> Engine<N, A> {
         self.seat.number()
     }
 
+    /// The engine's needs, for what is no step of the engine, as a tie of theirs. Nothing else of it changes.
+    pub fn needs(&mut self) -> &mut N
+        ensures value { result.now ≡ self.old.needs }
+        ensures* writes_back { sem 𝓛 (Lends (the_row N.row A.row N.Needs A.Allocator) N.row self.entry result (λ w. record self.old { needs = w })) }
+    {
+        &mut self.needs
+    }
+
     /// One load of the index word by the engine, which has then seen what the processor has. Both are of one domain.
     pub fn cover(&mut self, cpu: &mut Cpu<A>)
         requires { cpu.old.domain ≡ self.old.seat.domain }
@@ -134,24 +153,31 @@ impl<N: Needs, A: Allocator> Engine<N, A> {
         requires covered { IsBeginning cpu.old.seen self.old.seat.seen × (cpu.old.changes ≤ self.old.seat.changes) }
         ensures engine { self.new ≡ self.old }
         ensures cpu { Accepts cpu.old self.old.seat.seen self.old.seat.changes cpu.new }
+        ensures was { IsSeenBy cpu.old }
+        ensures sized { cpu.old.processors ≡ self.old.seat.processors }
+        ensures heard { (n : ℕ) → self.old.seat.shown ≡ To cpu.old.processor n → n ≤ cpu.old.changes }
     {
         self.seat.admit(cpu);
     }
 
-    /// One load of the index word by the engine, and then one by the processor. Both have then seen one history.
+    /// One load of the index word by the engine, and then one by the processor. Both have then seen one history, and the
+    /// engine is tied: until it changes the number or the index word again, this processor has seen all that it made.
     pub fn tie(&mut self, cpu: &mut Cpu<A>)
         requires { cpu.old.domain ≡ self.old.seat.domain }
-        ensures tied { TiesEngine self.old.seat cpu.old self.new.seat cpu.new }
+        ensures ties { TiesEngine self.old.seat cpu.old self.new.seat cpu.new }
+        ensures tied { IsTied self.new.seat }
         ensures rest { self.new ≡ with_seat self.new.seat self.old }
     {
         self.seat.tie(cpu);
     }
 
     /// One load of the index word by the engine for each processor, and then one by each processor. All of them have
-    /// then seen one history, in which each has just its own events.
+    /// then seen one history, in which each has just its own events. Where the engine was tied, and these are all
+    /// processors, one of them had seen all that the engine made.
     pub fn meet(&mut self, cpus: &mut [Cpu<A>])
         requires { AreInDomain self.old.seat.domain cpus.old }
         ensures met { Meets self.old.seat cpus.old self.new.seat cpus.new }
+        ensures known { IsTied self.old.seat → AreAllCpus cpus.old → OneHasSeenAll self.old.seat cpus.old }
         ensures rest { self.new ≡ with_seat self.new.seat self.old }
     {
         self.seat.meet(cpus);

@@ -3,8 +3,10 @@
 #![tactic(auto)]
 
 mod engine;
+mod needed;
 mod place;
 mod progress;
+mod rows;
 mod scanning;
 #[cfg(test)]
 mod tests;

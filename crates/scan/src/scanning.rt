@@ -46,7 +46,7 @@ pub(crate) fn move_on<A: Allocator>(seat: &mut EngineSeat<A>, place: Place) -> (
 }
 
 /// The index that a scan looks at: the one that is not current.
-fn scanned_index<A: Allocator>(seat: &EngineSeat<A>) -> Index
+pub(crate) fn scanned_index<A: Allocator>(seat: &EngineSeat<A>) -> Index
     requires { IsScanning seat.now }
     ensures { result ≡ not_current seat.now.changes }
 {

@@ -51,7 +51,7 @@ fn new_domain(
 /// Would catch an answer that no clause tells apart from another, and a period that does not get on.
 #[test]
 fn advances(rt: HostRuntime) -> Result<(), Fail> {
-    for processors in [1, 2] {
+    for processors in [1, 2, 64] {
         let (_cpus, mut engine) = new_domain(rt.alloc(), processors, 1, 4)?;
         for answer in [
             Progress::Started(number(1)),
@@ -109,6 +109,16 @@ fn starts(rt: HostRuntime) -> Result<(), Fail> {
     assert_eq!(rt; engine.advance(), Ok(Progress::Flipped(Index::One)));
     assert_eq!(rt; engine.advance(), Ok(Progress::Ended(number(4))));
     assert_eq!(rt; engine.advance(), Ok(Progress::Idle));
+    Ok(())
+}
+
+/// Would catch needs that are lent and are not those that the engine loads.
+#[test]
+fn lends_its_needs(rt: HostRuntime) -> Result<(), Fail> {
+    let (_cpus, mut engine) = new_domain(rt.alloc(), 1, 1, 0)?;
+    assert_eq!(rt; engine.advance(), Ok(Progress::Idle));
+    engine.needs().0 = number(1);
+    assert_eq!(rt; engine.advance(), Ok(Progress::Started(number(1))));
     Ok(())
 }
 

@@ -31,3 +31,7 @@ pub use Rattle.sections.proofs.Agreement.{starts_mine}
 
 -- the last event may follow those before it
 pub use Rattle.sections.proofs.CpuViews.{last_may_follow}
+-- where a processor knows of all changes, it has seen all of the engine's events
+pub use Rattle.sections.proofs.Meeting.{seen_all}
+-- who was told that as many periods have ended as a cookie waits for, or more, knows that all that was open when it was given is closed
+pub use Rattle.sections.proofs.Sighting.{closed_behind}

@@ -1,6 +1,6 @@
 -- From what a step tells a seat to what a caller of a processor sees.
-use Rattle.std.proofs.Common.{◌≡◌, ℕ, ◌+◌, ◌*◌, ◌%◌, ◌^◌, ◌<◌, ◌≤◌, ◌≢◌, ◌==◌, if◌then◌else◌, Bool, true, false, nat_le, eqb, List, [], ◌∷◌, ◌++◌, None, All, Contains, zero, suc, ⊎_elim, length, get_or, set, refl, sym, ap, ◌∙◌, subst, eq-eqb, ne_eqb, leb-true, le-leb, append_assoc, arith, get_or-set_other, get_or-set_same}
-use Rattle.std.proofs.lemmas.List.Elements.{All-head, Contains-append_left, Contains-append_right, Contains-append_cases}
+use Rattle.std.proofs.Common.{◌≡◌, ℕ, ◌+◌, ◌*◌, ◌%◌, ◌^◌, ◌<◌, ◌≤◌, ◌≢◌, ◌==◌, if◌then◌else◌, Bool, true, false, nat_le, eqb, List, [], ◌∷◌, ◌++◌, None, All, Contains, zero, suc, ⊎_elim, length, length-append, filter, not, ◌&&◌, get_or, set, refl, sym, ap, ◌∙◌, subst, eq-eqb, ne_eqb, leb-true, le-leb, append_assoc, arith, get_or-set_other, get_or-set_same}
+use Rattle.std.proofs.lemmas.List.Elements.{All-head, filter_agree, Contains-append_left, Contains-append_right, Contains-append_cases}
 use mathlib.Core.Logic.{dite}
 use native.Mathlib.Decide.{ℕ_discrete}
 use Rattle.atomic_table.specs.Seated.{TableId}
@@ -12,14 +12,15 @@ use Rattle.onedom.specs.declared.event.Maker.TheVariants.{Processor, Engine}
 use Rattle.onedom.specs.declared.event.Event.{Event}
 use Rattle.onedom.specs.declared.event.Event.TheVariants.{Begin, End, Note, Ask}
 use Rattle.onedom.specs.Histories.{begins, ends, section_begun, IsOpen, begins_of, ends_of, index_of, MayFollow, IsLegal, made_by, open_sections, IsBeginning}
-use Rattle.onedom.proofs.CallerLemmas.{law, index_kept, bit, made_by_own, same_maker_refl, index_of_begun, begins_of_push, no_ends, legal_after_append, ends_of_made, ends_of_push, begins_grow, beginning_push, beginning_made_by, times_open, one_more_open, one_less_open, same_open_plain}
+use Rattle.onedom.specs.Laws.{times}
+use Rattle.onedom.proofs.CallerLemmas.{law, index_kept, bit, let_in, kept_out, made_by_own, same_maker_refl, index_of_begun, begins_of_push, no_ends, legal_after_append, ends_of_made, ends_of_push, begins_grow, beginning_push, beginning_made_by, times_kept, times_gone, without, filter_twice, times_open, open_sections_begun, open_sections_ended, open_sections_plain}
 use Rattle.sections.specs.declared.view.Role.{Role}
 use Rattle.sections.specs.declared.view.Role.TheVariants.{Cpu, Driver}
 use Rattle.sections.specs.declared.view.Right.{Right}
 use Rattle.sections.specs.declared.view.Right.TheVariants.{Nothing, Section}
 use Rattle.sections.specs.declared.view.Step.{Step}
 use Rattle.sections.specs.declared.view.View.{View}
-use Rattle.sections.specs.Words.{locks_at, locks, number_word}
+use Rattle.sections.specs.Words.{is_held, open_readings, locks_at, locks, number_word}
 use Rattle.sections.specs.Rule.{HasItsMaker, GoesOn, moment_of, steps_of, informed, lacking}
 use Rattle.sections.specs.Plays.{Owns, IsSound, Sees, Adds, FindsNumber}
 use Rattle.sections.specs.Insides.{IsAtRest, section_of}
@@ -156,8 +157,46 @@ unended s p i v w is a =
     let mine : ends_of s w.mine ≡ ends_of s v.mine + 0 = ap (ends_of s) a.mine ∙ ends_of_push s v.mine (Begin s p i (Processor p)) in
     omega (arith, none_ended, all, fewer, whole, mine)
 
-pub one_more_unclosed : (s p : ℕ) (i : Index) (v w : View) → w.role ≡ Cpu p → Adds v (Begin s p i (Processor p)) w → length (open_sections w.mine) ≡ length (open_sections v.mine) + 1
-one_more_unclosed s p i v w is a = ap (λ l. length (open_sections l)) a.mine ∙ one_more_open v.mine s p i (Processor p) (unended s p i v w is a)
+-- readings among a maker's own events
+
+filter_past : (p q : ℕ → Bool) (xs : List ℕ) → filter p (filter q xs) ≡ filter q (filter p xs)
+filter_past p q xs = filter_twice q p xs ∙ (filter_agree (λ x. q x && p x) (λ x. p x && q x) (λ x. and_past (q x) (p x)) xs ∙ sym (filter_twice p q xs))
+  where
+    and_past : (a b : Bool) → (a && b) ≡ (b && a)
+    and_past true true = refl
+    and_past true false = refl
+    and_past false true = refl
+    and_past false false = refl
+
+abbrev is_reading : ℕ → Bool
+is_reading s = not (is_held s)
+
+one_more_reading : (history : List Event) (s p : ℕ) (i : Index) (by : Maker) → ends_of s history ≡ 0 → is_held s ≡ false → length (open_readings (history ++ Begin s p i by ∷ [])) ≡ length (open_readings history) + 1
+one_more_reading history s p i by none kind = ap (λ l. length (filter is_reading l)) (open_sections_begun history s p i by none)
+    ∙ (ap length (let_in is_reading (open_sections history) s (ap not kind)) ∙ (length-append (open_readings history) (s ∷ []) ∙ omega arith))
+
+same_readings_begun : (history : List Event) (s p : ℕ) (i : Index) (by : Maker) → ends_of s history ≡ 0 → is_held s ≡ true → length (open_readings (history ++ Begin s p i by ∷ [])) ≡ length (open_readings history)
+same_readings_begun history s p i by none kind = ap (λ l. length (filter is_reading l)) (open_sections_begun history s p i by none) ∙ ap length (kept_out is_reading (open_sections history) s (ap not kind))
+
+fewer_readings : (history : List Event) (s q : ℕ) (by : Maker) → length (open_readings (history ++ End s q by ∷ [])) + times s (open_readings history) ≡ length (open_readings history)
+fewer_readings history s q by = ap (λ l. length (filter is_reading l) + times s (open_readings history)) (open_sections_ended history s q by)
+    ∙ (ap (λ l. length l + times s (open_readings history)) (filter_past is_reading (λ u. not (eqb u s)) (open_sections history)) ∙ without s (open_readings history))
+
+one_less_reading : (history : List Event) (s q : ℕ) (by : Maker) → is_held s ≡ false → times s (open_sections history) ≡ 1 → length (open_readings (history ++ End s q by ∷ [])) + 1 ≡ length (open_readings history)
+one_less_reading history s q by kind one = let f = fewer_readings history s q by in let k = times_kept s is_reading (open_sections history) (ap not kind) in omega (arith, f, k, one)
+
+same_readings_ended : (history : List Event) (s q : ℕ) (by : Maker) → is_held s ≡ true → length (open_readings (history ++ End s q by ∷ [])) ≡ length (open_readings history)
+same_readings_ended history s q by kind = let f = fewer_readings history s q by in let none = times_gone s is_reading (open_sections history) (ap not kind) in omega (arith, f, none)
+
+pub one_more_unclosed : (s p : ℕ) (i : Index) (v w : View) → w.role ≡ Cpu p → Adds v (Begin s p i (Processor p)) w → is_held s ≡ false → length (open_readings w.mine) ≡ length (open_readings v.mine) + 1
+one_more_unclosed s p i v w is a kind = ap (λ l. length (open_readings l)) a.mine ∙ one_more_reading v.mine s p i (Processor p) (unended s p i v w is a) kind
+
+-- held sections don't count
+pub same_unclosed_begun : (s p : ℕ) (i : Index) (v w : View) → w.role ≡ Cpu p → Adds v (Begin s p i (Processor p)) w → is_held s ≡ true → length (open_readings w.mine) ≡ length (open_readings v.mine)
+same_unclosed_begun s p i v w is a kind = ap (λ l. length (open_readings l)) a.mine ∙ same_readings_begun v.mine s p i (Processor p) (unended s p i v w is a) kind
+
+pub same_unclosed_ended : (s q : ℕ) (v w : View) → Adds v (End s q (Processor q)) w → is_held s ≡ true → length (open_readings w.mine) ≡ length (open_readings v.mine)
+same_unclosed_ended s q v w a kind = ap (λ l. length (open_readings l)) a.mine ∙ same_readings_ended v.mine s q (Processor q) kind
 
 pub has_room : (n l limit : ℕ) → n ≡ l → n ≤ limit → n ≢ limit → l < limit
 has_room n l limit same most n≠ = omega arith
@@ -177,9 +216,9 @@ still_unended s q v w is a =
     let mine : ends_of s w.mine ≡ ends_of s v.mine + bit (eqb s s) = ap (ends_of s) a.mine ∙ ends_of_push s v.mine e in
     omega (arith, unended_before, all, fewer, whole, mine, one)
 
-pub one_less_unclosed : (s q : ℕ) (v w : View) → w.role ≡ Cpu q → Adds v (End s q (Processor q)) w → begins_of s v.mine ≡ 1 → length (open_sections w.mine) + 1 ≡ length (open_sections v.mine)
-one_less_unclosed s q v w is a begun =
-    ap (λ l. length (open_sections l) + 1) a.mine ∙ one_less_open v.mine s q (Processor q) (times_open s v.mine (still_unended s q v w is a) ∙ begun)
+pub one_less_unclosed : (s q : ℕ) (v w : View) → w.role ≡ Cpu q → Adds v (End s q (Processor q)) w → begins_of s v.mine ≡ 1 → is_held s ≡ false → length (open_readings w.mine) + 1 ≡ length (open_readings v.mine)
+one_less_unclosed s q v w is a begun kind =
+    ap (λ l. length (open_readings l) + 1) a.mine ∙ one_less_reading v.mine s q (Processor q) kind (times_open s v.mine (still_unended s q v w is a) ∙ begun)
 
 pub locks_unchanged : (p : ℕ) (i : Index) (s q : ℕ) (by : Maker) (mine after : List Event) → after ≡ mine ++ End s q by ∷ [] → locks p i after ≡ locks p i mine
 locks_unchanged p i s q by mine after e = let c = locks_push p i mine (End s q by) in ap (locks p i) e ∙ omega (arith, c)
@@ -267,8 +306,8 @@ asks_alone number cookie answer d d' n limit p v w same sized is found told h =
 pub locks_told : (p : ℕ) (i : Index) (e : Event) (mine after : List Event) → locks_at p i e ≡ false → after ≡ mine ++ e ∷ [] → locks p i after ≡ locks p i mine
 locks_told p i e mine after none is = let c = locks_push p i mine e in let z : bit (locks_at p i e) ≡ 0 = ap bit none in ap (locks p i) is ∙ omega (arith, c, z)
 
-pub unclosed_told : (e : Event) (mine after : List Event) → section_begun e ≡ None → ((s : ℕ) → ends s e ≡ false) → after ≡ mine ++ e ∷ [] → length (open_sections after) ≡ length (open_sections mine)
-unclosed_told e mine after none unended is = ap (λ l. length (open_sections l)) is ∙ same_open_plain mine e none unended
+pub unclosed_told : (e : Event) (mine after : List Event) → section_begun e ≡ None → ((s : ℕ) → ends s e ≡ false) → after ≡ mine ++ e ∷ [] → length (open_readings after) ≡ length (open_readings mine)
+unclosed_told e mine after none unended is = ap (λ l. length (open_readings l)) is ∙ ap (λ l. length (filter (λ u. not (is_held u)) l)) (open_sections_plain mine e none unended)
 
 pub rests_told : (v w : View) (e : Event) → v.right ≡ Nothing → w.right ≡ v.right → Adds v e w → IsAtRest w
 rests_told v w e free same a = record { free = same ∙ free; told = a.told; sound = a.sound }

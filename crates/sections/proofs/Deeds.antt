@@ -35,14 +35,14 @@ one_maker (Cpu p) m n h g = h ∙ sym g
 one_maker (Driver k) m n h g = h ∙ sym g
 
 -- a maker's seat
-pub stands_at : (log : List Event) (changes : ℕ) (seat_of holder : ℕ → ℕ) (engine j : ℕ) (r : Role) (mine : List Event) (m : Maker) → Makes log changes seat_of holder engine j r mine → StandsFor r m → seat_at seat_of engine m ≡ j
-stands_at log changes seat_of holder engine j Bearer mine m h g = absurd g
-stands_at log changes seat_of holder engine j (Cpu p) mine m h g = ap (seat_at seat_of engine) g ∙ h.0
-stands_at log changes seat_of holder engine j (Driver k) mine Engine h g = h.0
-stands_at log changes seat_of holder engine j (Driver k) mine (Processor p) h g = (h.2 p g).0
+pub stands_at : (log : List Event) (changes : ℕ) (seat_of reached holder : ℕ → ℕ) (engine j : ℕ) (r : Role) (mine : List Event) (m : Maker) → Makes log changes seat_of reached holder engine j r mine → StandsFor r m → seat_at seat_of engine m ≡ j
+stands_at log changes seat_of reached holder engine j Bearer mine m h g = absurd g
+stands_at log changes seat_of reached holder engine j (Cpu p) mine m h g = ap (seat_at seat_of engine) g ∙ h.0
+stands_at log changes seat_of reached holder engine j (Driver k) mine Engine h g = h.0
+stands_at log changes seat_of reached holder engine j (Driver k) mine (Processor p) h g = (h.2 p g).0
 
-pub maker_at : (log : List Event) (changes : ℕ) (seat_of holder : ℕ → ℕ) (engine j : ℕ) (r : Role) (mine : List Event) (m : Maker) → Makes log changes seat_of holder engine j r mine → IsMaker r m → seat_at seat_of engine m ≡ j
-maker_at log changes seat_of holder engine j r mine m h g = stands_at log changes seat_of holder engine j r mine m h (maker_stands r m g)
+pub maker_at : (log : List Event) (changes : ℕ) (seat_of reached holder : ℕ → ℕ) (engine j : ℕ) (r : Role) (mine : List Event) (m : Maker) → Makes log changes seat_of reached holder engine j r mine → IsMaker r m → seat_at seat_of engine m ≡ j
+maker_at log changes seat_of reached holder engine j r mine m h g = stands_at log changes seat_of reached holder engine j r mine m h (maker_stands r m g)
 
 -- All that was done
 

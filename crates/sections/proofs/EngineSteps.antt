@@ -38,13 +38,16 @@ start_driven = record { by = refl; no_lock = λ _ _. refl; no_unlock = λ _ _ _.
 finish_driven : IsDriven (Finish Engine)
 finish_driven = record { by = refl; no_lock = λ _ _. refl; no_unlock = λ _ _ _. refl; no_end = λ _. refl; maker = λ _. refl }
 
+known_on : (reached : ℕ → ℕ) (changes : ℕ) → ((p : ℕ) → reached p ≤ changes) → (p : ℕ) → reached p ≤ changes + 1
+known_on reached changes known p = let most = known p in omega (arith, most)
+
 module _ (bounds : Bounds) where
   -- Loads of counters
 
   -- in all no more sections of an index were begun than the limits allow
-  bounded : (s : State (Option ℕ) View) (r : Kept bounds s) (n : ℕ) (i : Index) (seen : List Event) → n ≡ bounds.processors → seen ≡ r.log → all_locks n i seen < 2 ^ 62
-  bounded s r n i seen sized same = subst (λ (z : ℕ × List Event). all_locks z.0 i z.1 < 2 ^ 62) (λ k. (sym sized k, sym same k))
-      (let most = sum_most (λ p. locks p i r.log) (2 * bounds.sections) bounds.processors (λ p. let few = r.within.limited p i in omega (arith, few)) in let small = r.small.counters in omega (arith, most, small))
+  bounded : (s : State (Option ℕ) View) (r : Kept bounds s) (n : ℕ) (i : Index) (seen : List Event) → n ≡ bounds.processors → seen ≡ r.log → all_locks n i seen ≤ 2 ^ 60
+  bounded s r n i seen sized same = subst (λ (z : ℕ × List Event). all_locks z.0 i z.1 ≤ 2 ^ 60) (λ k. (sym sized k, sym same k))
+      (let most = sum_most (λ p. locks p i r.log) bounds.sections bounds.processors (λ p. r.within.limited p i) in let small = r.small.counters in omega (arith, most, small))
 
   pub counts_unlocks : (slots id k : ℕ) (me : Sat) (d q : ℕ) (i : Index) → me.0.processors ≡ bounds.processors → me.0.role ≡ Driver d → q < bounds.processors → k ≡ unlock_place q i
       → Allows (Kept bounds) slots id me k (λ x. x) (counted_unlocks (step slots k 0 0 none) me)
@@ -56,7 +59,7 @@ module _ (bounds : Bounds) where
         refl,
         changes ∙ sym (exact bounds s r id me.0 d at is),
         λ p j word. let same = unlock_places q p i j (sym place ∙ word) in
-            subst (λ (z : ℕ × Index). Sees (LoadUnlocks z.0 z.1 n (length w.seen)) me.0 w × (n ≡ unlocks z.0 z.1 w.seen) × (all_locks me.0.processors z.1 w.seen < 2 ^ 62)) (λ h. (same.0 h, same.1 h)) (sees, found, bounded s r me.0.processors i w.seen sized seen),
+            subst (λ (z : ℕ × Index). Sees (LoadUnlocks z.0 z.1 n (length w.seen)) me.0 w × (n ≡ unlocks z.0 z.1 w.seen) × (all_locks me.0.processors z.1 w.seen ≤ 2 ^ 60)) (λ h. (same.0 h, same.1 h)) (sees, found, bounded s r me.0.processors i w.seen sized seen),
       ))
 
   pub counts_locks : (slots id k : ℕ) (me : Sat) (d q : ℕ) (i : Index) → me.0.processors ≡ bounds.processors → me.0.role ≡ Driver d → q < bounds.processors → k ≡ lock_place q i
@@ -69,7 +72,7 @@ module _ (bounds : Bounds) where
         refl,
         changes ∙ sym (exact bounds s r id me.0 d at is),
         λ p j word. let same = lock_places q p i j (sym place ∙ word) in
-            subst (λ (z : ℕ × Index). Sees (LoadLocks z.0 z.1 n (length w.seen)) me.0 w × (n ≡ locks z.0 z.1 w.seen) × (all_locks me.0.processors z.1 w.seen < 2 ^ 62)) (λ h. (same.0 h, same.1 h)) (sees, found, bounded s r me.0.processors i w.seen sized seen),
+            subst (λ (z : ℕ × Index). Sees (LoadLocks z.0 z.1 n (length w.seen)) me.0 w × (n ≡ locks z.0 z.1 w.seen) × (all_locks me.0.processors z.1 w.seen ≤ 2 ^ 60)) (λ h. (same.0 h, same.1 h)) (sees, found, bounded s r me.0.processors i w.seen sized seen),
       ))
 
   -- Changes that are events
@@ -84,7 +87,7 @@ module _ (bounds : Bounds) where
       let v : View = me.0 in
       let f = r.each_view id v at in
       let known : v.changes ≡ r.changes = exact bounds s r id v d at is in
-      let made : Makes r.log r.changes r.seat_of r.holder r.engine id (Driver d) v.mine = subst (λ (m : Role). Makes r.log r.changes r.seat_of r.holder r.engine id m v.mine) is f.makes in
+      let made : Makes r.log r.changes r.seat_of r.reached r.holder r.engine id (Driver d) v.mine = subst (λ (m : Role). Makes r.log r.changes r.seat_of r.reached r.holder r.engine id m v.mine) is f.makes in
       let may = follows s r (sym known) f.seen (sym made.1) in
       let changes' : ℕ = r.changes + 1 in
       let log' : List Event = r.log ++ e ∷ [] in
@@ -98,15 +101,16 @@ module _ (bounds : Bounds) where
       (λ p i. locks_not_at p i r.log e (driven.no_lock p i)) (λ q i. unlocks_not_at q i r.log e (driven.no_unlock r.log q i)) in
       let by_engine : same_maker (maker_of e) Engine ≡ true = ap (λ m. same_maker m Engine) driven.by ∙ same_maker_refl Engine in
       let mine' : v.mine ++ e ∷ [] ≡ made_by Engine log' = ap (λ l. l ++ e ∷ []) made.1 ∙ sym (made_by_own Engine r.log e by_engine) in
-      let w : View = record { processors = v.processors; role = v.role; mine = v.mine ++ e ∷ []; seen = log'; changes = changes'; told = []; right = v.right; done = v.done } in
-      let fits : Fits log' changes' r.seat_of r.holder r.engine id w = record {
+      let w : View = record { processors = v.processors; role = v.role; mine = v.mine ++ e ∷ []; seen = log'; changes = changes'; told = []; right = v.right; shown = v.shown; done = v.done } in
+      let fits : Fits log' changes' r.seat_of r.reached r.holder r.engine id w = record {
         seen = beginning_refl log';
-        knows = knows_all log' changes' r.seat_of r.holder r.engine id v.role;
+        knows = knows_all log' changes' r.seat_of r.reached r.holder r.engine id (known_on r.reached r.changes r.known) v.role;
         told = All-nil (λ m. GoesOn m (now log' changes'));
-        makes = subst (λ (m : Role). Makes log' changes' r.seat_of r.holder r.engine id m (v.mine ++ e ∷ [])) (sym is)
+        makes = subst (λ (m : Role). Makes log' changes' r.seat_of r.reached r.holder r.engine id m (v.mine ++ e ∷ [])) (sym is)
             (made.0, mine', λ p le. let q = made.2 p le in (q.0, made_by_other (Processor p) r.log e (ap (λ m. same_maker m (Processor p)) driven.by) ∙ q.1));
-        has = has_later log' r.changes changes' r.seat_of r.holder r.engine id v.right
-            (has_stays r.log r.changes r.seat_of r.holder r.holder r.engine id e may.0 (λ t _. driven.no_end t) (λ t _. refl) v.right f.has);
+        has = has_later log' r.changes changes' r.seat_of r.reached r.holder r.engine id v.right
+            (has_stays r.log r.changes r.seat_of r.reached r.holder r.holder r.engine id e may.0 (λ t _. driven.no_end t) (λ t _. refl) v.right f.has);
+        shown = f.shown;
       } in (
         w,
         keeps,
@@ -126,6 +130,7 @@ module _ (bounds : Bounds) where
           processors = refl;
           role = refl;
           mine = refl;
+          shown = refl;
           told = refl;
           done = refl;
           sound = sound_after bounds s r e v.processors v.role (v.mine ++ e ∷ []) changes' may.0 (driven.maker bounds.processors) sized may.1 (subst (λ (m : Role). Owns m (v.mine ++ e ∷ []) log') (sym is) mine');
@@ -155,18 +160,20 @@ module _ (bounds : Bounds) where
 
   -- the rule after a change of a word
   changed : (s : State (Option ℕ) View) (r : Kept bounds s) (id k x : ℕ) (cs : List (ℕ × Option ℕ)) (w : View) (l : Step) → IsTrueOf (now r.log (r.changes + 1)) l → w.done ≡ r.deeds ++ deed Engine l (now r.log (r.changes + 1)) ∷ [] → Agree bounds.processors (set s.words k x) r.log (r.changes + 1) → r.changes + 1 ≤ 4 * bounds.periods → r.engine ≡ id
-      → Fits r.log (r.changes + 1) r.seat_of r.holder r.engine id w → Kept bounds (stepped s k x id cs w keeps)
+      → Fits r.log (r.changes + 1) r.seat_of r.reached r.holder r.engine id w → Kept bounds (stepped s k x id cs w keeps)
   changed s r id k x cs w l is all agree most here fits = record {
     log = r.log;
     changes = r.changes + 1;
     seat_of = r.seat_of;
+    reached = r.reached;
+    known = known_on r.reached r.changes r.known;
     holder = r.holder;
     engine = r.engine;
     small = r.small;
     within = record { legal = r.within.legal; makers = r.within.makers; limited = r.within.limited; periods = most };
     words = agree;
-    each_view = views_set (Fits r.log (r.changes + 1) r.seat_of r.holder r.engine) s.views id w fits
-        (λ j d ne at. fits_later r.log r.changes (r.changes + 1) r.seat_of r.holder r.engine j (omega arith) (λ there. absurd (ne (sym there ∙ here))) d (r.each_view j d at));
+    each_view = views_set (Fits r.log (r.changes + 1) r.seat_of r.reached r.holder r.engine) s.views id w fits
+        (λ j d ne at. fits_later r.log r.changes (r.changes + 1) r.seat_of r.reached r.holder r.engine j (omega arith) (λ there. absurd (ne (sym there ∙ here))) d (r.each_view j d at));
     deeds = r.deeds ++ deed Engine l (now r.log (r.changes + 1)) ∷ [];
     done = done_push r.deeds Engine l (now r.log (r.changes + 1)) is (done_later r.deeds (now r.log r.changes) (now r.log (r.changes + 1)) (record { history = beginning_refl r.log; changes = omega arith }) r.done);
     each_done = each_more bounds s r id (deed Engine l (now r.log (r.changes + 1))) w here all;
@@ -184,7 +191,7 @@ module _ (bounds : Bounds) where
       let v : View = me.0 in
       let f = r.each_view id v at in
       let known : v.changes ≡ r.changes = exact bounds s r id v d at is in
-      let made : Makes r.log r.changes r.seat_of r.holder r.engine id (Driver d) v.mine = subst (λ (m : Role). Makes r.log r.changes r.seat_of r.holder r.engine id m v.mine) is f.makes in
+      let made : Makes r.log r.changes r.seat_of r.reached r.holder r.engine id (Driver d) v.mine = subst (λ (m : Role). Makes r.log r.changes r.seat_of r.reached r.holder r.engine id m v.mine) is f.makes in
       let changes' : ℕ = r.changes + 1 in
       let x : ℕ = get_or s.words k 0 in
       let y : ℕ = (x + 1) % 2 ^ 64 in
@@ -194,13 +201,14 @@ module _ (bounds : Bounds) where
       let one : x + 1 ≡ word changes' = omega (arith, found, grows, next) in
       let most = r.within.periods in
       let reached = reaches_on r.changes r.log (omega (arith, known, busy)) (omega (arith, known, few)) r.words.reaches in
-      let w : View = record { processors = v.processors; role = v.role; mine = v.mine; seen = r.log; changes = changes'; told = []; right = v.right; done = r.deeds ++ deed Engine (l (x + 1)) (now r.log changes') ∷ [] } in
-      let fits : Fits r.log changes' r.seat_of r.holder r.engine id w = record {
+      let w : View = record { processors = v.processors; role = v.role; mine = v.mine; seen = r.log; changes = changes'; told = []; right = v.right; shown = v.shown; done = r.deeds ++ deed Engine (l (x + 1)) (now r.log changes') ∷ [] } in
+      let fits : Fits r.log changes' r.seat_of r.reached r.holder r.engine id w = record {
         seen = beginning_refl r.log;
-        knows = knows_all r.log changes' r.seat_of r.holder r.engine id v.role;
+        knows = knows_all r.log changes' r.seat_of r.reached r.holder r.engine id (known_on r.reached r.changes r.known) v.role;
         told = All-nil (λ m. GoesOn m (now r.log changes'));
-        makes = makes_later r.log r.changes changes' r.seat_of r.holder r.engine id v.role v.mine f.makes;
-        has = has_later r.log r.changes changes' r.seat_of r.holder r.engine id v.right f.has;
+        makes = makes_later r.log r.changes changes' r.seat_of r.reached r.holder r.engine id v.role v.mine f.makes;
+        has = has_later r.log r.changes changes' r.seat_of r.reached r.holder r.engine id v.right f.has;
+        shown = f.shown;
       } in (
         w,
         keeps,
@@ -211,6 +219,7 @@ module _ (bounds : Bounds) where
           role = refl;
           mine = refl;
           right = refl;
+          shown = refl;
           told = refl;
           steps = one_more_step v.role Engine (l (x + 1)) (now r.log changes') v.done r.deeds (engine_makes d v.role is) (r.each_done id v at).own;
           since = f.seen;
@@ -219,7 +228,7 @@ module _ (bounds : Bounds) where
           sound = record {
             legal = r.within.legal;
             makers = subst (λ (z : ℕ). All (HasItsMaker z) r.log) (sym sized) r.within.makers;
-            own = owns_from_makes r.log r.changes r.seat_of r.holder r.engine id v.role v.mine f.makes;
+            own = owns_from_makes r.log r.changes r.seat_of r.reached r.holder r.engine id v.role v.mine f.makes;
             reaches = reached;
           };
         },

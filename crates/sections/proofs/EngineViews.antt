@@ -19,7 +19,7 @@ use Rattle.sections.proofs.Deeds.{engine_makes}
 use Rattle.sections.proofs.CpuViews.{engine_history_of, last_may_follow}
 
 abbrev pub engine_as : TableId → ℕ → ℕ → View → EngineView
-engine_as d n periods v = record { domain = d; processors = n; periods = periods; seen = v.seen; changes = v.changes; mine = v.mine; steps = steps_of Engine v.done }
+engine_as d n periods v = record { domain = d; processors = n; periods = periods; seen = v.seen; changes = v.changes; shown = v.shown; mine = v.mine; steps = steps_of Engine v.done }
 
 pub adds_engine_event : (e : Event) (d d' : TableId) (n periods k : ℕ) (v w : View) → d' ≡ d → v.processors ≡ n → v.role ≡ Driver k → w.changes ≡ v.changes + 1 → Adds v e w → AddsEngineEvent e (engine_as d n periods v) (engine_as d' n periods w)
 adds_engine_event e d d' n periods k v w same sized is changes a = record {
@@ -28,6 +28,7 @@ adds_engine_event e d d' n periods k v w same sized is changes a = record {
   seen = a.seen;
   since = a.since;
   changes_are = changes;
+  shown = a.shown;
   mine = a.mine;
   steps = ap (steps_of Engine) a.done;
   history = engine_history_of n k w (a.processors ∙ sized) (a.role ∙ is) a.sound;
@@ -39,6 +40,7 @@ takes_step l changes d d' n periods k v w same sized is known h = record {
   mine = h.mine;
   steps = h.steps Engine (engine_makes k v.role is);
   changes_are = known;
+  shown = h.shown;
   since = h.since;
   history = engine_history_of n k w (h.processors ∙ sized) (h.role ∙ is) h.sound;
 }
@@ -53,6 +55,7 @@ covers_engine d d' n periods k v o w same sized is h = record {
     mine = h.mine;
     steps = h.steps Engine (engine_makes k v.role is);
     changes_are = h.driven k is;
+    shown = h.shown;
     since = h.since;
     history = engine_history_of n k w (h.processors ∙ sized) (h.role ∙ is) h.sound;
   };

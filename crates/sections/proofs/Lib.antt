@@ -14,3 +14,4 @@ mod Founding
 mod Forging
 mod Sums
 mod OneHistory
+mod Sighting

@@ -1,5 +1,5 @@
 -- What the rule says of the words, in terms of the history alone.
-use Rattle.std.proofs.Common.{◌≡◌, ℕ, ◌*◌, ◌%◌, inl, inr, List, sym, ap, ◌∙◌, subst, arith}
+use Rattle.std.proofs.Common.{◌≡◌, ℕ, ◌*◌, ◌%◌, ◌≤◌, inl, inr, List, sym, ap, ◌∙◌, subst, arith}
 use mathlib.Core.Logic.{dite}
 use native.Mathlib.Decide.{ℕ_discrete}
 use Rattle.onedom.specs.declared.event.Maker.{Maker}
@@ -10,7 +10,9 @@ use Rattle.sections.specs.declared.view.Role.{Role}
 use Rattle.sections.specs.declared.view.Role.TheVariants.{Bearer, Cpu, Driver}
 use Rattle.sections.specs.Rule.{IsMaker, Makes}
 use Rattle.sections.specs.Words.{number_word, Reaches, MayHave}
-use Rattle.sections.specs.Laws.{OneHistory, WordsAgree}
+use Rattle.sections.specs.Laws.{OneHistory, ShownIsSeen, WordsAgree}
+use Rattle.sections.specs.declared.view.Role.{Role}
+use Rattle.sections.specs.Rule.{HasReached, Knows}
 
 pub words_agree : WordsAgree
 words_agree changes history r = let started = r.started in let ended = r.ended in record {
@@ -27,6 +29,12 @@ words_agree changes history r = let started = r.started in let ended = r.ended i
     idle_number : (changes : ℕ) (history : List Event) → Reaches changes history → changes % 4 ≡ 0 → number_word changes ≡ 4 * ended_in history
     idle_number changes history r idle = let ended = r.ended in omega (arith, ended, idle)
 
+pub shown_is_seen : ShownIsSeen
+shown_is_seen bounds s r j k p n v c at shown there is =
+    let reached : n ≤ r.reached p = subst (HasReached r.reached) shown (r.each_view j v at).shown in
+    let seen = (subst (λ (m : Role). Knows r.log r.changes r.seat_of r.reached r.holder r.engine k m c.changes) is (r.each_view k c there).knows).0 in
+    omega (arith, reached, seen)
+
 pub one_history : OneHistory
 one_history bounds s r = record {
   log = r.log;
@@ -36,11 +44,11 @@ one_history bounds s r = record {
   unlock_counters = r.words.unlock_counters;
   seen = λ j v at. (r.each_view j v at).seen;
   known = λ j k u v at there m is. let f = r.each_view j u at in
-      let own : u.mine ≡ made_by m r.log = made r.log r.changes r.seat_of r.holder r.engine j u.role u.mine m is f.makes in
+      let own : u.mine ≡ made_by m r.log = made r.log r.changes r.seat_of r.reached r.holder r.engine j u.role u.mine m is f.makes in
       let b = beginning_made_by m (r.each_view k v there).seen in record { rest = b.rest; whole = own ∙ b.whole };
 }
   where
-    made : (log : List Event) (changes : ℕ) (seat_of holder : ℕ → ℕ) (engine j : ℕ) (role : Role) (mine : List Event) (m : Maker) → IsMaker role m → Makes log changes seat_of holder engine j role mine → mine ≡ made_by m log
-    made log changes seat_of holder engine j Bearer mine m is h = absurd is
-    made log changes seat_of holder engine j (Cpu p) mine m is h = h.1 ∙ ap (λ z. made_by z log) (sym is)
-    made log changes seat_of holder engine j (Driver k) mine m is h = h.1 ∙ ap (λ z. made_by z log) (sym is)
+    made : (log : List Event) (changes : ℕ) (seat_of reached holder : ℕ → ℕ) (engine j : ℕ) (role : Role) (mine : List Event) (m : Maker) → IsMaker role m → Makes log changes seat_of reached holder engine j role mine → mine ≡ made_by m log
+    made log changes seat_of reached holder engine j Bearer mine m is h = absurd is
+    made log changes seat_of reached holder engine j (Cpu p) mine m is h = h.1 ∙ ap (λ z. made_by z log) (sym is)
+    made log changes seat_of reached holder engine j (Driver k) mine m is h = h.1 ∙ ap (λ z. made_by z log) (sym is)

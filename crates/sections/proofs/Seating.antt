@@ -12,7 +12,7 @@ use Rattle.sections.specs.declared.view.Step.{Step}
 use Rattle.sections.specs.declared.view.Step.TheVariants.{LoadIndex}
 use Rattle.sections.specs.declared.view.View.{View}
 use Rattle.sections.specs.Words.{word_count, index_word}
-use Rattle.sections.specs.Rule.{HasItsMaker, GoesOn, Kept, moment_of, bearer, informed}
+use Rattle.sections.specs.Rule.{HasItsMaker, GoesOn, Kept, moment_of, bearer, informed, mark, shower, hearing}
 use Rattle.sections.specs.Plays.{Sat, Sees, Admits, admitted}
 use Rattle.sections.specs.Seats.{Covers, Accepts}
 use Rattle.sections.specs.Insides.{IsAtRest}
@@ -40,6 +40,7 @@ covers_from n v o j w free joined h current driven = let l : Sees (LoadIndex n) 
   steps = l.steps;
   since = l.since;
   later = l.later;
+  shown = l.shown;
   driven = subst (λ (z : View). (k : ℕ) → z.role ≡ Driver k → w.changes ≡ z.changes) joined driven;
   covers = (All-head (λ m. GoesOn m (moment_of w)) (moment_of o) v.told l.covers).history;
   not_before = (All-head (λ m. GoesOn m (moment_of w)) (moment_of o) v.told l.covers).changes;
@@ -47,28 +48,32 @@ covers_from n v o j w free joined h current driven = let l : Sees (LoadIndex n) 
 }
 
 -- a processor that was told of a history, which covers its own, may accept it
-pub may_accept : (bounds : Bounds) (slots id p : ℕ) (v o : View) (me : Sat) → me.0 ≡ informed v (bearer o) → v.processors ≡ bounds.processors → o.processors ≡ bounds.processors → v.role ≡ Cpu p → IsAtRest v → IsAtRest o → IsBeginning v.seen o.seen → v.changes ≤ o.changes
+pub may_accept : (bounds : Bounds) (slots id p : ℕ) (v o : View) (me : Sat) → me.0 ≡ hearing v (shower o) → v.processors ≡ bounds.processors → o.processors ≡ bounds.processors → v.role ≡ Cpu p → IsAtRest v → IsAtRest o → IsBeginning v.seen o.seen → v.changes ≤ o.changes
     → Allows (Kept bounds) slots id me 0 (λ x. x) (admitted (step slots 0 0 0 none) me)
 may_accept bounds slots id p v o me joined sized other_sized is rests other since later =
     subst (λ (z : View). Allows (Kept bounds) slots id (z, me.1) 0 (λ x. x) (admitted (step slots 0 0 0 none) (z, me.1))) (sym joined)
-    (admits_here bounds slots id (informed v (bearer o), me.1) p (moment_of o) sized is (ap (λ t. moment_of o ∷ t) rests.told) since later rests.sound.own other.sound.legal
+    (admits_here bounds slots id (hearing v (shower o), me.1) p (moment_of o) sized is (ap (λ t. moment_of o ∷ t) rests.told) since later rests.sound.own other.sound.legal
     (subst (λ (z : ℕ). All (HasItsMaker z) o.seen) other_sized other.sound.makers) other.sound.reaches)
 
-pub accepts_from : (n : ℕ) (v o j w : View) → v.told ≡ [] → o.right ≡ Nothing → j ≡ informed v (bearer o) → ((m : Moment) → j.told ≡ m ∷ [] → Admits n m j w) → Accepts v o w
-accepts_from n v o j w untold free joined admits =
-    let l : Admits n (moment_of o) (informed v (bearer o)) w = subst (λ (z : View). Admits n (moment_of o) z w) joined (admits (moment_of o) (ap (λ (z : View). z.told) joined ∙ ap (λ t. moment_of o ∷ t) untold)) in record {
+pub accepts_from : (n : ℕ) (v o j w : View) → v.told ≡ [] → j ≡ hearing v (shower o) → ((m : Moment) → j.told ≡ m ∷ [] → Admits n m j w) → Accepts v o w
+accepts_from n v o j w untold joined admits =
+    let l : Admits n (moment_of o) (hearing v (shower o)) w = subst (λ (z : View). Admits n (moment_of o) z w) joined (admits (moment_of o) (ap (λ (z : View). z.told) joined ∙ ap (λ t. moment_of o ∷ t) untold)) in record {
       value = n;
       processors = l.processors;
       role = l.role;
       mine = l.mine;
-      right = l.right ∙ free;
+      right = l.right;
       told = l.told;
       steps = l.steps;
       seen = l.seen;
       changes = l.changes;
       found = l.found;
+      heard = λ p k c is driver shown. l.heard p c is (ap (λ m. mark m o.changes o.shown) driver ∙ shown);
       sound = l.sound;
     }
+
+pub keeps_right : (v o : View) → v.right ≡ Nothing → ◌≡◌ {A = Sat} (record v { right = Nothing; shown = o.shown }, []) (record v { shown = o.shown }, [])
+keeps_right v o free = λ k. (record v { right = sym free k; shown = o.shown }, [])
 
 pub rests_seen : (l : Step) (v w : View) → v.right ≡ Nothing → Sees l v w → IsAtRest w
 rests_seen l v w free h = record { free = h.right ∙ free; told = h.told; sound = h.sound }

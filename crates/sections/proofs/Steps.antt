@@ -17,7 +17,7 @@ use Rattle.onedom.specs.declared.event.Maker.TheVariants.{Processor}
 use Rattle.onedom.specs.declared.event.Event.{Event}
 use Rattle.onedom.specs.declared.event.Event.TheVariants.{Begin, End, Note, Ask}
 use Rattle.onedom.specs.Histories.{ends, begins_of, IsOpen, is_start, is_finish, starts_in, ended_in, cookie_after, IsLegal, MayFollow, maker_of, same_maker, made_by, IsBeginning}
-use Rattle.onedom.proofs.CallerLemmas.{bit, legal_push, made_by_own, same_maker_refl, same_maker_false, begins_of_push, open_begun, index_of_begun, fresh, begins_of_made, beginning_refl, beginning_push}
+use Rattle.onedom.proofs.CallerLemmas.{bit, legal_push, made_by_own, same_maker_refl, same_maker_false, begins_of_push, open_begun, index_of_begun, bound, begins_of_made, beginning_refl, beginning_push}
 use Rattle.sections.specs.declared.view.Bounds.{Bounds}
 use Rattle.sections.specs.declared.view.Moment.{Moment}
 use Rattle.sections.specs.declared.view.Role.{Role}
@@ -26,10 +26,11 @@ use Rattle.sections.specs.declared.view.Right.{Right}
 use Rattle.sections.specs.declared.view.Right.TheVariants.{Nothing, Section}
 use Rattle.sections.specs.declared.view.Step.{Step}
 use Rattle.sections.specs.declared.view.Step.TheVariants.{LoadIndex}
+use Rattle.sections.specs.declared.view.Shown.TheVariants.{Unknown}
 use Rattle.sections.specs.declared.view.View.{View}
-use Rattle.sections.specs.Words.{number_place, lock_place, unlock_place, locks_at, locks, unlocks_at, unlocks, index_word, number_word, Reaches, Agree}
+use Rattle.sections.specs.Words.{is_held, number_place, lock_place, unlock_place, locks_at, locks, unlocks_at, unlocks, index_word, number_word, Reaches, Agree}
 use Rattle.sections.specs.declared.view.Deed.{Deed}
-use Rattle.sections.specs.Rule.{HasItsMaker, GoesOn, IsTrueOf, IsMaker, HasDone, Makes, Has, Knows, Fits, Kept}
+use Rattle.sections.specs.Rule.{HasItsMaker, HasReached, GoesOn, IsTrueOf, IsMaker, HasDone, Makes, Has, Knows, Fits, Kept}
 use Rattle.sections.specs.Plays.{Owns, IsSound, Sees, Admits, Adds, Sat, looked, admitted, began, ended, FindsNumber, noted, asked}
 use Rattle.sections.proofs.Counters.{index_number_same, locks_push, elsewhere, locks_mine, All-push, unlocks_bounded}
 use Rattle.sections.proofs.Agreement.{agrees_begun, agrees_ended, agrees_plain}
@@ -58,15 +59,20 @@ pub ask_follows : (cookie n changes : ℕ) (log : List Event) → cookie % 4 ≡
 ask_follows cookie n changes log whole is r = let b = r.ended in
     (whole, ((λ t. let le = leb-true cookie n t in omega (arith, whole, is, b, le)), (λ done. le-leb cookie n (omega (arith, is, b, done)))))
 
+-- a number for a new section, of either kind
+fresh_as : (held : Bool) (history : List Event) → (s : ℕ) × (begins_of s history ≡ 0) × (is_held s ≡ held)
+fresh_as false history = let b = bound history in (2 * b.0, b.1.above (2 * b.0) (omega arith), ne_eqb ((2 * b.0) % 2) 1 (λ h. omega (arith, h)))
+fresh_as true history = let b = bound history in (2 * b.0 + 1, b.1.above (2 * b.0 + 1) (omega arith), eq-eqb ((2 * b.0 + 1) % 2) 1 (omega arith))
+
 -- an event of a processor that neither begins nor ends anything
-record IsTold (p : ℕ) (e : Event) : Type 0 where
-  by : maker_of e ≡ Processor p
-  no_start : is_start e ≡ false
-  no_finish : is_finish e ≡ false
-  no_lock : (q : ℕ) (i : Index) → locks_at q i e ≡ false
-  no_unlock : (before : List Event) (q : ℕ) (i : Index) → unlocks_at q i before e ≡ false
-  no_end : (s : ℕ) → ends s e ≡ false
-  maker : (n : ℕ) → p < n → HasItsMaker n e
+pub record IsTold (p : ℕ) (e : Event) : Type 0 where
+  pub by : maker_of e ≡ Processor p
+  pub no_start : is_start e ≡ false
+  pub no_finish : is_finish e ≡ false
+  pub no_lock : (q : ℕ) (i : Index) → locks_at q i e ≡ false
+  pub no_unlock : (before : List Event) (q : ℕ) (i : Index) → unlocks_at q i before e ≡ false
+  pub no_end : (s : ℕ) → ends s e ≡ false
+  pub maker : (n : ℕ) → p < n → HasItsMaker n e
 
 same_section : (s t p q : ℕ) (i j : Index) → Section s p i ≡ Section t q j → (s ≡ t) × (p ≡ q) × (i ≡ j)
 same_section s t p q i j h = (λ k. section_in (h k), λ k. processor_in (h k), λ k. index_in (h k))
@@ -94,7 +100,7 @@ module _ (bounds : Bounds) where
   pub each_more : (s : State (Option ℕ) View) (r : Kept bounds s) (id : ℕ) (d : Deed) (w : View) → seat_at r.seat_of r.engine d.by ≡ id → w.done ≡ r.deeds ++ d ∷ []
       → (j : ℕ) (u : View) → get_elem? (set s.views id w) j ≡ some u → HasDone (r.deeds ++ d ∷ []) u
   each_more s r id d w here all = views_set (λ _ u. HasDone (r.deeds ++ d ∷ []) u) s.views id w (has_done_all (r.deeds ++ d ∷ []) w all)
-      (λ j u ne at. has_done_push r.deeds d u (λ m g. alone r.seat_of r.engine id d.by here j ne m (stands_at r.log r.changes r.seat_of r.holder r.engine j u.role u.mine m (r.each_view j u at).makes g)) (r.each_done j u at))
+      (λ j u ne at. has_done_push r.deeds d u (λ m g. alone r.seat_of r.engine id d.by here j ne m (stands_at r.log r.changes r.seat_of r.reached r.holder r.engine j u.role u.mine m (r.each_view j u at).makes g)) (r.each_done j u at))
 
   -- none was
   pub each_as : (s : State (Option ℕ) View) (r : Kept bounds s) (id : ℕ) (v w : View) → get_elem? s.views id ≡ some v → w.role ≡ v.role → w.done ≡ v.done
@@ -104,17 +110,19 @@ module _ (bounds : Bounds) where
   -- Loads that are no events
 
   -- a load changes no word, and its seat has then seen all
-  unmoved : (s : State (Option ℕ) View) (r : Kept bounds s) (k id : ℕ) (cs : List (ℕ × Option ℕ)) (w : View) (by : Maker) (l : Step) → IsTrueOf (now r.log r.changes) l → seat_at r.seat_of r.engine by ≡ id → w.done ≡ r.deeds ++ deed by l (now r.log r.changes) ∷ [] → Fits r.log r.changes r.seat_of r.holder r.engine id w → Kept bounds (stepped s k (get_or s.words k 0) id cs w keeps)
+  unmoved : (s : State (Option ℕ) View) (r : Kept bounds s) (k id : ℕ) (cs : List (ℕ × Option ℕ)) (w : View) (by : Maker) (l : Step) → IsTrueOf (now r.log r.changes) l → seat_at r.seat_of r.engine by ≡ id → w.done ≡ r.deeds ++ deed by l (now r.log r.changes) ∷ [] → Fits r.log r.changes r.seat_of r.reached r.holder r.engine id w → Kept bounds (stepped s k (get_or s.words k 0) id cs w keeps)
   unmoved s r k id cs w by l is here all fits = subst (λ (ws : List ℕ). Kept bounds record { words = ws; homes = s.homes; views = set s.views id w }) (sym (set-get_or s.words k 0)) record {
     log = r.log;
     changes = r.changes;
     seat_of = r.seat_of;
+    reached = r.reached;
+    known = r.known;
     holder = r.holder;
     engine = r.engine;
     small = r.small;
     within = r.within;
     words = r.words;
-    each_view = views_set (Fits r.log r.changes r.seat_of r.holder r.engine) s.views id w fits (λ j d _ e. r.each_view j d e);
+    each_view = views_set (Fits r.log r.changes r.seat_of r.reached r.holder r.engine) s.views id w fits (λ j d _ e. r.each_view j d e);
     deeds = r.deeds ++ deed by l (now r.log r.changes) ∷ [];
     done = done_push r.deeds by l (now r.log r.changes) is r.done;
     each_done = each_more s r id (deed by l (now r.log r.changes)) w here all;
@@ -126,31 +134,33 @@ module _ (bounds : Bounds) where
       → ((s : State (Option ℕ) View) (r : Kept bounds s) (w : View) → get_elem? s.views id ≡ some me.0 → w.seen ≡ r.log → w.changes ≡ r.changes → Sees (l (get_or s.words k 0) w.seen) me.0 w → told_of (get_or s.words k 0) (w, me.1))
       → Allows (Kept bounds) slots id me k (λ x. x) told_of
   loads_here slots id k me m l told_of is sized true_of tells s r _ at _ = let v : View = me.0 in let f = r.each_view id v at in let n : ℕ = get_or s.words k 0 in
-      let w : View = record { processors = v.processors; role = v.role; mine = v.mine; seen = r.log; changes = r.changes; told = []; right = v.right; done = r.deeds ++ deed m (l n r.log) (now r.log r.changes) ∷ [] } in (
+      let w : View = record { processors = v.processors; role = v.role; mine = v.mine; seen = r.log; changes = r.changes; told = []; right = v.right; shown = v.shown; done = r.deeds ++ deed m (l n r.log) (now r.log r.changes) ∷ [] } in (
         w,
         keeps,
         tt,
-        unmoved s r k id me.1 w m (l n r.log) (true_of s r) (maker_at r.log r.changes r.seat_of r.holder r.engine id v.role v.mine m f.makes is) refl record {
+        unmoved s r k id me.1 w m (l n r.log) (true_of s r) (maker_at r.log r.changes r.seat_of r.reached r.holder r.engine id v.role v.mine m f.makes is) refl record {
           seen = beginning_refl r.log;
-          knows = knows_all r.log r.changes r.seat_of r.holder r.engine id v.role;
+          knows = knows_all r.log r.changes r.seat_of r.reached r.holder r.engine id r.known v.role;
           told = All-nil (λ m. GoesOn m (now r.log r.changes));
           makes = f.makes;
           has = f.has;
+          shown = f.shown;
         },
         tells s r w at refl refl record {
           processors = refl;
           role = refl;
           mine = refl;
           right = refl;
+          shown = refl;
           told = refl;
           steps = one_more_step v.role m (l n r.log) (now r.log r.changes) v.done r.deeds is (r.each_done id v at).own;
           since = f.seen;
-          later = known_before r.log r.changes r.seat_of r.holder r.engine id v.role v.changes f.knows;
+          later = known_before r.log r.changes r.seat_of r.reached r.holder r.engine id v.role v.changes f.knows;
           covers = f.told;
           sound = record {
             legal = r.within.legal;
             makers = subst (λ (z : ℕ). All (HasItsMaker z) r.log) (sym sized) r.within.makers;
-            own = owns_from_makes r.log r.changes r.seat_of r.holder r.engine id v.role v.mine f.makes;
+            own = owns_from_makes r.log r.changes r.seat_of r.reached r.holder r.engine id v.role v.mine f.makes;
             reaches = r.words.reaches;
           };
         },
@@ -158,7 +168,7 @@ module _ (bounds : Bounds) where
 
   -- the engine knows how many changes there were
   pub exact : (s : State (Option ℕ) View) (r : Kept bounds s) (id : ℕ) (v : View) (d : ℕ) → get_elem? s.views id ≡ some v → v.role ≡ Driver d → v.changes ≡ r.changes
-  exact s r id v d at is = subst (λ (m : Role). Knows r.log r.changes r.seat_of r.holder r.engine id m v.changes) is (r.each_view id v at).knows
+  exact s r id v d at is = subst (λ (m : Role). Knows r.log r.changes r.seat_of r.reached r.holder r.engine id m v.changes) is (r.each_view id v at).knows
 
   pub looks : (slots id : ℕ) (me : Sat) (m : Maker) → IsMaker me.0.role m → me.0.processors ≡ bounds.processors → Allows (Kept bounds) slots id me 0 (λ x. x) (looked (step slots 0 0 0 none) me)
   looks slots id me m is sized = loads_here slots id 0 me m (λ n _. LoadIndex n) (looked (step slots 0 0 0 none) me) is sized (λ s r. r.words.index) (λ s r w at seen changes sees. (refl, sees, r.words.index ∙ ap index_word (sym changes), refl, λ d is. changes ∙ sym (exact s r id me.0 d at is)))
@@ -174,16 +184,20 @@ module _ (bounds : Bounds) where
       let m : Maker = Processor p in
       let makes : IsMaker v.role m = cpu_makes p v.role is in
       let goes : GoesOn o (now r.log r.changes) = All-head (λ x. GoesOn x (now r.log r.changes)) o [] (subst (λ (l : List Moment). All (λ x. GoesOn x (now r.log r.changes)) l) told f.told) in
-      let w : View = record { processors = v.processors; role = v.role; mine = v.mine; seen = o.history; changes = o.changes; told = []; right = v.right; done = r.deeds ++ deed m (LoadIndex n) (now r.log r.changes) ∷ [] } in (
+      let low = goes.changes in
+      let knows : Knows r.log r.changes r.seat_of r.reached r.holder r.engine id (Cpu p) v.changes = subst (λ (x : Role). Knows r.log r.changes r.seat_of r.reached r.holder r.engine id x v.changes) is f.knows in
+      let known = knows.0 in
+      let w : View = record { processors = v.processors; role = v.role; mine = v.mine; seen = o.history; changes = o.changes; told = []; right = v.right; shown = Unknown; done = r.deeds ++ deed m (LoadIndex n) (now r.log r.changes) ∷ [] } in (
         w,
         keeps,
         tt,
-        unmoved s r 0 id me.1 w m (LoadIndex n) r.words.index (maker_at r.log r.changes r.seat_of r.holder r.engine id v.role v.mine m f.makes makes) refl record {
+        unmoved s r 0 id me.1 w m (LoadIndex n) r.words.index (maker_at r.log r.changes r.seat_of r.reached r.holder r.engine id v.role v.mine m f.makes makes) refl record {
           seen = goes.history;
-          knows = subst (λ (x : Role). Knows r.log r.changes r.seat_of r.holder r.engine id x o.changes) (sym is) goes.changes;
+          knows = subst (λ (x : Role). Knows r.log r.changes r.seat_of r.reached r.holder r.engine id x o.changes) (sym is) (omega (arith, known, later), low);
           told = All-nil (λ x. GoesOn x (now r.log r.changes));
           makes = f.makes;
           has = f.has;
+          shown = tt;
         },
         (
           refl,
@@ -198,10 +212,14 @@ module _ (bounds : Bounds) where
             seen = refl;
             changes = refl;
             found = record { moment = r.changes; word = r.words.index; not_before = goes.changes };
+            heard = λ q c is' shown'.
+                let reached : c ≤ r.reached q = subst (HasReached r.reached) shown' f.shown in
+                let below = (subst (λ (x : Role). Knows r.log r.changes r.seat_of r.reached r.holder r.engine id x v.changes) is' f.knows).0 in
+                omega (arith, reached, below);
             sound = record {
               legal = legal;
               makers = subst (λ (z : ℕ). All (HasItsMaker z) o.history) (sym sized) makers;
-              own = owns_between v.role v.mine v.seen o.history r.log own since goes.history (owns_from_makes r.log r.changes r.seat_of r.holder r.engine id v.role v.mine f.makes);
+              own = owns_between v.role v.mine v.seen o.history r.log own since goes.history (owns_from_makes r.log r.changes r.seat_of r.reached r.holder r.engine id v.role v.mine f.makes);
               reaches = reaches;
             };
           },
@@ -222,20 +240,22 @@ module _ (bounds : Bounds) where
       → ((j : ℕ) → j ≢ id → (m : Maker) → seat_at r.seat_of r.engine m ≡ j → same_maker (maker_of e) m ≡ false)
       → ((t : ℕ) → ends t e ≡ true → r.holder t ≡ id)
       → ((t : ℕ) → IsOpen r.log t → holder' t ≡ r.holder t)
-      → Fits (r.log ++ e ∷ []) changes' r.seat_of holder' r.engine id w
+      → Fits (r.log ++ e ∷ []) changes' r.seat_of r.reached holder' r.engine id w
       → (v : View) → get_elem? s.views id ≡ some v → w.role ≡ v.role → w.done ≡ v.done
       → Kept bounds (stepped s k x id cs w keeps)
   added s r id k x cs w e changes' holder' may made agree forth most same_changes limited other ended_here same fits v at role done = record {
     log = r.log ++ e ∷ [];
     changes = changes';
     seat_of = r.seat_of;
+    reached = r.reached;
+    known = λ p. let most = r.known p in omega (arith, most, forth);
     holder = holder';
     engine = r.engine;
     small = r.small;
     within = record { legal = legal_push r.log e r.within.legal may; makers = All-push (HasItsMaker bounds.processors) r.log e r.within.makers made; limited = limited; periods = most };
     words = agree;
-    each_view = views_set (Fits (r.log ++ e ∷ []) changes' r.seat_of holder' r.engine) s.views id w fits (λ j d ne at. fits_later (r.log ++ e ∷ []) r.changes changes' r.seat_of holder' r.engine j forth (same_changes j ne) d
-        (fits_stay r.log r.changes r.seat_of r.holder holder' r.engine j e may (other j ne)
+    each_view = views_set (Fits (r.log ++ e ∷ []) changes' r.seat_of r.reached holder' r.engine) s.views id w fits (λ j d ne at. fits_later (r.log ++ e ∷ []) r.changes changes' r.seat_of r.reached holder' r.engine j forth (same_changes j ne) d
+        (fits_stay r.log r.changes r.seat_of r.reached r.holder holder' r.engine j e may (other j ne)
         (λ t h. not_false (ends t e) (λ y. ne (sym h ∙ ended_here t y))) same d (r.each_view j d at)));
     deeds = r.deeds;
     done = done_later r.deeds (now r.log r.changes) (now (r.log ++ e ∷ []) changes') (record { history = beginning_push e (beginning_refl r.log); changes = forth }) r.done;
@@ -249,7 +269,7 @@ module _ (bounds : Bounds) where
       → ((j : ℕ) → j ≢ id → (m : Maker) → seat_at r.seat_of r.engine m ≡ j → same_maker (maker_of e) m ≡ false)
       → ((t : ℕ) → ends t e ≡ true → r.holder t ≡ id)
       → ((t : ℕ) → IsOpen r.log t → holder' t ≡ r.holder t)
-      → Fits (r.log ++ e ∷ []) r.changes r.seat_of holder' r.engine id w
+      → Fits (r.log ++ e ∷ []) r.changes r.seat_of r.reached holder' r.engine id w
       → (v : View) → get_elem? s.views id ≡ some v → w.role ≡ v.role → w.done ≡ v.done
       → Kept bounds (stepped s k x id cs w keeps)
   happened s r id k x cs w e holder' may made agree limited other ended_here same fits v at role done = let most = r.within.periods in added s r id k x cs w e r.changes holder' may made agree (omega arith) most (λ _ _ _. refl) limited other ended_here same fits v at role done
@@ -264,13 +284,13 @@ module _ (bounds : Bounds) where
   }
 
   -- A section begins: its number is new, and no other seat can know it
-  pub begins_here : (slots id k : ℕ) (me : Sat) (p : ℕ) (i : Index) → me.0.processors ≡ bounds.processors → me.0.role ≡ Cpu p → p < bounds.processors → k ≡ lock_place p i → locks p i me.0.mine < bounds.sections
-      → Allows (Kept bounds) slots id me k (λ x. (x + 1) % 2 ^ 64) (began (step slots k 1 0 none) me)
-  begins_here slots id k me p i sized is lt place room s r _ at _ =
+  pub begins_here : (held : Bool) (slots id k : ℕ) (me : Sat) (p : ℕ) (i : Index) → me.0.processors ≡ bounds.processors → me.0.role ≡ Cpu p → p < bounds.processors → k ≡ lock_place p i → locks p i me.0.mine < bounds.sections
+      → Allows (Kept bounds) slots id me k (λ x. (x + 1) % 2 ^ 64) (began held (step slots k 1 0 none) me)
+  begins_here held slots id k me p i sized is lt place room s r _ at _ =
       let v : View = me.0 in
       let f = r.each_view id v at in
-      let made : Makes r.log r.changes r.seat_of r.holder r.engine id (Cpu p) v.mine = subst (λ (m : Role). Makes r.log r.changes r.seat_of r.holder r.engine id m v.mine) is f.makes in
-      let new = fresh r.log in
+      let made : Makes r.log r.changes r.seat_of r.reached r.holder r.engine id (Cpu p) v.mine = subst (λ (m : Role). Makes r.log r.changes r.seat_of r.reached r.holder r.engine id m v.mine) is f.makes in
+      let new = fresh_as held r.log in
       let t : ℕ = new.0 in
       let e : Event = Begin t p i (Processor p) in
       let log' : List Event = r.log ++ e ∷ [] in
@@ -283,21 +303,22 @@ module _ (bounds : Bounds) where
       let small = r.small.counters in
       let below : bounds.sections < 2 ^ 62 = small_limit bounds.processors bounds.sections p lt small in
       let up : y ≡ x + 1 = omega (arith, found, same, room, below) in
-      let w : View = record { processors = v.processors; role = v.role; mine = v.mine ++ e ∷ []; seen = log'; changes = r.changes; told = []; right = Section t p i; done = v.done } in
+      let w : View = record { processors = v.processors; role = v.role; mine = v.mine ++ e ∷ []; seen = log'; changes = r.changes; told = []; right = Section t p i; shown = v.shown; done = v.done } in
       let holder' : ℕ → ℕ = given t id r.holder in
       let by_p : same_maker (Processor p) (Processor p) ≡ true = same_maker_refl (Processor p) in
       let mine' : v.mine ++ e ∷ [] ≡ made_by (Processor p) log' = ap (λ l. l ++ e ∷ []) made.1 ∙ sym (made_by_own (Processor p) r.log e by_p) in
-      let fits : Fits log' r.changes r.seat_of holder' r.engine id w = record {
+      let fits : Fits log' r.changes r.seat_of r.reached holder' r.engine id w = record {
         seen = beginning_refl log';
-        knows = knows_all log' r.changes r.seat_of holder' r.engine id v.role;
+        knows = knows_all log' r.changes r.seat_of r.reached holder' r.engine id r.known v.role;
         told = All-nil (λ m. GoesOn m (now log' r.changes));
-        makes = subst (λ (m : Role). Makes log' r.changes r.seat_of holder' r.engine id m (v.mine ++ e ∷ [])) (sym is) (made.0, mine');
+        makes = subst (λ (m : Role). Makes log' r.changes r.seat_of r.reached holder' r.engine id m (v.mine ++ e ∷ [])) (sym is) (made.0, mine');
         has = (
           given_here t id r.holder,
           open_begun t p i (Processor p) r.log r.within.legal new.1,
           index_of_begun t p i (Processor p) r.log,
           ap (begins_of t) (made_by_own (Processor p) r.log e by_p) ∙ begun_once t p i r.log new.1,
         );
+        shown = f.shown;
       } in (
         w,
         keeps,
@@ -312,22 +333,24 @@ module _ (bounds : Bounds) where
         (
           refl,
           λ q j is' word. let pq : p ≡ q = same_cpu p q (sym is ∙ is') in let ij : i ≡ j = same_lock p q i j pq (sym place ∙ word) in
-              subst (λ (z : ℕ × Index). (u : ℕ) × Adds v (Begin u z.0 z.1 (Processor z.0)) w × (w.right ≡ Section u z.0 z.1)) (λ h. (pq h, ij h)) (
+              subst (λ (z : ℕ × Index). (u : ℕ) × Adds v (Begin u z.0 z.1 (Processor z.0)) w × (w.right ≡ Section u z.0 z.1) × (is_held u ≡ held)) (λ h. (pq h, ij h)) (
                 t,
                 record {
                   before = r.log;
                   seen = refl;
                   since = f.seen;
-                  later = known_before r.log r.changes r.seat_of r.holder r.engine id v.role v.changes f.knows;
+                  later = known_before r.log r.changes r.seat_of r.reached r.holder r.engine id v.role v.changes f.knows;
                   covers = f.told;
                   processors = refl;
                   role = refl;
                   mine = refl;
+                  shown = refl;
                   told = refl;
                   done = refl;
                   sound = sound_after s r e v.processors v.role (v.mine ++ e ∷ []) r.changes new.1 (lt, refl) sized agree.reaches (subst (λ (m : Role). Owns m (v.mine ++ e ∷ []) log') (sym is) mine');
                 },
                 refl,
+                new.2,
               ),
         ),
       )
@@ -342,8 +365,8 @@ module _ (bounds : Bounds) where
       same_lock : (p q : ℕ) (i j : Index) → p ≡ q → lock_place p i ≡ lock_place q j → i ≡ j
       same_lock p q i j pq e = index_number_same i j (omega arith)
 
-      small_limit : (n limit p : ℕ) → p < n → 2 * n * limit < 2 ^ 62 → limit < 2 ^ 62
-      small_limit n limit p lt small = let m = mul-le-mul_left (2 * limit) one_below in omega (arith, m, small)
+      small_limit : (n limit p : ℕ) → p < n → n * limit ≤ 2 ^ 60 → limit < 2 ^ 62
+      small_limit n limit p lt small = let m = mul-le-mul_left limit one_below in omega (arith, m, small)
         where
           one_below : 1 ≤ n
           one_below = omega arith
@@ -370,8 +393,8 @@ module _ (bounds : Bounds) where
   ends_here slots id k me t p q i sized is right lt place s r _ at _ =
       let v : View = me.0 in
       let f = r.each_view id v at in
-      let made : Makes r.log r.changes r.seat_of r.holder r.engine id (Cpu q) v.mine = subst (λ (m : Role). Makes r.log r.changes r.seat_of r.holder r.engine id m v.mine) is f.makes in
-      let has : Has r.log r.changes r.seat_of r.holder r.engine id (Section t p i) = subst (λ (m : Right). Has r.log r.changes r.seat_of r.holder r.engine id m) right f.has in
+      let made : Makes r.log r.changes r.seat_of r.reached r.holder r.engine id (Cpu q) v.mine = subst (λ (m : Role). Makes r.log r.changes r.seat_of r.reached r.holder r.engine id m v.mine) is f.makes in
+      let has : Has r.log r.changes r.seat_of r.reached r.holder r.engine id (Section t p i) = subst (λ (m : Right). Has r.log r.changes r.seat_of r.reached r.holder r.engine id m) right f.has in
       let e : Event = End t q (Processor q) in
       let log' : List Event = r.log ++ e ∷ [] in
       let x : ℕ = get_or s.words k 0 in
@@ -384,13 +407,14 @@ module _ (bounds : Bounds) where
       let up : y ≡ x + 1 = omega (arith, found, most, small) in
       let by_q : same_maker (Processor q) (Processor q) ≡ true = same_maker_refl (Processor q) in
       let mine' : v.mine ++ e ∷ [] ≡ made_by (Processor q) log' = ap (λ l. l ++ e ∷ []) made.1 ∙ sym (made_by_own (Processor q) r.log e by_q) in
-      let w : View = record { processors = v.processors; role = v.role; mine = v.mine ++ e ∷ []; seen = log'; changes = r.changes; told = []; right = Nothing; done = v.done } in
-      let fits : Fits log' r.changes r.seat_of r.holder r.engine id w = record {
+      let w : View = record { processors = v.processors; role = v.role; mine = v.mine ++ e ∷ []; seen = log'; changes = r.changes; told = []; right = Nothing; shown = v.shown; done = v.done } in
+      let fits : Fits log' r.changes r.seat_of r.reached r.holder r.engine id w = record {
         seen = beginning_refl log';
-        knows = knows_all log' r.changes r.seat_of r.holder r.engine id v.role;
+        knows = knows_all log' r.changes r.seat_of r.reached r.holder r.engine id r.known v.role;
         told = All-nil (λ m. GoesOn m (now log' r.changes));
-        makes = subst (λ (m : Role). Makes log' r.changes r.seat_of r.holder r.engine id m (v.mine ++ e ∷ [])) (sym is) (made.0, mine');
+        makes = subst (λ (m : Role). Makes log' r.changes r.seat_of r.reached r.holder r.engine id m (v.mine ++ e ∷ [])) (sym is) (made.0, mine');
         has = tt;
+        shown = f.shown;
       } in (
         w,
         keeps,
@@ -410,11 +434,12 @@ module _ (bounds : Bounds) where
               before = r.log;
               seen = refl;
               since = f.seen;
-              later = known_before r.log r.changes r.seat_of r.holder r.engine id v.role v.changes f.knows;
+              later = known_before r.log r.changes r.seat_of r.reached r.holder r.engine id v.role v.changes f.knows;
               covers = f.told;
               processors = refl;
               role = refl;
               mine = refl;
+              shown = refl;
               told = refl;
               done = refl;
               sound = sound_after s r e v.processors v.role (v.mine ++ e ∷ []) r.changes has.1 (lt, refl) sized agree.reaches (subst (λ (m : Role). Owns m (v.mine ++ e ∷ []) log') (sym is) mine');
@@ -434,14 +459,14 @@ module _ (bounds : Bounds) where
   finds s r w same = let most = r.within.periods in let few = r.small.periods in let is = r.words.number in record { current = r.words.number ∙ ap number_word (sym same); room = omega (arith, is, most, few) }
 
   -- an event that a load makes
-  tells_here : (slots id : ℕ) (me : Sat) (p : ℕ) (e : ℕ → Event) (told_of : ℕ → Sat → Type 0) → me.0.processors ≡ bounds.processors → me.0.role ≡ Cpu p → p < bounds.processors
+  pub tells_here : (slots id : ℕ) (me : Sat) (p : ℕ) (e : ℕ → Event) (told_of : ℕ → Sat → Type 0) → me.0.processors ≡ bounds.processors → me.0.role ≡ Cpu p → p < bounds.processors
       → ((n : ℕ) → IsTold p (e n)) → ((s : State (Option ℕ) View) (r : Kept bounds s) → MayFollow r.log (e (get_or s.words number_place 0)))
       → ((n : ℕ) (w : View) → FindsNumber n w → w.right ≡ me.0.right → Adds me.0 (e n) w → told_of n (w, me.1))
       → Allows (Kept bounds) slots id me number_place (λ x. x) told_of
   tells_here slots id me p event told_of sized is lt told follows tells s r _ at _ =
       let v : View = me.0 in
       let f = r.each_view id v at in
-      let made : Makes r.log r.changes r.seat_of r.holder r.engine id (Cpu p) v.mine = subst (λ (m : Role). Makes r.log r.changes r.seat_of r.holder r.engine id m v.mine) is f.makes in
+      let made : Makes r.log r.changes r.seat_of r.reached r.holder r.engine id (Cpu p) v.mine = subst (λ (m : Role). Makes r.log r.changes r.seat_of r.reached r.holder r.engine id m v.mine) is f.makes in
       let n : ℕ = get_or s.words number_place 0 in
       let e : Event = event n in
       let t = told n in
@@ -450,13 +475,14 @@ module _ (bounds : Bounds) where
       let agree : Agree bounds.processors s.words log' r.changes = agrees_plain bounds.processors s.words r.log r.changes r.words e t.no_start t.no_finish t.no_lock (t.no_unlock r.log) in
       let by_p : same_maker (maker_of e) (Processor p) ≡ true = ap (λ m. same_maker m (Processor p)) t.by ∙ same_maker_refl (Processor p) in
       let mine' : v.mine ++ e ∷ [] ≡ made_by (Processor p) log' = ap (λ l. l ++ e ∷ []) made.1 ∙ sym (made_by_own (Processor p) r.log e by_p) in
-      let w : View = record { processors = v.processors; role = v.role; mine = v.mine ++ e ∷ []; seen = log'; changes = r.changes; told = []; right = v.right; done = v.done } in
-      let fits : Fits log' r.changes r.seat_of r.holder r.engine id w = record {
+      let w : View = record { processors = v.processors; role = v.role; mine = v.mine ++ e ∷ []; seen = log'; changes = r.changes; told = []; right = v.right; shown = v.shown; done = v.done } in
+      let fits : Fits log' r.changes r.seat_of r.reached r.holder r.engine id w = record {
         seen = beginning_refl log';
-        knows = knows_all log' r.changes r.seat_of r.holder r.engine id v.role;
+        knows = knows_all log' r.changes r.seat_of r.reached r.holder r.engine id r.known v.role;
         told = All-nil (λ m. GoesOn m (now log' r.changes));
-        makes = subst (λ (m : Role). Makes log' r.changes r.seat_of r.holder r.engine id m (v.mine ++ e ∷ [])) (sym is) (made.0, mine');
-        has = has_stays r.log r.changes r.seat_of r.holder r.holder r.engine id e may (λ u _. t.no_end u) (λ _ _. refl) v.right f.has;
+        makes = subst (λ (m : Role). Makes log' r.changes r.seat_of r.reached r.holder r.engine id m (v.mine ++ e ∷ [])) (sym is) (made.0, mine');
+        has = has_stays r.log r.changes r.seat_of r.reached r.holder r.holder r.engine id e may (λ u _. t.no_end u) (λ _ _. refl) v.right f.has;
+        shown = f.shown;
       } in (
         w,
         keeps,
@@ -472,11 +498,12 @@ module _ (bounds : Bounds) where
           before = r.log;
           seen = refl;
           since = f.seen;
-          later = known_before r.log r.changes r.seat_of r.holder r.engine id v.role v.changes f.knows;
+          later = known_before r.log r.changes r.seat_of r.reached r.holder r.engine id v.role v.changes f.knows;
           covers = f.told;
           processors = refl;
           role = refl;
           mine = refl;
+          shown = refl;
           told = refl;
           done = refl;
           sound = sound_after s r e v.processors v.role (v.mine ++ e ∷ []) r.changes may (t.maker bounds.processors lt) sized agree.reaches (subst (λ (m : Role). Owns m (v.mine ++ e ∷ []) log') (sym is) mine');

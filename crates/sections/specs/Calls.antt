@@ -1,5 +1,5 @@
 -- What the calls of a processor do.
-use Rattle.std.specs.Prelude.{◌≡◌, ◌≢◌, ℕ, ◌%◌, ◌<◌, ◌^◌, ◌+◌, ◌≤◌, ◌⊎◌, ◌↔◌, Bool, IsTrue, List, [], ◌∷◌, ◌++◌, All, Contains, length, slice_index_or}
+use Rattle.std.specs.Prelude.{◌≡◌, ◌≢◌, ℕ, ◌%◌, ◌<◌, ◌^◌, ◌+◌, ◌≤◌, ◌⊎◌, ◌↔◌, Bool, IsTrue, List, [], ◌∷◌, ◌++◌, All, Contains, true, false, length, slice_index_or}
 use Rattle.atomic_table.specs.Seated.{TableId}
 use Rattle.sseq.specs.declared.index.Index.{Index}
 use Rattle.sseq.specs.Indexes.{low_bit}
@@ -11,7 +11,7 @@ use Rattle.onedom.specs.declared.event.Event.TheVariants.{Begin, End, Note, Ask}
 use Rattle.onedom.specs.Histories.{begins_of, IsOpen, IsLegal, made_by, IsBeginning}
 use Rattle.sections.specs.declared.view.Step.{Step}
 use Rattle.sections.specs.declared.view.Step.TheVariants.{LoadIndex}
-use Rattle.sections.specs.Words.{index_word, number_word, locks, Reaches}
+use Rattle.sections.specs.Words.{is_held, index_word, number_word, locks, Reaches}
 use Rattle.sections.specs.Rule.{HasItsMaker}
 use Rattle.sections.specs.Plays.{IsIndexWord}
 use Rattle.sections.specs.Views.{CpuView, LookView, ReadingView, CookieView}
@@ -65,20 +65,32 @@ pub record Looks (c d : CpuView) (look : LookView) : Type 0 where
   pub current : value ≡ index_word d.changes
   pub look_is : look ≡ record { domain = c.domain; index = low_bit value; seen = d.seen; changes = d.changes }
 
--- a section that never was begins, of this index
-pub record Enters (c : CpuView) (look : LookView) (d : CpuView) (r : ReadingView) : Type 0 where
+-- a section that never was begins, of this index. It may end on any processor, or here alone
+pub record Begins (held : Bool) (c : CpuView) (look : LookView) (d : CpuView) (r : ReadingView) : Type 0 where
   pub section : ℕ
   pub room : locks c.processor look.index c.mine < c.sections
   pub fresh : begins_of section c.seen ≡ 0
+  pub kind : is_held section ≡ held
   pub adds : AddsEvent look.seen look.changes (Begin section c.processor look.index (Processor c.processor)) c d
   pub reading : r ≡ record { domain = c.domain; section = section; processor = c.processor; index = look.index; seen = d.seen; changes = d.changes }
 
 -- a look, and then a section of its index
-pub record ReadLocks (c d : CpuView) (r : ReadingView) : Type 0 where
+pub record LooksAndBegins (held : Bool) (c d : CpuView) (r : ReadingView) : Type 0 where
   pub between : CpuView
   pub look : LookView
   pub looks : Looks c between look
-  pub enters : Enters between look d r
+  pub enters : Begins held between look d r
+
+-- a reading, which ends here
+abbrev pub Enters : CpuView → LookView → CpuView → ReadingView → Type 0
+Enters = Begins false
+
+abbrev pub ReadLocks : CpuView → CpuView → ReadingView → Type 0
+ReadLocks = LooksAndBegins false
+
+-- a held section, which ends on any processor
+abbrev pub DownReads : CpuView → CpuView → ReadingView → Type 0
+DownReads = LooksAndBegins true
 
 -- what a reading has seen ends with the beginning of its section, on its processor and with its index
 pub record EndsWithBegin (r : ReadingView) : Type 0 where

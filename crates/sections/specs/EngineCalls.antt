@@ -4,12 +4,13 @@ use Rattle.atomic_table.specs.Seated.{TableId}
 use Rattle.sseq.specs.declared.index.Index.{Index}
 use Rattle.onedom.specs.declared.event.Maker.TheVariants.{Processor, Engine}
 use Rattle.onedom.specs.declared.event.Event.{Event}
-use Rattle.onedom.specs.Histories.{IsOpen, WasOpenAtStart, IsBeginning}
+use Rattle.onedom.specs.Histories.{IsOpen, WasOpenAtStart, IsBeginning, made_by}
+use Rattle.sections.specs.declared.view.Shown.TheVariants.{To}
 use Rattle.sections.specs.declared.view.Step.{Step}
 use Rattle.sections.specs.declared.view.Step.TheVariants.{LoadIndex, LoadUnlocks, LoadLocks, AddIndex, AddNumber}
 use Rattle.sections.specs.Words.{index_word, number_word, locks, unlocks, all_locks}
 use Rattle.sections.specs.Views.{CpuView, EngineView}
-use Rattle.sections.specs.Calls.{IsHistoryOf, HasSeenOf, Accepts}
+use Rattle.sections.specs.Calls.{IsHistoryOf, IsSeenBy, HasSeenOf, Accepts}
 
 abbrev pub IsSeenByEngine : EngineView → Type 0
 IsSeenByEngine e = IsHistoryOf e.processors Engine e.mine e.seen e.changes
@@ -18,7 +19,7 @@ abbrev pub IsSameEngine : EngineView → EngineView → Type 0
 IsSameEngine e f = (f.domain ≡ e.domain) × (f.processors ≡ e.processors) × (f.periods ≡ e.periods)
 
 abbrev pub new_engine : TableId → ℕ → ℕ → EngineView
-new_engine domain processors periods = record { domain = domain; processors = processors; periods = periods; seen = []; changes = 0; mine = []; steps = [] }
+new_engine domain processors periods = record { domain = domain; processors = processors; periods = periods; seen = []; changes = 0; shown = To 0 0; mine = []; steps = [] }
 
 -- Steps
 
@@ -28,6 +29,7 @@ pub record TakesStep (l : Step) (changes : ℕ) (e f : EngineView) : Type 0 wher
   pub mine : f.mine ≡ e.mine
   pub steps : f.steps ≡ e.steps ++ l ∷ []
   pub changes_are : f.changes ≡ changes
+  pub shown : f.shown ≡ e.shown
   pub since : IsBeginning e.seen f.seen
   pub history : IsSeenByEngine f
 
@@ -35,13 +37,13 @@ pub record TakesStep (l : Step) (changes : ℕ) (e f : EngineView) : Type 0 wher
 pub record CountsUnlocks (q : ℕ) (i : Index) (found : ℕ) (e f : EngineView) : Type 0 where
   pub step : TakesStep (LoadUnlocks q i found (length f.seen)) e.changes e f
   pub exact : found ≡ unlocks q i f.seen
-  pub bound : all_locks f.processors i f.seen < 2 ^ 62
+  pub bound : all_locks f.processors i f.seen ≤ 2 ^ 60
 
 -- one load of a lock counter found as many as were begun there, with this index, in what is then seen
 pub record CountsLocks (p : ℕ) (i : Index) (found : ℕ) (e f : EngineView) : Type 0 where
   pub step : TakesStep (LoadLocks p i found (length f.seen)) e.changes e f
   pub exact : found ≡ locks p i f.seen
-  pub bound : all_locks f.processors i f.seen < 2 ^ 62
+  pub bound : all_locks f.processors i f.seen ≤ 2 ^ 60
 
 -- 1 was added to the index word
 abbrev pub Flips : EngineView → EngineView → Type 0
@@ -58,6 +60,7 @@ pub record AddsEngineEvent (ev : Event) (e f : EngineView) : Type 0 where
   pub seen : f.seen ≡ before ++ ev ∷ []
   pub since : IsBeginning e.seen before
   pub changes_are : f.changes ≡ e.changes + 1
+  pub shown : f.shown ≡ e.shown
   pub mine : f.mine ≡ e.mine ++ ev ∷ []
   pub steps : f.steps ≡ e.steps
   pub history : IsSeenByEngine f
@@ -84,14 +87,42 @@ pub record CoversAll (e : EngineView) (cpus : List CpuView) (e' : EngineView) : 
   pub same : IsSameEngine e e'
   pub mine : e'.mine ≡ e.mine
   pub changes_are : e'.changes ≡ e.changes
+  pub shown : e'.shown ≡ e.shown
   pub since : IsBeginning e.seen e'.seen
   pub covers : (k : ℕ) (d : CpuView) → k < length cpus → IsBeginning (slice_index_or cpus k d).seen e'.seen
   pub not_before : (k : ℕ) (d : CpuView) → k < length cpus → (slice_index_or cpus k d).changes ≤ e'.changes
   pub history : IsSeenByEngine e'
 
--- the engine and the processor made one load each, and no event, and have then seen one history, which covers what each had seen
+-- the processor is known to have seen so many changes
+abbrev pub noted : ℕ → ℕ → EngineView → EngineView
+noted p changes e = record { domain = e.domain; processors = e.processors; periods = e.periods; seen = e.seen; changes = e.changes; shown = To p changes; mine = e.mine; steps = e.steps }
+
+-- the engine has made no change that no processor has seen
+pub record IsTied (e : EngineView) : Type 0 where
+  pub processor : ℕ
+  pub there : processor < e.processors
+  pub shown : e.shown ≡ To processor e.changes
+
+-- the processor has seen all events and all changes that the engine made
+pub record HasSeenAll (e : EngineView) (c : CpuView) : Type 0 where
+  pub events : made_by Engine c.seen ≡ e.mine
+  pub changes : c.changes ≡ e.changes
+
+-- all processors of a domain, in order: as many as each of them knows that there are
+pub record AreAllCpus (cpus : List CpuView) : Type 0 where
+  pub some : 0 < length cpus
+  pub count : (k : ℕ) (d : CpuView) → k < length cpus → (slice_index_or cpus k d).processors ≡ length cpus
+  pub order : (k : ℕ) (d : CpuView) → k < length cpus → (slice_index_or cpus k d).processor ≡ k
+
+-- one of them had seen all that the engine made
+abbrev pub OneHasSeenAll : EngineView → List CpuView → Type 0
+OneHasSeenAll e cpus = (k : ℕ) × (k < length cpus) × ((d : CpuView) → HasSeenAll e (slice_index_or cpus k d))
+
+-- the engine and the processor made one load each, and no event, and have then seen one history, which covers what each had seen. From then until the engine's next change the rule keeps that the processor has seen all that the engine made
 pub record TiesEngine (e : EngineView) (c : CpuView) (e' : EngineView) (c' : CpuView) : Type 0 where
-  pub covers : Covers e c.seen c.changes e'
+  pub between : EngineView
+  pub covers : Covers e c.seen c.changes between
+  pub notes : e' ≡ noted c.processor between.changes between
   pub accepts : Accepts c e'.seen e'.changes c'
   pub since : IsBeginning c.seen c'.seen
   pub later : c.changes ≤ c'.changes
@@ -117,6 +148,10 @@ pub record Meets (e : EngineView) (cpus : List CpuView) (e' : EngineView) (cpus'
   pub history : IsSeenByEngine e'
   pub count : length cpus' ≡ length cpus
   pub each : (k : ℕ) (d : CpuView) → k < length cpus → Joins (slice_index_or cpus k d) e'.seen e'.changes (slice_index_or cpus' k d)
+  pub shown : e'.shown ≡ e.shown
+  pub sized : (k : ℕ) (d : CpuView) → k < length cpus → (slice_index_or cpus k d).processors ≡ e.processors
+  pub were : (k : ℕ) (d : CpuView) → k < length cpus → IsSeenBy (slice_index_or cpus k d)
+  pub heard : (k : ℕ) (d : CpuView) (changes : ℕ) → k < length cpus → e.shown ≡ To (slice_index_or cpus k d).processor changes → changes ≤ (slice_index_or cpus k d).changes
 
 abbrev pub AreInDomain : TableId → List CpuView → Type 0
 AreInDomain domain cpus = (k : ℕ) (d : CpuView) → k < length cpus → (slice_index_or cpus k d).domain ≡ domain

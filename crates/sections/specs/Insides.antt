@@ -1,10 +1,9 @@
 -- How the fields of a processor, of the engine's seat and of what they give out are seen, and what is always true of them.
-use Rattle.std.specs.Prelude.{◌≡◌, ℕ, ◌+◌, ◌*◌, ◌%◌, ◌^◌, ◌<◌, ◌≤◌, [], length, slice_index}
+use Rattle.std.specs.Prelude.{◌≡◌, ℕ, ◌+◌, ◌*◌, ◌%◌, ◌^◌, ◌<◌, ◌≤◌, true, false, [], length, slice_index}
 use Rattle.std.specs.Arc.{arc_value}
 use Rattle.sseq.specs.declared.index.Index.{Index}
 use Rattle.sseq.specs.Indexes.{index_number}
 use Rattle.onedom.specs.declared.event.Maker.TheVariants.{Processor, Engine}
-use Rattle.onedom.specs.Histories.{open_sections}
 use Rattle.sections.specs.declared.view.View.{View}
 use Rattle.sections.specs.declared.view.Right.{Right}
 use Rattle.sections.specs.declared.view.Right.TheVariants.{Nothing, Section}
@@ -12,9 +11,10 @@ use Rattle.sections.specs.declared.view.Role.TheVariants.{Cpu, Driver}
 use Rattle.sections.specs.declared.cpu.Cpu.TheInside as cpu
 use Rattle.sections.specs.declared.cpu.Look.TheInside as look
 use Rattle.sections.specs.declared.cpu.Reading.TheInside as reading
+use Rattle.sections.specs.declared.cpu.Held.TheInside as held
 use Rattle.sections.specs.declared.cpu.Cookie.TheInside as cookie
 use Rattle.sections.specs.declared.engine.EngineSeat.TheInside as engine
-use Rattle.sections.specs.Words.{locks, number_word}
+use Rattle.sections.specs.Words.{is_held, open_readings, locks, number_word}
 use Rattle.sections.specs.Rule.{steps_of, token}
 use Rattle.sections.specs.Seats.{IsPlaced}
 use Rattle.sections.specs.Plays.{IsSound}
@@ -45,6 +45,16 @@ pub record IsReading (r : reading.Inside) : Type 0 where
   pub bare : r.seat.me.1 ≡ []
   pub right : r.seat.me.0.right ≡ Section (section_of r.seat.me.0.right) r.processor r.index
   pub begun : EndsWithBegin (view_of_reading r)
+  pub kind : is_held (section_of r.seat.me.0.right) ≡ false
+
+abbrev pub view_of_held : held.Inside → ReadingView
+view_of_held r = record { domain = r.seat.table_id; section = section_of r.seat.me.0.right; processor = r.processor; index = r.index; seen = r.seat.me.0.seen; changes = r.seat.me.0.changes }
+
+pub record IsHeld (r : held.Inside) : Type 0 where
+  pub bare : r.seat.me.1 ≡ []
+  pub right : r.seat.me.0.right ≡ Section (section_of r.seat.me.0.right) r.processor r.index
+  pub begun : EndsWithBegin (view_of_held r)
+  pub kind : is_held (section_of r.seat.me.0.right) ≡ true
 
 abbrev pub view_of_cookie : cookie.Inside → CookieView
 view_of_cookie k = record { domain = k.seat.table_id; number = k.number; seen = k.seat.me.0.seen; changes = k.seat.me.0.changes }
@@ -69,11 +79,10 @@ module _ {A : Type 0} where
     pub begun : (i : Index) → slice_index c.begun (index_number i) ≡ locks c.processor i c.seat.me.0.mine
     pub limited : (i : Index) → slice_index c.begun (index_number i) ≤ c.limit
     pub small : c.limit < 2 ^ 62
-    pub unclosed : c.unclosed ≡ length (open_sections c.seat.me.0.mine)
-    pub few : c.unclosed ≤ slice_index c.begun 0 + slice_index c.begun 1
+    pub settled : slice_index c.begun 0 + slice_index c.begun 1 ≡ length (open_readings c.seat.me.0.mine) + c.settled
 
   abbrev pub view_of_engine : engine.Inside A → EngineView
-  view_of_engine e = record { domain = e.seat.table_id; processors = (arc_value e.table).shared.key.processors; periods = e.periods; seen = e.seat.me.0.seen; changes = e.seat.me.0.changes; mine = e.seat.me.0.mine; steps = steps_of Engine e.seat.me.0.done }
+  view_of_engine e = record { domain = e.seat.table_id; processors = (arc_value e.table).shared.key.processors; periods = e.periods; seen = e.seat.me.0.seen; changes = e.seat.me.0.changes; shown = e.seat.me.0.shown; mine = e.seat.me.0.mine; steps = steps_of Engine e.seat.me.0.done }
 
   pub record IsEngine (e : engine.Inside A) : Type 0 where
     pub placed : IsPlaced (arc_value e.table).shared.key (arc_value e.table).shared.table_id e.seat

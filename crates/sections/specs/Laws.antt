@@ -8,6 +8,8 @@ use mathlib.Core.Option.{some}
 use lib.ListN.{get_elem?}
 use Rattle.atomic_table.specs.Table.{State, Splits, Joins}
 use Rattle.sections.specs.declared.view.Bounds.{Bounds}
+use Rattle.sections.specs.declared.view.Role.TheVariants.{Cpu}
+use Rattle.sections.specs.declared.view.Shown.TheVariants.{To}
 use Rattle.sections.specs.declared.view.Step.{Step}
 use Rattle.sections.specs.declared.view.View.{View}
 use Rattle.sections.specs.Words.{number_place, index_place, lock_place, unlock_place, locks, unlocks, all_locks, all_unlocks, number_word, index_word, Reaches, MayHave}
@@ -27,6 +29,10 @@ pub record HasOneHistory (bounds : Bounds) (s : State (Option ℕ) View) : Type 
 -- the rule, which holds between any two steps, says so
 abbrev pub OneHistory : Type 0
 OneHistory = (bounds : Bounds) (s : State (Option ℕ) View) → Kept bounds s → HasOneHistory bounds s
+
+-- between any two steps a processor that is known to have seen so many changes has seen as many
+abbrev pub ShownIsSeen : Type 0
+ShownIsSeen = (bounds : Bounds) (s : State (Option ℕ) View) → Kept bounds s → (j k p n : ℕ) (v c : View) → get_elem? s.views j ≡ some v → v.shown ≡ To p n → get_elem? s.views k ≡ some c → c.role ≡ Cpu p → n ≤ c.changes
 
 -- the number and the index word are those that a domain with this history may have
 abbrev pub WordsAgree : Type 0

@@ -13,3 +13,5 @@ pub mod Insides
 pub mod Homes
 pub mod Laws
 pub mod Making
+pub mod Sights
+pub mod SightInsides

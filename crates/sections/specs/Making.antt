@@ -14,9 +14,9 @@ use Rattle.sections.specs.Views.{CpuView, EngineView}
 use Rattle.sections.specs.Calls.{AreNew}
 use Rattle.sections.specs.EngineCalls.{new_engine}
 
--- a domain has 1 or 2 processors
+-- a domain has 1 to 64 processors
 abbrev pub IsCount : ℕ → Type 0
-IsCount processors = (1 ≤ processors) × (processors ≤ 2)
+IsCount processors = (1 ≤ processors) × (processors ≤ 64)
 
 -- in a domain of these bounds no counter comes near 2 ^ 64
 pub record IsSmall (bounds : Bounds) : Type 0 where

@@ -1,5 +1,5 @@
 -- What each step on a domain's table tells the seat that makes it.
-use Rattle.std.specs.Prelude.{◌≡◌, ℕ, ◌+◌, ◌^◌, ◌<◌, ◌≤◌, nat_le, List, [], ◌∷◌, ◌++◌, length, All, Option}
+use Rattle.std.specs.Prelude.{◌≡◌, ℕ, ◌+◌, ◌^◌, ◌≤◌, nat_le, Bool, List, [], ◌∷◌, ◌++◌, length, All, Option}
 use Rattle.atomic_table.specs.Table.{Me, Step as TableStep}
 use Rattle.sseq.specs.declared.index.Index.{Index}
 use Rattle.sseq.specs.Numbers.{cookie_at}
@@ -14,8 +14,9 @@ use Rattle.sections.specs.declared.view.Right.TheVariants.{Nothing, Section}
 use Rattle.sections.specs.declared.view.Moment.{Moment}
 use Rattle.sections.specs.declared.view.Step.{Step}
 use Rattle.sections.specs.declared.view.Step.TheVariants.{LoadIndex, LoadUnlocks, LoadLocks, AddIndex, AddNumber}
+use Rattle.sections.specs.declared.view.Shown.TheVariants.{To}
 use Rattle.sections.specs.declared.view.View.{View}
-use Rattle.sections.specs.Words.{index_place, lock_place, unlock_place, locks, unlocks, all_locks, index_word, number_word, Reaches}
+use Rattle.sections.specs.Words.{is_held, index_place, lock_place, unlock_place, locks, unlocks, all_locks, index_word, number_word, Reaches}
 use Rattle.sections.specs.Rule.{HasItsMaker, GoesOn, moment_of, steps_of, IsMaker}
 
 -- the maker's own events are all of its events in what was seen
@@ -37,6 +38,7 @@ pub record Sees (l : Step) (v w : View) : Type 0 where
   pub role : w.role ≡ v.role
   pub mine : w.mine ≡ v.mine
   pub right : w.right ≡ v.right
+  pub shown : w.shown ≡ v.shown
   pub told : w.told ≡ []
   pub steps : (m : Maker) → IsMaker v.role m → steps_of m w.done ≡ steps_of m v.done ++ l ∷ []
   pub since : IsBeginning v.seen w.seen
@@ -54,6 +56,7 @@ pub record Adds (v : View) (e : Event) (w : View) : Type 0 where
   pub processors : w.processors ≡ v.processors
   pub role : w.role ≡ v.role
   pub mine : w.mine ≡ v.mine ++ e ∷ []
+  pub shown : w.shown ≡ v.shown
   pub told : w.told ≡ []
   pub done : w.done ≡ v.done
   pub sound : IsSound w.processors w.role w.mine w.seen w.changes
@@ -71,7 +74,7 @@ pub record IsIndexWord (n changes : ℕ) : Type 0 where
   pub word : n ≡ index_word moment
   pub not_before : changes ≤ moment
 
--- just what was told is seen: the seat's maker made no event that is not there. The step is noted, and nothing else changes
+-- just what was told is seen: the seat's maker made no event that is not there. The step is noted, and nothing else changes. A processor had seen what is known of it
 pub record Admits (n : ℕ) (o : Moment) (v w : View) : Type 0 where
   pub processors : w.processors ≡ v.processors
   pub role : w.role ≡ v.role
@@ -82,16 +85,17 @@ pub record Admits (n : ℕ) (o : Moment) (v w : View) : Type 0 where
   pub seen : w.seen ≡ o.history
   pub changes : w.changes ≡ o.changes
   pub found : IsIndexWord n o.changes
+  pub heard : (p changes : ℕ) → v.role ≡ Cpu p → v.shown ≡ To p changes → changes ≤ v.changes
   pub sound : IsSound w.processors w.role w.mine w.seen w.changes
 
 -- load of the index word by one that was told of a history
 abbrev pub admitted : TableStep (Option ℕ) → Sat → ℕ → Sat → Type 0
 admitted st m n m' = (m'.1 ≡ m.1) × (st.word ≡ index_place) × ((o : Moment) → m.0.told ≡ o ∷ [] → Admits n o m.0 m'.0)
 
--- increment of a lock counter: a section that never was begins
-abbrev pub began : TableStep (Option ℕ) → Sat → ℕ → Sat → Type 0
-began st m n m' = (m'.1 ≡ m.1) × ((p : ℕ) (i : Index) → m.0.role ≡ Cpu p → st.word ≡ lock_place p i
-    → (s : ℕ) × Adds m.0 (Begin s p i (Processor p)) m'.0 × (m'.0.right ≡ Section s p i))
+-- increment of a lock counter: a section that never was begins, which may end anywhere or here alone
+abbrev pub began : Bool → TableStep (Option ℕ) → Sat → ℕ → Sat → Type 0
+began held st m n m' = (m'.1 ≡ m.1) × ((p : ℕ) (i : Index) → m.0.role ≡ Cpu p → st.word ≡ lock_place p i
+    → (s : ℕ) × Adds m.0 (Begin s p i (Processor p)) m'.0 × (m'.0.right ≡ Section s p i) × (is_held s ≡ held))
 
 -- increment of an unlock counter: the section of the seat's right ends
 abbrev pub ended : TableStep (Option ℕ) → Sat → ℕ → Sat → Type 0
@@ -115,11 +119,11 @@ asked cookie st m n m' = (m'.1 ≡ m.1) × (m'.0.right ≡ m.0.right) × FindsNu
 
 -- load of an unlock counter
 abbrev pub counted_unlocks : TableStep (Option ℕ) → Sat → ℕ → Sat → Type 0
-counted_unlocks st m n m' = (m'.1 ≡ m.1) × (m'.0.changes ≡ m.0.changes) × ((q : ℕ) (i : Index) → st.word ≡ unlock_place q i → Sees (LoadUnlocks q i n (length m'.0.seen)) m.0 m'.0 × (n ≡ unlocks q i m'.0.seen) × (all_locks m.0.processors i m'.0.seen < 2 ^ 62))
+counted_unlocks st m n m' = (m'.1 ≡ m.1) × (m'.0.changes ≡ m.0.changes) × ((q : ℕ) (i : Index) → st.word ≡ unlock_place q i → Sees (LoadUnlocks q i n (length m'.0.seen)) m.0 m'.0 × (n ≡ unlocks q i m'.0.seen) × (all_locks m.0.processors i m'.0.seen ≤ 2 ^ 60))
 
 -- load of a lock counter
 abbrev pub counted_locks : TableStep (Option ℕ) → Sat → ℕ → Sat → Type 0
-counted_locks st m n m' = (m'.1 ≡ m.1) × (m'.0.changes ≡ m.0.changes) × ((p : ℕ) (i : Index) → st.word ≡ lock_place p i → Sees (LoadLocks p i n (length m'.0.seen)) m.0 m'.0 × (n ≡ locks p i m'.0.seen) × (all_locks m.0.processors i m'.0.seen < 2 ^ 62))
+counted_locks st m n m' = (m'.1 ≡ m.1) × (m'.0.changes ≡ m.0.changes) × ((p : ℕ) (i : Index) → st.word ≡ lock_place p i → Sees (LoadLocks p i n (length m'.0.seen)) m.0 m'.0 × (n ≡ locks p i m'.0.seen) × (all_locks m.0.processors i m'.0.seen ≤ 2 ^ 60))
 
 -- addition of 1 to the number, at rest: a grace period starts
 abbrev pub started : TableStep (Option ℕ) → Sat → ℕ → Sat → Type 0

@@ -14,6 +14,8 @@ use Rattle.sections.specs.declared.view.Role.{Role}
 use Rattle.sections.specs.declared.view.Role.TheVariants.{Bearer, Cpu, Driver}
 use Rattle.sections.specs.declared.view.Right.{Right}
 use Rattle.sections.specs.declared.view.Right.TheVariants.{Nothing, Section}
+use Rattle.sections.specs.declared.view.Shown.{Shown}
+use Rattle.sections.specs.declared.view.Shown.TheVariants.{Unknown, To}
 use Rattle.sections.specs.declared.view.Moment.{Moment}
 use Rattle.sections.specs.declared.view.Step.{Step}
 use Rattle.sections.specs.declared.view.Step.TheVariants.{LoadIndex, LoadUnlocks, LoadLocks, AddIndex, AddNumber}
@@ -43,6 +45,11 @@ pub record GoesOn (a b : Moment) : Type 0 where
 
 abbrev pub moment_of : View → Moment
 moment_of v = record { history = v.seen; changes = v.changes }
+
+-- what is known of a processor: it has seen so many changes, at least
+abbrev pub HasReached : (ℕ → ℕ) → Shown → Type 0
+HasReached reached Unknown = Unit {0}
+HasReached reached (To p changes) = changes ≤ reached p
 
 -- Steps that are no events
 
@@ -96,7 +103,7 @@ pub record HasDone (deeds : List Deed) (v : View) : Type 0 where
 
 -- What a seat knows
 
-module _ (log : List Event) (changes : ℕ) (seat_of holder : ℕ → ℕ) (engine seat : ℕ) where
+module _ (log : List Event) (changes : ℕ) (seat_of reached holder : ℕ → ℕ) (engine seat : ℕ) where
   -- a maker has one seat, which knows all of its events. The engine is also each processor from k on: these have no seat and no event yet
   abbrev pub Makes : Role → List Event → Type 0
   Makes Bearer mine = Unit {0}
@@ -108,10 +115,10 @@ module _ (log : List Event) (changes : ℕ) (seat_of holder : ℕ → ℕ) (engi
   Has Nothing = Unit {0}
   Has (Section s p i) = (holder s ≡ seat) × IsOpen log s × (index_of s log ≡ i) × (begins_of s (made_by (Processor p) log) ≡ 1)
 
-  -- nobody has seen more changes than there were, and the engine knows how many there were
+  -- nobody has seen more changes than there were, the engine knows how many there were, and a processor has seen what is known of it
   abbrev pub Knows : Role → ℕ → Type 0
   Knows Bearer known = known ≤ changes
-  Knows (Cpu p) known = known ≤ changes
+  Knows (Cpu p) known = (reached p ≤ known) × (known ≤ changes)
   Knows (Driver k) known = known ≡ changes
 
   pub record Fits (v : View) : Type 0 where
@@ -120,6 +127,7 @@ module _ (log : List Event) (changes : ℕ) (seat_of holder : ℕ → ℕ) (engi
     pub told : All (λ m. GoesOn m record { history = log; changes = changes }) v.told
     pub makes : Makes v.role v.mine
     pub has : Has v.right
+    pub shown : HasReached reached v.shown
 
 -- The rule
 
@@ -130,21 +138,23 @@ pub record IsWithin (bounds : Bounds) (log : List Event) (changes : ℕ) : Type 
   pub limited : (p : ℕ) (i : Index) → locks p i log ≤ bounds.sections
   pub periods : changes ≤ 4 * bounds.periods
 
--- no word comes near 2 ^ 64
+-- no word comes near 2 ^ 64, and neither does the sum of an index's lock counters
 pub record AreSmall (bounds : Bounds) : Type 0 where
-  pub counters : 2 * bounds.processors * bounds.sections < 2 ^ 62
+  pub counters : bounds.processors * bounds.sections ≤ 2 ^ 60
   pub periods : bounds.periods < 2 ^ 59
 
 pub record Kept (bounds : Bounds) (s : State (Option ℕ) View) : Type 0 where
   pub log : List Event
   pub changes : ℕ
   pub seat_of : ℕ → ℕ
+  pub reached : ℕ → ℕ
   pub holder : ℕ → ℕ
   pub engine : ℕ
   pub small : AreSmall bounds
   pub within : IsWithin bounds log changes
   pub words : Agree bounds.processors s.words log changes
-  pub each_view : (j : ℕ) (v : View) → get_elem? s.views j ≡ some v → Fits log changes seat_of holder engine j v
+  pub known : (p : ℕ) → reached p ≤ changes
+  pub each_view : (j : ℕ) (v : View) → get_elem? s.views j ≡ some v → Fits log changes seat_of reached holder engine j v
   pub deeds : List Deed
   pub done : AreDone deeds record { history = log; changes = changes }
   pub each_done : (j : ℕ) (v : View) → get_elem? s.views j ≡ some v → HasDone deeds v
@@ -152,10 +162,10 @@ pub record Kept (bounds : Bounds) (s : State (Option ℕ) View) : Type 0 where
 -- Views that are made
 
 abbrev pub founder : Bounds → View
-founder bounds = record { processors = bounds.processors; role = Driver 0; mine = []; seen = []; changes = 0; told = []; right = Nothing; done = [] }
+founder bounds = record { processors = bounds.processors; role = Driver 0; mine = []; seen = []; changes = 0; told = []; right = Nothing; shown = To 0 0; done = [] }
 
 abbrev pub token : List Event → ℕ → Right → View
-token seen changes right = record { processors = 0; role = Bearer; mine = []; seen = seen; changes = changes; told = []; right = right; done = [] }
+token seen changes right = record { processors = 0; role = Bearer; mine = []; seen = seen; changes = changes; told = []; right = right; shown = Unknown; done = [] }
 
 -- a seat of its own takes the right, and has seen as much
 abbrev pub lacking : View → View
@@ -167,6 +177,23 @@ bearer v = token v.seen v.changes v.right
 -- what the other seat has seen is told, and its right is taken over
 abbrev pub informed : View → View → View
 informed v w = record v { told = moment_of w ∷ v.told; right = w.right }
+
+-- a seat of its own has seen as much, and can show how many changes this processor has seen, or what is known of another
+abbrev pub mark : Role → ℕ → Shown → Shown
+mark Bearer changes known = known
+mark (Cpu p) changes known = To p changes
+mark (Driver k) changes known = known
+
+abbrev pub shower : View → View
+shower v = record (token v.seen v.changes Nothing) { shown = mark v.role v.changes v.shown }
+
+-- what the other seat has seen is told, and what is known of a processor
+abbrev pub hearing : View → View → View
+hearing v w = record v { told = moment_of w ∷ v.told; right = w.right; shown = w.shown }
+
+-- what is known of a processor is noted
+abbrev pub noting : View → View → View
+noting v w = record v { right = w.right; shown = w.shown }
 
 -- what is left of a seat that was taken in
 abbrev pub spent : View
@@ -187,4 +214,4 @@ abbrev pub dealer : View → View
 dealer v = record v { role = without_next v.role }
 
 abbrev pub dealt : View → View
-dealt v = record { processors = v.processors; role = next_role v.role; mine = []; seen = v.seen; changes = v.changes; told = []; right = Nothing; done = v.done }
+dealt v = record { processors = v.processors; role = next_role v.role; mine = []; seen = v.seen; changes = v.changes; told = []; right = Nothing; shown = Unknown; done = v.done }

@@ -12,8 +12,9 @@ use Rattle.sections.specs.declared.view.View.{View}
 use Rattle.sections.specs.declared.view.Right.TheVariants.{Nothing, Section}
 use Rattle.sections.specs.declared.view.Step.TheVariants.{LoadIndex}
 use Rattle.sections.specs.declared.view.Role.TheVariants.{Cpu, Driver}
-use Rattle.sections.specs.Words.{word_count, index_word}
-use Rattle.sections.specs.Rule.{steps_of, IsMaker, lacking, bearer}
+use Rattle.sections.specs.Words.{is_held, word_count, index_word}
+use Rattle.sections.specs.declared.view.Shown.TheVariants.{To}
+use Rattle.sections.specs.Rule.{steps_of, IsMaker, lacking, bearer, mark}
 use Rattle.sections.specs.Plays.{IsSound, Adds, IsIndexWord, FindsNumber}
 use Rattle.sseq.specs.Numbers.{cookie_at}
 
@@ -28,11 +29,12 @@ pub record IsPlaced (bounds : Bounds) (table : TableId) (seat : DomainSeat) : Ty
   pub sized : seat.me.0.processors ≡ bounds.processors
 
 -- a section begins, and a token has the right to end it
-pub record BeginsSection (p : ℕ) (i : Index) (seat seat' token : DomainSeat) : Type 0 where
+pub record BeginsSection (held : Bool) (p : ℕ) (i : Index) (seat seat' token : DomainSeat) : Type 0 where
   pub section : ℕ
   pub after : View
   pub adds : Adds seat.me.0 (Begin section p i (Processor p)) after
   pub right : after.right ≡ Section section p i
+  pub kind : is_held section ≡ held
   pub same_table : (seat'.table_id ≡ seat.table_id) × (token.table_id ≡ seat.table_id)
   pub stays : seat'.me ≡ (lacking after, [])
   pub given : token.me ≡ (bearer after, [])
@@ -68,6 +70,7 @@ pub record Covers (v o w : View) : Type 0 where
   pub since : IsBeginning v.seen w.seen
   pub later : v.changes ≤ w.changes
   pub driven : (k : ℕ) → v.role ≡ Driver k → w.changes ≡ v.changes
+  pub shown : w.shown ≡ v.shown
   pub covers : IsBeginning o.seen w.seen
   pub not_before : o.changes ≤ w.changes
   pub sound : IsSound w.processors w.role w.mine w.seen w.changes
@@ -84,7 +87,13 @@ pub record Accepts (v o w : View) : Type 0 where
   pub seen : w.seen ≡ o.seen
   pub changes : w.changes ≡ o.changes
   pub found : IsIndexWord value o.changes
+  pub heard : (p k changes : ℕ) → v.role ≡ Cpu p → o.role ≡ Driver k → o.shown ≡ To p changes → changes ≤ v.changes
   pub sound : IsSound w.processors w.role w.mine w.seen w.changes
+
+-- what the seat of a processor has seen is noted
+pub record NotesShown (o : View) (seat seat' : DomainSeat) : Type 0 where
+  pub table : seat'.table_id ≡ seat.table_id
+  pub me : seat'.me ≡ (record seat.me.0 { shown = mark o.role o.changes o.shown }, [])
 
 -- it is the seat of one of so many processors
 abbrev pub IsOfProcessor : ℕ → View → Type 0

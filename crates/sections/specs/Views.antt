@@ -4,6 +4,7 @@ use Rattle.atomic_table.specs.Seated.{TableId}
 use Rattle.sseq.specs.declared.index.Index.{Index}
 use Rattle.onedom.specs.declared.event.Event.{Event}
 use Rattle.sections.specs.declared.view.Step.{Step}
+use Rattle.sections.specs.declared.view.Shown.{Shown}
 
 -- `domain` is the table of the domain, `processors` how many processors it has, `sections` how many sections of one index this one may begin, `processor` its number. `seen` is the history as far as this processor has seen it, and `changes` how often the engine had changed the number and the index word by then. `mine` are its own events in the history, and `steps` its steps that are no events
 pub record CpuView : Type 0 where
@@ -22,6 +23,7 @@ pub record EngineView : Type 0 where
   pub periods : ℕ
   pub seen : List Event
   pub changes : ℕ
+  pub shown : Shown
   pub mine : List Event
   pub steps : List Step
 

@@ -8,6 +8,8 @@ use std::marker::Model;
 use std::sync::Arc;
 
 mod cookies;
+mod holding;
+mod home;
 mod readings;
 mod sections;
 pub(crate) mod steps;
@@ -24,8 +26,9 @@ pub struct Cpu<A: Allocator = Global> {
     pub(crate) limit: u64,
     /// How many sections of each index were begun here.
     pub(crate) begun: [u64; 2],
-    /// How many readings were given out here and not closed.
-    pub(crate) unclosed: u64,
+    /// How many of these are no open readings: readings that are closed, and held sections. So that a pair of
+    /// `read_lock` and `read_unlock` writes two words here, open readings are not counted themselves.
+    pub(crate) settled: u64,
 }
 
 impl<A: Allocator> Model for Cpu<A> {
@@ -77,6 +80,26 @@ impl Model for Reading {
     ghost view = { view_of_reading };
 
     ghost invariant = { IsReading };
+}
+
+/// A section that is open, and the right to end it, on any processor of the domain (`srcu_down_read`). It may go to
+/// another thread. It can't be dropped: spend it by [`Cpu::up_read`].
+pub struct Held {
+    pub(crate) index: Index,
+    pub(crate) processor: u16,
+    pub(crate) seat: DomainSeat,
+}
+
+impl Model for Held {
+    ghost use Rattle.sections.specs.Views.{ReadingView};
+
+    ghost Value = { ReadingView };
+
+    ghost use Rattle.sections.specs.Insides.{view_of_held, IsHeld};
+
+    ghost view = { view_of_held };
+
+    ghost invariant = { IsHeld };
 }
 
 /// The number that the domain has once a full grace period has gone by that was still to start when the cookie was

@@ -1,11 +1,12 @@
 //! What holds of the words of every domain, for callers and readers: the calls do nothing.
-ghost use Rattle.sections.specs.Laws.{OneHistory, WordsAgree, NoStepIsForged, EqualSumsAreEmpty, FewerEndsShowOne, CountersGrow};
+ghost use Rattle.sections.specs.Laws.{OneHistory, ShownIsSeen, WordsAgree, NoStepIsForged, EqualSumsAreEmpty, FewerEndsShowOne, CountersGrow};
 
 /// Between any two steps of any threads there is one legal history, the words of the domain agree with it, and what each
 /// seat has seen is a beginning of it. `changes` tell the number and the index word.
 pub fn words_of_a_domain()
     ensures history { OneHistory }
     ensures words { WordsAgree }
+    ensures shown { ShownIsSeen }
 {}
 
 /// A load leaves no mark in the words, so what a processor or the engine says of its loads rests on the rule alone: as

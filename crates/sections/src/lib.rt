@@ -9,14 +9,16 @@ mod laws;
 mod limits;
 mod making;
 mod plays;
+mod sight;
 #[cfg(test)]
 mod tests;
 mod token;
 mod view;
 
-pub use cpu::{Cookie, Cpu, Exhausted, Look, NotACookie, Reading};
+pub use cpu::{Cookie, Cpu, Exhausted, Held, Look, NotACookie, Reading};
 pub use engine::EngineSeat;
 pub use laws::{steps_of_a_domain, sums_of_a_domain, words_of_a_domain};
 pub use limits::{Limits, MOST_PROCESSORS, MakeError};
 pub use making::{Made, make};
+pub use sight::Sight;
 pub use token::{Home, Token};

@@ -5,8 +5,9 @@ ghost use Rattle.sections.specs.Limits.{AreInRange};
 use std::error::Error;
 use std::fmt;
 
-/// How many processors a domain may have.
-pub const MOST_PROCESSORS: usize = 2;
+/// How many processors a domain may have, at most. With [`Limits::MOST_SECTIONS`] on each of them no more than 2^60
+/// sections of one index are ever begun, and no more of them end.
+pub const MOST_PROCESSORS: usize = 64;
 
 /// The limits of a domain. Each is checked when the domain is made.
 #[derive(Clone, Copy, Debug, PartialEq, Eq)]

@@ -2,6 +2,7 @@
 ghost use Rattle.std.specs.Prelude.{◌≡◌, ◌+◌, ◌<◌, IfOk};
 ghost use Rattle.std.specs.Arc.{arc_value};
 ghost use Rattle.sections.specs.Calls.{new_cpu};
+ghost use Rattle.sections.specs.EngineCalls.{IsTied};
 ghost use Rattle.sections.specs.Making.{IsSmall, IsFounder, IsMade, IsRefused, NewTable, bounds_of};
 
 use crate::board::{DomainSeat, Words};
@@ -56,7 +57,7 @@ fn deal<A: Allocator>(
         processor,
         limit: bounds.sections,
         begun: [0; 2],
-        unclosed: 0,
+        settled: 0,
     })
 }
 
@@ -82,8 +83,8 @@ fn build<A: Allocator + Clone>(alloc: A, bounds: Bounds) -> Result<Made<A>, Allo
     })
 }
 
-/// Makes a domain of so many processors, in which nothing has happened. Where several refusals hold, the first in the
-/// order of `MakeError` is answered.
+/// Makes a domain of so many processors, in which nothing has happened. Its engine is tied: there is nothing that the
+/// processors have not seen. Where several refusals hold, the first in the order of `MakeError` is answered.
 pub fn make<A: Allocator + Clone>(
     alloc: A,
     processors: usize,
@@ -91,6 +92,7 @@ pub fn make<A: Allocator + Clone>(
 ) -> Result<Made<A>, MakeError>
     ensures made { IfOk result (λ m.
         IsMade (bounds_of processors limits) m.cpus.items m.engine) }
+    ensures tied { IfOk result (λ m. IsTied m.engine) }
     ensures refused { IsRefused processors limits result }
 {
     if processors == 0 || processors > MOST_PROCESSORS {

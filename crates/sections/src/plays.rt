@@ -1,7 +1,8 @@
 //! What each step on the table tells the one that makes it.
-ghost use Rattle.std.specs.Prelude.{ℕ};
-ghost use Rattle.sections.specs.Rule.{lacking, bearer, informed, spent, dealer, dealt};
+ghost use Rattle.std.specs.Prelude.{ℕ, true, false};
+ghost use Rattle.sections.specs.Rule.{lacking, bearer, informed, shower, hearing, noting, spent, dealer, dealt};
 ghost use Rattle.sections.specs.Plays.{looked, admitted, began, ended, noted, asked, counted_unlocks, counted_locks, started, flipped, moved_on, finished};
+ghost use Rattle.sections.specs.Sights.{asked_how_far};
 
 use crate::board::NoSlot;
 use crate::view::View;
@@ -26,7 +27,14 @@ impl Play<NoSlot, View> for Admit {
 pub(crate) struct Lock;
 
 impl Play<NoSlot, View> for Lock {
-    ghost then = { began };
+    ghost then = { began false };
+}
+
+/// The same for a section that may end on any processor.
+pub(crate) struct LockHeld;
+
+impl Play<NoSlot, View> for LockHeld {
+    ghost then = { began true };
 }
 
 /// Increment of an unlock counter.
@@ -57,6 +65,13 @@ pub(crate) struct AskNumber<Q: Asked>(PhantomData<Q>);
 
 impl<Q: Asked> Play<NoSlot, View> for AskNumber<Q> {
     ghost then = { asked Q.cookie };
+}
+
+/// Load of the number, to tell how many periods have ended.
+pub(crate) struct AskHowFar;
+
+impl Play<NoSlot, View> for AskHowFar {
+    ghost then = { asked_how_far };
 }
 
 /// Load of an unlock counter.
@@ -115,6 +130,33 @@ pub(crate) struct TakeToken;
 
 impl Join<View> for TakeToken {
     ghost both = { informed };
+
+    ghost spent = { spent };
+}
+
+/// A new seat has seen as much, and can show how many changes this processor has seen.
+pub(crate) struct Show;
+
+impl Split<View> for Show {
+    ghost left = { λ v. v };
+
+    ghost right = { shower };
+}
+
+/// What the other seat has seen is told, and what is known of a processor.
+pub(crate) struct Hear;
+
+impl Join<View> for Hear {
+    ghost both = { hearing };
+
+    ghost spent = { spent };
+}
+
+/// What is known of a processor is noted.
+pub(crate) struct NoteShown;
+
+impl Join<View> for NoteShown {
+    ghost both = { noting };
 
     ghost spent = { spent };
 }

@@ -42,7 +42,7 @@ fn meet_in_new_domain(alloc: Global) -> Result<(Cpu, Cpu, EngineSeat), MakeError
     Ok((first, second, engine))
 }
 
-/// A scan of the index: whether as many of its sections have ended on each processor as were begun there. Then none of
+/// A scan of the index: whether as many of its sections have ended on both processors as were begun there. Then none of
 /// them was open when the last unlock counter was loaded.
 fn scan(engine: &mut EngineSeat, index: Index) -> bool
     requires { engine.old.processors ≡ 2 }
@@ -58,7 +58,7 @@ fn scan(engine: &mut EngineSeat, index: Index) -> bool
     let ended_there = engine.unlocks(1, index);
     let begun = engine.locks(0, index);
     let begun_there = engine.locks(1, index);
-    ended == begun && ended_there == begun_there
+    ended + ended_there == begun + begun_there
 }
 
 /// The first scan of a period and both steps of the flip. `None` where a section of the index is open.
@@ -205,6 +205,115 @@ fn whole_period(rt: HostRuntime) -> Result<(), Fail> {
     Ok(())
 }
 
+/// Would catch an end that goes to the counter of the processor that began the section, or to the index that is current
+/// by then; and held sections that count as open readings.
+#[test]
+fn held_ends_elsewhere(rt: HostRuntime) -> Result<(), Fail> {
+    let (mut first, mut second, mut engine) = meet_in_new_domain(rt.alloc())?;
+    let Ok(held) = first.down_read() else {
+        panic!(rt; "there is room");
+    };
+    assert_eq!(rt; (held.index(), held.processor()), (Index::Zero, 0));
+    assert_eq!(rt; (first.open_here(), second.open_here()), (0, 0));
+    engine.add_start();
+    let Some((current, _)) = flip_behind_scan(&mut engine, Index::One) else {
+        panic!(rt; "no section of index 1 was begun");
+    };
+    assert_eq!(rt; current, Index::One);
+    assert!(rt; !scan(&mut engine, Index::Zero));
+    second.up_read(held);
+    assert_eq!(rt; (first.open_here(), second.open_here()), (0, 0));
+    assert_eq!(rt; end_behind_scan(&mut engine).map(Number::get), Some(4));
+    let here = (engine.locks(0, Index::Zero), engine.unlocks(0, Index::Zero));
+    let there = (engine.locks(1, Index::Zero), engine.unlocks(1, Index::Zero));
+    assert_eq!(rt; (here, there), ((1, 0), (0, 1)));
+    Ok(())
+}
+
+/// Would catch held sections that don't count to the limit, or that count where they end.
+#[test]
+fn held_up_to_the_limit(rt: HostRuntime) -> Result<(), Fail> {
+    let (mut first, mut second, _) = meet_in_new_domain(rt.alloc())?;
+    let Ok(held) = first.down_read() else {
+        panic!(rt; "there is room");
+    };
+    second.up_read(held);
+    let full = match first.down_read() {
+        Ok(held) => {
+            first.up_read(held);
+            false
+        }
+        Err(Exhausted) => true,
+    };
+    assert!(rt; full);
+    let Ok(reading) = second.read_lock() else {
+        panic!(rt; "there is room");
+    };
+    let full = match second.down_read() {
+        Ok(held) => {
+            first.up_read(held);
+            false
+        }
+        Err(Exhausted) => true,
+    };
+    assert!(rt; full);
+    second.read_unlock(reading);
+    Ok(())
+}
+
+/// Begins a held section. `None` where it is refused.
+fn hold(mut cpu: Cpu) -> Option<(Cpu, Held)>
+    ensures { IfSome result (λ r. (r.0.domain ≡ cpu.domain) × (r.1.domain ≡ cpu.domain)) }
+{
+    let held = cpu.down_read().ok()?;
+    Some((cpu, held))
+}
+
+/// Two threads begin a section each, and this thread ends each of them on the processor of the other. Would catch a
+/// section that only its own thread or processor can end.
+#[test]
+fn held_goes_to_another_thread(rt: HostRuntime) -> Result<(), Fail> {
+    let (first, second, engine) = meet_in_new_domain(rt.alloc())?;
+    let (here, there) = join(&rt, move || hold(first), move || hold(second));
+    let Some((mut first, of_first)) = here else {
+        panic!(rt; "there is room");
+    };
+    let Some((mut second, of_second)) = there else {
+        panic!(rt; "there is room");
+    };
+    assert_eq!(rt; (of_first.processor(), of_second.processor()), (0, 1));
+    first.up_read(of_second);
+    second.up_read(of_first);
+    for processor in [0, 1] {
+        let words = &engine.table.shared;
+        let locks = words.peek(place_of_lock(processor, Index::Zero));
+        let unlocks = words.peek(place_of_unlock(processor, Index::Zero));
+        assert_eq!(rt; (locks, unlocks), (1, 1), "at {processor}");
+    }
+    Ok(())
+}
+
+/// Would catch counters that two of 64 processors share, and a processor that is not dealt.
+#[test]
+fn most_processors(rt: HostRuntime) -> Result<(), Fail> {
+    let Made { mut cpus, engine } = make(rt.alloc(), MOST_PROCESSORS, limits(1))?;
+    assert_eq!(rt; (cpus.len(), engine.processors()), (64, 64));
+    for (k, cpu) in cpus.iter_mut().enumerate() {
+        assert_eq!(rt; cpu.processor() as usize, k);
+        let Ok(reading) = cpu.read_lock() else {
+            panic!(rt; "there is room");
+        };
+        cpu.read_unlock(reading);
+    }
+    for processor in 0..64 {
+        let words = &engine.table.shared;
+        let locks = words.peek(place_of_lock(processor, Index::Zero));
+        let unlocks = words.peek(place_of_unlock(processor, Index::Zero));
+        assert_eq!(rt; (locks, unlocks), (1, 1), "at {processor}");
+    }
+    Ok(())
+}
+
 /// Starts the first period and drives it to its end. `None` where a section holds it up.
 fn drive(engine: &mut EngineSeat) -> Option<Number>
     requires two { engine.old.processors ≡ 2 }
@@ -232,6 +341,22 @@ fn one_thread_gives_and_another_asks(rt: HostRuntime) -> Result<(), Fail> {
     assert_eq!(rt; ended.map(Number::get), Some(4));
     assert!(rt; late || !early);
     assert_eq!(rt; first.poll_number(4), Ok(true));
+    Ok(())
+}
+
+/// Would catch a sight that doesn't go along, so that a later cookie is smaller, and a copy that is another cookie.
+#[test]
+fn behind_a_sight(rt: HostRuntime) -> Result<(), Fail> {
+    let (mut first, mut second, mut engine) = meet_in_new_domain(rt.alloc())?;
+    let mut sight = engine.sight();
+    let mut cookie = first.cookie_behind(&mut sight);
+    let mut copy = second.copy_cookie(&mut cookie);
+    assert_eq!(rt; (cookie.number(), copy.number()), (4, 4));
+    assert_eq!(rt; second.how_far(&mut sight).get(), 0);
+    assert_eq!(rt; drive(&mut engine).map(Number::get), Some(4));
+    assert_eq!(rt; second.how_far(&mut sight).get(), 4);
+    assert!(rt; first.poll(&mut copy));
+    assert_eq!(rt; first.cookie_behind(&mut sight).number(), 8);
     Ok(())
 }
 
@@ -285,14 +410,14 @@ fn refuses_to_make(rt: HostRuntime) {
         },
         Limits { cells: 1, ..most },
     ];
-    for processors in [1, 2] {
+    for processors in [1, 2, MOST_PROCESSORS] {
         assert!(rt; make(rt.alloc(), processors, most).is_ok());
         for limits in wrong {
             let refused = make(rt.alloc(), processors, limits).err();
             assert_eq!(rt; refused, Some(MakeError::Limits), "at {limits:?}");
         }
     }
-    for processors in [0, 3] {
+    for processors in [0, 65] {
         for limits in [most, no_sections, no_periods] {
             let refused = make(rt.alloc(), processors, limits).err();
             assert_eq!(rt; refused, Some(MakeError::Processors), "at {limits:?}");

@@ -2,7 +2,7 @@
 ghost use Rattle.std.specs.Prelude.{◌≡◌};
 
 use crate::board::DomainSeat;
-use crate::cpu::{Cookie, Look, Reading};
+use crate::cpu::{Cookie, Held, Look, Reading};
 use crate::engine::EngineSeat;
 use crate::plays;
 use std::alloc::Allocator;
@@ -21,6 +21,10 @@ impl Token for Look {
 
 impl Token for Reading {
     ghost domain = { λ r. r.domain };
+}
+
+impl Token for Held {
+    ghost domain = { λ h. h.domain };
 }
 
 impl Token for Cookie {

@@ -34,6 +34,13 @@ pub enum Right {
     },
 }
 
+/// What a seat knows of how much a processor has seen.
+pub enum Shown {
+    Unknown,
+    /// This processor has seen at least so many changes.
+    To { processor: u16, changes: u64 },
+}
+
 /// A step on a word that is no event of the history: a load, with what it found, or one of the additions of the flip,
 /// with what it left.
 pub enum Step {
@@ -88,6 +95,8 @@ pub struct View {
     /// What was handed in, which the next step covers.
     pub told: [Moment; 0],
     pub right: Right,
+    /// Which processor is known to have seen how many changes. The engine notes it in a tie.
+    pub shown: Shown,
     /// All that anybody did that was no event, up to this seat's last such step.
     pub done: [Deed; 0],
 }

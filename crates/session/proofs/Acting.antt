@@ -1,6 +1,6 @@
--- What an act does to a domain with its names.
-use Rattle.std.proofs.Common.{◌≡◌, ℕ, ◌%◌, List, [], ◌∷◌, ◌++◌, inl, inr, refl, sym, ap, ◌∙◌, subst}
-use Rattle.std.specs.Prelude.{Option, Some, None, option_map}
+-- What an act does to a domain with its names and its desk.
+use Rattle.std.proofs.Common.{◌≡◌, ℕ, ◌%◌, Bool, true, false, List, [], ◌∷◌, ◌++◌, inl, inr, refl, sym, ap, ◌∙◌, subst}
+use Rattle.std.specs.Prelude.{Option, Some, None, option_map, if◌then◌else◌}
 use Rattle.atomic_table.specs.Seated.{TableId}
 use Rattle.sseq.specs.declared.index.Index.{Index}
 use Rattle.sseq.specs.declared.index.Index.TheVariants.{Zero, One}
@@ -9,118 +9,207 @@ use Rattle.sseq.specs.Numbers.{state_bits}
 use Rattle.sections.specs.Views.{LookView, ReadingView}
 use Rattle.scan.specs.Standings.{index_now}
 use Rattle.solo.specs.Calls.{SoloView, IsLookNow, IsReadingAt, Begins, IsOutOfSections, Ends, ReadsNumber}
+use Rattle.requests.specs.declared.command.Command.{Command}
 use Rattle.requests.specs.declared.command.Command.TheVariants as command
 use Rattle.requests.specs.declared.cause.Cause.TheVariants as cause
 use Rattle.requests.specs.declared.request.Act.TheVariants as act
-use Rattle.requests.specs.declared.reply.Reply.{Reply}
 use Rattle.requests.specs.declared.reply.Reply.TheVariants as reply
+use Rattle.requests.specs.declared.scene.Kind.{Kind}
 use Rattle.requests.specs.declared.scene.Kind.TheVariants as kind
+use Rattle.requests.specs.Faults.{same_kind}
 use Rattle.session.specs.declared.names.Token.{Token}
 use Rattle.session.specs.declared.names.Token.TheVariants as token
 use Rattle.session.specs.Tokens.{token_at, held_of, Frees}
-use Rattle.session.specs.States.{Look, Section, Becomes, bearer_at, kind_of}
-use Rattle.session.specs.Entries.{bearer_of, names_of, state_with, AreOf}
-use Rattle.session.specs.Scripts.{Does, Replies, BeginsUnder}
+use Rattle.session.specs.States.{Bearer, Look, Reading, Becomes, bearer_at, kind_of, kind_at, is_parked}
+use Rattle.session.specs.Entries.{bearer_of, names_of, desk_of, state_with, tokens_with, AreOf}
+use Rattle.session.specs.Scripts.{Does, BeginsUnder, BeginsNow}
 use Rattle.session.proofs.Naming.{bearer_at_is, comes, goes, changes}
+use Rattle.session.proofs.Parked.{Named}
 
 -- What is known of a name
 
-free_case : (t : Option Token) → option_map kind_of (option_map bearer_of t) ≡ None → t ≡ None
-free_case None h = refl
-free_case (Some t) h = absurd cc
+kind_case : (b : Bool) (found given : Option Kind) → (Some kind.Parked ≡ given → ⊥) → (if b then Some kind.Parked else found) ≡ given → (b ≡ false) × (found ≡ given)
+kind_case true found given other h = absurd (other h)
+kind_case false found given other h = (refl, h)
 
--- the name is free
-pub is_free : (name : List ℕ) (tokens : List (List ℕ × Token)) → option_map kind_of (bearer_at name (names_of tokens)) ≡ None → token_at name tokens ≡ None
-is_free name tokens h = free_case (token_at name tokens) (ap (option_map kind_of) (sym (bearer_at_is name tokens)) ∙ h)
+module _ (own name : List ℕ) (tokens : List (List ℕ × Token)) (parked : Option Named) (d : SoloView) where
+  -- the name is not that of the section on the desk, and what has it is of this kind
+  found_kind : (given : Option Kind) → (Some kind.Parked ≡ given → ⊥) → kind_at name (state_with own tokens parked d) ≡ given
+      → (is_parked name (desk_of parked) ≡ false) × (option_map kind_of (option_map bearer_of (token_at name tokens)) ≡ given)
+  found_kind given other h =
+      let (free, is) = kind_case (is_parked name (desk_of parked)) (option_map kind_of (bearer_at name (names_of tokens))) given other h in
+      (free, ap (option_map kind_of) (sym (bearer_at_is name tokens)) ∙ is)
 
--- a name that a look has is no section's
-pub no_section : (name : List ℕ) (tokens : List (List ℕ × Token)) (r : ReadingView) → option_map kind_of (bearer_at name (names_of tokens)) ≡ Some kind.Look → Some (token.Section r) ≡ token_at name tokens → ⊥
-no_section name tokens r h is = let k : Some kind.Section ≡ Some kind.Look = ap (λ t. option_map kind_of (option_map bearer_of t)) is ∙ (ap (option_map kind_of) (sym (bearer_at_is name tokens)) ∙ h) in absurd cc
+  free_case : (t : Option Token) → option_map kind_of (option_map bearer_of t) ≡ None → t ≡ None
+  free_case None h = refl
+  free_case (Some t) h = absurd cc
 
-pub no_look : (name : List ℕ) (tokens : List (List ℕ × Token)) (l : LookView) → option_map kind_of (bearer_at name (names_of tokens)) ≡ Some kind.Section → Some (token.Look l) ≡ token_at name tokens → ⊥
-no_look name tokens l h is = let k : Some kind.Look ≡ Some kind.Section = ap (λ t. option_map kind_of (option_map bearer_of t)) is ∙ (ap (option_map kind_of) (sym (bearer_at_is name tokens)) ∙ h) in absurd cc
+  never_free : ◌≡◌ {A = Option Kind} (Some kind.Parked) None → ⊥
+  never_free e = absurd cc
 
-pub not_free : (name : List ℕ) (tokens : List (List ℕ × Token)) (k : kind.the_data) → option_map kind_of (bearer_at name (names_of tokens)) ≡ Some k → None ≡ token_at name tokens → ⊥
-not_free name tokens k h is = let n : ◌≡◌ {A = Option kind.the_data} None (Some k) = ap (λ t. option_map kind_of (option_map bearer_of t)) is ∙ (ap (option_map kind_of) (sym (bearer_at_is name tokens)) ∙ h) in absurd cc
+  -- the name is free
+  pub is_free : kind_at name (state_with own tokens parked d) ≡ None → token_at name tokens ≡ None
+  is_free h = free_case (token_at name tokens) (found_kind None never_free h).1
 
-pub known_kind : (name : List ℕ) (tokens : List (List ℕ × Token)) (o : Option Token) → o ≡ token_at name tokens → option_map kind_of (option_map bearer_of o) ≡ option_map kind_of (bearer_at name (names_of tokens))
-known_kind name tokens o is = ap (λ t. option_map kind_of (option_map bearer_of t)) is ∙ ap (option_map kind_of) (sym (bearer_at_is name tokens))
+  pub is_not_parked : kind_at name (state_with own tokens parked d) ≡ None → is_parked name (desk_of parked) ≡ false
+  is_not_parked h = (found_kind None never_free h).0
+
+abbrev is_of : Option Token → Kind → Bool
+is_of None k = false
+is_of (Some t) k = same_kind (kind_of (bearer_of t)) k
+
+same_as_itself : (k : Kind) → same_kind k k ≡ true
+same_as_itself kind.Look = refl
+same_as_itself kind.Reading = refl
+same_as_itself kind.Held = refl
+same_as_itself kind.Parked = refl
+
+apart_kinds : (k given : Kind) → same_kind k given ≡ false → Some k ≡ Some given → ⊥
+apart_kinds k given other e =
+    let is : k ≡ given = cc in
+    let yes : same_kind k given ≡ true = ap (λ x. same_kind x given) is ∙ same_as_itself given in
+    absurd cc
+
+wrong_case : (given : Kind) (t : Option Token) → is_of t given ≡ false → option_map kind_of (option_map bearer_of t) ≡ Some given → ⊥
+wrong_case given None other e = absurd cc
+wrong_case given (Some t) other e = apart_kinds (kind_of (bearer_of t)) given other e
+
+-- nothing of another kind has the name
+pub wrong_kind : (own name : List ℕ) (tokens : List (List ℕ × Token)) (parked : Option Named) (d : SoloView) (given : Kind) (t : Option Token) → same_kind kind.Parked given ≡ false → is_of t given ≡ false
+    → kind_at name (state_with own tokens parked d) ≡ Some given → t ≡ token_at name tokens → ⊥
+wrong_kind own name tokens parked d given t other wrong h is =
+    wrong_case given t wrong (ap (λ o. option_map kind_of (option_map bearer_of o)) is ∙ (found_kind own name tokens parked d (Some given) (apart_kinds kind.Parked given other) h).1)
+
+-- a thing of a kind that can be used is not on the desk
+pub is_plain : (own name : List ℕ) (tokens : List (List ℕ × Token)) (parked : Option Named) (d : SoloView) (given : Kind) → same_kind kind.Parked given ≡ false
+    → kind_at name (state_with own tokens parked d) ≡ Some given → is_parked name (desk_of parked) ≡ false
+is_plain own name tokens parked d given other h = (found_kind own name tokens parked d (Some given) (apart_kinds kind.Parked given other) h).0
+
+-- a name that is not that of the section on the desk
+pub known_kind : (own name : List ℕ) (tokens : List (List ℕ × Token)) (parked : Option Named) (d : SoloView) (o : Option Token) → is_parked name (desk_of parked) ≡ false → o ≡ token_at name tokens
+    → option_map kind_of (option_map bearer_of o) ≡ kind_at name (state_with own tokens parked d)
+known_kind own name tokens parked d o free is =
+    ap (λ t. option_map kind_of (option_map bearer_of t)) is ∙ ap (option_map kind_of) (sym (bearer_at_is name tokens))
+    ∙ sym (ap (λ b. if b then Some kind.Parked else option_map kind_of (bearer_at name (names_of tokens))) free)
 
 there : (name : List ℕ) (tokens : List (List ℕ × Token)) (t : Token) → Some t ≡ token_at name tokens → bearer_at name (names_of tokens) ≡ Some (bearer_of t)
 there name tokens t is = bearer_at_is name tokens ∙ ap (option_map bearer_of) (sym is)
 
 -- What is done
 
-module _ (own : List ℕ) (tokens : List (List ℕ × Token)) (d d' : SoloView) where
+module _ (own : List ℕ) (tokens : List (List ℕ × Token)) (parked : Option Named) (d d' : SoloView) where
+  -- the names and how far the domain has come may change
+  goes_on : (tokens' : List (List ℕ × Token)) → d'.asked ≡ d.asked → state_with own tokens' parked d' ≡ record (state_with own tokens parked d) { names = names_of tokens'; standing = d'.standing }
+  goes_on tokens' same = ap (λ n. record (state_with own tokens parked d) { names = names_of tokens'; asked = n; standing = d'.standing }) same
+
   pub looked : (p : ℕ) (name : List ℕ) (l : LookView) → token_at name tokens ≡ None → IsLookNow d l → d' ≡ d
-      → Does d.limits (act.Look p name) (state_with own tokens d.standing) (reply.Look l.index) (state_with own (tokens ++ (name, token.Look l) ∷ []) d'.standing)
+      → Does d.limits (act.Look p name) (state_with own tokens parked d) (reply.Look l.index) (state_with own (tokens ++ (name, token.Look l) ∷ []) parked d')
   looked p name l free now same = record {
-    after = ap (λ (x : SoloView). x.standing) same;
     names = subst (λ i. Becomes name (Some (Look i)) (names_of tokens) (names_of (tokens ++ (name, token.Look l) ∷ []))) now.index (comes name (token.Look l) tokens free);
+    rest = ap (state_with own (tokens ++ (name, token.Look l) ∷ []) parked) same;
     reply = ap reply.Look now.index;
   }
 
-  begun : (p : ℕ) (i : Index) (name : List ℕ) (r : ReadingView) (tokens' : List (List ℕ × Token)) → Becomes name (Some (bearer_of (token.Section r))) (names_of tokens) (names_of tokens')
+  begun : (p : ℕ) (i : Index) (name : List ℕ) (r : ReadingView) (tokens' : List (List ℕ × Token)) → d'.asked ≡ d.asked → Becomes name (Some (bearer_of (token.Reading r))) (names_of tokens) (names_of tokens')
       → Begins d.limits p i r.section d.standing d'.standing → IsReadingAt d.table p i r
-      → BeginsUnder d.limits p i name (state_with own tokens d.standing) (reply.Index r.index) (state_with own tokens' d'.standing)
-  begun p i name r tokens' named begins is = record {
+      → BeginsUnder d.limits p i (λ s. Reading s p) name (state_with own tokens parked d) (reply.Index r.index) (state_with own tokens' parked d')
+  begun p i name r tokens' same named begins is = record {
     section = r.section;
     begins = begins;
-    names = subst (λ q. Becomes name (Some (Section r.section q)) (names_of tokens) (names_of tokens')) is.processor named;
+    names = subst (λ q. Becomes name (Some (Reading r.section q)) (names_of tokens) (names_of tokens')) is.processor named;
+    rest = goes_on tokens' same;
     reply = ap reply.Index is.index;
   }
 
-  pub locked : (p : ℕ) (name : List ℕ) (r : ReadingView) → token_at name tokens ≡ None
+  pub locked : (p : ℕ) (name : List ℕ) (r : ReadingView) → d'.asked ≡ d.asked → token_at name tokens ≡ None
       → Begins d.limits p (index_now d.standing) r.section d.standing d'.standing → IsReadingAt d.table p (index_now d.standing) r
-      → Does d.limits (act.Lock p name) (state_with own tokens d.standing) (reply.Index r.index) (state_with own (tokens ++ (name, token.Section r) ∷ []) d'.standing)
-  locked p name r free begins is = inl (begun p (index_now d.standing) name r (tokens ++ (name, token.Section r) ∷ []) (comes name (token.Section r) tokens free) begins is)
+      → Does d.limits (act.Lock p name) (state_with own tokens parked d) (reply.Index r.index) (state_with own (tokens ++ (name, token.Reading r) ∷ []) parked d')
+  locked p name r same free begins is = inl (begun p (index_now d.standing) name r (tokens ++ (name, token.Reading r) ∷ []) same (comes name (token.Reading r) tokens free) begins is)
 
-  pub locked_none : (p : ℕ) (name : List ℕ) → IsOutOfSections d.limits p (index_now d.standing) d.standing → d' ≡ d
-      → Does d.limits (act.Lock p name) (state_with own tokens d.standing) (reply.Refused command.Lock cause.Exhausted) (state_with own tokens d'.standing)
-  locked_none p name full same = inr (full, record { after = ap (λ (x : SoloView). state_with own tokens x.standing) same; reply = refl })
+  pub downed : (p : ℕ) (name : List ℕ) (h : ReadingView) → d'.asked ≡ d.asked → token_at name tokens ≡ None
+      → Begins d.limits p (index_now d.standing) h.section d.standing d'.standing → IsReadingAt d.table p (index_now d.standing) h
+      → Does d.limits (act.Down p name) (state_with own tokens parked d) (reply.Index h.index) (state_with own (tokens ++ (name, token.Held h) ∷ []) parked d')
+  downed p name h same free begins is = inl (record { section = h.section; begins = begins; names = comes name (token.Held h) tokens free; rest = goes_on (tokens ++ (name, token.Held h) ∷ []) same; reply = ap reply.Index is.index })
+
+  pub begun_none : (p : ℕ) (c : Command) (bearer : ℕ → Bearer) (name : List ℕ) → IsOutOfSections d.limits p (index_now d.standing) d.standing → d' ≡ d
+      → BeginsNow d.limits p c bearer name (state_with own tokens parked d) (reply.Refused c cause.Exhausted) (state_with own tokens parked d')
+  begun_none p c bearer name full same = inr (full, record { after = ap (state_with own tokens parked) same; reply = refl })
 
   module _ (name : List ℕ) (rest : List (List ℕ × Token)) (frees : Frees name tokens rest) where
-    pub entered : (p : ℕ) (l : LookView) (r : ReadingView) → Some (token.Look l) ≡ token_at name tokens → Begins d.limits p l.index r.section d.standing d'.standing → IsReadingAt d.table p l.index r
-        → Does d.limits (act.Enter p name) (state_with own tokens d.standing) (reply.Index r.index) (state_with own (rest ++ (name, token.Section r) ∷ []) d'.standing)
-    entered p l r is begins at = record {
+    pub entered : (p : ℕ) (l : LookView) (r : ReadingView) → d'.asked ≡ d.asked → Some (token.Look l) ≡ token_at name tokens → Begins d.limits p l.index r.section d.standing d'.standing → IsReadingAt d.table p l.index r
+        → Does d.limits (act.Enter p name) (state_with own tokens parked d) (reply.Index r.index) (state_with own (rest ++ (name, token.Reading r) ∷ []) parked d')
+    entered p l r same is begins at = record {
       index = l.index;
       there = there name tokens (token.Look l) is;
-      enters = inl (begun p l.index name r (rest ++ (name, token.Section r) ∷ []) (changes name (token.Section r) tokens rest frees) begins at);
+      enters = inl (begun p l.index name r (rest ++ (name, token.Reading r) ∷ []) same (changes name (token.Reading r) tokens rest frees) begins at);
     }
 
     pub entered_none : (p : ℕ) (l : LookView) → Some (token.Look l) ≡ token_at name tokens → IsOutOfSections d.limits p l.index d.standing → d' ≡ d
-        → Does d.limits (act.Enter p name) (state_with own tokens d.standing) (reply.Refused command.Enter cause.Exhausted) (state_with own rest d'.standing)
+        → Does d.limits (act.Enter p name) (state_with own tokens parked d) (reply.Refused command.Enter cause.Exhausted) (state_with own rest parked d')
     entered_none p l is full same = record {
       index = l.index;
       there = there name tokens (token.Look l) is;
-      enters = inr (record { full = full; after = ap (λ (x : SoloView). x.standing) same; names = goes name tokens rest frees; reply = refl });
+      enters = inr (record { full = full; names = goes name tokens rest frees; rest = ap (state_with own rest parked) same; reply = refl });
     }
 
-    pub unlocked : (r : ReadingView) → Some (token.Section r) ≡ token_at name tokens → Ends r.section r.processor d.standing d'.standing
-        → Does d.limits (act.Unlock name) (state_with own tokens d.standing) reply.Closed (state_with own rest d'.standing)
-    unlocked r is ends = record {
+    pub unlocked : (r : ReadingView) → d'.asked ≡ d.asked → Some (token.Reading r) ≡ token_at name tokens → Ends r.section r.processor d.standing d'.standing
+        → Does d.limits (act.Unlock name) (state_with own tokens parked d) reply.Closed (state_with own rest parked d')
+    unlocked r same is ends = record {
       section = r.section;
       processor = r.processor;
-      there = there name tokens (token.Section r) is;
+      there = there name tokens (token.Reading r) is;
       ends = ends;
       names = goes name tokens rest frees;
+      rest = goes_on rest same;
       reply = refl;
     }
 
-  replied : (r : Reply) → Replies r (state_with own tokens d.standing) r (state_with own tokens d'.standing)
-  replied r = record { names = refl; reply = refl }
+    pub upped : (p : ℕ) (h : ReadingView) → d'.asked ≡ d.asked → Some (token.Held h) ≡ token_at name tokens → Ends h.section p d.standing d'.standing
+        → Does d.limits (act.Up p name) (state_with own tokens parked d) reply.Closed (state_with own rest parked d')
+    upped p h same is ends = record {
+      section = h.section;
+      there = there name tokens (token.Held h) is;
+      ends = ends;
+      names = goes name tokens rest frees;
+      rest = goes_on rest same;
+      reply = refl;
+    }
 
-  pub shown : (table : TableId) (number : ℕ) (phase : Phase) (index : Index) (counted other_counted : ℕ) → AreOf table d.standing tokens → ReadsNumber number d.standing d'.standing → number % 4 ≡ state_bits phase
-      → index ≡ index_now d'.standing → counted ≡ held_of Zero tokens → other_counted ≡ held_of One tokens
-      → Does d.limits act.State (state_with own tokens d.standing) (reply.State own (record { number = number; phase = phase }) (record { index = index; zero = counted; one = other_counted; need = 0 })) (state_with own tokens d'.standing)
-  shown table number phase index counted other_counted held reads p x z o = record {
+    pub laid_down : (h : ReadingView) → parked ≡ None → Some (token.Held h) ≡ token_at name tokens
+        → Does d.limits (act.Park name) (state_with own tokens parked d) reply.Parked (state_with own rest (Some (name, h)) d)
+    laid_down h empty is = inl (record {
+      section = h.section;
+      there = there name tokens (token.Held h) is;
+      empty = ap desk_of empty;
+      names = goes name tokens rest frees;
+      rest = refl;
+      reply = refl;
+    })
+
+  pub laid_none : (name : List ℕ) (p : Named) → parked ≡ Some p → Does d.limits (act.Park name) (state_with own tokens parked d) (reply.Refused command.Park cause.Full) (state_with own tokens parked d)
+  laid_none name p lies = inr (record { name = p.0; section = p.1.section }, ap desk_of lies, record { after = refl; reply = refl })
+
+  pub picked_up : (p : Named) → parked ≡ Some p → token_at p.0 tokens ≡ None
+      → Does d.limits act.Unpark (state_with own tokens parked d) (reply.Took p.0) (state_with own (tokens ++ (p.0, token.Held p.1) ∷ []) None d)
+  picked_up p lies free = inl (record {
+    parked = record { name = p.0; section = p.1.section };
+    there = ap desk_of lies;
+    names = comes p.0 (token.Held p.1) tokens free;
+    rest = refl;
+    reply = refl;
+  })
+
+  pub shown : d'.asked ≡ d.asked → (table : TableId) (need number : ℕ) (phase : Phase) (index : Index) (counted other_counted : ℕ) → AreOf table d.standing (tokens_with parked tokens) → ReadsNumber number d.standing d'.standing → number % 4 ≡ state_bits phase
+      → index ≡ index_now d'.standing → counted ≡ held_of Zero (tokens_with parked tokens) → other_counted ≡ held_of One (tokens_with parked tokens) → need ≡ d'.asked
+      → Does d.limits act.State (state_with own tokens parked d) (reply.State own (record { number = number; phase = phase }) (record { index = index; zero = counted; one = other_counted; need = need })) (state_with own tokens parked d')
+  shown same table need number phase index counted other_counted held reads p x z o n = record {
     number = number;
     phase = phase;
     reads = reads;
     state = p;
     replies = record {
-      names = refl;
+      rest = goes_on tokens same;
       reply = λ k. reply.State own (record { number = number; phase = phase })
-          (record { index = (x ∙ ap index_now reads.notes.after) k; zero = (z ∙ held.counted Zero) k; one = (o ∙ held.counted One) k; need = 0 });
+          (record { index = (x ∙ ap index_now reads.notes.after) k; zero = (z ∙ held.counted Zero) k; one = (o ∙ held.counted One) k; need = (n ∙ same) k });
     };
   }

@@ -1,8 +1,11 @@
 mod Acting
+mod Answering
 mod Held
 mod Holding
 mod Naming
+mod Parked
 mod OpenSections
 mod Places
 mod Quiet
 mod Taken
+mod Together

@@ -14,7 +14,7 @@ use Rattle.requests.specs.declared.request.Request.TheVariants as request
 use Rattle.requests.specs.declared.reply.Reply.{Reply}
 use Rattle.requests.specs.declared.scene.Kind.{Kind}
 use Rattle.requests.specs.Requests.{Fits}
-use Rattle.session.specs.States.{State, DomainState, EntryView, states_of, bearer_at, domain_place, kind_of, scene_of}
+use Rattle.session.specs.States.{State, DomainState, EntryView, states_of, kind_at, domain_place, scene_of}
 use Rattle.session.specs.Scripts.{Does, Answers}
 
 prefix-map : {X Y : Type 0} (p : Y → Bool) (f : X → Y) (xs : List X) → prefix_len p (map f xs) ≡ prefix_len (λ x. p (f x)) xs
@@ -50,13 +50,13 @@ module _ (state : State) (place : ℕ) (d : DomainState) (at : slice_get state p
   pub processors_there : (scene_of state).processors_of place ≡ d.standing.processors
   processors_there = ap (λ o. option_map_or (λ (x : DomainState). x.standing.processors) o 0) at
 
-  pub kind_there : (name : List ℕ) → (scene_of state).kind_of place name ≡ option_map kind_of (bearer_at name d.names)
-  kind_there name = ap (option_and_then (λ (x : DomainState). option_map kind_of (bearer_at name x.names))) at
+  pub kind_there : (name : List ℕ) → (scene_of state).kind_of place name ≡ kind_at name d
+  kind_there name = ap (option_and_then (λ (x : DomainState). kind_at name x)) at
 
   small : (p : ℕ) → p < (scene_of state).processors_of place → p < d.standing.processors
   small p h = subst (λ n. p < n) processors_there h
 
-  kind_is : (name : List ℕ) (k : Option Kind) → (scene_of state).kind_of place name ≡ k → option_map kind_of (bearer_at name d.names) ≡ k
+  kind_is : (name : List ℕ) (k : Option Kind) → (scene_of state).kind_of place name ≡ k → kind_at name d ≡ k
   kind_is name k h = sym (kind_there name) ∙ h
 
   -- what an act can rely on there
@@ -66,7 +66,12 @@ module _ (state : State) (place : ℕ) (d : DomainState) (at : slice_get state p
   fits_there (act.Enter p name) h = (small p h.0, kind_is name _ h.1)
   fits_there (act.Lock p name) h = (small p h.0, kind_is name _ h.1)
   fits_there (act.Unlock name) h = kind_is name _ h
+  fits_there (act.Down p name) h = (small p h.0, kind_is name _ h.1)
+  fits_there (act.Up p name) h = (small p h.0, kind_is name _ h.1)
+  fits_there (act.Park name) h = kind_is name _ h
+  fits_there act.Unpark h = h
   fits_there (act.Get p) h = small p h
+  fits_there (act.Ask p) h = small p h
   fits_there (act.Poll p cookie) h = small p h
   fits_there (act.Start p) h = small p h
   fits_there (act.Advance p) h = small p h

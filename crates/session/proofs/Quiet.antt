@@ -58,28 +58,28 @@ pub record GoesOnQuietly (s s' : Standing) : Type 0 where
   pub legal : IsLegal s'.history
   pub quiet : IsQuiet s.history s'.history
 
-quietly_answered : (a : Progress) (s s' : Standing) → IsAnswered [] 0 a s s' → GoesOnQuietly s s'
-quietly_answered a s s' h = record {
+quietly_answered : (need : ℕ) (a : Progress) (s s' : Standing) → IsAnswered [] need a s s' → GoesOnQuietly s s'
+quietly_answered need a s s' h = record {
   processors = h.same.0;
   legal = h.legal;
   quiet = subst (IsQuiet s.history) (sym h.events) (quiet_events s.history a);
 }
 
-pub quietly_stepped : (a : Progress) (s s' : Standing) → Steps a s s' → GoesOnQuietly s s'
-quietly_stepped a s s' h = quietly_answered a s s' h.answered
+pub quietly_stepped : (need : ℕ) (a : Progress) (s s' : Standing) → Steps need a s s' → GoesOnQuietly s s'
+quietly_stepped need a s s' h = quietly_answered need a s s' h.answered
 
-quietly_through : (between : List Standing) (a : Progress) (s s' : Standing) → StepsThrough Steps between a s s' → GoesOnQuietly s s'
-quietly_through [] a s s' h = quietly_stepped a s s' h
-quietly_through (t ∷ ts) a s s' h =
-    let first = quietly_stepped answer.Step s t h.0 in
-    let rest = quietly_through ts a t s' h.1 in record {
+quietly_through : (need : ℕ) (between : List Standing) (a : Progress) (s s' : Standing) → StepsThrough (Steps need) between a s s' → GoesOnQuietly s s'
+quietly_through need [] a s s' h = quietly_stepped need a s s' h
+quietly_through need (t ∷ ts) a s s' h =
+    let first = quietly_stepped need answer.Step s t h.0 in
+    let rest = quietly_through need ts a t s' h.1 in record {
       processors = rest.processors ∙ first.processors;
       legal = rest.legal;
       quiet = quiet_then s.history t.history s'.history first.quiet rest.quiet;
     }
 
-pub quietly_advanced : (a : Progress) (s s' : Standing) → Advances a s s' → GoesOnQuietly s s'
-quietly_advanced a s s' h = quietly_through h.between a s s' h.through
+pub quietly_advanced : (need : ℕ) (a : Progress) (s s' : Standing) → Advances need a s s' → GoesOnQuietly s s'
+quietly_advanced need a s s' h = quietly_through need h.between a s s' h.through
 
 pub quietly_started : (n : ℕ) (s s' : Standing) → Starts n s s' → GoesOnQuietly s s'
 quietly_started n s s' h = record {

@@ -1,5 +1,5 @@
 -- How a domain of a session is seen, and what is always true of it.
-use Rattle.std.specs.Prelude.{◌≡◌, ℕ, ◌<◌, List, All, map}
+use Rattle.std.specs.Prelude.{◌≡◌, ℕ, ◌<◌, List, ◌∷◌, All, map, Option, Some, None, option_map, IfSome}
 use Rattle.atomic_table.specs.Seated.{TableId}
 use Rattle.sseq.specs.declared.index.Index.{Index}
 use Rattle.onedom.specs.Histories.{begins_of, index_of, IsLegal}
@@ -10,21 +10,32 @@ use Rattle.session.specs.declared.names.Token.{Token}
 use Rattle.session.specs.declared.names.Token.TheVariants as token
 use Rattle.session.specs.declared.entry.Entry.TheInside as entry
 use Rattle.session.specs.OpenSections.{open_of}
-use Rattle.session.specs.Tokens.{held_of}
-use Rattle.session.specs.States.{Bearer, Look, Section, Names, DomainState, EntryView}
+use Rattle.session.specs.Tokens.{token_at, held_of}
+use Rattle.session.specs.Parkings.{ParkingView}
+use Rattle.session.specs.States.{Bearer, Look, Reading, Held, Parked, Names, DomainState, EntryView}
 
 abbrev pub bearer_of : Token → Bearer
 bearer_of (token.Look l) = Look l.index
-bearer_of (token.Section r) = Section r.section r.processor
+bearer_of (token.Reading r) = Reading r.section r.processor
+bearer_of (token.Held h) = Held h.section
 
 abbrev pub names_of : List (List ℕ × Token) → Names
 names_of tokens = map (λ t. (t.0, bearer_of t.1)) tokens
 
-abbrev pub state_with : List ℕ → List (List ℕ × Token) → Standing → DomainState
-state_with name tokens s = record { name = name; names = names_of tokens; standing = s }
+-- what lies on the desk
+abbrev pub desk_of : Option (List ℕ × ReadingView) → Option Parked
+desk_of parked = option_map (λ p. record { name = p.0; section = p.1.section }) parked
 
-abbrev pub entry_with : List ℕ → List (List ℕ × Token) → SoloView → EntryView
-entry_with name tokens d = record { limits = d.limits; state = state_with name tokens d.standing }
+abbrev pub state_with : List ℕ → List (List ℕ × Token) → Option (List ℕ × ReadingView) → SoloView → DomainState
+state_with name tokens parked d = record { name = name; names = names_of tokens; desk = desk_of parked; asked = d.asked; standing = d.standing }
+
+abbrev pub entry_with : List ℕ → List (List ℕ × Token) → Option (List ℕ × ReadingView) → SoloView → EntryView
+entry_with name tokens parked d = record { limits = d.limits; state = state_with name tokens parked d }
+
+-- all tokens: those under names, and the section that is parked
+abbrev pub tokens_with : Option (List ℕ × ReadingView) → List (List ℕ × Token) → List (List ℕ × Token)
+tokens_with None tokens = tokens
+tokens_with (Some p) tokens = (p.0, token.Held p.1) ∷ tokens
 
 -- the reading is of a section of this domain, and has its index
 pub record IsReadingOf (table : TableId) (s : Standing) (r : ReadingView) : Type 0 where
@@ -35,7 +46,8 @@ pub record IsReadingOf (table : TableId) (s : Standing) (r : ReadingView) : Type
 -- the token is of this domain
 abbrev pub IsTokenOf : TableId → Standing → Token → Type 0
 IsTokenOf table s (token.Look l) = l.domain ≡ table
-IsTokenOf table s (token.Section r) = IsReadingOf table s r
+IsTokenOf table s (token.Reading r) = IsReadingOf table s r
+IsTokenOf table s (token.Held h) = IsReadingOf table s h
 
 -- all tokens are of the domain, and as many of them are open sections of an index as sections of it are open
 pub record AreOf (table : TableId) (s : Standing) (tokens : List (List ℕ × Token)) : Type 0 where
@@ -43,9 +55,15 @@ pub record AreOf (table : TableId) (s : Standing) (tokens : List (List ℕ × To
   pub each : All (λ (t : List ℕ × Token). IsTokenOf table s t.1) tokens
   pub counted : (i : Index) → held_of i tokens ≡ open_of i s.history
 
+-- a domain, the tokens under names there, and its desk: that is of this domain, and the name of what lies there is no other token's
+pub record AreTogether (d : SoloView) (tokens : List (List ℕ × Token)) (p : ParkingView) : Type 0 where
+  pub all : AreOf d.table d.standing (tokens_with p.parked tokens)
+  pub desk : p.domain ≡ d.table
+  pub apart : IfSome p.parked (λ named. token_at named.0 tokens ≡ None)
+
 module _ {A : Type 0} where
   abbrev pub view_of_entry : entry.Inside A → EntryView
-  view_of_entry e = entry_with e.name e.names.tokens e.domain
+  view_of_entry e = entry_with e.name e.names.tokens e.parking.parked e.domain
 
-  pub record IsEntry (e : entry.Inside A) : Type 0 where
-    pub tokens : AreOf e.domain.table e.domain.standing e.names.tokens
+  abbrev pub IsEntry : entry.Inside A → Type 0
+  IsEntry e = AreTogether e.domain e.names.tokens e.parking

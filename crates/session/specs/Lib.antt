@@ -1,5 +1,6 @@
 pub mod Tokens
-pub mod Held
+pub mod Parkings
+pub mod Insides
 pub mod OpenSections
 pub mod States
 pub mod Scripts

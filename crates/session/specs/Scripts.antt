@@ -1,5 +1,5 @@
 -- What a line of a script means: which reply it gets, and what it changes.
-use Rattle.std.specs.Prelude.{◌≡◌, ℕ, ◌%◌, ◌<◌, ◌≤◌, Bool, true, false, List, [], ◌∷◌, ◌++◌, length, Option, Some, None, slice_get, slice_set, if◌then◌else◌, ◌⊎◌}
+use Rattle.std.specs.Prelude.{◌≡◌, ℕ, ◌%◌, ◌<◌, ◌≤◌, Bool, true, false, List, [], ◌∷◌, ◌++◌, length, Option, Some, None, max, slice_get, slice_set, if◌then◌else◌, ◌⊎◌}
 use Rattle.sseq.specs.declared.index.Index.{Index}
 use Rattle.sseq.specs.declared.index.Index.TheVariants.{Zero, One}
 use Rattle.sseq.specs.declared.number.Phase.{Phase}
@@ -11,15 +11,15 @@ use Rattle.scan.specs.declared.progress.Progress.{Progress}
 use Rattle.scan.specs.declared.progress.Progress.TheVariants as progress
 use Rattle.scan.specs.declared.progress.StartRefusal.{StartRefusal}
 use Rattle.scan.specs.declared.progress.StartRefusal.TheVariants as refusal
-use Rattle.scan.specs.Standings.{index_now}
-use Rattle.solo.specs.Calls.{new_standing, Begins, IsOutOfSections, Ends, GivesCookie, Asks as AsksIfDone, ReadsNumber, Starts, StartsNone, Steps, Advances}
+use Rattle.scan.specs.Standings.{Standing, index_now}
+use Rattle.solo.specs.Calls.{new_standing, Begins, IsOutOfSections, Ends, GivesCookie, Asks as AsksIfDone, ReadsNumber, Starts, StartsNone, Steps, Advances, IsAskedTooMuch}
 use Rattle.lines.specs.Lines.{words_of}
 use Rattle.requests.specs.declared.fault.Fault.{Fault}
 use Rattle.requests.specs.declared.fault.Fault.TheVariants.{Text}
 use Rattle.requests.specs.declared.command.Command.{Command}
 use Rattle.requests.specs.declared.command.Command.TheVariants as command
 use Rattle.requests.specs.declared.cause.Cause.{Cause}
-use Rattle.requests.specs.declared.cause.Cause.TheVariants.{Full, Processors, Memory, Exhausted, Running, NotACookie}
+use Rattle.requests.specs.declared.cause.Cause.TheVariants.{Full, Empty, Processors, Memory, Exhausted, Running, NotACookie}
 use Rattle.requests.specs.declared.request.Act.{Act}
 use Rattle.requests.specs.declared.request.Act.TheVariants as act
 use Rattle.requests.specs.declared.request.Request.{Request}
@@ -30,7 +30,7 @@ use Rattle.requests.specs.Faults.{fault_of, is_skipped}
 use Rattle.requests.specs.Requests.{Asks}
 use Rattle.requests.specs.Replies.{reply_text}
 use Rattle.session.specs.OpenSections.{open_of}
-use Rattle.session.specs.States.{State, DomainState, Look, Section, Becomes, bearer_at, scene_of}
+use Rattle.session.specs.States.{State, DomainState, Bearer, Look, Reading, Held, Parked, Becomes, bearer_at, scene_of}
 
 -- What one domain does
 
@@ -40,55 +40,109 @@ pub record IsRefused (c : Command) (cause : Cause) (d : DomainState) (r : Reply)
   pub reply : r ≡ reply.Refused c cause
 
 -- a section of index i begins on the processor, and has the name
-pub record BeginsUnder (limits : Limits) (p : ℕ) (i : Index) (name : List ℕ) (d : DomainState) (r : Reply) (d' : DomainState) : Type 0 where
+pub record BeginsUnder (limits : Limits) (p : ℕ) (i : Index) (bearer : ℕ → Bearer) (name : List ℕ) (d : DomainState) (r : Reply) (d' : DomainState) : Type 0 where
   pub section : ℕ
   pub begins : Begins limits p i section d.standing d'.standing
-  pub names : Becomes name (Some (Section section p)) d.names d'.names
+  pub names : Becomes name (Some (bearer section)) d.names d'.names
+  pub rest : d' ≡ record d { names = d'.names; standing = d'.standing }
   pub reply : r ≡ reply.Index i
 
 -- a look has the index that now is, and the name
 pub record LooksUnder (name : List ℕ) (d : DomainState) (r : Reply) (d' : DomainState) : Type 0 where
-  pub after : d'.standing ≡ d.standing
   pub names : Becomes name (Some (Look (index_now d.standing))) d.names d'.names
+  pub rest : d' ≡ record d { names = d'.names }
   pub reply : r ≡ reply.Look (index_now d.standing)
 
--- a section of the index that now is begins on the processor, unless as many were begun there as may
+-- a section of the index that now is begins on the processor, for this command, unless as many were begun there as may
+abbrev pub BeginsNow : Limits → ℕ → Command → (ℕ → Bearer) → List ℕ → DomainState → Reply → DomainState → Type 0
+BeginsNow limits p c bearer name d r d' = BeginsUnder limits p (index_now d.standing) bearer name d r d'
+    ⊎ IsOutOfSections limits p (index_now d.standing) d.standing × IsRefused c Exhausted d r d'
+
+-- it ends on the processor where it begins
 abbrev pub Locks : Limits → ℕ → List ℕ → DomainState → Reply → DomainState → Type 0
-Locks limits p name d r d' = BeginsUnder limits p (index_now d.standing) name d r d'
-    ⊎ IsOutOfSections limits p (index_now d.standing) d.standing × IsRefused command.Lock Exhausted d r d'
+Locks limits p name d r d' = BeginsNow limits p command.Lock (λ s. Reading s p) name d r d'
+
+-- it may end on any processor
+abbrev pub Downs : Limits → ℕ → List ℕ → DomainState → Reply → DomainState → Type 0
+Downs limits p name d r d' = BeginsNow limits p command.Down Held name d r d'
 
 -- the look is used up in vain: as many sections of its index were begun on the processor as may. Its name is free
 pub record LosesLook (limits : Limits) (p : ℕ) (i : Index) (name : List ℕ) (d : DomainState) (r : Reply) (d' : DomainState) : Type 0 where
   pub full : IsOutOfSections limits p i d.standing
-  pub after : d'.standing ≡ d.standing
   pub names : Becomes name None d.names d'.names
+  pub rest : d' ≡ record d { names = d'.names }
   pub reply : r ≡ reply.Refused command.Enter Exhausted
 
 -- the look of this name is used up, and a section of its index begins on the processor, under the same name
 pub record Enters (limits : Limits) (p : ℕ) (name : List ℕ) (d : DomainState) (r : Reply) (d' : DomainState) : Type 0 where
   pub index : Index
   pub there : bearer_at name d.names ≡ Some (Look index)
-  pub enters : BeginsUnder limits p index name d r d' ⊎ LosesLook limits p index name d r d'
+  pub enters : BeginsUnder limits p index (λ s. Reading s p) name d r d' ⊎ LosesLook limits p index name d r d'
 
 -- the section of this name ends, on its own processor, and the name is free
 pub record Unlocks (name : List ℕ) (d : DomainState) (r : Reply) (d' : DomainState) : Type 0 where
   pub section : ℕ
   pub processor : ℕ
-  pub there : bearer_at name d.names ≡ Some (Section section processor)
+  pub there : bearer_at name d.names ≡ Some (Reading section processor)
   pub ends : Ends section processor d.standing d'.standing
   pub names : Becomes name None d.names d'.names
+  pub rest : d' ≡ record d { names = d'.names; standing = d'.standing }
   pub reply : r ≡ reply.Closed
 
--- the names stay, and this is the reply
+-- the held section of this name ends, on this processor, and the name is free
+pub record Ups (p : ℕ) (name : List ℕ) (d : DomainState) (r : Reply) (d' : DomainState) : Type 0 where
+  pub section : ℕ
+  pub there : bearer_at name d.names ≡ Some (Held section)
+  pub ends : Ends section p d.standing d'.standing
+  pub names : Becomes name None d.names d'.names
+  pub rest : d' ≡ record d { names = d'.names; standing = d'.standing }
+  pub reply : r ≡ reply.Closed
+
+-- the held section of this name is laid on the desk, where nothing lay
+pub record LiesDown (name : List ℕ) (d : DomainState) (r : Reply) (d' : DomainState) : Type 0 where
+  pub section : ℕ
+  pub there : bearer_at name d.names ≡ Some (Held section)
+  pub empty : d.desk ≡ None
+  pub names : Becomes name None d.names d'.names
+  pub rest : d' ≡ record d { names = d'.names; desk = Some (record { name = name; section = section }) }
+  pub reply : r ≡ reply.Parked
+
+abbrev pub Parks : List ℕ → DomainState → Reply → DomainState → Type 0
+Parks name d r d' = LiesDown name d r d' ⊎ (lies : Parked) × (d.desk ≡ Some lies) × IsRefused command.Park Full d r d'
+
+-- the section that lies on the desk is taken from there, and has its name
+pub record PicksUp (d : DomainState) (r : Reply) (d' : DomainState) : Type 0 where
+  pub parked : Parked
+  pub there : d.desk ≡ Some parked
+  pub names : Becomes parked.name (Some (Held parked.section)) d.names d'.names
+  pub rest : d' ≡ record d { names = d'.names; desk = None }
+  pub reply : r ≡ reply.Took parked.name
+
+abbrev pub Unparks : DomainState → Reply → DomainState → Type 0
+Unparks d r d' = PicksUp d r d' ⊎ (d.desk ≡ None) × IsRefused command.Unpark Empty d r d'
+
+-- the names stay, and what lies on the desk, and what was asked for. This is the reply
 pub record Replies (given : Reply) (d : DomainState) (r : Reply) (d' : DomainState) : Type 0 where
-  pub names : d'.names ≡ d.names
+  pub rest : d' ≡ record d { standing = d'.standing }
   pub reply : r ≡ given
 
 abbrev pub cause_of : StartRefusal → Cause
 cause_of refusal.Running = Running
 cause_of refusal.Exhausted = Exhausted
 
--- where the domain stands; the root need is 0, as long as nobody can ask
+-- the processor is given the cookie of now, and a grace period is asked for up to it
+pub record AsksForPeriod (p : ℕ) (d : DomainState) (r : Reply) (d' : DomainState) : Type 0 where
+  pub cookie : ℕ
+  pub gives : GivesCookie p cookie d.standing d'.standing
+  pub rest : d' ≡ record d { asked = max d.asked cookie; standing = d'.standing }
+  pub reply : r ≡ reply.Cookie cookie
+
+-- what the engine does, in steps or until there is an answer; refused where a grace period is asked for, and as many have ended as may
+abbrev pub Works : (Progress → Standing → Standing → Type 0) → Command → DomainState → Reply → DomainState → Type 0
+Works work c d r d' = ((said : Progress) × work said d.standing d'.standing × Replies (reply.Progress said) d r d')
+    ⊎ IsAskedTooMuch d.asked d.standing × IsRefused c Exhausted d r d'
+
+-- where the domain stands
 pub record Shows (d : DomainState) (r : Reply) (d' : DomainState) : Type 0 where
   pub number : ℕ
   pub phase : Phase
@@ -96,7 +150,7 @@ pub record Shows (d : DomainState) (r : Reply) (d' : DomainState) : Type 0 where
   pub state : number % 4 ≡ state_bits phase
   pub replies : Replies (reply.State d.name
       (record { number = number; phase = phase })
-      (record { index = index_now d.standing; zero = open_of Zero d.standing.history; one = open_of One d.standing.history; need = 0 })) d r d'
+      (record { index = index_now d.standing; zero = open_of Zero d.standing.history; one = open_of One d.standing.history; need = d.asked })) d r d'
 
 -- what an act does to the domain, and its reply
 abbrev pub Does : Limits → Act → DomainState → Reply → DomainState → Type 0
@@ -105,13 +159,18 @@ Does limits (act.Look p name) d r d' = LooksUnder name d r d'
 Does limits (act.Enter p name) d r d' = Enters limits p name d r d'
 Does limits (act.Lock p name) d r d' = Locks limits p name d r d'
 Does limits (act.Unlock name) d r d' = Unlocks name d r d'
+Does limits (act.Down p name) d r d' = Downs limits p name d r d'
+Does limits (act.Up p name) d r d' = Ups p name d r d'
+Does limits (act.Park name) d r d' = Parks name d r d'
+Does limits act.Unpark d r d' = Unparks d r d'
+Does limits (act.Ask p) d r d' = AsksForPeriod p d r d'
 Does limits (act.Get p) d r d' = (cookie : ℕ) × GivesCookie p cookie d.standing d'.standing × Replies (reply.Cookie cookie) d r d'
 Does limits (act.Poll p cookie) d r d' = ((done : Bool) × AsksIfDone p cookie done d.standing d'.standing × Replies (if done then reply.Done else reply.NotYet) d r d')
     ⊎ IsNoCookie cookie × IsRefused command.Poll NotACookie d r d'
 Does limits (act.Start p) d r d' = ((number : ℕ) × Starts number d.standing d'.standing × Replies (reply.Progress (progress.Started number)) d r d')
     ⊎ (why : StartRefusal) × StartsNone why d.standing × IsRefused command.Start (cause_of why) d r d'
-Does limits (act.Advance p) d r d' = (said : Progress) × Advances said d.standing d'.standing × Replies (reply.Progress said) d r d'
-Does limits (act.Step p) d r d' = (said : Progress) × Steps said d.standing d'.standing × Replies (reply.Progress said) d r d'
+Does limits (act.Advance p) d r d' = Works (Advances d.asked) command.Advance d r d'
+Does limits (act.Step p) d r d' = Works (Steps d.asked) command.Step d r d'
 
 -- What a script does
 
@@ -122,7 +181,7 @@ pub record GoesOn (state : State) (place : ℕ) (d d' : DomainState) (state' : S
   pub others : state' ≡ slice_set state place d'
 
 abbrev pub new_domain : Limits → List ℕ → ℕ → DomainState
-new_domain limits name processors = record { name = name; names = []; standing = new_standing limits processors }
+new_domain limits name processors = record { name = name; names = []; desk = None; asked = 0; standing = new_standing limits processors }
 
 -- a domain comes behind those that are there
 pub record Makes (limits : Limits) (state : State) (name : List ℕ) (processors : ℕ) (r : Reply) (state' : State) : Type 0 where

@@ -4,10 +4,10 @@ use Rattle.sections.specs.Limits.{AreInRange}
 use Rattle.session.specs.declared.session.Session.TheInside as session
 use Rattle.session.specs.States.{EntryView, SessionView, states_of}
 
-module _ {A : Type 0} where
-  abbrev pub view_of_session : session.Inside A → SessionView
+module _ {A R : Type 0} where
+  abbrev pub view_of_session : session.Inside A R → SessionView
   view_of_session s = record { limits = s.limits; domains = states_of s.entries.items }
 
-  pub record IsSession (s : session.Inside A) : Type 0 where
+  pub record IsSession (s : session.Inside A R) : Type 0 where
     pub in_range : AreInRange s.limits
     pub same : All (λ (e : EntryView). e.limits ≡ s.limits) s.entries.items

@@ -1,5 +1,5 @@
--- The state of a script: its domains, each with the names in use there.
-use Rattle.std.specs.Prelude.{◌≡◌, ◌≢◌, ℕ, List, Option, map, position, option_map, option_and_then, slice_get, bytes_eq}
+-- The state of a script: its domains, each with the names in use there and what lies on its desk.
+use Rattle.std.specs.Prelude.{◌≡◌, ◌≢◌, ℕ, Bool, false, if◌then◌else◌, List, Option, Some, None, map, position, option_map, option_and_then, slice_get, bytes_eq}
 use Rattle.std.specs.Option.{option_map_or}
 use Rattle.std.specs.Map.{lookup}
 use Rattle.sseq.specs.declared.index.Index.{Index}
@@ -9,19 +9,27 @@ use Rattle.requests.specs.declared.scene.Kind.{Kind}
 use Rattle.requests.specs.declared.scene.Kind.TheVariants as kind
 use Rattle.requests.specs.Scenes.{SceneView}
 
--- what has a name: a look, which has the index that it found, or an open section, of this number and begun on this processor
+-- what has a name: a look, which has the index that it found; an open section of this number, which ends on this processor, where it was begun; or one that may end on any
 pub data Bearer : Type 0 where
   Look : Index → Bearer
-  Section : ℕ → ℕ → Bearer
+  Reading : ℕ → ℕ → Bearer
+  Held : ℕ → Bearer
 
--- the names in use, each with what has it. Their order means nothing
+-- names, each with what has it. Their order means nothing
 abbrev pub Names : Type 0
 Names = List (List ℕ × Bearer)
 
--- a domain: its name, the names in use there, and how far it has come
+-- an open section that may end on any processor, with its name
+pub record Parked : Type 0 where
+  pub name : List ℕ
+  pub section : ℕ
+
+-- a domain: its name, the names in use there but that of the section on its desk, what lies on the desk, the greatest number that was asked for (0 if none), and how far the domain has come
 pub record DomainState : Type 0 where
   pub name : List ℕ
   pub names : Names
+  pub desk : Option Parked
+  pub asked : ℕ
   pub standing : Standing
 
 -- the domains, in the order in which they were made
@@ -59,12 +67,22 @@ domain_place w state = position (λ d. bytes_eq d.name w) state
 
 abbrev pub kind_of : Bearer → Kind
 kind_of (Look i) = kind.Look
-kind_of (Section s p) = kind.Section
+kind_of (Reading s p) = kind.Reading
+kind_of (Held s) = kind.Held
+
+-- the section on the desk has this name
+abbrev pub is_parked : List ℕ → Option Parked → Bool
+is_parked name None = false
+is_parked name (Some p) = bytes_eq p.name name
+
+-- what has this name in a domain
+abbrev pub kind_at : List ℕ → DomainState → Option Kind
+kind_at name d = if is_parked name d.desk then Some kind.Parked else option_map kind_of (bearer_at name d.names)
 
 -- what is there when a line is read
 abbrev pub scene_of : State → SceneView
 scene_of state = record {
   place_of = λ w. domain_place w state;
   processors_of = λ place. option_map_or (λ d. d.standing.processors) (slice_get state place) 0;
-  kind_of = λ place name. option_and_then (λ d. option_map kind_of (bearer_at name d.names)) (slice_get state place);
+  kind_of = λ place name. option_and_then (λ d. kind_at name d) (slice_get state place);
 }

@@ -23,7 +23,8 @@ pub record Frees (name : List ℕ) (old new : List (List ℕ × Token)) : Type 0
 -- the index of the open section that a token stands for
 abbrev pub open_index : Token → Option Index
 open_index (token.Look l) = None
-open_index (token.Section r) = Some r.index
+open_index (token.Reading r) = Some r.index
+open_index (token.Held h) = Some h.index
 
 -- how many of the tokens are open sections of this index
 abbrev pub held_of : Index → List (List ℕ × Token) → ℕ

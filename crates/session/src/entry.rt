@@ -1,24 +1,27 @@
-//! A domain with its name, and with the names in use there.
+//! A domain with its name, the names in use there, and its desk.
 ghost use Rattle.std.specs.Prelude.{◌≡◌, ◌<◌, [], ◌∷◌, option_map, IfOk, OnErr, bytes_eq};
 ghost use Rattle.requests.specs.Requests.{Fits};
-ghost use Rattle.session.specs.States.{bearer_at, kind_of, scene_of};
+ghost use Rattle.session.specs.States.{kind_at, scene_of};
 ghost use Rattle.session.specs.Scripts.{Does};
 
 use crate::names::{Names, Token, take_last};
+use crate::parking::Parking;
 use lines::Name;
 use requests::{Act, Cause, Command, Kind, Period, Reply, Sections};
-use scan::{Progress, StartRefusal};
+use scan::{Exhausted as NoMorePeriods, Progress, StartRefusal};
 use sections::{Exhausted, NotACookie};
 use solo::Solo;
-use sseq::{Index, state};
+use sseq::state;
 use std::alloc::{AllocError, Allocator};
 use std::marker::Model;
+use std::sync::Wait;
 
 /// A domain of a session. Its open sections must be ended: spend it by [`Entry::finish`].
 pub struct Entry<A: Allocator> {
     name: Name,
     domain: Solo<A>,
     names: Names<A>,
+    parking: Parking<A>,
 }
 
 impl<A: Allocator> Model for Entry<A> {
@@ -38,17 +41,19 @@ impl<A: Allocator> Entry<A> {
     ghost use Rattle.solo.specs.Calls.{IsNew};
 
     /// A domain in which no name is in use. Nothing has happened in it.
-    pub fn new(alloc: A, name: Name, domain: Solo<A>) -> Entry<A>
+    pub fn new(alloc: A, name: Name, mut domain: Solo<A>) -> Result<Entry<A>, AllocError>
     where
         A: Copy,
         requires { IsNew domain.limits domain.standing.processors domain }
-        ensures { result ≡ record { limits = domain.limits; state = new_domain domain.limits name domain.standing.processors } }
+        ensures { IfOk result (λ e. e ≡ record { limits = domain.limits; state = new_domain domain.limits name domain.standing.processors }) }
     {
-        Entry {
+        let parking = Parking::new(alloc, domain.home())?;
+        Ok(Entry {
             name,
             domain,
             names: Names::new(alloc),
-        }
+            parking,
+        })
     }
 
     /// Whether the domain has this name.
@@ -67,17 +72,21 @@ impl<A: Allocator> Entry<A> {
 
     /// What has this name.
     pub fn kind_of(&self, name: &Name) -> Option<Kind>
-        ensures { result ≡ option_map kind_of (bearer_at name.now self.now.state.names) }
+        ensures { result ≡ kind_at name.now self.now.state }
     {
+        if self.parking.has(name) {
+            return Some(Kind::Parked);
+        }
         match self.names.get(name)? {
             Token::Look(_) => Some(Kind::Look),
-            Token::Section(_) => Some(Kind::Section),
+            Token::Reading(_) => Some(Kind::Reading),
+            Token::Held(_) => Some(Kind::Held),
         }
     }
 
     /// Does what a line asks of the domain. What it relies on is said of a scene with this domain alone. Where memory is
     /// refused, nothing is done.
-    pub fn act(&mut self, act: Act) -> Result<Reply, AllocError>
+    pub fn act(&mut self, rt: &impl Wait, act: Act) -> Result<Reply, AllocError>
         requires { Fits (scene_of (self.old.state ∷ [])) 0 act }
         ensures limits { self.new.limits ≡ self.old.limits }
         ensures name { self.new.state.name ≡ self.old.state.name }
@@ -85,21 +94,26 @@ impl<A: Allocator> Entry<A> {
         ensures err { OnErr result (self.new ≡ self.old) }
     {
         match act {
-            Act::State => Ok(self.show()),
-            Act::Look { processor, look } => self.look(processor, look),
-            Act::Enter { processor, look } => self.enter(processor, look),
-            Act::Lock { processor, section } => self.lock(processor, section),
-            Act::Unlock { section } => Ok(self.unlock(section)),
-            Act::Get { processor } => Ok(Reply::Cookie(self.domain.cookie(processor))),
-            Act::Poll { processor, cookie } => Ok(self.poll(processor, cookie)),
-            Act::Start { .. } => Ok(self.start()),
-            Act::Advance { .. } => Ok(Reply::Progress(self.domain.advance())),
-            Act::Step { .. } => Ok(Reply::Progress(self.domain.step())),
+            Act::State => Ok(self.show(rt)),
+            Act::Look { processor, look } => self.look(rt, processor, look),
+            Act::Enter { processor, look } => self.enter(rt, processor, look),
+            Act::Lock { processor, section } => self.lock(rt, processor, section),
+            Act::Unlock { section } => Ok(self.unlock(rt, section)),
+            Act::Down { processor, section } => self.down(rt, processor, section),
+            Act::Up { processor, section } => Ok(self.up(rt, processor, section)),
+            Act::Park { section } => Ok(self.park(section)),
+            Act::Unpark => self.unpark(),
+            Act::Get { processor } => Ok(Reply::Cookie(self.domain.cookie(rt, processor))),
+            Act::Ask { processor } => Ok(Reply::Cookie(self.domain.ask(rt, processor))),
+            Act::Poll { processor, cookie } => Ok(self.poll(rt, processor, cookie)),
+            Act::Start { .. } => Ok(self.start(rt)),
+            Act::Advance { .. } => Ok(self.advance(rt)),
+            Act::Step { .. } => Ok(self.step(rt)),
         }
     }
 
     /// Reads the index word on a processor, and gives the look the name.
-    fn look(&mut self, processor: u64, name: Name) -> Result<Reply, AllocError>
+    fn look(&mut self, rt: &impl Wait, processor: u64, name: Name) -> Result<Reply, AllocError>
         requires { Fits (scene_of (self.old.state ∷ [])) 0 (Act.Look processor name) }
         ensures limits { self.new.limits ≡ self.old.limits }
         ensures name { self.new.state.name ≡ self.old.state.name }
@@ -107,7 +121,7 @@ impl<A: Allocator> Entry<A> {
         ensures err { OnErr result (self.new ≡ self.old) }
     {
         self.names.reserve()?;
-        let look = self.domain.look(processor);
+        let look = self.domain.look(rt, processor);
         let index = look.index();
         self.names.insert(name, Token::Look(look));
         Ok(Reply::Look(index))
@@ -116,7 +130,7 @@ impl<A: Allocator> Entry<A> {
     /// Uses up the look of this name, and begins a section of its index on a processor, which gets the name. Where it
     /// is refused, the name is free. The look's own place would do for the section, but the map doesn't say so: hence
     /// the room.
-    fn enter(&mut self, processor: u64, name: Name) -> Result<Reply, AllocError>
+    fn enter(&mut self, rt: &impl Wait, processor: u64, name: Name) -> Result<Reply, AllocError>
         requires { Fits (scene_of (self.old.state ∷ [])) 0 (Act.Enter processor name) }
         ensures limits { self.new.limits ≡ self.old.limits }
         ensures name { self.new.state.name ≡ self.old.state.name }
@@ -126,13 +140,14 @@ impl<A: Allocator> Entry<A> {
         self.names.reserve()?;
         let look = match self.names.remove(&name) {
             Some(Token::Look(look)) => look,
-            Some(Token::Section(_reading)) => unreachable!(),
+            Some(Token::Reading(_reading)) => unreachable!(),
+            Some(Token::Held(_held)) => unreachable!(),
             None => unreachable!(),
         };
-        match self.domain.enter(processor, look) {
+        match self.domain.enter(rt, processor, look) {
             Ok(reading) => {
                 let index = reading.index();
-                self.names.insert(name, Token::Section(reading));
+                self.names.insert(name, Token::Reading(reading));
                 Ok(Reply::Index(index))
             }
             Err(Exhausted) => Ok(Reply::Refused(Command::Enter, Cause::Exhausted)),
@@ -141,7 +156,7 @@ impl<A: Allocator> Entry<A> {
 
     /// Begins a section on a processor, and gives it the name; refused, with nothing done, where the processor has
     /// begun as many of its index as it may.
-    fn lock(&mut self, processor: u64, name: Name) -> Result<Reply, AllocError>
+    fn lock(&mut self, rt: &impl Wait, processor: u64, name: Name) -> Result<Reply, AllocError>
         requires { Fits (scene_of (self.old.state ∷ [])) 0 (Act.Lock processor name) }
         ensures limits { self.new.limits ≡ self.old.limits }
         ensures name { self.new.state.name ≡ self.old.state.name }
@@ -149,10 +164,10 @@ impl<A: Allocator> Entry<A> {
         ensures err { OnErr result (self.new ≡ self.old) }
     {
         self.names.reserve()?;
-        match self.domain.read_lock(processor) {
+        match self.domain.read_lock(rt, processor) {
             Ok(reading) => {
                 let index = reading.index();
-                self.names.insert(name, Token::Section(reading));
+                self.names.insert(name, Token::Reading(reading));
                 Ok(Reply::Index(index))
             }
             Err(Exhausted) => Ok(Reply::Refused(Command::Lock, Cause::Exhausted)),
@@ -160,28 +175,100 @@ impl<A: Allocator> Entry<A> {
     }
 
     /// Ends the section of this name, which is then free.
-    fn unlock(&mut self, name: Name) -> Reply
+    fn unlock(&mut self, rt: &impl Wait, name: Name) -> Reply
         requires { Fits (scene_of (self.old.state ∷ [])) 0 (Act.Unlock name) }
         ensures limits { self.new.limits ≡ self.old.limits }
         ensures name { self.new.state.name ≡ self.old.state.name }
         ensures does { Does self.old.limits (Act.Unlock name) self.old.state result self.new.state }
     {
         match self.names.remove(&name) {
-            Some(Token::Section(reading)) => self.domain.read_unlock(reading),
+            Some(Token::Reading(reading)) => self.domain.read_unlock(rt, reading),
             Some(Token::Look(_look)) => unreachable!(),
+            Some(Token::Held(_held)) => unreachable!(),
             None => unreachable!(),
         }
         Reply::Closed
     }
 
+    /// Begins a section on a processor that any processor may end, and gives it the name; refused, with nothing done,
+    /// where the processor has begun as many of its index as it may.
+    fn down(&mut self, rt: &impl Wait, processor: u64, name: Name) -> Result<Reply, AllocError>
+        requires { Fits (scene_of (self.old.state ∷ [])) 0 (Act.Down processor name) }
+        ensures limits { self.new.limits ≡ self.old.limits }
+        ensures name { self.new.state.name ≡ self.old.state.name }
+        ensures does { IfOk result (λ r. Does self.old.limits (Act.Down processor name) self.old.state r self.new.state) }
+        ensures err { OnErr result (self.new ≡ self.old) }
+    {
+        self.names.reserve()?;
+        match self.domain.down_read(rt, processor) {
+            Ok(held) => {
+                let index = held.index();
+                self.names.insert(name, Token::Held(held));
+                Ok(Reply::Index(index))
+            }
+            Err(Exhausted) => Ok(Reply::Refused(Command::Down, Cause::Exhausted)),
+        }
+    }
+
+    /// Ends the held section of this name on a processor. The name is then free.
+    fn up(&mut self, rt: &impl Wait, processor: u64, name: Name) -> Reply
+        requires { Fits (scene_of (self.old.state ∷ [])) 0 (Act.Up processor name) }
+        ensures limits { self.new.limits ≡ self.old.limits }
+        ensures name { self.new.state.name ≡ self.old.state.name }
+        ensures does { Does self.old.limits (Act.Up processor name) self.old.state result self.new.state }
+    {
+        match self.names.remove(&name) {
+            Some(Token::Held(held)) => self.domain.up_read(rt, processor, held),
+            Some(Token::Look(_look)) => unreachable!(),
+            Some(Token::Reading(_reading)) => unreachable!(),
+            None => unreachable!(),
+        }
+        Reply::Closed
+    }
+
+    /// Puts the held section of this name on the desk; refused, with nothing done, where another one lies there.
+    fn park(&mut self, name: Name) -> Reply
+        requires { Fits (scene_of (self.old.state ∷ [])) 0 (Act.Park name) }
+        ensures limits { self.new.limits ≡ self.old.limits }
+        ensures name { self.new.state.name ≡ self.old.state.name }
+        ensures does { Does self.old.limits (Act.Park name) self.old.state result self.new.state }
+    {
+        if !self.parking.is_empty() {
+            return Reply::Refused(Command::Park, Cause::Full);
+        }
+        match self.names.remove(&name) {
+            Some(Token::Held(held)) => self.parking.park(name, held),
+            Some(Token::Look(_look)) => unreachable!(),
+            Some(Token::Reading(_reading)) => unreachable!(),
+            None => unreachable!(),
+        }
+        Reply::Parked
+    }
+
+    /// Takes the section that lies on the desk back under its name; refused, with nothing done, where none does.
+    fn unpark(&mut self) -> Result<Reply, AllocError>
+        ensures limits { self.new.limits ≡ self.old.limits }
+        ensures name { self.new.state.name ≡ self.old.state.name }
+        ensures does { IfOk result (λ r. Does self.old.limits Act.Unpark self.old.state r self.new.state) }
+        ensures err { OnErr result (self.new ≡ self.old) }
+    {
+        self.names.reserve()?;
+        let Some(parked) = self.parking.unpark() else {
+            return Ok(Reply::Refused(Command::Unpark, Cause::Empty));
+        };
+        let (name, held) = parked;
+        self.names.insert(name, Token::Held(held));
+        Ok(Reply::Took(name))
+    }
+
     /// Whether a cookie is done, as a processor finds it; refused where no cookie has this number.
-    fn poll(&mut self, processor: u64, cookie: u64) -> Reply
+    fn poll(&mut self, rt: &impl Wait, processor: u64, cookie: u64) -> Reply
         requires { processor < self.old.state.standing.processors }
         ensures limits { self.new.limits ≡ self.old.limits }
         ensures name { self.new.state.name ≡ self.old.state.name }
         ensures does { Does self.old.limits (Act.Poll processor cookie) self.old.state result self.new.state }
     {
-        match self.domain.poll(processor, cookie) {
+        match self.domain.poll(rt, processor, cookie) {
             Ok(true) => Reply::Done,
             Ok(false) => Reply::NotYet,
             Err(NotACookie) => Reply::Refused(Command::Poll, Cause::NotACookie),
@@ -189,34 +276,60 @@ impl<A: Allocator> Entry<A> {
     }
 
     /// Starts a grace period; refused where one runs, or as many have ended as may.
-    fn start(&mut self) -> Reply
+    fn start(&mut self, rt: &impl Wait) -> Reply
         ensures limits { self.new.limits ≡ self.old.limits }
         ensures name { self.new.state.name ≡ self.old.state.name }
         ensures does { Does self.old.limits (Act.Start 0) self.old.state result self.new.state }
     {
-        match self.domain.start() {
+        match self.domain.start(rt) {
             Ok(number) => Reply::Progress(Progress::Started(number)),
             Err(StartRefusal::Running) => Reply::Refused(Command::Start, Cause::Running),
             Err(StartRefusal::Exhausted) => Reply::Refused(Command::Start, Cause::Exhausted),
         }
     }
 
+    /// Lets the engine work until it has an answer; refused where a grace period is asked for and as many have ended as may.
+    fn advance(&mut self, rt: &impl Wait) -> Reply
+        ensures limits { self.new.limits ≡ self.old.limits }
+        ensures name { self.new.state.name ≡ self.old.state.name }
+        ensures does { Does self.old.limits (Act.Advance 0) self.old.state result self.new.state }
+    {
+        match self.domain.advance(rt) {
+            Ok(said) => Reply::Progress(said),
+            Err(NoMorePeriods) => Reply::Refused(Command::Advance, Cause::Exhausted),
+        }
+    }
+
+    /// Lets the engine make one step; refused as `advance` is.
+    fn step(&mut self, rt: &impl Wait) -> Reply
+        ensures limits { self.new.limits ≡ self.old.limits }
+        ensures name { self.new.state.name ≡ self.old.state.name }
+        ensures does { Does self.old.limits (Act.Step 0) self.old.state result self.new.state }
+    {
+        match self.domain.step(rt) {
+            Ok(said) => Reply::Progress(said),
+            Err(NoMorePeriods) => Reply::Refused(Command::Step, Cause::Exhausted),
+        }
+    }
+
     /// Where the domain stands, as processor 0 finds it.
-    fn show(&mut self) -> Reply
+    fn show(&mut self, rt: &impl Wait) -> Reply
         ensures limits { self.new.limits ≡ self.old.limits }
         ensures name { self.new.state.name ≡ self.old.state.name }
         ensures does { Does self.old.limits Act.State self.old.state result self.new.state }
     {
-        let number = self.domain.number();
+        let number = self.domain.number(rt);
         let period = Period {
             number,
             phase: state(number),
         };
+        let mut open = self.names.open();
+        open.raise(self.parking.open_index());
         let sections = Sections {
-            index: self.domain.index(),
-            zero: self.names.open(Index::Zero),
-            one: self.names.open(Index::One),
-            need: 0,
+            index: self.domain.index(rt),
+            zero: open.zero,
+            one: open.one,
+            need: self.domain.need(rt),
         };
         Reply::State {
             domain: self.name,
@@ -226,17 +339,26 @@ impl<A: Allocator> Entry<A> {
     }
 
     /// Ends all open sections, and drops the looks and the domain.
-    pub fn finish(self) {
+    pub fn finish(self, rt: &impl Wait) {
         let Entry {
             name: _,
             mut domain,
             names,
+            parking,
         } = self;
+        if let Some(held) = parking.close() {
+            let processor = u64::from(held.processor());
+            domain.up_read(rt, processor, held);
+        }
         let mut tokens = names.into_tokens();
         while let Some(token) = take_last(&mut tokens) {
             match token {
                 Token::Look(_look) => {}
-                Token::Section(reading) => domain.read_unlock(reading),
+                Token::Reading(reading) => domain.read_unlock(rt, reading),
+                Token::Held(held) => {
+                    let processor = u64::from(held.processor());
+                    domain.up_read(rt, processor, held);
+                }
             }
         }
         tokens.destroy_empty();

@@ -4,6 +4,7 @@
 mod entry;
 mod names;
 mod open;
+mod parking;
 mod scene;
 mod session;
 #[cfg(test)]

@@ -1,21 +1,24 @@
 //! The names in use in a domain, and what has each of them.
-ghost use Rattle.std.specs.Prelude.{◌≡◌, ℕ, ◌<◌, ◌++◌, List, [], ◌∷◌, None, length, IfSome, IfNone, OnOk, IsPermutation};
+ghost use Rattle.std.specs.Prelude.{◌≡◌, ℕ, ◌<◌, ◌^◌, ◌++◌, List, [], ◌∷◌, None, length, IfSome, IfNone, OnOk, IsPermutation};
 ghost use Rattle.std.specs.Option.{option_copied};
+ghost use Rattle.sseq.specs.declared.index.Index.{Index};
+ghost use Rattle.session.specs.OpenSections.{count_of};
 ghost use Rattle.session.specs.Tokens.{token_at, open_index, held_of, Frees};
 
 use crate::open::Open;
 use indexmap::IndexMap;
 use lines::Name;
-use sections::{Look, Reading};
+use sections::{Held, Look, Reading};
 use sseq::Index;
 use std::alloc::{AllocError, Allocator};
 use std::hash::{BuildHasherDefault, FoldHasher};
 use std::marker::Model;
 
-/// What has a name: a look, or an open section.
+/// What has a name: a look, or an open section, which its own processor ends or any may end.
 pub enum Token {
     Look(Look),
-    Section(Reading),
+    Reading(Reading),
+    Held(Held),
 }
 
 /// Tokens under names. To find, to add and to take out one costs the same however many there are.
@@ -33,7 +36,7 @@ impl<A: Allocator> Model for Names<A> {
 
     ghost Value = { NamesView };
 
-    ghost use Rattle.session.specs.Held.{view_of_names, AreNames};
+    ghost use Rattle.session.specs.Insides.{view_of_names, AreNames};
 
     ghost view = { view_of_names };
 
@@ -60,11 +63,14 @@ impl<A: Allocator> Names<A> {
         self.tokens.get(name)
     }
 
-    /// How many open sections of an index have names.
-    pub fn open(&self, index: Index) -> usize
-        ensures { result ≡ held_of index self.now.tokens }
+    /// How many of the tokens are open sections of each index.
+    pub fn open(&self) -> Open
+        ensures counted { (i : Index) → count_of i result ≡ held_of i self.now.tokens }
+        ensures small { (i : Index) → count_of i result < 2 ^ 63 }
     {
-        self.open.of(index)
+        // It says that there are less than 2 ^ 63 names.
+        let _len = self.tokens.len();
+        self.open
     }
 
     /// Makes room for one more name.
@@ -130,7 +136,8 @@ impl Token {
     {
         match self {
             Token::Look(_) => None,
-            Token::Section(reading) => Some(reading.index()),
+            Token::Reading(reading) => Some(reading.index()),
+            Token::Held(held) => Some(held.index()),
         }
     }
 }

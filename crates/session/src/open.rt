@@ -15,16 +15,6 @@ pub struct Open {
 impl Open {
     pub const NONE: Open = Open { zero: 0, one: 0 };
 
-    /// How many sections of the index are open.
-    pub fn of(self, index: Index) -> usize
-        ensures { result ≡ count_of index self }
-    {
-        match index {
-            Index::Zero => self.zero,
-            Index::One => self.one,
-        }
-    }
-
     /// Counts a section more of the index; `None` counts none.
     pub fn raise(&mut self, index: Option<Index>)
         requires { (i : Index) → count_of i self.old < 2 ^ 63 }

@@ -3,8 +3,9 @@ use crate::session::Session;
 use lines::Name;
 use requests::{Kind, Scene};
 use std::alloc::Allocator;
+use std::sync::Wait;
 
-impl<A: Allocator> Scene for Session<A> {
+impl<A: Allocator, R: Wait> Scene for Session<'_, A, R> {
     ghost use Rattle.session.specs.States.{scene_of};
 
     ghost scene = { λ s. scene_of s.domains };

@@ -13,15 +13,18 @@ use sections::{Limits, MakeError};
 use solo::Solo;
 use std::alloc::{AllocError, Allocator};
 use std::marker::Model;
+use std::sync::Wait;
 
 /// The domains of a script. Open sections must be ended: spend it by [`Session::finish`].
-pub struct Session<A: Allocator> {
+pub struct Session<'r, A: Allocator, R: Wait> {
     alloc: A,
+    /// With what the domains' calls wait.
+    rt: &'r R,
     limits: Limits,
     pub(crate) entries: Vec<Entry<A>, A>,
 }
 
-impl<A: Allocator> Model for Session<A> {
+impl<'r, A: Allocator, R: Wait> Model for Session<'r, A, R> {
     ghost use Rattle.session.specs.States.{SessionView};
 
     ghost Value = { SessionView };
@@ -36,14 +39,15 @@ impl<A: Allocator> Model for Session<A> {
 /// How many domains a script may have.
 const MOST_DOMAINS: usize = 8;
 
-impl<A: Allocator + Copy> Session<A> {
+impl<'r, A: Allocator + Copy, R: Wait> Session<'r, A, R> {
     /// A session without domains. Each domain that it makes has these limits.
-    pub fn new(alloc: A, limits: Limits) -> Session<A>
+    pub fn new(alloc: A, rt: &'r R, limits: Limits) -> Session<'r, A, R>
         requires { AreInRange limits }
         ensures { result ≡ record { limits = limits; domains = [] } }
     {
         Session {
             alloc,
+            rt,
             limits,
             entries: Vec::new(alloc),
         }
@@ -57,7 +61,7 @@ impl<A: Allocator + Copy> Session<A> {
     {
         match request {
             Request::Domain { name, processors } => self.make(name, processors),
-            Request::On { domain, act } => self.entries[domain].act(act),
+            Request::On { domain, act } => self.entries[domain].act(self.rt, act),
         }
     }
 
@@ -72,8 +76,8 @@ impl<A: Allocator + Copy> Session<A> {
             return Ok(Reply::Refused(Command::Domain, Cause::Full));
         }
         self.entries.reserve(1)?;
-        let entry = match Solo::new(self.alloc, processors, self.limits) {
-            Ok(domain) => Entry::new(self.alloc, name, domain),
+        let domain = match Solo::new(self.alloc, processors, self.limits) {
+            Ok(domain) => domain,
             Err(MakeError::Processors) => {
                 return Ok(Reply::Refused(Command::Domain, Cause::Processors));
             }
@@ -82,6 +86,7 @@ impl<A: Allocator + Copy> Session<A> {
             }
             Err(MakeError::Limits) => unreachable!(),
         };
+        let entry = Entry::new(self.alloc, name, domain)?;
         self.entries.push(entry).unwrap();
         Ok(Reply::Made {
             domain: name,
@@ -93,17 +98,18 @@ impl<A: Allocator + Copy> Session<A> {
     pub fn finish(self) {
         let Session {
             alloc: _,
+            rt,
             limits: _,
             mut entries,
         } = self;
         while let Some(entry) = entries.pop() {
-            entry.finish();
+            entry.finish(rt);
         }
         entries.destroy_empty();
     }
 }
 
-impl<A: Allocator + Copy> Answers<A> for Session<A> {
+impl<A: Allocator + Copy, R: Wait> Answers<A> for Session<'_, A, R> {
     ghost use Rattle.std.specs.Prelude.{◌≡◌};
     ghost use Rattle.session.specs.Scripts.{LineGives};
 

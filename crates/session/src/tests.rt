@@ -3,23 +3,31 @@ ghost use Rattle.sections.specs.Limits.{AreInRange};
 use crate::session::Session;
 use lines::Answers;
 use sections::Limits;
-use std::alloc::{AllocError, Allocator, Global};
+use std::alloc::{AllocError, Global};
 use std::process::Abort;
+use std::sync::Wait;
 use std::test::Fail;
 
+mod holding;
+mod needs;
+
 /// The replies to these lines, one after another. A line of `None` is no text.
-fn replies(alloc: Global, limits: Limits, lines: &[Option<&str>]) -> Result<String, AllocError>
+fn replies<R: Wait + AllocGlobal>(
+    rt: &R,
+    limits: Limits,
+    lines: &[Option<&str>],
+) -> Result<String, AllocError>
     requires { AreInRange limits }
 {
-    let mut session = Session::new(alloc, limits);
-    let given = answer_all(alloc, &mut session, lines);
+    let mut session = Session::new(rt.alloc(), rt, limits);
+    let given = answer_all(rt.alloc(), &mut session, lines);
     session.finish();
     given
 }
 
-fn answer_all(
+fn answer_all<R: Wait>(
     alloc: Global,
-    session: &mut Session<Global>,
+    session: &mut Session<Global, R>,
     lines: &[Option<&str>],
 ) -> Result<String, AllocError> {
     let mut given = String::new(alloc);
@@ -36,7 +44,7 @@ fn answer_all(
 
 /// Lines with their replies, of which none has its line feed. A fault stands as its word behind `!`.
 fn check(
-    rt: &(impl Abort + AllocGlobal),
+    rt: &(impl Abort + Wait + AllocGlobal),
     limits: Limits,
     table: &[(&str, &str)],
 ) -> Result<(), Fail>
@@ -54,7 +62,7 @@ fn check(
             None => write!(wanted, "{reply}\n")?,
         }
     }
-    let given = replies(rt.alloc(), limits, &lines)?;
+    let given = replies(rt, limits, &lines)?;
     assert_eq!(rt; given.as_str(), wanted.as_str());
     Ok(())
 }
@@ -203,7 +211,7 @@ fn refuses(rt: HostRuntime) -> Result<(), Fail> {
         },
         &[
             ("domain a 0", "refused domain processors"),
-            ("domain a 3", "refused domain processors"),
+            ("domain a 65", "refused domain processors"),
             ("domain a 18446744073709551615", "refused domain processors"),
             ("domain a 2", "made a 2"),
             ("lock a 1 s", "index 0"),
@@ -322,7 +330,7 @@ fn refuses_to_enter(rt: HostRuntime) -> Result<(), Fail> {
 #[test]
 fn text_comes_first(rt: HostRuntime) -> Result<(), Fail> {
     let lines = [None, Some("domain a 1"), None, Some("# no reply"), None];
-    let given = replies(rt.alloc(), AMPLE, &lines)?;
+    let given = replies(&rt, AMPLE, &lines)?;
     assert_eq!(rt;
         given.as_str(),
         "line 1: text\nmade a 1\nline 3: text\nline 5: text\n"

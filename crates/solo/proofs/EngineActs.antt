@@ -1,30 +1,48 @@
--- What the calls of the engine do to the domain in one hand: nobody comes between its steps, and nothing is asked for.
-use Rattle.std.proofs.Common.{◌≡◌, ℕ, ◌+◌, inl, inr, map, List, [], ◌∷◌, ◌++◌, length, refl, sym, ap, ◌∙◌, subst, append-nil, append_assoc, length-append, arith}
-use Rattle.std.specs.Prelude.{Result, Ok, MatchResult}
+-- What the calls of the engine do to the domain in one hand: nobody comes between its steps.
+use Rattle.std.proofs.Common.{◌≡◌, ℕ, zero, suc, ◌+◌, ◌<◌, inl, inr, map, List, [], ◌∷◌, ◌++◌, length, get_or, set, refl, sym, ap, ◌∙◌, subst, append-nil, append_assoc, length-append, length-set, get_or-set_other, get_or-set_same, true≢false, arith}
+use Rattle.std.specs.Prelude.{◌%◌, ◌⊎◌, Result, Ok, Err, IsErr, MatchResult}
+use Rattle.std.proofs.lemmas.List.{get_or_default}
 use mathlib.Core.Logic.{dite}
 use native.Mathlib.Decide.{ℕ_discrete, dec_lt}
 use Rattle.onedom.specs.declared.event.Maker.TheVariants.{Processor, Engine}
 use Rattle.onedom.specs.declared.event.Event.{Event}
 use Rattle.onedom.specs.declared.event.Event.TheVariants.{Start}
-use Rattle.onedom.specs.Histories.{made_by, starts_in, ended_in}
+use Rattle.onedom.specs.Histories.{IsBeginning, IsRunning, IsLegal, made_by, starts_in, ended_in}
 use Rattle.sections.specs.declared.limits.Limits.{Limits}
-use Rattle.sections.specs.Views.{CpuView}
-use Rattle.sections.specs.EngineCalls.{IsSameEngine}
+use Rattle.sections.specs.Views.{CpuView, CookieView, EngineView}
+use Rattle.sections.specs.Calls.{IsSameCpu}
+use Rattle.sections.specs.EngineCalls.{IsSameEngine, TiesEngine, noted}
 use Rattle.sections.specs.Making.{IsCount}
+use Rattle.sections.proofs.CallerLemmas.{last_may_follow}
+use Rattle.funnel.specs.declared.view.Raise.{Raise}
+use Rattle.funnel.specs.Histories.{IsBeginning as IsBeginningAtTree, value, greatest}
+use Rattle.funnel.specs.Views.{FunnelView}
+use Rattle.funnel.specs.Calls.{LoadsRoot, IsSameSeat}
 use Rattle.scan.specs.declared.progress.Progress.{Progress}
 use Rattle.scan.specs.declared.progress.Progress.TheVariants as answer
+use Rattle.scan.specs.declared.progress.Exhausted.{Exhausted}
+use Rattle.scan.specs.declared.progress.StartRefusal as scan
+use Rattle.scan.specs.declared.progress.StartRefusal.TheVariants as refusal_of
 use Rattle.scan.specs.Standings as engine
-use Rattle.scan.specs.Standings.{Standing, events_of, StepsThrough}
-use Rattle.scan.specs.Progress.{standing_of, GetsOn, NeedsLoaded, StepsTo, AdvancesTo, StartsTo}
-use Rattle.solo.specs.declared.needs.NoNeeds.{NoNeeds}
-use Rattle.solo.specs.Calls.{IsSame, Starts, Steps, Advances}
-use Rattle.solo.specs.Settling.{View, AllHold, AreTogether, IsSettled, Settles}
-use Rattle.solo.specs.Insides.{seen_as}
+use Rattle.scan.specs.Standings.{Standing, number_at_rest, events_of, Says as SaysOf, StepsThrough}
+use Rattle.scan.specs.Progress.{standing_of, with_seat, GetsOn, NeedsLoaded, StepsTo, AdvancesTo, FindsExhausted, StartsTo, IsNoStart}
+use Rattle.domain.specs.declared.refusals.AdvanceRefusal.{AdvanceRefusal}
+use Rattle.domain.specs.declared.refusals.AdvanceRefusal.TheVariants as advance
+use Rattle.domain.specs.declared.refusals.StartRefusal.{StartRefusal}
+use Rattle.domain.specs.declared.refusals.StartRefusal.TheVariants as start
+use Rattle.domain.specs.Views.{DomainView, CpuView as DomainCpu, IsOf, with_needs}
+use Rattle.domain.specs.Turns.{TakesTurn, Lends, StepsIn, AdvancesIn, FindsExhaustedIn, IsRefused, StartsIn, StartsNone as StartsNoneIn, IsNotStarted}
+use Rattle.solo.specs.Refusals.{IsNotBusy, NoneIsBusy, IsToldAs, IsStartedAs}
+use Rattle.domain.specs.Waiting.{LoadsNeed, StartsPoll}
+use Rattle.domain.specs.Meetings.{IsAllOf, EngineMeets, MeetsHere}
+use Rattle.solo.specs.Calls.{SoloView, IsSame, Starts, StartsNone, Steps, Advances, IsAskedTooMuch}
+use Rattle.solo.specs.Settling.{View, Holds, AllHold, AskTogether, TurnTogether, IsWanted, HaveMet}
+use Rattle.solo.specs.Insides.{seen_as, seen_first}
 use Rattle.solo.proofs.NothingBetween.{made_by_append}
-
--- nothing is ever found to be asked for
-abbrev pub FindsNothing : NoNeeds → ℕ → NoNeeds → Type 0
-FindsNothing needs found needs' = found ≡ 0
+use Rattle.solo.proofs.Needing.{GoesOn, stays, goes_further, squeezed, raised_here}
+use Rattle.solo.proofs.Settled.{HaveAsked, IsSettled, settled, all_raised, asked_together}
+use Rattle.solo.proofs.Turning.{turn_found, meeting_found, turn_turned}
+use Rattle.solo.proofs.Hand.{IsStill, first_seen, is_seen}
 
 -- the engine made these events of its own
 pub record MakesOwn (act : List Event) (v w : View) : Type 0 where
@@ -55,29 +73,85 @@ own_answer v w a g = record { same = g.same; mine = g.events; engines = all_the_
 own_start : (v w : View) (n : ℕ) → StartsTo v n w → MakesOwn (Start Engine ∷ []) v w
 own_start v w n s = record { same = s.event.same; mine = s.event.mine; engines = refl; no_processors = λ k. refl }
 
--- Nothing is asked for
+own_none : (v w : View) → w.seat ≡ v.seat → MakesOwn [] v w
+own_none v w same = record {
+  same = (ap (λ e. e.domain) same, ap (λ e. e.processors) same, ap (λ e. e.periods) same);
+  mine = ap (λ e. e.mine) same ∙ sym (append-nil v.seat.mine);
+  engines = refl;
+  no_processors = λ k. refl;
+}
 
-module _ (v w : View) (none : v.need ≡ 0) where
-  finds_none : (n : NeedsLoaded FindsNothing v w) → n.need ≡ 0
-  finds_none n = dite (dec_lt (ended_in v.seat.seen) (starts_in v.seat.seen))
-      (λ running. (n.busy (inl running)).2 ∙ none)
-      (λ resting. dite (ℕ_discrete v.so_far 0) (λ nothing. (n.at_rest resting nothing).1) (λ some. (n.busy (inr (omega (arith, some)))).2 ∙ none))
+-- The need
 
-  none_after : (a : Progress) → StepsTo FindsNothing v a w → w.need ≡ 0
-  none_after a s = dite (ℕ_discrete w.so_far 0) (λ nothing. s.no_need nothing) (λ some. s.need (omega (arith, some)) ∙ finds_none s.needs)
+-- the engine knows these raises; and where a period is wanted, it is asked for there
+pub record Knows (raises : List Raise) (v : View) : Type 0 where
+  pub seen : v.needs.seen ≡ raises
+  pub wanted : ¬ IsRunning v.seat.seen → 0 < v.so_far → IsWanted (greatest raises) v
+
+pub load_goes_on : (e f : FunnelView) (found : ℕ) → LoadsRoot e found f → GoesOn [] e f
+load_goes_on e f found h = record { same = h.same; since = h.since; mine = h.mine ∙ sym (append-nil e.mine) }
+
+pub loaded_goes_on : (v w : View) → NeedsLoaded LoadsRoot v w → GoesOn [] v.needs w.needs
+loaded_goes_on v w n =
+    let kept : (IsRunning v.seat.seen ⊎ (0 < v.so_far)) → GoesOn [] v.needs w.needs = λ busy. stays v.needs w.needs (n.busy busy).1 in
+    dite (dec_lt (ended_in v.seat.seen) (starts_in v.seat.seen))
+    (λ running. kept (inl running))
+    (λ resting. dite (ℕ_discrete v.so_far 0) (λ nothing. load_goes_on v.needs w.needs n.need (n.at_rest resting nothing).1) (λ some. kept (inr (omega (arith, some)))))
+
+module _ (raises : List Raise) (root : value 0 raises ≡ greatest raises) (v w : View) (knows : Knows raises v) (still : w.needs.seen ≡ raises) where
+  pub finds_asked : (found : ℕ) → LoadsRoot v.needs found w.needs → found ≡ greatest raises
+  finds_asked found h = h.current ∙ (ap (value 0) still ∙ root)
+
+  -- at rest the need is what was asked for, found now or before
+  need_is_asked : (n : NeedsLoaded LoadsRoot v w) → ¬ IsRunning v.seat.seen → n.need ≡ greatest raises
+  need_is_asked n resting = dite (ℕ_discrete v.so_far 0)
+      (λ nothing. finds_asked n.need (n.at_rest resting nothing).1)
+      (λ some. let half : 0 < v.so_far = omega (arith, some) in (n.busy (inr half)).2 ∙ (knows.wanted resting half).need)
+
+  pub wanted_after : (a : Progress) → StepsTo LoadsRoot v a w → ¬ IsRunning w.seat.seen → 0 < w.so_far → IsWanted (greatest raises) w
+  wanted_after a s resting some =
+      let before : ¬ IsRunning v.seat.seen = λ running. resting (s.step.scan running some).0 in
+      let need = s.need some in
+      let above = (s.step.wanted before some).0 in record {
+        need = need ∙ need_is_asked s.needs before;
+        above = omega (arith, need, above);
+      }
+
+exhausted_goes_on : (v w : View) → FindsExhausted LoadsRoot v w → GoesOn [] v.needs w.needs
+exhausted_goes_on v w x = load_goes_on v.needs w.needs x.need x.load
 
 -- Nobody comes between
 
--- a step that nobody comes before, and that finds nothing, up to what is as it was behind it
-step_alone : (others : List Event) (need : ℕ) (a : Progress) (s s' s'' : Standing) → others ≡ [] → need ≡ 0 → s'' ≡ s' → engine.Steps others need a s s' → engine.Steps [] 0 a s s''
-step_alone others need a s s' s'' nobody nothing same steps = subst (λ (x : Standing). engine.Steps [] 0 a s x) (sym same) (subst (λ n. engine.Steps [] n a s s') nothing (subst (λ l. engine.Steps l need a s s') nobody steps))
+-- in a period no answer speaks of the need
+said_running : (m n : ℕ) (a : Progress) (s s' : Standing) → IsRunning s.history → engine.Steps [] m a s s' → SaysOf a n s s'
+said_running m n answer.Idle s s' running h = absurd (h.answered.says.0 (subst IsRunning (sym (h.answered.events ∙ append-nil s.history)) running))
+said_running m n (answer.Started k) s s' running h = absurd (last_may_follow s.history (Start Engine) (subst IsLegal h.answered.events h.answered.legal) running)
+said_running m n (answer.Flipped i) s s' running h = h.answered.says
+said_running m n (answer.Ended k) s s' running h = h.answered.says
+said_running m n (answer.Waiting i) s s' running h = h.answered.says
+said_running m n answer.Step s s' running h = h.answered.says
+
+with_need : (m n : ℕ) (a : Progress) (s s' : Standing) → (¬ IsRunning s.history → m ≡ n) → engine.Steps [] m a s s' → Steps n a s s'
+with_need m n a s s' same h = dite (dec_lt (ended_in s.history) (starts_in s.history))
+    (λ running. record {
+      answered = record { same = h.answered.same; events = h.answered.events; legal = h.answered.legal; agree = h.answered.agree; changes = h.answered.changes; says = said_running m n a s s' running h };
+      counts = h.counts;
+      few = h.few;
+      scan = h.scan;
+      wanted = λ resting some. absurd (resting running);
+    })
+    (λ resting. subst (λ k. engine.Steps [] k a s s') (same resting) h)
+
+-- a step that nobody comes before, up to what is as it was behind it
+step_alone : (others : List Event) (need asked_for : ℕ) (a : Progress) (s s' s'' : Standing) → others ≡ [] → (¬ IsRunning s.history → need ≡ asked_for) → s'' ≡ s' → engine.Steps others need a s s' → Steps asked_for a s s''
+step_alone others need asked_for a s s' s'' nobody same_need same steps = subst (λ (x : Standing). Steps asked_for a s x) (sym same) (with_need need asked_for a s s' same_need (subst (λ l. engine.Steps l need a s s') nobody steps))
 
 none_left : (l r : List Event) → length l + length r ≡ 0 → l ≡ []
 none_left [] r none = refl
 none_left (x ∷ l) r none = absurd (omega (arith, none))
 
 -- the answer's event came in the end, and others before it came at any time
-through_seen : (us : List View) (v w : View) (a : Progress) → StepsThrough (λ b x y. StepsTo FindsNothing x b y) us a v w → (others : List Event) × (w.seat.seen ≡ v.seat.seen ++ (others ++ events_of a))
+through_seen : (us : List View) (v w : View) (a : Progress) → StepsThrough (λ b x y. StepsTo LoadsRoot x b y) us a v w → (others : List Event) × (w.seat.seen ≡ v.seat.seen ++ (others ++ events_of a))
 through_seen [] v w a s = (s.goes_on.others, s.step.answered.events)
 through_seen (u ∷ us) v w a h =
     let first = h.0 in
@@ -85,141 +159,502 @@ through_seen (u ∷ us) v w a h =
     let o = first.goes_on.others in
     (o ++ later.0, later.1 ∙ (ap (λ l. l ++ (later.0 ++ events_of a)) (first.step.answered.events ∙ ap (λ l. v.seat.seen ++ l) (append-nil o)) ∙ (append_assoc v.seat.seen o (later.0 ++ events_of a) ∙ ap (λ l. v.seat.seen ++ l) (sym (append_assoc o later.0 (events_of a))))))
 
--- where in the end nobody came, nobody came before any of the steps
-through_alone : (us : List View) (v w : View) (a : Progress) (s' : Standing) → StepsThrough (λ b x y. StepsTo FindsNothing x b y) us a v w → v.need ≡ 0 → w.seat.seen ≡ v.seat.seen ++ events_of a → s' ≡ standing_of w → StepsThrough Steps (map standing_of us) a (standing_of v) s'
-through_alone [] v w a s' s none seen same =
-    let o = s.goes_on.others in
-    let long = ap length (sym s.step.answered.events ∙ seen) in
-    let left = length-append v.seat.seen (o ++ events_of a) in
-    let inner = length-append o (events_of a) in
-    let right = length-append v.seat.seen (events_of a) in
-    step_alone o s.needs.need a (standing_of v) (standing_of w) s' (none_left o [] (omega (arith, long, left, inner, right))) (finds_none v w none s.needs) same s.step
-through_alone (u ∷ us) v w a s' h none seen same =
-    let s = h.0 in
-    let later = through_seen us u w a h.1 in
-    let o = s.goes_on.others in
-    let first : u.seat.seen ≡ v.seat.seen ++ o = s.step.answered.events ∙ ap (λ l. v.seat.seen ++ l) (append-nil o) in
-    let long = ap length (sym later.1 ∙ seen) in
-    let left = length-append u.seat.seen (later.0 ++ events_of a) in
-    let inner = length-append later.0 (events_of a) in
-    let right = length-append v.seat.seen (events_of a) in
-    let one = ap length first in
-    let more = length-append v.seat.seen o in
-    let nobody : o ≡ [] = none_left o later.0 (omega (arith, long, left, inner, right, one, more)) in
-    let still : u.seat.seen ≡ v.seat.seen = first ∙ (ap (λ l. v.seat.seen ++ l) nobody ∙ append-nil v.seat.seen) in (
-      step_alone o s.needs.need answer.Step (standing_of v) (standing_of u) (standing_of u) nobody (finds_none v u none s.needs) refl s.step,
-      through_alone us u w a s' h.1 (none_after v u none answer.Step s) (seen ∙ ap (λ l. l ++ events_of a) (sym still)) same,
-    )
+-- the needs may have been loaded at any time
+pub through_needs : (us : List View) (v w : View) (a : Progress) → StepsThrough (λ b x y. StepsTo LoadsRoot x b y) us a v w → GoesOn [] v.needs w.needs
+through_needs [] v w a s = loaded_goes_on v w s.needs
+through_needs (u ∷ us) v w a h = goes_further v.needs u.needs w.needs (loaded_goes_on v u h.0.needs) (through_needs us u w a h.1)
 
--- the engine of the domain had its turn, and then all have met
-pub record Turn : Type 0 where
+module _ (raises : List Raise) (root : value 0 raises ≡ greatest raises) where
+  -- where in the end nobody came, nobody came before any of the steps, and each found just what had been asked for
+  through_alone : (us : List View) (v w : View) (a : Progress) (s' : Standing) → StepsThrough (λ b x y. StepsTo LoadsRoot x b y) us a v w → Knows raises v → w.needs.seen ≡ raises → w.seat.seen ≡ v.seat.seen ++ events_of a → s' ≡ standing_of w → StepsThrough (Steps (greatest raises)) (map standing_of us) a (standing_of v) s'
+  through_alone [] v w a s' s knows still seen same =
+      let o = s.goes_on.others in
+      let long = ap length (sym s.step.answered.events ∙ seen) in
+      let left = length-append v.seat.seen (o ++ events_of a) in
+      let inner = length-append o (events_of a) in
+      let right = length-append v.seat.seen (events_of a) in
+      step_alone o s.needs.need (greatest raises) a (standing_of v) (standing_of w) s' (none_left o [] (omega (arith, long, left, inner, right))) (need_is_asked raises root v w knows still s.needs) same s.step
+  through_alone (u ∷ us) v w a s' h knows still seen same =
+      let s = h.0 in
+      let later = through_seen us u w a h.1 in
+      let o = s.goes_on.others in
+      let first : u.seat.seen ≡ v.seat.seen ++ o = s.step.answered.events ∙ ap (λ l. v.seat.seen ++ l) (append-nil o) in
+      let long = ap length (sym later.1 ∙ seen) in
+      let left = length-append u.seat.seen (later.0 ++ events_of a) in
+      let inner = length-append later.0 (events_of a) in
+      let right = length-append v.seat.seen (events_of a) in
+      let one = ap length first in
+      let more = length-append v.seat.seen o in
+      let nobody : o ≡ [] = none_left o later.0 (omega (arith, long, left, inner, right, one, more)) in
+      let unmoved : u.seat.seen ≡ v.seat.seen = first ∙ (ap (λ l. v.seat.seen ++ l) nobody ∙ append-nil v.seat.seen) in
+      let known : u.needs.seen ≡ v.needs.seen = squeezed v.needs.seen u.needs.seen w.needs.seen (loaded_goes_on v u s.needs).since (through_needs us u w a h.1).since (still ∙ sym knows.seen) in
+      let there : u.needs.seen ≡ raises = known ∙ knows.seen in (
+        step_alone o s.needs.need (greatest raises) answer.Step (standing_of v) (standing_of u) (standing_of u) nobody (need_is_asked raises root v u knows there s.needs) refl s.step,
+        through_alone us u w a s' h.1 (record { seen = there; wanted = wanted_after raises root v u knows there answer.Step s }) still (seen ∙ ap (λ l. l ++ events_of a) (sym unmoved)) same,
+      )
+
+-- the engine of the domain was found and worked with the first processor, was left tied to it, and then all have met
+pub record Turn : Type 1 where
+  pub d : DomainView
   pub limits : Limits
-  pub cpus : List CpuView
+  pub cpus : List DomainCpu
   pub v : View
-  pub w : View
-  pub cpus' : List CpuView
-  pub v' : View
-  pub together : AreTogether limits cpus v.seat
-  pub no_need : v.need ≡ 0
-  pub settles : Settles cpus w cpus' v'
+  pub was : DomainCpu
+  pub now : DomainCpu
+  pub d' : DomainView
+  pub cpus' : List DomainCpu
+  pub met : HaveMet d limits cpus v
+  pub is : was ≡ get_or cpus 0 was
+  pub all : IsAllOf d' cpus'
+  pub meets : MeetsHere (set cpus 0 now) cpus'
+  pub work : View → View → Type 0
+  pub lends : Lends work was now
+  pub loaded : GoesOn [] was.needs lends.worked.needs
 
 module _ (t : Turn) where
-  module _ (act others : List Event) (own : MakesOwn act t.v t.w) (seen : t.w.seat.seen ≡ t.v.seat.seen ++ (others ++ act)) where
-    hold : AllHold t.limits (t.v.seat.seen ++ act) t.cpus t.w.seat
+  abbrev nobody : DomainCpu
+  nobody = t.was
+
+  -- the engine as it worked, with the processor's seat at the tree
+  abbrev pub v : View
+  v = with_needs t.was.needs t.v
+
+  abbrev pub w : View
+  w = t.lends.worked
+
+  some : 0 < length t.cpus
+  some = t.met.all.some
+
+  long : length (set t.cpus 0 t.now) ≡ length t.cpus
+  long = length-set t.cpus 0 t.now
+
+  within : 0 < length (set t.cpus 0 t.now)
+  within = let inside = some in omega (arith, long, inside)
+
+  here : (d : DomainCpu) → get_or (set t.cpus 0 t.now) 0 d ≡ t.now
+  here d = get_or-set_same t.cpus 0 t.now d some
+
+  first : (d : DomainCpu) → get_or t.cpus 0 d ≡ t.was
+  first d = get_or_default t.cpus 0 d t.was some ∙ sym t.is
+
+  other : (k : ℕ) (d : DomainCpu) → 0 < k → get_or (set t.cpus 0 t.now) k d ≡ get_or t.cpus k d
+  other k d positive = get_or-set_other t.cpus 0 k t.now d (λ e. omega (arith, e, positive))
+
+  -- The turns
+
+  turn : TakesTurn (get_or t.cpus 0 nobody).turn t.lends.found t.lends.left (get_or (set t.cpus 0 t.now) 0 nobody).turn
+  turn = subst (λ (z : DomainCpu × DomainCpu). TakesTurn z.0.turn t.lends.found t.lends.left z.1.turn) (λ i. (sym (first nobody) i, sym (here nobody) i)) t.lends.turn
+
+  found_is : t.lends.found ≡ t.v
+  found_is = turn_found t.met.swaps t.cpus (set t.cpus 0 t.now) t.v t.met.turn_together some long (λ k d positive lt. ap (λ (z : DomainCpu). z.turn) (other k d positive)) t.cpus' t.meets.found t.meets.left t.meets.turns t.meets.count nobody t.lends.found t.lends.left turn
+
+  meeting_is : t.meets.found ≡ t.lends.left
+  meeting_is = meeting_found t.met.swaps t.cpus (set t.cpus 0 t.now) t.v t.met.turn_together some long (λ k d positive lt. ap (λ (z : DomainCpu). z.turn) (other k d positive)) t.cpus' t.meets.found t.meets.left t.meets.turns t.meets.count nobody t.lends.found t.lends.left turn
+
+  turned : TurnTogether t.meets.turns.swaps t.cpus' t.meets.left
+  turned = turn_turned t.met.swaps t.cpus (set t.cpus 0 t.now) t.v t.met.turn_together some long (λ k d positive lt. ap (λ (z : DomainCpu). z.turn) (other k d positive)) t.cpus' t.meets.found t.meets.left t.meets.turns t.meets.count nobody t.lends.found t.lends.left turn
+
+  pub works : t.work v w
+  works = subst (λ (z : View). t.work (with_needs t.was.needs z) w) found_is t.lends.works
+
+  -- The engine behind its work and its tie
+
+  ties : TiesEngine w.seat t.was.cpu t.lends.left.seat t.now.cpu
+  ties = t.lends.ties
+
+  noted_is : t.lends.left.seat ≡ noted t.was.cpu.processor ties.between.changes ties.between
+  noted_is = ties.notes
+
+  tied_same : IsSameEngine w.seat t.lends.left.seat
+  tied_same = (ap (λ (z : EngineView). z.domain) noted_is ∙ ties.covers.step.same.0, ap (λ (z : EngineView). z.processors) noted_is ∙ ties.covers.step.same.1, ap (λ (z : EngineView). z.periods) noted_is ∙ ties.covers.step.same.2)
+
+  tied_mine : t.lends.left.seat.mine ≡ w.seat.mine
+  tied_mine = ap (λ (z : EngineView). z.mine) noted_is ∙ ties.covers.step.mine
+
+  tied_changes : t.lends.left.seat.changes ≡ w.seat.changes
+  tied_changes = ap (λ (z : EngineView). z.changes) noted_is ∙ ties.covers.step.changes_are
+
+  tied_since : IsBeginning w.seat.seen t.lends.left.seat.seen
+  tied_since = subst (λ l. IsBeginning w.seat.seen l) (sym (ap (λ (z : EngineView). z.seen) noted_is)) ties.covers.step.since
+
+  -- and behind the meeting
+
+  engine_meets : EngineMeets t.lends.left.seat (set t.cpus 0 t.now) t.meets.left.seat t.cpus'
+  engine_meets = subst (λ (z : View). EngineMeets z.seat (set t.cpus 0 t.now) t.meets.left.seat t.cpus') meeting_is t.meets.engine
+
+  pub same_engine : IsSameEngine w.seat t.meets.left.seat
+  same_engine = (engine_meets.same.0 ∙ tied_same.0, engine_meets.same.1 ∙ tied_same.1, engine_meets.same.2 ∙ tied_same.2)
+
+  same_changes : t.meets.left.seat.changes ≡ w.seat.changes
+  same_changes = engine_meets.changes ∙ tied_changes
+
+  -- nothing of it but its seats has changed since its work
+  rest_is : t.meets.left ≡ record w { seat = t.meets.left.seat; needs = t.lends.found.needs }
+  rest_is = subst (λ (z : View). t.meets.left ≡ with_seat t.meets.left.seat z) meeting_is t.meets.rest ∙ ap (λ (z : View). with_seat t.meets.left.seat z) t.lends.rest
+
+  -- The tree
+
+  abbrev raises : List Raise
+  raises = t.met.raises
+
+  needs_on : GoesOn [] t.was.needs t.now.needs
+  needs_on = subst (λ (z : FunnelView). GoesOn [] t.was.needs z) (sym t.lends.needs) t.loaded
+
+  have_asked : HaveAsked 0 raises [] (set t.cpus 0 t.now)
+  have_asked = raised_here raises t.cpus t.met.ask_together 0 some t.was t.now t.is [] needs_on refl (λ q ne. refl)
+
+  raises_are : t.meets.needs.raises ≡ raises
+  raises_are = all_raised t.d' (set t.cpus 0 t.now) t.cpus' t.all t.meets.count t.meets.needs nobody 0 raises [] have_asked ∙ append-nil raises
+
+  ask_together : AskTogether t.meets.needs.raises t.cpus'
+  ask_together = asked_together t.d' (set t.cpus 0 t.now) t.cpus' t.all t.meets.count t.meets.needs nobody 0 raises [] have_asked
+
+  root : value 0 raises ≡ greatest raises
+  root = t.met.ask_together.root
+
+  was_seen : t.was.needs.seen ≡ raises
+  was_seen = ap (λ (z : DomainCpu). z.needs.seen) t.is ∙ t.met.ask_together.seen 0 nobody some
+
+  known : Knows raises v
+  known = record { seen = was_seen; wanted = λ resting half. let wanted = t.met.wanted resting half in record { need = wanted.need; above = wanted.above } }
+
+  still : w.needs.seen ≡ raises
+  still =
+      let into : IsBeginningAtTree w.needs.seen t.meets.needs.raises = subst (λ (l : List Raise). IsBeginningAtTree l t.meets.needs.raises) (ap (λ (z : DomainCpu). z.needs.seen) (here nobody) ∙ ap (λ (z : FunnelView). z.seen) t.lends.needs) (t.meets.needs.each 0 nobody within).since in
+      squeezed raises w.needs.seen t.meets.needs.raises (subst (λ l. IsBeginningAtTree l w.needs.seen) was_seen t.loaded.since) into raises_are
+
+  abbrev pub asked_before : ℕ
+  asked_before = greatest raises
+
+  abbrev pub asked_after : ℕ
+  asked_after = greatest t.meets.needs.raises
+
+  same_asked : asked_after ≡ asked_before
+  same_asked = ap greatest raises_are
+
+  abbrev pub before : SoloView
+  before = seen_as t.limits asked_before t.v
+
+  abbrev pub after : SoloView
+  after = seen_as t.limits asked_after t.meets.left
+
+  module _ (act others : List Event) (own : MakesOwn act v w) (seen : w.seat.seen ≡ t.v.seat.seen ++ (others ++ act)) where
+    table : t.lends.left.seat.domain ≡ t.v.seat.domain
+    table = tied_same.0 ∙ own.same.0
+
+    processors : t.lends.left.seat.processors ≡ t.v.seat.processors
+    processors = tied_same.1 ∙ own.same.1
+
+    hold : AllHold t.limits (t.v.seat.seen ++ act) (set t.cpus 0 t.now) t.lends.left.seat
     hold = record {
-      in_range = t.together.hold.in_range;
-      periods = own.same.2 ∙ t.together.hold.periods;
-      count = subst IsCount (sym own.same.1) t.together.hold.count;
-      all = t.together.hold.all ∙ sym own.same.1;
-      engine = own.mine ∙ (ap (λ l. l ++ act) t.together.hold.engine ∙ (ap (λ l. made_by Engine t.v.seat.seen ++ l) (sym own.engines) ∙ sym (made_by_append Engine t.v.seat.seen act)));
-      each = λ k d lt. let held = t.together.hold.each k d lt in record {
-        domain = held.domain ∙ sym own.same.0;
-        processors_are = held.processors_are ∙ sym own.same.1;
-        sections = held.sections;
-        processor = held.processor;
-        mine = held.mine ∙ sym (made_by_append (Processor k) t.v.seat.seen act ∙ (ap (λ l. made_by (Processor k) t.v.seat.seen ++ l) (own.no_processors k) ∙ append-nil (made_by (Processor k) t.v.seat.seen)));
-      };
+      in_range = t.met.together.hold.in_range;
+      periods = tied_same.2 ∙ (own.same.2 ∙ t.met.together.hold.periods);
+      count = subst IsCount (sym processors) t.met.together.hold.count;
+      all = long ∙ (t.met.together.hold.all ∙ sym processors);
+      engine = tied_mine ∙ (own.mine ∙ (ap (λ l. l ++ act) t.met.together.hold.engine ∙ (ap (λ l. made_by Engine t.v.seat.seen ++ l) (sym own.engines) ∙ sym (made_by_append Engine t.v.seat.seen act))));
+      each = λ k d lt. by k d (let same = long in omega (arith, lt, same));
     }
+      where
+        own_mine : (k : ℕ) → made_by (Processor k) t.v.seat.seen ≡ made_by (Processor k) (t.v.seat.seen ++ act)
+        own_mine k = sym (made_by_append (Processor k) t.v.seat.seen act ∙ (ap (λ l. made_by (Processor k) t.v.seat.seen ++ l) (own.no_processors k) ∙ append-nil (made_by (Processor k) t.v.seat.seen)))
 
-    acted : IsSettled t.limits t.v.seat.seen others act t.cpus' t.v'.seat
-    acted = t.settles.settled t.limits t.v.seat.seen others act (record { hold = hold; seen = inl seen })
+        by : (k : ℕ) (d : DomainCpu) → k < length t.cpus → Holds t.limits t.lends.left.seat.domain t.lends.left.seat.processors (t.v.seat.seen ++ act) k (get_or (set t.cpus 0 t.now) k d).cpu
+        by zero d lt =
+            let held = t.met.together.hold.each 0 d lt in
+            let accepts = ties.accepts in
+            let was = ap (λ (z : DomainCpu). z.cpu) (sym (first d)) in
+            subst (λ (z : DomainCpu). Holds t.limits t.lends.left.seat.domain t.lends.left.seat.processors (t.v.seat.seen ++ act) 0 z.cpu) (sym (here d)) (record {
+              domain = accepts.same.0 ∙ (ap (λ c. c.domain) was ∙ (held.domain ∙ sym table));
+              processors_are = accepts.same.1 ∙ (ap (λ c. c.processors) was ∙ (held.processors_are ∙ sym processors));
+              sections = accepts.same.2 ∙ (ap (λ c. c.sections) was ∙ held.sections);
+              processor = accepts.same.3 ∙ (ap (λ c. c.processor) was ∙ held.processor);
+              mine = accepts.mine ∙ (ap (λ c. c.mine) was ∙ (held.mine ∙ own_mine 0));
+            })
+        by (suc k) d lt =
+            let held = t.met.together.hold.each (suc k) d lt in
+            subst (λ (z : DomainCpu). Holds t.limits t.lends.left.seat.domain t.lends.left.seat.processors (t.v.seat.seen ++ act) (suc k) z.cpu) (sym (get_or-set_other t.cpus 0 (suc k) t.now d (λ e. omega (arith, e)))) (record {
+              domain = held.domain ∙ sym table;
+              processors_are = held.processors_are ∙ sym processors;
+              sections = held.sections;
+              processor = held.processor;
+              mine = held.mine ∙ own_mine (suc k);
+            })
 
-    seen_alone : t.w.seat.seen ≡ t.v.seat.seen ++ act
+    acted : IsSettled t.limits t.v.seat.seen others act t.cpus' t.meets.left.seat
+    acted = settled (set t.cpus 0 t.now) t.cpus' t.lends.left.seat t.meets.left.seat t.meets.count engine_meets nobody t.limits t.v.seat.seen others act (record { hold = hold; seen = inl (subst (λ l. IsBeginning l t.lends.left.seat.seen) seen tied_since) })
+
+    seen_alone : w.seat.seen ≡ t.v.seat.seen ++ act
     seen_alone = seen ∙ ap (λ l. t.v.seat.seen ++ (l ++ act)) acted.alone
 
     -- the meeting has changed nothing
-    as_before : standing_of t.v' ≡ standing_of t.w
+    as_before : standing_of t.meets.left ≡ standing_of w
     as_before = λ z. record {
-      processors = t.settles.same.1 z;
-      periods = t.settles.same.2 z;
+      processors = same_engine.1 z;
+      periods = same_engine.2 z;
       history = (acted.seen ∙ sym seen_alone) z;
-      changes = t.settles.changes z;
-      so_far = ap (λ (x : View). x.so_far) t.settles.rest z;
-      began = ap (λ (x : View). x.began) t.settles.rest z;
+      changes = same_changes z;
+      so_far = ap (λ (x : View). x.so_far) rest_is z;
+      began = ap (λ (x : View). x.began) rest_is z;
     }
 
-    same_as : IsSame (seen_as t.limits t.v) (seen_as t.limits t.v')
-    same_as = (t.settles.same.0 ∙ own.same.0, refl, t.settles.same.1 ∙ own.same.1, t.settles.same.2 ∙ own.same.2)
+    same_as : IsSame (before) (after)
+    same_as = (same_engine.0 ∙ own.same.0, refl, same_engine.1 ∙ own.same.1, same_engine.2 ∙ own.same.2, same_asked)
 
-  need_kept : t.w.need ≡ 0 → t.v'.need ≡ 0
-  need_kept none = ap (λ (x : View). x.need) t.settles.rest ∙ none
+    -- all that is true of a domain in one hand
+    met_after : (¬ IsRunning w.seat.seen → 0 < w.so_far → IsWanted (greatest raises) w) → HaveMet t.d' t.limits t.cpus' t.meets.left
+    met_after wants = record {
+      all = t.all;
+      together = acted.together;
+      raises = t.meets.needs.raises;
+      ask_together = ask_together;
+      swaps = t.meets.turns.swaps;
+      turn_together = turned;
+      cookies = ap (λ n. n % 4) same_asked ∙ t.met.cookies;
+      wanted = λ resting some.
+          let history : t.meets.left.seat.seen ≡ w.seat.seen = acted.seen ∙ sym seen_alone in
+          let so_far = ap (λ (x : View). x.so_far) rest_is in
+          let need = ap (λ (x : View). x.need) rest_is in
+          let was = wants (λ running. resting (subst IsRunning (sym history) running)) (omega (arith, so_far, some)) in record {
+            need = need ∙ (was.need ∙ sym same_asked);
+            above = (let above = was.above in let same = ap number_at_rest history in omega (arith, above, same, need));
+          };
+    }
+
+  nothing_half : (so_far : ℕ) → so_far ≡ 0 → 0 < so_far → ⊥
+  nothing_half so_far none some = omega (arith, none, some)
 
   -- One step
 
-  module _ (a : Progress) (s : StepsTo FindsNothing t.v a t.w) where
-    pub stepped_together : AreTogether t.limits t.cpus' t.v'.seat
-    stepped_together = (acted (events_of a) s.goes_on.others (own_answer t.v t.w a s.goes_on) s.step.answered.events).together
+  module _ (a : Progress) (s : StepsTo LoadsRoot v a w) where
+    pub stepped_met : HaveMet t.d' t.limits t.cpus' t.meets.left
+    stepped_met = met_after (events_of a) s.goes_on.others (own_answer v w a s.goes_on) s.step.answered.events (wanted_after raises root v w known still a s)
 
-    pub stepped_none : t.v'.need ≡ 0
-    stepped_none = need_kept (none_after t.v t.w t.no_need a s)
+    pub stepped_same : IsSame before after
+    stepped_same = same_as (events_of a) s.goes_on.others (own_answer v w a s.goes_on) s.step.answered.events
 
-    pub stepped_same : IsSame (seen_as t.limits t.v) (seen_as t.limits t.v')
-    stepped_same = same_as (events_of a) s.goes_on.others (own_answer t.v t.w a s.goes_on) s.step.answered.events
-
-    pub stepped : Steps a (standing_of t.v) (standing_of t.v')
+    pub stepped : Steps asked_before a (standing_of t.v) (standing_of t.meets.left)
     stepped =
-        let own = own_answer t.v t.w a s.goes_on in
-        step_alone s.goes_on.others s.needs.need a (standing_of t.v) (standing_of t.w) (standing_of t.v')
-        (acted (events_of a) s.goes_on.others own s.step.answered.events).alone (finds_none t.v t.w t.no_need s.needs) (as_before (events_of a) s.goes_on.others own s.step.answered.events) s.step
+        let own = own_answer v w a s.goes_on in
+        step_alone s.goes_on.others s.needs.need asked_before a (standing_of t.v) (standing_of w) (standing_of t.meets.left)
+        (acted (events_of a) s.goes_on.others own s.step.answered.events).alone (need_is_asked raises root v w known still s.needs) (as_before (events_of a) s.goes_on.others own s.step.answered.events) s.step
 
   -- Steps until there is an answer
 
-  module _ (a : Progress) (s : AdvancesTo FindsNothing t.v a t.w) where
-    pub advanced_together : AreTogether t.limits t.cpus' t.v'.seat
-    advanced_together = (acted (events_of a) s.goes_on.others (own_answer t.v t.w a s.goes_on) s.answered.events).together
+  module _ (a : Progress) (s : AdvancesTo LoadsRoot v a w) where
+    pub advanced_met : HaveMet t.d' t.limits t.cpus' t.meets.left
+    advanced_met = met_after (events_of a) s.goes_on.others (own_answer v w a s.goes_on) s.answered.events (λ _ some. absurd (nothing_half w.so_far s.done some))
 
-    pub advanced_none : t.v'.need ≡ 0
-    advanced_none = need_kept s.no_need
+    pub advanced_same : IsSame before after
+    advanced_same = same_as (events_of a) s.goes_on.others (own_answer v w a s.goes_on) s.answered.events
 
-    pub advanced_same : IsSame (seen_as t.limits t.v) (seen_as t.limits t.v')
-    advanced_same = same_as (events_of a) s.goes_on.others (own_answer t.v t.w a s.goes_on) s.answered.events
-
-    pub advanced : Advances a (standing_of t.v) (standing_of t.v')
+    pub advanced : Advances asked_before a (standing_of t.v) (standing_of t.meets.left)
     advanced =
-        let own = own_answer t.v t.w a s.goes_on in record {
+        let own = own_answer v w a s.goes_on in record {
           between = map standing_of s.advances.between;
-          through = through_alone s.advances.between t.v t.w a (standing_of t.v') s.advances.through t.no_need (seen_alone (events_of a) s.goes_on.others own s.answered.events) (as_before (events_of a) s.goes_on.others own s.answered.events);
+          through = through_alone raises root s.advances.between v w a (standing_of t.meets.left) s.advances.through known still (seen_alone (events_of a) s.goes_on.others own s.answered.events) (as_before (events_of a) s.goes_on.others own s.answered.events);
           answer = s.advances.answer;
         }
 
+  -- Nothing was done but a load of the need, by the engine or by another
+
+  module _ (rest : w ≡ record v { needs = w.needs }) where
+    seat_kept : w.seat ≡ t.v.seat
+    seat_kept = ap (λ (x : View). x.seat) rest
+
+    seen_kept : w.seat.seen ≡ t.v.seat.seen ++ ([] ++ [])
+    seen_kept = ap (λ e. e.seen) seat_kept ∙ sym (append-nil t.v.seat.seen)
+
+    pub loaded_met : HaveMet t.d' t.limits t.cpus' t.meets.left
+    loaded_met = met_after [] [] (own_none v w seat_kept) seen_kept (λ resting some.
+        let wanted = t.met.wanted (λ running. resting (subst IsRunning (ap (λ e. e.seen) (sym seat_kept)) running)) (let half = ap (λ (x : View). x.so_far) rest in omega (arith, half, some)) in
+        let need = ap (λ (x : View). x.need) rest in record {
+          need = need ∙ wanted.need;
+          above = (let above = wanted.above in let same = ap (λ (x : View). number_at_rest x.seat.seen) rest in omega (arith, above, need, same));
+        })
+
+    pub loaded_same : after ≡ before
+    loaded_same = λ i. record {
+      table = (same_engine.0 ∙ ap (λ e. e.domain) seat_kept) i;
+      limits = t.limits;
+      standing = (as_before [] [] (own_none v w seat_kept) seen_kept ∙ ap standing_of rest) i;
+      asked = same_asked i;
+    }
+
+  module _ (x : FindsExhausted LoadsRoot v w) where
+    pub refused : IsAskedTooMuch asked_before (standing_of t.v)
+    refused = record {
+      out = subst engine.IsOutOfPeriods (ap standing_of x.rest) x.out;
+      asked = (let above = x.asked in let same = ap (λ (z : View). number_at_rest z.seat.seen) x.rest in let found = finds_asked raises root v w known still x.need x.load in omega (arith, above, same, found));
+      nothing_half = x.nothing_half;
+    }
+
   -- A start
 
-  module _ (n : ℕ) (s : StartsTo t.v n t.w) where
-    pub started_together : AreTogether t.limits t.cpus' t.v'.seat
-    started_together = (acted (Start Engine ∷ []) s.others (own_start t.v t.w n s) s.starts.events).together
+  module _ (n : ℕ) (s : StartsTo v n w) where
+    pub started_met : HaveMet t.d' t.limits t.cpus' t.meets.left
+    started_met = met_after (Start Engine ∷ []) s.others (own_start v w n s) s.starts.events (λ _ some. absurd (nothing_half w.so_far s.starts.done some))
 
-    pub started_none : t.v'.need ≡ 0
-    started_none = need_kept s.no_need
+    pub started_same : IsSame before after
+    started_same = same_as (Start Engine ∷ []) s.others (own_start v w n s) s.starts.events
 
-    pub started_same : IsSame (seen_as t.limits t.v) (seen_as t.limits t.v')
-    started_same = same_as (Start Engine ∷ []) s.others (own_start t.v t.w n s) s.starts.events
-
-    pub started : Starts n (standing_of t.v) (standing_of t.v')
+    pub started : Starts n (standing_of t.v) (standing_of t.meets.left)
     started =
-        let own = own_start t.v t.w n s in
+        let own = own_start v w n s in
         let alone = (acted (Start Engine ∷ []) s.others own s.starts.events).alone in
-        subst (λ (x : Standing). engine.Starts [] n (standing_of t.v) x) (sym (as_before (Start Engine ∷ []) s.others own s.starts.events)) (subst (λ l. engine.Starts l n (standing_of t.v) (standing_of t.w)) alone s.starts)
+        subst (λ (x : Standing). engine.Starts [] n (standing_of t.v) x) (sym (as_before (Start Engine ∷ []) s.others own s.starts.events)) (subst (λ l. engine.Starts l n (standing_of t.v) (standing_of w)) alone s.starts)
 
--- what a call ensures of the value that it answered
-pub when_ok : {A E : Type 0} (r : Result A E) (P : A → Type 0) (Q : E → Type 0) (a : A) → MatchResult r P Q → r ≡ Ok a → P a
-when_ok r P Q a h is = subst (λ x. MatchResult x P Q) is h
+-- where nothing has changed
+pub unchanged : (d d' : SoloView) → d' ≡ d → IsSame d d'
+unchanged d d' same = (ap (λ (x : SoloView). x.table) same, ap (λ (x : SoloView). x.limits) same, ap (λ (x : SoloView). x.standing.processors) same, ap (λ (x : SoloView). x.standing.periods) same, ap (λ (x : SoloView). x.asked) same)
+
+-- Each call that drives the engine leaves the processor what it was
+
+pub lent_still : (work : View → View → Type 0) (d : DomainView) (was now : DomainCpu) (h : Lends work was now) → GoesOn [] was.needs h.worked.needs → IsOf d now → IsStill d was now
+lent_still work d was now h on is_of = record {
+  is_of = is_of;
+  cpu = h.ties.accepts.same;
+  needs = subst (λ (z : FunnelView). IsSameSeat was.needs z) (sym h.needs) on.same;
+}
+
+pub stepped_still : (d : DomainView) (was now : DomainCpu) (r : Result Progress AdvanceRefusal) → MatchResult r (λ a. StepsIn was a now) (λ refusal. IsRefused was refusal now) → IsOf d now → IsStill d was now
+stepped_still d was now (Ok a) h is_of = lent_still _ d was now h (loaded_goes_on (with_needs was.needs h.found) h.worked h.works.needs) is_of
+stepped_still d was now (Err advance.Busy) h is_of = absurd h
+stepped_still d was now (Err advance.Exhausted) h is_of = lent_still _ d was now h (exhausted_goes_on (with_needs was.needs h.found) h.worked h.works) is_of
+
+pub advanced_still : (d : DomainView) (was now : DomainCpu) (r : Result Progress AdvanceRefusal) → MatchResult r (λ a. AdvancesIn was a now) (λ refusal. IsRefused was refusal now) → IsOf d now → IsStill d was now
+advanced_still d was now (Ok a) h is_of = lent_still _ d was now h (loaded_goes_on (with_needs was.needs h.found) h.worked h.works.needs) is_of
+advanced_still d was now (Err advance.Busy) h is_of = absurd h
+advanced_still d was now (Err advance.Exhausted) h is_of = lent_still _ d was now h (exhausted_goes_on (with_needs was.needs h.found) h.worked h.works) is_of
+
+pub no_start_goes_on : (v w : View) → w ≡ v → GoesOn [] v.needs w.needs
+no_start_goes_on v w same = stays v.needs w.needs (ap (λ (x : View). x.needs) same)
+
+pub started_still : (d : DomainView) (was now : DomainCpu) (r : Result ℕ StartRefusal) → MatchResult r (λ n. StartsIn was n now) (λ refusal. IsNotStarted was refusal now) → IsOf d now → IsStill d was now
+started_still d was now (Ok n) h is_of = lent_still _ d was now h (stays was.needs h.worked.needs h.works.needs) is_of
+started_still d was now (Err start.Busy) h is_of = absurd h
+started_still d was now (Err start.Running) h is_of = lent_still _ d was now h (no_start_goes_on (with_needs was.needs h.found) h.worked h.works.1) is_of
+started_still d was now (Err start.Exhausted) h is_of = lent_still _ d was now h (no_start_goes_on (with_needs was.needs h.found) h.worked h.works.1) is_of
+
+pub load_still : (d : DomainView) (was now : DomainCpu) (need : ℕ) → LoadsNeed was need now → IsOf d now → IsStill d was now
+load_still d was now need h is_of = record { is_of = is_of; cpu = subst (λ (z : CpuView). IsSameCpu was.cpu z) (sym (ap (λ (x : DomainCpu). x.cpu) h.rest)) (refl, refl, refl, refl); needs = h.load.same }
+
+pub poll_still : (d : DomainView) (was now : DomainCpu) (cookie : CookieView) → StartsPoll was cookie now → IsOf d now → IsStill d was now
+poll_still d was now cookie h is_of = record { is_of = is_of; cpu = h.gives.notes.adds.same; needs = h.asks.same }
+
+-- What the calls say: each is a turn
+
+not_started : (v : View) (refusal : scan.StartRefusal) → IsNoStart v refusal → StartsNone refusal (standing_of v)
+not_started v refusal_of.Running h = h
+not_started v refusal_of.Exhausted h = h
+
+pub not_busy : (was now : DomainCpu) (P : Progress → Type 0) (r : Result Progress AdvanceRefusal) → MatchResult r P (λ refusal. IsRefused was refusal now) → IsNotBusy r
+not_busy was now P (Ok a) h = tt
+not_busy was now P (Err advance.Busy) h = absurd h
+not_busy was now P (Err advance.Exhausted) h = tt
+
+pub none_busy : (was now : DomainCpu) (P : ℕ → Type 0) (r : Result ℕ StartRefusal) → MatchResult r P (λ refusal. IsNotStarted was refusal now) → NoneIsBusy r
+none_busy was now P (Ok n) h = tt
+none_busy was now P (Err start.Busy) h = absurd h
+none_busy was now P (Err start.Running) h = tt
+none_busy was now P (Err start.Exhausted) h = tt
+
+-- all that a call says: the domain is in one hand again, it is the same, and this
+pub record Says (d' : DomainView) (limits : Limits) (cpus' : List DomainCpu) (left : View) (seen seen' : SoloView) (it : Type 0) : Type 0 where
+  pub met : HaveMet d' limits cpus' left
+  pub same : IsSame seen seen'
+  pub what : it
+
+module _ (d : DomainView) (limits : Limits) (cpus : List DomainCpu) (lay : View) (was now : DomainCpu) (d' : DomainView) (cpus' : List DomainCpu) (met : HaveMet d limits cpus lay) (is : was ≡ get_or cpus 0 was) (all : IsAllOf d' cpus') (meets : MeetsHere (set cpus 0 now) cpus')
+    (seen : SoloView) (seen_is : seen_first d.domain limits cpus ≡ seen) where
+  abbrev a_turn : (work : View → View → Type 0) (h : Lends work was now) → GoesOn [] was.needs h.worked.needs → Turn
+  a_turn work h on = record { d = d; limits = limits; cpus = cpus; v = lay; was = was; now = now; d' = d'; cpus' = cpus'; met = met; is = is; all = all; meets = meets; work = work; lends = h; loaded = on }
+
+  abbrev seen' : SoloView
+  seen' = seen_first d'.domain limits cpus'
+
+  module _ (work : View → View → Type 0) (h : Lends work was now) (on : GoesOn [] was.needs h.worked.needs) where
+    abbrev t : Turn
+    t = a_turn work h on
+
+    told_first : seen ≡ before t
+    told_first = sym seen_is ∙ is_seen d limits cpus lay met
+
+    told_second : seen' ≡ after t
+    told_second = first_seen d'.domain limits cpus' meets.left (asked_after t) all.some (turned t).lying (λ c. ap greatest ((ask_together t).seen 0 c all.some))
+
+    -- what the turn says is said of the domain as it is seen
+    say : (P : SoloView → SoloView → Type 0) → P (before t) (after t) → P seen seen'
+    say P it = subst (λ (z : SoloView × SoloView). P z.0 z.1) (λ i. (sym told_first i, sym told_second i)) it
+
+  refused_for : (h : FindsExhaustedIn was now) (told : Result Progress Exhausted) → IsErr told → (P : Progress → Type 0) → MatchResult told P (λ _. IsAskedTooMuch seen.asked seen.standing × (seen' ≡ seen))
+  refused_for h (Ok a) err P = absurd (true≢false (sym err))
+  refused_for h (Err e) err P =
+      let on = exhausted_goes_on (with_needs was.needs h.found) h.worked h.works in
+      let x = works (a_turn _ h on) in
+      (say _ h on (λ a b. IsAskedTooMuch a.asked a.standing) (refused (a_turn _ h on) x), say _ h on (λ a b. b ≡ a) (loaded_same (a_turn _ h on) x.rest))
+
+  exhausted_says : (h : FindsExhaustedIn was now) (told : Result Progress Exhausted) → IsErr told → (P : Progress → Type 0) → Says d' limits cpus' meets.left seen seen' (MatchResult told P (λ _. IsAskedTooMuch seen.asked seen.standing × (seen' ≡ seen)))
+  exhausted_says h told err P =
+      let on = exhausted_goes_on (with_needs was.needs h.found) h.worked h.works in
+      let t = a_turn _ h on in
+      let x = works t in record {
+        met = loaded_met t x.rest;
+        same = say _ h on IsSame (unchanged (before t) (after t) (loaded_same t x.rest));
+        what = refused_for h told err P;
+      }
+
+  pub step_says : (r : Result Progress AdvanceRefusal) → MatchResult r (λ a. StepsIn was a now) (λ refusal. IsRefused was refusal now) → (told : Result Progress Exhausted) → IsToldAs r told
+      → Says d' limits cpus' meets.left seen seen' (MatchResult told (λ a. Steps seen.asked a seen.standing seen'.standing) (λ _. IsAskedTooMuch seen.asked seen.standing × (seen' ≡ seen)))
+  step_says (Ok a) h told same =
+      let on = loaded_goes_on (with_needs was.needs h.found) h.worked h.works.needs in
+      let t = a_turn _ h on in
+      let s = works t in record {
+        met = stepped_met t a s;
+        same = say _ h on IsSame (stepped_same t a s);
+        what = subst (λ x. MatchResult x (λ b. Steps seen.asked b seen.standing seen'.standing) (λ _. IsAskedTooMuch seen.asked seen.standing × (seen' ≡ seen))) (sym same) (say _ h on (λ x y. Steps x.asked a x.standing y.standing) (stepped t a s));
+      }
+  step_says (Err advance.Busy) h told same = absurd h
+  step_says (Err advance.Exhausted) h told same = exhausted_says h told same (λ a. Steps seen.asked a seen.standing seen'.standing)
+
+  pub advance_says : (r : Result Progress AdvanceRefusal) → MatchResult r (λ a. AdvancesIn was a now) (λ refusal. IsRefused was refusal now) → (told : Result Progress Exhausted) → IsToldAs r told
+      → Says d' limits cpus' meets.left seen seen' (MatchResult told (λ a. Advances seen.asked a seen.standing seen'.standing) (λ _. IsAskedTooMuch seen.asked seen.standing × (seen' ≡ seen)))
+  advance_says (Ok a) h told same =
+      let on = loaded_goes_on (with_needs was.needs h.found) h.worked h.works.needs in
+      let t = a_turn _ h on in
+      let s = works t in record {
+        met = advanced_met t a s;
+        same = say _ h on IsSame (advanced_same t a s);
+        what = subst (λ x. MatchResult x (λ b. Advances seen.asked b seen.standing seen'.standing) (λ _. IsAskedTooMuch seen.asked seen.standing × (seen' ≡ seen))) (sym same) (say _ h on (λ x y. Advances x.asked a x.standing y.standing) (advanced t a s));
+      }
+  advance_says (Err advance.Busy) h told same = absurd h
+  advance_says (Err advance.Exhausted) h told same = exhausted_says h told same (λ a. Advances seen.asked a seen.standing seen'.standing)
+
+  module _ (refusal : scan.StartRefusal) (h : StartsNoneIn was refusal now) where
+    no_start_says : Says d' limits cpus' meets.left seen seen' (StartsNone refusal seen.standing × (seen' ≡ seen))
+    no_start_says =
+        let on = no_start_goes_on (with_needs was.needs h.found) h.worked h.works.1 in
+        let t = a_turn _ h on in
+        let x = works t in
+        let rest : w t ≡ record (v t) { needs = (w t).needs } = x.1 ∙ ap (λ (z : View). record (v t) { needs = z.needs }) (sym x.1) in record {
+          met = loaded_met t rest;
+          same = say _ h on IsSame (unchanged (before t) (after t) (loaded_same t rest));
+          what = (say _ h on (λ a b. StartsNone refusal a.standing) (not_started (v t) refusal x.0), say _ h on (λ a b. b ≡ a) (loaded_same t rest));
+        }
+
+  pub start_says : (r : Result ℕ StartRefusal) → MatchResult r (λ n. StartsIn was n now) (λ refusal. IsNotStarted was refusal now) → (told : Result ℕ scan.StartRefusal) → IsStartedAs r told
+      → Says d' limits cpus' meets.left seen seen' (MatchResult told (λ n. Starts n seen.standing seen'.standing) (λ e. StartsNone e seen.standing × (seen' ≡ seen)))
+  start_says (Ok n) h told same =
+      let on = stays was.needs h.worked.needs h.works.needs in
+      let t = a_turn _ h on in
+      let s = works t in record {
+        met = started_met t n s;
+        same = say _ h on IsSame (started_same t n s);
+        what = subst (λ x. MatchResult x (λ m. Starts m seen.standing seen'.standing) (λ e. StartsNone e seen.standing × (seen' ≡ seen))) (sym same) (say _ h on (λ x y. Starts n x.standing y.standing) (started t n s));
+      }
+  start_says (Err start.Busy) h told same = absurd h
+  start_says (Err start.Running) h told same =
+      let it = no_start_says refusal_of.Running h in
+      record { met = it.met; same = it.same; what = subst (λ x. MatchResult x (λ m. Starts m seen.standing seen'.standing) (λ e. StartsNone e seen.standing × (seen' ≡ seen))) (sym same) it.what }
+  start_says (Err start.Exhausted) h told same =
+      let it = no_start_says refusal_of.Exhausted h in
+      record { met = it.met; same = it.same; what = subst (λ x. MatchResult x (λ m. Starts m seen.standing seen'.standing) (λ e. StartsNone e seen.standing × (seen' ≡ seen))) (sym same) it.what }

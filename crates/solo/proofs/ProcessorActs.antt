@@ -1,6 +1,7 @@
 -- What the calls of a processor do to the domain in one hand.
-use Rattle.std.proofs.Common.{◌≡◌, ◌≢◌, ℕ, ◌<◌, ◌≤◌, inr, List, [], ◌∷◌, ◌++◌, length, get_or, set, refl, sym, ap, ◌∙◌, subst, append-nil, append_assoc, arith, length-set, get_or-set_other, get_or-set_same, ne_eqb}
-use Rattle.std.specs.Prelude.{Bool, Result, Ok, Err, MatchResult}
+use Rattle.std.proofs.Common.{◌≡◌, ◌≢◌, ℕ, ◌+◌, ◌*◌, ◌%◌, ◌<◌, ◌≤◌, cond, max, inr, List, [], ◌∷◌, ◌++◌, length, get_or, set, refl, sym, ap, ◌∙◌, subst, append-nil, append_assoc, arith, length-set, get_or-set_other, get_or-set_same, le-ltb, ne_eqb}
+use Rattle.std.specs.Prelude.{Bool, false, Result, Ok, Err, MatchResult}
+use Rattle.std.proofs.lemmas.List.{get_or_default}
 use mathlib.Core.Logic.{dite}
 use native.Mathlib.Decide.{ℕ_discrete}
 use Rattle.sseq.specs.declared.index.Index.{Index}
@@ -9,22 +10,32 @@ use Rattle.sseq.specs.Numbers.{cookie_at}
 use Rattle.onedom.specs.declared.event.Maker.TheVariants.{Processor, Engine}
 use Rattle.onedom.specs.declared.event.Event.{Event}
 use Rattle.onedom.specs.declared.event.Event.TheVariants.{Begin, End, Note, Ask}
-use Rattle.onedom.specs.Histories.{MayFollow, IsLegal, maker_of, same_maker, made_by, cookie_after}
-use Rattle.onedom.proofs.CallerLemmas.{made_by_other, made_by_own, same_maker_refl}
+use Rattle.onedom.specs.Histories.{MayFollow, IsLegal, IsRunning, IsBeginning, is_start, is_finish, starts_in, ended_in, maker_of, same_maker, made_by, cookie_after}
+use Rattle.onedom.proofs.CallerLemmas.{bit, beginning_refl, starts_in_push, ended_in_push, made_by_other, made_by_own, same_maker_refl}
 use Rattle.sections.specs.declared.limits.Limits.{Limits}
 use Rattle.sections.specs.Words.{index_word, number_word, locks}
 use Rattle.sections.specs.Views.{CpuView, LookView, ReadingView, CookieView}
 use Rattle.sections.specs.declared.cpu.Exhausted.{Exhausted}
 use Rattle.sections.specs.declared.cpu.NotACookie.{NotACookie}
-use Rattle.sections.specs.Calls.{IsSameCpu, AddsEvent, Loads, Looks, Enters, ReadLocks, LooksInVain, IsExhausted, Notes, GivesCookie, Asks, IsNoCookie}
+use Rattle.sections.specs.Calls.{IsSameCpu, AddsEvent, Loads, Looks, LooksAndBegins, Enters, LooksInVain, IsExhausted, Notes, GivesCookie, Asks, IsNoCookie}
 use Rattle.sections.proofs.CallerLemmas.{locks_mine, last_may_follow}
 use Rattle.sections.specs.declared.view.Step.{Step}
-use Rattle.scan.specs.Standings.{index_now}
-use Rattle.scan.specs.Progress.{standing_of}
+use Rattle.scan.specs.Standings.{index_now, number_at_rest}
+use Rattle.funnel.specs.declared.view.Raise.{Raise}
+use Rattle.funnel.specs.Histories.{IsBeginning as IsBeginningAtTree, value, greatest, raised_by}
+use Rattle.funnel.specs.Calls.{LoadsRoot}
+use Rattle.sections.specs.EngineCalls.{IsSameEngine}
+use Rattle.scan.specs.Progress.{standing_of, with_seat}
 use Rattle.solo.specs.Calls as call
-use Rattle.solo.specs.Calls.{SoloView, IsSame, Happens, Begins, IsOutOfSections, IsReadingAt, IsLookNow, ReadsNumber}
-use Rattle.solo.specs.Settling.{View, Holds, AllHold, AreTogether, IsSettled, Settles}
-use Rattle.solo.specs.Insides.{seen_as}
+use Rattle.solo.specs.Calls.{SoloView, IsSame, IsSameDomain, Happens, Begins, IsOutOfSections, IsReadingAt, IsLookNow, AsksFor, ReadsNumber}
+use Rattle.domain.specs.Views.{DomainView, CpuView as DomainCpu}
+use Rattle.domain.specs.Meetings.{IsAllOf, EngineMeets, MeetsHere}
+use Rattle.solo.specs.Settling.{View, Holds, AllHold, AskTogether, TurnTogether, HaveMet}
+use Rattle.solo.specs.Insides.{seen_as, seen_first}
+use Rattle.solo.proofs.Hand.{first_seen, is_seen}
+use Rattle.solo.proofs.Needing.{GoesOn, squeezed, raised_here}
+use Rattle.solo.proofs.Settled.{HaveAsked, IsSettled, settled, all_raised, asked_together}
+use Rattle.solo.proofs.Turning.{idle_found, idle_turned}
 use Rattle.solo.proofs.NothingBetween.{made_by_append}
 
 -- a processor made these events, behind others that came before
@@ -56,13 +67,13 @@ acts_of_event other reached ev c c' h = record {
 pub acts_of_nothing : (c c' : CpuView) → c' ≡ c → Acts [] c c'
 acts_of_nothing c c' is = subst (λ (x : CpuView). Acts [] c x) (sym is) (record { same = (refl, refl, refl, refl); others = []; seen = sym (append-nil c.seen); mine = sym (append-nil c.mine); later = omega arith })
 
-abbrev pub begin_of : (c c' : CpuView) (r : ReadingView) → ReadLocks c c' r → Event
-begin_of c c' r h = Begin h.enters.section h.between.processor h.look.index (Processor h.between.processor)
+abbrev pub begin_of : (held : Bool) (c c' : CpuView) (r : ReadingView) → LooksAndBegins held c c' r → Event
+begin_of held c c' r h = Begin h.enters.section h.between.processor h.look.index (Processor h.between.processor)
 
 -- a load, and then an event
-pub acts_of_lock : (c c' : CpuView) (r : ReadingView) (h : ReadLocks c c' r) → Acts (begin_of c c' r h ∷ []) c c'
-acts_of_lock c c' r h =
-    let ev = begin_of c c' r h in
+pub acts_of_lock : (held : Bool) (c c' : CpuView) (r : ReadingView) (h : LooksAndBegins held c c' r) → Acts (begin_of held c c' r h ∷ []) c c'
+acts_of_lock held c c' r h =
+    let ev = begin_of held c c' r h in
     let load = h.looks.load in
     let adds = h.enters.adds in record {
       same = (adds.same.0 ∙ load.same.0, adds.same.1 ∙ load.same.1, adds.same.2 ∙ load.same.2, adds.same.3 ∙ load.same.3);
@@ -71,6 +82,20 @@ acts_of_lock c c' r h =
       mine = adds.mine ∙ ap (λ l. l ++ ev ∷ []) load.mine;
       later = let first = load.later in let second = adds.later in omega (arith, first, second);
     }
+
+-- it stays the same processor
+
+pub same_behind_lock : (held : Bool) (c c' : CpuView) (taken : Result ReadingView Exhausted) → MatchResult taken (λ r. LooksAndBegins held c c' r) (λ _. LooksInVain c c') → IsSameCpu c c'
+same_behind_lock held c c' (Ok r) h = (acts_of_lock held c c' r h).same
+same_behind_lock held c c' (Err x) h = h.looks.load.same
+
+pub same_behind_enter : (look : LookView) (c c' : CpuView) (taken : Result ReadingView Exhausted) → MatchResult taken (λ r. Enters c look c' r) (λ _. IsExhausted c look.index × (c' ≡ c)) → IsSameCpu c c'
+same_behind_enter look c c' (Ok r) h = h.adds.same
+same_behind_enter look c c' (Err x) h = (acts_of_nothing c c' h.1).same
+
+pub same_behind_poll : (cookie : ℕ) (c c' : CpuView) (taken : Result Bool NotACookie) → MatchResult taken (λ done. Asks c.seen c.changes cookie done c c') (λ _. IsNoCookie cookie × (c' ≡ c)) → IsSameCpu c c'
+same_behind_poll cookie c c' (Ok done) h = h.adds.same
+same_behind_poll cookie c c' (Err x) h = (acts_of_nothing c c' h.1).same
 
 -- whose events they are
 pub record AreOf (p : ℕ) (act : List Event) : Type 0 where
@@ -88,55 +113,127 @@ one_of p ev is = record {
   engine = made_by_other Engine [] ev (ap (λ m. same_maker m Engine) is);
 }
 
+-- no period starts or ends with them
+abbrev pub IsQuiet : List Event → Type 0
+IsQuiet act = (history : List Event) → (starts_in (history ++ act) ≡ starts_in history) × (ended_in (history ++ act) ≡ ended_in history)
+
+pub quiet_none : IsQuiet []
+quiet_none history = (ap starts_in (append-nil history), ap ended_in (append-nil history))
+
+pub quiet_one : (ev : Event) → is_start ev ≡ false → is_finish ev ≡ false → IsQuiet (ev ∷ [])
+quiet_one ev starts ends history =
+    let first = starts_in_push history ev in let no_start = ap bit starts in
+    let second = ended_in_push history ev in let no_end = ap bit ends in
+    (omega (arith, first, no_start), omega (arith, second, no_end))
+
 -- the index that a look found, where all changes were seen
 look_index : (c c' : CpuView) (l : LookView) (changes : ℕ) → Looks c c' l → c'.changes ≡ changes → l.index ≡ low_bit (index_word changes)
 look_index c c' l changes looks same = ap (λ (x : LookView). x.index) looks.look_is ∙ ap low_bit (looks.current ∙ ap index_word same)
 
--- a processor of the domain had its turn: `c` at place p became `c'`, and then all have met
+-- a processor of the domain acted: `was` at place p became `now`, which made no turn, and its seat at the tree raised these (`raised`), or none. Then all have met
 pub record Turn : Type 0 where
+  pub d : DomainView
   pub limits : Limits
-  pub cpus : List CpuView
+  pub cpus : List DomainCpu
   pub v : View
   pub p : ℕ
-  pub c : CpuView
-  pub c' : CpuView
-  pub cpus' : List CpuView
-  pub v' : View
-  pub together : AreTogether limits cpus v.seat
+  pub was : DomainCpu
+  pub now : DomainCpu
+  pub d' : DomainView
+  pub cpus' : List DomainCpu
+  pub met : HaveMet d limits cpus v
   pub inside : p < length cpus
-  pub is : c ≡ get_or cpus p c
-  pub settles : Settles (set cpus p c') v cpus' v'
-
-pub is_inside : (limits : Limits) (cpus : List CpuView) (v : View) (d : SoloView) (p : ℕ) → AreTogether limits cpus v.seat → seen_as limits v ≡ d → p < d.standing.processors → p < length cpus
-is_inside limits cpus v d p together same small = let n = ap (λ (x : SoloView). x.standing.processors) same in let all = together.hold.all in omega (arith, small, n, all)
-
-pub first_inside : (limits : Limits) (cpus : List CpuView) (v : View) → AreTogether limits cpus v.seat → 0 < length cpus
-first_inside limits cpus v together = let all = together.hold.all in let some = together.hold.count.0 in omega (arith, all, some)
-
--- a look of the domain is one of the processor's domain
-pub is_its_own : (limits : Limits) (cpus : List CpuView) (v : View) (d : SoloView) (p : ℕ) (c : CpuView) (look : LookView) → AreTogether limits cpus v.seat → p < length cpus → c ≡ get_or cpus p c → seen_as limits v ≡ d → look.domain ≡ d.table → look.domain ≡ c.domain
-is_its_own limits cpus v d p c look together inside is same own =
-    own ∙ (sym (ap (λ (x : SoloView). x.table) same) ∙ sym (ap (λ (x : CpuView). x.domain) is ∙ (together.hold.each p c inside).domain))
+  pub is : was ≡ get_or cpus p was
+  pub turn : now.turn ≡ was.turn
+  pub all : IsAllOf d' cpus'
+  pub meets : MeetsHere (set cpus p now) cpus'
+  pub raised : List Raise
+  pub needs : GoesOn raised was.needs now.needs
+  pub own : raised_by p raised ≡ raised
+  pub others : (q : ℕ) → q ≢ p → raised_by q raised ≡ []
 
 module _ (t : Turn) where
-  here : get_or (set t.cpus t.p t.c') t.p t.c ≡ t.c'
-  here = let inside = t.inside in rw get_or-set_same refl
+  abbrev nobody : DomainCpu
+  nobody = t.was
 
-  within : t.p < length (set t.cpus t.p t.c')
-  within = omega (arith, length-set t.cpus t.p t.c', t.inside)
+  count : length t.cpus' ≡ length (set t.cpus t.p t.now)
+  count = t.meets.count
 
-  held : Holds t.limits t.v.seat.domain t.v.seat.processors t.v.seat.seen t.p t.c
-  held = subst (Holds t.limits t.v.seat.domain t.v.seat.processors t.v.seat.seen t.p) (sym t.is) (t.together.hold.each t.p t.c t.inside)
+  some : 0 < length t.cpus
+  some = t.met.all.some
 
-  -- what the processor has seen of the engine's changes t.is all of them
-  all_changes : t.c.changes ≤ t.c'.changes → t.c'.changes ≡ t.v.seat.changes
+  here : (d : DomainCpu) → get_or (set t.cpus t.p t.now) t.p d ≡ t.now
+  here d = get_or-set_same t.cpus t.p t.now d t.inside
+
+  within : t.p < length (set t.cpus t.p t.now)
+  within = omega (arith, length-set t.cpus t.p t.now, t.inside)
+
+  -- no turn was made but in the meeting, which found the engine that lay there
+  same_turns : (k : ℕ) (d : DomainCpu) → (get_or (set t.cpus t.p t.now) k d).turn ≡ (get_or t.cpus k d).turn
+  same_turns k d = dite (ℕ_discrete k t.p)
+      (λ same. subst (λ q. (get_or (set t.cpus t.p t.now) q d).turn ≡ (get_or t.cpus q d).turn) (sym same) (ap (λ (z : DomainCpu). z.turn) (here d) ∙ (t.turn ∙ ap (λ (z : DomainCpu). z.turn) (t.is ∙ get_or_default t.cpus t.p t.was d t.inside))))
+      (λ other. ap (λ (z : DomainCpu). z.turn) (get_or-set_other t.cpus t.p k t.now d other))
+
+  found_is : t.meets.found ≡ t.v
+  found_is = idle_found t.met.swaps t.cpus (set t.cpus t.p t.now) t.v t.met.turn_together some (length-set t.cpus t.p t.now) (λ k d _ lt. same_turns k d) t.cpus' t.meets.found t.meets.left t.meets.turns count nobody (same_turns 0 nobody)
+
+  turned : TurnTogether t.meets.turns.swaps t.cpus' t.meets.left
+  turned = idle_turned t.met.swaps t.cpus (set t.cpus t.p t.now) t.v t.met.turn_together some (length-set t.cpus t.p t.now) (λ k d _ lt. same_turns k d) t.cpus' t.meets.found t.meets.left t.meets.turns count nobody (same_turns 0 nobody)
+
+  engine_meets : EngineMeets t.v.seat (set t.cpus t.p t.now) t.meets.left.seat t.cpus'
+  engine_meets = subst (λ (z : View). EngineMeets z.seat (set t.cpus t.p t.now) t.meets.left.seat t.cpus') found_is t.meets.engine
+
+  same_engine : IsSameEngine t.v.seat t.meets.left.seat
+  same_engine = engine_meets.same
+
+  same_changes : t.meets.left.seat.changes ≡ t.v.seat.changes
+  same_changes = engine_meets.changes
+
+  rest_is : t.meets.left ≡ with_seat t.meets.left.seat t.v
+  rest_is = subst (λ (z : View). t.meets.left ≡ with_seat t.meets.left.seat z) found_is t.meets.rest
+
+  have_asked : HaveAsked t.p t.met.raises t.raised (set t.cpus t.p t.now)
+  have_asked = raised_here t.met.raises t.cpus t.met.ask_together t.p t.inside t.was t.now t.is t.raised t.needs t.own t.others
+
+  pub raises_are : t.meets.needs.raises ≡ t.met.raises ++ t.raised
+  raises_are = all_raised t.d' (set t.cpus t.p t.now) t.cpus' t.all count t.meets.needs nobody t.p t.met.raises t.raised have_asked
+
+  ask_together : AskTogether t.meets.needs.raises t.cpus'
+  ask_together = asked_together t.d' (set t.cpus t.p t.now) t.cpus' t.all count t.meets.needs nobody t.p t.met.raises t.raised have_asked
+
+  abbrev pub asked_before : ℕ
+  asked_before = greatest t.met.raises
+
+  abbrev pub asked_after : ℕ
+  asked_after = greatest t.meets.needs.raises
+
+  abbrev pub before : SoloView
+  before = seen_as t.limits asked_before t.v
+
+  abbrev pub after : SoloView
+  after = seen_as t.limits asked_after t.meets.left
+
+  -- how it is seen
+
+  pub now_was : (now : SoloView) → seen_first t.d.domain t.limits t.cpus ≡ now → now ≡ before
+  now_was now same = sym same ∙ is_seen t.d t.limits t.cpus t.v t.met
+
+  pub after_is : seen_first t.d'.domain t.limits t.cpus' ≡ after
+  after_is = first_seen t.d'.domain t.limits t.cpus' t.meets.left asked_after t.all.some turned.lying (λ c. ap greatest (ask_together.seen 0 c t.all.some))
+
+  held : Holds t.limits t.v.seat.domain t.v.seat.processors t.v.seat.seen t.p t.was.cpu
+  held = subst (λ (z : DomainCpu). Holds t.limits t.v.seat.domain t.v.seat.processors t.v.seat.seen t.p z.cpu) (sym t.is) (t.met.together.hold.each t.p t.was t.inside)
+
+  -- what the processor has seen of the engine's changes is all of them
+  all_changes : t.was.cpu.changes ≤ t.now.cpu.changes → t.now.cpu.changes ≡ t.v.seat.changes
   all_changes later =
-      let before : t.c.changes ≡ t.v.seat.changes = ap (λ (x : CpuView). x.changes) t.is ∙ t.together.changes t.p t.c t.inside in
-      let most : t.c'.changes ≤ t.v.seat.changes = subst (λ (x : CpuView). x.changes ≤ t.v.seat.changes) here (t.settles.all_seen t.p t.c within) in
-      omega (arith, later, before, most)
+      let before : t.was.cpu.changes ≡ t.v.seat.changes = ap (λ (x : DomainCpu). x.cpu.changes) t.is ∙ t.met.together.changes t.p t.was t.inside in
+      let joins : t.now.cpu.changes ≤ t.meets.left.seat.changes = subst (λ (x : DomainCpu). x.cpu.changes ≤ t.meets.left.seat.changes) (here nobody) (engine_meets.each t.p nobody within).later in
+      let most = same_changes in
+      omega (arith, later, before, joins, most)
 
-  module _ (act : List Event) (acts : Acts act t.c t.c') (own : AreOf t.p act) where
-    held_after : Holds t.limits t.v.seat.domain t.v.seat.processors (t.v.seat.seen ++ act) t.p t.c'
+  module _ (act : List Event) (acts : Acts act t.was.cpu t.now.cpu) (own : AreOf t.p act) where
+    held_after : Holds t.limits t.v.seat.domain t.v.seat.processors (t.v.seat.seen ++ act) t.p t.now.cpu
     held_after = record {
       domain = acts.same.0 ∙ held.domain;
       processors_are = acts.same.1 ∙ held.processors_are;
@@ -145,17 +242,17 @@ module _ (t : Turn) where
       mine = acts.mine ∙ (ap (λ l. l ++ act) held.mine ∙ (ap (λ l. made_by (Processor t.p) t.v.seat.seen ++ l) (sym own.own) ∙ sym (made_by_append (Processor t.p) t.v.seat.seen act)));
     }
 
-    hold : AllHold t.limits (t.v.seat.seen ++ act) (set t.cpus t.p t.c') t.v.seat
+    hold : AllHold t.limits (t.v.seat.seen ++ act) (set t.cpus t.p t.now) t.v.seat
     hold = record {
-      in_range = t.together.hold.in_range;
-      periods = t.together.hold.periods;
-      count = t.together.hold.count;
-      all = length-set t.cpus t.p t.c' ∙ t.together.hold.all;
-      engine = t.together.hold.engine ∙ sym (made_by_append Engine t.v.seat.seen act ∙ (ap (λ l. made_by Engine t.v.seat.seen ++ l) own.engine ∙ append-nil (made_by Engine t.v.seat.seen)));
-      each = λ k d lt. let inside = t.inside in let inside_k : k < length t.cpus = omega (arith, length-set t.cpus t.p t.c', lt) in
+      in_range = t.met.together.hold.in_range;
+      periods = t.met.together.hold.periods;
+      count = t.met.together.hold.count;
+      all = length-set t.cpus t.p t.now ∙ t.met.together.hold.all;
+      engine = t.met.together.hold.engine ∙ sym (made_by_append Engine t.v.seat.seen act ∙ (ap (λ l. made_by Engine t.v.seat.seen ++ l) own.engine ∙ append-nil (made_by Engine t.v.seat.seen)));
+      each = λ k d lt. let inside = t.inside in let inside_k : k < length t.cpus = omega (arith, length-set t.cpus t.p t.now, lt) in
           dite (ℕ_discrete k t.p)
-          (λ same. subst (λ (q : ℕ). Holds t.limits t.v.seat.domain t.v.seat.processors (t.v.seat.seen ++ act) q (get_or (set t.cpus t.p t.c') q d)) (sym same) (rw get_or-set_same held_after))
-          (λ other. let old = t.together.hold.each k d inside_k in rw get_or-set_other (record {
+          (λ same. subst (λ (q : ℕ). Holds t.limits t.v.seat.domain t.v.seat.processors (t.v.seat.seen ++ act) q (get_or (set t.cpus t.p t.now) q d).cpu) (sym same) (subst (λ (z : DomainCpu). Holds t.limits t.v.seat.domain t.v.seat.processors (t.v.seat.seen ++ act) t.p z.cpu) (sym (here d)) held_after))
+          (λ other. let old = t.met.together.hold.each k d inside_k in subst (λ (z : DomainCpu). Holds t.limits t.v.seat.domain t.v.seat.processors (t.v.seat.seen ++ act) k z.cpu) (sym (get_or-set_other t.cpus t.p k t.now d other)) (record {
             domain = old.domain;
             processors_are = old.processors_are;
             sections = old.sections;
@@ -164,49 +261,86 @@ module _ (t : Turn) where
           }));
     }
 
-    seen_here : (get_or (set t.cpus t.p t.c') t.p t.c).seen ≡ t.v.seat.seen ++ (acts.others ++ act)
-    seen_here = ap (λ (x : CpuView). x.seen) here ∙ (acts.seen ∙ ap (λ l. l ++ (acts.others ++ act)) (ap (λ (x : CpuView). x.seen) t.is ∙ t.together.seen t.p t.c t.inside))
+    seen_here : (get_or (set t.cpus t.p t.now) t.p nobody).cpu.seen ≡ t.v.seat.seen ++ (acts.others ++ act)
+    seen_here = ap (λ (x : DomainCpu). x.cpu.seen) (here nobody) ∙ (acts.seen ∙ ap (λ l. l ++ (acts.others ++ act)) (ap (λ (x : DomainCpu). x.cpu.seen) t.is ∙ t.met.together.seen t.p t.was t.inside))
 
-    pub acted : IsSettled t.limits t.v.seat.seen acts.others act t.cpus' t.v'.seat
-    acted = t.settles.settled t.limits t.v.seat.seen acts.others act (record { hold = hold; seen = inr (t.p, t.c, within, seen_here) })
+    pub acted : IsSettled t.limits t.v.seat.seen acts.others act t.cpus' t.meets.left.seat
+    acted = settled (set t.cpus t.p t.now) t.cpus' t.v.seat t.meets.left.seat count engine_meets nobody t.limits t.v.seat.seen acts.others act (record { hold = hold; seen = inr (t.p, nobody, within, subst (λ l. IsBeginning l (get_or (set t.cpus t.p t.now) t.p nobody).cpu.seen) seen_here (beginning_refl (get_or (set t.cpus t.p t.now) t.p nobody).cpu.seen)) })
 
     -- the domain has come so far
-    come : (act' : List Event) → act ≡ act' → seen_as t.limits t.v' ≡ record { table = t.v.seat.domain; limits = t.limits; standing = record (standing_of t.v) { history = t.v.seat.seen ++ act' } }
+    come : (act' : List Event) → act ≡ act' → after ≡ record { table = t.v.seat.domain; limits = t.limits; standing = record (standing_of t.v) { history = t.v.seat.seen ++ act' }; asked = asked_after }
     come act' same = λ z. record {
-      table = t.settles.same.0 z;
+      table = same_engine.0 z;
       limits = t.limits;
       standing = record {
-        processors = t.settles.same.1 z;
-        periods = t.settles.same.2 z;
+        processors = same_engine.1 z;
+        periods = same_engine.2 z;
         history = (acted.seen ∙ ap (λ l. t.v.seat.seen ++ l) same) z;
-        changes = t.settles.changes z;
-        so_far = ap (λ (x : View). x.so_far) t.settles.rest z;
-        began = ap (λ (x : View). x.began) t.settles.rest z;
+        changes = same_changes z;
+        so_far = ap (λ (x : View). x.so_far) rest_is z;
+        began = ap (λ (x : View). x.began) rest_is z;
       };
+      asked = asked_after;
     }
 
-  -- Nothing was done
+    -- all that is true of a domain in one hand
+    met_by : IsQuiet act → asked_after % 4 ≡ 0 → (¬ IsRunning t.v.seat.seen → 0 < t.v.so_far → asked_after ≡ asked_before) → HaveMet t.d' t.limits t.cpus' t.meets.left
+    met_by quiet cookies same = record {
+      all = t.all;
+      together = acted.together;
+      raises = t.meets.needs.raises;
+      ask_together = ask_together;
+      swaps = t.meets.turns.swaps;
+      turn_together = turned;
+      cookies = cookies;
+      wanted = λ resting some.
+          let after = ap starts_in acted.seen ∙ (quiet t.v.seat.seen).0 in
+          let ended = ap ended_in acted.seen ∙ (quiet t.v.seat.seen).1 in
+          let before : ¬ IsRunning t.v.seat.seen = λ running. resting (omega (arith, after, ended, running)) in
+          let so_far = ap (λ (x : View). x.so_far) rest_is in
+          let half : 0 < t.v.so_far = omega (arith, so_far, some) in
+          let wanted = t.met.wanted before half in
+          let need = ap (λ (x : View). x.need) rest_is in record {
+            need = need ∙ (wanted.need ∙ sym (same before half));
+            above = (let above = wanted.above in omega (arith, above, need, ended));
+          };
+    }
 
-  module _ (acts : Acts [] t.c t.c') where
-    pub idle_together : AreTogether t.limits t.cpus' t.v'.seat
-    idle_together = (acted [] acts (none_of t.p)).together
+  -- Nothing was asked for
 
-    pub idle : seen_as t.limits t.v' ≡ seen_as t.limits t.v
-    idle = come [] acts (none_of t.p) [] refl ∙ ap (λ (l : List Event). record { table = t.v.seat.domain; limits = t.limits; standing = record (standing_of t.v) { history = l } }) (append-nil t.v.seat.seen)
+  module _ (none : t.raised ≡ []) where
+    same_asked : asked_after ≡ asked_before
+    same_asked = ap greatest (raises_are ∙ (ap (λ l. t.met.raises ++ l) none ∙ append-nil t.met.raises))
+
+    met_plain : (act : List Event) → Acts act t.was.cpu t.now.cpu → AreOf t.p act → IsQuiet act → HaveMet t.d' t.limits t.cpus' t.meets.left
+    met_plain act acts own quiet = met_by act acts own quiet (ap (λ n. n % 4) same_asked ∙ t.met.cookies) (λ _ _. same_asked)
+
+    pub same_as : IsSame (before) (after)
+    same_as = (same_engine.0, refl, same_engine.1, same_engine.2, same_asked)
+
+    -- a load of the root found just what had been asked for
+    pub need_is : (found : ℕ) → LoadsRoot t.was.needs found t.now.needs → found ≡ asked_before
+    need_is found h =
+        let seen : t.was.needs.seen ≡ t.met.raises = ap (λ (z : DomainCpu). z.needs.seen) t.is ∙ t.met.ask_together.seen t.p t.was t.inside in
+        let into : IsBeginningAtTree t.now.needs.seen t.meets.needs.raises = subst (λ (z : DomainCpu). IsBeginningAtTree z.needs.seen t.meets.needs.raises) (here nobody) (t.meets.needs.each t.p nobody within).since in
+        let same : t.now.needs.seen ≡ t.met.raises = squeezed t.met.raises t.now.needs.seen t.meets.needs.raises (subst (λ l. IsBeginningAtTree l t.now.needs.seen) seen h.since) into (raises_are ∙ (ap (λ l. t.met.raises ++ l) none ∙ append-nil t.met.raises)) in
+        h.current ∙ (ap (value 0) same ∙ t.met.ask_together.root)
+
+    -- and nothing was done
+    module _ (acts : Acts [] t.was.cpu t.now.cpu) where
+      pub idle_met : HaveMet t.d' t.limits t.cpus' t.meets.left
+      idle_met = met_plain [] acts (none_of t.p) quiet_none
+
+      pub idle : after ≡ before
+      idle = come [] acts (none_of t.p) [] refl ∙ (λ i. record { table = t.v.seat.domain; limits = t.limits; standing = record (standing_of t.v) { history = append-nil t.v.seat.seen i }; asked = same_asked i })
 
   -- One event was made
 
-  pub same_domain : IsSame (seen_as t.limits t.v) (seen_as t.limits t.v')
-  same_domain = (t.settles.same.0, refl, t.settles.same.1, t.settles.same.2)
+  module _ (ev ev' : Event) (acts : Acts (ev ∷ []) t.was.cpu t.now.cpu) (own : maker_of ev ≡ Processor t.p) (same : ev ≡ ev') where
+    pub event_met : t.raised ≡ [] → is_start ev ≡ false → is_finish ev ≡ false → HaveMet t.d' t.limits t.cpus' t.meets.left
+    event_met none starts ends = met_plain none (ev ∷ []) acts (one_of t.p ev own) (quiet_one ev starts ends)
 
-  pub no_need_still : t.v.need ≡ 0 → t.v'.need ≡ 0
-  no_need_still none = ap (λ (x : View). x.need) t.settles.rest ∙ none
-
-  module _ (ev ev' : Event) (acts : Acts (ev ∷ []) t.c t.c') (own : maker_of ev ≡ Processor t.p) (same : ev ≡ ev') where
-    pub event_together : AreTogether t.limits t.cpus' t.v'.seat
-    event_together = (acted (ev ∷ []) acts (one_of t.p ev own)).together
-
-    pub happens : Happens ev' (standing_of t.v) (standing_of t.v')
+    pub happens : Happens ev' (standing_of t.v) (standing_of t.meets.left)
     happens =
         let settled = acted (ev ∷ []) acts (one_of t.p ev own) in record {
           follows = subst (MayFollow t.v.seat.seen) same (last_may_follow t.v.seat.seen ev (subst IsLegal settled.seen settled.together.history.legal));
@@ -214,43 +348,43 @@ module _ (t : Turn) where
         }
 
   own_locks : (q : ℕ) (i j : Index) (mine : List Event) → q ≡ t.p → i ≡ j → mine ≡ made_by (Processor t.p) t.v.seat.seen → locks q i mine ≡ locks t.p j t.v.seat.seen
-  own_locks q i j mine qp ij mm = (λ z. locks (qp z) (ij z) (mm z)) ∙ locks_mine t.v.seat.processors t.p j t.v.seat.seen t.together.history.makers
+  own_locks q i j mine qp ij mm = (λ z. locks (qp z) (ij z) (mm z)) ∙ locks_mine t.v.seat.processors t.p j t.v.seat.seen t.met.together.history.makers
 
   -- Looks
 
-  pub looked : (l : LookView) → Looks t.c t.c' l → IsLookNow (seen_as t.limits t.v) l
+  pub looked : (l : LookView) → Looks t.was.cpu t.now.cpu l → IsLookNow (before) l
   looked l h = record {
     table = ap (λ (x : LookView). x.domain) h.look_is ∙ held.domain;
-    index = look_index t.c t.c' l t.v.seat.changes h (all_changes h.load.later);
+    index = look_index t.was.cpu t.now.cpu l t.v.seat.changes h (all_changes h.load.later);
   }
 
   -- Sections
 
-  abbrev in_vain : LooksInVain t.c t.c' → Acts [] t.c t.c'
-  in_vain h = acts_of_load _ t.c t.c' h.looks.load
+  abbrev in_vain : LooksInVain t.was.cpu t.now.cpu → Acts [] t.was.cpu t.now.cpu
+  in_vain h = acts_of_load _ t.was.cpu t.now.cpu h.looks.load
 
-  module _ (r : ReadingView) (h : ReadLocks t.c t.c' r) where
+  module _ (kind : Bool) (r : ReadingView) (h : LooksAndBegins kind t.was.cpu t.now.cpu r) where
     processor_is : h.between.processor ≡ t.p
     processor_is = h.looks.load.same.3 ∙ held.processor
 
     index_is : h.look.index ≡ index_now (standing_of t.v)
     index_is =
         let first = h.looks.load.later in let second = h.enters.adds.later in
-        let all : t.c'.changes ≡ t.v.seat.changes = all_changes (omega (arith, first, second)) in
-        let before : t.c.changes ≡ t.v.seat.changes = ap (λ (x : CpuView). x.changes) t.is ∙ t.together.changes t.p t.c t.inside in
-        look_index t.c h.between h.look t.v.seat.changes h.looks (omega (arith, first, second, all, before))
+        let all : t.now.cpu.changes ≡ t.v.seat.changes = all_changes (omega (arith, first, second)) in
+        let before : t.was.cpu.changes ≡ t.v.seat.changes = ap (λ (x : DomainCpu). x.cpu.changes) t.is ∙ t.met.together.changes t.p t.was t.inside in
+        look_index t.was.cpu h.between h.look t.v.seat.changes h.looks (omega (arith, first, second, all, before))
 
-    locked_event : begin_of t.c t.c' r h ≡ Begin r.section t.p (index_now (standing_of t.v)) (Processor t.p)
+    locked_event : begin_of kind t.was.cpu t.now.cpu r h ≡ Begin r.section t.p (index_now (standing_of t.v)) (Processor t.p)
     locked_event = λ z. Begin (ap (λ (x : ReadingView). x.section) (sym h.enters.reading) z) (processor_is z) (index_is z) (Processor (processor_is z))
 
-    pub locked : Begins t.limits t.p (index_now (standing_of t.v)) r.section (standing_of t.v) (standing_of t.v') × IsReadingAt t.v.seat.domain t.p (index_now (standing_of t.v)) r
+    pub locked : Begins t.limits t.p (index_now (standing_of t.v)) r.section (standing_of t.v) (standing_of t.meets.left) × IsReadingAt t.v.seat.domain t.p (index_now (standing_of t.v)) r
     locked =
         let counted = own_locks h.between.processor h.look.index (index_now (standing_of t.v)) h.between.mine processor_is index_is (h.looks.load.mine ∙ held.mine) in
         let sections : h.between.sections ≡ t.limits.sections = h.looks.load.same.2 ∙ held.sections in
         let room : locks h.between.processor h.look.index h.between.mine < h.between.sections = h.enters.room in (
           record {
             room = omega (arith, counted, sections, room);
-            happens = happens (begin_of t.c t.c' r h) (Begin r.section t.p (index_now (standing_of t.v)) (Processor t.p)) (acts_of_lock t.c t.c' r h) (ap Processor processor_is) locked_event;
+            happens = happens (begin_of kind t.was.cpu t.now.cpu r h) (Begin r.section t.p (index_now (standing_of t.v)) (Processor t.p)) (acts_of_lock kind t.was.cpu t.now.cpu r h) (ap Processor processor_is) locked_event;
           },
           record {
             table_is = ap (λ (x : ReadingView). x.domain) h.enters.reading ∙ (h.looks.load.same.0 ∙ held.domain);
@@ -259,31 +393,31 @@ module _ (t : Turn) where
           },
         )
 
-    pub locked_together : AreTogether t.limits t.cpus' t.v'.seat
-    locked_together = event_together (begin_of t.c t.c' r h) (begin_of t.c t.c' r h) (acts_of_lock t.c t.c' r h) (ap Processor processor_is) refl
+    pub locked_met : t.raised ≡ [] → HaveMet t.d' t.limits t.cpus' t.meets.left
+    locked_met none = event_met (begin_of kind t.was.cpu t.now.cpu r h) (begin_of kind t.was.cpu t.now.cpu r h) (acts_of_lock kind t.was.cpu t.now.cpu r h) (ap Processor processor_is) refl none refl refl
 
-  pub locked_none : LooksInVain t.c t.c' → IsOutOfSections t.limits t.p (index_now (standing_of t.v)) (standing_of t.v) × (seen_as t.limits t.v' ≡ seen_as t.limits t.v)
-  locked_none h =
+  pub locked_none : t.raised ≡ [] → LooksInVain t.was.cpu t.now.cpu → IsOutOfSections t.limits t.p (index_now (standing_of t.v)) (standing_of t.v) × (after ≡ before)
+  locked_none none h =
       let acts = in_vain h in
-      let index = look_index t.c t.c' h.look t.v.seat.changes h.looks (all_changes acts.later) in
-      (sym (own_locks t.c'.processor h.look.index (index_now (standing_of t.v)) t.c'.mine (h.looks.load.same.3 ∙ held.processor) index (h.looks.load.mine ∙ held.mine)) ∙ (h.exhausted ∙ (h.looks.load.same.2 ∙ held.sections)), idle acts)
+      let index = look_index t.was.cpu t.now.cpu h.look t.v.seat.changes h.looks (all_changes acts.later) in
+      (sym (own_locks t.now.cpu.processor h.look.index (index_now (standing_of t.v)) t.now.cpu.mine (h.looks.load.same.3 ∙ held.processor) index (h.looks.load.mine ∙ held.mine)) ∙ (h.exhausted ∙ (h.looks.load.same.2 ∙ held.sections)), idle none acts)
 
-  pub lock_together : (taken : Result ReadingView Exhausted) → MatchResult taken (λ r. ReadLocks t.c t.c' r) (λ _. LooksInVain t.c t.c') → AreTogether t.limits t.cpus' t.v'.seat
-  lock_together (Ok r) h = locked_together r h
-  lock_together (Err x) h = idle_together (in_vain h)
+  pub lock_met : t.raised ≡ [] → (kind : Bool) (taken : Result ReadingView Exhausted) → MatchResult taken (λ r. LooksAndBegins kind t.was.cpu t.now.cpu r) (λ _. LooksInVain t.was.cpu t.now.cpu) → HaveMet t.d' t.limits t.cpus' t.meets.left
+  lock_met none kind (Ok r) h = locked_met kind r h none
+  lock_met none kind (Err x) h = idle_met none (in_vain h)
 
   module _ (look : LookView) where
-    abbrev enter_event : (r : ReadingView) → Enters t.c look t.c' r → Event
-    enter_event r h = Begin h.section t.c.processor look.index (Processor t.c.processor)
+    abbrev enter_event : (r : ReadingView) → Enters t.was.cpu look t.now.cpu r → Event
+    enter_event r h = Begin h.section t.was.cpu.processor look.index (Processor t.was.cpu.processor)
 
-    abbrev enter_acts : (r : ReadingView) (h : Enters t.c look t.c' r) → Acts (enter_event r h ∷ []) t.c t.c'
-    enter_acts r h = acts_of_event look.seen look.changes (enter_event r h) t.c t.c' h.adds
+    abbrev enter_acts : (r : ReadingView) (h : Enters t.was.cpu look t.now.cpu r) → Acts (enter_event r h ∷ []) t.was.cpu t.now.cpu
+    enter_acts r h = acts_of_event look.seen look.changes (enter_event r h) t.was.cpu t.now.cpu h.adds
 
-    pub entered : (r : ReadingView) → Enters t.c look t.c' r → Begins t.limits t.p look.index r.section (standing_of t.v) (standing_of t.v') × IsReadingAt t.v.seat.domain t.p look.index r
+    pub entered : (r : ReadingView) → Enters t.was.cpu look t.now.cpu r → Begins t.limits t.p look.index r.section (standing_of t.v) (standing_of t.meets.left) × IsReadingAt t.v.seat.domain t.p look.index r
     entered r h =
-        let counted = own_locks t.c.processor look.index look.index t.c.mine held.processor refl held.mine in
-        let sections : t.c.sections ≡ t.limits.sections = held.sections in
-        let room : locks t.c.processor look.index t.c.mine < t.c.sections = h.room in
+        let counted = own_locks t.was.cpu.processor look.index look.index t.was.cpu.mine held.processor refl held.mine in
+        let sections : t.was.cpu.sections ≡ t.limits.sections = held.sections in
+        let room : locks t.was.cpu.processor look.index t.was.cpu.mine < t.was.cpu.sections = h.room in
         let section_is : h.section ≡ r.section = ap (λ (x : ReadingView). x.section) (sym h.reading) in (
           record {
             room = omega (arith, counted, sections, room);
@@ -296,50 +430,85 @@ module _ (t : Turn) where
           },
         )
 
-    pub entered_none : IsExhausted t.c look.index → t.c' ≡ t.c → IsOutOfSections t.limits t.p look.index (standing_of t.v) × (seen_as t.limits t.v' ≡ seen_as t.limits t.v)
-    entered_none exhausted same =
-        (sym (own_locks t.c.processor look.index look.index t.c.mine held.processor refl held.mine) ∙ (exhausted ∙ held.sections), idle (acts_of_nothing t.c t.c' same))
+    pub entered_none : t.raised ≡ [] → IsExhausted t.was.cpu look.index → t.now.cpu ≡ t.was.cpu → IsOutOfSections t.limits t.p look.index (standing_of t.v) × (after ≡ before)
+    entered_none none exhausted same =
+        (sym (own_locks t.was.cpu.processor look.index look.index t.was.cpu.mine held.processor refl held.mine) ∙ (exhausted ∙ held.sections), idle none (acts_of_nothing t.was.cpu t.now.cpu same))
 
-    pub enter_together : (taken : Result ReadingView Exhausted) → MatchResult taken (λ r. Enters t.c look t.c' r) (λ _. IsExhausted t.c look.index × (t.c' ≡ t.c)) → AreTogether t.limits t.cpus' t.v'.seat
-    enter_together (Ok r) h = event_together (enter_event r h) (enter_event r h) (enter_acts r h) (ap Processor held.processor) refl
-    enter_together (Err x) h = idle_together (acts_of_nothing t.c t.c' h.1)
+    pub enter_met : t.raised ≡ [] → (taken : Result ReadingView Exhausted) → MatchResult taken (λ r. Enters t.was.cpu look t.now.cpu r) (λ _. IsExhausted t.was.cpu look.index × (t.now.cpu ≡ t.was.cpu)) → HaveMet t.d' t.limits t.cpus' t.meets.left
+    enter_met none (Ok r) h = event_met (enter_event r h) (enter_event r h) (enter_acts r h) (ap Processor held.processor) refl none refl refl
+    enter_met none (Err x) h = idle_met none (acts_of_nothing t.was.cpu t.now.cpu h.1)
 
   -- the reading's section ends
   abbrev end_of : ReadingView → Event
-  end_of r = End r.section t.c.processor (Processor t.c.processor)
+  end_of r = End r.section t.was.cpu.processor (Processor t.was.cpu.processor)
 
-  pub ended : (other : List Event) (reached : ℕ) (r : ReadingView) → r.processor ≡ t.p → AddsEvent other reached (end_of r) t.c t.c' → call.Ends r.section r.processor (standing_of t.v) (standing_of t.v')
-  ended other reached r at a =
-      let same : t.c.processor ≡ r.processor = held.processor ∙ sym at in
-      happens (end_of r) (End r.section r.processor (Processor r.processor)) (acts_of_event other reached (end_of r) t.c t.c' a) (ap Processor held.processor) (λ z. End r.section (same z) (Processor (same z)))
+  -- on this processor, where a held section was begun anywhere
+  pub ended_here : (other : List Event) (reached : ℕ) (r : ReadingView) → AddsEvent other reached (end_of r) t.was.cpu t.now.cpu → call.Ends r.section t.p (standing_of t.v) (standing_of t.meets.left)
+  ended_here other reached r a = happens (end_of r) (End r.section t.p (Processor t.p)) (acts_of_event other reached (end_of r) t.was.cpu t.now.cpu a) (ap Processor held.processor) (λ z. End r.section (held.processor z) (Processor (held.processor z)))
 
-  pub ended_together : (other : List Event) (reached : ℕ) (r : ReadingView) → AddsEvent other reached (end_of r) t.c t.c' → AreTogether t.limits t.cpus' t.v'.seat
-  ended_together other reached r a = event_together (end_of r) (end_of r) (acts_of_event other reached (end_of r) t.c t.c' a) (ap Processor held.processor) refl
+  pub ended : (other : List Event) (reached : ℕ) (r : ReadingView) → r.processor ≡ t.p → AddsEvent other reached (end_of r) t.was.cpu t.now.cpu → call.Ends r.section r.processor (standing_of t.v) (standing_of t.meets.left)
+  ended other reached r at a = subst (λ q. call.Ends r.section q (standing_of t.v) (standing_of t.meets.left)) (sym at) (ended_here other reached r a)
+
+  pub ended_met : t.raised ≡ [] → (other : List Event) (reached : ℕ) (r : ReadingView) → AddsEvent other reached (end_of r) t.was.cpu t.now.cpu → HaveMet t.d' t.limits t.cpus' t.meets.left
+  ended_met none other reached r a = event_met (end_of r) (end_of r) (acts_of_event other reached (end_of r) t.was.cpu t.now.cpu a) (ap Processor held.processor) refl none refl refl
 
   -- Cookies and the number
 
   abbrev note_of : ℕ → Event
-  note_of number = Note (cookie_at number) (Processor t.c.processor)
+  note_of number = Note (cookie_at number) (Processor t.was.cpu.processor)
 
-  pub noted_together : (number : ℕ) → Notes number t.c t.c' → AreTogether t.limits t.cpus' t.v'.seat
-  noted_together number h = event_together (note_of number) (note_of number) (acts_of_event t.c.seen t.c.changes (note_of number) t.c t.c' h.adds) (ap Processor held.processor) refl
+  note_acts : (number : ℕ) → Notes number t.was.cpu t.now.cpu → Acts (note_of number ∷ []) t.was.cpu t.now.cpu
+  note_acts number h = acts_of_event t.was.cpu.seen t.was.cpu.changes (note_of number) t.was.cpu t.now.cpu h.adds
 
-  pub noted : (number : ℕ) → Notes number t.c t.c' → call.GivesCookie t.p (cookie_at number) (standing_of t.v) (standing_of t.v')
-  noted number h = happens (note_of number) (Note (cookie_at number) (Processor t.p)) (acts_of_event t.c.seen t.c.changes (note_of number) t.c t.c' h.adds) (ap Processor held.processor) (ap (λ q. Note (cookie_at number) (Processor q)) held.processor)
+  pub noted_met : t.raised ≡ [] → (number : ℕ) → Notes number t.was.cpu t.now.cpu → HaveMet t.d' t.limits t.cpus' t.meets.left
+  noted_met none number h = event_met (note_of number) (note_of number) (note_acts number h) (ap Processor held.processor) refl none refl refl
 
-  pub given : (cookie : CookieView) → GivesCookie t.c t.c' cookie → call.GivesCookie t.p cookie.number (standing_of t.v) (standing_of t.v')
-  given cookie h = subst (λ n. call.GivesCookie t.p n (standing_of t.v) (standing_of t.v')) (ap (λ (x : CookieView). x.number) (sym h.cookie_is)) (noted h.number h.notes)
+  pub noted : (number : ℕ) → Notes number t.was.cpu t.now.cpu → call.GivesCookie t.p (cookie_at number) (standing_of t.v) (standing_of t.meets.left)
+  noted number h = happens (note_of number) (Note (cookie_at number) (Processor t.p)) (acts_of_event t.was.cpu.seen t.was.cpu.changes (note_of number) t.was.cpu t.now.cpu h.adds) (ap Processor held.processor) (ap (λ q. Note (cookie_at number) (Processor q)) held.processor)
 
-  pub read_number : (number : ℕ) → Notes number t.c t.c' → (number ≡ number_word t.v.seat.changes) × call.GivesCookie t.p (cookie_after t.v.seat.seen) (standing_of t.v) (standing_of t.v')
+  pub given : (cookie : CookieView) → GivesCookie t.was.cpu t.now.cpu cookie → call.GivesCookie t.p cookie.number (standing_of t.v) (standing_of t.meets.left)
+  given cookie h = subst (λ n. call.GivesCookie t.p n (standing_of t.v) (standing_of t.meets.left)) (ap (λ (x : CookieView). x.number) (sym h.cookie_is)) (noted h.number h.notes)
+
+  pub read_number : (number : ℕ) → Notes number t.was.cpu t.now.cpu → (number ≡ number_word t.v.seat.changes) × call.GivesCookie t.p (cookie_after t.v.seat.seen) (standing_of t.v) (standing_of t.meets.left)
   read_number number h = let gives = noted number h in
-      (h.current ∙ ap number_word (all_changes h.adds.later), subst (λ n. call.GivesCookie t.p n (standing_of t.v) (standing_of t.v')) gives.follows gives)
+      (h.current ∙ ap number_word (all_changes h.adds.later), subst (λ n. call.GivesCookie t.p n (standing_of t.v) (standing_of t.meets.left)) gives.follows gives)
 
   abbrev ask_of : ℕ → Bool → Event
-  ask_of cookie done = Ask cookie done (Processor t.c.processor)
+  ask_of cookie done = Ask cookie done (Processor t.was.cpu.processor)
 
-  pub asked : (cookie : ℕ) (done : Bool) → Asks t.c.seen t.c.changes cookie done t.c t.c' → call.Asks t.p cookie done (standing_of t.v) (standing_of t.v')
-  asked cookie done h = happens (ask_of cookie done) (Ask cookie done (Processor t.p)) (acts_of_event t.c.seen t.c.changes (ask_of cookie done) t.c t.c' h.adds) (ap Processor held.processor) (ap (λ q. Ask cookie done (Processor q)) held.processor)
+  pub polled : (cookie : ℕ) (done : Bool) → Asks t.was.cpu.seen t.was.cpu.changes cookie done t.was.cpu t.now.cpu → call.Asks t.p cookie done (standing_of t.v) (standing_of t.meets.left)
+  polled cookie done h = happens (ask_of cookie done) (Ask cookie done (Processor t.p)) (acts_of_event t.was.cpu.seen t.was.cpu.changes (ask_of cookie done) t.was.cpu t.now.cpu h.adds) (ap Processor held.processor) (ap (λ q. Ask cookie done (Processor q)) held.processor)
 
-  pub asked_together : (cookie : ℕ) (taken : Result Bool NotACookie) → MatchResult taken (λ done. Asks t.c.seen t.c.changes cookie done t.c t.c') (λ _. IsNoCookie cookie × (t.c' ≡ t.c)) → AreTogether t.limits t.cpus' t.v'.seat
-  asked_together cookie (Ok done) h = event_together (ask_of cookie done) (ask_of cookie done) (acts_of_event t.c.seen t.c.changes (ask_of cookie done) t.c t.c' h.adds) (ap Processor held.processor) refl
-  asked_together cookie (Err x) h = idle_together (acts_of_nothing t.c t.c' h.1)
+  pub polled_met : t.raised ≡ [] → (cookie : ℕ) (taken : Result Bool NotACookie) → MatchResult taken (λ done. Asks t.was.cpu.seen t.was.cpu.changes cookie done t.was.cpu t.now.cpu) (λ _. IsNoCookie cookie × (t.now.cpu ≡ t.was.cpu)) → HaveMet t.d' t.limits t.cpus' t.meets.left
+  polled_met none cookie (Ok done) h = event_met (ask_of cookie done) (ask_of cookie done) (acts_of_event t.was.cpu.seen t.was.cpu.changes (ask_of cookie done) t.was.cpu t.now.cpu h.adds) (ap Processor held.processor) refl none refl refl
+  polled_met none cookie (Err x) h = idle_met none (acts_of_nothing t.was.cpu t.now.cpu h.1)
+
+  -- A cookie that is asked for
+
+  -- where no period runs, the cookie of now is the next one above the number
+  next_above : (history : List Event) (asked : ℕ) → ¬ IsRunning history → asked % 4 ≡ 0 → number_at_rest history < asked → cookie_after history ≤ asked
+  next_above history asked resting cookie above =
+      let one : cookie_after history ≡ 4 * (ended_in history + 1) = ap (λ b. 4 * (ended_in history + cond b 2 1)) (le-ltb (ended_in history) (starts_in history) (omega (arith, resting))) in
+      omega (arith, one, cookie, above)
+
+  pub same_but_asked : IsSameDomain (before) (after)
+  same_but_asked = (same_engine.0, refl, same_engine.1, same_engine.2)
+
+  module _ (number : ℕ) (h : Notes number t.was.cpu t.now.cpu) (asks : asked_after ≡ max (asked_before) (cookie_at number)) where
+    cookie_is : cookie_at number ≡ cookie_after t.v.seat.seen
+    cookie_is = (noted number h).follows
+
+    cookie_of_four : cookie_at number % 4 ≡ 0
+    cookie_of_four = let is = cookie_is in omega (arith, is)
+
+    pub requested_met : HaveMet t.d' t.limits t.cpus' t.meets.left
+    requested_met = met_by (note_of number ∷ []) (note_acts number h) (one_of t.p (note_of number) (ap Processor held.processor)) (quiet_one (note_of number) refl refl)
+        (let before = t.met.cookies in let now = cookie_of_four in omega (arith, before, now, asks))
+        (λ resting half. let wanted = t.met.wanted resting half in let need = wanted.need in let above = wanted.above in
+        let low = next_above t.v.seat.seen (asked_before) resting t.met.cookies (omega (arith, need, above)) in let is = cookie_is in omega (arith, low, is, asks))
+
+    pub requested : (cookie : CookieView) → GivesCookie t.was.cpu t.now.cpu cookie → AsksFor t.p cookie.number (before) (after)
+    requested cookie c = record { gives = given cookie c; asked = asks ∙ ap (λ n. max (asked_before) n) (same_cookie ∙ ap (λ (x : CookieView). x.number) (sym c.cookie_is)) }
+      where
+        same_cookie : cookie_at number ≡ cookie_at c.number
+        same_cookie = cookie_is ∙ sym (noted c.number c.notes).follows

@@ -1,5 +1,5 @@
 -- What the calls of a domain in one hand do: each is said of how far the domain has come before and behind it.
-use Rattle.std.specs.Prelude.{◌≡◌, ℕ, ◌<◌, Bool, [], ◌∷◌, ◌++◌}
+use Rattle.std.specs.Prelude.{◌≡◌, ℕ, ◌<◌, max, Bool, [], ◌∷◌, ◌++◌}
 use Rattle.sseq.specs.declared.index.Index.{Index}
 use Rattle.atomic_table.specs.Seated.{TableId}
 use Rattle.onedom.specs.declared.event.Maker.TheVariants.{Processor}
@@ -16,17 +16,22 @@ use Rattle.scan.specs.declared.progress.Progress.{Progress}
 use Rattle.scan.specs.declared.progress.StartRefusal.{StartRefusal}
 use Rattle.scan.specs.declared.progress.StartRefusal.TheVariants as refusal
 use Rattle.scan.specs.Standings as engine
-use Rattle.scan.specs.Standings.{Standing, index_now, number_now, IsOutOfPeriods}
+use Rattle.scan.specs.Standings.{Standing, index_now, number_now, number_at_rest, IsOutOfPeriods}
 
--- `table` tells which looks and readings are of this domain; `standing` has its processors, its history, and how far its grace periods have come
+-- `table` tells which looks and readings are of this domain; `standing` has its processors, its history, and how far its grace periods have come; `asked` is the greatest number that was asked for, 0 if none
 pub record SoloView : Type 0 where
   pub table : TableId
   pub limits : Limits
   pub standing : Standing
+  pub asked : ℕ
 
 -- the same domain, with the same limits and processors
+abbrev pub IsSameDomain : SoloView → SoloView → Type 0
+IsSameDomain d d' = (d'.table ≡ d.table) × (d'.limits ≡ d.limits) × (d'.standing.processors ≡ d.standing.processors) × (d'.standing.periods ≡ d.standing.periods)
+
+-- and nothing more was asked for
 abbrev pub IsSame : SoloView → SoloView → Type 0
-IsSame d d' = (d'.table ≡ d.table) × (d'.limits ≡ d.limits) × (d'.standing.processors ≡ d.standing.processors) × (d'.standing.periods ≡ d.standing.periods)
+IsSame d d' = (d'.table ≡ d.table) × (d'.limits ≡ d.limits) × (d'.standing.processors ≡ d.standing.processors) × (d'.standing.periods ≡ d.standing.periods) × (d'.asked ≡ d.asked)
 
 -- Making
 
@@ -37,6 +42,7 @@ new_standing limits processors = record { processors = processors; periods = lim
 pub record IsNew (limits : Limits) (processors : ℕ) (d : SoloView) : Type 0 where
   pub limits_are : d.limits ≡ limits
   pub nothing_yet : d.standing ≡ new_standing limits processors
+  pub none_asked : d.asked ≡ 0
   pub count : IsCount processors
 
 abbrev pub IsNotMade : ℕ → MakeError → Type 0
@@ -56,7 +62,7 @@ pub record IsOf (table : TableId) (processors : ℕ) (r : ReadingView) : Type 0 
   pub table_is : r.domain ≡ table
   pub processor : r.processor < processors
 
--- the reading is of this domain, of a section that was begun on this processor with this index
+-- the reading, or the held section, is of this domain, and was begun on this processor with this index
 pub record IsReadingAt (table : TableId) (p : ℕ) (i : Index) (r : ReadingView) : Type 0 where
   pub table_is : r.domain ≡ table
   pub processor : r.processor ≡ p
@@ -97,7 +103,14 @@ pub record ReadsNumber (n : ℕ) (s s' : Standing) : Type 0 where
   pub number : n ≡ number_now s
   pub notes : GivesCookie 0 (cookie_after s.history) s s'
 
--- Grace periods: nobody comes between, and nothing is asked for
+-- Needs
+
+-- the processor is given the cookie of now, and asks for a grace period up to it
+pub record AsksFor (p cookie : ℕ) (d d' : SoloView) : Type 0 where
+  pub gives : GivesCookie p cookie d.standing d'.standing
+  pub asked : d'.asked ≡ max d.asked cookie
+
+-- Grace periods: nobody comes between, and `need` is the greatest number that was asked for
 
 -- a grace period starts, and `n` is the number then
 abbrev pub Starts : ℕ → Standing → Standing → Type 0
@@ -108,9 +121,15 @@ StartsNone refusal.Running s = IsRunning s.history
 StartsNone refusal.Exhausted s = IsOutOfPeriods s
 
 -- the engine makes one step
-abbrev pub Steps : Progress → Standing → Standing → Type 0
-Steps a s s' = engine.Steps [] 0 a s s'
+abbrev pub Steps : ℕ → Progress → Standing → Standing → Type 0
+Steps need a s s' = engine.Steps [] need a s s'
 
 -- the engine makes steps until there is an answer
-abbrev pub Advances : Progress → Standing → Standing → Type 0
-Advances a s s' = engine.Advances Steps a s s'
+abbrev pub Advances : ℕ → Progress → Standing → Standing → Type 0
+Advances need a s s' = engine.Advances (Steps need) a s s'
+
+-- a grace period is asked for, nothing is half done of it, and no more may start
+pub record IsAskedTooMuch (need : ℕ) (s : Standing) : Type 0 where
+  pub out : IsOutOfPeriods s
+  pub asked : number_at_rest s.history < need
+  pub nothing_half : s.so_far ≡ 0

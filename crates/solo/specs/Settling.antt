@@ -1,23 +1,33 @@
--- The processors and the engine of one domain, all in one hand, and what a meeting behind an act does.
-use Rattle.std.specs.Prelude.{◌≡◌, ℕ, ◌<◌, ◌≤◌, ◌⊎◌, List, [], ◌++◌, length, slice_index_or}
+-- All processors of one domain, in one hand, and its engine: what is true of them when they have met.
+use Rattle.std.specs.Prelude.{◌≡◌, ◌%◌, ◌<◌, ℕ, List, Some, length, slice_index_or}
 use Rattle.atomic_table.specs.Seated.{TableId}
 use Rattle.onedom.specs.declared.event.Maker.TheVariants.{Processor, Engine}
 use Rattle.onedom.specs.declared.event.Event.{Event}
-use Rattle.onedom.specs.Histories.{made_by}
+use Rattle.onedom.specs.Histories.{made_by, IsRunning}
 use Rattle.sections.specs.declared.limits.Limits.{Limits}
 use Rattle.sections.specs.Limits.{AreInRange}
-use Rattle.sections.specs.Views.{CpuView, EngineView}
-use Rattle.sections.specs.EngineCalls.{IsSeenByEngine, IsSameEngine}
+use Rattle.sections.specs.Views as sections
+use Rattle.sections.specs.Views.{EngineView}
+use Rattle.sections.specs.EngineCalls.{IsSeenByEngine}
 use Rattle.sections.specs.Making.{IsCount}
-use Rattle.scan.specs.Progress.{ScanView, with_seat}
-use Rattle.solo.specs.declared.needs.NoNeeds.{NoNeeds}
+use Rattle.funnel.specs.declared.view.Raise.{Raise}
+use Rattle.funnel.specs.Histories.{raised_by, value, greatest}
+use Rattle.funnel.specs.Calls.{IsSeenBy}
+use Rattle.desk.specs.Swaps.{Swap}
+use Rattle.desk.specs.BayCalls.{lies, HasSeenLegal}
+use Rattle.scan.specs.Standings.{number_at_rest}
+use Rattle.domain.specs.Views as domain
+use Rattle.domain.specs.Views.{DomainView, CpuView}
+use Rattle.domain.specs.Meetings.{IsAllOf}
 
--- the engine of a domain of which nobody asks for a grace period
+-- the engine, as it lies between two acts
 abbrev pub View : Type 0
-View = ScanView NoNeeds
+View = domain.Engine
+
+-- Sections
 
 -- processor k of the domain, with just its own events of the history
-pub record Holds (limits : Limits) (table : TableId) (processors : ℕ) (history : List Event) (k : ℕ) (c : CpuView) : Type 0 where
+pub record Holds (limits : Limits) (table : TableId) (processors : ℕ) (history : List Event) (k : ℕ) (c : sections.CpuView) : Type 0 where
   pub domain : c.domain ≡ table
   pub processors_are : c.processors ≡ processors
   pub sections : c.sections ≡ limits.sections
@@ -31,36 +41,48 @@ pub record AllHold (limits : Limits) (history : List Event) (cpus : List CpuView
   pub count : IsCount e.processors
   pub all : length cpus ≡ e.processors
   pub engine : e.mine ≡ made_by Engine history
-  pub each : (k : ℕ) (d : CpuView) → k < length cpus → Holds limits e.domain e.processors history k (slice_index_or cpus k d)
+  pub each : (k : ℕ) (d : CpuView) → k < length cpus → Holds limits e.domain e.processors history k (slice_index_or cpus k d).cpu
 
 -- all of them have seen one history, and all changes of the engine
 pub record AreTogether (limits : Limits) (cpus : List CpuView) (e : EngineView) : Type 0 where
   pub hold : AllHold limits e.seen cpus e
   pub history : IsSeenByEngine e
-  pub seen : (k : ℕ) (d : CpuView) → k < length cpus → (slice_index_or cpus k d).seen ≡ e.seen
-  pub changes : (k : ℕ) (d : CpuView) → k < length cpus → (slice_index_or cpus k d).changes ≡ e.changes
+  pub seen : (k : ℕ) (d : CpuView) → k < length cpus → (slice_index_or cpus k d).cpu.seen ≡ e.seen
+  pub changes : (k : ℕ) (d : CpuView) → k < length cpus → (slice_index_or cpus k d).cpu.changes ≡ e.changes
 
--- Settling
+-- Needs
 
--- the engine or a processor has seen this history
-abbrev pub IsSeenByOne : List Event → List CpuView → EngineView → Type 0
-IsSeenByOne history cpus e = (e.seen ≡ history) ⊎ ((k : ℕ) × (d : CpuView) × (k < length cpus) × ((slice_index_or cpus k d).seen ≡ history))
+-- all processors have seen just these raises at the tree, each has just its own, and the root holds the greatest number
+pub record AskTogether (raises : List Raise) (cpus : List CpuView) : Type 0 where
+  pub mine : (k : ℕ) (d : CpuView) → k < length cpus → (slice_index_or cpus k d).needs.mine ≡ raised_by k raises
+  pub seen : (k : ℕ) (d : CpuView) → k < length cpus → (slice_index_or cpus k d).needs.seen ≡ raises
+  pub history : (k : ℕ) (d : CpuView) → k < length cpus → IsSeenBy (slice_index_or cpus k d).needs
+  pub root : value 0 raises ≡ greatest raises
 
--- one of those in hand acted: each has just its own events of what was before and of the act, and the one has seen the act
-pub record IsActed (limits : Limits) (before others act : List Event) (cpus : List CpuView) (e : EngineView) : Type 0 where
-  pub hold : AllHold limits (before ++ act) cpus e
-  pub seen : IsSeenByOne (before ++ (others ++ act)) cpus e
+-- Turns
 
--- nothing came before the act, and all have seen it and nothing else
-pub record IsSettled (limits : Limits) (before others act : List Event) (cpus : List CpuView) (e : EngineView) : Type 0 where
-  pub alone : others ≡ []
-  pub seen : e.seen ≡ before ++ act
-  pub together : AreTogether limits cpus e
+-- all processors have seen just these swaps, behind which this engine lies there
+pub record TurnTogether (swaps : List (Swap View)) (cpus : List CpuView) (v : View) : Type 0 where
+  pub number : (k : ℕ) (d : CpuView) → k < length cpus → (slice_index_or cpus k d).turn.number ≡ k
+  pub seats : (k : ℕ) (d : CpuView) → k < length cpus → (slice_index_or cpus k d).turn.seats ≡ length cpus
+  pub seen : (k : ℕ) (d : CpuView) → k < length cpus → (slice_index_or cpus k d).turn.seen ≡ swaps
+  pub lying : (d : CpuView) → lies (slice_index_or cpus 0 d).turn ≡ Some v
+  pub history : (d : CpuView) → HasSeenLegal (slice_index_or cpus 0 d).turn
 
--- those in hand have met behind an act of one of them
-pub record Settles (cpus : List CpuView) (v : View) (cpus' : List CpuView) (v' : View) : Type 0 where
-  pub same : IsSameEngine v.seat v'.seat
-  pub changes : v'.seat.changes ≡ v.seat.changes
-  pub rest : v' ≡ with_seat v'.seat v
-  pub all_seen : (k : ℕ) (d : CpuView) → k < length cpus → (slice_index_or cpus k d).changes ≤ v.seat.changes
-  pub settled : (limits : Limits) (before others act : List Event) → IsActed limits before others act cpus v.seat → IsSettled limits before others act cpus' v'.seat
+-- All of it
+
+-- a period is wanted: it is asked for
+pub record IsWanted (asked : ℕ) (v : View) : Type 0 where
+  pub need : v.need ≡ asked
+  pub above : number_at_rest v.seat.seen < v.need
+
+-- all have met, this engine lies there, and what was asked for are cookies
+pub record HaveMet (d : DomainView) (limits : Limits) (cpus : List CpuView) (v : View) : Type 0 where
+  pub all : IsAllOf d cpus
+  pub together : AreTogether limits cpus v.seat
+  pub raises : List Raise
+  pub ask_together : AskTogether raises cpus
+  pub swaps : List (Swap View)
+  pub turn_together : TurnTogether swaps cpus v
+  pub cookies : greatest raises % 4 ≡ 0
+  pub wanted : ¬ IsRunning v.seat.seen → 0 < v.so_far → IsWanted (greatest raises) v

@@ -2,10 +2,9 @@
 #![tactic(auto)]
 
 mod members;
-mod needs;
+mod refusals;
 mod solo;
 #[cfg(test)]
 mod tests;
 
-pub use needs::NoNeeds;
 pub use solo::Solo;

@@ -1,26 +1,25 @@
-//! The processors and the engine of a domain.
-ghost use Rattle.sections.specs.EngineCalls.{AreInDomain};
-ghost use Rattle.solo.specs.Settling.{Settles};
+//! A domain and all of its processors.
+ghost use Rattle.domain.specs.Meetings.{IsAllOf, MeetsHere};
 
-use crate::needs::NoNeeds;
-use scan::Engine;
-use sections::Cpu;
+use domain::{Cpu, Domain};
 use std::alloc::Allocator;
+use std::sync::Wait;
 
-/// All that can act in a domain.
+/// All that can act in a domain: whoever has the processors has the engine too, since it lies where they take it from.
 #[derive(Drop)]
 pub(crate) struct Members<A: Allocator> {
+    pub(crate) domain: Domain<A>,
     pub(crate) cpus: Vec<Cpu<A>, A>,
-    pub(crate) engine: Engine<NoNeeds, A>,
 }
 
 impl<A: Allocator> Members<A> {
-    /// Lets all meet behind an act of one of them. Each knows its own events, so the history that all have then seen
-    /// is that of before with the act: nobody else can have come between.
-    pub(crate) fn settle(&mut self)
-        requires { AreInDomain self.old.engine.seat.domain self.old.cpus.items }
-        ensures { Settles self.old.cpus.items self.old.engine self.new.cpus.items self.new.engine }
+    /// Lets all meet behind an act of one of them. Each knows its own events, raises and turns, so what all have then
+    /// seen is what was before, with the act: nobody else can have come between.
+    pub(crate) fn settle(&mut self, rt: &impl Wait)
+        requires { IsAllOf self.old.domain self.old.cpus.items }
+        ensures all { IsAllOf self.new.domain self.new.cpus.items }
+        ensures meets { MeetsHere self.old.cpus.items self.new.cpus.items }
     {
-        self.engine.meet(&mut self.cpus);
+        self.domain.meet(rt, &mut self.cpus);
     }
 }

@@ -1,6 +1,6 @@
 use super::*;
 use linked_list_allocator::LocalHeap;
-use scan::{Progress, StartRefusal};
+use scan::{Exhausted as NoMorePeriods, Progress, StartRefusal};
 use sections::{Exhausted, Limits, MakeError, NotACookie};
 use sseq::Index;
 use std::test::Fail;
@@ -11,21 +11,42 @@ const LIMITS: Limits = Limits {
     cells: 0,
 };
 
+/// The number from a start on, `None` where none was made.
+fn started(answer: Result<Progress, NoMorePeriods>) -> Option<u64> {
+    let Ok(progress) = answer else {
+        return None;
+    };
+    match progress {
+        Progress::Started(number) => Some(number.get()),
+        _ => None,
+    }
+}
+
+/// The number from the end of a period on, `None` where none has ended.
+fn ended(answer: Result<Progress, NoMorePeriods>) -> Option<u64> {
+    let Ok(progress) = answer else {
+        return None;
+    };
+    match progress {
+        Progress::Ended(number) => Some(number.get()),
+        _ => None,
+    }
+}
+
 /// Would catch a domain that is refused where there is room, and a period that does not get on.
 #[test]
 fn drives_a_period(rt: HostRuntime) -> Result<(), Fail> {
     let mut domain = Solo::new(rt.alloc(), 2, LIMITS)?;
     assert_eq!(rt; domain.processors(), 2);
-    assert_eq!(rt; domain.advance(), Progress::Idle);
-    assert_eq!(rt; domain.start().map(|number| number.get()), Ok(1));
-    assert_eq!(rt; domain.start(), Err(StartRefusal::Running));
-    assert_eq!(rt; domain.advance(), Progress::Flipped(Index::One));
-    assert_eq!(rt; domain.index(), Index::One);
-    assert_eq!(rt; domain.step(), Progress::Step);
-    assert_eq!(rt; domain.number().get(), 2);
-    let answer = domain.advance();
-    assert!(rt; matches!(answer, Progress::Ended(number) if number.get() == 4));
-    assert_eq!(rt; domain.start(), Err(StartRefusal::Exhausted));
+    assert_eq!(rt; domain.advance(&rt), Ok(Progress::Idle));
+    assert_eq!(rt; domain.start(&rt).map(|number| number.get()), Ok(1));
+    assert_eq!(rt; domain.start(&rt), Err(StartRefusal::Running));
+    assert_eq!(rt; domain.advance(&rt), Ok(Progress::Flipped(Index::One)));
+    assert_eq!(rt; domain.index(&rt), Index::One);
+    assert_eq!(rt; domain.step(&rt), Ok(Progress::Step));
+    assert_eq!(rt; domain.number(&rt).get(), 2);
+    assert_eq!(rt; ended(domain.advance(&rt)), Some(4));
+    assert_eq!(rt; domain.start(&rt), Err(StartRefusal::Exhausted));
     Ok(())
 }
 
@@ -33,14 +54,14 @@ fn drives_a_period(rt: HostRuntime) -> Result<(), Fail> {
 #[test]
 fn waits_for_a_section(rt: HostRuntime) -> Result<(), Fail> {
     let mut domain = Solo::new(rt.alloc(), 1, LIMITS)?;
-    let Ok(reading) = domain.read_lock(0) else {
+    let Ok(reading) = domain.read_lock(&rt, 0) else {
         panic!(rt; "there is room");
     };
-    let started = domain.start().is_ok();
-    let waits = domain.advance();
-    domain.read_unlock(reading);
+    let started = domain.start(&rt).is_ok();
+    let waits = domain.advance(&rt);
+    domain.read_unlock(&rt, reading);
     assert!(rt; started);
-    assert_eq!(rt; waits, Progress::Flipped(Index::One));
+    assert_eq!(rt; waits, Ok(Progress::Flipped(Index::One)));
     Ok(())
 }
 
@@ -48,9 +69,49 @@ fn waits_for_a_section(rt: HostRuntime) -> Result<(), Fail> {
 #[test]
 fn polls(rt: HostRuntime) -> Result<(), Fail> {
     let mut domain = Solo::new(rt.alloc(), 2, LIMITS)?;
-    assert_eq!(rt; domain.cookie(0), 4);
-    assert_eq!(rt; domain.poll(1, 4), Ok(false));
-    assert_eq!(rt; domain.poll(1, 3), Err(NotACookie));
+    assert_eq!(rt; domain.cookie(&rt, 0), 4);
+    assert_eq!(rt; domain.poll(&rt, 1, 4), Ok(false));
+    assert_eq!(rt; domain.poll(&rt, 1, 3), Err(NotACookie));
+    Ok(())
+}
+
+/// Would catch a need that is lost, or found by another than the engine, and a period that starts beyond the limit.
+#[test]
+fn asks(rt: HostRuntime) -> Result<(), Fail> {
+    let mut domain = Solo::new(rt.alloc(), 2, LIMITS)?;
+    assert_eq!(rt; domain.need(&rt).get(), 0);
+    assert_eq!(rt; domain.ask(&rt, 1), 4);
+    assert_eq!(rt; domain.need(&rt).get(), 4);
+    assert_eq!(rt; domain.step(&rt), Ok(Progress::Step));
+    assert_eq!(rt; domain.ask(&rt, 0), 4);
+    assert_eq!(rt; started(domain.step(&rt)), Some(1));
+    assert_eq!(rt; domain.advance(&rt), Ok(Progress::Flipped(Index::One)));
+    assert_eq!(rt; ended(domain.advance(&rt)), Some(4));
+    assert_eq!(rt; domain.advance(&rt), Ok(Progress::Idle));
+    assert_eq!(rt; domain.ask(&rt, 0), 8);
+    assert_eq!(rt; domain.need(&rt).get(), 8);
+    assert_eq!(rt; domain.advance(&rt), Err(NoMorePeriods));
+    assert_eq!(rt; domain.step(&rt), Err(NoMorePeriods));
+    assert_eq!(rt; domain.start(&rt), Err(StartRefusal::Exhausted));
+    Ok(())
+}
+
+/// Would catch a start that leaves the need that a step has found.
+#[test]
+fn a_start_uses_up_a_need(rt: HostRuntime) -> Result<(), Fail> {
+    let limits = Limits {
+        sections: 1,
+        periods: 2,
+        cells: 0,
+    };
+    let mut domain = Solo::new(rt.alloc(), 1, limits)?;
+    assert_eq!(rt; domain.ask(&rt, 0), 4);
+    assert_eq!(rt; domain.step(&rt), Ok(Progress::Step));
+    assert_eq!(rt; domain.start(&rt).map(|number| number.get()), Ok(1));
+    assert_eq!(rt; domain.ask(&rt, 0), 8);
+    assert_eq!(rt; domain.advance(&rt), Ok(Progress::Flipped(Index::One)));
+    assert_eq!(rt; ended(domain.advance(&rt)), Some(4));
+    assert_eq!(rt; started(domain.advance(&rt)), Some(5));
     Ok(())
 }
 
@@ -58,19 +119,72 @@ fn polls(rt: HostRuntime) -> Result<(), Fail> {
 #[test]
 fn enters_elsewhere(rt: HostRuntime) -> Result<(), Fail> {
     let mut domain = Solo::new(rt.alloc(), 2, LIMITS)?;
-    let first = domain.look(0);
-    let second = domain.look(0);
+    let first = domain.look(&rt, 0);
+    let second = domain.look(&rt, 0);
     assert_eq!(rt; (first.index(), second.index()), (Index::Zero, Index::Zero));
-    let Ok(reading) = domain.enter(1, first) else {
+    let Ok(reading) = domain.enter(&rt, 1, first) else {
         panic!(rt; "there is room");
     };
-    domain.read_unlock(reading);
-    match domain.enter(1, second) {
+    domain.read_unlock(&rt, reading);
+    match domain.enter(&rt, 1, second) {
         Ok(reading) => {
-            domain.read_unlock(reading);
+            domain.read_unlock(&rt, reading);
             panic!(rt; "there is no room")
         }
         Err(error) => assert_eq!(rt; error, Exhausted),
+    }
+    Ok(())
+}
+
+/// Would catch a held section that may end on its own processor alone, and one that nobody waits for.
+#[test]
+fn holds_a_section(rt: HostRuntime) -> Result<(), Fail> {
+    let limits = Limits {
+        sections: 2,
+        periods: 1,
+        cells: 0,
+    };
+    let mut domain = Solo::new(rt.alloc(), 64, limits)?;
+    let Ok(first) = domain.down_read(&rt, 63) else {
+        panic!(rt; "there is room");
+    };
+    let number = domain.ask(&rt, 0);
+    let start = domain.advance(&rt);
+    let flipped = domain.advance(&rt);
+    let waits = domain.advance(&rt);
+    domain.up_read(&rt, 1, first);
+    let end = domain.advance(&rt);
+    let Ok(second) = domain.down_read(&rt, 63) else {
+        panic!(rt; "there is room");
+    };
+    let index = second.index();
+    domain.up_read(&rt, 63, second);
+    assert_eq!(rt; number, 4);
+    assert_eq!(rt; started(start), Some(1));
+    assert_eq!(rt; flipped, Ok(Progress::Flipped(Index::One)));
+    assert_eq!(rt; waits, Ok(Progress::Waiting(Index::Zero)));
+    assert_eq!(rt; ended(end), Some(4));
+    assert_eq!(rt; index, Index::One);
+    Ok(())
+}
+
+/// Would catch a held section that is begun beyond the limit.
+#[test]
+fn refuses_a_held_section(rt: HostRuntime) -> Result<(), Fail> {
+    let mut domain = Solo::new(rt.alloc(), 2, LIMITS)?;
+    let Ok(held) = domain.down_read(&rt, 1) else {
+        panic!(rt; "there is room");
+    };
+    match domain.down_read(&rt, 1) {
+        Ok(again) => {
+            domain.up_read(&rt, 1, again);
+            domain.up_read(&rt, 1, held);
+            panic!(rt; "there is no room")
+        }
+        Err(error) => {
+            domain.up_read(&rt, 0, held);
+            assert_eq!(rt; error, Exhausted);
+        }
     }
     Ok(())
 }
@@ -79,7 +193,7 @@ fn enters_elsewhere(rt: HostRuntime) -> Result<(), Fail> {
 /// error or leaves something.
 #[test]
 fn refuses_to_make(rt: HostRuntime) -> Result<(), Fail> {
-    for processors in [0, 3, u64::MAX] {
+    for processors in [0, 65, u64::MAX] {
         assert!(rt;
             matches!(
                 Solo::new(rt.alloc(), processors, LIMITS),

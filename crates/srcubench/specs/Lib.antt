@@ -1,4 +1,8 @@
 pub use Rattle.sections.specs.Calls
+pub mod Asking
+pub mod Done
+pub mod Driving
+pub mod Held
 pub mod Jobs
 pub mod Lists
 pub mod Pairs

@@ -1,10 +1,14 @@
-//! `srcubench` measures what a pair of `read_lock` and `read_unlock` costs, on one processor and on several at once, and
-//! what a grace period costs with nobody reading, and what an entry of a callback list costs.
+//! `srcubench` measures what a pair of `read_lock` and `read_unlock` costs, on one processor and on several at once, what
+//! a held section costs that begins on one processor and ends on another, what a grace period costs with nobody
+//! reading, what it costs to ask for one, and what an entry of a callback list costs.
 #![tactic(auto)]
 
 ghost use Rattle.std.specs.Prelude.{◌≤◌, ◌^◌};
 
+mod asking;
 mod command_line;
+mod driving;
+mod held;
 mod lists;
 mod pairs;
 mod passage;
@@ -14,26 +18,34 @@ mod spread;
 #[cfg(test)]
 mod tests;
 mod trial;
+mod work;
 
 use anyhow::Result;
 use command_line::{Job, job_of};
 use lists::BATCH;
 use passage::Way;
-use sections::MOST_PROCESSORS;
 use std::env;
 use std::process::ExitCode;
 use std::rt::Env;
+use std::sync::Wait;
 use std::thread::Threads;
 use std::time::Clock;
+use work::{Work, measure};
 
-/// The numbers of processors to measure with, as far as a domain may have so many.
-const SIZES: [usize; 3] = [1, 2, 4];
+/// The numbers of threads to measure with.
+const THREADS: [usize; 3] = [1, 2, 4];
+
+/// The numbers of processors of the domains whose grace periods are measured.
+const PROCESSORS: [usize; 4] = [1, 2, 4, 64];
 
 /// How many pairs each thread makes where they are only counted.
 const COUNTED_PAIRS: u64 = 1_000;
 
 /// How many grace periods a domain has where they are only counted.
 const COUNTED_PERIODS: u64 = 1_000;
+
+/// How often each thread asks where asks are only counted.
+const COUNTED_ASKS: u64 = 1_000;
 
 /// How many batches of entries go through a list where they are only counted.
 const COUNTED_BATCHES: u64 = 100;
@@ -48,31 +60,44 @@ const LESS_OFTEN_IN_LISTS: u64 = 8;
 const MISUSED: u8 = 2;
 
 /// Prints how many pairs and grace periods were made, which is the same on every machine.
-fn count<R: Threads + Sync + Clock + Print + AllocGlobal>(rt: &R) -> Result<()> {
-    for threads in SIZES {
-        if threads <= MOST_PROCESSORS {
-            let trial = trial::run(rt, threads, COUNTED_PAIRS)?;
-            for (thread, reader) in trial.readers.iter().enumerate() {
-                println!(rt; "thread {thread} of {threads}: {} pairs", reader.made)?;
+fn count<R: Threads + Sync + Wait + Clock + Print + AllocGlobal>(rt: &R) -> Result<()> {
+    for threads in THREADS {
+        let trial = trial::run(rt, threads, COUNTED_PAIRS)?;
+        for (thread, reader) in trial.readers.iter().enumerate() {
+            println!(rt; "thread {thread} of {threads}: {} pairs", reader.made)?;
+        }
+    }
+    println!(rt; "held: {} pairs", held::run(rt, COUNTED_PAIRS)?.done)?;
+    for processors in PROCESSORS {
+        let timed = quiet::run(rt, processors, COUNTED_PERIODS)?;
+        println!(rt; "processors {processors}: {} quiet periods", timed.done)?;
+        let timed = driving::run_periods(rt, processors, COUNTED_PERIODS)?;
+        println!(rt; "processors {processors}: {} periods driven", timed.done)?;
+        let timed = driving::run_waits(rt, processors, COUNTED_PERIODS)?;
+        println!(rt; "processors {processors}: {} waits", timed.done)?;
+    }
+    for threads in THREADS {
+        for new in [true, false] {
+            let trial = asking::run(rt, threads, COUNTED_ASKS, new)?;
+            let numbers = if new { "new" } else { "known" };
+            for (thread, asker) in trial.askers.iter().enumerate() {
+                println!(rt;
+                    "thread {thread} of {threads}: {} asks, {numbers} numbers",
+                    asker.asked
+                )?;
             }
         }
     }
-    for processors in SIZES {
-        if processors <= MOST_PROCESSORS {
-            let trial = quiet::run(rt, processors, COUNTED_PERIODS)?;
-            println!(rt; "processors {processors}: {} quiet periods", trial.ended)?;
-        }
-    }
     for way in Way::ALL {
-        let passage = passage::run(rt, way, COUNTED_BATCHES)?;
-        println!(rt; "{way}: {} entries", passage.came_out)?;
+        let timed = passage::run(rt, way, COUNTED_BATCHES)?;
+        println!(rt; "{way}: {} entries", timed.done)?;
     }
     Ok(())
 }
 
 /// Prints for each number of threads what one pair took, and for each number of processors what one grace period took
-/// with nobody reading, and for each way through a list what one entry took, in nanoseconds.
-fn time<R: Threads + Sync + Clock + Print + AllocGlobal>(
+/// with nobody reading, what asking for one took, and for each way through a list what one entry took, in nanoseconds.
+fn time<R: Threads + Sync + Wait + Clock + Print + AllocGlobal>(
     rt: &R,
     pairs: u64,
     repetitions: u64,
@@ -81,29 +106,50 @@ fn time<R: Threads + Sync + Clock + Print + AllocGlobal>(
     requires few { pairs ≤ 2 ^ 54 }
     requires repetitions { 1 ≤ repetitions }
 {
-    for threads in SIZES {
-        if threads <= MOST_PROCESSORS {
-            let spread = trial::measure(rt, threads, pairs, repetitions)?;
-            println!(rt; "srcubench {threads} {spread}")?;
-        }
+    for threads in THREADS {
+        let spread = measure(rt, Work::Pairs { threads, pairs }, repetitions)?;
+        println!(rt; "srcubench {threads} {spread}")?;
     }
+    let spread = measure(rt, Work::HeldPairs { pairs }, repetitions)?;
+    println!(rt; "srcubench-held 1 {spread}")?;
     let periods = pairs / LESS_OFTEN + 1;
-    for processors in SIZES {
-        if processors <= MOST_PROCESSORS {
-            let spread = quiet::measure(rt, processors, periods, repetitions)?;
-            println!(rt; "srcubench-quiet-period {processors} {spread}")?;
+    for processors in PROCESSORS {
+        let work = Work::QuietPeriods {
+            processors,
+            periods,
+        };
+        let spread = measure(rt, work, repetitions)?;
+        println!(rt; "srcubench-quiet-period {processors} {spread}")?;
+        let work = Work::DrivenPeriods {
+            processors,
+            periods,
+        };
+        let spread = measure(rt, work, repetitions)?;
+        println!(rt; "srcubench-domain-period {processors} {spread}")?;
+        let times = periods;
+        let spread = measure(rt, Work::Waits { processors, times }, repetitions)?;
+        println!(rt; "srcubench-synchronize {processors} {spread}")?;
+    }
+    for threads in THREADS {
+        for new in [true, false] {
+            let asks = pairs;
+            let spread = measure(rt, Work::Asks { threads, asks, new }, repetitions)?;
+            let numbers = if new { "new" } else { "known" };
+            println!(rt; "srcubench-ask-{numbers} {threads} {spread}")?;
         }
     }
     let batches = pairs / (LESS_OFTEN_IN_LISTS * BATCH) + 1;
     for way in Way::ALL {
-        let spread = passage::measure(rt, way, batches, repetitions)?;
+        let spread = measure(rt, Work::Entries { way, batches }, repetitions)?;
         println!(rt; "srcubench-{way} 1 {spread}")?;
     }
     Ok(())
 }
 
 /// Does what the words of the command line ask for.
-fn act<R: Threads + Sync + Clock + Env + Print + Eprint + AllocGlobal>(rt: &R) -> Result<ExitCode> {
+fn act<R: Threads + Sync + Wait + Clock + Env + Print + Eprint + AllocGlobal>(
+    rt: &R,
+) -> Result<ExitCode> {
     let words: Vec<String> = env::args(rt)?.skip(1).collect(rt.alloc())?;
     match job_of(words.as_slice()) {
         Some(Job::Count) => count(rt)?,

@@ -1,9 +1,12 @@
 use crate::command_line::{Job, job_of};
+use crate::driving::Halt;
 use crate::pairs::make_pairs;
 use crate::passage::Way;
 use crate::periods::{EveryPeriod, Stop, make_periods};
 use crate::spread::Spread;
-use crate::{passage, quiet, trial};
+use crate::work::{Work, measure, run};
+use crate::{asking, trial};
+use domain::{AdvanceRefusal, StartRefusal};
 use scan::{Engine, Progress};
 use sections::{Limits, Made, make};
 use sseq::Index;
@@ -57,6 +60,16 @@ fn stops_where_no_more_sections_may_begin(rt: HostRuntime) -> Result<(), Fail> {
     Ok(())
 }
 
+/// Would catch a loop that gives up where there is room, and want of memory where there is some.
+#[test]
+fn holds_sections(rt: HostRuntime) -> Result<(), Fail> {
+    let pairs = Work::HeldPairs { pairs: 100 };
+    assert_eq!(rt; run(&rt, pairs)?.done, 100);
+    let spread = measure(&rt, pairs, 3)?;
+    assert!(rt; spread.least <= spread.median && spread.median <= spread.most);
+    Ok(())
+}
+
 /// Would catch a trial that leaves a thread out, and want of memory where there is some.
 #[test]
 fn tries_two_threads(rt: HostRuntime) -> Result<(), Fail> {
@@ -65,7 +78,12 @@ fn tries_two_threads(rt: HostRuntime) -> Result<(), Fail> {
     for (processor, reader) in (0u16..).zip(trial.readers.iter()) {
         assert_eq!(rt; (reader.cpu.processor(), reader.made), (processor, 1_000));
     }
-    let spread = trial::measure(&rt, 2, 10, 3)?;
+    let pairs = Work::Pairs {
+        threads: 2,
+        pairs: 10,
+    };
+    assert_eq!(rt; run(&rt, pairs)?.done, 10);
+    let spread = measure(&rt, pairs, 3)?;
     assert!(rt; spread.least <= spread.median && spread.median <= spread.most);
     Ok(())
 }
@@ -115,11 +133,78 @@ fn stops_at_an_open_section(rt: HostRuntime) -> Result<(), Fail> {
 /// Would catch a trial of other periods than were asked for, and want of memory where there is some.
 #[test]
 fn tries_quiet_periods(rt: HostRuntime) -> Result<(), Fail> {
-    for processors in [1, 2] {
-        assert_eq!(rt; quiet::run(&rt, processors, 100)?.ended, 100);
+    for processors in [1, 2, 64] {
+        let periods = Work::QuietPeriods {
+            processors,
+            periods: 100,
+        };
+        assert_eq!(rt; run(&rt, periods)?.done, 100);
+        let spread = measure(&rt, periods, 3)?;
+        assert!(rt; spread.least <= spread.median && spread.median <= spread.most);
     }
-    let spread = quiet::measure(&rt, 2, 10, 3)?;
-    assert!(rt; spread.least <= spread.median && spread.median <= spread.most);
+    Ok(())
+}
+
+/// Would catch a loop that drives or waits less often than it should, and want of memory where there is some.
+#[test]
+fn drives_a_domain(rt: HostRuntime) -> Result<(), Fail> {
+    for processors in [1, 64] {
+        for work in [
+            Work::DrivenPeriods {
+                processors,
+                periods: 100,
+            },
+            Work::Waits {
+                processors,
+                times: 100,
+            },
+        ] {
+            assert_eq!(rt; run(&rt, work)?.done, 100);
+            let spread = measure(&rt, work, 3)?;
+            assert!(rt; spread.least <= spread.median && spread.median <= spread.most);
+        }
+    }
+    Ok(())
+}
+
+/// Would catch one reason to halt that is printed as another.
+#[test]
+fn prints_a_halt(rt: HostRuntime) -> Result<(), Fail> {
+    for (halt, text) in [
+        (
+            Halt::NotStarted(StartRefusal::Running),
+            "a grace period runs",
+        ),
+        (
+            Halt::Refused(AdvanceRefusal::Exhausted),
+            "no more grace periods may start",
+        ),
+        (Halt::Answered(Progress::Idle), "the engine answered Idle"),
+    ] {
+        assert_eq!(rt; format!(in rt.alloc(); "{halt}")?.as_str(), text);
+    }
+    Ok(())
+}
+
+/// Would catch a trial that leaves a thread out, asks for other numbers than it should, and want of memory where there is
+/// some.
+#[test]
+fn asks_for_periods(rt: HostRuntime) -> Result<(), Fail> {
+    for (new, need) in [(true, 400), (false, 4)] {
+        let trial = asking::run(&rt, 2, 100, new)?;
+        assert_eq!(rt; trial.askers.len(), 2);
+        for mut asker in trial.askers {
+            assert_eq!(rt; (asker.asked, asker.needs.root_need().get()), (100, need));
+        }
+        let asks = Work::Asks {
+            threads: 2,
+            asks: 10,
+            new,
+        };
+        assert_eq!(rt; run(&rt, asks)?.done, 10);
+        let spread = measure(&rt, asks, 3)?;
+        assert!(rt; spread.least <= spread.median && spread.median <= spread.most);
+    }
     Ok(())
 }
 
@@ -132,8 +217,9 @@ fn sends_entries_through(rt: HostRuntime) -> Result<(), Fail> {
         (Way::Queue, "queue"),
         (Way::QueueInBatches, "queue-in-batches"),
     ] {
-        assert_eq!(rt; passage::run(&rt, way, 5)?.came_out, 40);
-        let spread = passage::measure(&rt, way, 5, 3)?;
+        let entries = Work::Entries { way, batches: 5 };
+        assert_eq!(rt; run(&rt, entries)?.done, 40);
+        let spread = measure(&rt, entries, 3)?;
         assert!(rt; spread.least <= spread.median && spread.median <= spread.most);
         assert_eq!(rt; format!(in rt.alloc(); "{way}")?.as_str(), name);
     }

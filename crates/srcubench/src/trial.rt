@@ -1,12 +1,9 @@
-//! One measurement: a new domain, and a thread for each of its processors.
-ghost use Rattle.std.specs.Prelude.{ℕ, ◌≤◌, List, All, IfOk};
+//! Pairs of `read_lock` and `read_unlock`: a new domain, and a thread for each of its processors.
+ghost use Rattle.std.specs.Prelude.{All, IfOk};
 ghost use Rattle.srcubench.specs.Pairs.{HasRoom};
 ghost use Rattle.srcubench.specs.Readers.{HaveMadeAll, AreReadersOfOne};
-ghost use Rattle.srcubench.specs.Samples.{AreOfTrials};
-ghost use Rattle.srcubench.specs.Spreads.{IsSpreadOf};
 
 use crate::pairs::{Reader, make_all_pairs};
-use crate::spread::{Spread, cost_of_one};
 use anyhow::Result;
 use sections::{Cpu, Limits, Made, make};
 use std::alloc::{AllocError, Allocator};
@@ -53,36 +50,4 @@ pub fn run<R: Threads + Sync + Clock + AllocGlobal>(
     let readers = make_at_once(rt, cpus, pairs)?;
     let elapsed = start.elapsed(rt)?;
     Ok(Trial { readers, elapsed })
-}
-
-/// What one pair took in each of the repetitions, in hundredths of a nanosecond.
-fn samples<R: Threads + Sync + Clock + AllocGlobal>(
-    rt: &R,
-    threads: usize,
-    pairs: u64,
-    repetitions: u64,
-) -> Result<Vec<u64>>
-    requires { 1 ≤ pairs }
-    ensures { IfOk result (λ samples. AreOfTrials threads pairs repetitions samples.items) }
-{
-    let mut samples = Vec::new(rt.alloc());
-    for _ in 0..repetitions {
-        let trial = run(rt, threads, pairs)?;
-        samples.push(cost_of_one(trial.elapsed, pairs))?;
-    }
-    Ok(samples)
-}
-
-/// The spread of what one pair took in each of the repetitions.
-pub fn measure<R: Threads + Sync + Clock + AllocGlobal>(
-    rt: &R,
-    threads: usize,
-    pairs: u64,
-    repetitions: u64,
-) -> Result<Spread>
-    requires pairs { 1 ≤ pairs }
-    requires repetitions { 1 ≤ repetitions }
-    ensures { IfOk result (λ spread. (samples : List ℕ) × AreOfTrials threads pairs repetitions samples × IsSpreadOf samples spread) }
-{
-    Ok(Spread::of(samples(rt, threads, pairs, repetitions)?)?)
 }

@@ -36,7 +36,7 @@ pub fn run<A: Allocator, R: Read, W: Write>(
         (λ outcome. Runs limits taken given outcome.faulty × IsAtEnd (R.remaining reader.new))
         (λ error. RunsInPart limits taken given error) }
 {
-    let mut session = Session::new(&alloc, limits);
+    let mut session = Session::new(&alloc, rt, limits);
     let outcome = run_lines(&alloc, rt, &mut session, reader, writer);
     session.finish();
     outcome

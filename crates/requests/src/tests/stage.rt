@@ -1,17 +1,21 @@
 use crate::scene::{Kind, Scene};
 use lines::Name;
 
-/// What is there in the tests: a domain `a` of 2 processors, with a look `r` and a section `s`.
+/// What is there in the tests: a domain `a` of 2 processors, with a look `r`, a section `s` that its own processor ends, a
+/// held section `h`, and one that is parked, `p`.
 pub struct Stage;
 
 impl Scene for Stage {
     ghost use Rattle.std.specs.Prelude.{bytes_eq, codes, Some, None, if◌then◌else◌};
-    ghost use Rattle.requests.specs.declared.scene.Kind.TheVariants.{Look, Section};
+    ghost use Rattle.requests.specs.declared.scene.Kind.TheVariants.{Look, Reading, Held, Parked};
 
     ghost scene = { λ _. record {
       place_of = λ w. if bytes_eq w (codes "a") then Some 0 else None;
       processors_of = λ _. 2;
-      kind_of = λ _ w. if bytes_eq w (codes "r") then Some Look else (if bytes_eq w (codes "s") then Some Section else None);
+      kind_of = λ _ w. if bytes_eq w (codes "r") then Some Look
+          else (if bytes_eq w (codes "s") then Some Reading
+          else (if bytes_eq w (codes "h") then Some Held
+          else (if bytes_eq w (codes "p") then Some Parked else None)));
     } };
 
     fn place_of(&self, domain: &[u8]) -> Option<usize> {
@@ -30,7 +34,11 @@ impl Scene for Stage {
         if name.is(b"r") {
             Some(Kind::Look)
         } else if name.is(b"s") {
-            Some(Kind::Section)
+            Some(Kind::Reading)
+        } else if name.is(b"h") {
+            Some(Kind::Held)
+        } else if name.is(b"p") {
+            Some(Kind::Parked)
         } else {
             None
         }

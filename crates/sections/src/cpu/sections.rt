@@ -42,7 +42,6 @@ impl<A: Allocator> Cpu<A> {
         top.join_seat::<plays::TakeToken>(&mut self.seat, token);
         let seat = begin_section(top, &mut self.seat, self.processor, index);
         self.begun[index.place()] += 1;
-        self.unclosed += 1;
         Ok(Reading {
             index,
             processor: self.processor,
@@ -62,7 +61,6 @@ impl<A: Allocator> Cpu<A> {
         }
         let seat = begin_section(top, &mut self.seat, self.processor, current);
         self.begun[current.place()] += 1;
-        self.unclosed += 1;
         Ok(Reading {
             index: current,
             processor: self.processor,
@@ -85,7 +83,7 @@ impl<A: Allocator> Cpu<A> {
         let top = &self.table.shared;
         top.join_seat::<plays::TakeToken>(&mut self.seat, token);
         top.fetch_add::<plays::Unlock>(&mut self.seat, place_of_unlock(self.processor, index), 1);
-        self.unclosed -= 1;
+        self.settled += 1;
     }
 
     /// One load of the index word by this processor, which has then seen what the other has. Both are of one domain.

@@ -1,9 +1,10 @@
 //! Steps on a seat, which several calls share.
-ghost use Rattle.std.specs.Prelude.{◌≡◌, ◌%◌, ◌<◌, ◌≤◌};
+ghost use Rattle.std.specs.Prelude.{◌≡◌, ◌%◌, ◌<◌, ◌≤◌, true, false};
 ghost use Rattle.onedom.specs.Histories.{IsBeginning};
 ghost use Rattle.sections.specs.declared.view.Role.TheVariants.{Cpu};
 ghost use Rattle.sections.specs.Words.{locks};
-ghost use Rattle.sections.specs.Seats.{IsPlaced, BeginsSection, NotesNumber, AsksNumber, Covers, Accepts, IsOfProcessor, IsOfMaker, IsSameSeat};
+ghost use Rattle.sections.specs.declared.view.Right.TheVariants.{Nothing};
+ghost use Rattle.sections.specs.Seats.{IsPlaced, BeginsSection, NotesNumber, AsksNumber, Covers, Accepts, NotesShown, IsOfProcessor, IsOfMaker, IsSameSeat};
 ghost use Rattle.sections.specs.Insides.{IsAtRest};
 
 use crate::board::{Board, DomainSeat, INDEX_PLACE, NUMBER_PLACE, place_of_lock};
@@ -22,9 +23,26 @@ pub(crate) fn begin_section(
     requires role { seat.old.me.0.role ≡ Cpu processor }
     requires there { processor < top.now.key.processors }
     requires room { locks processor index seat.old.me.0.mine < top.now.key.sections }
-    ensures { BeginsSection processor index seat.old seat.new result }
+    ensures { BeginsSection false processor index seat.old seat.new result }
 {
     top.fetch_add::<plays::Lock>(seat, place_of_lock(processor, index), 1);
+    top.split_seat::<plays::GiveToken>(seat)
+}
+
+/// The same for a section that may end on any processor.
+pub(crate) fn begin_held(
+    top: &Board,
+    seat: &mut DomainSeat,
+    processor: u16,
+    index: Index,
+) -> DomainSeat
+    requires placed { IsPlaced top.now.key top.now.table_id seat.old }
+    requires role { seat.old.me.0.role ≡ Cpu processor }
+    requires there { processor < top.now.key.processors }
+    requires room { locks processor index seat.old.me.0.mine < top.now.key.sections }
+    ensures { BeginsSection true processor index seat.old seat.new result }
+{
+    top.fetch_add::<plays::LockHeld>(seat, place_of_lock(processor, index), 1);
     top.split_seat::<plays::GiveToken>(seat)
 }
 
@@ -73,7 +91,18 @@ pub(crate) fn accept(top: &Board, first: &mut DomainSeat, second: &mut DomainSea
     ensures first { Accepts first.old.me.0 second.old.me.0 first.new.me.0 }
     ensures second { IsSameSeat second.old second.new }
 {
-    let token = top.split_seat::<plays::GiveToken>(second);
-    top.join_seat::<plays::TakeToken>(first, token);
+    let token = top.split_seat::<plays::Show>(second);
+    top.join_seat::<plays::Hear>(first, token);
     top.load::<plays::Admit>(first, INDEX_PLACE);
+}
+
+/// The first seat notes how many changes the processor of the second has seen. From then on the rule keeps that it has.
+pub(crate) fn note_shown(top: &Board, first: &mut DomainSeat, second: &mut DomainSeat)
+    requires first { IsPlaced top.now.key top.now.table_id first.old × (first.old.me.0.right ≡ Nothing) }
+    requires second { IsPlaced top.now.key top.now.table_id second.old }
+    ensures first { NotesShown second.old.me.0 first.old first.new }
+    ensures second { IsSameSeat second.old second.new }
+{
+    let token = top.split_seat::<plays::Show>(second);
+    top.join_seat::<plays::NoteShown>(first, token);
 }

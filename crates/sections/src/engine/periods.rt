@@ -29,7 +29,8 @@ impl<A: Allocator> EngineSeat<A> {
         self.number
     }
 
-    /// How many sections of the index have ended on the processor: one load of its unlock counter.
+    /// How many sections of the index have ended on the processor, wherever they were begun: one load of its unlock
+    /// counter. On all processors no more than 2^60 were begun.
     pub fn unlocks(&mut self, processor: u16, index: Index) -> u64
         requires { processor < self.old.processors }
         ensures { CountsUnlocks processor index result self.old self.new }
@@ -38,7 +39,8 @@ impl<A: Allocator> EngineSeat<A> {
         top.load::<plays::CountUnlocks>(&mut self.seat, place_of_unlock(processor, index))
     }
 
-    /// How many sections of the index were begun on the processor: one load of its lock counter.
+    /// How many sections of the index were begun on the processor: one load of its lock counter. On all processors they
+    /// are no more than 2^60.
     pub fn locks(&mut self, processor: u16, index: Index) -> u64
         requires { processor < self.old.processors }
         ensures { CountsLocks processor index result self.old self.new }

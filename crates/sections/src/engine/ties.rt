@@ -1,12 +1,13 @@
 //! How the engine's seat and processors come to see one history.
-ghost use Rattle.std.specs.Prelude.{◌≡◌, ◌≤◌};
+ghost use Rattle.std.specs.Prelude.{◌≡◌, ℕ, ◌<◌, ◌≤◌};
 ghost use Rattle.onedom.specs.Histories.{IsBeginning};
-ghost use Rattle.sections.specs.Calls.{Accepts};
-ghost use Rattle.sections.specs.EngineCalls.{Covers, CoversAll, TiesEngine, Meets, AreInDomain};
+ghost use Rattle.sections.specs.Calls.{Accepts, IsSeenBy};
+ghost use Rattle.sections.specs.declared.view.Shown.TheVariants.{To};
+ghost use Rattle.sections.specs.EngineCalls.{Covers, CoversAll, TiesEngine, Meets, AreInDomain, noted, IsTied, AreAllCpus, OneHasSeenAll};
 
 use super::EngineSeat;
 use crate::cpu::Cpu;
-use crate::cpu::steps::{accept, cover};
+use crate::cpu::steps::{accept, cover, note_shown};
 use std::alloc::Allocator;
 
 impl<A: Allocator> EngineSeat<A> {
@@ -20,23 +21,40 @@ impl<A: Allocator> EngineSeat<A> {
     }
 
     /// One load of the index word by the processor, which has then seen just as much as the engine. The engine must have
-    /// seen what the processor has, as after [`EngineSeat::cover`]. Both are of one domain.
+    /// seen what the processor has, as after [`EngineSeat::cover`]. Both are of one domain. The processor had seen what
+    /// the engine knew of it.
     pub fn admit(&mut self, cpu: &mut Cpu<A>)
         requires domain { cpu.old.domain ≡ self.old.domain }
         requires covered { IsBeginning cpu.old.seen self.old.seen × (cpu.old.changes ≤ self.old.changes) }
         ensures engine { self.new ≡ self.old }
         ensures cpu { Accepts cpu.old self.old.seen self.old.changes cpu.new }
+        ensures was { IsSeenBy cpu.old }
+        ensures sized { cpu.old.processors ≡ self.old.processors }
+        ensures heard { (n : ℕ) → self.old.shown ≡ To cpu.old.processor n → n ≤ cpu.old.changes }
     {
         accept(&self.table.shared, &mut cpu.seat, &mut self.seat);
     }
 
-    /// One load of the index word by the engine, and then one by the processor. Both have then seen one history.
+    /// The engine notes how many changes the processor has seen: no step, but for the loads that tell nothing.
+    fn note(&mut self, cpu: &mut Cpu<A>)
+        requires { cpu.old.domain ≡ self.old.domain }
+        ensures engine { self.new ≡ noted cpu.old.processor cpu.old.changes self.old }
+        ensures there { cpu.old.processor < self.old.processors }
+        ensures cpu { cpu.new ≡ cpu.old }
+    {
+        note_shown(&self.table.shared, &mut self.seat, &mut cpu.seat);
+    }
+
+    /// One load of the index word by the engine, and then one by the processor. Both have then seen one history, and the
+    /// engine is tied: until it changes the number or the index word again, this processor has seen all that it made.
     pub fn tie(&mut self, cpu: &mut Cpu<A>)
         requires { cpu.old.domain ≡ self.old.domain }
-        ensures { TiesEngine self.old cpu.old self.new cpu.new }
+        ensures ties { TiesEngine self.old cpu.old self.new cpu.new }
+        ensures tied { IsTied self.new }
     {
         self.cover(cpu);
         self.admit(cpu);
+        self.note(cpu);
     }
 
     /// The engine has then seen what each of these processors has.
@@ -53,10 +71,12 @@ impl<A: Allocator> EngineSeat<A> {
     }
 
     /// The engine and all of these processors have then seen one history, in which each has just its own events. Each
-    /// processor loads the index word once, and the engine once for each of them.
+    /// processor loads the index word once, and the engine once for each of them. Where the engine is tied and these are
+    /// all processors of the domain, in order, one of them had seen all that the engine made.
     pub fn meet(&mut self, cpus: &mut [Cpu<A>])
         requires { AreInDomain self.old.domain cpus.old }
-        ensures { Meets self.old cpus.old self.new cpus.new }
+        ensures meets { Meets self.old cpus.old self.new cpus.new }
+        ensures known { IsTied self.old → AreAllCpus cpus.old → OneHasSeenAll self.old cpus.old }
     {
         self.cover_all(cpus);
         for next in cpus.iter_mut() {

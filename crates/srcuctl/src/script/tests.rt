@@ -7,6 +7,8 @@ use std::alloc::{AllocError, Global};
 use std::process::Abort;
 use std::test::Fail;
 
+mod holding;
+mod needs;
 mod periods;
 
 const LIMITS: Limits = Limits {
@@ -42,7 +44,7 @@ const STARTED_REPLIES: [&str; 8] = [
 const TWO_READERS: &str = "\
 # Two readers of one domain, and a grace period from its start to its end.
 #
-# A domain has a name and one or two processors. Each line below gets one reply.
+# A domain has a name and up to 64 processors. Each line below gets one reply.
 domain web 2
 
 # A section is begun on a processor and has a name. Its index says which of the
@@ -117,7 +119,7 @@ lock web zero b
 lock web 0 averyveryverylongname
 # Refusals are no faults: what was asked can't be done, and nothing changes.
 domain db 0
-domain db 3
+domain db 65
 start web 0
 start web 0
 # Domains don't know of each other.
@@ -186,6 +188,68 @@ index 0
 line 17: name
 ";
 
+const HELD: &str = "\
+# A section that may end on any processor, and the desk where it can be left for
+# whoever ends it.
+domain web 2
+
+# It is begun on one processor, and somebody asks for a grace period.
+down web 0 order
+ask web 1
+state web
+
+# The engine finds the need, starts a period, and waits for the section.
+advance web 0
+advance web 0
+advance web 0
+
+# On the desk it is open as before, and its name is in use.
+park web order
+state web
+up web 1 order
+down web 1 order
+
+# There is room for one section. What is refused stays where it was.
+down web 1 other
+park web other
+
+# It is taken from the desk, and ends on the other processor. A section that is
+# begun in the second half of a period isn't waited for.
+unpark web
+up web 1 order
+advance web 1
+poll web 1 4
+state web
+
+# Nothing was asked for since, so nothing starts.
+advance web 0
+unpark web
+# The section that is open at the end is closed there.
+";
+
+const HELD_REPLIES: &str = "\
+made web 2
+index 0
+cookie 4
+state web number 0 idle index 0 open 1 0 need 4
+started 1
+flipped 1
+waiting 0
+parked
+state web number 2 scan2 index 1 open 1 0 need 4
+line 18: name
+line 19: taken
+index 1
+refused park full
+took order
+closed
+ended 4
+done
+state web number 4 idle index 1 open 0 1 need 4
+idle
+refused unpark empty
+";
+
 /// The replies to some first lines of `STARTED`.
 fn first_replies(alloc: Global, lines: usize) -> Result<String, AllocError> {
     let mut text = String::new(alloc);
@@ -210,6 +274,7 @@ fn runs_scripts(rt: HostRuntime) -> Result<(), Fail> {
         ("domain a 1\nlook a 0 r", "made a 1\nlook 0\n", false),
         (TWO_READERS, TWO_READERS_REPLIES, false),
         (LOOKS, LOOKS_REPLIES, true),
+        (HELD, HELD_REPLIES, true),
         (FAULTS, FAULTS_REPLIES, true),
     ];
     for (script, replies, faulty) in table {
@@ -434,11 +499,23 @@ fn first_fault_of_two(rt: HostRuntime) -> Result<(), Fail> {
     Ok(())
 }
 
-/// Runs the lines of these rows, and compares what is written with their replies.
+/// Runs the lines of these rows, none of which is faulty, and compares what is written with their replies.
 fn check(
     rt: &(impl Abort + Wait + AllocGlobal),
     limits: Limits,
     rows: &[(&str, &str)],
+) -> Result<(), Fail>
+    requires { AreInRange limits }
+{
+    check_run(rt, limits, rows, false)
+}
+
+/// Runs the lines of these rows, and compares what is written with their replies, and whether one is faulty.
+fn check_run(
+    rt: &(impl Abort + Wait + AllocGlobal),
+    limits: Limits,
+    rows: &[(&str, &str)],
+    faulty: bool,
 ) -> Result<(), Fail>
     requires { AreInRange limits }
 {
@@ -451,7 +528,7 @@ fn check(
     let mut written = Vec::new(rt.alloc());
     let mut reader = script.as_bytes();
     let outcome = run(rt.alloc(), rt, &mut reader, &mut written, limits);
-    assert_eq!(rt; outcome, Ok(Outcome { faulty: false }));
+    assert_eq!(rt; outcome, Ok(Outcome { faulty }));
     assert_eq!(rt; written.as_slice(), replies.as_bytes());
     Ok(())
 }

@@ -27,9 +27,9 @@ returns c =
     let second : Some d ≡ Some (get_or ys 1 d) = sym c.unwrap-second.ensures ∙ (popped ∙ (ap (λ l. Some (get_or l (n - 1) d)) all ∙ ap (λ k. Some (get_or ys (k - 1) d)) len)) in
     let first : Some c.unwrap-first.result ≡ Some (get_or ys 0 d) = sym c.unwrap-first.ensures ∙ (popped_first ∙ (ap (λ l. Some (get_or l (vec_len c.pop.new.self - 1) d)) (rest ∙ ap (take (n - 1)) all)
     ∙ (ap (λ k. Some (get_or (take (n - 1) ys) (k - 1) d)) left ∙ ap Some (get_or-take (n - 1) ys 0 d (omega (arith, len)))))) in
-    let one = (c.meet.ensures.each 1 d (omega (arith, two))).accepts.same.0 ∙ ap (λ (z : CpuView). z.domain) (ap (λ (l : List CpuView). get_or l 1 d) c.as_mut_slice.ensures.value ∙ m.cpus_new 1 d (omega (arith, two))) in
-    let zero = (c.meet.ensures.each 0 d (omega (arith, two))).accepts.same.0 ∙ ap (λ (z : CpuView). z.domain) (ap (λ (l : List CpuView). get_or l 0 d) c.as_mut_slice.ensures.value ∙ m.cpus_new 0 d (omega (arith, two))) in
-    let s = c.meet.ensures.same.0 in
+    let one = (c.meet.ensures.meets.each 1 d (omega (arith, two))).accepts.same.0 ∙ ap (λ (z : CpuView). z.domain) (ap (λ (l : List CpuView). get_or l 1 d) c.as_mut_slice.ensures.value ∙ m.cpus_new 1 d (omega (arith, two))) in
+    let zero = (c.meet.ensures.meets.each 0 d (omega (arith, two))).accepts.same.0 ∙ ap (λ (z : CpuView). z.domain) (ap (λ (l : List CpuView). get_or l 0 d) c.as_mut_slice.ensures.value ∙ m.cpus_new 0 d (omega (arith, two))) in
+    let s = c.meet.ensures.meets.same.0 in
     let a : c.unwrap-first.result ≡ get_or ys 0 d = cc first in
     let b : d ≡ get_or ys 1 d = cc second in
-    (ap (λ (z : CpuView). z.domain) a ∙ (zero ∙ sym s), ap (λ (z : CpuView). z.domain) b ∙ (one ∙ sym s), c.meet.ensures.same.2 ∙ (ap (λ (z : EngineView). z.periods) m.engine_new ∙ c.limits.ensures), c.meet.ensures.same.1 ∙ ap (λ (z : EngineView). z.processors) m.engine_new, c.meet.ensures.changes_are ∙ ap (λ (z : EngineView). z.changes) m.engine_new)
+    (ap (λ (z : CpuView). z.domain) a ∙ (zero ∙ sym s), ap (λ (z : CpuView). z.domain) b ∙ (one ∙ sym s), c.meet.ensures.meets.same.2 ∙ (ap (λ (z : EngineView). z.periods) m.engine_new ∙ c.limits.ensures), c.meet.ensures.meets.same.1 ∙ ap (λ (z : EngineView). z.processors) m.engine_new, c.meet.ensures.meets.changes_are ∙ ap (λ (z : EngineView). z.changes) m.engine_new)

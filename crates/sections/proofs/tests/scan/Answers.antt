@@ -15,16 +15,8 @@ later i e f since same before after was = record {
   empty = was.empty;
 }
 
-pub returns-then-ended-begun-clause-still : goal.returns-then-ended-begun-clause-still
-returns-then-ended-begun-clause-still c =
-    let a = c.unlocks-ended.ensures.step in
-    let b = c.unlocks-ended_there.ensures.step in
-    let d = c.locks-begun.ensures.step in
-    let e = c.locks-begun_there.ensures.step in
-    λ i was. later i c.args.engine.now c.locks-begun_there.new.self (beginning_trans a.since (beginning_trans b.since (beginning_trans d.since e.since))) (e.changes_are ∙ (d.changes_are ∙ (b.changes_are ∙ a.changes_are))) c.processors.ensures.history e.history was
-
-pub returns-else-ended-begun-clause-still : goal.returns-else-ended-begun-clause-still
-returns-else-ended-begun-clause-still c =
+pub returns-clause-still : goal.returns-clause-still
+returns-clause-still c =
     let a = c.unlocks-ended.ensures.step in
     let b = c.unlocks-ended_there.ensures.step in
     let d = c.locks-begun.ensures.step in

@@ -1,23 +1,30 @@
-use Rattle.std.proofs.Common.{subst, arith}
-use Rattle.scan.specs.Progress.{StepsTo}
-use Rattle.scan.proofs.Stepping.{nothing_yet, under_way, arrives, exhausted, at_error}
+use Rattle.std.proofs.Common.{arith}
+use Rattle.scan.proofs.Stepping.{nothing_yet}
+use Rattle.scan.proofs.RowsOfSteps.{arrives_by, until_same}
+use Rattle.scan.proofs.Asked.{rests, starts}
 use Rattle.scan.proofs.engine.Engine.advance.Goals as goal
 
-pub loop-answer-init : goal.loop-answer-init
-loop-answer-init g c = nothing_yet g.N.Needs.loads c.args.self.now
+pub invariant_of-self-in_default : goal.invariant_of-self-in_default
+invariant_of-self-in_default g c =
+    let m = c.go_on-next.ensures in
+    let some = c.self.invariant.some in
+    let same = until_same _ _ _ _ _ m in record {
+      history = m.answers.history;
+      some = omega (arith, some, same);
+      place_is = m.answers.place_is;
+    }
 
-pub returns-in_err-answer : goal.returns-in_err-answer
-returns-in_err-answer g c = at_error _ _ _ c.from_residual.ensures.0 (exhausted g.N.Needs.loads _ _ _ c.loop-answer.invariant c.in_err-answer.ensures)
+pub returns-in_default-2 : goal.returns-in_default-2
+returns-in_default-2 g c =
+    let own = c.self.invariant in
+    rw (← c.self.view_is) (rests g.N.Needs.loads c.self.inside.seat own.some own.history c.self.inside.place c.in-Idle.is own.place_is _ _ c.in_ok-find_need-in-Idle.field-0 c.in_ok-find_need-in-Idle.ensures c.in_default-2.is)
 
-pub loop-answer-smaller : goal.loop-answer-smaller
-loop-answer-smaller g c =
-    let s = subst (λ a. StepsTo g.N.Needs.loads c.loop-answer.self a c.step.new.self) c.in-Step.is c.in_ok-answer.ensures in
-    let same = s.goes_on.same.1 in
-    let next = s.step.counts in
-    let few = s.step.few in omega (arith, same, next, few)
-
-pub loop-answer-preserved : goal.loop-answer-preserved
-loop-answer-preserved g c = under_way g.N.Needs.loads _ _ _ c.loop-answer.invariant (subst (λ a. StepsTo g.N.Needs.loads c.loop-answer.self a c.step.new.self) c.in-Step.is c.in_ok-answer.ensures)
+pub returns-in-Some : goal.returns-in-Some
+returns-in-Some g c =
+    let own = c.self.invariant in
+    rw (← c.self.view_is) (starts g.N.Needs.loads c.self.inside.seat own.some own.history c.self.inside.place c.in-Idle.is own.place_is _ _ c.in_ok-find_need-in-Idle.field-0 c.in_ok-find_need-in-Idle.ensures c.in-Some.field-0 _ _ c.in-Some.is c.add_start-started.ensures.event c.add_start-started.ensures.number)
 
 pub returns-in_default : goal.returns-in_default
-returns-in_default g c = arrives g.N.Needs.loads _ _ _ c.in_ok-answer.answer c.loop-answer.invariant c.in_ok-answer.ensures c.in_default.not-Step
+returns-in_default g c =
+    let own = c.self.invariant in
+    rw (← c.self.view_is) (arrives_by g.N.Needs.loads c.self.inside.needs _ _ _ _ _ _ own.some c.in_default.not-Idle own.history own.place_is (nothing_yet g.N.Needs.loads _) c.go_on-next.ensures)

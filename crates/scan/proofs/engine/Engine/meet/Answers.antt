@@ -6,14 +6,14 @@ use Rattle.scan.proofs.engine.Engine.meet.Goals as goal
 pub invariant_of-self : goal.invariant_of-self
 invariant_of-self g c =
     let h : OnlySees c.self.inside.seat c.meet.new.self = record {
-      same = c.meet.ensures.same;
+      same = c.meet.ensures.meets.same;
       seen = c.self.invariant.history;
-      history = c.meet.ensures.history;
-      since = c.meet.ensures.since;
-      changes = c.meet.ensures.changes_are;
-      extra = map LoadIndex c.meet.ensures.found;
-      steps = c.meet.ensures.steps;
-      none = index_loads c.meet.ensures.found;
+      history = c.meet.ensures.meets.history;
+      since = c.meet.ensures.meets.since;
+      changes = c.meet.ensures.meets.changes_are;
+      extra = map LoadIndex c.meet.ensures.meets.found;
+      steps = c.meet.ensures.meets.steps;
+      none = index_loads c.meet.ensures.meets.found;
     } in
     let some = c.self.invariant.some in
     let same = h.same.1 in record {
@@ -25,13 +25,13 @@ invariant_of-self g c =
 pub returns-clause-rest : goal.returns-clause-rest
 returns-clause-rest g c =
     let h : OnlySees c.self.inside.seat c.meet.new.self = record {
-      same = c.meet.ensures.same;
+      same = c.meet.ensures.meets.same;
       seen = c.self.invariant.history;
-      history = c.meet.ensures.history;
-      since = c.meet.ensures.since;
-      changes = c.meet.ensures.changes_are;
-      extra = map LoadIndex c.meet.ensures.found;
-      steps = c.meet.ensures.steps;
-      none = index_loads c.meet.ensures.found;
+      history = c.meet.ensures.meets.history;
+      since = c.meet.ensures.meets.since;
+      changes = c.meet.ensures.meets.changes_are;
+      extra = map LoadIndex c.meet.ensures.meets.found;
+      steps = c.meet.ensures.meets.steps;
+      none = index_loads c.meet.ensures.meets.found;
     } in
     rw (← c.self.view_is) (still_viewed _ _ h c.self.inside.needs c.self.inside.place)

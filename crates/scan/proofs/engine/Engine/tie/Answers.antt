@@ -1,20 +1,10 @@
-use Rattle.std.proofs.Common.{[], ◌∷◌, refl, arith}
-use Rattle.sections.specs.declared.view.Step.TheVariants.{LoadIndex}
-use Rattle.scan.proofs.PlaceKept.{OnlySees, at_still, still_viewed}
+use Rattle.std.proofs.Common.{arith}
+use Rattle.scan.proofs.PlaceKept.{OnlySees, ties_only, at_still, still_viewed}
 use Rattle.scan.proofs.engine.Engine.tie.Goals as goal
 
 pub invariant_of-self : goal.invariant_of-self
 invariant_of-self g c =
-    let h : OnlySees c.self.inside.seat c.tie.new.self = record {
-      same = c.tie.ensures.covers.step.same;
-      seen = c.self.invariant.history;
-      history = c.tie.ensures.covers.step.history;
-      since = c.tie.ensures.covers.step.since;
-      changes = c.tie.ensures.covers.step.changes_are;
-      extra = LoadIndex c.tie.ensures.covers.value ∷ [];
-      steps = c.tie.ensures.covers.step.steps;
-      none = refl;
-    } in
+    let h : OnlySees c.self.inside.seat c.tie.new.self = ties_only _ _ _ _ c.self.invariant.history c.tie.ensures.ties in
     let some = c.self.invariant.some in
     let same = h.same.1 in record {
       history = h.history;
@@ -24,14 +14,5 @@ invariant_of-self g c =
 
 pub returns-clause-rest : goal.returns-clause-rest
 returns-clause-rest g c =
-    let h : OnlySees c.self.inside.seat c.tie.new.self = record {
-      same = c.tie.ensures.covers.step.same;
-      seen = c.self.invariant.history;
-      history = c.tie.ensures.covers.step.history;
-      since = c.tie.ensures.covers.step.since;
-      changes = c.tie.ensures.covers.step.changes_are;
-      extra = LoadIndex c.tie.ensures.covers.value ∷ [];
-      steps = c.tie.ensures.covers.step.steps;
-      none = refl;
-    } in
+    let h : OnlySees c.self.inside.seat c.tie.new.self = ties_only _ _ _ _ c.self.invariant.history c.tie.ensures.ties in
     rw (← c.self.view_is) (still_viewed _ _ h c.self.inside.needs c.self.inside.place)

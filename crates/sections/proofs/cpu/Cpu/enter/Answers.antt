@@ -1,11 +1,11 @@
-use Rattle.std.proofs.Common.{rules, ◌≡◌, ℕ, ◌+◌, ◌≢◌, List, [], ◌∷◌, ◌++◌, length, get_or, ap, ◌∙◌, sym, arith}
+use Rattle.std.proofs.Common.{rules, ◌≡◌, ℕ, ◌≢◌, List, [], ◌∷◌, ◌++◌, length, get_or, ap, ◌∙◌, sym, arith}
 use Rattle.sseq.specs.Indexes.{index_number}
 use Rattle.onedom.specs.declared.event.Event.{Event}
 use Rattle.onedom.specs.declared.event.Event.TheVariants.{Begin}
 use Rattle.onedom.specs.declared.event.Maker.TheVariants.{Processor}
-use Rattle.onedom.specs.Histories.{begins_of, open_sections}
-use Rattle.sseq.specs.declared.index.Index.TheVariants.{Zero, One}
+use Rattle.onedom.specs.Histories.{begins_of}
 use Rattle.sections.specs.declared.view.View.{View}
+use Rattle.sections.specs.Words.{open_readings}
 use Rattle.sections.specs.Insides.{section_of}
 use Rattle.sections.proofs.Sharing.{takes_token}
 use Rattle.sections.proofs.CpuViews.{adds_cut, fresh_section, rests_cut, begun_more, limited_more, sum_more, one_more_unclosed, has_room}
@@ -13,9 +13,6 @@ use Rattle.sections.proofs.cpu.Cpu.enter.Goals as goal
 
 pub join_seat-requires : goal.join_seat-requires
 join_seat-requires g c = (search rules, search rules, search rules, search rules, takes_token _ _ _ _ _)
-
-pub overflow_add-self-2 : goal.overflow_add-self-2
-overflow_add-self-2 g c = let few = c.self.invariant.few in let a = c.self.invariant.limited Zero in let b = c.self.invariant.limited One in let small = c.self.invariant.small in omega (arith, few, a, b, small)
 
 pub invariant_of-self : goal.invariant_of-self
 invariant_of-self g c =
@@ -42,9 +39,11 @@ invariant_of-self g c =
       begun = begun_more c.self.inside.begun p i b.section (Processor p) c.self.inside.seat.me.0.mine _ two c.self.invariant.begun mine;
       limited = limited_more c.self.inside.begun i c.self.inside.limit two full c.self.invariant.limited;
       small = c.self.invariant.small;
-      unclosed = ap (λ z. z + 1) (c.self.invariant.unclosed ∙ ap (λ m. length (open_sections m.0.mine)) (sym joined))
-          ∙ sym (ap (λ (v : View). length (open_sections v.mine)) stays ∙ one_more_unclosed b.section p i _ _ (b.adds.role ∙ (ap (λ m. m.0.role) joined ∙ c.self.invariant.role)) b.adds);
-      few = let e = sum_more c.self.inside.begun i two in let f = c.self.invariant.few in omega (arith, e, f);
+      settled =
+          let more = sum_more c.self.inside.begun i two in
+          let was = c.self.invariant.settled in
+          let same : length (open_readings c.join_seat.new.seat.me.0.mine) ≡ length (open_readings c.self.inside.seat.me.0.mine) = ap (λ m. length (open_readings m.0.mine)) joined in
+          let one = ap (λ (v : View). length (open_readings v.mine)) stays ∙ one_more_unclosed b.section p i _ _ (b.adds.role ∙ (ap (λ m. m.0.role) joined ∙ c.self.invariant.role)) b.adds b.kind in omega (arith, more, was, same, one);
     })
 
 pub returns : goal.returns
@@ -60,6 +59,7 @@ returns g c =
       section = b.section;
       room = has_room _ _ _ (c.self.invariant.begun i) (c.self.invariant.limited i) full;
       fresh = ap (λ m. begins_of b.section m.0.seen) (sym joined) ∙ fresh_section _ _ _ _ _ _ b.adds;
+      kind = b.kind;
       adds = adds_cut _ _ _ _ _ _ c.self.inside.seat.me.0 c.look.inside.seat.me.0 _ _ _ same c.self.invariant.placed.sized c.self.invariant.role (ap (λ m. m.0) joined) (ap (λ m. m.0) b.stays) b.adds;
       reading = λ k. record { domain = (b.same_table.1 ∙ c.join_seat.ensures.0) k; section = section_of (right k); processor = p; index = i; seen = (ap (λ m. m.0.seen) b.given ∙ sym (ap (λ m. m.0.seen) b.stays)) k; changes = (ap (λ m. m.0.changes) b.given ∙ sym (ap (λ m. m.0.changes) b.stays)) k };
     })

@@ -1,4 +1,4 @@
-use Rattle.std.proofs.Common.{◌≡◌, ℕ, List, [], ◌∷◌, ◌++◌, refl, sym, ap, ◌∙◌}
+use Rattle.std.proofs.Common.{◌≡◌, ◌+◌, ℕ, List, [], ◌∷◌, ◌++◌, refl, sym, ap, ◌∙◌}
 use Rattle.sseq.specs.Numbers.{cookie_at}
 use Rattle.onedom.specs.declared.event.Event.{Event}
 use Rattle.onedom.specs.declared.event.Event.TheVariants.{Note}
@@ -26,8 +26,7 @@ invariant_of-self g c =
       begun = λ i. c.self.invariant.begun i ∙ sym (locks_told p i (Note (cookie_at c.note_number.result) (Processor p)) c.self.inside.seat.me.0.mine _ refl mine);
       limited = c.self.invariant.limited;
       small = c.self.invariant.small;
-      unclosed = c.self.invariant.unclosed ∙ sym (unclosed_told (Note (cookie_at c.note_number.result) (Processor p)) c.self.inside.seat.me.0.mine _ refl (λ _. refl) mine);
-      few = c.self.invariant.few;
+      settled = c.self.invariant.settled ∙ ap (λ n. n + c.self.inside.settled) (sym (unclosed_told (Note (cookie_at c.note_number.result) (Processor p)) c.self.inside.seat.me.0.mine _ refl (λ _. refl) mine));
     }
 
 pub returns : goal.returns

@@ -1,12 +1,10 @@
-use Rattle.std.proofs.Common.{rules, ◌≡◌, ◌≢◌, ℕ, ◌+◌, List, [], ◌∷◌, ◌++◌, length, get_or, ap, ◌∙◌, sym, arith}
-use Rattle.sseq.specs.declared.index.Index.TheVariants.{Zero, One}
+use Rattle.std.proofs.Common.{rules, ◌≡◌, ◌≢◌, ℕ, List, [], ◌∷◌, ◌++◌, length, get_or, ap, ◌∙◌, sym, arith}
 use Rattle.sseq.specs.Indexes.{index_number}
 use Rattle.onedom.specs.declared.event.Event.{Event}
 use Rattle.onedom.specs.declared.event.Event.TheVariants.{Begin}
 use Rattle.onedom.specs.declared.event.Maker.TheVariants.{Processor}
-use Rattle.onedom.specs.Histories.{open_sections}
 use Rattle.sections.specs.declared.view.View.{View}
-use Rattle.sections.specs.Words.{locks}
+use Rattle.sections.specs.Words.{locks, open_readings}
 use Rattle.sections.specs.Insides.{section_of}
 use Rattle.sections.proofs.Deeds.{cpu_makes}
 use Rattle.sections.proofs.Steps.{looks}
@@ -15,9 +13,6 @@ use Rattle.sections.proofs.cpu.Cpu.read_lock.Goals as goal
 
 pub load-requires : goal.load-requires
 load-requires g c = (search rules, search rules, looks _ _ _ _ (Processor c.self.inside.processor) (cpu_makes _ _ c.self.invariant.role) (search rules))
-
-pub overflow_add-self-2 : goal.overflow_add-self-2
-overflow_add-self-2 g c = let few = c.self.invariant.few in let a = c.self.invariant.limited Zero in let b = c.self.invariant.limited One in let small = c.self.invariant.small in omega (arith, few, a, b, small)
 
 pub returns-then-self-place : goal.returns-then-self-place
 returns-then-self-place g c =
@@ -61,9 +56,11 @@ invariant_of-self-2 g c =
       begun = begun_more c.self.inside.begun p i b.section (Processor p) c.self.inside.seat.me.0.mine _ two c.self.invariant.begun mine;
       limited = limited_more c.self.inside.begun i c.self.inside.limit two full c.self.invariant.limited;
       small = c.self.invariant.small;
-      unclosed = ap (λ z. z + 1) (c.self.invariant.unclosed ∙ ap (λ l. length (open_sections l)) (sym h.mine))
-          ∙ sym (ap (λ (v : View). length (open_sections v.mine)) stays ∙ one_more_unclosed b.section p i _ _ (b.adds.role ∙ (h.role ∙ c.self.invariant.role)) b.adds);
-      few = let e = sum_more c.self.inside.begun i two in let f = c.self.invariant.few in omega (arith, e, f);
+      settled =
+          let more = sum_more c.self.inside.begun i two in
+          let was = c.self.invariant.settled in
+          let same : length (open_readings c.load.new.seat.me.0.mine) ≡ length (open_readings c.self.inside.seat.me.0.mine) = ap (λ l. length (open_readings l)) h.mine in
+          let one = ap (λ (v : View). length (open_readings v.mine)) stays ∙ one_more_unclosed b.section p i _ _ (b.adds.role ∙ (h.role ∙ c.self.invariant.role)) b.adds b.kind in omega (arith, more, was, same, one);
     })
 
 pub returns : goal.returns
@@ -88,6 +85,7 @@ returns g c =
         section = b.section;
         room = has_room _ _ _ (c.self.invariant.begun i ∙ ap (locks p i) (sym h.2.1.mine)) (c.self.invariant.limited i) full;
         fresh = fresh_section _ _ _ _ _ _ b.adds;
+        kind = b.kind;
         adds = adds_alone _ _ _ _ _ _ v _ _ b.same_table.0 (h.2.1.processors ∙ c.self.invariant.placed.sized) (h.2.1.role ∙ c.self.invariant.role) (ap (λ m. m.0) b.stays) b.adds;
         reading = λ k. record { domain = b.same_table.1 k; section = section_of (right k); processor = p; index = i; seen = (ap (λ m. m.0.seen) b.given ∙ sym (ap (λ m. m.0.seen) b.stays)) k; changes = (ap (λ m. m.0.changes) b.given ∙ sym (ap (λ m. m.0.changes) b.stays)) k };
       };

@@ -1,6 +1,6 @@
 use Rattle.std.proofs.Common.{rules, ◌≡◌, ℕ, length, ap, ◌∙◌, sym, subst, arith}
-use Rattle.onedom.specs.Histories.{open_sections}
-use Rattle.sections.specs.Words.{locks}
+use Rattle.sseq.specs.declared.index.Index.TheVariants.{Zero, One}
+use Rattle.sections.specs.Words.{locks, open_readings}
 use Rattle.sections.specs.Insides.{section_of}
 use Rattle.sections.specs.Views.{ReadingView}
 use Rattle.sections.specs.Calls.{EndsWithBegin}
@@ -22,16 +22,8 @@ fetch_add-requires g c =
           (ap (λ m. m.0.right) joined ∙ c.reading.invariant.right) (search rules) c.place_of_unlock.ensures,
     )
 
-pub overflow_sub-self : goal.overflow_sub-self
-overflow_sub-self g c =
-    let joined = c.join_seat.ensures.2 in
-    let q : ℕ = c.self.inside.processor in
-    let role = ap (λ m. m.0.role) joined ∙ c.self.invariant.role in
-    let told = c.fetch_add.ensures.2.2 _ _ q _ role (ap (λ m. m.0.right) joined ∙ c.reading.invariant.right) in
-    let here : c.reading.inside.processor ≡ q = ap (λ z. z.processor) c.reading.view_is ∙ (c.requires.1 ∙ sym (ap (λ z. z.processor) c.self.view_is)) in
-    let less = one_less_unclosed _ q _ _ (told.0.role ∙ role) told.0 (told.1 here) in
-    let same : length (open_sections c.join_seat.new.seat.me.0.mine) ≡ length (open_sections c.self.inside.seat.me.0.mine) = ap (λ m. length (open_sections m.0.mine)) joined in
-    let was = c.self.invariant.unclosed in omega (arith, less, same, was)
+pub overflow_add-self : goal.overflow_add-self
+overflow_add-self g c = let was = c.self.invariant.settled in let a = c.self.invariant.limited Zero in let b = c.self.invariant.limited One in let small = c.self.invariant.small in omega (arith, was, a, b, small)
 
 pub invariant_of-self : goal.invariant_of-self
 invariant_of-self g c =
@@ -40,10 +32,9 @@ invariant_of-self g c =
     let role = ap (λ m. m.0.role) joined ∙ c.self.invariant.role in
     let told = c.fetch_add.ensures.2.2 _ _ q _ role (ap (λ m. m.0.right) joined ∙ c.reading.invariant.right) in
     let here : c.reading.inside.processor ≡ q = ap (λ z. z.processor) c.reading.view_is ∙ (c.requires.1 ∙ sym (ap (λ z. z.processor) c.self.view_is)) in
-    let less = one_less_unclosed _ q _ _ (told.0.role ∙ role) told.0 (told.1 here) in
-    let same : length (open_sections c.join_seat.new.seat.me.0.mine) ≡ length (open_sections c.self.inside.seat.me.0.mine) = ap (λ m. length (open_sections m.0.mine)) joined in
-    let was = c.self.invariant.unclosed in
-    let few = c.self.invariant.few in record {
+    let less = one_less_unclosed _ q _ _ (told.0.role ∙ role) told.0 (told.1 here) c.reading.invariant.kind in
+    let same : length (open_readings c.join_seat.new.seat.me.0.mine) ≡ length (open_readings c.self.inside.seat.me.0.mine) = ap (λ m. length (open_readings m.0.mine)) joined in
+    let was = c.self.invariant.settled in record {
       placed = record {
         seated = search rules;
         wide = c.self.invariant.placed.wide;
@@ -57,8 +48,7 @@ invariant_of-self g c =
       begun = λ i. c.self.invariant.begun i ∙ sym (locks_unchanged q i _ q _ c.join_seat.new.seat.me.0.mine _ told.0.mine ∙ ap (λ m. locks q i m.0.mine) joined);
       limited = c.self.invariant.limited;
       small = c.self.invariant.small;
-      unclosed = omega (arith, less, same, was);
-      few = omega (arith, few);
+      settled = omega (arith, less, same, was);
     }
 
 pub returns-clause-ends : goal.returns-clause-ends

@@ -10,7 +10,7 @@ pub fetch_add-requires : goal.fetch_add-requires
 fetch_add-requires c = (
   c.requires.placed.seated,
   rw (c.place_of_lock.ensures, c.requires.placed.wide) (lock_there _ _ _ c.requires.there),
-  begins_here _ _ _ _ _ c.args.processor c.args.index c.requires.placed.sized c.requires.role c.requires.there c.place_of_lock.ensures c.requires.room,
+  begins_here _ _ _ _ _ _ c.args.processor c.args.index c.requires.placed.sized c.requires.role c.requires.there c.place_of_lock.ensures c.requires.room,
 )
 
 pub split_seat-requires : goal.split_seat-requires
@@ -23,6 +23,7 @@ returns c = let told = c.fetch_add.ensures.2.1 c.args.processor c.args.index c.r
       after = c.fetch_add.new.seat.me.0;
       adds = told.1;
       right = told.2;
+      kind = told.3;
       same_table = (c.split_seat.ensures.0 ∙ c.fetch_add.ensures.0, c.split_seat.ensures.3 ∙ c.fetch_add.ensures.0);
       stays = c.split_seat.ensures.2 ∙ ap (λ x. (lacking c.fetch_add.new.seat.me.0, x)) bare;
       given = c.split_seat.ensures.4;

@@ -14,6 +14,7 @@ loop-next-init g c = record {
   same = (refl, refl, refl);
   mine = refl;
   changes_are = refl;
+  shown = refl;
   since = beginning_refl _;
   unchanged = refl;
   covers = λ k d lt. absurd (omega (arith, lt));
@@ -38,6 +39,7 @@ loop-next-preserved g c =
       same = (h.step.same.0 ∙ v.same.0, h.step.same.1 ∙ v.same.1, h.step.same.2 ∙ v.same.2);
       mine = h.step.mine ∙ v.mine;
       changes_are = h.step.changes_are ∙ v.changes_are;
+      shown = h.step.shown ∙ v.shown;
       since = beginning_trans v.since h.step.since;
       unchanged = still ∙ v.unchanged;
       covers = covers_more c.args.cpus.now c.loop-next.next-index item _ _ (omega arith) (c.next-item.is ∙ ap (λ xs. get_or xs c.loop-next.next-index item) v.unchanged) h.step.since (subst (λ (z : CpuView). IsBeginning z.seen c.cover.new.self.seen) (sym c.next-item.is) h.covers) v.covers;
@@ -46,7 +48,7 @@ loop-next-preserved g c =
     }
 
 pub returns-clause-engine : goal.returns-clause-engine
-returns-clause-engine g c = let v = c.loop-next.invariant in let done = c.loop-next-test.false in let l = v.steps in record { found = l.0; one_each = l.1 ∙ omega arith; steps = l.2; same = v.same; mine = v.mine; changes_are = v.changes_are; since = v.since; covers = λ k d lt. v.covers k d (omega arith); not_before = λ k d lt. v.not_before k d (omega arith); history = v.history }
+returns-clause-engine g c = let v = c.loop-next.invariant in let done = c.loop-next-test.false in let l = v.steps in record { found = l.0; one_each = l.1 ∙ omega arith; steps = l.2; same = v.same; mine = v.mine; changes_are = v.changes_are; shown = v.shown; since = v.since; covers = λ k d lt. v.covers k d (omega arith); not_before = λ k d lt. v.not_before k d (omega arith); history = v.history }
 
 pub returns-clause-cpus : goal.returns-clause-cpus
 returns-clause-cpus g c = c.loop-next.invariant.unchanged

@@ -11,6 +11,7 @@ invariant-loop-next g l = record {
   steps : (found : List ℕ) × (length found ≡ l.next-index) × (l.self.steps ≡ l.initial.self.steps ++ map LoadIndex found);
   same : IsSameEngine l.initial.self l.self;
   mine : l.self.mine ≡ l.initial.self.mine;
+  shown : l.self.shown ≡ l.initial.self.shown;
   changes_are : l.self.changes ≡ l.initial.self.changes;
   since : IsBeginning l.initial.self.seen l.self.seen;
   unchanged : l.cpus ≡ l.initial.cpus;

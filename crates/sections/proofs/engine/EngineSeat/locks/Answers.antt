@@ -1,4 +1,4 @@
-use Rattle.std.proofs.Common.{rules, ◌≡◌, ◌^◌, ◌<◌, ℕ, sym, ap, ◌∙◌, subst, arith}
+use Rattle.std.proofs.Common.{rules, ◌≡◌, ◌^◌, ◌<◌, ◌≤◌, ℕ, sym, ap, ◌∙◌, subst, arith}
 use Rattle.sections.specs.Views.{EngineView}
 use Rattle.sections.specs.Words.{word_count, number_word, all_locks}
 use Rattle.sections.proofs.Agreement.{lock_there}
@@ -36,4 +36,4 @@ returns g c =
     let e = c.self.invariant in
     let told = c.load.ensures in
     let sees = told.2.2 c.args.processor c.args.index c.place_of_lock.ensures in
-    rw (← c.self.view_is) (record { step = takes_step _ _ _ _ _ _ _ _ _ told.0 e.placed.sized e.role told.2.1 sees.0; exact = sees.1; bound = subst (λ (n : ℕ). all_locks n c.args.index c.load.new.seat.me.0.seen < 2 ^ 62) e.placed.sized sees.2 })
+    rw (← c.self.view_is) (record { step = takes_step _ _ _ _ _ _ _ _ _ told.0 e.placed.sized e.role told.2.1 sees.0; exact = sees.1; bound = subst (λ (n : ℕ). all_locks n c.args.index c.load.new.seat.me.0.seen ≤ 2 ^ 60) e.placed.sized sees.2 })

@@ -1,21 +1,23 @@
-use Rattle.session.specs.Entries.{AreOf}
-use Rattle.session.proofs.Holding.{held_look}
-use Rattle.session.proofs.Acting.{is_free, looked}
+use Rattle.session.specs.Entries.{AreTogether}
+use Rattle.session.proofs.Together.{together_look}
+use Rattle.session.proofs.Acting.{is_free, is_not_parked, looked}
 use Rattle.session.proofs.entry.Entry.look.Goals as goal
 
 pub insert-requires-clause-free : goal.insert-requires-clause-free
 insert-requires-clause-free g c =
     let asked = rw (← c.self.view_is) at c.requires in
-    is_free c.args.name c.reserve.new.self.tokens (rw c.in_ok-reserve.ensures.tokens asked.1)
+    is_free c.self.inside.name c.args.name c.reserve.new.self.tokens c.self.inside.parking.parked c.self.inside.domain (rw c.in_ok-reserve.ensures.tokens asked.1)
 
 pub invariant_of-self-2 : goal.invariant_of-self-2
 invariant_of-self-2 g c =
-    let held : AreOf c.self.inside.domain.table c.self.inside.domain.standing c.reserve.new.self.tokens = rw c.in_ok-reserve.ensures.tokens c.self.invariant.tokens in
-    record { tokens = rw (c.look-look.ensures.after, c.insert.ensures) (held_look c.self.inside.domain.table c.self.inside.domain.standing c.reserve.new.self.tokens c.args.name c.look-look.result held c.look-look.ensures.look.table) }
+    let asked = rw (← c.self.view_is) at c.requires in
+    let held : AreTogether c.self.inside.domain c.reserve.new.self.tokens c.self.inside.parking = rw c.in_ok-reserve.ensures.tokens c.self.invariant in
+    let free = is_not_parked c.self.inside.name c.args.name c.self.inside.names.tokens c.self.inside.parking.parked c.self.inside.domain asked.1 in
+    rw (c.look-look.ensures.after, c.insert.ensures) (together_look c.self.inside.domain c.reserve.new.self.tokens c.self.inside.parking held c.args.name free c.look-look.result c.look-look.ensures.look.table)
 
 pub returns-clause-does : goal.returns-clause-does
 returns-clause-does g c =
     let asked = rw (← c.self.view_is) at c.requires in
-    let free = is_free c.args.name c.reserve.new.self.tokens (rw c.in_ok-reserve.ensures.tokens asked.1) in
+    let free = is_free c.self.inside.name c.args.name c.reserve.new.self.tokens c.self.inside.parking.parked c.self.inside.domain (rw c.in_ok-reserve.ensures.tokens asked.1) in
     rw (← c.self.view_is, c.index-index.ensures, c.insert.ensures, ← c.in_ok-reserve.ensures.tokens)
-    (looked c.self.inside.name c.reserve.new.self.tokens c.self.inside.domain c.look-look.new.self c.args.processor c.args.name c.look-look.result free c.look-look.ensures.look c.look-look.ensures.after)
+    (looked c.self.inside.name c.reserve.new.self.tokens c.self.inside.parking.parked c.self.inside.domain c.look-look.new.self c.args.processor c.args.name c.look-look.result free c.look-look.ensures.look c.look-look.ensures.after)

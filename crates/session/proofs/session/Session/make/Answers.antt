@@ -1,4 +1,4 @@
-use Rattle.std.proofs.Common.{rules, ◌≡◌, ◌<◌, [], ◌∷◌, ◌++◌, length, refl, inl, inr, ap, ◌∙◌, arith}
+use Rattle.std.proofs.Common.{rules, ◌≡◌, ◌<◌, ◌≤◌, [], ◌∷◌, ◌++◌, length, refl, inl, inr, ap, ◌∙◌, arith}
 use Rattle.std.proofs.lemmas.List.{length-map}
 use Rattle.std.proofs.lemmas.List.Elements.{All-same, All-push}
 use Rattle.session.specs.States.{EntryView}
@@ -17,11 +17,11 @@ pub invariant_of-self-2 : goal.invariant_of-self-2
 invariant_of-self-2 g c =
     let limits = c.self.inside.limits in
     let entries = c.self.inside.entries.items in
-    let entry = c.new-entry.result in
+    let entry = c.in_ok-entry.entry in
     let pushed : c.push.new.self.items ≡ entries ++ entry ∷ [] = search rules in
     record {
       in_range = c.self.invariant.in_range;
-      same = All-same (λ (e : EntryView). e.limits ≡ limits) _ _ pushed (All-push (λ (e : EntryView). e.limits ≡ limits) entries entry c.self.invariant.same (ap (λ (e : EntryView). e.limits) c.new-entry.ensures ∙ c.in-Ok.ensures.limits_are));
+      same = All-same (λ (e : EntryView). e.limits ≡ limits) _ _ pushed (All-push (λ (e : EntryView). e.limits ≡ limits) entries entry c.self.invariant.same (ap (λ (e : EntryView). e.limits) c.in_ok-entry.ensures ∙ c.in-Ok.ensures.limits_are));
     }
 
 pub returns-in-Err-Processors-clause-ok : goal.returns-in-Err-Processors-clause-ok
@@ -29,3 +29,17 @@ returns-in-Err-Processors-clause-ok g c =
     let none = rw c.in-Err-Processors.field-0-is at c.in-Err-Processors.ensures in
     let few : length c.self.inside.entries.items < 8 = omega (arith, c.if-len-ge-MOST_DOMAINS.false, c.len.ensures, c.self.inside.entries.ok.0) in
     rw (← c.self.view_is, c.reserve.ensures.items) (inr (record { after = refl; cause = inr (inl (omega (arith, few, length-map c.self.inside.entries.items (λ (e : EntryView). e.state)), none, refl)) }))
+
+pub returns-then-len-ge-MOST_DOMAINS-clause-ok : goal.returns-then-len-ge-MOST_DOMAINS-clause-ok
+returns-then-len-ge-MOST_DOMAINS-clause-ok g c =
+    let many : 8 ≤ length c.self.inside.entries.items = omega (arith, c.if-len-ge-MOST_DOMAINS.true, c.len.ensures, c.self.inside.entries.ok.0) in
+    rw (← c.self.view_is) (inr (record { after = refl; cause = inl (omega (arith, many, length-map c.self.inside.entries.items (λ (e : EntryView). e.state)), refl) }))
+
+pub returns-in-Err-Memory-clause-ok : goal.returns-in-Err-Memory-clause-ok
+returns-in-Err-Memory-clause-ok g c =
+    let counted = rw c.in-Err-Memory.field-0-is at c.in-Err-Memory.ensures in
+    let few : length c.self.inside.entries.items < 8 = omega (arith, c.if-len-ge-MOST_DOMAINS.false, c.len.ensures, c.self.inside.entries.ok.0) in
+    rw (← c.self.view_is, c.reserve.ensures.items) (inr (record { after = refl; cause = inr (inr (omega (arith, few, length-map c.self.inside.entries.items (λ (e : EntryView). e.state)), counted, refl)) }))
+
+pub invariant_of-self-in_err-entry : goal.invariant_of-self-in_err-entry
+invariant_of-self-in_err-entry g c = record { in_range = c.self.invariant.in_range; same = All-same (λ (e : EntryView). e.limits ≡ c.self.inside.limits) c.reserve.new.self.items c.self.inside.entries.items c.reserve.ensures.items c.self.invariant.same }

@@ -1,13 +1,18 @@
-use Rattle.std.proofs.Common.{◌≡◌, length, subst, sym, arith}
-use Rattle.sections.specs.EngineCalls.{Meets}
-use Rattle.solo.specs.Settling.{Settles}
-use Rattle.solo.proofs.Settled.{all_kept, settles}
+use Rattle.std.proofs.Common.{◌≡◌, List, length, subst, sym, arith}
+use Rattle.domain.specs.Views.{CpuView}
+use Rattle.domain.specs.Meetings.{IsAllOf, MeetsHere}
+use Rattle.solo.proofs.Settled.{all_kept}
+use Rattle.solo.proofs.members.Members.settle.Given.{Over}
 use Rattle.solo.proofs.members.Members.settle.Goals as goal
 
-pub returns : goal.returns
-returns g c =
-    let cpus = c.args.self.now.cpus in
-    let v = c.args.self.now.engine in
-    let meets = subst (λ l. Meets v.seat l c.meet.new.self.seat c.meet.new.cpus) c.deref_mut.ensures.value c.meet.ensures.met in
-    let kept : cpus.len ≡ length c.meet.new.cpus = omega (arith, cpus.ok.0, meets.count) in
-    subst (λ l. Settles cpus.items v l c.meet.new.self) (sym (all_kept cpus.len c.meet.new.cpus _ kept)) (settles cpus.items c.meet.new.cpus v c.meet.new.self meets c.meet.ensures.rest)
+met : (g : Over) (c : goal.After-self-1 g) → MeetsHere c.args.self.now.cpus.items c.meet.new.cpus
+met g c = subst (λ (l : List CpuView). MeetsHere l c.meet.new.cpus) c.deref_mut.ensures.value c.meet.ensures.meets
+
+kept : (g : Over) (c : goal.After-self-1 g) → c.args.self.now.cpus.len ≡ length c.meet.new.cpus
+kept g c = let count = (met g c).count in let long = c.args.self.now.cpus.ok.0 in omega (arith, count, long)
+
+pub returns-clause-all : goal.returns-clause-all
+returns-clause-all g c = subst (λ (l : List CpuView). IsAllOf c.args.self.now.domain l) (sym (all_kept c.args.self.now.cpus.len c.meet.new.cpus _ (kept g c))) c.meet.ensures.all
+
+pub returns-clause-meets : goal.returns-clause-meets
+returns-clause-meets g c = subst (λ (l : List CpuView). MeetsHere c.args.self.now.cpus.items l) (sym (all_kept c.args.self.now.cpus.len c.meet.new.cpus _ (kept g c))) (met g c)

@@ -1,25 +1,24 @@
-use Rattle.solo.proofs.EngineActs.{Turn, started, started_none, started_same, started_together}
-use Rattle.solo.proofs.solo.Solo.start.Given.{Over}
+use Rattle.solo.proofs.Hand.{first_inside, here, in_vector, all_still}
+use Rattle.solo.proofs.EngineActs.{none_busy, start_says, started_still}
 use Rattle.solo.proofs.solo.Solo.start.Goals as goal
 
-abbrev turn : (g : Over) → goal.After-settle g → Turn
-turn g c = record {
-  limits = c.self.inside.limits;
-  cpus = c.self.inside.members.cpus.items;
-  v = c.self.inside.members.engine;
-  w = c.start.new.self;
-  cpus' = c.settle.new.self.cpus.items;
-  v' = c.settle.new.self.engine;
-  together = c.self.invariant.together;
-  no_need = c.self.invariant.no_need;
-  settles = c.settle.ensures;
-}
+pub index_mut-requires : goal.index_mut-requires
+index_mut-requires g c = in_vector _ c.self.inside.members.cpus.items _ c.self.inside.members.cpus.ok.0 (first_inside _ _ _ _ c.self.invariant.met)
 
-pub invariant_of-self-2 : goal.invariant_of-self-2
-invariant_of-self-2 g c = record { together = started_together (turn g c) c.in_ok-number.number c.in_ok-number.ensures; no_need = started_none (turn g c) c.in_ok-number.number c.in_ok-number.ensures }
+pub start-answer-requires : goal.start-answer-requires
+start-answer-requires g c = here _ _ _ _ c.self.invariant.met 0 _ (first_inside _ _ _ _ c.self.invariant.met) c.index_mut.ensures.value
+
+pub settle-requires : goal.settle-requires
+settle-requires g c = all_still c.self.inside.members.cpus.items 0 _ (first_inside _ _ _ _ c.self.invariant.met) _ _ c.self.invariant.met.all c.index_mut.ensures.value (started_still _ _ _ c.start-answer.result c.start-answer.ensures.starts c.start-answer.ensures.here)
+
+pub started-requires : goal.started-requires
+started-requires g c = none_busy _ _ _ c.start-answer.result c.start-answer.ensures.starts
+
+pub invariant_of-self : goal.invariant_of-self
+invariant_of-self g c = record { engine = c.settle.ensures.meets.left; met = (start_says _ _ _ _ _ _ _ _ c.self.invariant.met c.index_mut.ensures.value c.settle.ensures.all c.settle.ensures.meets _ c.self.view_is c.start-answer.result c.start-answer.ensures.starts c.started.result c.started.ensures).met }
 
 pub returns-clause-same : goal.returns-clause-same
-returns-clause-same g c = rw (← c.self.view_is) (started_same (turn g c) c.in_ok-number.number c.in_ok-number.ensures)
+returns-clause-same g c = (start_says _ _ _ _ _ _ _ _ c.self.invariant.met c.index_mut.ensures.value c.settle.ensures.all c.settle.ensures.meets _ c.self.view_is c.start-answer.result c.start-answer.ensures.starts c.started.result c.started.ensures).same
 
 pub returns-clause-start : goal.returns-clause-start
-returns-clause-start g c = rw (← c.self.view_is) (started (turn g c) c.in_ok-number.number c.in_ok-number.ensures)
+returns-clause-start g c = (start_says _ _ _ _ _ _ _ _ c.self.invariant.met c.index_mut.ensures.value c.settle.ensures.all c.settle.ensures.meets _ c.self.view_is c.start-answer.result c.start-answer.ensures.starts c.started.result c.started.ensures).what

@@ -1,0 +1,55 @@
+-- What a call learns of a list when it has its lock.
+use Rattle.std.proofs.Common.{◌≡◌, ℕ, ◌<◌, List, [], ◌∷◌, Option, Some, None, Result, Ok, Err, length, ap, sym, ◌∙◌}
+use Rattle.std.specs.Prelude.{slice_index_or, MatchResult, IfOk, IfSome}
+use Rattle.atomic_table.specs.Seated.{TableId}
+use Rattle.sections.specs.Views.{CpuView}
+use Rattle.sections.specs.Calls.{IsSameCpu}
+use Rattle.keep.specs.Views.{KeepView}
+use Rattle.calls.specs.declared.entry.Entry.{Entry}
+use Rattle.calls.specs.declared.list.Receipt.{Receipt}
+use Rattle.calls.specs.declared.refusals.CallRefusal.{CallRefusal}
+use Rattle.calls.specs.declared.refusals.CallRefusal.TheVariants.{Exhausted, Memory}
+use Rattle.calls.specs.Views.{CallSeatView, ListKey, ListView, BatchView, CallsView, key_of}
+use Rattle.calls.specs.Calls.{IsSameSeat, Queues, IsCause, Refuses, IsInvoking, IsTaken, Takes, IsListOf, IsOfProcessor}
+use Rattle.calls.specs.Insides.{AreOfDomain}
+
+-- it is that of the processor whose lock it was
+pub behind_lock : {J : Type 0} (domain tallies : TableId) (locks : List (KeepView ListKey)) (k : CallsView) (p : ℕ) (lock : KeepView ListKey) (l : ListView J)
+    → k ≡ record { domain = domain; tallies = tallies; processors = length locks } → AreOfDomain domain tallies locks → p < length locks → lock ≡ slice_index_or locks p lock → key_of l ≡ lock.key → IsListOf k p l
+behind_lock domain tallies locks k p lock l is all lt at key = key ∙ (ap (λ (z : KeepView ListKey). z.key) at ∙ (all p lock lt ∙ (λ i. record { domain = (sym is i).domain; tallies = (sym is i).tallies; processor = p })))
+
+-- a take leaves what never changes
+pub same_key_taken : {J E : Type 0} (max : ℕ) (l : ListView J) (c : CpuView) (r : Result (Option (BatchView J)) E) (l' : ListView J) (c' : CpuView) → MatchResult r (λ taken. Takes max l c taken l' c') (λ _. IsInvoking l × (l' ≡ l) × (c' ≡ c)) → key_of l' ≡ key_of l
+same_key_taken max l c (Ok t) l' c' h = h.same
+same_key_taken max l c (Err e) l' c' h = ap key_of h.1
+
+-- Whose the calls are
+
+pub still_same : (c d : CpuView) → d ≡ c → IsSameCpu c d
+still_same c d e = (ap (λ z. z.domain) e, ap (λ z. z.processors) e, ap (λ z. z.sections) e, ap (λ z. z.processor) e)
+
+pub still_seat : (s t : CallSeatView) → t ≡ s → IsSameSeat s t
+still_seat s t e = (ap (λ z. z.tallies) e, ap (λ z. z.processors) e, ap (λ z. z.processor) e)
+
+cause_same : {J : Type 0} (l : ListView J) (c : CpuView) (s : CallSeatView) (why : CallRefusal) (l' : ListView J) (c' : CpuView) → IsCause l c s why l' c' → IsSameCpu c c'
+cause_same l c s Exhausted l' c' h = still_same c c' h.2
+cause_same l c s Memory l' c' h = h.1.1.adds.same
+
+pub same_pushed : {J : Type 0} (l : ListView J) (c : CpuView) (s : CallSeatView) (job : J) (r : Result Receipt (J × CallRefusal)) (l' : ListView J) (c' : CpuView) (s' : CallSeatView)
+    → MatchResult r (λ receipt. Queues l c s job receipt l' c' s') (λ refused. Refuses l c s job refused l' c' s') → IsSameCpu c c' × IsSameSeat s s'
+same_pushed l c s job (Ok r) l' c' s' h = (h.note.adds.same, h.tally.same)
+same_pushed l c s job (Err e) l' c' s' h = (cause_same l c s e.1 l' c' h.cause, still_seat s s' h.seat)
+
+pub same_taken : {J E : Type 0} (max : ℕ) (l : ListView J) (c : CpuView) (r : Result (Option (BatchView J)) E) (l' : ListView J) (c' : CpuView) → MatchResult r (λ taken. Takes max l c taken l' c') (λ _. IsInvoking l × (l' ≡ l) × (c' ≡ c)) → IsSameCpu c c'
+same_taken max l c (Ok t) l' c' h = h.asks.adds.same
+same_taken max l c (Err e) l' c' h = still_same c c' h.2
+
+batch_taken : {J : Type 0} (l l' : ListView J) (gone : List (Entry J)) (b : BatchView J) → IsTaken l gone (Some b) l' → (b.tallies ≡ l.tallies) × (b.processor ≡ l.processor)
+batch_taken l l' [] b h = absurd h
+batch_taken l l' (e ∷ es) b h = (ap (λ (z : BatchView _). z.tallies) h.0, ap (λ (z : BatchView _). z.processor) h.0)
+
+pub batch_of_list : {J E : Type 0} (k : CallsView) (p max : ℕ) (l : ListView J) (c : CpuView) (r : Result (Option (BatchView J)) E) (l' : ListView J) (c' : CpuView) → IsListOf k p l
+    → MatchResult r (λ taken. Takes max l c taken l' c') (λ _. IsInvoking l × (l' ≡ l) × (c' ≡ c)) → IfOk r (λ taken. IfSome taken (λ b. IsOfProcessor k p b))
+batch_of_list k p max l c (Ok None) l' c' of h = tt
+batch_of_list k p max l c (Ok (Some b)) l' c' of h = let t = batch_taken l l' h.gone b h.taken_is in (t.0 ∙ ap (λ (z : ListKey). z.tallies) of, t.1 ∙ ap (λ (z : ListKey). z.processor) of)
+batch_of_list k p max l c (Err e) l' c' of h = tt

@@ -1,0 +1,261 @@
+-- What is always true of the entries of a list stays so when one is queued, when they advance, when they get numbers, and when some are taken.
+use Rattle.std.proofs.Common.{◌≡◌, ℕ, ◌+◌, ◌*◌, ◌%◌, ◌/◌, ◌≤◌, Bool, true, false, eqb, leb, if◌then◌else◌, List, [], ◌∷◌, ◌++◌, All, refl, sym, ap, ◌∙◌, subst, eq-eqb, ne_eqb, leb-true, arith}
+use Rattle.std.specs.List.{filter_map, cons_option}
+use Rattle.std.proofs.lemmas.List.Elements.{All-nil, All-head, All-tail, All-cons, All-push, All-weaker, All-map}
+use Rattle.std.proofs.lemmas.List.Filters.{All-dedup}
+use mathlib.Core.Logic.{dite}
+use native.Mathlib.Decide.{ℕ_discrete}
+use Rattle.sseq.specs.Numbers.{periods_ended, cookie_at}
+use Rattle.onedom.specs.declared.event.Maker.TheVariants.{Processor}
+use Rattle.onedom.specs.declared.event.Event.{Event}
+use Rattle.onedom.specs.declared.event.Event.TheVariants.{Note, Ask}
+use Rattle.onedom.specs.Histories.{ended_in, IsBeginning}
+use Rattle.onedom.proofs.CallerLemmas.{beginning_refl, beginning_push, beginning_trans, ended_grow}
+use Rattle.sections.specs.Words.{number_word}
+use Rattle.sections.specs.Views.{CpuView, CookieView}
+use Rattle.sections.specs.Calls.{AllClosed}
+use Rattle.sections.specs.Sights.{SightView, GivesCookieBehind, AsksHowFar}
+use Rattle.sections.proofs.CallerLemmas.{closed_behind}
+use Rattle.segs.specs.MarkedList.{Mark, Done, At, Next, number_of, marked, remarked, awaited, number_given, next_becomes, assigned, reached, advanced, EndsInNext}
+use Rattle.calls.specs.declared.entry.Entry.{Entry}
+use Rattle.calls.specs.Waiting.{IsReached, IsDue, IsWaiting, AreRising, AreWaiting}
+use Rattle.calls.specs.Calls.{IsHanded}
+
+-- Numbers
+
+abbrev factor : Bool → ℕ
+factor idle = if idle then 1 else 2
+
+-- a later cookie is no smaller
+pub cookie_grows : (a b : ℕ) → a ≤ b → cookie_at (number_word a) ≤ cookie_at (number_word b)
+cookie_grows a b le = let x = cookie_is a in let y = cookie_is b in omega (arith, le, x, y)
+  where
+    cookie_is : (a : ℕ) → cookie_at (number_word a) ≡ 4 * ((a + 7) / 4)
+    cookie_is a = dite (ℕ_discrete (number_word a % 4) 0)
+        (λ e. let x : factor (eqb (number_word a % 4) 0) ≡ 1 = ap factor (eq-eqb (number_word a % 4) 0 e) in omega (arith, e, x))
+        (λ ne. let x : factor (eqb (number_word a % 4) 0) ≡ 2 = ap factor (ne_eqb (number_word a % 4) 0 ne) in omega (arith, ne, x))
+
+cookie_whole : (n : ℕ) → cookie_at n % 4 ≡ 0
+cookie_whole n = whole (periods_ended n + (if eqb (n % 4) 0 then 1 else 2))
+  where
+    whole : (k : ℕ) → (4 * k) % 4 ≡ 0
+    whole k = omega arith
+
+-- what the number has reached, of which a multiple of four is as much, so many periods have ended
+reached_by : (m n changes ended : ℕ) → m ≤ n → m % 4 ≡ 0 → n ≡ number_word changes → ended ≡ changes / 4 → m ≤ 4 * ended
+reached_by m n changes ended le whole is e = omega (arith, le, whole, is, e)
+
+-- A longer history
+
+due_later : (a b : List Event) (cookie : ℕ) (m : Mark) → IsBeginning a b → IsDue a cookie m → IsDue b cookie m
+due_later a b cookie Done on h = let g = ended_grow on in omega (arith, h, g)
+due_later a b cookie (At n) on h = h
+due_later a b cookie Next on h = tt
+
+-- a sight that goes on from another
+pub record GoesOn (s t : SightView) : Type 0 where
+  pub domain : t.domain ≡ s.domain
+  pub since : IsBeginning s.seen t.seen
+  pub later : s.changes ≤ t.changes
+
+due_advanced : (seen : List Event) (cookie n : ℕ) (m : Mark) → ((k : ℕ) → k ≤ n → k % 4 ≡ 0 → IsReached k seen) → IsDue seen cookie m → IsDue seen cookie (reached n m)
+due_advanced seen cookie n Done ended h = h
+due_advanced seen cookie n (At k) ended h = either (leb k n) refl
+  where
+    either : (b : Bool) → leb k n ≡ b → IsDue seen cookie (if b then Done else At k)
+    either true e = let r = ended k (leb-true k n e) h.1 in let low = h.0 in omega (arith, r, low)
+    either false e = h
+due_advanced seen cookie n Next ended h = tt
+
+mark_whole : (seen : List Event) (cookie : ℕ) (m : Mark) → IsDue seen cookie m → (rest : List ℕ) → All (λ n. n % 4 ≡ 0) rest → All (λ n. n % 4 ≡ 0) (cons_option (number_of m) rest)
+mark_whole seen cookie Done h rest all = all
+mark_whole seen cookie (At n) h rest all = All-cons (λ k. k % 4 ≡ 0) n rest h.1 all
+mark_whole seen cookie Next h rest all = all
+
+given_due : (seen : List Event) (cookie s : ℕ) (ns : List ℕ) → cookie ≤ s → s % 4 ≡ 0 → All (λ n. n % 4 ≡ 0) ns → IsDue seen cookie (number_given s ns)
+given_due seen cookie s [] low whole all = (low, whole)
+given_due seen cookie s (n ∷ []) low whole all = either (leb s n) refl
+  where
+    either : (b : Bool) → leb s n ≡ b → IsDue seen cookie (if b then At n else At s)
+    either true e = let le = leb-true s n e in (omega (arith, low, le), All-head (λ k. k % 4 ≡ 0) n [] all)
+    either false e = (low, whole)
+given_due seen cookie s (n ∷ m ∷ more) low whole all = either (leb s m) refl
+  where
+    either : (b : Bool) → leb s m ≡ b → IsDue seen cookie (if b then At m else Next)
+    either true e = let le = leb-true s m e in (omega (arith, low, le), All-head (λ k. k % 4 ≡ 0) m more (All-tail (λ k. k % 4 ≡ 0) n (m ∷ more) all))
+    either false e = tt
+
+due_becomes : (seen : List Event) (cookie : ℕ) (given m : Mark) → IsDue seen cookie given → IsDue seen cookie m → IsDue seen cookie (next_becomes given m)
+due_becomes seen cookie given Done g h = h
+due_becomes seen cookie given (At n) g h = h
+due_becomes seen cookie given Next g h = g
+
+pub goes_on_noted : (s s' : SightView) (c d : CpuView) (k : CookieView) → c.domain ≡ s.domain → GivesCookieBehind s c d k s' → GoesOn s s'
+goes_on_noted s s' c d k same g = subst (λ (z : SightView). GoesOn s z) (sym g.sight_is) record {
+  domain = g.adds.same.0 ∙ same;
+  since = subst (λ (z : List Event). IsBeginning s.seen z) (sym g.adds.seen) (beginning_push (Note (cookie_at g.number) (Processor c.processor)) g.adds.covers);
+  later = g.adds.not_before;
+}
+
+pub goes_on_asked : (n : ℕ) (s s' : SightView) (c d : CpuView) → c.domain ≡ s.domain → AsksHowFar n s c d s' → GoesOn s s'
+goes_on_asked n s s' c d same g = subst (λ (z : SightView). GoesOn s z) (sym g.sight_is) record {
+  domain = g.adds.same.0 ∙ same;
+  since = subst (λ (z : List Event). IsBeginning s.seen z) (sym g.adds.seen) (beginning_push (Ask (4 * periods_ended n) true (Processor c.processor)) g.adds.covers);
+  later = g.adds.not_before;
+}
+
+-- so many periods have ended as the number says
+pub asked_reached : (n : ℕ) (s s' : SightView) (c d : CpuView) → AsksHowFar n s c d s' → (k : ℕ) → k ≤ n → k % 4 ≡ 0 → IsReached k s'.seen
+asked_reached n s s' c d g k le whole = subst (λ (z : SightView). IsReached k z.seen) (sym g.sight_is) (reached_by k n d.changes (ended_in d.seen) le whole g.current g.adds.history.reaches.ended)
+
+-- and all that was open when it was queued is closed
+closed_one : (n : ℕ) (s s' : SightView) (c d : CpuView) → AsksHowFar n s c d s' → (cookie : ℕ) (seen : List Event) → IsHanded cookie seen d.seen → AllClosed seen d.seen
+closed_one n s s' c d g cookie seen h = closed_behind cookie h.reached seen h.before d.seen h.by h.not_before h.queued h.since h.told g.adds.history.legal
+
+module _ {J : Type 0} where
+  waiting_later : (s t : SightView) → GoesOn s t → (e : Entry J × Mark) → IsWaiting s e → IsWaiting t e
+  waiting_later s t on e h = record {
+    domain = h.domain ∙ sym on.domain;
+    given = h.given;
+    since = beginning_trans h.since on.since;
+    whole = h.whole;
+    not_after = let a = h.not_after in let b = cookie_grows s.changes t.changes on.later in omega (arith, a, b);
+    due = due_later s.seen t.seen e.0.cookie.number e.1 on.since h.due;
+  }
+
+  pub all_later : (s t : SightView) (l : List (Entry J × Mark)) → GoesOn s t → AreWaiting s l → AreWaiting t l
+  all_later s t l on h = record { each = All-weaker (IsWaiting s) (IsWaiting t) (waiting_later s t on) l h.each; rising = h.rising }
+
+  -- Rising cookies
+
+  rising_push : (l : List (Entry J × Mark)) (e : Entry J × Mark) → AreRising l → All (λ (f : Entry J × Mark). f.0.cookie.number ≤ e.0.cookie.number) l → AreRising (l ++ e ∷ [])
+  rising_push [] e h all = (All-nil (λ (f : Entry J × Mark). e.0.cookie.number ≤ f.0.cookie.number), tt)
+  rising_push (x ∷ xs) e h all = (All-push (λ (f : Entry J × Mark). x.0.cookie.number ≤ f.0.cookie.number) xs e h.0 (All-head (λ (f : Entry J × Mark). f.0.cookie.number ≤ e.0.cookie.number) x xs all), rising_push xs e h.1 (All-tail (λ (f : Entry J × Mark). f.0.cookie.number ≤ e.0.cookie.number) x xs all))
+
+  -- no cookie is greater than the last one
+  rising_last : (l : List (Entry J × Mark)) (e : Entry J × Mark) → AreRising (l ++ e ∷ []) → All (λ (f : Entry J × Mark). f.0.cookie.number ≤ e.0.cookie.number) (l ++ e ∷ [])
+  rising_last [] e h = All-cons (λ (f : Entry J × Mark). f.0.cookie.number ≤ e.0.cookie.number) e [] (omega arith) (All-nil (λ (f : Entry J × Mark). f.0.cookie.number ≤ e.0.cookie.number))
+  rising_last (x ∷ xs) e h = All-cons (λ (f : Entry J × Mark). f.0.cookie.number ≤ e.0.cookie.number) x (xs ++ e ∷ []) (last_of xs h.0) (rising_last xs e h.1)
+    where
+      last_of : (ys : List (Entry J × Mark)) → All (λ (f : Entry J × Mark). x.0.cookie.number ≤ f.0.cookie.number) (ys ++ e ∷ []) → x.0.cookie.number ≤ e.0.cookie.number
+      last_of [] all = All-head (λ (f : Entry J × Mark). x.0.cookie.number ≤ f.0.cookie.number) e [] all
+      last_of (y ∷ ys) all = last_of ys (All-tail (λ (f : Entry J × Mark). x.0.cookie.number ≤ f.0.cookie.number) y (ys ++ e ∷ []) all)
+
+  rising_remarked : (change : Mark → Mark) (l : List (Entry J × Mark)) → AreRising l → AreRising (remarked change l)
+  rising_remarked change [] h = tt
+  rising_remarked change (x ∷ xs) h = (All-map (λ (f : Entry J × Mark). x.0.cookie.number ≤ f.0.cookie.number) (λ (e : Entry J × Mark). (e.0, change e.1)) xs h.0, rising_remarked change xs h.1)
+
+  rising_rest : (gone : List (Entry J)) (l : List (Entry J × Mark)) → AreRising (marked Done gone ++ l) → AreRising l
+  rising_rest [] l h = h
+  rising_rest (x ∷ xs) l h = rising_rest xs l h.1
+
+  -- Marks that change
+
+  remarked_waiting : (s : SightView) (change : Mark → Mark) (Q : Entry J × Mark → Type 0) → ((e : Entry J × Mark) → IsWaiting s e → Q e → IsDue s.seen e.0.cookie.number (change e.1)) → (l : List (Entry J × Mark)) → AreWaiting s l → All Q l → AreWaiting s (remarked change l)
+  remarked_waiting s change Q due l h q = record {
+    each = All-map (IsWaiting s) (λ (e : Entry J × Mark). (e.0, change e.1)) l (both l h.each q);
+    rising = rising_remarked change l h.rising;
+  }
+    where
+      both : (k : List (Entry J × Mark)) → All (IsWaiting s) k → All Q k → All (λ (e : Entry J × Mark). IsWaiting s (e.0, change e.1)) k
+      both [] a b = All-nil (λ (e : Entry J × Mark). IsWaiting s (e.0, change e.1))
+      both (x ∷ xs) a b = let w = All-head (IsWaiting s) x xs a in All-cons (λ (e : Entry J × Mark). IsWaiting s (e.0, change e.1)) x xs
+          record { domain = w.domain; given = w.given; since = w.since; whole = w.whole; not_after = w.not_after; due = due x w (All-head Q x xs b) }
+          (both xs (All-tail (IsWaiting s) x xs a) (All-tail Q x xs b))
+
+  -- Advancing
+
+  pub advanced_waiting : (s : SightView) (n : ℕ) (l : List (Entry J × Mark)) → ((k : ℕ) → k ≤ n → k % 4 ≡ 0 → IsReached k s.seen) → AreWaiting s l → AreWaiting s (advanced n l)
+  advanced_waiting s n l ended h = remarked_waiting s (reached n) (λ _. Unit {0}) (λ e w _. due_advanced s.seen e.0.cookie.number n e.1 ended w.due) l h (λ _ _ _. tt)
+
+  -- Getting a number
+
+  numbers_whole : (s : SightView) (l : List (Entry J × Mark)) → All (IsWaiting s) l → All (λ n. n % 4 ≡ 0) (filter_map (λ (e : Entry J × Mark). number_of e.1) l)
+  numbers_whole s [] all = All-nil (λ n. n % 4 ≡ 0)
+  numbers_whole s (x ∷ xs) all = mark_whole s.seen x.0.cookie.number x.1 (All-head (IsWaiting s) x xs all).due (filter_map (λ (e : Entry J × Mark). number_of e.1) xs) (numbers_whole s xs (All-tail (IsWaiting s) x xs all))
+
+  pub assigned_waiting : (s : SightView) (n : ℕ) (l : List (Entry J × Mark)) → n % 4 ≡ 0 → All (λ (e : Entry J × Mark). e.0.cookie.number ≤ n) l → AreWaiting s l → AreWaiting s (assigned n l)
+  assigned_waiting s n l whole low h = remarked_waiting s (next_becomes (number_given n (awaited l))) (λ e. e.0.cookie.number ≤ n)
+      (λ e w le. due_becomes s.seen e.0.cookie.number (number_given n (awaited l)) e.1 (given_due s.seen e.0.cookie.number n (awaited l) le whole (All-dedup (λ a b. eqb a b) (λ k. k % 4 ≡ 0) (filter_map (λ (x : Entry J × Mark). number_of x.1) l) (numbers_whole s l h.each))) w.due) l h low
+
+  -- by the cookie of the last entry
+  pub last_waiting : (s : SightView) (l : List (Entry J × Mark)) (e : Entry J) → EndsInNext l e → AreWaiting s l → AreWaiting s (assigned e.cookie.number l)
+  last_waiting s l e ends h = assigned_waiting s e.cookie.number l
+      (All-head (λ (f : Entry J × Mark). f.0.cookie.number % 4 ≡ 0) (e, Next) [] (back ends.0 (subst (λ (z : List (Entry J × Mark)). All (λ (f : Entry J × Mark). f.0.cookie.number % 4 ≡ 0) z) ends.1 (All-weaker (IsWaiting s) (λ (f : Entry J × Mark). f.0.cookie.number % 4 ≡ 0) (λ f w. w.whole) l h.each))))
+      (subst (λ (z : List (Entry J × Mark)). All (λ (f : Entry J × Mark). f.0.cookie.number ≤ e.cookie.number) z) (sym ends.1) (rising_last ends.0 (e, Next) (subst (λ (z : List (Entry J × Mark)). AreRising z) ends.1 h.rising)))
+      h
+    where
+      back : (front : List (Entry J × Mark)) → All (λ (f : Entry J × Mark). f.0.cookie.number % 4 ≡ 0) (front ++ (e, Next) ∷ []) → All (λ (f : Entry J × Mark). f.0.cookie.number % 4 ≡ 0) ((e, Next) ∷ [])
+      back [] all = all
+      back (x ∷ xs) all = back xs (All-tail (λ (f : Entry J × Mark). f.0.cookie.number % 4 ≡ 0) x (xs ++ (e, Next) ∷ []) all)
+
+  -- Queueing
+
+  pub queued_waiting : (s s' : SightView) (c d : CpuView) (k : CookieView) (job : J) (l : List (Entry J × Mark)) → c.domain ≡ s.domain → GivesCookieBehind s c d k s' → AreWaiting s l
+      → AreWaiting s' (assigned k.number (l ++ (record { job = job; cookie = k }, Next) ∷ []))
+  queued_waiting s s' c d k job l same g h =
+      let on : GoesOn s s' = goes_on_noted s s' c d k same g in
+      let e : Entry J × Mark = (record { job = job; cookie = k }, Next) in
+      let number : k.number ≡ cookie_at g.number = ap (λ (z : CookieView). z.number) g.cookie_is in
+      let seen : k.seen ≡ s'.seen = ap (λ (z : CookieView). z.seen) g.cookie_is ∙ ap (λ (z : SightView). z.seen) (sym g.sight_is) in
+      let at : k.number ≡ cookie_at (number_word s'.changes) = number ∙ (ap cookie_at g.current ∙ ap (λ (z : SightView). cookie_at (number_word z.changes)) (sym g.sight_is)) in
+      let whole : k.number % 4 ≡ 0 = subst (λ (n : ℕ). n % 4 ≡ 0) (sym number) (cookie_whole g.number) in
+      let low : All (λ (f : Entry J × Mark). f.0.cookie.number ≤ k.number) l = All-weaker (IsWaiting s) (λ (f : Entry J × Mark). f.0.cookie.number ≤ k.number) (λ f w. let a = w.not_after in let b = cookie_grows s.changes s'.changes on.later in omega (arith, a, b, at)) l h.each in
+      let new : IsWaiting s' e = record {
+        domain = ap (λ (z : CookieView). z.domain) g.cookie_is ∙ (same ∙ sym on.domain);
+        given = record { before = g.adds.before; by = Processor c.processor; whole = ap (λ (z : CookieView). z.seen) g.cookie_is ∙ (g.adds.seen ∙ ap (λ (n : ℕ). g.adds.before ++ Note n (Processor c.processor) ∷ []) (sym number)) };
+        since = subst (λ (z : List Event). IsBeginning k.seen z) seen (beginning_refl k.seen);
+        whole = whole;
+        not_after = omega (arith, at);
+        due = tt;
+      } in
+      let was = all_later s s' l on h in
+      assigned_waiting s' k.number (l ++ e ∷ []) whole (All-push (λ (f : Entry J × Mark). f.0.cookie.number ≤ k.number) l e low (omega arith)) record { each = All-push (IsWaiting s') l e was.each new; rising = rising_push l e was.rising low }
+
+  -- Taking
+
+  pub moved_waiting : (n : ℕ) (s s' : SightView) (c d : CpuView) (l : List (Entry J × Mark)) → c.domain ≡ s.domain → AsksHowFar n s c d s' → AreWaiting s l → AreWaiting s' (advanced n l)
+  moved_waiting n s s' c d l same g h = advanced_waiting s' n l (asked_reached n s s' c d g) (all_later s s' l (goes_on_asked n s s' c d same g) h)
+
+  rest_each : (P : Entry J × Mark → Type 0) (gone : List (Entry J)) (l : List (Entry J × Mark)) → All P (marked Done gone ++ l) → All P l
+  rest_each P [] l all = all
+  rest_each P (x ∷ xs) l all = rest_each P xs l (All-tail P (x, Done) (marked Done xs ++ l) all)
+
+  pub rest_waiting : (s : SightView) (gone : List (Entry J)) (l : List (Entry J × Mark)) → AreWaiting s (marked Done gone ++ l) → AreWaiting s l
+  rest_waiting s gone l h = record { each = rest_each (IsWaiting s) gone l h.each; rising = rising_rest gone l h.rising }
+
+  gone_each : (P : Entry J × Mark → Type 0) (gone : List (Entry J)) (l : List (Entry J × Mark)) → All P (marked Done gone ++ l) → All (λ e. P (e, Done)) gone
+  gone_each P [] l all = All-nil (λ e. P (e, Done))
+  gone_each P (x ∷ xs) l all = All-cons (λ e. P (e, Done)) x xs (All-head P (x, Done) (marked Done xs ++ l) all) (gone_each P xs l (All-tail P (x, Done) (marked Done xs ++ l) all))
+
+  -- what is done was handed out after a grace period
+  handed_one : (n : ℕ) (s s' : SightView) (c d : CpuView) → AsksHowFar n s c d s' → (e : Entry J) → (since : IsBeginning e.cookie.seen s.seen) → IsWaiting s' (e, Done) → IsHanded e.cookie.number e.cookie.seen d.seen
+  handed_one n s s' c d g e since w = record {
+    queued = w.given;
+    reached = 4 * periods_ended n;
+    not_before = let due : IsReached e.cookie.number d.seen = subst (λ (z : SightView). IsReached e.cookie.number z.seen) g.sight_is w.due in let ended = g.adds.history.reaches.ended in let current = g.current in omega (arith, due, ended, current);
+    before = g.adds.before;
+    by = Processor c.processor;
+    since = beginning_trans since g.adds.covers;
+    told = g.adds.seen;
+  }
+
+  pub closed_all : (n : ℕ) (s s' : SightView) (c d : CpuView) → AsksHowFar n s c d s' → (gone : List (Entry J)) → All (λ e. IsHanded e.cookie.number e.cookie.seen d.seen) gone → All (λ e. AllClosed e.cookie.seen d.seen) gone
+  closed_all n s s' c d g gone all = All-weaker (λ e. IsHanded e.cookie.number e.cookie.seen d.seen) (λ e. AllClosed e.cookie.seen d.seen) (λ e h. closed_one n s s' c d g e.cookie.number e.cookie.seen h) gone all
+
+  -- marks that change leave the entries
+  pub remarked_each : (P : Entry J → Type 0) (change : Mark → Mark) (l : List (Entry J × Mark)) → All (λ (e : Entry J × Mark). P e.0) l → All (λ (e : Entry J × Mark). P e.0) (remarked change l)
+  remarked_each P change l all = All-map (λ (e : Entry J × Mark). P e.0) (λ (e : Entry J × Mark). (e.0, change e.1)) l all
+
+  pub since_each : (s : SightView) (l : List (Entry J × Mark)) → AreWaiting s l → All (λ (e : Entry J × Mark). IsBeginning e.0.cookie.seen s.seen) l
+  since_each s l h = All-weaker (IsWaiting s) (λ (e : Entry J × Mark). IsBeginning e.0.cookie.seen s.seen) (λ e w. w.since) l h.each
+
+  pub handed_all : (n : ℕ) (s s' : SightView) (c d : CpuView) → AsksHowFar n s c d s' → (gone : List (Entry J)) (l : List (Entry J × Mark)) → AreWaiting s' (marked Done gone ++ l) → All (λ (e : Entry J × Mark). IsBeginning e.0.cookie.seen s.seen) (marked Done gone ++ l)
+      → All (λ e. IsHanded e.cookie.number e.cookie.seen d.seen) gone
+  handed_all n s s' c d g gone l h since = both gone (gone_each (IsWaiting s') gone l h.each) (gone_each (λ (e : Entry J × Mark). IsBeginning e.0.cookie.seen s.seen) gone l since)
+    where
+      both : (k : List (Entry J)) → All (λ e. IsWaiting s' (e, Done)) k → All (λ (e : Entry J). IsBeginning e.cookie.seen s.seen) k → All (λ e. IsHanded e.cookie.number e.cookie.seen d.seen) k
+      both [] a b = All-nil (λ e. IsHanded e.cookie.number e.cookie.seen d.seen)
+      both (x ∷ xs) a b = All-cons (λ e. IsHanded e.cookie.number e.cookie.seen d.seen) x xs
+          (handed_one n s s' c d g x (All-head (λ (e : Entry J). IsBeginning e.cookie.seen s.seen) x xs b) (All-head (λ e. IsWaiting s' (e, Done)) x xs a))
+          (both xs (All-tail (λ e. IsWaiting s' (e, Done)) x xs a) (All-tail (λ (e : Entry J). IsBeginning e.cookie.seen s.seen) x xs b))

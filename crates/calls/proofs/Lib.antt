@@ -1,0 +1,10 @@
+mod Counting
+mod Knowing
+mod Steps
+mod Sharing
+mod Seating
+mod Wrapping
+mod Keeping
+mod Listing
+mod Handing
+mod Founding

@@ -1,0 +1,232 @@
+-- Seats that are cut in two, joined and dealt keep the rule of the tally words.
+use Rattle.std.proofs.Common.{◌≡◌, ◌≢◌, ℕ, zero, suc, ◌+◌, ◌≤◌, List, [], ◌∷◌, ◌++◌, Option, Some, None, get_or, set, length, ⊎_elim, refl, sym, ap, ◌∙◌, subst, arith}
+use Rattle.std.proofs.lemmas.List.Elements.{filter-append}
+use mathlib.Core.Logic.{dite}
+use mathlib.Core.Option.{some, some-injective, some-ne-none}
+use native.Mathlib.Decide.{ℕ_discrete}
+use lib.ListN.{get_elem?}
+use Rattle.std.proofs.Common.{◌==◌}
+use Rattle.atomic_table.specs.Table.{State, Splits, Joins, opening}
+use Rattle.atomic_table.proofs.Lists.{at_set}
+use Rattle.calls.specs.declared.view.Plan.{Plan}
+use Rattle.calls.specs.declared.view.Deed.{Deed}
+use Rattle.calls.specs.declared.view.Who.{Who}
+use Rattle.calls.specs.declared.view.Who.TheVariants.{Nobody, Caller, Dealer}
+use Rattle.calls.specs.declared.view.ListRight.{ListRight}
+use Rattle.calls.specs.declared.view.ListRight.TheVariants.{NoList, OfList}
+use Rattle.calls.specs.declared.view.BatchRight.{BatchRight}
+use Rattle.calls.specs.declared.view.BatchRight.TheVariants.{NoBatch, OfBatch}
+use Rattle.calls.specs.declared.view.View.{View}
+use Rattle.calls.specs.Tallies.{queued_place, finished_place, word_count, queued_in, finished_in, deeds_of, IsBeginning}
+use Rattle.calls.specs.Rule.{count_out, Books, IsUndealt, Makes, HasList, HasBatch, Fits, Kept, founder, spent, without_next, next_caller, next_list, dealer, dealt, without_list, list_seat, only_list, lending, lent, with_list, with_batch}
+use Rattle.calls.proofs.Counting.{begins_empty}
+use Rattle.calls.proofs.Knowing.{views_set, views_split, given, given_here, given_else}
+
+no_some : (n : ℕ) (o : Option ℕ) → o ≡ None → o ≡ Some n → ⊥
+no_some n o a b = cc
+
+front_empty : (xs ys : List Deed) → xs ++ ys ≡ [] → xs ≡ []
+front_empty [] ys e = refl
+front_empty (x ∷ xs) ys e = cc
+
+none_seen : (p : ℕ) (seen log : List Deed) → IsBeginning seen log → deeds_of p log ≡ [] → deeds_of p seen ≡ []
+none_seen p seen log h none = front_empty (deeds_of p seen) (deeds_of p h.rest) (sym (ap (deeds_of p) h.whole ∙ filter-append (λ d. d.by == p) seen h.rest) ∙ none)
+
+abbrev rebooked : Books → (ℕ → Option ℕ) → (ℕ → ℕ) → (ℕ → ℕ) → (ℕ → ℕ) → Books
+rebooked b out caller list batch = record { log = b.log; out_of = out; caller_at = caller; list_at = list; batch_at = batch }
+
+module _ (b : Books) (out : ℕ → Option ℕ) (caller list batch : ℕ → ℕ) (j : ℕ) (callers : (p : ℕ) → b.caller_at p ≡ j → caller p ≡ j) (lists : (p : ℕ) → b.list_at p ≡ j → (list p ≡ j) × (out p ≡ b.out_of p)) where
+  makes_apart : (seen : List Deed) (who : Who) → Makes b j seen who → Makes (rebooked b out caller list batch) j seen who
+  makes_apart seen Nobody h = tt
+  makes_apart seen (Caller p) h = (callers p h.0, h.1)
+  makes_apart seen (Dealer k) h = λ p le. let u : IsUndealt b j p = h p le in let t = lists p u.list in record { caller = callers p u.caller; list = t.0; nothing = u.nothing; queued = u.queued; finished = u.finished; out = t.1 ∙ u.out }
+
+  list_apart : (right : ListRight) → HasList b j right → HasList (rebooked b out caller list batch) j right
+  list_apart NoList h = tt
+  list_apart (OfList p q f o) h = let t = lists p h.0 in (t.0, h.1, h.2, h.3 ∙ sym t.1)
+
+  batch_apart : ((p n : ℕ) → b.batch_at p ≡ j → b.out_of p ≡ Some n → (batch p ≡ j) × (out p ≡ Some n)) → (right : BatchRight) → HasBatch b j right → HasBatch (rebooked b out caller list batch) j right
+  batch_apart batches NoBatch h = tt
+  batch_apart batches (OfBatch p f n) h = let t = batches p n h.0 h.2 in (t.0, h.1, t.1)
+
+  -- a seat fits in other books, where these say of it what they said
+  fits_apart : ((p n : ℕ) → b.batch_at p ≡ j → b.out_of p ≡ Some n → (batch p ≡ j) × (out p ≡ Some n)) → (v : View) → Fits b j v → Fits (rebooked b out caller list batch) j v
+  fits_apart batches v h = record { seen = h.seen; makes = makes_apart v.seen v.who h.makes; list = list_apart v.list h.list; batch = batch_apart batches v.batch h.batch }
+
+spent_fits : (b : Books) (id : ℕ) → Fits b id spent
+spent_fits b id = record { seen = begins_empty b.log; makes = tt; list = tt; batch = tt }
+
+-- the seat of a right's list, or batch, is another now
+abbrev relisted : ListRight → ℕ → (ℕ → ℕ) → ℕ → ℕ
+relisted NoList m f = f
+relisted (OfList p q g o) m f = given p m f
+
+abbrev rebatched : BatchRight → ℕ → (ℕ → ℕ) → ℕ → ℕ
+rebatched NoBatch m f = f
+rebatched (OfBatch p g n) m f = given p m f
+
+relisted_else : (b : Books) (right : ListRight) (id m j p : ℕ) → HasList b id right → j ≢ id → b.list_at p ≡ j → relisted right m b.list_at p ≡ j
+relisted_else b NoList id m j p h ne at = at
+relisted_else b (OfList k q f o) id m j p h ne at = given_else k m b.list_at p (λ e. ne (sym at ∙ (ap b.list_at e ∙ h.0))) ∙ at
+
+-- of its own seat it is so or not
+relisted_mine : (b : Books) (right : ListRight) (id p : ℕ) → b.list_at p ≡ id → relisted right id b.list_at p ≡ id
+relisted_mine b NoList id p at = at
+relisted_mine b (OfList k q f o) id p at = dite (ℕ_discrete p k) (λ e. ap (given k id b.list_at) e ∙ given_here k id b.list_at) (λ ne. given_else k id b.list_at p ne ∙ at)
+
+rebatched_else : (b : Books) (right : BatchRight) (id m j p : ℕ) → HasBatch b id right → j ≢ id → b.batch_at p ≡ j → rebatched right m b.batch_at p ≡ j
+rebatched_else b NoBatch id m j p h ne at = at
+rebatched_else b (OfBatch k f n) id m j p h ne at = given_else k m b.batch_at p (λ e. ne (sym at ∙ (ap b.batch_at e ∙ h.0))) ∙ at
+
+list_given : (b : Books) (right : ListRight) (id m : ℕ) → HasList b id right → HasList (rebooked b b.out_of b.caller_at (relisted right m b.list_at) b.batch_at) m right
+list_given b NoList id m h = tt
+list_given b (OfList p q f o) id m h = (given_here p m b.list_at, h.1, h.2, h.3)
+
+batch_given : (b : Books) (right : BatchRight) (id m : ℕ) → HasBatch b id right → HasBatch (rebooked b b.out_of b.caller_at b.list_at (rebatched right m b.batch_at)) m right
+batch_given b NoBatch id m h = tt
+batch_given b (OfBatch p f n) id m h = (given_here p m b.batch_at, h.1, h.2)
+
+module _ (plan : Plan) where
+  -- the same words and deeds, and other views
+  reviewed : (s : State (Option ℕ) View) (r : Kept plan s) (out : ℕ → Option ℕ) (caller list batch : ℕ → ℕ) (views : List View) → ((p : ℕ) → finished_in p r.books.log + count_out (out p) ≤ queued_in p r.books.log)
+      → ((j : ℕ) (d : View) → get_elem? views j ≡ some d → Fits (rebooked r.books out caller list batch) j d) → Kept plan record { words = s.words; homes = s.homes; views = views }
+  reviewed s r out caller list batch views within each = record {
+    books = rebooked r.books out caller list batch;
+    loads = r.loads;
+    counted = λ p. record { within = within p; few = (r.counted p).few };
+    wide = r.wide;
+    queued = r.queued;
+    finished = r.finished;
+    each_view = each;
+  }
+
+  -- a seat that is not the dealer's gives its list's right away
+  pub gives_list : (id : ℕ) (v : View) → ((k : ℕ) → v.who ≢ Dealer k) → Splits (Kept plan) id v (without_list v) (only_list v)
+  gives_list id v other s r at =
+      let b : Books = r.books in
+      let f = r.each_view id v at in
+      let m : ℕ = length s.views in
+      let list : ℕ → ℕ = relisted v.list m b.list_at in
+      let b' : Books = rebooked b b.out_of b.caller_at list b.batch_at in
+      reviewed s r b.out_of b.caller_at list b.batch_at (set s.views id (without_list v) ++ only_list v ∷ []) (λ p. (r.counted p).within) (views_split (Fits b') s.views id (without_list v) (only_list v)
+      record { seen = f.seen; makes = not_dealer v.seen v.who other b list id f.makes; list = tt; batch = batch_apart b b.out_of b.caller_at b.list_at b.batch_at id (λ p e. e) (λ p e. (e, refl)) (λ p n e o. (e, o)) v.batch f.batch }
+      record { seen = begins_empty b.log; makes = tt; list = list_given b v.list id m f.list; batch = tt }
+      (λ j d ne e. fits_apart b b.out_of b.caller_at list b.batch_at j (λ p h. h) (λ p h. (relisted_else b v.list id m j p f.list ne h, refl)) (λ p n h o. (h, o)) d (r.each_view j d e)))
+    where
+      not_dealer : (seen : List Deed) (who : Who) → ((k : ℕ) → who ≢ Dealer k) → (b : Books) (list : ℕ → ℕ) (id : ℕ) → Makes b id seen who → Makes (rebooked b b.out_of b.caller_at list b.batch_at) id seen who
+      not_dealer seen Nobody other b list id h = tt
+      not_dealer seen (Caller p) other b list id h = h
+      not_dealer seen (Dealer k) other b list id h = absurd (other k refl)
+
+  -- a seat that has no list's right gives none
+  pub gives_no_list : (id : ℕ) (v : View) → v.list ≡ NoList → Splits (Kept plan) id v (without_list v) (only_list v)
+  gives_no_list id v none s r at =
+      let b : Books = r.books in
+      let f = r.each_view id v at in
+      reviewed s r b.out_of b.caller_at b.list_at b.batch_at (set s.views id (without_list v) ++ only_list v ∷ []) (λ p. (r.counted p).within) (views_split (Fits b) s.views id (without_list v) (only_list v)
+      record { seen = f.seen; makes = f.makes; list = tt; batch = f.batch }
+      record { seen = begins_empty b.log; makes = tt; list = subst (λ (z : ListRight). HasList b (length s.views) z) (sym none) tt; batch = tt }
+      (λ j d ne e. r.each_view j d e))
+
+  was_there : (s : State (Option ℕ) View) (id other : ℕ) (both w : View) → ¬ (other ≡ id) → get_elem? (set s.views id both) other ≡ some w → get_elem? s.views other ≡ some w
+  was_there s id other both w apart there = ⊎_elim (λ (t : (other ≡ id) × (both ≡ w)). absurd (apart t.0)) (λ (t : (other ≢ id) × (get_elem? s.views other ≡ some w)). t.1) (at_set s.views id other both w there)
+
+  pub takes_list : (id : ℕ) (v : View) (other : ℕ) (w : View) → Joins (Kept plan) id v other w (with_list v w) spent
+  takes_list id v other w s r at apart there =
+      let b : Books = r.books in
+      let f = r.each_view id v at in
+      let g = r.each_view other w (was_there s id other (with_list v w) w apart there) in
+      let list : ℕ → ℕ = relisted w.list id b.list_at in
+      let b' : Books = rebooked b b.out_of b.caller_at list b.batch_at in
+      reviewed s r b.out_of b.caller_at list b.batch_at (set (set s.views id (with_list v w)) other spent) (λ p. (r.counted p).within) (views_set (Fits b') (set s.views id (with_list v w)) other spent (spent_fits b' other)
+      (λ j d away e. views_set (λ k x. k ≢ other → Fits b' k x) s.views id (with_list v w)
+      (λ _. record { seen = f.seen; makes = makes_apart b b.out_of b.caller_at list b.batch_at id (λ p h. h) (λ p h. (relisted_mine b w.list id p h, refl)) v.seen v.who f.makes; list = list_given b w.list other id g.list; batch = batch_apart b b.out_of b.caller_at b.list_at b.batch_at id (λ p h. h) (λ p h. (h, refl)) (λ p n h o. (h, o)) v.batch f.batch })
+      (λ k x ne h far. fits_apart b b.out_of b.caller_at list b.batch_at k (λ p i. i) (λ p i. (relisted_else b w.list other id k p g.list far i, refl)) (λ p n i o. (i, o)) x (r.each_view k x h)) j d e away))
+
+  pub takes_batch : (id : ℕ) (v : View) (other : ℕ) (w : View) → Joins (Kept plan) id v other w (with_batch v w) spent
+  takes_batch id v other w s r at apart there =
+      let b : Books = r.books in
+      let f = r.each_view id v at in
+      let g = r.each_view other w (was_there s id other (with_batch v w) w apart there) in
+      let batch : ℕ → ℕ = rebatched w.batch id b.batch_at in
+      let b' : Books = rebooked b b.out_of b.caller_at b.list_at batch in
+      reviewed s r b.out_of b.caller_at b.list_at batch (set (set s.views id (with_batch v w)) other spent) (λ p. (r.counted p).within) (views_set (Fits b') (set s.views id (with_batch v w)) other spent (spent_fits b' other)
+      (λ j d away e. views_set (λ k x. k ≢ other → Fits b' k x) s.views id (with_batch v w)
+      (λ _. record { seen = f.seen; makes = makes_apart b b.out_of b.caller_at b.list_at batch id (λ p h. h) (λ p h. (h, refl)) v.seen v.who f.makes; list = list_apart b b.out_of b.caller_at b.list_at batch id (λ p h. h) (λ p h. (h, refl)) v.list f.list; batch = batch_given b w.batch other id g.batch })
+      (λ k x ne h far. fits_apart b b.out_of b.caller_at b.list_at batch k (λ p i. i) (λ p i. (i, refl)) (λ p n i o. (rebatched_else b w.batch other id k p g.batch far i, o)) x (r.each_view k x h)) j d e away))
+
+  -- a list of which nothing is out lends the right of a batch
+  pub gives_batch : (n id p q f : ℕ) (v : View) → v ≡ list_seat (OfList p q f None) → f + n ≤ q → Splits (Kept plan) id v (lending n v) (lent n v)
+  gives_batch n id p q f v is enough s r at =
+      let b : Books = r.books in
+      let l : View = list_seat (OfList p q f None) in
+      let fit : Fits b id l = subst (λ (z : View). Fits b id z) is (r.each_view id v at) in
+      let h = fit.list in
+      let m : ℕ = length s.views in
+      let out : ℕ → Option ℕ = given p (Some n) b.out_of in
+      let batch : ℕ → ℕ = given p m b.batch_at in
+      let b' : Books = rebooked b out b.caller_at b.list_at batch in
+      subst (λ (z : View). Kept plan record { words = s.words; homes = s.homes; views = set s.views id (lending n z) ++ lent n z ∷ [] }) (sym is)
+      (reviewed s r out b.caller_at b.list_at batch (set s.views id (lending n l) ++ lent n l ∷ [])
+      (λ k. let within = (r.counted k).within in dite (ℕ_discrete k p)
+      (λ e. let o : count_out (out k) ≡ n = ap (λ z. count_out (out z)) e ∙ ap count_out (given_here p (Some n) b.out_of) in let few : f + n ≤ q = enough in let qs : queued_in k b.log ≡ q = ap (λ z. queued_in z b.log) e ∙ sym h.1 in let fs : finished_in k b.log ≡ f = ap (λ z. finished_in z b.log) e ∙ sym h.2 in omega (arith, o, few, qs, fs))
+      (λ ne. let o : count_out (out k) ≡ count_out (b.out_of k) = ap count_out (given_else p (Some n) b.out_of k ne) in omega (arith, o, within)))
+      (views_split (Fits b') s.views id (lending n l) (lent n l)
+      record { seen = begins_empty b.log; makes = tt; list = (h.0, h.1, h.2, sym (given_here p (Some n) b.out_of)); batch = tt }
+      record { seen = begins_empty b.log; makes = tt; list = tt; batch = (given_here p m b.batch_at, h.2, given_here p (Some n) b.out_of) }
+      (λ j d ne e. fits_apart b out b.caller_at b.list_at batch j (λ k i. i)
+      (λ k i. (i, given_else p (Some n) b.out_of k (λ z. ne (sym i ∙ (ap b.list_at z ∙ h.0)))))
+      (λ k c i o. let apart : k ≢ p = λ z. no_some c (b.out_of p) (sym h.3) (ap b.out_of (sym z) ∙ o) in (given_else p m b.batch_at k apart ∙ i, given_else p (Some n) b.out_of k apart ∙ o))
+      d (r.each_view j d e))))
+
+  -- Dealing
+
+  pub deals : (id : ℕ) (v : View) (k : ℕ) → v.who ≡ Dealer k → v.list ≡ NoList → v.batch ≡ NoBatch → Splits (Kept plan) id v (dealer v) (dealt v)
+  deals id v k is no_list no_batch s r at =
+      let b : Books = r.books in
+      let f = r.each_view id v at in
+      let m : ℕ = length s.views in
+      let made : Makes b id v.seen (Dealer k) = subst (λ (z : Who). Makes b id v.seen z) is f.makes in
+      let u : IsUndealt b id k = made k (omega arith) in
+      let caller : ℕ → ℕ = given k m b.caller_at in
+      let list : ℕ → ℕ = given k m b.list_at in
+      let b' : Books = rebooked b b.out_of caller list b.batch_at in
+      reviewed s r b.out_of caller list b.batch_at (set s.views id (dealer v) ++ dealt v ∷ []) (λ p. (r.counted p).within) (views_split (Fits b') s.views id (dealer v) (dealt v)
+      record {
+        seen = f.seen;
+        makes = subst (λ (z : Who). Makes b' id v.seen (without_next z)) (sym is) (λ p le. let w : IsUndealt b id p = made p (omega (arith, le)) in let ne : p ≢ k = λ e. absurd (omega (arith, le, e)) in record { caller = given_else k m b.caller_at p ne ∙ w.caller; list = given_else k m b.list_at p ne ∙ w.list; nothing = w.nothing; queued = w.queued; finished = w.finished; out = w.out });
+        list = subst (λ (z : ListRight). HasList b' id z) (sym no_list) tt;
+        batch = subst (λ (z : BatchRight). HasBatch b' id z) (sym no_batch) tt;
+      }
+      record {
+        seen = f.seen;
+        makes = subst (λ (z : Who). Makes b' m v.seen (next_caller z)) (sym is) (given_here k m b.caller_at, none_seen k v.seen b.log f.seen u.nothing ∙ sym u.nothing);
+        list = subst (λ (z : Who). HasList b' m (next_list z)) (sym is) (given_here k m b.list_at, sym u.queued, sym u.finished, sym u.out);
+        batch = tt;
+      }
+      (λ j d ne e. fits_apart b b.out_of caller list b.batch_at j (λ p h. given_else k m b.caller_at p (λ z. ne (sym h ∙ (ap b.caller_at z ∙ u.caller))) ∙ h) (λ p h. (given_else k m b.list_at p (λ z. ne (sym h ∙ (ap b.list_at z ∙ u.list))) ∙ h, refl)) (λ p n h o. (h, o)) d (r.each_view j d e)))
+
+  -- New tally words
+
+  abbrev opening_books : Books
+  opening_books = record { log = []; out_of = λ _. None; caller_at = λ _. 0; list_at = λ _. 0; batch_at = λ _. 0 }
+
+  first_view : (j : ℕ) (d : View) → get_elem? (founder plan ∷ []) j ≡ some d → Fits opening_books j d
+  first_view zero d e = subst (λ (v : View). Fits opening_books 0 v) (some-injective (founder plan) d e) record {
+    seen = begins_empty [];
+    makes = λ p _. record { caller = refl; list = refl; nothing = refl; queued = refl; finished = refl; out = refl };
+    list = tt;
+    batch = tt;
+  }
+  first_view (suc j) d e = absurd (some-ne-none d (sym e))
+
+  pub opens : (words : List ℕ) → length words ≡ word_count plan.processors → ((k : ℕ) → get_or words k 0 ≡ 0) → Kept plan (opening words [] (founder plan))
+  opens words wide zeros = record {
+    books = opening_books;
+    loads = tt;
+    counted = λ p. record { within = omega arith; few = omega arith };
+    wide = wide;
+    queued = λ p _. zeros (queued_place p);
+    finished = λ p _. zeros (finished_place p);
+    each_view = first_view;
+  }

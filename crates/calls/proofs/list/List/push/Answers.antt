@@ -1,0 +1,108 @@
+use Rattle.std.proofs.Common.{◌≡◌, ℕ, ◌+◌, ◌↔◌, IsTrue, List, [], ◌∷◌, ◌++◌, Option, refl, ap, sym, ◌∙◌, subst, arith}
+use Rattle.std.specs.Prelude.{IsSome}
+use Rattle.atomic_table.specs.Seated.{TableId}
+use Rattle.segs.specs.MarkedList.{Mark, Next, assigned, awaited, number_given, next_becomes}
+use Rattle.sections.specs.Views.{CookieView}
+use Rattle.sections.specs.Sights.{GivesCookieBehind}
+use Rattle.calls.specs.declared.entry.Entry.{Entry}
+use Rattle.calls.specs.declared.view.Act.TheVariants.{Queue}
+use Rattle.calls.specs.Tallies.{deed, deeds_of, queued_in}
+use Rattle.calls.specs.Rule.{count_out}
+use Rattle.calls.specs.Seats.{IsPlaced, queued_known, finished_known, out_known}
+use Rattle.calls.specs.Waiting.{AreWaiting, unwrapped}
+use Rattle.calls.proofs.Wrapping.{unwrap_wrap}
+use Rattle.calls.proofs.Counting.{queued_here, same_queued}
+use Rattle.calls.proofs.Keeping.{goes_on_noted, all_later, queued_waiting}
+use Rattle.calls.proofs.Listing.{list_seat_is, list_from, entries_queued, length_remarked, length_pushed}
+use Rattle.calls.proofs.list.List.push.Goals as goal
+
+pub invariant_of-self : goal.invariant_of-self
+invariant_of-self g c =
+    let v = c.self.invariant in
+    let domain = c.requires.domain ∙ ap (λ l. l.sight.domain) (sym c.self.view_is) in
+    let note = c.cookie_behind-cookie.ensures in
+    let u : List (Entry g.row.J.Denot × Mark) = unwrapped c.self.inside.waiting.entries in
+    list_from _ u (c.in-Err.ensures.unchanged ∙ v.wrapping) v.seated (all_later _ _ u (goes_on_noted _ _ _ _ _ domain note) v.waiting) v.numbered v.out v.there
+
+pub invariant_of-self-2 : goal.invariant_of-self-2
+invariant_of-self-2 g c =
+    let v = c.self.invariant in
+    let q = c.add_queued-k.ensures.queues in
+    let domain = c.requires.domain ∙ ap (λ l. l.sight.domain) (sym c.self.view_is) in
+    let k : CookieView = c.copy_cookie-copy.new.cookie in
+    let note : GivesCookieBehind c.self.inside.sight c.args.cpu.now c.cookie_behind-cookie.new.self k c.cookie_behind-cookie.new.sight = subst (λ (z : CookieView). GivesCookieBehind c.self.inside.sight c.args.cpu.now c.cookie_behind-cookie.new.self z c.cookie_behind-cookie.new.sight) (sym c.copy_cookie-copy.ensures.same) c.cookie_behind-cookie.ensures in
+    let n : ℕ = c.number-number.result in
+    let number : k.number ≡ n = ap (λ (z : CookieView). z.number) c.copy_cookie-copy.ensures.same ∙ sym c.number-number.ensures.value in
+    let u : List (Entry g.row.J.Denot × Mark) = unwrapped c.self.inside.waiting.entries in
+    let e : Entry g.row.J.Denot = record { job = c.args.job; cookie = k } in
+    let u' : List (Entry g.row.J.Denot × Mark) = assigned n (u ++ (e, Next) ∷ []) in
+    let long = length_remarked (next_becomes (number_given n (awaited (u ++ (e, Next) ∷ [])))) (u ++ (e, Next) ∷ []) in
+    let pushed = length_pushed u (e, Next) in
+    let h = q.list_is in
+    let queued = ap (λ m. queued_known m.0.list) h in
+    let finished = ap (λ m. finished_known m.0.list) h in
+    let out = ap (λ m. count_out (out_known m.0.list)) h in
+    let were = v.numbered in
+    let there = v.there in
+    let words = ap (λ (t : TableId). t.words) q.table in
+    list_from _ u' (entries_queued c.self.inside.waiting.entries c.assign.new.self.entries u e n v.wrapping (c.assign.ensures.entries ∙ ap (assigned n) c.in_default.ensures.added)) (list_seat_is _ _ _ _ _ h)
+    (subst (λ (z : ℕ). AreWaiting c.cookie_behind-cookie.new.sight (assigned z (u ++ (e, Next) ∷ []))) number (queued_waiting _ _ _ _ k c.args.job u domain note v.waiting))
+    (omega (arith, long, pushed, queued, finished, out, were))
+    (subst (λ (o : Option ℕ). IsTrue c.self.inside.out ↔ IsSome o) (sym (ap (λ m. out_known m.0.list) h)) v.out)
+    (omega (arith, there, words))
+
+pub invariant_of-seat : goal.invariant_of-seat
+invariant_of-seat g c =
+    let v = c.seat.invariant in
+    let q = c.add_queued-k.ensures.queues in
+    let same : c.seat.inside.processor ≡ c.self.inside.processor = ap (λ s. s.processor) c.seat.view_is ∙ (c.requires.seat ∙ ap (λ l. l.processor) (sym c.self.view_is)) in
+    let p : ℕ = c.self.inside.processor in
+    let one = ap (queued_in p) q.does.seen ∙ queued_here p q.does.before in
+    let own = same_queued p _ _ q.does.own in
+    let was : c.seat.inside.queued ≡ queued_in p c.seat.inside.seat.me.0.seen = subst (λ (z : ℕ). c.seat.inside.queued ≡ queued_in z c.seat.inside.seat.me.0.seen) same v.queued in
+    let more : c.seat.inside.queued + 1 ≡ queued_in p c.add_queued-k.new.seat.me.0.seen = omega (arith, one, own, was) in
+    let few = v.few in
+    let full = c.if-seat-eq-MOST_CALLS.false in record {
+      placed = subst (λ t. IsPlaced t.shared.key t.shared.table_id c.add_queued-k.new.seat) c.deref.ensures c.add_queued-k.ensures.placed;
+      rests = record { who = q.does.who ∙ v.rests.who; there = v.rests.there; no_list = q.no_list; no_batch = q.no_batch };
+      loads = q.does.loads;
+      queued = subst (λ (z : ℕ). c.seat.inside.queued + 1 ≡ queued_in z c.add_queued-k.new.seat.me.0.seen) (sym same) more;
+      few = omega (arith, few, full);
+    }
+
+pub returns : goal.returns
+returns g c =
+    let v = c.self.invariant in
+    let q = c.add_queued-k.ensures.queues in
+    let domain = c.requires.domain ∙ ap (λ l. l.sight.domain) (sym c.self.view_is) in
+    let k : CookieView = c.copy_cookie-copy.new.cookie in
+    let r : CookieView = c.copy_cookie-copy.result in
+    let one : k ≡ r = c.copy_cookie-copy.ensures.same ∙ sym c.copy_cookie-copy.ensures.copy in
+    let note : GivesCookieBehind c.self.inside.sight c.args.cpu.now c.cookie_behind-cookie.new.self r c.cookie_behind-cookie.new.sight = subst (λ (z : CookieView). GivesCookieBehind c.self.inside.sight c.args.cpu.now c.cookie_behind-cookie.new.self z c.cookie_behind-cookie.new.sight) (sym c.copy_cookie-copy.ensures.copy) c.cookie_behind-cookie.ensures in
+    let n : ℕ = c.number-number.result in
+    let number : n ≡ r.number = c.number-number.ensures.value ∙ ap (λ (z : CookieView). z.number) (sym c.copy_cookie-copy.ensures.copy) in
+    let u : List (Entry g.row.J.Denot × Mark) = unwrapped c.self.inside.waiting.entries in
+    let e : Entry g.row.J.Denot = record { job = c.args.job; cookie = k } in
+    let same : c.seat.inside.processor ≡ c.self.inside.processor = ap (λ s. s.processor) c.seat.view_is ∙ (c.requires.seat ∙ ap (λ l. l.processor) (sym c.self.view_is)) in
+    let p : ℕ = c.self.inside.processor in
+    let is : unwrapped c.assign.new.self.entries ≡ assigned n (u ++ (e, Next) ∷ []) = ap unwrapped (entries_queued c.self.inside.waiting.entries c.assign.new.self.entries u e n v.wrapping (c.assign.ensures.entries ∙ ap (assigned n) c.in_default.ensures.added)) ∙ unwrap_wrap (assigned n (u ++ (e, Next) ∷ [])) in
+    let on = goes_on_noted _ _ _ _ _ domain c.cookie_behind-cookie.ensures in
+    let h = q.list_is in
+    rw (← c.self.view_is, ← c.seat.view_is) (record {
+      note = note;
+      same = λ i. record { domain = on.domain i; tallies = q.table i; processor = p };
+      entries = is ∙ (λ i. assigned (number i) (u ++ (record { job = c.args.job; cookie = one i }, Next) ∷ []));
+      finished = ap (λ m. finished_known m.0.list) h;
+      out = ap (λ m. out_known m.0.list) h;
+      tally = record {
+        same = (c.add_queued-k.ensures.placed.seated ∙ (ap (λ t. t.shared.table_id) c.deref.ensures ∙ sym c.seat.invariant.placed.seated), refl, refl);
+        before = q.does.before;
+        since = q.does.since;
+        own = subst (λ (z : ℕ). deeds_of z q.does.before ≡ deeds_of z c.seat.inside.seat.me.0.seen) (sym same) q.does.own;
+        seen = q.does.seen ∙ ap (λ (z : ℕ). q.does.before ++ deed z Queue ∷ []) (sym same);
+        loads = q.does.loads;
+      };
+      processor = sym same;
+      counted = q.own ∙ ap (λ (z : ℕ). queued_in z c.seat.inside.seat.me.0.seen) (sym same);
+      numbered = q.found_is ∙ v.numbered;
+    })

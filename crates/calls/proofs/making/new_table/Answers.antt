@@ -1,0 +1,7 @@
+use Rattle.std.proofs.Common.{◌∙◌}
+use Rattle.calls.proofs.Sharing.{opens}
+use Rattle.calls.proofs.Founding.{all_zero}
+use Rattle.calls.proofs.making.new_table.Goals as goal
+
+pub of_words-requires : goal.of_words-requires
+of_words-requires g c = opens _ _ (c.as_slice.ensures.len ∙ c.in_ok-words.ensures.len) (all_zero _ _ (c.as_slice.ensures.value ∙ c.in_ok-words.ensures.items_if_clones_equal (λ y e. e)))

@@ -1,0 +1,65 @@
+use Rattle.std.proofs.Common.{ℕ, [], ap, sym, ◌∙◌, arith}
+use Rattle.calls.specs.declared.view.Act.TheVariants.{Finish}
+use Rattle.calls.specs.declared.view.ListRight.{ListRight}
+use Rattle.calls.specs.Rule.{list_seat}
+use Rattle.calls.proofs.Steps.{finishes_here}
+use Rattle.calls.proofs.Sharing.{gives_list, takes_list, takes_batch}
+use Rattle.calls.proofs.Seating.{some_words, finished_there, nobody_deals, caller_deals, does_through}
+use Rattle.calls.proofs.tally.add_finished.Goals as goal
+
+pub join_seat-requires : goal.join_seat-requires
+join_seat-requires c = (c.requires.placed.seated, c.requires.batch.seated, ap (λ m. m.1) c.requires.batch.me, some_words _ _ _ c.requires.placed.wide c.requires.there, takes_batch _ _ _ _ _)
+
+pub split_seat-right-requires : goal.split_seat-right-requires
+split_seat-right-requires c = (c.requires.list.seated, some_words _ _ _ c.requires.placed.wide c.requires.there, gives_list _ _ _ (nobody_deals _ (ap (λ m. m.0.who) c.requires.list.me)))
+
+pub join_seat-requires-2 : goal.join_seat-requires-2
+join_seat-requires-2 c = (c.join_seat.ensures.0 ∙ c.requires.placed.seated, c.split_seat-right.ensures.3 ∙ c.requires.list.seated, ap (λ m. m.1) c.split_seat-right.ensures.4, some_words _ _ _ c.requires.placed.wide c.requires.there, takes_list _ _ _ _ _)
+
+pub fetch_add-requires : goal.fetch_add-requires
+fetch_add-requires c =
+    let j = c.join_seat.ensures.2 in
+    let k = c.join_seat-2.ensures.2 in
+    let who = ap (λ m. m.0.who) k ∙ (ap (λ m. m.0.who) j ∙ c.requires.rests.1) in
+    let list = ap (λ m. m.0.list) k ∙ (ap (λ m. m.0.list) c.split_seat-right.ensures.4 ∙ ap (λ m. m.0.list) c.requires.list.me) in
+    let batch = ap (λ m. m.0.batch) k ∙ (ap (λ m. m.0.batch) j ∙ ap (λ m. m.0.batch) c.requires.batch.me) in
+    let place = c.place_of_finished.ensures in
+    let there = finished_there _ _ _ c.requires.placed.wide c.requires.there in (
+      c.join_seat-2.ensures.0 ∙ (c.join_seat.ensures.0 ∙ c.requires.placed.seated),
+      omega (arith, place, there),
+      finishes_here _ _ _ _ c.args.processor _ _ _ _ _ _ c.join_seat-2.new.seat.me place who list batch c.requires.there,
+    )
+
+pub split_seat-requires : goal.split_seat-requires
+split_seat-requires c =
+    let j = c.join_seat.ensures.2 in
+    let k = c.join_seat-2.ensures.2 in
+    let f = c.fetch_add.ensures in
+    let who = ap (λ m. m.0.who) k ∙ (ap (λ m. m.0.who) j ∙ c.requires.rests.1) in
+    let list = ap (λ m. m.0.list) k ∙ (ap (λ m. m.0.list) c.split_seat-right.ensures.4 ∙ ap (λ m. m.0.list) c.requires.list.me) in
+    let batch = ap (λ m. m.0.batch) k ∙ (ap (λ m. m.0.batch) j ∙ ap (λ m. m.0.batch) c.requires.batch.me) in
+    let q = f.2.1 c.requires.rests.0 c.args.processor _ _ _ _ _ who list batch in
+    (f.0 ∙ (c.join_seat-2.ensures.0 ∙ (c.join_seat.ensures.0 ∙ c.requires.placed.seated)), some_words _ _ _ c.requires.placed.wide c.requires.there, gives_list _ _ _ (caller_deals _ c.requires.rests.0 (q.does.who ∙ who)))
+
+pub returns-clause-finishes : goal.returns-clause-finishes
+returns-clause-finishes c =
+    let j = c.join_seat.ensures.2 in
+    let k = c.join_seat-2.ensures.2 in
+    let f = c.fetch_add.ensures in
+    let t = c.split_seat.ensures in
+    let p : ℕ = c.args.processor in
+    let n : ℕ = c.args.count in
+    let kept = ap (λ m. m.0.who) k ∙ ap (λ m. m.0.who) j in
+    let who = ap (λ m. m.0.who) k ∙ (ap (λ m. m.0.who) j ∙ c.requires.rests.1) in
+    let list = ap (λ m. m.0.list) k ∙ (ap (λ m. m.0.list) c.split_seat-right.ensures.4 ∙ ap (λ m. m.0.list) c.requires.list.me) in
+    let batch = ap (λ m. m.0.batch) k ∙ (ap (λ m. m.0.batch) j ∙ ap (λ m. m.0.batch) c.requires.batch.me) in
+    let q = f.2.1 c.requires.rests.0 p _ _ _ _ _ who list batch in record {
+      does = λ b is. let h = f.2.1 b p _ _ _ _ _ (kept ∙ is) list batch in
+          does_through b (Finish p n) c.args.seat.now.me.0 c.join_seat-2.new.seat.me.0 c.fetch_add.new.seat.me.0 c.split_seat.new.seat.me.0 (ap (λ m. m.0.seen) k ∙ ap (λ m. m.0.seen) j) kept (ap (λ m. m.0.seen) t.2) (ap (λ m. m.0.who) t.2) h.does;
+      no_list = ap (λ m. m.0.list) t.2;
+      no_batch = ap (λ m. m.0.batch) t.2 ∙ q.batch;
+      was_out = q.was_out;
+      first = q.first_is;
+      table = t.3 ∙ (f.0 ∙ (c.join_seat-2.ensures.0 ∙ (c.join_seat.ensures.0 ∙ (c.requires.placed.seated ∙ sym c.requires.list.seated))));
+      list_is = t.4 ∙ ap (λ (r : ListRight). (list_seat r, [])) q.list;
+    }

@@ -1,0 +1,59 @@
+-- How the fields of a seat, a list, a batch and of all callbacks are seen, and what is always true of them.
+use Rattle.std.specs.Prelude.{◌≡◌, ℕ, ◌+◌, ◌<◌, ◌≤◌, ◌↔◌, IsTrue, IsSome, List, Some, length, map, slice_index_or}
+use Rattle.std.specs.Arc.{arc_value}
+use Rattle.atomic_table.specs.Seated.{TableId}
+use Rattle.keep.specs.Views.{KeepView}
+use Rattle.calls.specs.declared.seat.CallSeat.TheInside as seat
+use Rattle.calls.specs.declared.list.List.TheInside as list
+use Rattle.calls.specs.declared.batch.Batch.TheInside as batch
+use Rattle.calls.specs.declared.spot.Spot.TheInside as spot
+use Rattle.calls.specs.declared.calls.Calls.TheInside as calls
+use Rattle.calls.specs.Tallies.{finished_place, most_calls, queued_in, AreTrue}
+use Rattle.calls.specs.Rule.{count_out}
+use Rattle.calls.specs.Seats.{IsPlaced, IsAtRest, IsListSeat, IsBatchSeat, finished_known, queued_known, out_known, first_known}
+use Rattle.calls.specs.Waiting.{AreWaiting, wrapped, unwrapped, entries_of}
+use Rattle.calls.specs.Views.{CallSeatView, ListKey, ListView, BatchView, CallsView}
+
+module _ {A : Type 0} where
+  abbrev pub view_of_seat : seat.Inside A → CallSeatView
+  view_of_seat s = record { tallies = s.seat.table_id; processors = (arc_value s.table).shared.key.processors; processor = s.processor; seen = s.seat.me.0.seen }
+
+  pub record IsCallSeat (s : seat.Inside A) : Type 0 where
+    pub placed : IsPlaced (arc_value s.table).shared.key (arc_value s.table).shared.table_id s.seat
+    pub rests : IsAtRest s.processor (arc_value s.table).shared.key s.seat.me.0
+    pub loads : AreTrue s.seat.me.0.seen
+    pub queued : s.queued ≡ queued_in s.processor s.seat.me.0.seen
+    pub few : s.queued ≤ most_calls
+
+module _ {J A : Type 0} where
+  abbrev pub view_of_list : list.Inside J A → ListView J
+  view_of_list l = record { tallies = l.seat.table_id; processor = l.processor; finished = finished_known l.seat.me.0.list; out = out_known l.seat.me.0.list; entries = unwrapped l.waiting.entries; sight = l.sight }
+
+  pub record IsList (l : list.Inside J A) : Type 0 where
+    pub seated : IsListSeat l.seat.table_id l.processor l.seat
+    pub wrapping : l.waiting.entries ≡ wrapped (unwrapped l.waiting.entries)
+    pub waiting : AreWaiting l.sight (unwrapped l.waiting.entries)
+    pub numbered : queued_known l.seat.me.0.list ≡ finished_known l.seat.me.0.list + count_out (out_known l.seat.me.0.list) + length (unwrapped l.waiting.entries)
+    pub out : IsTrue l.out ↔ IsSome (out_known l.seat.me.0.list)
+    pub there : finished_place l.processor < l.seat.table_id.words
+
+  abbrev pub view_of_batch : batch.Inside J A → BatchView J
+  view_of_batch b = record { tallies = b.seat.table_id; processor = b.processor; first = first_known b.seat.me.0.batch; count = b.count; entries = entries_of b.entries.items }
+
+  pub record IsBatch (b : batch.Inside J A) : Type 0 where
+    pub seated : IsBatchSeat b.seat.table_id b.processor b.count b.seat
+    pub wrapping : b.entries.items ≡ map Some (entries_of b.entries.items)
+
+abbrev pub key_of_spot : spot.Inside → ListKey
+key_of_spot s = record { domain = s.home; tallies = s.seat.table_id; processor = s.processor }
+
+-- the locks in order, each of the list of its processor
+abbrev pub AreOfDomain : TableId → TableId → List (KeepView ListKey) → Type 0
+AreOfDomain domain tallies locks = (p : ℕ) (d : KeepView ListKey) → p < length locks → (slice_index_or locks p d).key ≡ record { domain = domain; tallies = tallies; processor = p }
+
+module _ {J A : Type 0} where
+  abbrev pub view_of_calls : calls.Inside J A → CallsView
+  view_of_calls c = record { domain = c.spot.domain; tallies = c.spot.tallies; processors = length c.lists.items }
+
+  pub record AreCalls (c : calls.Inside J A) : Type 0 where
+    pub locks : AreOfDomain c.spot.domain c.spot.tallies c.lists.items

@@ -1,0 +1,10 @@
+pub mod Tallies
+pub mod Rule
+pub mod Plays
+pub mod Seats
+pub mod Waiting
+pub mod Views
+pub mod Refusals
+pub mod Calls
+pub mod Insides
+pub mod Making

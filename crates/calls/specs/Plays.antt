@@ -1,0 +1,47 @@
+-- What each step on the tally words tells the seat that makes it.
+use Rattle.std.specs.Prelude.{◌≡◌, ℕ, ◌+◌, List, [], ◌∷◌, ◌++◌, Option, Some, None}
+use Rattle.atomic_table.specs.Table.{Me, Step}
+use Rattle.calls.specs.declared.view.Act.{Act}
+use Rattle.calls.specs.declared.view.Act.TheVariants.{Queue, Finish}
+use Rattle.calls.specs.declared.view.Deed.{Deed}
+use Rattle.calls.specs.declared.view.Who.TheVariants.{Caller}
+use Rattle.calls.specs.declared.view.ListRight.TheVariants.{OfList}
+use Rattle.calls.specs.declared.view.BatchRight.TheVariants.{NoBatch, OfBatch}
+use Rattle.calls.specs.declared.view.View.{View}
+use Rattle.calls.specs.Tallies.{deed, queued_in, deeds_of, IsBeginning, AreTrue}
+
+-- the processor's seat did this, behind all that it had seen. What is then seen has just its own deeds of its own, and each load there found what was counted
+pub record Does (p : ℕ) (act : Act) (v w : View) : Type 0 where
+  pub before : List Deed
+  pub seen : w.seen ≡ before ++ deed p act ∷ []
+  pub since : IsBeginning v.seen before
+  pub own : deeds_of p before ≡ deeds_of p v.seen
+  pub who : w.who ≡ v.who
+  pub loads : AreTrue w.seen
+
+abbrev pub Sat : Type 0
+Sat = Me (Option ℕ) View
+
+-- 1 is added to the queued word, with the list: both knew what was queued
+pub record Queues (p queued finished : ℕ) (out : Option ℕ) (v : View) (n : ℕ) (w : View) : Type 0 where
+  pub does : Does p Queue v w
+  pub found : n ≡ queued
+  pub own : n ≡ queued_in p v.seen
+  pub list : w.list ≡ OfList p (queued + 1) finished out
+  pub batch : w.batch ≡ v.batch
+
+abbrev pub queues : Step (Option ℕ) → Sat → ℕ → Sat → Type 0
+queues st m n m' = (m'.1 ≡ m.1) × ((p queued finished : ℕ) (out : Option ℕ) → m.0.who ≡ Caller p → m.0.list ≡ OfList p queued finished out → Queues p queued finished out m.0 n m'.0)
+
+-- the batch's count is added to the finished word, with the list and the batch: the batch was the one that was out of that list
+pub record Finishes (c p queued finished : ℕ) (out : Option ℕ) (first count : ℕ) (v : View) (n : ℕ) (w : View) : Type 0 where
+  pub does : Does c (Finish p count) v w
+  pub found : n ≡ finished
+  pub first_is : first ≡ finished
+  pub was_out : out ≡ Some count
+  pub list : w.list ≡ OfList p queued (finished + count) None
+  pub batch : w.batch ≡ NoBatch
+
+abbrev pub finishes : Step (Option ℕ) → Sat → ℕ → Sat → Type 0
+finishes st m n m' = (m'.1 ≡ m.1) × ((c p queued finished : ℕ) (out : Option ℕ) (first count : ℕ) → m.0.who ≡ Caller c → m.0.list ≡ OfList p queued finished out → m.0.batch ≡ OfBatch p first count
+    → Finishes c p queued finished out first count m.0 n m'.0)

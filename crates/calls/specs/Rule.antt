@@ -1,0 +1,138 @@
+-- The rule of the tally words: there is one list of what was done on them, the words hold its counts, and each seat knows a beginning of it, with all that it did itself. A list knows the counts of its processor exactly, and so does the one batch of it that is out.
+use Rattle.std.specs.Prelude.{◌≡◌, ℕ, ◌+◌, ◌<◌, ◌≤◌, List, [], Option, Some, None, length, slice_index}
+use mathlib.Core.Option.{some}
+use lib.ListN.{get_elem?}
+use Rattle.atomic_table.specs.Table.{State}
+use Rattle.calls.specs.declared.view.Plan.{Plan}
+use Rattle.calls.specs.declared.view.Deed.{Deed}
+use Rattle.calls.specs.declared.view.Who.{Who}
+use Rattle.calls.specs.declared.view.Who.TheVariants.{Nobody, Caller, Dealer}
+use Rattle.calls.specs.declared.view.ListRight.{ListRight}
+use Rattle.calls.specs.declared.view.ListRight.TheVariants.{NoList, OfList}
+use Rattle.calls.specs.declared.view.BatchRight.{BatchRight}
+use Rattle.calls.specs.declared.view.BatchRight.TheVariants.{NoBatch, OfBatch}
+use Rattle.calls.specs.declared.view.View.{View}
+use Rattle.calls.specs.Tallies.{queued_place, finished_place, word_count, most_calls, queued_in, finished_in, deeds_of, IsBeginning, AreTrue}
+
+-- how many are out
+abbrev pub count_out : Option ℕ → ℕ
+count_out None = 0
+count_out (Some n) = n
+
+-- what there is beside the words: all that was done, how many are out of each processor, and for each processor the seat that makes its steps, that of its list, and that of its batch
+pub record Books : Type 0 where
+  pub log : List Deed
+  pub out_of : ℕ → Option ℕ
+  pub caller_at : ℕ → ℕ
+  pub list_at : ℕ → ℕ
+  pub batch_at : ℕ → ℕ
+
+-- Seats
+
+-- a processor that is still to be dealt has done nothing
+pub record IsUndealt (b : Books) (id p : ℕ) : Type 0 where
+  pub caller : b.caller_at p ≡ id
+  pub list : b.list_at p ≡ id
+  pub nothing : deeds_of p b.log ≡ []
+  pub queued : queued_in p b.log ≡ 0
+  pub finished : finished_in p b.log ≡ 0
+  pub out : b.out_of p ≡ None
+
+abbrev pub Makes : Books → ℕ → List Deed → Who → Type 0
+Makes b id seen Nobody = Unit {0}
+Makes b id seen (Caller p) = (b.caller_at p ≡ id) × (deeds_of p seen ≡ deeds_of p b.log)
+Makes b id seen (Dealer k) = (p : ℕ) → k ≤ p → IsUndealt b id p
+
+abbrev pub HasList : Books → ℕ → ListRight → Type 0
+HasList b id NoList = Unit {0}
+HasList b id (OfList p queued finished out) = (b.list_at p ≡ id) × (queued ≡ queued_in p b.log) × (finished ≡ finished_in p b.log) × (out ≡ b.out_of p)
+
+abbrev pub HasBatch : Books → ℕ → BatchRight → Type 0
+HasBatch b id NoBatch = Unit {0}
+HasBatch b id (OfBatch p first count) = (b.batch_at p ≡ id) × (first ≡ finished_in p b.log) × (b.out_of p ≡ Some count)
+
+pub record Fits (b : Books) (id : ℕ) (v : View) : Type 0 where
+  pub seen : IsBeginning v.seen b.log
+  pub makes : Makes b id v.seen v.who
+  pub list : HasList b id v.list
+  pub batch : HasBatch b id v.batch
+
+-- of each processor no more are finished or out than were queued, and those are few
+pub record IsCounted (b : Books) (p : ℕ) : Type 0 where
+  pub within : finished_in p b.log + count_out (b.out_of p) ≤ queued_in p b.log
+  pub few : queued_in p b.log ≤ most_calls
+
+pub record Kept (plan : Plan) (s : State (Option ℕ) View) : Type 0 where
+  pub books : Books
+  pub loads : AreTrue books.log
+  pub counted : (p : ℕ) → IsCounted books p
+  pub wide : length s.words ≡ word_count plan.processors
+  pub queued : (p : ℕ) → p < plan.processors → slice_index s.words (queued_place p) ≡ queued_in p books.log
+  pub finished : (p : ℕ) → p < plan.processors → slice_index s.words (finished_place p) ≡ finished_in p books.log
+  pub each_view : (id : ℕ) (v : View) → get_elem? s.views id ≡ some v → Fits books id v
+
+-- Views that are made
+
+abbrev pub founder : Plan → View
+founder plan = record { who = Dealer 0; list = NoList; batch = NoBatch; seen = [] }
+
+-- what is left of a seat that was taken in
+abbrev pub spent : View
+spent = record { who = Nobody; list = NoList; batch = NoBatch; seen = [] }
+
+abbrev pub without_next : Who → Who
+without_next Nobody = Nobody
+without_next (Caller p) = Caller p
+without_next (Dealer k) = Dealer (k + 1)
+
+abbrev pub next_caller : Who → Who
+next_caller Nobody = Nobody
+next_caller (Caller p) = Nobody
+next_caller (Dealer k) = Caller k
+
+abbrev pub next_list : Who → ListRight
+next_list Nobody = NoList
+next_list (Caller p) = NoList
+next_list (Dealer k) = OfList k 0 0 None
+
+-- the next processor is dealt, with the right of its list
+abbrev pub dealer : View → View
+dealer v = record v { who = without_next v.who }
+
+abbrev pub dealt : View → View
+dealt v = record { who = next_caller v.who; list = next_list v.who; batch = NoBatch; seen = v.seen }
+
+-- a seat of its own gets the right of the list
+abbrev pub without_list : View → View
+without_list v = record v { list = NoList }
+
+abbrev pub list_seat : ListRight → View
+list_seat right = record { who = Nobody; list = right; batch = NoBatch; seen = [] }
+
+abbrev pub only_list : View → View
+only_list v = list_seat v.list
+
+-- a batch of so many is given out
+abbrev pub with_out : ℕ → ListRight → ListRight
+with_out n NoList = NoList
+with_out n (OfList p queued finished out) = OfList p queued finished (Some n)
+
+abbrev pub batch_of : ℕ → ListRight → BatchRight
+batch_of n NoList = NoBatch
+batch_of n (OfList p queued finished out) = OfBatch p finished n
+
+abbrev pub lending : ℕ → View → View
+lending n v = record v { list = with_out n v.list }
+
+abbrev pub batch_seat : BatchRight → View
+batch_seat right = record { who = Nobody; list = NoList; batch = right; seen = [] }
+
+abbrev pub lent : ℕ → View → View
+lent n v = batch_seat (batch_of n v.list)
+
+-- the right of a list, or of a batch, is taken over
+abbrev pub with_list : View → View → View
+with_list v w = record v { list = w.list }
+
+abbrev pub with_batch : View → View → View
+with_batch v w = record v { batch = w.batch }

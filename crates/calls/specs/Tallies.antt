@@ -1,0 +1,78 @@
+-- What was done on the tally words of a domain, and what the words then hold.
+-- Processor p has word 32 p as its queued word and word 32 p + 16 as its finished word, so that any two of them are 128 bytes apart.
+use Rattle.std.specs.Prelude.{◌≡◌, ℕ, ◌+◌, ◌*◌, ◌==◌, Bool, true, false, List, [], ◌∷◌, ◌++◌, filter, if◌then◌else◌}
+use Rattle.calls.specs.declared.view.Act.{Act}
+use Rattle.calls.specs.declared.view.Act.TheVariants.{Queue, Finish, LoadQueued, LoadFinished}
+use Rattle.calls.specs.declared.view.Deed.{Deed}
+
+abbrev pub queued_place : ℕ → ℕ
+queued_place p = 32 * p
+
+abbrev pub finished_place : ℕ → ℕ
+finished_place p = 32 * p + 16
+
+abbrev pub word_count : ℕ → ℕ
+word_count processors = 32 * processors
+
+-- the most calls that a processor ever queues, 2 ^ 54
+abbrev pub most_calls : ℕ
+most_calls = 18014398509481984
+
+abbrev pub deed : ℕ → Act → Deed
+deed by act = record { by = by; act = act }
+
+-- Counts
+
+abbrev pub is_queue : Act → Bool
+is_queue Queue = true
+is_queue (Finish p n) = false
+is_queue (LoadQueued p n) = false
+is_queue (LoadFinished p n) = false
+
+-- what the deed adds to the queued word of a processor
+abbrev pub queued_by : ℕ → Deed → ℕ
+queued_by p d = if is_queue d.act then (if d.by == p then 1 else 0) else 0
+
+-- how many calls a processor has queued
+abbrev pub queued_in : ℕ → List Deed → ℕ
+queued_in p [] = 0
+queued_in p (d ∷ ds) = queued_by p d + queued_in p ds
+
+-- what the act adds to the finished word of a processor
+abbrev pub finished_by : ℕ → Act → ℕ
+finished_by p Queue = 0
+finished_by p (Finish q n) = if q == p then n else 0
+finished_by p (LoadQueued q n) = 0
+finished_by p (LoadFinished q n) = 0
+
+-- how many calls of a processor are finished
+abbrev pub finished_in : ℕ → List Deed → ℕ
+finished_in p [] = 0
+finished_in p (d ∷ ds) = finished_by p d.act + finished_in p ds
+
+-- Whose deeds
+
+abbrev pub deeds_of : ℕ → List Deed → List Deed
+deeds_of p deeds = filter (λ d. d.by == p) deeds
+
+-- a beginning of what was done
+pub record IsBeginning (seen deeds : List Deed) : Type 0 where
+  pub rest : List Deed
+  pub whole : deeds ≡ seen ++ rest
+
+-- Loads
+
+-- a load found what the word held
+abbrev pub IsTrueOf : List Deed → Act → Type 0
+IsTrueOf before Queue = Unit {0}
+IsTrueOf before (Finish p n) = Unit {0}
+IsTrueOf before (LoadQueued p n) = n ≡ queued_in p before
+IsTrueOf before (LoadFinished p n) = n ≡ finished_in p before
+
+abbrev pub AreTrueAfter : List Deed → List Deed → Type 0
+AreTrueAfter before [] = Unit {0}
+AreTrueAfter before (d ∷ ds) = IsTrueOf before d.act × AreTrueAfter (before ++ d ∷ []) ds
+
+-- each load among the deeds found what was counted until then
+abbrev pub AreTrue : List Deed → Type 0
+AreTrue deeds = AreTrueAfter [] deeds

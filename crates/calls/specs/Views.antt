@@ -1,0 +1,56 @@
+-- What a caller knows of the seats, lists and batches of a domain's callbacks.
+use Rattle.std.specs.Prelude.{ℕ, ◌+◌, List, Option, length}
+use Rattle.atomic_table.specs.Seated.{TableId}
+use Rattle.segs.specs.MarkedList.{Mark}
+use Rattle.sections.specs.Sights.{SightView}
+use Rattle.calls.specs.declared.entry.Entry.{Entry}
+use Rattle.calls.specs.declared.view.Deed.{Deed}
+use Rattle.calls.specs.Rule.{count_out}
+
+-- `tallies` are the tally words, for so many processors. `seen` is what was done on them, as far as the seat of this processor has seen it
+pub record CallSeatView : Type 0 where
+  pub tallies : TableId
+  pub processors : ℕ
+  pub processor : ℕ
+  pub seen : List Deed
+
+-- what never changes in a list, and of which lock a list is known to be: the domain, the tally words, and the processor
+pub record ListKey : Type 0 where
+  pub domain : TableId
+  pub tallies : TableId
+  pub processor : ℕ
+
+-- `entries` are those that were queued and not taken, in order, with their marks. So many were finished before, and so many are in the batch that is out. `sight` goes as far as each of those who queued them or took some out
+pub record ListView (J : Type 0) : Type 0 where
+  pub tallies : TableId
+  pub processor : ℕ
+  pub finished : ℕ
+  pub out : Option ℕ
+  pub entries : List (Entry J × Mark)
+  pub sight : SightView
+
+-- a batch of `count` entries, the first of which has the number `first` among all that its processor ever queued. `entries` are those that are left in it
+pub record BatchView (J : Type 0) : Type 0 where
+  pub tallies : TableId
+  pub processor : ℕ
+  pub first : ℕ
+  pub count : ℕ
+  pub entries : List (Entry J)
+
+-- the callbacks of a domain with so many processors
+pub record CallsView : Type 0 where
+  pub domain : TableId
+  pub tallies : TableId
+  pub processors : ℕ
+
+module _ {J : Type 0} where
+  abbrev pub key_of : ListView J → ListKey
+  key_of l = record { domain = l.sight.domain; tallies = l.tallies; processor = l.processor }
+
+  -- the number of the list's first entry, among all that were queued
+  abbrev pub first_of : ListView J → ℕ
+  first_of l = l.finished + count_out l.out
+
+  -- and the number that the next one will have
+  abbrev pub next_of : ListView J → ℕ
+  next_of l = first_of l + length l.entries

@@ -1,0 +1,96 @@
+//! The calls lock a processor's list, and hand on to it.
+ghost use Rattle.std.specs.Prelude.{◌≡◌, ◌<◌, All, IfOk, IfSome, MatchResult};
+ghost use Rattle.sections.specs.Calls.{IsSameCpu, AllClosed};
+ghost use Rattle.segs.specs.MarkedList.{lens, numbers};
+ghost use Rattle.calls.specs.Views.{ListView};
+ghost use Rattle.calls.specs.Calls.{IsSameSeat, IsOfProcessor, FitsIn, QueuesIn, RefusesIn, MayTakeIn, TakesIn, AreHanded, InvokesIn, MayFinishIn, FinishesIn, IsListOf};
+
+use super::Calls;
+use crate::batch::Batch;
+use crate::list::Receipt;
+use crate::refusals::{CallRefusal, TakeRefusal};
+use crate::seat::CallSeat;
+use sections::Cpu;
+use std::alloc::Allocator;
+use std::sync::Wait;
+
+impl<J: Drop, A: Allocator + Copy> Calls<J, A> {
+    /// Queues a job on this processor (`call_srcu`). It is given out after a full grace period that starts later. It
+    /// waits while another thread has the processor's list. Where it is refused, the job comes back.
+    pub fn call<R: Wait, B: Allocator, C: Allocator>(
+        &self,
+        rt: &R,
+        cpu: &mut Cpu<B>,
+        seat: &mut CallSeat<C>,
+        job: J,
+    ) -> Result<Receipt, (J, CallRefusal)>
+        requires { FitsIn self.now cpu.old seat.old }
+        ensures queues { MatchResult result
+            (λ receipt. QueuesIn self.now cpu.old seat.old job receipt cpu.new seat.new)
+            (λ refused. RefusesIn self.now cpu.old seat.old job refused cpu.new seat.new) }
+        ensures same { IsSameCpu cpu.old cpu.new × IsSameSeat seat.old seat.new }
+    {
+        let lock = &self.lists[seat.processor as usize];
+        let (mut list, loan) = lock.take(rt);
+        let result = list.push(cpu, seat, job);
+        lock.put_back(list, loan);
+        result
+    }
+
+    /// Takes out what is ready on a processor: at most `max` jobs and at most eight, the first ones first
+    /// (`srcu_invoke_callbacks`). `None` where nothing is. Any processor of the domain may do it, for any processor. It
+    /// waits while another thread has that processor's list.
+    pub fn take_ready<R: Wait, B: Allocator, C: Allocator>(
+        &self,
+        rt: &R,
+        cpu: &mut Cpu<B>,
+        seat: &mut CallSeat<C>,
+        processor: u16,
+        max: usize,
+    ) -> Result<Option<Batch<J, A>>, TakeRefusal>
+        requires { MayTakeIn self.now cpu.old seat.old processor }
+        ensures takes { MatchResult result
+            (λ taken. TakesIn self.now processor max cpu.old taken cpu.new)
+            (λ _. InvokesIn J self.now processor × (cpu.new ≡ cpu.old)) }
+        ensures same { IsSameCpu cpu.old cpu.new × (seat.new ≡ seat.old) }
+        ensures batch { IfOk result (λ taken. IfSome taken (λ batch. IsOfProcessor self.now processor batch)) }
+
+        // Each job is given out after a full grace period that started behind its queueing.
+        ensures handed { IfOk result (λ taken. IfSome taken (λ batch. AreHanded batch.entries cpu.new.seen)) }
+
+        // So no section that was begun before a job was queued is open when it is given out.
+        ensures closed { IfOk result (λ taken. IfSome taken (λ batch. All (λ e. AllClosed e.cookie.seen cpu.new.seen) batch.entries)) }
+    {
+        let lock = &self.lists[processor as usize];
+        let (mut list, loan) = lock.take(rt);
+        let result = list.take(cpu, seat, max);
+        lock.put_back(list, loan);
+        result
+    }
+
+    /// The batch is over, and empty: its count is added to the finished word of its processor. It waits while another
+    /// thread has that processor's list.
+    pub fn finish<R: Wait, C: Allocator>(&self, rt: &R, seat: &mut CallSeat<C>, batch: Batch<J, A>)
+        requires { MayFinishIn self.now seat.old batch }
+        ensures finishes { FinishesIn self.now seat.old batch seat.new }
+        ensures same { IsSameSeat seat.old seat.new }
+    {
+        let lock = &self.lists[batch.processor as usize];
+        let (mut list, loan) = lock.take(rt);
+        list.finish(seat, batch);
+        lock.put_back(list, loan);
+    }
+
+    /// How many entries of a processor are done, wait for the first and for the second number, and have none yet; and
+    /// the two numbers, 0 where there is none. What is out isn't counted. It waits while another thread has the list.
+    pub fn lens<R: Wait>(&self, rt: &R, processor: u16) -> ([usize; 4], [u64; 2])
+        requires { processor < self.now.processors }
+        ensures { (l : ListView J) × IsListOf self.now processor l × (result.0 ≡ lens l.entries) × (result.1 ≡ numbers l.entries) }
+    {
+        let lock = &self.lists[processor as usize];
+        let (list, loan) = lock.take(rt);
+        let lens = list.lens();
+        lock.put_back(list, loan);
+        lens
+    }
+}

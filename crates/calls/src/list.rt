@@ -1,0 +1,62 @@
+//! The list of a processor's callbacks.
+use crate::entry::Entry;
+use crate::plays::Place;
+use crate::spot::Spot;
+use keep::Keyed;
+use sections::{Cookie, Sight, Token};
+use segs::SegList;
+use std::alloc::{Allocator, Global};
+use std::marker::Model;
+
+mod queueing;
+mod taking;
+
+/// The callbacks of one processor that were queued and not taken (`struct srcu_data`'s `srcu_cblist`). It stands behind
+/// a lock, and what its calls promise is said here, of the list before and after.
+///
+/// Its type keeps that the numbers of its entries are consecutive, that no cookie is smaller than one before it, that a
+/// number waited for is at least the cookies of its entries, and that the cookie of each entry that is done was
+/// reached, as somebody has seen who had the list.
+#[derive(Drop)]
+pub struct List<J, A: Allocator = Global> {
+    pub(crate) waiting: SegList<Option<Entry<J>>, A>,
+    /// As far as all who had the list had seen then.
+    pub(crate) sight: Sight,
+    pub(crate) seat: Place,
+    pub(crate) processor: u16,
+    /// Whether a batch is out.
+    pub(crate) out: bool,
+}
+
+impl<J, A: Allocator> Model for List<J, A> {
+    ghost use Rattle.calls.specs.Views.{ListView};
+
+    ghost Value = { ListView J };
+
+    ghost use Rattle.calls.specs.Insides.{view_of_list, IsList};
+
+    ghost view = { view_of_list };
+
+    ghost invariant = { IsList };
+}
+
+impl<J, A: Allocator> Token for List<J, A> {
+    ghost domain = { λ l. l.sight.domain };
+}
+
+impl<J, A: Allocator> Keyed<Spot> for List<J, A> {
+    ghost use Rattle.calls.specs.Views.{key_of};
+
+    ghost key = { key_of };
+}
+
+/// A job was queued.
+#[derive(Drop)]
+pub struct Receipt {
+    /// The processor on which it was queued.
+    pub processor: u16,
+    /// Its number among all that were queued there, from 0.
+    pub k: u64,
+    /// The job is given out once this cookie is done.
+    pub cookie: Cookie,
+}

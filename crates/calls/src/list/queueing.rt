@@ -1,0 +1,65 @@
+//! How a job comes into the list.
+ghost use Rattle.std.specs.Prelude.{◌≡◌, MatchResult};
+ghost use Rattle.segs.specs.MarkedList.{lens, numbers};
+ghost use Rattle.calls.specs.Calls.{Fits, Queues, Refuses};
+
+use super::{List, Receipt};
+use crate::entry::Entry;
+use crate::refusals::CallRefusal;
+use crate::seat::{CallSeat, MOST_CALLS};
+use crate::tally::add_queued;
+use sections::Cpu;
+use std::alloc::Allocator;
+
+impl<J, A: Allocator> List<J, A> {
+    /// Queues a job (`call_srcu`), on the processor and with the seat of the list's processor.
+    pub fn push<B: Allocator, C: Allocator>(
+        &mut self,
+        cpu: &mut Cpu<B>,
+        seat: &mut CallSeat<C>,
+        job: J,
+    ) -> Result<Receipt, (J, CallRefusal)>
+        requires { Fits self.old cpu.old seat.old }
+        ensures { MatchResult result
+            (λ receipt. Queues self.old cpu.old seat.old job receipt self.new cpu.new seat.new)
+            (λ refused. Refuses self.old cpu.old seat.old job refused self.new cpu.new seat.new) }
+    {
+        if seat.queued == MOST_CALLS {
+            return Err((job, CallRefusal::Exhausted));
+        }
+        // The cookie is of now, before the job can be seen: a later one would only make it wait longer, but one that is
+        // taken behind the push could come after the job was given out.
+        let mut cookie = cpu.cookie_behind(&mut self.sight);
+        let number = cookie.number();
+        let copy = cpu.copy_cookie(&mut cookie);
+        if let Err((refused, _)) = self.waiting.push(Some(Entry { job, cookie })) {
+            let Some(Entry { job, cookie: _ }) = refused else {
+                unreachable!();
+            };
+            return Err((job, CallRefusal::Memory));
+        }
+        // Where there is a free segment, the job waits for its own cookie: for a smaller number it would be given out too
+        // early.
+        self.waiting.assign(number);
+        let k = add_queued(
+            &seat.table.shared,
+            &mut seat.seat,
+            &mut self.seat,
+            self.processor,
+        );
+        seat.queued += 1;
+        Ok(Receipt {
+            processor: self.processor,
+            k,
+            cookie: copy,
+        })
+    }
+
+    /// How many entries are done, wait for the first and for the second number, and have none yet; and the two numbers,
+    /// 0 where there is none. What is out isn't counted.
+    pub fn lens(&self) -> ([usize; 4], [u64; 2])
+        ensures { (result.0 ≡ lens self.now.entries) × (result.1 ≡ numbers self.now.entries) }
+    {
+        (self.waiting.lens(), self.waiting.numbers())
+    }
+}

@@ -1,0 +1,100 @@
+//! How jobs go out of the list.
+ghost use Rattle.std.specs.Prelude.{◌≡◌, All, IfOk, IfSome, MatchResult, Some};
+ghost use Rattle.sections.specs.Calls.{AllClosed};
+ghost use Rattle.calls.specs.Waiting.{wrapped, unwrapped};
+ghost use Rattle.calls.specs.Calls.{AssignsLast, Takes, AreHanded, IsInvoking, Finishes, MayFinish, MayTake};
+
+use super::List;
+use crate::batch::Batch;
+use crate::entry::Entry;
+use crate::refusals::TakeRefusal;
+use crate::seat::CallSeat;
+use crate::tally::{add_finished, give_batch};
+use sections::Cpu;
+use segs::SegList;
+use std::alloc::Allocator;
+use std::marker::Brand;
+
+/// What has no number yet gets that of the cookie of the last entry: it is the greatest one.
+fn assign_last<J, A: Allocator>(waiting: &mut SegList<Option<Entry<J>>, A>)
+    requires { waiting.old.entries ≡ wrapped (unwrapped waiting.old.entries) }
+    ensures wrapping { waiting.new.entries ≡ wrapped (unwrapped waiting.new.entries) }
+    ensures assigns { AssignsLast (unwrapped waiting.old.entries) (unwrapped waiting.new.entries) }
+{
+    let Some(last) = waiting.last_next() else {
+        return;
+    };
+    let Some(last) = last else { unreachable!() };
+    let number = last.cookie.number();
+    waiting.assign(number);
+}
+
+impl<J: Drop, A: Allocator + Copy> List<J, A> {
+    /// Takes out what is ready: at most `max` jobs and at most eight, the first ones first. `None` where nothing is.
+    /// Any processor of the domain may do it. It is refused, with no step, exactly where a batch is out.
+    pub fn take<B: Allocator, C: Allocator>(
+        &mut self,
+        cpu: &mut Cpu<B>,
+        seat: &mut CallSeat<C>,
+        max: usize,
+    ) -> Result<Option<Batch<J, A>>, TakeRefusal>
+        requires { MayTake self.old cpu.old seat.old }
+        ensures takes { MatchResult result
+            (λ taken. Takes max self.old cpu.old taken self.new cpu.new)
+            (λ _. IsInvoking self.old × (self.new ≡ self.old) × (cpu.new ≡ cpu.old)) }
+        ensures seat { seat.new ≡ seat.old }
+
+        // Each job is given out after a full grace period: it was queued at the end of what its cookie has seen, and
+        // the taker goes on from there and has been told that the cookie is done.
+        ensures handed { IfOk result (λ taken. IfSome taken (λ batch. AreHanded batch.entries cpu.new.seen)) }
+
+        // So no section that was open when the job was queued is open now.
+        ensures closed { IfOk result (λ taken. IfSome taken (λ batch. All (λ e. AllClosed e.cookie.seen cpu.new.seen) batch.entries)) }
+    {
+        if self.out {
+            return Err(TakeRefusal::Invoking);
+        }
+        // The number is loaded first: with an older one, entries would stay that are due. Then those that wait for it
+        // or less are done, which may free a segment, and only then can what has no number yet get one: before, it
+        // might find none free, and wait for one more period.
+        let number = cpu.how_far(&mut self.sight);
+        self.waiting.advance(number.get());
+        assign_last(&mut self.waiting);
+        let taken = self.waiting.take_done(max);
+        let count = taken.len();
+        if count == 0 {
+            return Ok(None);
+        }
+        let right = give_batch::<Brand>(&seat.table.shared, &mut self.seat, count);
+        self.out = true;
+        Ok(Some(Batch {
+            entries: taken,
+            count,
+            processor: self.processor,
+            seat: right,
+        }))
+    }
+
+    /// The batch is over: its count is added to the finished word of its processor, by this seat. It is empty, and of
+    /// this list.
+    pub fn finish<C: Allocator>(&mut self, seat: &mut CallSeat<C>, batch: Batch<J, A>)
+        requires { MayFinish self.old seat.old batch }
+        ensures { Finishes self.old seat.old batch self.new seat.new }
+    {
+        let Batch {
+            entries: _,
+            count,
+            processor,
+            seat: right,
+        } = batch;
+        add_finished(
+            &seat.table.shared,
+            &mut seat.seat,
+            &mut self.seat,
+            right,
+            processor,
+            count,
+        );
+        self.out = false;
+    }
+}

@@ -1,0 +1,109 @@
+//! New callbacks.
+ghost use Rattle.std.specs.Prelude.{◌≡◌, ◌+◌, ◌<◌, ◌≤◌, ◌^◌, IfOk};
+ghost use Rattle.std.specs.Arc.{arc_value};
+ghost use Rattle.calls.specs.Calls.{AreMade};
+ghost use Rattle.calls.specs.Making.{NewTable, IsDealer, IsDealt};
+
+use crate::calls::Calls;
+use crate::list::List;
+use crate::plays::{self, Place, Tallies};
+use crate::refusals::Memory;
+use crate::seat::CallSeat;
+use crate::spot::Spot;
+use crate::view::Plan;
+use atomic_table::Table;
+use keep::Keep;
+use sections::{EngineSeat, Sight};
+use segs::SegList;
+use std::alloc::Allocator;
+use std::sync::Arc;
+
+/// The tally words, all 0, and the seat that stands for all processors and their lists.
+fn new_table<A: Allocator + Copy>(alloc: A, plan: Plan) -> Result<(Tallies<A>, Place), Memory>
+    requires { plan.processors < 2 ^ 16 }
+    ensures { IfOk result (λ t. NewTable plan t.0.shared.key t.0.shared.table_id t.1) }
+{
+    let words = vec![in alloc; 0u64; 32 * plan.processors]?;
+    Table::of_words(alloc, words.as_slice(), &plan)
+}
+
+/// The next processor's seat and list.
+fn deal<J, A: Allocator + Copy>(
+    alloc: A,
+    table: &Arc<Tallies<A>, A>,
+    dealer: &mut Place,
+    processor: u16,
+    sight: Sight,
+) -> Result<(CallSeat<A>, List<J, A>), Memory>
+    requires there { processor < (arc_value table.now).shared.key.processors }
+    requires dealer { let shared = (arc_value table.now).shared in
+        IsDealer shared.key shared.table_id processor dealer.old }
+    ensures { let shared = (arc_value table.now).shared in IfOk result (λ d.
+        IsDealt shared.key shared.table_id processor sight d.0 d.1
+        × IsDealer shared.key shared.table_id (processor + 1) dealer.new) }
+{
+    let table = Arc::try_clone(table)?;
+    let mut seat = table.shared.split_seat::<plays::Deal>(dealer);
+    let right = table.shared.split_seat::<plays::GiveList>(&mut seat);
+    let list = List {
+        waiting: SegList::new(alloc),
+        sight,
+        seat: right,
+        processor,
+        out: false,
+    };
+    let seat = CallSeat {
+        table,
+        seat,
+        processor,
+        queued: 0,
+    };
+    Ok((seat, list))
+}
+
+/// The seats and the locks of all processors.
+fn build<J: Drop, A: Allocator + Copy, B: Allocator>(
+    alloc: A,
+    engine: &mut EngineSeat<B>,
+    processors: u16,
+) -> Result<(Calls<J, A>, Vec<CallSeat<A>, A>), Memory>
+    requires { 1 ≤ processors }
+    ensures made { IfOk result (λ m. AreMade engine.old.domain processors m.0 m.1.items) }
+    ensures same { engine.new ≡ engine.old }
+{
+    let plan = Plan {
+        processors: processors as usize,
+    };
+    let (table, mut dealer) = new_table(alloc, plan)?;
+    let table = Arc::new(alloc, table)?;
+    let mut seats = Vec::with_capacity(alloc, plan.processors)?;
+    let mut lists = Vec::with_capacity(alloc, plan.processors)?;
+    let mut spot = Spot {
+        home: engine.home(),
+        seat: table.shared.split_seat::<plays::GiveList>(&mut dealer),
+        processor: 0,
+    };
+    for processor in 0..processors {
+        let sight = engine.sight();
+        let (seat, list) = deal(alloc, &table, &mut dealer, processor, sight)?;
+        spot.processor = processor;
+        seats.push(seat)?;
+        lists.push(Keep::new(alloc, alloc, list, &spot)?)?;
+    }
+    Ok((Calls { lists, spot }, seats))
+}
+
+impl<J: Drop, A: Allocator + Copy> Calls<J, A> {
+    /// Callbacks for a domain, whose engine's seat is lent: none is queued. The seats come in the order of their
+    /// processors. Where there is not enough memory, nothing is made.
+    pub fn make<B: Allocator>(
+        alloc: A,
+        engine: &mut EngineSeat<B>,
+    ) -> Result<(Calls<J, A>, Vec<CallSeat<A>, A>), Memory>
+        ensures made { IfOk result (λ m. AreMade engine.old.domain engine.old.processors m.0 m.1.items) }
+        ensures same { engine.new ≡ engine.old }
+    {
+        let processors = engine.processors();
+        build(alloc, engine, processors)
+    }
+}

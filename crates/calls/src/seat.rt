@@ -1,0 +1,34 @@
+//! A processor's seat at the tally words.
+ghost use Rattle.std.specs.Prelude.{◌≡◌};
+ghost use Rattle.calls.specs.Tallies.{most_calls};
+
+use crate::plays::{Place, Tallies};
+use std::alloc::{Allocator, Global};
+use std::marker::Model;
+use std::sync::Arc;
+
+/// The seat of a processor at the tally words. It goes with the [`Cpu`](sections::Cpu) of the same number. Contracts see
+/// what was done on the tally words, as far as this seat has seen it: what it did itself is among it.
+#[derive(Drop)]
+pub struct CallSeat<A: Allocator = Global> {
+    pub(crate) table: Arc<Tallies<A>, A>,
+    pub(crate) seat: Place,
+    pub(crate) processor: u16,
+    /// How many calls were queued here.
+    pub(crate) queued: u64,
+}
+
+impl<A: Allocator> Model for CallSeat<A> {
+    ghost use Rattle.calls.specs.Views.{CallSeatView};
+
+    ghost Value = { CallSeatView };
+
+    ghost use Rattle.calls.specs.Insides.{view_of_seat, IsCallSeat};
+
+    ghost view = { view_of_seat };
+
+    ghost invariant = { IsCallSeat };
+}
+
+/// How many calls a processor may ever queue, 2^54.
+pub(crate) const MOST_CALLS: u64 = 18_014_398_509_481_984;

@@ -1,0 +1,23 @@
+//! Of which processor, of which domain a list is.
+use crate::plays::Place;
+use sections::Home;
+use std::marker::Model;
+
+/// What never changes in a processor's list of callbacks: its domain, its tally words and its processor. Contracts alone
+/// read it, as the key of the lock round that list.
+#[derive(Drop)]
+pub struct Spot {
+    pub(crate) home: Home,
+    pub(crate) seat: Place,
+    pub(crate) processor: u16,
+}
+
+impl Model for Spot {
+    ghost use Rattle.calls.specs.Views.{ListKey};
+
+    ghost Value = { ListKey };
+
+    ghost use Rattle.calls.specs.Insides.{key_of_spot};
+
+    ghost view = { key_of_spot };
+}

@@ -1,0 +1,71 @@
+//! The steps on the tally words.
+ghost use Rattle.std.specs.Prelude.{◌≡◌, ℕ, ◌<◌};
+ghost use Rattle.calls.specs.Tallies.{queued_place, finished_place, most_calls, queued_in};
+ghost use Rattle.calls.specs.Seats.{IsPlaced, IsAtRest, IsOfCaller, IsListSeat, IsBatchSeat, QueuesOne, FinishesBatch, MayLend, Lends};
+
+use crate::plays::{self, Board, Counting, Place};
+
+/// Where the queued word of a processor stands.
+pub(crate) fn place_of_queued(processor: u16) -> usize
+    ensures { result ≡ queued_place processor }
+{
+    32 * processor as usize
+}
+
+/// Where the finished word of a processor stands.
+pub(crate) fn place_of_finished(processor: u16) -> usize
+    ensures { result ≡ finished_place processor }
+{
+    32 * processor as usize + 16
+}
+
+/// Adds 1 to the processor's queued word, with the right of its list, which gets it back. Answers what the word held.
+pub(crate) fn add_queued(top: &Board, seat: &mut Place, list: &mut Place, processor: u16) -> u64
+    requires placed { IsPlaced top.now.key top.now.table_id seat.old }
+    requires rests { IsAtRest processor top.now.key seat.old.me.0 }
+    requires list { IsListSeat top.now.table_id processor list.old }
+    requires room { queued_in processor seat.old.me.0.seen < most_calls }
+    ensures placed { IsPlaced top.now.key top.now.table_id seat.new }
+    ensures queues { QueuesOne processor seat.old list.old result seat.new list.new }
+{
+    let right = top.split_seat::<plays::GiveList>(list);
+    top.join_seat::<plays::TakeList>(seat, right);
+    let found = top.fetch_add::<plays::AddQueued>(seat, place_of_queued(processor), 1);
+    *list = top.split_seat::<plays::GiveList>(seat);
+    found
+}
+
+/// Cuts the right of a batch of so many off the list's seat.
+pub(crate) fn give_batch<N: Counting>(top: &Board, list: &mut Place, count: usize) -> Place
+    requires count { count ≡ N.count }
+    requires words { 0 < top.now.table_id.words }
+    requires list { (p : ℕ) × MayLend top.now.table_id p count list.old }
+    ensures { (p : ℕ) → IsListSeat top.now.table_id p list.old → Lends p count list.old list.new result }
+{
+    top.split_seat::<plays::GiveBatch<N>>(list)
+}
+
+/// Adds the batch's count to its processor's finished word, with the rights of the batch, which is over, and of the
+/// list, which gets its own back.
+pub(crate) fn add_finished(
+    top: &Board,
+    seat: &mut Place,
+    list: &mut Place,
+    batch: Place,
+    processor: u16,
+    count: usize,
+)
+    requires placed { IsPlaced top.now.key top.now.table_id seat.old }
+    requires there { processor < top.now.key.processors }
+    requires rests { IsOfCaller seat.old.me.0 }
+    requires list { IsListSeat top.now.table_id processor list.old }
+    requires batch { IsBatchSeat top.now.table_id processor count batch }
+    ensures placed { IsPlaced top.now.key top.now.table_id seat.new }
+    ensures finishes { FinishesBatch processor count seat.old list.old batch seat.new list.new }
+{
+    top.join_seat::<plays::TakeBatch>(seat, batch);
+    let right = top.split_seat::<plays::GiveList>(list);
+    top.join_seat::<plays::TakeList>(seat, right);
+    top.fetch_add::<plays::AddFinished>(seat, place_of_finished(processor), count as u64);
+    *list = top.split_seat::<plays::GiveList>(seat);
+}

@@ -1,0 +1,211 @@
+-- From what a step tells a seat of a bay's table to what the calls say of it.
+use Rattle.std.proofs.Common.{◌≡◌, ◌≢◌, ℕ, ◌&&◌, true, false, List, [], ◌∷◌, Option, Some, None, IfSome, is_some, is_none, refl, sym, ap, ◌∙◌, subst, arith}
+use Rattle.atomic_table.specs.Seated.{TableId}
+use Rattle.atomic_table.specs.Table.{Allows, rest}
+use Rattle.desk.specs.declared.bay.view.Plan.{Plan}
+use Rattle.desk.specs.declared.bay.view.Role.TheVariants.{Sits}
+use Rattle.desk.specs.declared.bay.view.View.{View}
+use Rattle.desk.specs.Swaps.{IsBeginning, lies_after}
+use Rattle.desk.specs.Holding.{holds_behind}
+use Rattle.desk.specs.BayViews.{BaySeatView}
+use Rattle.desk.specs.BayCalls.{holds, lies, MakesSwap, IsHeldElsewhere, Covers, Accepts}
+use Rattle.desk.specs.BayRule.{word_of, Kept, bearer, informed}
+use Rattle.desk.specs.BayPlays.{Sat, number_of, as_bay_seat, carried, Takes, Puts, FindsAll, Admits}
+use Rattle.desk.specs.BaySeats.{emptied}
+use Rattle.desk.proofs.Turns.{lies_push}
+use Rattle.desk.proofs.Holders.{holds_own}
+use Rattle.desk.proofs.BaySteps.{takes_here, puts_here, finds_all_here, admits_here}
+
+module _ {T : Type 0} where
+  abbrev first_held : Option T → List (ℕ × Option T) → Option T
+  first_held default [] = default
+  first_held default (p ∷ ps) = p.1
+
+  -- a seat of the bay is one that sits, was told nothing, and has the slot while it holds
+  abbrev pub HasRole : Sat T → Type 0
+  HasRole m = m.0.role ≡ Sits (number_of m.0.role)
+
+  abbrev pub AtBay : Sat T → Type 0
+  AtBay m = m ≡ (record m.0 { role = Sits (number_of m.0.role); told = [] }, emptied (holds_behind (number_of m.0.role) m.0.seen))
+
+  pub at_bay : (m : Sat T) → HasRole m → m.0.told ≡ [] → m.1 ≡ emptied (holds_behind (number_of m.0.role) m.0.seen) → AtBay m
+  at_bay m r t s = λ i. (record m.0 { role = r i; told = t i }, s i)
+
+  -- another view in the same role
+  same_role : (m m' : Sat T) → m'.0.role ≡ m.0.role → HasRole m → HasRole m'
+  same_role m m' e r = e ∙ (r ∙ sym (ap (λ z. Sits (number_of z)) e))
+
+  pub role_of : (m : Sat T) → AtBay m → HasRole m
+  role_of m is = ap (λ (z : Sat T). z.0.role) is
+
+  told_of : (m : Sat T) → AtBay m → m.0.told ≡ []
+  told_of m is = ap (λ (z : Sat T). z.0.told) is
+
+  slot_of : (m : Sat T) → AtBay m → m.1 ≡ emptied (holds_behind (number_of m.0.role) m.0.seen)
+  slot_of m is = ap (λ (z : Sat T). z.1) is
+
+  -- a swap decides whether its seat holds
+  pub makes_holds : (v : BaySeatView T) (left found : Option T) (w : BaySeatView T) → MakesSwap v left found w → holds w ≡ (is_none left && is_some found)
+  makes_holds v left found w h = ap (λ (z : BaySeatView T). holds_behind z.number w.seen) h.same ∙ (ap (holds_behind v.number) h.seen ∙ holds_own v.number h.before record { by = v.number; left = left; found = found } refl)
+
+  -- and what lies there
+  pub makes_lie : (v : BaySeatView T) (left found : Option T) (w : BaySeatView T) → MakesSwap v left found w → lies w ≡ left
+  makes_lie v left found w h = ap (λ (z : BaySeatView T). lies_after z.first w.seen) h.same ∙ (ap (lies_after v.first) h.seen ∙ lies_push v.first h.before record { by = v.number; left = left; found = found })
+
+  makes_as : (v : BaySeatView T) (t t' : TableId) (left found found' : Option T) (w w' : View T) → t' ≡ t → found' ≡ found → w' ≡ w → MakesSwap v left found (as_bay_seat t w) → MakesSwap v left found' (as_bay_seat t' w')
+  makes_as v t t' left found found' w w' a b c = subst (λ (z : (TableId × Option T) × View T). MakesSwap v left z.0.1 (as_bay_seat z.0.0 z.1)) (λ q. ((sym a q, sym b q), sym c q))
+
+  -- Taking
+
+  word_none : (found : Option T) (n : ℕ) → n ≡ word_of found → n ≡ 1 → found ≡ None
+  word_none None n is e = refl
+  word_none (Some x) n is e = absurd (omega (arith, is, e))
+
+  word_some : (found : Option T) (n : ℕ) → n ≡ word_of found → n ≢ 1 → (x : T) × (found ≡ Some x)
+  word_some None n is e = absurd (e is)
+  word_some (Some x) n is e = (x, refl)
+
+  pub takes_as : (domain : T → TableId) (plan : Plan T) (slots id : ℕ) (m : Sat T) → AtBay m → holds_behind (number_of m.0.role) m.0.seen ≡ false → Allows (Kept domain plan) slots id m 0 (λ _. 1) (Takes domain m)
+  takes_as domain plan slots id m is free = subst (λ (z : Sat T). Allows (Kept domain plan) slots id z 0 (λ _. 1) (Takes domain z)) (sym (is ∙ ap (λ b. (record m.0 { role = Sits (number_of m.0.role); told = [] }, emptied b)) free))
+      (takes_here domain plan slots id m.0.home m.0.seats m.0.first (number_of m.0.role) m.0.seen free)
+
+  module _ (domain : T → TableId) (m : Sat T) (n : ℕ) (m' : Sat T) (t : Takes domain m n m') where
+    same_view : m'.0 ≡ record m.0 { seen = m'.0.seen }
+    same_view = ap (λ (z : Sat T). z.0) t.now
+
+    has_slot : m'.1 ≡ carried t.found
+    has_slot = ap (λ (z : Sat T). z.1) t.now
+
+    taken_role : AtBay m → HasRole m'
+    taken_role is = same_role m m' (ap (λ (z : View T). z.role) same_view) (role_of m is)
+
+    taken_told : AtBay m → m'.0.told ≡ []
+    taken_told is = ap (λ (z : View T). z.told) same_view ∙ told_of m is
+
+    -- nothing was found
+    module _ (out : n ≡ 1) (table table' : TableId) (same : table' ≡ table) where
+      pub in_vain : MakesSwap (as_bay_seat table m.0) None None (as_bay_seat table' m'.0)
+      in_vain = makes_as (as_bay_seat table m.0) table table' None t.found None m'.0 m'.0 same (sym (word_none t.found n t.word out)) refl (t.swap table)
+
+      pub stays_free : holds (as_bay_seat table' m'.0) ≡ false
+      stays_free = makes_holds (as_bay_seat table m.0) None None (as_bay_seat table' m'.0) in_vain
+
+      pub is_elsewhere : IsHeldElsewhere (as_bay_seat table' m'.0)
+      is_elsewhere = subst (λ z. IsHeldElsewhere (as_bay_seat z m'.0)) (sym same) (t.elsewhere table (word_none t.found n t.word out))
+
+      pub at_bay_in_vain : AtBay m → AtBay m'
+      at_bay_in_vain is = at_bay m' (taken_role is) (taken_told is) (has_slot ∙ (ap carried (word_none t.found n t.word out) ∙ ap emptied (sym stays_free)))
+
+    -- something was found, and is taken from the slot
+    module _ (there : n ≢ 1) (result : Option T) (m2 : Sat T) (read : m'.1 ≡ (0, result) ∷ rest m'.1) (wrote : m2 ≡ (m'.0, (0, None) ∷ rest m'.1)) where
+      got : (x : T) × (t.found ≡ Some x)
+      got = word_some t.found n t.word there
+
+      slot_is : m'.1 ≡ (0, Some got.0) ∷ []
+      slot_is = has_slot ∙ ap carried got.1
+
+      result_is : result ≡ t.found
+      result_is = ap (first_held None) (sym read ∙ slot_is) ∙ sym got.1
+
+      view_is : m2.0 ≡ m'.0
+      view_is = ap (λ (z : Sat T). z.0) wrote
+
+      module _ (table table' : TableId) (same : table' ≡ table) where
+        pub taken : MakesSwap (as_bay_seat table m.0) None result (as_bay_seat table' m2.0)
+        taken = makes_as (as_bay_seat table m.0) table table' None t.found result m'.0 m2.0 same result_is view_is (t.swap table)
+
+        pub taken_holds : holds (as_bay_seat table' m2.0) ≡ is_some result
+        taken_holds = makes_holds (as_bay_seat table m.0) None result (as_bay_seat table' m2.0) taken
+
+        pub found_it : {X : Type 0} → result ≡ None → X
+        found_it none = absurd (differ got.0 (sym (result_is ∙ got.1) ∙ none))
+          where
+            differ : (x : T) → Some x ≡ None → ⊥
+            differ x e = cc
+
+        pub taken_domain : IfSome result (λ x. domain x ≡ m.0.home)
+        taken_domain = subst (λ (z : Option T). IfSome z (λ x. domain x ≡ m.0.home)) (sym result_is) t.of_domain
+
+        pub at_bay_taken : AtBay m → AtBay m2
+        at_bay_taken is = at_bay m2
+            (same_role m' m2 (ap (λ (z : View T). z.role) view_is) (taken_role is))
+            (ap (λ (z : View T). z.told) view_is ∙ taken_told is)
+            (ap (λ (z : Sat T). z.1) wrote ∙ (ap (λ l. (0, None) ∷ rest l) slot_is ∙ ap emptied (sym (taken_holds ∙ ap is_some (result_is ∙ got.1)))))
+
+    pub slot_with_it : n ≢ 1 → (old : Option T) × (m'.1 ≡ (0, old) ∷ rest m'.1)
+    slot_with_it there = let got = word_some t.found n t.word there in let e : m'.1 ≡ (0, Some got.0) ∷ [] = has_slot ∙ ap carried got.1 in (Some got.0, e ∙ sym (ap (λ l. (0, Some got.0) ∷ rest l) e))
+
+  -- Putting
+
+  empty_slot : (m : Sat T) → AtBay m → holds_behind (number_of m.0.role) m.0.seen ≡ true → m.1 ≡ (0, None) ∷ []
+  empty_slot m is held = slot_of m is ∙ ap emptied held
+
+  pub slot_in_hand : (m : Sat T) → AtBay m → holds_behind (number_of m.0.role) m.0.seen ≡ true → (old : Option T) × (m.1 ≡ (0, old) ∷ rest m.1)
+  slot_in_hand m is held = let e = empty_slot m is held in (None, e ∙ sym (ap (λ l. (0, None) ∷ rest l) e))
+
+  pub was_empty : (m : Sat T) (result : Option T) → AtBay m → holds_behind (number_of m.0.role) m.0.seen ≡ true → m.1 ≡ (0, result) ∷ rest m.1 → result ≡ None
+  was_empty m result is held read = ap (first_held None) (sym read ∙ empty_slot m is held)
+
+  filled : (m m1 : Sat T) (x : T) → AtBay m → holds_behind (number_of m.0.role) m.0.seen ≡ true → m1 ≡ (m.0, (0, Some x) ∷ rest m.1) → m1.1 ≡ (0, Some x) ∷ []
+  filled m m1 x is held wrote = ap (λ (z : Sat T). z.1) wrote ∙ ap (λ l. (0, Some x) ∷ rest l) (empty_slot m is held)
+
+  pub puts_as : (domain : T → TableId) (plan : Plan T) (slots id : ℕ) (m m1 : Sat T) (x : T) → AtBay m → holds_behind (number_of m.0.role) m.0.seen ≡ true → m1 ≡ (m.0, (0, Some x) ∷ rest m.1) → domain x ≡ m.0.home
+      → Allows (Kept domain plan) slots id m1 0 (λ _. 0) (λ n m'. Puts m1 m')
+  puts_as domain plan slots id m m1 x is held wrote ok =
+      let e : m1 ≡ (record m.0 { role = Sits (number_of m.0.role); told = [] }, (0, Some x) ∷ []) = wrote ∙ (λ q. ((is q).0, (0, Some x) ∷ rest (empty_slot m is held q))) in
+      subst (λ (z : Sat T). Allows (Kept domain plan) slots id z 0 (λ _. 0) (λ n m'. Puts z m')) (sym e) (puts_here domain plan slots id m.0.home m.0.seats m.0.first (number_of m.0.role) m.0.seen x held ok)
+
+  module _ (m m1 m2 : Sat T) (x : T) (is : AtBay m) (held : holds_behind (number_of m.0.role) m.0.seen ≡ true) (wrote : m1 ≡ (m.0, (0, Some x) ∷ rest m.1)) (p : Puts m1 m2) where
+    put_view : m1.0 ≡ m.0
+    put_view = ap (λ (z : Sat T). z.0) wrote
+
+    module _ (table table' : TableId) (same : table' ≡ table) where
+      pub put_swap : MakesSwap (as_bay_seat table m.0) (Some x) None (as_bay_seat table' m2.0)
+      put_swap = subst (λ (z : View T × TableId). MakesSwap (as_bay_seat table z.0) (Some x) None (as_bay_seat z.1 m2.0)) (λ q. (put_view q, sym same q)) (p.swap table x (filled m m1 x is held wrote))
+
+      pub put_frees : holds (as_bay_seat table' m2.0) ≡ false
+      put_frees = makes_holds (as_bay_seat table m.0) (Some x) None (as_bay_seat table' m2.0) put_swap
+
+      pub put_lies : lies (as_bay_seat table' m2.0) ≡ Some x
+      put_lies = makes_lie (as_bay_seat table m.0) (Some x) None (as_bay_seat table' m2.0) put_swap
+
+      pub at_bay_put : AtBay m2
+      at_bay_put = let same_view : m2.0 ≡ record m1.0 { seen = m2.0.seen } = ap (λ (z : Sat T). z.0) p.now in at_bay m2
+          (same_role m m2 (ap (λ (z : View T). z.role) same_view ∙ ap (λ (z : View T). z.role) put_view) (role_of m is))
+          (ap (λ (z : View T). z.told) same_view ∙ (ap (λ (z : View T). z.told) put_view ∙ told_of m is))
+          (ap (λ (z : Sat T). z.1) p.now ∙ ap emptied (sym put_frees))
+
+  -- Loads
+
+  pub finds_all_as : (domain : T → TableId) (plan : Plan T) (slots id : ℕ) (m m1 : Sat T) (o : View T) → AtBay m → m1 ≡ (informed m.0 (bearer o), m.1) → Allows (Kept domain plan) slots id m1 0 (λ n. n) (λ n m'. FindsAll m1 m')
+  finds_all_as domain plan slots id m m1 o is joined =
+      let e : m1 ≡ (record m.0 { role = Sits (number_of m.0.role); told = o.seen }, m.1) = joined ∙ (λ q. (record m.0 { role = role_of m is q; told = o.seen }, m.1)) in
+      subst (λ (z : Sat T). Allows (Kept domain plan) slots id z 0 (λ n. n) (λ n m'. FindsAll z m')) (sym e) (finds_all_here domain plan slots id m.0.home m.0.seats m.0.first (number_of m.0.role) m.0.seen o.seen m.1)
+
+  pub admits_as : (domain : T → TableId) (plan : Plan T) (slots id : ℕ) (m m1 : Sat T) (o : View T) → AtBay m → m1 ≡ (informed m.0 (bearer o), m.1) → IsBeginning m.0.seen o.seen → Allows (Kept domain plan) slots id m1 0 (λ n. n) (λ n m'. Admits m1 m')
+  admits_as domain plan slots id m m1 o is joined covered =
+      let e : m1 ≡ (record m.0 { role = Sits (number_of m.0.role); told = o.seen }, m.1) = joined ∙ (λ q. (record m.0 { role = role_of m is q; told = o.seen }, m.1)) in
+      subst (λ (z : Sat T). Allows (Kept domain plan) slots id z 0 (λ n. n) (λ n m'. Admits z m')) (sym e) (admits_here domain plan slots id m.0.home m.0.seats m.0.first (number_of m.0.role) m.0.seen o.seen m.1 covered)
+
+  module _ (m m1 m2 : Sat T) (o : View T) (is : AtBay m) (joined : m1 ≡ (informed m.0 (bearer o), m.1)) where
+    told_view : m1.0 ≡ record m.0 { told = o.seen }
+    told_view = ap (λ (z : Sat T). z.0) joined
+
+    module _ (table table' : TableId) (same : table' ≡ table) where
+      pub covers_of : FindsAll m1 m2 → Covers (as_bay_seat table m.0) o.seen (as_bay_seat table' m2.0)
+      covers_of f = subst (λ (z : View T × TableId). Covers (as_bay_seat table z.0) z.0.told (as_bay_seat z.1 m2.0)) (λ q. (told_view q, sym same q)) (f.covers table)
+
+      pub accepts_of : Admits m1 m2 → Accepts (as_bay_seat table m.0) o.seen (as_bay_seat table' m2.0)
+      accepts_of f = subst (λ (z : View T × TableId). Accepts (as_bay_seat table z.0) z.0.told (as_bay_seat z.1 m2.0)) (λ q. (told_view q, sym same q)) (f.accepts table)
+
+    loaded : m2.0.role ≡ m1.0.role → m2.0.told ≡ [] → m2.1 ≡ m1.1 → holds_behind (number_of m2.0.role) m2.0.seen ≡ holds_behind (number_of m.0.role) m.0.seen → AtBay m2
+    loaded role told slot held = at_bay m2
+        (same_role m m2 (role ∙ ap (λ (z : View T). z.role) told_view) (role_of m is))
+        told
+        (slot ∙ (ap (λ (z : Sat T). z.1) joined ∙ (slot_of m is ∙ ap emptied (sym held))))
+
+    pub at_bay_covered : (table : TableId) → FindsAll m1 m2 → AtBay m2
+    at_bay_covered table f = loaded (ap (λ (z : Sat T). z.0.role) f.now) (ap (λ (z : Sat T). z.0.told) f.now) (ap (λ (z : Sat T). z.1) f.now) (covers_of table table refl f).holding
+
+    pub at_bay_admitted : (table : TableId) → Admits m1 m2 → AtBay m2
+    at_bay_admitted table f = loaded (ap (λ (z : Sat T). z.0.role) f.now) (ap (λ (z : Sat T). z.0.told) f.now) (ap (λ (z : Sat T). z.1) f.now) (accepts_of table table refl f).holding

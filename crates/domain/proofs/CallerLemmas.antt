@@ -1,0 +1,23 @@
+-- What a crate above may cite of this one; the other files of proofs/ are its own.
+
+-- a turn is made at one seat
+pub use Rattle.domain.proofs.Lending.{turn_same, took_same}
+-- the engine's work is done with one seat at the tree
+pub use Rattle.domain.proofs.Lending.{same_stepped, same_advanced, same_exhausted, same_started, same_still}
+-- a beginning of a list of swaps, and of raises
+pub use Rattle.domain.proofs.Turning.{swaps_beginning_refl, swaps_beginning_trans}
+pub use Rattle.domain.proofs.Covering.{raises_beginning_refl, raises_beginning_trans}
+-- The processor is the same
+
+-- behind each call that drives the engine, whatever its answer
+pub use Rattle.domain.proofs.Sameness.{same_stepped_in, same_advanced_in, same_started_in}
+-- behind `start_poll`, and behind `need`
+pub use Rattle.domain.proofs.Sameness.{same_asked, same_need}
+-- behind a call at its seat at the domain's words
+pub use Rattle.domain.proofs.Sameness.{same_polled}
+-- behind one call and then another
+pub use Rattle.domain.proofs.Sameness.{same_trans}
+-- where each is the same, and still of the domain, they are all of it
+pub use Rattle.domain.proofs.Sameness.{all_the_same}
+-- waiting opens no reading, whether the cookie is done or not
+pub use Rattle.domain.proofs.Synchronizing.{still_none, none_in_vain}

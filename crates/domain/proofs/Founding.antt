@@ -1,0 +1,57 @@
+-- A new domain, from the parts that it is made of.
+use Rattle.std.proofs.Common.{◌≡◌, ℕ, ◌<◌, List, length, slice_index_or, refl, sym, ap, ◌∙◌, subst, arith}
+use Rattle.atomic_table.specs.Seated.{TableId}
+use Rattle.sections.specs.declared.view.Bounds.{Bounds}
+use Rattle.sections.specs.Views as sections
+use Rattle.sections.specs.Making as sections_making
+use Rattle.sections.specs.Calls as sections_calls
+use Rattle.sections.specs.EngineCalls as sections_engine
+use Rattle.scan.specs.Progress.{new_engine}
+use Rattle.funnel.specs.declared.view.Shape.{Shape}
+use Rattle.funnel.specs.declared.view.Holder.TheVariants.{Processor}
+use Rattle.funnel.specs.Views.{FunnelView}
+use Rattle.funnel.specs.Making as tree_making
+use Rattle.desk.specs.BayViews.{BayView, BaySeatView}
+use Rattle.desk.specs.BayCalls.{IsNewBay, AreNewBaySeats, new_bay_seat}
+use Rattle.domain.specs.Views.{Engine, DomainView, CpuView}
+use Rattle.domain.specs.Making.{IsMade, joined, idle_engine, new_bay, new_cpu}
+use Rattle.domain.specs.Meetings.{IsAllOf}
+use Rattle.domain.proofs.Joining.{joined_at, joined_length}
+
+module _ (bounds : Bounds) (d : DomainView) (cs : List sections.CpuView) (e e1 : sections.EngineView) (ns : List FunnelView) (root : FunnelView) (v : Engine) (home : TableId) (b : BayView Engine) (ts : List (BaySeatView Engine)) (all : List CpuView) where
+  pub founded : sections_making.IsMade bounds cs e → e1 ≡ e → home ≡ e.domain → tree_making.IsMade bounds.processors ns root → v ≡ new_engine e1 root
+      → IsNewBay home bounds.processors v b → AreNewBaySeats b ts → all ≡ joined cs ns ts → d ≡ record { domain = b.domain; bay = b.bay } → IsMade bounds d all
+  founded made same at tree engine bay seats all_are d_is =
+      let ns_many : length ns ≡ length cs = tree.made.count ∙ sym made.count in
+      let ts_many : length ts ≡ length cs = seats.count ∙ (ap (λ (z : BayView Engine). z.seats) bay ∙ sym made.count) in
+      let many : length all ≡ length cs = ap length all_are ∙ joined_length cs ns ts ns_many ts_many in
+      let shape : Shape = record { processors = bounds.processors; nodes = tree.nodes } in
+      let domain : d.domain ≡ e.domain = ap (λ (z : DomainView). z.domain) d_is ∙ (ap (λ (z : BayView Engine). z.domain) bay ∙ at) in
+      let place : d.bay ≡ b.bay = ap (λ (z : DomainView). z.bay) d_is in
+      let lies : v ≡ idle_engine d.domain bounds root.domain shape = engine ∙ (λ i. new_engine ((same ∙ (made.engine_new ∙ ap (λ t. sections_engine.new_engine t bounds.processors bounds.periods) (sym domain))) i) (tree.made.engine_new i)) in
+      let b_is : b ≡ new_bay d bounds root.domain shape = bay ∙ (λ i. record { bay = sym place i; domain = (at ∙ sym domain) i; seats = bounds.processors; first = lies i }) in
+      record {
+        count = many ∙ made.count;
+        tree = root.domain;
+        nodes = tree.nodes;
+        least = tree.least;
+        each = λ k c lt. let lt_cs : k < length cs = omega (arith, lt, many) in let lt_ns : k < length ns = omega (arith, lt_cs, ns_many) in let lt_ts : k < length ts = omega (arith, lt_cs, ts_many) in
+            ap (λ l. slice_index_or l k c) all_are ∙ (joined_at cs ns ts ns_many ts_many k c lt_cs
+            ∙ (λ i. record { cpu = (made.cpus_new k c.cpu lt_cs ∙ ap (λ t. sections_calls.new_cpu t bounds.processors bounds.sections k) (sym domain)) i; needs = tree.made.seats_new k c.needs lt_ns i; turn = (seats.each k c.turn lt_ts ∙ ap (λ (z : BayView Engine). new_bay_seat z k) b_is) i }));
+      }
+
+-- all processors of a new domain are all of it
+pub all_of_new : (bounds : Bounds) (d : DomainView) (cpus : List CpuView) → 0 < bounds.processors → IsMade bounds d cpus → IsAllOf d cpus
+all_of_new bounds d cpus some made =
+    let shape : Shape = record { processors = bounds.processors; nodes = made.nodes } in
+    let count = made.count in
+    record {
+      some = omega (arith, some, count);
+      here = λ k c lt. rw (made.each k c lt) (record { domain = refl; bay = refl; home = refl; free = refl; asks = (k, refl) });
+      count = λ k c lt. ap (λ (z : CpuView). z.cpu.processors) (made.each k c lt) ∙ sym count;
+      order = λ k c lt. ap (λ (z : CpuView). z.cpu.processor) (made.each k c lt);
+      tree = made.tree;
+      shape = shape;
+      asks = λ k c lt. let e = made.each k c lt in (ap (λ (z : CpuView). z.needs.domain) e, ap (λ (z : CpuView). z.needs.shape) e, ap (λ (z : CpuView). z.needs.holder) e);
+      leaves = sym count;
+    }

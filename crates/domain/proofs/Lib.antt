@@ -1,0 +1,11 @@
+mod Covering
+mod Founding
+mod Joining
+mod Lending
+mod Meeting
+mod Preparing
+mod Rows
+mod Sameness
+mod Synchronizing
+mod Turning
+pub mod CallerLemmas

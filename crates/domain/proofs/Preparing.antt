@@ -1,0 +1,64 @@
+-- That the parts of a meeting may be done.
+use Rattle.std.proofs.Common.{◌≡◌, ℕ, suc, ◌<◌, ◌≤◌, List, [], ◌∷◌, get_or, length, Some, None, refl, sym, ap, ◌∙◌, subst, arith}
+use Rattle.onedom.specs.Histories as events
+use Rattle.sections.specs.Views as sections
+use Rattle.sections.specs.EngineCalls.{Covers}
+use Rattle.funnel.specs.Views.{FunnelView}
+use Rattle.funnel.specs.Calls.{LoadsRoot}
+use Rattle.desk.specs.Swaps as swaps
+use Rattle.desk.specs.BayViews.{BaySeatView}
+use Rattle.desk.specs.BayCalls.{MakesSwap}
+use Rattle.domain.specs.Views.{Engine, DomainView, CpuView, IsOf}
+use Rattle.domain.specs.Turns.{Takes}
+use Rattle.domain.specs.Meetings.{IsAllOf}
+use Rattle.domain.specs.Parts.{Each, IsBeside, EngineCovers, NeedsCover, TurnCovers, EachBecomes, IsAdmitted}
+use Rattle.domain.proofs.Turning.{swaps_beginning_trans}
+use Rattle.domain.proofs.Lending.{took_same}
+
+module _ (d : DomainView) (c : CpuView) (cs : List CpuView) (all : IsAllOf d (c ∷ cs)) (e0 : Engine) (took : BaySeatView Engine) (takes : Takes c.turn e0 took) (at : e0.seat.domain ≡ c.turn.domain) where
+  first : IsOf d c
+  first = all.here 0 c all.some
+
+  other : (k : ℕ) (x : CpuView) → k < length cs → IsOf d (get_or cs k x)
+  other k x lt = all.here (suc k) x (omega (arith, lt))
+
+  pub engine_here : e0.seat.domain ≡ d.domain
+  engine_here = at ∙ first.home
+
+  pub first_here : c.cpu.domain ≡ e0.seat.domain
+  first_here = first.domain ∙ sym engine_here
+
+  pub took_here : took.bay ≡ d.bay
+  took_here = ap (λ (z : BaySeatView Engine). z.bay) (took_same c.turn e0 took takes) ∙ first.bay
+
+  module _ (e1 : Engine) (n1 : FunnelView) (found : ℕ) (covers : Covers e0.seat c.cpu.seen c.cpu.changes e1.seat) (load : LoadsRoot c.needs found n1) where
+    pub others_beside : Each (IsBeside e1.seat n1 took) cs
+    others_beside k x lt = record {
+      domain = (other k x lt).domain ∙ sym (covers.step.same.0 ∙ engine_here);
+      tree = (all.asks (suc k) x (omega (arith, lt))).0 ∙ sym (load.same.domain ∙ (all.asks 0 c all.some).0);
+      bay = (other k x lt).bay ∙ sym took_here;
+    }
+
+    module _ (e2 : Engine) (n2 : FunnelView) (t2 : BaySeatView Engine) (engine : EngineCovers e1.seat cs e2.seat) (needs : NeedsCover n1 cs n2) (turn : TurnCovers took cs t2) where
+      pub still_here : c.cpu.domain ≡ e2.seat.domain
+      still_here = first_here ∙ sym (engine.same.0 ∙ covers.step.same.0)
+
+      pub others_here : Each (λ x. (x.cpu.domain ≡ e2.seat.domain) × (x.needs.domain ≡ n2.domain)) cs
+      others_here k x lt = ((others_beside k x lt).domain ∙ sym engine.same.0, (others_beside k x lt).tree ∙ sym needs.same.domain)
+
+      pub turn_here : t2.bay ≡ d.bay
+      turn_here = ap (λ (z : BaySeatView Engine). z.bay) turn.same ∙ took_here
+
+      module _ (t3 : BaySeatView Engine) (left : Engine) (puts : MakesSwap t2 (Some left) None t3) (cs1 : List CpuView) (admitted : EachBecomes (IsAdmitted e2.seat n2) cs cs1) where
+        pub put_here : t3.bay ≡ d.bay
+        put_here = ap (λ (z : BaySeatView Engine). z.bay) puts.same ∙ turn_here
+
+        before : (k : ℕ) → k < length cs1 → k < length cs
+        before k lt = subst (λ n. k < n) admitted.count lt
+
+        pub turns_beside : Each (λ x. x.turn.bay ≡ d.bay) cs1
+        turns_beside k x lt = ap (λ (z : BaySeatView Engine). z.bay) (admitted.each k x (before k lt)).turn ∙ (other k x (before k lt)).bay
+
+        pub turns_covered : Each (λ x. swaps.IsBeginning x.turn.seen t3.seen) cs1
+        turns_covered k x lt = subst (λ (z : BaySeatView Engine). swaps.IsBeginning z.seen t3.seen) (sym (admitted.each k x (before k lt)).turn)
+            (swaps_beginning_trans _ _ _ (turn.covers k x (before k lt)) (swaps_beginning_trans _ _ _ puts.since record { rest = _; whole = puts.seen }))

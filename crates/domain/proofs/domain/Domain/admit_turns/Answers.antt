@@ -1,0 +1,26 @@
+use Rattle.std.proofs.Common.{refl, sym, ap, ◌∙◌, subst, ◌≡◌, ◌<◌, ◌≤◌, length, arith}
+use Rattle.desk.specs.Swaps as swaps
+use Rattle.desk.specs.BayViews.{BaySeatView}
+use Rattle.domain.specs.Views.{Engine, CpuView, DomainView}
+use Rattle.domain.proofs.Rows.{goes_none, goes_next, item_has}
+use Rattle.domain.proofs.domain.Domain.admit_turns.Goals as goal
+
+pub loop-other-init : goal.loop-other-init
+loop-other-init g c = record { turn = refl; goes = goes_none _ _ }
+
+pub admit-requires-clause-bay : goal.admit-requires-clause-bay
+admit-requires-clause-bay g c = ap (λ (z : BaySeatView Engine). z.bay) c.loop-other.invariant.turn ∙ (c.requires.bay ∙ sym (ap (λ (z : DomainView). z.bay) c.self.view_is))
+
+pub admit-requires-clause-other : goal.admit-requires-clause-other
+admit-requires-clause-other g c =
+    let v = c.loop-other.invariant in
+    let inside = c.loop-other-test.true in
+    let long = c.loop-other.auto.others in
+    item_has _ (λ (z : CpuView). z.turn.bay ≡ c.args.self.now.bay) _ _ _ _ _ v.goes (omega (arith, inside, long)) c.other.view_is c.requires.beside ∙ sym (ap (λ (z : DomainView). z.bay) c.self.view_is)
+
+pub admit-requires-clause-covered : goal.admit-requires-clause-covered
+admit-requires-clause-covered g c =
+    let v = c.loop-other.invariant in
+    let inside = c.loop-other-test.true in
+    let long = c.loop-other.auto.others in
+    rw (v.turn) (item_has _ (λ (z : CpuView). swaps.IsBeginning z.turn.seen c.args.turn.now.seen) _ _ _ _ _ v.goes (omega (arith, inside, long)) c.other.view_is c.requires.covered)

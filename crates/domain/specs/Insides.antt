@@ -1,0 +1,20 @@
+-- How the fields of a domain, of its processors and of its engine are seen, and what is always true of them.
+use Rattle.sections.specs.EngineCalls.{IsTied}
+use Rattle.domain.specs.declared.cpu.Cpu.TheInside as cpu
+use Rattle.domain.specs.declared.domain.Domain.TheInside as domain
+use Rattle.domain.specs.declared.tied.Tied.TheInside as tied
+use Rattle.domain.specs.Views.{Engine, CpuView, DomainView}
+
+module _ {A : Type 0} where
+  abbrev pub view_of_tied : tied.Inside A → Engine
+  view_of_tied t = t.engine
+
+  -- some processor has seen all that the engine made
+  abbrev pub IsTiedInside : tied.Inside A → Type 0
+  IsTiedInside t = IsTied t.engine.seat
+
+  abbrev pub view_of_cpu : cpu.Inside A → CpuView
+  view_of_cpu c = record { cpu = c.cpu; needs = c.needs; turn = c.turn }
+
+  abbrev pub view_of_domain : domain.Inside A → DomainView
+  view_of_domain d = record { domain = d.bay.domain; bay = d.bay.bay }

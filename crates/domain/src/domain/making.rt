@@ -1,0 +1,84 @@
+//! A new domain.
+ghost use Rattle.std.specs.Prelude.{◌≡◌, length, IfOk};
+ghost use Rattle.sections.specs.Limits.{AreInRange};
+ghost use Rattle.sections.specs.Making.{IsCount, IsRefused, bounds_of};
+ghost use Rattle.domain.specs.Making.{IsMade, joined};
+ghost use Rattle.domain.specs.Meetings.{IsAllOf};
+
+use crate::cpu::Cpu;
+use crate::domain::Domain;
+use crate::tied::Tied;
+use desk::{Bay, BaySeat};
+use funnel::FunnelSeat;
+use scan::Engine;
+use sections::{Limits, MOST_PROCESSORS, Made, MakeError};
+use std::alloc::{AllocError, Allocator};
+
+/// Processors of three seats each, in order.
+fn join_seats<A: Allocator>(
+    alloc: A,
+    mut cpus: Vec<sections::Cpu<A>, A>,
+    mut needs: Vec<FunnelSeat<A>, A>,
+    mut turns: Vec<BaySeat<Tied<A>>, A>,
+) -> Result<Vec<Cpu<A>, A>, AllocError>
+    requires needs { length needs.items ≡ length cpus.items }
+    requires turns { length turns.items ≡ length cpus.items }
+    ensures { IfOk result (λ all. all.items ≡ joined cpus.items needs.items turns.items) }
+{
+    let mut all = Vec::with_capacity(alloc, cpus.len())?;
+    while let Some(cpu) = cpus.pop() {
+        all.push_reserved(Cpu {
+            cpu,
+            needs: needs.pop().unwrap(),
+            turn: turns.pop().unwrap(),
+        });
+    }
+    all.reverse();
+    Ok(all)
+}
+
+fn build<A: Allocator + Clone>(
+    alloc: A,
+    processors: usize,
+    limits: Limits,
+) -> Result<(Domain<A>, Vec<Cpu<A>, A>), AllocError>
+    requires count { IsCount processors }
+    requires limits { AreInRange limits }
+    ensures made { IfOk result (λ m. IsMade (bounds_of processors limits) m.0 m.1.items) }
+    ensures all { IfOk result (λ m. IsAllOf m.0 m.1.items) }
+{
+    let Ok(Made { cpus, mut engine }) = sections::make(alloc.clone()?, processors, limits) else {
+        return Err(AllocError);
+    };
+    let (needs, root) = funnel::make(alloc.clone()?, processors)?;
+    let home = engine.home();
+    let engine = Engine::new(engine, root);
+    let (bay, turns) = Bay::new(alloc.clone()?, Tied { engine }, processors, home)?;
+    let cpus = join_seats(alloc, cpus, needs, turns)?;
+    Ok((Domain { bay }, cpus))
+}
+
+impl<A: Allocator + Clone> Domain<A> {
+    /// Makes a domain of so many processors (`init_srcu_struct`), in which nothing has happened, and gives the processors
+    /// in the order of their numbers. Where several refusals hold, the first in the order of [`MakeError`] is answered.
+    pub fn new(
+        alloc: A,
+        processors: usize,
+        limits: Limits,
+    ) -> Result<(Domain<A>, Vec<Cpu<A>, A>), MakeError>
+        ensures made { IfOk result (λ m. IsMade (bounds_of processors limits) m.0 m.1.items) }
+        ensures all { IfOk result (λ m. IsAllOf m.0 m.1.items) }
+        ensures refused { IsRefused processors limits result }
+    {
+        if processors == 0 || processors > MOST_PROCESSORS {
+            return Err(MakeError::Processors);
+        }
+        if !limits.are_in_range() {
+            return Err(MakeError::Limits);
+        }
+        match build(alloc, processors, limits) {
+            Ok(made) => Ok(made),
+            Err(AllocError) => Err(MakeError::Memory),
+        }
+    }
+}

@@ -1,0 +1,39 @@
+//! Waiting for a grace period.
+ghost use Rattle.std.specs.Prelude.{MatchResult};
+ghost use Rattle.domain.specs.Views.{IsOf, IsSameProcessor};
+ghost use Rattle.domain.specs.Waiting.{HasNoneOpen, Synchronizes, WaitsInVain};
+
+use crate::cpu::Cpu;
+use crate::domain::Domain;
+use scan::Exhausted;
+use std::alloc::Allocator;
+use std::sync::Wait;
+use std::thread::yield_now;
+
+impl<A: Allocator> Domain<A> {
+    /// Waits until every section is closed that is open now (`synchronize_srcu`): it asks for one grace period, once, and
+    /// then drives the engine and polls in turn until the cookie is done. On the processor itself no reading may be
+    /// open, or the call would wait for itself. It is refused where a turn of its own found that no more grace periods
+    /// may start: that turn is the last thing that it did, and what it asked for stays asked for.
+    pub fn synchronize<R: Wait>(&self, rt: &R, cpu: &mut Cpu<A>) -> Result<(), Exhausted>
+        requires domain { IsOf self.now cpu.old }
+        requires none { HasNoneOpen cpu.old }
+        ensures here { IsOf self.now cpu.new }
+        ensures same { IsSameProcessor cpu.old cpu.new }
+        ensures still_none { HasNoneOpen cpu.new }
+        ensures waits { MatchResult result (λ _. Synchronizes cpu.old cpu.new) (λ _. WaitsInVain cpu.old cpu.new) }
+    {
+        let mut cookie = self.start_poll(cpu);
+        for _ in rt.forever() {
+            match self.advance(rt, cpu) {
+                Ok(_) => {}
+                Err(_) => return Err(Exhausted),
+            }
+            if cpu.poll(&mut cookie) {
+                return Ok(());
+            }
+            yield_now();
+        }
+        unreachable!()
+    }
+}

@@ -1,0 +1,18 @@
+//! A sleepable RCU domain: its processors, its tree of needs, and its engine, which lies in one place that all share.
+//! Any processor may take the engine from there, drive it, and put it back.
+#![tactic(auto)]
+
+mod cpu;
+mod domain;
+mod refusals;
+mod tied;
+
+pub use cpu::Cpu;
+pub use domain::Domain;
+pub use refusals::{AdvanceRefusal, StartRefusal};
+pub use scan::{Exhausted as PeriodsExhausted, Progress};
+pub use sections::{
+    Cookie, Exhausted, Held, Home, Limits, Look, MOST_PROCESSORS, MakeError, NotACookie, Reading,
+};
+pub use sseq::{Index, Number};
+pub use tied::Tied;

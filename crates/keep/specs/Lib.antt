@@ -1,0 +1,3 @@
+pub mod Guarding
+pub mod Views
+pub mod Insides

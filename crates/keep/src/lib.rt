@@ -1,0 +1,8 @@
+//! A lock round one value, of which contracts keep knowing something while nobody has it: which key fits it.
+#![tactic(auto)]
+
+mod keep;
+#[cfg(test)]
+mod tests;
+
+pub use keep::{Keep, Keyed, Loan};

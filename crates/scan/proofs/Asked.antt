@@ -1,0 +1,49 @@
+-- From a load of the need to a step of the engine.
+use Rattle.std.proofs.Common.{◌≡◌, ℕ, ◌*◌, ◌<◌, ◌≤◌, Option, None, Some, MatchOption, sym, subst, arith}
+use Rattle.onedom.specs.declared.event.Maker.TheVariants.{Engine}
+use Rattle.onedom.specs.declared.event.Event.TheVariants.{Start}
+use Rattle.sections.specs.Words.{number_word}
+use Rattle.sections.specs.Views.{EngineView}
+use Rattle.sections.specs.EngineCalls.{IsSeenByEngine, AddsEngineEvent}
+use Rattle.scan.specs.declared.place.Place.{Place}
+use Rattle.scan.specs.declared.place.Place.TheVariants.{Idle, Wanted, Unlocks}
+use Rattle.scan.specs.declared.progress.Progress.TheVariants as answer
+use Rattle.scan.specs.Places.{IsAt}
+use Rattle.scan.specs.Progress.{StepsTo, AdvancesTo}
+use Rattle.scan.specs.Needed.{FindsNeed}
+use Rattle.scan.proofs.Stepping.{viewed, nothing_asked, is_asked, nothing_yet, under_way, arrives}
+use Rattle.scan.proofs.Flips.{started_moves}
+use Rattle.scan.proofs.RowsOfSteps.{answered_at_once, arrives_by}
+
+module _ {N : Type 0} (loads : N → ℕ → N → Type 0) (e : EngineView) (some : 1 ≤ e.processors) (seen : IsSeenByEngine e) (place : Place) (is : place ≡ Idle) (at : IsAt e place) (needs needs' : N) (asked : Option ℕ) (finds : FindsNeed loads e needs asked needs') where
+  at_rest : IsAt e Idle
+  at_rest = subst (λ p. IsAt e p) is at
+
+  -- none is asked for
+  pub none_asked : asked ≡ None → StepsTo loads (viewed e needs place) answer.Idle (viewed e needs' place)
+  none_asked none =
+      let low : finds.need ≤ number_word e.changes = subst (λ a. MatchOption a (finds.need ≤ number_word e.changes) (λ n. (n ≡ finds.need) × (number_word e.changes < finds.need) × (number_word e.changes < 4 * e.periods))) none finds.asked_is in
+      subst (λ p. StepsTo loads (viewed e needs p) answer.Idle (viewed e needs' p)) (sym is) (nothing_asked loads e some seen at_rest needs needs' finds.need finds.load low)
+
+  -- this one is
+  asked_for : (n : ℕ) → asked ≡ Some n → (n ≡ finds.need) × (number_word e.changes < finds.need) × (number_word e.changes < 4 * e.periods)
+  asked_for n one = subst (λ a. MatchOption a (finds.need ≤ number_word e.changes) (λ m. (m ≡ finds.need) × (number_word e.changes < finds.need) × (number_word e.changes < 4 * e.periods))) one finds.asked_is
+
+  pub one_asked : (n : ℕ) → asked ≡ Some n → StepsTo loads (viewed e needs place) answer.Step (viewed e needs' (Wanted n))
+  one_asked n one = let for = asked_for n one in
+      subst (λ p. StepsTo loads (viewed e needs p) answer.Step (viewed e needs' (Wanted n))) (sym is)
+      (subst (λ m. StepsTo loads (viewed e needs Idle) answer.Step (viewed e needs' (Wanted m))) (sym for.0) (is_asked loads e some seen at_rest needs needs' finds.need finds.load for.1 for.2))
+
+  pub is_wanted : (n : ℕ) → asked ≡ Some n → IsAt e (Wanted n)
+  is_wanted n one = let for = asked_for n one in let same = for.0 in let above = for.1 in (at_rest, for.2, omega (arith, same, above))
+
+  -- nothing was half done, and none is asked for
+  pub rests : asked ≡ None → AdvancesTo loads (viewed e needs place) answer.Idle (viewed e needs' place)
+  rests none = arrives loads (viewed e needs place) (viewed e needs place) (viewed e needs' place) answer.Idle (nothing_yet loads (viewed e needs place)) (none_asked none) (λ h. cc)
+
+  -- one is, and it is started
+  pub starts : (n k : ℕ) (f : EngineView) → asked ≡ Some n → AddsEngineEvent (Start Engine) e f → k ≡ number_word f.changes → AdvancesTo loads (viewed e needs place) (answer.Started k) (viewed f needs' (Unlocks 0 0))
+  starts n k f one adds is_number = let wanted = is_wanted n one in
+      arrives_by loads needs' (viewed e needs place) e f (Wanted n) (Unlocks 0 0) (answer.Started k) some (λ h. cc) seen wanted
+      (under_way loads (viewed e needs place) (viewed e needs place) (viewed e needs' (Wanted n)) (nothing_yet loads (viewed e needs place)) (one_asked n one))
+      (answered_at_once e f (Wanted n) (Unlocks 0 0) (answer.Started k) seen wanted (started_moves e f n k seen some wanted adds is_number) (λ h. cc))

@@ -1,0 +1,14 @@
+-- So far the counters of the processors before this one were loaded.
+use Rattle.std.proofs.Common.{◌≡◌}
+use Rattle.scan.specs.declared.place.Place.TheVariants.{Unlocks}
+use Rattle.scan.specs.Standings.{not_current}
+use Rattle.scan.specs.Rows.{MovesThrough}
+use Rattle.scan.proofs.rows.add_unlocks.Given as goal
+
+abbrev pub invariant-loop-processor : goal.invariant-loop-processor
+invariant-loop-processor g l = record {
+  through : MovesThrough l.initial.seat (Unlocks l.first l.before) l.seat (Unlocks l.processor l.ended);
+  same : l.seat.processors ≡ l.initial.seat.processors;
+  unchanged : l.seat.changes ≡ l.initial.seat.changes;
+  index_is : l.index ≡ not_current l.seat.changes;
+}

@@ -1,0 +1,80 @@
+use Rattle.std.proofs.Common.{rules, ◌≡◌, ◌+◌, ◌*◌, ℕ, true, [], ◌∷◌, ◌++◌, refl, sym, ap, ◌∙◌, arith}
+use Rattle.sseq.specs.Numbers.{periods_ended}
+use Rattle.onedom.specs.declared.event.Event.{Event}
+use Rattle.onedom.specs.declared.event.Event.TheVariants.{Ask}
+use Rattle.onedom.specs.declared.event.Maker.TheVariants.{Processor}
+use Rattle.sections.specs.declared.view.View.{View}
+use Rattle.sections.specs.Words.{word_count, number_word}
+use Rattle.sections.specs.Rule.{bearer, informed}
+use Rattle.sections.proofs.Sharing.{gives_token, takes_token}
+use Rattle.sections.proofs.Seating.{some_words, two_words}
+use Rattle.sections.proofs.CpuViews.{adds_cut, number_grows, locks_told, unclosed_told, rests_cut}
+use Rattle.sections.proofs.Sighting.{asks_how_far}
+use Rattle.sections.proofs.cpu.Cpu.how_far.Goals as goal
+
+pub split_seat-told-requires : goal.split_seat-told-requires
+split_seat-told-requires g c = let wide : c.deref.result.now.shared.table_id.words ≡ word_count c.deref.result.now.shared.key.processors = search rules in
+    (search rules, some_words _ _ wide, gives_token _ _ _)
+
+pub join_seat-requires : goal.join_seat-requires
+join_seat-requires g c = let wide : c.deref.result.now.shared.table_id.words ≡ word_count c.deref.result.now.shared.key.processors = search rules in
+    (search rules, search rules, ap (λ m. m.1) c.split_seat-told.ensures.4, some_words _ _ wide, takes_token _ _ _ _ _)
+
+pub load-found-requires : goal.load-found-requires
+load-found-requires g c = let wide : c.deref.result.now.shared.table_id.words ≡ word_count c.deref.result.now.shared.key.processors = search rules in
+    (search rules, two_words _ _ wide, asks_how_far _ _ _ _ c.self.inside.processor (ap (λ m. m.0.processors) c.join_seat.ensures.2 ∙ search rules) (ap (λ m. m.0.role) c.join_seat.ensures.2 ∙ c.self.invariant.role) (search rules))
+
+pub split_seat-requires : goal.split_seat-requires
+split_seat-requires g c = let wide : c.deref.result.now.shared.table_id.words ≡ word_count c.deref.result.now.shared.key.processors = search rules in
+    (search rules, some_words _ _ wide, gives_token _ _ _)
+
+pub invariant_of-self : goal.invariant_of-self
+invariant_of-self g c =
+    let told = c.load-found.ensures in
+    let s = c.split_seat.ensures in
+    let joined = c.join_seat.ensures.2 in
+    let p : ℕ = c.self.inside.processor in
+    let a = told.2.3 p (ap (λ m. m.0.role) joined ∙ c.self.invariant.role) in
+    let e : Event = Ask (4 * periods_ended c.load-found.result) true (Processor p) in
+    let cut = ap (λ m. m.0) s.2 in
+    let mine = ap (λ (v : View). v.mine) cut ∙ (a.mine ∙ ap (λ m. m.0.mine ++ e ∷ []) joined) in record {
+      placed = record {
+        seated = s.0 ∙ (told.0 ∙ (c.join_seat.ensures.0 ∙ c.self.invariant.placed.seated));
+        wide = c.self.invariant.placed.wide;
+        bare = ap (λ m. m.1) s.2 ∙ (told.2.0 ∙ (ap (λ m. m.1) joined ∙ c.self.invariant.placed.bare));
+        sized = ap (λ (v : View). v.processors) cut ∙ (a.processors ∙ (ap (λ m. m.0.processors) joined ∙ c.self.invariant.placed.sized));
+      };
+      rests = rests_cut _ _ _ _ cut a;
+      role = ap (λ (v : View). v.role) cut ∙ (a.role ∙ (ap (λ m. m.0.role) joined ∙ c.self.invariant.role));
+      there = c.self.invariant.there;
+      limit = c.self.invariant.limit;
+      begun = λ i. c.self.invariant.begun i ∙ sym (locks_told p i e c.self.inside.seat.me.0.mine _ refl mine);
+      limited = c.self.invariant.limited;
+      small = c.self.invariant.small;
+      settled = c.self.invariant.settled ∙ ap (λ n. n + c.self.inside.settled) (sym (unclosed_told e c.self.inside.seat.me.0.mine _ refl (λ _. refl) mine));
+    }
+
+pub returns : goal.returns
+returns g c =
+    let told = c.load-found.ensures in
+    let s = c.split_seat.ensures in
+    let joined = c.join_seat.ensures.2 in
+    let p : ℕ = c.self.inside.processor in
+    let same : c.load-found.result ≡ c.unwrap.result = search rules in
+    let a = told.2.3 p (ap (λ m. m.0.role) joined ∙ c.self.invariant.role) in
+    let adds = adds_cut (Ask (4 * periods_ended c.load-found.result) true (Processor p)) _ _ _ c.self.inside.limit p c.self.inside.seat.me.0 (bearer c.sight.inside.seat.me.0) c.join_seat.new.seat.me.0 c.load-found.new.seat.me.0 c.split_seat.new.seat.me.0
+    (s.0 ∙ (told.0 ∙ c.join_seat.ensures.0)) c.self.invariant.placed.sized c.self.invariant.role (ap (λ m. m.0) joined ∙ ap (λ m. informed c.self.inside.seat.me.0 m.0) c.split_seat-told.ensures.4) (ap (λ m. m.0) s.2) a in
+    let changes : c.split_seat.new.seat.me.0.changes ≡ c.load-found.new.seat.me.0.changes = ap (λ m. m.0.changes) s.2 in
+    let finds = told.2.2 in
+    let grown = number_grows _ _ adds.later in
+    rw (← c.self.view_is, ← c.sight.view_is, ← same) (record {
+      adds = adds;
+      current = finds.current ∙ ap number_word (sym changes);
+      since = let now : c.load-found.result ≡ number_word c.split_seat.new.seat.me.0.changes = finds.current ∙ ap number_word (sym changes) in omega (arith, grown, now);
+      small = finds.room;
+      sight_is = λ i. record {
+        domain = (s.3 ∙ sym s.0) i;
+        seen = (ap (λ m. m.0.seen) s.4 ∙ sym (ap (λ m. m.0.seen) s.2)) i;
+        changes = (ap (λ m. m.0.changes) s.4 ∙ sym (ap (λ m. m.0.changes) s.2)) i;
+      };
+    })

@@ -1,0 +1,77 @@
+//! What a processor does behind all that a sight has seen.
+ghost use Rattle.std.specs.Prelude.{◌≡◌, ◌%◌, ◌<◌, ◌≤◌};
+ghost use Rattle.sections.specs.Rule.{lacking};
+ghost use Rattle.sections.specs.Sights.{sight_of, GivesCookieBehind, AsksHowFar};
+
+use super::Sight;
+use crate::board::NUMBER_PLACE;
+use crate::cpu::steps::note_number;
+use crate::cpu::{Cookie, Cpu};
+use crate::engine::EngineSeat;
+use crate::plays;
+use sseq::{Number, snap};
+use std::alloc::Allocator;
+
+impl<A: Allocator> EngineSeat<A> {
+    /// A sight that goes as far as this seat has seen. No step is made; one load, which tells nothing.
+    pub fn sight(&mut self) -> Sight
+        ensures sight { result ≡ record { domain = self.old.domain; seen = self.old.seen; changes = self.old.changes } }
+        ensures same { self.new ≡ self.old }
+    {
+        let seat = self
+            .table
+            .shared
+            .split_seat::<plays::GiveToken>(&mut self.seat);
+        Sight { seat }
+    }
+}
+
+impl<A: Allocator> Cpu<A> {
+    /// A cookie of now, as [`Cpu::cookie`] gives, behind all that the sight has seen too. The sight then goes as far as
+    /// this processor. So cookies that are given behind one sight don't fall, whichever processors gave them.
+    pub fn cookie_behind(&mut self, sight: &mut Sight) -> Cookie
+        requires { sight.old.domain ≡ self.old.domain }
+        ensures { GivesCookieBehind sight.old self.old self.new result sight.new }
+    {
+        let top = &self.table.shared;
+        let told = top.split_seat::<plays::GiveToken>(&mut sight.seat);
+        top.join_seat::<plays::TakeToken>(&mut self.seat, told);
+        let number = note_number(top, &mut self.seat);
+        let seat = top.split_seat::<plays::GiveToken>(&mut self.seat);
+        sight.seat = top.split_seat::<plays::GiveToken>(&mut self.seat);
+        Cookie {
+            number: snap(number),
+            seat,
+        }
+    }
+
+    /// The number of the domain, as one load finds it, behind all that the sight has seen too: who asks how many grace
+    /// periods have ended is told. The sight then goes as far as this processor. The number is at most 2^61 - 4.
+    pub fn how_far(&mut self, sight: &mut Sight) -> Number
+        requires { sight.old.domain ≡ self.old.domain }
+        ensures { AsksHowFar result sight.old self.old self.new sight.new }
+    {
+        let top = &self.table.shared;
+        let told = top.split_seat::<plays::GiveToken>(&mut sight.seat);
+        top.join_seat::<plays::TakeToken>(&mut self.seat, told);
+        let found = top.load::<plays::AskHowFar>(&mut self.seat, NUMBER_PLACE);
+        sight.seat = top.split_seat::<plays::GiveToken>(&mut self.seat);
+        Number::new(found).unwrap()
+    }
+
+    /// A second cookie like this one. No step is made; one load, which tells nothing.
+    pub fn copy_cookie(&self, cookie: &mut Cookie) -> Cookie
+        requires { cookie.old.domain ≡ self.now.domain }
+        ensures copy { result ≡ cookie.old }
+        ensures same { cookie.new ≡ cookie.old }
+    {
+        let seat = self
+            .table
+            .shared
+            .split_seat::<plays::GiveToken>(&mut cookie.seat);
+        Cookie {
+            number: cookie.number,
+            seat,
+        }
+    }
+}

@@ -1,0 +1,85 @@
+-- The tokens of a domain, with the section that is parked.
+use Rattle.std.proofs.Common.{◌≡◌, ℕ, ◌+◌, Bool, true, false, List, [], ◌∷◌, ◌++◌, refl, ap, ◌∙◌, subst, sym, bytes_eq, length, get_or, arith}
+use Rattle.std.specs.Prelude.{Option, Some, None, is_none, IfSome, IsPermutation, if◌then◌else◌}
+use Rattle.std.proofs.lemmas.List.Sorted.{IsPermutation-cons, IsPermutation-trans, IsPermutation-middle, IsPermutation-refl}
+use Rattle.std.proofs.lemmas.Slice.Eq.{bytes_eq-Decides}
+use Rattle.sections.specs.Views.{ReadingView}
+use Rattle.desk.specs.Views.{DeskView, SeatView}
+use Rattle.desk.specs.Calls.{new_seat, AreNewSeats}
+use Rattle.session.specs.declared.names.Token.{Token}
+use Rattle.session.specs.declared.names.Token.TheVariants as token
+use Rattle.sseq.specs.declared.index.Index.{Index}
+use Rattle.session.specs.declared.open.Open.{Open}
+use Rattle.session.specs.OpenSections.{is_index, count_of}
+use Rattle.session.specs.Tokens.{token_at, held_of, Frees}
+use Rattle.session.specs.Parkings.{index_of_parked}
+use Rattle.session.specs.States.{is_parked}
+use Rattle.session.specs.Entries.{desk_of, tokens_with}
+use Rattle.session.proofs.Naming.{lookup_before}
+use Rattle.session.proofs.Held.{held_less}
+
+-- a section with its name
+abbrev pub Named : Type 0
+Named = List ℕ × ReadingView
+
+abbrev pub IsApart : Option Named → List (List ℕ × Token) → Type 0
+IsApart parked tokens = IfSome parked (λ p. token_at p.0 tokens ≡ None)
+
+-- how many are open sections of an index
+pub held_with : (i : Index) (parked : Option Named) (tokens : List (List ℕ × Token)) → held_of i (tokens_with parked tokens) ≡ held_of i tokens + (if is_index i (index_of_parked parked) then 1 else 0)
+held_with i None tokens = omega arith
+held_with i (Some p) tokens = sym (held_less i ((p.0, token.Held p.1) ∷ tokens) tokens p.0 (token.Held p.1) (IsPermutation-refl ((p.0, token.Held p.1) ∷ tokens)))
+
+pub counted_with : (o o' : Open) (parked : Option Named) (tokens : List (List ℕ × Token)) (raised : Option Index) → ((i : Index) → count_of i o ≡ held_of i tokens) → raised ≡ index_of_parked parked
+    → ((i : Index) → count_of i o' ≡ count_of i o + (if is_index i raised then 1 else 0)) → (i : Index) → count_of i o' ≡ held_of i (tokens_with parked tokens)
+counted_with o o' parked tokens raised counted is more i =
+    let same : ◌≡◌ {A = ℕ} (if is_index i raised then 1 else 0) (if is_index i (index_of_parked parked) then 1 else 0) = ap (λ x. if is_index i x then 1 else 0) is in
+    let before = counted i in let one = more i in let all = held_with i parked tokens in omega (arith, before, one, all, same)
+
+-- a token comes
+
+pub with_push : (parked : Option Named) (tokens : List (List ℕ × Token)) (t : List ℕ × Token) → tokens_with parked (tokens ++ t ∷ []) ≡ tokens_with parked tokens ++ t ∷ []
+with_push None tokens t = refl
+with_push (Some p) tokens t = refl
+
+pub apart_push : (parked : Option Named) (tokens : List (List ℕ × Token)) (name : List ℕ) (t : Token) → is_parked name (desk_of parked) ≡ false → IsApart parked tokens → IsApart parked (tokens ++ (name, t) ∷ [])
+apart_push None tokens name t other h = h
+apart_push (Some p) tokens name t other h = lookup_before (bytes_eq p.0) name t other tokens ∙ h
+
+-- a token goes
+
+pub with_moved : (parked : Option Named) (tokens rest : List (List ℕ × Token)) (t : List ℕ × Token) → IsPermutation tokens (t ∷ rest) → IsPermutation (tokens_with parked tokens) (t ∷ tokens_with parked rest)
+with_moved None tokens rest t h = h
+with_moved (Some p) tokens rest t h =
+    let x : List ℕ × Token = (p.0, token.Held p.1) in
+    IsPermutation-trans (x ∷ tokens) (x ∷ t ∷ rest) (t ∷ x ∷ rest) (IsPermutation-cons x tokens (t ∷ rest) h) (IsPermutation-middle (x ∷ []) t rest)
+
+gone_case : (name other : List ℕ) (tokens rest : List (List ℕ × Token)) (b : Bool) → bytes_eq name other ≡ b → Frees name tokens rest → token_at other tokens ≡ None → token_at other rest ≡ None
+gone_case name other tokens rest true e frees h = subst (λ n. token_at n rest ≡ None) ((bytes_eq-Decides name other).0 e) frees.here
+gone_case name other tokens rest false e frees h = frees.others other e ∙ h
+
+pub apart_gone : (parked : Option Named) (tokens rest : List (List ℕ × Token)) (name : List ℕ) → Frees name tokens rest → IsApart parked tokens → IsApart parked rest
+apart_gone None tokens rest name frees h = h
+apart_gone (Some p) tokens rest name frees h = gone_case name p.0 tokens rest (bytes_eq name p.0) refl frees h
+
+-- A new desk
+
+one_item : {X : Type 0} (xs : List X) (x : X) → length xs ≡ 1 → get_or xs 0 x ≡ x → xs ≡ x ∷ []
+one_item [] x long is = absurd (omega (arith, long))
+one_item (y ∷ []) x long is = ap (λ z. z ∷ []) is
+one_item (y ∷ z ∷ zs) x long is = absurd (omega (arith, long))
+
+pub sole : (d : DeskView) (seats : List (SeatView ReadingView)) → d.seats ≡ 1 → AreNewSeats d seats → seats ≡ new_seat d 0 ∷ []
+sole d seats one new =
+    let long : length seats ≡ 1 = new.count ∙ one in
+    one_item seats (new_seat d 0) long (new.each 0 (new_seat d 0) (omega (arith, long)))
+
+-- Whether something is parked
+
+pub none_parked : (parked : Option Named) → is_none parked ≡ true → parked ≡ None
+none_parked None h = refl
+none_parked (Some p) h = absurd cc
+
+pub some_parked : (parked : Option Named) → is_none parked ≡ false → (p : Named) × (parked ≡ Some p)
+some_parked None h = absurd cc
+some_parked (Some p) h = (p, refl)

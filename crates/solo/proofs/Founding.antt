@@ -1,0 +1,81 @@
+-- A new domain, in one hand.
+use Rattle.std.proofs.Common.{◌≡◌, ℕ, ◌<◌, List, [], length, get_or, refl, sym, ap, ◌∙◌, subst, arith, rules}
+use Rattle.std.proofs.lemmas.List.Elements.{All-nil}
+use Rattle.sections.specs.declared.limits.Limits.{Limits}
+use Rattle.sections.specs.Limits.{AreInRange}
+use Rattle.sections.specs.Rule.{HasItsMaker}
+use Rattle.sections.specs.Making.{IsCount, bounds_of}
+use Rattle.sections.specs.EngineCalls.{IsSeenByEngine}
+use Rattle.funnel.specs.Histories.{greatest}
+use Rattle.funnel.specs.Calls.{IsSeenBy}
+use Rattle.desk.specs.BayCalls.{HasSeenLegal, lies}
+use Rattle.domain.specs.Views.{DomainView, CpuView, IsOf}
+use Rattle.domain.specs.Making.{IsMade, idle_engine, new_cpu}
+use Rattle.domain.specs.Meetings.{IsAllOf}
+use Rattle.solo.specs.Calls.{IsNew}
+use Rattle.solo.specs.Settling.{View, Holds, AreTogether, AskTogether, TurnTogether, HaveMet}
+use Rattle.solo.specs.Insides.{seen_first}
+use Rattle.solo.proofs.Hand.{first_seen}
+
+module _ (limits : Limits) (processors : ℕ) (d : DomainView) (cpus : List CpuView) (made : IsMade (bounds_of processors limits) d cpus) (count : IsCount processors) (range : AreInRange limits) where
+  abbrev pub engine : View
+  engine = idle_engine d.domain (bounds_of processors limits) made.tree (record { processors = processors; nodes = made.nodes })
+
+  abbrev new : ℕ → CpuView
+  new k = new_cpu d (bounds_of processors limits) made.tree (record { processors = processors; nodes = made.nodes }) k
+
+  is_new : (k : ℕ) (c : CpuView) → k < length cpus → get_or cpus k c ≡ new k
+  is_new = made.each
+
+  all : IsAllOf d cpus
+  all = record {
+    some = (let some = count.0 in let long = made.count in omega (arith, some, long));
+    here = λ k c lt. subst (λ (z : CpuView). IsOf d z) (sym (is_new k c lt)) (record { domain = refl; bay = refl; home = refl; free = refl; asks = (k, refl) });
+    count = λ k c lt. ap (λ (z : CpuView). z.cpu.processors) (is_new k c lt) ∙ sym made.count;
+    order = λ k c lt. ap (λ (z : CpuView). z.cpu.processor) (is_new k c lt);
+    tree = made.tree;
+    shape = record { processors = processors; nodes = made.nodes };
+    asks = λ k c lt. (ap (λ (z : CpuView). z.needs.domain) (is_new k c lt), ap (λ (z : CpuView). z.needs.shape) (is_new k c lt), ap (λ (z : CpuView). z.needs.holder) (is_new k c lt));
+    leaves = sym made.count;
+  }
+
+  history : IsSeenByEngine engine.seat
+  history = record { legal = tt; makers = All-nil (HasItsMaker processors); own = refl; reaches = search rules }
+
+  together : AreTogether limits cpus engine.seat
+  together = record {
+    hold = record {
+      in_range = range;
+      periods = refl;
+      count = count;
+      all = made.count;
+      engine = refl;
+      each = λ k c lt. subst (λ (z : CpuView). Holds limits d.domain processors [] k z.cpu) (sym (is_new k c lt)) (record { domain = refl; processors_are = refl; sections = refl; processor = refl; mine = refl });
+    };
+    history = history;
+    seen = λ k c lt. ap (λ (z : CpuView). z.cpu.seen) (is_new k c lt);
+    changes = λ k c lt. ap (λ (z : CpuView). z.cpu.changes) (is_new k c lt);
+  }
+
+  ask_together : AskTogether [] cpus
+  ask_together = record {
+    mine = λ k c lt. ap (λ (z : CpuView). z.needs.mine) (is_new k c lt);
+    seen = λ k c lt. ap (λ (z : CpuView). z.needs.seen) (is_new k c lt);
+    history = λ k c lt. subst (λ (z : CpuView). IsSeenBy z.needs) (sym (is_new k c lt)) (record { legal = tt; own = refl; idle = refl });
+    root = refl;
+  }
+
+  turn_together : TurnTogether [] cpus engine
+  turn_together = record {
+    number = λ k c lt. ap (λ (z : CpuView). z.turn.number) (is_new k c lt);
+    seats = λ k c lt. ap (λ (z : CpuView). z.turn.seats) (is_new k c lt) ∙ sym made.count;
+    seen = λ k c lt. ap (λ (z : CpuView). z.turn.seen) (is_new k c lt);
+    lying = λ c. ap (λ (z : CpuView). lies z.turn) (is_new 0 c all.some);
+    history = λ c. subst (λ (z : CpuView). HasSeenLegal z.turn) (sym (is_new 0 c all.some)) (record { there = (let some = all.some in let long = made.count in omega (arith, some, long)); value = engine; lay = refl; legal = tt });
+  }
+
+  pub met : HaveMet d limits cpus engine
+  met = record { all = all; together = together; raises = []; ask_together = ask_together; swaps = []; turn_together = turn_together; cookies = refl; wanted = λ _ half. absurd (omega (arith, half)) }
+
+  pub is_new_domain : IsNew limits processors (seen_first d.domain limits cpus)
+  is_new_domain = subst (IsNew limits processors) (sym (first_seen d.domain limits cpus engine 0 all.some turn_together.lying (λ c. ap (λ (z : CpuView). greatest z.needs.seen) (is_new 0 c all.some)))) (record { limits_are = refl; nothing_yet = refl; none_asked = refl; count = count })

@@ -1,0 +1,109 @@
+-- All processors in one hand: how the domain is seen, and what an act of one of them leaves as it was.
+use Rattle.std.proofs.Common.{◌≡◌, ℕ, ◌<◌, List, [], ◌∷◌, length, get_or, set, refl, sym, ap, ◌∙◌, subst, arith, length-set, get_or-set_other, get_or-set_same}
+use Rattle.std.specs.Prelude.{Option, Some}
+use mathlib.Core.Logic.{dite}
+use native.Mathlib.Decide.{ℕ_discrete}
+use Rattle.atomic_table.specs.Seated.{TableId}
+use Rattle.sections.specs.declared.limits.Limits.{Limits}
+use Rattle.sections.specs.Calls.{IsSameCpu}
+use Rattle.funnel.specs.declared.view.Holder.TheVariants.{Processor}
+use Rattle.funnel.specs.Histories.{greatest}
+use Rattle.funnel.specs.Views.{FunnelView}
+use Rattle.funnel.specs.Calls.{IsSameSeat}
+use Rattle.desk.specs.BayCalls.{lies, holds}
+use Rattle.domain.specs.Views.{DomainView, CpuView, IsOf, with_cpu}
+use Rattle.domain.specs.Meetings.{IsAllOf}
+use Rattle.solo.specs.Calls.{SoloView}
+use Rattle.solo.specs.Settling.{View, HaveMet}
+use Rattle.solo.specs.Insides.{seen_as, seen_with, seen_first}
+
+-- how it is seen
+
+with_lying : (table : TableId) (limits : Limits) (asked : ℕ) (lay : Option View) (v : View) → lay ≡ Some v → seen_with table limits asked lay ≡ seen_as limits asked v
+with_lying table limits asked lay v is = ap (seen_with table limits asked) is
+
+pub first_seen : (table : TableId) (limits : Limits) (cpus : List CpuView) (v : View) (asked : ℕ) → 0 < length cpus → ((c : CpuView) → lies (get_or cpus 0 c).turn ≡ Some v) → ((c : CpuView) → greatest (get_or cpus 0 c).needs.seen ≡ asked) → seen_first table limits cpus ≡ seen_as limits asked v
+first_seen table limits [] v asked some lying needs = absurd (omega (arith, some))
+first_seen table limits (c ∷ cpus) v asked some lying needs = with_lying table limits (greatest c.needs.seen) (lies c.turn) v (lying c) ∙ ap (λ n. seen_as limits n v) (needs c)
+
+module _ (d : DomainView) (limits : Limits) (cpus : List CpuView) (v : View) (met : HaveMet d limits cpus v) where
+  -- as it is said: with the engine that lies there, and what was asked for
+  abbrev pub view : SoloView
+  view = seen_as limits (greatest met.raises) v
+
+  pub is_seen : seen_first d.domain limits cpus ≡ view
+  is_seen = first_seen d.domain limits cpus v (greatest met.raises) met.all.some met.turn_together.lying (λ c. ap greatest (met.ask_together.seen 0 c met.all.some))
+
+  module _ (now : SoloView) (same : seen_first d.domain limits cpus ≡ now) where
+    pub now_is : now ≡ view
+    now_is = sym same ∙ is_seen
+
+    -- a processor that the caller may name
+    pub is_inside : (p : ℕ) → p < now.standing.processors → p < length cpus
+    is_inside p small = let n = ap (λ (x : SoloView). x.standing.processors) now_is in let all = met.together.hold.all in omega (arith, small, n, all)
+
+    -- a token of the domain is one of the processor's domain
+    pub is_its_own : (p : ℕ) (c : CpuView) (table : TableId) → p < length cpus → c ≡ get_or cpus p c → table ≡ now.table → table ≡ c.cpu.domain
+    is_its_own p c table inside is own =
+        own ∙ (ap (λ (x : SoloView). x.table) now_is ∙ sym (ap (λ (x : CpuView). x.cpu.domain) is ∙ (met.together.hold.each p c inside).domain))
+
+  pub first_inside : 0 < length cpus
+  first_inside = met.all.some
+
+  pub here : (p : ℕ) (c : CpuView) → p < length cpus → c ≡ get_or cpus p c → IsOf d c
+  here p c inside is = subst (λ (z : CpuView). IsOf d z) (sym is) (met.all.here p c inside)
+
+-- an act of one of them
+
+-- it is still this processor of the domain, with its seat at the tree
+pub record IsStill (d : DomainView) (was now : CpuView) : Type 0 where
+  pub is_of : IsOf d now
+  pub cpu : IsSameCpu was.cpu now.cpu
+  pub needs : IsSameSeat was.needs now.needs
+
+-- where it made no turn
+pub without_turn : (d : DomainView) (was now : CpuView) → IsOf d was → IsSameCpu was.cpu now.cpu → IsSameSeat was.needs now.needs → now.turn ≡ was.turn → IsStill d was now
+without_turn d was now h cpu needs turn = record {
+  is_of = record {
+    domain = cpu.0 ∙ h.domain;
+    bay = ap (λ t. t.bay) turn ∙ h.bay;
+    home = ap (λ t. t.domain) turn ∙ h.home;
+    free = ap (λ t. holds t) turn ∙ h.free;
+    asks = (h.asks.0, needs.holder ∙ h.asks.1);
+  };
+  cpu = cpu;
+  needs = needs;
+}
+
+module _ (cpus : List CpuView) (p : ℕ) (now : CpuView) (inside : p < length cpus) where
+  -- what holds of all, with one in the place of another
+  each_still : (P : ℕ → CpuView → Type 0) → ((k : ℕ) (c : CpuView) → k < length cpus → P k (get_or cpus k c)) → P p now → (k : ℕ) (c : CpuView) → k < length (set cpus p now) → P k (get_or (set cpus p now) k c)
+  each_still P old new k c lt = dite (ℕ_discrete k p)
+      (λ same. subst (λ q. P q (get_or (set cpus p now) q c)) (sym same) (subst (P p) (sym (get_or-set_same cpus p now c inside)) new))
+      (λ other. subst (P k) (sym (get_or-set_other cpus p k now c other)) (old k c (omega (arith, length-set cpus p now, lt))))
+
+  pub all_still : (d : DomainView) (was : CpuView) → IsAllOf d cpus → was ≡ get_or cpus p was → IsStill d was now → IsAllOf d (set cpus p now)
+  all_still d was all is still = record {
+    some = (let some = all.some in omega (arith, length-set cpus p now, some));
+    here = each_still (λ k z. IsOf d z) all.here still.is_of;
+    count = each_still (λ k z. z.cpu.processors ≡ length (set cpus p now)) (λ k c lt. all.count k c lt ∙ sym (length-set cpus p now)) (still.cpu.1 ∙ (ap (λ (z : CpuView). z.cpu.processors) is ∙ (all.count p was inside ∙ sym (length-set cpus p now))));
+    order = each_still (λ k z. z.cpu.processor ≡ k) all.order (still.cpu.3 ∙ (ap (λ (z : CpuView). z.cpu.processor) is ∙ all.order p was inside));
+    tree = all.tree;
+    shape = all.shape;
+    asks = each_still (λ k z. (z.needs.domain ≡ all.tree) × (z.needs.shape ≡ all.shape) × (z.needs.holder ≡ Processor k)) all.asks (
+      still.needs.domain ∙ (ap (λ (z : CpuView). z.needs.domain) is ∙ (all.asks p was inside).0),
+      still.needs.shape ∙ (ap (λ (z : CpuView). z.needs.shape) is ∙ (all.asks p was inside).1),
+      still.needs.holder ∙ (ap (λ (z : CpuView). z.needs.holder) is ∙ (all.asks p was inside).2),
+    );
+    leaves = all.leaves ∙ sym (length-set cpus p now);
+  }
+
+-- processor p did something, and nothing but its seat at the domain's words may have changed
+pub all_behind : (d : DomainView) (limits : Limits) (cpus : List CpuView) (v : View) (met : HaveMet d limits cpus v) (p : ℕ) (was now : CpuView) → p < length cpus → was ≡ get_or cpus p was → IsSameCpu was.cpu now.cpu → now ≡ with_cpu now.cpu was → IsAllOf d (set cpus p now)
+all_behind d limits cpus v met p was now inside is same rest =
+    all_still cpus p now inside d was met.all is (without_turn d was now (here d limits cpus v met p was inside is) same
+    (subst (λ (z : FunnelView). IsSameSeat was.needs z) (sym (ap (λ (x : CpuView). x.needs) rest)) (record { domain = refl; shape = refl; holder = refl })) (ap (λ (x : CpuView). x.turn) rest))
+
+-- the vector has as many
+pub in_vector : (n : ℕ) (items : List CpuView) (p : ℕ) → n ≡ length items → p < length items → p < n
+in_vector n items p same inside = omega (arith, same, inside)

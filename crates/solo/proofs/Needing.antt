@@ -1,0 +1,95 @@
+-- What was asked for, where all seats at the tree are in one hand.
+use Rattle.std.proofs.Common.{◌≡◌, ◌≢◌, ℕ, suc, ◌<◌, max, List, [], ◌∷◌, ◌++◌, length, get_or, set, refl, sym, ap, ◌∙◌, subst, append-nil, length-append, arith, length-set, get_or-set_other, get_or-set_same}
+use mathlib.Core.Logic.{dite}
+use native.Mathlib.Decide.{ℕ_discrete}
+use Rattle.funnel.specs.declared.view.Holder.{Holder}
+use Rattle.funnel.specs.declared.view.Holder.TheVariants.{Processor, Engine}
+use Rattle.funnel.specs.declared.view.Raise.{Raise}
+use Rattle.funnel.specs.declared.seat.Level.{Level}
+use Rattle.funnel.specs.Tree.{leaf_of}
+use Rattle.funnel.specs.Histories.{IsBeginning, greatest, raised_by}
+use Rattle.funnel.specs.Seats.{climb_from}
+use Rattle.funnel.specs.Views.{FunnelView}
+use Rattle.funnel.specs.Calls.{IsSameSeat}
+use Rattle.funnel.specs.Calls as funnel
+use Rattle.funnel.proofs.CallerLemmas.{begins_itself, begins_on, made_on, climb_is_own, climb_of_no_other, greatest_climbed}
+use Rattle.domain.specs.Views.{CpuView}
+use Rattle.solo.specs.Settling.{AskTogether}
+use Rattle.solo.proofs.Settled.{HaveAsked}
+
+-- the same seat has seen as much, or more, and raised these itself
+pub record GoesOn (raised : List Raise) (e f : FunnelView) : Type 0 where
+  pub same : IsSameSeat e f
+  pub since : IsBeginning e.seen f.seen
+  pub mine : f.mine ≡ e.mine ++ raised
+
+pub stays : (e f : FunnelView) → f ≡ e → GoesOn [] e f
+stays e f is = subst (λ (z : FunnelView). GoesOn [] e z) (sym is) record { same = record { domain = refl; shape = refl; holder = refl }; since = begins_itself e.seen; mine = sym (append-nil e.mine) }
+
+pub goes_further : (e f h : FunnelView) → GoesOn [] e f → GoesOn [] f h → GoesOn [] e h
+goes_further e f h a b = record {
+  same = record { domain = b.same.domain ∙ a.same.domain; shape = b.same.shape ∙ a.same.shape; holder = b.same.holder ∙ a.same.holder };
+  since = begins_on a.since b.since;
+  mine = b.mine ∙ (append-nil f.mine ∙ a.mine);
+}
+
+none_left : (rest : List Raise) → length rest ≡ 0 → rest ≡ []
+none_left [] none = refl
+none_left (x ∷ rest) none = absurd (omega (arith, none))
+
+-- what lies between a history and itself is that history
+pub squeezed : (a b c : List Raise) → IsBeginning a b → IsBeginning b c → c ≡ a → b ≡ a
+squeezed a b c ab bc same =
+    let long = ap length ab.whole ∙ length-append a ab.rest in
+    let longer = ap length bc.whole ∙ length-append b bc.rest in
+    let ends = ap length same in
+    ab.whole ∙ (ap (λ l. a ++ l) (none_left ab.rest (omega (arith, long, longer, ends))) ∙ append-nil a)
+
+raised_append : (p : ℕ) (a b : List Raise) → raised_by p (a ++ b) ≡ raised_by p a ++ raised_by p b
+raised_append p a b = made_on p (record { rest = b; whole = refl })
+
+-- a processor's seat went on, and raised these: then nobody else did
+pub raised_here : (raises : List Raise) (cpus : List CpuView) (together : AskTogether raises cpus) (p : ℕ) (inside : p < length cpus) (was now : CpuView) (is : was ≡ get_or cpus p was) (act : List Raise)
+    → GoesOn act was.needs now.needs → raised_by p act ≡ act → ((q : ℕ) → q ≢ p → raised_by q act ≡ []) → HaveAsked p raises act (set cpus p now)
+raised_here raises cpus together p inside was now is act on own others = record {
+  mine = λ k d lt. let inside_k : k < length cpus = omega (arith, length-set cpus p now, lt) in
+      dite (ℕ_discrete k p)
+      (λ same_k. subst (λ (q : ℕ). (get_or (set cpus p now) q d).needs.mine ≡ raised_by q (raises ++ act)) (sym same_k)
+      (ap (λ (z : CpuView). z.needs.mine) (get_or-set_same cpus p now d inside) ∙ (on.mine ∙ (ap (λ l. l ++ act) (ap (λ (z : CpuView). z.needs.mine) is ∙ together.mine p was inside) ∙ (ap (λ l. raised_by p raises ++ l) (sym own) ∙ sym (raised_append p raises act))))))
+      (λ other. ap (λ (z : CpuView). z.needs.mine) (get_or-set_other cpus p k now d other) ∙ (together.mine k d inside_k ∙ sym (raised_append k raises act ∙ (ap (λ l. raised_by k raises ++ l) (others k other) ∙ append-nil (raised_by k raises)))));
+  inside = omega (arith, length-set cpus p now, inside);
+  own = own;
+  others = others;
+  since = λ d. subst (λ (z : CpuView). IsBeginning raises z.needs.seen) (sym (get_or-set_same cpus p now d inside)) (subst (λ l. IsBeginning l now.needs.seen) (ap (λ (z : CpuView). z.needs.seen) is ∙ together.seen p was inside) on.since);
+}
+
+-- a call of processor p that asks for a number
+
+module _ (p n : ℕ) (v w : FunnelView) (level : Level) (holder : v.holder ≡ Processor p) (h : funnel.Asks n v level w) where
+  abbrev pub climb : List Raise
+  climb = climb_from p n (leaf_of v.shape.nodes p) level.nodes
+
+  asker_is : h.processor ≡ p
+  asker_is = ap number_of (sym h.asker ∙ holder)
+    where
+      number_of : Holder → ℕ
+      number_of (Processor q) = q
+      number_of Engine = p
+
+  pub climb_on : GoesOn climb v w
+  climb_on = record {
+    same = h.same;
+    since = begins_on h.since (record { rest = _ ∷ []; whole = h.seen });
+    mine = h.mine ∙ ap (λ q. v.mine ++ climb_from q n (leaf_of v.shape.nodes q) level.nodes) asker_is;
+  }
+
+  pub climb_own : raised_by p climb ≡ climb
+  climb_own = climb_is_own p n (leaf_of v.shape.nodes p) level.nodes
+
+  pub climb_others : (q : ℕ) → q ≢ p → raised_by q climb ≡ []
+  climb_others = climb_of_no_other p n (leaf_of v.shape.nodes p) level.nodes
+
+  pub greatest_asked : (before : List Raise) → greatest (before ++ climb) ≡ max (greatest before) n
+  greatest_asked before =
+      let some : level.nodes ≡ suc h.above = (let nodes = h.nodes in omega (arith, nodes)) in
+      ap (λ m. greatest (before ++ climb_from p n (leaf_of v.shape.nodes p) m)) some ∙ greatest_climbed p n (leaf_of v.shape.nodes p) h.above before

@@ -1,0 +1,31 @@
+-- Why the engine gives no answer, as a domain says it and as the engine does.
+use Rattle.std.specs.Prelude.{◌≡◌, ℕ, Result, Ok, Err, IsErr}
+use Rattle.scan.specs.declared.progress.Progress.{Progress}
+use Rattle.scan.specs.declared.progress.Exhausted.{Exhausted}
+use Rattle.scan.specs.declared.progress.StartRefusal.{StartRefusal}
+use Rattle.scan.specs.declared.progress.StartRefusal.TheVariants as scan
+use Rattle.domain.specs.declared.refusals.AdvanceRefusal.{AdvanceRefusal}
+use Rattle.domain.specs.declared.refusals.AdvanceRefusal.TheVariants as advance
+use Rattle.domain.specs.declared.refusals.StartRefusal as domain
+use Rattle.domain.specs.declared.refusals.StartRefusal.TheVariants as start
+
+-- nobody else has the engine, so nobody is told so
+abbrev pub IsNotBusy : Result Progress AdvanceRefusal → Type 0
+IsNotBusy (Err advance.Busy) = ⊥
+IsNotBusy answer = Unit {0}
+
+abbrev pub NoneIsBusy : Result ℕ domain.StartRefusal → Type 0
+NoneIsBusy (Err start.Busy) = ⊥
+NoneIsBusy answer = Unit {0}
+
+-- the same answer, or the same refusal
+abbrev pub IsToldAs : Result Progress AdvanceRefusal → Result Progress Exhausted → Type 0
+IsToldAs (Ok a) told = told ≡ Ok a
+IsToldAs (Err advance.Busy) told = ⊥
+IsToldAs (Err advance.Exhausted) told = IsErr told
+
+abbrev pub IsStartedAs : Result ℕ domain.StartRefusal → Result ℕ StartRefusal → Type 0
+IsStartedAs (Ok n) told = told ≡ Ok n
+IsStartedAs (Err start.Busy) told = ⊥
+IsStartedAs (Err start.Running) told = told ≡ Err scan.Running
+IsStartedAs (Err start.Exhausted) told = told ≡ Err scan.Exhausted

@@ -1,0 +1,56 @@
+-- Periods that are driven or waited for, one behind the other.
+use Rattle.std.proofs.Common.{◌≡◌, ℕ, ◌+◌, ◌-◌, ◌<◌, true, false, not, List, [], ◌∷◌, ◌++◌, All, Option, Some, length, filter, slice_index_or, refl, sym, ap, ◌∙◌, subst, append_assoc, append-nil, length-append, add-one, arith}
+use Rattle.std.proofs.lemmas.List.Elements.{All-head, All-tail}
+use Rattle.std.proofs.Math.Seq.{get_or-append_seam}
+use Rattle.std.specs.Option.{option_to_list}
+use Rattle.atomic_table.specs.Seated.{TableId}
+use Rattle.onedom.specs.declared.event.Maker.{Maker}
+use Rattle.onedom.specs.declared.event.Maker.TheVariants.{Processor}
+use Rattle.onedom.specs.declared.event.Event.{Event}
+use Rattle.onedom.specs.declared.event.Event.TheVariants.{Note, Ask}
+use Rattle.onedom.specs.Histories.{open_sections}
+use Rattle.onedom.proofs.CallerLemmas.{open_sections_plain}
+use Rattle.sections.specs.declared.view.Bounds.{Bounds}
+use Rattle.sections.specs.Words.{is_held, open_readings}
+use Rattle.funnel.specs.declared.view.Shape.{Shape}
+use Rattle.domain.specs.Views.{DomainView, CpuView, IsOf}
+use Rattle.domain.specs.Waiting.{HasNoneOpen, Synchronizes}
+use Rattle.domain.specs.Making.{new_cpu, IsMade}
+use Rattle.srcubench.specs.Driving.{DrivesPeriod, DrivesPeriods, WaitsAll, IsNewOf}
+
+-- One more
+
+pub one_period : (n : ℕ) (c between c' : CpuView) → DrivesPeriods n c between → DrivesPeriod between c' → DrivesPeriods (n + 1) c c'
+one_period n c between c' before one = subst (λ k. DrivesPeriods k c c') (sym (add-one n)) (between, before, one)
+
+pub one_wait : (n : ℕ) (c between c' : CpuView) → WaitsAll n c between → Synchronizes between c' → WaitsAll (n + 1) c c'
+one_wait n c between c' before one = subst (λ k. WaitsAll k c c') (sym (add-one n)) (between, before, one)
+
+-- New processors
+
+-- the last one was popped
+pub was_some : (cpus rest : List CpuView) (o : Option CpuView) (c : CpuView) → cpus ≡ rest ++ option_to_list o → o ≡ Some c → 0 < length cpus
+was_some cpus rest o c whole is = let long = ap length (whole ∙ ap (λ x. rest ++ option_to_list x) is) in let more = length-append rest (c ∷ []) in omega (arith, long, more)
+
+pub was_last : (cpus rest : List CpuView) (o : Option CpuView) (c : CpuView) → cpus ≡ rest ++ option_to_list o → o ≡ Some c → c ≡ slice_index_or cpus (length cpus - 1) c
+was_last cpus rest o c whole is =
+    let same : cpus ≡ rest ++ c ∷ [] = whole ∙ ap (λ x. rest ++ option_to_list x) is in
+    let long = ap length same in let more = length-append rest (c ∷ []) in
+    let last : length rest ≡ length cpus - 1 = omega (arith, long, more) in
+    sym (get_or-append_seam rest c [] c) ∙ (sym (ap (λ (l : List CpuView). slice_index_or l (length rest) c) same) ∙ ap (λ k. slice_index_or cpus k c) last)
+
+new_is_of : (d : DomainView) (bounds : Bounds) (tree : TableId) (shape : Shape) (k : ℕ) → IsOf d (new_cpu d bounds tree shape k)
+new_is_of d bounds tree shape k = record { domain = refl; bay = refl; home = refl; free = refl; asks = (k, refl) }
+
+module _ (processors periods : ℕ) (d : DomainView) (cpus : List CpuView) (c : CpuView) (made : IsMade (record { processors = processors; sections = 1; periods = periods }) d cpus) (some : 0 < length cpus) (is : c ≡ slice_index_or cpus (length cpus - 1) c) where
+  is_new : c ≡ new_cpu d (record { processors = processors; sections = 1; periods = periods }) made.tree (record { processors = processors; nodes = made.nodes }) (length cpus - 1)
+  is_new = is ∙ made.each (length cpus - 1) c (omega (arith, some))
+
+  pub new_one : IsNewOf processors periods c
+  new_one = record { domain = d; tree = made.tree; shape = record { processors = processors; nodes = made.nodes }; number = length cpus - 1; there = (let count = made.count in omega (arith, count, some)); new = is_new }
+
+  pub of_this : IsOf d c
+  of_this = subst (λ z. IsOf d z) (sym is_new) (new_is_of d (record { processors = processors; sections = 1; periods = periods }) made.tree (record { processors = processors; nodes = made.nodes }) (length cpus - 1))
+
+  pub none_open : HasNoneOpen c
+  none_open = subst HasNoneOpen (sym is_new) refl

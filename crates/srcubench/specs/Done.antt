@@ -1,0 +1,31 @@
+-- What is measured, and what is known of a run.
+use Rattle.std.specs.Prelude.{◌≡◌, ℕ, ◌*◌, ◌^◌, ◌≤◌, List}
+use Rattle.srcubench.specs.declared.pairs.Reader.{Reader}
+use Rattle.srcubench.specs.declared.asking.Asker.{Asker}
+use Rattle.srcubench.specs.declared.work.Work.{Work}
+use Rattle.srcubench.specs.declared.work.Work.TheVariants.{Pairs, HeldPairs, QuietPeriods, DrivenPeriods, Waits, Asks, Entries}
+use Rattle.srcubench.specs.Readers.{AreReadersOfOne}
+use Rattle.srcubench.specs.Asking.{AreAskersOfOne}
+use Rattle.srcubench.specs.Driving.{HaveDriven, HaveWaited}
+use Rattle.srcubench.specs.Held.{HaveMadeHeldPairs}
+use Rattle.srcubench.specs.Periods.{HaveEnded}
+
+-- there is something to do
+abbrev pub CanRun : Work → Type 0
+CanRun (Pairs threads pairs) = 1 ≤ pairs
+CanRun (HeldPairs pairs) = 1 ≤ pairs
+CanRun (QuietPeriods processors periods) = 1 ≤ periods
+CanRun (DrivenPeriods processors periods) = 1 ≤ periods
+CanRun (Waits processors times) = 1 ≤ times
+CanRun (Asks threads asks new) = (1 ≤ asks) × (asks ≤ 2 ^ 54) × (threads ≤ 2 ^ 16)
+CanRun (Entries way batches) = (1 ≤ batches) × (batches ≤ 2 ^ 54)
+
+-- a run has done so much of it
+abbrev pub IsDone : Work → ℕ → Type 0
+IsDone (Pairs threads pairs) done = (done ≡ pairs) × (readers : List Reader) × AreReadersOfOne threads pairs readers
+IsDone (HeldPairs pairs) done = (done ≡ pairs) × HaveMadeHeldPairs pairs
+IsDone (QuietPeriods processors periods) done = HaveEnded processors periods done
+IsDone (DrivenPeriods processors periods) done = (done ≡ periods) × HaveDriven processors periods
+IsDone (Waits processors times) done = (done ≡ times) × HaveWaited processors times
+IsDone (Asks threads asks new) done = (done ≡ asks) × (askers : List Asker) × AreAskersOfOne threads new asks askers
+IsDone (Entries way batches) done = done ≡ 8 * batches

@@ -1,0 +1,51 @@
+-- Grace periods that one processor drives through a domain, or waits for, one behind the other.
+use Rattle.std.specs.Prelude.{◌≡◌, ℕ, zero, suc, ◌<◌}
+use Rattle.atomic_table.specs.Seated.{TableId}
+use Rattle.sseq.specs.declared.index.Index.{Index}
+use Rattle.scan.specs.declared.progress.Progress.TheVariants.{Flipped, Ended}
+use Rattle.funnel.specs.declared.view.Shape.{Shape}
+use Rattle.domain.specs.Views.{DomainView, CpuView}
+use Rattle.domain.specs.Turns.{StartsIn, AdvancesIn}
+use Rattle.domain.specs.Waiting.{Synchronizes}
+use Rattle.domain.specs.Making.{new_cpu}
+
+-- in three turns of the engine a period started, flipped and ended
+pub record DrivesPeriod (c c' : CpuView) : Type 0 where
+  pub started : CpuView
+  pub flipped : CpuView
+  pub at_start : ℕ
+  pub index : Index
+  pub at_end : ℕ
+  pub starts : StartsIn c at_start started
+  pub flips : AdvancesIn started (Flipped index) flipped
+  pub ends : AdvancesIn flipped (Ended at_end) c'
+
+abbrev pub DrivesPeriods : ℕ → CpuView → CpuView → Type 0
+DrivesPeriods zero c c' = c' ≡ c
+DrivesPeriods (suc n) c c' = (between : CpuView) × DrivesPeriods n c between × DrivesPeriod between c'
+
+-- so many calls of `synchronize` came back
+abbrev pub WaitsAll : ℕ → CpuView → CpuView → Type 0
+WaitsAll zero c c' = c' ≡ c
+WaitsAll (suc n) c c' = (between : CpuView) × WaitsAll n c between × Synchronizes between c'
+
+-- a processor of a new domain of so many
+pub record IsNewOf (processors periods : ℕ) (c : CpuView) : Type 0 where
+  pub domain : DomainView
+  pub tree : TableId
+  pub shape : Shape
+  pub number : ℕ
+  pub there : number < processors
+  pub new : c ≡ new_cpu domain (record { processors = processors; sections = 1; periods = periods }) tree shape number
+
+pub record HaveDriven (processors periods : ℕ) : Type 0 where
+  pub first : CpuView
+  pub last : CpuView
+  pub new : IsNewOf processors periods first
+  pub drives : DrivesPeriods periods first last
+
+pub record HaveWaited (processors times : ℕ) : Type 0 where
+  pub first : CpuView
+  pub last : CpuView
+  pub new : IsNewOf processors times first
+  pub waits : WaitsAll times first last

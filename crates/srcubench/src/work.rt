@@ -1,0 +1,128 @@
+//! What is measured, and how often.
+ghost use Rattle.std.specs.Prelude.{ℕ, ◌≤◌, List, IfOk};
+ghost use Rattle.srcubench.specs.Done.{CanRun, IsDone};
+ghost use Rattle.srcubench.specs.Samples.{AreOfRuns};
+ghost use Rattle.srcubench.specs.Spreads.{IsSpreadOf};
+
+use crate::passage::Way;
+use crate::spread::{Spread, cost_of_one};
+use crate::{asking, driving, held, passage, quiet, trial};
+use anyhow::Result;
+use std::sync::Wait;
+use std::thread::Threads;
+use std::time::{Clock, Duration};
+
+/// A thing that is measured, with how often one run does it.
+#[derive(Clone, Copy, Debug)]
+pub enum Work {
+    /// Pairs of `read_lock` and `read_unlock`: so many in each of so many threads, which are processors of one domain.
+    Pairs {
+        threads: usize,
+        pairs: u64,
+    },
+    /// Held sections that begin on one processor and end on another, in one thread.
+    HeldPairs {
+        pairs: u64,
+    },
+    /// Grace periods in a domain of so many processors, in which nobody reads.
+    QuietPeriods {
+        processors: usize,
+        periods: u64,
+    },
+    /// Grace periods of a domain of so many processors, in which nobody reads, driven by one of them.
+    DrivenPeriods {
+        processors: usize,
+        periods: u64,
+    },
+    /// Calls of `synchronize` by a processor of a domain of so many, in which nobody reads.
+    Waits {
+        processors: usize,
+        times: u64,
+    },
+    /// Asks for grace periods at a tree of needs: so many in each of so many threads, each for a number that is new, or
+    /// each for the same, which is there.
+    Asks {
+        threads: usize,
+        asks: u64,
+        new: bool,
+    },
+    /// Batches of entries that go through a list or a queue.
+    Entries {
+        way: Way,
+        batches: u64,
+    },
+}
+
+/// What one run did.
+#[derive(Clone, Copy, Debug)]
+pub struct Timed {
+    /// How often the thing was done that is measured; in each thread, where there are several.
+    pub done: u64,
+    /// How long that took, by the clock.
+    pub elapsed: Duration,
+}
+
+/// Does the work, in a new domain or a new list. The `elapsed` is what the clock told, of which no clause speaks.
+pub fn run<R: Threads + Sync + Wait + Clock + AllocGlobal>(rt: &R, work: Work) -> Result<Timed>
+    requires { CanRun work }
+    ensures done { IfOk result (λ timed. IsDone work timed.done) }
+    ensures some { IfOk result (λ timed. 1 ≤ timed.done) }
+{
+    match work {
+        Work::Pairs { threads, pairs } => {
+            let trial = trial::run(rt, threads, pairs)?;
+            Ok(Timed {
+                done: pairs,
+                elapsed: trial.elapsed,
+            })
+        }
+        Work::HeldPairs { pairs } => held::run(rt, pairs),
+        Work::QuietPeriods {
+            processors,
+            periods,
+        } => quiet::run(rt, processors, periods),
+        Work::DrivenPeriods {
+            processors,
+            periods,
+        } => driving::run_periods(rt, processors, periods),
+        Work::Waits { processors, times } => driving::run_waits(rt, processors, times),
+        Work::Asks { threads, asks, new } => {
+            let trial = asking::run(rt, threads, asks, new)?;
+            Ok(Timed {
+                done: asks,
+                elapsed: trial.elapsed,
+            })
+        }
+        Work::Entries { way, batches } => passage::run(rt, way, batches),
+    }
+}
+
+/// What one of them took in each of so many runs, in hundredths of a nanosecond.
+fn samples<R: Threads + Sync + Wait + Clock + AllocGlobal>(
+    rt: &R,
+    work: Work,
+    repetitions: u64,
+) -> Result<Vec<u64>>
+    requires { CanRun work }
+    ensures { IfOk result (λ samples. AreOfRuns (IsDone work) repetitions samples.items) }
+{
+    let mut samples = Vec::new(rt.alloc());
+    for _ in 0..repetitions {
+        let timed = run(rt, work)?;
+        samples.push(cost_of_one(timed.elapsed, timed.done))?;
+    }
+    Ok(samples)
+}
+
+/// The spread of what one of them took in each of so many runs.
+pub fn measure<R: Threads + Sync + Wait + Clock + AllocGlobal>(
+    rt: &R,
+    work: Work,
+    repetitions: u64,
+) -> Result<Spread>
+    requires work { CanRun work }
+    requires repetitions { 1 ≤ repetitions }
+    ensures { IfOk result (λ spread. (samples : List ℕ) × AreOfRuns (IsDone work) repetitions samples × IsSpreadOf samples spread) }
+{
+    Ok(Spread::of(samples(rt, work, repetitions)?)?)
+}
