@@ -17,10 +17,14 @@ module _ (limits : Limits) (state : State) (number : ℕ) (words : List (List �
   -- it is answered
   pub asked_gives : (state' : State) (asked : Request) (given : Reply) → is_skipped words ≡ false → fault_of (scene_of state) words ≡ None → Asks (scene_of state) words asked → Answers limits state asked given state' → bytes ≡ reply_text given
       → WordsGive limits state number words bytes false state'
-  asked_gives state' asked given full well asks answers text = ((λ is. absurd cc),
-      (λ _. subst (λ f. FaultGives limits state number words f bytes false state') (sym well) (record { asked = asked; asks = asks; given = given; answers = answers; reply = text; faulty_is = refl })))
+  asked_gives state' asked given full well asks answers text = (
+    (λ is. absurd cc),
+    (λ _. subst (λ f. FaultGives limits state number words f bytes false state') (sym well) (record { asked = asked; asks = asks; given = given; answers = answers; reply = text; faulty_is = refl })),
+  )
 
   -- it is faulty
   pub fault_gives : (f : Fault) → is_skipped words ≡ false → fault_of (scene_of state) words ≡ Some f → bytes ≡ reply_text (reply.Faulty number f) → WordsGive limits state number words bytes true state
-  fault_gives f full wrong text = ((λ is. absurd cc),
-      (λ _. subst (λ o. FaultGives limits state number words o bytes true state) (sym wrong) (record { reply = text; faulty_is = refl; after = refl })))
+  fault_gives f full wrong text = (
+    (λ is. absurd cc),
+    (λ _. subst (λ o. FaultGives limits state number words o bytes true state) (sym wrong) (record { reply = text; faulty_is = refl; after = refl })),
+  )

@@ -21,9 +21,11 @@ returns-in-Ok g c =
     let asks : Asks (scene_of c.args.self.now.domains) (texts c.deref-2.result.now) c.in-Ok.request = search rules in
     let answers : AnswersTo c.args.self.now.limits c.args.self.now.domains c.in-Ok.request c.in_ok-given-in-Ok.given c.respond.new.self.domains = search rules in
     let gives = asked_gives _ _ c.args.number _ _ _ _ _ full well asks answers text in
-    let same : c.respond.new.self.limits ≡ c.args.self.now.limits = search rules in
-    (subst (λ o. LineGives c.args.self.now.limits c.args.self.now.domains c.args.number (option_copied o) c.push_reply.new.bytes.items false c.respond.new.self.domains) (sym c.in-Some.is)
-        (subst (λ w. WordsGive c.args.self.now.limits c.args.self.now.domains c.args.number w c.push_reply.new.bytes.items false c.respond.new.self.domains) words gives), same)
+    let same : c.respond.new.self.limits ≡ c.args.self.now.limits = search rules in (
+      subst (λ o. LineGives c.args.self.now.limits c.args.self.now.domains c.args.number (option_copied o) c.push_reply.new.bytes.items false c.respond.new.self.domains) (sym c.in-Some.is)
+          (subst (λ w. WordsGive c.args.self.now.limits c.args.self.now.domains c.args.number w c.push_reply.new.bytes.items false c.respond.new.self.domains) words gives),
+      same,
+    )
 
 pub returns : goal.returns
 returns g c =
@@ -31,8 +33,10 @@ returns g c =
     let full : is_skipped (texts c.deref-2.result.now) ≡ false = search rules in
     let wrong : fault_of (scene_of c.args.self.now.domains) (texts c.deref-2.result.now) ≡ Some c.in-Err.fault = search rules in
     IfOk-weaker c.faulty-in-Err.result _ _ (λ b told.
-        let text = told.1 ∙ ap (λ l. l ++ reply_text (reply.Faulty c.args.number c.in-Err.fault)) c.requires in
-        let gives = fault_gives c.args.self.now.limits c.args.self.now.domains c.args.number (texts c.deref-2.result.now) c.faulty-in-Err.new.reply.items c.in-Err.fault full wrong text in
-        (subst (λ o. LineGives c.args.self.now.limits c.args.self.now.domains c.args.number (option_copied o) c.faulty-in-Err.new.reply.items b c.args.self.now.domains) (sym c.in-Some.is)
-            (subst (λ w. WordsGive c.args.self.now.limits c.args.self.now.domains c.args.number w c.faulty-in-Err.new.reply.items b c.args.self.now.domains) words
-                (subst (λ z. WordsGive c.args.self.now.limits c.args.self.now.domains c.args.number (texts c.deref-2.result.now) c.faulty-in-Err.new.reply.items z c.args.self.now.domains) (sym told.0) gives)), refl)) c.faulty-in-Err.ensures
+    let text = told.1 ∙ ap (λ l. l ++ reply_text (reply.Faulty c.args.number c.in-Err.fault)) c.requires in
+    let gives = fault_gives c.args.self.now.limits c.args.self.now.domains c.args.number (texts c.deref-2.result.now) c.faulty-in-Err.new.reply.items c.in-Err.fault full wrong text in (
+      subst (λ o. LineGives c.args.self.now.limits c.args.self.now.domains c.args.number (option_copied o) c.faulty-in-Err.new.reply.items b c.args.self.now.domains) (sym c.in-Some.is)
+          (subst (λ w. WordsGive c.args.self.now.limits c.args.self.now.domains c.args.number w c.faulty-in-Err.new.reply.items b c.args.self.now.domains) words
+          (subst (λ z. WordsGive c.args.self.now.limits c.args.self.now.domains c.args.number (texts c.deref-2.result.now) c.faulty-in-Err.new.reply.items z c.args.self.now.domains) (sym told.0) gives)),
+      refl,
+    )) c.faulty-in-Err.ensures
