@@ -5,10 +5,17 @@ ghost use Rattle.domain.specs.Waiting.{HasNoneOpen, Synchronizes, WaitsInVain};
 
 use crate::cpu::Cpu;
 use crate::domain::Domain;
-use scan::Exhausted;
+use scan::{Exhausted, Progress};
 use std::alloc::Allocator;
 use std::sync::Wait;
 use std::thread::yield_now;
+
+/// Lets other threads run where the engine waits for a section. Behind any other answer there is something to do at once.
+fn give_way(answer: Progress) {
+    if let Progress::Waiting(_) = answer {
+        yield_now();
+    }
+}
 
 impl<A: Allocator> Domain<A> {
     /// Waits until every section is closed that is open now (`synchronize_srcu`): it asks for one grace period, once, and
@@ -26,13 +33,12 @@ impl<A: Allocator> Domain<A> {
         let mut cookie = self.start_poll(cpu);
         for _ in rt.forever() {
             match self.advance(rt, cpu) {
-                Ok(_) => {}
+                Ok(answer) => give_way(answer),
                 Err(_) => return Err(Exhausted),
             }
             if cpu.poll(&mut cookie) {
                 return Ok(());
             }
-            yield_now();
         }
         unreachable!()
     }
