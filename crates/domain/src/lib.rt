@@ -5,6 +5,8 @@
 mod cpu;
 mod domain;
 mod refusals;
+#[cfg(test)]
+mod tests;
 mod tied;
 
 pub use cpu::Cpu;
