@@ -1,5 +1,5 @@
 -- For the tests with threads: what they begin with, and what they end with.
-use Rattle.std.proofs.Common.{◌≡◌, ℕ, ◌<◌, List, [], ◌∷◌, All, refl, sym, subst, arith}
+use Rattle.std.proofs.Common.{◌≡◌, List, [], ◌∷◌, All, refl, sym, subst, arith}
 use Rattle.std.proofs.lemmas.List.Elements.{All-nil, All-cons}
 use mathlib.Core.Logic.{dite}
 use native.Mathlib.Decide.{ℕ_discrete}
@@ -31,6 +31,6 @@ module _ {T : Type 0} (d : DeskView) where
         let e = third.1 in
         let f = fourth.1 in
         dite (ℕ_discrete n 0) (λ is. (0, omega arith, omega (arith, a, is))) (λ n0.
-            dite (ℕ_discrete n 1) (λ is. (1, omega arith, omega (arith, b, is))) (λ n1.
-                dite (ℕ_discrete n 2) (λ is. (2, omega arith, omega (arith, e, is))) (λ n2. (3, omega arith, omega (arith, f, lt, four, n0, n1, n2)))));
+        dite (ℕ_discrete n 1) (λ is. (1, omega arith, omega (arith, b, is))) (λ n1.
+        dite (ℕ_discrete n 2) (λ is. (2, omega arith, omega (arith, e, is))) (λ n2. (3, omega arith, omega (arith, f, lt, four, n0, n1, n2)))));
   }

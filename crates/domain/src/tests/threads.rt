@@ -117,11 +117,7 @@ fn hand_on(
 }
 
 /// Takes what lies on the desk, as soon as something does.
-fn wait_at_desk<R: Clock>(
-    rt: &R,
-    seat: &mut DeskSeat<Held>,
-    desk: &Desk<Held>,
-) -> Option<Held>
+fn wait_at_desk<R: Clock>(rt: &R, seat: &mut DeskSeat<Held>, desk: &Desk<Held>) -> Option<Held>
     requires { seat.old.desk ≡ desk.now.desk }
     ensures seat { (seat.new.desk ≡ seat.old.desk) × (seat.new.number ≡ seat.old.number) }
     ensures domain { IfSome result (λ held. held.domain ≡ seat.old.domain) }
@@ -201,9 +197,15 @@ fn desk_cross(rt: HostRuntime) -> Result<(), Fail> {
     };
     let ended = Number::new(4).unwrap_or(Number::zero());
     assert_eq!(rt; (crossing.opened_on, crossing.closed_on), (0, 1));
-    assert_eq!(rt; crossing.before, (Ok(Progress::Waiting(Index::Zero)), false));
+    assert_eq!(rt;
+        crossing.before,
+        (Ok(Progress::Waiting(Index::Zero)), false)
+    );
     assert_eq!(rt; crossing.behind, (Ok(Progress::Ended(ended)), true));
-    assert_eq!(rt; (tally.opened.load(SeqCst), tally.closing.load(SeqCst)), (1, 0));
+    assert_eq!(rt;
+        (tally.opened.load(SeqCst), tally.closing.load(SeqCst)),
+        (1, 0)
+    );
     Ok(())
 }
 
@@ -363,7 +365,27 @@ const THREADS: u64 = 4;
 /// How many sections each of them opens.
 const TIMES: u32 = 250;
 
-/// Four threads hand sections on, each with a processor and a seat of its own.
+/// Two threads hand sections on, each with a processor and a seat of its own.
+fn hand_on_by_two<R: Threads + Sync>(
+    rt: &R,
+    here: (Cpu, DeskSeat<Held>),
+    there: (Cpu, DeskSeat<Held>),
+    desk: &Desk<Held>,
+    tally: &Tally,
+) -> (DeskSeat<Held>, DeskSeat<Held>)
+    requires here { (here.1.desk ≡ desk.now.desk) × (here.0.cpu.domain ≡ here.1.domain) }
+    requires there { (there.1.desk ≡ desk.now.desk) × (there.0.cpu.domain ≡ there.1.domain) }
+    ensures here { (result.0.desk ≡ here.1.desk) × (result.0.number ≡ here.1.number) }
+    ensures there { (result.1.desk ≡ there.1.desk) × (result.1.number ≡ there.1.number) }
+{
+    join(
+        rt,
+        || hand_on(here.0, here.1, desk, tally, TIMES),
+        || hand_on(there.0, there.1, desk, tally, TIMES),
+    )
+}
+
+/// Four threads hand sections on.
 fn hand_on_by_four<R: Threads + Sync>(
     rt: &R,
     cpus: Cpus,
@@ -380,22 +402,14 @@ fn hand_on_by_four<R: Threads + Sync>(
     ensures third { (result.third.desk ≡ seats.third.desk) × (result.third.number ≡ seats.third.number) }
     ensures fourth { (result.fourth.desk ≡ seats.fourth.desk) × (result.fourth.number ≡ seats.fourth.number) }
 {
+    let one = (cpus.first, seats.first);
+    let two = (cpus.second, seats.second);
+    let three = (cpus.third, seats.third);
+    let four = (cpus.fourth, seats.fourth);
     let ((first, second), (third, fourth)) = join(
         rt,
-        || {
-            join(
-                rt,
-                || hand_on(cpus.first, seats.first, desk, tally, TIMES),
-                || hand_on(cpus.second, seats.second, desk, tally, TIMES),
-            )
-        },
-        || {
-            join(
-                rt,
-                || hand_on(cpus.third, seats.third, desk, tally, TIMES),
-                || hand_on(cpus.fourth, seats.fourth, desk, tally, TIMES),
-            )
-        },
+        || hand_on_by_two(rt, one, two, desk, tally),
+        || hand_on_by_two(rt, three, four, desk, tally),
     );
     Seats {
         first,
@@ -471,7 +485,10 @@ fn desk_of_a_thousand(rt: HostRuntime) -> Result<(), Fail> {
     driver.up_read(held);
     let late = ends_in_some_turns(&rt, &domain, &mut driver);
     let again = ends_in_some_turns(&rt, &domain, &mut driver);
-    assert_eq!(rt; (tally.opened.load(SeqCst), tally.closing.load(SeqCst)), (1000, 999));
+    assert_eq!(rt;
+        (tally.opened.load(SeqCst), tally.closing.load(SeqCst)),
+        (1000, 999)
+    );
     assert_eq!(rt; (in_time, early, late, again), (true, false, true, true));
     Ok(())
 }

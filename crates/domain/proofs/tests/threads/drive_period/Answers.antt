@@ -1,5 +1,5 @@
 -- Each call leaves the processor in its domain, and the cookie was given there.
-use Rattle.std.proofs.Common.{sym, ap, ◌∙◌}
+use Rattle.std.proofs.Common.{ap, ◌∙◌}
 use Rattle.domain.proofs.tests.threads.drive_period.Goals as goal
 
 pub loop-init : goal.loop-init

@@ -11,7 +11,9 @@ returns-clause-of c =
     let all : All P c.in_ok-domain.cpus.items = all_are_ready _ _ c.in_ok-domain.ensures.made in
     let second = All-pop P _ _ _ c.pop.ensures.items all in
     let first = All-pop P _ _ _ c.pop-2.ensures.items second.0 in
-    (rw c.unwrap-first.ensures at first.1.0, rw c.unwrap-second.ensures at second.1.0)
+    let at_first : IsReady c.in_ok-domain.domain c.unwrap-first.result = rw c.unwrap-first.ensures at first.1 in
+    let at_second : IsReady c.in_ok-domain.domain c.unwrap-second.result = rw c.unwrap-second.ensures at second.1 in
+    (at_first.0, at_second.0)
 
 pub returns-clause-none : goal.returns-clause-none
 returns-clause-none c =
@@ -19,4 +21,6 @@ returns-clause-none c =
     let all : All P c.in_ok-domain.cpus.items = all_are_ready _ _ c.in_ok-domain.ensures.made in
     let second = All-pop P _ _ _ c.pop.ensures.items all in
     let first = All-pop P _ _ _ c.pop-2.ensures.items second.0 in
-    (rw c.unwrap-first.ensures at first.1.1, rw c.unwrap-second.ensures at second.1.1)
+    let at_first : IsReady c.in_ok-domain.domain c.unwrap-first.result = rw c.unwrap-first.ensures at first.1 in
+    let at_second : IsReady c.in_ok-domain.domain c.unwrap-second.result = rw c.unwrap-second.ensures at second.1 in
+    (at_first.1, at_second.1)
