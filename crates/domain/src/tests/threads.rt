@@ -368,20 +368,22 @@ const TIMES: u32 = 250;
 /// Two threads hand sections on, each with a processor and a seat of its own.
 fn hand_on_by_two<R: Threads + Sync>(
     rt: &R,
-    here: (Cpu, DeskSeat<Held>),
-    there: (Cpu, DeskSeat<Held>),
+    first_cpu: Cpu,
+    second_cpu: Cpu,
+    first: DeskSeat<Held>,
+    second: DeskSeat<Held>,
     desk: &Desk<Held>,
     tally: &Tally,
 ) -> (DeskSeat<Held>, DeskSeat<Held>)
-    requires here { (here.1.desk ≡ desk.now.desk) × (here.0.cpu.domain ≡ here.1.domain) }
-    requires there { (there.1.desk ≡ desk.now.desk) × (there.0.cpu.domain ≡ there.1.domain) }
-    ensures here { (result.0.desk ≡ here.1.desk) × (result.0.number ≡ here.1.number) }
-    ensures there { (result.1.desk ≡ there.1.desk) × (result.1.number ≡ there.1.number) }
+    requires first { (first.desk ≡ desk.now.desk) × (first_cpu.cpu.domain ≡ first.domain) }
+    requires second { (second.desk ≡ desk.now.desk) × (second_cpu.cpu.domain ≡ second.domain) }
+    ensures first { (result.0.desk ≡ first.desk) × (result.0.number ≡ first.number) }
+    ensures second { (result.1.desk ≡ second.desk) × (result.1.number ≡ second.number) }
 {
     join(
         rt,
-        || hand_on(here.0, here.1, desk, tally, TIMES),
-        || hand_on(there.0, there.1, desk, tally, TIMES),
+        || hand_on(first_cpu, first, desk, tally, TIMES),
+        || hand_on(second_cpu, second, desk, tally, TIMES),
     )
 }
 
@@ -402,14 +404,36 @@ fn hand_on_by_four<R: Threads + Sync>(
     ensures third { (result.third.desk ≡ seats.third.desk) × (result.third.number ≡ seats.third.number) }
     ensures fourth { (result.fourth.desk ≡ seats.fourth.desk) × (result.fourth.number ≡ seats.fourth.number) }
 {
-    let one = (cpus.first, seats.first);
-    let two = (cpus.second, seats.second);
-    let three = (cpus.third, seats.third);
-    let four = (cpus.fourth, seats.fourth);
     let ((first, second), (third, fourth)) = join(
         rt,
-        || hand_on_by_two(rt, one, two, desk, tally),
-        || hand_on_by_two(rt, three, four, desk, tally),
+        ||
+            requires first { (seats.first.desk ≡ desk.now.desk) × (cpus.first.cpu.domain ≡ seats.first.domain) }
+            requires second { (seats.second.desk ≡ desk.now.desk) × (cpus.second.cpu.domain ≡ seats.second.domain) }
+        {
+            hand_on_by_two(
+                rt,
+                cpus.first,
+                cpus.second,
+                seats.first,
+                seats.second,
+                desk,
+                tally,
+            )
+        },
+        ||
+            requires third { (seats.third.desk ≡ desk.now.desk) × (cpus.third.cpu.domain ≡ seats.third.domain) }
+            requires fourth { (seats.fourth.desk ≡ desk.now.desk) × (cpus.fourth.cpu.domain ≡ seats.fourth.domain) }
+        {
+            hand_on_by_two(
+                rt,
+                cpus.third,
+                cpus.fourth,
+                seats.third,
+                seats.fourth,
+                desk,
+                tally,
+            )
+        },
     );
     Seats {
         first,
