@@ -1,4 +1,5 @@
 mod Covering
+mod ForThreads
 mod Founding
 mod Joining
 mod Lending

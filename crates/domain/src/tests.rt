@@ -1,1 +1,2 @@
 mod alone;
+mod threads;
