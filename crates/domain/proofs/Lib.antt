@@ -6,6 +6,7 @@ mod Meeting
 mod Preparing
 mod Rows
 mod Sameness
+mod Staying
 mod Synchronizing
 mod Turning
 pub mod CallerLemmas
