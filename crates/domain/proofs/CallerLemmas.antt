@@ -13,8 +13,10 @@ pub use Rattle.domain.proofs.Covering.{raises_beginning_refl, raises_beginning_t
 pub use Rattle.domain.proofs.Sameness.{same_stepped_in, same_advanced_in, same_started_in}
 -- behind `start_poll`, and behind `need`
 pub use Rattle.domain.proofs.Sameness.{same_asked, same_need}
--- behind a call at its seat at the domain's words
-pub use Rattle.domain.proofs.Sameness.{same_polled}
+-- behind a call at its seat at the domain's words, as `take_ready`, and at its seat at the tally words, as `finish`
+pub use Rattle.domain.proofs.Sameness.{same_polled, same_finished}
+-- so is its seat at the tally words where it is as it was, and where both are the same, they are still of one domain
+pub use Rattle.domain.proofs.Staying.{seat_the_same, still_fits}
 -- behind one call and then another
 pub use Rattle.domain.proofs.Sameness.{same_trans}
 -- where each is the same, and still of the domain, they are all of it

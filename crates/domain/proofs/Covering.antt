@@ -3,7 +3,6 @@ use Rattle.std.proofs.Common.{◌≡◌, ℕ, ◌+◌, ◌<◌, ◌≤◌, List,
 use Rattle.std.proofs.lemmas.List.{map-append}
 use Rattle.onedom.specs.Histories as events
 use Rattle.onedom.proofs.CallerLemmas.{beginning_refl, beginning_trans}
-use Rattle.sections.specs.declared.view.Step.{Step}
 use Rattle.sections.specs.declared.view.Step.TheVariants.{LoadIndex}
 use Rattle.sections.specs.Views as sections
 use Rattle.sections.specs.declared.view.Shown.TheVariants.{To}
@@ -131,7 +130,7 @@ pub admitted_here : (e e0 : Engine) (n n0 : FunnelView) (c : CpuView) (cpu' : se
     → events.IsBeginning c.cpu.seen e0.seat.seen × (c.cpu.changes ≤ e0.seat.changes) → tree.IsBeginning c.needs.seen n0.seen
     → cpu_calls.Accepts c.cpu e.seat.seen e.seat.changes cpu' → cpu_calls.IsSeenBy c.cpu → c.cpu.processors ≡ e.seat.processors → ((m : ℕ) → e.seat.shown ≡ To c.cpu.processor m → m ≤ c.cpu.changes)
     → funnel.Accepts c.needs n.seen needs'
-    → IsAdmitted e0.seat n0 c (record { cpu = cpu'; needs = needs'; turn = c.turn })
+    → IsAdmitted e0.seat n0 c (record { cpu = cpu'; needs = needs'; turn = c.turn; calls = c.calls })
 admitted_here e e0 n n0 c cpu' needs' same_engine same_needs since raises accepts was sized heard a = record {
   cpu = record { accepts = subst (λ (z : Engine). cpu_calls.Accepts c.cpu z.seat.seen z.seat.changes cpu') same_engine accepts; since = since.0; later = since.1 };
   was = was;
@@ -140,4 +139,5 @@ admitted_here e e0 n n0 c cpu' needs' same_engine same_needs since raises accept
   needs = record { same = a.same; mine = a.mine; found = a.found ∷ []; loads = a.loads; since = raises; seen = a.seen ∙ ap (λ (z : FunnelView). z.seen) same_needs; history = a.history };
   one_load = refl;
   turn = refl;
+  calls = refl;
 }

@@ -1,21 +1,22 @@
 -- What a turn with a lent processor does, from the steps that it is made of.
-use Rattle.std.proofs.Common.{◌≡◌, ℕ, ◌<◌, ◌+◌, refl, sym, ap, ◌∙◌, subst, arith, false, true, Some, None, ◌⊎◌}
+use Rattle.std.proofs.Common.{◌≡◌, ℕ, ◌+◌, sym, ap, ◌∙◌, subst, arith, true, Some, None}
 use mathlib.Core.Logic.{dite, inl, inr}
 use native.Mathlib.Decide.{dec_le, ℕ_discrete}
-use Rattle.atomic_table.specs.Seated.{TableId}
-use Rattle.onedom.specs.Histories.{ended_in, starts_in, IsRunning}
+use Rattle.onedom.specs.Histories.{ended_in, starts_in}
 use Rattle.sections.specs.Views as sections
+use Rattle.sections.specs.Calls.{IsSameCpu}
 use Rattle.sections.specs.EngineCalls.{TiesEngine}
 use Rattle.scan.specs.declared.progress.Progress.{Progress}
 use Rattle.scan.specs.declared.progress.StartRefusal as scan
 use Rattle.scan.specs.declared.progress.StartRefusal.TheVariants as refused
-use Rattle.scan.specs.Progress.{NeedsLoaded, StepsTo, AdvancesTo, FindsExhausted, StartsTo, IsNoStart, with_seat}
+use Rattle.scan.specs.Progress.{NeedsLoaded, StepsTo, AdvancesTo, FindsExhausted, StartsTo, with_seat}
 use Rattle.funnel.specs.Views.{FunnelView}
-use Rattle.funnel.specs.Calls.{LoadsRoot, IsSameSeat, IsOfProcessor}
+use Rattle.funnel.specs.Calls.{LoadsRoot, IsSameSeat}
 use Rattle.desk.specs.BayViews.{BaySeatView}
 use Rattle.desk.specs.BayCalls.{holds, MakesSwap}
+use Rattle.domain.proofs.Staying.{still_fits, seat_the_same}
 use Rattle.domain.specs.Views.{Engine, DomainView, CpuView, IsOf, IsSameProcessor, with_needs}
-use Rattle.domain.specs.Turns.{Takes, TakesTurn, IsLent, GivesBack, Lends, StartsNone, IsNotStarted}
+use Rattle.domain.specs.Turns.{Takes, IsLent, GivesBack, Lends, StartsNone, IsNotStarted}
 use Rattle.domain.specs.Refusals.{refusal_of}
 
 -- the engine is taken at one seat
@@ -39,17 +40,22 @@ lends work d c c1 c' lent worked is l works b = record {
   ties = subst (λ (z : sections.CpuView). TiesEngine worked.seat z b.left.seat c'.cpu) l.cpu b.ties;
   rest = b.rest ∙ ap (λ (z : FunnelView). with_seat b.left.seat (with_needs z worked)) l.own;
   turn = record { took = c1.turn; takes = l.takes; puts = b.puts };
+  calls = b.calls ∙ l.calls;
 }
 
 -- the processor stays one of its domain
 pub still_of : (d : DomainView) (c c1 c' : CpuView) (lent worked : Engine) → IsOf d c → IsLent c lent c1 → GivesBack c1 worked c' → IsSameSeat lent.needs worked.needs → IsOf d c'
 still_of d c c1 c' lent worked is l b same =
-    let turn = turn_same c.turn l.found b.left c1.turn c'.turn l.takes b.puts in record {
-      domain = b.ties.accepts.same.0 ∙ (ap (λ (z : sections.CpuView). z.domain) l.cpu ∙ is.domain);
+    let turn = turn_same c.turn l.found b.left c1.turn c'.turn l.takes b.puts in
+    let cpu : IsSameCpu c.cpu c'.cpu = subst (λ (z : sections.CpuView). IsSameCpu z c'.cpu) l.cpu b.ties.accepts.same in
+    record {
+      domain = cpu.0 ∙ is.domain;
       bay = ap (λ (z : BaySeatView Engine). z.bay) turn ∙ is.bay;
       home = ap (λ (z : BaySeatView Engine). z.domain) turn ∙ is.home;
       free = b.free;
       asks = (is.asks.0, ap (λ (z : FunnelView). z.holder) b.needs ∙ (same.holder ∙ (ap (λ (z : Engine). z.needs.holder) l.in_place ∙ is.asks.1)));
+      many = cpu.1 ∙ is.many;
+      fits = still_fits d c c' cpu (seat_the_same _ _ (b.calls ∙ l.calls)) is.fits;
     }
 
 -- where it may be given back
@@ -110,6 +116,7 @@ module _ (work : Engine → Engine → Type 0) (c c' : CpuView) where
     cpu = h.ties.accepts.same;
     needs = subst (λ (z : FunnelView). IsSameSeat c.needs z) (sym h.needs) (keeps _ _ h.works);
     turn = turn_same c.turn h.found h.left h.turn.took c'.turn h.turn.takes h.turn.puts;
+    calls = seat_the_same _ _ h.calls;
   }
 
   pub mine_lent : ((v w : Engine) → work v w → w.needs.mine ≡ v.needs.mine) → Lends work c c' → c'.needs.mine ≡ c.needs.mine

@@ -8,6 +8,7 @@ mod Preparing
 mod Rows
 mod Sameness
 mod Starting
+mod Staying
 mod Synchronizing
 mod Turning
 pub mod CallerLemmas

@@ -1,14 +1,12 @@
 -- A meeting, from its parts.
-use Rattle.std.proofs.Common.{◌≡◌, ℕ, zero, suc, ◌+◌, ◌<◌, ◌≤◌, List, [], ◌∷◌, ◌++◌, map, get_or, length, false, Some, None, refl, sym, ap, ◌∙◌, subst, arith, append_assoc}
-use Rattle.atomic_table.specs.Seated.{TableId}
-use Rattle.onedom.specs.Histories as events
+use Rattle.std.proofs.Common.{◌≡◌, ℕ, zero, suc, ◌<◌, ◌≤◌, List, [], ◌∷◌, ◌++◌, map, get_or, length, false, Some, None, refl, sym, ap, ◌∙◌, subst, arith, append_assoc}
 use Rattle.onedom.proofs.CallerLemmas.{beginning_trans}
 use Rattle.sections.specs.declared.view.Step.{Step}
 use Rattle.sections.specs.declared.view.Step.TheVariants.{LoadIndex}
 use Rattle.sections.specs.declared.view.Shown.TheVariants.{To}
 use Rattle.sections.specs.Views as sections
 use Rattle.sections.specs.Calls as calls
-use Rattle.sections.specs.EngineCalls.{Covers, Joins, IsTied, HasSeenAll}
+use Rattle.sections.specs.EngineCalls.{Covers, Joins, IsTied}
 use Rattle.sections.proofs.CallerLemmas.{seen_all}
 use Rattle.scan.specs.Progress.{with_seat}
 use Rattle.funnel.specs.declared.view.Shape.{Shape}
@@ -17,18 +15,19 @@ use Rattle.funnel.specs.declared.view.Holder.TheVariants.{Processor}
 use Rattle.funnel.specs.declared.view.Raise.{Raise}
 use Rattle.funnel.specs.declared.view.Call.TheVariants.{Idle}
 use Rattle.funnel.specs.Views.{FunnelView}
-use Rattle.funnel.specs.Histories.{value, greatest, call_of, IsLegal}
+use Rattle.funnel.specs.Histories.{call_of, IsLegal}
 use Rattle.funnel.specs.Calls.{LoadsRoot, IsSeenBy, IsIdle}
 use Rattle.funnel.specs.Laws.{RootHasGreatest}
-use Rattle.desk.specs.Swaps.{Swap, lies_after, swaps_of}
+use Rattle.desk.specs.Swaps.{lies_after, swaps_of}
 use Rattle.desk.specs.BayViews.{BaySeatView}
 use Rattle.desk.specs.BayCalls.{holds, MakesSwap, Accepts}
-use Rattle.domain.specs.Views.{Engine, DomainView, CpuView, IsOf}
+use Rattle.domain.specs.Views.{Engine, DomainView, CpuView}
 use Rattle.domain.specs.Turns.{Takes, TakesTurn}
-use Rattle.domain.specs.Meetings.{IsAllOf, EngineMeets, JoinsTree, TreeMeets, TurnsMeet, MeetsHere}
+use Rattle.domain.specs.Meetings.{IsAllOf, EngineMeets, JoinsTree, TreeMeets, MeetsHere}
 use Rattle.domain.specs.Parts.{EngineCovers, NeedsCover, TurnCovers, EachBecomes, IsAdmitted, IsTurned}
 use Rattle.domain.proofs.Turning.{swaps_beginning_trans}
 use Rattle.domain.proofs.Lending.{turn_same}
+use Rattle.domain.proofs.Staying.{still_fits, seat_the_same}
 use Rattle.domain.proofs.Covering.{raises_beginning_trans}
 
 -- a swap behind loads is a swap behind what was there before them
@@ -52,7 +51,7 @@ module _ (d : DomainView) (c : CpuView) (cs cs1 cs2 : List CpuView) (e0 e1 e2 : 
     (accepts : calls.Accepts c.cpu e2.seat.seen e2.seat.changes cpu') (was : calls.IsSeenBy c.cpu) (sized : c.cpu.processors ≡ e2.seat.processors) (heard : (n : ℕ) → e2.seat.shown ≡ To c.cpu.processor n → n ≤ c.cpu.changes)
     (admitted : EachBecomes (IsAdmitted e2.seat n2) cs cs1) (puts : MakesSwap t2 (Some e2) None t3) (turned : EachBecomes (IsTurned t3) cs1 cs2) where
   abbrev pub after : List CpuView
-  after = record { cpu = cpu'; needs = n2; turn = t3 } ∷ cs2
+  after = record { cpu = cpu'; needs = n2; turn = t3; calls = c.calls } ∷ cs2
 
   same_count : length after ≡ length (c ∷ cs)
   same_count = ap suc (turned.count ∙ admitted.count)
@@ -130,6 +129,11 @@ module _ (d : DomainView) (c : CpuView) (cs cs1 cs2 : List CpuView) (e0 e1 e2 : 
   turn_stays zero x lt free _ = let same = turn_same c.turn e0 e2 took t3 takes (swap_behind took t2 t3 cs e2 turn puts) in (ap (λ (z : BaySeatView Engine). z.bay) same, ap (λ (z : BaySeatView Engine). z.domain) same, free)
   turn_stays (suc k) x lt _ free = let h = other_turn k x lt in (ap (λ (z : BaySeatView Engine). z.bay) h.is, ap (λ (z : BaySeatView Engine). z.domain) h.is, h.holding ∙ free)
 
+  -- the seats at the tally words
+  pub calls_still : (k : ℕ) (x : CpuView) → k < length (c ∷ cs) → (get_or after k x).calls ≡ (get_or (c ∷ cs) k x).calls
+  calls_still zero x lt = refl
+  calls_still (suc k) x lt = (turned.each k x (in_admitted k lt)).calls ∙ (admitted.each k x (in_others k lt)).calls
+
   pub all_still : holds t3 ≡ false → IsAllOf d (c ∷ cs) → IsAllOf d after
   all_still free all = record {
     some = omega arith;
@@ -139,6 +143,8 @@ module _ (d : DomainView) (c : CpuView) (cs cs1 cs2 : List CpuView) (e0 e1 e2 : 
       home = t.1 ∙ h.home;
       free = t.2;
       asks = (h.asks.0, n.same.holder ∙ h.asks.1);
+      many = j.accepts.same.1 ∙ h.many;
+      fits = still_fits d (get_or (c ∷ cs) k x) (get_or after k x) j.accepts.same (seat_the_same _ _ (calls_still k x l)) h.fits;
     };
     count = λ k x lt. (each_joins k x (within k lt)).accepts.same.1 ∙ (all.count k x (within k lt) ∙ sym same_count);
     order = λ k x lt. (each_joins k x (within k lt)).accepts.same.3 ∙ all.order k x (within k lt);
@@ -212,4 +218,5 @@ module _ (d : DomainView) (c : CpuView) (cs cs1 cs2 : List CpuView) (e0 e1 e2 : 
     rest = rest;
     needs = tree_meets law all;
     turns = record { swaps = t3.seen; seen = each_turned; first = λ x. first_turn; others = accepted_turns };
+    calls = calls_still;
   }

@@ -1,7 +1,5 @@
 -- That the parts of a meeting may be done.
-use Rattle.std.proofs.Common.{◌≡◌, ℕ, suc, ◌<◌, ◌≤◌, List, [], ◌∷◌, get_or, length, Some, None, refl, sym, ap, ◌∙◌, subst, arith}
-use Rattle.onedom.specs.Histories as events
-use Rattle.sections.specs.Views as sections
+use Rattle.std.proofs.Common.{◌≡◌, ℕ, suc, ◌<◌, List, ◌∷◌, get_or, length, Some, None, sym, ap, ◌∙◌, subst, arith}
 use Rattle.sections.specs.EngineCalls.{Covers}
 use Rattle.funnel.specs.Views.{FunnelView}
 use Rattle.funnel.specs.Calls.{LoadsRoot}

@@ -3,17 +3,18 @@ use Rattle.std.proofs.Common.{◌≡◌, ℕ, ◌<◌, List, length, slice_index
 use Rattle.std.specs.Prelude.{MatchResult, Result}
 use Rattle.sections.specs.Views as sections
 use Rattle.sections.specs.Calls.{IsSameCpu}
-use Rattle.funnel.specs.Views.{FunnelView}
+use Rattle.calls.specs.Calls.{IsSameSeat}
 use Rattle.desk.specs.BayViews.{BaySeatView}
 use Rattle.scan.specs.declared.progress.Progress.{Progress}
 use Rattle.domain.specs.declared.refusals.AdvanceRefusal.{AdvanceRefusal}
 use Rattle.domain.specs.declared.refusals.AdvanceRefusal.TheVariants as advance
 use Rattle.domain.specs.declared.refusals.StartRefusal.{StartRefusal}
 use Rattle.domain.specs.declared.refusals.StartRefusal.TheVariants as start
-use Rattle.domain.specs.Views.{Engine, DomainView, CpuView, IsOf, IsSameProcessor, with_cpu}
+use Rattle.domain.specs.Views.{Engine, DomainView, CpuView, IsOf, IsSameProcessor, with_cpu, with_calls}
 use Rattle.domain.specs.Turns.{StepsIn, AdvancesIn, IsRefused, StartsIn, IsNotStarted}
 use Rattle.domain.specs.Meetings.{IsAllOf}
 use Rattle.domain.specs.Waiting.{StartsPoll, LoadsNeed}
+use Rattle.domain.proofs.Staying.{seat_the_same, same_seat_trans}
 use Rattle.domain.proofs.Lending.{same_lent, same_stepped, same_advanced, same_exhausted, same_started, same_still}
 
 -- behind one call and then another
@@ -22,6 +23,7 @@ same_trans c d e h i = record {
   cpu = (i.cpu.0 ∙ h.cpu.0, i.cpu.1 ∙ h.cpu.1, i.cpu.2 ∙ h.cpu.2, i.cpu.3 ∙ h.cpu.3);
   needs = record { domain = i.needs.domain ∙ h.needs.domain; shape = i.needs.shape ∙ h.needs.shape; holder = i.needs.holder ∙ h.needs.holder };
   turn = i.turn ∙ ap (λ (z : BaySeatView Engine). record z { seen = e.turn.seen }) h.turn;
+  calls = same_seat_trans c.calls d.calls e.calls h.calls i.calls;
 }
 
 -- behind a call at its seat at the domain's words
@@ -30,6 +32,16 @@ same_polled c d same rest = record {
   cpu = same;
   needs = record { domain = ap (λ (z : CpuView). z.needs.domain) rest; shape = ap (λ (z : CpuView). z.needs.shape) rest; holder = ap (λ (z : CpuView). z.needs.holder) rest };
   turn = subst (λ (z : CpuView). z.turn ≡ record c.turn { seen = z.turn.seen }) (sym rest) refl;
+  calls = seat_the_same _ _ (ap (λ (z : CpuView). z.calls) rest);
+}
+
+-- behind a call at its seat at the tally words
+pub same_finished : (c d : CpuView) → IsSameSeat c.calls d.calls → d ≡ with_calls d.calls c → IsSameProcessor c d
+same_finished c d same rest = record {
+  cpu = (ap (λ (z : CpuView). z.cpu.domain) rest, ap (λ (z : CpuView). z.cpu.processors) rest, ap (λ (z : CpuView). z.cpu.sections) rest, ap (λ (z : CpuView). z.cpu.processor) rest);
+  needs = record { domain = ap (λ (z : CpuView). z.needs.domain) rest; shape = ap (λ (z : CpuView). z.needs.shape) rest; holder = ap (λ (z : CpuView). z.needs.holder) rest };
+  turn = subst (λ (z : CpuView). z.turn ≡ record c.turn { seen = z.turn.seen }) (sym rest) refl;
+  calls = same;
 }
 
 -- behind `start_poll`
@@ -38,6 +50,7 @@ same_asked c d k h = record {
   cpu = h.gives.notes.adds.same;
   needs = h.asks.same;
   turn = subst (λ (z : BaySeatView Engine). z ≡ record c.turn { seen = z.seen }) (sym h.turn) refl;
+  calls = seat_the_same _ _ h.calls;
 }
 
 -- behind `need`
@@ -46,6 +59,7 @@ same_need c d n h = record {
   cpu = (ap (λ (z : CpuView). z.cpu.domain) h.rest, ap (λ (z : CpuView). z.cpu.processors) h.rest, ap (λ (z : CpuView). z.cpu.sections) h.rest, ap (λ (z : CpuView). z.cpu.processor) h.rest);
   needs = h.load.same;
   turn = subst (λ (z : CpuView). z.turn ≡ record c.turn { seen = z.turn.seen }) (sym h.rest) refl;
+  calls = seat_the_same _ _ (ap (λ (z : CpuView). z.calls) h.rest);
 }
 
 -- behind a turn of the engine, whatever the answer

@@ -1,22 +1,23 @@
 -- Waiting for a grace period: a cookie, and then turns and polls until it is done.
-use Rattle.std.proofs.Common.{◌≡◌, ℕ, ◌+◌, Bool, true, false, not, IsTrue, List, [], ◌∷◌, ◌++◌, All, length, filter, refl, sym, ap, ◌∙◌, subst, append_assoc, append-nil, length-append, arith}
+use Rattle.std.proofs.Common.{◌≡◌, ℕ, ◌+◌, Bool, true, false, not, List, [], ◌∷◌, ◌++◌, All, length, filter, refl, sym, ap, ◌∙◌, subst, append_assoc, append-nil, length-append}
 use Rattle.std.proofs.lemmas.List.Elements.{All-nil, All-cons, All-head, All-tail, All-append}
 use Rattle.onedom.specs.declared.event.Event.{Event}
 use Rattle.onedom.specs.declared.event.Event.TheVariants.{Note, Ask}
 use Rattle.onedom.specs.declared.event.Maker.{Maker}
 use Rattle.onedom.specs.declared.event.Maker.TheVariants.{Processor}
 use Rattle.onedom.specs.Histories.{IsBeginning, open_sections}
-use Rattle.onedom.proofs.CallerLemmas.{beginning_refl, beginning_trans, beginning_push, beginning_append, open_sections_plain}
-use Rattle.sections.specs.Words.{is_held, open_readings}
+use Rattle.onedom.proofs.CallerLemmas.{beginning_trans, open_sections_plain}
+use Rattle.sections.specs.Words.{is_held}
 use Rattle.sections.specs.Views as sections
-use Rattle.sections.specs.Calls.{IsSameCpu, GivesCookie, Asks, AllClosed}
+use Rattle.sections.specs.Calls.{Asks, AllClosed}
 use Rattle.scan.specs.declared.progress.Progress.{Progress}
 use Rattle.domain.specs.declared.refusals.AdvanceRefusal.{AdvanceRefusal}
 use Rattle.domain.specs.declared.refusals.AdvanceRefusal.TheVariants as advance
-use Rattle.domain.specs.Views.{Engine, DomainView, CpuView, IsOf, IsSameProcessor, with_cpu}
-use Rattle.domain.specs.Turns.{Lends, AdvancesIn, FindsExhaustedIn, IsRefused}
-use Rattle.domain.specs.Waiting.{StartsPoll, HasNoneOpen, HasNoted, Polls, TurnsAndPolls, RoundsThrough, WaitsUntil, Synchronizes, WaitsInVain}
+use Rattle.domain.specs.Views.{DomainView, CpuView, IsOf, IsSameProcessor, with_cpu}
+use Rattle.domain.specs.Turns.{AdvancesIn, FindsExhaustedIn, IsRefused}
+use Rattle.domain.specs.Waiting.{StartsPoll, HasNoneOpen, HasNoted, TurnsAndPolls, RoundsThrough, Synchronizes, WaitsInVain}
 use Rattle.domain.proofs.Lending.{same_lent, same_advanced, same_exhausted, mine_lent, mine_advanced, mine_exhausted}
+use Rattle.domain.proofs.Staying.{still_with_cpu}
 use Rattle.domain.proofs.Sameness.{same_trans, same_polled, same_asked}
 
 -- Turns
@@ -26,13 +27,14 @@ pub record Turned (x y : CpuView) : Type 0 where
   pub same : IsSameProcessor x y
   pub mine : y.cpu.mine ≡ x.cpu.mine
   pub asked : y.needs.mine ≡ x.needs.mine
+  pub calls : y.calls ≡ x.calls
   pub since : IsBeginning x.cpu.seen y.cpu.seen
 
 pub turned_advanced : (x y : CpuView) (a : Progress) → AdvancesIn x a y → Turned x y
-turned_advanced x y a h = record { same = same_lent _ x y (λ v w. same_advanced v w a) h; mine = h.ties.accepts.mine; asked = mine_lent _ x y (λ v w. mine_advanced v w a) h; since = h.ties.since }
+turned_advanced x y a h = record { same = same_lent _ x y (λ v w. same_advanced v w a) h; mine = h.ties.accepts.mine; asked = mine_lent _ x y (λ v w. mine_advanced v w a) h; calls = h.calls; since = h.ties.since }
 
 pub turned_exhausted : (x y : CpuView) → FindsExhaustedIn x y → Turned x y
-turned_exhausted x y h = record { same = same_lent _ x y same_exhausted h; mine = h.ties.accepts.mine; asked = mine_lent _ x y mine_exhausted h; since = h.ties.since }
+turned_exhausted x y h = record { same = same_lent _ x y same_exhausted h; mine = h.ties.accepts.mine; asked = mine_lent _ x y mine_exhausted h; calls = h.calls; since = h.ties.since }
 
 -- while it waits for the engine there is just this refusal
 pub only_exhausted : (x y : CpuView) (r : AdvanceRefusal) → IsRefused x r y → FindsExhaustedIn x y
@@ -66,6 +68,7 @@ pub record HasWaited (d : DomainView) (c : CpuView) (k : sections.CookieView) (a
   pub rounds : List CpuView
   pub through : Rounds k rounds asked at
   pub no_more : x.needs.mine ≡ asked.needs.mine
+  pub calls : x.calls ≡ c.calls
   pub vain : List Event
   pub all_vain : All (λ e. e ≡ Ask k.number false (Processor c.cpu.processor)) vain
   pub one_each : length vain ≡ length rounds
@@ -87,6 +90,7 @@ begins d c x k here h =
       rounds = [];
       through = refl;
       no_more = refl;
+      calls = h.calls;
       vain = [];
       all_vain = All-nil _;
       one_each = refl;
@@ -105,6 +109,7 @@ turns d c x y k h here t = record {
   rounds = h.rounds;
   through = h.through;
   no_more = t.asked ∙ h.no_more;
+  calls = t.calls ∙ h.calls;
   vain = h.vain;
   all_vain = h.all_vain;
   one_each = h.one_each;
@@ -112,8 +117,9 @@ turns d c x y k h here t = record {
   since = beginning_trans h.since t.since;
 }
 
-still_here : (d : DomainView) (x y : CpuView) → IsOf d x → y.cpu.domain ≡ x.cpu.domain → y ≡ with_cpu y.cpu x → IsOf d y
-still_here d x y is same rest = subst (λ (z : CpuView). IsOf d z) (sym rest) record { domain = same ∙ is.domain; bay = is.bay; home = is.home; free = is.free; asks = is.asks }
+-- a poll leaves the seat at the tally words as it was
+polled_calls : (x y : CpuView) → y ≡ with_cpu y.cpu x → y.calls ≡ x.calls
+polled_calls x y rest = ap (λ (z : CpuView). z.calls) rest
 
 -- one more own event behind those that were made
 one_more : (before : List Event) (e : Event) (es : List Event) (last : Event) → (before ++ e ∷ es) ++ last ∷ [] ≡ before ++ e ∷ (es ++ last ∷ [])
@@ -139,7 +145,7 @@ module _ (d : DomainView) (c at x y : CpuView) (k : sections.CookieView) (answer
 -- the round is at its end, in vain
 pub asks_in_vain : (d : DomainView) (c at x y : CpuView) (k : sections.CookieView) (a : Progress) → HasWaited d c k at x → AdvancesIn at a x → Asks k.seen k.changes k.number false x.cpu y.cpu → y ≡ with_cpu y.cpu x → HasWaited d c k y y
 asks_in_vain d c at x y k p h turn a rest = record {
-  here = still_here d x y h.here a.adds.same.0 rest;
+  here = still_with_cpu d x y h.here a.adds.same rest;
   same = same_trans c x y h.same (same_polled x y a.adds.same rest);
   of_domain = h.of_domain;
   gives = h.gives;
@@ -148,6 +154,7 @@ asks_in_vain d c at x y k p h turn a rest = record {
   rounds = h.rounds ++ y ∷ [];
   through = one_more_round k h.rounds h.asked at y h.through record { progress = p; turned = x; turns = turn; polls = record { asks = a; rest = rest } };
   no_more = asks_no_more d c at x y k false h rest;
+  calls = polled_calls x y rest ∙ h.calls;
   vain = h.vain ++ Ask k.number false (Processor c.cpu.processor) ∷ [];
   all_vain = All-append (λ e. e ≡ Ask k.number false (Processor c.cpu.processor)) h.vain _ h.all_vain (All-cons (λ e. e ≡ Ask k.number false (Processor c.cpu.processor)) (Ask k.number false (Processor c.cpu.processor)) [] refl (All-nil _));
   one_each = length-append h.vain (Ask k.number false (Processor c.cpu.processor) ∷ []) ∙ (ap (λ n. n + 1) h.one_each ∙ sym (length-append h.rounds (y ∷ [])));
@@ -166,6 +173,7 @@ synchronizes d c at x y k p h turn a rest closed = record {
     rounds = h.rounds;
     through = and_the_last (TurnsAndPolls true k) k h.rounds h.asked at y h.through record { progress = p; turned = x; turns = turn; polls = record { asks = a; rest = rest } };
     no_more = asks_no_more d c at x y k true h rest;
+    calls = polled_calls x y rest ∙ h.calls;
   };
   gives = h.gives;
   last = a.adds.before;
@@ -188,6 +196,7 @@ waits_in_vain d c x y k h refused =
         rounds = h.rounds;
         through = and_the_last FindsExhaustedIn k h.rounds h.asked x y h.through refused;
         no_more = t.asked ∙ h.no_more;
+        calls = t.calls ∙ h.calls;
       };
       gives = h.gives;
       vain = h.vain;

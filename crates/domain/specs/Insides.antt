@@ -13,8 +13,9 @@ module _ {A : Type 0} where
   abbrev pub IsTiedInside : tied.Inside A → Type 0
   IsTiedInside t = IsTied t.engine.seat
 
-  abbrev pub view_of_cpu : cpu.Inside A → CpuView
-  view_of_cpu c = record { cpu = c.cpu; needs = c.needs; turn = c.turn }
+module _ {J A : Type 0} where
+  abbrev pub view_of_cpu : cpu.Inside J A → CpuView
+  view_of_cpu c = record { cpu = c.cpu; needs = c.needs; turn = c.turn; calls = c.calls }
 
-  abbrev pub view_of_domain : domain.Inside A → DomainView
-  view_of_domain d = record { domain = d.bay.domain; bay = d.bay.bay }
+  abbrev pub view_of_domain : domain.Inside J A → DomainView
+  view_of_domain d = record { domain = d.calls.domain; bay = d.bay.bay; tallies = d.calls.tallies; processors = d.calls.processors }

@@ -6,5 +6,6 @@ pub mod Turns
 pub mod Meetings
 pub mod Parts
 pub mod Waiting
+pub mod Calling
 pub mod Making
 pub mod Insides

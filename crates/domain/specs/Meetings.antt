@@ -1,11 +1,9 @@
 -- What a meeting of all processors of a domain is.
-use Rattle.std.specs.Prelude.{◌≡◌, ℕ, ◌+◌, ◌<◌, ◌≤◌, ◌++◌, [], ◌∷◌, List, length, map, slice_index_or}
+use Rattle.std.specs.Prelude.{◌≡◌, ℕ, ◌<◌, ◌++◌, List, length, map, slice_index_or}
 use Rattle.atomic_table.specs.Seated.{TableId}
-use Rattle.onedom.specs.declared.event.Event.{Event}
 use Rattle.onedom.specs.Histories as events
 use Rattle.sections.specs.declared.view.Step.TheVariants.{LoadIndex}
 use Rattle.sections.specs.Views as sections
-use Rattle.sections.specs.Calls as calls
 use Rattle.sections.specs.EngineCalls.{IsSeenByEngine, IsSameEngine, HasSeenAll, Joins}
 use Rattle.scan.specs.Progress.{with_seat}
 use Rattle.funnel.specs.declared.view.Shape.{Shape}
@@ -80,7 +78,7 @@ pub record TurnsMeet (cpus : List CpuView) (found left : Engine) (cpus' : List C
 
 -- All of it
 
--- the engine, which was found and left, and all processors have seen one history, one list of raises and one of swaps
+-- the engine, which was found and left, and all processors have seen one history, one list of raises and one of swaps. Their seats at the tally words stayed as they were
 pub record MeetsHere (cpus cpus' : List CpuView) : Type 0 where
   pub found : Engine
   pub left : Engine
@@ -89,3 +87,4 @@ pub record MeetsHere (cpus cpus' : List CpuView) : Type 0 where
   pub rest : left ≡ with_seat left.seat found
   pub needs : TreeMeets cpus cpus'
   pub turns : TurnsMeet cpus found left cpus'
+  pub calls : (k : ℕ) (c : CpuView) → k < length cpus → (slice_index_or cpus' k c).calls ≡ (slice_index_or cpus k c).calls

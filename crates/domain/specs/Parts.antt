@@ -1,6 +1,5 @@
 -- What the parts of a meeting do: the first processor has the engine, and there are others.
 use Rattle.std.specs.Prelude.{◌≡◌, ℕ, ◌<◌, ◌≤◌, ◌++◌, List, length, map, slice_index_or}
-use Rattle.atomic_table.specs.Seated.{TableId}
 use Rattle.onedom.specs.Histories as events
 use Rattle.sections.specs.declared.view.Step.TheVariants.{LoadIndex}
 use Rattle.sections.specs.declared.view.Shown.TheVariants.{To}
@@ -77,9 +76,11 @@ pub record IsAdmitted (e : sections.EngineView) (n : FunnelView) (c c' : CpuView
   pub needs : JoinsTree c.needs n.seen c'.needs
   pub one_load : length needs.found ≡ 1
   pub turn : c'.turn ≡ c.turn
+  pub calls : c'.calls ≡ c.calls
 
 -- it has seen just the swaps that this seat has
 pub record IsTurned (t : BaySeatView Engine) (c c' : CpuView) : Type 0 where
   pub cpu : c'.cpu ≡ c.cpu
   pub needs : c'.needs ≡ c.needs
   pub turn : Accepts c.turn t.seen c'.turn
+  pub calls : c'.calls ≡ c.calls

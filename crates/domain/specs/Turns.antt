@@ -1,6 +1,5 @@
 -- What a call does that drives the engine: it takes the engine from where it lies, has it work, and puts it back.
-use Rattle.std.specs.Prelude.{◌≡◌, ℕ, ◌<◌, ◌++◌, [], ◌∷◌, true, false, Some, None, replicate}
-use Rattle.sections.specs.Views as sections
+use Rattle.std.specs.Prelude.{◌≡◌, ℕ, ◌<◌, ◌++◌, true, false, Some, None, replicate}
 use Rattle.sections.specs.EngineCalls.{TiesEngine}
 use Rattle.scan.specs.declared.progress.Progress.{Progress}
 use Rattle.scan.specs.declared.progress.StartRefusal as scan
@@ -54,6 +53,7 @@ pub record IsLent (c : CpuView) (lent : Engine) (c' : CpuView) : Type 0 where
   pub in_place : lent ≡ with_needs c.needs found
   pub own : c'.needs ≡ found.needs
   pub cpu : c'.cpu ≡ c.cpu
+  pub calls : c'.calls ≡ c.calls
 
 -- each has its own seat again, the two came to see one history, and the engine was put back
 pub record GivesBack (c : CpuView) (worked : Engine) (c' : CpuView) : Type 0 where
@@ -63,8 +63,9 @@ pub record GivesBack (c : CpuView) (worked : Engine) (c' : CpuView) : Type 0 whe
   pub rest : left ≡ with_seat left.seat (with_needs c.needs worked)
   pub puts : MakesSwap c.turn (Some left) None c'.turn
   pub free : holds c'.turn ≡ false
+  pub calls : c'.calls ≡ c.calls
 
--- the engine was found as `found`, worked with the processor's seat at the tree, came to see one history with the processor, and was left as `left`. It has its own seat at the tree again, which made no step
+-- the engine was found as `found`, worked with the processor's seat at the tree, came to see one history with the processor, and was left as `left`. It has its own seat at the tree again, which made no step. The processor's seat at the tally words stayed as it was
 pub record Lends (work : Engine → Engine → Type 0) (c c' : CpuView) : Type 0 where
   pub found : Engine
   pub worked : Engine
@@ -75,6 +76,7 @@ pub record Lends (work : Engine → Engine → Type 0) (c c' : CpuView) : Type 0
   pub ties : TiesEngine worked.seat c.cpu left.seat c'.cpu
   pub rest : left ≡ with_seat left.seat (with_needs found.needs worked)
   pub turn : TakesTurn c.turn found left c'.turn
+  pub calls : c'.calls ≡ c.calls
 
 -- the engine made one step
 abbrev pub StepsIn : CpuView → Progress → CpuView → Type 0

@@ -1,5 +1,5 @@
 -- What a caller knows of a domain, of its processors, and of the engine between two turns.
-use Rattle.std.specs.Prelude.{◌≡◌, false}
+use Rattle.std.specs.Prelude.{◌≡◌, ℕ, false}
 use Rattle.atomic_table.specs.Seated.{TableId}
 use Rattle.sections.specs.Views as sections
 use Rattle.sections.specs.Calls.{IsSameCpu}
@@ -8,43 +8,60 @@ use Rattle.funnel.specs.Views.{FunnelView}
 use Rattle.funnel.specs.Calls.{IsOfProcessor, IsSameSeat}
 use Rattle.desk.specs.BayViews.{BaySeatView}
 use Rattle.desk.specs.BayCalls.{holds}
+use Rattle.calls.specs.Views.{CallSeatView, CallsView}
+use Rattle.calls.specs.Calls as calls
+use Rattle.calls.specs.Calls.{FitsIn}
 
 -- the engine, with a seat at the tree of needs
 abbrev pub Engine : Type 0
 Engine = ScanView FunnelView
 
--- `domain` is the domain's table, and `bay` that of the place where its engine lies
+-- `domain` is the domain's table, `bay` that of the place where its engine lies, and `tallies` that of the tally words of its callbacks. It has so many processors
 pub record DomainView : Type 0 where
   pub domain : TableId
   pub bay : TableId
+  pub tallies : TableId
+  pub processors : ℕ
 
--- `cpu` is the processor's seat at the domain's words, `needs` at the tree of needs, and `turn` at the place where the engine lies
+-- `cpu` is the processor's seat at the domain's words, `needs` at the tree of needs, `turn` at the place where the engine lies, and `calls` at the tally words of the callbacks
 pub record CpuView : Type 0 where
   pub cpu : sections.CpuView
   pub needs : FunnelView
   pub turn : BaySeatView Engine
+  pub calls : CallSeatView
 
--- the processor is of this domain, and does not have the engine
+-- the domain's callbacks
+abbrev pub callbacks_of : DomainView → CallsView
+callbacks_of d = record { domain = d.domain; tallies = d.tallies; processors = d.processors }
+
+-- the processor is of this domain, each of its seats is, and it does not have the engine
 pub record IsOf (d : DomainView) (c : CpuView) : Type 0 where
   pub domain : c.cpu.domain ≡ d.domain
   pub bay : c.turn.bay ≡ d.bay
   pub home : c.turn.domain ≡ d.domain
   pub free : holds c.turn ≡ false
   pub asks : IsOfProcessor c.needs
+  pub many : c.cpu.processors ≡ d.processors
+  pub fits : FitsIn (callbacks_of d) c.cpu c.calls
 
 -- and of whichever domain it was, it still is
 abbrev pub Stays : CpuView → CpuView → Type 0
 Stays c c' = (d : DomainView) → IsOf d c → IsOf d c'
 
--- the same processor, with its three seats at the same tables
+-- the same processor, with its seats at the same tables
 pub record IsSameProcessor (c c' : CpuView) : Type 0 where
   pub cpu : IsSameCpu c.cpu c'.cpu
   pub needs : IsSameSeat c.needs c'.needs
   pub turn : c'.turn ≡ record c.turn { seen = c'.turn.seen }
+  pub calls : calls.IsSameSeat c.calls c'.calls
 
 -- nothing but its seat at the domain's words may have changed
 abbrev pub with_cpu : sections.CpuView → CpuView → CpuView
 with_cpu cpu c = record c { cpu = cpu }
+
+-- nothing but its seat at the tally words may have changed
+abbrev pub with_calls : CallSeatView → CpuView → CpuView
+with_calls calls c = record c { calls = calls }
 
 -- the engine, with this seat at the tree in place of its own
 abbrev pub with_needs : FunnelView → Engine → Engine

@@ -1,6 +1,5 @@
 -- What asking for a grace period and waiting for it is.
 use Rattle.std.specs.Prelude.{◌≡◌, ℕ, List, [], ◌∷◌, ◌++◌, All, Bool, true, false, length}
-use Rattle.sseq.specs.declared.index.Index.{Index}
 use Rattle.onedom.specs.declared.event.Event.{Event}
 use Rattle.onedom.specs.declared.event.Event.TheVariants.{Note, Ask}
 use Rattle.onedom.specs.declared.event.Maker.TheVariants.{Processor}
@@ -11,7 +10,6 @@ use Rattle.sections.specs.Calls as calls
 use Rattle.sections.specs.Calls.{GivesCookie, AllClosed}
 use Rattle.scan.specs.declared.progress.Progress.{Progress}
 use Rattle.funnel.specs.declared.seat.Level.{Level}
-use Rattle.funnel.specs.Views.{FunnelView}
 use Rattle.funnel.specs.Calls.{LoadsRoot}
 use Rattle.funnel.specs.Calls as tree
 use Rattle.domain.specs.Views.{CpuView, with_cpu}
@@ -24,6 +22,7 @@ pub record StartsPoll (c : CpuView) (cookie : sections.CookieView) (c' : CpuView
   pub asks : tree.Asks cookie.number c.needs level c'.needs
   pub root : tree.IsAskedFor cookie.number level c'.needs
   pub turn : c'.turn ≡ c.turn
+  pub calls : c'.calls ≡ c.calls
 
 -- one load found the root
 pub record LoadsNeed (c : CpuView) (need : ℕ) (c' : CpuView) : Type 0 where
@@ -59,13 +58,14 @@ abbrev pub RoundsThrough : (CpuView → CpuView → Type 0) → sections.CookieV
 RoundsThrough ends cookie [] c c' = ends c c'
 RoundsThrough ends cookie (d ∷ ds) c c' = TurnsAndPolls false cookie c d × RoundsThrough ends cookie ds d c'
 
--- the cookie was given and its number asked for, and nothing else was asked for. Behind that there was a row of rounds
+-- the cookie was given and its number asked for, and nothing else was asked for. Behind that there was a row of rounds. The seat at the tally words stayed as it was
 pub record WaitsUntil (ends : CpuView → CpuView → Type 0) (cookie : sections.CookieView) (c c' : CpuView) : Type 0 where
   pub asked : CpuView
   pub starts : StartsPoll c cookie asked
   pub rounds : List CpuView
   pub through : RoundsThrough ends cookie rounds asked c'
   pub no_more : c'.needs.mine ≡ asked.needs.mine
+  pub calls : c'.calls ≡ c.calls
 
 -- The two answers
 

@@ -1,26 +1,29 @@
 //! A processor of a domain.
 use crate::tied::Tied;
+use calls::CallSeat;
 use desk::BaySeat;
 use funnel::FunnelSeat;
 use std::alloc::{Allocator, Global};
-use std::marker::Model;
+use std::marker::{Model, PhantomData};
 
 mod cookies;
 mod home;
 mod readers;
 mod ties;
 
-/// A processor of a domain. It is a value that one thread owns: which processor of the machine the thread runs on
-/// makes no difference. Contracts see its seats: at the domain's words, at the tree of needs, and at the place where
-/// the engine lies between two turns.
+/// A processor of a domain whose callbacks' jobs are of type `J`. It is a value that one thread owns: which processor of
+/// the machine the thread runs on makes no difference. Contracts see its seats: at the domain's words, at the tree of
+/// needs, at the place where the engine lies between two turns, and at the tally words of the callbacks.
 #[derive(Drop)]
-pub struct Cpu<A: Allocator = Global> {
+pub struct Cpu<J, A: Allocator = Global> {
     pub(crate) cpu: sections::Cpu<A>,
     pub(crate) needs: FunnelSeat<A>,
     pub(crate) turn: BaySeat<Tied<A>>,
+    pub(crate) calls: CallSeat<A>,
+    pub(crate) marker: PhantomData<J>,
 }
 
-impl<A: Allocator> Model for Cpu<A> {
+impl<J, A: Allocator> Model for Cpu<J, A> {
     ghost use Rattle.domain.specs.Views.{CpuView};
 
     ghost Value = { CpuView };

@@ -1,9 +1,11 @@
 //! A domain, and how it is made.
 use crate::tied::Tied;
+use calls::Calls;
 use desk::Bay;
 use std::alloc::{Allocator, Global};
 use std::marker::Model;
 
+mod calling;
 mod making;
 mod meeting;
 mod needs;
@@ -11,15 +13,17 @@ mod periods;
 mod turns;
 mod waiting;
 
-/// A sleepable RCU domain (`srcu_struct`), which all of its processors share by reference. It is the place where the
-/// engine lies; whoever drives it has it for one call, and others that want it wait. Contracts see the domain's table,
-/// and which place it is.
+/// A sleepable RCU domain (`srcu_struct`), which all of its processors share by reference. It has the place where the
+/// engine lies; whoever drives it has it for one call, and others that want it wait. And it has the callbacks, whose
+/// jobs are of type `J`, a list for each processor. A domain that is dropped drops the jobs that still wait. Contracts
+/// see the domain's table, the place, the tally words of the callbacks, and how many processors there are.
 #[derive(Drop)]
-pub struct Domain<A: Allocator = Global> {
+pub struct Domain<J, A: Allocator = Global> {
     pub(crate) bay: Bay<Tied<A>, A>,
+    pub(crate) calls: Calls<J, A>,
 }
 
-impl<A: Allocator> Model for Domain<A> {
+impl<J, A: Allocator> Model for Domain<J, A> {
     ghost use Rattle.domain.specs.Views.{DomainView};
 
     ghost Value = { DomainView };

@@ -1,5 +1,5 @@
-//! A sleepable RCU domain: its processors, its tree of needs, and its engine, which lies in one place that all share.
-//! Any processor may take the engine from there, drive it, and put it back.
+//! A sleepable RCU domain: its processors, its tree of needs, its callbacks, and its engine, which lies in one place that
+//! all share. Any processor may take the engine from there, drive it, and put it back.
 #![tactic(auto)]
 
 mod cpu;
@@ -9,6 +9,7 @@ mod refusals;
 mod tests;
 mod tied;
 
+pub use calls::{Batch, CallRefusal, Entry, Memory, Receipt, TakeRefusal};
 pub use cpu::Cpu;
 pub use domain::Domain;
 pub use refusals::{AdvanceRefusal, StartRefusal};

@@ -30,7 +30,7 @@ module _ (limits : Limits) (processors : ℕ) (d : DomainView) (cpus : List CpuV
   all : IsAllOf d cpus
   all = record {
     some = (let some = count.0 in let long = made.count in omega (arith, some, long));
-    here = λ k c lt. subst (λ (z : CpuView). IsOf d z) (sym (is_new k c lt)) (record { domain = refl; bay = refl; home = refl; free = refl; asks = (k, refl) });
+    here = λ k c lt. subst (λ (z : CpuView). IsOf d z) (sym (is_new k c lt)) (record { domain = refl; bay = refl; home = refl; free = refl; asks = (k, refl); many = sym made.many; fits = record { domain = refl; tallies = refl; cpu = refl; there = subst (λ n. k < n) (made.count ∙ sym made.many) lt } });
     count = λ k c lt. ap (λ (z : CpuView). z.cpu.processors) (is_new k c lt) ∙ sym made.count;
     order = λ k c lt. ap (λ (z : CpuView). z.cpu.processor) (is_new k c lt);
     tree = made.tree;

@@ -13,6 +13,7 @@ use Rattle.funnel.specs.Calls.{IsSameSeat}
 use Rattle.desk.specs.BayCalls.{lies, holds}
 use Rattle.domain.specs.Views.{DomainView, CpuView, IsOf, with_cpu}
 use Rattle.domain.specs.Meetings.{IsAllOf}
+use Rattle.domain.proofs.CallerLemmas.{seat_the_same, still_fits}
 use Rattle.solo.specs.Calls.{SoloView}
 use Rattle.solo.specs.Settling.{View, HaveMet}
 use Rattle.solo.specs.Insides.{seen_as, seen_with, seen_first}
@@ -62,14 +63,16 @@ pub record IsStill (d : DomainView) (was now : CpuView) : Type 0 where
   pub needs : IsSameSeat was.needs now.needs
 
 -- where it made no turn
-pub without_turn : (d : DomainView) (was now : CpuView) → IsOf d was → IsSameCpu was.cpu now.cpu → IsSameSeat was.needs now.needs → now.turn ≡ was.turn → IsStill d was now
-without_turn d was now h cpu needs turn = record {
+pub without_turn : (d : DomainView) (was now : CpuView) → IsOf d was → IsSameCpu was.cpu now.cpu → IsSameSeat was.needs now.needs → now.turn ≡ was.turn → now.calls ≡ was.calls → IsStill d was now
+without_turn d was now h cpu needs turn calls = record {
   is_of = record {
     domain = cpu.0 ∙ h.domain;
     bay = ap (λ t. t.bay) turn ∙ h.bay;
     home = ap (λ t. t.domain) turn ∙ h.home;
     free = ap (λ t. holds t) turn ∙ h.free;
     asks = (h.asks.0, needs.holder ∙ h.asks.1);
+    many = cpu.1 ∙ h.many;
+    fits = still_fits d was now cpu (seat_the_same was.calls now.calls calls) h.fits;
   };
   cpu = cpu;
   needs = needs;
@@ -102,7 +105,7 @@ module _ (cpus : List CpuView) (p : ℕ) (now : CpuView) (inside : p < length cp
 pub all_behind : (d : DomainView) (limits : Limits) (cpus : List CpuView) (v : View) (met : HaveMet d limits cpus v) (p : ℕ) (was now : CpuView) → p < length cpus → was ≡ get_or cpus p was → IsSameCpu was.cpu now.cpu → now ≡ with_cpu now.cpu was → IsAllOf d (set cpus p now)
 all_behind d limits cpus v met p was now inside is same rest =
     all_still cpus p now inside d was met.all is (without_turn d was now (here d limits cpus v met p was inside is) same
-    (subst (λ (z : FunnelView). IsSameSeat was.needs z) (sym (ap (λ (x : CpuView). x.needs) rest)) (record { domain = refl; shape = refl; holder = refl })) (ap (λ (x : CpuView). x.turn) rest))
+    (subst (λ (z : FunnelView). IsSameSeat was.needs z) (sym (ap (λ (x : CpuView). x.needs) rest)) (record { domain = refl; shape = refl; holder = refl })) (ap (λ (x : CpuView). x.turn) rest) (ap (λ (x : CpuView). x.calls) rest))
 
 -- the vector has as many
 pub in_vector : (n : ℕ) (items : List CpuView) (p : ℕ) → n ≡ length items → p < length items → p < n

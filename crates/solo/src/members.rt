@@ -8,8 +8,8 @@ use std::sync::Wait;
 /// All that can act in a domain: whoever has the processors has the engine too, since it lies where they take it from.
 #[derive(Drop)]
 pub(crate) struct Members<A: Allocator> {
-    pub(crate) domain: Domain<A>,
-    pub(crate) cpus: Vec<Cpu<A>, A>,
+    pub(crate) domain: Domain<(), A>,
+    pub(crate) cpus: Vec<Cpu<(), A>, A>,
 }
 
 impl<A: Allocator> Members<A> {

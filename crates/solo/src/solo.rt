@@ -40,7 +40,7 @@ impl<A: Allocator> Solo<A> {
     /// A domain in which nothing has happened; refused where it can't have so many processors (1 to 64), or memory is.
     pub fn new(alloc: A, processors: u64, limits: Limits) -> Result<Solo<A>, MakeError>
     where
-        A: Clone,
+        A: Copy,
         requires { AreInRange limits }
         ensures { MatchResult result (IsNew limits processors) (IsNotMade processors) }
     {

@@ -40,8 +40,8 @@ impl Error for Halt {}
 /// The engine's next answer.
 fn answer<R: Wait, A: Allocator>(
     rt: &R,
-    domain: &Domain<A>,
-    cpu: &mut Cpu<A>,
+    domain: &Domain<(), A>,
+    cpu: &mut Cpu<(), A>,
 ) -> Result<Progress, Halt>
     requires { IsOf domain.now cpu.old }
     ensures here { IsOf domain.now cpu.new }
@@ -56,8 +56,8 @@ fn answer<R: Wait, A: Allocator>(
 /// Starts a grace period, and has the engine carry it to its end: three turns of the engine.
 fn drive_period<R: Wait, A: Allocator>(
     rt: &R,
-    domain: &Domain<A>,
-    cpu: &mut Cpu<A>,
+    domain: &Domain<(), A>,
+    cpu: &mut Cpu<(), A>,
 ) -> Result<(), Halt>
     requires { IsOf domain.now cpu.old }
     ensures here { IsOf domain.now cpu.new }
@@ -79,8 +79,8 @@ fn drive_period<R: Wait, A: Allocator>(
 /// Drives so many grace periods, one behind the other.
 pub fn drive_periods<R: Wait, A: Allocator>(
     rt: &R,
-    domain: &Domain<A>,
-    cpu: &mut Cpu<A>,
+    domain: &Domain<(), A>,
+    cpu: &mut Cpu<(), A>,
     periods: u64,
 ) -> Result<(), Halt>
     requires { IsOf domain.now cpu.old }
@@ -96,8 +96,8 @@ pub fn drive_periods<R: Wait, A: Allocator>(
 /// Waits so many times, one behind the other.
 pub fn wait_often<R: Wait, A: Allocator>(
     rt: &R,
-    domain: &Domain<A>,
-    cpu: &mut Cpu<A>,
+    domain: &Domain<(), A>,
+    cpu: &mut Cpu<(), A>,
     times: u64,
 ) -> Result<(), PeriodsExhausted>
     requires domain { IsOf domain.now cpu.old }
@@ -126,7 +126,7 @@ pub fn run_periods<R: Wait + Clock + AllocGlobal>(
         periods,
         cells: 0,
     };
-    let (domain, mut cpus) = Domain::new(rt.alloc(), processors, limits)?;
+    let (domain, mut cpus) = Domain::<()>::new(rt.alloc(), processors, limits)?;
     let mut cpu = cpus.pop().unwrap();
     let start = Instant::now(rt)?;
     drive_periods(rt, &domain, &mut cpu, periods)?;
@@ -151,7 +151,7 @@ pub fn run_waits<R: Wait + Clock + AllocGlobal>(
         periods: times,
         cells: 0,
     };
-    let (domain, mut cpus) = Domain::new(rt.alloc(), processors, limits)?;
+    let (domain, mut cpus) = Domain::<()>::new(rt.alloc(), processors, limits)?;
     let mut cpu = cpus.pop().unwrap();
     let start = Instant::now(rt)?;
     wait_often(rt, &domain, &mut cpu, times)?;

@@ -35,7 +35,7 @@ const LIMITS: Limits = Limits {
 };
 
 /// A domain, and its five processors. A processor is a value: whichever thread owns it works with it.
-fn new_domain(alloc: Global) -> Result<(Domain, Cpu, Cpu, Cpu, Cpu, Cpu)>
+fn new_domain(alloc: Global) -> Result<(Domain<()>, Cpu<()>, Cpu<()>, Cpu<()>, Cpu<()>, Cpu<()>)>
     ensures { IfOk result (λ r. IsReady r.0 r.1 × IsReady r.0 r.2 × IsReady r.0 r.3 × IsReady r.0 r.4 × IsReady r.0 r.5) }
 {
     let (domain, mut cpus) = Domain::new(alloc, 5, LIMITS)?; // init_srcu_struct
@@ -52,9 +52,9 @@ fn new_domain(alloc: Global) -> Result<(Domain, Cpu, Cpu, Cpu, Cpu, Cpu)>
 /// found in each section the same before and behind its sleep.
 fn wait<R: Threads + Wait + Clock + Sync>(
     rt: &R,
-    domain: &Domain,
-    reader: Cpu,
-    updater: Cpu,
+    domain: &Domain<()>,
+    reader: Cpu<()>,
+    updater: Cpu<()>,
     config: &Config,
 ) -> Result<bool>
     requires { IsReady domain.now updater }
@@ -107,10 +107,10 @@ impl fmt::Display for Handed {
 /// on its own processor, and polls.
 fn hand_over<R: Threads + Wait + Sync>(
     rt: &R,
-    domain: &Domain,
-    opener: Cpu,
-    reader: Cpu,
-    updater: Cpu,
+    domain: &Domain<()>,
+    opener: Cpu<()>,
+    reader: Cpu<()>,
+    updater: Cpu<()>,
     config: &Config,
 ) -> Result<Handed>
     requires opener { IsOf domain.now opener }

@@ -7,7 +7,7 @@ use domain::{Exhausted, Index, NotACookie, Number, Progress, StartRefusal};
 use std::test::Fail;
 
 /// A new domain and its two processors.
-fn pair(alloc: Global) -> Result<(Domain, Cpu, Cpu)>
+fn pair(alloc: Global) -> Result<(Domain<()>, Cpu<()>, Cpu<()>)>
     ensures { IfOk result (λ r. IsReady r.0 r.1 × IsReady r.0 r.2) }
 {
     let (domain, mut cpus) = Domain::new(alloc, 2, LIMITS)?;
@@ -124,7 +124,7 @@ fn limits(rt: HostRuntime) -> Result<(), Fail> {
         periods: 1,
         cells: 0,
     };
-    let (domain, mut cpus) = Domain::new(rt.alloc(), 1, few)?;
+    let (domain, mut cpus) = Domain::<()>::new(rt.alloc(), 1, few)?;
     let mut cpu = cpus.pop().unwrap();
 
     let section = cpu.read_lock()?;

@@ -11,8 +11,8 @@ use std::sync::Wait;
 /// Replaces the configuration, and waits until nobody reads the old version.
 pub fn replace<R: Wait>(
     rt: &R,
-    domain: &Domain,
-    mut cpu: Cpu,
+    domain: &Domain<()>,
+    mut cpu: Cpu<()>,
     config: &Config,
     number: u64,
 ) -> Result<()>
@@ -38,8 +38,8 @@ pub struct Polled {
 /// polls until nobody reads the old version.
 pub fn replace_and_poll<R: Wait>(
     rt: &R,
-    domain: &Domain,
-    mut cpu: Cpu,
+    domain: &Domain<()>,
+    mut cpu: Cpu<()>,
     config: &Config,
     number: u64,
     held: Held,

@@ -8,7 +8,7 @@ use sections::{Cookie, NotACookie};
 use sseq::Number;
 use std::alloc::Allocator;
 
-impl<A: Allocator> Cpu<A> {
+impl<J, A: Allocator> Cpu<J, A> {
     /// The number of the domain, as one load finds it: never an older one than this processor has seen. It notes the
     /// cookie of this number, as [`Cpu::cookie`] does. It is at most 2^61 - 4, so that [`snap`](sseq::snap) may be asked
     /// of it.

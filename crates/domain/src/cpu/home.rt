@@ -5,7 +5,7 @@ use super::Cpu;
 use sections::Home;
 use std::alloc::Allocator;
 
-impl<A: Allocator> Cpu<A> {
+impl<J, A: Allocator> Cpu<J, A> {
     /// The domain of this processor, for what is made for values of it. One load, which tells nothing.
     pub fn home(&mut self) -> Home
         ensures home { result ≡ self.old.cpu.domain }

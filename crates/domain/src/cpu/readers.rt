@@ -9,7 +9,7 @@ use super::Cpu;
 use sections::{Exhausted, Held, Look, Reading};
 use std::alloc::Allocator;
 
-impl<A: Allocator> Cpu<A> {
+impl<J, A: Allocator> Cpu<J, A> {
     /// The number of this processor, from 0.
     pub fn processor(&self) -> u16
         ensures { result ≡ self.now.cpu.processor }

@@ -7,9 +7,9 @@ ghost use Rattle.domain.specs.Views.{Stays, with_cpu};
 use super::Cpu;
 use std::alloc::Allocator;
 
-impl<A: Allocator> Cpu<A> {
+impl<J, A: Allocator> Cpu<J, A> {
     /// One load of the index word by this processor, which has then seen what the other has. Both are of one domain.
-    pub fn cover(&mut self, other: &mut Cpu<A>)
+    pub fn cover(&mut self, other: &mut Cpu<J, A>)
         requires { other.old.cpu.domain ≡ self.old.cpu.domain }
         ensures hears { Hears self.old.cpu other.old.cpu.seen other.old.cpu.changes self.new.cpu }
         ensures rest { self.new ≡ with_cpu self.new.cpu self.old }
@@ -21,7 +21,7 @@ impl<A: Allocator> Cpu<A> {
 
     /// One load of the index word by the other processor, which has then seen just as much as this one. This one must
     /// have seen what the other has, as after [`Cpu::cover`]. Both are of one domain.
-    pub fn admit(&mut self, other: &mut Cpu<A>)
+    pub fn admit(&mut self, other: &mut Cpu<J, A>)
         requires domain { other.old.cpu.domain ≡ self.old.cpu.domain }
         requires covered { IsBeginning other.old.cpu.seen self.old.cpu.seen × (other.old.cpu.changes ≤ self.old.cpu.changes) }
         ensures this { self.new ≡ self.old }
@@ -34,7 +34,7 @@ impl<A: Allocator> Cpu<A> {
 
     /// One load of the index word by this processor, and then one by the other. Both have then seen one history, in
     /// which each of the two has just its own events. What each had seen is a beginning of it. Both are of one domain.
-    pub fn tie(&mut self, other: &mut Cpu<A>)
+    pub fn tie(&mut self, other: &mut Cpu<J, A>)
         requires { other.old.cpu.domain ≡ self.old.cpu.domain }
         ensures ties { Ties self.old.cpu other.old.cpu self.new.cpu other.new.cpu }
         ensures rest { self.new ≡ with_cpu self.new.cpu self.old }

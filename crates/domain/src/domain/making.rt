@@ -8,22 +8,26 @@ ghost use Rattle.domain.specs.Meetings.{IsAllOf};
 use crate::cpu::Cpu;
 use crate::domain::Domain;
 use crate::tied::Tied;
+use calls::{CallSeat, Calls};
 use desk::{Bay, BaySeat};
 use funnel::FunnelSeat;
 use scan::Engine;
 use sections::{Limits, MOST_PROCESSORS, Made, MakeError};
 use std::alloc::{AllocError, Allocator};
+use std::marker::PhantomData;
 
-/// Processors of three seats each, in order.
-fn join_seats<A: Allocator>(
+/// Processors of four seats each, in order.
+fn join_seats<J, A: Allocator>(
     alloc: A,
     mut cpus: Vec<sections::Cpu<A>, A>,
     mut needs: Vec<FunnelSeat<A>, A>,
     mut turns: Vec<BaySeat<Tied<A>>, A>,
-) -> Result<Vec<Cpu<A>, A>, AllocError>
+    mut calls: Vec<CallSeat<A>, A>,
+) -> Result<Vec<Cpu<J, A>, A>, AllocError>
     requires needs { length needs.items ≡ length cpus.items }
     requires turns { length turns.items ≡ length cpus.items }
-    ensures { IfOk result (λ all. all.items ≡ joined cpus.items needs.items turns.items) }
+    requires calls { length calls.items ≡ length cpus.items }
+    ensures { IfOk result (λ all. all.items ≡ joined cpus.items needs.items turns.items calls.items) }
 {
     let mut all = Vec::with_capacity(alloc, cpus.len())?;
     while let Some(cpu) = cpus.pop() {
@@ -31,41 +35,46 @@ fn join_seats<A: Allocator>(
             cpu,
             needs: needs.pop().unwrap(),
             turn: turns.pop().unwrap(),
+            calls: calls.pop().unwrap(),
+            marker: PhantomData,
         });
     }
     all.reverse();
     Ok(all)
 }
 
-fn build<A: Allocator + Clone>(
+fn build<J: Drop, A: Allocator + Copy>(
     alloc: A,
     processors: usize,
     limits: Limits,
-) -> Result<(Domain<A>, Vec<Cpu<A>, A>), AllocError>
+) -> Result<(Domain<J, A>, Vec<Cpu<J, A>, A>), AllocError>
     requires count { IsCount processors }
     requires limits { AreInRange limits }
     ensures made { IfOk result (λ m. IsMade (bounds_of processors limits) m.0 m.1.items) }
     ensures all { IfOk result (λ m. IsAllOf m.0 m.1.items) }
 {
-    let Ok(Made { cpus, mut engine }) = sections::make(alloc.clone()?, processors, limits) else {
+    let Ok(Made { cpus, mut engine }) = sections::make(alloc, processors, limits) else {
         return Err(AllocError);
     };
-    let (needs, root) = funnel::make(alloc.clone()?, processors)?;
+    let (needs, root) = funnel::make(alloc, processors)?;
+    // The callbacks take the domain and the number of processors from the engine's seat, so it is lent to them before
+    // it goes where the engine lies.
+    let (calls, seats) = Calls::make(alloc, &mut engine)?;
     let home = engine.home();
     let engine = Engine::new(engine, root);
-    let (bay, turns) = Bay::new(alloc.clone()?, Tied { engine }, processors, home)?;
-    let cpus = join_seats(alloc, cpus, needs, turns)?;
-    Ok((Domain { bay }, cpus))
+    let (bay, turns) = Bay::new(alloc, Tied { engine }, processors, home)?;
+    let cpus = join_seats(alloc, cpus, needs, turns, seats)?;
+    Ok((Domain { bay, calls }, cpus))
 }
 
-impl<A: Allocator + Clone> Domain<A> {
+impl<J: Drop, A: Allocator + Copy> Domain<J, A> {
     /// Makes a domain of so many processors (`init_srcu_struct`), in which nothing has happened, and gives the processors
     /// in the order of their numbers. Where several refusals hold, the first in the order of [`MakeError`] is answered.
     pub fn new(
         alloc: A,
         processors: usize,
         limits: Limits,
-    ) -> Result<(Domain<A>, Vec<Cpu<A>, A>), MakeError>
+    ) -> Result<(Domain<J, A>, Vec<Cpu<J, A>, A>), MakeError>
         ensures made { IfOk result (λ m. IsMade (bounds_of processors limits) m.0 m.1.items) }
         ensures all { IfOk result (λ m. IsAllOf m.0 m.1.items) }
         ensures refused { IsRefused processors limits result }

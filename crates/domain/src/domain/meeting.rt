@@ -19,10 +19,10 @@ use std::alloc::Allocator;
 use std::sync::Wait;
 
 /// Each of these processors has then seen just what the engine has, and at the tree just what this seat has.
-fn admit_all<A: Allocator>(
+fn admit_all<J, A: Allocator>(
     engine: &mut Engine<FunnelSeat<A>, A>,
     needs: &mut FunnelSeat<A>,
-    others: &mut [Cpu<A>],
+    others: &mut [Cpu<J, A>],
 )
     requires domain { Each (λ c. (c.cpu.domain ≡ engine.old.seat.domain) × (c.needs.domain ≡ needs.old.domain)) others.old }
     requires events { Each (λ c. events.IsBeginning c.cpu.seen engine.old.seat.seen × (c.cpu.changes ≤ engine.old.seat.changes)) others.old }
@@ -37,7 +37,7 @@ fn admit_all<A: Allocator>(
     }
 }
 
-impl<A: Allocator> Domain<A> {
+impl<J, A: Allocator> Domain<J, A> {
     /// The engine, and the seats at the tree and at the place where the engine lies, have then seen what each of these
     /// processors has.
     fn cover_all(
@@ -45,7 +45,7 @@ impl<A: Allocator> Domain<A> {
         engine: &mut Engine<FunnelSeat<A>, A>,
         needs: &mut FunnelSeat<A>,
         turn: &mut BaySeat<Tied<A>>,
-        others: &mut [Cpu<A>],
+        others: &mut [Cpu<J, A>],
     )
         requires beside { Each (IsBeside engine.old.seat needs.old turn.old) others.old }
         requires bay { turn.old.bay ≡ self.now.bay }
@@ -64,7 +64,7 @@ impl<A: Allocator> Domain<A> {
     }
 
     /// Each of these processors has then seen just the turns that this seat has.
-    fn admit_turns(&self, turn: &mut BaySeat<Tied<A>>, others: &mut [Cpu<A>])
+    fn admit_turns(&self, turn: &mut BaySeat<Tied<A>>, others: &mut [Cpu<J, A>])
         requires bay { turn.old.bay ≡ self.now.bay }
         requires beside { Each (λ c. c.turn.bay ≡ self.now.bay) others.old }
         requires covered { Each (λ c. swaps.IsBeginning c.turn.seen turn.old.seen) others.old }
@@ -77,7 +77,7 @@ impl<A: Allocator> Domain<A> {
     }
 
     /// What [`Domain::meet`] does, with the first processor on its own.
-    fn meet_others<R: Wait>(&self, rt: &R, first: &mut Cpu<A>, others: &mut [Cpu<A>])
+    fn meet_others<R: Wait>(&self, rt: &R, first: &mut Cpu<J, A>, others: &mut [Cpu<J, A>])
         requires { IsAllOf self.now (first.old ∷ others.old) }
         ensures all { IsAllOf self.now (first.new ∷ others.new) }
         ensures meets { MeetsHere (first.old ∷ others.old) (first.new ∷ others.new) }
@@ -98,7 +98,7 @@ impl<A: Allocator> Domain<A> {
     /// has only those that one of them had seen before. Likewise one list of raises at the tree, whose root then holds
     /// the greatest number that they asked for (0 if none), and one list of turns. The processors are all of this domain's,
     /// in order. It waits for the engine.
-    pub fn meet<R: Wait>(&self, rt: &R, cpus: &mut [Cpu<A>])
+    pub fn meet<R: Wait>(&self, rt: &R, cpus: &mut [Cpu<J, A>])
         requires { IsAllOf self.now cpus.old }
         ensures all { IsAllOf self.now cpus.new }
         ensures meets { MeetsHere cpus.old cpus.new }

@@ -8,10 +8,10 @@ use sections::Cookie;
 use sseq::Number;
 use std::alloc::Allocator;
 
-impl<A: Allocator> Domain<A> {
+impl<J, A: Allocator> Domain<J, A> {
     /// A cookie of now, and its grace period is asked for (`start_poll_synchronize_srcu`): whoever drives the engine
     /// may find it. It takes no memory and does not wait.
-    pub fn start_poll(&self, cpu: &mut Cpu<A>) -> Cookie
+    pub fn start_poll(&self, cpu: &mut Cpu<J, A>) -> Cookie
         requires { IsOf self.now cpu.old }
         ensures here { IsOf self.now cpu.new }
         ensures starts { StartsPoll cpu.old result cpu.new }
@@ -25,7 +25,7 @@ impl<A: Allocator> Domain<A> {
 
     /// The greatest number that is asked for at the root (`srcu_gp_seq_needed`), as the processor's load finds it: never a
     /// smaller one than it had seen.
-    pub fn need(&self, cpu: &mut Cpu<A>) -> Number
+    pub fn need(&self, cpu: &mut Cpu<J, A>) -> Number
         requires { IsOf self.now cpu.old }
         ensures here { IsOf self.now cpu.new }
         ensures need { LoadsNeed cpu.old result cpu.new }

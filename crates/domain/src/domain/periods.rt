@@ -11,10 +11,10 @@ use sseq::Number;
 use std::alloc::Allocator;
 use std::sync::Wait;
 
-impl<A: Allocator> Domain<A> {
+impl<J, A: Allocator> Domain<J, A> {
     /// Has the engine make one step (part of `srcu_advance_state`), and waits for the engine before that. The processor
     /// has then seen what the engine had. A refusal puts the engine back too.
-    pub fn step<R: Wait>(&self, rt: &R, cpu: &mut Cpu<A>) -> Result<Progress, AdvanceRefusal>
+    pub fn step<R: Wait>(&self, rt: &R, cpu: &mut Cpu<J, A>) -> Result<Progress, AdvanceRefusal>
         requires { IsOf self.now cpu.old }
         ensures here { IsOf self.now cpu.new }
         ensures steps { MatchResult result (λ answer. StepsIn cpu.old answer cpu.new) (λ refusal. IsRefused cpu.old refusal cpu.new) }
@@ -30,7 +30,7 @@ impl<A: Allocator> Domain<A> {
 
     /// Has the engine make steps until there is an answer, which is never `Step` (`srcu_advance_state`), and waits for
     /// the engine before that. The processor has then seen what the engine had. A refusal puts the engine back too.
-    pub fn advance<R: Wait>(&self, rt: &R, cpu: &mut Cpu<A>) -> Result<Progress, AdvanceRefusal>
+    pub fn advance<R: Wait>(&self, rt: &R, cpu: &mut Cpu<J, A>) -> Result<Progress, AdvanceRefusal>
         requires { IsOf self.now cpu.old }
         ensures here { IsOf self.now cpu.new }
         ensures advances { MatchResult result (λ answer. AdvancesIn cpu.old answer cpu.new) (λ refusal. IsRefused cpu.old refusal cpu.new) }
@@ -47,7 +47,7 @@ impl<A: Allocator> Domain<A> {
     /// Starts a grace period, whether it is asked for or not, and answers the number from then on (`srcu_gp_start`). It
     /// waits for the engine before that. The processor has then seen what the engine had. A refusal puts the engine
     /// back too.
-    pub fn start<R: Wait>(&self, rt: &R, cpu: &mut Cpu<A>) -> Result<Number, StartRefusal>
+    pub fn start<R: Wait>(&self, rt: &R, cpu: &mut Cpu<J, A>) -> Result<Number, StartRefusal>
         requires { IsOf self.now cpu.old }
         ensures here { IsOf self.now cpu.new }
         ensures starts { MatchResult result (λ n. StartsIn cpu.old n cpu.new) (λ refusal. IsNotStarted cpu.old refusal cpu.new) }

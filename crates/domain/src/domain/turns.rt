@@ -25,7 +25,7 @@ fn exchange_needs<A: Allocator>(engine: &mut Engine<FunnelSeat<A>, A>, needs: &m
     swap(engine.needs(), needs);
 }
 
-impl<A: Allocator> Domain<A> {
+impl<J, A: Allocator> Domain<J, A> {
     /// Waits until the engine lies there, and takes it.
     pub(crate) fn take<R: Wait>(
         &self,
@@ -61,7 +61,7 @@ impl<A: Allocator> Domain<A> {
 
     /// Waits for the engine, and lends it the processor's own seat at the tree: what the processor has seen there is
     /// found, and no engine can load the needs of another tree.
-    pub(crate) fn lend<R: Wait>(&self, rt: &R, cpu: &mut Cpu<A>) -> Engine<FunnelSeat<A>, A>
+    pub(crate) fn lend<R: Wait>(&self, rt: &R, cpu: &mut Cpu<J, A>) -> Engine<FunnelSeat<A>, A>
         requires { IsOf self.now cpu.old }
         ensures { IsLent cpu.old result cpu.new }
     {
@@ -73,7 +73,7 @@ impl<A: Allocator> Domain<A> {
     /// Takes the processor's seat back from the engine, and puts the engine where it lay. It is tied before that, behind
     /// its work: the processor has then seen all that the engine made. An engine that was tied before its work would
     /// lie there with a change that no processor has seen.
-    pub(crate) fn give_back(&self, cpu: &mut Cpu<A>, mut engine: Engine<FunnelSeat<A>, A>)
+    pub(crate) fn give_back(&self, cpu: &mut Cpu<J, A>, mut engine: Engine<FunnelSeat<A>, A>)
         requires bay { cpu.old.turn.bay ≡ self.now.bay }
         requires held { holds cpu.old.turn ≡ true }
         requires domain { (engine.seat.domain ≡ cpu.old.cpu.domain) × (engine.seat.domain ≡ cpu.old.turn.domain) }

@@ -17,12 +17,12 @@ fn give_way(answer: Progress) {
     }
 }
 
-impl<A: Allocator> Domain<A> {
+impl<J, A: Allocator> Domain<J, A> {
     /// Waits until every section is closed that is open now (`synchronize_srcu`): it asks for one grace period, once, and
     /// then drives the engine and polls in turn until the cookie is done. On the processor itself no reading may be
     /// open, or the call would wait for itself. It is refused where a turn of its own found that no more grace periods
     /// may start: that turn is the last thing that it did, and what it asked for stays asked for.
-    pub fn synchronize<R: Wait>(&self, rt: &R, cpu: &mut Cpu<A>) -> Result<(), Exhausted>
+    pub fn synchronize<R: Wait>(&self, rt: &R, cpu: &mut Cpu<J, A>) -> Result<(), Exhausted>
         requires domain { IsOf self.now cpu.old }
         requires none { HasNoneOpen cpu.old }
         ensures here { IsOf self.now cpu.new }

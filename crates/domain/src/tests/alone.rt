@@ -31,10 +31,10 @@ fn number(value: u64) -> Number {
 }
 
 /// A new domain and its processor.
-fn single(alloc: Global, limits: Limits) -> Result<(Domain, Cpu), MakeError>
+fn single(alloc: Global, limits: Limits) -> Result<(Domain<()>, Cpu<()>), MakeError>
     ensures { IfOk result (λ r. IsOf r.0 r.1 × HasNoneOpen r.1) }
 {
-    let (domain, mut cpus) = Domain::new(alloc, 1, limits)?;
+    let (domain, mut cpus) = Domain::<()>::new(alloc, 1, limits)?;
     let cpu = cpus.pop().unwrap();
     Ok((domain, cpu))
 }
@@ -44,11 +44,11 @@ fn last_two(
     alloc: Global,
     processors: usize,
     limits: Limits,
-) -> Result<(Domain, Cpu, Cpu), MakeError>
+) -> Result<(Domain<()>, Cpu<()>, Cpu<()>), MakeError>
     requires { 1 < processors }
     ensures { IfOk result (λ r. IsOf r.0 r.1 × HasNoneOpen r.1 × IsOf r.0 r.2 × HasNoneOpen r.2) }
 {
-    let (domain, mut cpus) = Domain::new(alloc, processors, limits)?;
+    let (domain, mut cpus) = Domain::<()>::new(alloc, processors, limits)?;
     let last = cpus.pop().unwrap();
     let other = cpus.pop().unwrap();
     Ok((domain, other, last))
@@ -60,7 +60,7 @@ fn last_two(
 fn new_in_little_room(rt: HostRuntime) -> Result<(), Fail> {
     for room in 0..2048 {
         let heap = LocalHeap::new(rt.alloc(), 64 + 16 * room)?;
-        match Domain::new(&heap, 2, SCARCE) {
+        match Domain::<(), _>::new(&heap, 2, SCARCE) {
             Ok((domain, cpus)) => {
                 assert_eq!(rt; cpus.len(), 2);
                 assert!(rt; room > 0 && heap.used() > 0);
@@ -200,7 +200,7 @@ fn refusals_of_periods(rt: HostRuntime) -> Result<(), Fail> {
 }
 
 /// Whether a section of the current index is refused, and a held one too.
-fn is_full(cpu: &mut Cpu) -> bool
+fn is_full(cpu: &mut Cpu<()>) -> bool
     ensures { Stays cpu.old cpu.new }
 {
     let reading = match cpu.read_lock() {
@@ -308,15 +308,15 @@ fn what_is_not_made(rt: HostRuntime) -> Result<(), Fail> {
         Limits { cells: 1, ..AMPLE },
     ];
     for processors in [1, 64] {
-        assert!(rt; Domain::new(rt.alloc(), processors, AMPLE).is_ok());
+        assert!(rt; Domain::<()>::new(rt.alloc(), processors, AMPLE).is_ok());
         for limits in wrong {
-            let refused = Domain::new(rt.alloc(), processors, limits).err();
+            let refused = Domain::<()>::new(rt.alloc(), processors, limits).err();
             assert_eq!(rt; refused, Some(MakeError::Limits), "at {limits:?}");
         }
     }
     for processors in [0, 65, usize::MAX] {
         for limits in [AMPLE, SCARCE, Limits { cells: 1, ..AMPLE }] {
-            let refused = Domain::new(rt.alloc(), processors, limits).err();
+            let refused = Domain::<()>::new(rt.alloc(), processors, limits).err();
             assert_eq!(rt; refused, Some(MakeError::Processors), "at {limits:?}");
         }
     }
@@ -392,7 +392,7 @@ fn calls_of_a_processor(rt: HostRuntime) -> Result<(), Fail> {
 }
 
 /// Asks for a grace period, and starts one where none runs.
-fn ask_and_start<R: Wait>(rt: &R, domain: &Domain, cpu: &mut Cpu)
+fn ask_and_start<R: Wait>(rt: &R, domain: &Domain<()>, cpu: &mut Cpu<()>)
     requires { IsOf domain.now cpu.old }
     ensures here { IsOf domain.now cpu.new }
     ensures same { IsSameProcessor cpu.old cpu.new }
@@ -402,7 +402,7 @@ fn ask_and_start<R: Wait>(rt: &R, domain: &Domain, cpu: &mut Cpu)
 }
 
 /// Does so with each of these processors, which are all of the domain's.
-fn ask_with_each<R: Wait>(rt: &R, domain: &Domain, cpus: &mut [Cpu])
+fn ask_with_each<R: Wait>(rt: &R, domain: &Domain<()>, cpus: &mut [Cpu<()>])
     requires { IsAllOf domain.now cpus.old }
     ensures { IsAllOf domain.now cpus.new }
 {
@@ -412,7 +412,11 @@ fn ask_with_each<R: Wait>(rt: &R, domain: &Domain, cpus: &mut [Cpu])
 }
 
 /// Each asks, all meet, and then the first loads the need.
-fn need_behind_a_meeting<R: Wait>(rt: &R, domain: &Domain, cpus: &mut [Cpu]) -> Option<Number>
+fn need_behind_a_meeting<R: Wait>(
+    rt: &R,
+    domain: &Domain<()>,
+    cpus: &mut [Cpu<()>],
+) -> Option<Number>
     requires { IsAllOf domain.now cpus.old }
 {
     ask_with_each(rt, domain, cpus);
@@ -425,7 +429,7 @@ fn need_behind_a_meeting<R: Wait>(rt: &R, domain: &Domain, cpus: &mut [Cpu]) -> 
 /// processor asks for 4, and the others for 8, since a period runs by then.
 #[test]
 fn meets(rt: HostRuntime) -> Result<(), Fail> {
-    let (domain, mut cpus) = Domain::new(rt.alloc(), 5, AMPLE)?;
+    let (domain, mut cpus) = Domain::<()>::new(rt.alloc(), 5, AMPLE)?;
     let need = need_behind_a_meeting(&rt, &domain, &mut cpus);
     assert_eq!(rt; need.map(Number::get), Some(8));
     for cpu in cpus.iter_mut() {

@@ -28,11 +28,11 @@ const LOOKS: u32 = 20_000;
 const TURNS: u32 = 8;
 
 /// A new domain and its two processors.
-fn two_cpus(alloc: Global) -> Result<(Domain, Cpu, Cpu), MakeError>
+fn two_cpus(alloc: Global) -> Result<(Domain<()>, Cpu<()>, Cpu<()>), MakeError>
     ensures of { IfOk result (λ r. IsOf r.0 r.1 × IsOf r.0 r.2) }
     ensures none { IfOk result (λ r. HasNoneOpen r.1 × HasNoneOpen r.2) }
 {
-    let (domain, mut cpus) = Domain::new(alloc, 2, LIMITS)?;
+    let (domain, mut cpus) = Domain::<()>::new(alloc, 2, LIMITS)?;
     let second = cpus.pop().unwrap();
     let first = cpus.pop().unwrap();
     Ok((domain, first, second))
@@ -93,7 +93,7 @@ impl Tally {
 
 /// So many times: opens a section, puts it on the desk, and closes what lay there.
 fn hand_on(
-    mut cpu: Cpu,
+    mut cpu: Cpu<()>,
     mut seat: DeskSeat<Held>,
     desk: &Desk<Held>,
     tally: &Tally,
@@ -145,8 +145,8 @@ struct Crossing {
 /// Takes a section from the desk, and closes it in the middle of a grace period.
 fn close_from_desk<R: Wait + Clock>(
     rt: &R,
-    domain: &Domain,
-    mut cpu: Cpu,
+    domain: &Domain<()>,
+    mut cpu: Cpu<()>,
     mut seat: DeskSeat<Held>,
     desk: &Desk<Held>,
 ) -> (DeskSeat<Held>, Option<Crossing>)
@@ -221,7 +221,7 @@ struct Rounds {
 const ROUNDS: u64 = 10;
 
 /// Opens so many sections, one behind the other, and sleeps in each of them.
-fn sleep_in_sections<R: Clock>(rt: &R, mut cpu: Cpu, rounds: &Rounds) {
+fn sleep_in_sections<R: Clock>(rt: &R, mut cpu: Cpu<()>, rounds: &Rounds) {
     for round in 1..=ROUNDS {
         let Ok(section) = cpu.read_lock() else { break };
         rounds.opened.store(round, SeqCst);
@@ -247,8 +247,8 @@ fn wait_for_section<R: Clock>(rt: &R, rounds: &Rounds, last: u64) -> u64 {
 /// when the call came back.
 fn wait_for_ends<R: Wait + Clock>(
     rt: &R,
-    domain: &Domain,
-    mut cpu: Cpu,
+    domain: &Domain<()>,
+    mut cpu: Cpu<()>,
     rounds: &Rounds,
 ) -> (u64, bool)
     requires { IsOf domain.now cpu × HasNoneOpen cpu }
@@ -286,19 +286,19 @@ fn sync_threads(rt: HostRuntime) -> Result<(), Fail> {
 /// The processors of four threads.
 #[derive(Drop)]
 struct Cpus {
-    first: Cpu,
-    second: Cpu,
-    third: Cpu,
-    fourth: Cpu,
+    first: Cpu<()>,
+    second: Cpu<()>,
+    third: Cpu<()>,
+    fourth: Cpu<()>,
 }
 
 /// A new domain, four of its processors, and the fifth.
-fn five_cpus(alloc: Global) -> Result<(Domain, Cpus, Cpu), MakeError>
+fn five_cpus(alloc: Global) -> Result<(Domain<()>, Cpus, Cpu<()>), MakeError>
     ensures first { IfOk result (λ r. IsOf r.0 r.1.first × IsOf r.0 r.1.second) }
     ensures last { IfOk result (λ r. IsOf r.0 r.1.third × IsOf r.0 r.1.fourth) }
     ensures fifth { IfOk result (λ r. IsOf r.0 r.2) }
 {
-    let (domain, mut cpus) = Domain::new(alloc, 5, LIMITS)?;
+    let (domain, mut cpus) = Domain::<()>::new(alloc, 5, LIMITS)?;
     let fifth = cpus.pop().unwrap();
     let fourth = cpus.pop().unwrap();
     let third = cpus.pop().unwrap();
@@ -368,8 +368,8 @@ const TIMES: u32 = 250;
 /// Two threads hand sections on, each with a processor and a seat of its own.
 fn hand_on_by_two<R: Threads + Sync>(
     rt: &R,
-    first_cpu: Cpu,
-    second_cpu: Cpu,
+    first_cpu: Cpu<()>,
+    second_cpu: Cpu<()>,
     first: DeskSeat<Held>,
     second: DeskSeat<Held>,
     desk: &Desk<Held>,
@@ -444,7 +444,7 @@ fn hand_on_by_four<R: Threads + Sync>(
 }
 
 /// Asks for a grace period and drives the engine until it has ended. Tells whether it ended while threads were at work.
-fn drive_period<R: Wait>(rt: &R, domain: &Domain, cpu: &mut Cpu, tally: &Tally) -> bool
+fn drive_period<R: Wait>(rt: &R, domain: &Domain<()>, cpu: &mut Cpu<()>, tally: &Tally) -> bool
     requires { IsOf domain.now cpu.old }
     ensures { IsOf domain.now cpu.new }
 {
@@ -462,7 +462,12 @@ fn drive_period<R: Wait>(rt: &R, domain: &Domain, cpu: &mut Cpu, tally: &Tally) 
 
 /// Drives one grace period behind the other while threads are at work. Tells whether none of them ended before each
 /// section was about to be closed that had been opened before it was asked for.
-fn drive_beside<R: Wait>(rt: &R, domain: &Domain, mut cpu: Cpu, tally: &Tally) -> (Cpu, bool)
+fn drive_beside<R: Wait>(
+    rt: &R,
+    domain: &Domain<()>,
+    mut cpu: Cpu<()>,
+    tally: &Tally,
+) -> (Cpu<()>, bool)
     requires { IsOf domain.now cpu }
     ensures { IsOf domain.now result.0 }
 {
@@ -478,7 +483,7 @@ fn drive_beside<R: Wait>(rt: &R, domain: &Domain, mut cpu: Cpu, tally: &Tally) -
 }
 
 /// Asks for a grace period, and tells whether it has ended after some turns of the engine.
-fn ends_in_some_turns<R: Wait>(rt: &R, domain: &Domain, cpu: &mut Cpu) -> bool
+fn ends_in_some_turns<R: Wait>(rt: &R, domain: &Domain<()>, cpu: &mut Cpu<()>) -> bool
     requires { IsOf domain.now cpu.old }
     ensures { IsOf domain.now cpu.new }
 {
@@ -518,7 +523,12 @@ fn desk_of_a_thousand(rt: HostRuntime) -> Result<(), Fail> {
 }
 
 /// So many times: waits for a grace period. Tells whether each call did.
-fn synchronize_often<R: Wait>(rt: &R, domain: &Domain, mut cpu: Cpu, times: u32) -> (Cpu, bool)
+fn synchronize_often<R: Wait>(
+    rt: &R,
+    domain: &Domain<()>,
+    mut cpu: Cpu<()>,
+    times: u32,
+) -> (Cpu<()>, bool)
     requires { IsOf domain.now cpu × HasNoneOpen cpu }
     ensures { IsOf domain.now result.0 }
 {

@@ -1,8 +1,8 @@
-use Rattle.std.proofs.Common.{refl, sym, ap, ◌∙◌, subst, ◌≡◌, ◌<◌, ◌≤◌, length, arith}
+use Rattle.std.proofs.Common.{refl, sym, ap, ◌∙◌, ◌≡◌, arith}
 use Rattle.desk.specs.Swaps as swaps
 use Rattle.desk.specs.BayViews.{BaySeatView}
 use Rattle.domain.specs.Views.{Engine, CpuView, DomainView}
-use Rattle.domain.proofs.Rows.{goes_none, goes_next, item_has}
+use Rattle.domain.proofs.Rows.{goes_none, item_has}
 use Rattle.domain.proofs.domain.Domain.admit_turns.Goals as goal
 
 pub loop-other-init : goal.loop-other-init

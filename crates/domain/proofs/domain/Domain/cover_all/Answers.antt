@@ -1,4 +1,4 @@
-use Rattle.std.proofs.Common.{◌≡◌, ◌<◌, List, get_or, length, refl, sym, ap, ◌∙◌, arith}
+use Rattle.std.proofs.Common.{◌<◌, List, get_or, length, refl, ap, ◌∙◌}
 use Rattle.scan.specs.Progress.{with_seat}
 use Rattle.domain.specs.Views.{Engine, CpuView}
 use Rattle.domain.proofs.Rows.{still}
@@ -23,7 +23,7 @@ loop-other-preserved g c =
     let second = c.cover-in-loop-other.ensures in
     let third = c.cover-in-loop-other-2.ensures in
     record {
-      others = still _ _ _ (record { cpu = c.other.inside.cpu; needs = c.other.inside.needs; turn = c.other.inside.turn }) _ _ v.others (λ i. record { cpu = first.cpu i; needs = second.other i; turn = third.other i }) c.other.view_is;
+      others = still _ _ _ (record { cpu = c.other.inside.cpu; needs = c.other.inside.needs; turn = c.other.inside.turn; calls = c.other.inside.calls }) _ _ v.others (λ i. record { cpu = first.cpu i; needs = second.other i; turn = third.other i; calls = c.other.inside.calls }) c.other.view_is;
       engine = engine_next _ _ _ _ _ _ _ inside at v.engine first.engine;
       rest = first.rest ∙ ap (λ (z : Engine). with_seat c.cover.new.self.seat z) v.rest;
       needs = needs_next _ _ _ _ _ _ _ inside at v.needs second.covers;

@@ -1,4 +1,4 @@
-use Rattle.std.proofs.Common.{◌≡◌, ℕ, ◌≤◌, false, List, ◌∷◌, ap, sym, ◌∙◌, subst, Some, None}
+use Rattle.std.proofs.Common.{◌≡◌, ℕ, ◌≤◌, List, ◌∷◌, ap, sym, ◌∙◌, subst, Some, None}
 use Rattle.sections.specs.declared.view.Shown.TheVariants.{To}
 use Rattle.sections.specs.Views as sections
 use Rattle.sections.specs.Calls as calls
@@ -82,7 +82,7 @@ returns-clause-all g c =
     let sized = subst (λ (z : sections.CpuView). z.processors ≡ c.cover_all.new.engine.seat.processors) c.cover.ensures.cpu c.admit.ensures.sized in
     let heard = subst (λ (z : sections.CpuView). (n : ℕ) → c.cover_all.new.engine.seat.shown ≡ To z.processor n → n ≤ z.changes) c.cover.ensures.cpu c.admit.ensures.heard in
     let turned = c.admit_turns.ensures.others in
-    subst (λ (z : FunnelView × BaySeatView Engine). IsAllOf c.args.self.now (record { cpu = c.admit.new.cpu; needs = z.0; turn = z.1 } ∷ c.admit_turns.new.others)) (λ i. (sym c.admit_all.ensures.needs i, sym c.admit_turns.ensures.turn i))
+    subst (λ (z : FunnelView × BaySeatView Engine). IsAllOf c.args.self.now (record { cpu = c.admit.new.cpu; needs = z.0; turn = z.1; calls = c.first.inside.calls } ∷ c.admit_turns.new.others)) (λ i. (sym c.admit_all.ensures.needs i, sym c.admit_turns.ensures.turn i))
     (all_still _ _ _ _ _ _ c.cover.new.self c.cover_all.new.engine _ _ _ _ _ _ _ c.take-engine.ensures.takes c.cover.ensures.engine c.root_need.ensures h.engine h.needs h.turn accepts was sized heard admitted puts turned c.put.ensures.free all)
 
 pub returns-clause-meets : goal.returns-clause-meets
@@ -96,6 +96,6 @@ returns-clause-meets g c =
     let sized = subst (λ (z : sections.CpuView). z.processors ≡ c.cover_all.new.engine.seat.processors) c.cover.ensures.cpu c.admit.ensures.sized in
     let heard = subst (λ (z : sections.CpuView). (n : ℕ) → c.cover_all.new.engine.seat.shown ≡ To z.processor n → n ≤ z.changes) c.cover.ensures.cpu c.admit.ensures.heard in
     let turned = c.admit_turns.ensures.others in
-    subst (λ (z : CpuView). MeetsHere (z ∷ c.args.others.now) (record { cpu = c.admit.new.cpu; needs = c.admit_all.new.needs; turn = c.admit_turns.new.turn } ∷ c.admit_turns.new.others)) c.first.view_is
-    (subst (λ (z : FunnelView × BaySeatView Engine). MeetsHere (record { cpu = c.first.inside.cpu; needs = c.first.inside.needs; turn = c.first.inside.turn } ∷ c.args.others.now) (record { cpu = c.admit.new.cpu; needs = z.0; turn = z.1 } ∷ c.admit_turns.new.others)) (λ i. (sym c.admit_all.ensures.needs i, sym c.admit_turns.ensures.turn i))
+    subst (λ (z : CpuView). MeetsHere (z ∷ c.args.others.now) (record { cpu = c.admit.new.cpu; needs = c.admit_all.new.needs; turn = c.admit_turns.new.turn; calls = c.first.inside.calls } ∷ c.admit_turns.new.others)) c.first.view_is
+    (subst (λ (z : FunnelView × BaySeatView Engine). MeetsHere (record { cpu = c.first.inside.cpu; needs = c.first.inside.needs; turn = c.first.inside.turn; calls = c.first.inside.calls } ∷ c.args.others.now) (record { cpu = c.admit.new.cpu; needs = z.0; turn = z.1; calls = c.first.inside.calls } ∷ c.admit_turns.new.others)) (λ i. (sym c.admit_all.ensures.needs i, sym c.admit_turns.ensures.turn i))
     (meets_here c.args.self.now _ _ _ _ _ c.cover.new.self c.cover_all.new.engine _ _ _ _ _ _ _ c.take-engine.ensures.takes c.cover.ensures.engine c.root_need.ensures h.engine h.needs h.turn accepts was sized heard admitted puts turned c.needs_of_a_tree.ensures.root c.take-engine.ensures.tied (h.rest ∙ ap (λ (z : Engine). with_seat c.cover_all.new.engine.seat z) c.cover.ensures.rest) all))

@@ -1,4 +1,4 @@
-use Rattle.std.proofs.Common.{sym, ◌∙◌, subst, Bool, true, false}
+use Rattle.std.proofs.Common.{sym, ◌∙◌, subst}
 use Rattle.sections.specs.Views.{CookieView}
 use Rattle.domain.proofs.Sameness.{same_trans, same_polled}
 use Rattle.domain.proofs.Synchronizing.{HasWaited, turned_advanced, turned_exhausted, only_exhausted, begins, turns, asks_in_vain, synchronizes, waits_in_vain, still_none, none_in_vain}

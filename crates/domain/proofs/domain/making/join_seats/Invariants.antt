@@ -6,7 +6,7 @@ use Rattle.domain.proofs.domain.making.join_seats.Given as goal
 
 abbrev pub invariant-loop-cpu : goal.invariant-loop-cpu
 invariant-loop-cpu g l = record {
-  joins : Joins l.fn.cpus.items l.fn.needs.items l.fn.turns.items l.cpus.items l.needs.items l.turns.items l.all.items;
+  joins : Joins l.fn.cpus.items l.fn.needs.items l.fn.turns.items l.fn.calls.items l.cpus.items l.needs.items l.turns.items l.calls.items l.all.items;
   long : vec_len l.all + vec_len l.cpus ≡ vec_len l.fn.cpus;
   room : vec_capacity l.all ≡ vec_len l.fn.cpus;
 }

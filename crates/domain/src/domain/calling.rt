@@ -1,0 +1,92 @@
+//! Callbacks: a job is queued on a processor, and given out after a full grace period.
+ghost use Rattle.std.specs.Prelude.{◌≡◌, ◌<◌, All, IfOk, IfSome, MatchResult};
+ghost use Rattle.sections.specs.Calls.{IsSameCpu, AllClosed};
+ghost use Rattle.segs.specs.MarkedList.{lens, numbers};
+ghost use Rattle.calls.specs.Views.{ListView};
+ghost use Rattle.calls.specs.Calls.{IsSameSeat, IsOfProcessor, TakesIn, InvokesIn, AreHanded, FinishesIn, IsListOf};
+ghost use Rattle.domain.specs.Views.{IsOf, IsSameProcessor, callbacks_of, with_cpu, with_calls};
+ghost use Rattle.domain.specs.Calling.{CallsIn, RefusesCall, MayFinish};
+
+use crate::cpu::Cpu;
+use crate::domain::Domain;
+use calls::{Batch, CallRefusal, Receipt, TakeRefusal};
+use sseq::Number;
+use std::alloc::Allocator;
+use std::sync::Wait;
+
+impl<J: Drop, A: Allocator + Copy> Domain<J, A> {
+    /// Queues a job on this processor (`call_srcu`), and asks for the grace period after which it is given out: whoever
+    /// drives the engine may find it. It waits while another thread has the processor's list. Where it is refused, the job
+    /// comes back, nothing is queued, and nothing asked for.
+    pub fn call<R: Wait>(
+        &self,
+        rt: &R,
+        cpu: &mut Cpu<J, A>,
+        job: J,
+    ) -> Result<Receipt, (J, CallRefusal)>
+        requires { IsOf self.now cpu.old }
+        ensures here { IsOf self.now cpu.new }
+        ensures same { IsSameProcessor cpu.old cpu.new }
+        ensures calls { MatchResult result
+            (λ receipt. CallsIn self.now cpu.old job receipt cpu.new)
+            (λ refused. RefusesCall self.now cpu.old job refused cpu.new) }
+    {
+        let receipt = self.calls.call(rt, &mut cpu.cpu, &mut cpu.calls, job)?;
+        // It is asked for behind the queueing, and by the number of the job's own cookie: for a smaller one the engine
+        // might rest while the job waits.
+        cpu.needs.ask(Number::new(receipt.cookie.number()).unwrap());
+        Ok(receipt)
+    }
+
+    /// Takes out what is ready on a processor: at most `max` jobs and at most eight, the first ones first
+    /// (`srcu_invoke_callbacks`). `None` where nothing is. Any processor of the domain may do it, for any processor. It
+    /// waits while another thread has that processor's list.
+    pub fn take_ready<R: Wait>(
+        &self,
+        rt: &R,
+        cpu: &mut Cpu<J, A>,
+        processor: u16,
+        max: usize,
+    ) -> Result<Option<Batch<J, A>>, TakeRefusal>
+        requires domain { IsOf self.now cpu.old }
+        requires processor { processor < self.now.processors }
+        ensures here { IsOf self.now cpu.new }
+        ensures takes { MatchResult result
+            (λ taken. TakesIn (callbacks_of self.now) processor max cpu.old.cpu taken cpu.new.cpu)
+            (λ _. InvokesIn J (callbacks_of self.now) processor × (cpu.new.cpu ≡ cpu.old.cpu)) }
+        ensures same { IsSameCpu cpu.old.cpu cpu.new.cpu }
+        ensures rest { cpu.new ≡ with_cpu cpu.new.cpu cpu.old }
+        ensures batch { IfOk result (λ taken. IfSome taken (λ batch. IsOfProcessor (callbacks_of self.now) processor batch)) }
+
+        // Each job is given out after a full grace period that started behind its queueing.
+        ensures handed { IfOk result (λ taken. IfSome taken (λ batch. AreHanded batch.entries cpu.new.cpu.seen)) }
+
+        // So no section that was begun before a job was queued is open when it is given out.
+        ensures closed { IfOk result (λ taken. IfSome taken (λ batch. All (λ e. AllClosed e.cookie.seen cpu.new.cpu.seen) batch.entries)) }
+    {
+        self.calls
+            .take_ready(rt, &mut cpu.cpu, &mut cpu.calls, processor, max)
+    }
+
+    /// The batch is over, and empty: its count is added to the finished word of its processor. Any processor of the domain
+    /// may do it. It waits while another thread has that processor's list.
+    pub fn finish<R: Wait>(&self, rt: &R, cpu: &mut Cpu<J, A>, batch: Batch<J, A>)
+        requires domain { IsOf self.now cpu.old }
+        requires batch { MayFinish self.now batch }
+        ensures here { IsOf self.now cpu.new }
+        ensures finishes { FinishesIn (callbacks_of self.now) cpu.old.calls batch cpu.new.calls }
+        ensures same { IsSameSeat cpu.old.calls cpu.new.calls }
+        ensures rest { cpu.new ≡ with_calls cpu.new.calls cpu.old }
+    {
+        self.calls.finish(rt, &mut cpu.calls, batch);
+    }
+
+    /// How many calls of a processor are done, wait for the first and for the second number, and have none yet; and the two
+    /// numbers, 0 where there is none. What is out isn't counted. It waits while another thread has the processor's list.
+    pub fn lens<R: Wait>(&self, rt: &R, processor: u16) -> ([usize; 4], [u64; 2])
+        requires { processor < self.now.processors }
+        ensures { (l : ListView J) × IsListOf (callbacks_of self.now) processor l × (result.0 ≡ lens l.entries) × (result.1 ≡ numbers l.entries) }
+    {
+        self.calls.lens(rt, processor)
+    }
+}
