@@ -1,21 +1,10 @@
--- For the tests with threads: what they begin with, and what they end with.
-use Rattle.std.proofs.Common.{◌≡◌, List, [], ◌∷◌, All, refl, sym, subst, arith}
+-- For the tests with threads: what they end with.
+use Rattle.std.proofs.Common.{◌≡◌, [], ◌∷◌, arith}
 use Rattle.std.proofs.lemmas.List.Elements.{All-nil, All-cons}
 use mathlib.Core.Logic.{dite}
 use native.Mathlib.Decide.{ℕ_discrete}
 use Rattle.desk.specs.Views.{DeskView, SeatView}
 use Rattle.desk.specs.Calls.{AreAllSeats}
-use Rattle.domain.specs.Views.{DomainView, CpuView, IsOf}
-use Rattle.domain.specs.Making.{IsMade}
-use Rattle.domain.specs.Waiting.{HasNoneOpen}
-
--- a processor of this domain with no section open
-abbrev pub IsReady : DomainView → CpuView → Type 0
-IsReady d c = IsOf d c × HasNoneOpen c
-
--- the processors of a new domain are ready
-pub all_are_ready : {bounds : _} (d : DomainView) (cpus : List CpuView) → IsMade bounds d cpus → All (IsReady d) cpus
-all_are_ready d cpus made = λ k c lt. subst (IsReady d) (sym (made.each k c lt)) (record { domain = refl; bay = refl; home = refl; free = refl; asks = (k, refl) }, refl)
 
 -- four seats with different numbers are all seats of a desk that has four
 module _ {T : Type 0} (d : DeskView) where

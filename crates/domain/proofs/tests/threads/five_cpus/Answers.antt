@@ -2,13 +2,13 @@
 use Rattle.std.proofs.Common.{All}
 use Rattle.std.proofs.lemmas.List.Elements.{All-pop}
 use Rattle.domain.specs.Views.{CpuView}
-use Rattle.domain.proofs.ForThreads.{IsReady, all_are_ready}
+use Rattle.domain.proofs.Starting.{IsReady, new_ones_are_ready}
 use Rattle.domain.proofs.tests.threads.five_cpus.Goals as goal
 
 pub returns-clause-first : goal.returns-clause-first
 returns-clause-first c =
     let P : CpuView → Type 0 = IsReady c.in_ok-domain.domain in
-    let all : All P c.in_ok-domain.cpus.items = all_are_ready _ _ c.in_ok-domain.ensures.made in
+    let all : All P c.in_ok-domain.cpus.items = new_ones_are_ready _ _ c.in_ok-domain.ensures.made in
     let fifth = All-pop P _ _ _ c.pop.ensures.items all in
     let fourth = All-pop P _ _ _ c.pop-2.ensures.items fifth.0 in
     let third = All-pop P _ _ _ c.pop-3.ensures.items fourth.0 in
@@ -21,7 +21,7 @@ returns-clause-first c =
 pub returns-clause-last : goal.returns-clause-last
 returns-clause-last c =
     let P : CpuView → Type 0 = IsReady c.in_ok-domain.domain in
-    let all : All P c.in_ok-domain.cpus.items = all_are_ready _ _ c.in_ok-domain.ensures.made in
+    let all : All P c.in_ok-domain.cpus.items = new_ones_are_ready _ _ c.in_ok-domain.ensures.made in
     let fifth = All-pop P _ _ _ c.pop.ensures.items all in
     let fourth = All-pop P _ _ _ c.pop-2.ensures.items fifth.0 in
     let third = All-pop P _ _ _ c.pop-3.ensures.items fourth.0 in
@@ -32,7 +32,7 @@ returns-clause-last c =
 pub returns-clause-fifth : goal.returns-clause-fifth
 returns-clause-fifth c =
     let P : CpuView → Type 0 = IsReady c.in_ok-domain.domain in
-    let all : All P c.in_ok-domain.cpus.items = all_are_ready _ _ c.in_ok-domain.ensures.made in
+    let all : All P c.in_ok-domain.cpus.items = new_ones_are_ready _ _ c.in_ok-domain.ensures.made in
     let fifth = All-pop P _ _ _ c.pop.ensures.items all in
     let at_fifth : IsReady c.in_ok-domain.domain c.unwrap-fifth.result = rw c.unwrap-fifth.ensures at fifth.1 in
     at_fifth.0
