@@ -1,7 +1,8 @@
 use Rattle.std.proofs.Common.{rules, ◌≡◌, ◌<◌, ◌≤◌, [], ◌∷◌, ◌++◌, length, refl, inl, inr, ap, ◌∙◌, arith}
-use Rattle.std.proofs.lemmas.List.{length-map}
+use Rattle.std.proofs.lemmas.List.{length-map, map-append}
 use Rattle.std.proofs.lemmas.List.Elements.{All-same, All-push}
-use Rattle.session.specs.States.{EntryView}
+use Rattle.session.specs.States.{EntryView, DomainState, states_of}
+use Rattle.session.specs.Scripts.{new_domain}
 use Rattle.session.proofs.session.Session.make.Goals as goal
 
 pub invariant_of-self : goal.invariant_of-self
@@ -43,3 +44,20 @@ returns-in-Err-Memory-clause-ok g c =
 
 pub invariant_of-self-in_err-entry : goal.invariant_of-self-in_err-entry
 invariant_of-self-in_err-entry g c = record { in_range = c.self.invariant.in_range; same = All-same (λ (e : EntryView). e.limits ≡ c.self.inside.limits) c.reserve.new.self.items c.self.inside.entries.items c.reserve.ensures.items c.self.invariant.same }
+
+-- the last return: the new domain stands behind those that were there
+pub returns-clause-ok : goal.returns-clause-ok
+returns-clause-ok g c =
+    let entries = c.self.inside.entries.items in
+    let entry = c.in_ok-entry.entry in
+    let made = c.in-Ok.ensures in
+    let few : length entries < 8 = omega (arith, c.if-len-ge-MOST_DOMAINS.false, c.len.ensures, c.self.inside.entries.ok.0) in
+    let pushed : c.push.new.self.items ≡ entries ++ entry ∷ [] = search rules in
+    let processors : c.in-Ok.domain.standing.processors ≡ c.args.processors = ap (λ z. z.processors) made.nothing_yet in
+    let state : entry.state ≡ new_domain c.self.inside.limits c.args.name c.args.processors = ap (λ (e : EntryView). e.state) c.in_ok-entry.ensures ∙ (λ i. new_domain (made.limits_are i) c.args.name (processors i)) in
+    rw (← c.self.view_is) (inl (record {
+      room = omega (arith, few, length-map entries (λ (e : EntryView). e.state));
+      count = made.count;
+      after = ap states_of pushed ∙ (map-append (λ (e : EntryView). e.state) entries (entry ∷ []) ∙ ap (λ (s : DomainState). states_of entries ++ s ∷ []) state);
+      reply = refl;
+    }))
