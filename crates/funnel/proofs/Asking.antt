@@ -1,5 +1,7 @@
 -- A call, step by step.
 use Rattle.std.proofs.Common.{◌≡◌, ◌≢◌, ℕ, suc, ◌+◌, ◌-◌, ◌/◌, ◌<◌, ◌≤◌, ◌↔◌, ◌==◌, Bool, true, false, IsTrue, [], ◌∷◌, ◌++◌, nat_le, cond, inr, refl, sym, ap, ◌∙◌, subst, le-leb, append_assoc, append-nil, arith}
+use mathlib.Core.Logic.{dite}
+use native.Mathlib.Decide.{ℕ_discrete}
 use Rattle.funnel.specs.declared.view.View.{View}
 use Rattle.funnel.specs.declared.view.Call.TheVariants.{Idle, From}
 use Rattle.funnel.specs.Tree.{parent, up}
@@ -34,14 +36,21 @@ one_more p leaf n nodes k found v0 v w c is r =
       loads = r.loads ∙ c.loads;
     }
 
-pub climbs_here : (p leaf n nodes k found : ℕ) (v0 v w : View) (b : Bool) → HasClimbed p leaf n nodes v0 v → k ≡ up nodes leaf → Raised p k n found v w → (IsTrue b ↔ (n ≤ found)) → (¬ IsTrue b → k ≡ 0) → call_after k n found ≡ Idle
+-- no node so far is the root
+pub inner_more : (leaf nodes k : ℕ) → ((m : ℕ) → m < nodes → up m leaf ≢ 0) → k ≡ up nodes leaf → k ≢ 0 → (m : ℕ) → m < nodes + 1 → up m leaf ≢ 0
+inner_more leaf nodes k inner is other m lt = dite (ℕ_discrete m nodes)
+    (λ last root. other (is ∙ (ap (λ z. up z leaf) (sym last) ∙ root)))
+    (λ earlier. inner m (omega (arith, lt, earlier)))
+
+pub climbs_here : (p leaf n nodes k found : ℕ) (v0 v w : View) (b : Bool) → HasClimbed p leaf n nodes v0 v → ((m : ℕ) → m < nodes → up m leaf ≢ 0) → k ≡ up nodes leaf → Raised p k n found v w → (IsTrue b ↔ (n ≤ found)) → (¬ IsTrue b → k ≡ 0) → call_after k n found ≡ Idle
     → Climbs p leaf n v0 (record { nodes = nodes + 1; found = b }) w
-climbs_here p leaf n nodes k found v0 v w b c is r told root ends =
+climbs_here p leaf n nodes k found v0 v w b c inner is r told root ends =
     let seen : w.seen ≡ r.before ++ raise_of p (up nodes leaf) n ∷ [] = r.seen ∙ (λ i. r.before ++ raise_of p (is i) n ∷ []) in
     let before : found ≡ value (up nodes leaf) r.before = r.found_is ∙ ap (λ z. value z r.before) is in
     let more = one_more p leaf n nodes k found v0 v w c is r in record {
       above = nodes;
       nodes = refl;
+      below = inner;
       mine = more.mine;
       before = r.before;
       since = begins_on c.since r.since;

@@ -49,6 +49,7 @@ asks_from d d' shape h p leaf m n v w level same shaped holder is at number c =
       asker = is;
       above = here.above;
       nodes = here.nodes;
+      below = here.below;
       mine = here.mine;
       before = here.before;
       since = here.since;

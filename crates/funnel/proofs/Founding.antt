@@ -1,9 +1,9 @@
 -- A new tree.
-use Rattle.std.proofs.Common.{◌≡◌, ℕ, ◌+◌, ◌<◌, List, [], ◌∷◌, ◌++◌, length, refl, sym, ap, ◌∙◌, arith}
-use Rattle.std.proofs.lemmas.List.{get_or_push, get_or_append_left}
+use Rattle.std.proofs.Common.{◌≡◌, ℕ, suc, ◌+◌, ◌<◌, List, [], ◌∷◌, ◌++◌, get_or, replicate, length, refl, sym, ap, ◌∙◌, arith}
+use Rattle.std.proofs.lemmas.List.{length-replicate, get_or-replicate, get_or_past, get_or_push, get_or_append_left}
 use Rattle.std.proofs.lemmas.List.Elements.{All-from_get_or}
 use mathlib.Core.Logic.{dite}
-use native.Mathlib.Decide.{ℕ_discrete}
+use native.Mathlib.Decide.{ℕ_discrete, dec_le}
 use Rattle.atomic_table.specs.Seated.{TableId}
 use Rattle.funnel.specs.declared.view.Shape.{Shape}
 use Rattle.funnel.specs.declared.view.Holder.TheVariants.{Processor, Engine}
@@ -12,6 +12,10 @@ use Rattle.funnel.specs.Rule.{founder}
 use Rattle.funnel.specs.Seats.{IsAtRest}
 use Rattle.funnel.specs.Views.{FunnelView}
 use Rattle.funnel.specs.Calls.{new_seat, AreNew, IsOfProcessor, AreOfProcessors}
+
+pub all_zero : (n : ℕ) (words : List ℕ) → words ≡ replicate n 0 → (k : ℕ) → get_or words k 0 ≡ 0
+all_zero n words e k = let z : get_or (replicate n 0) k 0 ≡ 0 = dite (dec_le (suc k) n) (λ l. get_or-replicate n k 0 0 (omega (arith, l))) (λ g. get_or_past (replicate n 0) k 0 (let long = length-replicate {A = ℕ} n 0 in omega (arith, long, g))) in
+    ap (λ l. get_or l k 0) e ∙ z
 
 pub new_pushed : (domain : TableId) (shape : Shape) (i : ℕ) (seats : List FunnelView) (new : FunnelView) → length seats ≡ i → new ≡ new_seat domain shape (Processor i) → AreNew domain shape seats → AreNew domain shape (seats ++ new ∷ [])
 new_pushed domain shape i seats new count is all k d lt = dite (ℕ_discrete k i)

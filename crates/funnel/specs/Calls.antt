@@ -36,13 +36,14 @@ pub record IsSameSeat (v w : FunnelView) : Type 0 where
   pub shape : w.shape ≡ v.shape
   pub holder : w.holder ≡ v.holder
 
--- one step at each of so many nodes, from the leaf upward. The last one holds the number then, `found` is whether it held as much before, and where it did not, it is the root
+-- one step at each of so many nodes, from the leaf upward, of which only the last may be the root. The last one holds the number then, `found` is whether it held as much before, and where it did not, it is the root
 pub record Asks (n : ℕ) (v : FunnelView) (level : Level) (w : FunnelView) : Type 0 where
   pub same : IsSameSeat v w
   pub processor : ℕ
   pub asker : v.holder ≡ Processor processor
   pub above : ℕ
   pub nodes : level.nodes ≡ above + 1
+  pub below : (m : ℕ) → m < above → ¬ (up m (leaf_of v.shape.nodes processor) ≡ 0)
   pub mine : w.mine ≡ v.mine ++ climb_from processor n (leaf_of v.shape.nodes processor) level.nodes
   pub before : List Raise
   pub since : IsBeginning v.seen before

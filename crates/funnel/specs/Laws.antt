@@ -1,18 +1,17 @@
 -- What holds of every tree, and of every history of one.
-use Rattle.std.specs.Prelude.{◌≡◌, ℕ, ◌<◌, ◌≤◌, ◌⊎◌, List, [], ◌∷◌, ◌++◌, Option, slice_index}
+use Rattle.std.specs.Prelude.{◌≡◌, ℕ, ◌<◌, ◌≤◌, ◌⊎◌, List, ◌∷◌, ◌++◌, Option, slice_index}
 use mathlib.Core.Option.{some}
 use lib.ListN.{get_elem?}
 use Rattle.atomic_table.specs.Table.{State, Splits, Joins}
 use Rattle.funnel.specs.declared.view.Shape.{Shape}
-use Rattle.funnel.specs.declared.view.Holder.TheVariants.{Processor}
+use Rattle.funnel.specs.declared.view.Holder.{Holder}
 use Rattle.funnel.specs.declared.view.Raise.{Raise}
 use Rattle.funnel.specs.declared.view.Load.{Load}
 use Rattle.funnel.specs.declared.view.View.{View}
-use Rattle.funnel.specs.declared.view.Role.TheVariants.{Asker}
 use Rattle.funnel.specs.declared.view.Call.TheVariants.{Idle, From}
 use Rattle.funnel.specs.Tree.{IsChild, word_of, leaf_of, IsOn}
 use Rattle.funnel.specs.Histories.{IsBeginning, raise_of, value, greatest, call_of, IsLegal, Climbs}
-use Rattle.funnel.specs.Rule.{AreLoads, IsUpto, bearer, Kept}
+use Rattle.funnel.specs.Rule.{AreLoads, loads_by, IsUpto, StandsFor, Kept}
 
 -- the processor asked for this number: it raised its leaf to it
 pub record HasAsked (shape : Shape) (history : List Raise) (p n : ℕ) : Type 0 where
@@ -42,14 +41,16 @@ pub record HasOneHistory (shape : Shape) (s : State (Option ℕ) View) : Type 0 
 abbrev pub OneHistory : Type 0
 OneHistory = (shape : Shape) (s : State (Option ℕ) View) → Kept shape s → HasOneHistory shape s
 
--- the seat of processor 0 before any step
-abbrev pub idle_seat : Shape → View
-idle_seat shape = record { shape = shape; role = Asker 0; mine = []; seen = []; told = []; call = Idle; loads = [] }
+-- the second view has no load of this holder that the first one doesn't have
+pub record HasNoLoadMore (h : Holder) (u w : View) : Type 0 where
+  pub rest : List Load
+  pub whole : loads_by h u.loads ≡ loads_by h w.loads ++ rest
 
--- no seat gets a load of processor 0's that was not made, however that processor's seat is cut in two or joined with another
-pub record NeverForged : Type 0 where
-  pub splits : (shape : Shape) (l : Load) (left right : View) → l.by ≡ Processor 0 → (left.loads ≡ l ∷ []) ⊎ (right.loads ≡ l ∷ []) → ¬ Splits (Kept shape) 0 (idle_seat shape) left right
-  pub joins : (shape : Shape) (l : Load) (both spent : View) → l.by ≡ Processor 0 → (both.loads ≡ l ∷ []) ⊎ (spent.loads ≡ l ∷ []) → ¬ Joins (Kept shape) 0 (idle_seat shape) 2 (bearer (idle_seat shape)) both spent
+-- however a seat v is cut in two or takes another in, what comes of it has no load of the root that was not made: no load of a holder h that h's own seat u doesn't have, as long as there is another holder o that has a seat elsewhere. For o may have loaded the root meanwhile, more often than any cut or join can know of. So only a step on the table gives a load
+abbrev pub NeverForged : Type 0
+NeverForged = (shape : Shape) (s : State (Option ℕ) View) → Kept shape s → (id : ℕ) (v : View) → get_elem? s.views id ≡ some v → (k : ℕ) (u : View) → get_elem? s.views k ≡ some u → (h o : Holder) → StandsFor u.role h → ¬ (h ≡ o) → ¬ StandsFor v.role o
+    → ((left right : View) → Splits (Kept shape) id v left right → HasNoLoadMore h u left × HasNoLoadMore h u right)
+    × ((other : ℕ) (w both spent : View) → ¬ (other ≡ id) → get_elem? s.views other ≡ some w → ¬ StandsFor w.role o → Joins (Kept shape) id v other w both spent → HasNoLoadMore h u both × HasNoLoadMore h u spent)
 
 -- in each legal history each node's parent holds as much, or a call is on its way there
 abbrev pub NeedsClimb : Type 0

@@ -50,10 +50,11 @@ abbrev pub climb_from : ℕ → ℕ → ℕ → ℕ → List Raise
 climb_from p n k zero = []
 climb_from p n k (suc m) = climb_from p n k m ++ raise_of p (up m k) n ∷ []
 
--- one step at each of so many nodes. The last one holds the number then, `found` is whether it held as much before, and where it did not, it is the root
+-- one step at each of so many nodes, of which only the last may be the root. The last one holds the number then, `found` is whether it held as much before, and where it did not, it is the root
 pub record Climbs (p leaf n : ℕ) (v : View) (level : Level) (w : View) : Type 0 where
   pub above : ℕ
   pub nodes : level.nodes ≡ above + 1
+  pub below : (m : ℕ) → m < above → ¬ (up m leaf ≡ 0)
   pub mine : w.mine ≡ v.mine ++ climb_from p n leaf level.nodes
   pub before : List Raise
   pub since : IsBeginning v.seen before

@@ -3,8 +3,8 @@ ghost use Rattle.funnel.specs.Laws.{OneHistory, NeverForged, NeedsClimb, HoldsWh
 
 /// Between any two steps of any threads there is one legal history, the nodes hold what it says, each load of the root found
 /// what the root held, and what each seat has seen is a beginning of it. A node holds 0 or a number that was asked through
-/// a processor below it, and its parent holds as much, or a call is on its way there. And no split or join gives a
-/// processor's seat a load that it did not make: it is said of a new seat of processor 0, beside the engine's.
+/// a processor below it, and its parent holds as much, or a call is on its way there. And no split or join gives any
+/// seat a load of the root that was not made, as long as another holder has a seat elsewhere.
 pub fn tree_of_a_funnel()
     ensures history { OneHistory }
     ensures forged { NeverForged }

@@ -1,6 +1,6 @@
 use Rattle.std.proofs.Common.{◌∙◌}
 use Rattle.funnel.proofs.Sharing.{opens}
-use Rattle.funnel.proofs.Forging.{all_zero}
+use Rattle.funnel.proofs.Founding.{all_zero}
 use Rattle.funnel.proofs.making.new_table.Goals as goal
 
 pub of_words-requires : goal.of_words-requires

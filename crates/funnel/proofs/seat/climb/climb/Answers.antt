@@ -1,5 +1,5 @@
 use Rattle.std.proofs.Common.{◌∙◌, sym, subst, inl, arith, refl, ◌<◌}
-use Rattle.funnel.proofs.Asking.{climbed_none, climbs_here, one_more, next_step, next_node, stops_found, stops_at_root}
+use Rattle.funnel.proofs.Asking.{climbed_none, climbs_here, one_more, inner_more, next_step, next_node, stops_found, stops_at_root}
 use Rattle.funnel.proofs.seat.climb.climb.Goals as goal
 
 pub climb-init : goal.climb-init
@@ -9,6 +9,7 @@ climb-init c = record {
   node_is = refl;
   next = inl (c.requires.idle, c.requires.leaf);
   climbed = climbed_none _ _ _ c.args.seat.now.me.0;
+  inner = λ m lt. absurd (omega (arith, lt));
   few = omega arith;
 }
 
@@ -23,11 +24,11 @@ raise-requires-clause-role c = (c.climb.invariant.climbed.role ∙ c.requires.ro
 
 pub returns-then-raise-number-clause-climbs : goal.returns-then-raise-number-clause-climbs
 returns-then-raise-number-clause-climbs c = let v = c.climb.invariant in let enough = c.if-raise-number.true in
-    climbs_here _ _ _ c.climb.nodes c.climb.node _ c.args.seat.now.me.0 c.climb.seat.me.0 _ _ v.climbed v.node_is c.raise.ensures.raised ((λ _. enough), (λ _. refl)) (λ no. absurd (no refl)) (stops_found c.climb.node _ _ enough)
+    climbs_here _ _ _ c.climb.nodes c.climb.node _ c.args.seat.now.me.0 c.climb.seat.me.0 _ _ v.climbed v.inner v.node_is c.raise.ensures.raised ((λ _. enough), (λ _. refl)) (λ no. absurd (no refl)) (stops_found c.climb.node _ _ enough)
 
 pub returns-then-node-eq0-clause-climbs : goal.returns-then-node-eq0-clause-climbs
 returns-then-node-eq0-clause-climbs c = let v = c.climb.invariant in let less = c.if-raise-number.false in
-    climbs_here _ _ _ c.climb.nodes c.climb.node _ c.args.seat.now.me.0 c.climb.seat.me.0 _ _ v.climbed v.node_is c.raise.ensures.raised ((λ t. absurd cc), (λ le. absurd (omega (arith, less, le)))) (λ _. c.if-node-eq0.true) (stops_at_root c.climb.node _ _ c.if-node-eq0.true)
+    climbs_here _ _ _ c.climb.nodes c.climb.node _ c.args.seat.now.me.0 c.climb.seat.me.0 _ _ v.climbed v.inner v.node_is c.raise.ensures.raised ((λ t. absurd cc), (λ le. absurd (omega (arith, less, le)))) (λ _. c.if-node-eq0.true) (stops_at_root c.climb.node _ _ c.if-node-eq0.true)
 
 pub climb-preserved : goal.climb-preserved
 climb-preserved c =
@@ -42,5 +43,6 @@ climb-preserved c =
       node_is = next_node _ c.climb.nodes _ v.node_is;
       next = next_step _ c.climb.seat.me.0 _ _ _ _ _ r (omega (arith, less)) inner;
       climbed = one_more _ _ _ c.climb.nodes _ _ c.args.seat.now.me.0 c.climb.seat.me.0 _ v.climbed v.node_is r;
+      inner = inner_more _ c.climb.nodes _ v.inner v.node_is inner;
       few = omega (arith, few, inner);
     }

@@ -1,5 +1,5 @@
--- So many nodes have been raised; the next one is their parent.
-use Rattle.std.proofs.Common.{◌≡◌, ◌+◌, ◌<◌, ◌≤◌}
+-- So many nodes have been raised, and none of them is the root; the next one is their parent.
+use Rattle.std.proofs.Common.{◌≡◌, ◌≢◌, ℕ, ◌+◌, ◌<◌, ◌≤◌}
 use Rattle.funnel.specs.Tree.{up, leaf_of}
 use Rattle.funnel.specs.Histories.{MayRaise}
 use Rattle.funnel.specs.Seats.{IsPlaced}
@@ -13,6 +13,7 @@ invariant-climb l = record {
   node_is : l.node ≡ up l.nodes l.leaf;
   next : MayRaise (leaf_of l.top.key.nodes l.processor) l.seat.me.0.call l.node l.number;
   climbed : HasClimbed l.processor l.leaf l.number l.nodes l.initial.seat.me.0 l.seat.me.0;
+  inner : (m : ℕ) → m < l.nodes → up m l.leaf ≢ 0;
   few : l.nodes + l.node ≤ l.leaf;
 }
 
