@@ -20,18 +20,18 @@ use Rattle.sections.specs.declared.view.Deed.{Deed}
 use Rattle.sections.specs.declared.view.View.{View}
 use Rattle.sections.specs.Words.{index_word}
 use Rattle.sections.specs.Rule.{GoesOn, IsTrueOf, done_by, steps_of, IsUpto, StandsFor, HasDone, Fits, Kept, spent}
-use Rattle.sections.specs.Laws.{HasNoStepMore, NoStepIsForged}
+use Rattle.sections.specs.Laws.{HasNoStepMore}
 use Rattle.sections.proofs.Knowing.{now, at_snoc, at_below, not_false, false≠true}
 use Rattle.sections.proofs.Deeds.{deed, done_push, has_done_push, has_done_all}
 
 -- Lists
 
-from_map : (f : View → View) (l : List View) (j : ℕ) (d : View) → get_elem? (map f l) j ≡ some d → (u : View) × (get_elem? l j ≡ some u) × (f u ≡ d)
+pub from_map : (f : View → View) (l : List View) (j : ℕ) (d : View) → get_elem? (map f l) j ≡ some d → (u : View) × (get_elem? l j ≡ some u) × (f u ≡ d)
 from_map f [] j d e = absurd (some-ne-none d (sym e))
 from_map f (x ∷ xs) zero d e = (x, refl, some-injective (f x) d e)
 from_map f (x ∷ xs) (suc j) d e = from_map f xs j d e
 
-length_map : (f : View → View) (l : List View) → length (map f l) ≡ length l
+pub length_map : (f : View → View) (l : List View) → length (map f l) ≡ length l
 length_map f [] = refl
 length_map f (x ∷ xs) = ap suc (length_map f xs)
 
@@ -58,19 +58,19 @@ neither a ds x y differ (inr h) (inr g) = absurd (differ (one_head ds h.0 g.0 x 
 
 -- Who stands for a maker
 
-abbrev stands : Role → Maker → Bool
+abbrev pub stands : Role → Maker → Bool
 stands Bearer o = false
 stands (Cpu p) o = same_maker o (Processor p)
 stands (Driver k) Engine = true
 stands (Driver k) (Processor p) = nat_le k p
 
-not_standing : (r : Role) (o : Maker) → (StandsFor r o → ⊥) → stands r o ≡ false
+pub not_standing : (r : Role) (o : Maker) → (StandsFor r o → ⊥) → stands r o ≡ false
 not_standing Bearer o h = refl
 not_standing (Cpu p) o h = same_maker_false o (Processor p) h
 not_standing (Driver k) Engine h = absurd (h tt)
 not_standing (Driver k) (Processor p) h = not_false (nat_le k p) (λ t. h (leb-true k p t))
 
-others : (r : Role) (o : Maker) → stands r o ≡ false → (n : Maker) → StandsFor r n → same_maker o n ≡ false
+pub others : (r : Role) (o : Maker) → stands r o ≡ false → (n : Maker) → StandsFor r n → same_maker o n ≡ false
 others Bearer o e n g = absurd g
 others (Cpu p) o e n g = ap (same_maker o) g ∙ e
 others (Driver k) Engine e n g = absurd (false≠true (sym e))
@@ -183,16 +183,19 @@ no_more deeds m v w h is upto = record {
 }
 
 -- that maker may have loaded the index word or have added to it: no view knows which
-pub never_forged : NoStepIsForged
-never_forged bounds s r id v at m o is not =
-    let n : ℕ = index_word r.changes in
-    let at_now : Moment = now r.log r.changes in
-    let differ : deed o (LoadIndex n) at_now ≡ deed o (AddIndex n) at_now → ⊥ = λ e. other_step n (ap (λ d. d.step) e) in
-    let so : (w : View) → Told bounds s r o (LoadIndex n) w → Told bounds s r o (AddIndex n) w → HasNoStepMore m v w =
-    λ w a b. no_more r.deeds m v w (r.each_done id v at) is (neither w.done r.deeds (deed o (LoadIndex n) at_now) (deed o (AddIndex n) at_now) differ a b) in (
-      (λ left right splits. let a = cut bounds s r o (LoadIndex n) refl id v left right at not splits in let b = cut bounds s r o (AddIndex n) refl id v left right at not splits in (so left a.0 b.0, so right a.1 b.1)),
-      (λ other w both gone apart there_too neither_one joins. so both (taken bounds s r o (LoadIndex n) refl id v other w both gone at not apart there_too neither_one joins) (taken bounds s r o (AddIndex n) refl id v other w both gone at not apart there_too neither_one joins)),
-    )
-  where
-    other_step : (n : ℕ) → LoadIndex n ≡ AddIndex n → ⊥
-    other_step n e = cc
+module _ (bounds : Bounds) (s : State (Option ℕ) View) (r : Kept bounds s) (id : ℕ) (v : View) (at : get_elem? s.views id ≡ some v) (m o : Maker) (is : StandsFor v.role m) (not : StandsFor v.role o → ⊥) where
+  abbrev n : ℕ
+  n = index_word r.changes
+
+  other_step : LoadIndex n ≡ AddIndex n → ⊥
+  other_step e = cc
+
+  neither_step : (w : View) → Told bounds s r o (LoadIndex n) w → Told bounds s r o (AddIndex n) w → HasNoStepMore m v w
+  neither_step w a b = let at_now : Moment = now r.log r.changes in
+      no_more r.deeds m v w (r.each_done id v at) is (neither w.done r.deeds (deed o (LoadIndex n) at_now) (deed o (AddIndex n) at_now) (λ e. other_step (ap (λ d. d.step) e)) a b)
+
+  pub no_step_by_split : (left right : View) → Splits (Kept bounds) id v left right → HasNoStepMore m v left × HasNoStepMore m v right
+  no_step_by_split left right splits = let a = cut bounds s r o (LoadIndex n) refl id v left right at not splits in let b = cut bounds s r o (AddIndex n) refl id v left right at not splits in (neither_step left a.0 b.0, neither_step right a.1 b.1)
+
+  pub no_step_by_join : (other : ℕ) (w both gone : View) → (other ≡ id → ⊥) → get_elem? s.views other ≡ some w → (StandsFor w.role o → ⊥) → Joins (Kept bounds) id v other w both gone → HasNoStepMore m v both
+  no_step_by_join other w both gone apart there_too neither_one joins = neither_step both (taken bounds s r o (LoadIndex n) refl id v other w both gone at not apart there_too neither_one joins) (taken bounds s r o (AddIndex n) refl id v other w both gone at not apart there_too neither_one joins)

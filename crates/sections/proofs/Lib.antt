@@ -11,6 +11,7 @@ mod CpuViews
 mod Meeting
 mod EngineViews
 mod Founding
+mod EventForging
 mod Forging
 mod Sums
 mod OneHistory

@@ -3,7 +3,7 @@ use Rattle.std.specs.Prelude.{◌≡◌, ℕ, ◌<◌, ◌≤◌, ◌↔◌, Lis
 use Rattle.sseq.specs.declared.index.Index.{Index}
 use Rattle.onedom.specs.declared.event.Maker.{Maker}
 use Rattle.onedom.specs.declared.event.Event.{Event}
-use Rattle.onedom.specs.Histories.{IsOpen, index_of, IsEmpty, IsLegal, IsBeginning}
+use Rattle.onedom.specs.Histories.{IsOpen, index_of, IsEmpty, IsLegal, made_by, IsBeginning}
 use mathlib.Core.Option.{some}
 use lib.ListN.{get_elem?}
 use Rattle.atomic_table.specs.Table.{State, Splits, Joins}
@@ -13,7 +13,7 @@ use Rattle.sections.specs.declared.view.Shown.TheVariants.{To}
 use Rattle.sections.specs.declared.view.Step.{Step}
 use Rattle.sections.specs.declared.view.View.{View}
 use Rattle.sections.specs.Words.{number_place, index_place, lock_place, unlock_place, locks, unlocks, all_locks, all_unlocks, number_word, index_word, Reaches, MayHave}
-use Rattle.sections.specs.Rule.{HasItsMaker, steps_of, IsMaker, StandsFor, Kept}
+use Rattle.sections.specs.Rule.{IsProcessor, HasItsMaker, steps_of, IsMaker, StandsFor, Kept}
 use Rattle.sections.specs.Calls.{HasSeenOf}
 
 -- there is one legal history, with which the number, the index word and the counters agree, and of which every seat has seen a beginning. In what any seat has seen, each maker's events are a beginning of that maker's own
@@ -57,8 +57,18 @@ pub record HasNoStepMore (m : Maker) (v w : View) : Type 0 where
   pub rest : List Step
   pub whole : steps_of m v.done ≡ steps_of m w.done ++ rest
 
--- however a seat is cut in two or takes another in, it has no step more of its maker m, as long as there is a maker o that has a seat elsewhere: at the place of that step, o may have made a step of its own. So only a step on the table gives a step
+-- in what the second view has seen there is no event of this maker that isn't among the first one's own
+pub record HasNoEventMore (m : Maker) (v w : View) : Type 0 where
+  pub rest : List Event
+  pub whole : made_by m v.mine ≡ made_by m w.seen ++ rest
+
+-- no step of m is added, and no event either where o is a processor of the domain
+pub record HasNoMore (bounds : Bounds) (m o : Maker) (v w : View) : Type 0 where
+  pub steps : HasNoStepMore m v w
+  pub events : IsProcessor bounds.processors o → HasNoEventMore m v w
+
+-- however a seat is cut in two or takes another in, it has no step and no event more of its maker m, as long as there is a maker o that has a seat elsewhere: at the place of that step o may have made a step of its own, and at that of the event a processor may have asked for a cookie. So only a step on the table gives a step or an event
 abbrev pub NoStepIsForged : Type 0
 NoStepIsForged = (bounds : Bounds) (s : State (Option ℕ) View) → Kept bounds s → (id : ℕ) (v : View) → get_elem? s.views id ≡ some v → (m o : Maker) → StandsFor v.role m → ¬ StandsFor v.role o
-    → ((left right : View) → Splits (Kept bounds) id v left right → HasNoStepMore m v left × HasNoStepMore m v right)
-    × ((other : ℕ) (w both spent : View) → ¬ (other ≡ id) → get_elem? s.views other ≡ some w → ¬ StandsFor w.role o → Joins (Kept bounds) id v other w both spent → HasNoStepMore m v both)
+    → ((left right : View) → Splits (Kept bounds) id v left right → HasNoMore bounds m o v left × HasNoMore bounds m o v right)
+    × ((other : ℕ) (w both spent : View) → ¬ (other ≡ id) → get_elem? s.views other ≡ some w → ¬ StandsFor w.role o → Joins (Kept bounds) id v other w both spent → HasNoMore bounds m o v both)

@@ -11,7 +11,8 @@ pub fn words_of_a_domain()
 
 /// A load leaves no mark in the words, so what a processor or the engine says of its loads rests on the rule alone: as
 /// long as there is a maker that has a seat elsewhere, no seat gets a step that it did not make by being cut in two or by
-/// taking another in.
+/// taking another in. Where that maker is a processor, no seat gets to see an event of its own that it did not make: a
+/// load of the number is an event.
 pub fn steps_of_a_domain()
     ensures { NoStepIsForged }
 {}

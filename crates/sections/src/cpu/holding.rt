@@ -58,6 +58,7 @@ impl<A: Allocator> Cpu<A> {
         requires { held.domain ≡ self.old.domain }
         ensures ends { Unlocks held self.old self.new }
         ensures index { index_of held.section self.new.seen ≡ held.index }
+        ensures kind { is_held held.section ≡ true }
     {
         let Held {
             index,

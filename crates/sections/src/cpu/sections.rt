@@ -1,6 +1,7 @@
 //! What a processor does.
-ghost use Rattle.std.specs.Prelude.{◌≡◌, ◌≤◌, MatchResult};
+ghost use Rattle.std.specs.Prelude.{◌≡◌, ◌≤◌, false, MatchResult};
 ghost use Rattle.onedom.specs.Histories.{index_of, IsBeginning};
+ghost use Rattle.sections.specs.Words.{is_held};
 ghost use Rattle.sections.specs.Calls.{Looks, Enters, ReadLocks, Unlocks, HasBegun, LooksInVain, IsExhausted, IsHere, Hears, Accepts, Ties};
 
 use super::steps::{accept, begin_section, cover};
@@ -74,6 +75,7 @@ impl<A: Allocator> Cpu<A> {
         ensures ends { Unlocks reading self.old self.new }
         ensures begun { HasBegun self.old reading }
         ensures index { index_of reading.section self.new.seen ≡ reading.index }
+        ensures kind { is_held reading.section ≡ false }
     {
         let Reading {
             index,

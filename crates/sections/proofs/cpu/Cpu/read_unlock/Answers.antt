@@ -1,6 +1,6 @@
-use Rattle.std.proofs.Common.{rules, ◌≡◌, ℕ, length, ap, ◌∙◌, sym, subst, arith}
+use Rattle.std.proofs.Common.{rules, ◌≡◌, ℕ, false, length, ap, ◌∙◌, sym, subst, arith}
 use Rattle.sseq.specs.declared.index.Index.TheVariants.{Zero, One}
-use Rattle.sections.specs.Words.{locks, open_readings}
+use Rattle.sections.specs.Words.{is_held, locks, open_readings}
 use Rattle.sections.specs.Insides.{section_of}
 use Rattle.sections.specs.Views.{ReadingView}
 use Rattle.sections.specs.Calls.{EndsWithBegin}
@@ -64,3 +64,6 @@ returns-clause-begun g c = begun_here _ _ _ (subst (λ (r : ReadingView). EndsWi
 
 pub returns-clause-index : goal.returns-clause-index
 returns-clause-index g c = ended_index _ _ _ (subst (λ (r : ReadingView). EndsWithBegin r) c.reading.view_is c.reading.invariant.begun) (returns-clause-ends g c)
+
+pub returns-clause-kind : goal.returns-clause-kind
+returns-clause-kind g c = subst (λ (r : ReadingView). is_held r.section ≡ false) c.reading.view_is c.reading.invariant.kind

@@ -1,5 +1,5 @@
-use Rattle.std.proofs.Common.{rules, ◌≡◌, ℕ, length, ap, ◌∙◌, sym, subst, arith}
-use Rattle.sections.specs.Words.{locks, open_readings}
+use Rattle.std.proofs.Common.{rules, ◌≡◌, ℕ, true, length, ap, ◌∙◌, sym, subst, arith}
+use Rattle.sections.specs.Words.{is_held, locks, open_readings}
 use Rattle.sections.specs.Insides.{section_of}
 use Rattle.sections.specs.Views.{ReadingView}
 use Rattle.sections.specs.Calls.{EndsWithBegin}
@@ -56,3 +56,6 @@ returns-clause-ends g c =
 
 pub returns-clause-index : goal.returns-clause-index
 returns-clause-index g c = ended_index _ _ _ (subst (λ (r : ReadingView). EndsWithBegin r) c.held.view_is c.held.invariant.begun) (returns-clause-ends g c)
+
+pub returns-clause-kind : goal.returns-clause-kind
+returns-clause-kind g c = subst (λ (r : ReadingView). is_held r.section ≡ true) c.held.view_is c.held.invariant.kind
