@@ -1,6 +1,8 @@
 mod Counting
 mod Knowing
 mod Steps
+mod Looking
+mod Loading
 mod Sharing
 mod Seating
 mod Wrapping

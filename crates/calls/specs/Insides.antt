@@ -8,11 +8,12 @@ use Rattle.calls.specs.declared.list.List.TheInside as list
 use Rattle.calls.specs.declared.batch.Batch.TheInside as batch
 use Rattle.calls.specs.declared.spot.Spot.TheInside as spot
 use Rattle.calls.specs.declared.calls.Calls.TheInside as calls
-use Rattle.calls.specs.Tallies.{finished_place, most_calls, queued_in, AreTrue}
+use Rattle.calls.specs.declared.barrier.Ticket.TheInside as ticket
+use Rattle.calls.specs.Tallies.{finished_place, word_count, most_calls, queued_in, AreTrue}
 use Rattle.calls.specs.Rule.{count_out}
 use Rattle.calls.specs.Seats.{IsPlaced, IsAtRest, IsListSeat, IsBatchSeat, finished_known, queued_known, out_known, first_known}
 use Rattle.calls.specs.Waiting.{AreWaiting, wrapped, unwrapped, entries_of}
-use Rattle.calls.specs.Views.{CallSeatView, ListKey, ListView, BatchView, CallsView}
+use Rattle.calls.specs.Views.{CallSeatView, ListKey, ListView, BatchView, TicketView, CallsView}
 
 module _ {A : Type 0} where
   abbrev pub view_of_seat : seat.Inside A → CallSeatView
@@ -57,3 +58,10 @@ module _ {J A : Type 0} where
 
   pub record AreCalls (c : calls.Inside J A) : Type 0 where
     pub locks : AreOfDomain c.spot.domain c.spot.tallies c.lists.items
+
+module _ {A : Type 0} where
+  abbrev pub view_of_ticket : ticket.Inside A → TicketView
+  view_of_ticket t = record { tallies = t.seat.table_id; numbers = t.numbers.items }
+
+  pub record IsTicket (t : ticket.Inside A) : Type 0 where
+    pub whole : t.seat.table_id.words ≡ word_count (length t.numbers.items)

@@ -6,5 +6,6 @@ pub mod Waiting
 pub mod Views
 pub mod Refusals
 pub mod Calls
+pub mod Barriers
 pub mod Insides
 pub mod Making

@@ -37,6 +37,11 @@ pub record BatchView (J : Type 0) : Type 0 where
   pub count : ℕ
   pub entries : List (Entry J)
 
+-- for each processor of the tally words, in order, how many of its calls have to be finished
+pub record TicketView : Type 0 where
+  pub tallies : TableId
+  pub numbers : List ℕ
+
 -- the callbacks of a domain with so many processors
 pub record CallsView : Type 0 where
   pub domain : TableId

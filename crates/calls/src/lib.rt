@@ -2,6 +2,7 @@
 //! thread that takes jobs out may be another one than those that queued them.
 #![tactic(auto)]
 
+mod barrier;
 mod batch;
 mod calls;
 mod entry;
@@ -14,6 +15,7 @@ mod spot;
 mod tally;
 mod view;
 
+pub use barrier::Ticket;
 pub use batch::Batch;
 pub use calls::Calls;
 pub use entry::Entry;

@@ -1,7 +1,7 @@
 //! The rule of the tally words, and what each step on them tells the one that makes it.
 ghost use Rattle.std.specs.Prelude.{ℕ};
 ghost use Rattle.calls.specs.Rule.{Kept, founder, dealer, dealt, without_list, only_list, lending, lent, with_list, with_batch, spent};
-ghost use Rattle.calls.specs.Plays.{queues, finishes};
+ghost use Rattle.calls.specs.Plays.{queues, finishes, counts_queued, counts_finished};
 
 use crate::view::{Plan, View};
 use atomic_table::{Join, Play, Seat, Shared, Split, Table, TableRule};
@@ -40,6 +40,20 @@ pub(crate) struct AddFinished;
 
 impl Play<NoSlot, View> for AddFinished {
     ghost then = { finishes };
+}
+
+/// Load of a queued word.
+pub(crate) struct CountQueued;
+
+impl Play<NoSlot, View> for CountQueued {
+    ghost then = { counts_queued };
+}
+
+/// Load of a finished word.
+pub(crate) struct CountFinished;
+
+impl Play<NoSlot, View> for CountFinished {
+    ghost then = { counts_finished };
 }
 
 /// A new seat is the next processor's, with its list's right.
