@@ -1,6 +1,7 @@
 //! Loads of the tally words.
 ghost use Rattle.std.specs.Prelude.{◌≡◌, ◌<◌};
 ghost use Rattle.calls.specs.declared.view.Act.TheVariants.{LoadQueued, LoadFinished};
+ghost use Rattle.calls.specs.Tallies.{word_count, AreTrue};
 ghost use Rattle.calls.specs.Calls.{Does};
 
 use crate::plays::{self, Place};
@@ -10,7 +11,10 @@ use std::alloc::Allocator;
 impl<A: Allocator> CallSeat<A> {
     /// How many processors have tallies.
     pub(super) fn processors(&self) -> usize
-        ensures { result ≡ self.now.processors }
+        ensures count { result ≡ self.now.processors }
+        ensures wide { self.now.tallies.words ≡ word_count self.now.processors }
+        ensures there { self.now.processor < self.now.processors }
+        ensures loads { AreTrue self.now.seen }
     {
         self.table.word_count() / 32
     }
