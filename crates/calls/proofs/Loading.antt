@@ -1,17 +1,18 @@
 -- What one load, and several of them, leave of a seat.
 use Rattle.std.proofs.Common.{◌≡◌, ◌≢◌, ℕ, ◌+◌, ◌*◌, ◌/◌, ◌<◌, ◌≤◌, Bool, false, List, [], ◌∷◌, ◌++◌, map, length, get_or, refl, sym, ap, ◌∙◌, subst, append_assoc, append-nil, arith}
-use Rattle.std.proofs.lemmas.List.{length-append, get_or_push, get_or_append_left, get_or_past}
+use Rattle.std.proofs.lemmas.List.{get_or_push, get_or_append_left, get_or_past, get_or_default}
 use mathlib.Core.Logic.{dite}
 use native.Mathlib.Decide.{ℕ_discrete, dec_le}
+use Rattle.atomic_table.specs.Seated.{TableId}
 use Rattle.calls.specs.declared.view.Act.{Act}
 use Rattle.calls.specs.declared.view.Act.TheVariants.{LoadQueued, LoadFinished}
 use Rattle.calls.specs.declared.view.Deed.{Deed}
 use Rattle.calls.specs.declared.view.View.{View}
-use Rattle.calls.specs.Tallies.{deed, is_queue, queued_by, queued_in, finished_by, finished_in, deeds_of, IsBeginning, IsTrueOf, AreTrueAfter, AreTrue}
+use Rattle.calls.specs.Tallies.{word_count, deed, is_queue, queued_by, queued_in, finished_by, finished_in, deeds_of, IsBeginning, IsTrueOf, AreTrueAfter, AreTrue}
 use Rattle.calls.specs.Views.{CallSeatView, TicketView}
 use Rattle.calls.specs.Plays.{Does as DoesThere}
 use Rattle.calls.specs.Calls.{Does}
-use Rattle.calls.specs.Barriers.{IsCountBetween, Loads, queued_loads, finished_loads}
+use Rattle.calls.specs.Barriers.{IsCountBetween, Loads, queued_loads, finished_loads, number_for}
 use Rattle.calls.proofs.Counting.{queued_still, same_queued, deeds_own, begins_itself}
 
 -- a step that queues nothing leaves the maker's own count as it was
@@ -121,3 +122,24 @@ pub each_push : (K : ℕ → ℕ → Type 0) (i : ℕ) (ns : List ℕ) (n : ℕ)
 each_push K i ns n count all one p lt = dite (ℕ_discrete p i)
     (λ e. subst (λ (z : ℕ × ℕ). K z.0 z.1) (λ j. (sym e j, sym (get_or_push ns n 0 p (count ∙ sym e)) j)) one)
     (λ ne. let below : p < i = omega (arith, lt, ne) in let inside : p < length ns = omega (arith, below, count) in subst (λ (z : ℕ). K p z) (sym (get_or_append_left ns (n ∷ []) 0 p inside)) (all p below))
+
+-- a number of each processor that is there is a number of each processor
+pub all_reached : (ns : List ℕ) (count : ℕ → ℕ) → ((p : ℕ) → p < length ns → get_or ns p 0 ≤ count p) → (p : ℕ) → get_or ns p 0 ≤ count p
+all_reached ns count each p = dite (dec_le (p + 1) (length ns)) (λ l. each p (omega (arith, l))) (λ g. let none = get_or_past ns p 0 (omega (arith, g)) in omega (arith, none))
+
+-- a ticket has a number for each processor of its tally words
+pub ticket_whole : (t : TicketView) (s : CallSeatView) (tallies : TableId) (ns : List ℕ) → t ≡ record { tallies = tallies; numbers = ns } → tallies.words ≡ word_count (length ns) → s.tallies.words ≡ word_count s.processors → t.tallies ≡ s.tallies → length t.numbers ≡ s.processors
+ticket_whole t s tallies ns is whole wide same =
+    let long = ap (λ (z : TicketView). length z.numbers) is in
+    let words = ap (λ (z : TicketView). z.tallies.words) is in
+    let one = ap (λ (z : TableId). z.words) same in
+    omega (arith, long, words, one, whole, wide)
+
+-- what is read is the number
+pub number_read : (t u : TicketView) (i x : ℕ) → t ≡ u → i < length t.numbers → x ≡ get_or t.numbers i x → x ≡ number_for i u
+number_read t u i x same inside is = is ∙ (get_or_default t.numbers i x 0 inside ∙ ap (number_for i) same)
+
+pub reached_push : (number : ℕ → ℕ) (i : ℕ) (a b : List Deed) → IsBeginning a b → ((p : ℕ) → p < i → number p ≤ finished_in p a) → number i ≤ finished_in i b → (p : ℕ) → p < i + 1 → number p ≤ finished_in p b
+reached_push number i a b on all one p lt = dite (ℕ_discrete p i)
+    (λ e. subst (λ (z : ℕ). number z ≤ finished_in z b) (sym e) one)
+    (λ ne. let was = all p (omega (arith, lt, ne)) in let more = finished_later p on in omega (arith, was, more))

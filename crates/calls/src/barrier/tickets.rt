@@ -46,8 +46,9 @@ impl<J, A: Allocator + Copy> Calls<J, A> {
         // The job of each receipt that is covered was given out, and its batch is finished.
         ensures finished { IsTrue result → AreFinished ticket.now seat.new.seen }
     {
-        for (processor, number) in ticket.numbers.iter().enumerate() {
-            if seat.load_finished(processor) < *number {
+        let processors = seat.processors();
+        for processor in 0..processors {
+            if seat.load_finished(processor) < ticket.numbers[processor] {
                 return false;
             }
         }
