@@ -143,3 +143,11 @@ pub reached_push : (number : ℕ → ℕ) (i : ℕ) (a b : List Deed) → IsBegi
 reached_push number i a b on all one p lt = dite (ℕ_discrete p i)
     (λ e. subst (λ (z : ℕ). number z ≤ finished_in z b) (sym e) one)
     (λ ne. let was = all p (omega (arith, lt, ne)) in let more = finished_later p on in omega (arith, was, more))
+
+-- a load finds all that had been queued before, as far as anything that is then seen tells
+pub load_not_below : (c p n : ℕ) (a : List Deed) (v w : View) → DoesThere c (LoadQueued p n) v w → IsBeginning a w.seen → queued_in p a ≤ n
+load_not_below c p n a v w d h =
+    let low = queued_later p h in
+    let found : n ≡ queued_in p d.before = last_true d.before w.seen (deed c (LoadQueued p n)) d.seen d.loads in
+    let still = ap (queued_in p) d.seen ∙ queued_still p d.before c (LoadQueued p n) refl in
+    omega (arith, low, found, still)

@@ -18,7 +18,7 @@ use Rattle.calls.specs.declared.view.View.{View}
 use Rattle.calls.specs.Tallies.{queued_place, finished_place, deed, is_queue, queued_in, finished_by, finished_in, deeds_of, IsTrueOf, AreTrue}
 use Rattle.calls.specs.Rule.{Books, Makes, HasList, HasBatch, Fits, Kept}
 use Rattle.calls.specs.Plays.{Sat, Does, Looks, counts_queued, counts_finished}
-use Rattle.calls.proofs.Counting.{queued_still, finished_still, begins_itself, one_more_true}
+use Rattle.calls.proofs.Counting.{queued_still, finished_still, begins_itself, begins_empty, begins_pushed, one_more_true}
 use Rattle.calls.proofs.Knowing.{views_set, moved, Untouched, fits_else}
 
 same_caller : (c b : ℕ) → Caller c ≡ Caller b → c ≡ b
@@ -26,7 +26,7 @@ same_caller c b h = cc
 
 -- what the seat then knows
 abbrev looked : Books → View → ℕ → Act → View
-looked b v c act = record v { seen = b.log ++ deed c act ∷ [] }
+looked b v c act = record v { seen = b.log ++ deed c act ∷ []; told = [] }
 
 module _ (plan : Plan) (s : State (Option ℕ) View) (r : Kept plan s) (id c : ℕ) (v : View) (act : Act) (at : get_elem? s.views id ≡ some v) (who : v.who ≡ Caller c) (no_queue : is_queue act ≡ false) (no_finish : (p : ℕ) → finished_by p act ≡ 0) (true : IsTrueOf r.books.log act) where
   abbrev log' : List Deed
@@ -67,6 +67,7 @@ module _ (plan : Plan) (s : State (Option ℕ) View) (r : Kept plan s) (id c : �
         each_view = views_set (Fits b') s.views id (looked r.books v c act)
             record {
               seen = begins_itself log';
+              told = begins_empty log';
               makes = subst (λ (z : Who). Makes b' id log' z) (sym who) (made.0, refl);
               list = list_stays v.list f.list;
               batch = batch_stays v.batch f.batch;
@@ -77,6 +78,7 @@ module _ (plan : Plan) (s : State (Option ℕ) View) (r : Kept plan s) (id c : �
   pub load_looks : Looks c act v (looked r.books v c act)
   load_looks = record {
     does = record { before = r.books.log; seen = refl; since = (r.each_view id v at).seen; own = sym made.1; who = refl; loads = one_more_true r.books.log (deed c act) r.loads true };
+    covers = begins_pushed (deed c act) (r.each_view id v at).told;
     list = refl;
     batch = refl;
   }

@@ -90,7 +90,9 @@ pub record Polls (t : TicketView) (s : CallSeatView) (done : Bool) (s' : CallSea
 abbrev pub AreFinished : TicketView → List Deed → Type 0
 AreFinished t seen = (r : Receipt) → Covers t r → IsFinished r seen
 
--- one load of the queued word of the receipt's processor
+-- one load of the queued word of the receipt's processor. What the one who queued the job had seen is then seen, and the load was over all that had been queued there
 pub record Hears (r : Receipt) (s s' : CallSeatView) : Type 0 where
   pub found : ℕ
   pub does : Does (LoadQueued r.processor found) s s'
+  pub covers : IsBeginning r.note.seen s'.seen
+  pub not_below : queued_in r.processor r.note.seen ≤ found

@@ -46,9 +46,10 @@ abbrev pub finishes : Step (Option ℕ) → Sat → ℕ → Sat → Type 0
 finishes st m n m' = (m'.1 ≡ m.1) × ((c p queued finished : ℕ) (out : Option ℕ) (first count : ℕ) → m.0.who ≡ Caller c → m.0.list ≡ OfList p queued finished out → m.0.batch ≡ OfBatch p first count
     → Finishes c p queued finished out first count m.0 n m'.0)
 
--- a word was loaded: no right has changed
+-- a word was loaded: what was told is covered, and no right has changed
 pub record Looks (c : ℕ) (act : Act) (v w : View) : Type 0 where
   pub does : Does c act v w
+  pub covers : IsBeginning v.told w.seen
   pub list : w.list ≡ v.list
   pub batch : w.batch ≡ v.batch
 

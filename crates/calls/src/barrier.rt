@@ -1,5 +1,5 @@
 //! Barriers: waiting until all callbacks that were queued before are run.
-use crate::plays::Place;
+use crate::note::Note;
 use std::alloc::{Allocator, Global};
 use std::marker::Model;
 
@@ -14,7 +14,7 @@ mod tickets;
 pub struct Ticket<A: Allocator = Global> {
     pub(crate) numbers: Vec<u64, A>,
     /// It tells contracts at which tally words the barrier was started.
-    pub(crate) seat: Place,
+    pub(crate) note: Note,
 }
 
 impl<A: Allocator> Model for Ticket<A> {

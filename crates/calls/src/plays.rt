@@ -1,6 +1,6 @@
 //! The rule of the tally words, and what each step on them tells the one that makes it.
 ghost use Rattle.std.specs.Prelude.{ℕ};
-ghost use Rattle.calls.specs.Rule.{Kept, founder, dealer, dealt, without_list, only_list, lending, lent, with_list, with_batch, spent};
+ghost use Rattle.calls.specs.Rule.{Kept, founder, dealer, dealt, without_list, only_list, lending, lent, with_list, with_batch, note, informed, spent};
 ghost use Rattle.calls.specs.Plays.{queues, finishes, counts_queued, counts_finished};
 
 use crate::view::{Plan, View};
@@ -79,6 +79,24 @@ pub(crate) struct TakeList;
 
 impl Join<View> for TakeList {
     ghost both = { with_list };
+
+    ghost spent = { spent };
+}
+
+/// A new seat has seen as much.
+pub(crate) struct GiveNote;
+
+impl Split<View> for GiveNote {
+    ghost left = { λ v. v };
+
+    ghost right = { note };
+}
+
+/// What the other seat has seen is told.
+pub(crate) struct TakeNote;
+
+impl Join<View> for TakeNote {
+    ghost both = { informed };
 
     ghost spent = { spent };
 }

@@ -58,10 +58,10 @@ fn waits_for_what_was_queued(rt: HostRuntime) -> Result<(), Fail> {
     let (calls, mut cpu, mut seat, mut engine) = sole(rt.alloc())?;
     let before = calls.barrier_start(&mut seat)?;
     assert!(rt; calls.barrier_poll(&mut seat, &before));
-    let Ok(receipt) = calls.call(&rt, &mut cpu, &mut seat, 7) else {
+    let Ok(mut receipt) = calls.call(&rt, &mut cpu, &mut seat, 7) else {
         panic!(rt; "there is room");
     };
-    calls.hear(&mut seat, &receipt);
+    calls.hear(&mut seat, &mut receipt);
     let behind = calls.barrier_start(&mut seat)?;
     assert!(rt; drive(&mut engine));
     assert!(rt; !calls.barrier_poll(&mut seat, &behind));

@@ -1,6 +1,6 @@
 //! How a barrier is started, and how one learns that it is done.
 ghost use Rattle.std.specs.Prelude.{◌≡◌, ◌<◌, IfOk, IsTrue, MatchBool, MatchResult};
-ghost use Rattle.calls.specs.Barriers.{IsDone, Starts, CoversAll, IsBehind, Polls, AreFinished, Hears};
+ghost use Rattle.calls.specs.Barriers.{IsQueued, IsDone, Starts, CoversAll, IsBehind, Polls, AreFinished, Hears};
 
 use super::Ticket;
 use crate::calls::Calls;
@@ -27,7 +27,7 @@ impl<J, A: Allocator + Copy> Calls<J, A> {
         }
         Ok(Ticket {
             numbers,
-            seat: seat.note(),
+            note: seat.note(),
         })
     }
 
@@ -55,13 +55,17 @@ impl<J, A: Allocator + Copy> Calls<J, A> {
         true
     }
 
-    /// One load of the queued word of the receipt's processor, so that a barrier that this seat starts later covers the
-    /// receipt, wherever its job was queued.
-    pub fn hear<C: Allocator>(&self, seat: &mut CallSeat<C>, receipt: &Receipt)
-        requires tallies { seat.old.tallies ≡ self.now.tallies }
-        requires there { receipt.now.processor < seat.old.processors }
-        ensures { Hears receipt.now seat.old seat.new }
+    /// One load of the queued word of the receipt's processor, by a seat that has then seen all that the one who queued
+    /// the job had. So a barrier that this seat starts later covers the receipt, wherever its job was queued.
+    pub fn hear<C: Allocator>(&self, seat: &mut CallSeat<C>, receipt: &mut Receipt)
+        requires tallies { (seat.old.tallies ≡ self.now.tallies) × (receipt.old.note.tallies ≡ self.now.tallies) }
+        requires there { receipt.old.processor < seat.old.processors }
+        ensures hears { Hears receipt.old seat.old seat.new }
+        ensures same { receipt.new ≡ receipt.old }
+
+        // Its job was queued, as its note tells: the load was over its number, and a barrier covers it from now on.
+        ensures queued { IsQueued receipt.old receipt.old.note.seen → IsQueued receipt.old seat.new.seen }
     {
-        seat.load_queued(receipt.processor as usize);
+        seat.load_behind(receipt.processor as usize, &mut receipt.note);
     }
 }

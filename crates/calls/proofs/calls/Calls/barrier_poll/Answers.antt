@@ -30,7 +30,7 @@ pub index-requires : goal.index-requires
 index-requires g c =
     let lt = c.loop-processor-test.true in
     let count = c.processors-processors.ensures.count in
-    let whole = ticket_whole c.args.ticket.now c.args.seat.now c.ticket.inside.seat.table_id c.ticket.inside.numbers.items (sym c.ticket.view_is) c.ticket.invariant.whole c.processors-processors.ensures.wide (c.requires.1 ∙ sym c.requires.0) in
+    let whole = ticket_whole c.args.ticket.now c.args.seat.now c.ticket.inside.note.tallies c.ticket.inside.numbers.items (sym c.ticket.view_is) c.ticket.invariant.whole c.processors-processors.ensures.wide (c.requires.1 ∙ sym c.requires.0) in
     let long = ap (λ (t : TicketView). length t.numbers) c.ticket.view_is in
     omega (arith, lt, count, whole, long)
 
@@ -46,7 +46,7 @@ returns-then-load_finished-index-clause-polls g c =
     let ns : List ℕ = v.found in
     let lt = c.loop-processor-test.true in
     let many = c.processors-processors.ensures.count in
-    let whole = ticket_whole c.args.ticket.now c.args.seat.now c.ticket.inside.seat.table_id c.ticket.inside.numbers.items (sym c.ticket.view_is) c.ticket.invariant.whole c.processors-processors.ensures.wide (c.requires.1 ∙ sym c.requires.0) in
+    let whole = ticket_whole c.args.ticket.now c.args.seat.now c.ticket.inside.note.tallies c.ticket.inside.numbers.items (sym c.ticket.view_is) c.ticket.invariant.whole c.processors-processors.ensures.wide (c.requires.1 ∙ sym c.requires.0) in
     let long = ap (λ (t : TicketView). length t.numbers) c.ticket.view_is in
     let read : c.index.result.now ≡ number_for i c.args.ticket.now = number_read _ _ i c.index.result.now c.ticket.view_is (omega (arith, lt, many, whole, long)) c.index.ensures in
     let number : c.index.result.now ≡ number_for (length ns) c.args.ticket.now = read ∙ ap (λ (p : ℕ). number_for p c.args.ticket.now) (sym v.count) in
@@ -67,7 +67,7 @@ returns-then-load_finished-index-clause-done g c =
     let d : Does (LoadFinished i n) m t = c.load_finished.ensures in
     let lt = c.loop-processor-test.true in
     let many = c.processors-processors.ensures.count in
-    let whole = ticket_whole c.args.ticket.now c.args.seat.now c.ticket.inside.seat.table_id c.ticket.inside.numbers.items (sym c.ticket.view_is) c.ticket.invariant.whole c.processors-processors.ensures.wide (c.requires.1 ∙ sym c.requires.0) in
+    let whole = ticket_whole c.args.ticket.now c.args.seat.now c.ticket.inside.note.tallies c.ticket.inside.numbers.items (sym c.ticket.view_is) c.ticket.invariant.whole c.processors-processors.ensures.wide (c.requires.1 ∙ sym c.requires.0) in
     let long = ap (λ (t : TicketView). length t.numbers) c.ticket.view_is in
     let number : c.index.result.now ≡ number_for i c.args.ticket.now = number_read _ _ i c.index.result.now c.ticket.view_is (omega (arith, lt, many, whole, long)) c.index.ensures in
     let below = c.if-load_finished-index.true in record {
@@ -89,7 +89,7 @@ loop-processor-preserved g c =
     let ns : List ℕ = v.found in
     let lt = c.loop-processor-test.true in
     let many = c.processors-processors.ensures.count in
-    let whole = ticket_whole c.args.ticket.now c.args.seat.now c.ticket.inside.seat.table_id c.ticket.inside.numbers.items (sym c.ticket.view_is) c.ticket.invariant.whole c.processors-processors.ensures.wide (c.requires.1 ∙ sym c.requires.0) in
+    let whole = ticket_whole c.args.ticket.now c.args.seat.now c.ticket.inside.note.tallies c.ticket.inside.numbers.items (sym c.ticket.view_is) c.ticket.invariant.whole c.processors-processors.ensures.wide (c.requires.1 ∙ sym c.requires.0) in
     let long = ap (λ (t : TicketView). length t.numbers) c.ticket.view_is in
     let number : c.index.result.now ≡ number_for i c.args.ticket.now = number_read _ _ i c.index.result.now c.ticket.view_is (omega (arith, lt, many, whole, long)) c.index.ensures in
     let not_below = c.if-load_finished-index.false in
@@ -121,7 +121,7 @@ returns-clause-done g c =
     let v = c.loop-processor.invariant in
     let ge = c.loop-processor-test.false in
     let count = c.processors-processors.ensures.count in
-    let whole = ticket_whole c.args.ticket.now c.args.seat.now c.ticket.inside.seat.table_id c.ticket.inside.numbers.items (sym c.ticket.view_is) c.ticket.invariant.whole c.processors-processors.ensures.wide (c.requires.1 ∙ sym c.requires.0) in
+    let whole = ticket_whole c.args.ticket.now c.args.seat.now c.ticket.inside.note.tallies c.ticket.inside.numbers.items (sym c.ticket.view_is) c.ticket.invariant.whole c.processors-processors.ensures.wide (c.requires.1 ∙ sym c.requires.0) in
     all_reached c.args.ticket.now.numbers (λ p. finished_in p c.loop-processor.seat.seen) (λ p lt. v.reached p (omega (arith, ge, count, whole, lt)))
 
 pub returns-clause-finished : goal.returns-clause-finished
@@ -129,7 +129,7 @@ returns-clause-finished g c _ r covered =
     let v = c.loop-processor.invariant in
     let ge = c.loop-processor-test.false in
     let count = c.processors-processors.ensures.count in
-    let whole = ticket_whole c.args.ticket.now c.args.seat.now c.ticket.inside.seat.table_id c.ticket.inside.numbers.items (sym c.ticket.view_is) c.ticket.invariant.whole c.processors-processors.ensures.wide (c.requires.1 ∙ sym c.requires.0) in
+    let whole = ticket_whole c.args.ticket.now c.args.seat.now c.ticket.inside.note.tallies c.ticket.inside.numbers.items (sym c.ticket.view_is) c.ticket.invariant.whole c.processors-processors.ensures.wide (c.requires.1 ∙ sym c.requires.0) in
     let done : IsDone c.args.ticket.now c.loop-processor.seat.seen = all_reached c.args.ticket.now.numbers (λ p. finished_in p c.loop-processor.seat.seen) (λ p lt. v.reached p (omega (arith, ge, count, whole, lt))) in
     let more = done r.processor in
     omega (arith, more, covered)

@@ -4,7 +4,7 @@ use Rattle.atomic_table.specs.Seated.{TableId}
 use Rattle.calls.specs.declared.view.Act.{Act}
 use Rattle.calls.specs.declared.view.Act.TheVariants.{LoadQueued}
 use Rattle.calls.specs.Tallies.{queued_in}
-use Rattle.calls.specs.Views.{CallSeatView}
+use Rattle.calls.specs.Views.{CallSeatView, NoteView}
 use Rattle.calls.specs.Calls.{Does}
 use Rattle.calls.specs.Barriers.{IsCountBetween, Loads, queued_loads}
 use Rattle.calls.proofs.Loading.{no_loads, one_more_load, later_count, goes_on, queued_found, queued_not_below, queued_loads_push, each_push}
@@ -71,7 +71,7 @@ invariant_of-result g c =
     let count = v.count in
     let many = c.processors-processors.ensures.count in
     let wide = c.processors-processors.ensures.wide in
-    let same = ap (λ (t : TableId). t.words) (c.note.ensures.note ∙ v.loads.same.0) in
+    let same = ap (λ (t : TableId). t.words) (ap (λ (n : NoteView). n.tallies) c.note.ensures.note ∙ v.loads.same.0) in
     record { whole = omega (arith, le, ge, count, many, wide, same) }
 
 pub returns-clause-starts : goal.returns-clause-starts
@@ -85,7 +85,7 @@ returns-clause-starts g c =
     let ns : List ℕ = c.loop-processor.numbers.items in
     let each : (p : ℕ) → p < s.processors → IsCountBetween (queued_in p) (get_or ns p 0) s.seen c.loop-processor.seat.seen = λ p lt. v.each p (omega (arith, le, ge, count, many, lt)) in
     rw (c.note.ensures.same) (record {
-      tallies = c.note.ensures.note ∙ v.loads.same.0;
+      tallies = ap (λ (n : NoteView). n.tallies) c.note.ensures.note ∙ v.loads.same.0;
       whole = omega (arith, le, ge, count, many);
       loads = v.loads;
       each = each;

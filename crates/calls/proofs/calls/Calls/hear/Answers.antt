@@ -1,4 +1,16 @@
+use Rattle.std.proofs.Common.{◌≡◌, ℕ, ◌<◌, ap, sym, ◌∙◌, arith}
+use Rattle.calls.specs.declared.list.Receipt.{Receipt}
+use Rattle.calls.proofs.Loading.{queued_later}
 use Rattle.calls.proofs.calls.Calls.hear.Goals as goal
 
-pub returns : goal.returns
-returns g c = record { found = c.load_queued.result; does = c.load_queued.ensures }
+pub load_behind-requires-clause-note : goal.load_behind-requires-clause-note
+load_behind-requires-clause-note g c = c.requires.tallies.1 ∙ sym c.requires.tallies.0
+
+pub returns-clause-hears : goal.returns-clause-hears
+returns-clause-hears g c = record { found = c.load_behind.result; does = c.load_behind.ensures.does; covers = c.load_behind.ensures.covers; not_below = c.load_behind.ensures.not_below }
+
+pub returns-clause-same : goal.returns-clause-same
+returns-clause-same g c = ap (λ n. record c.args.receipt.now { note = n }) c.load_behind.ensures.same
+
+pub returns-clause-queued : goal.returns-clause-queued
+returns-clause-queued g c queued = let more = queued_later c.args.receipt.now.processor c.load_behind.ensures.covers in omega (arith, more, queued)

@@ -88,7 +88,7 @@ returns g c =
     let is : unwrapped c.assign.new.self.entries ≡ assigned n (u ++ (e, Next) ∷ []) = ap unwrapped (entries_queued c.self.inside.waiting.entries c.assign.new.self.entries u e n v.wrapping (c.assign.ensures.entries ∙ ap (assigned n) c.in_default.ensures.added)) ∙ unwrap_wrap (assigned n (u ++ (e, Next) ∷ [])) in
     let on = goes_on_noted _ _ _ _ _ domain c.cookie_behind-cookie.ensures in
     let h = q.list_is in
-    rw (← c.self.view_is, ← c.seat.view_is) (record {
+    rw (c.note.ensures.same, ← c.self.view_is, ← c.seat.view_is) (record {
       note = note;
       same = λ i. record { domain = on.domain i; tallies = q.table i; processor = p };
       entries = is ∙ (λ i. assigned (number i) (u ++ (record { job = c.args.job; cookie = one i }, Next) ∷ []));
@@ -105,4 +105,5 @@ returns g c =
       processor = sym same;
       counted = q.own ∙ ap (λ (z : ℕ). queued_in z c.seat.inside.seat.me.0.seen) (sym same);
       numbered = q.found_is ∙ v.numbered;
+      noted = c.note.ensures.note;
     })
