@@ -3,6 +3,7 @@ mod Knowing
 mod Steps
 mod Looking
 mod Loading
+mod Forging
 mod Sharing
 mod Seating
 mod Wrapping

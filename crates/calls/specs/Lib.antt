@@ -7,5 +7,6 @@ pub mod Views
 pub mod Refusals
 pub mod Calls
 pub mod Barriers
+pub mod Laws
 pub mod Insides
 pub mod Making
