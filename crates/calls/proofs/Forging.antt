@@ -1,5 +1,5 @@
 -- The rule tells of one history, and no seat can claim a load that it did not make. What barriers cover.
-use Rattle.std.proofs.Common.{◌≡◌, ℕ, zero, suc, ◌+◌, List, [], ◌∷◌, Option, None, get_or, replicate, refl, sym, ap, ◌∙◌, subst, arith, inl, inr, ⊎_elim}
+use Rattle.std.proofs.Common.{◌≡◌, ℕ, zero, suc, List, [], ◌∷◌, Option, None, replicate, refl, sym, ap, ◌∙◌, subst, arith, ⊎_elim}
 use Rattle.std.proofs.lemmas.List.{length-replicate}
 use mathlib.Core.Option.{some, some-injective, some-ne-none}
 use lib.ListN.{get_elem?}
@@ -12,7 +12,7 @@ use Rattle.calls.specs.declared.view.ListRight.TheVariants.{NoList}
 use Rattle.calls.specs.declared.view.BatchRight.TheVariants.{NoBatch}
 use Rattle.calls.specs.declared.view.View.{View}
 use Rattle.calls.specs.Tallies.{queued_place, finished_place, word_count, deed, queued_in, finished_in, IsBeginning}
-use Rattle.calls.specs.Rule.{count_out, Books, Fits, Kept, note}
+use Rattle.calls.specs.Rule.{Books, Fits, Kept, note}
 use Rattle.calls.specs.Laws.{OneHistory, idle_seat, NeverForged, StaysQueued, StaysFinished, BarriersCover}
 use Rattle.calls.proofs.Counting.{begins_empty, begins_itself}
 use Rattle.calls.proofs.Founding.{all_zero}

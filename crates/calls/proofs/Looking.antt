@@ -1,5 +1,5 @@
 -- A load of a tally word keeps their rule, and is one more deed of its maker.
-use Rattle.std.proofs.Common.{◌≡◌, ◌≢◌, ℕ, ◌+◌, ◌<◌, Bool, false, List, [], ◌∷◌, ◌++◌, Option, get_or, set, refl, sym, ap, ◌∙◌, subst, arith}
+use Rattle.std.proofs.Common.{◌≡◌, ℕ, ◌<◌, false, List, [], ◌∷◌, ◌++◌, Option, get_or, set, refl, sym, ap, ◌∙◌, subst, arith}
 use lib.Seq.{set-get_or}
 use lib.ListN.{get_elem?}
 use mathlib.Core.Option.{none, some}
@@ -15,11 +15,11 @@ use Rattle.calls.specs.declared.view.ListRight.TheVariants.{NoList, OfList}
 use Rattle.calls.specs.declared.view.BatchRight.{BatchRight}
 use Rattle.calls.specs.declared.view.BatchRight.TheVariants.{NoBatch, OfBatch}
 use Rattle.calls.specs.declared.view.View.{View}
-use Rattle.calls.specs.Tallies.{queued_place, finished_place, deed, is_queue, queued_in, finished_by, finished_in, deeds_of, IsTrueOf, AreTrue}
+use Rattle.calls.specs.Tallies.{queued_place, finished_place, deed, is_queue, queued_in, finished_by, finished_in, IsTrueOf}
 use Rattle.calls.specs.Rule.{Books, Makes, HasList, HasBatch, Fits, Kept}
-use Rattle.calls.specs.Plays.{Sat, Does, Looks, counts_queued, counts_finished}
+use Rattle.calls.specs.Plays.{Sat, Looks, counts_queued, counts_finished}
 use Rattle.calls.proofs.Counting.{queued_still, finished_still, begins_itself, begins_empty, begins_pushed, one_more_true}
-use Rattle.calls.proofs.Knowing.{views_set, moved, Untouched, fits_else}
+use Rattle.calls.proofs.Knowing.{views_set, moved, fits_else}
 
 same_caller : (c b : ℕ) → Caller c ≡ Caller b → c ≡ b
 same_caller c b h = cc

@@ -1,5 +1,4 @@
-use Rattle.std.proofs.Common.{◌≡◌, ℕ, ◌<◌, ap, sym, ◌∙◌, arith}
-use Rattle.calls.specs.declared.list.Receipt.{Receipt}
+use Rattle.std.proofs.Common.{ap, sym, ◌∙◌, arith}
 use Rattle.calls.proofs.Loading.{queued_later}
 use Rattle.calls.proofs.calls.Calls.hear.Goals as goal
 

@@ -1,14 +1,9 @@
-use Rattle.std.proofs.Common.{◌≡◌, ℕ, ◌<◌, ◌≤◌, List, refl, ap, sym, ◌∙◌, subst, arith}
+use Rattle.std.proofs.Common.{◌≡◌, ℕ, ◌<◌, List, refl, ap, sym, ◌∙◌, subst}
 use Rattle.calls.specs.declared.view.Deed.{Deed}
-use Rattle.calls.specs.declared.view.View.{View}
-use Rattle.calls.specs.declared.view.Act.{Act}
 use Rattle.calls.specs.declared.view.Act.TheVariants.{LoadQueued}
-use Rattle.atomic_table.specs.Seated.{TableId}
 use Rattle.calls.specs.Tallies.{queued_in, IsBeginning}
 use Rattle.calls.specs.Views.{CallSeatView, NoteView}
 use Rattle.calls.specs.Seats.{IsPlaced}
-use Rattle.calls.specs.Plays.{Does, Looks}
-use Rattle.calls.specs.Rule.{informed, note}
 use Rattle.calls.proofs.Seating.{some_words, queued_there, does_through}
 use Rattle.calls.proofs.Sharing.{gives_note, takes_note}
 use Rattle.calls.proofs.Looking.{counts_queued_here}

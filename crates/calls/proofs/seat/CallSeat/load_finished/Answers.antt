@@ -1,5 +1,4 @@
-use Rattle.std.proofs.Common.{◌≡◌, ℕ, ◌<◌, refl, ap, sym, ◌∙◌, subst}
-use Rattle.calls.specs.declared.view.Act.TheVariants.{LoadFinished}
+use Rattle.std.proofs.Common.{ℕ, ◌<◌, refl, sym, ◌∙◌, subst}
 use Rattle.calls.specs.Views.{CallSeatView}
 use Rattle.calls.specs.Seats.{IsPlaced}
 use Rattle.calls.proofs.Seating.{finished_there}

@@ -1,4 +1,4 @@
-use Rattle.std.proofs.Common.{◌≡◌, ◌<◌, List, ap, sym, ◌∙◌, subst}
+use Rattle.std.proofs.Common.{◌<◌, List, ap, sym, ◌∙◌, subst}
 use Rattle.std.specs.Arc.{arc_value}
 use Rattle.calls.specs.declared.view.Deed.{Deed}
 use Rattle.calls.specs.Tallies.{queued_in, AreTrue}
