@@ -151,3 +151,7 @@ load_not_below c p n a v w d h =
     let found : n ≡ queued_in p d.before = last_true d.before w.seen (deed c (LoadQueued p n)) d.seen d.loads in
     let still = ap (queued_in p) d.seen ∙ queued_still p d.before c (LoadQueued p n) refl in
     omega (arith, low, found, still)
+
+-- of the same tally words there are as many processors
+pub same_many : (tallies other : TableId) (m n : ℕ) → tallies.words ≡ word_count m → other.words ≡ word_count n → tallies ≡ other → m ≡ n
+same_many tallies other m n one two same = let words = ap (λ (t : TableId). t.words) same in omega (arith, one, two, words)

@@ -62,6 +62,7 @@ module _ {J A : Type 0} where
 
   pub record AreCalls (c : calls.Inside J A) : Type 0 where
     pub locks : AreOfDomain c.spot.domain c.spot.tallies c.lists.items
+    pub wide : c.spot.tallies.words ≡ word_count (length c.lists.items)
 
 module _ {A : Type 0} where
   abbrev pub view_of_ticket : ticket.Inside A → TicketView

@@ -18,7 +18,7 @@ impl<J, A: Allocator + Copy> Calls<J, A> {
 
         // Each receipt is covered whose queueing this seat had seen: of its own processor, and those that it had heard.
         ensures covers { IfOk result (λ ticket. CoversAll ticket seat.old.processors seat.old.seen) }
-        ensures there { seat.old.processor < seat.old.processors }
+        ensures there { (seat.old.processor < seat.old.processors) × (seat.old.processors ≡ self.now.processors) }
     {
         let processors = seat.processors();
         let mut numbers = Vec::with_capacity(*self.lists.allocator(), processors)?;
@@ -59,13 +59,16 @@ impl<J, A: Allocator + Copy> Calls<J, A> {
     /// the job had. So a barrier that this seat starts later covers the receipt, wherever its job was queued.
     pub fn hear<C: Allocator>(&self, seat: &mut CallSeat<C>, receipt: &mut Receipt)
         requires tallies { (seat.old.tallies ≡ self.now.tallies) × (receipt.old.note.tallies ≡ self.now.tallies) }
-        requires there { receipt.old.processor < seat.old.processors }
+        requires there { receipt.old.processor < self.now.processors }
         ensures hears { Hears receipt.old seat.old seat.new }
         ensures same { receipt.new ≡ receipt.old }
 
         // Its job was queued, as its note tells: the load was over its number, and a barrier covers it from now on.
         ensures queued { IsQueued receipt.old receipt.old.note.seen → IsQueued receipt.old seat.new.seen }
     {
+        // For the proof: each list has its words, so the processor is one of those that the seat knows.
+        let _ = &self.lists;
+        let _ = seat.processors();
         seat.load_behind(receipt.processor as usize, &mut receipt.note);
     }
 }

@@ -4,10 +4,10 @@ use Rattle.atomic_table.specs.Seated.{TableId}
 use Rattle.calls.specs.declared.view.Act.{Act}
 use Rattle.calls.specs.declared.view.Act.TheVariants.{LoadQueued}
 use Rattle.calls.specs.Tallies.{queued_in}
-use Rattle.calls.specs.Views.{CallSeatView, NoteView}
+use Rattle.calls.specs.Views.{CallSeatView, NoteView, CallsView}
 use Rattle.calls.specs.Calls.{Does}
 use Rattle.calls.specs.Barriers.{IsCountBetween, Loads, queued_loads}
-use Rattle.calls.proofs.Loading.{no_loads, one_more_load, later_count, goes_on, queued_found, queued_not_below, queued_loads_push, each_push}
+use Rattle.calls.proofs.Loading.{no_loads, one_more_load, later_count, goes_on, queued_found, queued_not_below, queued_loads_push, each_push, same_many}
 use Rattle.calls.proofs.calls.Calls.barrier_start.Goals as goal
 
 pub loop-processor-init : goal.loop-processor-init
@@ -101,3 +101,10 @@ returns-clause-covers g c r below queued =
     let many = c.processors-processors.ensures.count in
     let more = queued_not_below r.processor (get_or c.loop-processor.numbers.items r.processor 0) (v.each r.processor (omega (arith, le, ge, count, many, below))) in
     omega (arith, more, queued)
+
+pub returns-clause-there : goal.returns-clause-there
+returns-clause-there g c =
+    let tallies = c.requires ∙ ap (λ (k : CallsView). k.tallies) (sym c.self.view_is) in
+    let many = same_many _ _ _ _ c.processors-processors.ensures.wide c.self.invariant.wide tallies in
+    let count = ap (λ (k : CallsView). k.processors) c.self.view_is in
+    (c.processors-processors.ensures.there, omega (arith, many, count))
