@@ -17,7 +17,7 @@ impl<J, A: Allocator + Copy> Calls<J, A> {
         ensures starts { MatchResult result (λ ticket. Starts seat.old ticket seat.new) (λ _. seat.new ≡ seat.old) }
 
         // Each receipt is covered whose queueing this seat had seen: of its own processor, and those that it had heard.
-        ensures covers { IfOk result (λ ticket. CoversAll ticket seat.old.processors seat.old.seen) }
+        ensures covers { IfOk result (λ ticket. CoversAll ticket self.now.processors seat.old.seen) }
         ensures there { (seat.old.processor < seat.old.processors) × (seat.old.processors ≡ self.now.processors) }
     {
         let processors = seat.processors();

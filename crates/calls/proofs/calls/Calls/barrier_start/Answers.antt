@@ -99,7 +99,10 @@ returns-clause-covers g c r below queued =
     let ge = c.loop-processor-test.false in
     let count = v.count in
     let many = c.processors-processors.ensures.count in
-    let more = queued_not_below r.processor (get_or c.loop-processor.numbers.items r.processor 0) (v.each r.processor (omega (arith, le, ge, count, many, below))) in
+    let tallies = c.requires ∙ ap (λ (k : CallsView). k.tallies) (sym c.self.view_is) in
+    let same = same_many _ _ _ _ c.processors-processors.ensures.wide c.self.invariant.wide tallies in
+    let all = ap (λ (k : CallsView). k.processors) c.self.view_is in
+    let more = queued_not_below r.processor (get_or c.loop-processor.numbers.items r.processor 0) (v.each r.processor (omega (arith, le, ge, count, many, same, all, below))) in
     omega (arith, more, queued)
 
 pub returns-clause-there : goal.returns-clause-there
