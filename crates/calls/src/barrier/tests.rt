@@ -1,5 +1,5 @@
-ghost use Rattle.std.specs.Prelude.{◌≡◌, IfOk};
-ghost use Rattle.calls.specs.Calls.{FitsIn};
+ghost use Rattle.std.specs.Prelude.{◌≡◌, IfOk, IsTrue};
+ghost use Rattle.calls.specs.Calls.{FitsIn, MayTakeIn};
 
 use crate::{CallSeat, Calls};
 use scan::{Engine, Progress};
@@ -73,5 +73,53 @@ fn waits_for_what_was_queued(rt: HostRuntime) -> Result<(), Fail> {
     calls.finish(&rt, &mut seat, batch);
     assert!(rt; calls.barrier_poll(&mut seat, &behind));
     assert!(rt; calls.barrier_poll(&mut seat, &before));
+    Ok(())
+}
+
+/// The callbacks of a new domain of two processors, and what these need for them.
+fn pair(alloc: Global) -> Result<(Calls<u64>, (Cpu, CallSeat), (Cpu, CallSeat)), Fail>
+    ensures { IfOk result (λ r. MayTakeIn r.0 r.1.0 r.1.1 r.1.1.processor × MayTakeIn r.0 r.2.0 r.2.1 r.2.1.processor) }
+{
+    let limits = Limits {
+        sections: 1 << 20,
+        periods: 1 << 40,
+        cells: 0,
+    };
+    let Made {
+        mut cpus,
+        mut engine,
+    } = make(alloc, 2, limits)?;
+    let (calls, mut seats) = Calls::make(alloc, &mut engine)?;
+    let second = (cpus.pop().unwrap(), seats.pop().unwrap());
+    let first = (cpus.pop().unwrap(), seats.pop().unwrap());
+    Ok((calls, first, second))
+}
+
+/// Whether the two are of one processor.
+fn fits(calls: &Calls<u64>, cpu: &Cpu, seat: &CallSeat) -> bool
+    requires { MayTakeIn calls.now cpu.now seat.now seat.now.processor }
+    ensures { IsTrue result → FitsIn calls.now cpu.now seat.now }
+{
+    let _ = calls;
+    cpu.processor() == seat.processor
+}
+
+/// Would catch a barrier that looks at its own processor alone, and one that forgets what was heard.
+#[test]
+fn waits_for_another_processor(rt: HostRuntime) -> Result<(), Fail> {
+    let (calls, first, second) = pair(rt.alloc())?;
+    let (_, mut asker) = first;
+    let (mut cpu, mut seat) = second;
+    assert!(rt; fits(&calls, &cpu, &seat));
+    let before = calls.barrier_start(&mut asker)?;
+    let Ok(mut receipt) = calls.call(&rt, &mut cpu, &mut seat, 7) else {
+        panic!(rt; "there is room");
+    };
+    assert_eq!(rt; (receipt.processor, receipt.k), (1, 0));
+    calls.hear(&mut asker, &mut receipt);
+    let behind = calls.barrier_start(&mut asker)?;
+    assert!(rt; calls.barrier_poll(&mut asker, &before));
+    assert!(rt; !calls.barrier_poll(&mut asker, &behind));
+    assert!(rt; !calls.barrier_poll(&mut seat, &behind));
     Ok(())
 }
