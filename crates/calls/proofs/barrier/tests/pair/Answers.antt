@@ -1,7 +1,7 @@
 -- Each processor and each seat is a new one of the domain.
-use Rattle.std.proofs.Common.{◌≡◌, ◌<◌, ℕ, All, ap, ◌∙◌, sym, subst, arith}
+use Rattle.std.proofs.Common.{◌≡◌, ◌<◌, All, ap, ◌∙◌, sym, arith}
 use Rattle.std.proofs.lemmas.List.Elements.{All-pop}
-use Rattle.sections.specs.Views.{CpuView, EngineView}
+use Rattle.sections.specs.Views.{CpuView}
 use Rattle.calls.specs.Views.{CallSeatView}
 use Rattle.calls.proofs.barrier.tests.pair.Goals as goal
 
