@@ -82,4 +82,4 @@ module _ (b : Books) (d : Deed) (out : ℕ → Option ℕ) (id j : ℕ) (here : 
 
   -- another seat knows what it knew
   pub fits_else : ((p : ℕ) → b.batch_at p ≢ id → (finished_in p (moved b d out).log ≡ finished_in p b.log) × (out p ≡ b.out_of p)) → (v : View) → Fits b j v → Fits (moved b d out) j v
-  fits_else batches v h = record { seen = begins_pushed d h.seen; makes = makes_else v.seen v.who h.makes; list = list_else v.list h.list; batch = batch_else batches v.batch h.batch }
+  fits_else batches v h = record { seen = begins_pushed d h.seen; told = begins_pushed d h.told; makes = makes_else v.seen v.who h.makes; list = list_else v.list h.list; batch = batch_else batches v.batch h.batch }

@@ -1,6 +1,9 @@
 mod Counting
 mod Knowing
 mod Steps
+mod Looking
+mod Loading
+mod Forging
 mod Sharing
 mod Seating
 mod Wrapping

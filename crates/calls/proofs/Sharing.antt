@@ -18,7 +18,7 @@ use Rattle.calls.specs.declared.view.BatchRight.{BatchRight}
 use Rattle.calls.specs.declared.view.BatchRight.TheVariants.{NoBatch, OfBatch}
 use Rattle.calls.specs.declared.view.View.{View}
 use Rattle.calls.specs.Tallies.{queued_place, finished_place, word_count, queued_in, finished_in, deeds_of, IsBeginning}
-use Rattle.calls.specs.Rule.{count_out, Books, IsUndealt, Makes, HasList, HasBatch, Fits, Kept, founder, spent, without_next, next_caller, next_list, dealer, dealt, without_list, list_seat, only_list, lending, lent, with_list, with_batch}
+use Rattle.calls.specs.Rule.{count_out, Books, IsUndealt, Makes, HasList, HasBatch, Fits, Kept, founder, spent, without_next, next_caller, next_list, dealer, dealt, without_list, list_seat, only_list, lending, lent, with_list, with_batch, note, informed}
 use Rattle.calls.proofs.Counting.{begins_empty}
 use Rattle.calls.proofs.Knowing.{views_set, views_split, given, given_here, given_else}
 
@@ -51,10 +51,10 @@ module _ (b : Books) (out : ℕ → Option ℕ) (caller list batch : ℕ → ℕ
 
   -- a seat fits in other books, where these say of it what they said
   fits_apart : ((p n : ℕ) → b.batch_at p ≡ j → b.out_of p ≡ Some n → (batch p ≡ j) × (out p ≡ Some n)) → (v : View) → Fits b j v → Fits (rebooked b out caller list batch) j v
-  fits_apart batches v h = record { seen = h.seen; makes = makes_apart v.seen v.who h.makes; list = list_apart v.list h.list; batch = batch_apart batches v.batch h.batch }
+  fits_apart batches v h = record { seen = h.seen; told = h.told; makes = makes_apart v.seen v.who h.makes; list = list_apart v.list h.list; batch = batch_apart batches v.batch h.batch }
 
 spent_fits : (b : Books) (id : ℕ) → Fits b id spent
-spent_fits b id = record { seen = begins_empty b.log; makes = tt; list = tt; batch = tt }
+spent_fits b id = record { seen = begins_empty b.log; told = begins_empty b.log; makes = tt; list = tt; batch = tt }
 
 -- the seat of a right's list, or batch, is another now
 abbrev relisted : ListRight → ℕ → (ℕ → ℕ) → ℕ → ℕ
@@ -109,8 +109,8 @@ module _ (plan : Plan) where
       let list : ℕ → ℕ = relisted v.list m b.list_at in
       let b' : Books = rebooked b b.out_of b.caller_at list b.batch_at in
       reviewed s r b.out_of b.caller_at list b.batch_at (set s.views id (without_list v) ++ only_list v ∷ []) (λ p. (r.counted p).within) (views_split (Fits b') s.views id (without_list v) (only_list v)
-      record { seen = f.seen; makes = not_dealer v.seen v.who other b list id f.makes; list = tt; batch = batch_apart b b.out_of b.caller_at b.list_at b.batch_at id (λ p e. e) (λ p e. (e, refl)) (λ p n e o. (e, o)) v.batch f.batch }
-      record { seen = begins_empty b.log; makes = tt; list = list_given b v.list id m f.list; batch = tt }
+      record { seen = f.seen; told = f.told; makes = not_dealer v.seen v.who other b list id f.makes; list = tt; batch = batch_apart b b.out_of b.caller_at b.list_at b.batch_at id (λ p e. e) (λ p e. (e, refl)) (λ p n e o. (e, o)) v.batch f.batch }
+      record { seen = begins_empty b.log; told = begins_empty b.log; makes = tt; list = list_given b v.list id m f.list; batch = tt }
       (λ j d ne e. fits_apart b b.out_of b.caller_at list b.batch_at j (λ p h. h) (λ p h. (relisted_else b v.list id m j p f.list ne h, refl)) (λ p n h o. (h, o)) d (r.each_view j d e)))
     where
       not_dealer : (seen : List Deed) (who : Who) → ((k : ℕ) → who ≢ Dealer k) → (b : Books) (list : ℕ → ℕ) (id : ℕ) → Makes b id seen who → Makes (rebooked b b.out_of b.caller_at list b.batch_at) id seen who
@@ -124,8 +124,8 @@ module _ (plan : Plan) where
       let b : Books = r.books in
       let f = r.each_view id v at in
       reviewed s r b.out_of b.caller_at b.list_at b.batch_at (set s.views id (without_list v) ++ only_list v ∷ []) (λ p. (r.counted p).within) (views_split (Fits b) s.views id (without_list v) (only_list v)
-      record { seen = f.seen; makes = f.makes; list = tt; batch = f.batch }
-      record { seen = begins_empty b.log; makes = tt; list = subst (λ (z : ListRight). HasList b (length s.views) z) (sym none) tt; batch = tt }
+      record { seen = f.seen; told = f.told; makes = f.makes; list = tt; batch = f.batch }
+      record { seen = begins_empty b.log; told = begins_empty b.log; makes = tt; list = subst (λ (z : ListRight). HasList b (length s.views) z) (sym none) tt; batch = tt }
       (λ j d ne e. r.each_view j d e))
 
   was_there : (s : State (Option ℕ) View) (id other : ℕ) (both w : View) → ¬ (other ≡ id) → get_elem? (set s.views id both) other ≡ some w → get_elem? s.views other ≡ some w
@@ -140,7 +140,7 @@ module _ (plan : Plan) where
       let b' : Books = rebooked b b.out_of b.caller_at list b.batch_at in
       reviewed s r b.out_of b.caller_at list b.batch_at (set (set s.views id (with_list v w)) other spent) (λ p. (r.counted p).within) (views_set (Fits b') (set s.views id (with_list v w)) other spent (spent_fits b' other)
       (λ j d away e. views_set (λ k x. k ≢ other → Fits b' k x) s.views id (with_list v w)
-      (λ _. record { seen = f.seen; makes = makes_apart b b.out_of b.caller_at list b.batch_at id (λ p h. h) (λ p h. (relisted_mine b w.list id p h, refl)) v.seen v.who f.makes; list = list_given b w.list other id g.list; batch = batch_apart b b.out_of b.caller_at b.list_at b.batch_at id (λ p h. h) (λ p h. (h, refl)) (λ p n h o. (h, o)) v.batch f.batch })
+      (λ _. record { seen = f.seen; told = f.told; makes = makes_apart b b.out_of b.caller_at list b.batch_at id (λ p h. h) (λ p h. (relisted_mine b w.list id p h, refl)) v.seen v.who f.makes; list = list_given b w.list other id g.list; batch = batch_apart b b.out_of b.caller_at b.list_at b.batch_at id (λ p h. h) (λ p h. (h, refl)) (λ p n h o. (h, o)) v.batch f.batch })
       (λ k x ne h far. fits_apart b b.out_of b.caller_at list b.batch_at k (λ p i. i) (λ p i. (relisted_else b w.list other id k p g.list far i, refl)) (λ p n i o. (i, o)) x (r.each_view k x h)) j d e away))
 
   pub takes_batch : (id : ℕ) (v : View) (other : ℕ) (w : View) → Joins (Kept plan) id v other w (with_batch v w) spent
@@ -152,7 +152,7 @@ module _ (plan : Plan) where
       let b' : Books = rebooked b b.out_of b.caller_at b.list_at batch in
       reviewed s r b.out_of b.caller_at b.list_at batch (set (set s.views id (with_batch v w)) other spent) (λ p. (r.counted p).within) (views_set (Fits b') (set s.views id (with_batch v w)) other spent (spent_fits b' other)
       (λ j d away e. views_set (λ k x. k ≢ other → Fits b' k x) s.views id (with_batch v w)
-      (λ _. record { seen = f.seen; makes = makes_apart b b.out_of b.caller_at b.list_at batch id (λ p h. h) (λ p h. (h, refl)) v.seen v.who f.makes; list = list_apart b b.out_of b.caller_at b.list_at batch id (λ p h. h) (λ p h. (h, refl)) v.list f.list; batch = batch_given b w.batch other id g.batch })
+      (λ _. record { seen = f.seen; told = f.told; makes = makes_apart b b.out_of b.caller_at b.list_at batch id (λ p h. h) (λ p h. (h, refl)) v.seen v.who f.makes; list = list_apart b b.out_of b.caller_at b.list_at batch id (λ p h. h) (λ p h. (h, refl)) v.list f.list; batch = batch_given b w.batch other id g.batch })
       (λ k x ne h far. fits_apart b b.out_of b.caller_at b.list_at batch k (λ p i. i) (λ p i. (i, refl)) (λ p n i o. (rebatched_else b w.batch other id k p g.batch far i, o)) x (r.each_view k x h)) j d e away))
 
   -- a list of which nothing is out lends the right of a batch
@@ -172,12 +172,32 @@ module _ (plan : Plan) where
       (λ e. let o : count_out (out k) ≡ n = ap (λ z. count_out (out z)) e ∙ ap count_out (given_here p (Some n) b.out_of) in let few : f + n ≤ q = enough in let qs : queued_in k b.log ≡ q = ap (λ z. queued_in z b.log) e ∙ sym h.1 in let fs : finished_in k b.log ≡ f = ap (λ z. finished_in z b.log) e ∙ sym h.2 in omega (arith, o, few, qs, fs))
       (λ ne. let o : count_out (out k) ≡ count_out (b.out_of k) = ap count_out (given_else p (Some n) b.out_of k ne) in omega (arith, o, within)))
       (views_split (Fits b') s.views id (lending n l) (lent n l)
-      record { seen = begins_empty b.log; makes = tt; list = (h.0, h.1, h.2, sym (given_here p (Some n) b.out_of)); batch = tt }
-      record { seen = begins_empty b.log; makes = tt; list = tt; batch = (given_here p m b.batch_at, h.2, given_here p (Some n) b.out_of) }
+      record { seen = begins_empty b.log; told = begins_empty b.log; makes = tt; list = (h.0, h.1, h.2, sym (given_here p (Some n) b.out_of)); batch = tt }
+      record { seen = begins_empty b.log; told = begins_empty b.log; makes = tt; list = tt; batch = (given_here p m b.batch_at, h.2, given_here p (Some n) b.out_of) }
       (λ j d ne e. fits_apart b out b.caller_at b.list_at batch j (λ k i. i)
       (λ k i. (i, given_else p (Some n) b.out_of k (λ z. ne (sym i ∙ (ap b.list_at z ∙ h.0)))))
       (λ k c i o. let apart : k ≢ p = λ z. no_some c (b.out_of p) (sym h.3) (ap b.out_of (sym z) ∙ o) in (given_else p m b.batch_at k apart ∙ i, given_else p (Some n) b.out_of k apart ∙ o))
       d (r.each_view j d e))))
+
+  -- Notes
+
+  pub gives_note : (id : ℕ) (v : View) → Splits (Kept plan) id v v (note v)
+  gives_note id v s r at =
+      let b : Books = r.books in
+      let f = r.each_view id v at in
+      reviewed s r b.out_of b.caller_at b.list_at b.batch_at (set s.views id v ++ note v ∷ []) (λ p. (r.counted p).within) (views_split (Fits b) s.views id v (note v) f
+      record { seen = f.seen; told = begins_empty b.log; makes = tt; list = tt; batch = tt }
+      (λ j d ne e. r.each_view j d e))
+
+  pub takes_note : (id : ℕ) (v : View) (other : ℕ) (w : View) → Joins (Kept plan) id v other w (informed v w) spent
+  takes_note id v other w s r at apart there =
+      let b : Books = r.books in
+      let f = r.each_view id v at in
+      let g = r.each_view other w (was_there s id other (informed v w) w apart there) in
+      reviewed s r b.out_of b.caller_at b.list_at b.batch_at (set (set s.views id (informed v w)) other spent) (λ p. (r.counted p).within) (views_set (Fits b) (set s.views id (informed v w)) other spent (spent_fits b other)
+      (λ j d away e. views_set (Fits b) s.views id (informed v w)
+      record { seen = f.seen; told = g.seen; makes = f.makes; list = f.list; batch = f.batch }
+      (λ k x ne h. r.each_view k x h) j d e))
 
   -- Dealing
 
@@ -194,12 +214,14 @@ module _ (plan : Plan) where
       reviewed s r b.out_of caller list b.batch_at (set s.views id (dealer v) ++ dealt v ∷ []) (λ p. (r.counted p).within) (views_split (Fits b') s.views id (dealer v) (dealt v)
       record {
         seen = f.seen;
+        told = f.told;
         makes = subst (λ (z : Who). Makes b' id v.seen (without_next z)) (sym is) (λ p le. let w : IsUndealt b id p = made p (omega (arith, le)) in let ne : p ≢ k = λ e. absurd (omega (arith, le, e)) in record { caller = given_else k m b.caller_at p ne ∙ w.caller; list = given_else k m b.list_at p ne ∙ w.list; nothing = w.nothing; queued = w.queued; finished = w.finished; out = w.out });
         list = subst (λ (z : ListRight). HasList b' id z) (sym no_list) tt;
         batch = subst (λ (z : BatchRight). HasBatch b' id z) (sym no_batch) tt;
       }
       record {
         seen = f.seen;
+        told = begins_empty b.log;
         makes = subst (λ (z : Who). Makes b' m v.seen (next_caller z)) (sym is) (given_here k m b.caller_at, none_seen k v.seen b.log f.seen u.nothing ∙ sym u.nothing);
         list = subst (λ (z : Who). HasList b' m (next_list z)) (sym is) (given_here k m b.list_at, sym u.queued, sym u.finished, sym u.out);
         batch = tt;
@@ -214,6 +236,7 @@ module _ (plan : Plan) where
   first_view : (j : ℕ) (d : View) → get_elem? (founder plan ∷ []) j ≡ some d → Fits opening_books j d
   first_view zero d e = subst (λ (v : View). Fits opening_books 0 v) (some-injective (founder plan) d e) record {
     seen = begins_empty [];
+    told = begins_empty [];
     makes = λ p _. record { caller = refl; list = refl; nothing = refl; queued = refl; finished = refl; out = refl };
     list = tt;
     batch = tt;

@@ -17,7 +17,7 @@ use Rattle.calls.specs.declared.view.View.{View}
 use Rattle.calls.specs.Tallies.{queued_place, finished_place, most_calls, deed, queued_in, finished_in, AreTrue}
 use Rattle.calls.specs.Rule.{count_out, Books, Makes, HasList, HasBatch, Fits, Kept}
 use Rattle.calls.specs.Plays.{Sat, Queues, queues, Finishes, finishes}
-use Rattle.calls.proofs.Counting.{queued_here, queued_else, queued_still, finished_here, finished_else, finished_still, same_queued, begins_itself, one_more_true}
+use Rattle.calls.proofs.Counting.{queued_here, queued_else, queued_still, finished_here, finished_else, finished_still, same_queued, begins_itself, begins_empty, one_more_true}
 use Rattle.calls.proofs.Knowing.{views_set, given, given_here, given_else, moved, Untouched, fits_else}
 
 same_caller : (p q : ℕ) → Caller p ≡ Caller q → p ≡ q
@@ -45,7 +45,7 @@ module _ (plan : Plan) where
       let y : ℕ = (x + 1) % 2 ^ 64 in
       let found : x ≡ queued_in p b.log = ap (λ z. get_or s.words z 0) place ∙ r.queued p lt in
       let up : y ≡ x + 1 = omega (arith, found, same, room) in
-      let w : View = record { who = v.who; list = OfList p (q + 1) f o; batch = v.batch; seen = log' } in
+      let w : View = record { who = v.who; list = OfList p (q + 1) f o; batch = v.batch; seen = log'; told = [] } in
       let b' : Books = moved b d b.out_of in
       let one : queued_in p log' ≡ queued_in p b.log + 1 = queued_here p b.log in
       let inside : word < length s.words = let wide = r.wide in omega (arith, wide, lt, place) in
@@ -73,6 +73,7 @@ module _ (plan : Plan) where
           each_view = views_set (Fits b') s.views id w
               record {
                 seen = begins_itself log';
+                told = begins_empty log';
                 makes = subst (λ (z : Who). Makes b' id log' z) (sym who) (made.0, refl);
                 list = (has.0, ap (λ z. z + 1) has.1 ∙ sym one, has.2 ∙ sym (finished_still p b.log p Queue refl), has.3);
                 batch = same_batch_right v.batch b b' id (λ k. finished_still k b.log p Queue refl) (λ _. refl) (λ _. refl) fit.batch;
@@ -115,7 +116,7 @@ module _ (plan : Plan) where
       let few = counts.few in
       let many : count_out (b.out_of p) ≡ n = ap count_out bat.2 in
       let up : y ≡ x + n = omega (arith, found, within, few, many) in
-      let w : View = record { who = v.who; list = OfList p q (f + n) None; batch = NoBatch; seen = log' } in
+      let w : View = record { who = v.who; list = OfList p q (f + n) None; batch = NoBatch; seen = log'; told = [] } in
       let out' : ℕ → Option ℕ = given p None b.out_of in
       let b' : Books = moved b d out' in
       let more : finished_in p log' ≡ finished_in p b.log + n = finished_here p n b.log c in
@@ -141,6 +142,7 @@ module _ (plan : Plan) where
           each_view = views_set (Fits b') s.views id w
               record {
                 seen = begins_itself log';
+                told = begins_empty log';
                 makes = subst (λ (z : Who). Makes b' id log' z) (sym who) (made.0, refl);
                 list = (has.0, has.1 ∙ sym (still p), ap (λ z. z + n) has.2 ∙ sym more, sym (given_here p None b.out_of));
                 batch = tt;

@@ -73,7 +73,7 @@ module _ {J : Type 0} where
     pub cpu : c.processor ≡ l.processor
     pub seat : s.processor ≡ l.processor
 
-  -- the cookie was given, the job came last with it, and what had no number was assigned this one; then 1 was added to the queued word. The receipt has the cookie, and its number is that of the job in the list and what the word held
+  -- the cookie was given, the job came last with it, and what had no number was assigned this one; then 1 was added to the queued word. The receipt has the cookie, its number is that of the job in the list and what the word held, and what the seat has then seen is noted in it, by which its call was queued
   pub record Queues (l : ListView J) (c : CpuView) (s : CallSeatView) (job : J) (r : Receipt) (l' : ListView J) (c' : CpuView) (s' : CallSeatView) : Type 0 where
     pub note : GivesCookieBehind l.sight c c' r.cookie l'.sight
     pub same : IsSameList l l'
@@ -84,6 +84,8 @@ module _ {J : Type 0} where
     pub processor : r.processor ≡ s.processor
     pub counted : r.k ≡ queued_in s.processor s.seen
     pub numbered : r.k ≡ next_of l
+    pub noted : r.note ≡ record { tallies = s'.tallies; seen = s'.seen }
+    pub known : r.k < queued_in r.processor r.note.seen
 
   -- why: as many were queued as may be, and no step was made; or fewer, and a cookie was noted
   abbrev pub IsCause : ListView J → CpuView → CallSeatView → CallRefusal → ListView J → CpuView → Type 0

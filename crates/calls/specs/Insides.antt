@@ -8,11 +8,13 @@ use Rattle.calls.specs.declared.list.List.TheInside as list
 use Rattle.calls.specs.declared.batch.Batch.TheInside as batch
 use Rattle.calls.specs.declared.spot.Spot.TheInside as spot
 use Rattle.calls.specs.declared.calls.Calls.TheInside as calls
-use Rattle.calls.specs.Tallies.{finished_place, most_calls, queued_in, AreTrue}
+use Rattle.calls.specs.declared.barrier.Ticket.TheInside as ticket
+use Rattle.calls.specs.declared.note.Note.TheInside as note
+use Rattle.calls.specs.Tallies.{finished_place, word_count, most_calls, queued_in, AreTrue}
 use Rattle.calls.specs.Rule.{count_out}
 use Rattle.calls.specs.Seats.{IsPlaced, IsAtRest, IsListSeat, IsBatchSeat, finished_known, queued_known, out_known, first_known}
 use Rattle.calls.specs.Waiting.{AreWaiting, wrapped, unwrapped, entries_of}
-use Rattle.calls.specs.Views.{CallSeatView, ListKey, ListView, BatchView, CallsView}
+use Rattle.calls.specs.Views.{CallSeatView, ListKey, ListView, BatchView, NoteView, TicketView, CallsView}
 
 module _ {A : Type 0} where
   abbrev pub view_of_seat : seat.Inside A → CallSeatView
@@ -47,6 +49,9 @@ module _ {J A : Type 0} where
 abbrev pub key_of_spot : spot.Inside → ListKey
 key_of_spot s = record { domain = s.home; tallies = s.seat.table_id; processor = s.processor }
 
+abbrev pub view_of_note : note.Inside → NoteView
+view_of_note n = record { tallies = n.seat.table_id; seen = n.seat.me.0.seen }
+
 -- the locks in order, each of the list of its processor
 abbrev pub AreOfDomain : TableId → TableId → List (KeepView ListKey) → Type 0
 AreOfDomain domain tallies locks = (p : ℕ) (d : KeepView ListKey) → p < length locks → (slice_index_or locks p d).key ≡ record { domain = domain; tallies = tallies; processor = p }
@@ -57,3 +62,11 @@ module _ {J A : Type 0} where
 
   pub record AreCalls (c : calls.Inside J A) : Type 0 where
     pub locks : AreOfDomain c.spot.domain c.spot.tallies c.lists.items
+    pub wide : c.spot.tallies.words ≡ word_count (length c.lists.items)
+
+module _ {A : Type 0} where
+  abbrev pub view_of_ticket : ticket.Inside A → TicketView
+  view_of_ticket t = record { tallies = t.note.tallies; numbers = t.numbers.items }
+
+  pub record IsTicket (t : ticket.Inside A) : Type 0 where
+    pub whole : t.note.tallies.words ≡ word_count (length t.numbers.items)

@@ -6,5 +6,7 @@ pub mod Waiting
 pub mod Views
 pub mod Refusals
 pub mod Calls
+pub mod Barriers
+pub mod Laws
 pub mod Insides
 pub mod Making

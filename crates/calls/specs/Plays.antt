@@ -2,13 +2,13 @@
 use Rattle.std.specs.Prelude.{◌≡◌, ℕ, ◌+◌, List, [], ◌∷◌, ◌++◌, Option, Some, None}
 use Rattle.atomic_table.specs.Table.{Me, Step}
 use Rattle.calls.specs.declared.view.Act.{Act}
-use Rattle.calls.specs.declared.view.Act.TheVariants.{Queue, Finish}
+use Rattle.calls.specs.declared.view.Act.TheVariants.{Queue, Finish, LoadQueued, LoadFinished}
 use Rattle.calls.specs.declared.view.Deed.{Deed}
 use Rattle.calls.specs.declared.view.Who.TheVariants.{Caller}
 use Rattle.calls.specs.declared.view.ListRight.TheVariants.{OfList}
 use Rattle.calls.specs.declared.view.BatchRight.TheVariants.{NoBatch, OfBatch}
 use Rattle.calls.specs.declared.view.View.{View}
-use Rattle.calls.specs.Tallies.{deed, queued_in, deeds_of, IsBeginning, AreTrue}
+use Rattle.calls.specs.Tallies.{queued_place, finished_place, deed, queued_in, deeds_of, IsBeginning, AreTrue}
 
 -- the processor's seat did this, behind all that it had seen. What is then seen has just its own deeds of its own, and each load there found what was counted
 pub record Does (p : ℕ) (act : Act) (v w : View) : Type 0 where
@@ -45,3 +45,16 @@ pub record Finishes (c p queued finished : ℕ) (out : Option ℕ) (first count 
 abbrev pub finishes : Step (Option ℕ) → Sat → ℕ → Sat → Type 0
 finishes st m n m' = (m'.1 ≡ m.1) × ((c p queued finished : ℕ) (out : Option ℕ) (first count : ℕ) → m.0.who ≡ Caller c → m.0.list ≡ OfList p queued finished out → m.0.batch ≡ OfBatch p first count
     → Finishes c p queued finished out first count m.0 n m'.0)
+
+-- a word was loaded: what was told is covered, and no right has changed
+pub record Looks (c : ℕ) (act : Act) (v w : View) : Type 0 where
+  pub does : Does c act v w
+  pub covers : IsBeginning v.told w.seen
+  pub list : w.list ≡ v.list
+  pub batch : w.batch ≡ v.batch
+
+abbrev pub counts_queued : Step (Option ℕ) → Sat → ℕ → Sat → Type 0
+counts_queued st m n m' = (m'.1 ≡ m.1) × ((c p : ℕ) → m.0.who ≡ Caller c → st.word ≡ queued_place p → Looks c (LoadQueued p n) m.0 m'.0)
+
+abbrev pub counts_finished : Step (Option ℕ) → Sat → ℕ → Sat → Type 0
+counts_finished st m n m' = (m'.1 ≡ m.1) × ((c p : ℕ) → m.0.who ≡ Caller c → st.word ≡ finished_place p → Looks c (LoadFinished p n) m.0 m'.0)

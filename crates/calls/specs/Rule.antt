@@ -53,6 +53,7 @@ HasBatch b id (OfBatch p first count) = (b.batch_at p ≡ id) × (first ≡ fini
 
 pub record Fits (b : Books) (id : ℕ) (v : View) : Type 0 where
   pub seen : IsBeginning v.seen b.log
+  pub told : IsBeginning v.told b.log
   pub makes : Makes b id v.seen v.who
   pub list : HasList b id v.list
   pub batch : HasBatch b id v.batch
@@ -74,11 +75,11 @@ pub record Kept (plan : Plan) (s : State (Option ℕ) View) : Type 0 where
 -- Views that are made
 
 abbrev pub founder : Plan → View
-founder plan = record { who = Dealer 0; list = NoList; batch = NoBatch; seen = [] }
+founder plan = record { who = Dealer 0; list = NoList; batch = NoBatch; seen = []; told = [] }
 
 -- what is left of a seat that was taken in
 abbrev pub spent : View
-spent = record { who = Nobody; list = NoList; batch = NoBatch; seen = [] }
+spent = record { who = Nobody; list = NoList; batch = NoBatch; seen = []; told = [] }
 
 abbrev pub without_next : Who → Who
 without_next Nobody = Nobody
@@ -100,14 +101,14 @@ abbrev pub dealer : View → View
 dealer v = record v { who = without_next v.who }
 
 abbrev pub dealt : View → View
-dealt v = record { who = next_caller v.who; list = next_list v.who; batch = NoBatch; seen = v.seen }
+dealt v = record { who = next_caller v.who; list = next_list v.who; batch = NoBatch; seen = v.seen; told = [] }
 
 -- a seat of its own gets the right of the list
 abbrev pub without_list : View → View
 without_list v = record v { list = NoList }
 
 abbrev pub list_seat : ListRight → View
-list_seat right = record { who = Nobody; list = right; batch = NoBatch; seen = [] }
+list_seat right = record { who = Nobody; list = right; batch = NoBatch; seen = []; told = [] }
 
 abbrev pub only_list : View → View
 only_list v = list_seat v.list
@@ -125,7 +126,7 @@ abbrev pub lending : ℕ → View → View
 lending n v = record v { list = with_out n v.list }
 
 abbrev pub batch_seat : BatchRight → View
-batch_seat right = record { who = Nobody; list = NoList; batch = right; seen = [] }
+batch_seat right = record { who = Nobody; list = NoList; batch = right; seen = []; told = [] }
 
 abbrev pub lent : ℕ → View → View
 lent n v = batch_seat (batch_of n v.list)
@@ -136,3 +137,11 @@ with_list v w = record v { list = w.list }
 
 abbrev pub with_batch : View → View → View
 with_batch v w = record v { batch = w.batch }
+
+-- a new seat has seen as much, and makes no steps
+abbrev pub note : View → View
+note v = record { who = Nobody; list = NoList; batch = NoBatch; seen = v.seen; told = [] }
+
+-- what another seat has seen is told
+abbrev pub informed : View → View → View
+informed v w = record v { told = w.seen }

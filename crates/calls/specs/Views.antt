@@ -14,6 +14,11 @@ pub record CallSeatView : Type 0 where
   pub processor : ℕ
   pub seen : List Deed
 
+-- what its giver had seen of what was done on these tally words
+pub record NoteView : Type 0 where
+  pub tallies : TableId
+  pub seen : List Deed
+
 -- what never changes in a list, and of which lock a list is known to be: the domain, the tally words, and the processor
 pub record ListKey : Type 0 where
   pub domain : TableId
@@ -36,6 +41,11 @@ pub record BatchView (J : Type 0) : Type 0 where
   pub first : ℕ
   pub count : ℕ
   pub entries : List (Entry J)
+
+-- for each processor of the tally words, in order, how many of its calls have to be finished
+pub record TicketView : Type 0 where
+  pub tallies : TableId
+  pub numbers : List ℕ
 
 -- the callbacks of a domain with so many processors
 pub record CallsView : Type 0 where

@@ -2,11 +2,14 @@
 //! thread that takes jobs out may be another one than those that queued them.
 #![tactic(auto)]
 
+mod barrier;
 mod batch;
 mod calls;
 mod entry;
+mod laws;
 mod list;
 mod making;
+mod note;
 mod plays;
 mod refusals;
 mod seat;
@@ -14,10 +17,13 @@ mod spot;
 mod tally;
 mod view;
 
+pub use barrier::Ticket;
 pub use batch::Batch;
 pub use calls::Calls;
 pub use entry::Entry;
+pub use laws::{barriers_of_callbacks, tallies_of_callbacks};
 pub use list::{List, Receipt};
+pub use note::Note;
 pub use refusals::{CallRefusal, Memory, TakeRefusal};
 pub use seat::CallSeat;
 pub use spot::Spot;

@@ -1,5 +1,6 @@
 //! The list of a processor's callbacks.
 use crate::entry::Entry;
+use crate::note::Note;
 use crate::plays::Place;
 use crate::spot::Spot;
 use keep::Keyed;
@@ -59,4 +60,6 @@ pub struct Receipt {
     pub k: u64,
     /// The job is given out once this cookie is done.
     pub cookie: Cookie,
+    /// What the seat had seen with which it was queued: its call is among it.
+    pub note: Note,
 }

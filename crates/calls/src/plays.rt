@@ -1,7 +1,7 @@
 //! The rule of the tally words, and what each step on them tells the one that makes it.
 ghost use Rattle.std.specs.Prelude.{ℕ};
-ghost use Rattle.calls.specs.Rule.{Kept, founder, dealer, dealt, without_list, only_list, lending, lent, with_list, with_batch, spent};
-ghost use Rattle.calls.specs.Plays.{queues, finishes};
+ghost use Rattle.calls.specs.Rule.{Kept, founder, dealer, dealt, without_list, only_list, lending, lent, with_list, with_batch, note, informed, spent};
+ghost use Rattle.calls.specs.Plays.{queues, finishes, counts_queued, counts_finished};
 
 use crate::view::{Plan, View};
 use atomic_table::{Join, Play, Seat, Shared, Split, Table, TableRule};
@@ -42,6 +42,20 @@ impl Play<NoSlot, View> for AddFinished {
     ghost then = { finishes };
 }
 
+/// Load of a queued word.
+pub(crate) struct CountQueued;
+
+impl Play<NoSlot, View> for CountQueued {
+    ghost then = { counts_queued };
+}
+
+/// Load of a finished word.
+pub(crate) struct CountFinished;
+
+impl Play<NoSlot, View> for CountFinished {
+    ghost then = { counts_finished };
+}
+
 /// A new seat is the next processor's, with its list's right.
 pub(crate) struct Deal;
 
@@ -65,6 +79,24 @@ pub(crate) struct TakeList;
 
 impl Join<View> for TakeList {
     ghost both = { with_list };
+
+    ghost spent = { spent };
+}
+
+/// A new seat has seen as much.
+pub(crate) struct GiveNote;
+
+impl Split<View> for GiveNote {
+    ghost left = { λ v. v };
+
+    ghost right = { note };
+}
+
+/// What the other seat has seen is told.
+pub(crate) struct TakeNote;
+
+impl Join<View> for TakeNote {
+    ghost both = { informed };
 
     ghost spent = { spent };
 }

@@ -67,4 +67,6 @@ pub struct View {
     pub batch: BatchRight,
     /// A beginning of all that was done on the tally words.
     pub seen: [Deed; 0],
+    /// What another seat had seen, which the next load covers.
+    pub told: [Deed; 0],
 }

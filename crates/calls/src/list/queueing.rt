@@ -52,6 +52,7 @@ impl<J, A: Allocator> List<J, A> {
             processor: self.processor,
             k,
             cookie: copy,
+            note: seat.note(),
         })
     }
 

@@ -78,7 +78,14 @@ loop-processor-preserved g c =
 pub invariant_of-result : goal.invariant_of-result
 invariant_of-result g c =
     let v = c.loop-processor.invariant in
-    record { locks = λ p d lt. v.locks p d lt ∙ (λ i. record { domain = sym v.spot.0 i; tallies = sym v.spot.1 i; processor = p }) }
+    let le = c.loop-processor.auto.processor-end in
+    let ge = c.loop-processor-test.false in
+    let count = v.locks_count in
+    let sized = v.sized in
+    let wide = ap (λ (t : TableId). t.words) v.spot.1 ∙ v.dealer.wide in record {
+      locks = λ p d lt. v.locks p d lt ∙ (λ i. record { domain = sym v.spot.0 i; tallies = sym v.spot.1 i; processor = p });
+      wide = omega (arith, le, ge, count, sized, wide);
+    }
 
 pub returns : goal.returns
 returns g c =

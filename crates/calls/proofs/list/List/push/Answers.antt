@@ -1,4 +1,4 @@
-use Rattle.std.proofs.Common.{◌≡◌, ℕ, ◌+◌, ◌↔◌, IsTrue, List, [], ◌∷◌, ◌++◌, Option, refl, ap, sym, ◌∙◌, subst, arith}
+use Rattle.std.proofs.Common.{◌≡◌, ℕ, ◌+◌, ◌<◌, ◌↔◌, IsTrue, List, [], ◌∷◌, ◌++◌, Option, refl, ap, sym, ◌∙◌, subst, arith}
 use Rattle.std.specs.Prelude.{IsSome}
 use Rattle.atomic_table.specs.Seated.{TableId}
 use Rattle.segs.specs.MarkedList.{Mark, Next, assigned, awaited, number_given, next_becomes}
@@ -7,6 +7,7 @@ use Rattle.sections.specs.Sights.{GivesCookieBehind}
 use Rattle.calls.specs.declared.entry.Entry.{Entry}
 use Rattle.calls.specs.declared.view.Act.TheVariants.{Queue}
 use Rattle.calls.specs.Tallies.{deed, deeds_of, queued_in}
+use Rattle.calls.specs.Views.{NoteView}
 use Rattle.calls.specs.Rule.{count_out}
 use Rattle.calls.specs.Seats.{IsPlaced, queued_known, finished_known, out_known}
 use Rattle.calls.specs.Waiting.{AreWaiting, unwrapped}
@@ -88,7 +89,11 @@ returns g c =
     let is : unwrapped c.assign.new.self.entries ≡ assigned n (u ++ (e, Next) ∷ []) = ap unwrapped (entries_queued c.self.inside.waiting.entries c.assign.new.self.entries u e n v.wrapping (c.assign.ensures.entries ∙ ap (assigned n) c.in_default.ensures.added)) ∙ unwrap_wrap (assigned n (u ++ (e, Next) ∷ [])) in
     let on = goes_on_noted _ _ _ _ _ domain c.cookie_behind-cookie.ensures in
     let h = q.list_is in
-    rw (← c.self.view_is, ← c.seat.view_is) (record {
+    let more = ap (queued_in p) q.does.seen ∙ queued_here p q.does.before in
+    let own = same_queued p _ _ q.does.own in
+    let held = q.own in
+    let over : c.add_queued-k.result < queued_in p c.add_queued-k.new.seat.me.0.seen = omega (arith, more, own, held) in
+    rw (c.note.ensures.same, ← c.self.view_is, ← c.seat.view_is) (record {
       note = note;
       same = λ i. record { domain = on.domain i; tallies = q.table i; processor = p };
       entries = is ∙ (λ i. assigned (number i) (u ++ (record { job = c.args.job; cookie = one i }, Next) ∷ []));
@@ -105,4 +110,6 @@ returns g c =
       processor = sym same;
       counted = q.own ∙ ap (λ (z : ℕ). queued_in z c.seat.inside.seat.me.0.seen) (sym same);
       numbered = q.found_is ∙ v.numbered;
+      noted = c.note.ensures.note;
+      known = subst (λ (n : NoteView). c.add_queued-k.result < queued_in p n.seen) (sym c.note.ensures.note) over;
     })

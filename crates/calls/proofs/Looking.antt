@@ -1,0 +1,119 @@
+-- A load of a tally word keeps their rule, and is one more deed of its maker.
+use Rattle.std.proofs.Common.{◌≡◌, ℕ, ◌<◌, false, List, [], ◌∷◌, ◌++◌, Option, get_or, set, refl, sym, ap, ◌∙◌, subst, arith}
+use lib.Seq.{set-get_or}
+use lib.ListN.{get_elem?}
+use mathlib.Core.Option.{none, some}
+use Rattle.atomic_table.specs.Table.{State, step, stepped, keeps, Allows}
+use Rattle.calls.specs.declared.view.Plan.{Plan}
+use Rattle.calls.specs.declared.view.Act.{Act}
+use Rattle.calls.specs.declared.view.Act.TheVariants.{LoadQueued, LoadFinished}
+use Rattle.calls.specs.declared.view.Deed.{Deed}
+use Rattle.calls.specs.declared.view.Who.{Who}
+use Rattle.calls.specs.declared.view.Who.TheVariants.{Caller}
+use Rattle.calls.specs.declared.view.ListRight.{ListRight}
+use Rattle.calls.specs.declared.view.ListRight.TheVariants.{NoList, OfList}
+use Rattle.calls.specs.declared.view.BatchRight.{BatchRight}
+use Rattle.calls.specs.declared.view.BatchRight.TheVariants.{NoBatch, OfBatch}
+use Rattle.calls.specs.declared.view.View.{View}
+use Rattle.calls.specs.Tallies.{queued_place, finished_place, deed, is_queue, queued_in, finished_by, finished_in, IsTrueOf}
+use Rattle.calls.specs.Rule.{Books, Makes, HasList, HasBatch, Fits, Kept}
+use Rattle.calls.specs.Plays.{Sat, Looks, counts_queued, counts_finished}
+use Rattle.calls.proofs.Counting.{queued_still, finished_still, begins_itself, begins_empty, begins_pushed, one_more_true}
+use Rattle.calls.proofs.Knowing.{views_set, moved, fits_else}
+
+same_caller : (c b : ℕ) → Caller c ≡ Caller b → c ≡ b
+same_caller c b h = cc
+
+-- what the seat then knows
+abbrev looked : Books → View → ℕ → Act → View
+looked b v c act = record v { seen = b.log ++ deed c act ∷ []; told = [] }
+
+module _ (plan : Plan) (s : State (Option ℕ) View) (r : Kept plan s) (id c : ℕ) (v : View) (act : Act) (at : get_elem? s.views id ≡ some v) (who : v.who ≡ Caller c) (no_queue : is_queue act ≡ false) (no_finish : (p : ℕ) → finished_by p act ≡ 0) (true : IsTrueOf r.books.log act) where
+  abbrev log' : List Deed
+  log' = r.books.log ++ deed c act ∷ []
+
+  abbrev books' : Books
+  books' = moved r.books (deed c act) r.books.out_of
+
+  still_queued : (p : ℕ) → queued_in p log' ≡ queued_in p r.books.log
+  still_queued p = queued_still p r.books.log c act no_queue
+
+  still_finished : (p : ℕ) → finished_in p log' ≡ finished_in p r.books.log
+  still_finished p = finished_still p r.books.log c act (no_finish p)
+
+  made : Makes r.books id v.seen (Caller c)
+  made = subst (λ (z : Who). Makes r.books id v.seen z) who (r.each_view id v at).makes
+
+  list_stays : (right : ListRight) → HasList r.books id right → HasList books' id right
+  list_stays NoList h = tt
+  list_stays (OfList p q f o) h = (h.0, h.1 ∙ sym (still_queued p), h.2 ∙ sym (still_finished p), h.3)
+
+  batch_stays : (right : BatchRight) → HasBatch r.books id right → HasBatch books' id right
+  batch_stays NoBatch h = tt
+  batch_stays (OfBatch p f n) h = (h.0, h.1 ∙ sym (still_finished p), h.2)
+
+  -- a load changes no word
+  pub load_keeps : (word : ℕ) (cs : List (ℕ × Option ℕ)) → Kept plan (stepped s word (get_or s.words word 0) id cs (looked r.books v c act) keeps)
+  load_keeps word cs =
+      let f = r.each_view id v at in
+      let b' : Books = books' in
+      subst (λ (ws : List ℕ). Kept plan record { words = ws; homes = s.homes; views = set s.views id (looked r.books v c act) }) (sym (set-get_or s.words word 0)) record {
+        books = b';
+        loads = one_more_true r.books.log (deed c act) r.loads true;
+        counted = λ p. let was = r.counted p in let within = was.within in let few = was.few in let q = still_queued p in let d = still_finished p in record { within = omega (arith, q, d, within); few = omega (arith, q, few) };
+        wide = r.wide;
+        queued = λ p below. r.queued p below ∙ sym (still_queued p);
+        finished = λ p below. r.finished p below ∙ sym (still_finished p);
+        each_view = views_set (Fits b') s.views id (looked r.books v c act)
+            record {
+              seen = begins_itself log';
+              told = begins_empty log';
+              makes = subst (λ (z : Who). Makes b' id log' z) (sym who) (made.0, refl);
+              list = list_stays v.list f.list;
+              batch = batch_stays v.batch f.batch;
+            }
+            (λ j u ne there. fits_else r.books (deed c act) r.books.out_of id j made.0 ne (λ p _. record { queued = still_queued p; finished = still_finished p; out = refl }) (λ p _. (still_finished p, refl)) u (r.each_view j u there));
+      }
+
+  pub load_looks : Looks c act v (looked r.books v c act)
+  load_looks = record {
+    does = record { before = r.books.log; seen = refl; since = (r.each_view id v at).seen; own = sym made.1; who = refl; loads = one_more_true r.books.log (deed c act) r.loads true };
+    covers = begins_pushed (deed c act) (r.each_view id v at).told;
+    list = refl;
+    batch = refl;
+  }
+
+module _ (plan : Plan) where
+  pub counts_queued_here : (slots id c p word : ℕ) (me : Sat) → word ≡ queued_place p → me.0.who ≡ Caller c → p < plan.processors → Allows (Kept plan) slots id me word (λ x. x) (counts_queued (step slots word 0 0 none) me)
+  counts_queued_here slots id c p word me place who lt s r _ at _ =
+      let v : View = me.0 in
+      let x : ℕ = get_or s.words word 0 in
+      let found : x ≡ queued_in p r.books.log = ap (λ z. get_or s.words z 0) place ∙ r.queued p lt in
+      let act : Act = LoadQueued p x in (
+        looked r.books v c act,
+        keeps,
+        tt,
+        load_keeps plan s r id c v act at who refl (λ _. refl) found word me.1,
+        (
+          refl,
+          λ b q is word_is. let one : p ≡ q = omega (arith, place, word_is) in
+              subst (λ (z : ℕ × ℕ). Looks z.0 (LoadQueued z.1 x) v (looked r.books v c act)) (λ i. (same_caller c b (sym who ∙ is) i, one i)) (load_looks plan s r id c v act at who refl (λ _. refl) found),
+        ),
+      )
+
+  pub counts_finished_here : (slots id c p word : ℕ) (me : Sat) → word ≡ finished_place p → me.0.who ≡ Caller c → p < plan.processors → Allows (Kept plan) slots id me word (λ x. x) (counts_finished (step slots word 0 0 none) me)
+  counts_finished_here slots id c p word me place who lt s r _ at _ =
+      let v : View = me.0 in
+      let x : ℕ = get_or s.words word 0 in
+      let found : x ≡ finished_in p r.books.log = ap (λ z. get_or s.words z 0) place ∙ r.finished p lt in
+      let act : Act = LoadFinished p x in (
+        looked r.books v c act,
+        keeps,
+        tt,
+        load_keeps plan s r id c v act at who refl (λ _. refl) found word me.1,
+        (
+          refl,
+          λ b q is word_is. let one : p ≡ q = omega (arith, place, word_is) in
+              subst (λ (z : ℕ × ℕ). Looks z.0 (LoadFinished z.1 x) v (looked r.books v c act)) (λ i. (same_caller c b (sym who ∙ is) i, one i)) (load_looks plan s r id c v act at who refl (λ _. refl) found),
+        ),
+      )

@@ -1,0 +1,52 @@
+-- What holds of the tally words of all callbacks, and of every barrier.
+use Rattle.std.specs.Prelude.{◌≡◌, ℕ, ◌<◌, ◌≤◌, ◌⊎◌, List, [], ◌∷◌, Option, slice_index}
+use mathlib.Core.Option.{some}
+use lib.ListN.{get_elem?}
+use Rattle.atomic_table.specs.Table.{State, Splits, Joins}
+use Rattle.calls.specs.declared.view.Plan.{Plan}
+use Rattle.calls.specs.declared.view.Deed.{Deed}
+use Rattle.calls.specs.declared.view.Who.TheVariants.{Caller}
+use Rattle.calls.specs.declared.view.ListRight.TheVariants.{NoList}
+use Rattle.calls.specs.declared.view.BatchRight.TheVariants.{NoBatch}
+use Rattle.calls.specs.declared.view.View.{View}
+use Rattle.calls.specs.declared.list.Receipt.{Receipt}
+use Rattle.calls.specs.Tallies.{queued_place, finished_place, queued_in, finished_in, IsBeginning, AreTrue}
+use Rattle.calls.specs.Rule.{Kept, note}
+use Rattle.calls.specs.Views.{CallSeatView, TicketView}
+use Rattle.calls.specs.Barriers.{IsQueued, IsFinished, IsDone, Starts}
+
+-- there is one list of what was done, and the words hold its counts. Each load found what was counted until then, no more calls are finished than were queued, and every seat has seen a beginning
+pub record HasOneHistory (plan : Plan) (s : State (Option ℕ) View) : Type 0 where
+  pub log : List Deed
+  pub loads : AreTrue log
+  pub queued : (p : ℕ) → p < plan.processors → slice_index s.words (queued_place p) ≡ queued_in p log
+  pub finished : (p : ℕ) → p < plan.processors → slice_index s.words (finished_place p) ≡ finished_in p log
+  pub within : (p : ℕ) → finished_in p log ≤ queued_in p log
+  pub seen : (j : ℕ) (v : View) → get_elem? s.views j ≡ some v → IsBeginning v.seen log
+
+-- the rule, which holds between any two steps, says so
+abbrev pub OneHistory : Type 0
+OneHistory = (plan : Plan) (s : State (Option ℕ) View) → Kept plan s → HasOneHistory plan s
+
+-- the seat of processor 0 before any step
+abbrev pub idle_seat : View
+idle_seat = record { who = Caller 0; list = NoList; batch = NoBatch; seen = []; told = [] }
+
+-- no seat gets a deed of processor 0's that was not done, however that processor's seat is cut in two or joined with another
+pub record NeverForged : Type 0 where
+  pub splits : (plan : Plan) (d : Deed) (left right : View) → d.by ≡ 0 → (left.seen ≡ d ∷ []) ⊎ (right.seen ≡ d ∷ []) → ¬ Splits (Kept plan) 0 idle_seat left right
+  pub joins : (plan : Plan) (d : Deed) (both spent : View) → d.by ≡ 0 → (both.seen ≡ d ∷ []) ⊎ (spent.seen ≡ d ∷ []) → ¬ Joins (Kept plan) 0 idle_seat 2 (note idle_seat) both spent
+
+-- Barriers
+
+-- what was queued stays so
+abbrev pub StaysQueued : Type 0
+StaysQueued = (r : Receipt) (seen later : List Deed) → IsBeginning seen later → IsQueued r seen → IsQueued r later
+
+-- and what is finished
+abbrev pub StaysFinished : Type 0
+StaysFinished = (r : Receipt) (seen later : List Deed) → IsBeginning seen later → IsFinished r seen → IsFinished r later
+
+-- a barrier that is done, for one who has seen this, covers each receipt whose call its starter had seen queued
+abbrev pub BarriersCover : Type 0
+BarriersCover = (r : Receipt) (s : CallSeatView) (t : TicketView) (s' : CallSeatView) (seen : List Deed) → Starts s t s' → r.processor < s.processors → IsQueued r s.seen → IsDone t seen → IsFinished r seen

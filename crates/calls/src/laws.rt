@@ -1,0 +1,20 @@
+//! What holds of all callbacks, for callers and readers: the calls do nothing.
+ghost use Rattle.calls.specs.Laws.{OneHistory, NeverForged, StaysQueued, StaysFinished, BarriersCover};
+
+/// Between any two steps of any threads there is one list of what was done on the tally words, the words hold its counts,
+/// each load in it found what was counted until then, and what each seat has seen is a beginning of it. And no split or
+/// join gives a processor's seat a load that it did not make: it is said of a new seat of processor 0, beside one of
+/// processor 1 that has loaded a word.
+pub fn tallies_of_callbacks()
+    ensures history { OneHistory }
+    ensures forged { NeverForged }
+{}
+
+/// A receipt whose call was queued stays so for who goes on from there, and one that is finished too. Where a seat had
+/// seen a receipt's call queued when it started a barrier, the receipt is finished once the barrier is done, whoever
+/// learns of it.
+pub fn barriers_of_callbacks()
+    ensures queued { StaysQueued }
+    ensures finished { StaysFinished }
+    ensures covers { BarriersCover }
+{}
