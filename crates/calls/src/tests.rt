@@ -69,6 +69,22 @@ fn queue<R: Wait + Abort>(
     (receipt.k, receipt.cookie.number())
 }
 
+/// Queues so many jobs, which are their numbers, while no grace period has started.
+fn queue_many<R: Wait + Abort>(
+    rt: &R,
+    calls: &Calls<u64>,
+    cpu: &mut Cpu,
+    seat: &mut CallSeat,
+    jobs: u64,
+)
+    requires { FitsIn calls.now cpu.old seat.old }
+    ensures { FitsIn calls.now cpu.new seat.new }
+{
+    for job in 0..jobs {
+        assert_eq!(rt; queue(rt, calls, cpu, seat, job), (job, 4));
+    }
+}
+
 /// Finishes a batch. Tells what jobs were left in it, in order.
 fn settle<R: Wait + Abort + AllocGlobal>(
     rt: &R,
@@ -127,11 +143,13 @@ fn drive(engine: &mut Engine<Asks>) -> bool {
 fn once_only(rt: HostRuntime) -> Result<(), Fail> {
     let (calls, mut cpu, mut seat, mut engine) = sole(rt.alloc(), 4)?;
     assert_eq!(rt; queue(&rt, &calls, &mut cpu, &mut seat, 7), (0, 4));
-    for (drives, jobs) in [(false, [].as_slice()), (true, &[7]), (false, &[])] {
-        assert!(rt; !drives || drive(&mut engine));
-        let given = run(&rt, &calls, &mut cpu, &mut seat, 8)?;
-        assert_eq!(rt; given.as_slice(), jobs);
-    }
+    let early = run(&rt, &calls, &mut cpu, &mut seat, 8)?;
+    assert_eq!(rt; early.len(), 0);
+    assert!(rt; drive(&mut engine));
+    let given = run(&rt, &calls, &mut cpu, &mut seat, 8)?;
+    assert_eq!(rt; given.as_slice(), [7].as_slice());
+    let again = run(&rt, &calls, &mut cpu, &mut seat, 8)?;
+    assert_eq!(rt; again.len(), 0);
     assert_eq!(rt; calls.lens(&rt, 0), ([0; 4], [0; 2]));
     Ok(())
 }
@@ -158,17 +176,14 @@ fn no_free_segment(rt: HostRuntime) -> Result<(), Fail> {
 #[test]
 fn eight_at_a_time(rt: HostRuntime) -> Result<(), Fail> {
     let (calls, mut cpu, mut seat, mut engine) = sole(rt.alloc(), 4)?;
-    for k in 0..10 {
-        let receipt = queue(&rt, &calls, &mut cpu, &mut seat, 100 + k);
-        assert_eq!(rt; receipt, (k, 4));
-    }
+    queue_many(&rt, &calls, &mut cpu, &mut seat, 10);
     assert!(rt; drive(&mut engine));
     let first = run(&rt, &calls, &mut cpu, &mut seat, 20)?;
-    let eight = [100, 101, 102, 103, 104, 105, 106, 107];
+    let eight = [0, 1, 2, 3, 4, 5, 6, 7];
     assert_eq!(rt; first.as_slice(), eight.as_slice());
     assert_eq!(rt; calls.lens(&rt, 0), ([2, 0, 0, 0], [0; 2]));
     let second = run(&rt, &calls, &mut cpu, &mut seat, 20)?;
-    assert_eq!(rt; second.as_slice(), [108, 109].as_slice());
+    assert_eq!(rt; second.as_slice(), [8, 9].as_slice());
     let none = run(&rt, &calls, &mut cpu, &mut seat, 20)?;
     assert_eq!(rt; none.len(), 0);
     Ok(())
@@ -184,14 +199,11 @@ fn waits_for_a_section(rt: HostRuntime) -> Result<(), Fail> {
     assert_eq!(rt; queue(&rt, &calls, &mut cpu, &mut seat, 7), (0, 4));
     assert_eq!(rt; engine.advance(), Ok(Progress::Started(number(1))));
     assert_eq!(rt; engine.advance(), Ok(Progress::Flipped(Index::One)));
-    for _ in 0..3 {
-        assert_eq!(rt; engine.advance(), Ok(Progress::Waiting(Index::Zero)));
-        let none = run(&rt, &calls, &mut cpu, &mut seat, 8).expect(&rt, "no batch is out");
-        assert_eq!(rt; none.len(), 0);
-    }
+    assert_eq!(rt; engine.advance(), Ok(Progress::Waiting(Index::Zero)));
+    let early = run(&rt, &calls, &mut cpu, &mut seat, 8).expect(&rt, "no batch is out");
     cpu.read_unlock(reading);
-    let none = run(&rt, &calls, &mut cpu, &mut seat, 8)?;
-    assert_eq!(rt; none.len(), 0);
+    let closed = run(&rt, &calls, &mut cpu, &mut seat, 8)?;
+    assert_eq!(rt; (early.len(), closed.len()), (0, 0));
     assert_eq!(rt; engine.advance(), Ok(Progress::Ended(number(4))));
     let given = run(&rt, &calls, &mut cpu, &mut seat, 8)?;
     assert_eq!(rt; given.as_slice(), [7].as_slice());
