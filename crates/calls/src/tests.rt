@@ -11,7 +11,6 @@ use std::sync::Wait;
 use std::test::Fail;
 
 mod rooms;
-mod threads;
 
 /// Needs that ask for one number for good.
 #[derive(Drop)]
@@ -193,7 +192,7 @@ fn eight_at_a_time(rt: HostRuntime) -> Result<(), Fail> {
 #[test]
 fn waits_for_a_section(rt: HostRuntime) -> Result<(), Fail> {
     let (calls, mut cpu, mut seat, mut engine) = sole(rt.alloc(), 4)?;
-    let Ok(reading) = cpu.read_lock() else {
+    let Ok(held) = cpu.down_read() else {
         panic!(rt; "there is room");
     };
     assert_eq!(rt; queue(&rt, &calls, &mut cpu, &mut seat, 7), (0, 4));
@@ -201,7 +200,7 @@ fn waits_for_a_section(rt: HostRuntime) -> Result<(), Fail> {
     assert_eq!(rt; engine.advance(), Ok(Progress::Flipped(Index::One)));
     assert_eq!(rt; engine.advance(), Ok(Progress::Waiting(Index::Zero)));
     let early = run(&rt, &calls, &mut cpu, &mut seat, 8).expect(&rt, "no batch is out");
-    cpu.read_unlock(reading);
+    cpu.up_read(held);
     let closed = run(&rt, &calls, &mut cpu, &mut seat, 8)?;
     assert_eq!(rt; (early.len(), closed.len()), (0, 0));
     assert_eq!(rt; engine.advance(), Ok(Progress::Ended(number(4))));

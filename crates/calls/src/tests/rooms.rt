@@ -3,7 +3,7 @@ ghost use Rattle.calls.specs.Calls.{FitsIn};
 
 use super::*;
 use linked_list_allocator::LocalHeap;
-use sections::EngineSeat;
+use sections::{EngineSeat, MakeError};
 use std::alloc::AllocError;
 
 /// Would catch a refused allocation that leaves something allocated. There are several: the tally words, the table, the
@@ -29,13 +29,24 @@ fn new_in_little_room(rt: HostRuntime) -> Result<(), Fail> {
     panic!(rt; "it never fits")
 }
 
-/// The callbacks of a domain of one processor, in the memory of this heap, and the processor's seat.
+/// The processor of a new domain, and the domain's engine.
+fn new_domain(alloc: Global) -> Result<(Cpu, EngineSeat), MakeError>
+    ensures { IfOk result (λ r. (r.0.domain ≡ r.1.domain) × (r.0.processor ≡ 0) × (r.1.processors ≡ 1)) }
+{
+    let Made { mut cpus, engine } = make(alloc, 1, limits())?;
+    let cpu = cpus.pop().unwrap();
+    Ok((cpu, engine))
+}
+
+/// The callbacks of the domain of this one processor, in the memory of the heap, and the processor's seat.
 fn make_in<'a>(
     heap: &'a LocalHeap,
     engine: &mut EngineSeat,
+    cpu: &Cpu,
 ) -> Result<(Calls<u64, &'a LocalHeap>, CallSeat<&'a LocalHeap>), AllocError>
-    requires { engine.old.processors ≡ 1 }
-    ensures { IfOk result (λ r. (r.0.domain ≡ engine.old.domain) × (r.0.processors ≡ 1) × (r.1.tallies ≡ r.0.tallies) × (r.1.processor ≡ 0)) }
+    requires engine { (engine.old.processors ≡ 1) × (cpu.now.domain ≡ engine.old.domain) }
+    requires cpu { cpu.now.processor ≡ 0 }
+    ensures { IfOk result (λ r. FitsIn r.0 cpu.now r.1) }
 {
     let (calls, mut seats) = Calls::make(heap, engine)?;
     let seat = seats.pop().unwrap();
@@ -86,13 +97,9 @@ fn fill<R: Wait + Abort>(
 /// Would catch a refused job that stays, or that is counted, and a list that takes no more jobs once one was refused.
 #[test]
 fn call_in_little_room(rt: HostRuntime) -> Result<(), Fail> {
-    let Made {
-        mut cpus,
-        mut engine,
-    } = make(rt.alloc(), 1, limits())?;
-    let mut cpu = cpus.pop().unwrap();
+    let (mut cpu, mut engine) = new_domain(rt.alloc())?;
     let heap = LocalHeap::new(rt.alloc(), 8 * 1024)?;
-    let (calls, mut seat) = make_in(&heap, &mut engine)?;
+    let (calls, mut seat) = make_in(&heap, &mut engine, &cpu)?;
 
     let full = stuff(rt.alloc(), &heap)?;
     let refused = fill(&rt, &calls, &mut cpu, &mut seat, 0, 20);
