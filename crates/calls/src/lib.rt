@@ -15,6 +15,8 @@ mod refusals;
 mod seat;
 mod spot;
 mod tally;
+#[cfg(test)]
+mod tests;
 mod view;
 
 pub use barrier::Ticket;

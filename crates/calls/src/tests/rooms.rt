@@ -1,0 +1,121 @@
+ghost use Rattle.std.specs.Prelude.{◌≡◌, IfOk};
+ghost use Rattle.calls.specs.Calls.{FitsIn};
+
+use super::*;
+use linked_list_allocator::LocalHeap;
+use sections::{EngineSeat, MakeError};
+use std::alloc::AllocError;
+
+/// Would catch a refused allocation that leaves something allocated. There are several: the tally words, the table, the
+/// seats, the locks.
+#[test]
+fn new_in_little_room(rt: HostRuntime) -> Result<(), Fail> {
+    let Made {
+        cpus: _,
+        mut engine,
+    } = make(rt.alloc(), 2, limits())?;
+    for room in 0..200 {
+        let heap = LocalHeap::new(rt.alloc(), 64 + 16 * room)?;
+        if let Ok((calls, seats)) = Calls::<u64, _>::make(&heap, &mut engine) {
+            assert!(rt; room > 0 && heap.used() > 0);
+            assert_eq!(rt; seats.len(), 2);
+            drop(calls);
+            drop(seats);
+            assert_eq!(rt; heap.used(), 0);
+            return Ok(());
+        }
+        assert_eq!(rt; heap.used(), 0);
+    }
+    panic!(rt; "it never fits")
+}
+
+/// The processor of a new domain, and the domain's engine.
+fn new_domain(alloc: Global) -> Result<(Cpu, EngineSeat), MakeError>
+    ensures { IfOk result (λ r. (r.0.domain ≡ r.1.domain) × (r.0.processor ≡ 0) × (r.1.processors ≡ 1)) }
+{
+    let Made { mut cpus, engine } = make(alloc, 1, limits())?;
+    let cpu = cpus.pop().unwrap();
+    Ok((cpu, engine))
+}
+
+/// The callbacks of the domain of this one processor, in the memory of the heap, and the processor's seat.
+fn make_in<'a>(
+    heap: &'a LocalHeap,
+    engine: &mut EngineSeat,
+    cpu: &Cpu,
+) -> Result<(Calls<u64, &'a LocalHeap>, CallSeat<&'a LocalHeap>), AllocError>
+    requires engine { (engine.old.processors ≡ 1) × (cpu.now.domain ≡ engine.old.domain) }
+    requires cpu { cpu.now.processor ≡ 0 }
+    ensures { IfOk result (λ r. FitsIn r.0 cpu.now r.1) }
+{
+    let (calls, mut seats) = Calls::make(heap, engine)?;
+    let seat = seats.pop().unwrap();
+    Ok((calls, seat))
+}
+
+/// Takes what room there is in the heap.
+fn stuff(alloc: Global, heap: &LocalHeap) -> Result<Vec<Vec<u8, &LocalHeap>>, AllocError> {
+    let mut all = Vec::new(alloc);
+    for size in [1024, 256, 64, 16, 8] {
+        for _ in 0..100 {
+            let Ok(room) = Vec::with_capacity(heap, size) else {
+                break;
+            };
+            all.push(room)?;
+        }
+    }
+    Ok(all)
+}
+
+/// Queues the jobs from the first to the end until one is refused, and looks whether that one comes back, with the list as before. Tells which
+/// one was refused, or else the end.
+fn fill<R: Wait + Abort>(
+    rt: &R,
+    calls: &Calls<u64, &LocalHeap>,
+    cpu: &mut Cpu,
+    seat: &mut CallSeat<&LocalHeap>,
+    first: u64,
+    end: u64,
+) -> u64
+    requires { FitsIn calls.now cpu.old seat.old }
+    ensures { FitsIn calls.now cpu.new seat.new }
+{
+    for job in first..end {
+        let before = calls.lens(rt, 0);
+        match calls.call(rt, cpu, seat, job) {
+            Ok(receipt) => assert_eq!(rt; receipt.k, job),
+            Err(refused) => {
+                assert_eq!(rt; refused, (job, CallRefusal::Memory));
+                assert_eq!(rt; calls.lens(rt, 0), before);
+                return job;
+            }
+        }
+    }
+    end
+}
+
+/// Would catch a refused job that stays, or that is counted, and a list that takes no more jobs once one was refused.
+#[test]
+fn call_in_little_room(rt: HostRuntime) -> Result<(), Fail> {
+    let (mut cpu, mut engine) = new_domain(rt.alloc())?;
+    let heap = LocalHeap::new(rt.alloc(), 8 * 1024)?;
+    let (calls, mut seat) = make_in(&heap, &mut engine, &cpu)?;
+
+    let full = stuff(rt.alloc(), &heap)?;
+    let refused = fill(&rt, &calls, &mut cpu, &mut seat, 0, 20);
+    assert_eq!(rt; (refused, calls.lens(&rt, 0)), (0, ([0; 4], [0; 2])));
+    drop(full);
+    assert_eq!(rt; fill(&rt, &calls, &mut cpu, &mut seat, 0, 1), 1);
+
+    // There is room for some more before the list has to grow.
+    let full = stuff(rt.alloc(), &heap)?;
+    let refused = fill(&rt, &calls, &mut cpu, &mut seat, 1, 20);
+    assert!(rt; refused < 20);
+    drop(full);
+    assert_eq!(rt; fill(&rt, &calls, &mut cpu, &mut seat, refused, 20), 20);
+    assert_eq!(rt; calls.lens(&rt, 0), ([0, 20, 0, 0], [4, 0]));
+    drop(calls);
+    drop(seat);
+    assert_eq!(rt; heap.used(), 0);
+    Ok(())
+}
