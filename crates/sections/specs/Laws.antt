@@ -67,7 +67,7 @@ pub record HasNoMore (bounds : Bounds) (m o : Maker) (v w : View) : Type 0 where
   pub steps : HasNoStepMore m v w
   pub events : IsProcessor bounds.processors o → HasNoEventMore m v w
 
--- however a seat is cut in two or takes another in, it has no step and no event more of its maker m, as long as there is a maker o that has a seat elsewhere: at the place of that step o may have made a step of its own, and at that of the event a processor may have asked for a cookie. So only a step on the table gives a step or an event
+-- however a seat is cut in two or takes another in, it has no step and no event more of its maker m, as long as there is a maker o that has a seat elsewhere: at the place of that step o may have made a step of its own, and at that of the event a processor may have asked after a cookie. So only a step on the table gives a step or an event
 abbrev pub NoStepIsForged : Type 0
 NoStepIsForged = (bounds : Bounds) (s : State (Option ℕ) View) → Kept bounds s → (id : ℕ) (v : View) → get_elem? s.views id ≡ some v → (m o : Maker) → StandsFor v.role m → ¬ StandsFor v.role o
     → ((left right : View) → Splits (Kept bounds) id v left right → HasNoMore bounds m o v left × HasNoMore bounds m o v right)
