@@ -15,7 +15,7 @@ use Rattle.domain.specs.declared.refusals.AdvanceRefusal.{AdvanceRefusal}
 use Rattle.domain.specs.declared.refusals.AdvanceRefusal.TheVariants as advance
 use Rattle.domain.specs.Views.{DomainView, CpuView, IsOf, IsSameProcessor, with_cpu}
 use Rattle.domain.specs.Turns.{AdvancesIn, FindsExhaustedIn, IsRefused}
-use Rattle.domain.specs.Waiting.{StartsPoll, HasNoneOpen, HasNoted, TurnsAndPolls, RoundsThrough, Synchronizes, WaitsInVain}
+use Rattle.domain.specs.Waiting.{StartsPoll, HasNoneOpen, HasNoted, TurnsAndPolls, RoundsThrough, Synchronizes, WaitsInVain, WaitedFor}
 use Rattle.domain.proofs.Lending.{same_lent, same_advanced, same_exhausted, mine_lent, mine_advanced, mine_exhausted}
 use Rattle.domain.proofs.Staying.{still_with_cpu}
 use Rattle.domain.proofs.Sameness.{same_trans, same_polled, same_asked}
@@ -232,3 +232,7 @@ still_none c c' none s = none_open c c' none (ap open_sections s.mine ∙ waitin
 
 pub none_in_vain : (c c' : CpuView) → HasNoneOpen c → WaitsInVain c c' → HasNoneOpen c'
 none_in_vain c c' none s = none_open c c' none (ap open_sections s.mine ∙ noted_opens_none s.cookie.number (Processor c.cpu.processor) c.cpu.mine s.vain s.all_vain)
+
+-- what a user wants to know
+pub waited_for : (c c' : CpuView) → Synchronizes c c' → WaitedFor c c'
+waited_for c c' h = record { number = h.cookie.number; moment = h.cookie.seen; noted = h.gives; closed = h.closed }

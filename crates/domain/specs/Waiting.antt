@@ -92,3 +92,10 @@ pub record WaitsInVain (c c' : CpuView) : Type 0 where
   pub all_vain : All (λ e. e ≡ Ask cookie.number false (Processor c.cpu.processor)) vain
   pub one_each : length vain ≡ length waits.rounds
   pub mine : c'.cpu.mine ≡ c.cpu.mine ++ Note cookie.number (Processor c.cpu.processor) ∷ vain
+
+-- in the call a moment was noted, and no section that was open then is open now
+pub record WaitedFor (c c' : CpuView) : Type 0 where
+  pub number : ℕ
+  pub moment : List Event
+  pub noted : HasNoted c number moment
+  pub closed : AllClosed moment c'.cpu.seen

@@ -1,7 +1,7 @@
 //! Waiting for a grace period.
-ghost use Rattle.std.specs.Prelude.{MatchResult};
+ghost use Rattle.std.specs.Prelude.{IfOk, MatchResult};
 ghost use Rattle.domain.specs.Views.{IsOf, IsSameProcessor};
-ghost use Rattle.domain.specs.Waiting.{HasNoneOpen, Synchronizes, WaitsInVain};
+ghost use Rattle.domain.specs.Waiting.{HasNoneOpen, Synchronizes, WaitsInVain, WaitedFor};
 
 use crate::cpu::Cpu;
 use crate::domain::Domain;
@@ -29,6 +29,9 @@ impl<J, A: Allocator> Domain<J, A> {
         ensures same { IsSameProcessor cpu.old cpu.new }
         ensures still_none { HasNoneOpen cpu.new }
         ensures waits { MatchResult result (λ _. Synchronizes cpu.old cpu.new) (λ _. WaitsInVain cpu.old cpu.new) }
+
+        // So no section that was open at a moment of the call is open when it returns.
+        ensures closed { IfOk result (λ _. WaitedFor cpu.old cpu.new) }
     {
         let mut cookie = self.start_poll(cpu);
         for _ in rt.forever() {

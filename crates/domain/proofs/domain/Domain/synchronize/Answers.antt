@@ -1,7 +1,7 @@
 use Rattle.std.proofs.Common.{sym, ◌∙◌, subst}
 use Rattle.sections.specs.Views.{CookieView}
 use Rattle.domain.proofs.Sameness.{same_trans, same_polled}
-use Rattle.domain.proofs.Synchronizing.{HasWaited, turned_advanced, turned_exhausted, only_exhausted, begins, turns, asks_in_vain, synchronizes, waits_in_vain, still_none, none_in_vain}
+use Rattle.domain.proofs.Synchronizing.{HasWaited, turned_advanced, turned_exhausted, only_exhausted, begins, turns, asks_in_vain, synchronizes, waits_in_vain, waited_for, still_none, none_in_vain}
 use Rattle.domain.proofs.domain.Domain.synchronize.Goals as goal
 
 pub loop-init : goal.loop-init
@@ -38,6 +38,11 @@ pub returns-then-poll-clause-waits : goal.returns-then-poll-clause-waits
 returns-then-poll-clause-waits g c =
     let h = turns _ _ _ _ _ c.loop.invariant.waited c.advance.ensures.here (turned_advanced _ _ _ c.in-Ok.ensures.advances) in
     synchronizes _ _ _ _ _ _ _ h c.in-Ok.ensures.advances c.if-poll.ensures.asks c.poll.ensures.rest (c.poll.ensures.closed c.if-poll.true)
+
+pub returns-then-poll-clause-closed : goal.returns-then-poll-clause-closed
+returns-then-poll-clause-closed g c =
+    let h = turns _ _ _ _ _ c.loop.invariant.waited c.advance.ensures.here (turned_advanced _ _ _ c.in-Ok.ensures.advances) in
+    waited_for _ _ (synchronizes _ _ _ _ _ _ _ h c.in-Ok.ensures.advances c.if-poll.ensures.asks c.poll.ensures.rest (c.poll.ensures.closed c.if-poll.true))
 
 pub loop-preserved : goal.loop-preserved
 loop-preserved g c =
