@@ -9,6 +9,7 @@ use Rattle.requests.specs.declared.cause.Cause.{Cause}
 use Rattle.requests.specs.declared.cause.Cause.TheVariants as cause
 use Rattle.requests.specs.declared.reply.Period.{Period}
 use Rattle.requests.specs.declared.reply.Sections.{Sections}
+use Rattle.requests.specs.declared.reply.Waiting.{Waiting}
 use Rattle.requests.specs.declared.reply.Segments.{Segments}
 use Rattle.requests.specs.declared.reply.Reply.{Reply}
 use Rattle.requests.specs.declared.reply.Reply.TheVariants as reply
@@ -36,9 +37,11 @@ sections_text s = codes "index " ++ index_text s.index ++ codes " open " ++ deci
 abbrev pub names_text : List (List ℕ) → List ℕ
 names_text names = flat_map (λ name. codes " " ++ name) names
 
+abbrev pub waiting_text : Waiting → List ℕ
+waiting_text w = decimal w.count ++ codes " " ++ decimal w.number
+
 abbrev pub segments_text : Segments → List ℕ
-segments_text s = codes "done " ++ decimal s.done ++ codes " wait " ++ decimal s.wait ++ codes " " ++ decimal s.wait_number
-    ++ codes " ready " ++ decimal s.ready ++ codes " " ++ decimal s.ready_number ++ codes " next " ++ decimal s.next
+segments_text s = codes "done " ++ decimal s.done ++ codes " wait " ++ waiting_text s.wait ++ codes " ready " ++ waiting_text s.ready ++ codes " next " ++ decimal s.next
 
 -- what the engine answered
 abbrev pub progress_text : Progress → List ℕ

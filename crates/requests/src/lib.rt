@@ -18,6 +18,6 @@ pub use command::{Argument, Command, Row};
 pub use fault::Fault;
 pub use job_names::JobNames;
 pub use line::{is_skipped, parse};
-pub use reply::{Period, Reply, Sections, Segments, push_reply};
+pub use reply::{Period, Reply, Sections, Segments, Waiting, push_reply};
 pub use request::{Act, Request};
 pub use scene::{Kind, Scene};

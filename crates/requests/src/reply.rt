@@ -30,15 +30,20 @@ pub struct Sections {
     pub need: Number,
 }
 
-/// How many jobs of a processor are done, wait for a first and for a second number, and have no number yet; and these
-/// numbers, 0 where none waits: `done A wait B N1 ready C N2 next E`.
+/// How many jobs wait for a number, and for which, 0 where none does: `B N`.
+#[derive(Clone, Copy, Debug, PartialEq, Eq)]
+pub struct Waiting {
+    pub count: usize,
+    pub number: u64,
+}
+
+/// How many jobs of a processor are done, which wait for a first and which for a second number, and how many have no
+/// number yet: `done A wait B N1 ready C N2 next E`.
 #[derive(Clone, Copy, Debug, PartialEq, Eq)]
 pub struct Segments {
     pub done: usize,
-    pub wait: usize,
-    pub wait_number: u64,
-    pub ready: usize,
-    pub ready_number: u64,
+    pub wait: Waiting,
+    pub ready: Waiting,
     pub next: usize,
 }
 
@@ -125,6 +130,18 @@ impl fmt::Display for Sections {
     }
 }
 
+impl fmt::Display for Waiting {
+    ghost use Rattle.std.specs.Prelude.{Some};
+    ghost use Rattle.requests.specs.Replies.{waiting_text};
+
+    ghost output = { λ waiting. Some (waiting_text waiting) };
+
+    fn fmt<W: fmt::Write>(&self, f: &mut fmt::Formatter<W>) -> fmt::Result {
+        let Waiting { count, number } = self;
+        write!(f, "{count} {number}")
+    }
+}
+
 impl fmt::Display for Segments {
     ghost use Rattle.std.specs.Prelude.{Some};
     ghost use Rattle.requests.specs.Replies.{segments_text};
@@ -135,15 +152,10 @@ impl fmt::Display for Segments {
         let Segments {
             done,
             wait,
-            wait_number,
             ready,
-            ready_number,
             next,
         } = self;
-        write!(
-            f,
-            "done {done} wait {wait} {wait_number} ready {ready} {ready_number} next {next}"
-        )
+        write!(f, "done {done} wait {wait} ready {ready} next {next}")
     }
 }
 
