@@ -207,19 +207,19 @@ impl Command {
                 word: "batch",
                 takes: &[Argument::ADomain, Argument::AProcessor],
                 form: "batch NAME P",
-                does: "takes such jobs of processor P out, a batch",
+                does: "takes those jobs out as a batch, and runs none yet",
             },
             Command::Finish => Row {
                 word: "finish",
                 takes: &[Argument::ADomain, Argument::AProcessor],
                 form: "finish NAME P",
-                does: "runs and finishes the batch of processor P that is out",
+                does: "runs the jobs of processor P's batch, and ends it",
             },
             Command::Segs => Row {
                 word: "segs",
                 takes: &[Argument::ADomain, Argument::AProcessor],
                 form: "segs NAME P",
-                does: "shows for which numbers the jobs of processor P wait",
+                does: "shows how many jobs of processor P wait, and for which numbers",
             },
             Command::State => Row {
                 word: "state",

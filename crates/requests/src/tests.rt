@@ -32,9 +32,9 @@ const HELP: &str = "
   step NAME P        lets the engine make one step
   call NAME P J      queues a job J on processor P, to run after a grace period
   run NAME P         runs the first jobs of processor P that are ready, at most 8
-  batch NAME P       takes such jobs of processor P out, a batch
-  finish NAME P      runs and finishes the batch of processor P that is out
-  segs NAME P        shows for which numbers the jobs of processor P wait
+  batch NAME P       takes those jobs out as a batch, and runs none yet
+  finish NAME P      runs the jobs of processor P's batch, and ends it
+  segs NAME P        shows how many jobs of processor P wait, and for which numbers
   state NAME         shows where the domain stands";
 
 #[test]
