@@ -1,0 +1,140 @@
+//! Jobs that are queued at a domain, and given out there.
+ghost use Rattle.std.specs.Prelude.{◌<◌, IfOk};
+ghost use Rattle.domain.specs.Views.{IsOf};
+
+use crate::{
+    AdvanceRefusal, CallRefusal, Cpu, Domain, Index, Limits, MakeError, Number, Progress,
+    TakeRefusal,
+};
+use linked_list_allocator::LocalHeap;
+use std::alloc::{AllocError, Allocator, Global};
+use std::process::Abort;
+use std::sync::Wait;
+use std::test::Fail;
+
+const LIMITS: Limits = Limits {
+    sections: Limits::MOST_SECTIONS,
+    periods: Limits::MOST_PERIODS,
+    cells: 0,
+};
+
+fn number(value: u64) -> Number {
+    Number::new(value).unwrap_or(Number::zero())
+}
+
+/// A new domain whose jobs are numbers, and its processor.
+fn single<A: Allocator + Copy>(alloc: A) -> Result<(Domain<u64, A>, Cpu<u64, A>), MakeError>
+    ensures { IfOk result (λ r. IsOf r.0 r.1 × (0 < r.0.processors)) }
+{
+    let (domain, mut cpus) = Domain::<u64, A>::new(alloc, 1, LIMITS)?;
+    let cpu = cpus.pop().unwrap();
+    Ok((domain, cpu))
+}
+
+/// Takes what is ready on this processor, runs it, and finishes the batch. Tells how many jobs were in the batch, if there
+/// was one. To run a job is to put it behind those that ran before.
+fn run_ready<R: Wait + Abort>(
+    rt: &R,
+    domain: &Domain<u64>,
+    cpu: &mut Cpu<u64>,
+    ran: &mut Vec<u64>,
+) -> Result<Option<usize>, TakeRefusal>
+    requires { IsOf domain.now cpu.old }
+    ensures { IsOf domain.now cpu.new }
+{
+    let processor = cpu.processor();
+    let Some(mut batch) = domain.take_ready(rt, cpu, processor, 8)? else {
+        return Ok(None); // nothing is ready here
+    };
+    let count = batch.count(); // from 1 to 8
+    while let Some(job) = batch.next() {
+        ran.push(job).expect(rt, "there is room"); // each job once, the first one first
+    }
+    domain.finish(rt, cpu, batch); // code that loses a batch, or finishes one with jobs left in it, is refused
+    Ok(Some(count))
+}
+
+/// Drives a whole grace period, with a step for each of its parts.
+fn drive<R: Wait>(
+    rt: &R,
+    domain: &Domain<u64>,
+    cpu: &mut Cpu<u64>,
+) -> [Result<Progress, AdvanceRefusal>; 3]
+    requires { IsOf domain.now cpu.old }
+    ensures { IsOf domain.now cpu.new }
+{
+    let started = domain.advance(rt, cpu);
+    let flipped = domain.advance(rt, cpu);
+    let ended = domain.advance(rt, cpu);
+    [started, flipped, ended]
+}
+
+/// Would catch a job that is given out too early, twice or never, and one for which nobody asks.
+#[test]
+fn hands_a_job_out_once(rt: HostRuntime) -> Result<(), Fail> {
+    let (domain, mut cpu) = single(rt.alloc())?;
+    let mut ran = Vec::new(rt.alloc());
+    let Ok(receipt) = domain.call(&rt, &mut cpu, 7) else { // call_srcu
+        panic!(rt; "there is room");
+    };
+    let need = domain.need(&mut cpu);
+    let early = run_ready(&rt, &domain, &mut cpu, &mut ran);
+    let period = drive(&rt, &domain, &mut cpu);
+    let given = run_ready(&rt, &domain, &mut cpu, &mut ran);
+    let again = run_ready(&rt, &domain, &mut cpu, &mut ran);
+    assert_eq!(rt;
+        (receipt.processor, receipt.k, receipt.cookie.number()),
+        (0, 0, 4)
+    );
+    assert_eq!(rt; need.get(), 4);
+    assert_eq!(rt;
+        period,
+        [
+            Ok(Progress::Started(number(1))),
+            Ok(Progress::Flipped(Index::One)),
+            Ok(Progress::Ended(number(4))),
+        ]
+    );
+    assert_eq!(rt; (early, given, again), (Ok(None), Ok(Some(1)), Ok(None)));
+    assert_eq!(rt; ran.as_slice(), [7].as_slice());
+    assert_eq!(rt; domain.lens(&rt, 0), ([0; 4], [0; 2]));
+    Ok(())
+}
+
+/// Takes what room there is in the heap.
+fn stuff(alloc: Global, heap: &LocalHeap) -> Result<Vec<Vec<u8, &LocalHeap>>, AllocError> {
+    let mut all = Vec::new(alloc);
+    for size in [1024, 256, 64, 16, 8] {
+        for _ in 0..100 {
+            let Ok(room) = Vec::with_capacity(heap, size) else {
+                break;
+            };
+            all.push(room)?;
+        }
+    }
+    Ok(all)
+}
+
+/// Would catch a refused job that is lost or that stays queued, one for which a grace period is asked, and a domain that
+/// takes no more jobs behind it.
+#[test]
+fn gives_the_job_back(rt: HostRuntime) -> Result<(), Fail> {
+    let heap = LocalHeap::new(rt.alloc(), 64 * 1024)?;
+    let (domain, mut cpu) = single(&heap)?;
+    let full = stuff(rt.alloc(), &heap)?;
+    let refused = domain.call(&rt, &mut cpu, 7).err();
+    let need = domain.need(&mut cpu);
+    assert_eq!(rt; refused, Some((7, CallRefusal::Memory)));
+    assert_eq!(rt; need.get(), 0);
+    assert_eq!(rt; domain.lens(&rt, 0), ([0; 4], [0; 2]));
+    drop(full);
+    let queued = domain.call(&rt, &mut cpu, 7).ok().map(|receipt| receipt.k);
+    let need = domain.need(&mut cpu);
+    assert_eq!(rt; queued, Some(0));
+    assert_eq!(rt; need.get(), 4);
+    assert_eq!(rt; domain.lens(&rt, 0), ([0, 1, 0, 0], [4, 0]));
+    drop(domain);
+    drop(cpu);
+    assert_eq!(rt; heap.used(), 0);
+    Ok(())
+}
