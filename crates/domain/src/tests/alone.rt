@@ -368,26 +368,13 @@ fn a_running_period_does_not_count(rt: HostRuntime) -> Result<(), Fail> {
     Ok(())
 }
 
-/// Would catch a number that is taken for a cookie, and a call that ties two processors and can't be made.
+/// Would catch a number that is taken for a cookie.
 #[test]
-fn calls_of_a_processor(rt: HostRuntime) -> Result<(), Fail> {
-    let (_domain, mut first, mut second) = last_two(rt.alloc(), 2, AMPLE)?;
-    let polled = [first.poll_number(0), first.poll_number(4)];
+fn polls_by_number(rt: HostRuntime) -> Result<(), Fail> {
+    let (_domain, mut cpu) = single(rt.alloc(), AMPLE)?;
+    let polled = [cpu.poll_number(0), cpu.poll_number(4)];
     assert_eq!(rt; polled, [Ok(true), Ok(false)]);
-    assert_eq!(rt; first.poll_number(6), Err(NotACookie));
-    first.home();
-    first.tie(&mut second);
-    second.cover(&mut first);
-    second.admit(&mut first);
-    let look = first.look();
-    let Ok(section) = second.enter(look) else {
-        panic!(rt; "there is room");
-    };
-    let (index, processor) = (section.index(), section.processor());
-    let open = (first.open_here(), second.open_here());
-    second.read_unlock(section);
-    assert_eq!(rt; (index, processor, open), (Index::Zero, 1, (0, 1)));
-    assert_eq!(rt; (second.number().get(), second.open_here()), (0, 0));
+    assert_eq!(rt; cpu.poll_number(6), Err(NotACookie));
     Ok(())
 }
 
