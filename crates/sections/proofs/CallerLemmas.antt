@@ -1,5 +1,5 @@
 -- What a crate above may cite of this one; the other files of proofs/ are its own.
--- Three of these are clauses of `sums_of_a_domain` too, which anyone may call: `equal_sums` is `empty`, `fewer_ends` is `one`, and `locks_grow` and `unlocks_grow` are the two halves of `grow`.
+-- Three of these are clauses of `sums_of_a_domain` too, which anyone may call: `equal_sums` is `empty`, `fewer_ends` is `one`, and `locks_grow` and `unlocks_grow` are the two halves of `grow`. `counters_add_up` is the clause of `totals_of_a_domain`.
 
 -- The lock counters
 
@@ -19,6 +19,10 @@ pub use Rattle.sections.proofs.Counters.{sum_le}
 pub use Rattle.sections.proofs.Sums.{equal_sums}
 -- where fewer have ended one is open
 pub use Rattle.sections.proofs.Sums.{fewer_ends}
+-- all lock counters add up to the sections that were begun, all unlock counters to those that have ended, and the ones less the others are open
+pub use Rattle.sections.proofs.Sums.{counters_add_up}
+-- a sum of sums is the sum of the parts
+pub use Rattle.sections.proofs.Sums.{sum_plus}
 -- Grace periods
 
 -- in the middle of a period one runs

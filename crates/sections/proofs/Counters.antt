@@ -12,7 +12,7 @@ use Rattle.onedom.specs.declared.event.Event.{Event}
 use Rattle.onedom.specs.declared.event.Event.TheVariants.{Begin, End, Start, Finish, Note, Ask}
 use Rattle.onedom.specs.Histories.{ends, section_begun, index_of, MayFollow, IsLegal, maker_of, same_maker, made_by, open_sections, IsBeginning}
 use Rattle.onedom.proofs.CallerLemmas.{bit, count_push, count_cons, along, no_ends, count_grows, one_more_open, one_less_open, same_open_plain, open_once}
-use Rattle.sections.specs.Words.{locks_at, locks, unlocks_at, unlocks_after, unlocks, sum_below}
+use Rattle.sections.specs.Words.{locks_at, locks, unlocks_at, unlocks_after, unlocks, sum_below, is_begin, is_end}
 use Rattle.sections.specs.Rule.{HasItsMaker}
 
 -- Indexes
@@ -89,14 +89,6 @@ locks_mine n p i (e ∷ es) all = locks_case p i e es (made_by (Processor p) es)
 
 -- In all
 
-abbrev is_begin : Event → Bool
-is_begin (Begin s p i by) = true
-is_begin e = false
-
-abbrev is_end : Event → Bool
-is_end (End s q by) = true
-is_end e = false
-
 abbrev Balances : List Event → Type 0
 Balances log = count_by is_end log + length (open_sections log) ≡ count_by is_begin log
 
@@ -112,7 +104,8 @@ balances_push log (Finish by) legal may h = balances_plain log (Finish by) refl 
 balances_push log (Note c by) legal may h = balances_plain log (Note c by) refl (λ _. refl) refl refl h
 balances_push log (Ask c b by) legal may h = balances_plain log (Ask c b by) refl (λ _. refl) refl refl h
 
-balances : (log : List Event) → IsLegal log → Balances log
+-- those that have ended and those that are open were begun
+pub balances : (log : List Event) → IsLegal log → Balances log
 balances log legal = along Balances refl balances_push log legal
 
 pub sum_le : (f g : ℕ → ℕ) (k : ℕ) → ((q : ℕ) → f q ≤ g q) → sum_below f k ≤ sum_below g k

@@ -4,6 +4,7 @@ use Rattle.std.proofs.lemmas.List.Elements.{All-nil}
 use mathlib.Core.Option.{none}
 use Rattle.atomic_table.specs.Table.{State, step, keeps, stepped, Allows}
 use Rattle.sseq.specs.declared.index.Index.{Index}
+use Rattle.onedom.specs.declared.event.Maker.{Maker}
 use Rattle.onedom.specs.declared.event.Maker.TheVariants.{Processor, Engine}
 use Rattle.onedom.specs.declared.event.Event.{Event}
 use Rattle.onedom.specs.declared.event.Event.TheVariants.{Start, Finish}
@@ -16,7 +17,7 @@ use Rattle.sections.specs.declared.view.Step.{Step}
 use Rattle.sections.specs.declared.view.Step.TheVariants.{LoadUnlocks, LoadLocks, AddIndex, AddNumber}
 use Rattle.sections.specs.declared.view.View.{View}
 use Rattle.sections.specs.Words.{index_place, number_place, lock_place, unlock_place, locks_at, locks, unlocks_at, unlocks, all_locks, index_word, number_word, IsIdle, IsBeforeFlip, IsFlipping, IsBehindFlip, Reaches, Agree}
-use Rattle.sections.specs.Rule.{HasItsMaker, GoesOn, IsTrueOf, Makes, Fits, Kept}
+use Rattle.sections.specs.Rule.{HasItsMaker, GoesOn, IsTrueOf, IsMaker, Makes, Fits, Kept}
 use Rattle.sections.specs.Plays.{Owns, Sees, Adds, Sat, counted_unlocks, counted_locks, started, flipped, moved_on, finished}
 use Rattle.sections.proofs.Counters.{locks_push, sum_most}
 use Rattle.sections.proofs.Agreement.{lock_places, unlock_places, agrees_numbered, agrees_flipped, locks_not_at, unlocks_not_at, reaches_started, reaches_finished, reaches_on, idle_not_running, busy_running}
@@ -49,28 +50,28 @@ module _ (bounds : Bounds) where
   bounded s r n i seen sized same = subst (λ (z : ℕ × List Event). all_locks z.0 i z.1 ≤ 2 ^ 60) (λ k. (sym sized k, sym same k))
       (let most = sum_most (λ p. locks p i r.log) bounds.sections bounds.processors (λ p. r.within.limited p i) in let small = r.small.counters in omega (arith, most, small))
 
-  pub counts_unlocks : (slots id k : ℕ) (me : Sat) (d q : ℕ) (i : Index) → me.0.processors ≡ bounds.processors → me.0.role ≡ Driver d → q < bounds.processors → k ≡ unlock_place q i
+  pub counts_unlocks : (slots id k : ℕ) (me : Sat) (m : Maker) (q : ℕ) (i : Index) → me.0.processors ≡ bounds.processors → IsMaker me.0.role m → q < bounds.processors → k ≡ unlock_place q i
       → Allows (Kept bounds) slots id me k (λ x. x) (counted_unlocks (step slots k 0 0 none) me)
-  counts_unlocks slots id k me d q i sized is lt place = loads_here bounds slots id k me Engine (λ n h. LoadUnlocks q i n (length h)) (counted_unlocks (step slots k 0 0 none) me) (engine_makes d me.0.role is) sized
+  counts_unlocks slots id k me m q i sized is lt place = loads_here bounds slots id k me m (λ n h. LoadUnlocks q i n (length h)) (counted_unlocks (step slots k 0 0 none) me) is sized
       (λ s r. (ap (λ z. get_or s.words z 0) place ∙ r.words.unlock_counters q i lt, refl))
       (λ s r w at seen changes sees.
       let n : ℕ = get_or s.words k 0 in
       let found : n ≡ unlocks q i w.seen = ap (λ z. get_or s.words z 0) place ∙ (r.words.unlock_counters q i lt ∙ ap (unlocks q i) (sym seen)) in (
         refl,
-        changes ∙ sym (exact bounds s r id me.0 d at is),
+        λ d driven. changes ∙ sym (exact bounds s r id me.0 d at driven),
         λ p j word. let same = unlock_places q p i j (sym place ∙ word) in
             subst (λ (z : ℕ × Index). Sees (LoadUnlocks z.0 z.1 n (length w.seen)) me.0 w × (n ≡ unlocks z.0 z.1 w.seen) × (all_locks me.0.processors z.1 w.seen ≤ 2 ^ 60)) (λ h. (same.0 h, same.1 h)) (sees, found, bounded s r me.0.processors i w.seen sized seen),
       ))
 
-  pub counts_locks : (slots id k : ℕ) (me : Sat) (d q : ℕ) (i : Index) → me.0.processors ≡ bounds.processors → me.0.role ≡ Driver d → q < bounds.processors → k ≡ lock_place q i
+  pub counts_locks : (slots id k : ℕ) (me : Sat) (m : Maker) (q : ℕ) (i : Index) → me.0.processors ≡ bounds.processors → IsMaker me.0.role m → q < bounds.processors → k ≡ lock_place q i
       → Allows (Kept bounds) slots id me k (λ x. x) (counted_locks (step slots k 0 0 none) me)
-  counts_locks slots id k me d q i sized is lt place = loads_here bounds slots id k me Engine (λ n h. LoadLocks q i n (length h)) (counted_locks (step slots k 0 0 none) me) (engine_makes d me.0.role is) sized
+  counts_locks slots id k me m q i sized is lt place = loads_here bounds slots id k me m (λ n h. LoadLocks q i n (length h)) (counted_locks (step slots k 0 0 none) me) is sized
       (λ s r. (ap (λ z. get_or s.words z 0) place ∙ r.words.lock_counters q i lt, refl))
       (λ s r w at seen changes sees.
       let n : ℕ = get_or s.words k 0 in
       let found : n ≡ locks q i w.seen = ap (λ z. get_or s.words z 0) place ∙ (r.words.lock_counters q i lt ∙ ap (locks q i) (sym seen)) in (
         refl,
-        changes ∙ sym (exact bounds s r id me.0 d at is),
+        λ d driven. changes ∙ sym (exact bounds s r id me.0 d at driven),
         λ p j word. let same = lock_places q p i j (sym place ∙ word) in
             subst (λ (z : ℕ × Index). Sees (LoadLocks z.0 z.1 n (length w.seen)) me.0 w × (n ≡ locks z.0 z.1 w.seen) × (all_locks me.0.processors z.1 w.seen ≤ 2 ^ 60)) (λ h. (same.0 h, same.1 h)) (sees, found, bounded s r me.0.processors i w.seen sized seen),
       ))

@@ -13,10 +13,10 @@ use Rattle.onedom.specs.declared.event.Event.TheVariants.{Begin, End, Start, Fin
 use Rattle.onedom.specs.Histories.{begins, ends, section_begun, open_sections, index_of, IsEmpty, MayFollow, IsLegal}
 use Rattle.onedom.specs.Laws.{times}
 use Rattle.onedom.proofs.CallerLemmas.{bit, count_push, count_cons, index_of_push, index_of_begun, index_of_kept, along, no_ends, count_grows, times_cons, times_open_le, open_sections_begun, open_sections_plain, open_sections_ended, open_once, open_there}
-use Rattle.sections.specs.Words.{locks_at, locks, unlocks_at, unlocks_after, sum_below, all_locks}
+use Rattle.sections.specs.Words.{locks_at, locks, unlocks_at, unlocks_after, sum_below, all_locks, is_begin, is_end, opened_in, closed_in}
 use Rattle.sections.specs.Rule.{HasItsMaker}
-use Rattle.sections.specs.Laws.{EqualSumsAreEmpty, FewerEndsShowOne, CountersGrow}
-use Rattle.sections.proofs.Counters.{same_index_refl, same_index_other, unlocks_grow}
+use Rattle.sections.specs.Laws.{EqualSumsAreEmpty, FewerEndsShowOne, CountersAddUp, CountersGrow}
+use Rattle.sections.proofs.Counters.{same_index_refl, same_index_other, unlocks_grow, balances as all_balance}
 
 -- Sections that pass a test
 
@@ -128,7 +128,7 @@ sum_none : (k : ℕ) → sum_below (λ q. 0) k ≡ 0
 sum_none zero = refl
 sum_none (suc k) = let r = sum_none k in omega (arith, r)
 
-sum_plus : (f g : ℕ → ℕ) (k : ℕ) → sum_below (λ q. f q + g q) k ≡ sum_below f k + sum_below g k
+pub sum_plus : (f g : ℕ → ℕ) (k : ℕ) → sum_below (λ q. f q + g q) k ≡ sum_below f k + sum_below g k
 sum_plus f g zero = refl
 sum_plus f g (suc k) = let r = sum_plus f g k in omega (arith, r)
 
@@ -174,6 +174,44 @@ equal_sums n i log legal all = let b = balances i log legal in let l = locks_are
   omega (arith, b, l, u),
   ((λ same. none_is_open i log legal (omega (arith, b, l, u, same))), (λ empty. let none = none_waits i log empty in omega (arith, b, l, u, none))),
 )
+
+-- All sections
+
+one_index : (i : Index) → bit (same_index i Zero) + bit (same_index i One) ≡ 1
+one_index Zero = refl
+one_index One = refl
+
+begin_split : (e : Event) → bit (begins_with Zero e) + bit (begins_with One e) ≡ bit (is_begin e)
+begin_split (Begin s p i by) = one_index i
+begin_split (End s q by) = refl
+begin_split (Start by) = refl
+begin_split (Finish by) = refl
+begin_split (Note c by) = refl
+begin_split (Ask c b by) = refl
+
+-- each was begun with one index
+begins_split : (log : List Event) → count_by (begins_with Zero) log + count_by (begins_with One) log ≡ opened_in log
+begins_split [] = refl
+begins_split (e ∷ es) = let z = count_cons (begins_with Zero) e es in let o = count_cons (begins_with One) e es in let c = count_cons is_begin e es in let one = begin_split e in let r = begins_split es in omega (arith, z, o, c, one, r)
+
+end_split : (before : List Event) (e : Event) → bit (ends_with Zero before e) + bit (ends_with One before e) ≡ bit (is_end e)
+end_split before (Begin s p i by) = refl
+end_split before (End s q by) = one_index (index_of s before)
+end_split before (Start by) = refl
+end_split before (Finish by) = refl
+end_split before (Note c by) = refl
+end_split before (Ask c b by) = refl
+
+ends_split : (before log : List Event) → ended_after Zero before log + ended_after One before log ≡ closed_in log
+ends_split before [] = refl
+ends_split before (e ∷ es) = let c = count_cons is_end e es in let one = end_split before e in let r = ends_split (before ++ e ∷ []) es in omega (arith, c, one, r)
+
+pub counters_add_up : CountersAddUp
+counters_add_up n log legal all = record {
+  opened = (let z = locks_are_begins n Zero log all in let o = locks_are_begins n One log all in let s = begins_split log in omega (arith, z, o, s));
+  closed = (let z = unlocks_are_ends n Zero [] log all in let o = unlocks_are_ends n One [] log all in let s = ends_split [] log in omega (arith, z, o, s));
+  still_open = all_balance log legal;
+}
 
 -- One that is open
 

@@ -10,8 +10,8 @@ use Rattle.onedom.specs.declared.event.Event.{Event}
 use Rattle.onedom.specs.declared.event.Event.TheVariants.{Begin, End, Note, Ask}
 use Rattle.onedom.specs.Histories.{begins_of, IsOpen, IsLegal, made_by, IsBeginning}
 use Rattle.sections.specs.declared.view.Step.{Step}
-use Rattle.sections.specs.declared.view.Step.TheVariants.{LoadIndex}
-use Rattle.sections.specs.Words.{is_held, index_word, number_word, locks, Reaches}
+use Rattle.sections.specs.declared.view.Step.TheVariants.{LoadIndex, LoadUnlocks, LoadLocks}
+use Rattle.sections.specs.Words.{is_held, index_word, number_word, locks, unlocks, all_locks, Reaches}
 use Rattle.sections.specs.Rule.{HasItsMaker}
 use Rattle.sections.specs.Plays.{IsIndexWord}
 use Rattle.sections.specs.Views.{CpuView, LookView, ReadingView, CookieView}
@@ -155,6 +155,20 @@ IsNoCookie number = number % 4 ≢ 0
 -- no section that was open then is open now
 abbrev pub AllClosed : List Event → List Event → Type 0
 AllClosed seen now = (s : ℕ) → IsOpen seen s → ¬ IsOpen now s
+
+-- Counters
+
+-- one load of a lock counter found as many as were begun there, with this index, in what is then seen
+pub record FindsLocks (p : ℕ) (i : Index) (found : ℕ) (c d : CpuView) : Type 0 where
+  pub load : Loads (LoadLocks p i found (length d.seen)) c d
+  pub exact : found ≡ locks p i d.seen
+  pub bound : all_locks d.processors i d.seen ≤ 2 ^ 60
+
+-- one load of an unlock counter found as many as have ended there, with this index, in what is then seen
+pub record FindsUnlocks (q : ℕ) (i : Index) (found : ℕ) (c d : CpuView) : Type 0 where
+  pub load : Loads (LoadUnlocks q i found (length d.seen)) c d
+  pub exact : found ≡ unlocks q i d.seen
+  pub bound : all_locks d.processors i d.seen ≤ 2 ^ 60
 
 -- New processors
 

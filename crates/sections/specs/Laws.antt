@@ -1,9 +1,10 @@
 -- What holds of the words of every domain, whatever its history.
-use Rattle.std.specs.Prelude.{◌≡◌, ℕ, ◌<◌, ◌≤◌, ◌↔◌, List, ◌++◌, All, Option, slice_index}
+use Rattle.std.specs.Prelude.{◌≡◌, ℕ, ◌+◌, ◌<◌, ◌≤◌, ◌↔◌, List, ◌++◌, All, Option, length, slice_index}
 use Rattle.sseq.specs.declared.index.Index.{Index}
+use Rattle.sseq.specs.declared.index.Index.TheVariants.{Zero, One}
 use Rattle.onedom.specs.declared.event.Maker.{Maker}
 use Rattle.onedom.specs.declared.event.Event.{Event}
-use Rattle.onedom.specs.Histories.{IsOpen, index_of, IsEmpty, IsLegal, made_by, IsBeginning}
+use Rattle.onedom.specs.Histories.{IsOpen, open_sections, index_of, IsEmpty, IsLegal, made_by, IsBeginning}
 use mathlib.Core.Option.{some}
 use lib.ListN.{get_elem?}
 use Rattle.atomic_table.specs.Table.{State, Splits, Joins}
@@ -12,7 +13,7 @@ use Rattle.sections.specs.declared.view.Role.TheVariants.{Cpu}
 use Rattle.sections.specs.declared.view.Shown.TheVariants.{To}
 use Rattle.sections.specs.declared.view.Step.{Step}
 use Rattle.sections.specs.declared.view.View.{View}
-use Rattle.sections.specs.Words.{number_place, index_place, lock_place, unlock_place, locks, unlocks, all_locks, all_unlocks, number_word, index_word, Reaches, MayHave}
+use Rattle.sections.specs.Words.{number_place, index_place, lock_place, unlock_place, locks, unlocks, all_locks, all_unlocks, opened_in, closed_in, number_word, index_word, Reaches, MayHave}
 use Rattle.sections.specs.Rule.{IsProcessor, HasItsMaker, steps_of, IsMaker, StandsFor, Kept}
 use Rattle.sections.specs.Calls.{HasSeenOf}
 
@@ -47,6 +48,15 @@ EqualSumsAreEmpty = (processors : ℕ) (i : Index) (history : List Event) → Is
 abbrev pub FewerEndsShowOne : Type 0
 FewerEndsShowOne = (processors : ℕ) (i : Index) (history : List Event) → IsLegal history → All (HasItsMaker processors) history
     → all_unlocks processors i history < all_locks processors i history → (s : ℕ) × IsOpen history s × (index_of s history ≡ i)
+
+-- the lock counters add up to the sections that were begun, and the unlock counters to those that have ended. Those that are open are the ones less the others
+pub record AddUp (processors : ℕ) (history : List Event) : Type 0 where
+  pub opened : all_locks processors Zero history + all_locks processors One history ≡ opened_in history
+  pub closed : all_unlocks processors Zero history + all_unlocks processors One history ≡ closed_in history
+  pub still_open : closed_in history + length (open_sections history) ≡ opened_in history
+
+abbrev pub CountersAddUp : Type 0
+CountersAddUp = (processors : ℕ) (history : List Event) → IsLegal history → All (HasItsMaker processors) history → AddUp processors history
 
 -- the counters only grow
 abbrev pub CountersGrow : Type 0

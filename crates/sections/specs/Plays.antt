@@ -115,15 +115,18 @@ noted st m n m' = (m'.1 ≡ m.1) × (m'.0.right ≡ m.0.right) × FindsNumber n 
 abbrev pub asked : ℕ → TableStep (Option ℕ) → Sat → ℕ → Sat → Type 0
 asked cookie st m n m' = (m'.1 ≡ m.1) × (m'.0.right ≡ m.0.right) × FindsNumber n m'.0 × ((p : ℕ) → m.0.role ≡ Cpu p → Adds m.0 (Ask cookie (nat_le cookie n) (Processor p)) m'.0)
 
--- The engine's
+-- Counters
+-- Nobody but the engine changes the words, so it finds as many changes as it has made
 
 -- load of an unlock counter
 abbrev pub counted_unlocks : TableStep (Option ℕ) → Sat → ℕ → Sat → Type 0
-counted_unlocks st m n m' = (m'.1 ≡ m.1) × (m'.0.changes ≡ m.0.changes) × ((q : ℕ) (i : Index) → st.word ≡ unlock_place q i → Sees (LoadUnlocks q i n (length m'.0.seen)) m.0 m'.0 × (n ≡ unlocks q i m'.0.seen) × (all_locks m.0.processors i m'.0.seen ≤ 2 ^ 60))
+counted_unlocks st m n m' = (m'.1 ≡ m.1) × ((k : ℕ) → m.0.role ≡ Driver k → m'.0.changes ≡ m.0.changes) × ((q : ℕ) (i : Index) → st.word ≡ unlock_place q i → Sees (LoadUnlocks q i n (length m'.0.seen)) m.0 m'.0 × (n ≡ unlocks q i m'.0.seen) × (all_locks m.0.processors i m'.0.seen ≤ 2 ^ 60))
 
 -- load of a lock counter
 abbrev pub counted_locks : TableStep (Option ℕ) → Sat → ℕ → Sat → Type 0
-counted_locks st m n m' = (m'.1 ≡ m.1) × (m'.0.changes ≡ m.0.changes) × ((p : ℕ) (i : Index) → st.word ≡ lock_place p i → Sees (LoadLocks p i n (length m'.0.seen)) m.0 m'.0 × (n ≡ locks p i m'.0.seen) × (all_locks m.0.processors i m'.0.seen ≤ 2 ^ 60))
+counted_locks st m n m' = (m'.1 ≡ m.1) × ((k : ℕ) → m.0.role ≡ Driver k → m'.0.changes ≡ m.0.changes) × ((p : ℕ) (i : Index) → st.word ≡ lock_place p i → Sees (LoadLocks p i n (length m'.0.seen)) m.0 m'.0 × (n ≡ locks p i m'.0.seen) × (all_locks m.0.processors i m'.0.seen ≤ 2 ^ 60))
+
+-- The engine's
 
 -- addition of 1 to the number, at rest: a grace period starts
 abbrev pub started : TableStep (Option ℕ) → Sat → ℕ → Sat → Type 0

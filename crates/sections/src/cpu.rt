@@ -8,6 +8,7 @@ use std::marker::Model;
 use std::sync::Arc;
 
 mod cookies;
+mod counting;
 mod holding;
 mod home;
 mod readings;

@@ -1,5 +1,5 @@
 //! What holds of the words of every domain, for callers and readers: the calls do nothing.
-ghost use Rattle.sections.specs.Laws.{OneHistory, ShownIsSeen, WordsAgree, NoStepIsForged, EqualSumsAreEmpty, FewerEndsShowOne, CountersGrow};
+ghost use Rattle.sections.specs.Laws.{OneHistory, ShownIsSeen, WordsAgree, NoStepIsForged, EqualSumsAreEmpty, FewerEndsShowOne, CountersAddUp, CountersGrow};
 
 /// Between any two steps of any threads there is one legal history, the words of the domain agree with it, and what each
 /// seat has seen is a beginning of it. `changes` tell the number and the index word.
@@ -23,4 +23,9 @@ pub fn sums_of_a_domain()
     ensures empty { EqualSumsAreEmpty }
     ensures one { FewerEndsShowOne }
     ensures grow { CountersGrow }
+{}
+
+/// The argument of a count of all sections: those that are open are the locks less the unlocks.
+pub fn totals_of_a_domain()
+    ensures { CountersAddUp }
 {}
