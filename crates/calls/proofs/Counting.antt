@@ -6,7 +6,7 @@ use native.Mathlib.Decide.{ℕ_discrete}
 use Rattle.calls.specs.declared.view.Act.{Act}
 use Rattle.calls.specs.declared.view.Act.TheVariants.{Queue, Finish}
 use Rattle.calls.specs.declared.view.Deed.{Deed}
-use Rattle.calls.specs.Tallies.{deed, is_queue, queued_by, queued_in, finished_by, finished_in, deeds_of, IsBeginning, IsTrueOf, AreTrueAfter, AreTrue}
+use Rattle.calls.specs.Tallies.{deed, is_queue, queued_by, queued_in, finished_by, finished_in, deeds_of, IsFinisher, AreFinishers, IsBeginning, IsTrueOf, AreTrueAfter, AreTrue}
 
 abbrev one_if : Bool → ℕ
 one_if b = if b then 1 else 0
@@ -62,7 +62,7 @@ not_own : (p : ℕ) (d : Deed) → d.by ≢ p → queued_by p d ≡ 0
 not_own p d n = ap (λ (b : Bool). if is_queue d.act then (if b then 1 else 0) else 0) (ne_eqb d.by p n) ∙ nothing (is_queue d.act)
 
 -- a processor's own deeds tell how many calls it has queued
-queued_deeds : (p : ℕ) (l : List Deed) → queued_in p (deeds_of p l) ≡ queued_in p l
+pub queued_deeds : (p : ℕ) (l : List Deed) → queued_in p (deeds_of p l) ≡ queued_in p l
 queued_deeds p [] = refl
 queued_deeds p (x ∷ xs) = let r = queued_deeds p xs in dite (ℕ_discrete x.by p)
     (λ e. let kept : queued_in p (deeds_of p (x ∷ xs)) ≡ queued_by p x + queued_in p (deeds_of p xs) = ap (λ b. queued_in p (cond b (x ∷ deeds_of p xs) (deeds_of p xs))) (eq-eqb x.by p e) in kept ∙ ap (λ n. queued_by p x + n) r)
@@ -90,3 +90,13 @@ true_push before (x ∷ xs) d h t = (h.0, true_push (before ++ x ∷ []) xs d h.
 
 pub one_more_true : (l : List Deed) (d : Deed) → AreTrue l → IsTrueOf l d.act → AreTrue (l ++ d ∷ [])
 one_more_true l d h t = true_push [] l d h t
+
+-- Who finished batches
+
+pub one_more_finisher : (n : ℕ) (l : List Deed) (d : Deed) → AreFinishers n l → IsFinisher n d.by d.act → AreFinishers n (l ++ d ∷ [])
+one_more_finisher n [] d h t = (t, tt)
+one_more_finisher n (x ∷ xs) d h t = (h.0, one_more_finisher n xs d h.1 t)
+
+pub later_finishers : (n : ℕ) (a b : List Deed) → AreFinishers n (a ++ b) → AreFinishers n b
+later_finishers n [] b h = h
+later_finishers n (x ∷ xs) b h = later_finishers n xs b h.1

@@ -81,6 +81,7 @@ three_kept : (plan : Plan) → Kept plan (three_seats plan)
 three_kept plan = record {
   books = books;
   loads = (refl, tt);
+  finishers = (tt, tt);
   counted = λ p. let q = none_queued p in let f = none_finished p in record { within = omega (arith, q, f); few = omega (arith, q) };
   wide = length-replicate (word_count plan.processors) 0;
   queued = λ p _. all_zero (word_count plan.processors) (replicate (word_count plan.processors) 0) refl (queued_place p) ∙ sym (none_queued p);

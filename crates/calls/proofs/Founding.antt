@@ -7,7 +7,7 @@ use Rattle.atomic_table.specs.Seated.{TableId}
 use Rattle.keep.specs.Views.{KeepView}
 use Rattle.calls.specs.Views.{CallSeatView, ListKey}
 use Rattle.calls.specs.Calls.{new_seat}
-use Rattle.calls.specs.Insides.{AreOfDomain}
+use Rattle.calls.specs.Insides.{AreOfDomain, domain_of, tallies_of}
 
 pub all_zero : (n : ℕ) (words : List ℕ) → words ≡ replicate n 0 → (k : ℕ) → get_or words k 0 ≡ 0
 all_zero n words e k = let z : get_or (replicate n 0) k 0 ≡ 0 = dite (dec_le (suc k) n) (λ l. get_or-replicate n k 0 0 (omega (arith, l))) (λ g. get_or_past (replicate n 0) k 0 (let long = length-replicate {A = ℕ} n 0 in omega (arith, long, g))) in
@@ -30,3 +30,8 @@ locks_so_far domain tallies i locks new count is all k d lt = dite (ℕ_discrete
 
 pub no_locks : (domain tallies : TableId) → AreOfDomain domain tallies []
 no_locks domain tallies k d lt = absurd (omega (arith, lt))
+
+-- all of them are of the first one's domain and tally words
+pub first_key : (domain tallies : TableId) (locks : List (KeepView ListKey)) → 0 < length locks → AreOfDomain domain tallies locks → (domain_of locks ≡ domain) × (tallies_of locks ≡ tallies)
+first_key domain tallies [] some all = absurd (omega (arith, some))
+first_key domain tallies (lock ∷ locks) some all = let key = all 0 lock some in (ap (λ (k : ListKey). k.domain) key, ap (λ (k : ListKey). k.tallies) key)

@@ -3,6 +3,9 @@ mod Knowing
 mod Steps
 mod Looking
 mod Loading
+mod Meeting
+mod Totalling
+pub mod CallerLemmas
 mod Forging
 mod Sharing
 mod Seating

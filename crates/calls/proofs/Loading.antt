@@ -27,11 +27,11 @@ strides words n e = omega (arith, e)
 pub begins_on : {a b c : List Deed} → IsBeginning a b → IsBeginning b c → IsBeginning a c
 begins_on {a} {b} {c} h k = record { rest = h.rest ++ k.rest; whole = k.whole ∙ (ap (λ l. l ++ k.rest) h.whole ∙ append_assoc a h.rest k.rest) }
 
-queued_append : (p : ℕ) (a b : List Deed) → queued_in p (a ++ b) ≡ queued_in p a + queued_in p b
+pub queued_append : (p : ℕ) (a b : List Deed) → queued_in p (a ++ b) ≡ queued_in p a + queued_in p b
 queued_append p [] b = omega arith
 queued_append p (x ∷ xs) b = let r = queued_append p xs b in omega (arith, r)
 
-finished_append : (p : ℕ) (a b : List Deed) → finished_in p (a ++ b) ≡ finished_in p a + finished_in p b
+pub finished_append : (p : ℕ) (a b : List Deed) → finished_in p (a ++ b) ≡ finished_in p a + finished_in p b
 finished_append p [] b = omega arith
 finished_append p (x ∷ xs) b = let r = finished_append p xs b in omega (arith, r)
 

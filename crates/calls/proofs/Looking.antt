@@ -1,5 +1,5 @@
 -- A load of a tally word keeps their rule, and is one more deed of its maker.
-use Rattle.std.proofs.Common.{◌≡◌, ℕ, ◌<◌, false, List, [], ◌∷◌, ◌++◌, Option, get_or, set, refl, sym, ap, ◌∙◌, subst, arith}
+use Rattle.std.proofs.Common.{◌≡◌, ℕ, ◌<◌, ◌≤◌, false, List, [], ◌∷◌, ◌++◌, Option, get_or, set, refl, sym, ap, ◌∙◌, subst, arith}
 use lib.Seq.{set-get_or}
 use lib.ListN.{get_elem?}
 use mathlib.Core.Option.{none, some}
@@ -15,10 +15,10 @@ use Rattle.calls.specs.declared.view.ListRight.TheVariants.{NoList, OfList}
 use Rattle.calls.specs.declared.view.BatchRight.{BatchRight}
 use Rattle.calls.specs.declared.view.BatchRight.TheVariants.{NoBatch, OfBatch}
 use Rattle.calls.specs.declared.view.View.{View}
-use Rattle.calls.specs.Tallies.{queued_place, finished_place, deed, is_queue, queued_in, finished_by, finished_in, IsTrueOf}
+use Rattle.calls.specs.Tallies.{queued_place, finished_place, deed, is_queue, queued_in, finished_by, finished_in, IsFinisher, AreFinishers, IsTrueOf}
 use Rattle.calls.specs.Rule.{Books, Makes, HasList, HasBatch, Fits, Kept}
 use Rattle.calls.specs.Plays.{Sat, Looks, counts_queued, counts_finished}
-use Rattle.calls.proofs.Counting.{queued_still, finished_still, begins_itself, begins_empty, begins_pushed, one_more_true}
+use Rattle.calls.proofs.Counting.{queued_still, finished_still, begins_itself, begins_empty, begins_pushed, one_more_true, one_more_finisher}
 use Rattle.calls.proofs.Knowing.{views_set, moved, fits_else}
 
 same_caller : (c b : ℕ) → Caller c ≡ Caller b → c ≡ b
@@ -28,7 +28,7 @@ same_caller c b h = cc
 abbrev looked : Books → View → ℕ → Act → View
 looked b v c act = record v { seen = b.log ++ deed c act ∷ []; told = [] }
 
-module _ (plan : Plan) (s : State (Option ℕ) View) (r : Kept plan s) (id c : ℕ) (v : View) (act : Act) (at : get_elem? s.views id ≡ some v) (who : v.who ≡ Caller c) (no_queue : is_queue act ≡ false) (no_finish : (p : ℕ) → finished_by p act ≡ 0) (true : IsTrueOf r.books.log act) where
+module _ (plan : Plan) (s : State (Option ℕ) View) (r : Kept plan s) (id c : ℕ) (v : View) (act : Act) (at : get_elem? s.views id ≡ some v) (who : v.who ≡ Caller c) (no_queue : is_queue act ≡ false) (no_finish : (p : ℕ) → finished_by p act ≡ 0) (true : IsTrueOf r.books.log act) (finisher : IsFinisher plan.processors c act) where
   abbrev log' : List Deed
   log' = r.books.log ++ deed c act ∷ []
 
@@ -60,6 +60,7 @@ module _ (plan : Plan) (s : State (Option ℕ) View) (r : Kept plan s) (id c : �
       subst (λ (ws : List ℕ). Kept plan record { words = ws; homes = s.homes; views = set s.views id (looked r.books v c act) }) (sym (set-get_or s.words word 0)) record {
         books = b';
         loads = one_more_true r.books.log (deed c act) r.loads true;
+        finishers = one_more_finisher plan.processors r.books.log (deed c act) r.finishers finisher;
         counted = λ p. let was = r.counted p in let within = was.within in let few = was.few in let q = still_queued p in let d = still_finished p in record { within = omega (arith, q, d, within); few = omega (arith, q, few) };
         wide = r.wide;
         queued = λ p below. r.queued p below ∙ sym (still_queued p);
@@ -89,31 +90,39 @@ module _ (plan : Plan) where
       let v : View = me.0 in
       let x : ℕ = get_or s.words word 0 in
       let found : x ≡ queued_in p r.books.log = ap (λ z. get_or s.words z 0) place ∙ r.queued p lt in
+      let few = (r.counted p).few in
       let act : Act = LoadQueued p x in (
         looked r.books v c act,
         keeps,
         tt,
-        load_keeps plan s r id c v act at who refl (λ _. refl) found word me.1,
+        load_keeps plan s r id c v act at who refl (λ _. refl) found tt word me.1,
         (
           refl,
           λ b q is word_is. let one : p ≡ q = omega (arith, place, word_is) in
-              subst (λ (z : ℕ × ℕ). Looks z.0 (LoadQueued z.1 x) v (looked r.books v c act)) (λ i. (same_caller c b (sym who ∙ is) i, one i)) (load_looks plan s r id c v act at who refl (λ _. refl) found),
+              subst (λ (z : ℕ × ℕ). Looks z.0 (LoadQueued z.1 x) v (looked r.books v c act)) (λ i. (same_caller c b (sym who ∙ is) i, one i)) (load_looks plan s r id c v act at who refl (λ _. refl) found tt),
+          omega (arith, found, few),
         ),
       )
 
-  pub counts_finished_here : (slots id c p word : ℕ) (me : Sat) → word ≡ finished_place p → me.0.who ≡ Caller c → p < plan.processors → Allows (Kept plan) slots id me word (λ x. x) (counts_finished (step slots word 0 0 none) me)
-  counts_finished_here slots id c p word me place who lt s r _ at _ =
+  pub counts_finished_here : (slots id c p word many : ℕ) (me : Sat) → plan.processors ≡ many → word ≡ finished_place p → me.0.who ≡ Caller c → p < plan.processors → Allows (Kept plan) slots id me word (λ x. x) (counts_finished many (step slots word 0 0 none) me)
+  counts_finished_here slots id c p word many me all place who lt s r _ at _ =
       let v : View = me.0 in
       let x : ℕ = get_or s.words word 0 in
       let found : x ≡ finished_in p r.books.log = ap (λ z. get_or s.words z 0) place ∙ r.finished p lt in
-      let act : Act = LoadFinished p x in (
+      let act : Act = LoadFinished p x in
+      let log' : List Deed = r.books.log ++ deed c act ∷ [] in
+      let within = (r.counted p).within in
+      let still = queued_still p r.books.log c act refl in
+      let low : x ≤ queued_in p log' = omega (arith, found, within, still) in (
         looked r.books v c act,
         keeps,
         tt,
-        load_keeps plan s r id c v act at who refl (λ _. refl) found word me.1,
+        load_keeps plan s r id c v act at who refl (λ _. refl) found tt word me.1,
         (
           refl,
           λ b q is word_is. let one : p ≡ q = omega (arith, place, word_is) in
-              subst (λ (z : ℕ × ℕ). Looks z.0 (LoadFinished z.1 x) v (looked r.books v c act)) (λ i. (same_caller c b (sym who ∙ is) i, one i)) (load_looks plan s r id c v act at who refl (λ _. refl) found),
+              subst (λ (z : ℕ × ℕ). Looks z.0 (LoadFinished z.1 x) v (looked r.books v c act)) (λ i. (same_caller c b (sym who ∙ is) i, one i)) (load_looks plan s r id c v act at who refl (λ _. refl) found tt),
+          λ q word_is. let one : p ≡ q = omega (arith, place, word_is) in subst (λ (z : ℕ). x ≤ queued_in z log') one low,
+          subst (λ (z : ℕ). AreFinishers z log') all (one_more_finisher plan.processors r.books.log (deed c act) r.finishers tt),
         ),
       )

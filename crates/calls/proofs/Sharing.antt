@@ -93,6 +93,7 @@ module _ (plan : Plan) where
   reviewed s r out caller list batch views within each = record {
     books = rebooked r.books out caller list batch;
     loads = r.loads;
+    finishers = r.finishers;
     counted = λ p. record { within = within p; few = (r.counted p).few };
     wide = r.wide;
     queued = r.queued;
@@ -247,6 +248,7 @@ module _ (plan : Plan) where
   opens words wide zeros = record {
     books = opening_books;
     loads = tt;
+    finishers = tt;
     counted = λ p. record { within = omega arith; few = omega arith };
     wide = wide;
     queued = λ p _. zeros (queued_place p);

@@ -17,7 +17,7 @@ use Rattle.calls.specs.declared.view.View.{View}
 use Rattle.calls.specs.Tallies.{queued_place, finished_place, most_calls, deed, queued_in, finished_in, AreTrue}
 use Rattle.calls.specs.Rule.{count_out, Books, Makes, HasList, HasBatch, Fits, Kept}
 use Rattle.calls.specs.Plays.{Sat, Queues, queues, Finishes, finishes}
-use Rattle.calls.proofs.Counting.{queued_here, queued_else, queued_still, finished_here, finished_else, finished_still, same_queued, begins_itself, begins_empty, one_more_true}
+use Rattle.calls.proofs.Counting.{queued_here, queued_else, queued_still, finished_here, finished_else, finished_still, same_queued, begins_itself, begins_empty, one_more_true, one_more_finisher}
 use Rattle.calls.proofs.Knowing.{views_set, given, given_here, given_else, moved, Untouched, fits_else}
 
 same_caller : (p q : ℕ) → Caller p ≡ Caller q → p ≡ q
@@ -61,6 +61,7 @@ module _ (plan : Plan) where
         record {
           books = b';
           loads = true';
+          finishers = one_more_finisher plan.processors b.log d r.finishers tt;
           counted = λ k. let was = r.counted k in let fin = finished_still k b.log p Queue refl in let within = was.within in let few = was.few in dite (ℕ_discrete p k)
               (λ e. let now : queued_in k log' ≡ queued_in k b.log + 1 = subst (λ z. queued_in z log' ≡ queued_in z b.log + 1) e one in let here : queued_in k v.seen ≡ queued_in k b.log = subst (λ z. queued_in z v.seen ≡ queued_in z b.log) e same in let small : queued_in k v.seen < most_calls = subst (λ z. queued_in z v.seen < most_calls) e room in
               record { within = omega (arith, now, fin, within); few = omega (arith, now, here, small) })
@@ -97,9 +98,9 @@ module _ (plan : Plan) where
       same_batch_right NoBatch b b' id fin out places h = tt
       same_batch_right (OfBatch k g n) b b' id fin out places h = (places k ∙ h.0, h.1 ∙ sym (fin k), out k ∙ h.2)
 
-  pub finishes_here : (slots id c p q f g n word : ℕ) (o : Option ℕ) (me : Sat) → word ≡ finished_place p → me.0.who ≡ Caller c → me.0.list ≡ OfList p q f o → me.0.batch ≡ OfBatch p g n → p < plan.processors
+  pub finishes_here : (slots id c p q f g n word : ℕ) (o : Option ℕ) (me : Sat) → word ≡ finished_place p → me.0.who ≡ Caller c → me.0.list ≡ OfList p q f o → me.0.batch ≡ OfBatch p g n → p < plan.processors → c < plan.processors
       → Allows (Kept plan) slots id me word (λ x. (x + n) % 2 ^ 64) (finishes (step slots word n 0 none) me)
-  finishes_here slots id c p q f g n word o me place who list batch lt s r _ at _ =
+  finishes_here slots id c p q f g n word o me place who list batch lt here s r _ at _ =
       let v : View = me.0 in
       let b : Books = r.books in
       let fit = r.each_view id v at in
@@ -130,6 +131,7 @@ module _ (plan : Plan) where
         record {
           books = b';
           loads = true';
+          finishers = one_more_finisher plan.processors b.log d r.finishers here;
           counted = λ k. let was = r.counted k in let qs = still k in let win = was.within in let low = was.few in dite (ℕ_discrete k p)
               (λ e. let none : count_out (out' k) ≡ 0 = ap (λ z. count_out (out' z)) e ∙ ap count_out (given_here p None b.out_of) in let fin : finished_in k log' ≡ finished_in k b.log + n = subst (λ z. finished_in z log' ≡ finished_in z b.log + n) (sym e) more in let were : count_out (b.out_of k) ≡ n = ap (λ z. count_out (b.out_of z)) e ∙ many in
               record { within = omega (arith, none, fin, were, win, qs); few = omega (arith, qs, low) })

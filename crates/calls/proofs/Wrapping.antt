@@ -1,7 +1,7 @@
 -- A list keeps its entries in options. What the definitions say of those holds of the entries.
 use Rattle.std.proofs.Common.{◌≡◌, ℕ, suc, ◌+◌, Bool, true, false, cond, nat_eq, get_or, drop, List, [], ◌∷◌, ◌++◌, Option, Some, None, map, length, refl, sym, ap, ◌∙◌, subst}
 use Rattle.std.specs.Prelude.{count_by, slice_index}
-use Rattle.std.specs.List.{filter_map, dedup}
+use Rattle.std.specs.List.{filter_map, dedup, slice_get}
 use Rattle.std.proofs.lemmas.List.Sums.{sum_by-cons}
 use Rattle.segs.specs.MarkedList.{Mark, Done, Next, number_of, is_done, is_at, is_next, marked, remarked, awaited, number_given, next_becomes, assigned, reached, advanced, count_done, count_at, count_next, lens, numbers, EndsInNext}
 use Rattle.calls.specs.declared.entry.Entry.{Entry}
@@ -157,3 +157,9 @@ module _ {J : Type 0} where
   first_entry [] r rest b h long some value left = let wrong : true ≡ false = sym long ∙ some in cc
   first_entry (None ∷ is) r rest b h long some value left = absurd (none_first (entries_of is) is h)
   first_entry (Some e ∷ is) r rest b h long some value left = record { entry = e; result = value; entries = ap (λ (z : List (Option (Entry J))). e ∷ entries_of z) (sym left) }
+
+  -- the first of a batch is an entry
+  pub first_not_none : (items : List (Option (Entry J))) → items ≡ map Some (entries_of items) → slice_get items 0 ≡ Some None → ⊥
+  first_not_none [] h is = cc
+  first_not_none (None ∷ is) h first = none_first (entries_of is) is h
+  first_not_none (Some e ∷ is) h first = let wrong : Some (Some e) ≡ Some None = first in cc

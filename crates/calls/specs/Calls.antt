@@ -142,6 +142,11 @@ module _ {J : Type 0} where
   abbrev pub GivesNext : BatchView J → Option J → BatchView J → Type 0
   GivesNext b result b' = (b' ≡ record b { entries = b'.entries }) × MatchOption result ((b.entries ≡ []) × (b'.entries ≡ [])) (λ job. (e : Entry J) × (b.entries ≡ e ∷ b'.entries) × (job ≡ e.job))
 
+  -- the number of the cookie of the first entry that is left
+  abbrev pub next_cookie : List (Entry J) → Option ℕ
+  next_cookie [] = None
+  next_cookie (e ∷ es) = Some e.cookie.number
+
   -- the batch is empty, and is one of this list
   pub record MayFinish (l : ListView J) (s : CallSeatView) (b : BatchView J) : Type 0 where
     pub empty : b.entries ≡ []

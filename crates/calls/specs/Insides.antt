@@ -1,5 +1,5 @@
 -- How the fields of a seat, a list, a batch and of all callbacks are seen, and what is always true of them.
-use Rattle.std.specs.Prelude.{◌≡◌, ℕ, ◌+◌, ◌<◌, ◌≤◌, ◌↔◌, IsTrue, IsSome, List, Some, length, map, slice_index_or}
+use Rattle.std.specs.Prelude.{◌≡◌, ℕ, ◌+◌, ◌<◌, ◌≤◌, ◌↔◌, IsTrue, IsSome, List, [], ◌∷◌, Some, length, map, slice_index_or}
 use Rattle.std.specs.Arc.{arc_value}
 use Rattle.atomic_table.specs.Seated.{TableId}
 use Rattle.keep.specs.Views.{KeepView}
@@ -56,13 +56,26 @@ view_of_note n = record { tallies = n.seat.table_id; seen = n.seat.me.0.seen }
 abbrev pub AreOfDomain : TableId → TableId → List (KeepView ListKey) → Type 0
 AreOfDomain domain tallies locks = (p : ℕ) (d : KeepView ListKey) → p < length locks → (slice_index_or locks p d).key ≡ record { domain = domain; tallies = tallies; processor = p }
 
+-- a table that there is none of
+abbrev nowhere : TableId
+nowhere = record { words = 0; slots = 0; views_name = 0; atom = 0; block = 0; offset = 0; slot_names = [] }
+
+-- the domain and the tally words of the first lock's list. There always is one
+abbrev pub domain_of : List (KeepView ListKey) → TableId
+domain_of [] = nowhere
+domain_of (lock ∷ locks) = lock.key.domain
+
+abbrev pub tallies_of : List (KeepView ListKey) → TableId
+tallies_of [] = nowhere
+tallies_of (lock ∷ locks) = lock.key.tallies
+
 module _ {J A : Type 0} where
   abbrev pub view_of_calls : calls.Inside J A → CallsView
-  view_of_calls c = record { domain = c.spot.domain; tallies = c.spot.tallies; processors = length c.lists.items }
+  view_of_calls c = record { domain = domain_of c.lists.items; tallies = tallies_of c.lists.items; processors = length c.lists.items }
 
   pub record AreCalls (c : calls.Inside J A) : Type 0 where
-    pub locks : AreOfDomain c.spot.domain c.spot.tallies c.lists.items
-    pub wide : c.spot.tallies.words ≡ word_count (length c.lists.items)
+    pub locks : AreOfDomain (domain_of c.lists.items) (tallies_of c.lists.items) c.lists.items
+    pub wide : (tallies_of c.lists.items).words ≡ word_count (length c.lists.items)
 
 module _ {A : Type 0} where
   abbrev pub view_of_ticket : ticket.Inside A → TicketView

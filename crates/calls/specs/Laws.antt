@@ -1,5 +1,5 @@
--- What holds of the tally words of all callbacks, and of every barrier.
-use Rattle.std.specs.Prelude.{◌≡◌, ℕ, ◌<◌, ◌≤◌, ◌⊎◌, List, [], ◌∷◌, Option, slice_index}
+-- What holds of the tally words of all callbacks, of every barrier, and of totals.
+use Rattle.std.specs.Prelude.{◌≡◌, ◌≢◌, ℕ, ◌<◌, ◌≤◌, ◌⊎◌, List, [], ◌∷◌, Option, slice_index}
 use mathlib.Core.Option.{some}
 use lib.ListN.{get_elem?}
 use Rattle.atomic_table.specs.Table.{State, Splits, Joins}
@@ -10,10 +10,11 @@ use Rattle.calls.specs.declared.view.ListRight.TheVariants.{NoList}
 use Rattle.calls.specs.declared.view.BatchRight.TheVariants.{NoBatch}
 use Rattle.calls.specs.declared.view.View.{View}
 use Rattle.calls.specs.declared.list.Receipt.{Receipt}
-use Rattle.calls.specs.Tallies.{queued_place, finished_place, queued_in, finished_in, IsBeginning, AreTrue}
+use Rattle.calls.specs.Tallies.{queued_place, finished_place, queued_in, finished_in, deeds_of, IsBeginning, AreTrue}
 use Rattle.calls.specs.Rule.{Kept, note}
 use Rattle.calls.specs.Views.{CallSeatView, TicketView}
 use Rattle.calls.specs.Barriers.{IsQueued, IsFinished, IsDone, Starts}
+use Rattle.calls.specs.Totals.{AddsUp, AreTotals}
 
 -- there is one list of what was done, and the words hold its counts. Each load found what was counted until then, no more calls are finished than were queued, and every seat has seen a beginning
 pub record HasOneHistory (plan : Plan) (s : State (Option ℕ) View) : Type 0 where
@@ -50,3 +51,9 @@ StaysFinished = (r : Receipt) (seen later : List Deed) → IsBeginning seen late
 -- a barrier that is done, for one who has seen this, covers each receipt whose call its starter had seen queued
 abbrev pub BarriersCover : Type 0
 BarriersCover = (r : Receipt) (s : CallSeatView) (t : TicketView) (s' : CallSeatView) (seen : List Deed) → Starts s t s' → r.processor < s.processors → IsQueued r s.seen → IsDone t seen → IsFinished r seen
+
+-- Totals
+
+-- where no other processor that is there did anything while a seat added the tally words up, the sums are those of what it has then seen
+abbrev pub TotalsAreExact : Type 0
+TotalsAreExact = (s t : CallSeatView) (all done : ℕ) → AddsUp s all done t → ((q : ℕ) → q < s.processors → q ≢ s.processor → deeds_of q t.seen ≡ deeds_of q s.seen) → AreTotals s all done t

@@ -7,6 +7,8 @@ pub mod Views
 pub mod Refusals
 pub mod Calls
 pub mod Barriers
+pub mod Meetings
+pub mod Totals
 pub mod Laws
 pub mod Insides
 pub mod Making

@@ -1,5 +1,5 @@
 -- What each step on the tally words tells the seat that makes it.
-use Rattle.std.specs.Prelude.{◌≡◌, ℕ, ◌+◌, List, [], ◌∷◌, ◌++◌, Option, Some, None}
+use Rattle.std.specs.Prelude.{◌≡◌, ℕ, ◌+◌, ◌≤◌, List, [], ◌∷◌, ◌++◌, Option, Some, None}
 use Rattle.atomic_table.specs.Table.{Me, Step}
 use Rattle.calls.specs.declared.view.Act.{Act}
 use Rattle.calls.specs.declared.view.Act.TheVariants.{Queue, Finish, LoadQueued, LoadFinished}
@@ -8,7 +8,7 @@ use Rattle.calls.specs.declared.view.Who.TheVariants.{Caller}
 use Rattle.calls.specs.declared.view.ListRight.TheVariants.{OfList}
 use Rattle.calls.specs.declared.view.BatchRight.TheVariants.{NoBatch, OfBatch}
 use Rattle.calls.specs.declared.view.View.{View}
-use Rattle.calls.specs.Tallies.{queued_place, finished_place, deed, queued_in, deeds_of, IsBeginning, AreTrue}
+use Rattle.calls.specs.Tallies.{queued_place, finished_place, most_calls, deed, queued_in, deeds_of, AreFinishers, IsBeginning, AreTrue}
 
 -- the processor's seat did this, behind all that it had seen. What is then seen has just its own deeds of its own, and each load there found what was counted
 pub record Does (p : ℕ) (act : Act) (v w : View) : Type 0 where
@@ -53,8 +53,29 @@ pub record Looks (c : ℕ) (act : Act) (v w : View) : Type 0 where
   pub list : w.list ≡ v.list
   pub batch : w.batch ≡ v.batch
 
+-- no more are found than may be queued
 abbrev pub counts_queued : Step (Option ℕ) → Sat → ℕ → Sat → Type 0
-counts_queued st m n m' = (m'.1 ≡ m.1) × ((c p : ℕ) → m.0.who ≡ Caller c → st.word ≡ queued_place p → Looks c (LoadQueued p n) m.0 m'.0)
+counts_queued st m n m' = (m'.1 ≡ m.1) × ((c p : ℕ) → m.0.who ≡ Caller c → st.word ≡ queued_place p → Looks c (LoadQueued p n) m.0 m'.0) × (n ≤ most_calls)
 
-abbrev pub counts_finished : Step (Option ℕ) → Sat → ℕ → Sat → Type 0
-counts_finished st m n m' = (m'.1 ≡ m.1) × ((c p : ℕ) → m.0.who ≡ Caller c → st.word ≡ finished_place p → Looks c (LoadFinished p n) m.0 m'.0)
+-- no more are found than were queued, and all batches were finished by processors that are there
+abbrev pub counts_finished : ℕ → Step (Option ℕ) → Sat → ℕ → Sat → Type 0
+counts_finished processors st m n m' = (m'.1 ≡ m.1) × ((c p : ℕ) → m.0.who ≡ Caller c → st.word ≡ finished_place p → Looks c (LoadFinished p n) m.0 m'.0) × ((p : ℕ) → st.word ≡ finished_place p → n ≤ queued_in p m'.0.seen) × AreFinishers processors m'.0.seen
+
+-- a word was loaded, and the load is no deed: all that was done until then is seen, with what was told, and of the seat's own just what it knew
+pub record FindsAll (c : ℕ) (v w : View) : Type 0 where
+  pub since : IsBeginning v.seen w.seen
+  pub own : deeds_of c w.seen ≡ deeds_of c v.seen
+  pub covers : IsBeginning v.told w.seen
+  pub loads : AreTrue w.seen
+
+abbrev pub found_all : Step (Option ℕ) → Sat → ℕ → Sat → Type 0
+found_all st m n m' = (m' ≡ (record m.0 { seen = m'.0.seen; told = [] }, m.1)) × ((c : ℕ) → m.0.who ≡ Caller c → FindsAll c m.0 m'.0)
+
+-- what was told has just the seat's own deeds of its own, and each load there found what was counted
+pub record IsAdmitted (c : ℕ) (v : View) : Type 0 where
+  pub own : deeds_of c v.told ≡ deeds_of c v.seen
+  pub loads : AreTrue v.told
+
+-- a word was loaded, and the load is no deed: just what was told is seen
+abbrev pub admitted : Step (Option ℕ) → Sat → ℕ → Sat → Type 0
+admitted st m n m' = (m' ≡ (record m.0 { seen = m.0.told; told = [] }, m.1)) × ((c : ℕ) → m.0.who ≡ Caller c → IsAdmitted c m.0)

@@ -12,7 +12,7 @@ use Rattle.calls.specs.declared.view.ListRight.TheVariants.{NoList, OfList}
 use Rattle.calls.specs.declared.view.BatchRight.{BatchRight}
 use Rattle.calls.specs.declared.view.BatchRight.TheVariants.{NoBatch, OfBatch}
 use Rattle.calls.specs.declared.view.View.{View}
-use Rattle.calls.specs.Tallies.{queued_place, finished_place, word_count, most_calls, queued_in, finished_in, deeds_of, IsBeginning, AreTrue}
+use Rattle.calls.specs.Tallies.{queued_place, finished_place, word_count, most_calls, queued_in, finished_in, deeds_of, AreFinishers, IsBeginning, AreTrue}
 
 -- how many are out
 abbrev pub count_out : Option ℕ → ℕ
@@ -66,6 +66,7 @@ pub record IsCounted (b : Books) (p : ℕ) : Type 0 where
 pub record Kept (plan : Plan) (s : State (Option ℕ) View) : Type 0 where
   pub books : Books
   pub loads : AreTrue books.log
+  pub finishers : AreFinishers plan.processors books.log
   pub counted : (p : ℕ) → IsCounted books p
   pub wide : length s.words ≡ word_count plan.processors
   pub queued : (p : ℕ) → p < plan.processors → slice_index s.words (queued_place p) ≡ queued_in p books.log

@@ -3,16 +3,16 @@ use Rattle.std.specs.Prelude.{◌≡◌, ℕ, ◌+◌, ◌<◌, ◌≤◌, [], O
 use Rattle.atomic_table.specs.Seated.{TableId}
 use Rattle.atomic_table.specs.declared.shared.Seat.{Seat}
 use Rattle.calls.specs.declared.view.Plan.{Plan}
-use Rattle.calls.specs.declared.view.Act.TheVariants.{Queue, Finish}
+use Rattle.calls.specs.declared.view.Act.TheVariants.{Queue, Finish, LoadFinished}
 use Rattle.calls.specs.declared.view.Who.TheVariants.{Caller}
 use Rattle.calls.specs.declared.view.ListRight.{ListRight}
 use Rattle.calls.specs.declared.view.ListRight.TheVariants.{NoList, OfList}
 use Rattle.calls.specs.declared.view.BatchRight.{BatchRight}
 use Rattle.calls.specs.declared.view.BatchRight.TheVariants.{NoBatch, OfBatch}
 use Rattle.calls.specs.declared.view.View.{View}
-use Rattle.calls.specs.Tallies.{word_count, queued_in}
+use Rattle.calls.specs.Tallies.{finished_place, word_count, queued_in, AreFinishers}
 use Rattle.calls.specs.Rule.{list_seat, batch_seat}
-use Rattle.calls.specs.Plays.{Does}
+use Rattle.calls.specs.Plays.{Does, Looks}
 
 abbrev pub Place : Type 0
 Place = Seat (Option ℕ) View
@@ -30,9 +30,9 @@ pub record IsAtRest (p : ℕ) (plan : Plan) (v : View) : Type 0 where
   pub no_list : v.list ≡ NoList
   pub no_batch : v.batch ≡ NoBatch
 
--- the seat makes a processor's steps
-abbrev pub IsOfCaller : View → Type 0
-IsOfCaller v = (c : ℕ) × (v.who ≡ Caller c)
+-- the seat makes the steps of a processor that is there
+abbrev pub IsOfCaller : Plan → View → Type 0
+IsOfCaller plan v = (c : ℕ) × (v.who ≡ Caller c) × (c < plan.processors)
 
 -- what a list's right knows
 abbrev pub queued_known : ListRight → ℕ
@@ -97,3 +97,11 @@ pub record Lends (p count : ℕ) (list list' batch : Place) : Type 0 where
   pub list_is : list'.me ≡ (list_of p (queued_known list.me.0.list) (finished_known list.me.0.list) (Some count), [])
   pub batch_table : batch.table_id ≡ list.table_id
   pub batch_is : batch.me ≡ (batch_seat (OfBatch p (finished_known list.me.0.list) count), [])
+
+-- the finished word at this place was loaded. No more were found than were queued, and all batches were finished by processors that are there
+pub record CountsFinished (plan : Plan) (place : ℕ) (seat : Place) (found : ℕ) (seat' : Place) : Type 0 where
+  pub table : seat'.table_id ≡ seat.table_id
+  pub bare : seat'.me.1 ≡ seat.me.1
+  pub looks : (c p : ℕ) → seat.me.0.who ≡ Caller c → place ≡ finished_place p → Looks c (LoadFinished p found) seat.me.0 seat'.me.0
+  pub within : (p : ℕ) → place ≡ finished_place p → found ≤ queued_in p seat'.me.0.seen
+  pub finishers : AreFinishers plan.processors seat'.me.0.seen

@@ -1,6 +1,6 @@
 -- What was done on the tally words of a domain, and what the words then hold.
 -- Processor p has word 32 p as its queued word and word 32 p + 16 as its finished word, so that any two of them are 128 bytes apart.
-use Rattle.std.specs.Prelude.{◌≡◌, ℕ, ◌+◌, ◌*◌, ◌==◌, Bool, true, false, List, [], ◌∷◌, ◌++◌, filter, if◌then◌else◌}
+use Rattle.std.specs.Prelude.{◌≡◌, ℕ, ◌+◌, ◌*◌, ◌<◌, ◌==◌, Bool, true, false, List, [], ◌∷◌, ◌++◌, filter, if◌then◌else◌}
 use Rattle.calls.specs.declared.view.Act.{Act}
 use Rattle.calls.specs.declared.view.Act.TheVariants.{Queue, Finish, LoadQueued, LoadFinished}
 use Rattle.calls.specs.declared.view.Deed.{Deed}
@@ -54,6 +54,18 @@ finished_in p (d ∷ ds) = finished_by p d.act + finished_in p ds
 
 abbrev pub deeds_of : ℕ → List Deed → List Deed
 deeds_of p deeds = filter (λ d. d.by == p) deeds
+
+-- a batch is finished by one of so many processors
+abbrev pub IsFinisher : ℕ → ℕ → Act → Type 0
+IsFinisher processors by Queue = Unit {0}
+IsFinisher processors by (Finish p n) = by < processors
+IsFinisher processors by (LoadQueued p n) = Unit {0}
+IsFinisher processors by (LoadFinished p n) = Unit {0}
+
+-- each batch that was finished was finished by one of so many processors
+abbrev pub AreFinishers : ℕ → List Deed → Type 0
+AreFinishers processors [] = Unit {0}
+AreFinishers processors (d ∷ ds) = IsFinisher processors d.by d.act × AreFinishers processors ds
 
 -- a beginning of what was done
 pub record IsBeginning (seen deeds : List Deed) : Type 0 where

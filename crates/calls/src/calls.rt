@@ -12,7 +12,6 @@ mod handing;
 #[derive(Drop)]
 pub struct Calls<J, A: Allocator = Global> {
     pub(crate) lists: Vec<Keep<List<J, A>, Spot, A>, A>,
-    pub(crate) spot: Spot,
 }
 
 impl<J, A: Allocator> Model for Calls<J, A> {

@@ -1,5 +1,5 @@
 //! What holds of all callbacks, for callers and readers: the calls do nothing.
-ghost use Rattle.calls.specs.Laws.{OneHistory, NeverForged, StaysQueued, StaysFinished, BarriersCover};
+ghost use Rattle.calls.specs.Laws.{OneHistory, NeverForged, StaysQueued, StaysFinished, BarriersCover, TotalsAreExact};
 
 /// Between any two steps of any threads there is one list of what was done on the tally words, the words hold its counts,
 /// each load in it found what was counted until then, and what each seat has seen is a beginning of it. And no split or
@@ -17,4 +17,10 @@ pub fn barriers_of_callbacks()
     ensures queued { StaysQueued }
     ensures finished { StaysFinished }
     ensures covers { BarriersCover }
+{}
+
+/// What a seat's [`totals`](crate::CallSeat::totals) finds is exact where no other processor did anything meanwhile: the sums
+/// are those of what this seat has then seen. Who has all seats in hand makes sure of it by a meeting.
+pub fn totals_of_callbacks()
+    ensures { TotalsAreExact }
 {}

@@ -90,7 +90,7 @@ fn build<J: Drop, A: Allocator + Copy, B: Allocator>(
         seats.push(seat)?;
         lists.push(Keep::new(alloc, alloc, list, &spot)?)?;
     }
-    Ok((Calls { lists, spot }, seats))
+    Ok((Calls { lists }, seats))
 }
 
 impl<J: Drop, A: Allocator + Copy> Calls<J, A> {

@@ -1,7 +1,7 @@
 //! The rule of the tally words, and what each step on them tells the one that makes it.
 ghost use Rattle.std.specs.Prelude.{ℕ};
 ghost use Rattle.calls.specs.Rule.{Kept, founder, dealer, dealt, without_list, only_list, lending, lent, with_list, with_batch, note, informed, spent};
-ghost use Rattle.calls.specs.Plays.{queues, finishes, counts_queued, counts_finished};
+ghost use Rattle.calls.specs.Plays.{queues, finishes, counts_queued, counts_finished, found_all, admitted};
 
 use crate::view::{Plan, View};
 use atomic_table::{Join, Play, Seat, Shared, Split, Table, TableRule};
@@ -49,11 +49,25 @@ impl Play<NoSlot, View> for CountQueued {
     ghost then = { counts_queued };
 }
 
-/// Load of a finished word.
-pub(crate) struct CountFinished;
+/// Load of a finished word, where the tally words are of so many processors.
+pub(crate) struct CountFinished<N: Counting>(PhantomData<N>);
 
-impl Play<NoSlot, View> for CountFinished {
-    ghost then = { counts_finished };
+impl<N: Counting> Play<NoSlot, View> for CountFinished<N> {
+    ghost then = { counts_finished N.count };
+}
+
+/// Load of a word by a seat that has then seen all that was done. It is no deed.
+pub(crate) struct Cover;
+
+impl Play<NoSlot, View> for Cover {
+    ghost then = { found_all };
+}
+
+/// Load of a word by a seat that has then seen just what it was told. It is no deed.
+pub(crate) struct Admit;
+
+impl Play<NoSlot, View> for Admit {
+    ghost then = { admitted };
 }
 
 /// A new seat is the next processor's, with its list's right.
@@ -101,7 +115,7 @@ impl Join<View> for TakeNote {
     ghost spent = { spent };
 }
 
-/// How many are in a batch. Each call says it.
+/// How many are in a batch, or how many processors there are. Each call says it.
 pub trait Counting {
     ghost count: { ℕ };
 }

@@ -7,6 +7,11 @@ use std::alloc::{Allocator, Global};
 use std::marker::Model;
 use std::sync::Arc;
 
+mod meeting;
+mod totals;
+
+pub use totals::Totals;
+
 /// The seat of a processor at the tally words. It goes with the [`Cpu`](sections::Cpu) of the same number. Contracts see
 /// what was done on the tally words, as far as this seat has seen it: what it did itself is among it.
 #[derive(Drop)]

@@ -1,7 +1,7 @@
 //! The steps on the tally words.
 ghost use Rattle.std.specs.Prelude.{◌≡◌, ℕ, ◌<◌};
 ghost use Rattle.calls.specs.Tallies.{queued_place, finished_place, most_calls, queued_in};
-ghost use Rattle.calls.specs.Seats.{IsPlaced, IsAtRest, IsOfCaller, IsListSeat, IsBatchSeat, QueuesOne, FinishesBatch, MayLend, Lends};
+ghost use Rattle.calls.specs.Seats.{IsPlaced, IsAtRest, IsOfCaller, IsListSeat, IsBatchSeat, QueuesOne, FinishesBatch, CountsFinished, MayLend, Lends};
 
 use crate::plays::{self, Board, Counting, Place};
 
@@ -35,6 +35,18 @@ pub(crate) fn add_queued(top: &Board, seat: &mut Place, list: &mut Place, proces
     found
 }
 
+/// Loads the finished word at this place. Answers what it holds. Each call says of how many processors the tally words
+/// are, and learns that no other one has finished a batch.
+pub(crate) fn count_finished<N: Counting>(top: &Board, seat: &mut Place, place: usize) -> u64
+    requires count { top.now.key.processors ≡ N.count }
+    requires there { (p : ℕ) × (place ≡ finished_place p) × (p < top.now.key.processors) }
+    requires placed { IsPlaced top.now.key top.now.table_id seat.old }
+    requires rests { IsOfCaller top.now.key seat.old.me.0 }
+    ensures { CountsFinished top.now.key place seat.old result seat.new }
+{
+    top.load::<plays::CountFinished<N>>(seat, place)
+}
+
 /// Cuts the right of a batch of so many off the list's seat.
 pub(crate) fn give_batch<N: Counting>(top: &Board, list: &mut Place, count: usize) -> Place
     requires count { count ≡ N.count }
@@ -57,7 +69,7 @@ pub(crate) fn add_finished(
 )
     requires placed { IsPlaced top.now.key top.now.table_id seat.old }
     requires there { processor < top.now.key.processors }
-    requires rests { IsOfCaller seat.old.me.0 }
+    requires rests { IsOfCaller top.now.key seat.old.me.0 }
     requires list { IsListSeat top.now.table_id processor list.old }
     requires batch { IsBatchSeat top.now.table_id processor count batch }
     ensures placed { IsPlaced top.now.key top.now.table_id seat.new }

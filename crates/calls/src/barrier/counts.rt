@@ -1,17 +1,19 @@
 //! Loads of the tally words.
 ghost use Rattle.std.specs.Prelude.{◌≡◌, ◌<◌, ◌≤◌};
 ghost use Rattle.calls.specs.declared.view.Act.TheVariants.{LoadQueued, LoadFinished};
-ghost use Rattle.calls.specs.Tallies.{word_count, queued_in, IsBeginning, AreTrue};
+ghost use Rattle.calls.specs.Tallies.{word_count, most_calls, queued_in, AreFinishers, IsBeginning, AreTrue};
 ghost use Rattle.calls.specs.Calls.{Does};
 
 use crate::note::Note;
 use crate::plays;
 use crate::seat::CallSeat;
+use crate::tally::count_finished;
 use std::alloc::Allocator;
+use std::marker::Brand;
 
 impl<A: Allocator> CallSeat<A> {
     /// How many processors have tallies.
-    pub(super) fn processors(&self) -> usize
+    pub(crate) fn processors(&self) -> usize
         ensures count { result ≡ self.now.processors }
         ensures wide { self.now.tallies.words ≡ word_count self.now.processors }
         ensures there { self.now.processor < self.now.processors }
@@ -21,9 +23,10 @@ impl<A: Allocator> CallSeat<A> {
     }
 
     /// How many calls of a processor were queued: one load of its queued word.
-    pub(super) fn load_queued(&mut self, processor: usize) -> u64
+    pub(crate) fn load_queued(&mut self, processor: usize) -> u64
         requires { processor < self.old.processors }
-        ensures { Does (LoadQueued processor result) self.old self.new }
+        ensures does { Does (LoadQueued processor result) self.old self.new }
+        ensures few { result ≤ most_calls }
     {
         // For the proof: all words have places, so this one is no larger than a place may be.
         let _words = self.table.word_count();
@@ -51,14 +54,18 @@ impl<A: Allocator> CallSeat<A> {
 
     /// How many calls of a processor are finished: one load of its finished word. Those that were only taken out are
     /// not among them.
-    pub(super) fn load_finished(&mut self, processor: usize) -> u64
+    pub(crate) fn load_finished(&mut self, processor: usize) -> u64
         requires { processor < self.old.processors }
-        ensures { Does (LoadFinished processor result) self.old self.new }
+        ensures does { Does (LoadFinished processor result) self.old self.new }
+        ensures within { result ≤ queued_in processor self.new.seen }
+
+        // Only processors that are there have finished batches.
+        ensures finishers { AreFinishers self.old.processors self.new.seen }
     {
         // For the proof, as above.
         let _words = self.table.word_count();
         let top = &self.table.shared;
-        top.load::<plays::CountFinished>(&mut self.seat, 32 * processor + 16)
+        count_finished::<Brand>(top, &mut self.seat, 32 * processor + 16)
     }
 
     /// Notes what this seat has seen.

@@ -1,6 +1,6 @@
 //! The jobs of a batch.
 ghost use Rattle.std.specs.Prelude.{◌≡◌};
-ghost use Rattle.calls.specs.Calls.{GivesNext};
+ghost use Rattle.calls.specs.Calls.{GivesNext, next_cookie};
 
 use super::Batch;
 use crate::entry::Entry;
@@ -22,6 +22,18 @@ impl<J: Drop, A: Allocator + Copy> Batch<J, A> {
 }
 
 impl<J, A: Allocator> Batch<J, A> {
+    /// The number of the cookie of the job that [`Batch::next`] gives next. `None` exactly where the batch is empty. Whoever
+    /// keeps names for queued jobs finds by it what the batch has reached.
+    pub fn cookie(&self) -> Option<u64>
+        ensures { result ≡ next_cookie self.now.entries }
+    {
+        let Some(next) = self.entries.first() else {
+            return None;
+        };
+        let Some(entry) = next else { unreachable!() };
+        Some(entry.cookie.number())
+    }
+
     /// How many jobs there were when it was taken.
     pub fn count(&self) -> usize
         ensures { result ≡ self.now.count }

@@ -1,5 +1,5 @@
 //! The calls lock a processor's list, and hand on to it.
-ghost use Rattle.std.specs.Prelude.{◌≡◌, ◌<◌, All, IfOk, IfSome, MatchResult};
+ghost use Rattle.std.specs.Prelude.{◌≡◌, ◌<◌, All, IfOk, IfSome, MatchResult, Ok};
 ghost use Rattle.sections.specs.Calls.{IsSameCpu, AllClosed};
 ghost use Rattle.segs.specs.MarkedList.{lens, numbers};
 ghost use Rattle.calls.specs.Views.{ListView};
@@ -8,7 +8,7 @@ ghost use Rattle.calls.specs.Calls.{IsSameSeat, IsOfProcessor, FitsIn, QueuesIn,
 use super::Calls;
 use crate::batch::Batch;
 use crate::list::Receipt;
-use crate::refusals::{CallRefusal, TakeRefusal};
+use crate::refusals::{CallRefusal, Memory, TakeRefusal};
 use crate::seat::CallSeat;
 use sections::Cpu;
 use std::alloc::Allocator;
@@ -82,10 +82,11 @@ impl<J: Drop, A: Allocator + Copy> Calls<J, A> {
     }
 
     /// How many entries of a processor are done, wait for the first and for the second number, and have none yet; and
-    /// the two numbers, 0 where there is none. What is out isn't counted. It waits while another thread has the list.
-    pub fn lens<R: Wait>(&self, rt: &R, processor: u16) -> ([usize; 4], [u64; 2])
+    /// the two numbers, 0 where there is none. What is out isn't counted. It takes no memory, so it always succeeds. It
+    /// waits while another thread has the list.
+    pub fn lens<R: Wait>(&self, rt: &R, processor: u16) -> Result<([usize; 4], [u64; 2]), Memory>
         requires { processor < self.now.processors }
-        ensures { (l : ListView J) × IsListOf self.now processor l × (result.0 ≡ lens l.entries) × (result.1 ≡ numbers l.entries) }
+        ensures { (l : ListView J) × IsListOf self.now processor l × (result ≡ Ok (lens l.entries, numbers l.entries)) }
     {
         let lock = &self.lists[processor as usize];
         let (list, loan) = lock.take(rt);

@@ -1,11 +1,11 @@
 //! How a job comes into the list.
-ghost use Rattle.std.specs.Prelude.{◌≡◌, MatchResult};
+ghost use Rattle.std.specs.Prelude.{◌≡◌, MatchResult, Ok};
 ghost use Rattle.segs.specs.MarkedList.{lens, numbers};
 ghost use Rattle.calls.specs.Calls.{Fits, Queues, Refuses};
 
 use super::{List, Receipt};
 use crate::entry::Entry;
-use crate::refusals::CallRefusal;
+use crate::refusals::{CallRefusal, Memory};
 use crate::seat::{CallSeat, MOST_CALLS};
 use crate::tally::add_queued;
 use sections::Cpu;
@@ -57,10 +57,10 @@ impl<J, A: Allocator> List<J, A> {
     }
 
     /// How many entries are done, wait for the first and for the second number, and have none yet; and the two numbers,
-    /// 0 where there is none. What is out isn't counted.
-    pub fn lens(&self) -> ([usize; 4], [u64; 2])
-        ensures { (result.0 ≡ lens self.now.entries) × (result.1 ≡ numbers self.now.entries) }
+    /// 0 where there is none. What is out isn't counted. It takes no memory, so it always succeeds.
+    pub fn lens(&self) -> Result<([usize; 4], [u64; 2]), Memory>
+        ensures { result ≡ Ok (lens self.now.entries, numbers self.now.entries) }
     {
-        (self.waiting.lens(), self.waiting.numbers())
+        Ok((self.waiting.lens(), self.waiting.numbers()))
     }
 }

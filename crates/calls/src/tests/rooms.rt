@@ -103,7 +103,7 @@ fn call_in_little_room(rt: HostRuntime) -> Result<(), Fail> {
 
     let full = stuff(rt.alloc(), &heap)?;
     let refused = fill(&rt, &calls, &mut cpu, &mut seat, 0, 20);
-    assert_eq!(rt; (refused, calls.lens(&rt, 0)), (0, ([0; 4], [0; 2])));
+    assert_eq!(rt; (refused, calls.lens(&rt, 0)), (0, Ok(([0; 4], [0; 2]))));
     drop(full);
     assert_eq!(rt; fill(&rt, &calls, &mut cpu, &mut seat, 0, 1), 1);
 
@@ -113,7 +113,7 @@ fn call_in_little_room(rt: HostRuntime) -> Result<(), Fail> {
     assert!(rt; refused < 20);
     drop(full);
     assert_eq!(rt; fill(&rt, &calls, &mut cpu, &mut seat, refused, 20), 20);
-    assert_eq!(rt; calls.lens(&rt, 0), ([0, 20, 0, 0], [4, 0]));
+    assert_eq!(rt; calls.lens(&rt, 0), Ok(([0, 20, 0, 0], [4, 0])));
     drop(calls);
     drop(seat);
     assert_eq!(rt; heap.used(), 0);

@@ -10,7 +10,7 @@ use Rattle.calls.specs.Insides.{AreOfDomain}
 use Rattle.calls.specs.Making.{IsDealer}
 use Rattle.keep.specs.Views.{KeepView}
 use Rattle.calls.proofs.Sharing.{gives_no_list}
-use Rattle.calls.proofs.Founding.{AreNewSoFar, new_so_far, locks_so_far}
+use Rattle.calls.proofs.Founding.{AreNewSoFar, new_so_far, locks_so_far, first_key}
 use Rattle.calls.proofs.making.build.Goals as goal
 
 pub split_seat-requires : goal.split_seat-requires
@@ -82,8 +82,10 @@ invariant_of-result g c =
     let ge = c.loop-processor-test.false in
     let count = v.locks_count in
     let sized = v.sized in
-    let wide = ap (λ (t : TableId). t.words) v.spot.1 ∙ v.dealer.wide in record {
-      locks = λ p d lt. v.locks p d lt ∙ (λ i. record { domain = sym v.spot.0 i; tallies = sym v.spot.1 i; processor = p });
+    let some = c.requires in
+    let first = first_key c.args.engine.now.domain (arc_value c.in_ok-table-2.table).shared.table_id c.loop-processor.lists.items (omega (arith, some, le, ge, count)) v.locks in
+    let wide = ap (λ (t : TableId). t.words) first.1 ∙ v.dealer.wide in record {
+      locks = λ p d lt. v.locks p d lt ∙ (λ i. record { domain = sym first.0 i; tallies = sym first.1 i; processor = p });
       wide = omega (arith, le, ge, count, sized, wide);
     }
 
@@ -93,11 +95,13 @@ returns g c =
     let le = c.loop-processor.auto.processor-end in
     let ge = c.loop-processor-test.false in
     let e = v.seats_count in
-    let f = v.locks_count in record {
+    let f = v.locks_count in
+    let some = c.requires in
+    let first = first_key c.args.engine.now.domain (arc_value c.in_ok-table-2.table).shared.table_id c.loop-processor.lists.items (omega (arith, some, le, ge, f)) v.locks in record {
       made = record {
-        of_domain = v.spot.0;
+        of_domain = first.0;
         many = omega (arith, le, ge, f);
-        seats_new = record { count = omega (arith, le, ge, e); each = λ p d lt. v.seats_new p d lt ∙ ap (λ t. new_seat t c.args.processors p) (sym v.spot.1) };
+        seats_new = record { count = omega (arith, le, ge, e); each = λ p d lt. v.seats_new p d lt ∙ ap (λ t. new_seat t c.args.processors p) (sym first.1) };
       };
       same = v.engine;
     }

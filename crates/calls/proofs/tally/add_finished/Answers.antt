@@ -27,7 +27,7 @@ fetch_add-requires c =
     let there = finished_there _ _ _ c.requires.placed.wide c.requires.there in (
       c.join_seat-2.ensures.0 ∙ (c.join_seat.ensures.0 ∙ c.requires.placed.seated),
       omega (arith, place, there),
-      finishes_here _ _ _ _ c.args.processor _ _ _ _ _ _ c.join_seat-2.new.seat.me place who list batch c.requires.there,
+      finishes_here _ _ _ _ c.args.processor _ _ _ _ _ _ c.join_seat-2.new.seat.me place who list batch c.requires.there c.requires.rests.2,
     )
 
 pub split_seat-requires : goal.split_seat-requires

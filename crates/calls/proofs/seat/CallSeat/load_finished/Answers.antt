@@ -1,35 +1,46 @@
 use Rattle.std.proofs.Common.{ℕ, ◌<◌, refl, sym, ◌∙◌, subst}
+use Rattle.calls.specs.Tallies.{AreFinishers}
 use Rattle.calls.specs.Views.{CallSeatView}
-use Rattle.calls.specs.Seats.{IsPlaced}
-use Rattle.calls.proofs.Seating.{finished_there}
-use Rattle.calls.proofs.Looking.{counts_finished_here}
+use Rattle.calls.specs.Seats.{IsPlaced, IsOfCaller}
 use Rattle.calls.proofs.Loading.{same_count}
 use Rattle.calls.proofs.seat.CallSeat.load_finished.Goals as goal
 
-pub load-requires : goal.load-requires
-load-requires g c =
-    let v = c.self.invariant in
+pub count_finished-requires-clause-there : goal.count_finished-requires-clause-there
+count_finished-requires-clause-there g c =
     let p : ℕ = c.args.processor in
     let t = c.deref-2.ensures in
-    let placed = subst (λ z. IsPlaced z.shared.key z.shared.table_id c.self.inside.seat) (sym t) v.placed in
     let there : p < c.deref-2.result.now.shared.key.processors = subst (λ z. p < z.shared.key.processors) (sym t) (subst (λ (z : CallSeatView). p < z.processors) (sym c.self.view_is) c.requires) in
-    (placed.seated, finished_there _ _ _ placed.wide there, counts_finished_here _ _ _ c.self.inside.processor p _ c.self.inside.seat.me refl v.rests.who there)
+    (p, refl, there)
+
+pub count_finished-requires-clause-placed : goal.count_finished-requires-clause-placed
+count_finished-requires-clause-placed g c = subst (λ z. IsPlaced z.shared.key z.shared.table_id c.self.inside.seat) (sym c.deref-2.ensures) c.self.invariant.placed
+
+pub count_finished-requires-clause-rests : goal.count_finished-requires-clause-rests
+count_finished-requires-clause-rests g c =
+    let v = c.self.invariant in
+    subst (λ z. IsOfCaller z.shared.key c.self.inside.seat.me.0) (sym c.deref-2.ensures) (c.self.inside.processor, v.rests.who, v.rests.there)
 
 pub invariant_of-self : goal.invariant_of-self
 invariant_of-self g c =
     let v = c.self.invariant in
-    let e = c.load.ensures in
-    let q = e.2.1 c.self.inside.processor c.args.processor v.rests.who refl in record {
-      placed = record { seated = e.0 ∙ v.placed.seated; wide = v.placed.wide; bare = e.2.0 ∙ v.placed.bare };
+    let e = c.count_finished.ensures in
+    let q = e.looks c.self.inside.processor c.args.processor v.rests.who refl in record {
+      placed = record { seated = e.table ∙ v.placed.seated; wide = v.placed.wide; bare = e.bare ∙ v.placed.bare };
       rests = record { who = q.does.who ∙ v.rests.who; there = v.rests.there; no_list = q.list ∙ v.rests.no_list; no_batch = q.batch ∙ v.rests.no_batch };
       loads = q.does.loads;
       queued = v.queued ∙ sym (same_count _ _ _ _ q.does refl);
       few = v.few;
     }
 
-pub returns : goal.returns
-returns g c =
+pub returns-clause-does : goal.returns-clause-does
+returns-clause-does g c =
     let v = c.self.invariant in
-    let e = c.load.ensures in
-    let q = e.2.1 c.self.inside.processor c.args.processor v.rests.who refl in
-    rw (← c.self.view_is) (record { same = (e.0, refl, refl); before = q.does.before; since = q.does.since; own = q.does.own; seen = q.does.seen; loads = q.does.loads })
+    let e = c.count_finished.ensures in
+    let q = e.looks c.self.inside.processor c.args.processor v.rests.who refl in
+    rw (← c.self.view_is) (record { same = (e.table, refl, refl); before = q.does.before; since = q.does.since; own = q.does.own; seen = q.does.seen; loads = q.does.loads })
+
+pub returns-clause-within : goal.returns-clause-within
+returns-clause-within g c = c.count_finished.ensures.within c.args.processor refl
+
+pub returns-clause-finishers : goal.returns-clause-finishers
+returns-clause-finishers g c = rw (← c.self.view_is) (subst (λ z. AreFinishers z.shared.key.processors c.count_finished.new.seat.me.0.seen) c.deref-2.ensures c.count_finished.ensures.finishers)

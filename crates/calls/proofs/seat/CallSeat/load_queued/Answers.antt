@@ -27,8 +27,11 @@ invariant_of-self g c =
       few = v.few;
     }
 
-pub returns : goal.returns
-returns g c =
+pub returns-clause-few : goal.returns-clause-few
+returns-clause-few g c = c.load.ensures.2.2
+
+pub returns-clause-does : goal.returns-clause-does
+returns-clause-does g c =
     let v = c.self.invariant in
     let e = c.load.ensures in
     let q = e.2.1 c.self.inside.processor c.args.processor v.rests.who refl in

@@ -1,0 +1,25 @@
+-- What a crate above may cite of this one; the other files of proofs/ are its own.
+
+-- Beginnings of what was done
+
+-- a list of deeds is a beginning of itself, the empty one is a beginning of each, and a beginning of a beginning is one
+pub use Rattle.calls.proofs.Counting.{begins_itself, begins_empty}
+pub use Rattle.calls.proofs.Loading.{begins_on}
+-- no count falls
+pub use Rattle.calls.proofs.Loading.{queued_later, finished_later}
+-- Whose deeds
+
+-- a processor's deeds in two lists, one behind the other
+pub use Rattle.calls.proofs.Meeting.{deeds_append}
+-- a processor whose deeds are the same in two lists has just these in all that lie between
+pub use Rattle.calls.proofs.Meeting.{own_between}
+-- so one whose seat was covered, and then admitted to a later list, did nothing in between
+pub use Rattle.calls.proofs.Totalling.{rested}
+-- each beginning of true loads is true
+pub use Rattle.calls.proofs.Meeting.{true_beginning}
+-- Totals
+
+-- a processor's deeds tell how many calls it has queued
+pub use Rattle.calls.proofs.Counting.{same_queued}
+-- where no other processor that is there did anything while a seat added the tally words up, its sums are those of what it has then seen. It is also a clause of `totals_of_callbacks`, which anyone may call
+pub use Rattle.calls.proofs.Totalling.{totals_exact}

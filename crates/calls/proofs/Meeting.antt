@@ -1,0 +1,94 @@
+-- The loads of a meeting keep the rule of the tally words, and are no deeds.
+use Rattle.std.proofs.Common.{◌≡◌, ℕ, ◌+◌, ◌==◌, List, [], ◌∷◌, ◌++◌, Option, length, get_or, set, refl, sym, ap, ◌∙◌, subst, append-nil, length-append, arith}
+use Rattle.std.proofs.lemmas.List.Elements.{filter-append}
+use lib.Seq.{set-get_or}
+use mathlib.Core.Option.{none}
+use Rattle.atomic_table.specs.Table.{State, step, stepped, keeps, Allows}
+use Rattle.calls.specs.declared.view.Plan.{Plan}
+use Rattle.calls.specs.declared.view.Deed.{Deed}
+use Rattle.calls.specs.declared.view.Who.{Who}
+use Rattle.calls.specs.declared.view.Who.TheVariants.{Caller}
+use Rattle.calls.specs.declared.view.View.{View}
+use Rattle.calls.specs.Tallies.{deeds_of, IsBeginning, AreTrueAfter, AreTrue}
+use Rattle.calls.specs.Rule.{Books, Makes, Fits, Kept}
+use Rattle.calls.specs.Plays.{Sat, FindsAll, found_all, IsAdmitted, admitted}
+use Rattle.calls.proofs.Counting.{begins_itself, begins_empty}
+use Rattle.calls.proofs.Knowing.{views_set}
+
+-- Own deeds
+
+pub deeds_append : (p : ℕ) (a b : List Deed) → deeds_of p (a ++ b) ≡ deeds_of p a ++ deeds_of p b
+deeds_append p a b = filter-append (λ d. d.by == p) a b
+
+many_append : (p : ℕ) (a b : List Deed) → length (deeds_of p (a ++ b)) ≡ length (deeds_of p a) + length (deeds_of p b)
+many_append p a b = ap length (deeds_append p a b) ∙ length-append (deeds_of p a) (deeds_of p b)
+
+pub none_more : (l : List Deed) → length l ≡ 0 → l ≡ []
+none_more [] e = refl
+none_more (x ∷ xs) e = absurd (omega arith)
+
+-- a processor whose deeds are the same in two lists has just these in all that lie between
+pub own_between : (p : ℕ) (a b c : List Deed) → IsBeginning a b → IsBeginning b c → deeds_of p c ≡ deeds_of p a → deeds_of p b ≡ deeds_of p a
+own_between p a b c ab bc same =
+    let up : length (deeds_of p b) ≡ length (deeds_of p a) + length (deeds_of p ab.rest) = ap (λ l. length (deeds_of p l)) ab.whole ∙ many_append p a ab.rest in
+    let over : length (deeds_of p c) ≡ length (deeds_of p b) + length (deeds_of p bc.rest) = ap (λ l. length (deeds_of p l)) bc.whole ∙ many_append p b bc.rest in
+    let alike : length (deeds_of p c) ≡ length (deeds_of p a) = ap length same in
+    ap (deeds_of p) ab.whole ∙ (deeds_append p a ab.rest ∙ (ap (λ l. deeds_of p a ++ l) (none_more (deeds_of p ab.rest) (omega (arith, up, over, alike))) ∙ append-nil (deeds_of p a)))
+
+-- Loads
+
+true_front : (before a b : List Deed) → AreTrueAfter before (a ++ b) → AreTrueAfter before a
+true_front before [] b h = tt
+true_front before (x ∷ xs) b h = (h.0, true_front (before ++ x ∷ []) xs b h.1)
+
+-- each beginning of true loads is true
+pub true_beginning : {a b : List Deed} → IsBeginning a b → AreTrue b → AreTrue a
+true_beginning {a} {b} h true = true_front [] a h.rest (subst (λ (l : List Deed). AreTrue l) h.whole true)
+
+same_caller : (c b : ℕ) → Caller c ≡ Caller b → c ≡ b
+same_caller c b h = cc
+
+module _ (plan : Plan) where
+  -- a load changes no word
+  unmoved : (s : State (Option ℕ) View) (r : Kept plan s) (id word : ℕ) (cs : List (ℕ × Option ℕ)) (w : View) → Fits r.books id w → Kept plan (stepped s word (get_or s.words word 0) id cs w keeps)
+  unmoved s r id word cs w fits = subst (λ (ws : List ℕ). Kept plan record { words = ws; homes = s.homes; views = set s.views id w }) (sym (set-get_or s.words word 0)) record {
+    books = r.books;
+    loads = r.loads;
+    finishers = r.finishers;
+    counted = r.counted;
+    wide = r.wide;
+    queued = r.queued;
+    finished = r.finished;
+    each_view = views_set (Fits r.books) s.views id w fits (λ j u ne there. r.each_view j u there);
+  }
+
+  -- all that was done is seen
+  pub finds_all_here : (slots id c word : ℕ) (me : Sat) → me.0.who ≡ Caller c → Allows (Kept plan) slots id me word (λ x. x) (found_all (step slots word 0 0 none) me)
+  finds_all_here slots id c word me who s r _ at _ =
+      let v : View = me.0 in
+      let b : Books = r.books in
+      let f = r.each_view id v at in
+      let made : Makes b id v.seen (Caller c) = subst (λ (z : Who). Makes b id v.seen z) who f.makes in
+      let w : View = record v { seen = b.log; told = [] } in (
+        w,
+        keeps,
+        tt,
+        unmoved s r id word me.1 w record { seen = begins_itself b.log; told = begins_empty b.log; makes = subst (λ (z : Who). Makes b id b.log z) (sym who) (made.0, refl); list = f.list; batch = f.batch },
+        (refl, λ p is. subst (λ (z : ℕ). FindsAll z v w) (same_caller c p (sym who ∙ is)) record { since = f.seen; own = sym made.1; covers = f.told; loads = r.loads }),
+      )
+
+  -- just what was told is seen
+  pub admits_here : (slots id c word : ℕ) (me : Sat) → me.0.who ≡ Caller c → IsBeginning me.0.seen me.0.told → Allows (Kept plan) slots id me word (λ x. x) (admitted (step slots word 0 0 none) me)
+  admits_here slots id c word me who since s r _ at _ =
+      let v : View = me.0 in
+      let b : Books = r.books in
+      let f = r.each_view id v at in
+      let made : Makes b id v.seen (Caller c) = subst (λ (z : Who). Makes b id v.seen z) who f.makes in
+      let own : deeds_of c v.told ≡ deeds_of c v.seen = own_between c v.seen v.told b.log since f.told (sym made.1) in
+      let w : View = record v { seen = v.told; told = [] } in (
+        w,
+        keeps,
+        tt,
+        unmoved s r id word me.1 w record { seen = f.told; told = begins_empty b.log; makes = subst (λ (z : Who). Makes b id v.told z) (sym who) (made.0, own ∙ made.1); list = f.list; batch = f.batch },
+        (refl, λ p is. subst (λ (z : ℕ). IsAdmitted z v) (same_caller c p (sym who ∙ is)) record { own = own; loads = true_beginning f.told r.loads }),
+      )
