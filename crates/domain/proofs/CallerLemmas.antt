@@ -23,3 +23,10 @@ pub use Rattle.domain.proofs.Sameness.{same_trans}
 pub use Rattle.domain.proofs.Sameness.{all_the_same}
 -- waiting opens no reading, whether the cookie is done or not
 pub use Rattle.domain.proofs.Synchronizing.{still_none, none_in_vain}
+-- Barriers
+
+-- a receipt is one of the domain's at which its job was queued
+pub use Rattle.domain.proofs.Queueing.{queued_here}
+-- a call opens no reading, nor does one that is refused, and none is opened at the tally words
+pub use Rattle.domain.proofs.Queueing.{none_queued}
+pub use Rattle.domain.proofs.Polling.{none_at_tallies}

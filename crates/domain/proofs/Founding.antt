@@ -51,7 +51,7 @@ all_of_new bounds d cpus some made =
     let count = made.count in
     record {
       some = omega (arith, some, count);
-      here = λ k c lt. rw (made.each k c lt) (record { domain = refl; bay = refl; home = refl; free = refl; asks = (k, refl); many = sym made.many; fits = record { domain = refl; tallies = refl; cpu = refl; there = subst (λ n. k < n) (count ∙ sym made.many) lt } });
+      here = λ k c lt. rw (made.each k c lt) (record { domain = refl; bay = refl; home = refl; free = refl; asks = (k, refl); many = sym made.many; fits = record { domain = refl; tallies = refl; cpu = refl; there = subst (λ n. k < n) (count ∙ sym made.many) lt }; number = refl; seats = sym made.many; words = sym made.many });
       count = λ k c lt. ap (λ (z : CpuView). z.cpu.processors) (made.each k c lt) ∙ sym count;
       order = λ k c lt. ap (λ (z : CpuView). z.cpu.processor) (made.each k c lt);
       tree = made.tree;

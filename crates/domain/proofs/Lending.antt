@@ -14,6 +14,7 @@ use Rattle.funnel.specs.Views.{FunnelView}
 use Rattle.funnel.specs.Calls.{LoadsRoot, IsSameSeat}
 use Rattle.desk.specs.BayViews.{BaySeatView}
 use Rattle.desk.specs.BayCalls.{holds, MakesSwap}
+use Rattle.calls.specs.Views.{CallSeatView}
 use Rattle.domain.proofs.Staying.{still_fits, seat_the_same}
 use Rattle.domain.specs.Views.{Engine, DomainView, CpuView, IsOf, IsSameProcessor, with_needs}
 use Rattle.domain.specs.Turns.{Takes, IsLent, GivesBack, Lends, StartsNone, IsNotStarted}
@@ -56,6 +57,9 @@ still_of d c c1 c' lent worked is l b same =
       asks = (is.asks.0, ap (λ (z : FunnelView). z.holder) b.needs ∙ (same.holder ∙ (ap (λ (z : Engine). z.needs.holder) l.in_place ∙ is.asks.1)));
       many = cpu.1 ∙ is.many;
       fits = still_fits d c c' cpu (seat_the_same _ _ (b.calls ∙ l.calls)) is.fits;
+      number = ap (λ (z : BaySeatView Engine). z.number) turn ∙ (is.number ∙ sym cpu.3);
+      seats = ap (λ (z : BaySeatView Engine). z.seats) turn ∙ is.seats;
+      words = ap (λ (z : CallSeatView). z.processors) (b.calls ∙ l.calls) ∙ is.words;
     }
 
 -- where it may be given back

@@ -1,10 +1,16 @@
+mod Counted
+mod Counting
 mod Covering
 mod ForThreads
 mod Founding
+mod Gathering
 mod Joining
+mod Judging
 mod Lending
 mod Meeting
+mod Polling
 mod Preparing
+mod Queueing
 mod Rows
 mod Sameness
 mod Starting

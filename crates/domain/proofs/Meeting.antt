@@ -21,6 +21,7 @@ use Rattle.funnel.specs.Laws.{RootHasGreatest}
 use Rattle.desk.specs.Swaps.{lies_after, swaps_of}
 use Rattle.desk.specs.BayViews.{BaySeatView}
 use Rattle.desk.specs.BayCalls.{holds, MakesSwap, Accepts}
+use Rattle.calls.specs.Views.{CallSeatView}
 use Rattle.domain.specs.Views.{Engine, DomainView, CpuView}
 use Rattle.domain.specs.Turns.{Takes, TakesTurn}
 use Rattle.domain.specs.Meetings.{IsAllOf, EngineMeets, JoinsTree, TreeMeets, MeetsHere}
@@ -125,9 +126,9 @@ module _ (d : DomainView) (c : CpuView) (cs cs1 cs2 : List CpuView) (e0 e1 e2 : 
 
   -- a turn's seat stays that of the domain, and does not have the engine
   pub turn_stays : (k : ℕ) (x : CpuView) → k < length (c ∷ cs) → holds t3 ≡ false → holds (get_or (c ∷ cs) k x).turn ≡ false
-      → ((get_or after k x).turn.bay ≡ (get_or (c ∷ cs) k x).turn.bay) × ((get_or after k x).turn.domain ≡ (get_or (c ∷ cs) k x).turn.domain) × (holds (get_or after k x).turn ≡ false)
-  turn_stays zero x lt free _ = let same = turn_same c.turn e0 e2 took t3 takes (swap_behind took t2 t3 cs e2 turn puts) in (ap (λ (z : BaySeatView Engine). z.bay) same, ap (λ (z : BaySeatView Engine). z.domain) same, free)
-  turn_stays (suc k) x lt _ free = let h = other_turn k x lt in (ap (λ (z : BaySeatView Engine). z.bay) h.is, ap (λ (z : BaySeatView Engine). z.domain) h.is, h.holding ∙ free)
+      → ((get_or after k x).turn.bay ≡ (get_or (c ∷ cs) k x).turn.bay) × ((get_or after k x).turn.domain ≡ (get_or (c ∷ cs) k x).turn.domain) × (holds (get_or after k x).turn ≡ false) × ((get_or after k x).turn.number ≡ (get_or (c ∷ cs) k x).turn.number) × ((get_or after k x).turn.seats ≡ (get_or (c ∷ cs) k x).turn.seats)
+  turn_stays zero x lt free _ = let same = turn_same c.turn e0 e2 took t3 takes (swap_behind took t2 t3 cs e2 turn puts) in (ap (λ (z : BaySeatView Engine). z.bay) same, ap (λ (z : BaySeatView Engine). z.domain) same, free, ap (λ (z : BaySeatView Engine). z.number) same, ap (λ (z : BaySeatView Engine). z.seats) same)
+  turn_stays (suc k) x lt _ free = let h = other_turn k x lt in (ap (λ (z : BaySeatView Engine). z.bay) h.is, ap (λ (z : BaySeatView Engine). z.domain) h.is, h.holding ∙ free, ap (λ (z : BaySeatView Engine). z.number) h.is, ap (λ (z : BaySeatView Engine). z.seats) h.is)
 
   -- the seats at the tally words
   pub calls_still : (k : ℕ) (x : CpuView) → k < length (c ∷ cs) → (get_or after k x).calls ≡ (get_or (c ∷ cs) k x).calls
@@ -145,6 +146,9 @@ module _ (d : DomainView) (c : CpuView) (cs cs1 cs2 : List CpuView) (e0 e1 e2 : 
       asks = (h.asks.0, n.same.holder ∙ h.asks.1);
       many = j.accepts.same.1 ∙ h.many;
       fits = still_fits d (get_or (c ∷ cs) k x) (get_or after k x) j.accepts.same (seat_the_same _ _ (calls_still k x l)) h.fits;
+      number = t.3 ∙ (h.number ∙ sym j.accepts.same.3);
+      seats = t.4 ∙ h.seats;
+      words = ap (λ (z : CallSeatView). z.processors) (calls_still k x l) ∙ h.words;
     };
     count = λ k x lt. (each_joins k x (within k lt)).accepts.same.1 ∙ (all.count k x (within k lt) ∙ sym same_count);
     order = λ k x lt. (each_joins k x (within k lt)).accepts.same.3 ∙ all.order k x (within k lt);

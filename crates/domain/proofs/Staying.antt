@@ -24,8 +24,8 @@ still_fits d c c' cpu seat f = record {
 
 -- behind a call at its seat at the domain's words
 pub still_with_cpu : (d : DomainView) (c c' : CpuView) → IsOf d c → IsSameCpu c.cpu c'.cpu → c' ≡ with_cpu c'.cpu c → IsOf d c'
-still_with_cpu d c c' is same rest = subst (λ (z : CpuView). IsOf d z) (sym rest) record { domain = same.0 ∙ is.domain; bay = is.bay; home = is.home; free = is.free; asks = is.asks; many = same.1 ∙ is.many; fits = still_fits d c (with_cpu c'.cpu c) same (refl, refl, refl) is.fits }
+still_with_cpu d c c' is same rest = subst (λ (z : CpuView). IsOf d z) (sym rest) record { domain = same.0 ∙ is.domain; bay = is.bay; home = is.home; free = is.free; asks = is.asks; many = same.1 ∙ is.many; fits = still_fits d c (with_cpu c'.cpu c) same (refl, refl, refl) is.fits; number = is.number ∙ sym same.3; seats = is.seats; words = is.words }
 
 -- behind a call at its seat at the tally words
 pub still_with_calls : (d : DomainView) (c c' : CpuView) → IsOf d c → IsSameSeat c.calls c'.calls → c' ≡ with_calls c'.calls c → IsOf d c'
-still_with_calls d c c' is same rest = subst (λ (z : CpuView). IsOf d z) (sym rest) record { domain = is.domain; bay = is.bay; home = is.home; free = is.free; asks = is.asks; many = is.many; fits = still_fits d c (with_calls c'.calls c) (refl, refl, refl, refl) same is.fits }
+still_with_calls d c c' is same rest = subst (λ (z : CpuView). IsOf d z) (sym rest) record { domain = is.domain; bay = is.bay; home = is.home; free = is.free; asks = is.asks; many = is.many; fits = still_fits d c (with_calls c'.calls c) (refl, refl, refl, refl) same is.fits; number = is.number; seats = is.seats; words = same.1 ∙ is.words }

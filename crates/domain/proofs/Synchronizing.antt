@@ -224,7 +224,7 @@ waiting_opens_none number by history vain all =
     ap open_sections (sym (append_assoc history (Note number by ∷ vain) (Ask number true by ∷ [])))
     ∙ (open_sections_plain (history ++ Note number by ∷ vain) (Ask number true by) refl (λ s. refl) ∙ noted_opens_none number by history vain all)
 
-none_open : (c c' : CpuView) → HasNoneOpen c → open_sections c'.cpu.mine ≡ open_sections c.cpu.mine → HasNoneOpen c'
+pub none_open : (c c' : CpuView) → HasNoneOpen c → open_sections c'.cpu.mine ≡ open_sections c.cpu.mine → HasNoneOpen c'
 none_open c c' none same = ap (λ l. length (filter (λ t. not (is_held t)) l)) same ∙ none
 
 pub still_none : (c c' : CpuView) → HasNoneOpen c → Synchronizes c c' → HasNoneOpen c'

@@ -1,4 +1,5 @@
 -- How the fields of a domain, of its processors and of its engine are seen, and what is always true of them.
+use Rattle.std.specs.Prelude.{◌≡◌, ◌≤◌}
 use Rattle.sections.specs.EngineCalls.{IsTied}
 use Rattle.domain.specs.declared.cpu.Cpu.TheInside as cpu
 use Rattle.domain.specs.declared.domain.Domain.TheInside as domain
@@ -19,3 +20,8 @@ module _ {J A : Type 0} where
 
   abbrev pub view_of_domain : domain.Inside J A → DomainView
   view_of_domain d = record { domain = d.calls.domain; bay = d.bay.bay; tallies = d.calls.tallies; processors = d.calls.processors }
+
+  -- there is one at least
+  pub record IsDomain (d : domain.Inside J A) : Type 0 where
+    pub count : d.processors ≡ d.calls.processors
+    pub some : 1 ≤ d.processors

@@ -7,5 +7,8 @@ pub mod Meetings
 pub mod Parts
 pub mod Waiting
 pub mod Calling
+pub mod Barriers
+pub mod Counts
+pub mod Cleanup
 pub mod Making
 pub mod Insides

@@ -1,5 +1,5 @@
 -- What the parts of a meeting do: the first processor has the engine, and there are others.
-use Rattle.std.specs.Prelude.{◌≡◌, ℕ, ◌<◌, ◌≤◌, ◌++◌, List, length, map, slice_index_or}
+use Rattle.std.specs.Prelude.{◌≡◌, ◌≢◌, false, ℕ, ◌<◌, ◌≤◌, ◌++◌, List, length, map, slice_index_or}
 use Rattle.onedom.specs.Histories as events
 use Rattle.sections.specs.declared.view.Step.TheVariants.{LoadIndex}
 use Rattle.sections.specs.declared.view.Shown.TheVariants.{To}
@@ -59,6 +59,12 @@ pub record TurnCovers (t : BaySeatView Engine) (cpus : List CpuView) (t' : BaySe
   pub own : swaps_of t.number t'.seen ≡ swaps_of t.number t.seen
   pub holding : holds t' ≡ holds t
   pub covers : Each (λ c. swaps.IsBeginning c.turn.seen t'.seen) cpus
+
+-- the seat and those of these processors are all seats of the place where the engine lies, and none of them has it
+pub record AreAllTurns (t : BaySeatView Engine) (others : List CpuView) : Type 0 where
+  pub free : holds t ≡ false
+  pub others_free : Each (λ c. holds c.turn ≡ false) others
+  pub each : (n : ℕ) → n < t.seats → n ≢ t.number → (k : ℕ) × (k < length others) × ((c : CpuView) → (slice_index_or others k c).turn.number ≡ n)
 
 -- Admitting
 

@@ -34,7 +34,7 @@ pub record CpuView : Type 0 where
 abbrev pub callbacks_of : DomainView → CallsView
 callbacks_of d = record { domain = d.domain; tallies = d.tallies; processors = d.processors }
 
--- the processor is of this domain, each of its seats is, and it does not have the engine
+-- the processor is of this domain, each of its seats is the one of its number there, and it does not have the engine
 pub record IsOf (d : DomainView) (c : CpuView) : Type 0 where
   pub domain : c.cpu.domain ≡ d.domain
   pub bay : c.turn.bay ≡ d.bay
@@ -43,6 +43,9 @@ pub record IsOf (d : DomainView) (c : CpuView) : Type 0 where
   pub asks : IsOfProcessor c.needs
   pub many : c.cpu.processors ≡ d.processors
   pub fits : FitsIn (callbacks_of d) c.cpu c.calls
+  pub number : c.turn.number ≡ c.cpu.processor
+  pub seats : c.turn.seats ≡ d.processors
+  pub words : c.calls.processors ≡ d.processors
 
 -- and of whichever domain it was, it still is
 abbrev pub Stays : CpuView → CpuView → Type 0

@@ -5,7 +5,11 @@ use desk::Bay;
 use std::alloc::{Allocator, Global};
 use std::marker::Model;
 
+mod barriers;
 mod calling;
+pub(crate) mod cleanup;
+mod counting;
+mod gathering;
 mod making;
 mod meeting;
 mod needs;
@@ -21,6 +25,8 @@ mod waiting;
 pub struct Domain<J, A: Allocator = Global> {
     pub(crate) bay: Bay<Tied<A>, A>,
     pub(crate) calls: Calls<J, A>,
+    /// How many processors there are.
+    pub(crate) processors: u16,
 }
 
 impl<J, A: Allocator> Model for Domain<J, A> {
@@ -28,7 +34,9 @@ impl<J, A: Allocator> Model for Domain<J, A> {
 
     ghost Value = { DomainView };
 
-    ghost use Rattle.domain.specs.Insides.{view_of_domain};
+    ghost use Rattle.domain.specs.Insides.{view_of_domain, IsDomain};
 
     ghost view = { view_of_domain };
+
+    ghost invariant = { IsDomain };
 }

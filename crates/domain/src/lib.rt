@@ -9,9 +9,10 @@ mod refusals;
 mod tests;
 mod tied;
 
-pub use calls::{Batch, CallRefusal, Entry, Memory, Receipt, TakeRefusal};
+pub use calls::{Batch, CallRefusal, Entry, Memory, Receipt, TakeRefusal, Ticket};
 pub use cpu::Cpu;
 pub use domain::Domain;
+pub use domain::cleanup::{InUse, Totals};
 pub use refusals::{AdvanceRefusal, StartRefusal};
 pub use scan::{Exhausted as PeriodsExhausted, Progress};
 pub use sections::{

@@ -1,3 +1,6 @@
 mod alone;
+mod barriers;
 mod calling;
+mod cleanup;
+mod jobs;
 mod threads;

@@ -1,5 +1,5 @@
 //! Callbacks: a job is queued on a processor, and given out after a full grace period.
-ghost use Rattle.std.specs.Prelude.{◌≡◌, ◌<◌, All, IfOk, IfSome, MatchResult};
+ghost use Rattle.std.specs.Prelude.{◌≡◌, ◌<◌, All, IfOk, IfSome, MatchResult, Ok};
 ghost use Rattle.sections.specs.Calls.{IsSameCpu, AllClosed};
 ghost use Rattle.segs.specs.MarkedList.{lens, numbers};
 ghost use Rattle.calls.specs.Views.{ListView};
@@ -9,7 +9,7 @@ ghost use Rattle.domain.specs.Calling.{CallsIn, RefusesCall, MayFinish};
 
 use crate::cpu::Cpu;
 use crate::domain::Domain;
-use calls::{Batch, CallRefusal, Receipt, TakeRefusal};
+use calls::{Batch, CallRefusal, Memory, Receipt, TakeRefusal};
 use sseq::Number;
 use std::alloc::Allocator;
 use std::sync::Wait;
@@ -82,10 +82,11 @@ impl<J: Drop, A: Allocator + Copy> Domain<J, A> {
     }
 
     /// How many calls of a processor are done, wait for the first and for the second number, and have none yet; and the two
-    /// numbers, 0 where there is none. What is out isn't counted. It waits while another thread has the processor's list.
-    pub fn lens<R: Wait>(&self, rt: &R, processor: u16) -> ([usize; 4], [u64; 2])
+    /// numbers, 0 where there is none. What is out isn't counted. It takes no memory, so it always succeeds. It waits
+    /// while another thread has the processor's list.
+    pub fn lens<R: Wait>(&self, rt: &R, processor: u16) -> Result<([usize; 4], [u64; 2]), Memory>
         requires { processor < self.now.processors }
-        ensures { (l : ListView J) × IsListOf (callbacks_of self.now) processor l × (result.0 ≡ lens l.entries) × (result.1 ≡ numbers l.entries) }
+        ensures { (l : ListView J) × IsListOf (callbacks_of self.now) processor l × (result ≡ Ok (lens l.entries, numbers l.entries)) }
     {
         self.calls.lens(rt, processor)
     }

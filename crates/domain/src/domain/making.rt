@@ -61,10 +61,16 @@ fn build<J: Drop, A: Allocator + Copy>(
     // it goes where the engine lies.
     let (calls, seats) = Calls::make(alloc, &mut engine)?;
     let home = engine.home();
+    let count = engine.processors();
     let engine = Engine::new(engine, root);
     let (bay, turns) = Bay::new(alloc, Tied { engine }, processors, home)?;
     let cpus = join_seats(alloc, cpus, needs, turns, seats)?;
-    Ok((Domain { bay, calls }, cpus))
+    let domain = Domain {
+        bay,
+        calls,
+        processors: count,
+    };
+    Ok((domain, cpus))
 }
 
 impl<J: Drop, A: Allocator + Copy> Domain<J, A> {

@@ -23,7 +23,9 @@ fn number(value: u64) -> Number {
 }
 
 /// A new domain whose jobs are numbers, and its processor.
-fn single<A: Allocator + Copy>(alloc: A) -> Result<(Domain<u64, A>, Cpu<u64, A>), MakeError>
+pub(super) fn single<A: Allocator + Copy>(
+    alloc: A,
+) -> Result<(Domain<u64, A>, Cpu<u64, A>), MakeError>
     ensures { IfOk result (λ r. IsOf r.0 r.1 × (0 < r.0.processors)) }
 {
     let (domain, mut cpus) = Domain::<u64, A>::new(alloc, 1, LIMITS)?;
@@ -33,7 +35,7 @@ fn single<A: Allocator + Copy>(alloc: A) -> Result<(Domain<u64, A>, Cpu<u64, A>)
 
 /// Takes what is ready on this processor, runs it, and finishes the batch. Tells how many jobs were in the batch, if there
 /// was one. To run a job is to put it behind those that ran before.
-fn run_ready<R: Wait + Abort>(
+pub(super) fn run_ready<R: Wait + Abort>(
     rt: &R,
     domain: &Domain<u64>,
     cpu: &mut Cpu<u64>,
@@ -55,7 +57,7 @@ fn run_ready<R: Wait + Abort>(
 }
 
 /// Drives a whole grace period, with a step for each of its parts.
-fn drive<R: Wait>(
+pub(super) fn drive<R: Wait>(
     rt: &R,
     domain: &Domain<u64>,
     cpu: &mut Cpu<u64>,
@@ -97,7 +99,7 @@ fn hands_a_job_out_once(rt: HostRuntime) -> Result<(), Fail> {
     );
     assert_eq!(rt; (early, given, again), (Ok(None), Ok(Some(1)), Ok(None)));
     assert_eq!(rt; ran.as_slice(), [7].as_slice());
-    assert_eq!(rt; domain.lens(&rt, 0), ([0; 4], [0; 2]));
+    assert_eq!(rt; domain.lens(&rt, 0), Ok(([0; 4], [0; 2])));
     Ok(())
 }
 
@@ -126,13 +128,13 @@ fn gives_the_job_back(rt: HostRuntime) -> Result<(), Fail> {
     let need = domain.need(&mut cpu);
     assert_eq!(rt; refused, Some((7, CallRefusal::Memory)));
     assert_eq!(rt; need.get(), 0);
-    assert_eq!(rt; domain.lens(&rt, 0), ([0; 4], [0; 2]));
+    assert_eq!(rt; domain.lens(&rt, 0), Ok(([0; 4], [0; 2])));
     drop(full);
     let queued = domain.call(&rt, &mut cpu, 7).ok().map(|receipt| receipt.k);
     let need = domain.need(&mut cpu);
     assert_eq!(rt; queued, Some(0));
     assert_eq!(rt; need.get(), 4);
-    assert_eq!(rt; domain.lens(&rt, 0), ([0, 1, 0, 0], [4, 0]));
+    assert_eq!(rt; domain.lens(&rt, 0), Ok(([0, 1, 0, 0], [4, 0])));
     drop(domain);
     drop(cpu);
     assert_eq!(rt; heap.used(), 0);

@@ -28,7 +28,7 @@ const LOOKS: u32 = 20_000;
 const TURNS: u32 = 8;
 
 /// A new domain and its two processors.
-fn two_cpus(alloc: Global) -> Result<(Domain<()>, Cpu<()>, Cpu<()>), MakeError>
+pub(super) fn two_cpus(alloc: Global) -> Result<(Domain<()>, Cpu<()>, Cpu<()>), MakeError>
     ensures of { IfOk result (λ r. IsOf r.0 r.1 × IsOf r.0 r.2) }
     ensures none { IfOk result (λ r. HasNoneOpen r.1 × HasNoneOpen r.2) }
 {

@@ -1,0 +1,112 @@
+-- Taking a domain down: which processors are missing, why it is refused, and what is told of it in the end.
+use Rattle.std.specs.Prelude.{◌≡◌, ℕ, ◌+◌, ◌%◌, ◌<◌, ◌==◌, if◌then◌else◌, Bool, Result, MatchResult, List, length, slice_index_or}
+use Rattle.std.specs.List.{list_any}
+use Rattle.onedom.specs.declared.event.Event.{Event}
+use Rattle.onedom.specs.Histories.{open_sections, ended_in, IsRunning}
+use Rattle.sections.specs.Words.{sum_below, opened_in, closed_in}
+use Rattle.domain.specs.declared.domain.cleanup.InUse.{InUse}
+use Rattle.domain.specs.declared.domain.cleanup.InUse.TheVariants.{Missing, Sections, Period, Callbacks}
+use Rattle.domain.specs.declared.domain.cleanup.Totals.{Totals}
+use Rattle.domain.specs.Views.{DomainView, CpuView, IsOf, IsSameProcessor}
+use Rattle.domain.specs.Parts.{Each}
+use Rattle.calls.specs.declared.view.Deed.{Deed}
+use Rattle.calls.specs.Totals.{all_queued, all_finished}
+use Rattle.domain.specs.Counts.{IsHistoryOf, AreDeedsOf, AreBack}
+
+-- Who is there
+
+-- whether the processor of this number is among these
+abbrev pub is_there : ℕ → List CpuView → Bool
+is_there p cpus = list_any (λ c. c.cpu.processor == p) cpus
+
+-- how many of so many processors are not
+abbrev pub missing_of : ℕ → List CpuView → ℕ
+missing_of processors cpus = sum_below (λ p. if is_there p cpus then 0 else 1) processors
+
+-- What was done
+
+-- how many sections are open
+abbrev pub open_count : List Event → ℕ
+open_count history = length (open_sections history)
+
+-- no section is open, no grace period runs, and each call that was queued is finished
+pub record IsUnused (processors : ℕ) (history : List Event) (all : List Deed) : Type 0 where
+  pub closed : open_count history ≡ 0
+  pub rests : ¬ IsRunning history
+  pub run : all_queued processors all ≡ all_finished processors all
+
+-- the counts of all that was done
+pub record AreTotals (processors : ℕ) (history : List Event) (all : List Deed) (t : Totals) : Type 0 where
+  pub opened : t.opened ≡ opened_in history
+  pub closed : t.closed ≡ closed_in history
+  pub queued : t.queued ≡ all_queued processors all
+  pub finished : t.finished ≡ all_finished processors all
+  pub periods : t.periods ≡ ended_in history
+
+-- why a domain of which this was done is in use: the first cause that holds
+abbrev pub IsCause : ℕ → List Event → List Deed → InUse → Type 0
+IsCause processors history all (Missing n) = ⊥
+IsCause processors history all (Sections n) = (n ≡ open_count history) × (0 < n)
+IsCause processors history all Period = (open_count history ≡ 0) × IsRunning history
+IsCause processors history all (Callbacks n) = (open_count history ≡ 0) × (¬ IsRunning history) × (all_queued processors all ≡ all_finished processors all + n) × (0 < n)
+
+-- Answers
+
+-- of all that was done it is said that the domain is not in use, and its totals are told; or it is said why it is in use. All processors have then seen it, and are as they were
+pub record IsJudged (d : DomainView) (cpus : List CpuView) (answer : Result Totals InUse) (cpus' : List CpuView) : Type 0 where
+  pub history : List Event
+  pub of_all : IsHistoryOf d cpus history
+  pub all : List Deed
+  pub deeds_of_all : AreDeedsOf d cpus all
+  pub says : MatchResult answer (λ t. IsUnused d.processors history all × AreTotals d.processors history all t) (λ cause. IsCause d.processors history all cause)
+  pub back : AreBack d history all cpus cpus'
+
+-- the domain was taken down: no processor is missing, and it is not in use
+pub record IsTakenDown (d : DomainView) (cpus : List CpuView) (t : Totals) : Type 0 where
+  pub none_missing : missing_of d.processors cpus ≡ 0
+  pub history : List Event
+  pub of_all : IsHistoryOf d cpus history
+  pub all : List Deed
+  pub deeds_of_all : AreDeedsOf d cpus all
+  pub unused : IsUnused d.processors history all
+  pub totals : AreTotals d.processors history all t
+
+-- no processor is missing, and the domain is in use for this cause. It is handed back with its processors
+pub record IsInUse (d : DomainView) (cpus : List CpuView) (cause : InUse) (d' : DomainView) (cpus' : List CpuView) : Type 0 where
+  pub none_missing : missing_of d.processors cpus ≡ 0
+  pub history : List Event
+  pub of_all : IsHistoryOf d cpus history
+  pub all : List Deed
+  pub deeds_of_all : AreDeedsOf d cpus all
+  pub is : IsCause d.processors history all cause
+  pub domain : d' ≡ d
+  pub back : AreBack d history all cpus cpus'
+
+-- so many processors are missing, and all is handed back as it was; or the domain is in use
+abbrev pub IsRefused : DomainView → List CpuView → InUse → DomainView → List CpuView → Type 0
+IsRefused d cpus (Missing n) d' cpus' = (n ≡ missing_of d.processors cpus) × (0 < n) × (d' ≡ d) × (cpus' ≡ cpus)
+IsRefused d cpus (Sections n) d' cpus' = IsInUse d cpus (Sections n) d' cpus'
+IsRefused d cpus Period d' cpus' = IsInUse d cpus Period d' cpus'
+IsRefused d cpus (Callbacks n) d' cpus' = IsInUse d cpus (Callbacks n) d' cpus'
+
+-- the domain and the processors, each the same as before and still of the domain
+pub record IsHandedBack (d : DomainView) (cpus : List CpuView) (d' : DomainView) (cpus' : List CpuView) : Type 0 where
+  pub domain : d' ≡ d
+  pub count : length cpus' ≡ length cpus
+  pub here : Each (IsOf d') cpus'
+  pub same : (k : ℕ) (c : CpuView) → k < length cpus → IsSameProcessor (slice_index_or cpus k c) (slice_index_or cpus' k c)
+
+-- From the counts alone
+
+-- with these totals and this number nothing is left
+pub record IsNothingLeft (t : Totals) (number : ℕ) : Type 0 where
+  pub closed : t.opened ≡ t.closed
+  pub rests : number % 4 ≡ 0
+  pub finished : t.queued ≡ t.finished
+
+-- the first of what is left
+abbrev pub IsLeft : Totals → ℕ → InUse → Type 0
+IsLeft t number (Missing n) = ⊥
+IsLeft t number (Sections n) = (t.opened ≡ t.closed + n) × (0 < n)
+IsLeft t number Period = (t.opened ≡ t.closed) × (0 < number % 4)
+IsLeft t number (Callbacks n) = (t.opened ≡ t.closed) × (number % 4 ≡ 0) × (t.queued ≡ t.finished + n) × (0 < n)

@@ -1,0 +1,199 @@
+//! Domains that are taken down, and others that are in use.
+ghost use Rattle.std.specs.Prelude.{◌≡◌, ◌<◌, IfOk};
+ghost use Rattle.domain.specs.Views.{IsOf};
+
+use super::calling::run_ready;
+use crate::{Cpu, Domain, InUse, Index, Limits, MakeError, Number, Progress, Totals};
+use std::alloc::Global;
+use std::process::Abort;
+use std::test::Fail;
+
+const LIMITS: Limits = Limits {
+    sections: Limits::MOST_SECTIONS,
+    periods: Limits::MOST_PERIODS,
+    cells: 0,
+};
+
+/// A new domain of one processor.
+fn single(alloc: Global) -> Result<(Domain<u64>, Cpu<u64>), MakeError>
+    ensures { IfOk result (λ r. IsOf r.0 r.1) }
+{
+    let (domain, mut cpus) = Domain::<u64>::new(alloc, 1, LIMITS)?;
+    let cpu = cpus.pop().unwrap();
+    Ok((domain, cpu))
+}
+
+/// A new domain of so many processors, and the last two of them.
+fn last_two(
+    alloc: Global,
+    processors: usize,
+) -> Result<(Domain<u64>, Cpu<u64>, Cpu<u64>), MakeError>
+    requires { 1 < processors }
+    ensures { IfOk result (λ r. IsOf r.0 r.1 × IsOf r.0 r.2) }
+{
+    let (domain, mut cpus) = Domain::<u64>::new(alloc, processors, LIMITS)?;
+    let last = cpus.pop().unwrap();
+    let other = cpus.pop().unwrap();
+    Ok((domain, other, last))
+}
+
+/// Hands in these two processors, and the domain is in use.
+fn refused<R: Abort>(
+    rt: &R,
+    alloc: Global,
+    domain: Domain<u64>,
+    first: Cpu<u64>,
+    second: Cpu<u64>,
+) -> (InUse, Domain<u64>, Cpu<u64>, Cpu<u64>)
+    requires { IsOf domain first × IsOf domain second }
+    ensures same { result.1 ≡ domain }
+    ensures here { IsOf result.1 result.2 × IsOf result.1 result.3 }
+{
+    let mut cpus = Vec::with_capacity(alloc, 2).expect(rt, "there is room");
+    cpus.push_reserved(first);
+    cpus.push_reserved(second);
+    let Err((cause, domain, mut cpus)) = domain.cleanup(cpus) else {
+        panic!(rt; "it is in use");
+    };
+    let second = cpus.pop().unwrap();
+    let first = cpus.pop().unwrap();
+    (cause, domain, first, second)
+}
+
+/// Hands in the one processor, and the domain is in use.
+fn refused_alone<R: Abort>(
+    rt: &R,
+    alloc: Global,
+    domain: Domain<u64>,
+    cpu: Cpu<u64>,
+) -> (InUse, Domain<u64>, Cpu<u64>)
+    requires { IsOf domain cpu }
+    ensures same { result.1 ≡ domain }
+    ensures here { IsOf result.1 result.2 }
+{
+    let mut cpus = Vec::with_capacity(alloc, 1).expect(rt, "there is room");
+    cpus.push_reserved(cpu);
+    let Err((cause, domain, mut cpus)) = domain.cleanup(cpus) else {
+        panic!(rt; "it is in use");
+    };
+    let cpu = cpus.pop().unwrap();
+    (cause, domain, cpu)
+}
+
+/// Hands in these two processors, and the domain is taken down.
+fn taken_down<R: Abort>(
+    rt: &R,
+    alloc: Global,
+    domain: Domain<u64>,
+    first: Cpu<u64>,
+    second: Cpu<u64>,
+) -> Totals
+    requires { IsOf domain first × IsOf domain second }
+{
+    let mut cpus = Vec::with_capacity(alloc, 2).expect(rt, "there is room");
+    cpus.push_reserved(first);
+    cpus.push_reserved(second);
+    domain.cleanup(cpus).ok().expect(rt, "it is not in use")
+}
+
+/// Hands in the one processor, and the domain is taken down.
+fn taken_down_alone<R: Abort>(rt: &R, alloc: Global, domain: Domain<u64>, cpu: Cpu<u64>) -> Totals
+    requires { IsOf domain cpu }
+{
+    let mut cpus = Vec::with_capacity(alloc, 1).expect(rt, "there is room");
+    cpus.push_reserved(cpu);
+    domain.cleanup(cpus).ok().expect(rt, "it is not in use")
+}
+
+fn number(value: u64) -> Number {
+    Number::new(value).unwrap_or(Number::zero())
+}
+
+/// Would catch a cleanup that does not miss a processor, and a domain or processors that are not of use behind a refusal.
+#[test]
+fn one_of_three_is_missing(rt: HostRuntime) -> Result<(), Fail> {
+    let (domain, first, second) = last_two(rt.alloc(), 3)?;
+    let (cause, domain, mut first, mut second) = refused(&rt, rt.alloc(), domain, first, second);
+    assert_eq!(rt; cause, InUse::Missing(1));
+    let Ok(section) = second.read_lock() else {
+        panic!(rt; "there is room");
+    };
+    let mut cookie = domain.start_poll(&mut first);
+    let started = domain.advance(&rt, &mut first);
+    let flipped = domain.advance(&rt, &mut first);
+    let waiting = domain.advance(&rt, &mut first);
+    second.read_unlock(section);
+    let ended = domain.advance(&rt, &mut first);
+    let done = first.poll(&mut cookie);
+    assert_eq!(rt; started, Ok(Progress::Started(number(1))));
+    assert_eq!(rt; flipped, Ok(Progress::Flipped(Index::One)));
+    assert_eq!(rt; waiting, Ok(Progress::Waiting(Index::Zero)));
+    assert_eq!(rt; ended, Ok(Progress::Ended(number(4))));
+    assert!(rt; done);
+    Ok(())
+}
+
+/// Would catch a cleanup that forgets a section which is held elsewhere, or that counts those that are closed, and totals
+/// of one processor.
+#[test]
+fn a_held_section_is_open(rt: HostRuntime) -> Result<(), Fail> {
+    let (domain, mut first, second) = last_two(rt.alloc(), 2)?;
+    let Ok(held) = first.down_read() else {
+        panic!(rt; "there is room");
+    };
+    let (cause, domain, first, mut second) = refused(&rt, rt.alloc(), domain, first, second);
+    second.up_read(held);
+    let totals = taken_down(&rt, rt.alloc(), domain, first, second);
+    assert_eq!(rt; cause, InUse::Sections(1));
+    assert_eq!(rt;
+        totals,
+        Totals {
+            opened: 1,
+            closed: 1,
+            queued: 0,
+            finished: 0,
+            periods: 0,
+        }
+    );
+    Ok(())
+}
+
+/// Would catch causes in another order, and totals that leave something out.
+#[test]
+fn each_cause_in_turn(rt: HostRuntime) -> Result<(), Fail> {
+    let (domain, mut cpu) = single(rt.alloc())?;
+    let queued = domain.call(&rt, &mut cpu, 7).is_ok();
+    let Ok(held) = cpu.down_read() else {
+        panic!(rt; "there is room");
+    };
+    let started = domain.start(&rt, &mut cpu);
+    let (open, domain, mut cpu) = refused_alone(&rt, rt.alloc(), domain, cpu);
+    cpu.up_read(held);
+    let (running, domain, mut cpu) = refused_alone(&rt, rt.alloc(), domain, cpu);
+    let flipped = domain.advance(&rt, &mut cpu);
+    let ended = domain.advance(&rt, &mut cpu);
+    let (waiting, domain, mut cpu) = refused_alone(&rt, rt.alloc(), domain, cpu);
+    let mut ran = Vec::new(rt.alloc());
+    let given = run_ready(&rt, &domain, &mut cpu, &mut ran);
+    let totals = taken_down_alone(&rt, rt.alloc(), domain, cpu);
+    assert!(rt; queued);
+    assert_eq!(rt; started, Ok(number(1)));
+    assert_eq!(rt; flipped, Ok(Progress::Flipped(Index::One)));
+    assert_eq!(rt; ended, Ok(Progress::Ended(number(4))));
+    assert_eq!(rt; (given, ran.as_slice()), (Ok(Some(1)), [7].as_slice()));
+    assert_eq!(rt;
+        (open, running, waiting),
+        (InUse::Sections(1), InUse::Period, InUse::Callbacks(1))
+    );
+    assert_eq!(rt;
+        totals,
+        Totals {
+            opened: 1,
+            closed: 1,
+            queued: 1,
+            finished: 1,
+            periods: 1,
+        }
+    );
+    Ok(())
+}
