@@ -1,0 +1,71 @@
+//! Callbacks: a job is queued on a processor, and given out after a full grace period. Who queues a job keeps what it
+//! is; the domain has only that there is one.
+ghost use Rattle.std.specs.Prelude.{◌≡◌, ◌^◌, ◌<◌, ◌≤◌, [], IfOk, MatchResult};
+ghost use Rattle.solo.specs.Calls.{IsSame, IsSameDomain, IsBatchOf, Queues, QueuesNone, Takes, TellsLens};
+
+use crate::queued::Queued;
+use crate::refusals::queued;
+use crate::solo::Solo;
+use calls::{Batch, CallRefusal, Memory, TakeRefusal};
+use std::alloc::Allocator;
+use std::sync::Wait;
+
+impl<A: Allocator + Copy> Solo<A> {
+    /// Queues a job on a processor (`call_srcu`), with a cookie of now, and asks for a grace period up to it. It is refused
+    /// where as many were queued there as may ever be, 2^54, and nothing has changed; or where memory is, and the processor
+    /// was given a cookie that nobody waits for.
+    pub fn call(&mut self, rt: &impl Wait, processor: u64) -> Result<Queued, CallRefusal>
+        requires { processor < self.old.standing.processors }
+        ensures domain { IsSameDomain self.old self.new }
+        ensures answer { MatchResult result (λ job. Queues processor job self.old self.new) (λ why. QueuesNone processor why self.old self.new) }
+        ensures small { IfOk result (λ job. job.cookie ≤ 2 ^ 61) }
+    {
+        let cpu = &mut self.members.cpus[processor as usize];
+        let answer = self.members.domain.call(rt, cpu, ());
+        self.members.settle(rt);
+        queued(answer)
+    }
+
+    /// Takes out what is ready on a processor, the first jobs first: at most `max`, and at most eight
+    /// (`srcu_invoke_callbacks`). `None` where nothing is. It is refused, with nothing done, where a batch of this processor
+    /// is out.
+    pub fn take_ready(
+        &mut self,
+        rt: &impl Wait,
+        processor: u64,
+        max: usize,
+    ) -> Result<Option<Batch<(), A>>, TakeRefusal>
+        requires { processor < self.old.standing.processors }
+        ensures same { IsSame self.old self.new }
+        ensures answer { MatchResult result (λ taken. Takes processor max taken self.old self.new) (λ _. self.new ≡ self.old) }
+    {
+        let taker = &mut self.members.cpus[processor as usize];
+        let taken = self
+            .members
+            .domain
+            .take_ready(rt, taker, processor as u16, max);
+        self.members.settle(rt);
+        taken
+    }
+
+    /// The batch is over, and empty, as its own processor says.
+    pub fn finish(&mut self, rt: &impl Wait, batch: Batch<(), A>)
+        requires batch { IsBatchOf self.old batch.processor batch }
+        requires empty { batch.entries ≡ [] }
+        ensures { self.new ≡ self.old }
+    {
+        let processor = usize::from(batch.processor());
+        let cpu = &mut self.members.cpus[processor];
+        self.members.domain.finish(rt, cpu, batch);
+        self.members.settle(rt);
+    }
+
+    /// How many jobs of a processor are done, wait for the first and for the second number, and have none yet; and the two
+    /// numbers, 0 where there is none. What is out isn't counted. It takes no memory, so it always succeeds.
+    pub fn lens(&self, rt: &impl Wait, processor: u64) -> Result<([usize; 4], [u64; 2]), Memory>
+        requires { processor < self.now.standing.processors }
+        ensures { TellsLens self.now processor result }
+    {
+        self.members.domain.lens(rt, processor as u16)
+    }
+}
