@@ -4,4 +4,5 @@ pub mod Scenes
 pub mod Faults
 pub mod Requests
 pub mod Given
+pub mod JobNames
 pub mod Replies
