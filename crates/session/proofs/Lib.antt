@@ -1,5 +1,6 @@
 mod Acting
 mod Answering
+mod Callbacks
 mod Held
 mod Holding
 mod Naming
@@ -8,4 +9,5 @@ mod OpenSections
 mod Places
 mod Quiet
 mod Taken
+mod Taking
 mod Together

@@ -2,6 +2,7 @@
 #![tactic(auto)]
 
 mod entry;
+mod jobs;
 mod names;
 mod open;
 mod parking;

@@ -10,7 +10,7 @@ use Rattle.session.specs.States.{scene_of}
 use Rattle.session.specs.Scripts.{LineGives, WordsGive}
 use Rattle.session.specs.Scripts.{Answers as AnswersTo}
 use Rattle.session.proofs.Answering.{asked_gives, fault_gives}
-use Rattle.session.proofs.session.SessionAnswers.answer.Goals as goal
+use Rattle.session.proofs.session.SessionRefAnswersRef.answer.Goals as goal
 
 pub returns-in-Ok : goal.returns-in-Ok
 returns-in-Ok g c =

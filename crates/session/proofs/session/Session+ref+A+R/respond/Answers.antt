@@ -3,7 +3,7 @@ use Rattle.std.proofs.lemmas.Result.{IfOk-weaker}
 use Rattle.std.proofs.lemmas.List.Elements.{All-set}
 use Rattle.session.specs.States.{EntryView, states_of}
 use Rattle.session.proofs.Places.{domain_place_within, state_there, fits_there, same_limits, answered}
-use Rattle.session.proofs.session.Session.respond.Goals as goal
+use Rattle.session.proofs.session.Session+ref+A+R.respond.Goals as goal
 
 pub index_mut-requires : goal.index_mut-requires
 index_mut-requires g c =

@@ -3,7 +3,7 @@ use Rattle.std.proofs.lemmas.List.{length-map, map-append}
 use Rattle.std.proofs.lemmas.List.Elements.{All-same, All-push}
 use Rattle.session.specs.States.{EntryView, DomainState, states_of}
 use Rattle.session.specs.Scripts.{new_domain}
-use Rattle.session.proofs.session.Session.make.Goals as goal
+use Rattle.session.proofs.session.Session+ref+A+R.make.Goals as goal
 
 pub invariant_of-self : goal.invariant_of-self
 invariant_of-self g c = record { in_range = c.self.invariant.in_range; same = All-same (λ (e : EntryView). e.limits ≡ c.self.inside.limits) c.reserve.new.self.items c.self.inside.entries.items c.reserve.ensures.items c.self.invariant.same }

@@ -4,23 +4,23 @@ use Rattle.session.specs.declared.names.Token.TheVariants as token
 use Rattle.session.specs.Entries.{IsReadingOf}
 use Rattle.session.proofs.Holding.{Own, Any, token_of, held_without_look, held_ended, taken_last}
 use Rattle.session.proofs.Together.{parked_is_of, held_without_parked, held_without_desk}
-use Rattle.session.proofs.entry.Entry.finish.Goals.{in-Some, in_default}
-use Rattle.session.proofs.entry.Entry.finish.Goals as goal
+use Rattle.session.proofs.entry.end_all.Goals.{in-Some, in_default}
+use Rattle.session.proofs.entry.end_all.Goals as goal
 
 pub up_read-requires-clause-processor : goal.up_read-requires-clause-processor
 up_read-requires-clause-processor g c =
-    let is = parked_is_of c.self.inside.domain c.self.inside.names.tokens c.self.inside.parking c.self.invariant c.in-Some.held (sym c.close.ensures ∙ c.in-Some.is) in
+    let is = parked_is_of c.args.domain c.args.names.tokens c.args.parking c.requires c.in-Some.held (sym c.close.ensures ∙ c.in-Some.is) in
     rw (c.from-processor.ensures, c.processor.ensures.value) is.of_domain.processor
 
 pub up_read-requires-clause-held : goal.up_read-requires-clause-held
 up_read-requires-clause-held g c =
-    let is = parked_is_of c.self.inside.domain c.self.inside.names.tokens c.self.inside.parking c.self.invariant c.in-Some.held (sym c.close.ensures ∙ c.in-Some.is) in
+    let is = parked_is_of c.args.domain c.args.names.tokens c.args.parking c.requires c.in-Some.held (sym c.close.ensures ∙ c.in-Some.is) in
     is.of_domain.table_is
 
 pub loop-token-init : goal.loop-token-init
 loop-token-init g c = rw c.into_tokens-tokens.ensures (elim c.match-close.branch [
-  | in-Some w ↦ rw w.domain-is (held_without_parked c.self.inside.domain c.self.inside.names.tokens c.self.inside.parking c.self.invariant w.in-Some.held (sym c.close.ensures ∙ w.in-Some.is) w.up_read.new.self w.from-processor.result w.up_read.ensures.same.0 w.up_read.ensures.section)
-  | in_default w ↦ let none : c.close.result ≡ None = search rules in rw w.domain-is (held_without_desk c.self.inside.domain c.self.inside.names.tokens c.self.inside.parking c.self.invariant (sym c.close.ensures ∙ none))
+  | in-Some w ↦ rw w.domain-is (held_without_parked c.args.domain c.args.names.tokens c.args.parking c.requires w.in-Some.held (sym c.close.ensures ∙ w.in-Some.is) w.up_read.new.self w.from-processor.result w.up_read.ensures.same.0 w.up_read.ensures.section)
+  | in_default w ↦ let none : c.close.result ≡ None = search rules in rw w.domain-is (held_without_desk c.args.domain c.args.names.tokens c.args.parking c.requires (sym c.close.ensures ∙ none))
 ])
 
 pub loop-token-preserved-in-Look : goal.loop-token-preserved-in-Look

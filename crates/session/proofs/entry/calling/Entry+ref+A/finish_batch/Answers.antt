@@ -1,0 +1,33 @@
+use Rattle.std.proofs.Common.{rules, ◌≡◌, ◌∙◌, refl, sym, ap, arith, None, Some}
+use Rattle.std.specs.Prelude.{IfSome}
+use Rattle.session.specs.JobLists.{JobsView, jobs_of, IsEmptied}
+use Rattle.session.proofs.Callbacks.{jobs_without, out_is, emptied_out, jobs_without_out, over, over_none}
+use Rattle.session.proofs.entry.calling.Entry+ref+A.finish_batch.Goals as goal
+
+pub finish-requires : goal.finish-requires
+finish-requires g c =
+    let small = rw (← c.self.view_is) at c.requires in
+    let emptied = emptied_out c.self.inside.domain c.index_mut.result.now c.in-Some.out (sym c.take_out.ensures.out ∙ c.in-Some.is) (out_is c.self.inside.domain c.self.inside.jobs.items c.self.invariant.1 c.args.processor c.index_mut.result.now small c.index_mut.ensures.value) in
+    (search rules, (emptied.of_domain, emptied.empty))
+
+pub invariant_of-self : goal.invariant_of-self
+invariant_of-self g c =
+    let small = rw (← c.self.view_is) at c.requires in
+    (c.self.invariant.0, jobs_without c.self.inside.domain c.self.inside.jobs.items c.self.invariant.1 c.args.processor c.index_mut.result.now small c.index_mut.ensures.value c.take_out.new.self (ap (λ (x : JobsView). x.out) c.take_out.ensures.none))
+
+pub invariant_of-self-2 : goal.invariant_of-self-2
+invariant_of-self-2 g c =
+    let small = rw (← c.self.view_is) at c.requires in
+    rw c.finish.ensures (c.self.invariant.0, jobs_without c.self.inside.domain c.self.inside.jobs.items c.self.invariant.1 c.args.processor c.index_mut.result.now small c.index_mut.ensures.value c.take_out.new.self (ap (λ (x : JobsView). x.out) c.take_out.ensures.none))
+
+pub returns-clause-does : goal.returns-clause-does
+returns-clause-does g c =
+    let small = rw (← c.self.view_is) at c.requires in
+    rw (← c.self.view_is, c.len.ensures) (over c.self.inside.name c.self.inside.names.tokens c.self.inside.parking.parked c.self.inside.jobs.items c.self.inside.domain c.finish.new.self c.self.invariant.1 c.args.processor c.index_mut.result.now small c.index_mut.ensures.value c.self.inside.domain.limits c.in-Some.out c.take_out.new.self (sym c.take_out.ensures.out ∙ c.in-Some.is) c.finish.ensures c.take_out.ensures.none)
+
+pub returns-in_default-clause-does : goal.returns-in_default-clause-does
+returns-in_default-clause-does g c =
+    let small = rw (← c.self.view_is) at c.requires in
+    let nothing : c.take_out.result ≡ None = search rules in
+    let none = sym c.take_out.ensures.out ∙ nothing in
+    rw (← c.self.view_is) (over_none c.self.inside.name c.self.inside.names.tokens c.self.inside.parking.parked c.self.inside.jobs.items c.self.inside.domain c.self.inside.domain c.self.invariant.1 c.args.processor c.index_mut.result.now small c.index_mut.ensures.value c.self.inside.domain.limits c.take_out.new.self none refl (ap jobs_of c.take_out.ensures.none ∙ jobs_without_out c.index_mut.result.now none))

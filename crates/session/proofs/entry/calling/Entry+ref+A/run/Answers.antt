@@ -1,0 +1,51 @@
+use Rattle.std.proofs.Common.{rules, ◌≡◌, ◌∙◌, sym, ap, refl, arith, None, Some}
+use Rattle.session.specs.JobLists.{JobsView, IsEmptied}
+use Rattle.session.proofs.Callbacks.{jobs_then, jobs_kept, emptied_taken, few_given, none_out_is, together_taken, invoking_run, ran, ran_none}
+use Rattle.session.proofs.entry.calling.Entry+ref+A.run.Goals as goal
+
+pub take-names-requires : goal.take-names-requires
+take-names-requires g c =
+    let takes = rw c.in-Ok-Some.field-0-is at c.in-Ok-Some.ensures.answer in
+    (search rules, few_given c.self.inside.domain c.args.processor 8 takes.reached c.in-Ok-Some.batch takes.batch)
+
+pub finish-requires : goal.finish-requires
+finish-requires g c =
+    let takes = rw c.in-Ok-Some.field-0-is at c.in-Ok-Some.ensures.answer in
+    let emptied = emptied_taken c.self.inside.domain c.take_ready.new.self c.args.processor 8 takes.reached c.in-Ok-Some.batch c.take-names.new.batch c.take_ready.ensures.same takes.batch c.take-names.ensures.batch in
+    (search rules, (emptied.of_domain, emptied.empty))
+
+pub invariant_of-self : goal.invariant_of-self
+invariant_of-self g c =
+    let small = rw (← c.self.view_is) at c.requires in
+    (c.self.invariant.0, jobs_kept c.self.inside.domain c.self.inside.jobs.items c.self.invariant.1 c.args.processor c.index_mut-jobs.result.now small c.index_mut-jobs.ensures.value c.index_mut-jobs.result.now (refl))
+
+pub returns-then-is_out-clause-does : goal.returns-then-is_out-clause-does
+returns-then-is_out-clause-does g c =
+    let small = rw (← c.self.view_is) at c.requires in
+    rw (← c.self.view_is) (invoking_run c.self.inside.name c.self.inside.names.tokens c.self.inside.parking.parked c.self.inside.jobs.items c.self.inside.domain c.self.inside.domain c.self.invariant.1 c.args.processor c.index_mut-jobs.result.now small c.index_mut-jobs.ensures.value c.self.inside.domain.limits refl)
+
+pub invariant_of-self-in-Ok-Some : goal.invariant_of-self-in-Ok-Some
+invariant_of-self-in-Ok-Some g c =
+    let small = rw (← c.self.view_is) at c.requires in
+    let takes = rw c.in-Ok-Some.field-0-is at c.in-Ok-Some.ensures.answer in
+    rw c.finish.ensures (together_taken c.self.inside.domain c.take_ready.new.self c.self.inside.names.tokens c.self.inside.parking c.self.invariant.0 c.args.processor 8 (Some c.in-Ok-Some.batch) c.take_ready.ensures.same.0 takes, jobs_then c.self.inside.domain _ (jobs_kept c.self.inside.domain c.self.inside.jobs.items c.self.invariant.1 c.args.processor c.index_mut-jobs.result.now small c.index_mut-jobs.ensures.value c.take-names.new.self (c.take-names.ensures.out)) c.take_ready.new.self c.take_ready.ensures.same)
+
+pub invariant_of-self-in-Ok-None : goal.invariant_of-self-in-Ok-None
+invariant_of-self-in-Ok-None g c =
+    let small = rw (← c.self.view_is) at c.requires in
+    let takes = rw c.in-Ok-None.field-0-is at c.in-Ok-None.ensures.answer in
+    (together_taken c.self.inside.domain c.take_ready.new.self c.self.inside.names.tokens c.self.inside.parking c.self.invariant.0 c.args.processor 8 None c.take_ready.ensures.same.0 takes, jobs_then c.self.inside.domain _ (jobs_kept c.self.inside.domain c.self.inside.jobs.items c.self.invariant.1 c.args.processor c.index_mut-jobs.result.now small c.index_mut-jobs.ensures.value c.index_mut-jobs.result.now (refl)) c.take_ready.new.self c.take_ready.ensures.same)
+
+pub returns-in-Ok-Some-clause-does : goal.returns-in-Ok-Some-clause-does
+returns-in-Ok-Some-clause-does g c =
+    let small = rw (← c.self.view_is) at c.requires in
+    let none = none_out_is c.index_mut-jobs.result.now.out (sym c.is_out.ensures ∙ c.if-is_out.false) in
+    let takes = rw c.in-Ok-Some.field-0-is at c.in-Ok-Some.ensures.answer in
+    rw (← c.self.view_is, c.finish.ensures) (ran c.self.inside.name c.self.inside.names.tokens c.self.inside.parking.parked c.self.inside.jobs.items c.self.inside.domain c.take_ready.new.self c.self.invariant.1 c.args.processor c.index_mut-jobs.result.now small c.index_mut-jobs.ensures.value c.self.inside.domain.limits 8 none c.in-Ok-Some.batch takes c.take-names.result c.take-names.new.self c.take-names.ensures.taken c.take-names.ensures.out)
+
+pub returns-in-Ok-None-clause-does : goal.returns-in-Ok-None-clause-does
+returns-in-Ok-None-clause-does g c =
+    let small = rw (← c.self.view_is) at c.requires in
+    let none = none_out_is c.index_mut-jobs.result.now.out (sym c.is_out.ensures ∙ c.if-is_out.false) in
+    let takes = rw c.in-Ok-None.field-0-is at c.in-Ok-None.ensures.answer in
+    rw (← c.self.view_is, c.new.ensures) (ran_none c.self.inside.name c.self.inside.names.tokens c.self.inside.parking.parked c.self.inside.jobs.items c.self.inside.domain c.take_ready.new.self c.self.invariant.1 c.args.processor c.index_mut-jobs.result.now small c.index_mut-jobs.ensures.value c.self.inside.domain.limits 8 none takes)

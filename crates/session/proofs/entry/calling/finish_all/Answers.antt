@@ -1,0 +1,23 @@
+use Rattle.std.proofs.Common.{rules, ◌∙◌, refl, sym}
+use Rattle.std.proofs.lemmas.List.Elements.{All-pop}
+use Rattle.session.proofs.Callbacks.{IsOut, emptied_is}
+use Rattle.session.proofs.entry.calling.finish_all.Goals as goal
+
+pub loop-last-init : goal.loop-last-init
+loop-last-init g c = record { out = c.requires.out; same = refl }
+
+pub finish-requires : goal.finish-requires
+finish-requires g c =
+    let popped = All-pop (IsOut c.loop-last.domain) c.loop-last.jobs.items c.pop.new.self.items c.pop.result c.pop.ensures.items c.loop-last.invariant.out in
+    let emptied = emptied_is c.loop-last.domain c.pop.result c.in-Some.last c.in-Some-close.batch c.in-Some.is popped.1 (sym c.in-Some-close.is ∙ c.close.ensures) in
+    (search rules, (emptied.of_domain, emptied.empty))
+
+pub loop-last-preserved-in-Some-close : goal.loop-last-preserved-in-Some-close
+loop-last-preserved-in-Some-close g c =
+    let out = (All-pop (IsOut c.loop-last.domain) c.loop-last.jobs.items c.pop.new.self.items c.pop.result c.pop.ensures.items c.loop-last.invariant.out).0 in
+    rw c.finish.ensures record { out = out; same = c.loop-last.invariant.same }
+
+pub loop-last-preserved : goal.loop-last-preserved
+loop-last-preserved g c =
+    let out = (All-pop (IsOut c.loop-last.domain) c.loop-last.jobs.items c.pop.new.self.items c.pop.result c.pop.ensures.items c.loop-last.invariant.out).0 in
+    record { out = out; same = c.loop-last.invariant.same }
