@@ -5,7 +5,7 @@
  *
  * prints a line for each thing and each size: its name, the size, and the median, the least and the most of the
  * repetitions in nanoseconds. A thing is measured in 1, 2, 4 threads up to MOST, or at the sizes that it gives. As `srcubench` does, it looks at the clock before the threads are started
- * and after all have ended, and divides by the rounds of one thread.
+ * and after all have ended, and divides by the rounds of one thread, or by the jobs of all.
  */
 #include "peers.h"
 
@@ -36,6 +36,8 @@ static const struct thing *const things[] = {
 	&urcu_memb_pair,
 	&urcu_mb_synchronize,
 	&urcu_memb_synchronize,
+	&urcu_memb_call,
+	&urcu_memb_callbacks,
 #endif
 	&model_quiet_period,
 	&max_of_new_numbers,
@@ -65,19 +67,20 @@ static void *run_job(void *argument)
 	return NULL;
 }
 
-/* The wall time of one round, in nanoseconds. */
+/* The wall time of one round, or of one of the jobs, in nanoseconds. */
 static double measure(const struct thing *thing, unsigned size, uint64_t rounds)
 {
 	pthread_t threads[MOST_THREADS];
 	struct job jobs[MOST_THREADS];
 	unsigned count = thing->sizes ? 1 : size;
+	uint64_t each = thing->jobs ? thing->jobs / count : rounds;
 	double start;
 	double end;
 
 	thing->prepare(size);
 	start = nanoseconds_now();
 	for (unsigned i = 0; i < count; i++) {
-		jobs[i] = (struct job){ thing, { i, rounds } };
+		jobs[i] = (struct job){ thing, { i, each } };
 		if (pthread_create(&threads[i], NULL, run_job, &jobs[i]) != 0)
 			fail("a thread can't be started");
 	}
@@ -87,7 +90,7 @@ static double measure(const struct thing *thing, unsigned size, uint64_t rounds)
 	end = nanoseconds_now();
 	if (thing->clear)
 		thing->clear();
-	return (end - start) / (double)rounds;
+	return (end - start) / (double)(thing->jobs ? thing->jobs : rounds);
 }
 
 static int compare(const void *left, const void *right)

@@ -16,7 +16,8 @@ struct worker {
 /*
  * A measured thing. It is measured at numbers of threads, each of which runs `work`; or, where `sizes` are given, at
  * those, by one thread: they are numbers of processors, and end with 0. A thing that takes longer is done so many times
- * less often. What `prepare` set up, `clear` takes down, where it is given.
+ * less often. Where `jobs` are given, so many are done each time, by all threads together, and the time is divided by all
+ * of them. What `prepare` set up, `clear` takes down, where it is given.
  */
 struct thing {
 	const char *name;
@@ -25,6 +26,7 @@ struct thing {
 	void (*work)(const struct worker *worker);
 	unsigned less_often;
 	const unsigned *sizes;
+	uint64_t jobs;
 };
 
 extern const unsigned one_size[];
@@ -43,6 +45,8 @@ extern const struct thing urcu_mb_pair;
 extern const struct thing urcu_memb_pair;
 extern const struct thing urcu_mb_synchronize;
 extern const struct thing urcu_memb_synchronize;
+extern const struct thing urcu_memb_call;
+extern const struct thing urcu_memb_callbacks;
 #endif
 
 #endif

@@ -82,6 +82,13 @@ function entry_rows() {
     row("plain queue, eight at a time", "srcubench-queue-in-batches", 1, "srcubench-queue-in-batches")
 }
 
+function job_rows(size) {
+    row("this domain, to queue it, " threads(size), "srcubench-call", size, "urcu-memb-call")
+    row("liburcu memb, to queue it, " threads(size), "urcu-memb-call", size, "urcu-memb-call")
+    row("this domain, to the end, " threads(size), "srcubench-callbacks", size, "urcu-memb-callbacks")
+    row("liburcu memb, to the end, " threads(size), "urcu-memb-callbacks", size, "urcu-memb-callbacks")
+}
+
 function growth_row(label, name, size) {
     if ((1, name, size) in ns)
         printf "%-44s %s\n", label ", " threads(size), ratios(name, size, name, 1)
@@ -118,6 +125,10 @@ END {
     print ""
     printf "%-44s %-28s %s\n", "one entry of a list", "      ns", "ratio to the queue"
     entry_rows()
+    print ""
+    printf "%-44s %-28s %s\n", "one of 20000 callbacks", "      ns", "ratio to liburcu memb"
+    for (size = 1; size <= 4; size *= 2)
+        job_rows(size)
     print ""
     printf "%-44s %s\n", "a pair at several threads against one at 1", "   ratio"
     for (size = 2; size <= most; size *= 2) {

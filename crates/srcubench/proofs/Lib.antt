@@ -1,6 +1,7 @@
 mod AllAsked
 mod Carrying
 mod Drives
+mod Passes
 mod Passing
 mod Rooms
 mod Sampling

@@ -3,9 +3,10 @@ use Rattle.std.specs.Prelude.{◌≡◌, ℕ, ◌*◌, ◌^◌, ◌≤◌, List}
 use Rattle.srcubench.specs.declared.pairs.Reader.{Reader}
 use Rattle.srcubench.specs.declared.asking.Asker.{Asker}
 use Rattle.srcubench.specs.declared.work.Work.{Work}
-use Rattle.srcubench.specs.declared.work.Work.TheVariants.{Pairs, HeldPairs, QuietPeriods, DrivenPeriods, Waits, Asks, Entries}
+use Rattle.srcubench.specs.declared.work.Work.TheVariants.{Pairs, HeldPairs, QuietPeriods, DrivenPeriods, Waits, Asks, Entries, Queueing, Callbacks}
 use Rattle.srcubench.specs.Readers.{AreReadersOfOne}
 use Rattle.srcubench.specs.Asking.{AreAskersOfOne}
+use Rattle.srcubench.specs.Calling.{HaveQueued, HavePassed}
 use Rattle.srcubench.specs.Driving.{HaveDriven, HaveWaited}
 use Rattle.srcubench.specs.Held.{HaveMadeHeldPairs}
 use Rattle.srcubench.specs.Periods.{HaveEnded}
@@ -19,6 +20,8 @@ CanRun (DrivenPeriods processors periods) = 1 ≤ periods
 CanRun (Waits processors times) = 1 ≤ times
 CanRun (Asks threads asks new) = (1 ≤ asks) × (asks ≤ 2 ^ 54) × (threads ≤ 2 ^ 16)
 CanRun (Entries way batches) = (1 ≤ batches) × (batches ≤ 2 ^ 54)
+CanRun (Queueing jobs) = 1 ≤ jobs
+CanRun (Callbacks jobs) = (1 ≤ jobs) × (jobs ≤ 2 ^ 54)
 
 -- a run has done so much of it
 abbrev pub IsDone : Work → ℕ → Type 0
@@ -29,3 +32,5 @@ IsDone (DrivenPeriods processors periods) done = (done ≡ periods) × HaveDrive
 IsDone (Waits processors times) done = (done ≡ times) × HaveWaited processors times
 IsDone (Asks threads asks new) done = (done ≡ asks) × (askers : List Asker) × AreAskersOfOne threads new asks askers
 IsDone (Entries way batches) done = done ≡ 8 * batches
+IsDone (Queueing jobs) done = (done ≡ jobs) × HaveQueued jobs
+IsDone (Callbacks jobs) done = (done ≡ jobs) × HavePassed jobs

@@ -1,5 +1,6 @@
 pub use Rattle.sections.specs.Calls
 pub mod Asking
+pub mod Calling
 pub mod Done
 pub mod Driving
 pub mod Held

@@ -1,11 +1,14 @@
 //! `srcubench` measures what a pair of `read_lock` and `read_unlock` costs, on one processor and on several at once, what
 //! a held section costs that begins on one processor and ends on another, what a grace period costs with nobody
-//! reading, what it costs to ask for one, and what an entry of a callback list costs.
+//! reading, what it costs to ask for one, what an entry of a callback list costs, and what a job costs that is queued and
+//! run behind a grace period.
 #![tactic(auto)]
 
 ghost use Rattle.std.specs.Prelude.{◌≤◌, ◌^◌};
 
 mod asking;
+mod callbacks;
+mod calling;
 mod command_line;
 mod driving;
 mod held;
@@ -56,6 +59,9 @@ const LESS_OFTEN: u64 = 4;
 /// An entry goes through a list so many times less often than a pair is made, since all entries lie in memory at once.
 const LESS_OFTEN_IN_LISTS: u64 = 8;
 
+/// How many jobs are queued in a domain.
+const JOBS: u64 = 20_000;
+
 /// The status of a run whose command line can't be read.
 const MISUSED: u8 = 2;
 
@@ -92,6 +98,15 @@ fn count<R: Threads + Sync + Wait + Clock + Print + AllocGlobal>(rt: &R) -> Resu
         let timed = passage::run(rt, way, COUNTED_BATCHES)?;
         println!(rt; "{way}: {} entries", timed.done)?;
     }
+    count_jobs(rt)
+}
+
+/// Prints how many jobs were queued, how many came out, and how many bytes the queued ones took.
+fn count_jobs<R: Wait + Clock + Print + AllocGlobal>(rt: &R) -> Result<()> {
+    println!(rt; "{} jobs queued", callbacks::run_queueing(rt, JOBS)?.done)?;
+    println!(rt; "{} jobs run", callbacks::run_passing(rt, JOBS)?.done)?;
+    let bytes = callbacks::measure_memory(rt, JOBS)?;
+    println!(rt; "memory: {bytes} bytes for {JOBS} queued jobs")?;
     Ok(())
 }
 
@@ -143,6 +158,20 @@ fn time<R: Threads + Sync + Wait + Clock + Print + AllocGlobal>(
         let spread = measure(rt, Work::Entries { way, batches }, repetitions)?;
         println!(rt; "srcubench-{way} 1 {spread}")?;
     }
+    time_jobs(rt, repetitions)
+}
+
+/// Prints what queueing a job took, and what it took from there until it was run.
+fn time_jobs<R: Threads + Sync + Wait + Clock + Print + AllocGlobal>(
+    rt: &R,
+    repetitions: u64,
+) -> Result<()>
+    requires { 1 ≤ repetitions }
+{
+    let spread = measure(rt, Work::Queueing { jobs: JOBS }, repetitions)?;
+    println!(rt; "srcubench-call 1 {spread}")?;
+    let spread = measure(rt, Work::Callbacks { jobs: JOBS }, repetitions)?;
+    println!(rt; "srcubench-callbacks 1 {spread}")?;
     Ok(())
 }
 

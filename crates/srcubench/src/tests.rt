@@ -1,3 +1,5 @@
+use crate::callbacks::measure_memory;
+use crate::calling::JobError;
 use crate::command_line::{Job, job_of};
 use crate::driving::Halt;
 use crate::pairs::make_pairs;
@@ -6,7 +8,7 @@ use crate::periods::{EveryPeriod, Stop, make_periods};
 use crate::spread::Spread;
 use crate::work::{Work, measure, run};
 use crate::{asking, trial};
-use domain::{AdvanceRefusal, StartRefusal};
+use domain::{AdvanceRefusal, CallRefusal, PeriodsExhausted, StartRefusal, TakeRefusal};
 use scan::{Engine, Progress};
 use sections::{Limits, Made, make};
 use sseq::Index;
@@ -222,6 +224,47 @@ fn sends_entries_through(rt: HostRuntime) -> Result<(), Fail> {
         let spread = measure(&rt, entries, 3)?;
         assert!(rt; spread.least <= spread.median && spread.median <= spread.most);
         assert_eq!(rt; format!(in rt.alloc(); "{way}")?.as_str(), name);
+    }
+    Ok(())
+}
+
+/// Would catch jobs that are not queued or don't come out, and want of memory where there is some.
+#[test]
+fn runs_jobs(rt: HostRuntime) -> Result<(), Fail> {
+    for work in [Work::Queueing { jobs: 100 }, Work::Callbacks { jobs: 100 }] {
+        assert_eq!(rt; run(&rt, work)?.done, 100);
+        let spread = measure(&rt, work, 3)?;
+        assert!(rt; spread.least <= spread.median && spread.median <= spread.most);
+    }
+    Ok(())
+}
+
+/// Would catch a heap that is not the one in which the jobs lie, and what else a domain takes counted among them.
+#[test]
+fn counts_the_memory_of_jobs(rt: HostRuntime) -> Result<(), Fail> {
+    assert_eq!(rt; measure_memory(&rt, 0)?, 0);
+    let (few, many) = (measure_memory(&rt, 1_000)?, measure_memory(&rt, 20_000)?);
+    assert!(rt; 8_000 <= few && few <= many / 10 && many / 100 <= few);
+    Ok(())
+}
+
+/// Would catch one error that is printed as another.
+#[test]
+fn prints_a_job_error(rt: HostRuntime) -> Result<(), Fail> {
+    for (error, text) in [
+        (JobError::NotQueued(CallRefusal::Memory), "out of memory"),
+        (
+            JobError::NotWaited(PeriodsExhausted),
+            "no more grace periods may start",
+        ),
+        (
+            JobError::NotTaken(TakeRefusal::Invoking),
+            "a batch of this processor is out",
+        ),
+        (JobError::TooFew, "fewer jobs are ready than went in"),
+        (JobError::TooMany, "more jobs came out than went in"),
+    ] {
+        assert_eq!(rt; format!(in rt.alloc(); "{error}")?.as_str(), text);
     }
     Ok(())
 }

@@ -6,7 +6,7 @@ ghost use Rattle.srcubench.specs.Spreads.{IsSpreadOf};
 
 use crate::passage::Way;
 use crate::spread::{Spread, cost_of_one};
-use crate::{asking, driving, held, passage, quiet, trial};
+use crate::{asking, callbacks, driving, held, passage, quiet, trial};
 use anyhow::Result;
 use std::sync::Wait;
 use std::thread::Threads;
@@ -51,6 +51,14 @@ pub enum Work {
         way: Way,
         batches: u64,
     },
+    /// Jobs that are queued on the processor of a domain.
+    Queueing {
+        jobs: u64,
+    },
+    /// The same, and then as many are run, behind a grace period.
+    Callbacks {
+        jobs: u64,
+    },
 }
 
 /// What one run did.
@@ -94,6 +102,8 @@ pub fn run<R: Threads + Sync + Wait + Clock + AllocGlobal>(rt: &R, work: Work) -
             })
         }
         Work::Entries { way, batches } => passage::run(rt, way, batches),
+        Work::Queueing { jobs } => callbacks::run_queueing(rt, jobs),
+        Work::Callbacks { jobs } => callbacks::run_passing(rt, jobs),
     }
 }
 
