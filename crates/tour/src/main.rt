@@ -5,6 +5,7 @@ ghost use Rattle.std.specs.Prelude.{IfOk};
 ghost use Rattle.domain.specs.Views.{IsOf};
 ghost use Rattle.tour.specs.Parts.{IsReady};
 
+mod callbacks;
 mod config;
 mod readers;
 #[cfg(test)]
@@ -12,7 +13,8 @@ mod tests;
 mod updaters;
 
 use anyhow::Result;
-use config::Config;
+use callbacks::replace_and_serve;
+use config::{Config, Old};
 use domain::{Cpu, Domain, Limits};
 use readers::{open, read_quickly, read_slowly};
 use std::alloc::Global;
@@ -34,27 +36,35 @@ const LIMITS: Limits = Limits {
     cells: 0,
 };
 
-/// A domain, and its five processors. A processor is a value: whichever thread owns it works with it.
-fn new_domain(alloc: Global) -> Result<(Domain<()>, Cpu<()>, Cpu<()>, Cpu<()>, Cpu<()>, Cpu<()>)>
-    ensures { IfOk result (λ r. IsReady r.0 r.1 × IsReady r.0 r.2 × IsReady r.0 r.3 × IsReady r.0 r.4 × IsReady r.0 r.5) }
+/// A domain, and its two processors. A processor is a value: whichever thread owns it works with it.
+fn pair(alloc: Global) -> Result<(Domain<Old>, Cpu<Old>, Cpu<Old>)>
+    ensures { IfOk result (λ r. IsReady r.0 r.1 × IsReady r.0 r.2) }
 {
-    let (domain, mut cpus) = Domain::new(alloc, 5, LIMITS)?; // init_srcu_struct
+    let (domain, mut cpus) = Domain::new(alloc, 2, LIMITS)?; // init_srcu_struct
 
-    let fifth = cpus.pop().unwrap();
-    let fourth = cpus.pop().unwrap();
+    let second = cpus.pop().unwrap();
+    let first = cpus.pop().unwrap();
+    Ok((domain, first, second))
+}
+
+/// A domain, and its three processors.
+fn trio(alloc: Global) -> Result<(Domain<Old>, Cpu<Old>, Cpu<Old>, Cpu<Old>)>
+    ensures { IfOk result (λ r. IsReady r.0 r.1 × IsReady r.0 r.2 × IsReady r.0 r.3) }
+{
+    let (domain, mut cpus) = Domain::new(alloc, 3, LIMITS)?;
     let third = cpus.pop().unwrap();
     let second = cpus.pop().unwrap();
     let first = cpus.pop().unwrap();
-    Ok((domain, first, second, third, fourth, fifth))
+    Ok((domain, first, second, third))
 }
 
 /// A reader sleeps in its sections, while an updater replaces the configuration and waits. Answers whether the reader
 /// found in each section the same before and behind its sleep.
 fn wait<R: Threads + Wait + Clock + Sync>(
     rt: &R,
-    domain: &Domain<()>,
-    reader: Cpu<()>,
-    updater: Cpu<()>,
+    domain: &Domain<Old>,
+    reader: Cpu<Old>,
+    updater: Cpu<Old>,
     config: &Config,
 ) -> Result<bool>
     requires { IsReady domain.now updater }
@@ -107,10 +117,10 @@ impl fmt::Display for Handed {
 /// on its own processor, and polls.
 fn hand_over<R: Threads + Wait + Sync>(
     rt: &R,
-    domain: &Domain<()>,
-    opener: Cpu<()>,
-    reader: Cpu<()>,
-    updater: Cpu<()>,
+    domain: &Domain<Old>,
+    opener: Cpu<Old>,
+    reader: Cpu<Old>,
+    updater: Cpu<Old>,
     config: &Config,
 ) -> Result<Handed>
     requires opener { IsOf domain.now opener }
@@ -133,6 +143,26 @@ fn hand_over<R: Threads + Wait + Sync>(
     })
 }
 
+/// A reader sleeps in its sections, while an updater replaces the configuration twice and doesn't wait: callbacks free
+/// what it replaced. Answers whether the reader found in each section the same before and behind its sleep, and how many
+/// callbacks ran.
+fn call_back<R: Threads + Wait + Clock + Sync>(
+    rt: &R,
+    domain: &Domain<Old>,
+    reader: Cpu<Old>,
+    updater: Cpu<Old>,
+    config: &Config,
+) -> Result<(bool, usize)>
+    requires { IsReady domain.now updater }
+{
+    let (same, ran) = join(
+        rt,
+        || read_slowly(rt, reader, config, NAPS),
+        || replace_and_serve(rt, domain, updater, config),
+    );
+    Ok((same?, ran?))
+}
+
 /// Prints what the first two did, which is the same each time.
 fn print_wait<R: Print + AllocGlobal>(rt: &R, same: bool) -> Result<()> {
     println!(rt; "slept in {NAPS} sections, and read the same before and behind it: {same}")?;
@@ -140,21 +170,57 @@ fn print_wait<R: Print + AllocGlobal>(rt: &R, same: bool) -> Result<()> {
     Ok(())
 }
 
-/// Prints what the other three did, which is the same each time.
+/// Prints what the next three did, which is the same each time.
 fn print_handed<R: Print + AllocGlobal>(rt: &R, handed: &Handed) -> Result<()> {
     println!(rt; "{handed}")?;
     println!(rt; "version 3 is there, and nobody reads version 2")?;
     Ok(())
 }
 
+/// Prints what the last two did, which is the same each time.
+fn print_freed<R: Print + AllocGlobal>(rt: &R, same: bool, ran: usize) -> Result<()> {
+    println!(rt; "slept in {NAPS} sections, and read the same before and behind it: {same}")?;
+    println!(rt; "callbacks that freed a version: {ran}")?;
+    println!(rt; "version 5 is there, and nobody reads versions 3 and 4")?;
+    Ok(())
+}
+
+/// Readers sleep while an updater waits, in a domain of their own.
+fn show_wait<R: Threads + Wait + Clock + Print + AllocGlobal + Sync>(
+    rt: &R,
+    config: &Config,
+) -> Result<()> {
+    let (domain, reader, updater) = pair(rt.alloc())?;
+    let same = wait(rt, &domain, reader, updater, config)?;
+    print_wait(rt, same)
+}
+
+/// A section goes from a thread to another, in a domain of their own.
+fn show_handed<R: Threads + Wait + Print + AllocGlobal + Sync>(
+    rt: &R,
+    config: &Config,
+) -> Result<()> {
+    let (domain, opener, reader, updater) = trio(rt.alloc())?;
+    let handed = hand_over(rt, &domain, opener, reader, updater, config)?;
+    print_handed(rt, &handed)
+}
+
+/// Callbacks free what an updater replaced, in a domain of their own.
+fn show_freed<R: Threads + Wait + Clock + Print + AllocGlobal + Sync>(
+    rt: &R,
+    config: &Config,
+) -> Result<()> {
+    let (domain, reader, updater) = pair(rt.alloc())?;
+    let (same, ran) = call_back(rt, &domain, reader, updater, config)?;
+    print_freed(rt, same, ran)
+}
+
 /// The threads' processors go with them, and are gone when they end.
 fn tour<R: Threads + Wait + Clock + Print + AllocGlobal + Sync>(rt: &R) -> Result<()> {
     let config = Config::new(1);
-    let (domain, slow, waiter, opener, quick, poller) = new_domain(rt.alloc())?;
-    let same = wait(rt, &domain, slow, waiter, &config)?;
-    print_wait(rt, same)?;
-    let handed = hand_over(rt, &domain, opener, quick, poller, &config)?;
-    print_handed(rt, &handed)
+    show_wait(rt, &config)?;
+    show_handed(rt, &config)?;
+    show_freed(rt, &config)
 }
 
 fn main(rt: HostRuntime) -> Result<()> {

@@ -1,7 +1,7 @@
 //! Those who read the configuration, each on a processor of its own.
 ghost use Rattle.std.specs.Prelude.{◌≡◌, IfOk};
 
-use crate::config::Config;
+use crate::config::{Config, Old};
 use anyhow::Result;
 use domain::{Cpu, Held};
 use std::thread::sleep;
@@ -11,7 +11,7 @@ use std::time::{Clock, Duration};
 const NAP: u64 = 2;
 
 /// Reads the configuration in a section, and sleeps there. Answers whether what it read was still the same behind that.
-fn read_and_sleep<R: Clock>(rt: &R, cpu: &mut Cpu<()>, config: &Config) -> Result<bool> {
+fn read_and_sleep<R: Clock>(rt: &R, cpu: &mut Cpu<Old>, config: &Config) -> Result<bool> {
     let section = cpu.read_lock()?; // srcu_read_lock
     let version = config.current(); // srcu_dereference
     let before = version.read();
@@ -25,7 +25,7 @@ fn read_and_sleep<R: Clock>(rt: &R, cpu: &mut Cpu<()>, config: &Config) -> Resul
 /// Sleeps in so many sections. Answers whether nothing changed in any of them.
 pub fn read_slowly<R: Clock>(
     rt: &R,
-    mut cpu: Cpu<()>,
+    mut cpu: Cpu<Old>,
     config: &Config,
     times: u32,
 ) -> Result<bool> {
@@ -37,7 +37,7 @@ pub fn read_slowly<R: Clock>(
 }
 
 /// Reads in so many sections. Answers whether a version was there in each of them.
-pub fn read_quickly(mut cpu: Cpu<()>, config: &Config, times: u32) -> Result<bool> {
+pub fn read_quickly(mut cpu: Cpu<Old>, config: &Config, times: u32) -> Result<bool> {
     let mut found = true;
     for _ in 0..times {
         let section = cpu.read_lock()?;
@@ -48,7 +48,7 @@ pub fn read_quickly(mut cpu: Cpu<()>, config: &Config, times: u32) -> Result<boo
 }
 
 /// Opens a section, which another thread will close, and answers what it read there.
-pub fn open(mut cpu: Cpu<()>, config: &Config) -> Result<(Held, Option<u64>)>
+pub fn open(mut cpu: Cpu<Old>, config: &Config) -> Result<(Held, Option<u64>)>
     ensures { IfOk result (λ opened. opened.0.domain ≡ cpu.cpu.domain) }
 {
     let held = cpu.down_read()?; // srcu_down_read

@@ -1,20 +1,8 @@
 //! What the guide shows.
-ghost use Rattle.std.specs.Prelude.{IfOk};
-ghost use Rattle.tour.specs.Parts.{IsReady};
-
 use super::*;
+use callbacks::{free_ready, replace_and_call};
 use domain::{Exhausted, Index, NotACookie, Number, Progress, StartRefusal};
 use std::test::Fail;
-
-/// A new domain and its two processors.
-fn pair(alloc: Global) -> Result<(Domain<()>, Cpu<()>, Cpu<()>)>
-    ensures { IfOk result (λ r. IsReady r.0 r.1 × IsReady r.0 r.2) }
-{
-    let (domain, mut cpus) = Domain::new(alloc, 2, LIMITS)?;
-    let second = cpus.pop().unwrap();
-    let first = cpus.pop().unwrap();
-    Ok((domain, first, second))
-}
 
 fn number(value: u64) -> Number {
     Number::new(value).unwrap_or(Number::zero())
@@ -89,6 +77,34 @@ fn by_hand(rt: HostRuntime) -> Result<(), Fail> {
     Ok(())
 }
 
+/// Would catch a callback that frees a version while a section is open in which it was found, and one that never does.
+#[test]
+fn callbacks(rt: HostRuntime) -> Result<(), Fail> {
+    let (domain, mut reader, mut updater) = pair(rt.alloc())?;
+    let processor = updater.processor();
+    let config = Config::new(1);
+    let section = reader.read_lock()?;
+    let found = config.current();
+    let replaced = replace_and_call(&rt, &domain, &mut updater, &config, 2);
+    let _started = domain.advance(&rt, &mut updater);
+    let _flipped = domain.advance(&rt, &mut updater);
+    let waiting = domain.advance(&rt, &mut updater);
+    let early = free_ready(&rt, &domain, &mut updater, processor, &config);
+    let read = found.read();
+    reader.read_unlock(section);
+    let ended = domain.advance(&rt, &mut updater);
+    let late = free_ready(&rt, &domain, &mut updater, processor, &config);
+
+    assert_eq!(rt; waiting, Ok(Progress::Waiting(Index::Zero)));
+    assert_eq!(rt; ended, Ok(Progress::Ended(number(4))));
+    assert_eq!(rt;
+        (replaced.is_ok(), early.ok(), late.ok()),
+        (true, Some(0), Some(1))
+    );
+    assert_eq!(rt; (read, found.read()), (Some(1), None));
+    Ok(())
+}
+
 /// Would catch a section that is closed on another processor than that of the call, and held ones that are counted.
 #[test]
 fn sections(rt: HostRuntime) -> Result<(), Fail> {
@@ -124,7 +140,7 @@ fn limits(rt: HostRuntime) -> Result<(), Fail> {
         periods: 1,
         cells: 0,
     };
-    let (domain, mut cpus) = Domain::<()>::new(rt.alloc(), 1, few)?;
+    let (domain, mut cpus) = Domain::<Old>::new(rt.alloc(), 1, few)?;
     let mut cpu = cpus.pop().unwrap();
 
     let section = cpu.read_lock()?;

@@ -3,7 +3,7 @@ ghost use Rattle.std.specs.Prelude.{◌≡◌};
 ghost use Rattle.domain.specs.Views.{IsOf};
 ghost use Rattle.tour.specs.Parts.{IsReady};
 
-use crate::config::Config;
+use crate::config::{Config, Old};
 use anyhow::Result;
 use domain::{Cpu, Domain, Held};
 use std::sync::Wait;
@@ -11,8 +11,8 @@ use std::sync::Wait;
 /// Replaces the configuration, and waits until nobody reads the old version.
 pub fn replace<R: Wait>(
     rt: &R,
-    domain: &Domain<()>,
-    mut cpu: Cpu<()>,
+    domain: &Domain<Old>,
+    mut cpu: Cpu<Old>,
     config: &Config,
     number: u64,
 ) -> Result<()>
@@ -20,7 +20,7 @@ pub fn replace<R: Wait>(
 {
     let old = config.publish(number); // rcu_assign_pointer
     domain.synchronize(rt, &mut cpu)?; // synchronize_srcu: each section that was open before is closed
-    old.free(); // so nobody reads the old version any more
+    config.free(old); // so nobody reads the old version any more
 
     Ok(())
 }
@@ -38,8 +38,8 @@ pub struct Polled {
 /// polls until nobody reads the old version.
 pub fn replace_and_poll<R: Wait>(
     rt: &R,
-    domain: &Domain<()>,
-    mut cpu: Cpu<()>,
+    domain: &Domain<Old>,
+    mut cpu: Cpu<Old>,
     config: &Config,
     number: u64,
     held: Held,
@@ -50,7 +50,7 @@ pub fn replace_and_poll<R: Wait>(
     let old = config.publish(number);
     let mut cookie = domain.start_poll(&mut cpu); // start_poll_synchronize_srcu: asks for a period, and goes on
     let early = cpu.poll(&mut cookie); // poll_state_synchronize_srcu: false, as the section is open
-    let read = old.read();
+    let read = config.read(&old);
     cpu.up_read(held); // srcu_up_read: opened there, closed here
 
     for _ in rt.forever() {
@@ -59,6 +59,6 @@ pub fn replace_and_poll<R: Wait>(
         }
         domain.advance(rt, &mut cpu)?; // there is no kthread: any thread drives the period on
     }
-    old.free();
+    config.free(old);
     Ok(Polled { read, early })
 }

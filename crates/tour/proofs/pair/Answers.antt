@@ -4,7 +4,7 @@ use Rattle.std.proofs.lemmas.List.Elements.{All-pop}
 use Rattle.domain.specs.Views.{CpuView}
 use Rattle.tour.specs.Parts.{IsReady}
 use Rattle.tour.proofs.Starting.{new_ones_are_ready}
-use Rattle.tour.proofs.tests.pair.Goals as goal
+use Rattle.tour.proofs.pair.Goals as goal
 
 pub returns : goal.returns
 returns c =

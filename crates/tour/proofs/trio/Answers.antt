@@ -4,20 +4,16 @@ use Rattle.std.proofs.lemmas.List.Elements.{All-pop}
 use Rattle.domain.specs.Views.{CpuView}
 use Rattle.tour.specs.Parts.{IsReady}
 use Rattle.tour.proofs.Starting.{new_ones_are_ready}
-use Rattle.tour.proofs.new_domain.Goals as goal
+use Rattle.tour.proofs.trio.Goals as goal
 
 pub returns : goal.returns
 returns c =
     let P : CpuView → Type 0 = IsReady c.in_ok-domain.domain in
     let all : All P c.in_ok-domain.cpus.items = new_ones_are_ready _ _ c.in_ok-domain.ensures.made in
-    let fifth = All-pop P _ _ _ c.pop.ensures.items all in
-    let fourth = All-pop P _ _ _ c.pop-2.ensures.items fifth.0 in
-    let third = All-pop P _ _ _ c.pop-3.ensures.items fourth.0 in
-    let second = All-pop P _ _ _ c.pop-4.ensures.items third.0 in
-    let first = All-pop P _ _ _ c.pop-5.ensures.items second.0 in (
+    let third = All-pop P _ _ _ c.pop.ensures.items all in
+    let second = All-pop P _ _ _ c.pop-2.ensures.items third.0 in
+    let first = All-pop P _ _ _ c.pop-3.ensures.items second.0 in (
       rw c.unwrap-first.ensures at first.1,
       rw c.unwrap-second.ensures at second.1,
       rw c.unwrap-third.ensures at third.1,
-      rw c.unwrap-fourth.ensures at fourth.1,
-      rw c.unwrap-fifth.ensures at fifth.1,
     )
