@@ -1,6 +1,5 @@
 mod alone;
 mod barriers;
 mod calling;
-mod cleanup;
 mod jobs;
 mod threads;

@@ -9,7 +9,7 @@ use Rattle.lines.specs.Lines.{is_name, number_of}
 use Rattle.requests.specs.declared.fault.Fault.{Fault}
 use Rattle.requests.specs.declared.fault.Fault.TheVariants as fault
 use Rattle.requests.specs.declared.command.Argument.{Argument}
-use Rattle.requests.specs.declared.command.Argument.TheVariants.{NewDomain, AnyNumber, ADomain, AProcessor, NewName, ALook, AReading, AHeld, AJob}
+use Rattle.requests.specs.declared.command.Argument.TheVariants.{NewDomain, AnyNumber, ADomain, AProcessor, NewName, ALook, AReading, AHeld}
 use Rattle.requests.specs.declared.given.Given.{Given}
 use Rattle.requests.specs.declared.scene.Kind.{Kind}
 use Rattle.requests.specs.declared.scene.Kind.TheVariants as kind
@@ -77,7 +77,6 @@ module _ (s : SceneView) where
   reads g ALook w h = (refl, kind_there (is_name w) kind.Look (s.kind_of g.domain w) h)
   reads g AReading w h = (refl, kind_there (is_name w) kind.Reading (s.kind_of g.domain w) h)
   reads g AHeld w h = (refl, kind_there (is_name w) kind.Held (s.kind_of g.domain w) h)
-  reads g AJob w h = (refl, tt)
 
   -- an argument behind it changes nothing of what is known of a word
   keeps : (g : Given) (b a : Argument) (v w : List ℕ) → may_follow b a ≡ true → IsKnown s g b v → IsKnown s (filled s g a w) b v
@@ -97,8 +96,6 @@ module _ (s : SceneView) where
   keeps g b AReading v w e h = first_of (cc, assumption h)
   keeps g NewDomain AHeld v w e h = cc
   keeps g b AHeld v w e h = first_of (cc, assumption h)
-  keeps g NewDomain AJob v w e h = cc
-  keeps g b AJob v w e h = first_of (cc, assumption h)
 
   filled_domain : (g : Given) (a : Argument) (w : List ℕ) → (filled s g a w).domain ≡ place_after s g.domain a w
   unfolding place_after
@@ -147,7 +144,6 @@ module _ (s : SceneView) where
   ready g a w rest fine (inl there) = inl there
   ready g NewDomain w rest fine (inr e) = inr e
   ready g AnyNumber w rest fine (inr e) = inr e
-  ready g AJob w rest fine (inr e) = inr e
   ready g _ w rest fine (inr e) = cc
 
 -- so far words were read as arguments without a fault, and `rest` and `behind` are left of them

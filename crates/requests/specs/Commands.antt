@@ -3,7 +3,7 @@ use Rattle.std.specs.Prelude.{◌≡◌, ℕ, length, List, [], ◌∷◌, find,
 use Rattle.requests.specs.declared.command.Command.{Command}
 use Rattle.requests.specs.declared.command.Command.TheVariants as command
 use Rattle.requests.specs.declared.command.Argument.{Argument}
-use Rattle.requests.specs.declared.command.Argument.TheVariants.{NewDomain, AnyNumber, ADomain, AProcessor, NewName, ALook, AReading, AHeld, AJob}
+use Rattle.requests.specs.declared.command.Argument.TheVariants.{NewDomain, AnyNumber, ADomain, AProcessor, NewName, ALook, AReading, AHeld}
 
 -- the word of a command, and what the words behind it should be
 pub record RowView : Type 0 where
@@ -26,15 +26,10 @@ row_of command.Poll = record { word = codes "poll"; takes = ADomain ∷ AProcess
 row_of command.Start = record { word = codes "start"; takes = ADomain ∷ AProcessor ∷ [] }
 row_of command.Advance = record { word = codes "advance"; takes = ADomain ∷ AProcessor ∷ [] }
 row_of command.Step = record { word = codes "step"; takes = ADomain ∷ AProcessor ∷ [] }
-row_of command.Call = record { word = codes "call"; takes = ADomain ∷ AProcessor ∷ AJob ∷ [] }
-row_of command.Run = record { word = codes "run"; takes = ADomain ∷ AProcessor ∷ [] }
-row_of command.Batch = record { word = codes "batch"; takes = ADomain ∷ AProcessor ∷ [] }
-row_of command.Finish = record { word = codes "finish"; takes = ADomain ∷ AProcessor ∷ [] }
-row_of command.Segs = record { word = codes "segs"; takes = ADomain ∷ AProcessor ∷ [] }
 row_of command.State = record { word = codes "state"; takes = ADomain ∷ [] }
 
 abbrev pub commands : List Command
-commands = command.Domain ∷ command.Look ∷ command.Enter ∷ command.Lock ∷ command.Unlock ∷ command.Down ∷ command.Up ∷ command.Park ∷ command.Unpark ∷ command.Get ∷ command.Ask ∷ command.Poll ∷ command.Start ∷ command.Advance ∷ command.Step ∷ command.Call ∷ command.Run ∷ command.Batch ∷ command.Finish ∷ command.Segs ∷ command.State ∷ []
+commands = command.Domain ∷ command.Look ∷ command.Enter ∷ command.Lock ∷ command.Unlock ∷ command.Down ∷ command.Up ∷ command.Park ∷ command.Unpark ∷ command.Get ∷ command.Ask ∷ command.Poll ∷ command.Start ∷ command.Advance ∷ command.Step ∷ command.State ∷ []
 
 abbrev pub command_word : Command → List ℕ
 command_word c = (row_of c).word

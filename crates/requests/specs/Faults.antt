@@ -6,7 +6,7 @@ use Rattle.requests.specs.declared.fault.Fault.{Fault}
 use Rattle.requests.specs.declared.fault.Fault.TheVariants as fault
 use Rattle.requests.specs.declared.command.Command.{Command}
 use Rattle.requests.specs.declared.command.Argument.{Argument}
-use Rattle.requests.specs.declared.command.Argument.TheVariants.{NewDomain, AnyNumber, ADomain, AProcessor, NewName, ALook, AReading, AHeld, AJob}
+use Rattle.requests.specs.declared.command.Argument.TheVariants.{NewDomain, AnyNumber, ADomain, AProcessor, NewName, ALook, AReading, AHeld}
 use Rattle.requests.specs.declared.scene.Kind.{Kind}
 use Rattle.requests.specs.declared.scene.Kind.TheVariants.{Look, Reading, Held, Parked}
 use Rattle.requests.specs.Commands.{command_of, arguments}
@@ -37,11 +37,7 @@ is_skipped (w ∷ ws) = begins_with_hash w
 
 -- One word
 
--- the fault of a word that should be a name, whether it is in use or not
-abbrev pub name_fault : List ℕ → Option Fault
-name_fault w = if is_name w then None else Some fault.Name
-
--- the fault of a word that should be a new name, and that is in use or not
+-- the fault of a word that should be a name, and that is in use or not
 abbrev pub new_name_fault : List ℕ → Bool → Option Fault
 new_name_fault w in_use = if not (is_name w) then Some fault.Name else (if in_use then Some fault.Taken else None)
 
@@ -84,7 +80,6 @@ argument_fault s place NewName w = new_name_fault w (is_some (s.kind_of place w)
 argument_fault s place ALook w = kind_fault Look w (s.kind_of place w)
 argument_fault s place AReading w = kind_fault Reading w (s.kind_of place w)
 argument_fault s place AHeld w = kind_fault Held w (s.kind_of place w)
-argument_fault s place AJob w = name_fault w
 
 -- The words of a line
 

@@ -4,5 +4,4 @@ pub mod Scenes
 pub mod Faults
 pub mod Requests
 pub mod Given
-pub mod JobNames
 pub mod Replies

@@ -1,6 +1,5 @@
 -- The texts of replies.
 use Rattle.std.specs.Prelude.{ℕ, List, [], ◌∷◌, ◌++◌, codes, decimal}
-use Rattle.std.specs.List.{flat_map}
 use Rattle.sseq.specs.Indexes.{index_text}
 use Rattle.sseq.specs.Numbers.{phase_text}
 use Rattle.scan.specs.declared.progress.Progress.{Progress}
@@ -9,8 +8,6 @@ use Rattle.requests.specs.declared.cause.Cause.{Cause}
 use Rattle.requests.specs.declared.cause.Cause.TheVariants as cause
 use Rattle.requests.specs.declared.reply.Period.{Period}
 use Rattle.requests.specs.declared.reply.Sections.{Sections}
-use Rattle.requests.specs.declared.reply.Waiting.{Waiting}
-use Rattle.requests.specs.declared.reply.Segments.{Segments}
 use Rattle.requests.specs.declared.reply.Reply.{Reply}
 use Rattle.requests.specs.declared.reply.Reply.TheVariants as reply
 use Rattle.requests.specs.Commands.{command_word}
@@ -24,24 +21,12 @@ cause_word cause.Memory = codes "memory"
 cause_word cause.Exhausted = codes "exhausted"
 cause_word cause.Running = codes "running"
 cause_word cause.NotACookie = codes "not-a-cookie"
-cause_word cause.Invoking = codes "invoking"
-cause_word cause.NoBatch = codes "none"
 
 abbrev pub period_text : Period → List ℕ
 period_text p = codes "number " ++ decimal p.number ++ codes " " ++ phase_text p.phase
 
 abbrev pub sections_text : Sections → List ℕ
 sections_text s = codes "index " ++ index_text s.index ++ codes " open " ++ decimal s.zero ++ codes " " ++ decimal s.one ++ codes " need " ++ decimal s.need
-
--- names, each with a space before it
-abbrev pub names_text : List (List ℕ) → List ℕ
-names_text names = flat_map (λ name. codes " " ++ name) names
-
-abbrev pub waiting_text : Waiting → List ℕ
-waiting_text w = decimal w.count ++ codes " " ++ decimal w.number
-
-abbrev pub segments_text : Segments → List ℕ
-segments_text s = codes "done " ++ decimal s.done ++ codes " wait " ++ waiting_text s.wait ++ codes " ready " ++ waiting_text s.ready ++ codes " next " ++ decimal s.next
 
 -- what the engine answered
 abbrev pub progress_text : Progress → List ℕ
@@ -64,11 +49,6 @@ words_text (reply.Cookie c) = codes "cookie " ++ decimal c
 words_text reply.Done = codes "done"
 words_text reply.NotYet = codes "not yet"
 words_text (reply.Progress p) = progress_text p
-words_text (reply.Queued k c) = codes "queued " ++ decimal k ++ codes " cookie " ++ decimal c
-words_text (reply.Ran jobs) = codes "ran" ++ names_text jobs
-words_text (reply.TookJobs jobs) = codes "took" ++ names_text jobs
-words_text (reply.Finished n) = codes "finished " ++ decimal n
-words_text (reply.Segs s) = codes "segs " ++ segments_text s
 words_text (reply.Refused c why) = codes "refused " ++ command_word c ++ codes " " ++ cause_word why
 words_text (reply.Faulty n f) = codes "line " ++ decimal n ++ codes ": " ++ fault_word f
 

@@ -4,7 +4,7 @@ use Rattle.lines.specs.Lines.{number_of}
 use Rattle.requests.specs.declared.command.Command.{Command}
 use Rattle.requests.specs.declared.command.Command.TheVariants as command
 use Rattle.requests.specs.declared.command.Argument.{Argument}
-use Rattle.requests.specs.declared.command.Argument.TheVariants.{NewDomain, AnyNumber, ADomain, AProcessor, NewName, ALook, AReading, AHeld, AJob}
+use Rattle.requests.specs.declared.command.Argument.TheVariants.{NewDomain, AnyNumber, ADomain, AProcessor, NewName, ALook, AReading, AHeld}
 use Rattle.requests.specs.declared.given.Given.{Given}
 use Rattle.requests.specs.declared.scene.Kind.TheVariants as kind
 use Rattle.requests.specs.declared.request.Act.{Act}
@@ -26,7 +26,6 @@ Names s g NewName w = g.name ≡ w
 Names s g ALook w = g.name ≡ w
 Names s g AReading w = g.name ≡ w
 Names s g AHeld w = g.name ≡ w
-Names s g AJob w = g.name ≡ w
 
 -- each of the words, as the argument at its place, names what is given
 abbrev pub AllName : SceneView → Given → List Argument → List (List ℕ) → Type 0
@@ -52,11 +51,6 @@ request_of command.Poll g = On g.domain (act.Poll g.processor g.number)
 request_of command.Start g = On g.domain (act.Start g.processor)
 request_of command.Advance g = On g.domain (act.Advance g.processor)
 request_of command.Step g = On g.domain (act.Step g.processor)
-request_of command.Call g = On g.domain (act.Call g.processor g.name)
-request_of command.Run g = On g.domain (act.Run g.processor)
-request_of command.Batch g = On g.domain (act.Batch g.processor)
-request_of command.Finish g = On g.domain (act.Finish g.processor)
-request_of command.Segs g = On g.domain (act.Segs g.processor)
 request_of command.State g = On g.domain act.State
 
 -- the first word is a command, the words behind it name what is given, and that is what the command asks for
@@ -70,7 +64,7 @@ AskOnly s words asked = (other : Request) → Asks s words other → other ≡ a
 
 -- What is known of a request
 
--- the processor is one of the domain's, and the name is in use or not as the act wants it. A job's name may be any
+-- the processor is one of the domain's, and the name is in use or not as the act wants it
 abbrev pub Fits : SceneView → ℕ → Act → Type 0
 Fits s place act.State = Unit {0}
 Fits s place (act.Look p look) = (p < s.processors_of place) × (s.kind_of place look ≡ None)
@@ -87,11 +81,6 @@ Fits s place (act.Poll p cookie) = p < s.processors_of place
 Fits s place (act.Start p) = p < s.processors_of place
 Fits s place (act.Advance p) = p < s.processors_of place
 Fits s place (act.Step p) = p < s.processors_of place
-Fits s place (act.Call p job) = p < s.processors_of place
-Fits s place (act.Run p) = p < s.processors_of place
-Fits s place (act.Batch p) = p < s.processors_of place
-Fits s place (act.Finish p) = p < s.processors_of place
-Fits s place (act.Segs p) = p < s.processors_of place
 
 -- a new domain's name is no other's, and a domain that should do something is there
 abbrev pub IsFor : SceneView → Request → Type 0

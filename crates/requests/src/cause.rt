@@ -10,18 +10,14 @@ pub enum Cause {
     Empty,
     /// A domain has 1 to 64 processors.
     Processors,
-    /// There was no memory for the domain, or for the job.
+    /// There was no memory for the domain.
     Memory,
-    /// As many sections or grace periods began as may, or as many jobs were queued.
+    /// As many sections or grace periods began as may.
     Exhausted,
     /// A grace period runs.
     Running,
     /// The number is no cookie.
     NotACookie,
-    /// A batch of the processor is out.
-    Invoking,
-    /// No batch of the processor is out.
-    NoBatch,
 }
 
 impl fmt::Display for Cause {
@@ -39,8 +35,6 @@ impl fmt::Display for Cause {
             Cause::Exhausted => f.write_str("exhausted"),
             Cause::Running => f.write_str("running"),
             Cause::NotACookie => f.write_str("not-a-cookie"),
-            Cause::Invoking => f.write_str("invoking"),
-            Cause::NoBatch => f.write_str("none"),
         }
     }
 }

@@ -24,11 +24,6 @@ pub enum Command {
     Start,
     Advance,
     Step,
-    Call,
-    Run,
-    Batch,
-    Finish,
-    Segs,
 }
 
 /// What a word of a line should be.
@@ -50,8 +45,6 @@ pub enum Argument {
     AReading,
     /// The name of a section that any processor may end, and that is not parked.
     AHeld,
-    /// The name of a job. Any name will do, also one that is in use.
-    AJob,
 }
 
 /// A row of the table of commands.
@@ -69,7 +62,7 @@ pub struct Row {
 
 impl Command {
     /// All commands, in the order of the help.
-    pub const ALL: [Command; 21] = [
+    pub const ALL: [Command; 16] = [
         Command::Domain,
         Command::Look,
         Command::Enter,
@@ -85,11 +78,6 @@ impl Command {
         Command::Start,
         Command::Advance,
         Command::Step,
-        Command::Call,
-        Command::Run,
-        Command::Batch,
-        Command::Finish,
-        Command::Segs,
         Command::State,
     ];
 
@@ -190,36 +178,6 @@ impl Command {
                 takes: &[Argument::ADomain, Argument::AProcessor],
                 form: "step NAME P",
                 does: "lets the engine make one step",
-            },
-            Command::Call => Row {
-                word: "call",
-                takes: &[Argument::ADomain, Argument::AProcessor, Argument::AJob],
-                form: "call NAME P J",
-                does: "queues a job J on processor P, to run after a grace period",
-            },
-            Command::Run => Row {
-                word: "run",
-                takes: &[Argument::ADomain, Argument::AProcessor],
-                form: "run NAME P",
-                does: "runs the first jobs that are ready on processor P, up to 8",
-            },
-            Command::Batch => Row {
-                word: "batch",
-                takes: &[Argument::ADomain, Argument::AProcessor],
-                form: "batch NAME P",
-                does: "takes those jobs out as a batch, and runs none yet",
-            },
-            Command::Finish => Row {
-                word: "finish",
-                takes: &[Argument::ADomain, Argument::AProcessor],
-                form: "finish NAME P",
-                does: "runs the jobs of processor P's batch, and ends it",
-            },
-            Command::Segs => Row {
-                word: "segs",
-                takes: &[Argument::ADomain, Argument::AProcessor],
-                form: "segs NAME P",
-                does: "shows how many jobs of processor P wait, and for what",
             },
             Command::State => Row {
                 word: "state",

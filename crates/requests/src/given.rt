@@ -1,7 +1,7 @@
 //! What the words of a line name.
 ghost use Rattle.std.specs.Prelude.{◌≡◌, true, None, Some, MatchResult, unwrap_or};
 ghost use Rattle.lines.specs.Lines.{number_of};
-ghost use Rattle.requests.specs.Faults.{name_fault, number_fault, kind_fault};
+ghost use Rattle.requests.specs.Faults.{number_fault, kind_fault};
 ghost use Rattle.requests.specs.Scenes.{IsPlace};
 ghost use Rattle.requests.specs.Requests.{request_of};
 ghost use Rattle.requests.specs.Given.{IsRead, needs_domain};
@@ -50,7 +50,6 @@ impl Given {
             Argument::ALook => self.with_name_of(Kind::Look, word, scene),
             Argument::AReading => self.with_name_of(Kind::Reading, word, scene),
             Argument::AHeld => self.with_name_of(Kind::Held, word, scene),
-            Argument::AJob => self.with_job(word),
         }
     }
 
@@ -123,15 +122,6 @@ impl Given {
         }
     }
 
-    fn with_job(self, word: &[u8]) -> Result<Given, Fault>
-        ensures { MatchResult result
-            (λ g. (name_fault word.now ≡ None) × (g ≡ record self { name = word.now }))
-            (λ f. name_fault word.now ≡ Some f) }
-    {
-        let name = Name::new(word).ok_or(Fault::Name)?;
-        Ok(Given { name, ..self })
-    }
-
     /// What the command asks for.
     pub fn asked_by(self, command: Command) -> Request
         ensures { result ≡ request_of command self }
@@ -181,14 +171,6 @@ impl Given {
             Command::Start => Act::Start { processor },
             Command::Advance => Act::Advance { processor },
             Command::Step => Act::Step { processor },
-            Command::Call => Act::Call {
-                processor,
-                job: name,
-            },
-            Command::Run => Act::Run { processor },
-            Command::Batch => Act::Batch { processor },
-            Command::Finish => Act::Finish { processor },
-            Command::Segs => Act::Segs { processor },
             Command::State => Act::State,
         };
         Request::On { domain, act }

@@ -5,7 +5,6 @@ ghost use Rattle.requests.specs.Replies.{reply_text};
 use crate::cause::Cause;
 use crate::command::Command;
 use crate::fault::Fault;
-use crate::job_names::JobNames;
 use lines::Name;
 use scan::Progress;
 use sseq::{Index, Number, Phase};
@@ -28,23 +27,6 @@ pub struct Sections {
     pub zero: usize,
     pub one: usize,
     pub need: Number,
-}
-
-/// How many jobs wait for a number, and for which, 0 where none does: `B N`.
-#[derive(Clone, Copy, Debug, PartialEq, Eq)]
-pub struct Waiting {
-    pub count: usize,
-    pub number: u64,
-}
-
-/// How many jobs of a processor are done, which wait for a first and which for a second number, and how many have no
-/// number yet: `done A wait B N1 ready C N2 next E`.
-#[derive(Clone, Copy, Debug, PartialEq, Eq)]
-pub struct Segments {
-    pub done: usize,
-    pub wait: Waiting,
-    pub ready: Waiting,
-    pub next: usize,
 }
 
 /// The reply to a line.
@@ -79,19 +61,6 @@ pub enum Reply {
     NotYet,
     /// What the engine answered.
     Progress(Progress),
-    /// A job was queued: its number among those of its processor, from 0, and the cookie that it waits for.
-    Queued {
-        k: u64,
-        cookie: u64,
-    },
-    /// The jobs of these names ran, in this order.
-    Ran(JobNames),
-    /// The jobs of these names are out, in this order.
-    TookJobs(JobNames),
-    /// So many jobs that were out ran, and their batch is finished.
-    Finished(usize),
-    /// How the jobs of a processor wait.
-    Segs(Segments),
     /// The line was refused, for this cause.
     Refused(Command, Cause),
     /// The line of this number, from 1, is faulty.
@@ -130,35 +99,6 @@ impl fmt::Display for Sections {
     }
 }
 
-impl fmt::Display for Waiting {
-    ghost use Rattle.std.specs.Prelude.{Some};
-    ghost use Rattle.requests.specs.Replies.{waiting_text};
-
-    ghost output = { λ waiting. Some (waiting_text waiting) };
-
-    fn fmt<W: fmt::Write>(&self, f: &mut fmt::Formatter<W>) -> fmt::Result {
-        let Waiting { count, number } = self;
-        write!(f, "{count} {number}")
-    }
-}
-
-impl fmt::Display for Segments {
-    ghost use Rattle.std.specs.Prelude.{Some};
-    ghost use Rattle.requests.specs.Replies.{segments_text};
-
-    ghost output = { λ segments. Some (segments_text segments) };
-
-    fn fmt<W: fmt::Write>(&self, f: &mut fmt::Formatter<W>) -> fmt::Result {
-        let Segments {
-            done,
-            wait,
-            ready,
-            next,
-        } = self;
-        write!(f, "done {done} wait {wait} ready {ready} next {next}")
-    }
-}
-
 impl fmt::Display for Reply {
     ghost use Rattle.std.specs.Prelude.{Some};
     ghost use Rattle.requests.specs.Replies.{reply_text};
@@ -187,11 +127,6 @@ impl fmt::Display for Reply {
             Reply::Progress(Progress::Ended(number)) => writeln!(f, "ended {number}"),
             Reply::Progress(Progress::Waiting(index)) => writeln!(f, "waiting {index}"),
             Reply::Progress(Progress::Step) => writeln!(f, "step"),
-            Reply::Queued { k, cookie } => writeln!(f, "queued {k} cookie {cookie}"),
-            Reply::Ran(jobs) => writeln!(f, "ran{jobs}"),
-            Reply::TookJobs(jobs) => writeln!(f, "took{jobs}"),
-            Reply::Finished(count) => writeln!(f, "finished {count}"),
-            Reply::Segs(segments) => writeln!(f, "segs {segments}"),
             Reply::Refused(command, cause) => writeln!(f, "refused {command} {cause}"),
             Reply::Faulty { line, fault } => writeln!(f, "line {line}: {fault}"),
         }

@@ -43,14 +43,4 @@ pub enum Act {
     Advance { processor: u64 },
     /// To let the engine make one step.
     Step { processor: u64 },
-    /// To queue a job of this name on the processor. Other jobs may have the name too.
-    Call { processor: u64, job: Name },
-    /// To take a batch of the processor's jobs that are ready, to run them, and to finish the batch.
-    Run { processor: u64 },
-    /// To take a batch of the processor's jobs that are ready. It stays out.
-    Batch { processor: u64 },
-    /// To run the jobs of the processor's batch that is out, and to finish it.
-    Finish { processor: u64 },
-    /// To show the segments of the processor's list of jobs.
-    Segs { processor: u64 },
 }

@@ -1,6 +1,5 @@
 ghost use Rattle.std.specs.Prelude.{◌<◌, length};
 
-mod jobs;
 mod stage;
 
 use crate::tests::stage::Stage;
@@ -30,11 +29,6 @@ const HELP: &str = "
   start NAME P       starts a grace period
   advance NAME P     lets the engine work until it has an answer
   step NAME P        lets the engine make one step
-  call NAME P J      queues a job J on processor P, to run after a grace period
-  run NAME P         runs the first jobs that are ready on processor P, up to 8
-  batch NAME P       takes those jobs out as a batch, and runs none yet
-  finish NAME P      runs the jobs of processor P's batch, and ends it
-  segs NAME P        shows how many jobs of processor P wait, and for what
   state NAME         shows where the domain stands";
 
 #[test]
@@ -50,7 +44,7 @@ fn rows_make_the_help(rt: HostRuntime) -> Result<(), Fail> {
 
 #[test]
 fn words_of_commands(rt: HostRuntime) {
-    let rows: [(&[u8], Option<Command>); 29] = [
+    let rows: [(&[u8], Option<Command>); 22] = [
         (b"domain", Some(Command::Domain)),
         (b"state", Some(Command::State)),
         (b"look", Some(Command::Look)),
@@ -67,17 +61,10 @@ fn words_of_commands(rt: HostRuntime) {
         (b"start", Some(Command::Start)),
         (b"advance", Some(Command::Advance)),
         (b"step", Some(Command::Step)),
-        (b"call", Some(Command::Call)),
-        (b"run", Some(Command::Run)),
-        (b"batch", Some(Command::Batch)),
-        (b"finish", Some(Command::Finish)),
-        (b"segs", Some(Command::Segs)),
         (b"", None),
         (b"loc", None),
         (b"locks", None),
         (b"ups", None),
-        (b"seg", None),
-        (b"calls", None),
         (b"LOCK", None),
         (b"frob", None),
     ];

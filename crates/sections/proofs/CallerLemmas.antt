@@ -1,5 +1,5 @@
 -- What a crate above may cite of this one; the other files of proofs/ are its own.
--- Three of these are clauses of `sums_of_a_domain` too, which anyone may call: `equal_sums` is `empty`, `fewer_ends` is `one`, and `locks_grow` and `unlocks_grow` are the two halves of `grow`. `counters_add_up` is the clause of `totals_of_a_domain`.
+-- Four of these are clauses of `sums_of_a_domain` too, which anyone may call: `equal_sums` is `empty`, `fewer_ends` is `one`, `counters_add_up` is `all`, and `locks_grow` and `unlocks_grow` are the two halves of `grow`.
 
 -- The lock counters
 

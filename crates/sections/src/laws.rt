@@ -18,14 +18,10 @@ pub fn steps_of_a_domain()
 {}
 
 /// The argument of a scan: as many sections of an index have ended as were begun just where none is open, and the
-/// counters only grow.
+/// counters only grow. And that of a count of all: the sections that are open are the locks less the unlocks.
 pub fn sums_of_a_domain()
     ensures empty { EqualSumsAreEmpty }
     ensures one { FewerEndsShowOne }
+    ensures all { CountersAddUp }
     ensures grow { CountersGrow }
-{}
-
-/// The argument of a count of all sections: those that are open are the locks less the unlocks.
-pub fn totals_of_a_domain()
-    ensures { CountersAddUp }
 {}

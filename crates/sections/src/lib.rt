@@ -17,7 +17,7 @@ mod view;
 
 pub use cpu::{Cookie, Cpu, Exhausted, Held, Look, NotACookie, Reading};
 pub use engine::EngineSeat;
-pub use laws::{steps_of_a_domain, sums_of_a_domain, totals_of_a_domain, words_of_a_domain};
+pub use laws::{steps_of_a_domain, sums_of_a_domain, words_of_a_domain};
 pub use limits::{Limits, MOST_PROCESSORS, MakeError};
 pub use making::{Made, make};
 pub use sight::Sight;

@@ -8,7 +8,7 @@ use Rattle.sseq.specs.declared.number.Phase.{Phase}
 use Rattle.sseq.specs.Numbers.{state_bits}
 use Rattle.sections.specs.Views.{LookView, ReadingView}
 use Rattle.scan.specs.Standings.{index_now}
-use Rattle.solo.specs.Calls.{SoloView, IsSame, IsLookNow, IsReadingAt, Begins, IsOutOfSections, Ends, ReadsNumber}
+use Rattle.solo.specs.Calls.{SoloView, IsLookNow, IsReadingAt, Begins, IsOutOfSections, Ends, ReadsNumber}
 use Rattle.requests.specs.declared.command.Command.{Command}
 use Rattle.requests.specs.declared.command.Command.TheVariants as command
 use Rattle.requests.specs.declared.cause.Cause.TheVariants as cause
@@ -20,7 +20,6 @@ use Rattle.requests.specs.Faults.{same_kind}
 use Rattle.session.specs.declared.names.Token.{Token}
 use Rattle.session.specs.declared.names.Token.TheVariants as token
 use Rattle.session.specs.Tokens.{token_at, held_of, Frees}
-use Rattle.session.specs.JobLists.{JobsView}
 use Rattle.session.specs.States.{Bearer, Look, Reading, Becomes, bearer_at, kind_of, kind_at, is_parked}
 use Rattle.session.specs.Entries.{bearer_of, names_of, desk_of, state_with, tokens_with, AreOf}
 use Rattle.session.specs.Scripts.{Does, BeginsUnder, BeginsNow}
@@ -33,9 +32,9 @@ kind_case : (b : Bool) (found given : Option Kind) → (Some kind.Parked ≡ giv
 kind_case true found given other h = absurd (other h)
 kind_case false found given other h = (refl, h)
 
-module _ (own name : List ℕ) (tokens : List (List ℕ × Token)) (parked : Option Named) (jobs : List JobsView) (d : SoloView) where
+module _ (own name : List ℕ) (tokens : List (List ℕ × Token)) (parked : Option Named) (d : SoloView) where
   -- the name is not that of the section on the desk, and what has it is of this kind
-  found_kind : (given : Option Kind) → (Some kind.Parked ≡ given → ⊥) → kind_at name (state_with own tokens parked jobs d) ≡ given
+  found_kind : (given : Option Kind) → (Some kind.Parked ≡ given → ⊥) → kind_at name (state_with own tokens parked d) ≡ given
       → (is_parked name (desk_of parked) ≡ false) × (option_map kind_of (option_map bearer_of (token_at name tokens)) ≡ given)
   found_kind given other h =
       let (free, is) = kind_case (is_parked name (desk_of parked)) (option_map kind_of (bearer_at name (names_of tokens))) given other h in
@@ -49,10 +48,10 @@ module _ (own name : List ℕ) (tokens : List (List ℕ × Token)) (parked : Opt
   never_free e = absurd cc
 
   -- the name is free
-  pub is_free : kind_at name (state_with own tokens parked jobs d) ≡ None → token_at name tokens ≡ None
+  pub is_free : kind_at name (state_with own tokens parked d) ≡ None → token_at name tokens ≡ None
   is_free h = free_case (token_at name tokens) (found_kind None never_free h).1
 
-  pub is_not_parked : kind_at name (state_with own tokens parked jobs d) ≡ None → is_parked name (desk_of parked) ≡ false
+  pub is_not_parked : kind_at name (state_with own tokens parked d) ≡ None → is_parked name (desk_of parked) ≡ false
   is_not_parked h = (found_kind None never_free h).0
 
 abbrev is_of : Option Token → Kind → Bool
@@ -76,20 +75,20 @@ wrong_case given None other e = absurd cc
 wrong_case given (Some t) other e = apart_kinds (kind_of (bearer_of t)) given other e
 
 -- nothing of another kind has the name
-pub wrong_kind : (own name : List ℕ) (tokens : List (List ℕ × Token)) (parked : Option Named) (jobs : List JobsView) (d : SoloView) (given : Kind) (t : Option Token) → same_kind kind.Parked given ≡ false → is_of t given ≡ false
-    → kind_at name (state_with own tokens parked jobs d) ≡ Some given → t ≡ token_at name tokens → ⊥
-wrong_kind own name tokens parked jobs d given t other wrong h is =
-    wrong_case given t wrong (ap (λ o. option_map kind_of (option_map bearer_of o)) is ∙ (found_kind own name tokens parked jobs d (Some given) (apart_kinds kind.Parked given other) h).1)
+pub wrong_kind : (own name : List ℕ) (tokens : List (List ℕ × Token)) (parked : Option Named) (d : SoloView) (given : Kind) (t : Option Token) → same_kind kind.Parked given ≡ false → is_of t given ≡ false
+    → kind_at name (state_with own tokens parked d) ≡ Some given → t ≡ token_at name tokens → ⊥
+wrong_kind own name tokens parked d given t other wrong h is =
+    wrong_case given t wrong (ap (λ o. option_map kind_of (option_map bearer_of o)) is ∙ (found_kind own name tokens parked d (Some given) (apart_kinds kind.Parked given other) h).1)
 
 -- a thing of a kind that can be used is not on the desk
-pub is_plain : (own name : List ℕ) (tokens : List (List ℕ × Token)) (parked : Option Named) (jobs : List JobsView) (d : SoloView) (given : Kind) → same_kind kind.Parked given ≡ false
-    → kind_at name (state_with own tokens parked jobs d) ≡ Some given → is_parked name (desk_of parked) ≡ false
-is_plain own name tokens parked jobs d given other h = (found_kind own name tokens parked jobs d (Some given) (apart_kinds kind.Parked given other) h).0
+pub is_plain : (own name : List ℕ) (tokens : List (List ℕ × Token)) (parked : Option Named) (d : SoloView) (given : Kind) → same_kind kind.Parked given ≡ false
+    → kind_at name (state_with own tokens parked d) ≡ Some given → is_parked name (desk_of parked) ≡ false
+is_plain own name tokens parked d given other h = (found_kind own name tokens parked d (Some given) (apart_kinds kind.Parked given other) h).0
 
 -- a name that is not that of the section on the desk
-pub known_kind : (own name : List ℕ) (tokens : List (List ℕ × Token)) (parked : Option Named) (jobs : List JobsView) (d : SoloView) (o : Option Token) → is_parked name (desk_of parked) ≡ false → o ≡ token_at name tokens
-    → option_map kind_of (option_map bearer_of o) ≡ kind_at name (state_with own tokens parked jobs d)
-known_kind own name tokens parked jobs d o free is =
+pub known_kind : (own name : List ℕ) (tokens : List (List ℕ × Token)) (parked : Option Named) (d : SoloView) (o : Option Token) → is_parked name (desk_of parked) ≡ false → o ≡ token_at name tokens
+    → option_map kind_of (option_map bearer_of o) ≡ kind_at name (state_with own tokens parked d)
+known_kind own name tokens parked d o free is =
     ap (λ t. option_map kind_of (option_map bearer_of t)) is ∙ ap (option_map kind_of) (sym (bearer_at_is name tokens))
     ∙ sym (ap (λ b. if b then Some kind.Parked else option_map kind_of (bearer_at name (names_of tokens))) free)
 
@@ -98,22 +97,22 @@ there name tokens t is = bearer_at_is name tokens ∙ ap (option_map bearer_of) 
 
 -- What is done
 
-module _ (own : List ℕ) (tokens : List (List ℕ × Token)) (parked : Option Named) (jobs : List JobsView) (d d' : SoloView) where
+module _ (own : List ℕ) (tokens : List (List ℕ × Token)) (parked : Option Named) (d d' : SoloView) where
   -- the names and how far the domain has come may change
-  goes_on : (tokens' : List (List ℕ × Token)) → IsSame d d' → state_with own tokens' parked jobs d' ≡ record (state_with own tokens parked jobs d) { names = names_of tokens'; standing = d'.standing }
-  goes_on tokens' same = λ i. record (state_with own tokens parked jobs d) { names = names_of tokens'; asked = same.4 i; standing = d'.standing; queued = same.6 i }
+  goes_on : (tokens' : List (List ℕ × Token)) → d'.asked ≡ d.asked → state_with own tokens' parked d' ≡ record (state_with own tokens parked d) { names = names_of tokens'; standing = d'.standing }
+  goes_on tokens' same = ap (λ n. record (state_with own tokens parked d) { names = names_of tokens'; asked = n; standing = d'.standing }) same
 
   pub looked : (p : ℕ) (name : List ℕ) (l : LookView) → token_at name tokens ≡ None → IsLookNow d l → d' ≡ d
-      → Does d.limits (act.Look p name) (state_with own tokens parked jobs d) (reply.Look l.index) (state_with own (tokens ++ (name, token.Look l) ∷ []) parked jobs d')
+      → Does d.limits (act.Look p name) (state_with own tokens parked d) (reply.Look l.index) (state_with own (tokens ++ (name, token.Look l) ∷ []) parked d')
   looked p name l free now same = record {
     names = subst (λ i. Becomes name (Some (Look i)) (names_of tokens) (names_of (tokens ++ (name, token.Look l) ∷ []))) now.index (comes name (token.Look l) tokens free);
-    rest = ap (state_with own (tokens ++ (name, token.Look l) ∷ []) parked jobs) same;
+    rest = ap (state_with own (tokens ++ (name, token.Look l) ∷ []) parked) same;
     reply = ap reply.Look now.index;
   }
 
-  begun : (p : ℕ) (i : Index) (name : List ℕ) (r : ReadingView) (tokens' : List (List ℕ × Token)) → IsSame d d' → Becomes name (Some (bearer_of (token.Reading r))) (names_of tokens) (names_of tokens')
+  begun : (p : ℕ) (i : Index) (name : List ℕ) (r : ReadingView) (tokens' : List (List ℕ × Token)) → d'.asked ≡ d.asked → Becomes name (Some (bearer_of (token.Reading r))) (names_of tokens) (names_of tokens')
       → Begins d.limits p i r.section d.standing d'.standing → IsReadingAt d.table p i r
-      → BeginsUnder d.limits p i (λ s. Reading s p) name (state_with own tokens parked jobs d) (reply.Index r.index) (state_with own tokens' parked jobs d')
+      → BeginsUnder d.limits p i (λ s. Reading s p) name (state_with own tokens parked d) (reply.Index r.index) (state_with own tokens' parked d')
   begun p i name r tokens' same named begins is = record {
     section = r.section;
     begins = begins;
@@ -122,23 +121,23 @@ module _ (own : List ℕ) (tokens : List (List ℕ × Token)) (parked : Option N
     reply = ap reply.Index is.index;
   }
 
-  pub locked : (p : ℕ) (name : List ℕ) (r : ReadingView) → IsSame d d' → token_at name tokens ≡ None
+  pub locked : (p : ℕ) (name : List ℕ) (r : ReadingView) → d'.asked ≡ d.asked → token_at name tokens ≡ None
       → Begins d.limits p (index_now d.standing) r.section d.standing d'.standing → IsReadingAt d.table p (index_now d.standing) r
-      → Does d.limits (act.Lock p name) (state_with own tokens parked jobs d) (reply.Index r.index) (state_with own (tokens ++ (name, token.Reading r) ∷ []) parked jobs d')
+      → Does d.limits (act.Lock p name) (state_with own tokens parked d) (reply.Index r.index) (state_with own (tokens ++ (name, token.Reading r) ∷ []) parked d')
   locked p name r same free begins is = inl (begun p (index_now d.standing) name r (tokens ++ (name, token.Reading r) ∷ []) same (comes name (token.Reading r) tokens free) begins is)
 
-  pub downed : (p : ℕ) (name : List ℕ) (h : ReadingView) → IsSame d d' → token_at name tokens ≡ None
+  pub downed : (p : ℕ) (name : List ℕ) (h : ReadingView) → d'.asked ≡ d.asked → token_at name tokens ≡ None
       → Begins d.limits p (index_now d.standing) h.section d.standing d'.standing → IsReadingAt d.table p (index_now d.standing) h
-      → Does d.limits (act.Down p name) (state_with own tokens parked jobs d) (reply.Index h.index) (state_with own (tokens ++ (name, token.Held h) ∷ []) parked jobs d')
+      → Does d.limits (act.Down p name) (state_with own tokens parked d) (reply.Index h.index) (state_with own (tokens ++ (name, token.Held h) ∷ []) parked d')
   downed p name h same free begins is = inl (record { section = h.section; begins = begins; names = comes name (token.Held h) tokens free; rest = goes_on (tokens ++ (name, token.Held h) ∷ []) same; reply = ap reply.Index is.index })
 
   pub begun_none : (p : ℕ) (c : Command) (bearer : ℕ → Bearer) (name : List ℕ) → IsOutOfSections d.limits p (index_now d.standing) d.standing → d' ≡ d
-      → BeginsNow d.limits p c bearer name (state_with own tokens parked jobs d) (reply.Refused c cause.Exhausted) (state_with own tokens parked jobs d')
-  begun_none p c bearer name full same = inr (full, record { after = ap (state_with own tokens parked jobs) same; reply = refl })
+      → BeginsNow d.limits p c bearer name (state_with own tokens parked d) (reply.Refused c cause.Exhausted) (state_with own tokens parked d')
+  begun_none p c bearer name full same = inr (full, record { after = ap (state_with own tokens parked) same; reply = refl })
 
   module _ (name : List ℕ) (rest : List (List ℕ × Token)) (frees : Frees name tokens rest) where
-    pub entered : (p : ℕ) (l : LookView) (r : ReadingView) → IsSame d d' → Some (token.Look l) ≡ token_at name tokens → Begins d.limits p l.index r.section d.standing d'.standing → IsReadingAt d.table p l.index r
-        → Does d.limits (act.Enter p name) (state_with own tokens parked jobs d) (reply.Index r.index) (state_with own (rest ++ (name, token.Reading r) ∷ []) parked jobs d')
+    pub entered : (p : ℕ) (l : LookView) (r : ReadingView) → d'.asked ≡ d.asked → Some (token.Look l) ≡ token_at name tokens → Begins d.limits p l.index r.section d.standing d'.standing → IsReadingAt d.table p l.index r
+        → Does d.limits (act.Enter p name) (state_with own tokens parked d) (reply.Index r.index) (state_with own (rest ++ (name, token.Reading r) ∷ []) parked d')
     entered p l r same is begins at = record {
       index = l.index;
       there = there name tokens (token.Look l) is;
@@ -146,15 +145,15 @@ module _ (own : List ℕ) (tokens : List (List ℕ × Token)) (parked : Option N
     }
 
     pub entered_none : (p : ℕ) (l : LookView) → Some (token.Look l) ≡ token_at name tokens → IsOutOfSections d.limits p l.index d.standing → d' ≡ d
-        → Does d.limits (act.Enter p name) (state_with own tokens parked jobs d) (reply.Refused command.Enter cause.Exhausted) (state_with own rest parked jobs d')
+        → Does d.limits (act.Enter p name) (state_with own tokens parked d) (reply.Refused command.Enter cause.Exhausted) (state_with own rest parked d')
     entered_none p l is full same = record {
       index = l.index;
       there = there name tokens (token.Look l) is;
-      enters = inr (record { full = full; names = goes name tokens rest frees; rest = ap (state_with own rest parked jobs) same; reply = refl });
+      enters = inr (record { full = full; names = goes name tokens rest frees; rest = ap (state_with own rest parked) same; reply = refl });
     }
 
-    pub unlocked : (r : ReadingView) → IsSame d d' → Some (token.Reading r) ≡ token_at name tokens → Ends r.section r.processor d.standing d'.standing
-        → Does d.limits (act.Unlock name) (state_with own tokens parked jobs d) reply.Closed (state_with own rest parked jobs d')
+    pub unlocked : (r : ReadingView) → d'.asked ≡ d.asked → Some (token.Reading r) ≡ token_at name tokens → Ends r.section r.processor d.standing d'.standing
+        → Does d.limits (act.Unlock name) (state_with own tokens parked d) reply.Closed (state_with own rest parked d')
     unlocked r same is ends = record {
       section = r.section;
       processor = r.processor;
@@ -165,8 +164,8 @@ module _ (own : List ℕ) (tokens : List (List ℕ × Token)) (parked : Option N
       reply = refl;
     }
 
-    pub upped : (p : ℕ) (h : ReadingView) → IsSame d d' → Some (token.Held h) ≡ token_at name tokens → Ends h.section p d.standing d'.standing
-        → Does d.limits (act.Up p name) (state_with own tokens parked jobs d) reply.Closed (state_with own rest parked jobs d')
+    pub upped : (p : ℕ) (h : ReadingView) → d'.asked ≡ d.asked → Some (token.Held h) ≡ token_at name tokens → Ends h.section p d.standing d'.standing
+        → Does d.limits (act.Up p name) (state_with own tokens parked d) reply.Closed (state_with own rest parked d')
     upped p h same is ends = record {
       section = h.section;
       there = there name tokens (token.Held h) is;
@@ -177,7 +176,7 @@ module _ (own : List ℕ) (tokens : List (List ℕ × Token)) (parked : Option N
     }
 
     pub laid_down : (h : ReadingView) → parked ≡ None → Some (token.Held h) ≡ token_at name tokens
-        → Does d.limits (act.Park name) (state_with own tokens parked jobs d) reply.Parked (state_with own rest (Some (name, h)) jobs d)
+        → Does d.limits (act.Park name) (state_with own tokens parked d) reply.Parked (state_with own rest (Some (name, h)) d)
     laid_down h empty is = inl (record {
       section = h.section;
       there = there name tokens (token.Held h) is;
@@ -187,11 +186,11 @@ module _ (own : List ℕ) (tokens : List (List ℕ × Token)) (parked : Option N
       reply = refl;
     })
 
-  pub laid_none : (name : List ℕ) (p : Named) → parked ≡ Some p → Does d.limits (act.Park name) (state_with own tokens parked jobs d) (reply.Refused command.Park cause.Full) (state_with own tokens parked jobs d)
+  pub laid_none : (name : List ℕ) (p : Named) → parked ≡ Some p → Does d.limits (act.Park name) (state_with own tokens parked d) (reply.Refused command.Park cause.Full) (state_with own tokens parked d)
   laid_none name p lies = inr (record { name = p.0; section = p.1.section }, ap desk_of lies, record { after = refl; reply = refl })
 
   pub picked_up : (p : Named) → parked ≡ Some p → token_at p.0 tokens ≡ None
-      → Does d.limits act.Unpark (state_with own tokens parked jobs d) (reply.Took p.0) (state_with own (tokens ++ (p.0, token.Held p.1) ∷ []) None jobs d)
+      → Does d.limits act.Unpark (state_with own tokens parked d) (reply.Took p.0) (state_with own (tokens ++ (p.0, token.Held p.1) ∷ []) None d)
   picked_up p lies free = inl (record {
     parked = record { name = p.0; section = p.1.section };
     there = ap desk_of lies;
@@ -200,9 +199,9 @@ module _ (own : List ℕ) (tokens : List (List ℕ × Token)) (parked : Option N
     reply = refl;
   })
 
-  pub shown : IsSame d d' → (table : TableId) (need number : ℕ) (phase : Phase) (index : Index) (counted other_counted : ℕ) → AreOf table d.standing (tokens_with parked tokens) → ReadsNumber number d.standing d'.standing → number % 4 ≡ state_bits phase
+  pub shown : d'.asked ≡ d.asked → (table : TableId) (need number : ℕ) (phase : Phase) (index : Index) (counted other_counted : ℕ) → AreOf table d.standing (tokens_with parked tokens) → ReadsNumber number d.standing d'.standing → number % 4 ≡ state_bits phase
       → index ≡ index_now d'.standing → counted ≡ held_of Zero (tokens_with parked tokens) → other_counted ≡ held_of One (tokens_with parked tokens) → need ≡ d'.asked
-      → Does d.limits act.State (state_with own tokens parked jobs d) (reply.State own (record { number = number; phase = phase }) (record { index = index; zero = counted; one = other_counted; need = need })) (state_with own tokens parked jobs d')
+      → Does d.limits act.State (state_with own tokens parked d) (reply.State own (record { number = number; phase = phase }) (record { index = index; zero = counted; one = other_counted; need = need })) (state_with own tokens parked d')
   shown same table need number phase index counted other_counted held reads p x z o n = record {
     number = number;
     phase = phase;
@@ -211,6 +210,6 @@ module _ (own : List ℕ) (tokens : List (List ℕ × Token)) (parked : Option N
     replies = record {
       rest = goes_on tokens same;
       reply = λ k. reply.State own (record { number = number; phase = phase })
-          (record { index = (x ∙ ap index_now reads.notes.after) k; zero = (z ∙ held.counted Zero) k; one = (o ∙ held.counted One) k; need = (n ∙ same.4) k });
+          (record { index = (x ∙ ap index_now reads.notes.after) k; zero = (z ∙ held.counted Zero) k; one = (o ∙ held.counted One) k; need = (n ∙ same) k });
     };
   }

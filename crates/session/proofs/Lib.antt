@@ -1,6 +1,5 @@
 mod Acting
 mod Answering
-mod Callbacks
 mod Held
 mod Holding
 mod Naming
@@ -9,5 +8,4 @@ mod OpenSections
 mod Places
 mod Quiet
 mod Taken
-mod Taking
 mod Together

@@ -76,11 +76,6 @@ module _ (state : State) (place : ℕ) (d : DomainState) (at : slice_get state p
   fits_there (act.Start p) h = small p h
   fits_there (act.Advance p) h = small p h
   fits_there (act.Step p) h = small p h
-  fits_there (act.Call p job) h = small p h
-  fits_there (act.Run p) h = small p h
-  fits_there (act.Batch p) h = small p h
-  fits_there (act.Finish p) h = small p h
-  fits_there (act.Segs p) h = small p h
 
 -- The session's answer
 

@@ -12,7 +12,6 @@ use Rattle.session.specs.declared.entry.Entry.TheInside as entry
 use Rattle.session.specs.OpenSections.{open_of}
 use Rattle.session.specs.Tokens.{token_at, held_of}
 use Rattle.session.specs.Parkings.{ParkingView}
-use Rattle.session.specs.JobLists.{JobsView, jobs_of, AreJobsOf}
 use Rattle.session.specs.States.{Bearer, Look, Reading, Held, Parked, Names, DomainState, EntryView}
 
 abbrev pub bearer_of : Token → Bearer
@@ -27,19 +26,11 @@ names_of tokens = map (λ t. (t.0, bearer_of t.1)) tokens
 abbrev pub desk_of : Option (List ℕ × ReadingView) → Option Parked
 desk_of parked = option_map (λ p. record { name = p.0; section = p.1.section }) parked
 
-abbrev pub state_with : List ℕ → List (List ℕ × Token) → Option (List ℕ × ReadingView) → List JobsView → SoloView → DomainState
-state_with name tokens parked jobs d = record {
-  name = name;
-  names = names_of tokens;
-  desk = desk_of parked;
-  asked = d.asked;
-  standing = d.standing;
-  queued = d.queued;
-  jobs = map jobs_of jobs;
-}
+abbrev pub state_with : List ℕ → List (List ℕ × Token) → Option (List ℕ × ReadingView) → SoloView → DomainState
+state_with name tokens parked d = record { name = name; names = names_of tokens; desk = desk_of parked; asked = d.asked; standing = d.standing }
 
-abbrev pub entry_with : List ℕ → List (List ℕ × Token) → Option (List ℕ × ReadingView) → List JobsView → SoloView → EntryView
-entry_with name tokens parked jobs d = record { limits = d.limits; state = state_with name tokens parked jobs d }
+abbrev pub entry_with : List ℕ → List (List ℕ × Token) → Option (List ℕ × ReadingView) → SoloView → EntryView
+entry_with name tokens parked d = record { limits = d.limits; state = state_with name tokens parked d }
 
 -- all tokens: those under names, and the section that is parked
 abbrev pub tokens_with : Option (List ℕ × ReadingView) → List (List ℕ × Token) → List (List ℕ × Token)
@@ -72,7 +63,7 @@ pub record AreTogether (d : SoloView) (tokens : List (List ℕ × Token)) (p : P
 
 module _ {A : Type 0} where
   abbrev pub view_of_entry : entry.Inside A → EntryView
-  view_of_entry e = entry_with e.name e.names.tokens e.parking.parked e.jobs.items e.domain
+  view_of_entry e = entry_with e.name e.names.tokens e.parking.parked e.domain
 
   abbrev pub IsEntry : entry.Inside A → Type 0
-  IsEntry e = AreTogether e.domain e.names.tokens e.parking × AreJobsOf e.domain e.jobs.items
+  IsEntry e = AreTogether e.domain e.names.tokens e.parking

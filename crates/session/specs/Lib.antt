@@ -1,6 +1,5 @@
 pub mod Tokens
 pub mod Parkings
-pub mod JobLists
 pub mod Insides
 pub mod OpenSections
 pub mod States

@@ -1,5 +1,5 @@
 -- What a line of a script means: which reply it gets, and what it changes.
-use Rattle.std.specs.Prelude.{◌≡◌, ℕ, ◌+◌, ◌*◌, ◌%◌, ◌<◌, ◌≤◌, Bool, true, false, List, [], ◌∷◌, ◌++◌, length, replicate, Option, Some, None, max, slice_get, slice_set, if◌then◌else◌, ◌⊎◌}
+use Rattle.std.specs.Prelude.{◌≡◌, ℕ, ◌%◌, ◌<◌, ◌≤◌, Bool, true, false, List, [], ◌∷◌, ◌++◌, length, Option, Some, None, max, slice_get, slice_set, if◌then◌else◌, ◌⊎◌}
 use Rattle.sseq.specs.declared.index.Index.{Index}
 use Rattle.sseq.specs.declared.index.Index.TheVariants.{Zero, One}
 use Rattle.sseq.specs.declared.number.Phase.{Phase}
@@ -7,8 +7,6 @@ use Rattle.sseq.specs.Numbers.{state_bits}
 use Rattle.sections.specs.declared.limits.Limits.{Limits}
 use Rattle.sections.specs.Calls.{IsNoCookie}
 use Rattle.sections.specs.Making.{IsCount}
-use Rattle.onedom.specs.Histories.{ended_in}
-use Rattle.calls.specs.Tallies.{most_calls}
 use Rattle.scan.specs.declared.progress.Progress.{Progress}
 use Rattle.scan.specs.declared.progress.Progress.TheVariants as progress
 use Rattle.scan.specs.declared.progress.StartRefusal.{StartRefusal}
@@ -21,20 +19,18 @@ use Rattle.requests.specs.declared.fault.Fault.TheVariants.{Text}
 use Rattle.requests.specs.declared.command.Command.{Command}
 use Rattle.requests.specs.declared.command.Command.TheVariants as command
 use Rattle.requests.specs.declared.cause.Cause.{Cause}
-use Rattle.requests.specs.declared.cause.Cause.TheVariants.{Full, Empty, Processors, Memory, Exhausted, Running, NotACookie, Invoking, NoBatch}
+use Rattle.requests.specs.declared.cause.Cause.TheVariants.{Full, Empty, Processors, Memory, Exhausted, Running, NotACookie}
 use Rattle.requests.specs.declared.request.Act.{Act}
 use Rattle.requests.specs.declared.request.Act.TheVariants as act
 use Rattle.requests.specs.declared.request.Request.{Request}
 use Rattle.requests.specs.declared.request.Request.TheVariants as request
-use Rattle.requests.specs.declared.reply.Segments.{Segments}
 use Rattle.requests.specs.declared.reply.Reply.{Reply}
 use Rattle.requests.specs.declared.reply.Reply.TheVariants as reply
 use Rattle.requests.specs.Faults.{fault_of, is_skipped}
 use Rattle.requests.specs.Requests.{Asks}
 use Rattle.requests.specs.Replies.{reply_text}
 use Rattle.session.specs.OpenSections.{open_of}
-use Rattle.session.specs.declared.jobs.Job.{Job}
-use Rattle.session.specs.States.{State, DomainState, Bearer, Look, Reading, Held, Parked, Jobs, Becomes, AreTaken, bearer_at, names_of_jobs, scene_of}
+use Rattle.session.specs.States.{State, DomainState, Bearer, Look, Reading, Held, Parked, Becomes, bearer_at, scene_of}
 
 -- What one domain does
 
@@ -125,7 +121,7 @@ pub record PicksUp (d : DomainState) (r : Reply) (d' : DomainState) : Type 0 whe
 abbrev pub Unparks : DomainState → Reply → DomainState → Type 0
 Unparks d r d' = PicksUp d r d' ⊎ (d.desk ≡ None) × IsRefused command.Unpark Empty d r d'
 
--- the names stay, and what lies on the desk, what was asked for, and the jobs. This is the reply
+-- the names stay, and what lies on the desk, and what was asked for. This is the reply
 pub record Replies (given : Reply) (d : DomainState) (r : Reply) (d' : DomainState) : Type 0 where
   pub rest : d' ≡ record d { standing = d'.standing }
   pub reply : r ≡ given
@@ -156,69 +152,6 @@ pub record Shows (d : DomainState) (r : Reply) (d' : DomainState) : Type 0 where
       (record { number = number; phase = phase })
       (record { index = index_now d.standing; zero = open_of Zero d.standing.history; one = open_of One d.standing.history; need = d.asked })) d r d'
 
--- the processor is given the cookie of now, the job of this name comes last of those that wait there, and a grace period up to its cookie is asked for
-pub record Queues (p : ℕ) (name : List ℕ) (d : DomainState) (r : Reply) (d' : DomainState) : Type 0 where
-  pub k : ℕ
-  pub cookie : ℕ
-  pub jobs : Jobs
-  pub number : slice_get d.queued p ≡ Some k
-  pub there : slice_get d.jobs p ≡ Some jobs
-  pub gives : GivesCookie p cookie d.standing d'.standing
-  pub rest : d' ≡ record d {
-    asked = max d.asked cookie;
-    standing = d'.standing;
-    queued = slice_set d.queued p (k + 1);
-    jobs = slice_set d.jobs p (record jobs { waiting = jobs.waiting ++ record { name = name; cookie = cookie } ∷ [] });
-  }
-  pub reply : r ≡ reply.Queued k cookie
-
--- refused where as many were queued there as may ever be, or memory is: then the processor was given a cookie, and nothing else is done
-abbrev pub Calls : ℕ → List ℕ → DomainState → Reply → DomainState → Type 0
-Calls p name d r d' = Queues p name d r d'
-    ⊎ (slice_get d.queued p ≡ Some most_calls) × IsRefused command.Call Exhausted d r d'
-    ⊎ (cookie : ℕ) × GivesCookie p cookie d.standing d'.standing × Replies (reply.Refused command.Call Memory) d r d'
-
--- no batch of the processor was out. It asks how far the grace periods have come, and these jobs leave, for which they have come far enough; `out` is out then. A list stands behind a lock, so it isn't said which of those that are due leave
-pub record Takes (p : ℕ) (taken : List Job) (out : Option (List (List ℕ))) (d d' : DomainState) : Type 0 where
-  pub jobs : Jobs
-  pub waiting : List Job
-  pub there : slice_get d.jobs p ≡ Some jobs
-  pub none_out : jobs.out ≡ None
-  pub asks : AsksIfDone p (4 * ended_in d.standing.history) true d.standing d'.standing
-  pub leave : AreTaken (4 * ended_in d.standing.history) taken jobs.waiting waiting
-  pub rest : d' ≡ record d { standing = d'.standing; jobs = slice_set d.jobs p (record { waiting = waiting; out = out }) }
-
--- what was taken is finished at once. Refused where a batch is out, and nothing is done
-abbrev pub Runs : ℕ → DomainState → Reply → DomainState → Type 0
-Runs p d r d' = ((taken : List Job) × Takes p taken None d d' × (r ≡ reply.Ran (names_of_jobs taken)))
-    ⊎ IsRefused command.Run Invoking d r d'
-
--- these jobs are a batch that is out; without a job none needs to be
-abbrev pub AreOut : List Job → Option (List (List ℕ)) → Type 0
-AreOut taken out = (out ≡ Some (names_of_jobs taken)) ⊎ (taken ≡ []) × (out ≡ None)
-
--- what was taken stays out. Refused where a batch is out, and nothing is done
-abbrev pub TakesOut : ℕ → DomainState → Reply → DomainState → Type 0
-TakesOut p d r d' = ((taken : List Job) × (out : Option (List (List ℕ))) × Takes p taken out d d' × AreOut taken out × (r ≡ reply.TookJobs (names_of_jobs taken)))
-    ⊎ IsRefused command.Batch Invoking d r d'
-
--- the batch of the processor that is out is over
-pub record IsOver (p : ℕ) (d : DomainState) (r : Reply) (d' : DomainState) : Type 0 where
-  pub jobs : Jobs
-  pub names : List (List ℕ)
-  pub there : slice_get d.jobs p ≡ Some jobs
-  pub out : jobs.out ≡ Some names
-  pub rest : d' ≡ record d { jobs = slice_set d.jobs p (record jobs { out = None }) }
-  pub reply : r ≡ reply.Finished (length names)
-
-abbrev pub Finishes : ℕ → DomainState → Reply → DomainState → Type 0
-Finishes p d r d' = IsOver p d r d'
-    ⊎ (jobs : Jobs) × (slice_get d.jobs p ≡ Some jobs) × (jobs.out ≡ None) × IsRefused command.Finish NoBatch d r d'
-
--- how the jobs of the processor wait. A list stands behind a lock, so it isn't said which counts those are
-abbrev pub ShowsSegments : DomainState → Reply → DomainState → Type 0
-ShowsSegments d r d' = (d' ≡ d) × ((segments : Segments) × (r ≡ reply.Segs segments)) ⊎ IsRefused command.Segs Memory d r d'
-
 -- what an act does to the domain, and its reply
 abbrev pub Does : Limits → Act → DomainState → Reply → DomainState → Type 0
 Does limits act.State d r d' = Shows d r d'
@@ -238,11 +171,6 @@ Does limits (act.Start p) d r d' = ((number : ℕ) × Starts number d.standing d
     ⊎ (why : StartRefusal) × StartsNone why d.standing × IsRefused command.Start (cause_of why) d r d'
 Does limits (act.Advance p) d r d' = Works (Advances d.asked) command.Advance d r d'
 Does limits (act.Step p) d r d' = Works (Steps d.asked) command.Step d r d'
-Does limits (act.Call p name) d r d' = Calls p name d r d'
-Does limits (act.Run p) d r d' = Runs p d r d'
-Does limits (act.Batch p) d r d' = TakesOut p d r d'
-Does limits (act.Finish p) d r d' = Finishes p d r d'
-Does limits (act.Segs p) d r d' = ShowsSegments d r d'
 
 -- What a script does
 
@@ -252,19 +180,8 @@ pub record GoesOn (state : State) (place : ℕ) (d d' : DomainState) (state' : S
   pub same : d'.name ≡ d.name
   pub others : state' ≡ slice_set state place d'
 
-abbrev pub no_jobs : Jobs
-no_jobs = record { waiting = []; out = None }
-
 abbrev pub new_domain : Limits → List ℕ → ℕ → DomainState
-new_domain limits name processors = record {
-  name = name;
-  names = [];
-  desk = None;
-  asked = 0;
-  standing = new_standing limits processors;
-  queued = replicate processors 0;
-  jobs = replicate processors no_jobs;
-}
+new_domain limits name processors = record { name = name; names = []; desk = None; asked = 0; standing = new_standing limits processors }
 
 -- a domain comes behind those that are there
 pub record Makes (limits : Limits) (state : State) (name : List ℕ) (processors : ℕ) (r : Reply) (state' : State) : Type 0 where

@@ -1,5 +1,5 @@
--- The state of a script: its domains, each with the names in use there, what lies on its desk, and the jobs that were queued.
-use Rattle.std.specs.Prelude.{◌≡◌, ◌≢◌, ℕ, ◌≤◌, Bool, false, if◌then◌else◌, List, ◌++◌, length, All, Option, Some, None, map, position, option_map, option_and_then, slice_get, bytes_eq}
+-- The state of a script: its domains, each with the names in use there and what lies on its desk.
+use Rattle.std.specs.Prelude.{◌≡◌, ◌≢◌, ℕ, Bool, false, if◌then◌else◌, List, Option, Some, None, map, position, option_map, option_and_then, slice_get, bytes_eq}
 use Rattle.std.specs.Option.{option_map_or}
 use Rattle.std.specs.Map.{lookup}
 use Rattle.sseq.specs.declared.index.Index.{Index}
@@ -8,7 +8,6 @@ use Rattle.scan.specs.Standings.{Standing}
 use Rattle.requests.specs.declared.scene.Kind.{Kind}
 use Rattle.requests.specs.declared.scene.Kind.TheVariants as kind
 use Rattle.requests.specs.Scenes.{SceneView}
-use Rattle.session.specs.declared.jobs.Job.{Job}
 
 -- what has a name: a look, which has the index that it found; an open section of this number, which ends on this processor, where it was begun; or one that may end on any
 pub data Bearer : Type 0 where
@@ -25,20 +24,13 @@ pub record Parked : Type 0 where
   pub name : List ℕ
   pub section : ℕ
 
--- the jobs of a processor: those that were queued and not taken, in order, each with its name and the number of the cookie that it waits for; and the names of the batch that is out, if one is
-pub record Jobs : Type 0 where
-  pub waiting : List Job
-  pub out : Option (List (List ℕ))
-
--- a domain: its name, the names in use there but that of the section on its desk, what lies on the desk, the greatest number that was asked for (0 if none), and how far the domain has come. For each processor, how many jobs were ever queued there, and its jobs
+-- a domain: its name, the names in use there but that of the section on its desk, what lies on the desk, the greatest number that was asked for (0 if none), and how far the domain has come
 pub record DomainState : Type 0 where
   pub name : List ℕ
   pub names : Names
   pub desk : Option Parked
   pub asked : ℕ
   pub standing : Standing
-  pub queued : List ℕ
-  pub jobs : List Jobs
 
 -- the domains, in the order in which they were made
 abbrev pub State : Type 0
@@ -66,17 +58,6 @@ bearer_at name names = lookup (bytes_eq name) names
 pub record Becomes (name : List ℕ) (bearer : Option Bearer) (names names' : Names) : Type 0 where
   pub here : bearer_at name names' ≡ bearer
   pub others : (other : List ℕ) → other ≢ name → bearer_at other names' ≡ bearer_at other names
-
--- Jobs
-
-abbrev pub names_of_jobs : List Job → List (List ℕ)
-names_of_jobs jobs = map (λ job. job.name) jobs
-
--- these are the first of those that waited, at most eight, and what each of them waits for is reached. The others wait on
-pub record AreTaken (reached : ℕ) (taken waiting waiting' : List Job) : Type 0 where
-  pub first : waiting ≡ taken ++ waiting'
-  pub few : length taken ≤ 8
-  pub due : All (λ job. job.cookie ≤ reached) taken
 
 -- Places
 

@@ -1,12 +1,9 @@
-//! A domain with its name, the names in use there, its desk, and the jobs of its processors.
+//! A domain with its name, the names in use there, and its desk.
 ghost use Rattle.std.specs.Prelude.{◌≡◌, ◌<◌, [], ◌∷◌, option_map, IfOk, OnErr, bytes_eq};
 ghost use Rattle.requests.specs.Requests.{Fits};
 ghost use Rattle.session.specs.States.{kind_at, scene_of};
-ghost use Rattle.session.specs.Entries.{AreTogether};
 ghost use Rattle.session.specs.Scripts.{Does};
 
-use crate::entry::calling::finish_all;
-use crate::jobs::{Jobs, new_jobs};
 use crate::names::{Names, Token, take_last};
 use crate::parking::Parking;
 use lines::Name;
@@ -19,19 +16,12 @@ use std::alloc::{AllocError, Allocator};
 use std::marker::Model;
 use std::sync::Wait;
 
-mod calling;
-
 /// A domain of a session. Its open sections must be ended: spend it by [`Entry::finish`].
-///
-/// What moves batches takes an allocator that is lent. A batch holds its allocator, so that its size is known only where
-/// that of the allocator is: here it is the size of a reference.
 pub struct Entry<A: Allocator> {
     name: Name,
     domain: Solo<A>,
     names: Names<A>,
     parking: Parking<A>,
-    /// Of each processor, in order.
-    jobs: Vec<Jobs<A>, A>,
 }
 
 impl<A: Allocator> Model for Entry<A> {
@@ -58,17 +48,11 @@ impl<A: Allocator> Entry<A> {
         ensures { IfOk result (λ e. e ≡ record { limits = domain.limits; state = new_domain domain.limits name domain.standing.processors }) }
     {
         let parking = Parking::new(alloc, domain.home())?;
-        let Ok(jobs) = new_jobs(alloc, domain.processors()) else {
-            let parked = parking.close();
-            let None = parked else { unreachable!() };
-            return Err(AllocError);
-        };
         Ok(Entry {
             name,
             domain,
             names: Names::new(alloc),
             parking,
-            jobs,
         })
     }
 
@@ -97,6 +81,34 @@ impl<A: Allocator> Entry<A> {
             Token::Look(_) => Some(Kind::Look),
             Token::Reading(_) => Some(Kind::Reading),
             Token::Held(_) => Some(Kind::Held),
+        }
+    }
+
+    /// Does what a line asks of the domain. What it relies on is said of a scene with this domain alone. Where memory is
+    /// refused, nothing is done.
+    pub fn act(&mut self, rt: &impl Wait, act: Act) -> Result<Reply, AllocError>
+        requires { Fits (scene_of (self.old.state ∷ [])) 0 act }
+        ensures limits { self.new.limits ≡ self.old.limits }
+        ensures name { self.new.state.name ≡ self.old.state.name }
+        ensures does { IfOk result (λ r. Does self.old.limits act self.old.state r self.new.state) }
+        ensures err { OnErr result (self.new ≡ self.old) }
+    {
+        match act {
+            Act::State => Ok(self.show(rt)),
+            Act::Look { processor, look } => self.look(rt, processor, look),
+            Act::Enter { processor, look } => self.enter(rt, processor, look),
+            Act::Lock { processor, section } => self.lock(rt, processor, section),
+            Act::Unlock { section } => Ok(self.unlock(rt, section)),
+            Act::Down { processor, section } => self.down(rt, processor, section),
+            Act::Up { processor, section } => Ok(self.up(rt, processor, section)),
+            Act::Park { section } => Ok(self.park(section)),
+            Act::Unpark => self.unpark(),
+            Act::Get { processor } => Ok(Reply::Cookie(self.domain.cookie(rt, processor))),
+            Act::Ask { processor } => Ok(Reply::Cookie(self.domain.ask(rt, processor))),
+            Act::Poll { processor, cookie } => Ok(self.poll(rt, processor, cookie)),
+            Act::Start { .. } => Ok(self.start(rt)),
+            Act::Advance { .. } => Ok(self.advance(rt)),
+            Act::Step { .. } => Ok(self.step(rt)),
         }
     }
 
@@ -325,74 +337,30 @@ impl<A: Allocator> Entry<A> {
             sections,
         }
     }
-}
 
-impl<'a, A: Allocator> Entry<&'a A> {
-    /// Does what a line asks of the domain. What it relies on is said of a scene with this domain alone. Where memory is
-    /// refused, nothing is done.
-    pub fn act(&mut self, rt: &impl Wait, act: Act) -> Result<Reply, AllocError>
-        requires { Fits (scene_of (self.old.state ∷ [])) 0 act }
-        ensures limits { self.new.limits ≡ self.old.limits }
-        ensures name { self.new.state.name ≡ self.old.state.name }
-        ensures does { IfOk result (λ r. Does self.old.limits act self.old.state r self.new.state) }
-        ensures err { OnErr result (self.new ≡ self.old) }
-    {
-        match act {
-            Act::State => Ok(self.show(rt)),
-            Act::Look { processor, look } => self.look(rt, processor, look),
-            Act::Enter { processor, look } => self.enter(rt, processor, look),
-            Act::Lock { processor, section } => self.lock(rt, processor, section),
-            Act::Unlock { section } => Ok(self.unlock(rt, section)),
-            Act::Down { processor, section } => self.down(rt, processor, section),
-            Act::Up { processor, section } => Ok(self.up(rt, processor, section)),
-            Act::Park { section } => Ok(self.park(section)),
-            Act::Unpark => self.unpark(),
-            Act::Get { processor } => Ok(Reply::Cookie(self.domain.cookie(rt, processor))),
-            Act::Ask { processor } => Ok(Reply::Cookie(self.domain.ask(rt, processor))),
-            Act::Poll { processor, cookie } => Ok(self.poll(rt, processor, cookie)),
-            Act::Start { .. } => Ok(self.start(rt)),
-            Act::Advance { .. } => Ok(self.advance(rt)),
-            Act::Step { .. } => Ok(self.step(rt)),
-            Act::Call { processor, job } => self.call(rt, processor, job),
-            Act::Run { processor } => Ok(self.run(rt, processor)),
-            Act::Batch { processor } => Ok(self.take_batch(rt, processor)),
-            Act::Finish { processor } => Ok(self.finish_batch(rt, processor)),
-            Act::Segs { processor } => Ok(self.segs(rt, processor)),
-        }
-    }
-
-    /// Finishes the batches that are out, ends all open sections, and drops the looks and the domain.
+    /// Ends all open sections, and drops the looks and the domain.
     pub fn finish(self, rt: &impl Wait) {
         let Entry {
             name: _,
             mut domain,
             names,
             parking,
-            jobs,
         } = self;
-        finish_all(rt, &mut domain, jobs);
-        end_all(rt, domain, names, parking);
-    }
-}
-
-/// Ends all open sections of a domain, and drops its looks and itself.
-fn end_all<A: Allocator>(rt: &impl Wait, mut domain: Solo<A>, names: Names<A>, parking: Parking<A>)
-    requires { AreTogether domain names.tokens parking }
-{
-    if let Some(held) = parking.close() {
-        let processor = u64::from(held.processor());
-        domain.up_read(rt, processor, held);
-    }
-    let mut tokens = names.into_tokens();
-    while let Some(token) = take_last(&mut tokens) {
-        match token {
-            Token::Look(_look) => {}
-            Token::Reading(reading) => domain.read_unlock(rt, reading),
-            Token::Held(held) => {
-                let processor = u64::from(held.processor());
-                domain.up_read(rt, processor, held);
+        if let Some(held) = parking.close() {
+            let processor = u64::from(held.processor());
+            domain.up_read(rt, processor, held);
+        }
+        let mut tokens = names.into_tokens();
+        while let Some(token) = take_last(&mut tokens) {
+            match token {
+                Token::Look(_look) => {}
+                Token::Reading(reading) => domain.read_unlock(rt, reading),
+                Token::Held(held) => {
+                    let processor = u64::from(held.processor());
+                    domain.up_read(rt, processor, held);
+                }
             }
         }
+        tokens.destroy_empty();
     }
-    tokens.destroy_empty();
 }

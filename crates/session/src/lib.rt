@@ -2,7 +2,6 @@
 #![tactic(auto)]
 
 mod entry;
-mod jobs;
 mod names;
 mod open;
 mod parking;

@@ -39,9 +39,9 @@ impl<'r, A: Allocator, R: Wait> Model for Session<'r, A, R> {
 /// How many domains a script may have.
 const MOST_DOMAINS: usize = 8;
 
-impl<'r, 'a, A: Allocator, R: Wait> Session<'r, &'a A, R> {
+impl<'r, A: Allocator + Copy, R: Wait> Session<'r, A, R> {
     /// A session without domains. Each domain that it makes has these limits.
-    pub fn new(alloc: &'a A, rt: &'r R, limits: Limits) -> Session<'r, &'a A, R>
+    pub fn new(alloc: A, rt: &'r R, limits: Limits) -> Session<'r, A, R>
         requires { AreInRange limits }
         ensures { result ≡ record { limits = limits; domains = [] } }
     {
@@ -109,7 +109,7 @@ impl<'r, 'a, A: Allocator, R: Wait> Session<'r, &'a A, R> {
     }
 }
 
-impl<'a, A: Allocator, R: Wait> Answers<&'a A> for Session<'_, &'a A, R> {
+impl<A: Allocator + Copy, R: Wait> Answers<A> for Session<'_, A, R> {
     ghost use Rattle.std.specs.Prelude.{◌≡◌};
     ghost use Rattle.session.specs.Scripts.{LineGives};
 
@@ -119,7 +119,7 @@ impl<'a, A: Allocator, R: Wait> Answers<&'a A> for Session<'_, &'a A, R> {
         &mut self,
         number: u64,
         line: Option<&[u8]>,
-        reply: &mut Vec<u8, &'a A>,
+        reply: &mut Vec<u8, A>,
     ) -> Result<bool, AllocError> {
         let Some(line) = line else {
             return faulty(number, Fault::Text, reply);

@@ -8,7 +8,6 @@ use std::process::Abort;
 use std::sync::Wait;
 use std::test::Fail;
 
-mod calling;
 mod holding;
 mod needs;
 
@@ -20,19 +19,18 @@ fn replies<R: Wait + AllocGlobal>(
 ) -> Result<String, AllocError>
     requires { AreInRange limits }
 {
-    let alloc = rt.alloc();
-    let mut session = Session::new(&alloc, rt, limits);
-    let given = answer_all(&alloc, &mut session, lines);
+    let mut session = Session::new(rt.alloc(), rt, limits);
+    let given = answer_all(rt.alloc(), &mut session, lines);
     session.finish();
     given
 }
 
-fn answer_all<'a, R: Wait>(
-    alloc: &'a Global,
-    session: &mut Session<&'a Global, R>,
+fn answer_all<R: Wait>(
+    alloc: Global,
+    session: &mut Session<Global, R>,
     lines: &[Option<&str>],
 ) -> Result<String, AllocError> {
-    let mut given = String::new(*alloc);
+    let mut given = String::new(alloc);
     let mut number = 0u64;
     for line in lines {
         number = number.wrapping_add(1);

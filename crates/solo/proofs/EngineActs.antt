@@ -37,10 +37,9 @@ use Rattle.domain.specs.Waiting.{LoadsNeed, StartsPoll}
 use Rattle.domain.specs.Meetings.{IsAllOf, EngineMeets, MeetsHere}
 use Rattle.solo.specs.Calls.{SoloView, IsSame, Starts, StartsNone, Steps, Advances, IsAskedTooMuch}
 use Rattle.solo.specs.Settling.{View, Holds, AllHold, AskTogether, TurnTogether, IsWanted, HaveMet}
-use Rattle.solo.specs.Insides.{queued_on, seen_as, seen_first}
+use Rattle.solo.specs.Insides.{seen_as, seen_first}
 use Rattle.solo.proofs.NothingBetween.{made_by_append}
 use Rattle.solo.proofs.Needing.{GoesOn, stays, goes_further, squeezed, raised_here}
-use Rattle.solo.proofs.Queueing.{QueuesMore, none_more, counts_stay}
 use Rattle.solo.proofs.Settled.{HaveAsked, IsSettled, settled, all_raised, asked_together}
 use Rattle.solo.proofs.Turning.{turn_found, meeting_found, turn_turned}
 use Rattle.solo.proofs.Hand.{IsStill, first_seen, is_seen}
@@ -333,26 +332,11 @@ module _ (t : Turn) where
   same_asked : asked_after ≡ asked_before
   same_asked = ap greatest raises_are
 
-  -- Their seats at the tally words
-
-  calls_stay : QueuesMore 0 t.was.calls t.now.calls
-  calls_stay = none_more t.was.calls t.now.calls t.lends.calls
-
-  same_tallies : t.d'.tallies ≡ t.d.tallies
-  same_tallies =
-      let left = (t.all.here 0 nobody t.all.some).fits.tallies in
-      let met = ap (λ s. s.tallies) (t.meets.calls 0 nobody within ∙ ap (λ (z : DomainCpu). z.calls) (here nobody)) in
-      let was = ap (λ (z : DomainCpu). z.calls.tallies) t.is ∙ (t.met.all.here 0 t.was some).fits.tallies in
-      sym left ∙ (met ∙ (calls_stay.same.0 ∙ was))
-
-  same_queued : queued_on t.cpus' ≡ queued_on t.cpus
-  same_queued = counts_stay t.cpus 0 t.was t.now some t.is 0 calls_stay t.cpus' t.meets.count t.meets.calls refl
-
   abbrev pub before : SoloView
-  before = seen_as t.d.tallies t.limits asked_before (queued_on t.cpus) t.v
+  before = seen_as t.limits asked_before t.v
 
   abbrev pub after : SoloView
-  after = seen_as t.d'.tallies t.limits asked_after (queued_on t.cpus') t.meets.left
+  after = seen_as t.limits asked_after t.meets.left
 
   module _ (act others : List Event) (own : MakesOwn act v w) (seen : w.seat.seen ≡ t.v.seat.seen ++ (others ++ act)) where
     table : t.lends.left.seat.domain ≡ t.v.seat.domain
@@ -414,7 +398,7 @@ module _ (t : Turn) where
     }
 
     same_as : IsSame (before) (after)
-    same_as = (same_engine.0 ∙ own.same.0, refl, same_engine.1 ∙ own.same.1, same_engine.2 ∙ own.same.2, same_asked, same_tallies, same_queued)
+    same_as = (same_engine.0 ∙ own.same.0, refl, same_engine.1 ∙ own.same.1, same_engine.2 ∙ own.same.2, same_asked)
 
     -- all that is true of a domain in one hand
     met_after : (¬ IsRunning w.seat.seen → 0 < w.so_far → IsWanted (greatest raises) w) → HaveMet t.d' t.limits t.cpus' t.meets.left
@@ -494,8 +478,6 @@ module _ (t : Turn) where
       limits = t.limits;
       standing = (as_before [] [] (own_none v w seat_kept) seen_kept ∙ ap standing_of rest) i;
       asked = same_asked i;
-      tallies = same_tallies i;
-      queued = same_queued i;
     }
 
   module _ (x : FindsExhausted LoadsRoot v w) where
@@ -523,7 +505,7 @@ module _ (t : Turn) where
 
 -- where nothing has changed
 pub unchanged : (d d' : SoloView) → d' ≡ d → IsSame d d'
-unchanged d d' same = (ap (λ (x : SoloView). x.table) same, ap (λ (x : SoloView). x.limits) same, ap (λ (x : SoloView). x.standing.processors) same, ap (λ (x : SoloView). x.standing.periods) same, ap (λ (x : SoloView). x.asked) same, ap (λ (x : SoloView). x.tallies) same, ap (λ (x : SoloView). x.queued) same)
+unchanged d d' same = (ap (λ (x : SoloView). x.table) same, ap (λ (x : SoloView). x.limits) same, ap (λ (x : SoloView). x.standing.processors) same, ap (λ (x : SoloView). x.standing.periods) same, ap (λ (x : SoloView). x.asked) same)
 
 -- Each call that drives the engine leaves the processor what it was
 
@@ -583,12 +565,12 @@ pub record Says (d' : DomainView) (limits : Limits) (cpus' : List DomainCpu) (le
   pub what : it
 
 module _ (d : DomainView) (limits : Limits) (cpus : List DomainCpu) (lay : View) (was now : DomainCpu) (d' : DomainView) (cpus' : List DomainCpu) (met : HaveMet d limits cpus lay) (is : was ≡ get_or cpus 0 was) (all : IsAllOf d' cpus') (meets : MeetsHere (set cpus 0 now) cpus')
-    (seen : SoloView) (seen_is : seen_first d limits cpus ≡ seen) where
+    (seen : SoloView) (seen_is : seen_first d.domain limits cpus ≡ seen) where
   abbrev a_turn : (work : View → View → Type 0) (h : Lends work was now) → GoesOn [] was.needs h.worked.needs → Turn
   a_turn work h on = record { d = d; limits = limits; cpus = cpus; v = lay; was = was; now = now; d' = d'; cpus' = cpus'; met = met; is = is; all = all; meets = meets; work = work; lends = h; loaded = on }
 
   abbrev seen' : SoloView
-  seen' = seen_first d' limits cpus'
+  seen' = seen_first d'.domain limits cpus'
 
   module _ (work : View → View → Type 0) (h : Lends work was now) (on : GoesOn [] was.needs h.worked.needs) where
     abbrev t : Turn
@@ -598,7 +580,7 @@ module _ (d : DomainView) (limits : Limits) (cpus : List DomainCpu) (lay : View)
     told_first = sym seen_is ∙ is_seen d limits cpus lay met
 
     told_second : seen' ≡ after t
-    told_second = first_seen d' limits cpus' meets.left (asked_after t) all.some (turned t).lying (λ c. ap greatest ((ask_together t).seen 0 c all.some))
+    told_second = first_seen d'.domain limits cpus' meets.left (asked_after t) all.some (turned t).lying (λ c. ap greatest ((ask_together t).seen 0 c all.some))
 
     -- what the turn says is said of the domain as it is seen
     say : (P : SoloView → SoloView → Type 0) → P (before t) (after t) → P seen seen'

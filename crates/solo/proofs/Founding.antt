@@ -1,6 +1,5 @@
 -- A new domain, in one hand.
 use Rattle.std.proofs.Common.{◌≡◌, ℕ, ◌<◌, List, [], length, get_or, refl, sym, ap, ◌∙◌, subst, arith, rules}
-use Rattle.std.specs.Prelude.{replicate}
 use Rattle.std.proofs.lemmas.List.Elements.{All-nil}
 use Rattle.sections.specs.declared.limits.Limits.{Limits}
 use Rattle.sections.specs.Limits.{AreInRange}
@@ -15,8 +14,7 @@ use Rattle.domain.specs.Making.{IsMade, idle_engine, new_cpu}
 use Rattle.domain.specs.Meetings.{IsAllOf}
 use Rattle.solo.specs.Calls.{IsNew}
 use Rattle.solo.specs.Settling.{View, Holds, AreTogether, AskTogether, TurnTogether, HaveMet}
-use Rattle.solo.specs.Insides.{queued_on, seen_first}
-use Rattle.solo.proofs.Queueing.{count_of, none_yet}
+use Rattle.solo.specs.Insides.{seen_first}
 use Rattle.solo.proofs.Hand.{first_seen}
 
 module _ (limits : Limits) (processors : ℕ) (d : DomainView) (cpus : List CpuView) (made : IsMade (bounds_of processors limits) d cpus) (count : IsCount processors) (range : AreInRange limits) where
@@ -79,8 +77,5 @@ module _ (limits : Limits) (processors : ℕ) (d : DomainView) (cpus : List CpuV
   pub met : HaveMet d limits cpus engine
   met = record { all = all; together = together; raises = []; ask_together = ask_together; swaps = []; turn_together = turn_together; cookies = refl; wanted = λ _ half. absurd (omega (arith, half)) }
 
-  queued : queued_on cpus ≡ replicate processors 0
-  queued = none_yet cpus (λ k c lt. ap count_of (is_new k c lt)) ∙ ap (λ n. replicate n 0) made.count
-
-  pub is_new_domain : IsNew limits processors (seen_first d limits cpus)
-  is_new_domain = subst (IsNew limits processors) (sym (first_seen d limits cpus engine 0 all.some turn_together.lying (λ c. ap (λ (z : CpuView). greatest z.needs.seen) (is_new 0 c all.some)))) (record { limits_are = refl; nothing_yet = refl; none_asked = refl; none_queued = queued; count = count })
+  pub is_new_domain : IsNew limits processors (seen_first d.domain limits cpus)
+  is_new_domain = subst (IsNew limits processors) (sym (first_seen d.domain limits cpus engine 0 all.some turn_together.lying (λ c. ap (λ (z : CpuView). greatest z.needs.seen) (is_new 0 c all.some)))) (record { limits_are = refl; nothing_yet = refl; none_asked = refl; count = count })

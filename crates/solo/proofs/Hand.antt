@@ -16,26 +16,26 @@ use Rattle.domain.specs.Meetings.{IsAllOf}
 use Rattle.domain.proofs.CallerLemmas.{seat_the_same, still_fits}
 use Rattle.solo.specs.Calls.{SoloView}
 use Rattle.solo.specs.Settling.{View, HaveMet}
-use Rattle.solo.specs.Insides.{queued_on, seen_as, seen_with, seen_first}
+use Rattle.solo.specs.Insides.{seen_as, seen_with, seen_first}
 
 -- how it is seen
 
-with_lying : (d : DomainView) (limits : Limits) (asked : ℕ) (queued : List ℕ) (lay : Option View) (v : View) → lay ≡ Some v → seen_with d limits asked queued lay ≡ seen_as d.tallies limits asked queued v
-with_lying d limits asked queued lay v is = ap (seen_with d limits asked queued) is
+with_lying : (table : TableId) (limits : Limits) (asked : ℕ) (lay : Option View) (v : View) → lay ≡ Some v → seen_with table limits asked lay ≡ seen_as limits asked v
+with_lying table limits asked lay v is = ap (seen_with table limits asked) is
 
-pub first_seen : (d : DomainView) (limits : Limits) (cpus : List CpuView) (v : View) (asked : ℕ) → 0 < length cpus → ((c : CpuView) → lies (get_or cpus 0 c).turn ≡ Some v) → ((c : CpuView) → greatest (get_or cpus 0 c).needs.seen ≡ asked) → seen_first d limits cpus ≡ seen_as d.tallies limits asked (queued_on cpus) v
-first_seen d limits [] v asked some lying needs = absurd (omega (arith, some))
-first_seen d limits (c ∷ cpus) v asked some lying needs = with_lying d limits (greatest c.needs.seen) (queued_on (c ∷ cpus)) (lies c.turn) v (lying c) ∙ ap (λ n. seen_as d.tallies limits n (queued_on (c ∷ cpus)) v) (needs c)
+pub first_seen : (table : TableId) (limits : Limits) (cpus : List CpuView) (v : View) (asked : ℕ) → 0 < length cpus → ((c : CpuView) → lies (get_or cpus 0 c).turn ≡ Some v) → ((c : CpuView) → greatest (get_or cpus 0 c).needs.seen ≡ asked) → seen_first table limits cpus ≡ seen_as limits asked v
+first_seen table limits [] v asked some lying needs = absurd (omega (arith, some))
+first_seen table limits (c ∷ cpus) v asked some lying needs = with_lying table limits (greatest c.needs.seen) (lies c.turn) v (lying c) ∙ ap (λ n. seen_as limits n v) (needs c)
 
 module _ (d : DomainView) (limits : Limits) (cpus : List CpuView) (v : View) (met : HaveMet d limits cpus v) where
-  -- as it is said: with the engine that lies there, and what was asked for and queued
+  -- as it is said: with the engine that lies there, and what was asked for
   abbrev pub view : SoloView
-  view = seen_as d.tallies limits (greatest met.raises) (queued_on cpus) v
+  view = seen_as limits (greatest met.raises) v
 
-  pub is_seen : seen_first d limits cpus ≡ view
-  is_seen = first_seen d limits cpus v (greatest met.raises) met.all.some met.turn_together.lying (λ c. ap greatest (met.ask_together.seen 0 c met.all.some))
+  pub is_seen : seen_first d.domain limits cpus ≡ view
+  is_seen = first_seen d.domain limits cpus v (greatest met.raises) met.all.some met.turn_together.lying (λ c. ap greatest (met.ask_together.seen 0 c met.all.some))
 
-  module _ (now : SoloView) (same : seen_first d limits cpus ≡ now) where
+  module _ (now : SoloView) (same : seen_first d.domain limits cpus ≡ now) where
     pub now_is : now ≡ view
     now_is = sym same ∙ is_seen
 

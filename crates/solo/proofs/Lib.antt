@@ -2,9 +2,7 @@ mod NothingBetween
 mod Turning
 mod Settled
 mod Needing
-mod Queueing
 mod Hand
 mod ProcessorActs
-mod CallbackActs
 mod EngineActs
 mod Founding

@@ -1,6 +1,6 @@
 -- What the calls of a processor do to the domain in one hand.
 use Rattle.std.proofs.Common.{◌≡◌, ◌≢◌, ℕ, ◌+◌, ◌*◌, ◌%◌, ◌<◌, ◌≤◌, cond, max, inr, List, [], ◌∷◌, ◌++◌, length, get_or, set, refl, sym, ap, ◌∙◌, subst, append-nil, append_assoc, arith, length-set, get_or-set_other, get_or-set_same, le-ltb, ne_eqb}
-use Rattle.std.specs.Prelude.{Bool, false, Some, Result, Ok, Err, MatchResult, slice_get}
+use Rattle.std.specs.Prelude.{Bool, false, Result, Ok, Err, MatchResult}
 use Rattle.std.proofs.lemmas.List.{get_or_default}
 use mathlib.Core.Logic.{dite}
 use native.Mathlib.Decide.{ℕ_discrete}
@@ -31,10 +31,9 @@ use Rattle.solo.specs.Calls.{SoloView, IsSame, IsSameDomain, Happens, Begins, Is
 use Rattle.domain.specs.Views.{DomainView, CpuView as DomainCpu}
 use Rattle.domain.specs.Meetings.{IsAllOf, EngineMeets, MeetsHere}
 use Rattle.solo.specs.Settling.{View, Holds, AllHold, AskTogether, TurnTogether, HaveMet}
-use Rattle.solo.specs.Insides.{queued_on, seen_as, seen_first}
+use Rattle.solo.specs.Insides.{seen_as, seen_first}
 use Rattle.solo.proofs.Hand.{first_seen, is_seen}
 use Rattle.solo.proofs.Needing.{GoesOn, squeezed, raised_here}
-use Rattle.solo.proofs.Queueing.{QueuesMore, count_of, number_before, counts_after, counts_stay}
 use Rattle.solo.proofs.Settled.{HaveAsked, IsSettled, settled, all_raised, asked_together}
 use Rattle.solo.proofs.Turning.{idle_found, idle_turned}
 use Rattle.solo.proofs.NothingBetween.{made_by_append}
@@ -131,7 +130,7 @@ quiet_one ev starts ends history =
 look_index : (c c' : CpuView) (l : LookView) (changes : ℕ) → Looks c c' l → c'.changes ≡ changes → l.index ≡ low_bit (index_word changes)
 look_index c c' l changes looks same = ap (λ (x : LookView). x.index) looks.look_is ∙ ap low_bit (looks.current ∙ ap index_word same)
 
--- a processor of the domain acted: `was` at place p became `now`, which made no turn. Its seat at the tree raised these (`raised`), or none, and it queued so many jobs (`more`). Then all have met
+-- a processor of the domain acted: `was` at place p became `now`, which made no turn, and its seat at the tree raised these (`raised`), or none. Then all have met
 pub record Turn : Type 0 where
   pub d : DomainView
   pub limits : Limits
@@ -152,8 +151,6 @@ pub record Turn : Type 0 where
   pub needs : GoesOn raised was.needs now.needs
   pub own : raised_by p raised ≡ raised
   pub others : (q : ℕ) → q ≢ p → raised_by q raised ≡ []
-  pub more : ℕ
-  pub calls : QueuesMore more was.calls now.calls
 
 module _ (t : Turn) where
   abbrev nobody : DomainCpu
@@ -211,42 +208,24 @@ module _ (t : Turn) where
   asked_after = greatest t.meets.needs.raises
 
   abbrev pub before : SoloView
-  before = seen_as t.d.tallies t.limits asked_before (queued_on t.cpus) t.v
+  before = seen_as t.limits asked_before t.v
 
   abbrev pub after : SoloView
-  after = seen_as t.d'.tallies t.limits asked_after (queued_on t.cpus') t.meets.left
-
-  -- Its seats at the tally words
-
-  same_tallies : t.d'.tallies ≡ t.d.tallies
-  same_tallies =
-      let left = (t.all.here t.p nobody (omega (arith, count, within))).fits.tallies in
-      let met = ap (λ s. s.tallies) (t.meets.calls t.p nobody within ∙ ap (λ (z : DomainCpu). z.calls) (here nobody)) in
-      let was = ap (λ (z : DomainCpu). z.calls.tallies) t.is ∙ (t.met.all.here t.p t.was t.inside).fits.tallies in
-      sym left ∙ (met ∙ (t.calls.same.0 ∙ was))
-
-  pub number_is : slice_get (queued_on t.cpus) t.p ≡ Some (count_of t.was)
-  number_is = number_before t.cpus t.p t.was t.now t.inside t.is t.more t.calls t.cpus' count t.meets.calls
-
-  pub queued_after : queued_on t.cpus' ≡ set (queued_on t.cpus) t.p (count_of t.was + t.more)
-  queued_after = counts_after t.cpus t.p t.was t.now t.inside t.is t.more t.calls t.cpus' count t.meets.calls
-
-  same_queued : t.more ≡ 0 → queued_on t.cpus' ≡ queued_on t.cpus
-  same_queued none = counts_stay t.cpus t.p t.was t.now t.inside t.is t.more t.calls t.cpus' count t.meets.calls none
+  after = seen_as t.limits asked_after t.meets.left
 
   -- how it is seen
 
-  pub now_was : (now : SoloView) → seen_first t.d t.limits t.cpus ≡ now → now ≡ before
+  pub now_was : (now : SoloView) → seen_first t.d.domain t.limits t.cpus ≡ now → now ≡ before
   now_was now same = sym same ∙ is_seen t.d t.limits t.cpus t.v t.met
 
-  pub after_is : seen_first t.d' t.limits t.cpus' ≡ after
-  after_is = first_seen t.d' t.limits t.cpus' t.meets.left asked_after t.all.some turned.lying (λ c. ap greatest (ask_together.seen 0 c t.all.some))
+  pub after_is : seen_first t.d'.domain t.limits t.cpus' ≡ after
+  after_is = first_seen t.d'.domain t.limits t.cpus' t.meets.left asked_after t.all.some turned.lying (λ c. ap greatest (ask_together.seen 0 c t.all.some))
 
-  pub held : Holds t.limits t.v.seat.domain t.v.seat.processors t.v.seat.seen t.p t.was.cpu
+  held : Holds t.limits t.v.seat.domain t.v.seat.processors t.v.seat.seen t.p t.was.cpu
   held = subst (λ (z : DomainCpu). Holds t.limits t.v.seat.domain t.v.seat.processors t.v.seat.seen t.p z.cpu) (sym t.is) (t.met.together.hold.each t.p t.was t.inside)
 
   -- what the processor has seen of the engine's changes is all of them
-  pub all_changes : t.was.cpu.changes ≤ t.now.cpu.changes → t.now.cpu.changes ≡ t.v.seat.changes
+  all_changes : t.was.cpu.changes ≤ t.now.cpu.changes → t.now.cpu.changes ≡ t.v.seat.changes
   all_changes later =
       let before : t.was.cpu.changes ≡ t.v.seat.changes = ap (λ (x : DomainCpu). x.cpu.changes) t.is ∙ t.met.together.changes t.p t.was t.inside in
       let joins : t.now.cpu.changes ≤ t.meets.left.seat.changes = subst (λ (x : DomainCpu). x.cpu.changes ≤ t.meets.left.seat.changes) (here nobody) (engine_meets.each t.p nobody within).later in
@@ -289,7 +268,7 @@ module _ (t : Turn) where
     acted = settled (set t.cpus t.p t.now) t.cpus' t.v.seat t.meets.left.seat count engine_meets nobody t.limits t.v.seat.seen acts.others act (record { hold = hold; seen = inr (t.p, nobody, within, subst (λ l. IsBeginning l (get_or (set t.cpus t.p t.now) t.p nobody).cpu.seen) seen_here (beginning_refl (get_or (set t.cpus t.p t.now) t.p nobody).cpu.seen)) })
 
     -- the domain has come so far
-    come : (act' : List Event) → act ≡ act' → after ≡ record { table = t.v.seat.domain; limits = t.limits; standing = record (standing_of t.v) { history = t.v.seat.seen ++ act' }; asked = asked_after; tallies = t.d.tallies; queued = queued_on t.cpus' }
+    come : (act' : List Event) → act ≡ act' → after ≡ record { table = t.v.seat.domain; limits = t.limits; standing = record (standing_of t.v) { history = t.v.seat.seen ++ act' }; asked = asked_after }
     come act' same = λ z. record {
       table = same_engine.0 z;
       limits = t.limits;
@@ -302,8 +281,6 @@ module _ (t : Turn) where
         began = ap (λ (x : View). x.began) rest_is z;
       };
       asked = asked_after;
-      tallies = same_tallies z;
-      queued = queued_on t.cpus';
     }
 
     -- all that is true of a domain in one hand
@@ -335,17 +312,11 @@ module _ (t : Turn) where
     same_asked : asked_after ≡ asked_before
     same_asked = ap greatest (raises_are ∙ (ap (λ l. t.met.raises ++ l) none ∙ append-nil t.met.raises))
 
-    -- and nothing queued
-    module _ (no_more : t.more ≡ 0) where
-      pub same_as : IsSame (before) (after)
-      same_as = (same_engine.0, refl, same_engine.1, same_engine.2, same_asked, same_tallies, same_queued no_more)
-
-      -- nothing but how far the domain has come has changed
-      pub same_rest : after ≡ record before { standing = standing_of t.meets.left }
-      same_rest = λ i. record { table = same_engine.0 i; limits = t.limits; standing = standing_of t.meets.left; asked = same_asked i; tallies = same_tallies i; queued = same_queued no_more i }
-
     met_plain : (act : List Event) → Acts act t.was.cpu t.now.cpu → AreOf t.p act → IsQuiet act → HaveMet t.d' t.limits t.cpus' t.meets.left
     met_plain act acts own quiet = met_by act acts own quiet (ap (λ n. n % 4) same_asked ∙ t.met.cookies) (λ _ _. same_asked)
+
+    pub same_as : IsSame (before) (after)
+    same_as = (same_engine.0, refl, same_engine.1, same_engine.2, same_asked)
 
     -- a load of the root found just what had been asked for
     pub need_is : (found : ℕ) → LoadsRoot t.was.needs found t.now.needs → found ≡ asked_before
@@ -360,8 +331,8 @@ module _ (t : Turn) where
       pub idle_met : HaveMet t.d' t.limits t.cpus' t.meets.left
       idle_met = met_plain [] acts (none_of t.p) quiet_none
 
-      pub idle : t.more ≡ 0 → after ≡ before
-      idle no_more = come [] acts (none_of t.p) [] refl ∙ (λ i. record { table = t.v.seat.domain; limits = t.limits; standing = record (standing_of t.v) { history = append-nil t.v.seat.seen i }; asked = same_asked i; tallies = t.d.tallies; queued = same_queued no_more i })
+      pub idle : after ≡ before
+      idle = come [] acts (none_of t.p) [] refl ∙ (λ i. record { table = t.v.seat.domain; limits = t.limits; standing = record (standing_of t.v) { history = append-nil t.v.seat.seen i }; asked = same_asked i })
 
   -- One event was made
 
@@ -425,11 +396,11 @@ module _ (t : Turn) where
     pub locked_met : t.raised ≡ [] → HaveMet t.d' t.limits t.cpus' t.meets.left
     locked_met none = event_met (begin_of kind t.was.cpu t.now.cpu r h) (begin_of kind t.was.cpu t.now.cpu r h) (acts_of_lock kind t.was.cpu t.now.cpu r h) (ap Processor processor_is) refl none refl refl
 
-  pub locked_none : t.raised ≡ [] → t.more ≡ 0 → LooksInVain t.was.cpu t.now.cpu → IsOutOfSections t.limits t.p (index_now (standing_of t.v)) (standing_of t.v) × (after ≡ before)
-  locked_none none no_more h =
+  pub locked_none : t.raised ≡ [] → LooksInVain t.was.cpu t.now.cpu → IsOutOfSections t.limits t.p (index_now (standing_of t.v)) (standing_of t.v) × (after ≡ before)
+  locked_none none h =
       let acts = in_vain h in
       let index = look_index t.was.cpu t.now.cpu h.look t.v.seat.changes h.looks (all_changes acts.later) in
-      (sym (own_locks t.now.cpu.processor h.look.index (index_now (standing_of t.v)) t.now.cpu.mine (h.looks.load.same.3 ∙ held.processor) index (h.looks.load.mine ∙ held.mine)) ∙ (h.exhausted ∙ (h.looks.load.same.2 ∙ held.sections)), idle none acts no_more)
+      (sym (own_locks t.now.cpu.processor h.look.index (index_now (standing_of t.v)) t.now.cpu.mine (h.looks.load.same.3 ∙ held.processor) index (h.looks.load.mine ∙ held.mine)) ∙ (h.exhausted ∙ (h.looks.load.same.2 ∙ held.sections)), idle none acts)
 
   pub lock_met : t.raised ≡ [] → (kind : Bool) (taken : Result ReadingView Exhausted) → MatchResult taken (λ r. LooksAndBegins kind t.was.cpu t.now.cpu r) (λ _. LooksInVain t.was.cpu t.now.cpu) → HaveMet t.d' t.limits t.cpus' t.meets.left
   lock_met none kind (Ok r) h = locked_met kind r h none
@@ -459,9 +430,9 @@ module _ (t : Turn) where
           },
         )
 
-    pub entered_none : t.raised ≡ [] → t.more ≡ 0 → IsExhausted t.was.cpu look.index → t.now.cpu ≡ t.was.cpu → IsOutOfSections t.limits t.p look.index (standing_of t.v) × (after ≡ before)
-    entered_none none no_more exhausted same =
-        (sym (own_locks t.was.cpu.processor look.index look.index t.was.cpu.mine held.processor refl held.mine) ∙ (exhausted ∙ held.sections), idle none (acts_of_nothing t.was.cpu t.now.cpu same) no_more)
+    pub entered_none : t.raised ≡ [] → IsExhausted t.was.cpu look.index → t.now.cpu ≡ t.was.cpu → IsOutOfSections t.limits t.p look.index (standing_of t.v) × (after ≡ before)
+    entered_none none exhausted same =
+        (sym (own_locks t.was.cpu.processor look.index look.index t.was.cpu.mine held.processor refl held.mine) ∙ (exhausted ∙ held.sections), idle none (acts_of_nothing t.was.cpu t.now.cpu same))
 
     pub enter_met : t.raised ≡ [] → (taken : Result ReadingView Exhausted) → MatchResult taken (λ r. Enters t.was.cpu look t.now.cpu r) (λ _. IsExhausted t.was.cpu look.index × (t.now.cpu ≡ t.was.cpu)) → HaveMet t.d' t.limits t.cpus' t.meets.left
     enter_met none (Ok r) h = event_met (enter_event r h) (enter_event r h) (enter_acts r h) (ap Processor held.processor) refl none refl refl
@@ -521,7 +492,7 @@ module _ (t : Turn) where
       omega (arith, one, cookie, above)
 
   pub same_but_asked : IsSameDomain (before) (after)
-  same_but_asked = (same_engine.0, refl, same_engine.1, same_engine.2, same_tallies)
+  same_but_asked = (same_engine.0, refl, same_engine.1, same_engine.2)
 
   module _ (number : ℕ) (h : Notes number t.was.cpu t.now.cpu) (asks : asked_after ≡ max (asked_before) (cookie_at number)) where
     cookie_is : cookie_at number ≡ cookie_after t.v.seat.seen
@@ -536,11 +507,8 @@ module _ (t : Turn) where
         (λ resting half. let wanted = t.met.wanted resting half in let need = wanted.need in let above = wanted.above in
         let low = next_above t.v.seat.seen (asked_before) resting t.met.cookies (omega (arith, need, above)) in let is = cookie_is in omega (arith, low, is, asks))
 
-    pub requested : (cookie : CookieView) → GivesCookie t.was.cpu t.now.cpu cookie → asked_after ≡ max (asked_before) cookie.number
-    requested cookie c = asks ∙ ap (λ n. max (asked_before) n) (same_cookie ∙ ap (λ (x : CookieView). x.number) (sym c.cookie_is))
+    pub requested : (cookie : CookieView) → GivesCookie t.was.cpu t.now.cpu cookie → AsksFor t.p cookie.number (before) (after)
+    requested cookie c = record { gives = given cookie c; asked = asks ∙ ap (λ n. max (asked_before) n) (same_cookie ∙ ap (λ (x : CookieView). x.number) (sym c.cookie_is)) }
       where
         same_cookie : cookie_at number ≡ cookie_at c.number
         same_cookie = cookie_is ∙ sym (noted c.number c.notes).follows
-
-    pub asked_for : t.more ≡ 0 → (cookie : CookieView) → GivesCookie t.was.cpu t.now.cpu cookie → AsksFor t.p cookie.number (before) (after)
-    asked_for no_more cookie c = record { gives = given cookie c; asked = requested cookie c; queued = same_queued no_more }

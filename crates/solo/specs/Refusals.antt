@@ -1,7 +1,5 @@
--- What a domain answers, and what is told of it in one hand.
+-- Why the engine gives no answer, as a domain says it and as the engine does.
 use Rattle.std.specs.Prelude.{◌≡◌, ℕ, Result, Ok, Err, IsErr}
-use Rattle.calls.specs.declared.list.Receipt.{Receipt}
-use Rattle.calls.specs.declared.refusals.CallRefusal.{CallRefusal}
 use Rattle.scan.specs.declared.progress.Progress.{Progress}
 use Rattle.scan.specs.declared.progress.Exhausted.{Exhausted}
 use Rattle.scan.specs.declared.progress.StartRefusal.{StartRefusal}
@@ -10,7 +8,6 @@ use Rattle.domain.specs.declared.refusals.AdvanceRefusal.{AdvanceRefusal}
 use Rattle.domain.specs.declared.refusals.AdvanceRefusal.TheVariants as advance
 use Rattle.domain.specs.declared.refusals.StartRefusal as domain
 use Rattle.domain.specs.declared.refusals.StartRefusal.TheVariants as start
-use Rattle.solo.specs.declared.queued.Queued.{Queued}
 
 -- nobody else has the engine, so nobody is told so
 abbrev pub IsNotBusy : Result Progress AdvanceRefusal → Type 0
@@ -32,8 +29,3 @@ IsStartedAs (Ok n) told = told ≡ Ok n
 IsStartedAs (Err start.Busy) told = ⊥
 IsStartedAs (Err start.Running) told = told ≡ Err scan.Running
 IsStartedAs (Err start.Exhausted) told = told ≡ Err scan.Exhausted
-
--- the job's number and that of its cookie, or why it was refused
-abbrev pub IsQueuedAs : {J : Type 0} → Result Receipt (J × CallRefusal) → Result Queued CallRefusal → Type 0
-IsQueuedAs (Ok r) told = told ≡ Ok (record { k = r.k; cookie = r.cookie.number })
-IsQueuedAs (Err refused) told = told ≡ Err refused.1

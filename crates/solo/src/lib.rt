@@ -2,11 +2,9 @@
 #![tactic(auto)]
 
 mod members;
-mod queued;
 mod refusals;
 mod solo;
 #[cfg(test)]
 mod tests;
 
-pub use queued::Queued;
 pub use solo::Solo;

@@ -1,9 +1,6 @@
-//! What a domain answers, in the words of one hand: why the engine gives no answer, and what was queued.
-ghost use Rattle.std.specs.Prelude.{◌^◌, ◌≤◌, IfOk};
-ghost use Rattle.solo.specs.Refusals.{IsNotBusy, NoneIsBusy, IsToldAs, IsStartedAs, IsQueuedAs};
+//! Why the engine gives no answer: a domain's words, in those of the engine.
+ghost use Rattle.solo.specs.Refusals.{IsNotBusy, NoneIsBusy, IsToldAs, IsStartedAs};
 
-use crate::queued::Queued;
-use calls::{CallRefusal, Receipt};
 use domain::AdvanceRefusal;
 use scan::{Exhausted, Progress, StartRefusal};
 use sseq::Number;
@@ -30,19 +27,5 @@ pub(crate) fn started(answer: Result<Number, domain::StartRefusal>) -> Result<Nu
         Err(domain::StartRefusal::Running) => Err(StartRefusal::Running),
         Err(domain::StartRefusal::Exhausted) => Err(StartRefusal::Exhausted),
         Err(domain::StartRefusal::Busy) => unreachable!(),
-    }
-}
-
-/// The answer of a call: nothing else is told of a job, which comes back where it is refused.
-pub(crate) fn queued(answer: Result<Receipt, ((), CallRefusal)>) -> Result<Queued, CallRefusal>
-    ensures told { IsQueuedAs answer result }
-    ensures small { IfOk result (λ job. job.cookie ≤ 2 ^ 61) }
-{
-    match answer {
-        Ok(receipt) => Ok(Queued {
-            k: receipt.k,
-            cookie: receipt.cookie.number(),
-        }),
-        Err((_, refusal)) => Err(refusal),
     }
 }

@@ -15,8 +15,6 @@ use std::alloc::Allocator;
 use std::marker::Model;
 use std::sync::Wait;
 
-mod calling;
-
 /// A domain that one thread drives. After each call that made a step its processors and its engine meet, so that all
 /// have seen one history, in which nothing stands but what the calls have done. Contracts see how far the domain has
 /// come: its history, and what is half done of a grace period.

@@ -5,8 +5,6 @@ use sections::{Exhausted, Limits, MakeError, NotACookie};
 use sseq::Index;
 use std::test::Fail;
 
-mod callbacks;
-
 const LIMITS: Limits = Limits {
     sections: 1,
     periods: 1,

@@ -231,7 +231,16 @@ fn sends_entries_through(rt: HostRuntime) -> Result<(), Fail> {
 /// Would catch jobs that are not queued or don't come out, and want of memory where there is some.
 #[test]
 fn runs_jobs(rt: HostRuntime) -> Result<(), Fail> {
-    for work in [Work::Queueing { jobs: 100 }, Work::Callbacks { jobs: 100 }] {
+    for work in [
+        Work::Queueing {
+            threads: 1,
+            jobs: 100,
+        },
+        Work::Callbacks {
+            threads: 4,
+            jobs: 25,
+        },
+    ] {
         assert_eq!(rt; run(&rt, work)?.done, 100);
         let spread = measure(&rt, work, 3)?;
         assert!(rt; spread.least <= spread.median && spread.median <= spread.most);

@@ -1,4 +1,4 @@
-//! An updater that doesn't wait, and the callbacks that free what it replaced.
+//! An updater that doesn't wait, and the thread that frees what it replaced.
 ghost use Rattle.std.specs.Prelude.{◌<◌};
 ghost use Rattle.domain.specs.Views.{IsOf};
 ghost use Rattle.tour.specs.Parts.{IsReady};
@@ -6,15 +6,18 @@ ghost use Rattle.tour.specs.Parts.{IsReady};
 use crate::config::{Config, Old};
 use anyhow::Result;
 use domain::{Cpu, Domain};
+use std::alloc::Allocator;
 use std::sync::Wait;
+use std::sync::atomic::AtomicBool;
+use std::sync::atomic::Ordering::SeqCst;
 use std::thread::yield_now;
 
 /// Replaces the configuration, and leaves the old version to a callback. Where that can't be queued, it waits, and frees
 /// the version itself.
-pub fn replace_and_call<R: Wait>(
+pub fn replace_and_call<R: Wait, A: Allocator + Copy>(
     rt: &R,
-    domain: &Domain<Old>,
-    cpu: &mut Cpu<Old>,
+    domain: &Domain<Old, A>,
+    cpu: &mut Cpu<Old, A>,
     config: &Config,
     number: u64,
 ) -> Result<()>
@@ -27,6 +30,34 @@ pub fn replace_and_call<R: Wait>(
         config.free(old);
     }
     Ok(())
+}
+
+/// Replaces the configuration with version 4 and then with version 5.
+fn replace_both<R: Wait>(
+    rt: &R,
+    domain: &Domain<Old>,
+    cpu: &mut Cpu<Old>,
+    config: &Config,
+) -> Result<()>
+    requires { IsReady domain.now cpu.old }
+{
+    replace_and_call(rt, domain, cpu, config, 4)?;
+    replace_and_call(rt, domain, cpu, config, 5)
+}
+
+/// Replaces the configuration twice, and doesn't wait in between. Tells the other thread that it is over.
+pub fn replace_twice<R: Wait>(
+    rt: &R,
+    domain: &Domain<Old>,
+    mut cpu: Cpu<Old>,
+    config: &Config,
+    is_over: &AtomicBool,
+) -> Result<()>
+    requires { IsReady domain.now cpu }
+{
+    let replaced = replace_both(rt, domain, &mut cpu, config);
+    is_over.store(true, SeqCst);
+    replaced
 }
 
 /// Takes the callbacks of a processor that are ready, and runs them. Answers how many there were.
@@ -53,43 +84,29 @@ pub fn free_ready<R: Wait>(
     Ok(count)
 }
 
-/// What a kthread and a workqueue do in the kernel: drives grace periods, and runs the callbacks of a processor, until
-/// none is left. Answers how many ran.
-fn serve<R: Wait>(
+/// What a kthread and a workqueue do in the kernel: drives grace periods, and runs the callbacks of a processor, until no
+/// more are queued and none is left. Answers how many ran.
+pub fn serve<R: Wait>(
     rt: &R,
     domain: &Domain<Old>,
     mut cpu: Cpu<Old>,
     processor: u16,
     config: &Config,
+    is_over: &AtomicBool,
 ) -> Result<usize>
     requires domain { IsOf domain.now cpu }
     requires processor { processor < domain.now.processors }
 {
     let mut ran: usize = 0;
     for _ in rt.forever() {
+        let is_last = is_over.load(SeqCst);
         domain.advance(rt, &mut cpu)?;
         ran = ran.saturating_add(free_ready(rt, domain, &mut cpu, processor, config)?);
-        let (queued, _) = domain.lens(rt, processor)?;
-        if queued == [0; 4] {
+        let (queued, _) = domain.lens(rt, processor);
+        if is_last && queued == [0; 4] {
             break;
         }
         yield_now();
     }
     Ok(ran)
-}
-
-/// Replaces the configuration with version 4 and then with version 5, and doesn't wait in between. Runs the callbacks
-/// behind that, and answers how many there were.
-pub fn replace_and_serve<R: Wait>(
-    rt: &R,
-    domain: &Domain<Old>,
-    mut cpu: Cpu<Old>,
-    config: &Config,
-) -> Result<usize>
-    requires { IsReady domain.now cpu }
-{
-    let processor = cpu.processor();
-    replace_and_call(rt, domain, &mut cpu, config, 4)?;
-    replace_and_call(rt, domain, &mut cpu, config, 5)?;
-    serve(rt, domain, cpu, processor, config)
 }

@@ -13,13 +13,14 @@ mod tests;
 mod updaters;
 
 use anyhow::Result;
-use callbacks::replace_and_serve;
+use callbacks::{replace_twice, serve};
 use config::{Config, Old};
 use domain::{Cpu, Domain, Limits};
 use readers::{open, read_quickly, read_slowly};
 use std::alloc::Global;
 use std::fmt;
 use std::sync::Wait;
+use std::sync::atomic::AtomicBool;
 use std::thread::{Threads, join};
 use std::time::Clock;
 use updaters::{Polled, replace, replace_and_poll};
@@ -36,26 +37,37 @@ const LIMITS: Limits = Limits {
     cells: 0,
 };
 
-/// A domain, and its two processors. A processor is a value: whichever thread owns it works with it.
-fn pair(alloc: Global) -> Result<(Domain<Old>, Cpu<Old>, Cpu<Old>)>
-    ensures { IfOk result (λ r. IsReady r.0 r.1 × IsReady r.0 r.2) }
+/// A domain, and its eight processors. A processor is a value: whichever thread owns it works with it.
+fn new_domain(
+    alloc: Global,
+) -> Result<
+    (
+        Domain<Old>,
+        Cpu<Old>,
+        Cpu<Old>,
+        Cpu<Old>,
+        Cpu<Old>,
+        Cpu<Old>,
+        Cpu<Old>,
+        Cpu<Old>,
+        Cpu<Old>,
+    ),
+>
+    ensures { IfOk result (λ r. IsReady r.0 r.1 × IsReady r.0 r.2 × IsReady r.0 r.3 × IsReady r.0 r.4 × IsReady r.0 r.5 × IsReady r.0 r.6 × IsReady r.0 r.7 × IsReady r.0 r.8) }
 {
-    let (domain, mut cpus) = Domain::new(alloc, 2, LIMITS)?; // init_srcu_struct
+    let (domain, mut cpus) = Domain::new(alloc, 8, LIMITS)?; // init_srcu_struct
 
-    let second = cpus.pop().unwrap();
-    let first = cpus.pop().unwrap();
-    Ok((domain, first, second))
-}
-
-/// A domain, and its three processors.
-fn trio(alloc: Global) -> Result<(Domain<Old>, Cpu<Old>, Cpu<Old>, Cpu<Old>)>
-    ensures { IfOk result (λ r. IsReady r.0 r.1 × IsReady r.0 r.2 × IsReady r.0 r.3) }
-{
-    let (domain, mut cpus) = Domain::new(alloc, 3, LIMITS)?;
+    let eighth = cpus.pop().unwrap();
+    let seventh = cpus.pop().unwrap();
+    let sixth = cpus.pop().unwrap();
+    let fifth = cpus.pop().unwrap();
+    let fourth = cpus.pop().unwrap();
     let third = cpus.pop().unwrap();
     let second = cpus.pop().unwrap();
     let first = cpus.pop().unwrap();
-    Ok((domain, first, second, third))
+    Ok((
+        domain, first, second, third, fourth, fifth, sixth, seventh, eighth,
+    ))
 }
 
 /// A reader sleeps in its sections, while an updater replaces the configuration and waits. Answers whether the reader
@@ -143,22 +155,49 @@ fn hand_over<R: Threads + Wait + Sync>(
     })
 }
 
-/// A reader sleeps in its sections, while an updater replaces the configuration twice and doesn't wait: callbacks free
-/// what it replaced. Answers whether the reader found in each section the same before and behind its sleep, and how many
-/// callbacks ran.
+/// An updater replaces the configuration twice and doesn't wait, while another thread frees what it replaced. Answers how
+/// many callbacks ran.
+fn replace_beside<R: Threads + Wait + Sync>(
+    rt: &R,
+    domain: &Domain<Old>,
+    updater: Cpu<Old>,
+    server: Cpu<Old>,
+    config: &Config,
+) -> Result<usize>
+    requires updater { IsReady domain.now updater }
+    requires server { IsOf domain.now server }
+{
+    let processor = updater.processor();
+    let is_over = AtomicBool::new(false);
+    let (replaced, ran) = join(
+        rt,
+        || replace_twice(rt, domain, updater, config, &is_over),
+        || serve(rt, domain, server, processor, config, &is_over),
+    );
+    replaced?;
+    ran
+}
+
+/// A reader sleeps in its sections meanwhile. Answers whether it found in each the same before and behind its sleep, and
+/// how many callbacks ran.
 fn call_back<R: Threads + Wait + Clock + Sync>(
     rt: &R,
     domain: &Domain<Old>,
     reader: Cpu<Old>,
     updater: Cpu<Old>,
+    server: Cpu<Old>,
     config: &Config,
 ) -> Result<(bool, usize)>
-    requires { IsReady domain.now updater }
+    requires updater { IsReady domain.now updater }
+    requires server { IsOf domain.now server }
 {
     let (same, ran) = join(
         rt,
         || read_slowly(rt, reader, config, NAPS),
-        || replace_and_serve(rt, domain, updater, config),
+        ||
+            requires updater { IsReady domain.now updater }
+            requires server { IsOf domain.now server }
+        { replace_beside(rt, domain, updater, server, config) },
     );
     Ok((same?, ran?))
 }
@@ -177,7 +216,7 @@ fn print_handed<R: Print + AllocGlobal>(rt: &R, handed: &Handed) -> Result<()> {
     Ok(())
 }
 
-/// Prints what the last two did, which is the same each time.
+/// Prints what the last three did, which is the same each time.
 fn print_freed<R: Print + AllocGlobal>(rt: &R, same: bool, ran: usize) -> Result<()> {
     println!(rt; "slept in {NAPS} sections, and read the same before and behind it: {same}")?;
     println!(rt; "callbacks that freed a version: {ran}")?;
@@ -185,42 +224,18 @@ fn print_freed<R: Print + AllocGlobal>(rt: &R, same: bool, ran: usize) -> Result
     Ok(())
 }
 
-/// Readers sleep while an updater waits, in a domain of their own.
-fn show_wait<R: Threads + Wait + Clock + Print + AllocGlobal + Sync>(
-    rt: &R,
-    config: &Config,
-) -> Result<()> {
-    let (domain, reader, updater) = pair(rt.alloc())?;
-    let same = wait(rt, &domain, reader, updater, config)?;
-    print_wait(rt, same)
-}
-
-/// A section goes from a thread to another, in a domain of their own.
-fn show_handed<R: Threads + Wait + Print + AllocGlobal + Sync>(
-    rt: &R,
-    config: &Config,
-) -> Result<()> {
-    let (domain, opener, reader, updater) = trio(rt.alloc())?;
-    let handed = hand_over(rt, &domain, opener, reader, updater, config)?;
-    print_handed(rt, &handed)
-}
-
-/// Callbacks free what an updater replaced, in a domain of their own.
-fn show_freed<R: Threads + Wait + Clock + Print + AllocGlobal + Sync>(
-    rt: &R,
-    config: &Config,
-) -> Result<()> {
-    let (domain, reader, updater) = pair(rt.alloc())?;
-    let (same, ran) = call_back(rt, &domain, reader, updater, config)?;
-    print_freed(rt, same, ran)
-}
-
 /// The threads' processors go with them, and are gone when they end.
 fn tour<R: Threads + Wait + Clock + Print + AllocGlobal + Sync>(rt: &R) -> Result<()> {
     let config = Config::new(1);
-    show_wait(rt, &config)?;
-    show_handed(rt, &config)?;
-    show_freed(rt, &config)
+    let (domain, slow, waiter, opener, quick, poller, late, caller, server) = new_domain(
+        rt.alloc(),
+    )?;
+    let same = wait(rt, &domain, slow, waiter, &config)?;
+    print_wait(rt, same)?;
+    let handed = hand_over(rt, &domain, opener, quick, poller, &config)?;
+    print_handed(rt, &handed)?;
+    let (same, ran) = call_back(rt, &domain, late, caller, server, &config)?;
+    print_freed(rt, same, ran)
 }
 
 fn main(rt: HostRuntime) -> Result<()> {

@@ -1,8 +1,21 @@
 //! What the guide shows.
+ghost use Rattle.std.specs.Prelude.{IfOk};
+ghost use Rattle.tour.specs.Parts.{IsReady};
+
 use super::*;
 use callbacks::{free_ready, replace_and_call};
 use domain::{Exhausted, Index, NotACookie, Number, Progress, StartRefusal};
 use std::test::Fail;
+
+/// A new domain whose jobs are old versions, and its two processors.
+fn pair(alloc: Global) -> Result<(Domain<Old>, Cpu<Old>, Cpu<Old>)>
+    ensures { IfOk result (λ r. IsReady r.0 r.1 × IsReady r.0 r.2) }
+{
+    let (domain, mut cpus) = Domain::new(alloc, 2, LIMITS)?;
+    let second = cpus.pop().unwrap();
+    let first = cpus.pop().unwrap();
+    Ok((domain, first, second))
+}
 
 fn number(value: u64) -> Number {
     Number::new(value).unwrap_or(Number::zero())

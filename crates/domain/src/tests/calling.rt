@@ -35,7 +35,7 @@ pub(super) fn single<A: Allocator + Copy>(
 
 /// Takes what is ready on this processor, runs it, and finishes the batch. Tells how many jobs were in the batch, if there
 /// was one. To run a job is to put it behind those that ran before.
-pub(super) fn run_ready<R: Wait + Abort>(
+fn run_ready<R: Wait + Abort>(
     rt: &R,
     domain: &Domain<u64>,
     cpu: &mut Cpu<u64>,

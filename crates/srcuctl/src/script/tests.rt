@@ -7,7 +7,6 @@ use std::alloc::{AllocError, Global};
 use std::process::Abort;
 use std::test::Fail;
 
-mod callbacks;
 mod holding;
 mod needs;
 mod periods;
@@ -251,75 +250,6 @@ idle
 refused unpark empty
 ";
 
-const CALLBACKS: &str = "\
-# Jobs that run once a grace period is over, when nobody can still use what they
-# are about.
-domain web 2
-
-# A reader is in a section, and a job is queued on the other processor. The reply
-# says how many were queued there before, and for which cookie the job waits.
-lock web 0 reader
-call web 1 free
-segs web 1
-
-# A call asks for its grace period. Nothing runs before that is over.
-advance web 0
-advance web 0
-advance web 0
-run web 1
-unlock web reader
-advance web 0
-run web 1
-
-# Each job runs once.
-run web 1
-
-# Names of jobs need not differ, from others or from those of sections.
-call web 0 close
-call web 0 close
-advance web 0
-advance web 0
-advance web 0
-
-# A batch may stay out, as it does while its jobs run. Meanwhile nothing else is
-# taken from its processor, but jobs may be queued.
-batch web 0
-run web 0
-call web 0 reader
-segs web 0
-finish web 0
-finish web 0
-state web
-# A job that still waits at the end doesn't run.
-";
-
-const CALLBACKS_REPLIES: &str = "\
-made web 2
-index 0
-queued 0 cookie 4
-segs done 0 wait 1 4 ready 0 0 next 0
-started 1
-flipped 1
-waiting 0
-ran
-closed
-ended 4
-ran free
-ran
-queued 0 cookie 8
-queued 1 cookie 8
-started 5
-flipped 0
-ended 8
-took close close
-refused run invoking
-queued 2 cookie 12
-segs done 0 wait 1 12 ready 0 0 next 0
-finished 2
-refused finish none
-state web number 8 idle index 0 open 0 0 need 12
-";
-
 /// The replies to some first lines of `STARTED`.
 fn first_replies(alloc: Global, lines: usize) -> Result<String, AllocError> {
     let mut text = String::new(alloc);
@@ -345,7 +275,6 @@ fn runs_scripts(rt: HostRuntime) -> Result<(), Fail> {
         (TWO_READERS, TWO_READERS_REPLIES, false),
         (LOOKS, LOOKS_REPLIES, true),
         (HELD, HELD_REPLIES, true),
-        (CALLBACKS, CALLBACKS_REPLIES, false),
         (FAULTS, FAULTS_REPLIES, true),
     ];
     for (script, replies, faulty) in table {

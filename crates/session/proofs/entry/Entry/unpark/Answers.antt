@@ -6,13 +6,13 @@ use Rattle.session.proofs.entry.Entry.unpark.Goals as goal
 
 pub invariant_of-self-2 : goal.invariant_of-self-2
 invariant_of-self-2 g c =
-    let held : AreTogether c.self.inside.domain c.reserve.new.self.tokens c.self.inside.parking = rw c.in_ok-reserve.ensures.tokens c.self.invariant.0 in
-    rw (c.insert.ensures, c.unpark.ensures.empty) (together_unparked c.self.inside.domain c.reserve.new.self.tokens c.self.inside.parking held c.in-Some.parked (sym c.unpark.ensures.taken ∙ c.in-Some.is), c.self.invariant.1)
+    let held : AreTogether c.self.inside.domain c.reserve.new.self.tokens c.self.inside.parking = rw c.in_ok-reserve.ensures.tokens c.self.invariant in
+    rw (c.insert.ensures, c.unpark.ensures.empty) (together_unparked c.self.inside.domain c.reserve.new.self.tokens c.self.inside.parking held c.in-Some.parked (sym c.unpark.ensures.taken ∙ c.in-Some.is))
 
 pub returns-clause-does : goal.returns-clause-does
 returns-clause-does g c =
-    let held : AreTogether c.self.inside.domain c.reserve.new.self.tokens c.self.inside.parking = rw c.in_ok-reserve.ensures.tokens c.self.invariant.0 in
+    let held : AreTogether c.self.inside.domain c.reserve.new.self.tokens c.self.inside.parking = rw c.in_ok-reserve.ensures.tokens c.self.invariant in
     let there = sym c.unpark.ensures.taken ∙ c.in-Some.is in
     let free = parked_is_apart c.self.inside.domain c.reserve.new.self.tokens c.self.inside.parking held c.in-Some.parked there in
     rw (← c.self.view_is, c.insert.ensures, c.unpark.ensures.empty, ← c.in_ok-reserve.ensures.tokens)
-    (picked_up c.self.inside.name c.reserve.new.self.tokens c.self.inside.parking.parked c.self.inside.jobs.items c.self.inside.domain c.self.inside.domain c.in-Some.parked there free)
+    (picked_up c.self.inside.name c.reserve.new.self.tokens c.self.inside.parking.parked c.self.inside.domain c.self.inside.domain c.in-Some.parked there free)

@@ -23,4 +23,4 @@ returns-clause-home g c = c.home.ensures.home
     ∙ sym (ap (λ (x : SoloView). x.table) (now_is _ _ _ _ c.self.invariant.met _ c.self.view_is)))
 
 pub returns-clause-same : goal.returns-clause-same
-returns-clause-same g c = ap (λ (l : List CpuView). seen_first c.self.inside.members.domain c.self.inside.limits l) (unchanged g c) ∙ c.self.view_is
+returns-clause-same g c = ap (λ (l : List CpuView). seen_first c.self.inside.members.domain.domain c.self.inside.limits l) (unchanged g c) ∙ c.self.view_is

@@ -1,0 +1,15 @@
+-- All are ready, and so each that was taken out.
+use Rattle.std.proofs.Common.{All}
+use Rattle.std.proofs.lemmas.List.Elements.{All-pop}
+use Rattle.domain.specs.Views.{CpuView}
+use Rattle.tour.specs.Parts.{IsReady}
+use Rattle.tour.proofs.Starting.{new_ones_are_ready}
+use Rattle.tour.proofs.tests.pair.Goals as goal
+
+pub returns : goal.returns
+returns c =
+    let P : CpuView → Type 0 = IsReady c.in_ok-domain.domain in
+    let all : All P c.in_ok-domain.cpus.items = new_ones_are_ready _ _ c.in_ok-domain.ensures.made in
+    let second = All-pop P _ _ _ c.pop.ensures.items all in
+    let first = All-pop P _ _ _ c.pop-2.ensures.items second.0 in
+    (rw c.unwrap-first.ensures at first.1, rw c.unwrap-second.ensures at second.1)
