@@ -97,6 +97,13 @@ pub one_more_finisher : (n : ℕ) (l : List Deed) (d : Deed) → AreFinishers n 
 one_more_finisher n [] d h t = (t, tt)
 one_more_finisher n (x ∷ xs) d h t = (h.0, one_more_finisher n xs d h.1 t)
 
+pub earlier_finishers : (n : ℕ) {a b : List Deed} → IsBeginning a b → AreFinishers n b → AreFinishers n a
+earlier_finishers n {a} {b} h all = front a (subst (λ (l : List Deed). AreFinishers n l) h.whole all)
+  where
+    front : (l : List Deed) → AreFinishers n (l ++ h.rest) → AreFinishers n l
+    front [] k = tt
+    front (x ∷ xs) k = (k.0, front xs k.1)
+
 pub later_finishers : (n : ℕ) (a b : List Deed) → AreFinishers n (a ++ b) → AreFinishers n b
 later_finishers n [] b h = h
 later_finishers n (x ∷ xs) b h = later_finishers n xs b h.1

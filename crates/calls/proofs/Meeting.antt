@@ -2,17 +2,20 @@
 use Rattle.std.proofs.Common.{◌≡◌, ℕ, ◌+◌, ◌==◌, List, [], ◌∷◌, ◌++◌, Option, length, get_or, set, refl, sym, ap, ◌∙◌, subst, append-nil, length-append, arith}
 use Rattle.std.proofs.lemmas.List.Elements.{filter-append}
 use lib.Seq.{set-get_or}
-use mathlib.Core.Option.{none}
+use lib.ListN.{get_elem?}
+use mathlib.Core.Option.{none, some}
 use Rattle.atomic_table.specs.Table.{State, step, stepped, keeps, Allows}
 use Rattle.calls.specs.declared.view.Plan.{Plan}
 use Rattle.calls.specs.declared.view.Deed.{Deed}
 use Rattle.calls.specs.declared.view.Who.{Who}
 use Rattle.calls.specs.declared.view.Who.TheVariants.{Caller}
+use Rattle.calls.specs.declared.view.BatchRight.{BatchRight}
+use Rattle.calls.specs.declared.view.BatchRight.TheVariants.{OfBatch}
 use Rattle.calls.specs.declared.view.View.{View}
-use Rattle.calls.specs.Tallies.{deeds_of, IsBeginning, AreTrueAfter, AreTrue}
-use Rattle.calls.specs.Rule.{Books, Makes, Fits, Kept}
-use Rattle.calls.specs.Plays.{Sat, FindsAll, found_all, IsAdmitted, admitted}
-use Rattle.calls.proofs.Counting.{begins_itself, begins_empty}
+use Rattle.calls.specs.Tallies.{deeds_of, AreFinishers, IsBeginning, AreTrueAfter, AreTrue}
+use Rattle.calls.specs.Rule.{count_out, Books, Makes, HasBatch, Fits, Kept}
+use Rattle.calls.specs.Plays.{Sat, FindsAll, found_all, IsAdmitted, admitted, IsOut, found_out}
+use Rattle.calls.proofs.Counting.{begins_itself, begins_empty, earlier_finishers}
 use Rattle.calls.proofs.Knowing.{views_set}
 
 -- Own deeds
@@ -63,32 +66,68 @@ module _ (plan : Plan) where
   }
 
   -- all that was done is seen
-  pub finds_all_here : (slots id c word : ℕ) (me : Sat) → me.0.who ≡ Caller c → Allows (Kept plan) slots id me word (λ x. x) (found_all (step slots word 0 0 none) me)
-  finds_all_here slots id c word me who s r _ at _ =
-      let v : View = me.0 in
+
+  abbrev full : Books → View → View
+  full b v = record v { seen = b.log; told = [] }
+
+  full_fits : (s : State (Option ℕ) View) (r : Kept plan s) (id c : ℕ) (v : View) → get_elem? s.views id ≡ some v → v.who ≡ Caller c → Fits r.books id (full r.books v)
+  full_fits s r id c v at who =
       let b : Books = r.books in
       let f = r.each_view id v at in
       let made : Makes b id v.seen (Caller c) = subst (λ (z : Who). Makes b id v.seen z) who f.makes in
-      let w : View = record v { seen = b.log; told = [] } in (
+      record { seen = begins_itself b.log; told = begins_empty b.log; makes = subst (λ (z : Who). Makes b id b.log z) (sym who) (made.0, refl); list = f.list; batch = f.batch }
+
+  full_finds : (s : State (Option ℕ) View) (r : Kept plan s) (id c many : ℕ) (v : View) → plan.processors ≡ many → get_elem? s.views id ≡ some v → v.who ≡ Caller c → FindsAll many c v (full r.books v)
+  full_finds s r id c many v all at who =
+      let b : Books = r.books in
+      let f = r.each_view id v at in
+      let made : Makes b id v.seen (Caller c) = subst (λ (z : Who). Makes b id v.seen z) who f.makes in
+      record { since = f.seen; own = sym made.1; covers = f.told; loads = r.loads; finishers = subst (λ (n : ℕ). AreFinishers n b.log) all r.finishers }
+
+  pub finds_all_here : (slots id c word many : ℕ) (me : Sat) → plan.processors ≡ many → me.0.who ≡ Caller c → Allows (Kept plan) slots id me word (λ x. x) (found_all many (step slots word 0 0 none) me)
+  finds_all_here slots id c word many me all who s r _ at _ =
+      let v : View = me.0 in
+      let w : View = full r.books v in (
         w,
         keeps,
         tt,
-        unmoved s r id word me.1 w record { seen = begins_itself b.log; told = begins_empty b.log; makes = subst (λ (z : Who). Makes b id b.log z) (sym who) (made.0, refl); list = f.list; batch = f.batch },
-        (refl, λ p is. subst (λ (z : ℕ). FindsAll z v w) (same_caller c p (sym who ∙ is)) record { since = f.seen; own = sym made.1; covers = f.told; loads = r.loads }),
+        unmoved s r id word me.1 w (full_fits s r id c v at who),
+        (refl, λ p is. full_finds s r id p many v all at is),
+      )
+
+  -- a batch whose right the seat has is out there
+  batch_is_out : (s : State (Option ℕ) View) (r : Kept plan s) (id p first count : ℕ) (v : View) → get_elem? s.views id ≡ some v → v.batch ≡ OfBatch p first count → IsOut p first count r.books.log
+  batch_is_out s r id p first count v at is =
+      let b : Books = r.books in
+      let has : HasBatch b id (OfBatch p first count) = subst (λ (z : BatchRight). HasBatch b id z) is (r.each_view id v at).batch in
+      let within = (r.counted p).within in
+      let out : count_out (b.out_of p) ≡ count = ap count_out has.2 in
+      record { first_is = has.1; queued = omega (arith, within, out) }
+
+  pub finds_out_here : (slots id c word many : ℕ) (me : Sat) → plan.processors ≡ many → me.0.who ≡ Caller c → Allows (Kept plan) slots id me word (λ x. x) (found_out many (step slots word 0 0 none) me)
+  finds_out_here slots id c word many me all who s r _ at _ =
+      let v : View = me.0 in
+      let w : View = full r.books v in (
+        w,
+        keeps,
+        tt,
+        unmoved s r id word me.1 w (full_fits s r id c v at who),
+        ((refl, λ p is. full_finds s r id p many v all at is), λ p first count is. batch_is_out s r id p first count v at is),
       )
 
   -- just what was told is seen
-  pub admits_here : (slots id c word : ℕ) (me : Sat) → me.0.who ≡ Caller c → IsBeginning me.0.seen me.0.told → Allows (Kept plan) slots id me word (λ x. x) (admitted (step slots word 0 0 none) me)
-  admits_here slots id c word me who since s r _ at _ =
+  pub admits_here : (slots id c word many : ℕ) (me : Sat) → plan.processors ≡ many → me.0.who ≡ Caller c → IsBeginning me.0.seen me.0.told → Allows (Kept plan) slots id me word (λ x. x) (admitted many (step slots word 0 0 none) me)
+  admits_here slots id c word many me all who since s r _ at _ =
       let v : View = me.0 in
       let b : Books = r.books in
       let f = r.each_view id v at in
       let made : Makes b id v.seen (Caller c) = subst (λ (z : Who). Makes b id v.seen z) who f.makes in
       let own : deeds_of c v.told ≡ deeds_of c v.seen = own_between c v.seen v.told b.log since f.told (sym made.1) in
+      let finishers : AreFinishers many v.told = earlier_finishers many f.told (subst (λ (n : ℕ). AreFinishers n b.log) all r.finishers) in
       let w : View = record v { seen = v.told; told = [] } in (
         w,
         keeps,
         tt,
         unmoved s r id word me.1 w record { seen = f.told; told = begins_empty b.log; makes = subst (λ (z : Who). Makes b id v.told z) (sym who) (made.0, own ∙ made.1); list = f.list; batch = f.batch },
-        (refl, λ p is. subst (λ (z : ℕ). IsAdmitted z v) (same_caller c p (sym who ∙ is)) record { own = own; loads = true_beginning f.told r.loads }),
+        (refl, λ p is. subst (λ (z : ℕ). IsAdmitted many z v) (same_caller c p (sym who ∙ is)) record { own = own; loads = true_beginning f.told r.loads; finishers = finishers }),
       )

@@ -1,12 +1,14 @@
 -- From what a step on the tally words tells a seat to what the steps of a call do to it.
-use Rattle.std.proofs.Common.{◌≡◌, ◌≢◌, ℕ, ◌+◌, ◌*◌, ◌<◌, List, sym, ap, ◌∙◌, subst, arith}
+use Rattle.std.proofs.Common.{◌≡◌, ◌≢◌, ℕ, ◌+◌, ◌*◌, ◌<◌, List, [], sym, ap, ◌∙◌, subst, arith}
 use Rattle.calls.specs.declared.view.Who.{Who}
 use Rattle.calls.specs.declared.view.Who.TheVariants.{Nobody, Caller, Dealer}
 use Rattle.calls.specs.declared.view.View.{View}
 use Rattle.calls.specs.declared.view.Act.{Act}
 use Rattle.calls.specs.declared.view.Deed.{Deed}
-use Rattle.calls.specs.Tallies.{word_count, deeds_of, IsBeginning, AreTrue}
-use Rattle.calls.specs.Plays.{Does}
+use Rattle.calls.specs.declared.view.BatchRight.TheVariants.{NoBatch}
+use Rattle.calls.specs.Tallies.{word_count, deeds_of, AreFinishers, IsBeginning, AreTrue}
+use Rattle.calls.specs.Rule.{with_batch, without_batch}
+use Rattle.calls.specs.Plays.{Sat, Does, FindsAll}
 
 pub some_words : (words n p : ℕ) → words ≡ word_count n → p < n → 0 < words
 some_words words n p wide lt = omega (arith, wide, lt)
@@ -32,4 +34,19 @@ does_through p act v j w w' seen who seen' who' h = record {
   own = h.own ∙ ap (deeds_of p) seen;
   who = who' ∙ (h.who ∙ who);
   loads = subst (λ (l : List Deed). AreTrue l) (sym seen') h.loads;
+}
+
+-- a load with a batch's right, between taking it over and giving it back
+pub load_through : (a j e t : Sat) (w : View) → j ≡ (with_batch a.0 w, a.1) → e ≡ (record j.0 { seen = e.0.seen; told = [] }, j.1) → t ≡ (without_batch e.0, e.1) → t ≡ (record a.0 { batch = NoBatch; seen = t.0.seen; told = [] }, a.1)
+load_through a j e t w taken loaded given =
+    let seen : t.0.seen ≡ e.0.seen = ap (λ m. m.0.seen) given in
+    given ∙ ((λ i. (without_batch (loaded i).0, (loaded i).1)) ∙ (λ i. (record (taken i).0 { batch = NoBatch; seen = sym seen i; told = [] }, (taken i).1)))
+
+pub finds_through : (n c : ℕ) (a j e t : View) → j.seen ≡ a.seen → j.told ≡ a.told → t.seen ≡ e.seen → FindsAll n c j e → FindsAll n c a t
+finds_through n c a j e t was told seen h = record {
+  since = subst (λ (z : List Deed × List Deed). IsBeginning z.0 z.1) (λ i. (was i, sym seen i)) h.since;
+  own = ap (deeds_of c) seen ∙ (h.own ∙ ap (deeds_of c) was);
+  covers = subst (λ (z : List Deed × List Deed). IsBeginning z.0 z.1) (λ i. (told i, sym seen i)) h.covers;
+  loads = subst (λ (l : List Deed). AreTrue l) (sym seen) h.loads;
+  finishers = subst (λ (l : List Deed). AreFinishers n l) (sym seen) h.finishers;
 }

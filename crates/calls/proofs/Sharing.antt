@@ -18,7 +18,7 @@ use Rattle.calls.specs.declared.view.BatchRight.{BatchRight}
 use Rattle.calls.specs.declared.view.BatchRight.TheVariants.{NoBatch, OfBatch}
 use Rattle.calls.specs.declared.view.View.{View}
 use Rattle.calls.specs.Tallies.{queued_place, finished_place, word_count, queued_in, finished_in, deeds_of, IsBeginning}
-use Rattle.calls.specs.Rule.{count_out, Books, IsUndealt, Makes, HasList, HasBatch, Fits, Kept, founder, spent, without_next, next_caller, next_list, dealer, dealt, without_list, list_seat, only_list, lending, lent, with_list, with_batch, note, informed}
+use Rattle.calls.specs.Rule.{count_out, Books, IsUndealt, Makes, HasList, HasBatch, Fits, Kept, founder, spent, without_next, next_caller, next_list, dealer, dealt, without_list, list_seat, only_list, lending, lent, with_list, without_batch, only_batch, with_batch, note, informed}
 use Rattle.calls.proofs.Counting.{begins_empty}
 use Rattle.calls.proofs.Knowing.{views_set, views_split, given, given_here, given_else}
 
@@ -155,6 +155,19 @@ module _ (plan : Plan) where
       (λ j d away e. views_set (λ k x. k ≢ other → Fits b' k x) s.views id (with_batch v w)
       (λ _. record { seen = f.seen; told = f.told; makes = makes_apart b b.out_of b.caller_at b.list_at batch id (λ p h. h) (λ p h. (h, refl)) v.seen v.who f.makes; list = list_apart b b.out_of b.caller_at b.list_at batch id (λ p h. h) (λ p h. (h, refl)) v.list f.list; batch = batch_given b w.batch other id g.batch })
       (λ k x ne h far. fits_apart b b.out_of b.caller_at b.list_at batch k (λ p i. i) (λ p i. (i, refl)) (λ p n i o. (rebatched_else b w.batch other id k p g.batch far i, o)) x (r.each_view k x h)) j d e away))
+
+  -- a seat gives its batch's right away
+  pub passes_batch : (id : ℕ) (v : View) → Splits (Kept plan) id v (without_batch v) (only_batch v)
+  passes_batch id v s r at =
+      let b : Books = r.books in
+      let f = r.each_view id v at in
+      let m : ℕ = length s.views in
+      let batch : ℕ → ℕ = rebatched v.batch m b.batch_at in
+      let b' : Books = rebooked b b.out_of b.caller_at b.list_at batch in
+      reviewed s r b.out_of b.caller_at b.list_at batch (set s.views id (without_batch v) ++ only_batch v ∷ []) (λ p. (r.counted p).within) (views_split (Fits b') s.views id (without_batch v) (only_batch v)
+      record { seen = f.seen; told = f.told; makes = makes_apart b b.out_of b.caller_at b.list_at batch id (λ p h. h) (λ p h. (h, refl)) v.seen v.who f.makes; list = list_apart b b.out_of b.caller_at b.list_at batch id (λ p h. h) (λ p h. (h, refl)) v.list f.list; batch = tt }
+      record { seen = begins_empty b.log; told = begins_empty b.log; makes = tt; list = tt; batch = batch_given b v.batch id m f.batch }
+      (λ j d ne e. fits_apart b b.out_of b.caller_at b.list_at batch j (λ p h. h) (λ p h. (h, refl)) (λ p n h o. (rebatched_else b v.batch id m j p f.batch ne h, o)) d (r.each_view j d e)))
 
   -- a list of which nothing is out lends the right of a batch
   pub gives_batch : (n id p q f : ℕ) (v : View) → v ≡ list_seat (OfList p q f None) → f + n ≤ q → Splits (Kept plan) id v (lending n v) (lent n v)

@@ -41,7 +41,7 @@ pub record IsCountBetween (count : List Deed → ℕ) (n : ℕ) (seen seen' : Li
   pub not_after : IsBeginning moment seen'
   pub counted : n ≡ count moment
 
--- the seat made these loads, in this order, and no other step. Each load in what it has then seen found what was counted
+-- the seat made these loads, in this order, and no other deed. Each load in what it has then seen found what was counted
 pub record Loads (acts : List Act) (s s' : CallSeatView) : Type 0 where
   pub same : IsSameSeat s s'
   pub since : IsBeginning s.seen s'.seen

@@ -8,7 +8,7 @@ use Rattle.calls.specs.declared.view.Who.TheVariants.{Caller}
 use Rattle.calls.specs.declared.view.ListRight.TheVariants.{OfList}
 use Rattle.calls.specs.declared.view.BatchRight.TheVariants.{NoBatch, OfBatch}
 use Rattle.calls.specs.declared.view.View.{View}
-use Rattle.calls.specs.Tallies.{queued_place, finished_place, most_calls, deed, queued_in, deeds_of, AreFinishers, IsBeginning, AreTrue}
+use Rattle.calls.specs.Tallies.{queued_place, finished_place, most_calls, deed, queued_in, finished_in, deeds_of, AreFinishers, IsBeginning, AreTrue}
 
 -- the processor's seat did this, behind all that it had seen. What is then seen has just its own deeds of its own, and each load there found what was counted
 pub record Does (p : ℕ) (act : Act) (v w : View) : Type 0 where
@@ -61,21 +61,32 @@ counts_queued st m n m' = (m'.1 ≡ m.1) × ((c p : ℕ) → m.0.who ≡ Caller 
 abbrev pub counts_finished : ℕ → Step (Option ℕ) → Sat → ℕ → Sat → Type 0
 counts_finished processors st m n m' = (m'.1 ≡ m.1) × ((c p : ℕ) → m.0.who ≡ Caller c → st.word ≡ finished_place p → Looks c (LoadFinished p n) m.0 m'.0) × ((p : ℕ) → st.word ≡ finished_place p → n ≤ queued_in p m'.0.seen) × AreFinishers processors m'.0.seen
 
--- a word was loaded, and the load is no deed: all that was done until then is seen, with what was told, and of the seat's own just what it knew
-pub record FindsAll (c : ℕ) (v w : View) : Type 0 where
+-- a word was loaded, and the load is no deed: all that was done until then is seen, with what was told, and of the seat's own just what it knew. All batches there were finished by processors that are there
+pub record FindsAll (processors c : ℕ) (v w : View) : Type 0 where
   pub since : IsBeginning v.seen w.seen
   pub own : deeds_of c w.seen ≡ deeds_of c v.seen
   pub covers : IsBeginning v.told w.seen
   pub loads : AreTrue w.seen
+  pub finishers : AreFinishers processors w.seen
 
-abbrev pub found_all : Step (Option ℕ) → Sat → ℕ → Sat → Type 0
-found_all st m n m' = (m' ≡ (record m.0 { seen = m'.0.seen; told = [] }, m.1)) × ((c : ℕ) → m.0.who ≡ Caller c → FindsAll c m.0 m'.0)
+abbrev pub found_all : ℕ → Step (Option ℕ) → Sat → ℕ → Sat → Type 0
+found_all processors st m n m' = (m' ≡ (record m.0 { seen = m'.0.seen; told = [] }, m.1)) × ((c : ℕ) → m.0.who ≡ Caller c → FindsAll processors c m.0 m'.0)
 
--- what was told has just the seat's own deeds of its own, and each load there found what was counted
-pub record IsAdmitted (c : ℕ) (v : View) : Type 0 where
+-- what was told has just the seat's own deeds of its own, each load there found what was counted, and all batches there were finished by processors that are there
+pub record IsAdmitted (processors c : ℕ) (v : View) : Type 0 where
   pub own : deeds_of c v.told ≡ deeds_of c v.seen
   pub loads : AreTrue v.told
+  pub finishers : AreFinishers processors v.told
 
 -- a word was loaded, and the load is no deed: just what was told is seen
-abbrev pub admitted : Step (Option ℕ) → Sat → ℕ → Sat → Type 0
-admitted st m n m' = (m' ≡ (record m.0 { seen = m.0.told; told = [] }, m.1)) × ((c : ℕ) → m.0.who ≡ Caller c → IsAdmitted c m.0)
+abbrev pub admitted : ℕ → Step (Option ℕ) → Sat → ℕ → Sat → Type 0
+admitted processors st m n m' = (m' ≡ (record m.0 { seen = m.0.told; told = [] }, m.1)) × ((c : ℕ) → m.0.who ≡ Caller c → IsAdmitted processors c m.0)
+
+-- a batch of so many of a processor is out, for one who has seen this: its first number is the finished count, and its jobs were queued and are not finished
+pub record IsOut (p first count : ℕ) (seen : List Deed) : Type 0 where
+  pub first_is : first ≡ finished_in p seen
+  pub queued : finished_in p seen + count ≤ queued_in p seen
+
+-- a word was loaded with a batch's right, and the load is no deed: all that was done until then is seen, and the batch is out there
+abbrev pub found_out : ℕ → Step (Option ℕ) → Sat → ℕ → Sat → Type 0
+found_out processors st m n m' = found_all processors st m n m' × ((p first count : ℕ) → m.0.batch ≡ OfBatch p first count → IsOut p first count m'.0.seen)

@@ -132,6 +132,13 @@ batch_seat right = record { who = Nobody; list = NoList; batch = right; seen = [
 abbrev pub lent : ℕ → View → View
 lent n v = batch_seat (batch_of n v.list)
 
+-- a seat of its own gets the right of the batch
+abbrev pub without_batch : View → View
+without_batch v = record v { batch = NoBatch }
+
+abbrev pub only_batch : View → View
+only_batch v = batch_seat v.batch
+
 -- the right of a list, or of a batch, is taken over
 abbrev pub with_list : View → View → View
 with_list v w = record v { list = w.list }

@@ -12,7 +12,7 @@ use Rattle.calls.specs.declared.view.BatchRight.TheVariants.{NoBatch, OfBatch}
 use Rattle.calls.specs.declared.view.View.{View}
 use Rattle.calls.specs.Tallies.{finished_place, word_count, queued_in, AreFinishers}
 use Rattle.calls.specs.Rule.{list_seat, batch_seat}
-use Rattle.calls.specs.Plays.{Does, Looks}
+use Rattle.calls.specs.Plays.{Does, Looks, FindsAll, IsAdmitted, IsOut}
 
 abbrev pub Place : Type 0
 Place = Seat (Option ℕ) View
@@ -105,3 +105,24 @@ pub record CountsFinished (plan : Plan) (place : ℕ) (seat : Place) (found : �
   pub looks : (c p : ℕ) → seat.me.0.who ≡ Caller c → place ≡ finished_place p → Looks c (LoadFinished p found) seat.me.0 seat'.me.0
   pub within : (p : ℕ) → place ≡ finished_place p → found ≤ queued_in p seat'.me.0.seen
   pub finishers : AreFinishers plan.processors seat'.me.0.seen
+
+-- a word was loaded, and the load is no deed: all that was done until then is seen
+pub record SeesAll (plan : Plan) (seat seat' : Place) : Type 0 where
+  pub table : seat'.table_id ≡ seat.table_id
+  pub me : seat'.me ≡ (record seat.me.0 { seen = seat'.me.0.seen; told = [] }, seat.me.1)
+  pub finds : (c : ℕ) → seat.me.0.who ≡ Caller c → FindsAll plan.processors c seat.me.0 seat'.me.0
+
+-- the same, and just what was told is seen
+pub record SeesTold (plan : Plan) (seat seat' : Place) : Type 0 where
+  pub table : seat'.table_id ≡ seat.table_id
+  pub me : seat'.me ≡ (record seat.me.0 { seen = seat.me.0.told; told = [] }, seat.me.1)
+  pub admits : (c : ℕ) → seat.me.0.who ≡ Caller c → IsAdmitted plan.processors c seat.me.0
+
+-- all that was done is seen, and the batch is out there. It keeps its right
+pub record SeesBatchOut (plan : Plan) (p count : ℕ) (seat batch seat' batch' : Place) : Type 0 where
+  pub table : seat'.table_id ≡ seat.table_id
+  pub me : seat'.me ≡ (record seat.me.0 { batch = NoBatch; seen = seat'.me.0.seen; told = [] }, seat.me.1)
+  pub finds : (c : ℕ) → seat.me.0.who ≡ Caller c → FindsAll plan.processors c seat.me.0 seat'.me.0
+  pub out : IsOut p (first_known batch.me.0.batch) count seat'.me.0.seen
+  pub batch_table : batch'.table_id ≡ batch.table_id
+  pub batch_is : batch'.me ≡ batch.me

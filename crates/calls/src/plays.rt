@@ -1,7 +1,7 @@
 //! The rule of the tally words, and what each step on them tells the one that makes it.
 ghost use Rattle.std.specs.Prelude.{ℕ};
-ghost use Rattle.calls.specs.Rule.{Kept, founder, dealer, dealt, without_list, only_list, lending, lent, with_list, with_batch, note, informed, spent};
-ghost use Rattle.calls.specs.Plays.{queues, finishes, counts_queued, counts_finished, found_all, admitted};
+ghost use Rattle.calls.specs.Rule.{Kept, founder, dealer, dealt, without_list, only_list, lending, lent, with_list, without_batch, only_batch, with_batch, note, informed, spent};
+ghost use Rattle.calls.specs.Plays.{queues, finishes, counts_queued, counts_finished, found_all, admitted, found_out};
 
 use crate::view::{Plan, View};
 use atomic_table::{Join, Play, Seat, Shared, Split, Table, TableRule};
@@ -56,18 +56,26 @@ impl<N: Counting> Play<NoSlot, View> for CountFinished<N> {
     ghost then = { counts_finished N.count };
 }
 
-/// Load of a word by a seat that has then seen all that was done. It is no deed.
-pub(crate) struct Cover;
+/// Load of a word by a seat that has then seen all that was done, where the tally words are of so many processors. It is
+/// no deed.
+pub(crate) struct Cover<N: Counting>(PhantomData<N>);
 
-impl Play<NoSlot, View> for Cover {
-    ghost then = { found_all };
+impl<N: Counting> Play<NoSlot, View> for Cover<N> {
+    ghost then = { found_all N.count };
 }
 
 /// Load of a word by a seat that has then seen just what it was told. It is no deed.
-pub(crate) struct Admit;
+pub(crate) struct Admit<N: Counting>(PhantomData<N>);
 
-impl Play<NoSlot, View> for Admit {
-    ghost then = { admitted };
+impl<N: Counting> Play<NoSlot, View> for Admit<N> {
+    ghost then = { admitted N.count };
+}
+
+/// Load of a word with the right of a batch, which is out in all that is then seen. It is no deed.
+pub(crate) struct SeeOut<N: Counting>(PhantomData<N>);
+
+impl<N: Counting> Play<NoSlot, View> for SeeOut<N> {
+    ghost then = { found_out N.count };
 }
 
 /// A new seat is the next processor's, with its list's right.
@@ -131,6 +139,15 @@ impl<N: Counting> Split<View> for GiveBatch<N> {
     ghost left = { lending N.count };
 
     ghost right = { lent N.count };
+}
+
+/// A new seat gets the right of a batch that is out.
+pub(crate) struct PassBatch;
+
+impl Split<View> for PassBatch {
+    ghost left = { without_batch };
+
+    ghost right = { only_batch };
 }
 
 /// The batch's right is taken over.

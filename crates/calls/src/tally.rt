@@ -1,7 +1,7 @@
 //! The steps on the tally words.
 ghost use Rattle.std.specs.Prelude.{◌≡◌, ℕ, ◌<◌};
-ghost use Rattle.calls.specs.Tallies.{queued_place, finished_place, most_calls, queued_in};
-ghost use Rattle.calls.specs.Seats.{IsPlaced, IsAtRest, IsOfCaller, IsListSeat, IsBatchSeat, QueuesOne, FinishesBatch, CountsFinished, MayLend, Lends};
+ghost use Rattle.calls.specs.Tallies.{queued_place, finished_place, most_calls, queued_in, IsBeginning};
+ghost use Rattle.calls.specs.Seats.{IsPlaced, IsAtRest, IsOfCaller, IsListSeat, IsBatchSeat, QueuesOne, FinishesBatch, CountsFinished, SeesAll, SeesTold, SeesBatchOut, MayLend, Lends};
 
 use crate::plays::{self, Board, Counting, Place};
 
@@ -45,6 +45,47 @@ pub(crate) fn count_finished<N: Counting>(top: &Board, seat: &mut Place, place: 
     ensures { CountsFinished top.now.key place seat.old result seat.new }
 {
     top.load::<plays::CountFinished<N>>(seat, place)
+}
+
+/// Loads the queued word of the seat's processor. The seat has then seen all that was done.
+pub(crate) fn see_all<N: Counting>(top: &Board, seat: &mut Place, processor: u16)
+    requires count { top.now.key.processors ≡ N.count }
+    requires placed { IsPlaced top.now.key top.now.table_id seat.old }
+    requires rests { IsAtRest processor top.now.key seat.old.me.0 }
+    ensures { SeesAll top.now.key seat.old seat.new }
+{
+    top.load::<plays::Cover<N>>(seat, place_of_queued(processor));
+}
+
+/// Loads the queued word of the seat's processor. The seat has then seen just what it was told.
+pub(crate) fn see_told<N: Counting>(top: &Board, seat: &mut Place, processor: u16)
+    requires count { top.now.key.processors ≡ N.count }
+    requires placed { IsPlaced top.now.key top.now.table_id seat.old }
+    requires rests { IsAtRest processor top.now.key seat.old.me.0 }
+    requires since { IsBeginning seat.old.me.0.seen seat.old.me.0.told }
+    ensures { SeesTold top.now.key seat.old seat.new }
+{
+    top.load::<plays::Admit<N>>(seat, place_of_queued(processor));
+}
+
+/// Loads the queued word of the seat's processor, with the right of a batch of another one, perhaps, which gets it back.
+/// The seat has then seen all that was done, and there the batch is out: only with its right can it be finished.
+pub(crate) fn see_batch_out<N: Counting>(
+    top: &Board,
+    seat: &mut Place,
+    batch: &mut Place,
+    processor: u16,
+)
+    requires count { top.now.key.processors ≡ N.count }
+    requires placed { IsPlaced top.now.key top.now.table_id seat.old }
+    requires rests { IsAtRest processor top.now.key seat.old.me.0 }
+    requires batch { batch.old.table_id ≡ top.now.table_id }
+    ensures { (p count : ℕ) → IsBatchSeat batch.old.table_id p count batch.old → SeesBatchOut top.now.key p count seat.old batch.old seat.new batch.new }
+{
+    let right = top.split_seat::<plays::PassBatch>(batch);
+    top.join_seat::<plays::TakeBatch>(seat, right);
+    top.load::<plays::SeeOut<N>>(seat, place_of_queued(processor));
+    *batch = top.split_seat::<plays::PassBatch>(seat);
 }
 
 /// Cuts the right of a batch of so many off the list's seat.

@@ -30,7 +30,10 @@ impl<J, A: Allocator + Copy> Calls<J, A> {
             note: seat.note(),
         })
     }
+}
 
+// The allocator can't be copied here, so nothing of this takes memory.
+impl<J, A: Allocator> Calls<J, A> {
     /// Whether a barrier is done: as many calls are finished of each processor as it waits for. The finished words are
     /// loaded in the order of the processors, up to the first that has not got there. Any processor may ask, and as
     /// often as it likes; nothing is waited for.

@@ -1,16 +1,19 @@
 //! How the seats of processors come to see one list of what was done on the tally words.
 ghost use Rattle.std.specs.Prelude.{◌≡◌};
 ghost use Rattle.calls.specs.Tallies.{IsBeginning};
-ghost use Rattle.calls.specs.Meetings.{Covers, Accepts};
+ghost use Rattle.calls.specs.Meetings.{Covers, Accepts, SeesOut};
 
 use super::CallSeat;
+use crate::batch::Batch;
 use crate::note::Note;
 use crate::plays;
-use crate::tally::place_of_queued;
+use crate::tally::{see_all, see_batch_out, see_told};
 use std::alloc::Allocator;
+use std::marker::Brand;
 
 impl<A: Allocator> CallSeat<A> {
-    /// One load by this seat, of its own queued word. It has then seen what the other has.
+    /// One load by this seat, of its own queued word. It has then seen what the other has. Only processors that are there
+    /// have finished batches.
     pub fn cover<B: Allocator>(&mut self, other: &mut CallSeat<B>)
         requires { other.old.tallies ≡ self.old.tallies }
         ensures covers { Covers self.old other.old.seen self.new }
@@ -21,7 +24,7 @@ impl<A: Allocator> CallSeat<A> {
     }
 
     /// One load by the other seat, of its own queued word. It has then seen just what this one has. What it had seen, this
-    /// one had seen before.
+    /// one had seen before. Only processors that are there have finished batches.
     pub fn admit<B: Allocator>(&mut self, other: &mut CallSeat<B>)
         requires tallies { other.old.tallies ≡ self.old.tallies }
         requires covered { IsBeginning other.old.seen self.old.seen }
@@ -32,16 +35,36 @@ impl<A: Allocator> CallSeat<A> {
         other.see_just(&mut note);
     }
 
+    /// One load by this seat, of its own queued word. It has then seen all that was done until then. Only processors that
+    /// are there have finished batches, which a seat with no other one to cover learns by this call.
+    pub fn catch_up(&mut self)
+        ensures { Covers self.old self.old.seen self.new }
+    {
+        let mut note = self.note();
+        self.see(&mut note);
+    }
+
+    /// One load by this seat, of its own queued word. It has then seen a moment at which the batch was out: all jobs of the
+    /// batch were queued, and none of them was finished. The batch stays as it is. It takes no memory and waits for
+    /// nothing.
+    pub fn see_out<J, B: Allocator>(&mut self, batch: &mut Batch<J, B>)
+        requires { batch.old.tallies ≡ self.old.tallies }
+        ensures out { SeesOut batch.old self.old self.new }
+        ensures batch { batch.new ≡ batch.old }
+    {
+        let top = &self.table.shared;
+        see_batch_out::<Brand>(top, &mut self.seat, &mut batch.seat, self.processor);
+    }
+
     /// One load, by a seat that has then seen all that is noted.
     fn see(&mut self, note: &mut Note)
         requires { note.old.tallies ≡ self.old.tallies }
         ensures { Covers self.old note.old.seen self.new }
     {
-        let place = place_of_queued(self.processor);
         let top = &self.table.shared;
         let copy = top.split_seat::<plays::GiveNote>(&mut note.seat);
         top.join_seat::<plays::TakeNote>(&mut self.seat, copy);
-        top.load::<plays::Cover>(&mut self.seat, place);
+        see_all::<Brand>(top, &mut self.seat, self.processor);
     }
 
     /// One load, by a seat that has then seen just what is noted.
@@ -50,10 +73,9 @@ impl<A: Allocator> CallSeat<A> {
         requires since { IsBeginning self.old.seen note.old.seen }
         ensures { Accepts self.old note.old.seen self.new }
     {
-        let place = place_of_queued(self.processor);
         let top = &self.table.shared;
         let copy = top.split_seat::<plays::GiveNote>(&mut note.seat);
         top.join_seat::<plays::TakeNote>(&mut self.seat, copy);
-        top.load::<plays::Admit>(&mut self.seat, place);
+        see_told::<Brand>(top, &mut self.seat, self.processor);
     }
 }

@@ -40,6 +40,17 @@ fn meet(calls: &Calls<u64>, seat: &mut CallSeat, other: &mut CallSeat) -> Totals
     totals
 }
 
+/// The totals that a seat finds once it has seen that the batch is out.
+fn look(calls: &Calls<u64>, seat: &mut CallSeat, batch: &mut Batch<u64>) -> Totals
+    requires { (seat.old.tallies ≡ calls.now.tallies) × (batch.old.tallies ≡ calls.now.tallies) }
+    ensures seat { IsSameSeat seat.old seat.new }
+    ensures batch { batch.new ≡ batch.old }
+{
+    let _ = calls;
+    seat.see_out(batch);
+    seat.totals()
+}
+
 /// Would catch totals of one processor alone, a finished word that counts what is only queued or taken out, and loads that
 /// change a count.
 #[test]
@@ -60,5 +71,28 @@ fn totals_of_two(rt: HostRuntime) -> Result<(), Fail> {
     assert_eq!(rt; (totals.queued, totals.finished), (5, 2));
     let totals = meet(&calls, &mut other, &mut seat);
     assert_eq!(rt; (totals.queued, totals.finished), (5, 2));
+    Ok(())
+}
+
+/// Would catch a batch that is finished, or loses its right, as another processor's seat sees that it is out.
+#[test]
+fn sees_a_batch_out(rt: HostRuntime) -> Result<(), Fail> {
+    let (calls, first, second, mut engine) = pair(rt.alloc())?;
+    let (mut cpu, mut seat) = first;
+    let (other_cpu, mut other) = second;
+    assert!(rt; fits(&calls, &cpu, &seat));
+    assert!(rt; fits(&calls, &other_cpu, &other));
+    queue_many(&rt, &calls, &mut cpu, &mut seat, 3);
+    assert!(rt; drive(&mut engine));
+    let Ok(Some(mut batch)) = calls.take_ready(&rt, &mut cpu, &mut seat, 0, 2) else {
+        panic!(rt; "all are done");
+    };
+    let totals = look(&calls, &mut other, &mut batch);
+    assert_eq!(rt; (totals.queued, totals.finished), (3, 0));
+    assert_eq!(rt; (batch.processor(), batch.count()), (0, 2));
+    let given = settle(&rt, &calls, &mut seat, batch);
+    assert_eq!(rt; given.as_slice(), [0, 1].as_slice());
+    let totals = meet(&calls, &mut other, &mut seat);
+    assert_eq!(rt; (totals.queued, totals.finished), (3, 2));
     Ok(())
 }

@@ -1,13 +1,12 @@
-use Rattle.std.proofs.Common.{◌≡◌, ◌<◌, List, ap, sym, ◌∙◌, subst, arith}
+use Rattle.std.proofs.Common.{◌≡◌, ◌<◌, List, ap, sym, ◌∙◌, subst}
 use Rattle.std.specs.Arc.{arc_value}
 use Rattle.calls.specs.declared.view.Deed.{Deed}
-use Rattle.calls.specs.Tallies.{queued_in, deeds_of, IsBeginning, AreTrue}
+use Rattle.calls.specs.Tallies.{queued_in, deeds_of, AreFinishers, IsBeginning, AreTrue}
 use Rattle.calls.specs.Views.{CallSeatView, NoteView}
-use Rattle.calls.specs.Seats.{IsPlaced}
-use Rattle.calls.proofs.Seating.{some_words, queued_there}
+use Rattle.calls.specs.Seats.{IsPlaced, IsAtRest}
+use Rattle.calls.proofs.Seating.{some_words}
 use Rattle.calls.proofs.Sharing.{gives_note, takes_note}
 use Rattle.calls.proofs.Counting.{same_queued}
-use Rattle.calls.proofs.Meeting.{admits_here}
 use Rattle.calls.proofs.seat.CallSeat.see_just.Goals as goal
 
 pub split_seat-copy-requires : goal.split_seat-copy-requires
@@ -28,30 +27,36 @@ join_seat-requires g c =
     let same : c.note.inside.seat.table_id ≡ c.self.inside.seat.table_id = ap (λ (n : NoteView). n.tallies) c.note.view_is ∙ (c.requires.tallies ∙ ap (λ (s : CallSeatView). s.tallies) (sym c.self.view_is)) in
     (placed.seated, c.split_seat-copy.ensures.3 ∙ (same ∙ placed.seated), ap (λ m. m.1) c.split_seat-copy.ensures.4, some_words _ _ _ placed.wide there, takes_note _ _ _ _ _)
 
-pub load-requires : goal.load-requires
-load-requires g c =
+pub see_told-requires-clause-placed : goal.see_told-requires-clause-placed
+see_told-requires-clause-placed g c =
     let v = c.self.invariant in
-    let t = c.deref.ensures in
     let j = c.join_seat.ensures in
-    let placed = subst (λ z. IsPlaced z.shared.key z.shared.table_id c.self.inside.seat) (sym t) v.placed in
-    let there = subst (λ z. c.self.inside.processor < z.shared.key.processors) (sym t) v.rests.there in
-    let low = queued_there _ _ _ placed.wide there in
-    let at = c.place_of_queued-place.ensures in
-    let told = ap (λ m. m.0.told) j.2 ∙ ap (λ m. m.0.seen) c.split_seat-copy.ensures.4 in
-    let was = ap (λ m. m.0.seen) j.2 in
-    let since : IsBeginning c.join_seat.new.seat.me.0.seen c.join_seat.new.seat.me.0.told = subst (λ (z : List Deed × List Deed). IsBeginning z.0 z.1) (λ i. (sym was i, sym told i)) (rw (← c.self.view_is, ← c.note.view_is) at c.requires.since) in
-    (j.0 ∙ placed.seated, omega (arith, low, at), admits_here _ _ _ c.self.inside.processor _ c.join_seat.new.seat.me (ap (λ m. m.0.who) j.2 ∙ v.rests.who) since)
+    subst (λ z. IsPlaced z.shared.key z.shared.table_id c.join_seat.new.seat) (sym c.deref.ensures) record { seated = j.0 ∙ v.placed.seated; wide = v.placed.wide; bare = ap (λ m. m.1) j.2 ∙ v.placed.bare }
+
+pub see_told-requires-clause-rests : goal.see_told-requires-clause-rests
+see_told-requires-clause-rests g c =
+    let v = c.self.invariant in
+    let j = c.join_seat.ensures.2 in
+    subst (λ z. IsAtRest c.self.inside.processor z.shared.key c.join_seat.new.seat.me.0) (sym c.deref.ensures)
+    record { who = ap (λ m. m.0.who) j ∙ v.rests.who; there = v.rests.there; no_list = ap (λ m. m.0.list) j ∙ v.rests.no_list; no_batch = ap (λ m. m.0.batch) j ∙ v.rests.no_batch }
+
+pub see_told-requires-clause-since : goal.see_told-requires-clause-since
+see_told-requires-clause-since g c =
+    let j = c.join_seat.ensures.2 in
+    let told = ap (λ m. m.0.told) j ∙ ap (λ m. m.0.seen) c.split_seat-copy.ensures.4 in
+    let was = ap (λ m. m.0.seen) j in
+    subst (λ (z : List Deed × List Deed). IsBeginning z.0 z.1) (λ i. (sym was i, sym told i)) (rw (← c.self.view_is, ← c.note.view_is) at c.requires.since)
 
 pub invariant_of-self : goal.invariant_of-self
 invariant_of-self g c =
     let v = c.self.invariant in
-    let e = c.load.ensures in
-    let me = e.2.0 in
+    let e = c.see_told.ensures in
+    let me = e.me in
     let j = c.join_seat.ensures in
     let who = ap (λ m. m.0.who) j.2 ∙ v.rests.who in
-    let f = e.2.1 c.self.inside.processor who in
+    let f = e.admits c.self.inside.processor who in
     let seen = ap (λ m. m.0.seen) me in record {
-      placed = record { seated = e.0 ∙ (j.0 ∙ v.placed.seated); wide = v.placed.wide; bare = ap (λ m. m.1) me ∙ (ap (λ m. m.1) j.2 ∙ v.placed.bare) };
+      placed = record { seated = e.table ∙ (j.0 ∙ v.placed.seated); wide = v.placed.wide; bare = ap (λ m. m.1) me ∙ (ap (λ m. m.1) j.2 ∙ v.placed.bare) };
       rests = record { who = ap (λ m. m.0.who) me ∙ who; there = v.rests.there; no_list = ap (λ m. m.0.list) me ∙ (ap (λ m. m.0.list) j.2 ∙ v.rests.no_list); no_batch = ap (λ m. m.0.batch) me ∙ (ap (λ m. m.0.batch) j.2 ∙ v.rests.no_batch) };
       loads = subst (λ (l : List Deed). AreTrue l) (sym seen) f.loads;
       queued = v.queued ∙ sym (ap (queued_in c.self.inside.processor) seen ∙ (same_queued c.self.inside.processor c.join_seat.new.seat.me.0.told c.join_seat.new.seat.me.0.seen f.own ∙ ap (λ m. queued_in c.self.inside.processor m.0.seen) j.2));
@@ -60,15 +65,16 @@ invariant_of-self g c =
 
 pub returns : goal.returns
 returns g c =
-    let e = c.load.ensures in
+    let e = c.see_told.ensures in
     let j = c.join_seat.ensures in
-    let f = e.2.1 c.self.inside.processor (ap (λ m. m.0.who) j.2 ∙ c.self.invariant.rests.who) in
+    let f = e.admits c.self.inside.processor (ap (λ m. m.0.who) j.2 ∙ c.self.invariant.rests.who) in
     let told = ap (λ m. m.0.told) j.2 ∙ ap (λ m. m.0.seen) c.split_seat-copy.ensures.4 in
     let was = ap (λ m. m.0.seen) j.2 in
-    let seen = ap (λ m. m.0.seen) e.2.0 ∙ told in
+    let seen = ap (λ m. m.0.seen) e.me ∙ told in
     rw (← c.self.view_is, ← c.note.view_is) (record {
-      is = λ i. record { tallies = (e.0 ∙ j.0) i; processors = (arc_value c.self.inside.table).shared.key.processors; processor = c.self.inside.processor; seen = seen i };
+      is = λ i. record { tallies = (e.table ∙ j.0) i; processors = (arc_value c.self.inside.table).shared.key.processors; processor = c.self.inside.processor; seen = seen i };
       since = rw (← c.self.view_is, ← c.note.view_is) at c.requires.since;
       own = ap (deeds_of c.self.inside.processor) (sym told) ∙ (f.own ∙ ap (deeds_of c.self.inside.processor) was);
       loads = subst (λ (l : List Deed). AreTrue l) told f.loads;
+      finishers = subst (λ (l : List Deed). AreFinishers (arc_value c.self.inside.table).shared.key.processors l) told (subst (λ z. AreFinishers z.shared.key.processors c.join_seat.new.seat.me.0.told) c.deref.ensures f.finishers);
     })

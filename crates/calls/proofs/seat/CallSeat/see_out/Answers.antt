@@ -1,0 +1,67 @@
+use Rattle.std.proofs.Common.{◌≡◌, [], refl, ap, sym, ◌∙◌, subst}
+use Rattle.std.specs.Arc.{arc_value}
+use Rattle.calls.specs.declared.view.BatchRight.TheVariants.{OfBatch}
+use Rattle.calls.specs.Tallies.{AreFinishers}
+use Rattle.calls.specs.Rule.{batch_seat}
+use Rattle.calls.specs.Plays.{Sat}
+use Rattle.calls.specs.Seats.{IsPlaced, IsAtRest, first_known}
+use Rattle.calls.specs.Waiting.{entries_of}
+use Rattle.calls.specs.Views.{CallSeatView}
+use Rattle.calls.proofs.Counting.{same_queued, begins_itself}
+use Rattle.calls.proofs.seat.CallSeat.see_out.Goals as goal
+
+pub see_batch_out-requires-clause-placed : goal.see_batch_out-requires-clause-placed
+see_batch_out-requires-clause-placed g c = subst (λ z. IsPlaced z.shared.key z.shared.table_id c.self.inside.seat) (sym c.deref.ensures) c.self.invariant.placed
+
+pub see_batch_out-requires-clause-rests : goal.see_batch_out-requires-clause-rests
+see_batch_out-requires-clause-rests g c = subst (λ z. IsAtRest c.self.inside.processor z.shared.key c.self.inside.seat.me.0) (sym c.deref.ensures) c.self.invariant.rests
+
+pub see_batch_out-requires-clause-batch : goal.see_batch_out-requires-clause-batch
+see_batch_out-requires-clause-batch g c =
+    let same : c.batch.inside.seat.table_id ≡ c.self.inside.seat.table_id = ap (λ b. b.tallies) c.batch.view_is ∙ (c.requires ∙ ap (λ (s : CallSeatView). s.tallies) (sym c.self.view_is)) in
+    same ∙ (c.self.invariant.placed.seated ∙ ap (λ z. z.shared.table_id) (sym c.deref.ensures))
+
+pub invariant_of-self : goal.invariant_of-self
+invariant_of-self g c =
+    let v = c.self.invariant in
+    let e = c.see_batch_out.ensures c.batch.inside.processor c.batch.inside.count c.batch.invariant.seated in
+    let f = e.finds c.self.inside.processor v.rests.who in record {
+      placed = record { seated = e.table ∙ v.placed.seated; wide = v.placed.wide; bare = ap (λ (m : Sat). m.1) e.me ∙ v.placed.bare };
+      rests = record { who = ap (λ (m : Sat). m.0.who) e.me ∙ v.rests.who; there = v.rests.there; no_list = ap (λ (m : Sat). m.0.list) e.me ∙ v.rests.no_list; no_batch = ap (λ (m : Sat). m.0.batch) e.me };
+      loads = f.loads;
+      queued = v.queued ∙ sym (same_queued c.self.inside.processor c.see_batch_out.new.seat.me.0.seen c.self.inside.seat.me.0.seen f.own);
+      few = v.few;
+    }
+
+pub invariant_of-batch : goal.invariant_of-batch
+invariant_of-batch g c =
+    let v = c.batch.invariant in
+    let e = c.see_batch_out.ensures c.batch.inside.processor c.batch.inside.count c.batch.invariant.seated in record {
+      seated = record { seated = refl; me = e.batch_is ∙ (v.seated.me ∙ ap (λ (m : Sat). (batch_seat (OfBatch c.batch.inside.processor (first_known m.0.batch) c.batch.inside.count), [])) (sym e.batch_is)) };
+      wrapping = v.wrapping;
+    }
+
+pub returns-clause-out : goal.returns-clause-out
+returns-clause-out g c =
+    let v = c.self.invariant in
+    let e = c.see_batch_out.ensures c.batch.inside.processor c.batch.inside.count c.batch.invariant.seated in
+    let f = e.finds c.self.inside.processor v.rests.who in
+    rw (← c.self.view_is, ← c.batch.view_is) (record {
+      moment = c.see_batch_out.new.seat.me.0.seen;
+      not_before = f.since;
+      covers = record {
+        same = λ i. record { tallies = e.table i; processors = (arc_value c.self.inside.table).shared.key.processors; processor = c.self.inside.processor; seen = c.see_batch_out.new.seat.me.0.seen };
+        since = f.since;
+        own = f.own;
+        covers = begins_itself c.see_batch_out.new.seat.me.0.seen;
+        loads = f.loads;
+        finishers = subst (λ z. AreFinishers z.shared.key.processors c.see_batch_out.new.seat.me.0.seen) c.deref.ensures f.finishers;
+      };
+      first = e.out.first_is;
+      queued = e.out.queued;
+    })
+
+pub returns-clause-batch : goal.returns-clause-batch
+returns-clause-batch g c =
+    let e = c.see_batch_out.ensures c.batch.inside.processor c.batch.inside.count c.batch.invariant.seated in
+    rw (← c.batch.view_is) (λ i. record { tallies = e.batch_table i; processor = c.batch.inside.processor; first = first_known (e.batch_is i).0.batch; count = c.batch.inside.count; entries = entries_of c.batch.inside.entries.items })
