@@ -30,9 +30,9 @@ use Rattle.desk.specs.BayViews.{BaySeatView}
 use Rattle.desk.specs.BayCalls.{holds, MakesSwap}
 use Rattle.domain.specs.Views as views
 use Rattle.domain.specs.Views.{DomainView, CpuView, IsOf}
-use Rattle.domain.specs.Counts.{IsJoined, CountsSections, IsHistoryOf, CountsHistory, HasMet, HaveMet, AreAllThere, CountsInAll, CallsCover, IsHeard, AreDeedsOf, HasHeard, CountsCalls}
+use Rattle.domain.specs.Counts.{IsJoined, CountsSections, IsHistoryOf, CountsHistory, HasMet, HaveMet, AreAllThere, CountsInAll, AreDeedsOf, HasHeard, CountsCalls}
 use Rattle.domain.specs.Turns.{Takes}
-use Rattle.domain.specs.Parts.{Each, AreAllTurns, EngineCovers, EachBecomes}
+use Rattle.domain.specs.Parts.{Each, AreAllTurns, EngineCovers, CallsCover, EachBecomes, IsHeard}
 use Rattle.domain.proofs.Lending.{turn_same}
 use Rattle.domain.proofs.Staying.{still_fits, still_with_cpu, still_with_calls}
 use Rattle.domain.proofs.Rows.{each_next}
@@ -308,6 +308,7 @@ module _ (d : DomainView) (c : CpuView) (cs cs' : List CpuView) (here : Each (Is
     found = e0;
     left = e3;
     rest = rest;
+    same = (again.step.same.0 ∙ (covers_all.same.0 ∙ covers.step.same.0), again.step.same.1 ∙ (covers_all.same.1 ∙ covers.step.same.1), again.step.same.2 ∙ (covers_all.same.2 ∙ covers.step.same.2));
     mine = again.step.mine ∙ (covers_all.mine ∙ covers.step.mine);
     changes = changes;
     seen = refl;
@@ -345,6 +346,17 @@ calls_next m s cpus between t item d inside is h c =
 
 pub calls_all : (m : ℕ) (s : CallSeatView) (cpus : List CpuView) (t : CallSeatView) → m ≡ length cpus → CallsSoFar m s cpus t → CallsCover s cpus t
 calls_all m s cpus t all h = record { same = h.same; since = h.since; own = h.own; covers = λ k c lt. h.covers k c (omega (arith, lt, all)) }
+
+-- what the seat has seen in the end, behind a load of its own
+pub accepts_own : (s between t : CallSeatView) (cpus : List CpuView) → CallsCover s cpus between → tallies.Covers between between.seen t → tallies.Accepts s t.seen t
+accepts_own s between t cpus h c =
+    let number : between.processor ≡ s.processor = ap (λ (z : CallSeatView). z.processor) h.same in record {
+      is = c.same ∙ ap (λ (z : CallSeatView). record z { seen = t.seen }) h.same;
+      since = begins_on h.since c.since;
+      own = ap (λ n. deeds_of n t.seen) (sym number) ∙ (c.own ∙ (ap (λ n. deeds_of n between.seen) number ∙ h.own));
+      loads = c.loads;
+      finishers = subst (λ n. AreFinishers n t.seen) (ap (λ (z : CallSeatView). z.processors) h.same) c.finishers;
+    }
 
 pub heard_here : (s s0 : CallSeatView) (c : CpuView) (calls' : CallSeatView) → s ≡ s0 → tallies.Accepts c.calls s.seen calls' → IsHeard s0 c (record { cpu = c.cpu; needs = c.needs; turn = c.turn; calls = calls' })
 heard_here s s0 c calls' same h = record { calls = subst (λ (z : CallSeatView). tallies.Accepts c.calls z.seen calls') same h; rest = refl }

@@ -166,6 +166,7 @@ module _ (d : DomainView) (cpus between : List CpuView) (opened closed number : 
       found = h.back.found;
       left = h.back.left;
       rest = h.back.rest;
+      same = h.back.same;
       mine = h.back.mine;
       changes = h.back.changes;
       seen = h.back.seen;

@@ -21,14 +21,17 @@ use Rattle.funnel.specs.Laws.{RootHasGreatest}
 use Rattle.desk.specs.Swaps.{lies_after, swaps_of}
 use Rattle.desk.specs.BayViews.{BaySeatView}
 use Rattle.desk.specs.BayCalls.{holds, MakesSwap, Accepts}
+use Rattle.calls.specs.Tallies.{AreFinishers}
 use Rattle.calls.specs.Views.{CallSeatView}
+use Rattle.calls.specs.Calls.{IsSameSeat}
+use Rattle.calls.specs.Meetings as tallies
 use Rattle.domain.specs.Views.{Engine, DomainView, CpuView}
 use Rattle.domain.specs.Turns.{Takes, TakesTurn}
-use Rattle.domain.specs.Meetings.{IsAllOf, EngineMeets, JoinsTree, TreeMeets, MeetsHere}
-use Rattle.domain.specs.Parts.{EngineCovers, NeedsCover, TurnCovers, EachBecomes, IsAdmitted, IsTurned}
+use Rattle.domain.specs.Meetings.{IsAllOf, EngineMeets, JoinsTree, TreeMeets, TalliesMeet, MeetsHere}
+use Rattle.domain.specs.Parts.{EngineCovers, NeedsCover, TurnCovers, EachBecomes, IsAdmitted, IsTurned, IsHeard}
 use Rattle.domain.proofs.Turning.{swaps_beginning_trans}
 use Rattle.domain.proofs.Lending.{turn_same}
-use Rattle.domain.proofs.Staying.{still_fits, seat_the_same}
+use Rattle.domain.proofs.Staying.{still_fits}
 use Rattle.domain.proofs.Covering.{raises_beginning_trans}
 
 -- a swap behind loads is a swap behind what was there before them
@@ -46,16 +49,17 @@ swap_behind v t w cpus left h m =
     }
 
 -- the first processor and the others; the engine that was found, and as it was left
-module _ (d : DomainView) (c : CpuView) (cs cs1 cs2 : List CpuView) (e0 e1 e2 : Engine) (cpu' : sections.CpuView) (found : ℕ) (n1 n2 : FunnelView) (took t2 t3 : BaySeatView Engine)
+module _ (d : DomainView) (c : CpuView) (cs cs1 cs2 cs3 : List CpuView) (e0 e1 e2 : Engine) (cpu' : sections.CpuView) (found : ℕ) (n1 n2 : FunnelView) (took t2 t3 : BaySeatView Engine) (s : CallSeatView)
     (takes : Takes c.turn e0 took) (covers : Covers e0.seat c.cpu.seen c.cpu.changes e1.seat) (load : LoadsRoot c.needs found n1)
     (engine : EngineCovers e1.seat cs e2.seat) (needs : NeedsCover n1 cs n2) (turn : TurnCovers took cs t2)
     (accepts : calls.Accepts c.cpu e2.seat.seen e2.seat.changes cpu') (was : calls.IsSeenBy c.cpu) (sized : c.cpu.processors ≡ e2.seat.processors) (heard : (n : ℕ) → e2.seat.shown ≡ To c.cpu.processor n → n ≤ c.cpu.changes)
-    (admitted : EachBecomes (IsAdmitted e2.seat n2) cs cs1) (puts : MakesSwap t2 (Some e2) None t3) (turned : EachBecomes (IsTurned t3) cs1 cs2) where
+    (admitted : EachBecomes (IsAdmitted e2.seat n2) cs cs1) (puts : MakesSwap t2 (Some e2) None t3) (turned : EachBecomes (IsTurned t3) cs1 cs2)
+    (met : tallies.Accepts c.calls s.seen s) (heard_all : EachBecomes (IsHeard s) cs2 cs3) where
   abbrev pub after : List CpuView
-  after = record { cpu = cpu'; needs = n2; turn = t3; calls = c.calls } ∷ cs2
+  after = record { cpu = cpu'; needs = n2; turn = t3; calls = s } ∷ cs3
 
   same_count : length after ≡ length (c ∷ cs)
-  same_count = ap suc (turned.count ∙ admitted.count)
+  same_count = ap suc (heard_all.count ∙ (turned.count ∙ admitted.count))
 
   in_others : (k : ℕ) → suc k < length (c ∷ cs) → k < length cs
   in_others k lt = omega (arith, lt)
@@ -63,10 +67,20 @@ module _ (d : DomainView) (c : CpuView) (cs cs1 cs2 : List CpuView) (e0 e1 e2 : 
   in_admitted : (k : ℕ) → suc k < length (c ∷ cs) → k < length cs1
   in_admitted k lt = let n = admitted.count in omega (arith, lt, n)
 
+  in_turned : (k : ℕ) → suc k < length (c ∷ cs) → k < length cs2
+  in_turned k lt = let n = admitted.count in let m = turned.count in omega (arith, lt, n, m)
+
+  -- at the tally words one has changed nothing else
+  cpu_is : (k : ℕ) (x : CpuView) → suc k < length (c ∷ cs) → (get_or cs3 k x).cpu ≡ (get_or cs1 k x).cpu
+  cpu_is k x lt = ap (λ (z : CpuView). z.cpu) (heard_all.each k x (in_turned k lt)).rest ∙ (turned.each k x (in_admitted k lt)).cpu
+
+  needs_are : (k : ℕ) (x : CpuView) → suc k < length (c ∷ cs) → (get_or cs3 k x).needs ≡ (get_or cs1 k x).needs
+  needs_are k x lt = ap (λ (z : CpuView). z.needs) (heard_all.each k x (in_turned k lt)).rest ∙ (turned.each k x (in_admitted k lt)).needs
+
   -- the domain's words
   pub each_joins : (k : ℕ) (x : CpuView) → k < length (c ∷ cs) → Joins (get_or (c ∷ cs) k x).cpu e2.seat.seen e2.seat.changes (get_or after k x).cpu
   each_joins zero x lt = record { accepts = accepts; since = beginning_trans covers.covers engine.since; later = (let low = covers.not_before in let same = engine.changes in omega (arith, low, same)) }
-  each_joins (suc k) x lt = subst (λ (z : sections.CpuView). Joins (get_or cs k x).cpu e2.seat.seen e2.seat.changes z) (sym (turned.each k x (in_admitted k lt)).cpu) (admitted.each k x (in_others k lt)).cpu
+  each_joins (suc k) x lt = subst (λ (z : sections.CpuView). Joins (get_or cs k x).cpu e2.seat.seen e2.seat.changes z) (sym (cpu_is k x lt)) (admitted.each k x (in_others k lt)).cpu
 
   each_was : (k : ℕ) (x : CpuView) → k < length (c ∷ cs) → calls.IsSeenBy (get_or (c ∷ cs) k x).cpu
   each_was zero x lt = was
@@ -89,7 +103,7 @@ module _ (d : DomainView) (c : CpuView) (cs cs1 cs2 : List CpuView) (e0 e1 e2 : 
   }
   each_joins_tree (suc k) x lt =
       let h = (admitted.each k x (in_others k lt)).needs in
-      let e = (turned.each k x (in_admitted k lt)).needs in
+      let e = needs_are k x lt in
       record {
         same = record { domain = ap (λ (z : FunnelView). z.domain) e ∙ h.same.domain; shape = ap (λ (z : FunnelView). z.shape) e ∙ h.same.shape; holder = ap (λ (z : FunnelView). z.holder) e ∙ h.same.holder };
         mine = ap (λ (z : FunnelView). z.mine) e ∙ h.mine;
@@ -113,8 +127,11 @@ module _ (d : DomainView) (c : CpuView) (cs cs1 cs2 : List CpuView) (e0 e1 e2 : 
   pub first_turn : TakesTurn c.turn e0 e2 t3
   first_turn = record { took = took; takes = takes; puts = swap_behind took t2 t3 cs e2 turn puts }
 
-  other_turn : (k : ℕ) (x : CpuView) → suc k < length (c ∷ cs) → Accepts (get_or cs k x).turn t3.seen (get_or cs2 k x).turn
-  other_turn k x lt = subst (λ (z : BaySeatView Engine). Accepts z t3.seen (get_or cs2 k x).turn) (admitted.each k x (in_others k lt)).turn (turned.each k x (in_admitted k lt)).turn
+  other_turn : (k : ℕ) (x : CpuView) → suc k < length (c ∷ cs) → Accepts (get_or cs k x).turn t3.seen (get_or cs3 k x).turn
+  other_turn k x lt =
+      let now : (get_or cs3 k x).turn ≡ (get_or cs2 k x).turn = ap (λ (z : CpuView). z.turn) (heard_all.each k x (in_turned k lt)).rest in
+      let was = (admitted.each k x (in_others k lt)).turn in
+      subst (λ (z : BaySeatView Engine × BaySeatView Engine). Accepts z.0 t3.seen z.1) (λ i. (was i, sym now i)) (turned.each k x (in_admitted k lt)).turn
 
   each_turned : (k : ℕ) (x : CpuView) → k < length (c ∷ cs) → (get_or after k x).turn.seen ≡ t3.seen
   each_turned zero x lt = refl
@@ -131,9 +148,21 @@ module _ (d : DomainView) (c : CpuView) (cs cs1 cs2 : List CpuView) (e0 e1 e2 : 
   turn_stays (suc k) x lt _ free = let h = other_turn k x lt in (ap (λ (z : BaySeatView Engine). z.bay) h.is, ap (λ (z : BaySeatView Engine). z.domain) h.is, h.holding ∙ free, ap (λ (z : BaySeatView Engine). z.number) h.is, ap (λ (z : BaySeatView Engine). z.seats) h.is)
 
   -- the seats at the tally words
-  pub calls_still : (k : ℕ) (x : CpuView) → k < length (c ∷ cs) → (get_or after k x).calls ≡ (get_or (c ∷ cs) k x).calls
-  calls_still zero x lt = refl
-  calls_still (suc k) x lt = (turned.each k x (in_admitted k lt)).calls ∙ (admitted.each k x (in_others k lt)).calls
+  pub each_accepts : (k : ℕ) (x : CpuView) → k < length (c ∷ cs) → tallies.Accepts (get_or (c ∷ cs) k x).calls s.seen (get_or after k x).calls
+  each_accepts zero x lt = met
+  each_accepts (suc k) x lt = subst (λ (z : CallSeatView). tallies.Accepts z s.seen (get_or cs3 k x).calls) ((turned.each k x (in_admitted k lt)).calls ∙ (admitted.each k x (in_others k lt)).calls) (heard_all.each k x (in_turned k lt)).calls
+
+  same_seat : (k : ℕ) (x : CpuView) → k < length (c ∷ cs) → IsSameSeat (get_or (c ∷ cs) k x).calls (get_or after k x).calls
+  same_seat k x lt = let is = (each_accepts k x lt).is in (ap (λ (z : CallSeatView). z.tallies) is, ap (λ (z : CallSeatView). z.processors) is, ap (λ (z : CallSeatView). z.processor) is)
+
+  pub tallies_meet : IsAllOf d (c ∷ cs) → TalliesMeet (c ∷ cs) after
+  tallies_meet all =
+      let h = all.here 0 c (omega arith) in
+      record {
+        deeds = s.seen;
+        each = each_accepts;
+        finishers = subst (λ n. AreFinishers n s.seen) (h.words ∙ (sym h.many ∙ all.count 0 c (omega arith))) met.finishers;
+      }
 
   pub all_still : holds t3 ≡ false → IsAllOf d (c ∷ cs) → IsAllOf d after
   all_still free all = record {
@@ -145,10 +174,10 @@ module _ (d : DomainView) (c : CpuView) (cs cs1 cs2 : List CpuView) (e0 e1 e2 : 
       free = t.2;
       asks = (h.asks.0, n.same.holder ∙ h.asks.1);
       many = j.accepts.same.1 ∙ h.many;
-      fits = still_fits d (get_or (c ∷ cs) k x) (get_or after k x) j.accepts.same (seat_the_same _ _ (calls_still k x l)) h.fits;
+      fits = still_fits d (get_or (c ∷ cs) k x) (get_or after k x) j.accepts.same (same_seat k x l) h.fits;
       number = t.3 ∙ (h.number ∙ sym j.accepts.same.3);
       seats = t.4 ∙ h.seats;
-      words = ap (λ (z : CallSeatView). z.processors) (calls_still k x l) ∙ h.words;
+      words = (same_seat k x l).1 ∙ h.words;
     };
     count = λ k x lt. (each_joins k x (within k lt)).accepts.same.1 ∙ (all.count k x (within k lt) ∙ sym same_count);
     order = λ k x lt. (each_joins k x (within k lt)).accepts.same.3 ∙ all.order k x (within k lt);
@@ -222,5 +251,5 @@ module _ (d : DomainView) (c : CpuView) (cs cs1 cs2 : List CpuView) (e0 e1 e2 : 
     rest = rest;
     needs = tree_meets law all;
     turns = record { swaps = t3.seen; seen = each_turned; first = λ x. first_turn; others = accepted_turns };
-    calls = calls_still;
+    calls = tallies_meet all;
   }

@@ -6,10 +6,11 @@ use Rattle.funnel.specs.Calls.{LoadsRoot}
 use Rattle.desk.specs.Swaps as swaps
 use Rattle.desk.specs.BayViews.{BaySeatView}
 use Rattle.desk.specs.BayCalls.{MakesSwap}
+use Rattle.calls.specs.Views.{CallSeatView}
 use Rattle.domain.specs.Views.{Engine, DomainView, CpuView, IsOf}
 use Rattle.domain.specs.Turns.{Takes}
 use Rattle.domain.specs.Meetings.{IsAllOf}
-use Rattle.domain.specs.Parts.{Each, IsBeside, EngineCovers, NeedsCover, TurnCovers, EachBecomes, IsAdmitted}
+use Rattle.domain.specs.Parts.{Each, IsBeside, EngineCovers, NeedsCover, TurnCovers, EachBecomes, IsAdmitted, IsTurned}
 use Rattle.domain.proofs.Turning.{swaps_beginning_trans}
 use Rattle.domain.proofs.Lending.{took_same}
 
@@ -60,3 +61,10 @@ module _ (d : DomainView) (c : CpuView) (cs : List CpuView) (all : IsAllOf d (c 
         pub turns_covered : Each (λ x. swaps.IsBeginning x.turn.seen t3.seen) cs1
         turns_covered k x lt = subst (λ (z : BaySeatView Engine). swaps.IsBeginning z.seen t3.seen) (sym (admitted.each k x (before k lt)).turn)
             (swaps_beginning_trans _ _ _ (turn.covers k x (before k lt)) (swaps_beginning_trans _ _ _ puts.since record { rest = _; whole = puts.seen }))
+
+        -- the seats at the tally words are still of one domain
+        pub calls_beside : (cs2 : List CpuView) → EachBecomes (IsTurned t3) cs1 cs2 → Each (λ x. x.calls.tallies ≡ c.calls.tallies) cs2
+        calls_beside cs2 turned k x lt =
+            let there : k < length cs1 = (let n = turned.count in omega (arith, lt, n)) in
+            let l = before k there in
+            ap (λ (z : CallSeatView). z.tallies) ((turned.each k x there).calls ∙ (admitted.each k x l).calls) ∙ ((other k x l).fits.tallies ∙ sym first.fits.tallies)

@@ -25,7 +25,7 @@ abbrev pub PollsThrough : (CallSeatView → CallSeatView → Type 0) → TicketV
 PollsThrough ends t [] s s' = ends s s'
 PollsThrough ends t (m ∷ ms) s s' = Polls t s false m × PollsThrough ends t ms m s'
 
--- one poll after another was in vain, until one found the ticket done. The seat made the loads of these polls, and no other step
+-- one poll after another was in vain, until one found the ticket done. The seat made the loads of these polls, and no other deed
 pub record PollsUntilDone (t : TicketView) (s s' : CallSeatView) : Type 0 where
   pub vain : List CallSeatView
   pub through : PollsThrough (λ m n. Polls t m true n) t vain s s'

@@ -10,14 +10,12 @@ use Rattle.sections.specs.Words.{all_locks, all_unlocks, opened_in, closed_in, n
 use Rattle.sections.specs.Rule.{HasItsMaker}
 use Rattle.sections.specs.Views as sections
 use Rattle.sections.specs.Calls.{IsSeenBy, IsSameCpu}
-use Rattle.sections.specs.EngineCalls.{Joins}
+use Rattle.sections.specs.EngineCalls.{IsSameEngine, Joins}
 use Rattle.scan.specs.Progress.{with_seat}
 use Rattle.calls.specs.declared.view.Deed.{Deed}
 use Rattle.calls.specs.Tallies as deeds
 use Rattle.calls.specs.Tallies.{deed, deeds_of, AreTrue, AreFinishers}
-use Rattle.calls.specs.Views.{CallSeatView}
 use Rattle.calls.specs.Barriers.{queued_loads, finished_loads}
-use Rattle.calls.specs.Meetings.{Accepts}
 use Rattle.calls.specs.Totals.{all_queued, all_finished}
 use Rattle.domain.specs.Views.{Engine, DomainView, CpuView, IsOf, with_cpu, with_calls}
 use Rattle.domain.specs.Turns.{TakesTurn}
@@ -90,6 +88,7 @@ pub record HaveMet (d : DomainView) (history : List Event) (cpus cpus' : List Cp
   pub found : Engine
   pub left : Engine
   pub rest : left ≡ with_seat left.seat found
+  pub same : IsSameEngine found.seat left.seat
   pub mine : left.seat.mine ≡ found.seat.mine
   pub changes : left.seat.changes ≡ found.seat.changes
   pub seen : left.seat.seen ≡ history
@@ -116,18 +115,6 @@ pub record CountsInAll (d : DomainView) (cpus : List CpuView) (opened closed num
   pub back : HaveMet d history cpus cpus'
 
 -- Callbacks
-
--- the seat has seen what these have, and did nothing
-pub record CallsCover (s : CallSeatView) (cpus : List CpuView) (t : CallSeatView) : Type 0 where
-  pub same : t ≡ record s { seen = t.seen }
-  pub since : deeds.IsBeginning s.seen t.seen
-  pub own : deeds_of s.processor t.seen ≡ deeds_of s.processor s.seen
-  pub covers : Each (λ c. deeds.IsBeginning c.calls.seen t.seen) cpus
-
--- the processor's seat at the tally words has then seen just what this one has
-pub record IsHeard (s : CallSeatView) (c c' : CpuView) : Type 0 where
-  pub calls : Accepts c.calls s.seen c'.calls
-  pub rest : c' ≡ with_calls c'.calls c
 
 -- What was done at the tally words of the domain: it goes on from what each of these processors had seen, has just its own deeds of each of them, and no batch was finished by anybody else. Only the first one has loaded the words, each once, to count
 pub record AreDeedsOf (d : DomainView) (cpus : List CpuView) (all : List Deed) : Type 0 where
@@ -174,6 +161,7 @@ pub record AreBack (d : DomainView) (history : List Event) (all : List Deed) (cp
   pub found : Engine
   pub left : Engine
   pub rest : left ≡ with_seat left.seat found
+  pub same : IsSameEngine found.seat left.seat
   pub mine : left.seat.mine ≡ found.seat.mine
   pub changes : left.seat.changes ≡ found.seat.changes
   pub seen : left.seat.seen ≡ history

@@ -15,6 +15,9 @@ use Rattle.funnel.specs.Histories.{value, greatest}
 use Rattle.funnel.specs.Calls.{IsSeenBy, IsSameSeat}
 use Rattle.desk.specs.Swaps.{Swap}
 use Rattle.desk.specs.BayCalls.{Accepts}
+use Rattle.calls.specs.declared.view.Deed.{Deed}
+use Rattle.calls.specs.Tallies.{AreFinishers}
+use Rattle.calls.specs.Meetings as tallies
 use Rattle.domain.specs.Views.{Engine, DomainView, CpuView, IsOf}
 use Rattle.domain.specs.Turns.{TakesTurn}
 
@@ -76,9 +79,17 @@ pub record TurnsMeet (cpus : List CpuView) (found left : Engine) (cpus' : List C
   pub first : (c : CpuView) → TakesTurn (slice_index_or cpus 0 c).turn found left (slice_index_or cpus' 0 c).turn
   pub others : (k : ℕ) (c : CpuView) → 0 < k → k < length cpus → Accepts (slice_index_or cpus k c).turn swaps (slice_index_or cpus' k c).turn
 
+-- The tally words
+
+-- all have seen one list of what was done there, in which each has just its own deeds; none of them did anything. All batches in it were finished by these processors
+pub record TalliesMeet (cpus cpus' : List CpuView) : Type 0 where
+  pub deeds : List Deed
+  pub each : (k : ℕ) (c : CpuView) → k < length cpus → tallies.Accepts (slice_index_or cpus k c).calls deeds (slice_index_or cpus' k c).calls
+  pub finishers : AreFinishers (length cpus) deeds
+
 -- All of it
 
--- the engine, which was found and left, and all processors have seen one history, one list of raises and one of swaps. Their seats at the tally words stayed as they were
+-- the engine, which was found and left, and all processors have seen one history, one list of raises, one of swaps, and one of deeds at the tally words
 pub record MeetsHere (cpus cpus' : List CpuView) : Type 0 where
   pub found : Engine
   pub left : Engine
@@ -87,4 +98,4 @@ pub record MeetsHere (cpus cpus' : List CpuView) : Type 0 where
   pub rest : left ≡ with_seat left.seat found
   pub needs : TreeMeets cpus cpus'
   pub turns : TurnsMeet cpus found left cpus'
-  pub calls : (k : ℕ) (c : CpuView) → k < length cpus → (slice_index_or cpus' k c).calls ≡ (slice_index_or cpus k c).calls
+  pub calls : TalliesMeet cpus cpus'

@@ -13,7 +13,11 @@ use Rattle.desk.specs.Swaps as swaps
 use Rattle.desk.specs.Swaps.{swaps_of}
 use Rattle.desk.specs.BayViews.{BaySeatView}
 use Rattle.desk.specs.BayCalls.{holds, Accepts}
-use Rattle.domain.specs.Views.{Engine, CpuView}
+use Rattle.calls.specs.Tallies as deeds
+use Rattle.calls.specs.Tallies.{deeds_of}
+use Rattle.calls.specs.Views.{CallSeatView}
+use Rattle.calls.specs.Meetings as tallies
+use Rattle.domain.specs.Views.{Engine, CpuView, with_calls}
 use Rattle.domain.specs.Meetings.{JoinsTree}
 
 -- each of them
@@ -60,6 +64,13 @@ pub record TurnCovers (t : BaySeatView Engine) (cpus : List CpuView) (t' : BaySe
   pub holding : holds t' ≡ holds t
   pub covers : Each (λ c. swaps.IsBeginning c.turn.seen t'.seen) cpus
 
+-- the seat at the tally words has seen what these have, and did nothing
+pub record CallsCover (s : CallSeatView) (cpus : List CpuView) (t : CallSeatView) : Type 0 where
+  pub same : t ≡ record s { seen = t.seen }
+  pub since : deeds.IsBeginning s.seen t.seen
+  pub own : deeds_of s.processor t.seen ≡ deeds_of s.processor s.seen
+  pub covers : Each (λ c. deeds.IsBeginning c.calls.seen t.seen) cpus
+
 -- the seat and those of these processors are all seats of the place where the engine lies, and none of them has it
 pub record AreAllTurns (t : BaySeatView Engine) (others : List CpuView) : Type 0 where
   pub free : holds t ≡ false
@@ -90,3 +101,8 @@ pub record IsTurned (t : BaySeatView Engine) (c c' : CpuView) : Type 0 where
   pub needs : c'.needs ≡ c.needs
   pub turn : Accepts c.turn t.seen c'.turn
   pub calls : c'.calls ≡ c.calls
+
+-- its seat at the tally words has seen just what this one has
+pub record IsHeard (s : CallSeatView) (c c' : CpuView) : Type 0 where
+  pub calls : tallies.Accepts c.calls s.seen c'.calls
+  pub rest : c' ≡ with_calls c'.calls c

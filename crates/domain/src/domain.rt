@@ -14,6 +14,7 @@ mod making;
 mod meeting;
 mod needs;
 mod periods;
+mod tallies;
 mod turns;
 mod waiting;
 

@@ -29,7 +29,10 @@ impl<J, A: Allocator + Copy> Domain<J, A> {
     {
         self.calls.barrier_start(&mut cpu.calls)
     }
+}
 
+// The allocator can't be copied here, so nothing of this takes memory.
+impl<J, A: Allocator> Domain<J, A> {
     /// Whether a barrier is done: as many calls are finished of each processor as it waits for. A batch that was only
     /// taken out does not count. The finished words are loaded in the order of the processors, up to the first that has
     /// not got there. Any processor may ask, and as often as it likes; nothing is waited for.
@@ -48,9 +51,9 @@ impl<J, A: Allocator + Copy> Domain<J, A> {
         self.calls.barrier_poll(&mut cpu.calls, ticket)
     }
 
-    /// One load of the queued word of the receipt's processor, which is over the receipt's number: the processor has
-    /// then seen all that the one who queued the job had. So a barrier that it starts later covers the receipt, wherever
-    /// its job was queued.
+    /// One load of the queued word of the receipt's processor, which is over the number of a receipt that
+    /// [`Domain::call`] gave: the processor has then seen all that the one who queued the job had. So a barrier that it
+    /// starts later covers the receipt, wherever its job was queued.
     pub fn hear(&self, cpu: &mut Cpu<J, A>, receipt: &mut Receipt)
         requires domain { IsOf self.now cpu.old }
         requires receipt { IsReceiptOf self.now receipt.old }

@@ -3,6 +3,7 @@ ghost use Rattle.std.specs.Prelude.{◌≡◌, ◌<◌, All, IfOk, IfSome, Match
 ghost use Rattle.sections.specs.Calls.{IsSameCpu, AllClosed};
 ghost use Rattle.segs.specs.MarkedList.{lens, numbers};
 ghost use Rattle.calls.specs.Views.{ListView};
+ghost use Rattle.calls.specs.Meetings.{SeesOut};
 ghost use Rattle.calls.specs.Calls.{IsSameSeat, IsOfProcessor, TakesIn, InvokesIn, AreHanded, FinishesIn, IsListOf};
 ghost use Rattle.domain.specs.Views.{IsOf, IsSameProcessor, callbacks_of, with_cpu, with_calls};
 ghost use Rattle.domain.specs.Calling.{CallsIn, RefusesCall, MayFinish};
@@ -66,6 +67,20 @@ impl<J: Drop, A: Allocator + Copy> Domain<J, A> {
     {
         self.calls
             .take_ready(rt, &mut cpu.cpu, &mut cpu.calls, processor, max)
+    }
+
+    /// One load, of the processor's own queued word. The processor has then seen that the batch is out: its jobs were
+    /// queued, and none of them is finished. The batch may be of another processor, and stays as it is. It takes no
+    /// memory and does not wait.
+    pub fn see_out(&self, cpu: &mut Cpu<J, A>, batch: &mut Batch<J, A>)
+        requires domain { IsOf self.now cpu.old }
+        requires batch { batch.old.tallies ≡ self.now.tallies }
+        ensures here { IsOf self.now cpu.new }
+        ensures out { SeesOut batch.old cpu.old.calls cpu.new.calls }
+        ensures rest { cpu.new ≡ with_calls cpu.new.calls cpu.old }
+        ensures batch { batch.new ≡ batch.old }
+    {
+        cpu.calls.see_out(batch);
     }
 
     /// The batch is over, and empty: its count is added to the finished word of its processor. Any processor of the domain

@@ -7,12 +7,11 @@ ghost use Rattle.sections.specs.EngineCalls.{IsSeenByEngine};
 ghost use Rattle.scan.specs.Progress.{with_seat};
 ghost use Rattle.domain.specs.Views.{IsOf};
 ghost use Rattle.domain.specs.Parts.{Each, EngineCovers, EachBecomes};
-ghost use Rattle.calls.specs.Tallies as deeds;
-ghost use Rattle.domain.specs.Counts.{CountsIndex, CountsSections, IsJoined, AreAllThere, CountsInAll, CallsCover, IsHeard, CountsCalls};
+ghost use Rattle.domain.specs.Counts.{CountsIndex, CountsSections, IsJoined, AreAllThere, CountsInAll, CountsCalls};
 
+use super::tallies::{admit_calls, cover_calls};
 use crate::cpu::Cpu;
 use crate::domain::Domain;
-use calls::CallSeat;
 use funnel::FunnelSeat;
 use scan::Engine;
 use sseq::{Index, Number};
@@ -70,29 +69,6 @@ fn admit_cpus<J, A: Allocator>(engine: &mut Engine<FunnelSeat<A>, A>, others: &m
 {
     for other in others.iter_mut() {
         engine.admit(&mut other.cpu);
-    }
-}
-
-/// The seat has then seen what each of these processors has at the tally words.
-fn cover_calls<J, A: Allocator>(seat: &mut CallSeat<A>, others: &mut [Cpu<J, A>])
-    requires { Each (λ c. c.calls.tallies ≡ seat.old.tallies) others.old }
-    ensures seat { CallsCover seat.old others.old seat.new }
-    ensures others { others.new ≡ others.old }
-{
-    for other in others.iter_mut() {
-        seat.cover(&mut other.calls);
-    }
-}
-
-/// Each of these processors has then seen just what the seat has at the tally words.
-fn admit_calls<J, A: Allocator>(seat: &mut CallSeat<A>, others: &mut [Cpu<J, A>])
-    requires tallies { Each (λ c. c.calls.tallies ≡ seat.old.tallies) others.old }
-    requires covered { Each (λ c. deeds.IsBeginning c.calls.seen seat.old.seen) others.old }
-    ensures seat { seat.new ≡ seat.old }
-    ensures others { EachBecomes (IsHeard seat.old) others.old others.new }
-{
-    for other in others.iter_mut() {
-        seat.admit(&mut other.calls);
     }
 }
 

@@ -9,6 +9,7 @@ ghost use Rattle.desk.specs.Swaps as swaps;
 ghost use Rattle.domain.specs.Meetings.{IsAllOf, MeetsHere};
 ghost use Rattle.domain.specs.Parts.{Each, IsBeside, EngineCovers, NeedsCover, TurnCovers, EachBecomes, IsAdmitted, IsTurned};
 
+use super::tallies::meet_calls;
 use crate::cpu::Cpu;
 use crate::domain::Domain;
 use crate::tied::Tied;
@@ -92,12 +93,14 @@ impl<J, A: Allocator> Domain<J, A> {
         admit_all(&mut engine, &mut first.needs, others);
         self.put(&mut first.turn, engine);
         self.admit_turns(&mut first.turn, others);
+        meet_calls(&mut first.calls, others);
     }
 
     /// All processors have then seen one history, in which each has just its own events, and of the engine's events it
     /// has only those that one of them had seen before. Likewise one list of raises at the tree, whose root then holds
-    /// the greatest number that they asked for (0 if none), and one list of turns. The processors are all of this domain's,
-    /// in order. It waits for the engine.
+    /// the greatest number that they asked for (0 if none), one list of turns, and one list of what was done at the tally
+    /// words of the callbacks, where all batches were finished by these processors. The processors are all of this
+    /// domain's, in order. It waits for the engine.
     pub fn meet<R: Wait>(&self, rt: &R, cpus: &mut [Cpu<J, A>])
         requires { IsAllOf self.now cpus.old }
         ensures all { IsAllOf self.now cpus.new }

@@ -57,10 +57,10 @@ pub(super) fn run_ready<R: Wait + Abort>(
 }
 
 /// Drives a whole grace period, with a step for each of its parts.
-pub(super) fn drive<R: Wait>(
+pub(super) fn drive<J, R: Wait>(
     rt: &R,
-    domain: &Domain<u64>,
-    cpu: &mut Cpu<u64>,
+    domain: &Domain<J>,
+    cpu: &mut Cpu<J>,
 ) -> [Result<Progress, AdvanceRefusal>; 3]
     requires { IsOf domain.now cpu.old }
     ensures { IsOf domain.now cpu.new }

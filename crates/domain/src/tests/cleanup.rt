@@ -1,11 +1,12 @@
 //! Domains that are taken down, and others that are in use.
-ghost use Rattle.std.specs.Prelude.{◌≡◌, ◌<◌, IfOk};
+ghost use Rattle.std.specs.Prelude.{◌≡◌, ◌<◌, IfOk, []};
 ghost use Rattle.domain.specs.Views.{IsOf};
 
-use super::calling::run_ready;
-use crate::{Cpu, Domain, InUse, Index, Limits, MakeError, Number, Progress, Totals};
+use super::calling::{drive, run_ready};
+use crate::{Batch, Cpu, Domain, InUse, Index, Limits, MakeError, Number, Progress, Totals};
 use std::alloc::Global;
 use std::process::Abort;
+use std::sync::{Arc, Wait};
 use std::test::Fail;
 
 const LIMITS: Limits = Limits {
@@ -15,10 +16,10 @@ const LIMITS: Limits = Limits {
 };
 
 /// A new domain of one processor.
-fn single(alloc: Global) -> Result<(Domain<u64>, Cpu<u64>), MakeError>
+fn single<J: Drop>(alloc: Global) -> Result<(Domain<J>, Cpu<J>), MakeError>
     ensures { IfOk result (λ r. IsOf r.0 r.1) }
 {
-    let (domain, mut cpus) = Domain::<u64>::new(alloc, 1, LIMITS)?;
+    let (domain, mut cpus) = Domain::<J>::new(alloc, 1, LIMITS)?;
     let cpu = cpus.pop().unwrap();
     Ok((domain, cpu))
 }
@@ -161,7 +162,7 @@ fn a_held_section_is_open(rt: HostRuntime) -> Result<(), Fail> {
 /// Would catch causes in another order, and totals that leave something out.
 #[test]
 fn each_cause_in_turn(rt: HostRuntime) -> Result<(), Fail> {
-    let (domain, mut cpu) = single(rt.alloc())?;
+    let (domain, mut cpu) = single::<u64>(rt.alloc())?;
     let queued = domain.call(&rt, &mut cpu, 7).is_ok();
     let Ok(held) = cpu.down_read() else {
         panic!(rt; "there is room");
@@ -195,5 +196,84 @@ fn each_cause_in_turn(rt: HostRuntime) -> Result<(), Fail> {
             periods: 1,
         }
     );
+    Ok(())
+}
+
+/// Queues three jobs on this processor. Tells whether there was room.
+fn queue_three<R: Wait>(rt: &R, domain: &Domain<u64>, cpu: &mut Cpu<u64>) -> bool
+    requires { IsOf domain.now cpu.old }
+    ensures { IsOf domain.now cpu.new }
+{
+    let first = domain.call(rt, cpu, 7).is_ok();
+    let second = domain.call(rt, cpu, 8).is_ok();
+    let third = domain.call(rt, cpu, 9).is_ok();
+    first && second && third
+}
+
+/// Runs all jobs of a batch.
+fn run_all<R: Abort>(rt: &R, batch: &mut Batch<u64>, ran: &mut Vec<u64>)
+    ensures empty { batch.new.entries ≡ [] }
+    ensures tallies { batch.new.tallies ≡ batch.old.tallies }
+    ensures processor { batch.new.processor ≡ batch.old.processor }
+{
+    while let Some(job) = batch.next() {
+        ran.push(job).expect(rt, "there is room");
+    }
+}
+
+/// Would catch a cleanup that forgets a batch which is out, or that counts it as finished, a batch that is of no use behind
+/// the refusal, and totals of what is queued alone.
+#[test]
+fn a_batch_is_out(rt: HostRuntime) -> Result<(), Fail> {
+    let (domain, mut first, mut second) = last_two(rt.alloc(), 2)?;
+    let queued = queue_three(&rt, &domain, &mut first);
+    let period = drive(&rt, &domain, &mut second);
+    let processor = first.processor();
+    let Ok(Some(mut batch)) = domain.take_ready(&rt, &mut second, processor, 2) else {
+        panic!(rt; "two are ready");
+    };
+    let (out, domain, first, mut second) = refused(&rt, rt.alloc(), domain, first, second);
+    let mut ran = Vec::new(rt.alloc());
+    domain.see_out(&mut second, &mut batch);
+    run_all(&rt, &mut batch, &mut ran);
+    domain.finish(&rt, &mut second, batch);
+    let (left, domain, mut first, second) = refused(&rt, rt.alloc(), domain, first, second);
+    let given = run_ready(&rt, &domain, &mut first, &mut ran);
+    let totals = taken_down(&rt, rt.alloc(), domain, first, second);
+    assert!(rt; queued);
+    assert_eq!(rt; period[2], Ok(Progress::Ended(number(4))));
+    assert_eq!(rt; (out, left), (InUse::Callbacks(3), InUse::Callbacks(1)));
+    assert_eq!(rt;
+        (given, ran.as_slice()),
+        (Ok(Some(1)), [7, 8, 9].as_slice())
+    );
+    assert_eq!(rt;
+        totals,
+        Totals {
+            opened: 0,
+            closed: 0,
+            queued: 3,
+            finished: 3,
+            periods: 1,
+        }
+    );
+    Ok(())
+}
+
+/// Would catch a domain that keeps a job when it is dropped, or drops one before: a job that may be given out by then, and
+/// one that still waits for its grace period. Each of them has the counted value.
+#[test]
+fn drops_what_waits(rt: HostRuntime) -> Result<(), Fail> {
+    let counted = Arc::new(rt.alloc(), 7u64)?;
+    let (domain, mut cpu) = single::<Arc<u64>>(rt.alloc())?;
+    let ready = domain.call(&rt, &mut cpu, counted.clone()?).is_ok();
+    let period = drive(&rt, &domain, &mut cpu);
+    let waiting = domain.call(&rt, &mut cpu, counted.clone()?).is_ok();
+    drop(cpu);
+    let before = Arc::strong_count(&counted);
+    drop(domain);
+    assert!(rt; ready && waiting);
+    assert_eq!(rt; period[2], Ok(Progress::Ended(number(4))));
+    assert_eq!(rt; (before, Arc::strong_count(&counted)), (3, 1));
     Ok(())
 }

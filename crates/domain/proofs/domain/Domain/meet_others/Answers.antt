@@ -10,7 +10,7 @@ use Rattle.domain.specs.Views.{Engine, CpuView}
 use Rattle.domain.specs.Meetings.{IsAllOf, MeetsHere}
 use Rattle.domain.specs.Parts.{Each, EachBecomes, IsAdmitted}
 use Rattle.domain.proofs.Meeting.{meets_here, all_still}
-use Rattle.domain.proofs.Preparing.{first_here, took_here, others_beside, still_here, others_here, turn_here, put_here, turns_beside, turns_covered}
+use Rattle.domain.proofs.Preparing.{first_here, took_here, others_beside, still_here, others_here, turn_here, put_here, turns_beside, turns_covered, calls_beside}
 use Rattle.domain.proofs.domain.Domain.meet_others.Goals as goal
 
 pub cover-requires : goal.cover-requires
@@ -71,6 +71,14 @@ admit_turns-requires-clause-covered g c =
     let puts = subst (λ (z : Engine). MakesSwap c.cover_all.new.turn (Some z) None c.put.new.turn) (c.admit_all.ensures.engine ∙ c.admit.ensures.engine) c.put.ensures.swap in
     turns_covered _ _ _ all _ _ c.take-engine.ensures.takes c.take-engine.ensures.domain c.cover.new.self _ _ c.cover.ensures.engine c.root_need.ensures c.cover_all.new.engine _ _ h.engine h.needs h.turn _ c.cover_all.new.engine puts _ admitted
 
+pub meet_calls-requires : goal.meet_calls-requires
+meet_calls-requires g c =
+    let all = subst (λ (z : CpuView). IsAllOf c.args.self.now (z ∷ c.args.others.now)) (sym c.first.view_is) c.requires in
+    let h = c.cover_all.ensures in
+    let admitted = subst (λ (z : Engine × List CpuView). EachBecomes (IsAdmitted z.0.seat c.cover_all.new.needs) z.1 c.admit_all.new.others) (λ i. (c.admit.ensures.engine i, h.others i)) c.admit_all.ensures.others in
+    let puts = subst (λ (z : Engine). MakesSwap c.cover_all.new.turn (Some z) None c.put.new.turn) (c.admit_all.ensures.engine ∙ c.admit.ensures.engine) c.put.ensures.swap in
+    calls_beside _ _ _ all _ _ c.take-engine.ensures.takes c.take-engine.ensures.domain c.cover.new.self _ _ c.cover.ensures.engine c.root_need.ensures c.cover_all.new.engine _ _ h.engine h.needs h.turn _ c.cover_all.new.engine puts _ admitted _ c.admit_turns.ensures.others
+
 pub returns-clause-all : goal.returns-clause-all
 returns-clause-all g c =
     let all = subst (λ (z : CpuView). IsAllOf c.args.self.now (z ∷ c.args.others.now)) (sym c.first.view_is) c.requires in
@@ -82,8 +90,9 @@ returns-clause-all g c =
     let sized = subst (λ (z : sections.CpuView). z.processors ≡ c.cover_all.new.engine.seat.processors) c.cover.ensures.cpu c.admit.ensures.sized in
     let heard = subst (λ (z : sections.CpuView). (n : ℕ) → c.cover_all.new.engine.seat.shown ≡ To z.processor n → n ≤ z.changes) c.cover.ensures.cpu c.admit.ensures.heard in
     let turned = c.admit_turns.ensures.others in
-    subst (λ (z : FunnelView × BaySeatView Engine). IsAllOf c.args.self.now (record { cpu = c.admit.new.cpu; needs = z.0; turn = z.1; calls = c.first.inside.calls } ∷ c.admit_turns.new.others)) (λ i. (sym c.admit_all.ensures.needs i, sym c.admit_turns.ensures.turn i))
-    (all_still _ _ _ _ _ _ c.cover.new.self c.cover_all.new.engine _ _ _ _ _ _ _ c.take-engine.ensures.takes c.cover.ensures.engine c.root_need.ensures h.engine h.needs h.turn accepts was sized heard admitted puts turned c.put.ensures.free all)
+    let met = c.meet_calls.ensures in
+    subst (λ (z : FunnelView × BaySeatView Engine). IsAllOf c.args.self.now (record { cpu = c.admit.new.cpu; needs = z.0; turn = z.1; calls = c.meet_calls.new.seat } ∷ c.meet_calls.new.others)) (λ i. (sym c.admit_all.ensures.needs i, sym c.admit_turns.ensures.turn i))
+    (all_still _ _ _ _ _ _ _ c.cover.new.self c.cover_all.new.engine _ _ _ _ _ _ _ _ c.take-engine.ensures.takes c.cover.ensures.engine c.root_need.ensures h.engine h.needs h.turn accepts was sized heard admitted puts turned met.seat met.others c.put.ensures.free all)
 
 pub returns-clause-meets : goal.returns-clause-meets
 returns-clause-meets g c =
@@ -96,6 +105,7 @@ returns-clause-meets g c =
     let sized = subst (λ (z : sections.CpuView). z.processors ≡ c.cover_all.new.engine.seat.processors) c.cover.ensures.cpu c.admit.ensures.sized in
     let heard = subst (λ (z : sections.CpuView). (n : ℕ) → c.cover_all.new.engine.seat.shown ≡ To z.processor n → n ≤ z.changes) c.cover.ensures.cpu c.admit.ensures.heard in
     let turned = c.admit_turns.ensures.others in
-    subst (λ (z : CpuView). MeetsHere (z ∷ c.args.others.now) (record { cpu = c.admit.new.cpu; needs = c.admit_all.new.needs; turn = c.admit_turns.new.turn; calls = c.first.inside.calls } ∷ c.admit_turns.new.others)) c.first.view_is
-    (subst (λ (z : FunnelView × BaySeatView Engine). MeetsHere (record { cpu = c.first.inside.cpu; needs = c.first.inside.needs; turn = c.first.inside.turn; calls = c.first.inside.calls } ∷ c.args.others.now) (record { cpu = c.admit.new.cpu; needs = z.0; turn = z.1; calls = c.first.inside.calls } ∷ c.admit_turns.new.others)) (λ i. (sym c.admit_all.ensures.needs i, sym c.admit_turns.ensures.turn i))
-    (meets_here c.args.self.now _ _ _ _ _ c.cover.new.self c.cover_all.new.engine _ _ _ _ _ _ _ c.take-engine.ensures.takes c.cover.ensures.engine c.root_need.ensures h.engine h.needs h.turn accepts was sized heard admitted puts turned c.needs_of_a_tree.ensures.root c.take-engine.ensures.tied (h.rest ∙ ap (λ (z : Engine). with_seat c.cover_all.new.engine.seat z) c.cover.ensures.rest) all))
+    let met = c.meet_calls.ensures in
+    subst (λ (z : CpuView). MeetsHere (z ∷ c.args.others.now) (record { cpu = c.admit.new.cpu; needs = c.admit_all.new.needs; turn = c.admit_turns.new.turn; calls = c.meet_calls.new.seat } ∷ c.meet_calls.new.others)) c.first.view_is
+    (subst (λ (z : FunnelView × BaySeatView Engine). MeetsHere (record { cpu = c.first.inside.cpu; needs = c.first.inside.needs; turn = c.first.inside.turn; calls = c.first.inside.calls } ∷ c.args.others.now) (record { cpu = c.admit.new.cpu; needs = z.0; turn = z.1; calls = c.meet_calls.new.seat } ∷ c.meet_calls.new.others)) (λ i. (sym c.admit_all.ensures.needs i, sym c.admit_turns.ensures.turn i))
+    (meets_here c.args.self.now _ _ _ _ _ _ c.cover.new.self c.cover_all.new.engine _ _ _ _ _ _ _ _ c.take-engine.ensures.takes c.cover.ensures.engine c.root_need.ensures h.engine h.needs h.turn accepts was sized heard admitted puts turned met.seat met.others c.needs_of_a_tree.ensures.root c.take-engine.ensures.tied (h.rest ∙ ap (λ (z : Engine). with_seat c.cover_all.new.engine.seat z) c.cover.ensures.rest) all))

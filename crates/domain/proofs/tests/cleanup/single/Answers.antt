@@ -4,7 +4,7 @@ use Rattle.domain.proofs.Starting.{IsReady, new_ones_are_ready}
 use Rattle.domain.proofs.tests.cleanup.single.Goals as goal
 
 pub returns : goal.returns
-returns c =
+returns g c =
     let only = All-pop (IsReady c.in_ok-domain.domain) _ _ _ c.pop.ensures.items (new_ones_are_ready _ _ c.in_ok-domain.ensures.made) in
     let is = rw c.unwrap-cpu.ensures at only.1 in
     is.0

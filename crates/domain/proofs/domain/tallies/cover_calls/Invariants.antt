@@ -1,7 +1,7 @@
 -- The seat has seen what each of the processors so far has.
 use Rattle.std.proofs.Common.{◌≡◌}
 use Rattle.domain.proofs.Counted.{CallsSoFar}
-use Rattle.domain.proofs.domain.counting.cover_calls.Given as goal
+use Rattle.domain.proofs.domain.tallies.cover_calls.Given as goal
 
 abbrev pub invariant-loop-other : goal.invariant-loop-other
 invariant-loop-other g l = record {

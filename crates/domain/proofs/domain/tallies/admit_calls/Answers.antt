@@ -4,7 +4,7 @@ use Rattle.calls.specs.Views.{CallSeatView}
 use Rattle.domain.specs.Views.{CpuView}
 use Rattle.domain.proofs.Rows.{goes_none, goes_next, item_has}
 use Rattle.domain.proofs.Counted.{heard_here}
-use Rattle.domain.proofs.domain.counting.admit_calls.Goals as goal
+use Rattle.domain.proofs.domain.tallies.admit_calls.Goals as goal
 
 pub loop-other-init : goal.loop-other-init
 loop-other-init g c = record { seat = refl; goes = goes_none _ _ }
