@@ -1,21 +1,25 @@
 -- Jobs that go in and come out.
-use Rattle.std.proofs.Common.{◌≡◌, ℕ, zero, suc, ◌+◌, ◌<◌, ◌≤◌, min, not, List, [], ◌∷◌, ◌++◌, Some, length, filter, refl, sym, ap, ◌∙◌, subst, add-one, arith}
+use Rattle.std.proofs.Common.{◌≡◌, ℕ, zero, suc, ◌+◌, ◌<◌, ◌≤◌, min, not, List, [], ◌∷◌, ◌++◌, All, Some, Result, Ok, Err, IsOk, IfOk, length, slice_index_or, filter, refl, sym, ap, ◌∙◌, subst, add-one, arith}
 use Rattle.std.proofs.Math.Nat.{min-le_left}
 use Rattle.onedom.specs.declared.event.Maker.TheVariants.{Processor}
 use Rattle.onedom.specs.declared.event.Event.{Event}
 use Rattle.onedom.specs.declared.event.Event.TheVariants.{Note}
 use Rattle.onedom.specs.Histories.{open_sections}
 use Rattle.onedom.proofs.CallerLemmas.{open_sections_plain}
+use Rattle.sections.specs.declared.view.Bounds.{Bounds}
 use Rattle.sections.specs.Words.{is_held}
 use Rattle.sections.specs.Views as sections
 use Rattle.calls.specs.declared.entry.Entry.{Entry}
 use Rattle.calls.specs.declared.list.Receipt.{Receipt}
 use Rattle.calls.specs.Views.{ListView, BatchView, CallsView}
 use Rattle.calls.specs.Calls.{IsTaken, TakesIn}
-use Rattle.domain.specs.Views.{DomainView, CpuView}
+use Rattle.domain.specs.Views.{DomainView, CpuView, IsOf}
 use Rattle.domain.specs.Waiting.{HasNoneOpen}
 use Rattle.domain.specs.Calling.{CallsIn}
-use Rattle.srcubench.specs.Calling.{QueuesAll, RunsBatch, RunsAll}
+use Rattle.domain.specs.Making.{new_cpu, IsMade}
+use Rattle.domain.specs.Meetings.{IsAllOf}
+use Rattle.srcubench.specs.declared.calling.JobError.{JobError}
+use Rattle.srcubench.specs.Calling.{QueuesAll, RunsBatch, RunsAll, AreOutcomes, OnEachOfNew}
 
 -- Queueing
 
@@ -46,3 +50,30 @@ one_batch d came more c b c' before one = record { batches = more ∷ before.bat
 
 pub no_batch : (d : DomainView) (c : CpuView) → RunsAll d 0 c c
 no_batch d c = record { batches = []; runs = refl; came = refl }
+
+-- New processors
+
+-- no reading is open there
+pub all_ready : {bounds : _} (d : DomainView) (cpus : List CpuView) → IsMade bounds d cpus → IsAllOf d cpus → All (λ c. IsOf d c × HasNoneOpen c) cpus
+all_ready d cpus made all = λ k c lt. (all.here k c lt, subst HasNoneOpen (sym (made.each k c lt)) refl)
+
+-- where there was no error, it became another one
+became : (Becomes : CpuView → Type 0) (r : Result CpuView JobError) → IsOk r → IfOk r Becomes → (last : CpuView) × Becomes last
+became Becomes (Ok last) ok is = (last, is)
+became Becomes (Err e) ok is = absurd cc
+
+pub on_each : (Becomes : DomainView → CpuView → CpuView → Type 0) (bounds : Bounds) (d : DomainView) (cpus : List CpuView) (outcomes : List (Result CpuView JobError)) → IsMade bounds d cpus → AreOutcomes (Becomes d) cpus outcomes → All IsOk outcomes → OnEachOfNew bounds.processors Becomes
+on_each Becomes bounds d cpus outcomes made are all = record {
+  domain = d;
+  bounds = bounds;
+  many = refl;
+  tree = made.tree;
+  shape = record { processors = bounds.processors; nodes = made.nodes };
+  each = λ k lt.
+      let c : CpuView = new_cpu d bounds made.tree (record { processors = bounds.processors; nodes = made.nodes }) k in
+      let r : Result CpuView JobError = Ok c in
+      let count = made.count in
+      let many = are.count in
+      let there : k < length cpus = omega (arith, lt, count) in
+      became (Becomes d c) (slice_index_or outcomes k r) (all k r (omega (arith, there, many))) (subst (λ (z : CpuView). IfOk (slice_index_or outcomes k r) (Becomes d z)) (made.each k c there) (are.each k c r there));
+}

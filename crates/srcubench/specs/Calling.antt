@@ -1,12 +1,16 @@
 -- Jobs that are queued on a processor, and come out there behind a grace period.
-use Rattle.std.specs.Prelude.{◌≡◌, ℕ, zero, suc, ◌+◌, List, [], ◌∷◌, Some, length}
+use Rattle.std.specs.Prelude.{◌≡◌, ℕ, zero, suc, ◌+◌, ◌<◌, List, [], ◌∷◌, Some, length, slice_index_or, Result, IfOk}
+use Rattle.atomic_table.specs.Seated.{TableId}
+use Rattle.sections.specs.declared.view.Bounds.{Bounds}
+use Rattle.funnel.specs.declared.view.Shape.{Shape}
 use Rattle.calls.specs.declared.list.Receipt.{Receipt}
 use Rattle.calls.specs.Views.{BatchView}
 use Rattle.calls.specs.Calls.{TakesIn, AreHanded, FinishesIn}
-use Rattle.domain.specs.Views.{DomainView, CpuView, IsOf, callbacks_of, with_cpu, with_calls}
+use Rattle.domain.specs.Views.{DomainView, CpuView, callbacks_of, with_cpu, with_calls}
 use Rattle.domain.specs.Calling.{CallsIn}
 use Rattle.domain.specs.Waiting.{Synchronizes}
-use Rattle.srcubench.specs.Driving.{IsNewOf}
+use Rattle.domain.specs.Making.{new_cpu}
+use Rattle.srcubench.specs.declared.calling.JobError.{JobError}
 
 -- so many jobs were queued, one behind the other, each the number of its place
 abbrev pub QueuesAll : DomainView → ℕ → CpuView → CpuView → Type 0
@@ -48,20 +52,22 @@ pub record PassesAll (d : DomainView) (jobs : ℕ) (c c' : CpuView) : Type 0 whe
   pub waits : Synchronizes queued waited
   pub runs : RunsAll d jobs waited c'
 
--- on the processor of a new domain so many jobs were queued
-pub record HaveQueued (jobs : ℕ) : Type 0 where
-  pub first : CpuView
-  pub last : CpuView
-  pub new : IsNewOf 1 1 first
-  pub domain : DomainView
-  pub here : IsOf domain first
-  pub queues : QueuesAll domain jobs first last
+-- each of these processors, where there was no error, became another one in this way
+pub record AreOutcomes (Becomes : CpuView → CpuView → Type 0) (cpus : List CpuView) (outcomes : List (Result CpuView JobError)) : Type 0 where
+  pub count : length outcomes ≡ length cpus
+  pub each : (k : ℕ) (c : CpuView) (r : Result CpuView JobError) → k < length cpus → IfOk (slice_index_or outcomes k r) (Becomes (slice_index_or cpus k c))
 
--- and as many came out
-pub record HavePassed (jobs : ℕ) : Type 0 where
-  pub first : CpuView
-  pub last : CpuView
-  pub new : IsNewOf 1 1 first
+-- each processor of a new domain of so many became another one in this way
+pub record OnEachOfNew (threads : ℕ) (Becomes : DomainView → CpuView → CpuView → Type 0) : Type 0 where
   pub domain : DomainView
-  pub here : IsOf domain first
-  pub passes : PassesAll domain jobs first last
+  pub bounds : Bounds
+  pub many : bounds.processors ≡ threads
+  pub tree : TableId
+  pub shape : Shape
+  pub each : (k : ℕ) → k < threads → (last : CpuView) × Becomes domain (new_cpu domain bounds tree shape k) last
+
+abbrev pub HaveQueued : ℕ → ℕ → Type 0
+HaveQueued threads jobs = OnEachOfNew threads (λ d. QueuesAll d jobs)
+
+abbrev pub HavePassed : ℕ → ℕ → Type 0
+HavePassed threads jobs = OnEachOfNew threads (λ d. PassesAll d jobs)

@@ -20,8 +20,8 @@ CanRun (DrivenPeriods processors periods) = 1 ≤ periods
 CanRun (Waits processors times) = 1 ≤ times
 CanRun (Asks threads asks new) = (1 ≤ asks) × (asks ≤ 2 ^ 54) × (threads ≤ 2 ^ 16)
 CanRun (Entries way batches) = (1 ≤ batches) × (batches ≤ 2 ^ 54)
-CanRun (Queueing jobs) = 1 ≤ jobs
-CanRun (Callbacks jobs) = (1 ≤ jobs) × (jobs ≤ 2 ^ 54)
+CanRun (Queueing threads jobs) = (1 ≤ threads * jobs) × (threads ≤ 2 ^ 16) × (jobs ≤ 2 ^ 40)
+CanRun (Callbacks threads jobs) = (1 ≤ threads * jobs) × (threads ≤ 2 ^ 16) × (jobs ≤ 2 ^ 40)
 
 -- a run has done so much of it
 abbrev pub IsDone : Work → ℕ → Type 0
@@ -32,5 +32,5 @@ IsDone (DrivenPeriods processors periods) done = (done ≡ periods) × HaveDrive
 IsDone (Waits processors times) done = (done ≡ times) × HaveWaited processors times
 IsDone (Asks threads asks new) done = (done ≡ asks) × (askers : List Asker) × AreAskersOfOne threads new asks askers
 IsDone (Entries way batches) done = done ≡ 8 * batches
-IsDone (Queueing jobs) done = (done ≡ jobs) × HaveQueued jobs
-IsDone (Callbacks jobs) done = (done ≡ jobs) × HavePassed jobs
+IsDone (Queueing threads jobs) done = (done ≡ threads * jobs) × HaveQueued threads jobs
+IsDone (Callbacks threads jobs) done = (done ≡ threads * jobs) × HavePassed threads jobs

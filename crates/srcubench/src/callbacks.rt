@@ -1,56 +1,148 @@
-//! Jobs that are queued, and run, in a new domain of one processor, and what they take in memory.
-ghost use Rattle.std.specs.Prelude.{◌≡◌, ◌^◌, ◌≤◌, IfOk};
-ghost use Rattle.srcubench.specs.Calling.{HaveQueued, HavePassed};
+//! Jobs that are queued, and run, in a new domain: a thread for each of its processors. And what they take in memory.
+ghost use Rattle.std.specs.Prelude.{◌≡◌, ◌*◌, ◌^◌, ◌≤◌, All, IsOk, IfOk, OnOk};
+ghost use Rattle.domain.specs.Views.{IsOf};
+ghost use Rattle.domain.specs.Waiting.{HasNoneOpen};
+ghost use Rattle.srcubench.specs.Calling.{QueuesAll, PassesAll, AreOutcomes, HaveQueued, HavePassed};
 
-use crate::calling::{pass_all, queue_all};
+use crate::calling::{JobError, pass_all, queue_all};
 use crate::work::Timed;
 use anyhow::Result;
-use domain::{Domain, Limits};
+use domain::{Cpu, Domain, Limits};
 use linked_list_allocator::LocalHeap;
+use std::alloc::AllocError;
 use std::sync::Wait;
-use std::time::{Clock, Instant};
+use std::thread;
+use std::thread::Threads;
+use std::time::{Clock, Duration, Instant};
 
-/// One grace period is enough for all jobs: they are queued before it starts.
+/// As many grace periods as there may be: how many there are is up to the threads.
 const LIMITS: Limits = Limits {
     sections: 1,
-    periods: 1,
+    periods: Limits::MOST_PERIODS,
     cells: 0,
 };
 
-/// Room for some ten thousand jobs twice, as they are moved where their list grows. In bytes.
+/// Room for a list of some ten thousand jobs and for one of half the size, from which it grew. In bytes.
 const HEAP: usize = 16 * 1024 * 1024;
 
-/// Queues so many jobs. The `elapsed` is what the clock told, of which no clause speaks.
-pub fn run_queueing<R: Wait + Clock + AllocGlobal>(rt: &R, jobs: u64) -> Result<Timed>
-    ensures done { IfOk result (λ timed. timed.done ≡ jobs) }
-    ensures queued { IfOk result (λ _. HaveQueued jobs) }
+/// Queues so many jobs on this processor.
+fn queue_here<R: Wait>(
+    rt: &R,
+    domain: &Domain<u64>,
+    mut cpu: Cpu<u64>,
+    jobs: u64,
+) -> Result<Cpu<u64>, JobError>
+    requires { IsOf domain.now cpu }
+    ensures { IfOk result (λ last. QueuesAll domain.now jobs cpu last) }
 {
-    let (domain, mut cpus) = Domain::<u64>::new(rt.alloc(), 1, LIMITS)?;
-    let mut cpu = cpus.pop().unwrap();
-    let start = Instant::now(rt)?;
-    queue_all(rt, &domain, &mut cpu, jobs)?;
-    let elapsed = start.elapsed(rt)?;
-    Ok(Timed {
-        done: jobs,
-        elapsed,
-    })
+    queue_all(rt, domain, &mut cpu, jobs)?;
+    Ok(cpu)
 }
 
-/// The same, and waits for a grace period then, and runs as many jobs.
-pub fn run_passing<R: Wait + Clock + AllocGlobal>(rt: &R, jobs: u64) -> Result<Timed>
-    requires { jobs ≤ 2 ^ 54 }
-    ensures done { IfOk result (λ timed. timed.done ≡ jobs) }
-    ensures passed { IfOk result (λ _. HavePassed jobs) }
+/// The same, and then runs as many, behind a grace period.
+fn pass_here<R: Wait>(
+    rt: &R,
+    domain: &Domain<u64>,
+    mut cpu: Cpu<u64>,
+    jobs: u64,
+) -> Result<Cpu<u64>, JobError>
+    requires domain { IsOf domain.now cpu }
+    requires none { HasNoneOpen cpu }
+    requires few { jobs ≤ 2 ^ 54 }
+    ensures { IfOk result (λ last. PassesAll domain.now jobs cpu last) }
 {
-    let (domain, mut cpus) = Domain::<u64>::new(rt.alloc(), 1, LIMITS)?;
-    let mut cpu = cpus.pop().unwrap();
-    let start = Instant::now(rt)?;
-    pass_all(rt, &domain, &mut cpu, jobs)?;
-    let elapsed = start.elapsed(rt)?;
-    Ok(Timed {
-        done: jobs,
+    pass_all(rt, domain, &mut cpu, jobs)?;
+    Ok(cpu)
+}
+
+/// Has each processor queue so many jobs in a thread of its own.
+pub fn queue_together<R: Threads + Sync + Wait>(
+    rt: &R,
+    domain: &Domain<u64>,
+    cpus: Vec<Cpu<u64>>,
+    jobs: u64,
+) -> Result<Vec<Result<Cpu<u64>, JobError>>, AllocError>
+    requires { All (IsOf domain.now) cpus.items }
+    ensures { IfOk result (λ outcomes. AreOutcomes (QueuesAll domain.now jobs) cpus.items outcomes.items) }
+{
+    thread::map_vec(rt, cpus, &|cpu| queue_here(rt, domain, cpu, jobs))
+}
+
+/// Has each processor queue so many jobs, and run as many, in a thread of its own.
+pub fn pass_together<R: Threads + Sync + Wait>(
+    rt: &R,
+    domain: &Domain<u64>,
+    cpus: Vec<Cpu<u64>>,
+    jobs: u64,
+) -> Result<Vec<Result<Cpu<u64>, JobError>>, AllocError>
+    requires cpus { All (λ c. IsOf domain.now c × HasNoneOpen c) cpus.items }
+    requires few { jobs ≤ 2 ^ 54 }
+    ensures { IfOk result (λ outcomes. AreOutcomes (PassesAll domain.now jobs) cpus.items outcomes.items) }
+{
+    thread::map_vec(rt, cpus, &|cpu| pass_here(rt, domain, cpu, jobs))
+}
+
+/// The first error, where there is one.
+pub fn first_error(outcomes: &[Result<Cpu<u64>, JobError>]) -> Result<(), JobError>
+    ensures { OnOk result (All IsOk outcomes.now) }
+{
+    for outcome in outcomes {
+        if let Err(error) = outcome {
+            return Err(*error);
+        }
+    }
+    Ok(())
+}
+
+/// So many jobs in each of so many threads, all of which are counted, and how long they took.
+fn timed(threads: usize, jobs: u64, elapsed: Duration) -> Timed
+    requires threads { threads ≤ 2 ^ 16 }
+    requires few { jobs ≤ 2 ^ 40 }
+    ensures { result.done ≡ threads * jobs }
+{
+    Timed {
+        done: threads as u64 * jobs,
         elapsed,
-    })
+    }
+}
+
+/// Queues so many jobs in each of so many threads. The `elapsed` is what the clock told, of which no clause speaks: from
+/// before the first thread's start until all had ended.
+pub fn run_queueing<R: Threads + Sync + Wait + Clock + AllocGlobal>(
+    rt: &R,
+    threads: usize,
+    jobs: u64,
+) -> Result<Timed>
+    requires threads { threads ≤ 2 ^ 16 }
+    requires few { jobs ≤ 2 ^ 40 }
+    ensures done { IfOk result (λ timed. timed.done ≡ threads * jobs) }
+    ensures queued { IfOk result (λ _. HaveQueued threads jobs) }
+{
+    let (domain, cpus) = Domain::<u64>::new(rt.alloc(), threads, LIMITS)?;
+    let start = Instant::now(rt)?;
+    let outcomes = queue_together(rt, &domain, cpus, jobs)?;
+    let elapsed = start.elapsed(rt)?;
+    first_error(outcomes.as_slice())?;
+    Ok(timed(threads, jobs, elapsed))
+}
+
+/// The same from the first job's queueing until the last batch was finished.
+pub fn run_passing<R: Threads + Sync + Wait + Clock + AllocGlobal>(
+    rt: &R,
+    threads: usize,
+    jobs: u64,
+) -> Result<Timed>
+    requires threads { threads ≤ 2 ^ 16 }
+    requires few { jobs ≤ 2 ^ 40 }
+    ensures done { IfOk result (λ timed. timed.done ≡ threads * jobs) }
+    ensures passed { IfOk result (λ _. HavePassed threads jobs) }
+{
+    let (domain, cpus) = Domain::<u64>::new(rt.alloc(), threads, LIMITS)?;
+    let start = Instant::now(rt)?;
+    let outcomes = pass_together(rt, &domain, cpus, jobs)?;
+    let elapsed = start.elapsed(rt)?;
+    first_error(outcomes.as_slice())?;
+    Ok(timed(threads, jobs, elapsed))
 }
 
 /// How many bytes of a heap so many jobs take that are queued on one processor.

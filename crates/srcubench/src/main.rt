@@ -4,7 +4,7 @@
 //! run behind a grace period.
 #![tactic(auto)]
 
-ghost use Rattle.std.specs.Prelude.{◌≤◌, ◌^◌};
+ghost use Rattle.std.specs.Prelude.{◌*◌, ◌≤◌, ◌^◌};
 
 mod asking;
 mod callbacks;
@@ -102,11 +102,28 @@ fn count<R: Threads + Sync + Wait + Clock + Print + AllocGlobal>(rt: &R) -> Resu
 }
 
 /// Prints how many jobs were queued, how many came out, and how many bytes the queued ones took.
-fn count_jobs<R: Wait + Clock + Print + AllocGlobal>(rt: &R) -> Result<()> {
-    println!(rt; "{} jobs queued", callbacks::run_queueing(rt, JOBS)?.done)?;
-    println!(rt; "{} jobs run", callbacks::run_passing(rt, JOBS)?.done)?;
+fn count_jobs<R: Threads + Sync + Wait + Clock + Print + AllocGlobal>(rt: &R) -> Result<()> {
+    count_jobs_of(rt, 1, JOBS)?;
+    count_jobs_of(rt, 2, JOBS / 2)?;
+    count_jobs_of(rt, 4, JOBS / 4)?;
     let bytes = callbacks::measure_memory(rt, JOBS)?;
     println!(rt; "memory: {bytes} bytes for {JOBS} queued jobs")?;
+    Ok(())
+}
+
+/// Prints how many jobs so many threads queued, and how many came out, where each queues so many.
+fn count_jobs_of<R: Threads + Sync + Wait + Clock + Print + AllocGlobal>(
+    rt: &R,
+    threads: usize,
+    jobs: u64,
+) -> Result<()>
+    requires threads { threads ≤ 2 ^ 16 }
+    requires few { jobs ≤ 2 ^ 40 }
+{
+    let queued = callbacks::run_queueing(rt, threads, jobs)?.done;
+    println!(rt; "threads {threads}: {queued} jobs queued")?;
+    let run = callbacks::run_passing(rt, threads, jobs)?.done;
+    println!(rt; "threads {threads}: {run} jobs run")?;
     Ok(())
 }
 
@@ -158,20 +175,28 @@ fn time<R: Threads + Sync + Wait + Clock + Print + AllocGlobal>(
         let spread = measure(rt, Work::Entries { way, batches }, repetitions)?;
         println!(rt; "srcubench-{way} 1 {spread}")?;
     }
-    time_jobs(rt, repetitions)
+    time_jobs(rt, 1, JOBS, repetitions)?;
+    time_jobs(rt, 2, JOBS / 2, repetitions)?;
+    time_jobs(rt, 4, JOBS / 4, repetitions)
 }
 
-/// Prints what queueing a job took, and what it took from there until it was run.
+/// Prints what queueing a job took, and what it took from there until it was run, where each of so many threads queues so
+/// many.
 fn time_jobs<R: Threads + Sync + Wait + Clock + Print + AllocGlobal>(
     rt: &R,
+    threads: usize,
+    jobs: u64,
     repetitions: u64,
 ) -> Result<()>
-    requires { 1 ≤ repetitions }
+    requires some { 1 ≤ threads * jobs }
+    requires threads { threads ≤ 2 ^ 16 }
+    requires few { jobs ≤ 2 ^ 40 }
+    requires repetitions { 1 ≤ repetitions }
 {
-    let spread = measure(rt, Work::Queueing { jobs: JOBS }, repetitions)?;
-    println!(rt; "srcubench-call 1 {spread}")?;
-    let spread = measure(rt, Work::Callbacks { jobs: JOBS }, repetitions)?;
-    println!(rt; "srcubench-callbacks 1 {spread}")?;
+    let spread = measure(rt, Work::Queueing { threads, jobs }, repetitions)?;
+    println!(rt; "srcubench-call {threads} {spread}")?;
+    let spread = measure(rt, Work::Callbacks { threads, jobs }, repetitions)?;
+    println!(rt; "srcubench-callbacks {threads} {spread}")?;
     Ok(())
 }
 

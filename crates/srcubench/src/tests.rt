@@ -1,4 +1,8 @@
-use crate::callbacks::measure_memory;
+ghost use Rattle.std.specs.Prelude.{◌≡◌, All, IfOk};
+ghost use Rattle.domain.specs.Views.{IsOf};
+ghost use Rattle.domain.specs.Waiting.{HasNoneOpen};
+
+use crate::callbacks::{first_error, measure_memory, pass_together, queue_together};
 use crate::calling::JobError;
 use crate::command_line::{Job, job_of};
 use crate::driving::Halt;
@@ -8,10 +12,14 @@ use crate::periods::{EveryPeriod, Stop, make_periods};
 use crate::spread::Spread;
 use crate::work::{Work, measure, run};
 use crate::{asking, trial};
-use domain::{AdvanceRefusal, CallRefusal, PeriodsExhausted, StartRefusal, TakeRefusal};
+use domain::{
+    AdvanceRefusal, CallRefusal, Cpu, Domain, MakeError, PeriodsExhausted, StartRefusal,
+    TakeRefusal,
+};
 use scan::{Engine, Progress};
 use sections::{Limits, Made, make};
 use sseq::Index;
+use std::alloc::Global;
 use std::test::Fail;
 
 /// Would catch words that are read as another job, and numbers out of their ranges.
@@ -231,10 +239,56 @@ fn sends_entries_through(rt: HostRuntime) -> Result<(), Fail> {
 /// Would catch jobs that are not queued or don't come out, and want of memory where there is some.
 #[test]
 fn runs_jobs(rt: HostRuntime) -> Result<(), Fail> {
-    for work in [Work::Queueing { jobs: 100 }, Work::Callbacks { jobs: 100 }] {
-        assert_eq!(rt; run(&rt, work)?.done, 100);
-        let spread = measure(&rt, work, 3)?;
-        assert!(rt; spread.least <= spread.median && spread.median <= spread.most);
+    for (threads, jobs) in [(1, 100), (2, 50), (4, 25)] {
+        for work in [
+            Work::Queueing { threads, jobs },
+            Work::Callbacks { threads, jobs },
+        ] {
+            assert_eq!(rt; run(&rt, work)?.done, 100);
+            let spread = measure(&rt, work, 3)?;
+            assert!(rt; spread.least <= spread.median && spread.median <= spread.most);
+        }
+    }
+    Ok(())
+}
+
+/// A new domain of four processors, and these.
+fn domain_of_four(alloc: Global) -> Result<(Domain<u64>, Vec<Cpu<u64>>), MakeError>
+    ensures here { IfOk result (λ r. All (IsOf r.0) r.1.items) }
+    ensures ready { IfOk result (λ r. All (λ c. IsOf r.0 c × HasNoneOpen c) r.1.items) }
+    ensures four { IfOk result (λ r. r.0.processors ≡ 4) }
+{
+    let limits = domain::Limits {
+        sections: 1,
+        periods: 100,
+        cells: 0,
+    };
+    let (domain, cpus) = Domain::<u64>::new(alloc, 4, limits)?;
+    Ok((domain, cpus))
+}
+
+/// Would catch a thread that queues too few jobs or too many, and jobs that lie on another processor than their thread's.
+#[test]
+fn four_threads_queue_their_jobs(rt: HostRuntime) -> Result<(), Fail> {
+    let (domain, cpus) = domain_of_four(rt.alloc())?;
+    let outcomes = queue_together(&rt, &domain, cpus, 25)?;
+    first_error(outcomes.as_slice())?;
+    assert_eq!(rt; outcomes.len(), 4);
+    for processor in 0..4 {
+        assert_eq!(rt; domain.lens(&rt, processor), Ok(([0, 25, 0, 0], [4, 0])));
+    }
+    Ok(())
+}
+
+/// Would catch a thread that leaves jobs of its own where they were queued.
+#[test]
+fn four_threads_run_their_jobs(rt: HostRuntime) -> Result<(), Fail> {
+    let (domain, cpus) = domain_of_four(rt.alloc())?;
+    let outcomes = pass_together(&rt, &domain, cpus, 25)?;
+    first_error(outcomes.as_slice())?;
+    assert_eq!(rt; outcomes.len(), 4);
+    for processor in 0..4 {
+        assert_eq!(rt; domain.lens(&rt, processor), Ok(([0; 4], [0; 2])));
     }
     Ok(())
 }

@@ -51,12 +51,14 @@ pub enum Work {
         way: Way,
         batches: u64,
     },
-    /// Jobs that are queued on the processor of a domain.
+    /// Jobs that are queued: so many in each of so many threads, which are processors of one domain.
     Queueing {
+        threads: usize,
         jobs: u64,
     },
-    /// The same, and then as many are run, behind a grace period.
+    /// The same, and then each thread runs as many, behind a grace period.
     Callbacks {
+        threads: usize,
         jobs: u64,
     },
 }
@@ -64,7 +66,7 @@ pub enum Work {
 /// What one run did.
 #[derive(Clone, Copy, Debug)]
 pub struct Timed {
-    /// How often the thing was done that is measured; in each thread, where there are several.
+    /// How often the thing was done that is measured; in each thread, where there are several. All jobs, where it was jobs.
     pub done: u64,
     /// How long that took, by the clock.
     pub elapsed: Duration,
@@ -102,8 +104,8 @@ pub fn run<R: Threads + Sync + Wait + Clock + AllocGlobal>(rt: &R, work: Work) -
             })
         }
         Work::Entries { way, batches } => passage::run(rt, way, batches),
-        Work::Queueing { jobs } => callbacks::run_queueing(rt, jobs),
-        Work::Callbacks { jobs } => callbacks::run_passing(rt, jobs),
+        Work::Queueing { threads, jobs } => callbacks::run_queueing(rt, threads, jobs),
+        Work::Callbacks { threads, jobs } => callbacks::run_passing(rt, threads, jobs),
     }
 }
 
