@@ -1,0 +1,3 @@
+mod Moving
+mod Starting
+mod Working

@@ -1,0 +1,12 @@
+-- So far as many came out as are missing in the batch.
+use Rattle.std.proofs.Common.{◌≡◌, ◌+◌, length}
+use Rattle.soak.proofs.driver.run_jobs.Given as goal
+
+abbrev pub invariant-loop-job : goal.invariant-loop-job
+invariant-loop-job l = record {
+  came : l.came + length l.batch.entries ≡ length l.initial.batch.entries;
+  same : l.batch ≡ record l.initial.batch { entries = l.batch.entries };
+}
+
+abbrev pub decreases-loop-job : goal.decreases-loop-job
+decreases-loop-job l = length l.batch.entries

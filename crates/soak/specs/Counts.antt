@@ -1,0 +1,27 @@
+-- Adding up what threads did.
+use Rattle.std.specs.Prelude.{ℕ, ◌+◌, ◌-◌, ◌^◌, min}
+use Rattle.soak.specs.declared.counts.Counts.{Counts}
+
+-- both, or the largest number
+abbrev pub plus : ℕ → ℕ → ℕ
+plus a b = min (a + b) (2 ^ 64 - 1)
+
+abbrev pub one_more : ℕ → ℕ
+one_more a = plus a 1
+
+-- each count is that of both
+abbrev pub sum_of : Counts → Counts → Counts
+sum_of c d = record {
+  opened = plus c.opened d.opened;
+  closed = plus c.closed d.closed;
+  handed = plus c.handed d.handed;
+  queued = plus c.queued d.queued;
+  run = plus c.run d.run;
+  polled = plus c.polled d.polled;
+  waited = plus c.waited d.waited;
+  barriers = plus c.barriers d.barriers;
+  left = plus c.left d.left;
+  refused = plus c.refused d.refused;
+  misplaced = plus c.misplaced d.misplaced;
+  early = plus c.early d.early;
+}

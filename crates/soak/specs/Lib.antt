@@ -1,0 +1,5 @@
+pub mod Counts
+pub mod Drivers
+pub mod Outcomes
+pub mod Starts
+pub mod Workers

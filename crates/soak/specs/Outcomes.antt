@@ -1,0 +1,24 @@
+-- When a run came out as it should.
+use Rattle.std.specs.Prelude.{◌≡◌, Ok}
+use Rattle.domain.specs.declared.domain.cleanup.Totals.{Totals}
+use Rattle.soak.specs.declared.counts.Counts.{Counts}
+use Rattle.soak.specs.declared.outcome.Outcome.{Outcome}
+
+-- what was counted is what the domain tells, all of it came to its end, and nothing went wrong
+pub record Agree (t : Totals) (c : Counts) : Type 0 where
+  pub opened : t.opened ≡ c.opened
+  pub closed : t.closed ≡ c.closed
+  pub queued : t.queued ≡ c.queued
+  pub finished : t.finished ≡ c.run
+  pub all_closed : c.opened ≡ c.closed
+  pub all_run : c.queued ≡ c.run
+  pub none_left : c.left ≡ 0
+  pub none_refused : c.refused ≡ 0
+  pub none_misplaced : c.misplaced ≡ 0
+  pub none_early : c.early ≡ 0
+
+-- the domain was taken down, and what it told agrees with what was counted
+pub record IsExact (o : Outcome) : Type 0 where
+  pub totals : Totals
+  pub told : o.totals ≡ Ok totals
+  pub agree : Agree totals o.counts

@@ -1,0 +1,97 @@
+//! What a thread counts of what it did.
+ghost use Rattle.std.specs.Prelude.{◌≡◌};
+ghost use Rattle.soak.specs.Counts.{one_more, sum_of};
+
+use std::fmt;
+
+/// How often a thread did what, and what it found that must not be.
+#[derive(Clone, Copy, Debug, PartialEq, Eq)]
+pub struct Counts {
+    /// Sections that it opened.
+    pub opened: u64,
+    /// Sections that it closed, wherever they were opened.
+    pub closed: u64,
+    /// Of these, the held ones that another thread had opened.
+    pub handed: u64,
+    /// Jobs that it queued.
+    pub queued: u64,
+    /// Jobs that it ran.
+    pub run: u64,
+    /// Cookies that it asked a grace period for, and polled.
+    pub polled: u64,
+    /// Calls of `synchronize` that came back.
+    pub waited: u64,
+    /// Calls of `barrier` that came back.
+    pub barriers: u64,
+    /// Sections that lay on the desk when all had come to an end.
+    pub left: u64,
+    /// Calls that were refused, as for want of memory.
+    pub refused: u64,
+    /// Jobs that came out of their order, or twice.
+    pub misplaced: u64,
+    /// Waits that came back too early: a cookie was not done then, or a job not run.
+    pub early: u64,
+}
+
+impl Counts {
+    /// A thread that did nothing.
+    pub fn new() -> Counts {
+        Counts {
+            opened: 0,
+            closed: 0,
+            handed: 0,
+            queued: 0,
+            run: 0,
+            polled: 0,
+            waited: 0,
+            barriers: 0,
+            left: 0,
+            refused: 0,
+            misplaced: 0,
+            early: 0,
+        }
+    }
+
+    /// What two threads did.
+    pub fn plus(self, other: Counts) -> Counts
+        ensures { result ≡ sum_of self other }
+    {
+        Counts {
+            opened: self.opened.saturating_add(other.opened),
+            closed: self.closed.saturating_add(other.closed),
+            handed: self.handed.saturating_add(other.handed),
+            queued: self.queued.saturating_add(other.queued),
+            run: self.run.saturating_add(other.run),
+            polled: self.polled.saturating_add(other.polled),
+            waited: self.waited.saturating_add(other.waited),
+            barriers: self.barriers.saturating_add(other.barriers),
+            left: self.left.saturating_add(other.left),
+            refused: self.refused.saturating_add(other.refused),
+            misplaced: self.misplaced.saturating_add(other.misplaced),
+            early: self.early.saturating_add(other.early),
+        }
+    }
+}
+
+/// One more of something. A count stays at the largest number, which no run reaches.
+pub fn count(of: &mut u64)
+    ensures { of.new ≡ one_more of.old }
+{
+    *of = of.saturating_add(1);
+}
+
+impl fmt::Display for Counts {
+    fn fmt<W: fmt::Write>(&self, f: &mut fmt::Formatter<W>) -> fmt::Result {
+        writeln!(f, "sections opened: {}", self.opened)?;
+        writeln!(f, "sections closed: {}", self.closed)?;
+        writeln!(f, "jobs queued: {}", self.queued)?;
+        writeln!(f, "jobs run: {}", self.run)?;
+        writeln!(f, "cookies polled: {}", self.polled)?;
+        writeln!(f, "waits for a grace period: {}", self.waited)?;
+        writeln!(f, "barriers: {}", self.barriers)?;
+        writeln!(f, "sections left on the desk: {}", self.left)?;
+        writeln!(f, "calls refused: {}", self.refused)?;
+        writeln!(f, "jobs misplaced: {}", self.misplaced)?;
+        write!(f, "waits that were too short: {}", self.early)
+    }
+}

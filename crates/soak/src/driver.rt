@@ -1,0 +1,148 @@
+//! The thread that drives grace periods, and takes, runs and finishes the jobs of all processors. It waits for no section
+//! and for no job.
+ghost use Rattle.std.specs.Prelude.{◌≡◌, ◌<◌, ◌≤◌, [], length};
+ghost use Rattle.domain.specs.Views.{IsOf};
+ghost use Rattle.soak.specs.Drivers.{IsDriving};
+
+use crate::counts::{Counts, count};
+use crate::signs::Signs;
+use crate::worker::{Job, Length};
+use domain::{Batch, Cpu, Domain, Progress};
+use std::sync::Wait;
+use std::thread::yield_now;
+use std::time::{Clock, Duration, Instant};
+
+/// How many processors the domain has: one for each thread.
+pub const PROCESSORS: u16 = 8;
+
+/// How many turns of the engine are enough for all grace periods that are still asked for in the end.
+const TURNS: u32 = 64;
+
+/// What the thread has.
+#[derive(Drop)]
+pub struct Driver {
+    pub cpu: Cpu<Job>,
+    pub counts: Counts,
+}
+
+/// When the workers are to come to an end.
+#[derive(Clone, Copy)]
+pub struct Deadline {
+    pub start: Instant,
+    pub length: Length,
+}
+
+impl Deadline {
+    /// Whether it is past. Where the clock can't be read, too.
+    pub fn is_past<R: Clock>(self, rt: &R) -> bool {
+        let Length::Seconds(seconds) = self.length else {
+            return false;
+        };
+        match self.start.elapsed(rt) {
+            Ok(elapsed) => elapsed >= Duration::from_secs(seconds),
+            Err(_) => true,
+        }
+    }
+}
+
+/// Runs all jobs of a batch, and answers how many there were. To run a job is to count it: it must be the one whose turn
+/// it is on its processor.
+fn run_jobs(batch: &mut Batch<Job>, signs: &Signs, misplaced: &mut u64) -> u64
+    requires { length batch.old.entries ≤ 8 }
+    ensures all { result ≡ length batch.old.entries }
+    ensures empty { batch.new ≡ record batch.old { entries = [] } }
+{
+    let processor = batch.processor();
+    let mut came = 0;
+    while let Some(job) = batch.next() {
+        came += 1;
+        let before = signs.count_run(processor);
+        if job.processor != processor || job.number != before {
+            count(misplaced);
+        }
+    }
+    came
+}
+
+/// Takes a batch of what is ready on a processor, runs it and finishes it.
+fn take_of<R: Wait>(
+    rt: &R,
+    domain: &Domain<Job>,
+    driver: &mut Driver,
+    processor: u16,
+    signs: &Signs,
+)
+    requires driver { IsDriving domain.now driver.old }
+    requires processor { processor < PROCESSORS }
+    ensures { IsDriving domain.now driver.new }
+{
+    match domain.take_ready(rt, &mut driver.cpu, processor, 8) {
+        Ok(Some(mut batch)) => {
+            let came = run_jobs(&mut batch, signs, &mut driver.counts.misplaced);
+            driver.counts.run = driver.counts.run.saturating_add(came);
+            domain.finish(rt, &mut driver.cpu, batch);
+        }
+        Ok(None) => {}
+        Err(_) => count(&mut driver.counts.refused),
+    }
+}
+
+/// The same for each processor.
+fn take_all<R: Wait>(rt: &R, domain: &Domain<Job>, driver: &mut Driver, signs: &Signs)
+    requires { IsDriving domain.now driver.old }
+    ensures { IsDriving domain.now driver.new }
+{
+    for processor in 0..PROCESSORS {
+        take_of(rt, domain, driver, processor, signs);
+    }
+}
+
+/// One turn of the engine.
+fn advance<R: Wait>(rt: &R, domain: &Domain<Job>, driver: &mut Driver)
+    requires { IsDriving domain.now driver.old }
+    ensures { IsDriving domain.now driver.new }
+{
+    match domain.advance(rt, &mut driver.cpu) {
+        Ok(Progress::Idle | Progress::Waiting(_)) => yield_now(),
+        Ok(_) => {}
+        Err(_) => count(&mut driver.counts.refused),
+    }
+}
+
+/// Turns of the engine until it rests. No section is open any more, so each of them gets on.
+fn rest<R: Wait>(rt: &R, domain: &Domain<Job>, driver: &mut Driver)
+    requires { IsDriving domain.now driver.old }
+    ensures { IsDriving domain.now driver.new }
+{
+    for _ in 0..TURNS {
+        if let Ok(Progress::Idle) = domain.advance(rt, &mut driver.cpu) {
+            break;
+        }
+    }
+}
+
+/// Drives and runs until no worker is left, and then until the engine rests. Tells the workers when they are to come to
+/// an end.
+pub fn drive<R: Wait + Clock>(
+    rt: &R,
+    domain: &Domain<Job>,
+    mut driver: Driver,
+    signs: &Signs,
+    deadline: Deadline,
+) -> Driver
+    requires { IsDriving domain.now driver }
+    ensures { IsDriving domain.now result }
+{
+    for _ in rt.forever() {
+        if signs.is_over() {
+            break;
+        }
+        if deadline.is_past(rt) {
+            signs.end();
+        }
+        advance(rt, domain, &mut driver);
+        take_all(rt, domain, &mut driver, signs);
+    }
+    rest(rt, domain, &mut driver);
+    driver
+}

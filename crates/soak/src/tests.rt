@@ -1,0 +1,131 @@
+use crate::command_line::length_of;
+use crate::counts::{Counts, count};
+use crate::driver::Deadline;
+use crate::outcome::Outcome;
+use crate::run::run;
+use crate::worker::Length;
+use domain::{InUse, Totals};
+use std::process::Abort;
+use std::test::Fail;
+use std::time::Instant;
+
+/// What a thread did that opened and closed two sections, and queued a job that was run.
+fn some_counts() -> Counts {
+    let mut counts = Counts::new();
+    counts.opened = 2;
+    counts.closed = 2;
+    counts.queued = 1;
+    counts.run = 1;
+    counts
+}
+
+/// What a domain tells in which just that was done.
+fn some_totals() -> Totals {
+    Totals {
+        opened: 2,
+        closed: 2,
+        queued: 1,
+        finished: 1,
+        periods: 3,
+    }
+}
+
+/// Would catch a section that is lost or closed twice on its way to another thread, a job that is lost, doubled or out
+/// of its order, a wait that is too short or never ends, and totals that are not what was done.
+#[test]
+fn eight_threads_make_rounds(rt: HostRuntime) -> Result<(), Fail> {
+    for (rounds, opened, queued, waited, barriers) in [(48, 672, 336, 21, 28), (0, 0, 0, 0, 7)] {
+        let Outcome { counts, totals } = run(&rt, Length::Rounds(rounds))?;
+        let Ok(totals) = totals else {
+            panic!(rt; "nothing is in use any more");
+        };
+        assert_eq!(rt; (counts.opened, counts.closed), (opened, opened));
+        assert_eq!(rt; (totals.opened, totals.closed), (opened, opened));
+        assert_eq!(rt; (counts.queued, counts.run), (queued, queued));
+        assert_eq!(rt;
+            (totals.queued, totals.finished),
+            (u128::from(queued), u128::from(queued))
+        );
+        assert_eq!(rt;
+            (counts.polled, counts.waited, counts.barriers),
+            (queued, waited, barriers)
+        );
+        assert_eq!(rt; (counts.left, counts.refused), (0, 0));
+        assert_eq!(rt; (counts.misplaced, counts.early), (0, 0));
+    }
+    Ok(())
+}
+
+/// Would catch a deadline that is never past, or at once.
+#[test]
+fn deadlines(rt: HostRuntime) -> Result<(), Fail> {
+    let start = Instant::now(&rt)?;
+    for (length, past) in [
+        (Length::Rounds(0), false),
+        (Length::Seconds(0), true),
+        (Length::Seconds(86_400), false),
+    ] {
+        assert_eq!(rt; Deadline { start, length }.is_past(&rt), past);
+    }
+    Ok(())
+}
+
+fn is_exact(counts: Counts, totals: Result<Totals, InUse>) -> bool {
+    Outcome { counts, totals }.is_exact()
+}
+
+/// Would catch totals that are never exact.
+#[test]
+fn exact_totals(rt: HostRuntime) {
+    assert!(rt; is_exact(some_counts(), Ok(some_totals())));
+    assert!(rt; !is_exact(some_counts(), Err(InUse::Period)));
+}
+
+/// Would catch one reading of the words for another.
+#[test]
+fn reads_the_command_line(rt: HostRuntime) -> Result<(), Fail> {
+    for (words, length) in [
+        ("", None),
+        ("0", None),
+        ("1", Some(Length::Seconds(1))),
+        ("86400", Some(Length::Seconds(86_400))),
+        ("86401", None),
+        ("x", None),
+    ] {
+        let words = vec![in rt.alloc(); words.to_string(rt.alloc())?]?;
+        assert_eq!(rt; length_of(words.as_slice()), length);
+    }
+    let none: Vec<String> = Vec::new(rt.alloc());
+    assert_eq!(rt; length_of(none.as_slice()), Some(Length::Rounds(200)));
+    Ok(())
+}
+
+/// Would catch a count that is printed as another, and a run that went wrong and says that it didn't.
+#[test]
+fn prints_an_outcome(rt: HostRuntime) -> Result<(), Fail> {
+    let mut counts = some_counts();
+    count(&mut counts.early);
+    let text =
+        "sections opened: 2\nsections closed: 2\njobs queued: 1\njobs run: 1\ncookies polled: 0\n\
+        waits for a grace period: 0\nbarriers: 0\nsections left on the desk: 0\ncalls refused: 0\n\
+        jobs misplaced: 0\nwaits that were too short: 1";
+    assert_eq!(rt; format!(in rt.alloc(); "{counts}")?.as_str(), text);
+    for (counts, totals, last) in [
+        (some_counts(), Ok(some_totals()), "totals: exact"),
+        (
+            some_counts(),
+            Err(InUse::Callbacks(3)),
+            "totals: none, the domain is in use: Callbacks(3)",
+        ),
+        (
+            counts,
+            Ok(some_totals()),
+            "totals: others, Totals { opened: 2, closed: 2, queued: 1, finished: 1, periods: 3 }",
+        ),
+    ] {
+        let outcome = Outcome { counts, totals };
+        let printed = format!(in rt.alloc(); "{outcome}")?;
+        assert!(rt; printed.as_str().ends_with(last));
+    }
+    Ok(())
+}

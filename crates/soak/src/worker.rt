@@ -1,0 +1,223 @@
+//! The threads that open, hold, hand over and close sections, ask, wait, queue jobs and start barriers.
+//!
+//! Why none of them waits for ever, where each has a thread of its own. A thread waits for sections and jobs in
+//! `synchronize` and in `barrier` alone. (For the engine or for a list it waits while another thread has it, which is for
+//! one call that waits for neither.) It has no reading open there. The held section that it put on the desk is not there
+//! any more: behind each `put` it makes a `take`, before it waits. So what lies on the desk at some moment was put there
+//! by a thread that is between the two. That one doesn't wait before its own `take`, which finds the section, unless
+//! another thread has taken it. Hence each section is closed by a thread that doesn't wait. So each grace period ends,
+//! and whoever waits for one drives it. A barrier waits for jobs besides, which the driver runs; the driver waits for no
+//! section and no job, and goes on until no worker is left.
+ghost use Rattle.std.specs.Prelude.{◌≡◌, IfSome};
+ghost use Rattle.domain.specs.Views.{IsOf};
+ghost use Rattle.soak.specs.Workers.{IsAtWork, StaysAtWork};
+
+use crate::counts::{Counts, count};
+use crate::signs::Signs;
+use desk::{Desk, DeskSeat};
+use domain::{Cpu, Domain, Held};
+use std::sync::Wait;
+
+/// A job tells where it was queued.
+#[derive(Drop)]
+pub struct Job {
+    pub processor: u16,
+    /// Its number among the jobs of its processor, from 0.
+    pub number: u64,
+}
+
+/// How long the workers go on.
+#[derive(Clone, Copy, Debug, PartialEq, Eq)]
+pub enum Length {
+    /// So many rounds each.
+    Rounds(u64),
+    /// Until so many seconds are over.
+    Seconds(u64),
+}
+
+impl Length {
+    /// How many rounds a worker makes at most.
+    fn rounds(self) -> u64 {
+        match self {
+            Length::Rounds(rounds) => rounds,
+            Length::Seconds(_) => u64::MAX,
+        }
+    }
+}
+
+/// In so many rounds a worker waits once for a grace period, and once for its jobs: so there are never more than these
+/// jobs of it, however long it goes on.
+const ROUNDS_TO_A_WAIT: u64 = 16;
+
+/// What one thread has.
+#[derive(Drop)]
+pub struct Worker {
+    pub cpu: Cpu<Job>,
+    pub seat: DeskSeat<Held>,
+    pub counts: Counts,
+}
+
+/// Opens a section and closes it.
+fn read(domain: &Domain<Job>, desk: &Desk<Held>, worker: &mut Worker)
+    requires { IsAtWork domain.now desk.now worker.old }
+    ensures { StaysAtWork domain.now desk.now worker.old worker.new }
+{
+    let Ok(reading) = worker.cpu.read_lock() else {
+        count(&mut worker.counts.refused);
+        return;
+    };
+    count(&mut worker.counts.opened);
+    worker.cpu.read_unlock(reading);
+    count(&mut worker.counts.closed);
+}
+
+/// Closes a section that lay on the desk, if one did.
+fn close(domain: &Domain<Job>, desk: &Desk<Held>, worker: &mut Worker, found: Option<Held>)
+    requires worker { IsAtWork domain.now desk.now worker.old }
+    requires found { IfSome found (λ held. held.domain ≡ domain.now.domain) }
+    ensures { StaysAtWork domain.now desk.now worker.old worker.new }
+{
+    let Some(held) = found else { return };
+    if held.processor() != worker.cpu.processor() {
+        count(&mut worker.counts.handed);
+    }
+    worker.cpu.up_read(held);
+    count(&mut worker.counts.closed);
+}
+
+/// Opens a section for whoever comes to the desk next, and closes what lay there.
+fn hand_on(domain: &Domain<Job>, desk: &Desk<Held>, worker: &mut Worker)
+    requires { IsAtWork domain.now desk.now worker.old }
+    ensures { StaysAtWork domain.now desk.now worker.old worker.new }
+{
+    let Ok(held) = worker.cpu.down_read() else {
+        count(&mut worker.counts.refused);
+        return;
+    };
+    count(&mut worker.counts.opened);
+    let found = worker.seat.put(desk, held);
+    close(domain, desk, worker, found);
+}
+
+/// Closes what lies on the desk: the thread's own section, or one that came in its place.
+fn take_back(domain: &Domain<Job>, desk: &Desk<Held>, worker: &mut Worker)
+    requires { IsAtWork domain.now desk.now worker.old }
+    ensures { StaysAtWork domain.now desk.now worker.old worker.new }
+{
+    let found = worker.seat.take(desk);
+    close(domain, desk, worker, found);
+}
+
+/// Queues a job.
+fn queue<R: Wait>(rt: &R, domain: &Domain<Job>, desk: &Desk<Held>, worker: &mut Worker)
+    requires { IsAtWork domain.now desk.now worker.old }
+    ensures { StaysAtWork domain.now desk.now worker.old worker.new }
+{
+    let job = Job {
+        processor: worker.cpu.processor(),
+        number: worker.counts.queued,
+    };
+    match domain.call(rt, &mut worker.cpu, job) {
+        Ok(_receipt) => count(&mut worker.counts.queued),
+        Err(_) => count(&mut worker.counts.refused),
+    }
+}
+
+/// Asks for a grace period, and polls once.
+fn poll(domain: &Domain<Job>, desk: &Desk<Held>, worker: &mut Worker)
+    requires { IsAtWork domain.now desk.now worker.old }
+    ensures { StaysAtWork domain.now desk.now worker.old worker.new }
+{
+    let mut cookie = domain.start_poll(&mut worker.cpu);
+    let _done = worker.cpu.poll(&mut cookie);
+    count(&mut worker.counts.polled);
+}
+
+/// Waits for a grace period. A cookie of before must be done then.
+fn wait_for_period<R: Wait>(rt: &R, domain: &Domain<Job>, desk: &Desk<Held>, worker: &mut Worker)
+    requires { IsAtWork domain.now desk.now worker.old }
+    ensures { StaysAtWork domain.now desk.now worker.old worker.new }
+{
+    let mut cookie = worker.cpu.cookie();
+    // It would wait for itself.
+    if worker.cpu.open_here() > 0 || domain.synchronize(rt, &mut worker.cpu).is_err() {
+        count(&mut worker.counts.refused);
+        return;
+    }
+    count(&mut worker.counts.waited);
+    if !worker.cpu.poll(&mut cookie) {
+        count(&mut worker.counts.early);
+    }
+}
+
+/// Waits until all jobs are run that this thread queued.
+fn wait_for_jobs<R: Wait>(
+    rt: &R,
+    domain: &Domain<Job>,
+    desk: &Desk<Held>,
+    signs: &Signs,
+    worker: &mut Worker,
+)
+    requires { IsAtWork domain.now desk.now worker.old }
+    ensures { StaysAtWork domain.now desk.now worker.old worker.new }
+{
+    let Ok(ticket) = domain.barrier_start(&mut worker.cpu) else {
+        count(&mut worker.counts.refused);
+        return;
+    };
+    // It would wait for itself.
+    if worker.cpu.open_here() > 0 {
+        count(&mut worker.counts.refused);
+        return;
+    }
+    domain.barrier(rt, &mut worker.cpu, &ticket);
+    count(&mut worker.counts.barriers);
+    if signs.run_of(worker.cpu.processor()) != worker.counts.queued {
+        count(&mut worker.counts.early);
+    }
+}
+
+/// All that a thread does, once. It waits in some rounds alone, and at their end.
+fn make_round<R: Wait>(
+    rt: &R,
+    domain: &Domain<Job>,
+    desk: &Desk<Held>,
+    signs: &Signs,
+    worker: &mut Worker,
+    round: u64,
+)
+    requires { IsAtWork domain.now desk.now worker.old }
+    ensures { StaysAtWork domain.now desk.now worker.old worker.new }
+{
+    read(domain, desk, worker);
+    hand_on(domain, desk, worker);
+    queue(rt, domain, desk, worker);
+    poll(domain, desk, worker);
+    take_back(domain, desk, worker);
+    match round % ROUNDS_TO_A_WAIT {
+        7 => wait_for_period(rt, domain, desk, worker),
+        15 => wait_for_jobs(rt, domain, desk, signs, worker),
+        _ => {}
+    }
+}
+
+/// Makes rounds until that is enough, and waits for the last jobs.
+pub fn work<R: Wait>(
+    rt: &R,
+    domain: &Domain<Job>,
+    desk: &Desk<Held>,
+    signs: &Signs,
+    length: Length,
+    worker: &mut Worker,
+)
+    requires { IsAtWork domain.now desk.now worker.old }
+    ensures { StaysAtWork domain.now desk.now worker.old worker.new }
+{
+    for round in 0..length.rounds() {
+        if signs.is_ending() {
+            break;
+        }
+        make_round(rt, domain, desk, signs, worker, round);
+    }
+    wait_for_jobs(rt, domain, desk, signs, worker);
+}
