@@ -9,7 +9,7 @@ use Rattle.lines.specs.Lines.{is_name, number_of}
 use Rattle.requests.specs.declared.fault.Fault.{Fault}
 use Rattle.requests.specs.declared.fault.Fault.TheVariants as fault
 use Rattle.requests.specs.declared.command.Argument.{Argument}
-use Rattle.requests.specs.declared.command.Argument.TheVariants.{NewDomain, AnyNumber, ADomain, AProcessor, NewName, ALook, AReading, AHeld, AJob}
+use Rattle.requests.specs.declared.command.Argument.TheVariants.{NewDomain, AnyNumber, ADomain, AProcessor, NewName, ALook, AReading, AHeld, ATicket, AJob}
 use Rattle.requests.specs.declared.given.Given.{Given}
 use Rattle.requests.specs.declared.scene.Kind.{Kind}
 use Rattle.requests.specs.declared.scene.Kind.TheVariants as kind
@@ -57,10 +57,12 @@ kind_there true kind.Look (Some kind.Look) h = refl
 kind_there true kind.Reading (Some kind.Reading) h = refl
 kind_there true kind.Held (Some kind.Held) h = refl
 kind_there true kind.Parked (Some kind.Parked) h = refl
+kind_there true kind.Ticket (Some kind.Ticket) h = refl
 kind_there true kind.Look (Some _) h = cc
 kind_there true kind.Reading (Some _) h = cc
 kind_there true kind.Held (Some _) h = cc
 kind_there true kind.Parked (Some _) h = cc
+kind_there true kind.Ticket (Some _) h = cc
 
 -- the word, as this argument, names what is given, and it is what the argument should be
 abbrev IsKnown : SceneView → Given → Argument → List ℕ → Type 0
@@ -77,6 +79,7 @@ module _ (s : SceneView) where
   reads g ALook w h = (refl, kind_there (is_name w) kind.Look (s.kind_of g.domain w) h)
   reads g AReading w h = (refl, kind_there (is_name w) kind.Reading (s.kind_of g.domain w) h)
   reads g AHeld w h = (refl, kind_there (is_name w) kind.Held (s.kind_of g.domain w) h)
+  reads g ATicket w h = (refl, kind_there (is_name w) kind.Ticket (s.kind_of g.domain w) h)
   reads g AJob w h = (refl, tt)
 
   -- an argument behind it changes nothing of what is known of a word
@@ -97,6 +100,8 @@ module _ (s : SceneView) where
   keeps g b AReading v w e h = first_of (cc, assumption h)
   keeps g NewDomain AHeld v w e h = cc
   keeps g b AHeld v w e h = first_of (cc, assumption h)
+  keeps g NewDomain ATicket v w e h = cc
+  keeps g b ATicket v w e h = first_of (cc, assumption h)
   keeps g NewDomain AJob v w e h = cc
   keeps g b AJob v w e h = first_of (cc, assumption h)
 

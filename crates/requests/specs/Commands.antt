@@ -3,7 +3,7 @@ use Rattle.std.specs.Prelude.{◌≡◌, ℕ, length, List, [], ◌∷◌, find,
 use Rattle.requests.specs.declared.command.Command.{Command}
 use Rattle.requests.specs.declared.command.Command.TheVariants as command
 use Rattle.requests.specs.declared.command.Argument.{Argument}
-use Rattle.requests.specs.declared.command.Argument.TheVariants.{NewDomain, AnyNumber, ADomain, AProcessor, NewName, ALook, AReading, AHeld, AJob}
+use Rattle.requests.specs.declared.command.Argument.TheVariants.{NewDomain, AnyNumber, ADomain, AProcessor, NewName, ALook, AReading, AHeld, ATicket, AJob}
 
 -- the word of a command, and what the words behind it should be
 pub record RowView : Type 0 where
@@ -31,10 +31,13 @@ row_of command.Run = record { word = codes "run"; takes = ADomain ∷ AProcessor
 row_of command.Batch = record { word = codes "batch"; takes = ADomain ∷ AProcessor ∷ [] }
 row_of command.Finish = record { word = codes "finish"; takes = ADomain ∷ AProcessor ∷ [] }
 row_of command.Segs = record { word = codes "segs"; takes = ADomain ∷ AProcessor ∷ [] }
+row_of command.Barrier = record { word = codes "barrier"; takes = ADomain ∷ AProcessor ∷ NewName ∷ [] }
+row_of command.BarrierPoll = record { word = codes "barrier-poll"; takes = ADomain ∷ AProcessor ∷ ATicket ∷ [] }
 row_of command.State = record { word = codes "state"; takes = ADomain ∷ [] }
+row_of command.Cleanup = record { word = codes "cleanup"; takes = ADomain ∷ [] }
 
 abbrev pub commands : List Command
-commands = command.Domain ∷ command.Look ∷ command.Enter ∷ command.Lock ∷ command.Unlock ∷ command.Down ∷ command.Up ∷ command.Park ∷ command.Unpark ∷ command.Get ∷ command.Ask ∷ command.Poll ∷ command.Start ∷ command.Advance ∷ command.Step ∷ command.Call ∷ command.Run ∷ command.Batch ∷ command.Finish ∷ command.Segs ∷ command.State ∷ []
+commands = command.Domain ∷ command.Look ∷ command.Enter ∷ command.Lock ∷ command.Unlock ∷ command.Down ∷ command.Up ∷ command.Park ∷ command.Unpark ∷ command.Get ∷ command.Ask ∷ command.Poll ∷ command.Start ∷ command.Advance ∷ command.Step ∷ command.Call ∷ command.Run ∷ command.Batch ∷ command.Finish ∷ command.Segs ∷ command.Barrier ∷ command.BarrierPoll ∷ command.State ∷ command.Cleanup ∷ []
 
 abbrev pub command_word : Command → List ℕ
 command_word c = (row_of c).word

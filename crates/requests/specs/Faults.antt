@@ -6,9 +6,9 @@ use Rattle.requests.specs.declared.fault.Fault.{Fault}
 use Rattle.requests.specs.declared.fault.Fault.TheVariants as fault
 use Rattle.requests.specs.declared.command.Command.{Command}
 use Rattle.requests.specs.declared.command.Argument.{Argument}
-use Rattle.requests.specs.declared.command.Argument.TheVariants.{NewDomain, AnyNumber, ADomain, AProcessor, NewName, ALook, AReading, AHeld, AJob}
+use Rattle.requests.specs.declared.command.Argument.TheVariants.{NewDomain, AnyNumber, ADomain, AProcessor, NewName, ALook, AReading, AHeld, ATicket, AJob}
 use Rattle.requests.specs.declared.scene.Kind.{Kind}
-use Rattle.requests.specs.declared.scene.Kind.TheVariants.{Look, Reading, Held, Parked}
+use Rattle.requests.specs.declared.scene.Kind.TheVariants.{Look, Reading, Held, Parked, Ticket}
 use Rattle.requests.specs.Commands.{command_of, arguments}
 use Rattle.requests.specs.Scenes.{SceneView}
 
@@ -64,6 +64,7 @@ same_kind Look Look = true
 same_kind Reading Reading = true
 same_kind Held Held = true
 same_kind Parked Parked = true
+same_kind Ticket Ticket = true
 same_kind _ _ = false
 
 abbrev pub has_kind : Kind → Option Kind → Bool
@@ -84,6 +85,7 @@ argument_fault s place NewName w = new_name_fault w (is_some (s.kind_of place w)
 argument_fault s place ALook w = kind_fault Look w (s.kind_of place w)
 argument_fault s place AReading w = kind_fault Reading w (s.kind_of place w)
 argument_fault s place AHeld w = kind_fault Held w (s.kind_of place w)
+argument_fault s place ATicket w = kind_fault Ticket w (s.kind_of place w)
 argument_fault s place AJob w = name_fault w
 
 -- The words of a line

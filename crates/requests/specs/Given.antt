@@ -4,7 +4,7 @@ use Rattle.std.specs.List.{list_all}
 use Rattle.lines.specs.Lines.{number_of}
 use Rattle.requests.specs.declared.fault.Fault.{Fault}
 use Rattle.requests.specs.declared.command.Argument.{Argument}
-use Rattle.requests.specs.declared.command.Argument.TheVariants.{NewDomain, AnyNumber, ADomain, AProcessor, NewName, ALook, AReading, AHeld, AJob}
+use Rattle.requests.specs.declared.command.Argument.TheVariants.{NewDomain, AnyNumber, ADomain, AProcessor, NewName, ALook, AReading, AHeld, ATicket, AJob}
 use Rattle.requests.specs.declared.given.Given.{Given}
 use Rattle.requests.specs.declared.scene.Kind.TheVariants as kind
 use Rattle.requests.specs.Scenes.{SceneView, IsPlace}
@@ -20,6 +20,7 @@ filled s g NewName w = record g { name = w }
 filled s g ALook w = record g { name = w }
 filled s g AReading w = record g { name = w }
 filled s g AHeld w = record g { name = w }
+filled s g ATicket w = record g { name = w }
 filled s g AJob w = record g { name = w }
 
 -- the word is read as this argument, or has this fault
@@ -38,6 +39,7 @@ Suits s g NewName = s.kind_of g.domain g.name ≡ None
 Suits s g ALook = s.kind_of g.domain g.name ≡ Some kind.Look
 Suits s g AReading = s.kind_of g.domain g.name ≡ Some kind.Reading
 Suits s g AHeld = s.kind_of g.domain g.name ≡ Some kind.Held
+Suits s g ATicket = s.kind_of g.domain g.name ≡ Some kind.Ticket
 Suits s g AJob = Unit {0}
 
 abbrev pub AllSuit : SceneView → Given → List Argument → Type 0
@@ -54,6 +56,7 @@ needs_domain NewName = true
 needs_domain ALook = true
 needs_domain AReading = true
 needs_domain AHeld = true
+needs_domain ATicket = true
 needs_domain AJob = false
 
 -- the fields of what is given
@@ -80,6 +83,7 @@ field_of NewName = Name
 field_of ALook = Name
 field_of AReading = Name
 field_of AHeld = Name
+field_of ATicket = Name
 field_of AJob = Name
 
 abbrev pub names_domain : Argument → Bool

@@ -16,16 +16,19 @@ use Rattle.requests.specs.declared.reply.Reply.TheVariants as reply
 use Rattle.requests.specs.Commands.{command_word}
 use Rattle.requests.specs.Faults.{fault_word}
 
-abbrev pub cause_word : Cause → List ℕ
-cause_word cause.Full = codes "full"
-cause_word cause.Empty = codes "empty"
-cause_word cause.Processors = codes "processors"
-cause_word cause.Memory = codes "memory"
-cause_word cause.Exhausted = codes "exhausted"
-cause_word cause.Running = codes "running"
-cause_word cause.NotACookie = codes "not-a-cookie"
-cause_word cause.Invoking = codes "invoking"
-cause_word cause.NoBatch = codes "none"
+abbrev pub cause_text : Cause → List ℕ
+cause_text cause.Full = codes "full"
+cause_text cause.Empty = codes "empty"
+cause_text cause.Processors = codes "processors"
+cause_text cause.Memory = codes "memory"
+cause_text cause.Exhausted = codes "exhausted"
+cause_text cause.Running = codes "running"
+cause_text cause.NotACookie = codes "not-a-cookie"
+cause_text cause.Invoking = codes "invoking"
+cause_text cause.NoBatch = codes "none"
+cause_text (cause.Sections count) = codes "sections " ++ decimal count
+cause_text cause.Period = codes "period"
+cause_text (cause.Callbacks count) = codes "callbacks " ++ decimal count
 
 abbrev pub period_text : Period → List ℕ
 period_text p = codes "number " ++ decimal p.number ++ codes " " ++ phase_text p.phase
@@ -69,7 +72,9 @@ words_text (reply.Ran jobs) = codes "ran" ++ names_text jobs
 words_text (reply.TookJobs jobs) = codes "took" ++ names_text jobs
 words_text (reply.Finished n) = codes "finished " ++ decimal n
 words_text (reply.Segs s) = codes "segs " ++ segments_text s
-words_text (reply.Refused c why) = codes "refused " ++ command_word c ++ codes " " ++ cause_word why
+words_text reply.Ticket = codes "ticket"
+words_text (reply.Cleaned opened closed) = codes "cleaned opened " ++ decimal opened ++ codes " closed " ++ decimal closed
+words_text (reply.Refused c why) = codes "refused " ++ command_word c ++ codes " " ++ cause_text why
 words_text (reply.Faulty n f) = codes "line " ++ decimal n ++ codes ": " ++ fault_word f
 
 -- each reply ends with one line feed

@@ -4,13 +4,13 @@ use Rattle.lines.specs.Lines.{number_of}
 use Rattle.requests.specs.declared.command.Command.{Command}
 use Rattle.requests.specs.declared.command.Command.TheVariants as command
 use Rattle.requests.specs.declared.command.Argument.{Argument}
-use Rattle.requests.specs.declared.command.Argument.TheVariants.{NewDomain, AnyNumber, ADomain, AProcessor, NewName, ALook, AReading, AHeld, AJob}
+use Rattle.requests.specs.declared.command.Argument.TheVariants.{NewDomain, AnyNumber, ADomain, AProcessor, NewName, ALook, AReading, AHeld, ATicket, AJob}
 use Rattle.requests.specs.declared.given.Given.{Given}
 use Rattle.requests.specs.declared.scene.Kind.TheVariants as kind
 use Rattle.requests.specs.declared.request.Act.{Act}
 use Rattle.requests.specs.declared.request.Act.TheVariants as act
 use Rattle.requests.specs.declared.request.Request.{Request}
-use Rattle.requests.specs.declared.request.Request.TheVariants.{Domain, On}
+use Rattle.requests.specs.declared.request.Request.TheVariants.{Domain, On, Cleanup}
 use Rattle.requests.specs.Commands.{command_of, arguments}
 use Rattle.requests.specs.Scenes.{SceneView, IsPlace}
 
@@ -26,6 +26,7 @@ Names s g NewName w = g.name ≡ w
 Names s g ALook w = g.name ≡ w
 Names s g AReading w = g.name ≡ w
 Names s g AHeld w = g.name ≡ w
+Names s g ATicket w = g.name ≡ w
 Names s g AJob w = g.name ≡ w
 
 -- each of the words, as the argument at its place, names what is given
@@ -57,7 +58,10 @@ request_of command.Run g = On g.domain (act.Run g.processor)
 request_of command.Batch g = On g.domain (act.Batch g.processor)
 request_of command.Finish g = On g.domain (act.Finish g.processor)
 request_of command.Segs g = On g.domain (act.Segs g.processor)
+request_of command.Barrier g = On g.domain (act.Barrier g.processor g.name)
+request_of command.BarrierPoll g = On g.domain (act.BarrierPoll g.processor g.name)
 request_of command.State g = On g.domain act.State
+request_of command.Cleanup g = Cleanup g.domain
 
 -- the first word is a command, the words behind it name what is given, and that is what the command asks for
 unfoldable pub Asks : SceneView → List (List ℕ) → Request → Type 0
@@ -92,8 +96,11 @@ Fits s place (act.Run p) = p < s.processors_of place
 Fits s place (act.Batch p) = p < s.processors_of place
 Fits s place (act.Finish p) = p < s.processors_of place
 Fits s place (act.Segs p) = p < s.processors_of place
+Fits s place (act.Barrier p ticket) = (p < s.processors_of place) × (s.kind_of place ticket ≡ None)
+Fits s place (act.BarrierPoll p ticket) = (p < s.processors_of place) × (s.kind_of place ticket ≡ Some kind.Ticket)
 
--- a new domain's name is no other's, and a domain that should do something is there
+-- a new domain's name is no other's, and a domain that should do something, or be taken down, is there
 abbrev pub IsFor : SceneView → Request → Type 0
 IsFor s (Domain name processors) = s.place_of name ≡ None
 IsFor s (On place a) = IsPlace s place × Fits s place a
+IsFor s (Cleanup place) = IsPlace s place

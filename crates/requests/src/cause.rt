@@ -10,7 +10,7 @@ pub enum Cause {
     Empty,
     /// A domain has 1 to 64 processors.
     Processors,
-    /// There was no memory for the domain, or for the job.
+    /// There was no memory for the domain, the job or the ticket.
     Memory,
     /// As many sections or grace periods began as may, or as many jobs were queued.
     Exhausted,
@@ -22,13 +22,19 @@ pub enum Cause {
     Invoking,
     /// No batch of the processor is out.
     NoBatch,
+    /// So many sections of the domain are open, parked ones among them.
+    Sections(u64),
+    /// A grace period of the domain runs.
+    Period,
+    /// So many jobs of the domain are queued and not finished, those of a batch that is out among them.
+    Callbacks(u128),
 }
 
 impl fmt::Display for Cause {
     ghost use Rattle.std.specs.Prelude.{Some};
-    ghost use Rattle.requests.specs.Replies.{cause_word};
+    ghost use Rattle.requests.specs.Replies.{cause_text};
 
-    ghost output = { λ cause. Some (cause_word cause) };
+    ghost output = { λ cause. Some (cause_text cause) };
 
     fn fmt<W: fmt::Write>(&self, f: &mut fmt::Formatter<W>) -> fmt::Result {
         match self {
@@ -41,6 +47,9 @@ impl fmt::Display for Cause {
             Cause::NotACookie => f.write_str("not-a-cookie"),
             Cause::Invoking => f.write_str("invoking"),
             Cause::NoBatch => f.write_str("none"),
+            Cause::Sections(count) => write!(f, "sections {count}"),
+            Cause::Period => f.write_str("period"),
+            Cause::Callbacks(count) => write!(f, "callbacks {count}"),
         }
     }
 }

@@ -29,6 +29,9 @@ pub enum Command {
     Batch,
     Finish,
     Segs,
+    Barrier,
+    BarrierPoll,
+    Cleanup,
 }
 
 /// What a word of a line should be.
@@ -50,6 +53,8 @@ pub enum Argument {
     AReading,
     /// The name of a section that any processor may end, and that is not parked.
     AHeld,
+    /// The name of a ticket.
+    ATicket,
     /// The name of a job. Any name will do, also one that is in use.
     AJob,
 }
@@ -69,7 +74,7 @@ pub struct Row {
 
 impl Command {
     /// All commands, in the order of the help.
-    pub const ALL: [Command; 21] = [
+    pub const ALL: [Command; 24] = [
         Command::Domain,
         Command::Look,
         Command::Enter,
@@ -90,7 +95,10 @@ impl Command {
         Command::Batch,
         Command::Finish,
         Command::Segs,
+        Command::Barrier,
+        Command::BarrierPoll,
         Command::State,
+        Command::Cleanup,
     ];
 
     /// The command's row of the table.
@@ -117,7 +125,7 @@ impl Command {
                 word: "enter",
                 takes: &[Argument::ADomain, Argument::AProcessor, Argument::ALook],
                 form: "enter NAME P R",
-                does: "begins a section of that index on processor P, called R too",
+                does: "begins a section of that index on processor P, called R",
             },
             Command::Lock => Row {
                 word: "lock",
@@ -195,13 +203,13 @@ impl Command {
                 word: "call",
                 takes: &[Argument::ADomain, Argument::AProcessor, Argument::AJob],
                 form: "call NAME P J",
-                does: "queues a job J on processor P, to run after a grace period",
+                does: "queues job J on processor P, to run after a grace period",
             },
             Command::Run => Row {
                 word: "run",
                 takes: &[Argument::ADomain, Argument::AProcessor],
                 form: "run NAME P",
-                does: "runs the first jobs that are ready on processor P, up to 8",
+                does: "runs the first ready jobs of processor P, up to 8",
             },
             Command::Batch => Row {
                 word: "batch",
@@ -221,11 +229,29 @@ impl Command {
                 form: "segs NAME P",
                 does: "shows how many jobs of processor P wait, and for what",
             },
+            Command::Barrier => Row {
+                word: "barrier",
+                takes: &[Argument::ADomain, Argument::AProcessor, Argument::NewName],
+                form: "barrier NAME P B",
+                does: "gives a ticket B for the jobs that are queued by now",
+            },
+            Command::BarrierPoll => Row {
+                word: "barrier-poll",
+                takes: &[Argument::ADomain, Argument::AProcessor, Argument::ATicket],
+                form: "barrier-poll NAME P B",
+                does: "tells whether all jobs of ticket B have run",
+            },
             Command::State => Row {
                 word: "state",
                 takes: &[Argument::ADomain],
                 form: "state NAME",
                 does: "shows where the domain stands",
+            },
+            Command::Cleanup => Row {
+                word: "cleanup",
+                takes: &[Argument::ADomain],
+                form: "cleanup NAME",
+                does: "takes the domain down, where nothing of it is in use",
             },
         }
     }

@@ -50,6 +50,7 @@ impl Given {
             Argument::ALook => self.with_name_of(Kind::Look, word, scene),
             Argument::AReading => self.with_name_of(Kind::Reading, word, scene),
             Argument::AHeld => self.with_name_of(Kind::Held, word, scene),
+            Argument::ATicket => self.with_name_of(Kind::Ticket, word, scene),
             Argument::AJob => self.with_job(word),
         }
     }
@@ -189,7 +190,16 @@ impl Given {
             Command::Batch => Act::Batch { processor },
             Command::Finish => Act::Finish { processor },
             Command::Segs => Act::Segs { processor },
+            Command::Barrier => Act::Barrier {
+                processor,
+                ticket: name,
+            },
+            Command::BarrierPoll => Act::BarrierPoll {
+                processor,
+                ticket: name,
+            },
             Command::State => Act::State,
+            Command::Cleanup => return Request::Cleanup { domain },
         };
         Request::On { domain, act }
     }

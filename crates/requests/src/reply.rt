@@ -73,9 +73,9 @@ pub enum Reply {
     Took(Name),
     /// The number of the cookie that was given.
     Cookie(u64),
-    /// The cookie is done.
+    /// The cookie is done, or the ticket.
     Done,
-    /// The cookie is not done.
+    /// The cookie is not done, or the ticket.
     NotYet,
     /// What the engine answered.
     Progress(Progress),
@@ -92,6 +92,13 @@ pub enum Reply {
     Finished(usize),
     /// How the jobs of a processor wait.
     Segs(Segments),
+    /// A ticket was given.
+    Ticket,
+    /// A domain was taken down, in which so many sections ever began, and so many ended.
+    Cleaned {
+        opened: u64,
+        closed: u64,
+    },
     /// The line was refused, for this cause.
     Refused(Command, Cause),
     /// The line of this number, from 1, is faulty.
@@ -192,6 +199,10 @@ impl fmt::Display for Reply {
             Reply::TookJobs(jobs) => writeln!(f, "took{jobs}"),
             Reply::Finished(count) => writeln!(f, "finished {count}"),
             Reply::Segs(segments) => writeln!(f, "segs {segments}"),
+            Reply::Ticket => writeln!(f, "ticket"),
+            Reply::Cleaned { opened, closed } => {
+                writeln!(f, "cleaned opened {opened} closed {closed}")
+            }
             Reply::Refused(command, cause) => writeln!(f, "refused {command} {cause}"),
             Reply::Faulty { line, fault } => writeln!(f, "line {line}: {fault}"),
         }

@@ -8,6 +8,8 @@ pub enum Request {
     Domain { name: Name, processors: u64 },
     /// That the domain at this place does something.
     On { domain: usize, act: Act },
+    /// That the domain at this place is taken down.
+    Cleanup { domain: usize },
 }
 
 /// What a domain is to do.
@@ -53,4 +55,8 @@ pub enum Act {
     Finish { processor: u64 },
     /// To show the segments of the processor's list of jobs.
     Segs { processor: u64 },
+    /// To give the processor a ticket, under this name, for the jobs that are queued by now.
+    Barrier { processor: u64, ticket: Name },
+    /// To tell the processor whether the jobs of the ticket are finished.
+    BarrierPoll { processor: u64, ticket: Name },
 }

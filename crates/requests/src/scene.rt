@@ -15,6 +15,8 @@ pub enum Kind {
     Held,
     /// Such a section that lies on the domain's desk. Nothing can be done with it there.
     Parked,
+    /// A ticket. It stays until the domain is taken down.
+    Ticket,
 }
 
 /// The domains of a script, and the names in use in each, as a line finds them. A domain goes by its place, a number

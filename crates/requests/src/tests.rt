@@ -2,6 +2,7 @@ ghost use Rattle.std.specs.Prelude.{◌<◌, length};
 
 mod jobs;
 mod stage;
+mod tickets;
 
 use crate::tests::stage::Stage;
 use crate::{
@@ -15,34 +16,37 @@ use std::test::Fail;
 
 /// The table as the help of the command line shows it.
 const HELP: &str = "
-  domain NAME N      makes a domain of N processors (1 to 64)
-  look NAME P R      reads the current index on processor P, a look called R
-  enter NAME P R     begins a section of that index on processor P, called R too
-  lock NAME P S      a look and a section at once; the section is called S
-  unlock NAME S      ends a section of `lock` or `enter` where it began
-  down NAME P S      begins a section on processor P that any may end
-  up NAME P S        ends a section of `down` on processor P
-  park NAME S        puts a section of `down` on the domain's desk
-  unpark NAME        takes what lies on the domain's desk
-  get NAME P         gives a cookie
-  ask NAME P         gives a cookie, and asks for its grace period
-  poll NAME P C      tells whether a grace period has gone by since cookie C
-  start NAME P       starts a grace period
-  advance NAME P     lets the engine work until it has an answer
-  step NAME P        lets the engine make one step
-  call NAME P J      queues a job J on processor P, to run after a grace period
-  run NAME P         runs the first jobs that are ready on processor P, up to 8
-  batch NAME P       takes those jobs out as a batch, and runs none yet
-  finish NAME P      runs the jobs of processor P's batch, and ends it
-  segs NAME P        shows how many jobs of processor P wait, and for what
-  state NAME         shows where the domain stands";
+  domain NAME N         makes a domain of N processors (1 to 64)
+  look NAME P R         reads the current index on processor P, a look called R
+  enter NAME P R        begins a section of that index on processor P, called R
+  lock NAME P S         a look and a section at once; the section is called S
+  unlock NAME S         ends a section of `lock` or `enter` where it began
+  down NAME P S         begins a section on processor P that any may end
+  up NAME P S           ends a section of `down` on processor P
+  park NAME S           puts a section of `down` on the domain's desk
+  unpark NAME           takes what lies on the domain's desk
+  get NAME P            gives a cookie
+  ask NAME P            gives a cookie, and asks for its grace period
+  poll NAME P C         tells whether a grace period has gone by since cookie C
+  start NAME P          starts a grace period
+  advance NAME P        lets the engine work until it has an answer
+  step NAME P           lets the engine make one step
+  call NAME P J         queues job J on processor P, to run after a grace period
+  run NAME P            runs the first ready jobs of processor P, up to 8
+  batch NAME P          takes those jobs out as a batch, and runs none yet
+  finish NAME P         runs the jobs of processor P's batch, and ends it
+  segs NAME P           shows how many jobs of processor P wait, and for what
+  barrier NAME P B      gives a ticket B for the jobs that are queued by now
+  barrier-poll NAME P B tells whether all jobs of ticket B have run
+  state NAME            shows where the domain stands
+  cleanup NAME          takes the domain down, where nothing of it is in use";
 
 #[test]
 fn rows_make_the_help(rt: HostRuntime) -> Result<(), Fail> {
     let mut text = String::new(rt.alloc());
     for command in Command::ALL {
         let row = command.row();
-        write!(text, "\n  {:<19}{}", row.form, row.does)?;
+        write!(text, "\n  {:<22}{}", row.form, row.does)?;
     }
     assert_eq!(rt; text.as_str(), HELP);
     Ok(())
@@ -50,7 +54,7 @@ fn rows_make_the_help(rt: HostRuntime) -> Result<(), Fail> {
 
 #[test]
 fn words_of_commands(rt: HostRuntime) {
-    let rows: [(&[u8], Option<Command>); 29] = [
+    let rows: [(&[u8], Option<Command>); 37] = [
         (b"domain", Some(Command::Domain)),
         (b"state", Some(Command::State)),
         (b"look", Some(Command::Look)),
@@ -72,12 +76,20 @@ fn words_of_commands(rt: HostRuntime) {
         (b"batch", Some(Command::Batch)),
         (b"finish", Some(Command::Finish)),
         (b"segs", Some(Command::Segs)),
+        (b"barrier", Some(Command::Barrier)),
+        (b"barrier-poll", Some(Command::BarrierPoll)),
+        (b"cleanup", Some(Command::Cleanup)),
         (b"", None),
         (b"loc", None),
         (b"locks", None),
         (b"ups", None),
         (b"seg", None),
         (b"calls", None),
+        (b"barriers", None),
+        (b"barrier-", None),
+        (b"barrierpoll", None),
+        (b"barrier_poll", None),
+        (b"clean", None),
         (b"LOCK", None),
         (b"frob", None),
     ];

@@ -1,14 +1,15 @@
 -- What an act does to a domain with its names and its desk.
 use Rattle.std.proofs.Common.{◌≡◌, ℕ, ◌%◌, Bool, true, false, List, [], ◌∷◌, ◌++◌, inl, inr, refl, sym, ap, ◌∙◌, subst}
-use Rattle.std.specs.Prelude.{Option, Some, None, option_map, if◌then◌else◌}
-use Rattle.atomic_table.specs.Seated.{TableId}
+use Rattle.std.specs.Prelude.{Option, Some, None, option_map, MatchBool, if◌then◌else◌}
 use Rattle.sseq.specs.declared.index.Index.{Index}
 use Rattle.sseq.specs.declared.index.Index.TheVariants.{Zero, One}
 use Rattle.sseq.specs.declared.number.Phase.{Phase}
 use Rattle.sseq.specs.Numbers.{state_bits}
 use Rattle.sections.specs.Views.{LookView, ReadingView}
+use Rattle.calls.specs.Views.{TicketView}
 use Rattle.scan.specs.Standings.{index_now}
 use Rattle.solo.specs.Calls.{SoloView, IsSame, IsLookNow, IsReadingAt, Begins, IsOutOfSections, Ends, ReadsNumber}
+use Rattle.solo.specs.Barriers.{ticket_of, AreReached}
 use Rattle.requests.specs.declared.command.Command.{Command}
 use Rattle.requests.specs.declared.command.Command.TheVariants as command
 use Rattle.requests.specs.declared.cause.Cause.TheVariants as cause
@@ -19,9 +20,9 @@ use Rattle.requests.specs.declared.scene.Kind.TheVariants as kind
 use Rattle.requests.specs.Faults.{same_kind}
 use Rattle.session.specs.declared.names.Token.{Token}
 use Rattle.session.specs.declared.names.Token.TheVariants as token
-use Rattle.session.specs.Tokens.{token_at, held_of, Frees}
+use Rattle.session.specs.Tokens.{token_at, ticket_in, held_of, Frees}
 use Rattle.session.specs.JobLists.{JobsView}
-use Rattle.session.specs.States.{Bearer, Look, Reading, Becomes, bearer_at, kind_of, kind_at, is_parked}
+use Rattle.session.specs.States.{Bearer, Look, Reading, Ticket, Becomes, bearer_at, kind_of, kind_at, is_parked}
 use Rattle.session.specs.Entries.{bearer_of, names_of, desk_of, state_with, tokens_with, AreOf}
 use Rattle.session.specs.Scripts.{Does, BeginsUnder, BeginsNow}
 use Rattle.session.proofs.Naming.{bearer_at_is, comes, goes, changes}
@@ -33,7 +34,7 @@ kind_case : (b : Bool) (found given : Option Kind) → (Some kind.Parked ≡ giv
 kind_case true found given other h = absurd (other h)
 kind_case false found given other h = (refl, h)
 
-module _ (own name : List ℕ) (tokens : List (List ℕ × Token)) (parked : Option Named) (jobs : List JobsView) (d : SoloView) where
+module _ {A : Type 0} (own name : List ℕ) (tokens : List (List ℕ × Token A)) (parked : Option Named) (jobs : List JobsView) (d : SoloView) where
   -- the name is not that of the section on the desk, and what has it is of this kind
   found_kind : (given : Option Kind) → (Some kind.Parked ≡ given → ⊥) → kind_at name (state_with own tokens parked jobs d) ≡ given
       → (is_parked name (desk_of parked) ≡ false) × (option_map kind_of (option_map bearer_of (token_at name tokens)) ≡ given)
@@ -41,7 +42,7 @@ module _ (own name : List ℕ) (tokens : List (List ℕ × Token)) (parked : Opt
       let (free, is) = kind_case (is_parked name (desk_of parked)) (option_map kind_of (bearer_at name (names_of tokens))) given other h in
       (free, ap (option_map kind_of) (sym (bearer_at_is name tokens)) ∙ is)
 
-  free_case : (t : Option Token) → option_map kind_of (option_map bearer_of t) ≡ None → t ≡ None
+  free_case : (t : Option (Token A)) → option_map kind_of (option_map bearer_of t) ≡ None → t ≡ None
   free_case None h = refl
   free_case (Some t) h = absurd cc
 
@@ -55,7 +56,7 @@ module _ (own name : List ℕ) (tokens : List (List ℕ × Token)) (parked : Opt
   pub is_not_parked : kind_at name (state_with own tokens parked jobs d) ≡ None → is_parked name (desk_of parked) ≡ false
   is_not_parked h = (found_kind None never_free h).0
 
-abbrev is_of : Option Token → Kind → Bool
+abbrev is_of : {A : Type 0} → Option (Token A) → Kind → Bool
 is_of None k = false
 is_of (Some t) k = same_kind (kind_of (bearer_of t)) k
 
@@ -64,6 +65,7 @@ same_as_itself kind.Look = refl
 same_as_itself kind.Reading = refl
 same_as_itself kind.Held = refl
 same_as_itself kind.Parked = refl
+same_as_itself kind.Ticket = refl
 
 apart_kinds : (k given : Kind) → same_kind k given ≡ false → Some k ≡ Some given → ⊥
 apart_kinds k given other e =
@@ -71,37 +73,68 @@ apart_kinds k given other e =
     let yes : same_kind k given ≡ true = ap (λ x. same_kind x given) is ∙ same_as_itself given in
     absurd cc
 
-wrong_case : (given : Kind) (t : Option Token) → is_of t given ≡ false → option_map kind_of (option_map bearer_of t) ≡ Some given → ⊥
+wrong_case : {A : Type 0} (given : Kind) (t : Option (Token A)) → is_of t given ≡ false → option_map kind_of (option_map bearer_of t) ≡ Some given → ⊥
 wrong_case given None other e = absurd cc
 wrong_case given (Some t) other e = apart_kinds (kind_of (bearer_of t)) given other e
 
 -- nothing of another kind has the name
-pub wrong_kind : (own name : List ℕ) (tokens : List (List ℕ × Token)) (parked : Option Named) (jobs : List JobsView) (d : SoloView) (given : Kind) (t : Option Token) → same_kind kind.Parked given ≡ false → is_of t given ≡ false
+pub wrong_kind : {A : Type 0} (own name : List ℕ) (tokens : List (List ℕ × Token A)) (parked : Option Named) (jobs : List JobsView) (d : SoloView) (given : Kind) (t : Option (Token A)) → same_kind kind.Parked given ≡ false → is_of t given ≡ false
     → kind_at name (state_with own tokens parked jobs d) ≡ Some given → t ≡ token_at name tokens → ⊥
 wrong_kind own name tokens parked jobs d given t other wrong h is =
     wrong_case given t wrong (ap (λ o. option_map kind_of (option_map bearer_of o)) is ∙ (found_kind own name tokens parked jobs d (Some given) (apart_kinds kind.Parked given other) h).1)
 
 -- a thing of a kind that can be used is not on the desk
-pub is_plain : (own name : List ℕ) (tokens : List (List ℕ × Token)) (parked : Option Named) (jobs : List JobsView) (d : SoloView) (given : Kind) → same_kind kind.Parked given ≡ false
+pub is_plain : {A : Type 0} (own name : List ℕ) (tokens : List (List ℕ × Token A)) (parked : Option Named) (jobs : List JobsView) (d : SoloView) (given : Kind) → same_kind kind.Parked given ≡ false
     → kind_at name (state_with own tokens parked jobs d) ≡ Some given → is_parked name (desk_of parked) ≡ false
 is_plain own name tokens parked jobs d given other h = (found_kind own name tokens parked jobs d (Some given) (apart_kinds kind.Parked given other) h).0
 
 -- a name that is not that of the section on the desk
-pub known_kind : (own name : List ℕ) (tokens : List (List ℕ × Token)) (parked : Option Named) (jobs : List JobsView) (d : SoloView) (o : Option Token) → is_parked name (desk_of parked) ≡ false → o ≡ token_at name tokens
+pub known_kind : {A : Type 0} (own name : List ℕ) (tokens : List (List ℕ × Token A)) (parked : Option Named) (jobs : List JobsView) (d : SoloView) (o : Option (Token A)) → is_parked name (desk_of parked) ≡ false → o ≡ token_at name tokens
     → option_map kind_of (option_map bearer_of o) ≡ kind_at name (state_with own tokens parked jobs d)
 known_kind own name tokens parked jobs d o free is =
     ap (λ t. option_map kind_of (option_map bearer_of t)) is ∙ ap (option_map kind_of) (sym (bearer_at_is name tokens))
     ∙ sym (ap (λ b. if b then Some kind.Parked else option_map kind_of (bearer_at name (names_of tokens))) free)
 
-there : (name : List ℕ) (tokens : List (List ℕ × Token)) (t : Token) → Some t ≡ token_at name tokens → bearer_at name (names_of tokens) ≡ Some (bearer_of t)
+-- the ticket that is such a token
+ticket_case : {A : Type 0} (t : Option (Token A)) → option_map kind_of (option_map bearer_of t) ≡ Some kind.Ticket → (ticket : TicketView) × (t ≡ Some (token.Ticket ticket))
+ticket_case None h = absurd cc
+ticket_case (Some (token.Look l)) h = absurd (apart_kinds kind.Look kind.Ticket refl h)
+ticket_case (Some (token.Reading r)) h = absurd (apart_kinds kind.Reading kind.Ticket refl h)
+ticket_case (Some (token.Held r)) h = absurd (apart_kinds kind.Held kind.Ticket refl h)
+ticket_case (Some (token.Ticket t)) h = (t, refl)
+
+-- a ticket has this name
+pub ticket_there : {A : Type 0} (own name : List ℕ) (tokens : List (List ℕ × Token A)) (parked : Option Named) (jobs : List JobsView) (d : SoloView) → kind_at name (state_with own tokens parked jobs d) ≡ Some kind.Ticket
+    → (ticket : TicketView) × (token_at name tokens ≡ Some (token.Ticket ticket))
+ticket_there own name tokens parked jobs d h = ticket_case (token_at name tokens) (found_kind own name tokens parked jobs d (Some kind.Ticket) (apart_kinds kind.Parked kind.Ticket refl) h).1
+
+no_ticket : {A : Type 0} (o : Option (Token A)) (t : TicketView) → o ≡ Some (token.Ticket t) → None ≡ ticket_in o → ⊥
+no_ticket o t is none = let found : ◌≡◌ {A = Option TicketView} None (Some t) = none ∙ ap ticket_in is in absurd cc
+
+-- so it is found
+pub ticket_missing : {A : Type 0} (own name : List ℕ) (tokens : List (List ℕ × Token A)) (parked : Option Named) (jobs : List JobsView) (d : SoloView) → kind_at name (state_with own tokens parked jobs d) ≡ Some kind.Ticket
+    → None ≡ ticket_in (token_at name tokens) → ⊥
+ticket_missing own name tokens parked jobs d h none = let (t, is) = ticket_there own name tokens parked jobs d h in no_ticket (token_at name tokens) t is none
+
+same_ticket : {A : Type 0} (o : Option (Token A)) (t found : TicketView) → o ≡ Some (token.Ticket t) → Some found ≡ ticket_in o → o ≡ Some (token.Ticket found)
+same_ticket o t found is found_is =
+    let same : ◌≡◌ {A = Option TicketView} (Some found) (Some t) = found_is ∙ ap ticket_in is in
+    let it : found ≡ t = cc in
+    is ∙ ap (λ x. Some (token.Ticket x)) (sym it)
+
+pub ticket_found : {A : Type 0} (own name : List ℕ) (tokens : List (List ℕ × Token A)) (parked : Option Named) (jobs : List JobsView) (d : SoloView) (found : TicketView) → kind_at name (state_with own tokens parked jobs d) ≡ Some kind.Ticket
+    → Some found ≡ ticket_in (token_at name tokens) → token_at name tokens ≡ Some (token.Ticket found)
+ticket_found own name tokens parked jobs d found h found_is = let (t, is) = ticket_there own name tokens parked jobs d h in same_ticket (token_at name tokens) t found is found_is
+
+there : {A : Type 0} (name : List ℕ) (tokens : List (List ℕ × Token A)) (t : Token A) → Some t ≡ token_at name tokens → bearer_at name (names_of tokens) ≡ Some (bearer_of t)
 there name tokens t is = bearer_at_is name tokens ∙ ap (option_map bearer_of) (sym is)
 
 -- What is done
 
-module _ (own : List ℕ) (tokens : List (List ℕ × Token)) (parked : Option Named) (jobs : List JobsView) (d d' : SoloView) where
+module _ {A : Type 0} (own : List ℕ) (tokens : List (List ℕ × Token A)) (parked : Option Named) (jobs : List JobsView) (d d' : SoloView) where
   -- the names and how far the domain has come may change
-  goes_on : (tokens' : List (List ℕ × Token)) → IsSame d d' → state_with own tokens' parked jobs d' ≡ record (state_with own tokens parked jobs d) { names = names_of tokens'; standing = d'.standing }
-  goes_on tokens' same = λ i. record (state_with own tokens parked jobs d) { names = names_of tokens'; asked = same.4 i; standing = d'.standing; queued = same.6 i }
+  goes_on : (tokens' : List (List ℕ × Token A)) → IsSame d d' → state_with own tokens' parked jobs d' ≡ record (state_with own tokens parked jobs d) { names = names_of tokens'; standing = d'.standing }
+  goes_on tokens' same = λ i. record (state_with own tokens parked jobs d) { names = names_of tokens'; asked = same.4 i; standing = d'.standing; queued = same.6 i; finished = same.7 i }
 
   pub looked : (p : ℕ) (name : List ℕ) (l : LookView) → token_at name tokens ≡ None → IsLookNow d l → d' ≡ d
       → Does d.limits (act.Look p name) (state_with own tokens parked jobs d) (reply.Look l.index) (state_with own (tokens ++ (name, token.Look l) ∷ []) parked jobs d')
@@ -111,7 +144,7 @@ module _ (own : List ℕ) (tokens : List (List ℕ × Token)) (parked : Option N
     reply = ap reply.Look now.index;
   }
 
-  begun : (p : ℕ) (i : Index) (name : List ℕ) (r : ReadingView) (tokens' : List (List ℕ × Token)) → IsSame d d' → Becomes name (Some (bearer_of (token.Reading r))) (names_of tokens) (names_of tokens')
+  begun : (p : ℕ) (i : Index) (name : List ℕ) (r : ReadingView) (tokens' : List (List ℕ × Token A)) → IsSame d d' → Becomes name (Some (Reading r.section r.processor)) (names_of tokens) (names_of tokens')
       → Begins d.limits p i r.section d.standing d'.standing → IsReadingAt d.table p i r
       → BeginsUnder d.limits p i (λ s. Reading s p) name (state_with own tokens parked jobs d) (reply.Index r.index) (state_with own tokens' parked jobs d')
   begun p i name r tokens' same named begins is = record {
@@ -136,7 +169,7 @@ module _ (own : List ℕ) (tokens : List (List ℕ × Token)) (parked : Option N
       → BeginsNow d.limits p c bearer name (state_with own tokens parked jobs d) (reply.Refused c cause.Exhausted) (state_with own tokens parked jobs d')
   begun_none p c bearer name full same = inr (full, record { after = ap (state_with own tokens parked jobs) same; reply = refl })
 
-  module _ (name : List ℕ) (rest : List (List ℕ × Token)) (frees : Frees name tokens rest) where
+  module _ (name : List ℕ) (rest : List (List ℕ × Token A)) (frees : Frees name tokens rest) where
     pub entered : (p : ℕ) (l : LookView) (r : ReadingView) → IsSame d d' → Some (token.Look l) ≡ token_at name tokens → Begins d.limits p l.index r.section d.standing d'.standing → IsReadingAt d.table p l.index r
         → Does d.limits (act.Enter p name) (state_with own tokens parked jobs d) (reply.Index r.index) (state_with own (rest ++ (name, token.Reading r) ∷ []) parked jobs d')
     entered p l r same is begins at = record {
@@ -200,10 +233,10 @@ module _ (own : List ℕ) (tokens : List (List ℕ × Token)) (parked : Option N
     reply = refl;
   })
 
-  pub shown : IsSame d d' → (table : TableId) (need number : ℕ) (phase : Phase) (index : Index) (counted other_counted : ℕ) → AreOf table d.standing (tokens_with parked tokens) → ReadsNumber number d.standing d'.standing → number % 4 ≡ state_bits phase
+  pub shown : IsSame d d' → (need number : ℕ) (phase : Phase) (index : Index) (counted other_counted : ℕ) → AreOf d (tokens_with parked tokens) → ReadsNumber number d.standing d'.standing → number % 4 ≡ state_bits phase
       → index ≡ index_now d'.standing → counted ≡ held_of Zero (tokens_with parked tokens) → other_counted ≡ held_of One (tokens_with parked tokens) → need ≡ d'.asked
       → Does d.limits act.State (state_with own tokens parked jobs d) (reply.State own (record { number = number; phase = phase }) (record { index = index; zero = counted; one = other_counted; need = need })) (state_with own tokens parked jobs d')
-  shown same table need number phase index counted other_counted held reads p x z o n = record {
+  shown same need number phase index counted other_counted held reads p x z o n = record {
     number = number;
     phase = phase;
     reads = reads;
@@ -213,4 +246,28 @@ module _ (own : List ℕ) (tokens : List (List ℕ × Token)) (parked : Option N
       reply = λ k. reply.State own (record { number = number; phase = phase })
           (record { index = (x ∙ ap index_now reads.notes.after) k; zero = (z ∙ held.counted Zero) k; one = (o ∙ held.counted One) k; need = (n ∙ same.4) k });
     };
+  }
+
+  -- barriers
+
+  pub ticket_given : (p : ℕ) (name : List ℕ) (t : TicketView) → token_at name tokens ≡ None → t ≡ ticket_of d → d' ≡ d
+      → Does d.limits (act.Barrier p name) (state_with own tokens parked jobs d) reply.Ticket (state_with own (tokens ++ (name, token.Ticket t) ∷ []) parked jobs d')
+  ticket_given p name t free is same = inl (record {
+    names = subst (λ numbers. Becomes name (Some (Ticket numbers)) (names_of tokens) (names_of (tokens ++ (name, token.Ticket t) ∷ []))) (ap (λ (x : TicketView). x.numbers) is) (comes name (token.Ticket t) tokens free);
+    rest = ap (state_with own (tokens ++ (name, token.Ticket t) ∷ []) parked jobs) same;
+    reply = refl;
+  })
+
+  pub ticket_not_given : (p : ℕ) (name : List ℕ) → d' ≡ d → Does d.limits (act.Barrier p name) (state_with own tokens parked jobs d) (reply.Refused command.Barrier cause.Memory) (state_with own tokens parked jobs d')
+  ticket_not_given p name same = inr (record { after = ap (state_with own tokens parked jobs) same; reply = refl })
+
+  pub ticket_polled : (p : ℕ) (name : List ℕ) (t : TicketView) (done : Bool) → Some (token.Ticket t) ≡ token_at name tokens → MatchBool done (AreReached t.numbers d.finished) (¬ AreReached t.numbers d.finished) → d' ≡ d
+      → Does d.limits (act.BarrierPoll p name) (state_with own tokens parked jobs d) (if done then reply.Done else reply.NotYet) (state_with own tokens parked jobs d')
+  ticket_polled p name t done is reached same = record {
+    numbers = t.numbers;
+    there = there name tokens (token.Ticket t) is;
+    done = done;
+    reached = reached;
+    after = ap (state_with own tokens parked jobs) same;
+    reply = refl;
   }

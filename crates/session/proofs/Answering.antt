@@ -1,8 +1,7 @@
 -- What a line gives, once it is known what its words ask for, or what is wrong with them.
 use Rattle.std.proofs.Common.{◌≡◌, ℕ, true, false, List, refl, sym, subst}
-use Rattle.std.specs.Prelude.{Some, None, Option}
+use Rattle.std.specs.Prelude.{Some, None}
 use Rattle.sections.specs.declared.limits.Limits.{Limits}
-use Rattle.lines.specs.Lines.{words_of}
 use Rattle.requests.specs.declared.fault.Fault.{Fault}
 use Rattle.requests.specs.declared.reply.Reply.{Reply}
 use Rattle.requests.specs.declared.reply.Reply.TheVariants as reply

@@ -8,6 +8,7 @@ mod Parked
 mod OpenSections
 mod Places
 mod Quiet
+mod Spent
 mod Taken
 mod Taking
 mod Together

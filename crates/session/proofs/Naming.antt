@@ -19,7 +19,7 @@ other_bytes name other apart = false_case (bytes_eq other name) (λ e. apart ((b
 pub same_bytes : (name : List ℕ) → bytes_eq name name ≡ true
 same_bytes name = (bytes_eq-Decides name name).1 refl
 
-pub bearer_at_is : (name : List ℕ) (tokens : List (List ℕ × Token)) → bearer_at name (names_of tokens) ≡ option_map bearer_of (token_at name tokens)
+pub bearer_at_is : {A : Type 0} (name : List ℕ) (tokens : List (List ℕ × Token A)) → bearer_at name (names_of tokens) ≡ option_map bearer_of (token_at name tokens)
 bearer_at_is name tokens = lookup-map_values bearer_of (bytes_eq name) tokens
 
 module _ {X : Type 0} (test : List ℕ → Bool) (k : List ℕ) (v : X) where
@@ -37,7 +37,7 @@ module _ {X : Type 0} (test : List ℕ → Bool) (k : List ℕ) (v : X) where
   lookup_before miss (e ∷ xs) = ap (λ o. cond (test e.0) (Some e.1) o) (lookup_before miss xs)
 
 -- a free name comes into use
-pub comes : (name : List ℕ) (t : Token) (tokens : List (List ℕ × Token)) → token_at name tokens ≡ None → Becomes name (Some (bearer_of t)) (names_of tokens) (names_of (tokens ++ (name, t) ∷ []))
+pub comes : {A : Type 0} (name : List ℕ) (t : Token A) (tokens : List (List ℕ × Token A)) → token_at name tokens ≡ None → Becomes name (Some (bearer_of t)) (names_of tokens) (names_of (tokens ++ (name, t) ∷ []))
 comes name t tokens free = record {
   here = bearer_at_is name (tokens ++ (name, t) ∷ []) ∙ ap (option_map bearer_of) (lookup_behind (bytes_eq name) name t (same_bytes name) tokens free);
   others = λ other apart. bearer_at_is other (tokens ++ (name, t) ∷ [])
@@ -45,7 +45,7 @@ comes name t tokens free = record {
 }
 
 -- a name is free again
-pub goes : (name : List ℕ) (tokens rest : List (List ℕ × Token)) → Frees name tokens rest → Becomes name None (names_of tokens) (names_of rest)
+pub goes : {A : Type 0} (name : List ℕ) (tokens rest : List (List ℕ × Token A)) → Frees name tokens rest → Becomes name None (names_of tokens) (names_of rest)
 goes name tokens rest frees = record {
   here = bearer_at_is name rest ∙ ap (option_map bearer_of) frees.here;
   others = λ other apart. bearer_at_is other rest
@@ -53,7 +53,7 @@ goes name tokens rest frees = record {
 }
 
 -- a name goes from one token to another
-pub changes : (name : List ℕ) (t : Token) (tokens rest : List (List ℕ × Token)) → Frees name tokens rest → Becomes name (Some (bearer_of t)) (names_of tokens) (names_of (rest ++ (name, t) ∷ []))
+pub changes : {A : Type 0} (name : List ℕ) (t : Token A) (tokens rest : List (List ℕ × Token A)) → Frees name tokens rest → Becomes name (Some (bearer_of t)) (names_of tokens) (names_of (rest ++ (name, t) ∷ []))
 changes name t tokens rest frees =
     let gone = goes name tokens rest frees in
     let come = comes name t rest frees.here in

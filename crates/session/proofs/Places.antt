@@ -1,21 +1,25 @@
 -- Places of domains, and what is there.
-use Rattle.std.proofs.Common.{◌≡◌, ℕ, ◌+◌, ◌<◌, Bool, true, false, cond, not, List, [], ◌∷◌, length, map, get_or, set, refl, sym, ap, ◌∙◌, subst, arith}
-use Rattle.std.specs.Prelude.{Option, Some, None, nat_lt, slice_get, option_map, option_and_then, position, bytes_eq, All}
+use Rattle.std.proofs.Common.{◌≡◌, ℕ, ◌+◌, ◌<◌, zero, suc, Bool, true, false, cond, not, List, [], ◌∷◌, length, map, get_or, set, refl, sym, ap, ◌∙◌, subst, arith}
+use Rattle.std.specs.Prelude.{Option, Some, None, nat_lt, insert, remove, take, drop, slice_get, option_map, option_and_then, position, bytes_eq, All}
 use Rattle.std.specs.Option.{option_map_or}
 use Rattle.std.specs.List.{prefix_len, position_or_len}
 use Rattle.std.proofs.lemmas.Option.{slice_get-map, slice_get_read}
 use Rattle.std.proofs.lemmas.List.{length-map, map-set}
-use Rattle.std.proofs.lemmas.List.Elements.{All-get_or}
+use Rattle.std.proofs.lemmas.List.Elements.{All-get_or, All-append, All-take, All-drop}
+use Rattle.indexmap.proofs.SetLemmas.{map-remove}
 use Rattle.std.proofs.lemmas.Bool.Decides.{nat_tests}
 use Rattle.sections.specs.declared.limits.Limits.{Limits}
 use Rattle.requests.specs.declared.request.Act.{Act}
 use Rattle.requests.specs.declared.request.Act.TheVariants as act
 use Rattle.requests.specs.declared.request.Request.TheVariants as request
+use Rattle.requests.specs.declared.cause.Cause.{Cause}
+use Rattle.requests.specs.declared.command.Command.TheVariants as command
 use Rattle.requests.specs.declared.reply.Reply.{Reply}
+use Rattle.requests.specs.declared.reply.Reply.TheVariants as reply
 use Rattle.requests.specs.declared.scene.Kind.{Kind}
 use Rattle.requests.specs.Requests.{Fits}
 use Rattle.session.specs.States.{State, DomainState, EntryView, states_of, kind_at, domain_place, scene_of}
-use Rattle.session.specs.Scripts.{Does, Answers}
+use Rattle.session.specs.Scripts.{Does, Answers, IsTakenDown, IsInUse, CleansUp, CleansNone}
 
 prefix-map : {X Y : Type 0} (p : Y → Bool) (f : X → Y) (xs : List X) → prefix_len p (map f xs) ≡ prefix_len (λ x. p (f x)) xs
 prefix-map p f [] = refl
@@ -39,6 +43,11 @@ domain_place_is w entries = sym (position-map (λ d. bytes_eq d.name w) (λ e. e
 
 pub domain_place_within : (w : List ℕ) (entries : List EntryView) (k : ℕ) → domain_place w (states_of entries) ≡ Some k → k < length entries
 domain_place_within w entries k h = position_within (λ e. bytes_eq e.state.name w) entries k (domain_place_is w entries ∙ h)
+
+-- there is a domain at the place of a name
+pub place_within : (w : List ℕ) (state : State) (k : ℕ) → domain_place w state ≡ Some k → k < length state
+unfolding domain_place
+place_within w state k h = position_within (λ (d : DomainState). bytes_eq d.name w) state k h
 
 -- the state of an entry is where the entry is
 pub state_there : (entries : List EntryView) (k : ℕ) (e : EntryView) → k < length entries → e ≡ get_or entries k e → slice_get (states_of entries) k ≡ Some e.state
@@ -81,6 +90,8 @@ module _ (state : State) (place : ℕ) (d : DomainState) (at : slice_get state p
   fits_there (act.Batch p) h = small p h
   fits_there (act.Finish p) h = small p h
   fits_there (act.Segs p) h = small p h
+  fits_there (act.Barrier p name) h = (small p h.0, kind_is name _ h.1)
+  fits_there (act.BarrierPoll p name) h = (small p h.0, kind_is name _ h.1)
 
 -- The session's answer
 
@@ -95,3 +106,26 @@ answered limits entries k e e' a r within is all same does = (
   record { there = state_there entries k e within is; same = same; others = map-set (λ (x : EntryView). x.state) entries k e' },
   subst (λ l. Does l a e.state r e'.state) (same_limits limits entries k e within is all) does,
 )
+
+-- A domain is taken down
+
+-- what was taken out is put back where it was
+pub put_back : {X : Type 0} (xs : List X) (k : ℕ) (x : X) → k < length xs → x ≡ get_or xs k x → insert (remove xs k) k x ≡ xs
+put_back [] k x within is = absurd (omega (arith, within))
+put_back (y ∷ ys) zero x within is = ap (λ z. z ∷ ys) is
+put_back (y ∷ ys) (suc k) x within is = ap (λ l. y ∷ l) (put_back ys k x (omega (arith, within)) is)
+
+pub states_without : (entries : List EntryView) (k : ℕ) → states_of (remove entries k) ≡ remove (states_of entries) k
+states_without entries k = map-remove (λ (x : EntryView). x.state) entries k
+
+pub limits_without : (limits : Limits) (entries : List EntryView) (k : ℕ) → All (λ (x : EntryView). x.limits ≡ limits) entries → All (λ (x : EntryView). x.limits ≡ limits) (remove entries k)
+limits_without limits entries k same =
+    let P : EntryView → Type 0 = λ x. x.limits ≡ limits in
+    All-append P (take k entries) (drop (suc k) entries) (All-take P k entries same) (All-drop P (suc k) entries same)
+
+module _ (entries : List EntryView) (k : ℕ) (e : EntryView) (within : k < length entries) (is : e ≡ get_or entries k e) where
+  pub cleaned : (opened closed : ℕ) → IsTakenDown e.state opened closed → CleansUp (states_of entries) k (reply.Cleaned opened closed) (states_of (remove entries k))
+  cleaned opened closed down = record { domain = e.state; opened = opened; closed = closed; there = state_there entries k e within is; taken_down = down; gone = states_without entries k; reply = refl }
+
+  pub not_cleaned : (why : Cause) → IsInUse e.state why → CleansNone (states_of entries) k (reply.Refused command.Cleanup why) (states_of entries)
+  not_cleaned why in_use = record { domain = e.state; there = state_there entries k e within is; cause = why; in_use = in_use; after = refl; reply = refl }

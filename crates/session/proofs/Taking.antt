@@ -1,5 +1,5 @@
 -- Jobs that leave: for each entry of a batch one at most.
-use Rattle.std.proofs.Common.{◌≡◌, ℕ, ◌+◌, ◌<◌, ◌≤◌, List, [], ◌∷◌, ◌++◌, length, map, refl, sym, ap, ◌∙◌, subst, append_assoc, arith}
+use Rattle.std.proofs.Common.{◌≡◌, ℕ, ◌+◌, ◌≤◌, List, [], ◌∷◌, ◌++◌, length, refl, sym, ap, ◌∙◌, append_assoc, arith}
 use Rattle.std.specs.Prelude.{Option, Some, None, All, MatchOption}
 use Rattle.std.proofs.lemmas.List.{length-map, length-append, map-append}
 use Rattle.std.proofs.lemmas.List.Elements.{All-nil, All-head, All-rest, All-push, All-same}
@@ -7,7 +7,7 @@ use Rattle.calls.specs.declared.entry.Entry.{Entry}
 use Rattle.calls.specs.Views.{BatchView}
 use Rattle.calls.specs.Calls.{GivesNext, next_cookie}
 use Rattle.session.specs.declared.jobs.Job.{Job}
-use Rattle.session.specs.States.{AreTaken, names_of_jobs}
+use Rattle.session.specs.States.{names_of_jobs}
 use Rattle.session.specs.JobLists.{AreTakenWith}
 
 abbrev Entries : Type 0
@@ -28,12 +28,14 @@ pub record HaveLeft (reached : ℕ) (entries : Entries) (names : List (List ℕ)
   pub named : names ≡ names_of_jobs taken
 
 pub record AreLeaving (before entries : Entries) (names : List (List ℕ)) (waiting waiting' : List Job) : Type 0 where
-  pub few : length names + length entries ≤ 8
+  pub few : length names + length entries ≤ length before
+  pub eight : length before ≤ 8
   pub so_far : (reached : ℕ) → AreReached reached before → HaveLeft reached entries names waiting waiting'
 
 pub none_left : (entries : Entries) (waiting : List Job) → length entries ≤ 8 → AreLeaving entries entries [] waiting waiting
 none_left entries waiting few = record {
-  few = omega (arith, few);
+  few = omega arith;
+  eight = few;
   so_far = λ reached h. record { ahead = h; taken = []; first = refl; due = All-nil (λ (job : Job). job.cookie ≤ reached); named = refl };
 }
 
@@ -59,6 +61,7 @@ module _ (before entries : Entries) (names : List (List ℕ)) (waiting waiting' 
   pub nobody_leaves : (waiting'' : List Job) → waiting'' ≡ waiting' → AreLeaving before rest names waiting waiting''
   nobody_leaves waiting'' same = record {
     few = let few = h.few in let one = shorter in omega (arith, few, one);
+    eight = h.eight;
     so_far = λ reached is. let left = h.so_far reached is in record {
       ahead = All-rest (λ (x : Entry (Unit {0})). x.cookie.number ≤ reached) e rest entries front left.ahead;
       taken = left.taken;
@@ -71,6 +74,7 @@ module _ (before entries : Entries) (names : List (List ℕ)) (waiting waiting' 
   pub one_leaves : (waiting'' : List Job) (job : Job) → waiting' ≡ job ∷ waiting'' → job.cookie ≤ e.cookie.number → AreLeaving before rest (names ++ job.name ∷ []) waiting waiting''
   one_leaves waiting'' job is due = record {
     few = let few = h.few in let one = shorter in let more = length-append names (job.name ∷ []) in omega (arith, few, one, more);
+    eight = h.eight;
     so_far = λ reached there. let left = h.so_far reached there in
         let here : e.cookie.number ≤ reached = All-head (λ (x : Entry (Unit {0})). x.cookie.number ≤ reached) e rest (All-same (λ (x : Entry (Unit {0})). x.cookie.number ≤ reached) (e ∷ rest) entries (sym front) left.ahead) in
         record {
@@ -86,8 +90,8 @@ module _ (before entries : Entries) (names : List (List ℕ)) (waiting waiting' 
 pub have_left : (before entries : Entries) (names : List (List ℕ)) (waiting waiting' : List Job) → AreLeaving before entries names waiting waiting' → AreTakenWith before names waiting waiting'
 have_left before entries names waiting waiting' h reached is =
     let left = h.so_far reached is in
-    let few : length left.taken ≤ 8 = let most = h.few in let as_many = ap length left.named ∙ length-map left.taken (λ (x : Job). x.name) in omega (arith, most, as_many) in
-    (left.taken, record { first = left.first; few = few; due = left.due }, left.named)
+    let known : length left.taken ≤ length before = let most = h.few in let as_many = ap length left.named ∙ length-map left.taken (λ (x : Job). x.name) in omega (arith, most, as_many) in
+    (left.taken, record { first = left.first; known = known; few = h.eight; due = left.due }, left.named)
 
 pub none_case : {X : Type 0} (r : Option X) (P : Type 0) (Q : X → Type 0) → r ≡ None → MatchOption r P Q → P
 none_case None P Q none h = h

@@ -1,8 +1,10 @@
 -- A domain, its tokens and its desk, as the domain goes on.
 use Rattle.std.proofs.Common.{◌≡◌, ℕ, ◌<◌, Bool, false, List, [], ◌∷◌, ◌++◌, refl, sym, ◌∙◌, subst}
-use Rattle.std.specs.Prelude.{Option, Some, None, option_map, IsPermutation, Result, Ok, Err, MatchResult}
+use Rattle.std.specs.Prelude.{Option, Some, None, option_map, All, IfSome, IsPermutation, Result, Ok, Err, MatchResult, bytes_eq}
 use Rattle.std.proofs.lemmas.List.Sorted.{IsPermutation-refl}
-use Rattle.sections.specs.Views.{LookView, ReadingView}
+use Rattle.std.proofs.lemmas.List.Elements.{All-tail}
+use Rattle.std.proofs.lemmas.Map.Entries.{All-lookup}
+use Rattle.sections.specs.Views.{ReadingView}
 use Rattle.sections.specs.Calls.{IsNoCookie}
 use Rattle.scan.specs.declared.progress.Progress.{Progress}
 use Rattle.scan.specs.declared.progress.StartRefusal.{StartRefusal}
@@ -11,12 +13,12 @@ use Rattle.sseq.specs.declared.index.Index.{Index}
 use Rattle.solo.specs.Calls.{SoloView, Begins, Ends, IsReadingAt, Asks, Starts, StartsNone}
 use Rattle.session.specs.declared.names.Token.{Token}
 use Rattle.session.specs.declared.names.Token.TheVariants as token
-use Rattle.session.specs.Tokens.{token_at, Frees}
+use Rattle.session.specs.Tokens.{token_at, open_index, Frees}
 use Rattle.session.specs.Parkings.{ParkingView}
 use Rattle.session.specs.States.{is_parked}
 use Rattle.session.specs.Entries.{IsTokenOf, IsReadingOf, AreOf, AreTogether, desk_of, tokens_with}
 use Rattle.session.proofs.Quiet.{GoesOnQuietly}
-use Rattle.session.proofs.Holding.{Sort, Any, as_token, reading_as, held_on, held_same, held_polled, held_started, held_look, held_begun, token_of, held_without_look, held_ended, held_moved, held_moved_back}
+use Rattle.session.proofs.Holding.{Sort, Any, as_token, reading_as, IsThere, held_kept, held_on, held_polled, held_started, held_more_unopened, held_begun, token_of, held_less_unopened, held_ended, held_moved, held_moved_back}
 use Rattle.session.proofs.Parked.{Named, IsApart, with_push, apart_push, with_moved, apart_gone}
 
 some_case : (parked : Option Named) (r : ReadingView) → option_map (λ (q : Named). q.1) parked ≡ Some r → (name : List ℕ) × (parked ≡ Some (name, r))
@@ -27,80 +29,85 @@ none_case : (parked : Option Named) → option_map (λ (q : Named). q.1) parked 
 none_case None none = refl
 none_case (Some q) none = absurd cc
 
-module _ (d : SoloView) (tokens : List (List ℕ × Token)) (p : ParkingView) (h : AreTogether d tokens p) where
+module _ {A : Type 0} (d : SoloView) (tokens : List (List ℕ × Token A)) (p : ParkingView) (h : AreTogether d tokens p) where
   -- tokens that stay
 
-  module _ (d' : SoloView) (table : d'.table ≡ d.table) where
-    stays : AreOf d'.table d'.standing (tokens_with p.parked tokens) → AreTogether d' tokens p
-    stays held = record { all = held; desk = h.desk ∙ sym table; apart = h.apart }
+  module _ (d' : SoloView) where
+    stays : d'.table ≡ d.table → AreOf d' (tokens_with p.parked tokens) → AreTogether d' tokens p
+    stays table held = record { all = held; desk = h.desk ∙ sym table; apart = h.apart }
 
-  pub together_on : (d' : SoloView) → d'.table ≡ d.table → GoesOnQuietly d.standing d'.standing → AreTogether d' tokens p
-  together_on d' same on = stays d' same (held_on d d' (tokens_with p.parked tokens) h.all same on)
+    pub together_same : d' ≡ d → AreTogether d' tokens p
+    together_same same = subst (λ x. AreTogether x tokens p) (sym same) h
 
-  pub together_polled : {E : Type 0} (d' : SoloView) (q cookie : ℕ) (r : Result Bool E) → d'.table ≡ d.table → MatchResult r (λ done. Asks q cookie done d.standing d'.standing) (λ _. IsNoCookie cookie × (d' ≡ d)) → AreTogether d' tokens p
-  together_polled d' q cookie r same asks = stays d' same (held_polled d d' (tokens_with p.parked tokens) h.all q cookie r same asks)
+    pub together_kept : IsThere d d' → d'.standing ≡ d.standing → AreTogether d' tokens p
+    together_kept there same = stays there.0 (held_kept d d' (tokens_with p.parked tokens) h.all there same)
 
-  pub together_started : (d' : SoloView) (r : Result ℕ StartRefusal) → d'.table ≡ d.table → MatchResult r (λ n. Starts n d.standing d'.standing) (λ e. StartsNone e d.standing × (d' ≡ d)) → AreTogether d' tokens p
-  together_started d' r same starts = stays d' same (held_started d d' (tokens_with p.parked tokens) h.all r same starts)
+    pub together_on : IsThere d d' → GoesOnQuietly d.standing d'.standing → AreTogether d' tokens p
+    together_on there on = stays there.0 (held_on d d' (tokens_with p.parked tokens) h.all there on)
 
-  -- what the engine did, or nothing
-  pub together_worked : {E : Type 0} (d' : SoloView) (work : Progress → Standing → Standing → Type 0) (Refused : Type 0) (r : Result Progress E) → ((a : Progress) → work a d.standing d'.standing → GoesOnQuietly d.standing d'.standing)
-      → d'.table ≡ d.table → MatchResult r (λ a. work a d.standing d'.standing) (λ _. Refused × (d' ≡ d)) → AreTogether d' tokens p
-  together_worked d' work Refused (Ok a) quietly same worked = together_on d' same (quietly a worked)
-  together_worked d' work Refused (Err e) quietly same none = stays d' same (held_same d d' (tokens_with p.parked tokens) h.all none.1)
+    pub together_polled : {E : Type 0} (q cookie : ℕ) (r : Result Bool E) → IsThere d d' → MatchResult r (λ done. Asks q cookie done d.standing d'.standing) (λ _. IsNoCookie cookie × (d' ≡ d)) → AreTogether d' tokens p
+    together_polled q cookie r there asks = stays there.0 (held_polled d d' (tokens_with p.parked tokens) h.all q cookie r there asks)
+
+    pub together_started : (r : Result ℕ StartRefusal) → IsThere d d' → MatchResult r (λ n. Starts n d.standing d'.standing) (λ e. StartsNone e d.standing × (d' ≡ d)) → AreTogether d' tokens p
+    together_started r there starts = stays there.0 (held_started d d' (tokens_with p.parked tokens) h.all r there starts)
+
+    -- what the engine did, or nothing
+    pub together_worked : {E : Type 0} (work : Progress → Standing → Standing → Type 0) (Refused : Type 0) (r : Result Progress E) → ((a : Progress) → work a d.standing d'.standing → GoesOnQuietly d.standing d'.standing)
+        → IsThere d d' → MatchResult r (λ a. work a d.standing d'.standing) (λ _. Refused × (d' ≡ d)) → AreTogether d' tokens p
+    together_worked work Refused (Ok a) quietly there worked = together_on there (quietly a worked)
+    together_worked work Refused (Err e) quietly there none = together_same none.1
 
   -- a token that comes
 
   module _ (name : List ℕ) (free : is_parked name (desk_of p.parked) ≡ false) where
-    pub together_look : (l : LookView) → l.domain ≡ d.table → AreTogether d (tokens ++ (name, token.Look l) ∷ []) p
-    together_look l is = record {
-      all = subst (AreOf d.table d.standing) (sym (with_push p.parked tokens (name, token.Look l))) (held_look d.table d.standing (tokens_with p.parked tokens) name l h.all is);
+    -- it is no open section
+    pub together_with : (t : Token A) → IsTokenOf d t → open_index t ≡ None → AreTogether d (tokens ++ (name, t) ∷ []) p
+    together_with t is none = record {
+      all = subst (AreOf d) (sym (with_push p.parked tokens (name, t))) (held_more_unopened d (tokens_with p.parked tokens) name t h.all is none);
       desk = h.desk;
-      apart = apart_push p.parked tokens name (token.Look l) free h.apart;
+      apart = apart_push p.parked tokens name t free h.apart;
     }
 
-    pub together_begun : (sort : Sort) (d' : SoloView) (q : ℕ) (i : Index) (r : ReadingView) → d'.table ≡ d.table → q < d.standing.processors → Begins d.limits q i r.section d.standing d'.standing → IsReadingAt d.table q i r
+    pub together_begun : (sort : Sort) (d' : SoloView) (q : ℕ) (i : Index) (r : ReadingView) → IsThere d d' → q < d.standing.processors → Begins d.limits q i r.section d.standing d'.standing → IsReadingAt d.table q i r
         → AreTogether d' (tokens ++ (name, as_token sort r) ∷ []) p
-    together_begun sort d' q i r same small begins is = record {
-      all = subst (λ table. AreOf table d'.standing (tokens_with p.parked (tokens ++ (name, as_token sort r) ∷ []))) (sym same)
-          (subst (AreOf d.table d'.standing) (sym (with_push p.parked tokens (name, as_token sort r)))
-          (held_begun sort d.limits d.table q i d.standing d'.standing (tokens_with p.parked tokens) name r h.all small begins is));
-      desk = h.desk ∙ sym same;
+    together_begun sort d' q i r there small begins is = record {
+      all = subst (AreOf d') (sym (with_push p.parked tokens (name, as_token sort r))) (held_begun sort d.limits q i d d' (tokens_with p.parked tokens) name r h.all there small begins is);
+      desk = h.desk ∙ sym there.0;
       apart = apart_push p.parked tokens name (as_token sort r) free h.apart;
     }
 
   -- a token that goes
 
-  module _ (name stored : List ℕ) (rest : List (List ℕ × Token)) (frees : Frees name tokens rest) where
-    module _ (t : Token) (moves : IsPermutation tokens ((stored, t) ∷ rest)) where
+  module _ (name stored : List ℕ) (rest : List (List ℕ × Token A)) (frees : Frees name tokens rest) where
+    module _ (t : Token A) (moves : IsPermutation tokens ((stored, t) ∷ rest)) where
       all_move : IsPermutation (tokens_with p.parked tokens) ((stored, t) ∷ tokens_with p.parked rest)
       all_move = with_moved p.parked tokens rest (stored, t) moves
 
-      pub it_is_of : IsTokenOf d.table d.standing t
-      it_is_of = token_of d.table d.standing (tokens_with p.parked tokens) (tokens_with p.parked rest) stored h.all t all_move
+      pub it_is_of : IsTokenOf d t
+      it_is_of = token_of d (tokens_with p.parked tokens) (tokens_with p.parked rest) stored h.all t all_move
+
+      -- it is no open section
+      pub together_without : open_index t ≡ None → AreTogether d rest p
+      together_without none = record {
+        all = held_less_unopened d (tokens_with p.parked tokens) (tokens_with p.parked rest) stored h.all t all_move none;
+        desk = h.desk;
+        apart = apart_gone p.parked tokens rest name frees h.apart;
+      }
 
     pub reading_is_of : (sort : Sort) (r : ReadingView) → IsPermutation tokens ((stored, as_token sort r) ∷ rest) → IsReadingOf d.table d.standing r
-    reading_is_of sort r moves = reading_as sort d.table d.standing r (it_is_of (as_token sort r) moves)
+    reading_is_of sort r moves = reading_as A sort d r (it_is_of (as_token sort r) moves)
 
-    pub together_without_look : (l : LookView) → IsPermutation tokens ((stored, token.Look l) ∷ rest) → AreTogether d rest p
-    together_without_look l moves = record {
-      all = held_without_look d.table d.standing (tokens_with p.parked tokens) (tokens_with p.parked rest) stored h.all l (all_move (token.Look l) moves);
-      desk = h.desk;
-      apart = apart_gone p.parked tokens rest name frees h.apart;
-    }
-
-    pub together_ended : (sort : Sort) (d' : SoloView) (q : ℕ) (r : ReadingView) → d'.table ≡ d.table → IsPermutation tokens ((stored, as_token sort r) ∷ rest) → Ends r.section q d.standing d'.standing → AreTogether d' rest p
-    together_ended sort d' q r same moves ends = record {
-      all = subst (λ table. AreOf table d'.standing (tokens_with p.parked rest)) (sym same)
-          (held_ended d.table d.standing (tokens_with p.parked tokens) (tokens_with p.parked rest) stored h.all sort q r d'.standing (all_move (as_token sort r) moves) ends);
-      desk = h.desk ∙ sym same;
+    pub together_ended : (sort : Sort) (d' : SoloView) (q : ℕ) (r : ReadingView) → IsThere d d' → IsPermutation tokens ((stored, as_token sort r) ∷ rest) → Ends r.section q d.standing d'.standing → AreTogether d' rest p
+    together_ended sort d' q r there moves ends = record {
+      all = held_ended d (tokens_with p.parked tokens) (tokens_with p.parked rest) stored h.all sort q r d' (all_move (as_token sort r) moves) there ends;
+      desk = h.desk ∙ sym there.0;
       apart = apart_gone p.parked tokens rest name frees h.apart;
     }
 
     -- it goes to the desk
     pub together_parked : (r : ReadingView) → p.parked ≡ None → IsPermutation tokens ((stored, token.Held r) ∷ rest) → AreTogether d rest (record p { parked = Some (name, r) })
     together_parked r none moves = record {
-      all = held_moved d.table d.standing tokens rest stored name (token.Held r) (subst (λ o. AreOf d.table d.standing (tokens_with o tokens)) none h.all) moves;
+      all = held_moved d tokens rest stored name (token.Held r) (subst (λ o. AreOf d (tokens_with o tokens)) none h.all) moves;
       desk = h.desk;
       apart = frees.here;
     }
@@ -108,7 +115,7 @@ module _ (d : SoloView) (tokens : List (List ℕ × Token)) (p : ParkingView) (h
   -- it comes from the desk
   pub together_unparked : (q : Named) → p.parked ≡ Some q → AreTogether d (tokens ++ (q.0, token.Held q.1) ∷ []) (record p { parked = None })
   together_unparked q there = record {
-    all = held_moved_back d.table d.standing tokens (q.0, token.Held q.1) (subst (λ o. AreOf d.table d.standing (tokens_with o tokens)) there h.all);
+    all = held_moved_back d tokens (q.0, token.Held q.1) (subst (λ o. AreOf d (tokens_with o tokens)) there h.all);
     desk = h.desk;
     apart = tt;
   }
@@ -119,21 +126,31 @@ module _ (d : SoloView) (tokens : List (List ℕ × Token)) (p : ParkingView) (h
   -- The desk is closed
 
   module _ (r : ReadingView) (lay : option_map (λ (q : Named). q.1) p.parked ≡ Some r) where
-    all_are : AreOf d.table d.standing (((some_case p.parked r lay).0, token.Held r) ∷ tokens)
-    all_are = subst (λ o. AreOf d.table d.standing (tokens_with o tokens)) (some_case p.parked r lay).1 h.all
+    all_are : AreOf d (((some_case p.parked r lay).0, token.Held r) ∷ tokens)
+    all_are = subst (λ o. AreOf d (tokens_with o tokens)) (some_case p.parked r lay).1 h.all
 
     pub parked_is_of : IsReadingOf d.table d.standing r
     parked_is_of =
         let stored = (some_case p.parked r lay).0 in
-        token_of d.table d.standing ((stored, token.Held r) ∷ tokens) tokens stored all_are (token.Held r) (IsPermutation-refl ((stored, token.Held r) ∷ tokens))
+        token_of d ((stored, token.Held r) ∷ tokens) tokens stored all_are (token.Held r) (IsPermutation-refl ((stored, token.Held r) ∷ tokens))
 
     -- the section that lay there then ends
-    pub held_without_parked : (d' : SoloView) (q : ℕ) → d'.table ≡ d.table → Ends r.section q d.standing d'.standing → AreOf d'.table d'.standing tokens
-    held_without_parked d' q same ends =
+    pub held_without_parked : (d' : SoloView) (q : ℕ) → IsThere d d' → Ends r.section q d.standing d'.standing → AreOf d' tokens
+    held_without_parked d' q there ends =
         let stored = (some_case p.parked r lay).0 in
-        subst (λ table. AreOf table d'.standing tokens) (sym same)
-        (held_ended d.table d.standing ((stored, token.Held r) ∷ tokens) tokens stored all_are Any q r d'.standing (IsPermutation-refl ((stored, token.Held r) ∷ tokens)) ends)
+        held_ended d ((stored, token.Held r) ∷ tokens) tokens stored all_are Any q r d' (IsPermutation-refl ((stored, token.Held r) ∷ tokens)) there ends
 
   -- nothing lay there
-  pub held_without_desk : option_map (λ (q : Named). q.1) p.parked ≡ None → AreOf d.table d.standing tokens
-  held_without_desk none = subst (λ o. AreOf d.table d.standing (tokens_with o tokens)) (none_case p.parked none) h.all
+  pub held_without_desk : option_map (λ (q : Named). q.1) p.parked ≡ None → AreOf d tokens
+  held_without_desk none = subst (λ o. AreOf d (tokens_with o tokens)) (none_case p.parked none) h.all
+
+-- what holds of all tokens holds of those under names
+pub each_named : {A : Type 0} (P : List ℕ × Token A → Type 0) (parked : Option Named) (tokens : List (List ℕ × Token A)) → All P (tokens_with parked tokens) → All P tokens
+each_named P None tokens h = h
+each_named P (Some q) tokens h = All-tail P (q.0, token.Held q.1) tokens h
+
+-- what has a name is of this domain
+pub named_is_of : {A : Type 0} (d : SoloView) (tokens : List (List ℕ × Token A)) (p : ParkingView) → AreTogether d tokens p → (name : List ℕ) (t : Token A) → token_at name tokens ≡ Some t → IsTokenOf d t
+named_is_of d tokens p h name t there =
+    let each = each_named (λ (x : List ℕ × Token _). IsTokenOf d x.1) p.parked tokens h.all.each in
+    subst (λ o. IfSome o (IsTokenOf d)) there (All-lookup (IsTokenOf d) (bytes_eq name) tokens each)

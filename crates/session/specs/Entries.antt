@@ -6,45 +6,19 @@ use Rattle.onedom.specs.Histories.{begins_of, index_of, IsLegal}
 use Rattle.sections.specs.Views.{ReadingView}
 use Rattle.scan.specs.Standings.{Standing}
 use Rattle.solo.specs.Calls.{SoloView, IsOf}
+use Rattle.solo.specs.Barriers.{IsTicketOf}
 use Rattle.session.specs.declared.names.Token.{Token}
 use Rattle.session.specs.declared.names.Token.TheVariants as token
 use Rattle.session.specs.declared.entry.Entry.TheInside as entry
 use Rattle.session.specs.OpenSections.{open_of}
-use Rattle.session.specs.Tokens.{token_at, held_of}
+use Rattle.session.specs.Tokens.{token_at, open_index, held_of}
 use Rattle.session.specs.Parkings.{ParkingView}
 use Rattle.session.specs.JobLists.{JobsView, jobs_of, AreJobsOf}
-use Rattle.session.specs.States.{Bearer, Look, Reading, Held, Parked, Names, DomainState, EntryView}
-
-abbrev pub bearer_of : Token → Bearer
-bearer_of (token.Look l) = Look l.index
-bearer_of (token.Reading r) = Reading r.section r.processor
-bearer_of (token.Held h) = Held h.section
-
-abbrev pub names_of : List (List ℕ × Token) → Names
-names_of tokens = map (λ t. (t.0, bearer_of t.1)) tokens
+use Rattle.session.specs.States.{Bearer, Look, Reading, Held, Ticket, Parked, Names, DomainState, EntryView}
 
 -- what lies on the desk
 abbrev pub desk_of : Option (List ℕ × ReadingView) → Option Parked
 desk_of parked = option_map (λ p. record { name = p.0; section = p.1.section }) parked
-
-abbrev pub state_with : List ℕ → List (List ℕ × Token) → Option (List ℕ × ReadingView) → List JobsView → SoloView → DomainState
-state_with name tokens parked jobs d = record {
-  name = name;
-  names = names_of tokens;
-  desk = desk_of parked;
-  asked = d.asked;
-  standing = d.standing;
-  queued = d.queued;
-  jobs = map jobs_of jobs;
-}
-
-abbrev pub entry_with : List ℕ → List (List ℕ × Token) → Option (List ℕ × ReadingView) → List JobsView → SoloView → EntryView
-entry_with name tokens parked jobs d = record { limits = d.limits; state = state_with name tokens parked jobs d }
-
--- all tokens: those under names, and the section that is parked
-abbrev pub tokens_with : Option (List ℕ × ReadingView) → List (List ℕ × Token) → List (List ℕ × Token)
-tokens_with None tokens = tokens
-tokens_with (Some p) tokens = (p.0, token.Held p.1) ∷ tokens
 
 -- the reading is of a section of this domain, and has its index
 pub record IsReadingOf (table : TableId) (s : Standing) (r : ReadingView) : Type 0 where
@@ -52,25 +26,65 @@ pub record IsReadingOf (table : TableId) (s : Standing) (r : ReadingView) : Type
   pub begun : 0 < begins_of r.section s.history
   pub index : index_of r.section s.history ≡ r.index
 
--- the token is of this domain
-abbrev pub IsTokenOf : TableId → Standing → Token → Type 0
-IsTokenOf table s (token.Look l) = l.domain ≡ table
-IsTokenOf table s (token.Reading r) = IsReadingOf table s r
-IsTokenOf table s (token.Held h) = IsReadingOf table s h
-
--- all tokens are of the domain, and as many of them are open sections of an index as sections of it are open
-pub record AreOf (table : TableId) (s : Standing) (tokens : List (List ℕ × Token)) : Type 0 where
-  pub legal : IsLegal s.history
-  pub each : All (λ (t : List ℕ × Token). IsTokenOf table s t.1) tokens
-  pub counted : (i : Index) → held_of i tokens ≡ open_of i s.history
-
--- a domain, the tokens under names there, and its desk: that is of this domain, and the name of what lies there is no other token's
-pub record AreTogether (d : SoloView) (tokens : List (List ℕ × Token)) (p : ParkingView) : Type 0 where
-  pub all : AreOf d.table d.standing (tokens_with p.parked tokens)
-  pub desk : p.domain ≡ d.table
-  pub apart : IfSome p.parked (λ named. token_at named.0 tokens ≡ None)
-
 module _ {A : Type 0} where
+  abbrev pub bearer_of : Token A → Bearer
+  bearer_of (token.Look l) = Look l.index
+  bearer_of (token.Reading r) = Reading r.section r.processor
+  bearer_of (token.Held h) = Held h.section
+  bearer_of (token.Ticket t) = Ticket t.numbers
+
+  abbrev pub names_of : List (List ℕ × Token A) → Names
+  names_of tokens = map (λ t. (t.0, bearer_of t.1)) tokens
+
+  abbrev pub state_with : List ℕ → List (List ℕ × Token A) → Option (List ℕ × ReadingView) → List JobsView → SoloView → DomainState
+  state_with name tokens parked jobs d = record {
+    name = name;
+    names = names_of tokens;
+    desk = desk_of parked;
+    asked = d.asked;
+    standing = d.standing;
+    queued = d.queued;
+    finished = d.finished;
+    jobs = map jobs_of jobs;
+  }
+
+  abbrev pub entry_with : List ℕ → List (List ℕ × Token A) → Option (List ℕ × ReadingView) → List JobsView → SoloView → EntryView
+  entry_with name tokens parked jobs d = record { limits = d.limits; state = state_with name tokens parked jobs d }
+
+  -- all tokens: those under names, and the section that is parked
+  abbrev pub tokens_with : Option (List ℕ × ReadingView) → List (List ℕ × Token A) → List (List ℕ × Token A)
+  tokens_with None tokens = tokens
+  tokens_with (Some p) tokens = (p.0, token.Held p.1) ∷ tokens
+
+  -- the token is of this domain
+  abbrev pub IsTokenOf : SoloView → Token A → Type 0
+  IsTokenOf d (token.Look l) = l.domain ≡ d.table
+  IsTokenOf d (token.Reading r) = IsReadingOf d.table d.standing r
+  IsTokenOf d (token.Held h) = IsReadingOf d.table d.standing h
+  IsTokenOf d (token.Ticket t) = IsTicketOf d t
+
+  -- all tokens are of the domain, and as many of them are open sections of an index as sections of it are open
+  pub record AreOf (d : SoloView) (tokens : List (List ℕ × Token A)) : Type 0 where
+    pub legal : IsLegal d.standing.history
+    pub each : All (λ (t : List ℕ × Token A). IsTokenOf d t.1) tokens
+    pub counted : (i : Index) → held_of i tokens ≡ open_of i d.standing.history
+
+  -- a domain, the tokens under names there, and its desk: that is of this domain, and the name of what lies there is no other token's
+  pub record AreTogether (d : SoloView) (tokens : List (List ℕ × Token A)) (p : ParkingView) : Type 0 where
+    pub all : AreOf d (tokens_with p.parked tokens)
+    pub desk : p.domain ≡ d.table
+    pub apart : IfSome p.parked (λ named. token_at named.0 tokens ≡ None)
+
+  -- no token is an open section
+  abbrev pub AreClosed : List (List ℕ × Token A) → Type 0
+  AreClosed tokens = All (λ (t : List ℕ × Token A). open_index t.1 ≡ None) tokens
+
+  -- nothing is left that has to be spent: no token is an open section, nothing is parked, and no batch is out
+  pub record AreSpent (tokens : List (List ℕ × Token A)) (p : ParkingView) (jobs : List JobsView) : Type 0 where
+    pub closed : AreClosed tokens
+    pub empty : p.parked ≡ None
+    pub finished : All (λ j. j.out ≡ None) jobs
+
   abbrev pub view_of_entry : entry.Inside A → EntryView
   view_of_entry e = entry_with e.name e.names.tokens e.parking.parked e.jobs.items e.domain
 

@@ -16,7 +16,7 @@ use Rattle.session.specs.Parkings.{ParkingView}
 use Rattle.session.specs.JobLists.{JobsView}
 
 module _ {A : Type 0} where
-  abbrev pub view_of_names : names.Inside A → NamesView
+  abbrev pub view_of_names : names.Inside A → NamesView A
   view_of_names n = record { tokens = n.tokens.entries; room = spare n.tokens }
 
   -- the counts are those of the tokens

@@ -1,5 +1,5 @@
 -- What a line of a script means: which reply it gets, and what it changes.
-use Rattle.std.specs.Prelude.{◌≡◌, ℕ, ◌+◌, ◌*◌, ◌%◌, ◌<◌, ◌≤◌, Bool, true, false, List, [], ◌∷◌, ◌++◌, length, replicate, Option, Some, None, max, slice_get, slice_set, if◌then◌else◌, ◌⊎◌}
+use Rattle.std.specs.Prelude.{◌≡◌, ℕ, ◌+◌, ◌*◌, ◌%◌, ◌<◌, ◌≤◌, Bool, true, false, MatchBool, List, [], ◌∷◌, ◌++◌, length, replicate, Option, Some, None, max, sum, slice_get, slice_index, slice_set, remove, if◌then◌else◌, ◌⊎◌}
 use Rattle.sseq.specs.declared.index.Index.{Index}
 use Rattle.sseq.specs.declared.index.Index.TheVariants.{Zero, One}
 use Rattle.sseq.specs.declared.number.Phase.{Phase}
@@ -7,7 +7,9 @@ use Rattle.sseq.specs.Numbers.{state_bits}
 use Rattle.sections.specs.declared.limits.Limits.{Limits}
 use Rattle.sections.specs.Calls.{IsNoCookie}
 use Rattle.sections.specs.Making.{IsCount}
-use Rattle.onedom.specs.Histories.{ended_in}
+use Rattle.sections.specs.Words.{opened_in, closed_in}
+use Rattle.onedom.specs.Histories.{ended_in, IsRunning}
+use Rattle.domain.specs.Cleanup.{open_count}
 use Rattle.calls.specs.Tallies.{most_calls}
 use Rattle.scan.specs.declared.progress.Progress.{Progress}
 use Rattle.scan.specs.declared.progress.Progress.TheVariants as progress
@@ -15,13 +17,14 @@ use Rattle.scan.specs.declared.progress.StartRefusal.{StartRefusal}
 use Rattle.scan.specs.declared.progress.StartRefusal.TheVariants as refusal
 use Rattle.scan.specs.Standings.{Standing, index_now}
 use Rattle.solo.specs.Calls.{new_standing, Begins, IsOutOfSections, Ends, GivesCookie, Asks as AsksIfDone, ReadsNumber, Starts, StartsNone, Steps, Advances, IsAskedTooMuch}
+use Rattle.solo.specs.Barriers.{AreReached}
 use Rattle.lines.specs.Lines.{words_of}
 use Rattle.requests.specs.declared.fault.Fault.{Fault}
 use Rattle.requests.specs.declared.fault.Fault.TheVariants.{Text}
 use Rattle.requests.specs.declared.command.Command.{Command}
 use Rattle.requests.specs.declared.command.Command.TheVariants as command
 use Rattle.requests.specs.declared.cause.Cause.{Cause}
-use Rattle.requests.specs.declared.cause.Cause.TheVariants.{Full, Empty, Processors, Memory, Exhausted, Running, NotACookie, Invoking, NoBatch}
+use Rattle.requests.specs.declared.cause.Cause.TheVariants.{Full, Empty, Processors, Memory, Exhausted, Running, NotACookie, Invoking, NoBatch, Sections, Period, Callbacks}
 use Rattle.requests.specs.declared.request.Act.{Act}
 use Rattle.requests.specs.declared.request.Act.TheVariants as act
 use Rattle.requests.specs.declared.request.Request.{Request}
@@ -34,7 +37,7 @@ use Rattle.requests.specs.Requests.{Asks}
 use Rattle.requests.specs.Replies.{reply_text}
 use Rattle.session.specs.OpenSections.{open_of}
 use Rattle.session.specs.declared.jobs.Job.{Job}
-use Rattle.session.specs.States.{State, DomainState, Bearer, Look, Reading, Held, Parked, Jobs, Becomes, AreTaken, bearer_at, names_of_jobs, scene_of}
+use Rattle.session.specs.States.{State, DomainState, Bearer, Look, Reading, Held, Ticket, Parked, Batch, Jobs, Becomes, AreTaken, bearer_at, names_of_jobs, scene_of}
 
 -- What one domain does
 
@@ -178,38 +181,42 @@ Calls p name d r d' = Queues p name d r d'
     ⊎ (slice_get d.queued p ≡ Some most_calls) × IsRefused command.Call Exhausted d r d'
     ⊎ (cookie : ℕ) × GivesCookie p cookie d.standing d'.standing × Replies (reply.Refused command.Call Memory) d r d'
 
--- no batch of the processor was out. It asks how far the grace periods have come, and these jobs leave, for which they have come far enough; `out` is out then. A list stands behind a lock, so it isn't said which of those that are due leave
-pub record Takes (p : ℕ) (taken : List Job) (out : Option (List (List ℕ))) (d d' : DomainState) : Type 0 where
+-- no batch of the processor was out. It asks how far the grace periods have come, and so many jobs leave, for which they have come far enough, these among them; `out` is out then, and so many are `finished`. A list stands behind a lock, so it isn't said which of those that are due leave
+pub record Takes (p count : ℕ) (taken : List Job) (out : Option Batch) (finished : List ℕ) (d d' : DomainState) : Type 0 where
   pub jobs : Jobs
   pub waiting : List Job
   pub there : slice_get d.jobs p ≡ Some jobs
   pub none_out : jobs.out ≡ None
   pub asks : AsksIfDone p (4 * ended_in d.standing.history) true d.standing d'.standing
-  pub leave : AreTaken (4 * ended_in d.standing.history) taken jobs.waiting waiting
-  pub rest : d' ≡ record d { standing = d'.standing; jobs = slice_set d.jobs p (record { waiting = waiting; out = out }) }
+  pub leave : AreTaken (4 * ended_in d.standing.history) count taken jobs.waiting waiting
+  pub rest : d' ≡ record d { standing = d'.standing; finished = finished; jobs = slice_set d.jobs p (record { waiting = waiting; out = out }) }
+
+-- so many jobs more of the processor are finished
+abbrev pub with_finished : ℕ → ℕ → List ℕ → List ℕ
+with_finished p count finished = slice_set finished p (slice_index finished p + count)
 
 -- what was taken is finished at once. Refused where a batch is out, and nothing is done
 abbrev pub Runs : ℕ → DomainState → Reply → DomainState → Type 0
-Runs p d r d' = ((taken : List Job) × Takes p taken None d d' × (r ≡ reply.Ran (names_of_jobs taken)))
+Runs p d r d' = ((count : ℕ) × (taken : List Job) × Takes p count taken None (with_finished p count d.finished) d d' × (r ≡ reply.Ran (names_of_jobs taken)))
     ⊎ IsRefused command.Run Invoking d r d'
 
--- these jobs are a batch that is out; without a job none needs to be
-abbrev pub AreOut : List Job → Option (List (List ℕ)) → Type 0
-AreOut taken out = (out ≡ Some (names_of_jobs taken)) ⊎ (taken ≡ []) × (out ≡ None)
+-- so many jobs are a batch that is out, these among them; without a job none is
+abbrev pub AreOut : ℕ → List Job → Option Batch → Type 0
+AreOut count taken out = (0 < count) × (out ≡ Some (record { count = count; names = names_of_jobs taken })) ⊎ (count ≡ 0) × (out ≡ None)
 
 -- what was taken stays out. Refused where a batch is out, and nothing is done
 abbrev pub TakesOut : ℕ → DomainState → Reply → DomainState → Type 0
-TakesOut p d r d' = ((taken : List Job) × (out : Option (List (List ℕ))) × Takes p taken out d d' × AreOut taken out × (r ≡ reply.TookJobs (names_of_jobs taken)))
+TakesOut p d r d' = ((count : ℕ) × (taken : List Job) × (out : Option Batch) × Takes p count taken out d.finished d d' × AreOut count taken out × (r ≡ reply.TookJobs (names_of_jobs taken)))
     ⊎ IsRefused command.Batch Invoking d r d'
 
--- the batch of the processor that is out is over
+-- the batch of the processor that is out is over, and its jobs are finished
 pub record IsOver (p : ℕ) (d : DomainState) (r : Reply) (d' : DomainState) : Type 0 where
   pub jobs : Jobs
-  pub names : List (List ℕ)
+  pub batch : Batch
   pub there : slice_get d.jobs p ≡ Some jobs
-  pub out : jobs.out ≡ Some names
-  pub rest : d' ≡ record d { jobs = slice_set d.jobs p (record jobs { out = None }) }
-  pub reply : r ≡ reply.Finished (length names)
+  pub out : jobs.out ≡ Some batch
+  pub rest : d' ≡ record d { finished = with_finished p batch.count d.finished; jobs = slice_set d.jobs p (record jobs { out = None }) }
+  pub reply : r ≡ reply.Finished batch.count
 
 abbrev pub Finishes : ℕ → DomainState → Reply → DomainState → Type 0
 Finishes p d r d' = IsOver p d r d'
@@ -218,6 +225,24 @@ Finishes p d r d' = IsOver p d r d'
 -- how the jobs of the processor wait. A list stands behind a lock, so it isn't said which counts those are
 abbrev pub ShowsSegments : DomainState → Reply → DomainState → Type 0
 ShowsSegments d r d' = (d' ≡ d) × ((segments : Segments) × (r ≡ reply.Segs segments)) ⊎ IsRefused command.Segs Memory d r d'
+
+-- a ticket has the name, which waits for all jobs that are queued now
+pub record GivesTicket (name : List ℕ) (d : DomainState) (r : Reply) (d' : DomainState) : Type 0 where
+  pub names : Becomes name (Some (Ticket d.queued)) d.names d'.names
+  pub rest : d' ≡ record d { names = d'.names }
+  pub reply : r ≡ reply.Ticket
+
+abbrev pub StartsBarrier : List ℕ → DomainState → Reply → DomainState → Type 0
+StartsBarrier name d r d' = GivesTicket name d r d' ⊎ IsRefused command.Barrier Memory d r d'
+
+-- the ticket of this name is done where of each processor as many jobs are finished as it waits for. Nothing is done
+pub record PollsBarrier (name : List ℕ) (d : DomainState) (r : Reply) (d' : DomainState) : Type 0 where
+  pub numbers : List ℕ
+  pub there : bearer_at name d.names ≡ Some (Ticket numbers)
+  pub done : Bool
+  pub reached : MatchBool done (AreReached numbers d.finished) (¬ AreReached numbers d.finished)
+  pub after : d' ≡ d
+  pub reply : r ≡ (if done then reply.Done else reply.NotYet)
 
 -- what an act does to the domain, and its reply
 abbrev pub Does : Limits → Act → DomainState → Reply → DomainState → Type 0
@@ -243,6 +268,8 @@ Does limits (act.Run p) d r d' = Runs p d r d'
 Does limits (act.Batch p) d r d' = TakesOut p d r d'
 Does limits (act.Finish p) d r d' = Finishes p d r d'
 Does limits (act.Segs p) d r d' = ShowsSegments d r d'
+Does limits (act.Barrier p name) d r d' = StartsBarrier name d r d'
+Does limits (act.BarrierPoll p name) d r d' = PollsBarrier name d r d'
 
 -- What a script does
 
@@ -263,6 +290,7 @@ new_domain limits name processors = record {
   asked = 0;
   standing = new_standing limits processors;
   queued = replicate processors 0;
+  finished = replicate processors 0;
   jobs = replicate processors no_jobs;
 }
 
@@ -280,10 +308,45 @@ pub record MakesNone (state : State) (processors : ℕ) (r : Reply) (state' : St
       ⊎ (length state < 8) × (¬ IsCount processors) × (r ≡ reply.Refused command.Domain Processors)
       ⊎ (length state < 8) × IsCount processors × (r ≡ reply.Refused command.Domain Memory)
 
+-- no section of the domain is open, no grace period runs, and all jobs that were queued are finished. So many sections ever began there, and so many ended
+pub record IsTakenDown (d : DomainState) (opened closed : ℕ) : Type 0 where
+  pub none_open : open_count d.standing.history ≡ 0
+  pub rests : ¬ IsRunning d.standing.history
+  pub run : sum d.queued ≡ sum d.finished
+  pub opened_are : opened ≡ opened_in d.standing.history
+  pub closed_are : closed ≡ closed_in d.standing.history
+
+-- why a domain is in use: the first cause that holds
+abbrev pub IsInUse : DomainState → Cause → Type 0
+IsInUse d (Sections n) = (n ≡ open_count d.standing.history) × (0 < n)
+IsInUse d Period = (open_count d.standing.history ≡ 0) × IsRunning d.standing.history
+IsInUse d (Callbacks n) = (open_count d.standing.history ≡ 0) × (¬ IsRunning d.standing.history) × (sum d.queued ≡ sum d.finished + n) × (0 < n)
+IsInUse d other = ⊥
+
+-- the domain at the place isn't in use, and goes, with all names there. The others stay in their order
+pub record CleansUp (state : State) (place : ℕ) (r : Reply) (state' : State) : Type 0 where
+  pub domain : DomainState
+  pub opened : ℕ
+  pub closed : ℕ
+  pub there : slice_get state place ≡ Some domain
+  pub taken_down : IsTakenDown domain opened closed
+  pub gone : state' ≡ remove state place
+  pub reply : r ≡ reply.Cleaned opened closed
+
+-- it is in use for this cause, and nothing is done
+pub record CleansNone (state : State) (place : ℕ) (r : Reply) (state' : State) : Type 0 where
+  pub domain : DomainState
+  pub there : slice_get state place ≡ Some domain
+  pub cause : Cause
+  pub in_use : IsInUse domain cause
+  pub after : state' ≡ state
+  pub reply : r ≡ reply.Refused command.Cleanup cause
+
 -- the reply to what was asked, and the state behind it
 abbrev pub Answers : Limits → State → Request → Reply → State → Type 0
 Answers limits state (request.Domain name processors) r state' = Makes limits state name processors r state' ⊎ MakesNone state processors r state'
 Answers limits state (request.On place what) r state' = (d d' : DomainState) × GoesOn state place d d' state' × Does limits what d r d'
+Answers limits state (request.Cleanup place) r state' = CleansUp state place r state' ⊎ CleansNone state place r state'
 
 -- Lines
 

@@ -10,11 +10,12 @@ use Rattle.requests.specs.declared.scene.Kind.TheVariants as kind
 use Rattle.requests.specs.Scenes.{SceneView}
 use Rattle.session.specs.declared.jobs.Job.{Job}
 
--- what has a name: a look, which has the index that it found; an open section of this number, which ends on this processor, where it was begun; or one that may end on any
+-- what has a name: a look, which has the index that it found; an open section of this number, which ends on this processor, where it was begun; one that may end on any; or a ticket, which waits until so many jobs of each processor are finished
 pub data Bearer : Type 0 where
   Look : Index → Bearer
   Reading : ℕ → ℕ → Bearer
   Held : ℕ → Bearer
+  Ticket : List ℕ → Bearer
 
 -- names, each with what has it. Their order means nothing
 abbrev pub Names : Type 0
@@ -25,12 +26,17 @@ pub record Parked : Type 0 where
   pub name : List ℕ
   pub section : ℕ
 
--- the jobs of a processor: those that were queued and not taken, in order, each with its name and the number of the cookie that it waits for; and the names of the batch that is out, if one is
+-- a batch that is out: how many jobs are in it, and the names that are known of these
+pub record Batch : Type 0 where
+  pub count : ℕ
+  pub names : List (List ℕ)
+
+-- the jobs of a processor: those that were queued and not taken, in order, each with its name and the number of the cookie that it waits for; and the batch that is out, if one is
 pub record Jobs : Type 0 where
   pub waiting : List Job
-  pub out : Option (List (List ℕ))
+  pub out : Option Batch
 
--- a domain: its name, the names in use there but that of the section on its desk, what lies on the desk, the greatest number that was asked for (0 if none), and how far the domain has come. For each processor, how many jobs were ever queued there, and its jobs
+-- a domain: its name, the names in use there but that of the section on its desk, what lies on the desk, the greatest number that was asked for (0 if none), and how far the domain has come. For each processor, how many jobs were ever queued there, how many of these are finished, and its jobs
 pub record DomainState : Type 0 where
   pub name : List ℕ
   pub names : Names
@@ -38,6 +44,7 @@ pub record DomainState : Type 0 where
   pub asked : ℕ
   pub standing : Standing
   pub queued : List ℕ
+  pub finished : List ℕ
   pub jobs : List Jobs
 
 -- the domains, in the order in which they were made
@@ -72,10 +79,11 @@ pub record Becomes (name : List ℕ) (bearer : Option Bearer) (names names' : Na
 abbrev pub names_of_jobs : List Job → List (List ℕ)
 names_of_jobs jobs = map (λ job. job.name) jobs
 
--- these are the first of those that waited, at most eight, and what each of them waits for is reached. The others wait on
-pub record AreTaken (reached : ℕ) (taken waiting waiting' : List Job) : Type 0 where
+-- a batch of so many jobs, at most eight, was taken. These are the first of those that waited, no more than it has, and what each of them waits for is reached. The others wait on
+pub record AreTaken (reached count : ℕ) (taken waiting waiting' : List Job) : Type 0 where
   pub first : waiting ≡ taken ++ waiting'
-  pub few : length taken ≤ 8
+  pub known : length taken ≤ count
+  pub few : count ≤ 8
   pub due : All (λ job. job.cookie ≤ reached) taken
 
 -- Places
@@ -88,6 +96,7 @@ abbrev pub kind_of : Bearer → Kind
 kind_of (Look i) = kind.Look
 kind_of (Reading s p) = kind.Reading
 kind_of (Held s) = kind.Held
+kind_of (Ticket numbers) = kind.Ticket
 
 -- the section on the desk has this name
 abbrev pub is_parked : List ℕ → Option Parked → Bool

@@ -19,7 +19,9 @@ use std::alloc::{AllocError, Allocator};
 use std::marker::Model;
 use std::sync::Wait;
 
+mod barriers;
 mod calling;
+mod cleanup;
 
 /// A domain of a session. Its open sections must be ended: spend it by [`Entry::finish`].
 ///
@@ -97,6 +99,7 @@ impl<A: Allocator> Entry<A> {
             Token::Look(_) => Some(Kind::Look),
             Token::Reading(_) => Some(Kind::Reading),
             Token::Held(_) => Some(Kind::Held),
+            Token::Ticket(_) => Some(Kind::Ticket),
         }
     }
 
@@ -130,6 +133,7 @@ impl<A: Allocator> Entry<A> {
             Some(Token::Look(look)) => look,
             Some(Token::Reading(_reading)) => unreachable!(),
             Some(Token::Held(_held)) => unreachable!(),
+            Some(Token::Ticket(_ticket)) => unreachable!(),
             None => unreachable!(),
         };
         match self.domain.enter(rt, processor, look) {
@@ -173,6 +177,7 @@ impl<A: Allocator> Entry<A> {
             Some(Token::Reading(reading)) => self.domain.read_unlock(rt, reading),
             Some(Token::Look(_look)) => unreachable!(),
             Some(Token::Held(_held)) => unreachable!(),
+            Some(Token::Ticket(_ticket)) => unreachable!(),
             None => unreachable!(),
         }
         Reply::Closed
@@ -209,6 +214,7 @@ impl<A: Allocator> Entry<A> {
             Some(Token::Held(held)) => self.domain.up_read(rt, processor, held),
             Some(Token::Look(_look)) => unreachable!(),
             Some(Token::Reading(_reading)) => unreachable!(),
+            Some(Token::Ticket(_ticket)) => unreachable!(),
             None => unreachable!(),
         }
         Reply::Closed
@@ -228,6 +234,7 @@ impl<A: Allocator> Entry<A> {
             Some(Token::Held(held)) => self.parking.park(name, held),
             Some(Token::Look(_look)) => unreachable!(),
             Some(Token::Reading(_reading)) => unreachable!(),
+            Some(Token::Ticket(_ticket)) => unreachable!(),
             None => unreachable!(),
         }
         Reply::Parked
@@ -358,10 +365,12 @@ impl<'a, A: Allocator> Entry<&'a A> {
             Act::Batch { processor } => Ok(self.take_batch(rt, processor)),
             Act::Finish { processor } => Ok(self.finish_batch(rt, processor)),
             Act::Segs { processor } => Ok(self.segs(rt, processor)),
+            Act::Barrier { processor, ticket } => self.barrier(rt, processor, ticket),
+            Act::BarrierPoll { processor, ticket } => Ok(self.barrier_poll(rt, processor, &ticket)),
         }
     }
 
-    /// Finishes the batches that are out, ends all open sections, and drops the looks and the domain.
+    /// Finishes the batches that are out, ends all open sections, and drops the looks, the tickets and the domain.
     pub fn finish(self, rt: &impl Wait) {
         let Entry {
             name: _,
@@ -375,7 +384,7 @@ impl<'a, A: Allocator> Entry<&'a A> {
     }
 }
 
-/// Ends all open sections of a domain, and drops its looks and itself.
+/// Ends all open sections of a domain, and drops its looks, its tickets and itself.
 fn end_all<A: Allocator>(rt: &impl Wait, mut domain: Solo<A>, names: Names<A>, parking: Parking<A>)
     requires { AreTogether domain names.tokens parking }
 {
@@ -387,6 +396,7 @@ fn end_all<A: Allocator>(rt: &impl Wait, mut domain: Solo<A>, names: Names<A>, p
     while let Some(token) = take_last(&mut tokens) {
         match token {
             Token::Look(_look) => {}
+            Token::Ticket(_ticket) => {}
             Token::Reading(reading) => domain.read_unlock(rt, reading),
             Token::Held(held) => {
                 let processor = u64::from(held.processor());

@@ -23,7 +23,7 @@ pub struct Job {
 /// spend this by [`Jobs::close`].
 pub struct Jobs<A: Allocator> {
     waiting: VecDeque<Job, A>,
-    /// All jobs were taken from the batch that is out, and these are their names.
+    /// All jobs were taken from the batch that is out, and these are the names of those that are known.
     out: Option<(Batch<(), A>, JobNames)>,
 }
 

@@ -3,9 +3,10 @@ ghost use Rattle.std.specs.Prelude.{◌≡◌, ℕ, ◌<◌, ◌^◌, ◌++◌, 
 ghost use Rattle.std.specs.Option.{option_copied};
 ghost use Rattle.sseq.specs.declared.index.Index.{Index};
 ghost use Rattle.session.specs.OpenSections.{count_of};
-ghost use Rattle.session.specs.Tokens.{token_at, open_index, held_of, Frees};
+ghost use Rattle.session.specs.Tokens.{token_at, ticket_in, open_index, held_of, Frees};
 
 use crate::open::Open;
+use calls::Ticket;
 use indexmap::IndexMap;
 use lines::Name;
 use sections::{Held, Look, Reading};
@@ -14,15 +15,16 @@ use std::alloc::{AllocError, Allocator};
 use std::hash::{BuildHasherDefault, FoldHasher};
 use std::marker::Model;
 
-/// What has a name: a look, or an open section, which its own processor ends or any may end.
-pub enum Token {
+/// What has a name: a look; an open section, which its own processor ends or any may end; or the ticket of a barrier.
+pub enum Token<A: Allocator> {
     Look(Look),
     Reading(Reading),
     Held(Held),
+    Ticket(Ticket<A>),
 }
 
 /// Tokens under names. To find, to add and to take out one costs the same however many there are.
-pub type Tokens<A> = IndexMap<Name, Token, BuildHasherDefault<FoldHasher>, A>;
+pub type Tokens<A> = IndexMap<Name, Token<A>, BuildHasherDefault<FoldHasher>, A>;
 
 /// The names in use in a domain, each with its token, and how many of these are open sections of each index. Open
 /// sections must be ended: spend it by [`Names::into_tokens`].
@@ -34,7 +36,7 @@ pub struct Names<A: Allocator> {
 impl<A: Allocator> Model for Names<A> {
     ghost use Rattle.session.specs.Tokens.{NamesView};
 
-    ghost Value = { NamesView };
+    ghost Value = { NamesView A };
 
     ghost use Rattle.session.specs.Insides.{view_of_names, AreNames};
 
@@ -57,10 +59,22 @@ impl<A: Allocator> Names<A> {
     }
 
     /// What has the name.
-    pub fn get(&self, name: &Name) -> Option<&Token>
+    pub fn get(&self, name: &Name) -> Option<&Token<A>>
         ensures { option_copied result ≡ token_at name.now self.now.tokens }
     {
         self.tokens.get(name)
+    }
+
+    /// The ticket that has the name.
+    pub fn ticket(&self, name: &Name) -> Option<&Ticket<A>>
+        ensures { option_copied result ≡ ticket_in (token_at name.now self.now.tokens) }
+    {
+        match self.get(name)? {
+            Token::Ticket(ticket) => Some(ticket),
+            Token::Look(_look) => None,
+            Token::Reading(_reading) => None,
+            Token::Held(_held) => None,
+        }
     }
 
     /// How many of the tokens are open sections of each index.
@@ -82,7 +96,7 @@ impl<A: Allocator> Names<A> {
     }
 
     /// Gives a free name to a token. There must be room.
-    pub fn insert(&mut self, name: Name, token: Token)
+    pub fn insert(&mut self, name: Name, token: Token<A>)
         requires free { token_at name self.old.tokens ≡ None }
         requires room { 0 < self.old.room }
         ensures { self.new.tokens ≡ self.old.tokens ++ (name, token) ∷ [] }
@@ -98,7 +112,7 @@ impl<A: Allocator> Names<A> {
     }
 
     /// Takes a token out. Its name is then free, and there is no less room than there was.
-    pub fn remove(&mut self, name: &Name) -> Option<Token>
+    pub fn remove(&mut self, name: &Name) -> Option<Token<A>>
         ensures token { result ≡ token_at name.now self.old.tokens }
         ensures frees { Frees name.now self.old.tokens self.new.tokens }
         ensures others { IfSome result (λ t. (stored : List ℕ) × IsPermutation self.old.tokens ((stored, t) ∷ self.new.tokens)) }
@@ -120,7 +134,7 @@ impl<A: Allocator> Names<A> {
 }
 
 /// Takes the last token out, or `None` where there is none.
-pub fn take_last<A: Allocator>(tokens: &mut Tokens<A>) -> Option<Token>
+pub fn take_last<A: Allocator>(tokens: &mut Tokens<A>) -> Option<Token<A>>
     ensures none { IfNone result (tokens.new.entries ≡ []) }
     ensures last { IfSome result (λ t. (name : List ℕ) × (tokens.old.entries ≡ tokens.new.entries ++ (name, t) ∷ [])) }
     ensures fewer { IfSome result (λ t. length tokens.new.entries < length tokens.old.entries) }
@@ -129,7 +143,7 @@ pub fn take_last<A: Allocator>(tokens: &mut Tokens<A>) -> Option<Token>
     Some(token)
 }
 
-impl Token {
+impl<A: Allocator> Token<A> {
     /// The index of the open section that this stands for.
     fn open_index(&self) -> Option<Index>
         ensures { result ≡ open_index self.now }
@@ -138,6 +152,7 @@ impl Token {
             Token::Look(_) => None,
             Token::Reading(reading) => Some(reading.index()),
             Token::Held(held) => Some(held.index()),
+            Token::Ticket(_) => None,
         }
     }
 }

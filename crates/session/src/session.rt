@@ -1,10 +1,10 @@
 //! The domains of a script, and what a line does to them.
-ghost use Rattle.std.specs.Prelude.{◌≡◌, ◌⊎◌, ◌++◌, [], true, IfOk, OnErr};
+ghost use Rattle.std.specs.Prelude.{◌≡◌, ◌⊎◌, ◌++◌, ◌<◌, [], true, length, IfOk, OnErr};
 ghost use Rattle.sections.specs.Limits.{AreInRange};
 ghost use Rattle.requests.specs.Replies.{reply_text};
 ghost use Rattle.requests.specs.Requests.{IsFor};
 ghost use Rattle.session.specs.States.{scene_of};
-ghost use Rattle.session.specs.Scripts.{Makes, MakesNone, Answers as AnswersTo};
+ghost use Rattle.session.specs.Scripts.{Makes, MakesNone, CleansUp, CleansNone, Answers as AnswersTo};
 
 use crate::entry::Entry;
 use lines::{Answers, Name, words};
@@ -62,6 +62,7 @@ impl<'r, 'a, A: Allocator, R: Wait> Session<'r, &'a A, R> {
         match request {
             Request::Domain { name, processors } => self.make(name, processors),
             Request::On { domain, act } => self.entries[domain].act(self.rt, act),
+            Request::Cleanup { domain } => Ok(self.cleanup(domain)),
         }
     }
 
@@ -92,6 +93,28 @@ impl<'r, 'a, A: Allocator, R: Wait> Session<'r, &'a A, R> {
             domain: name,
             processors,
         })
+    }
+
+    /// Takes the domain at a place down, which is then gone, and so are all names in it; refused, with nothing done, where
+    /// it is in use.
+    fn cleanup(&mut self, place: usize) -> Reply
+        requires { place < length self.old.domains }
+        ensures limits { self.new.limits ≡ self.old.limits }
+        ensures cleans { CleansUp self.old.domains place result self.new.domains
+            ⊎ CleansNone self.old.domains place result self.new.domains }
+    {
+        let entry = self.entries.remove(place);
+        match entry.cleanup(self.rt) {
+            Ok(totals) => Reply::Cleaned {
+                opened: totals.opened,
+                closed: totals.closed,
+            },
+            Err((cause, entry)) => {
+                // Its own room is still there.
+                self.entries.insert(place, entry).unwrap();
+                Reply::Refused(Command::Cleanup, cause)
+            }
+        }
     }
 
     /// Ends all open sections, and drops the domains.

@@ -8,7 +8,9 @@ use std::process::Abort;
 use std::sync::Wait;
 use std::test::Fail;
 
+mod barriers;
 mod calling;
+mod cleanup;
 mod holding;
 mod needs;
 

@@ -22,8 +22,10 @@ use Rattle.calls.specs.declared.list.Receipt.{Receipt}
 use Rattle.calls.specs.declared.refusals.CallRefusal.{CallRefusal}
 use Rattle.calls.specs.declared.refusals.CallRefusal.TheVariants as calling
 use Rattle.calls.specs.declared.refusals.TakeRefusal.{TakeRefusal}
-use Rattle.calls.specs.Tallies.{most_calls}
-use Rattle.calls.specs.Views.{ListKey, ListView, BatchView, key_of}
+use Rattle.calls.specs.declared.view.Act.TheVariants.{Queue, Finish}
+use Rattle.calls.specs.declared.view.Deed.{Deed}
+use Rattle.calls.specs.Tallies.{most_calls, deed, queued_in, finished_in}
+use Rattle.calls.specs.Views.{CallSeatView, ListKey, ListView, BatchView, key_of}
 use Rattle.calls.specs.Calls.{IsHanded, AreHanded, IsTaken, TakesIn, InvokesIn, FinishesIn, IsListOf}
 use Rattle.segs.specs.MarkedList.{count_done, lens, numbers}
 use Rattle.scan.specs.Progress.{standing_of}
@@ -33,13 +35,13 @@ use Rattle.domain.specs.Calling.{CallsIn, RefusesCall}
 use Rattle.solo.specs.declared.queued.Queued.{Queued}
 use Rattle.solo.specs.Refusals.{IsQueuedAs}
 use Rattle.solo.specs.Calls as call
-use Rattle.solo.specs.Calls.{SoloView, IsSame, IsSameDomain, IsGiven, Queues, QueuesNone, Takes, TellsLens}
+use Rattle.solo.specs.Calls.{SoloView, IsSame, IsSameDomain, IsGiven, Queues, QueuesNone, Takes, Finishes, TellsLens}
 use Rattle.solo.specs.Settling.{View, HaveMet}
-use Rattle.solo.specs.Insides.{queued_on, seen_first}
+use Rattle.solo.specs.Insides.{queued_on, finished_on, seen_first}
 use Rattle.solo.proofs.Hand.{IsStill, now_is}
 use Rattle.solo.proofs.Needing.{GoesOn, stays, climb, climb_on, climb_own, climb_others, greatest_asked}
-use Rattle.solo.proofs.Queueing.{QueuesMore, none_more, one_more, finish_more}
-use Rattle.solo.proofs.ProcessorActs.{Acts, Turn, acts_of_event, acts_of_nothing, held, all_changes, asked_before, asked_after, raises_are, before, after, now_was, after_is, number_is, queued_after, same_as, same_rest, same_but_asked, idle, idle_met, event_met, happens, given, noted_met, requested_met, requested}
+use Rattle.solo.proofs.Tallying.{Adds, CountsNothing, adds_none, adds_deed, nothing_done, queued_one, finished_here, finished_else, finished_are, found_at, one_count}
+use Rattle.solo.proofs.ProcessorActs.{Acts, Turn, acts_of_event, acts_of_nothing, held, all_changes, asked_before, asked_after, raises_are, before, after, now_was, after_is, deeds_after, all_tally, deeds_go_on, as_many, number_is, queued_after, unfinished, same_as, same_rest, same_but_asked, idle_but, idle, idle_met, event_met, happens, given, noted_met, requested_met, requested}
 
 -- a cookie that is given behind all that the processor and somebody else had seen is given behind all that it had seen
 given_behind : (s s' : SightView) (c d : CpuView) (cookie : CookieView) → GivesCookieBehind s c d cookie s' → GivesCookie c d cookie
@@ -133,10 +135,14 @@ module _ (d : DomainView) (limits : Limits) (cpus : List DomainCpu) (lay : View)
   abbrev seen' : SoloView
   seen' = seen_first d' limits cpus'
 
-  -- a turn in which it raised these at the tree, and queued so many
-  module _ (turn : now.turn ≡ was.turn) (raised : List Raise) (needs : GoesOn raised was.needs now.needs) (own : raised_by p raised ≡ raised) (others : (q : ℕ) → q ≢ p → raised_by q raised ≡ []) (more : ℕ) (calls : QueuesMore more was.calls now.calls) where
+  -- its seat at the tally words, before
+  seat_here : was.calls ≡ record { tallies = d.tallies; processors = length cpus; processor = p; seen = met.deeds }
+  seat_here = ap (λ (x : DomainCpu). x.calls) is ∙ met.tally_together.seats p was inside
+
+  -- a turn in which it raised these at the tree, and did these at the tally words
+  module _ (turn : now.turn ≡ was.turn) (raised : List Raise) (needs : GoesOn raised was.needs now.needs) (own : raised_by p raised ≡ raised) (others : (q : ℕ) → q ≢ p → raised_by q raised ≡ []) (act : List Deed) (adds : Adds act was.calls now.calls) where
     abbrev a_turn : Turn
-    a_turn = record { d = d; limits = limits; cpus = cpus; v = lay; p = p; was = was; now = now; d' = d'; cpus' = cpus'; met = met; inside = inside; is = is; turn = turn; all = all; meets = meets; raised = raised; needs = needs; own = own; others = others; more = more; calls = calls }
+    a_turn = record { d = d; limits = limits; cpus = cpus; v = lay; p = p; was = was; now = now; d' = d'; cpus' = cpus'; met = met; inside = inside; is = is; turn = turn; all = all; meets = meets; raised = raised; needs = needs; own = own; others = others; act = act; adds = adds }
 
     -- what the turn says is said of the domain as it is seen
     say : (P : SoloView → SoloView → Type 0) → P (before a_turn) (after a_turn) → P seen seen'
@@ -152,8 +158,11 @@ module _ (d : DomainView) (limits : Limits) (cpus : List DomainCpu) (lay : View)
       gives : GivesCookie was.cpu now.cpu r.cookie
       gives = given_behind _ _ was.cpu now.cpu r.cookie h.queues.queues.note
 
-      calls_one : QueuesMore 1 was.calls now.calls
-      calls_one = one_more was.calls now.calls h.queues.queues.tally
+      abbrev queued_here : List Deed
+      queued_here = deed was.calls.processor Queue ∷ []
+
+      adds_one : Adds queued_here was.calls now.calls
+      adds_one = adds_deed Queue was.calls now.calls h.queues.queues.tally
 
       abbrev raised_here : List Raise
       raised_here = climb p _ _ _ _ holder_is h.asks
@@ -168,10 +177,16 @@ module _ (d : DomainView) (limits : Limits) (cpus : List DomainCpu) (lay : View)
       raises_alone = climb_others p _ _ _ _ holder_is h.asks
 
       abbrev t : Turn
-      t = a_turn h.turn raised_here raises_on raises_own raises_alone 1 calls_one
+      t = a_turn h.turn raised_here raises_on raises_own raises_alone queued_here adds_one
 
       asks : asked_after t ≡ max (asked_before t) (cookie_at gives.number)
       asks = ap greatest (raises_are t) ∙ (greatest_asked p _ _ _ _ holder_is h.asks met.raises ∙ ap (λ n. max (asked_before t) n) (ap (λ (x : CookieView). x.number) gives.cookie_is))
+
+      counted : r.k ≡ queued_in p met.deeds
+      counted = h.queues.queues.counted ∙ ap (λ (s : CallSeatView). queued_in s.processor s.seen) seat_here
+
+      one : queued_in p queued_here ≡ 1
+      one = ap (λ (s : CallSeatView). queued_in p (deed s.processor Queue ∷ [])) seat_here ∙ queued_one p
 
       abbrev job_is : Queued
       job_is = record { k = r.k; cookie = r.cookie.number }
@@ -180,28 +195,29 @@ module _ (d : DomainView) (limits : Limits) (cpus : List DomainCpu) (lay : View)
       queues = record {
         gives = given t r.cookie gives;
         asked = requested t gives.number gives.notes asks r.cookie gives;
-        number = number_is t ∙ ap Some (sym h.queues.queues.counted);
-        queued = queued_after t ∙ ap (λ k. set (queued_on cpus) p (k + 1)) (sym h.queues.queues.counted);
+        number = number_is t ∙ ap Some (sym counted);
+        queued = queued_after t ∙ (λ i. set (queued_on cpus) p (sym counted i + one i));
+        finished = unfinished t (λ q. refl);
       }
 
       queued_says : Says d' limits cpus' meets.left (IsSameDomain seen seen') (Queues p job_is seen seen')
       queued_says = record {
         met = requested_met t gives.number gives.notes asks;
-        stays = say h.turn raised_here raises_on raises_own raises_alone 1 calls_one IsSameDomain (same_but_asked t);
-        what = say h.turn raised_here raises_on raises_own raises_alone 1 calls_one (Queues p job_is) queues;
+        stays = say h.turn raised_here raises_on raises_own raises_alone queued_here adds_one IsSameDomain (same_but_asked t);
+        what = say h.turn raised_here raises_on raises_own raises_alone queued_here adds_one (Queues p job_is) queues;
       }
 
-  -- Nothing is asked for or queued
+  -- Nothing is asked for, queued or finished
 
-  module _ (turn : now.turn ≡ was.turn) (needs : now.needs ≡ was.needs) (calls : QueuesMore 0 was.calls now.calls) where
+  module _ (turn : now.turn ≡ was.turn) (needs : now.needs ≡ was.needs) (act : List Deed) (calls : Adds act was.calls now.calls) (quiet : CountsNothing act) where
     abbrev plain : Turn
-    plain = a_turn turn [] (stays was.needs now.needs needs) refl (λ q _. refl) 0 calls
+    plain = a_turn turn [] (stays was.needs now.needs needs) refl (λ q _. refl) act calls
 
     say_plain : (P : SoloView → SoloView → Type 0) → P (before plain) (after plain) → P seen seen'
-    say_plain P it = say turn [] (stays was.needs now.needs needs) refl (λ q _. refl) 0 calls P it
+    say_plain P it = say turn [] (stays was.needs now.needs needs) refl (λ q _. refl) act calls P it
 
     still : now.cpu ≡ was.cpu → seen' ≡ seen
-    still same = say_plain (λ a b. b ≡ a) (idle plain refl (acts_of_nothing was.cpu now.cpu same) refl)
+    still same = say_plain (λ a b. b ≡ a) (idle plain refl (acts_of_nothing was.cpu now.cpu same) quiet)
 
     still_met : now.cpu ≡ was.cpu → HaveMet d' limits cpus' meets.left
     still_met same = idle_met plain refl (acts_of_nothing was.cpu now.cpu same)
@@ -213,26 +229,26 @@ module _ (d : DomainView) (limits : Limits) (cpus : List DomainCpu) (lay : View)
     refused_says calling.Exhausted j h =
         let turn = ap (λ (x : DomainCpu). x.turn) h.rest in
         let needs = ap (λ (x : DomainCpu). x.needs) h.rest in
-        let calls = none_more was.calls now.calls h.refuses.refuses.seat in
+        let calls = adds_none was.calls now.calls h.refuses.refuses.seat in
         let cause = h.refuses.refuses.cause in
-        let t = plain turn needs calls in record {
-          met = still_met turn needs calls cause.2;
-          stays = say_plain turn needs calls IsSameDomain (same_but_asked t);
-          what = (say_plain turn needs calls (λ a b. slice_get a.queued p ≡ Some most_calls) (number_is t ∙ ap Some cause.0), still turn needs calls cause.2);
+        let t = plain turn needs [] calls nothing_done in record {
+          met = still_met turn needs [] calls nothing_done cause.2;
+          stays = say_plain turn needs [] calls nothing_done IsSameDomain (same_but_asked t);
+          what = (say_plain turn needs [] calls nothing_done (λ a b. slice_get a.queued p ≡ Some most_calls) (number_is t ∙ ap Some (ap (λ (s : CallSeatView). queued_in s.processor s.seen) (sym seat_here) ∙ cause.0)), still turn needs [] calls nothing_done cause.2);
         }
     refused_says calling.Memory j h =
         let turn = ap (λ (x : DomainCpu). x.turn) h.rest in
         let needs = ap (λ (x : DomainCpu). x.needs) h.rest in
-        let calls = none_more was.calls now.calls h.refuses.refuses.seat in
+        let calls = adds_none was.calls now.calls h.refuses.refuses.seat in
         let noted = h.refuses.refuses.cause.1 in
         let gives = given_behind _ _ was.cpu now.cpu noted.0 noted.1 in
-        let t = plain turn needs calls in record {
+        let t = plain turn needs [] calls nothing_done in record {
           met = noted_met t refl gives.number gives.notes;
-          stays = say_plain turn needs calls IsSameDomain (same_but_asked t);
+          stays = say_plain turn needs [] calls nothing_done IsSameDomain (same_but_asked t);
           what = (
             noted.0.number,
-            say_plain turn needs calls (λ a b. call.GivesCookie p noted.0.number a.standing b.standing) (given t noted.0 gives),
-            say_plain turn needs calls (λ a b. b ≡ record a { standing = b.standing }) (same_rest t refl refl),
+            say_plain turn needs [] calls nothing_done (λ a b. call.GivesCookie p noted.0.number a.standing b.standing) (given t noted.0 gives),
+            say_plain turn needs [] calls nothing_done (λ a b. b ≡ record a { standing = b.standing }) (same_rest t refl nothing_done),
           );
         }
 
@@ -254,11 +270,11 @@ module _ (d : DomainView) (limits : Limits) (cpus : List DomainCpu) (lay : View)
     needs_are : now.needs ≡ was.needs
     needs_are = ap (λ (x : DomainCpu). x.needs) rest
 
-    calls_none : QueuesMore 0 was.calls now.calls
-    calls_none = none_more was.calls now.calls (ap (λ (x : DomainCpu). x.calls) rest)
+    calls_none : Adds [] was.calls now.calls
+    calls_none = adds_none was.calls now.calls (ap (λ (x : DomainCpu). x.calls) rest)
 
     abbrev taking : Turn
-    taking = plain turn_is needs_are calls_none
+    taking = plain turn_is needs_are [] calls_none nothing_done
 
     module _ {J : Type 0} (max_jobs : ℕ) where
       all_done : (taken : Option (BatchView J)) (number : ℕ) (s s' : SightView) → AsksHowFar number s was.cpu now.cpu s' → IfSome taken (λ b. AreHanded b.entries now.cpu.seen) → IfSome taken (λ b. All (λ e. e.cookie.number ≤ 4 * periods_ended number) b.entries)
@@ -270,12 +286,12 @@ module _ (d : DomainView) (limits : Limits) (cpus : List DomainCpu) (lay : View)
           let x = h.takes in
           let tallies : seen.tallies ≡ d.tallies = ap (λ (z : SoloView). z.tallies) (now_was taking seen seen_is) in record {
             met = far_met taking x.number _ _ x.asks refl;
-            stays = say_plain turn_is needs_are calls_none IsSame (same_as taking refl refl);
+            stays = say_plain turn_is needs_are [] calls_none nothing_done IsSame (same_as taking refl nothing_done);
             what = record {
               reached = 4 * periods_ended x.number;
-              reached_is = say_plain turn_is needs_are calls_none (λ a b. 4 * periods_ended x.number ≡ 4 * ended_in a.standing.history) (far_is taking x.number _ _ x.asks);
-              asks = say_plain turn_is needs_are calls_none (λ a b. call.Asks p (4 * periods_ended x.number) true a.standing b.standing) (far_asked taking x.number _ _ x.asks);
-              rest = say_plain turn_is needs_are calls_none (λ a b. b ≡ record a { standing = b.standing }) (same_rest taking refl refl);
+              reached_is = say_plain turn_is needs_are [] calls_none nothing_done (λ a b. 4 * periods_ended x.number ≡ 4 * ended_in a.standing.history) (far_is taking x.number _ _ x.asks);
+              asks = say_plain turn_is needs_are [] calls_none nothing_done (λ a b. call.Asks p (4 * periods_ended x.number) true a.standing b.standing) (far_asked taking x.number _ _ x.asks);
+              rest = say_plain turn_is needs_are [] calls_none nothing_done (λ a b. b ≡ record a { standing = b.standing }) (same_rest taking refl nothing_done);
               batch = batch_given d p max_jobs (count_done x.moved) (4 * periods_ended x.number) seen h.list h.list' x.gone taken tallies there h.of_calls x.taken_is x.many (all_done taken x.number _ _ x.asks handed);
             };
           }
@@ -284,22 +300,48 @@ module _ (d : DomainView) (limits : Limits) (cpus : List DomainCpu) (lay : View)
           → IfOk r (λ taken. IfSome taken (λ b. AreHanded b.entries now.cpu.seen)) → Says d' limits cpus' meets.left (IsSame seen seen') (MatchResult r (λ taken. Takes p max_jobs taken seen seen') (λ _. seen' ≡ seen))
       take_says there (Ok taken) h handed = taken_says taken there h handed
       take_says there (Err refusal) h handed = record {
-        met = still_met turn_is needs_are calls_none h.1;
-        stays = say_plain turn_is needs_are calls_none IsSame (same_as taking refl refl);
-        what = still turn_is needs_are calls_none h.1;
+        met = still_met turn_is needs_are [] calls_none nothing_done h.1;
+        stays = say_plain turn_is needs_are [] calls_none nothing_done IsSame (same_as taking refl nothing_done);
+        what = still turn_is needs_are [] calls_none nothing_done h.1;
       }
 
   -- A batch is finished
 
-  module _ {J : Type 0} (b : BatchView J) (h : FinishesIn (callbacks_of d) was.calls b now.calls) (rest : now ≡ with_calls now.calls was) where
-    finish_one : QueuesMore 0 was.calls now.calls
-    finish_one = finish_more b.processor b.count was.calls now.calls h.finishes.tally
+  module _ {J : Type 0} (b : BatchView J) (h : FinishesIn (callbacks_of d) was.calls b now.calls) (rest : now ≡ with_calls now.calls was) (there : b.processor < length cpus) where
+    abbrev finish_here : List Deed
+    finish_here = deed was.calls.processor (Finish b.processor b.count) ∷ []
+
+    finish_adds : Adds finish_here was.calls now.calls
+    finish_adds = adds_deed (Finish b.processor b.count) was.calls now.calls h.finishes.tally
+
+    finish_turn : now.turn ≡ was.turn
+    finish_turn = ap (λ (x : DomainCpu). x.turn) rest
+
+    finish_needs : now.needs ≡ was.needs
+    finish_needs = ap (λ (x : DomainCpu). x.needs) rest
+
+    finish_acts : Acts [] was.cpu now.cpu
+    finish_acts = acts_of_nothing was.cpu now.cpu (ap (λ (x : DomainCpu). x.cpu) rest)
+
+    abbrev finishing : Turn
+    finishing = a_turn finish_turn [] (stays was.needs now.needs finish_needs) refl (λ q _. refl) finish_here finish_adds
 
     pub finished_met : HaveMet d' limits cpus' meets.left
-    finished_met = still_met (ap (λ (x : DomainCpu). x.turn) rest) (ap (λ (x : DomainCpu). x.needs) rest) finish_one (ap (λ (x : DomainCpu). x.cpu) rest)
+    finished_met = idle_met finishing refl finish_acts
 
-    pub finished : seen' ≡ seen
-    finished = still (ap (λ (x : DomainCpu). x.turn) rest) (ap (λ (x : DomainCpu). x.needs) rest) finish_one (ap (λ (x : DomainCpu). x.cpu) rest)
+    finished_more : finished_on cpus' ≡ set (finished_on cpus) b.processor (finished_in b.processor met.deeds + b.count)
+    finished_more =
+        let done = deeds_go_on finishing in
+        one_count finished_in d d' met.deeds (deeds_after finishing) cpus cpus' met.tally_together (all_tally finishing) (as_many finishing) b.processor (finished_in b.processor met.deeds + b.count) there
+        (finished_are (length cpus) p met.deeds finish_here (deeds_after finishing) done b.processor ∙ ap (λ n. finished_in b.processor met.deeds + n) (finished_here was.calls.processor b.processor b.count))
+        (λ k lt other. let are = finished_are (length cpus) p met.deeds finish_here (deeds_after finishing) done k in let none = finished_else was.calls.processor b.processor b.count k other in omega (arith, are, none))
+
+    pub finished : Finishes b.processor b.count seen seen'
+    finished = say finish_turn [] (stays was.needs now.needs finish_needs) refl (λ q _. refl) finish_here finish_adds (Finishes b.processor b.count) (
+      finished_in b.processor met.deeds,
+      found_at finished_in d met.deeds cpus met.tally_together b.processor there,
+      idle_but finishing refl finish_acts refl (set (finished_on cpus) b.processor (finished_in b.processor met.deeds + b.count)) finished_more,
+    )
 
 -- The processor stays what it was
 

@@ -18,6 +18,7 @@ use Rattle.funnel.specs.declared.view.Raise.{Raise}
 use Rattle.funnel.specs.Histories.{IsBeginning as IsBeginningAtTree, value, greatest}
 use Rattle.funnel.specs.Views.{FunnelView}
 use Rattle.funnel.specs.Calls.{LoadsRoot, IsSameSeat}
+use Rattle.calls.specs.Tallies.{queued_in, finished_in}
 use Rattle.scan.specs.declared.progress.Progress.{Progress}
 use Rattle.scan.specs.declared.progress.Progress.TheVariants as answer
 use Rattle.scan.specs.declared.progress.Exhausted.{Exhausted}
@@ -36,11 +37,11 @@ use Rattle.solo.specs.Refusals.{IsNotBusy, NoneIsBusy, IsToldAs, IsStartedAs}
 use Rattle.domain.specs.Waiting.{LoadsNeed, StartsPoll}
 use Rattle.domain.specs.Meetings.{IsAllOf, EngineMeets, MeetsHere}
 use Rattle.solo.specs.Calls.{SoloView, IsSame, Starts, StartsNone, Steps, Advances, IsAskedTooMuch}
-use Rattle.solo.specs.Settling.{View, Holds, AllHold, AskTogether, TurnTogether, IsWanted, HaveMet}
-use Rattle.solo.specs.Insides.{queued_on, seen_as, seen_first}
+use Rattle.solo.specs.Settling.{View, Holds, AllHold, AskTogether, TurnTogether, TallyTogether, IsWanted, HaveMet}
+use Rattle.solo.specs.Insides.{queued_on, finished_on, seen_as, seen_first}
 use Rattle.solo.proofs.NothingBetween.{made_by_append}
 use Rattle.solo.proofs.Needing.{GoesOn, stays, goes_further, squeezed, raised_here}
-use Rattle.solo.proofs.Queueing.{QueuesMore, none_more, counts_stay}
+use Rattle.solo.proofs.Tallying.{Adds, GoesOnBy, adds_none, nothing_done, still_queued, still_finished, same_counts, goes_on, tally_together}
 use Rattle.solo.proofs.Settled.{HaveAsked, IsSettled, settled, all_raised, asked_together}
 use Rattle.solo.proofs.Turning.{turn_found, meeting_found, turn_turned}
 use Rattle.solo.proofs.Hand.{IsStill, first_seen, is_seen}
@@ -335,24 +336,33 @@ module _ (t : Turn) where
 
   -- Their seats at the tally words
 
-  calls_stay : QueuesMore 0 t.was.calls t.now.calls
-  calls_stay = none_more t.was.calls t.now.calls t.lends.calls
+  calls_stay : Adds [] t.was.calls t.now.calls
+  calls_stay = adds_none t.was.calls t.now.calls t.lends.calls
 
   same_tallies : t.d'.tallies ≡ t.d.tallies
   same_tallies =
       let left = (t.all.here 0 nobody t.all.some).fits.tallies in
-      let met = ap (λ s. s.tallies) (t.meets.calls 0 nobody within ∙ ap (λ (z : DomainCpu). z.calls) (here nobody)) in
+      let met = ap (λ s. s.tallies) (t.meets.calls.each 0 nobody within).is ∙ ap (λ (z : DomainCpu). z.calls.tallies) (here nobody) in
       let was = ap (λ (z : DomainCpu). z.calls.tallies) t.is ∙ (t.met.all.here 0 t.was some).fits.tallies in
       sym left ∙ (met ∙ (calls_stay.same.0 ∙ was))
 
+  all_tally : TallyTogether t.d' t.meets.calls.deeds t.cpus'
+  all_tally = tally_together t.d t.d' t.met.deeds t.cpus t.cpus' 0 t.was t.now some t.is t.met.tally_together [] calls_stay t.meets.count t.meets.calls same_tallies
+
+  deeds_go_on : GoesOnBy (length t.cpus) 0 t.met.deeds [] t.meets.calls.deeds
+  deeds_go_on = goes_on t.d t.d' t.met.deeds t.cpus t.cpus' 0 t.was t.now some t.is t.met.tally_together [] calls_stay t.meets.count t.meets.calls same_tallies
+
   same_queued : queued_on t.cpus' ≡ queued_on t.cpus
-  same_queued = counts_stay t.cpus 0 t.was t.now some t.is 0 calls_stay t.cpus' t.meets.count t.meets.calls refl
+  same_queued = same_counts queued_in t.d t.d' t.met.deeds t.meets.calls.deeds t.cpus t.cpus' t.met.tally_together all_tally (t.meets.count ∙ long) (still_queued (length t.cpus) 0 t.met.deeds [] t.meets.calls.deeds deeds_go_on nothing_done)
+
+  same_finished : finished_on t.cpus' ≡ finished_on t.cpus
+  same_finished = same_counts finished_in t.d t.d' t.met.deeds t.meets.calls.deeds t.cpus t.cpus' t.met.tally_together all_tally (t.meets.count ∙ long) (λ k lt. still_finished (length t.cpus) 0 t.met.deeds [] t.meets.calls.deeds deeds_go_on nothing_done k)
 
   abbrev pub before : SoloView
-  before = seen_as t.d.tallies t.limits asked_before (queued_on t.cpus) t.v
+  before = seen_as t.d.tallies t.limits asked_before (queued_on t.cpus) (finished_on t.cpus) t.v
 
   abbrev pub after : SoloView
-  after = seen_as t.d'.tallies t.limits asked_after (queued_on t.cpus') t.meets.left
+  after = seen_as t.d'.tallies t.limits asked_after (queued_on t.cpus') (finished_on t.cpus') t.meets.left
 
   module _ (act others : List Event) (own : MakesOwn act v w) (seen : w.seat.seen ≡ t.v.seat.seen ++ (others ++ act)) where
     table : t.lends.left.seat.domain ≡ t.v.seat.domain
@@ -414,7 +424,7 @@ module _ (t : Turn) where
     }
 
     same_as : IsSame (before) (after)
-    same_as = (same_engine.0 ∙ own.same.0, refl, same_engine.1 ∙ own.same.1, same_engine.2 ∙ own.same.2, same_asked, same_tallies, same_queued)
+    same_as = (same_engine.0 ∙ own.same.0, refl, same_engine.1 ∙ own.same.1, same_engine.2 ∙ own.same.2, same_asked, same_tallies, same_queued, same_finished)
 
     -- all that is true of a domain in one hand
     met_after : (¬ IsRunning w.seat.seen → 0 < w.so_far → IsWanted (greatest raises) w) → HaveMet t.d' t.limits t.cpus' t.meets.left
@@ -425,6 +435,8 @@ module _ (t : Turn) where
       ask_together = ask_together;
       swaps = t.meets.turns.swaps;
       turn_together = turned;
+      deeds = t.meets.calls.deeds;
+      tally_together = all_tally;
       cookies = ap (λ n. n % 4) same_asked ∙ t.met.cookies;
       wanted = λ resting some.
           let history : t.meets.left.seat.seen ≡ w.seat.seen = acted.seen ∙ sym seen_alone in
@@ -496,6 +508,7 @@ module _ (t : Turn) where
       asked = same_asked i;
       tallies = same_tallies i;
       queued = same_queued i;
+      finished = same_finished i;
     }
 
   module _ (x : FindsExhausted LoadsRoot v w) where
@@ -523,7 +536,7 @@ module _ (t : Turn) where
 
 -- where nothing has changed
 pub unchanged : (d d' : SoloView) → d' ≡ d → IsSame d d'
-unchanged d d' same = (ap (λ (x : SoloView). x.table) same, ap (λ (x : SoloView). x.limits) same, ap (λ (x : SoloView). x.standing.processors) same, ap (λ (x : SoloView). x.standing.periods) same, ap (λ (x : SoloView). x.asked) same, ap (λ (x : SoloView). x.tallies) same, ap (λ (x : SoloView). x.queued) same)
+unchanged d d' same = (ap (λ (x : SoloView). x.table) same, ap (λ (x : SoloView). x.limits) same, ap (λ (x : SoloView). x.standing.processors) same, ap (λ (x : SoloView). x.standing.periods) same, ap (λ (x : SoloView). x.asked) same, ap (λ (x : SoloView). x.tallies) same, ap (λ (x : SoloView). x.queued) same, ap (λ (x : SoloView). x.finished) same)
 
 -- Each call that drives the engine leaves the processor what it was
 

@@ -10,13 +10,14 @@ use Rattle.sections.specs.EngineCalls.{IsSeenByEngine}
 use Rattle.funnel.specs.Histories.{greatest}
 use Rattle.funnel.specs.Calls.{IsSeenBy}
 use Rattle.desk.specs.BayCalls.{HasSeenLegal, lies}
+use Rattle.calls.specs.Tallies.{queued_in, finished_in}
 use Rattle.domain.specs.Views.{DomainView, CpuView, IsOf}
 use Rattle.domain.specs.Making.{IsMade, idle_engine, new_cpu}
 use Rattle.domain.specs.Meetings.{IsAllOf}
 use Rattle.solo.specs.Calls.{IsNew}
-use Rattle.solo.specs.Settling.{View, Holds, AreTogether, AskTogether, TurnTogether, HaveMet}
-use Rattle.solo.specs.Insides.{queued_on, seen_first}
-use Rattle.solo.proofs.Queueing.{count_of, none_yet}
+use Rattle.solo.specs.Settling.{View, Holds, AreTogether, AskTogether, TurnTogether, TallyTogether, HaveMet}
+use Rattle.solo.specs.Insides.{queued_on, finished_on, seen_first}
+use Rattle.solo.proofs.Tallying.{none_counted}
 use Rattle.solo.proofs.Hand.{first_seen}
 
 module _ (limits : Limits) (processors : ℕ) (d : DomainView) (cpus : List CpuView) (made : IsMade (bounds_of processors limits) d cpus) (count : IsCount processors) (range : AreInRange limits) where
@@ -76,11 +77,20 @@ module _ (limits : Limits) (processors : ℕ) (d : DomainView) (cpus : List CpuV
     history = λ c. subst (λ (z : CpuView). HasSeenLegal z.turn) (sym (is_new 0 c all.some)) (record { there = (let some = all.some in let long = made.count in omega (arith, some, long)); value = engine; lay = refl; legal = tt });
   }
 
+  tally_together : TallyTogether d [] cpus
+  tally_together = record {
+    seats = λ k c lt. ap (λ (z : CpuView). z.calls) (is_new k c lt) ∙ ap (λ n. record { tallies = d.tallies; processors = n; processor = k; seen = [] }) (sym made.count);
+    finishers = tt;
+  }
+
   pub met : HaveMet d limits cpus engine
-  met = record { all = all; together = together; raises = []; ask_together = ask_together; swaps = []; turn_together = turn_together; cookies = refl; wanted = λ _ half. absurd (omega (arith, half)) }
+  met = record { all = all; together = together; raises = []; ask_together = ask_together; swaps = []; turn_together = turn_together; deeds = []; tally_together = tally_together; cookies = refl; wanted = λ _ half. absurd (omega (arith, half)) }
 
   queued : queued_on cpus ≡ replicate processors 0
-  queued = none_yet cpus (λ k c lt. ap count_of (is_new k c lt)) ∙ ap (λ n. replicate n 0) made.count
+  queued = none_counted queued_in cpus (λ k c lt. ap (λ (z : CpuView). queued_in z.calls.processor z.calls.seen) (is_new k c lt)) ∙ ap (λ n. replicate n 0) made.count
+
+  finished : finished_on cpus ≡ replicate processors 0
+  finished = none_counted finished_in cpus (λ k c lt. ap (λ (z : CpuView). finished_in z.calls.processor z.calls.seen) (is_new k c lt)) ∙ ap (λ n. replicate n 0) made.count
 
   pub is_new_domain : IsNew limits processors (seen_first d limits cpus)
-  is_new_domain = subst (IsNew limits processors) (sym (first_seen d limits cpus engine 0 all.some turn_together.lying (λ c. ap (λ (z : CpuView). greatest z.needs.seen) (is_new 0 c all.some)))) (record { limits_are = refl; nothing_yet = refl; none_asked = refl; none_queued = queued; count = count })
+  is_new_domain = subst (IsNew limits processors) (sym (first_seen d limits cpus engine 0 all.some turn_together.lying (λ c. ap (λ (z : CpuView). greatest z.needs.seen) (is_new 0 c all.some)))) (record { limits_are = refl; nothing_yet = refl; none_asked = refl; none_queued = queued; none_finished = finished; count = count })

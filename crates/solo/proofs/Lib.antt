@@ -2,9 +2,11 @@ mod NothingBetween
 mod Turning
 mod Settled
 mod Needing
-mod Queueing
+mod Tallying
 mod Hand
 mod ProcessorActs
 mod CallbackActs
+mod BarrierActs
+mod CleanupActs
 mod EngineActs
 mod Founding

@@ -28,13 +28,15 @@ use Rattle.sections.specs.EngineCalls.{IsSameEngine}
 use Rattle.scan.specs.Progress.{standing_of, with_seat}
 use Rattle.solo.specs.Calls as call
 use Rattle.solo.specs.Calls.{SoloView, IsSame, IsSameDomain, Happens, Begins, IsOutOfSections, IsReadingAt, IsLookNow, AsksFor, ReadsNumber}
+use Rattle.calls.specs.declared.view.Deed.{Deed}
+use Rattle.calls.specs.Tallies.{queued_in, finished_in}
 use Rattle.domain.specs.Views.{DomainView, CpuView as DomainCpu}
 use Rattle.domain.specs.Meetings.{IsAllOf, EngineMeets, MeetsHere}
-use Rattle.solo.specs.Settling.{View, Holds, AllHold, AskTogether, TurnTogether, HaveMet}
-use Rattle.solo.specs.Insides.{queued_on, seen_as, seen_first}
+use Rattle.solo.specs.Settling.{View, Holds, AllHold, AskTogether, TurnTogether, TallyTogether, HaveMet}
+use Rattle.solo.specs.Insides.{queued_on, finished_on, seen_as, seen_first}
 use Rattle.solo.proofs.Hand.{first_seen, is_seen}
 use Rattle.solo.proofs.Needing.{GoesOn, squeezed, raised_here}
-use Rattle.solo.proofs.Queueing.{QueuesMore, count_of, number_before, counts_after, counts_stay}
+use Rattle.solo.proofs.Tallying.{Adds, CountsNothing, GoesOnBy, finished_are, queued_here, queued_else, found_at, same_counts, one_count, goes_on, tally_together}
 use Rattle.solo.proofs.Settled.{HaveAsked, IsSettled, settled, all_raised, asked_together}
 use Rattle.solo.proofs.Turning.{idle_found, idle_turned}
 use Rattle.solo.proofs.NothingBetween.{made_by_append}
@@ -131,7 +133,7 @@ quiet_one ev starts ends history =
 look_index : (c c' : CpuView) (l : LookView) (changes : ℕ) → Looks c c' l → c'.changes ≡ changes → l.index ≡ low_bit (index_word changes)
 look_index c c' l changes looks same = ap (λ (x : LookView). x.index) looks.look_is ∙ ap low_bit (looks.current ∙ ap index_word same)
 
--- a processor of the domain acted: `was` at place p became `now`, which made no turn. Its seat at the tree raised these (`raised`), or none, and it queued so many jobs (`more`). Then all have met
+-- a processor of the domain acted: `was` at place p became `now`, which made no turn. Its seat at the tree raised these (`raised`), or none, and at the tally words it did these (`act`), or nothing. Then all have met
 pub record Turn : Type 0 where
   pub d : DomainView
   pub limits : Limits
@@ -152,8 +154,8 @@ pub record Turn : Type 0 where
   pub needs : GoesOn raised was.needs now.needs
   pub own : raised_by p raised ≡ raised
   pub others : (q : ℕ) → q ≢ p → raised_by q raised ≡ []
-  pub more : ℕ
-  pub calls : QueuesMore more was.calls now.calls
+  pub act : List Deed
+  pub adds : Adds act was.calls now.calls
 
 module _ (t : Turn) where
   abbrev nobody : DomainCpu
@@ -211,28 +213,45 @@ module _ (t : Turn) where
   asked_after = greatest t.meets.needs.raises
 
   abbrev pub before : SoloView
-  before = seen_as t.d.tallies t.limits asked_before (queued_on t.cpus) t.v
+  before = seen_as t.d.tallies t.limits asked_before (queued_on t.cpus) (finished_on t.cpus) t.v
 
   abbrev pub after : SoloView
-  after = seen_as t.d'.tallies t.limits asked_after (queued_on t.cpus') t.meets.left
+  after = seen_as t.d'.tallies t.limits asked_after (queued_on t.cpus') (finished_on t.cpus') t.meets.left
 
-  -- Its seats at the tally words
+  -- Their seats at the tally words
 
   same_tallies : t.d'.tallies ≡ t.d.tallies
   same_tallies =
       let left = (t.all.here t.p nobody (omega (arith, count, within))).fits.tallies in
-      let met = ap (λ s. s.tallies) (t.meets.calls t.p nobody within ∙ ap (λ (z : DomainCpu). z.calls) (here nobody)) in
+      let met = ap (λ s. s.tallies) (t.meets.calls.each t.p nobody within).is ∙ ap (λ (z : DomainCpu). z.calls.tallies) (here nobody) in
       let was = ap (λ (z : DomainCpu). z.calls.tallies) t.is ∙ (t.met.all.here t.p t.was t.inside).fits.tallies in
-      sym left ∙ (met ∙ (t.calls.same.0 ∙ was))
+      sym left ∙ (met ∙ (t.adds.same.0 ∙ was))
 
-  pub number_is : slice_get (queued_on t.cpus) t.p ≡ Some (count_of t.was)
-  number_is = number_before t.cpus t.p t.was t.now t.inside t.is t.more t.calls t.cpus' count t.meets.calls
+  abbrev pub deeds_after : List Deed
+  deeds_after = t.meets.calls.deeds
 
-  pub queued_after : queued_on t.cpus' ≡ set (queued_on t.cpus) t.p (count_of t.was + t.more)
-  queued_after = counts_after t.cpus t.p t.was t.now t.inside t.is t.more t.calls t.cpus' count t.meets.calls
+  pub all_tally : TallyTogether t.d' deeds_after t.cpus'
+  all_tally = tally_together t.d t.d' t.met.deeds t.cpus t.cpus' t.p t.was t.now t.inside t.is t.met.tally_together t.act t.adds count t.meets.calls same_tallies
 
-  same_queued : t.more ≡ 0 → queued_on t.cpus' ≡ queued_on t.cpus
-  same_queued none = counts_stay t.cpus t.p t.was t.now t.inside t.is t.more t.calls t.cpus' count t.meets.calls none
+  pub deeds_go_on : GoesOnBy (length t.cpus) t.p t.met.deeds t.act deeds_after
+  deeds_go_on = goes_on t.d t.d' t.met.deeds t.cpus t.cpus' t.p t.was t.now t.inside t.is t.met.tally_together t.act t.adds count t.meets.calls same_tallies
+
+  pub as_many : length t.cpus' ≡ length t.cpus
+  as_many = count ∙ length-set t.cpus t.p t.now
+
+  pub number_is : slice_get (queued_on t.cpus) t.p ≡ Some (queued_in t.p t.met.deeds)
+  number_is = found_at queued_in t.d t.met.deeds t.cpus t.met.tally_together t.p t.inside
+
+  pub queued_after : queued_on t.cpus' ≡ set (queued_on t.cpus) t.p (queued_in t.p t.met.deeds + queued_in t.p t.act)
+  queued_after = one_count queued_in t.d t.d' t.met.deeds deeds_after t.cpus t.cpus' t.met.tally_together all_tally as_many t.p (queued_in t.p t.met.deeds + queued_in t.p t.act) t.inside (queued_here (length t.cpus) t.p t.met.deeds t.act deeds_after deeds_go_on) (queued_else (length t.cpus) t.p t.met.deeds t.act deeds_after deeds_go_on)
+
+  pub unqueued : queued_in t.p t.act ≡ 0 → queued_on t.cpus' ≡ queued_on t.cpus
+  unqueued none = same_counts queued_in t.d t.d' t.met.deeds deeds_after t.cpus t.cpus' t.met.tally_together all_tally as_many (λ k lt. dite (ℕ_discrete k t.p)
+      (λ same. subst (λ q. queued_in q deeds_after ≡ queued_in q t.met.deeds) (sym same) (let are = queued_here (length t.cpus) t.p t.met.deeds t.act deeds_after deeds_go_on in omega (arith, are, none)))
+      (λ other. queued_else (length t.cpus) t.p t.met.deeds t.act deeds_after deeds_go_on k lt other))
+
+  pub unfinished : ((q : ℕ) → finished_in q t.act ≡ 0) → finished_on t.cpus' ≡ finished_on t.cpus
+  unfinished none = same_counts finished_in t.d t.d' t.met.deeds deeds_after t.cpus t.cpus' t.met.tally_together all_tally as_many (λ k lt. let are = finished_are (length t.cpus) t.p t.met.deeds t.act deeds_after deeds_go_on k in let no = none k in omega (arith, are, no))
 
   -- how it is seen
 
@@ -289,7 +308,7 @@ module _ (t : Turn) where
     acted = settled (set t.cpus t.p t.now) t.cpus' t.v.seat t.meets.left.seat count engine_meets nobody t.limits t.v.seat.seen acts.others act (record { hold = hold; seen = inr (t.p, nobody, within, subst (λ l. IsBeginning l (get_or (set t.cpus t.p t.now) t.p nobody).cpu.seen) seen_here (beginning_refl (get_or (set t.cpus t.p t.now) t.p nobody).cpu.seen)) })
 
     -- the domain has come so far
-    come : (act' : List Event) → act ≡ act' → after ≡ record { table = t.v.seat.domain; limits = t.limits; standing = record (standing_of t.v) { history = t.v.seat.seen ++ act' }; asked = asked_after; tallies = t.d.tallies; queued = queued_on t.cpus' }
+    come : (act' : List Event) → act ≡ act' → after ≡ record { table = t.v.seat.domain; limits = t.limits; standing = record (standing_of t.v) { history = t.v.seat.seen ++ act' }; asked = asked_after; tallies = t.d.tallies; queued = queued_on t.cpus'; finished = finished_on t.cpus' }
     come act' same = λ z. record {
       table = same_engine.0 z;
       limits = t.limits;
@@ -304,6 +323,7 @@ module _ (t : Turn) where
       asked = asked_after;
       tallies = same_tallies z;
       queued = queued_on t.cpus';
+      finished = finished_on t.cpus';
     }
 
     -- all that is true of a domain in one hand
@@ -315,6 +335,8 @@ module _ (t : Turn) where
       ask_together = ask_together;
       swaps = t.meets.turns.swaps;
       turn_together = turned;
+      deeds = deeds_after;
+      tally_together = all_tally;
       cookies = cookies;
       wanted = λ resting some.
           let after = ap starts_in acted.seen ∙ (quiet t.v.seat.seen).0 in
@@ -335,14 +357,14 @@ module _ (t : Turn) where
     same_asked : asked_after ≡ asked_before
     same_asked = ap greatest (raises_are ∙ (ap (λ l. t.met.raises ++ l) none ∙ append-nil t.met.raises))
 
-    -- and nothing queued
-    module _ (no_more : t.more ≡ 0) where
+    -- and no call queued or finished
+    module _ (no_more : CountsNothing t.act) where
       pub same_as : IsSame (before) (after)
-      same_as = (same_engine.0, refl, same_engine.1, same_engine.2, same_asked, same_tallies, same_queued no_more)
+      same_as = (same_engine.0, refl, same_engine.1, same_engine.2, same_asked, same_tallies, unqueued (no_more.queued t.p), unfinished no_more.finished)
 
       -- nothing but how far the domain has come has changed
       pub same_rest : after ≡ record before { standing = standing_of t.meets.left }
-      same_rest = λ i. record { table = same_engine.0 i; limits = t.limits; standing = standing_of t.meets.left; asked = same_asked i; tallies = same_tallies i; queued = same_queued no_more i }
+      same_rest = λ i. record { table = same_engine.0 i; limits = t.limits; standing = standing_of t.meets.left; asked = same_asked i; tallies = same_tallies i; queued = unqueued (no_more.queued t.p) i; finished = unfinished no_more.finished i }
 
     met_plain : (act : List Event) → Acts act t.was.cpu t.now.cpu → AreOf t.p act → IsQuiet act → HaveMet t.d' t.limits t.cpus' t.meets.left
     met_plain act acts own quiet = met_by act acts own quiet (ap (λ n. n % 4) same_asked ∙ t.met.cookies) (λ _ _. same_asked)
@@ -360,8 +382,12 @@ module _ (t : Turn) where
       pub idle_met : HaveMet t.d' t.limits t.cpus' t.meets.left
       idle_met = met_plain [] acts (none_of t.p) quiet_none
 
-      pub idle : t.more ≡ 0 → after ≡ before
-      idle no_more = come [] acts (none_of t.p) [] refl ∙ (λ i. record { table = t.v.seat.domain; limits = t.limits; standing = record (standing_of t.v) { history = append-nil t.v.seat.seen i }; asked = same_asked i; tallies = t.d.tallies; queued = same_queued no_more i })
+      -- but that calls were finished
+      pub idle_but : queued_in t.p t.act ≡ 0 → (finished : List ℕ) → finished_on t.cpus' ≡ finished → after ≡ record before { finished = finished }
+      idle_but none finished is = come [] acts (none_of t.p) [] refl ∙ (λ i. record { table = t.v.seat.domain; limits = t.limits; standing = record (standing_of t.v) { history = append-nil t.v.seat.seen i }; asked = same_asked i; tallies = t.d.tallies; queued = unqueued none i; finished = is i })
+
+      pub idle : CountsNothing t.act → after ≡ before
+      idle no_more = idle_but (no_more.queued t.p) (finished_on t.cpus) (unfinished no_more.finished)
 
   -- One event was made
 
@@ -425,7 +451,7 @@ module _ (t : Turn) where
     pub locked_met : t.raised ≡ [] → HaveMet t.d' t.limits t.cpus' t.meets.left
     locked_met none = event_met (begin_of kind t.was.cpu t.now.cpu r h) (begin_of kind t.was.cpu t.now.cpu r h) (acts_of_lock kind t.was.cpu t.now.cpu r h) (ap Processor processor_is) refl none refl refl
 
-  pub locked_none : t.raised ≡ [] → t.more ≡ 0 → LooksInVain t.was.cpu t.now.cpu → IsOutOfSections t.limits t.p (index_now (standing_of t.v)) (standing_of t.v) × (after ≡ before)
+  pub locked_none : t.raised ≡ [] → CountsNothing t.act → LooksInVain t.was.cpu t.now.cpu → IsOutOfSections t.limits t.p (index_now (standing_of t.v)) (standing_of t.v) × (after ≡ before)
   locked_none none no_more h =
       let acts = in_vain h in
       let index = look_index t.was.cpu t.now.cpu h.look t.v.seat.changes h.looks (all_changes acts.later) in
@@ -459,7 +485,7 @@ module _ (t : Turn) where
           },
         )
 
-    pub entered_none : t.raised ≡ [] → t.more ≡ 0 → IsExhausted t.was.cpu look.index → t.now.cpu ≡ t.was.cpu → IsOutOfSections t.limits t.p look.index (standing_of t.v) × (after ≡ before)
+    pub entered_none : t.raised ≡ [] → CountsNothing t.act → IsExhausted t.was.cpu look.index → t.now.cpu ≡ t.was.cpu → IsOutOfSections t.limits t.p look.index (standing_of t.v) × (after ≡ before)
     entered_none none no_more exhausted same =
         (sym (own_locks t.was.cpu.processor look.index look.index t.was.cpu.mine held.processor refl held.mine) ∙ (exhausted ∙ held.sections), idle none (acts_of_nothing t.was.cpu t.now.cpu same) no_more)
 
@@ -542,5 +568,5 @@ module _ (t : Turn) where
         same_cookie : cookie_at number ≡ cookie_at c.number
         same_cookie = cookie_is ∙ sym (noted c.number c.notes).follows
 
-    pub asked_for : t.more ≡ 0 → (cookie : CookieView) → GivesCookie t.was.cpu t.now.cpu cookie → AsksFor t.p cookie.number (before) (after)
-    asked_for no_more cookie c = record { gives = given cookie c; asked = requested cookie c; queued = same_queued no_more }
+    pub asked_for : CountsNothing t.act → (cookie : CookieView) → GivesCookie t.was.cpu t.now.cpu cookie → AsksFor t.p cookie.number (before) (after)
+    asked_for no_more cookie c = record { gives = given cookie c; asked = requested cookie c; queued = unqueued (no_more.queued t.p); finished = unfinished no_more.finished }

@@ -1,5 +1,5 @@
 -- What the calls of a domain in one hand do: each is said of how far the domain has come before and behind it.
-use Rattle.std.specs.Prelude.{◌≡◌, ℕ, ◌+◌, ◌*◌, ◌<◌, ◌≤◌, max, Bool, true, List, [], ◌∷◌, ◌++◌, All, Option, Some, IfSome, Result, Ok, length, replicate, slice_get, slice_set}
+use Rattle.std.specs.Prelude.{◌≡◌, ℕ, ◌+◌, ◌*◌, ◌<◌, ◌≤◌, max, Bool, true, List, [], ◌∷◌, ◌++◌, All, Option, Some, IfSome, Result, Ok, length, replicate, slice_get, slice_index, slice_set}
 use Rattle.sseq.specs.declared.index.Index.{Index}
 use Rattle.atomic_table.specs.Seated.{TableId}
 use Rattle.onedom.specs.declared.event.Maker.TheVariants.{Processor}
@@ -24,7 +24,7 @@ use Rattle.scan.specs.Standings as engine
 use Rattle.scan.specs.Standings.{Standing, index_now, number_now, number_at_rest, IsOutOfPeriods}
 use Rattle.solo.specs.declared.queued.Queued.{Queued}
 
--- `table` tells which looks and readings are of this domain, and `tallies` which batches; `standing` has its processors, its history, and how far its grace periods have come; `asked` is the greatest number that was asked for, 0 if none; `queued` is how many jobs were ever queued, for each processor in order
+-- `table` tells which looks and readings are of this domain, and `tallies` which batches; `standing` has its processors, its history, and how far its grace periods have come; `asked` is the greatest number that was asked for, 0 if none; `queued` is how many jobs were ever queued, and `finished` how many of these are finished, for each processor in order
 pub record SoloView : Type 0 where
   pub table : TableId
   pub limits : Limits
@@ -32,14 +32,15 @@ pub record SoloView : Type 0 where
   pub asked : ℕ
   pub tallies : TableId
   pub queued : List ℕ
+  pub finished : List ℕ
 
 -- the same domain, with the same limits and processors
 abbrev pub IsSameDomain : SoloView → SoloView → Type 0
 IsSameDomain d d' = (d'.table ≡ d.table) × (d'.limits ≡ d.limits) × (d'.standing.processors ≡ d.standing.processors) × (d'.standing.periods ≡ d.standing.periods) × (d'.tallies ≡ d.tallies)
 
--- and nothing more was asked for or queued
+-- and nothing more was asked for, queued or finished
 abbrev pub IsSame : SoloView → SoloView → Type 0
-IsSame d d' = (d'.table ≡ d.table) × (d'.limits ≡ d.limits) × (d'.standing.processors ≡ d.standing.processors) × (d'.standing.periods ≡ d.standing.periods) × (d'.asked ≡ d.asked) × (d'.tallies ≡ d.tallies) × (d'.queued ≡ d.queued)
+IsSame d d' = (d'.table ≡ d.table) × (d'.limits ≡ d.limits) × (d'.standing.processors ≡ d.standing.processors) × (d'.standing.periods ≡ d.standing.periods) × (d'.asked ≡ d.asked) × (d'.tallies ≡ d.tallies) × (d'.queued ≡ d.queued) × (d'.finished ≡ d.finished)
 
 -- Making
 
@@ -52,6 +53,7 @@ pub record IsNew (limits : Limits) (processors : ℕ) (d : SoloView) : Type 0 wh
   pub nothing_yet : d.standing ≡ new_standing limits processors
   pub none_asked : d.asked ≡ 0
   pub none_queued : d.queued ≡ replicate processors 0
+  pub none_finished : d.finished ≡ replicate processors 0
   pub count : IsCount processors
 
 abbrev pub IsNotMade : ℕ → MakeError → Type 0
@@ -119,6 +121,7 @@ pub record AsksFor (p cookie : ℕ) (d d' : SoloView) : Type 0 where
   pub gives : GivesCookie p cookie d.standing d'.standing
   pub asked : d'.asked ≡ max d.asked cookie
   pub queued : d'.queued ≡ d.queued
+  pub finished : d'.finished ≡ d.finished
 
 -- Callbacks
 
@@ -128,6 +131,7 @@ pub record Queues (p : ℕ) (job : Queued) (d d' : SoloView) : Type 0 where
   pub asked : d'.asked ≡ max d.asked job.cookie
   pub number : slice_get d.queued p ≡ Some job.k
   pub queued : d'.queued ≡ slice_set d.queued p (job.k + 1)
+  pub finished : d'.finished ≡ d.finished
 
 -- why: as many were queued there as may be; or the processor was given a cookie, and nothing else happened
 abbrev pub QueuesNone : ℕ → CallRefusal → SoloView → SoloView → Type 0
@@ -157,6 +161,14 @@ module _ {J : Type 0} where
     pub asks : Asks p reached true d.standing d'.standing
     pub rest : d' ≡ record d { standing = d'.standing }
     pub batch : IfSome taken (IsGiven p max reached d)
+
+-- so many calls of the processor are finished more, those of the batch; nothing else happens
+abbrev pub Finishes : ℕ → ℕ → SoloView → SoloView → Type 0
+Finishes p count d d' = (n : ℕ) × (slice_get d.finished p ≡ Some n) × (d' ≡ record d { finished = slice_set d.finished p (n + count) })
+
+-- so many calls of the processor are out: they are queued, and not finished
+abbrev pub AreOut : ℕ → ℕ → SoloView → Type 0
+AreOut p count d = slice_index d.finished p + count ≤ slice_index d.queued p
 
 -- a list of this processor's jobs, whatever they are
 abbrev pub IsListOf : SoloView → ℕ → ListView (Unit {0}) → Type 0

@@ -5,7 +5,7 @@ use Rattle.sections.specs.declared.limits.Limits.{Limits}
 use Rattle.funnel.specs.Histories.{greatest}
 use Rattle.desk.specs.BayCalls.{lies}
 use Rattle.scan.specs.Progress.{standing_of}
-use Rattle.calls.specs.Tallies.{queued_in}
+use Rattle.calls.specs.Tallies.{queued_in, finished_in}
 use Rattle.domain.specs.Views.{DomainView, CpuView}
 use Rattle.solo.specs.declared.solo.Solo.TheInside as solo
 use Rattle.solo.specs.Calls.{SoloView, new_standing}
@@ -15,22 +15,26 @@ use Rattle.solo.specs.Settling.{View, HaveMet}
 abbrev pub queued_on : List CpuView → List ℕ
 queued_on cpus = map (λ c. queued_in c.calls.processor c.calls.seen) cpus
 
--- with these tally words, this asked for and queued, and this engine
-abbrev pub seen_as : TableId → Limits → ℕ → List ℕ → View → SoloView
-seen_as tallies limits asked queued v = record { table = v.seat.domain; limits = limits; standing = standing_of v; asked = asked; tallies = tallies; queued = queued }
+-- and how many of these are finished
+abbrev pub finished_on : List CpuView → List ℕ
+finished_on cpus = map (λ c. finished_in c.calls.processor c.calls.seen) cpus
+
+-- with these tally words, this asked for, these calls, and this engine
+abbrev pub seen_as : TableId → Limits → ℕ → List ℕ → List ℕ → View → SoloView
+seen_as tallies limits asked queued finished v = record { table = v.seat.domain; limits = limits; standing = standing_of v; asked = asked; tallies = tallies; queued = queued; finished = finished }
 
 -- a domain without processors or engine, which there is none of
 abbrev pub nobody : DomainView → Limits → SoloView
-nobody d limits = record { table = d.domain; limits = limits; standing = new_standing limits 0; asked = 0; tallies = d.tallies; queued = [] }
+nobody d limits = record { table = d.domain; limits = limits; standing = new_standing limits 0; asked = 0; tallies = d.tallies; queued = []; finished = [] }
 
-abbrev pub seen_with : DomainView → Limits → ℕ → List ℕ → Option View → SoloView
-seen_with d limits asked queued None = nobody d limits
-seen_with d limits asked queued (Some v) = seen_as d.tallies limits asked queued v
+abbrev pub seen_with : DomainView → Limits → ℕ → List ℕ → List ℕ → Option View → SoloView
+seen_with d limits asked queued finished None = nobody d limits
+seen_with d limits asked queued finished (Some v) = seen_as d.tallies limits asked queued finished v
 
--- as the first processor knows it: what lies there, and what was asked for; and as each knows what it queued itself
+-- as the first processor knows it: what lies there, and what was asked for; and as each knows its own calls
 abbrev pub seen_first : DomainView → Limits → List CpuView → SoloView
 seen_first d limits [] = nobody d limits
-seen_first d limits (c ∷ cpus) = seen_with d limits (greatest c.needs.seen) (queued_on (c ∷ cpus)) (lies c.turn)
+seen_first d limits (c ∷ cpus) = seen_with d limits (greatest c.needs.seen) (queued_on (c ∷ cpus)) (finished_on (c ∷ cpus)) (lies c.turn)
 
 module _ {A : Type 0} where
   abbrev pub view_of_solo : solo.Inside A → SoloView

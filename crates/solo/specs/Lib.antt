@@ -2,3 +2,5 @@ pub mod Calls
 pub mod Settling
 pub mod Refusals
 pub mod Insides
+pub mod Barriers
+pub mod Cleanup

@@ -16,6 +16,8 @@ use Rattle.funnel.specs.Calls.{IsSeenBy}
 use Rattle.desk.specs.Swaps.{Swap}
 use Rattle.desk.specs.BayCalls.{lies, HasSeenLegal}
 use Rattle.scan.specs.Standings.{number_at_rest}
+use Rattle.calls.specs.declared.view.Deed.{Deed}
+use Rattle.calls.specs.Tallies.{AreFinishers}
 use Rattle.domain.specs.Views as domain
 use Rattle.domain.specs.Views.{DomainView, CpuView}
 use Rattle.domain.specs.Meetings.{IsAllOf}
@@ -69,6 +71,13 @@ pub record TurnTogether (swaps : List (Swap View)) (cpus : List CpuView) (v : Vi
   pub lying : (d : CpuView) → lies (slice_index_or cpus 0 d).turn ≡ Some v
   pub history : (d : CpuView) → HasSeenLegal (slice_index_or cpus 0 d).turn
 
+-- Calls
+
+-- all processors have seen just these deeds at the domain's tally words, each at its own seat, and all batches were finished by these processors
+pub record TallyTogether (d : DomainView) (deeds : List Deed) (cpus : List CpuView) : Type 0 where
+  pub seats : (k : ℕ) (c : CpuView) → k < length cpus → (slice_index_or cpus k c).calls ≡ record { tallies = d.tallies; processors = length cpus; processor = k; seen = deeds }
+  pub finishers : AreFinishers (length cpus) deeds
+
 -- All of it
 
 -- a period is wanted: it is asked for
@@ -84,5 +93,7 @@ pub record HaveMet (d : DomainView) (limits : Limits) (cpus : List CpuView) (v :
   pub ask_together : AskTogether raises cpus
   pub swaps : List (Swap View)
   pub turn_together : TurnTogether swaps cpus v
+  pub deeds : List Deed
+  pub tally_together : TallyTogether d deeds cpus
   pub cookies : greatest raises % 4 ≡ 0
   pub wanted : ¬ IsRunning v.seat.seen → 0 < v.so_far → IsWanted (greatest raises) v

@@ -8,5 +8,6 @@ mod solo;
 #[cfg(test)]
 mod tests;
 
+pub use domain::{InUse, Totals};
 pub use queued::Queued;
 pub use solo::Solo;

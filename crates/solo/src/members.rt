@@ -13,8 +13,8 @@ pub(crate) struct Members<A: Allocator> {
 }
 
 impl<A: Allocator> Members<A> {
-    /// Lets all meet behind an act of one of them. Each knows its own events, raises and turns, so what all have then
-    /// seen is what was before, with the act: nobody else can have come between.
+    /// Lets all meet behind an act of one of them. Each knows its own events, raises, turns, and deeds at the tally words,
+    /// so what all have then seen is what was before, with the act: nobody else can have come between.
     pub(crate) fn settle(&mut self, rt: &impl Wait)
         requires { IsAllOf self.old.domain self.old.cpus.items }
         ensures all { IsAllOf self.new.domain self.new.cpus.items }

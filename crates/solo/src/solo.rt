@@ -15,11 +15,14 @@ use std::alloc::Allocator;
 use std::marker::Model;
 use std::sync::Wait;
 
+mod barriers;
 mod calling;
+mod cleanup;
 
 /// A domain that one thread drives. After each call that made a step its processors and its engine meet, so that all
 /// have seen one history, in which nothing stands but what the calls have done. Contracts see how far the domain has
-/// come: its history, and what is half done of a grace period.
+/// come: its history, what is half done of a grace period, and of each processor how many jobs were queued there and how
+/// many of these are finished.
 #[derive(Drop)]
 pub struct Solo<A: Allocator> {
     members: Members<A>,

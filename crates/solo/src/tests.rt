@@ -5,7 +5,9 @@ use sections::{Exhausted, Limits, MakeError, NotACookie};
 use sseq::Index;
 use std::test::Fail;
 
+mod barriers;
 mod callbacks;
+mod cleanup;
 
 const LIMITS: Limits = Limits {
     sections: 1,

@@ -42,5 +42,5 @@ pub fn of_scripts<A: Allocator>(alloc: A) -> Result<String<A>, AllocError> {
 /// Puts the help's line of a command behind the text.
 fn push_line<A: Allocator>(text: &mut String<A>, row: Row) -> Result<(), AllocError> {
     let Row { form, does, .. } = row;
-    writeln!(text, "  {form:<18} {does}").map_err(|_| AllocError)
+    writeln!(text, "  {form:<21} {does}").map_err(|_| AllocError)
 }

@@ -2,12 +2,12 @@ use crate::scene::{Kind, Scene};
 use lines::Name;
 
 /// What is there in the tests: a domain `a` of 2 processors, with a look `r`, a section `s` that its own processor ends, a
-/// held section `h`, and one that is parked, `p`.
+/// held section `h`, one that is parked, `p`, and a ticket `b`.
 pub struct Stage;
 
 impl Scene for Stage {
     ghost use Rattle.std.specs.Prelude.{bytes_eq, codes, Some, None, if◌then◌else◌};
-    ghost use Rattle.requests.specs.declared.scene.Kind.TheVariants.{Look, Reading, Held, Parked};
+    ghost use Rattle.requests.specs.declared.scene.Kind.TheVariants.{Look, Reading, Held, Parked, Ticket};
 
     ghost scene = { λ _. record {
       place_of = λ w. if bytes_eq w (codes "a") then Some 0 else None;
@@ -15,7 +15,8 @@ impl Scene for Stage {
       kind_of = λ _ w. if bytes_eq w (codes "r") then Some Look
           else (if bytes_eq w (codes "s") then Some Reading
           else (if bytes_eq w (codes "h") then Some Held
-          else (if bytes_eq w (codes "p") then Some Parked else None)));
+          else (if bytes_eq w (codes "p") then Some Parked
+          else (if bytes_eq w (codes "b") then Some Ticket else None))));
     } };
 
     fn place_of(&self, domain: &[u8]) -> Option<usize> {
@@ -39,6 +40,8 @@ impl Scene for Stage {
             Some(Kind::Held)
         } else if name.is(b"p") {
             Some(Kind::Parked)
+        } else if name.is(b"b") {
+            Some(Kind::Ticket)
         } else {
             None
         }

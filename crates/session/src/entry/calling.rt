@@ -1,6 +1,6 @@
 //! Callbacks: jobs are queued under their names, and run once a grace period is over.
 ghost use Rattle.std.specs.Prelude.{◌≡◌, ◌<◌, IfOk, OnErr};
-ghost use Rattle.solo.specs.Calls.{IsSame};
+ghost use Rattle.solo.specs.Calls.{IsSameDomain};
 ghost use Rattle.session.specs.JobLists.{AreJobsOf};
 ghost use Rattle.session.specs.Scripts.{Does};
 
@@ -16,14 +16,14 @@ use std::sync::Wait;
 /// As many jobs are taken at once, at most.
 const MOST: usize = 8;
 
-/// Finishes the batches that are out, and drops the jobs that wait.
+/// Finishes the batches that are out, and drops the jobs that wait. No section begins or ends.
 pub(super) fn finish_all<'a, A: Allocator>(
     rt: &impl Wait,
     domain: &mut Solo<&'a A>,
     mut jobs: Vec<Jobs<&'a A>, &'a A>,
 )
     requires { AreJobsOf domain.old jobs.items }
-    ensures { domain.new ≡ domain.old }
+    ensures { IsSameDomain domain.old domain.new × (domain.new.standing ≡ domain.old.standing) }
 {
     while let Some(last) = jobs.pop() {
         if let Some(batch) = last.close() {
@@ -79,6 +79,7 @@ impl<'a, A: Allocator> Entry<&'a A> {
         match self.domain.take_ready(rt, processor, MOST) {
             Ok(Some(mut batch)) => {
                 let names = jobs.take(&mut batch);
+                self.domain.see_out(rt, &mut batch);
                 self.domain.finish(rt, batch);
                 Reply::Ran(names)
             }
@@ -102,6 +103,7 @@ impl<'a, A: Allocator> Entry<&'a A> {
         match self.domain.take_ready(rt, processor, MOST) {
             Ok(Some(mut batch)) => {
                 let names = jobs.take(&mut batch);
+                self.domain.see_out(rt, &mut batch);
                 jobs.put_out(batch, names);
                 Reply::TookJobs(names)
             }
@@ -120,9 +122,10 @@ impl<'a, A: Allocator> Entry<&'a A> {
         let Some(out) = self.jobs[processor as usize].take_out() else {
             return Reply::Refused(Command::Finish, Cause::NoBatch);
         };
-        let (over, names) = out;
+        let (over, _names) = out;
+        let count = over.count();
         self.domain.finish(rt, over);
-        Reply::Finished(names.len())
+        Reply::Finished(count)
     }
 
     /// How the jobs of a processor wait; refused where the domain has no memory.

@@ -1,7 +1,7 @@
 //! Callbacks: a job is queued on a processor, and given out after a full grace period. Who queues a job keeps what it
 //! is; the domain has only that there is one.
 ghost use Rattle.std.specs.Prelude.{◌≡◌, ◌^◌, ◌<◌, ◌≤◌, [], IfOk, MatchResult};
-ghost use Rattle.solo.specs.Calls.{IsSame, IsSameDomain, IsBatchOf, Queues, QueuesNone, Takes, TellsLens};
+ghost use Rattle.solo.specs.Calls.{IsSame, IsSameDomain, IsBatchOf, Queues, QueuesNone, Takes, Finishes, AreOut, TellsLens};
 
 use crate::queued::Queued;
 use crate::refusals::queued;
@@ -48,11 +48,25 @@ impl<A: Allocator + Copy> Solo<A> {
         taken
     }
 
-    /// The batch is over, and empty, as its own processor says.
+    /// One look at the queued word of the batch's processor, by that processor: what is in the batch is queued there, and
+    /// not finished.
+    pub fn see_out(&mut self, rt: &impl Wait, batch: &mut Batch<(), A>)
+        requires { IsBatchOf self.old batch.old.processor batch.old }
+        ensures after { self.new ≡ self.old }
+        ensures batch { batch.new ≡ batch.old }
+        ensures out { AreOut batch.old.processor batch.old.count self.old }
+    {
+        let processor = usize::from(batch.processor());
+        let cpu = &mut self.members.cpus[processor];
+        self.members.domain.see_out(cpu, batch);
+        self.members.settle(rt);
+    }
+
+    /// The batch is over, and empty, as its own processor says: as many calls as it had are finished.
     pub fn finish(&mut self, rt: &impl Wait, batch: Batch<(), A>)
         requires batch { IsBatchOf self.old batch.processor batch }
         requires empty { batch.entries ≡ [] }
-        ensures { self.new ≡ self.old }
+        ensures { Finishes batch.processor batch.count self.old self.new }
     {
         let processor = usize::from(batch.processor());
         let cpu = &mut self.members.cpus[processor];

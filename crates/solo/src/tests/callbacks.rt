@@ -1,6 +1,6 @@
 //! Jobs that are queued at a domain in one hand, and given out there.
 ghost use Rattle.std.specs.Prelude.{◌≡◌, ◌<◌};
-ghost use Rattle.solo.specs.Calls.{IsSame, IsBatchOf};
+ghost use Rattle.solo.specs.Calls.{IsSameDomain, IsSame, IsBatchOf};
 
 use super::{LIMITS, ended, started};
 use crate::{Queued, Solo};
@@ -13,23 +13,23 @@ use std::sync::Wait;
 use std::test::Fail;
 
 /// Takes the jobs out of a batch, and finishes it.
-fn spend(rt: &impl Wait, domain: &mut Solo<Global>, mut batch: Batch<()>)
+pub(super) fn spend(rt: &impl Wait, domain: &mut Solo<Global>, mut batch: Batch<()>)
     requires { IsBatchOf domain.old batch.processor batch }
-    ensures { domain.new ≡ domain.old }
+    ensures { IsSameDomain domain.old domain.new }
 {
     while let Some(_) = batch.next() {}
     domain.finish(rt, batch);
 }
 
 /// Takes what is ready on a processor, and finishes the batch. Tells how many jobs were in it, and the cookie of the first.
-fn run_ready(
+pub(super) fn run_ready(
     rt: &impl Wait,
     domain: &mut Solo<Global>,
     processor: u64,
     max: usize,
 ) -> Result<Option<(usize, Option<u64>)>, TakeRefusal>
     requires { processor < domain.old.standing.processors }
-    ensures { IsSame domain.old domain.new }
+    ensures { IsSameDomain domain.old domain.new }
 {
     let Some(batch) = domain.take_ready(rt, processor, max)? else {
         return Ok(None);
@@ -40,7 +40,7 @@ fn run_ready(
 }
 
 /// Drives a whole grace period, and tells the number behind it.
-fn drive(rt: &impl Wait, domain: &mut Solo<Global>) -> Option<u64>
+pub(super) fn drive(rt: &impl Wait, domain: &mut Solo<Global>) -> Option<u64>
     ensures { IsSame domain.old domain.new }
 {
     let begun = started(domain.advance(rt));

@@ -7,6 +7,7 @@ use std::alloc::{AllocError, Global};
 use std::process::Abort;
 use std::test::Fail;
 
+mod barriers;
 mod callbacks;
 mod holding;
 mod needs;
@@ -320,6 +321,100 @@ refused finish none
 state web number 8 idle index 0 open 0 0 need 12
 ";
 
+const BARRIERS: &str = "\
+# A barrier waits for the jobs that were queued before it. Then the domain is
+# taken down.
+domain web 2
+
+# A ticket waits for what is queued when it is given, on every processor. Here
+# that is nothing yet.
+barrier web 0 before
+barrier-poll web 0 before
+
+# Now it has to wait for two jobs, wherever they were queued.
+call web 0 flush
+call web 1 close
+barrier web 0 both
+barrier-poll web 0 both
+
+# The grace period is over, but that alone is not enough: the jobs have to run.
+advance web 0
+advance web 0
+advance web 0
+barrier-poll web 1 both
+run web 0
+
+# A batch that is out is not finished yet.
+batch web 1
+barrier-poll web 1 both
+cleanup web
+finish web 1
+barrier-poll web 1 both
+
+# What is queued later is no matter of this ticket.
+call web 0 later
+barrier-poll web 0 both
+
+# A domain goes once nothing of it is left in use. The reply to a refusal says
+# what still is: open sections before all, parked ones too.
+down web 0 reader
+park web reader
+advance web 0
+cleanup web
+unpark web
+up web 1 reader
+
+# Then a grace period that runs,
+cleanup web
+advance web 0
+advance web 0
+
+# and then jobs that were queued and are not finished.
+cleanup web
+run web 0
+cleanup web
+
+# Its names are gone with it, and its own is free.
+barrier-poll web 0 both
+domain web 1
+";
+
+const BARRIERS_REPLIES: &str = "\
+made web 2
+ticket
+done
+queued 0 cookie 4
+queued 0 cookie 4
+ticket
+not yet
+started 1
+flipped 1
+ended 4
+not yet
+ran flush
+took close
+not yet
+refused cleanup callbacks 1
+finished 1
+done
+queued 1 cookie 8
+done
+index 1
+parked
+started 5
+refused cleanup sections 1
+took reader
+closed
+refused cleanup period
+flipped 0
+ended 8
+refused cleanup callbacks 1
+ran later
+cleaned opened 1 closed 1
+line 54: domain
+made web 1
+";
+
 /// The replies to some first lines of `STARTED`.
 fn first_replies(alloc: Global, lines: usize) -> Result<String, AllocError> {
     let mut text = String::new(alloc);
@@ -346,6 +441,7 @@ fn runs_scripts(rt: HostRuntime) -> Result<(), Fail> {
         (LOOKS, LOOKS_REPLIES, true),
         (HELD, HELD_REPLIES, true),
         (CALLBACKS, CALLBACKS_REPLIES, false),
+        (BARRIERS, BARRIERS_REPLIES, true),
         (FAULTS, FAULTS_REPLIES, true),
     ];
     for (script, replies, faulty) in table {

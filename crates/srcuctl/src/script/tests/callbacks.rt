@@ -45,6 +45,30 @@ fn has_no_free_segment(rt: HostRuntime) -> Result<(), Fail> {
     )
 }
 
+/// Would catch a name that is lost, or left for a later batch, because its job waited for another cookie than the first one
+/// of the batch.
+#[test]
+fn names_jobs_of_two_cookies(rt: HostRuntime) -> Result<(), Fail> {
+    check(
+        &rt,
+        LIMITS,
+        &[
+            ("domain a 1", "made a 1"),
+            ("call a 0 j", "queued 0 cookie 4"),
+            ("advance a 0", "started 1"),
+            ("call a 0 k", "queued 1 cookie 8"),
+            ("advance a 0", "flipped 1"),
+            ("advance a 0", "ended 4"),
+            ("advance a 0", "started 5"),
+            ("advance a 0", "flipped 0"),
+            ("advance a 0", "ended 8"),
+            ("batch a 0", "took j k"),
+            ("finish a 0", "finished 2"),
+            ("run a 0", "ran"),
+        ],
+    )
+}
+
 /// Would catch processors that share a list or a batch, and a batch that is finished as it is taken.
 #[test]
 fn each_processor_has_a_batch(rt: HostRuntime) -> Result<(), Fail> {

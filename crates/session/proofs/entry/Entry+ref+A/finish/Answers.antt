@@ -1,5 +1,4 @@
-use Rattle.std.proofs.Common.{rules}
-use Rattle.session.specs.Entries.{AreTogether}
+use Rattle.session.proofs.Together.{together_kept}
 use Rattle.session.proofs.entry.Entry+ref+A.finish.Goals as goal
 
 pub finish_all-requires : goal.finish_all-requires
@@ -7,5 +6,5 @@ finish_all-requires g c = c.self.invariant.1
 
 pub end_all-requires : goal.end_all-requires
 end_all-requires g c =
-    let h : AreTogether c.finish_all.new.domain c.self.inside.names.tokens c.self.inside.parking = rw c.finish_all.ensures c.self.invariant.0 in
-    h
+    let same = c.finish_all.ensures in
+    together_kept c.self.inside.domain c.self.inside.names.tokens c.self.inside.parking c.self.invariant.0 c.finish_all.new.domain (same.0.0, same.0.4) same.1

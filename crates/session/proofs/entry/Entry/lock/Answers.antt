@@ -21,7 +21,7 @@ invariant_of-self-in-Ok g c =
     let free = is_not_parked c.self.inside.name c.args.name c.self.inside.names.tokens c.self.inside.parking.parked c.self.inside.jobs.items d asked.1 in
     rw c.insert.ensures (
       together_begun d c.reserve.new.self.tokens c.self.inside.parking held c.args.name free Own c.read_lock.new.self c.args.processor (index_now d.standing) c.in-Ok.reading
-          c.read_lock.ensures.same.0 asked.0 c.in-Ok.ensures.section.0 c.in-Ok.ensures.section.1,
+          (c.read_lock.ensures.same.0, c.read_lock.ensures.same.5) asked.0 c.in-Ok.ensures.section.0 c.in-Ok.ensures.section.1,
       jobs_then c.self.inside.domain c.self.inside.jobs.items c.self.invariant.1 c.read_lock.new.self c.read_lock.ensures.same,
     )
 

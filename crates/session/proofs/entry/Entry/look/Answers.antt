@@ -1,5 +1,7 @@
+use Rattle.std.proofs.Common.{refl}
+use Rattle.session.specs.declared.names.Token.TheVariants as token
 use Rattle.session.specs.Entries.{AreTogether}
-use Rattle.session.proofs.Together.{together_look}
+use Rattle.session.proofs.Together.{together_with}
 use Rattle.session.proofs.Acting.{is_free, is_not_parked, looked}
 use Rattle.session.proofs.entry.Entry.look.Goals as goal
 
@@ -13,7 +15,7 @@ invariant_of-self-2 g c =
     let asked = rw (← c.self.view_is) at c.requires in
     let held : AreTogether c.self.inside.domain c.reserve.new.self.tokens c.self.inside.parking = rw c.in_ok-reserve.ensures.tokens c.self.invariant.0 in
     let free = is_not_parked c.self.inside.name c.args.name c.self.inside.names.tokens c.self.inside.parking.parked c.self.inside.jobs.items c.self.inside.domain asked.1 in
-    rw (c.look-look.ensures.after, c.insert.ensures) (together_look c.self.inside.domain c.reserve.new.self.tokens c.self.inside.parking held c.args.name free c.look-look.result c.look-look.ensures.look.table, c.self.invariant.1)
+    rw (c.look-look.ensures.after, c.insert.ensures) (together_with c.self.inside.domain c.reserve.new.self.tokens c.self.inside.parking held c.args.name free (token.Look c.look-look.result) c.look-look.ensures.look.table refl, c.self.invariant.1)
 
 pub returns-clause-does : goal.returns-clause-does
 returns-clause-does g c =

@@ -13,13 +13,19 @@ pub unreachable-requires : goal.unreachable-requires
 unreachable-requires g c =
     let asked = rw (← c.self.view_is) at c.requires in
     wrong_kind c.self.inside.name c.args.name c.self.inside.names.tokens c.self.inside.parking.parked c.self.inside.jobs.items c.self.inside.domain kind.Held (Some (token.Look c.in-Some-Look._look)) refl refl asked
-    (ap (λ (t : Token). Some t) (sym c.in-Some-Look.field-0-is) ∙ (sym c.in-Some-Look.is ∙ c.remove.ensures.token))
+    (ap (λ (t : Token _). Some t) (sym c.in-Some-Look.field-0-is) ∙ (sym c.in-Some-Look.is ∙ c.remove.ensures.token))
 
 pub unreachable-requires-in-Some-Reading : goal.unreachable-requires-in-Some-Reading
 unreachable-requires-in-Some-Reading g c =
     let asked = rw (← c.self.view_is) at c.requires in
     wrong_kind c.self.inside.name c.args.name c.self.inside.names.tokens c.self.inside.parking.parked c.self.inside.jobs.items c.self.inside.domain kind.Held (Some (token.Reading c.in-Some-Reading._reading)) refl refl asked
-    (ap (λ (t : Token). Some t) (sym c.in-Some-Reading.field-0-is) ∙ (sym c.in-Some-Reading.is ∙ c.remove.ensures.token))
+    (ap (λ (t : Token _). Some t) (sym c.in-Some-Reading.field-0-is) ∙ (sym c.in-Some-Reading.is ∙ c.remove.ensures.token))
+
+pub unreachable-requires-in-Some-Ticket : goal.unreachable-requires-in-Some-Ticket
+unreachable-requires-in-Some-Ticket g c =
+    let asked = rw (← c.self.view_is) at c.requires in
+    wrong_kind c.self.inside.name c.args.name c.self.inside.names.tokens c.self.inside.parking.parked c.self.inside.jobs.items c.self.inside.domain kind.Held (Some (token.Ticket c.in-Some-Ticket._ticket)) refl refl asked
+    (ap (λ (t : Token _). Some t) (sym c.in-Some-Ticket.field-0-is) ∙ (sym c.in-Some-Ticket.is ∙ c.remove.ensures.token))
 
 pub unreachable-requires-in-None : goal.unreachable-requires-in-None
 unreachable-requires-in-None g c =
@@ -43,7 +49,7 @@ returns-clause-does g c =
     let none = none_parked c.self.inside.parking.parked (search rules) in
     rw (← c.self.view_is, c.park.ensures)
     (laid_down c.self.inside.name c.self.inside.names.tokens c.self.inside.parking.parked c.self.inside.jobs.items c.self.inside.domain c.self.inside.domain c.args.name c.remove.new.self.tokens c.remove.ensures.frees c.in-Some-Held.held none
-    (ap (λ (t : Token). Some t) (sym c.in-Some-Held.field-0-is) ∙ (sym c.in-Some-Held.is ∙ c.remove.ensures.token)))
+    (ap (λ (t : Token _). Some t) (sym c.in-Some-Held.field-0-is) ∙ (sym c.in-Some-Held.is ∙ c.remove.ensures.token)))
 
 pub returns-then-not-is_empty-clause-does : goal.returns-then-not-is_empty-clause-does
 returns-then-not-is_empty-clause-does g c =

@@ -13,13 +13,19 @@ pub unreachable-requires : goal.unreachable-requires
 unreachable-requires g c =
     let asked = rw (← c.self.view_is) at c.requires in
     wrong_kind c.self.inside.name c.args.name c.self.inside.names.tokens c.self.inside.parking.parked c.self.inside.jobs.items c.self.inside.domain kind.Held (Some (token.Look c.in-Some-Look._look)) refl refl asked.1
-    (ap (λ (t : Token). Some t) (sym c.in-Some-Look.field-0-is) ∙ (sym c.in-Some-Look.is ∙ c.remove.ensures.token))
+    (ap (λ (t : Token _). Some t) (sym c.in-Some-Look.field-0-is) ∙ (sym c.in-Some-Look.is ∙ c.remove.ensures.token))
 
 pub unreachable-requires-in-Some-Reading : goal.unreachable-requires-in-Some-Reading
 unreachable-requires-in-Some-Reading g c =
     let asked = rw (← c.self.view_is) at c.requires in
     wrong_kind c.self.inside.name c.args.name c.self.inside.names.tokens c.self.inside.parking.parked c.self.inside.jobs.items c.self.inside.domain kind.Held (Some (token.Reading c.in-Some-Reading._reading)) refl refl asked.1
-    (ap (λ (t : Token). Some t) (sym c.in-Some-Reading.field-0-is) ∙ (sym c.in-Some-Reading.is ∙ c.remove.ensures.token))
+    (ap (λ (t : Token _). Some t) (sym c.in-Some-Reading.field-0-is) ∙ (sym c.in-Some-Reading.is ∙ c.remove.ensures.token))
+
+pub unreachable-requires-in-Some-Ticket : goal.unreachable-requires-in-Some-Ticket
+unreachable-requires-in-Some-Ticket g c =
+    let asked = rw (← c.self.view_is) at c.requires in
+    wrong_kind c.self.inside.name c.args.name c.self.inside.names.tokens c.self.inside.parking.parked c.self.inside.jobs.items c.self.inside.domain kind.Held (Some (token.Ticket c.in-Some-Ticket._ticket)) refl refl asked.1
+    (ap (λ (t : Token _). Some t) (sym c.in-Some-Ticket.field-0-is) ∙ (sym c.in-Some-Ticket.is ∙ c.remove.ensures.token))
 
 pub unreachable-requires-in-None : goal.unreachable-requires-in-None
 unreachable-requires-in-None g c =
@@ -36,11 +42,11 @@ pub invariant_of-self : goal.invariant_of-self
 invariant_of-self g c =
     let out = rw c.in-Some-Held.field-0-is at c.in-Some-Held.ensures.others in (
       together_ended c.self.inside.domain c.self.inside.names.tokens c.self.inside.parking c.self.invariant.0 c.args.name out.0 c.remove.new.self.tokens c.remove.ensures.frees Any c.up_read.new.self c.args.processor c.in-Some-Held.held
-          c.up_read.ensures.same.0 out.1 c.up_read.ensures.section,
+          (c.up_read.ensures.same.0, c.up_read.ensures.same.5) out.1 c.up_read.ensures.section,
       jobs_then c.self.inside.domain c.self.inside.jobs.items c.self.invariant.1 c.up_read.new.self c.up_read.ensures.same,
     )
 
 pub returns-clause-does : goal.returns-clause-does
 returns-clause-does g c = rw (← c.self.view_is)
     (upped c.self.inside.name c.self.inside.names.tokens c.self.inside.parking.parked c.self.inside.jobs.items c.self.inside.domain c.up_read.new.self c.args.name c.remove.new.self.tokens c.remove.ensures.frees c.args.processor c.in-Some-Held.held
-    c.up_read.ensures.same (ap (λ (t : Token). Some t) (sym c.in-Some-Held.field-0-is) ∙ (sym c.in-Some-Held.is ∙ c.remove.ensures.token)) c.up_read.ensures.section)
+    c.up_read.ensures.same (ap (λ (t : Token _). Some t) (sym c.in-Some-Held.field-0-is) ∙ (sym c.in-Some-Held.is ∙ c.remove.ensures.token)) c.up_read.ensures.section)

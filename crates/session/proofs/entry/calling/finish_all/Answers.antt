@@ -1,10 +1,10 @@
 use Rattle.std.proofs.Common.{rules, ◌∙◌, refl, sym}
 use Rattle.std.proofs.lemmas.List.Elements.{All-pop}
-use Rattle.session.proofs.Callbacks.{IsOut, emptied_is}
+use Rattle.session.proofs.Callbacks.{IsOut, emptied_is, out_finished}
 use Rattle.session.proofs.entry.calling.finish_all.Goals as goal
 
 pub loop-last-init : goal.loop-last-init
-loop-last-init g c = record { out = c.requires.out; same = refl }
+loop-last-init g c = record { out = c.requires.out; same = (refl, refl, refl, refl, refl); standing = refl }
 
 pub finish-requires : goal.finish-requires
 finish-requires g c =
@@ -14,10 +14,13 @@ finish-requires g c =
 
 pub loop-last-preserved-in-Some-close : goal.loop-last-preserved-in-Some-close
 loop-last-preserved-in-Some-close g c =
-    let out = (All-pop (IsOut c.loop-last.domain) c.loop-last.jobs.items c.pop.new.self.items c.pop.result c.pop.ensures.items c.loop-last.invariant.out).0 in
-    rw c.finish.ensures record { out = out; same = c.loop-last.invariant.same }
+    let v = c.loop-last.invariant in
+    let out = (All-pop (IsOut c.loop-last.domain) c.loop-last.jobs.items c.pop.new.self.items c.pop.result c.pop.ensures.items v.out).0 in
+    let (n, there, after) = c.finish.ensures in
+    rw after record { out = out_finished c.loop-last.domain c.pop.new.self.items _ out; same = v.same; standing = v.standing }
 
 pub loop-last-preserved : goal.loop-last-preserved
 loop-last-preserved g c =
-    let out = (All-pop (IsOut c.loop-last.domain) c.loop-last.jobs.items c.pop.new.self.items c.pop.result c.pop.ensures.items c.loop-last.invariant.out).0 in
-    record { out = out; same = c.loop-last.invariant.same }
+    let v = c.loop-last.invariant in
+    let out = (All-pop (IsOut c.loop-last.domain) c.loop-last.jobs.items c.pop.new.self.items c.pop.result c.pop.ensures.items v.out).0 in
+    record { out = out; same = v.same; standing = v.standing }

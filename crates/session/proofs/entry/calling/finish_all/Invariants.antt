@@ -1,12 +1,14 @@
 use Rattle.std.proofs.Common.{◌≡◌, length}
 use Rattle.std.specs.Prelude.{All, IfSome}
+use Rattle.solo.specs.Calls.{IsSameDomain}
 use Rattle.session.specs.JobLists.{IsEmptied}
 use Rattle.session.proofs.entry.calling.finish_all.Given as goal
 
 abbrev pub invariant-loop-last : goal.invariant-loop-last
 invariant-loop-last g l = record {
   out : All (λ j. IfSome j.out (λ o. IsEmptied l.domain o.0)) l.jobs.items;
-  same : l.domain ≡ l.fn.domain;
+  same : IsSameDomain l.fn.domain l.domain;
+  standing : l.domain.standing ≡ l.fn.domain.standing;
 }
 
 abbrev pub decreases-loop-last : goal.decreases-loop-last

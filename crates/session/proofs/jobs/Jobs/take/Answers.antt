@@ -10,8 +10,9 @@ pub push-requires : goal.push-requires
 push-requires g c =
     let (e, front, at) = next_is c.loop-reached.batch c.next-job.new.self c.next-job.result c.in-Some.reached c.next-job.ensures (sym c.cookie.ensures ∙ c.in-Some.is) in
     let few = c.loop-reached.invariant.leaving.few in
+    let eight = c.loop-reached.invariant.leaving.eight in
     let longer = ap length front in
-    omega (arith, few, longer)
+    omega (arith, few, eight, longer)
 
 pub loop-reached-smaller-in-Some-pop : goal.loop-reached-smaller-in-Some-pop
 loop-reached-smaller-in-Some-pop g c =

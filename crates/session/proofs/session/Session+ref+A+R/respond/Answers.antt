@@ -2,7 +2,7 @@ use Rattle.std.proofs.Common.{◌≡◌, ◌∙◌, arith}
 use Rattle.std.proofs.lemmas.Result.{IfOk-weaker}
 use Rattle.std.proofs.lemmas.List.Elements.{All-set}
 use Rattle.session.specs.States.{EntryView, states_of}
-use Rattle.session.proofs.Places.{domain_place_within, state_there, fits_there, same_limits, answered}
+use Rattle.session.proofs.Places.{domain_place_within, place_within, state_there, fits_there, same_limits, answered}
 use Rattle.session.proofs.session.Session+ref+A+R.respond.Goals as goal
 
 pub index_mut-requires : goal.index_mut-requires
@@ -17,6 +17,9 @@ act-requires g c =
     let entries = c.self.inside.entries.items in
     let within = domain_place_within asked.0.0 entries c.in-On.domain asked.0.1 in
     fits_there (states_of entries) c.in-On.domain c.index_mut.result.now.state (state_there entries c.in-On.domain c.index_mut.result.now within c.index_mut.ensures.value) c.in-On.act asked.1
+
+pub cleanup-requires : goal.cleanup-requires
+cleanup-requires g c = let asked = rw c.in-Cleanup.is at c.requires in place_within asked.0 c.args.self.now.domains c.in-Cleanup.domain asked.1
 
 pub invariant_of-self : goal.invariant_of-self
 invariant_of-self g c =

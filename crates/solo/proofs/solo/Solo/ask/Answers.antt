@@ -1,10 +1,10 @@
-use Rattle.std.proofs.Common.{◌≡◌, ◌<◌, max, length, refl, ap, ◌∙◌}
+use Rattle.std.proofs.Common.{◌≡◌, ◌<◌, max, [], length, ap, ◌∙◌}
 use Rattle.sseq.specs.Numbers.{cookie_at}
 use Rattle.sections.specs.Views.{CookieView}
 use Rattle.funnel.specs.declared.view.Holder.TheVariants.{Processor}
 use Rattle.funnel.specs.Histories.{greatest}
 use Rattle.solo.proofs.Needing.{climb, climb_on, climb_own, climb_others, greatest_asked}
-use Rattle.solo.proofs.Queueing.{none_more}
+use Rattle.solo.proofs.Tallying.{adds_none, nothing_done}
 use Rattle.solo.proofs.Hand.{is_inside, here, in_vector, all_still}
 use Rattle.solo.proofs.ProcessorActs.{Turn, now_was, after_is, asked_before, asked_after, raises_are, requested_met, same_but_asked, asked_for}
 use Rattle.solo.proofs.EngineActs.{poll_still}
@@ -38,8 +38,8 @@ turn g c = record {
   needs = climb_on c.args.processor _ _ _ _ (holder_is g c) c.start_poll-cookie.ensures.starts.asks;
   own = climb_own c.args.processor _ _ _ _ (holder_is g c) c.start_poll-cookie.ensures.starts.asks;
   others = climb_others c.args.processor _ _ _ _ (holder_is g c) c.start_poll-cookie.ensures.starts.asks;
-  more = 0;
-  calls = none_more _ _ c.start_poll-cookie.ensures.starts.calls;
+  act = [];
+  adds = adds_none _ _ c.start_poll-cookie.ensures.starts.calls;
 }
 
 asks : (g : Over) (c : goal.After-drop-cookie-inside g) → asked_after (turn g c) ≡ max (asked_before (turn g c)) (cookie_at c.start_poll-cookie.ensures.starts.gives.number)
@@ -63,4 +63,4 @@ pub returns-clause-same : goal.returns-clause-same
 returns-clause-same g c = rw (now_was (turn g c) _ c.self.view_is, after_is (turn g c)) (same_but_asked (turn g c))
 
 pub returns-clause-asks : goal.returns-clause-asks
-returns-clause-asks g c = rw (now_was (turn g c) _ c.self.view_is, after_is (turn g c), c.number.ensures.value) (asked_for (turn g c) c.start_poll-cookie.ensures.starts.gives.number c.start_poll-cookie.ensures.starts.gives.notes (asks g c) refl c.start_poll-cookie.result c.start_poll-cookie.ensures.starts.gives)
+returns-clause-asks g c = rw (now_was (turn g c) _ c.self.view_is, after_is (turn g c), c.number.ensures.value) (asked_for (turn g c) c.start_poll-cookie.ensures.starts.gives.number c.start_poll-cookie.ensures.starts.gives.notes (asks g c) nothing_done c.start_poll-cookie.result c.start_poll-cookie.ensures.starts.gives)

@@ -1,6 +1,6 @@
 use Rattle.std.proofs.Common.{[], refl, ap}
 use Rattle.solo.proofs.Needing.{stays}
-use Rattle.solo.proofs.Queueing.{none_more}
+use Rattle.solo.proofs.Tallying.{adds_none, nothing_done}
 use Rattle.solo.proofs.Hand.{is_inside, in_vector, all_behind}
 use Rattle.solo.proofs.ProcessorActs.{Turn, now_was, after_is, noted_met, given, same_as}
 use Rattle.solo.proofs.solo.Solo.cookie.Given.{Over}
@@ -27,8 +27,8 @@ turn g c = record {
   needs = stays _ _ (ap (λ x. x.needs) c.cookie-cookie.ensures.rest);
   own = refl;
   others = λ q _. refl;
-  more = 0;
-  calls = none_more _ _ (ap (λ x. x.calls) c.cookie-cookie.ensures.rest);
+  act = [];
+  adds = adds_none _ _ (ap (λ x. x.calls) c.cookie-cookie.ensures.rest);
 }
 
 pub index_mut-requires : goal.index_mut-requires
@@ -41,7 +41,7 @@ pub invariant_of-self : goal.invariant_of-self
 invariant_of-self g c = record { engine = c.settle.ensures.meets.left; met = noted_met (turn g c) refl c.cookie-cookie.ensures.gives.number c.cookie-cookie.ensures.gives.notes }
 
 pub returns-clause-same : goal.returns-clause-same
-returns-clause-same g c = rw (now_was (turn g c) _ c.self.view_is, after_is (turn g c)) (same_as (turn g c) refl refl)
+returns-clause-same g c = rw (now_was (turn g c) _ c.self.view_is, after_is (turn g c)) (same_as (turn g c) refl nothing_done)
 
 pub returns-clause-cookie : goal.returns-clause-cookie
 returns-clause-cookie g c = rw (now_was (turn g c) _ c.self.view_is, after_is (turn g c), c.number.ensures.value) (given (turn g c) c.cookie-cookie.result c.cookie-cookie.ensures.gives)

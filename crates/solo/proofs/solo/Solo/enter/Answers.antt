@@ -1,7 +1,7 @@
 use Rattle.std.proofs.Common.{[], refl, ap}
 use Rattle.std.proofs.lemmas.Result.{MatchResult-weaker}
 use Rattle.solo.proofs.Needing.{stays}
-use Rattle.solo.proofs.Queueing.{none_more}
+use Rattle.solo.proofs.Tallying.{adds_none, nothing_done}
 use Rattle.solo.proofs.Hand.{is_inside, in_vector, all_behind, is_its_own}
 use Rattle.solo.proofs.ProcessorActs.{Turn, now_was, after_is, enter_met, entered, entered_none, same_as, same_behind_enter}
 use Rattle.solo.proofs.solo.Solo.enter.Given.{Over}
@@ -28,8 +28,8 @@ turn g c = record {
   needs = stays _ _ (ap (λ x. x.needs) c.enter-taken.ensures.rest);
   own = refl;
   others = λ q _. refl;
-  more = 0;
-  calls = none_more _ _ (ap (λ x. x.calls) c.enter-taken.ensures.rest);
+  act = [];
+  adds = adds_none _ _ (ap (λ x. x.calls) c.enter-taken.ensures.rest);
 }
 
 pub index_mut-requires : goal.index_mut-requires
@@ -45,7 +45,7 @@ pub invariant_of-self : goal.invariant_of-self
 invariant_of-self g c = record { engine = c.settle.ensures.meets.left; met = enter_met (turn g c) c.args.look refl c.enter-taken.result c.enter-taken.ensures.enters }
 
 pub returns-clause-same : goal.returns-clause-same
-returns-clause-same g c = rw (now_was (turn g c) _ c.self.view_is, after_is (turn g c)) (same_as (turn g c) refl refl)
+returns-clause-same g c = rw (now_was (turn g c) _ c.self.view_is, after_is (turn g c)) (same_as (turn g c) refl nothing_done)
 
 pub returns-clause-section : goal.returns-clause-section
-returns-clause-section g c = rw (now_was (turn g c) _ c.self.view_is, after_is (turn g c)) (MatchResult-weaker c.enter-taken.result c.enter-taken.ensures.enters (λ r h. entered (turn g c) c.args.look r h) (λ _ h. entered_none (turn g c) c.args.look refl refl h.0 h.1))
+returns-clause-section g c = rw (now_was (turn g c) _ c.self.view_is, after_is (turn g c)) (MatchResult-weaker c.enter-taken.result c.enter-taken.ensures.enters (λ r h. entered (turn g c) c.args.look r h) (λ _ h. entered_none (turn g c) c.args.look refl nothing_done h.0 h.1))

@@ -37,8 +37,11 @@ settle-requires g c =
 abbrev inside : (g : Over) (c : goal.After-settle g) → c.from-processor.result < length c.self.inside.members.cpus.items
 inside g c = is_inside _ _ _ _ c.self.invariant.met _ c.self.view_is c.from-processor.result (subst (λ p. p < c.args.self.now.standing.processors) (at g c) c.requires.batch.there)
 
+there : (g : Over) (c : goal.After-settle g) → c.args.batch.processor < length c.self.inside.members.cpus.items
+there g c = subst (λ p. p < length c.self.inside.members.cpus.items) (sym (at g c)) (inside g c)
+
 pub invariant_of-self : goal.invariant_of-self
-invariant_of-self g c = record { engine = c.settle.ensures.meets.left; met = finished_met _ _ _ _ c.from-processor.result _ _ _ _ c.self.invariant.met (inside g c) c.index_mut-cpu.ensures.value c.settle.ensures.all c.settle.ensures.meets _ c.self.view_is c.args.batch c.finish.ensures.finishes c.finish.ensures.rest }
+invariant_of-self g c = record { engine = c.settle.ensures.meets.left; met = finished_met _ _ _ _ c.from-processor.result _ _ _ _ c.self.invariant.met (inside g c) c.index_mut-cpu.ensures.value c.settle.ensures.all c.settle.ensures.meets _ c.self.view_is c.args.batch c.finish.ensures.finishes c.finish.ensures.rest (there g c) }
 
 pub returns : goal.returns
-returns g c = finished _ _ _ _ c.from-processor.result _ _ _ _ c.self.invariant.met (inside g c) c.index_mut-cpu.ensures.value c.settle.ensures.all c.settle.ensures.meets _ c.self.view_is c.args.batch c.finish.ensures.finishes c.finish.ensures.rest
+returns g c = finished _ _ _ _ c.from-processor.result _ _ _ _ c.self.invariant.met (inside g c) c.index_mut-cpu.ensures.value c.settle.ensures.all c.settle.ensures.meets _ c.self.view_is c.args.batch c.finish.ensures.finishes c.finish.ensures.rest (there g c)

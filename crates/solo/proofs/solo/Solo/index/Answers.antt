@@ -1,6 +1,6 @@
 use Rattle.std.proofs.Common.{[], refl, sym, ap, ◌∙◌}
 use Rattle.solo.proofs.Needing.{stays}
-use Rattle.solo.proofs.Queueing.{none_more}
+use Rattle.solo.proofs.Tallying.{adds_none, nothing_done}
 use Rattle.solo.proofs.Hand.{first_inside, in_vector, all_behind}
 use Rattle.solo.proofs.ProcessorActs.{Turn, now_was, after_is, acts_of_load, idle, idle_met, looked}
 use Rattle.solo.proofs.solo.Solo.index.Given.{Over}
@@ -27,8 +27,8 @@ turn g c = record {
   needs = stays _ _ (ap (λ x. x.needs) c.look-look.ensures.rest);
   own = refl;
   others = λ q _. refl;
-  more = 0;
-  calls = none_more _ _ (ap (λ x. x.calls) c.look-look.ensures.rest);
+  act = [];
+  adds = adds_none _ _ (ap (λ x. x.calls) c.look-look.ensures.rest);
 }
 
 pub index_mut-requires : goal.index_mut-requires
@@ -44,4 +44,4 @@ pub returns-clause-value : goal.returns-clause-value
 returns-clause-value g c = rw (now_was (turn g c) _ c.self.view_is) (c.index.ensures ∙ (looked (turn g c) c.look-look.result c.look-look.ensures.looks).index)
 
 pub returns-clause-after : goal.returns-clause-after
-returns-clause-after g c = after_is (turn g c) ∙ (idle (turn g c) refl (acts_of_load _ _ _ c.look-look.ensures.looks.load) refl ∙ sym (now_was (turn g c) _ c.self.view_is))
+returns-clause-after g c = after_is (turn g c) ∙ (idle (turn g c) refl (acts_of_load _ _ _ c.look-look.ensures.looks.load) nothing_done ∙ sym (now_was (turn g c) _ c.self.view_is))

@@ -1,6 +1,6 @@
 use Rattle.std.proofs.Common.{[], refl, sym, ap, ◌∙◌}
 use Rattle.solo.specs.Calls.{SoloView}
-use Rattle.solo.proofs.Queueing.{none_more}
+use Rattle.solo.proofs.Tallying.{adds_none, nothing_done}
 use Rattle.solo.proofs.Hand.{first_inside, here, in_vector, all_still}
 use Rattle.solo.proofs.ProcessorActs.{Turn, now_was, after_is, acts_of_nothing, idle, idle_met, need_is}
 use Rattle.solo.proofs.EngineActs.{load_goes_on, load_still}
@@ -28,8 +28,8 @@ turn g c = record {
   needs = load_goes_on _ _ _ c.need-need.ensures.need.load;
   own = refl;
   others = λ q _. refl;
-  more = 0;
-  calls = none_more _ _ (ap (λ x. x.calls) c.need-need.ensures.need.rest);
+  act = [];
+  adds = adds_none _ _ (ap (λ x. x.calls) c.need-need.ensures.need.rest);
 }
 
 pub index_mut-requires : goal.index_mut-requires
@@ -48,4 +48,4 @@ pub returns-clause-value : goal.returns-clause-value
 returns-clause-value g c = need_is (turn g c) refl c.need-need.result c.need-need.ensures.need.load ∙ sym (ap (λ (x : SoloView). x.asked) (now_was (turn g c) _ c.self.view_is))
 
 pub returns-clause-after : goal.returns-clause-after
-returns-clause-after g c = after_is (turn g c) ∙ (idle (turn g c) refl (acts_of_nothing _ _ (ap (λ x. x.cpu) c.need-need.ensures.need.rest)) refl ∙ sym (now_was (turn g c) _ c.self.view_is))
+returns-clause-after g c = after_is (turn g c) ∙ (idle (turn g c) refl (acts_of_nothing _ _ (ap (λ x. x.cpu) c.need-need.ensures.need.rest)) nothing_done ∙ sym (now_was (turn g c) _ c.self.view_is))

@@ -1,7 +1,7 @@
 use Rattle.std.proofs.Common.{[], refl, ap}
 use Rattle.std.proofs.lemmas.Result.{MatchResult-weaker}
 use Rattle.solo.proofs.Needing.{stays}
-use Rattle.solo.proofs.Queueing.{none_more}
+use Rattle.solo.proofs.Tallying.{adds_none, nothing_done}
 use Rattle.solo.proofs.Hand.{is_inside, in_vector, all_behind}
 use Rattle.solo.proofs.ProcessorActs.{Turn, now_was, after_is, polled, polled_met, acts_of_nothing, idle, same_as, same_behind_poll}
 use Rattle.solo.proofs.solo.Solo.poll.Given.{Over}
@@ -28,8 +28,8 @@ turn g c = record {
   needs = stays _ _ (ap (λ x. x.needs) c.poll_number-answer.ensures.rest);
   own = refl;
   others = λ q _. refl;
-  more = 0;
-  calls = none_more _ _ (ap (λ x. x.calls) c.poll_number-answer.ensures.rest);
+  act = [];
+  adds = adds_none _ _ (ap (λ x. x.calls) c.poll_number-answer.ensures.rest);
 }
 
 pub index_mut-requires : goal.index_mut-requires
@@ -42,7 +42,7 @@ pub invariant_of-self : goal.invariant_of-self
 invariant_of-self g c = record { engine = c.settle.ensures.meets.left; met = polled_met (turn g c) refl c.args.cookie c.poll_number-answer.result c.poll_number-answer.ensures.asks }
 
 pub returns-clause-same : goal.returns-clause-same
-returns-clause-same g c = rw (now_was (turn g c) _ c.self.view_is, after_is (turn g c)) (same_as (turn g c) refl refl)
+returns-clause-same g c = rw (now_was (turn g c) _ c.self.view_is, after_is (turn g c)) (same_as (turn g c) refl nothing_done)
 
 pub returns-clause-answer : goal.returns-clause-answer
-returns-clause-answer g c = rw (now_was (turn g c) _ c.self.view_is, after_is (turn g c)) (MatchResult-weaker c.poll_number-answer.result c.poll_number-answer.ensures.asks (λ done h. polled (turn g c) c.args.cookie done h) (λ _ h. (h.0, idle (turn g c) refl (acts_of_nothing _ _ h.1) refl)))
+returns-clause-answer g c = rw (now_was (turn g c) _ c.self.view_is, after_is (turn g c)) (MatchResult-weaker c.poll_number-answer.result c.poll_number-answer.ensures.asks (λ done h. polled (turn g c) c.args.cookie done h) (λ _ h. (h.0, idle (turn g c) refl (acts_of_nothing _ _ h.1) nothing_done)))

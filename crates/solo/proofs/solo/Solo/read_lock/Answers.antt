@@ -1,7 +1,7 @@
 use Rattle.std.proofs.Common.{[], refl, ap, false}
 use Rattle.std.proofs.lemmas.Result.{MatchResult-weaker}
 use Rattle.solo.proofs.Needing.{stays}
-use Rattle.solo.proofs.Queueing.{none_more}
+use Rattle.solo.proofs.Tallying.{adds_none, nothing_done}
 use Rattle.solo.proofs.Hand.{is_inside, in_vector, all_behind}
 use Rattle.solo.proofs.ProcessorActs.{Turn, now_was, after_is, lock_met, locked, locked_none, same_as, same_behind_lock}
 use Rattle.solo.proofs.solo.Solo.read_lock.Given.{Over}
@@ -28,8 +28,8 @@ turn g c = record {
   needs = stays _ _ (ap (λ x. x.needs) c.read_lock-taken.ensures.rest);
   own = refl;
   others = λ q _. refl;
-  more = 0;
-  calls = none_more _ _ (ap (λ x. x.calls) c.read_lock-taken.ensures.rest);
+  act = [];
+  adds = adds_none _ _ (ap (λ x. x.calls) c.read_lock-taken.ensures.rest);
 }
 
 pub index_mut-requires : goal.index_mut-requires
@@ -42,7 +42,7 @@ pub invariant_of-self : goal.invariant_of-self
 invariant_of-self g c = record { engine = c.settle.ensures.meets.left; met = lock_met (turn g c) refl false c.read_lock-taken.result c.read_lock-taken.ensures.locks }
 
 pub returns-clause-same : goal.returns-clause-same
-returns-clause-same g c = rw (now_was (turn g c) _ c.self.view_is, after_is (turn g c)) (same_as (turn g c) refl refl)
+returns-clause-same g c = rw (now_was (turn g c) _ c.self.view_is, after_is (turn g c)) (same_as (turn g c) refl nothing_done)
 
 pub returns-clause-section : goal.returns-clause-section
-returns-clause-section g c = rw (now_was (turn g c) _ c.self.view_is, after_is (turn g c)) (MatchResult-weaker c.read_lock-taken.result c.read_lock-taken.ensures.locks (λ r h. locked (turn g c) false r h) (λ _ h. locked_none (turn g c) refl refl h))
+returns-clause-section g c = rw (now_was (turn g c) _ c.self.view_is, after_is (turn g c)) (MatchResult-weaker c.read_lock-taken.result c.read_lock-taken.ensures.locks (λ r h. locked (turn g c) false r h) (λ _ h. locked_none (turn g c) refl nothing_done h))

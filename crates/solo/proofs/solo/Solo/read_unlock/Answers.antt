@@ -1,6 +1,6 @@
 use Rattle.std.proofs.Common.{[], refl, sym, ap, ◌∙◌, ◌≡◌, ◌<◌, subst, rules}
 use Rattle.solo.proofs.Needing.{stays}
-use Rattle.solo.proofs.Queueing.{none_more}
+use Rattle.solo.proofs.Tallying.{adds_none, nothing_done}
 use Rattle.solo.proofs.Hand.{is_inside, is_its_own, in_vector, all_behind}
 use Rattle.solo.proofs.ProcessorActs.{Turn, now_was, after_is, ended, ended_met, same_as}
 use Rattle.solo.proofs.solo.Solo.read_unlock.Given.{Over}
@@ -30,8 +30,8 @@ turn g c = record {
   needs = stays _ _ (ap (λ x. x.needs) c.read_unlock.ensures.rest);
   own = refl;
   others = λ q _. refl;
-  more = 0;
-  calls = none_more _ _ (ap (λ x. x.calls) c.read_unlock.ensures.rest);
+  act = [];
+  adds = adds_none _ _ (ap (λ x. x.calls) c.read_unlock.ensures.rest);
 }
 
 pub index_mut-requires : goal.index_mut-requires
@@ -56,7 +56,7 @@ pub invariant_of-self : goal.invariant_of-self
 invariant_of-self g c = record { engine = c.settle.ensures.meets.left; met = ended_met (turn g c) refl _ _ c.args.reading c.read_unlock.ensures.ends }
 
 pub returns-clause-same : goal.returns-clause-same
-returns-clause-same g c = rw (now_was (turn g c) _ c.self.view_is, after_is (turn g c)) (same_as (turn g c) refl refl)
+returns-clause-same g c = rw (now_was (turn g c) _ c.self.view_is, after_is (turn g c)) (same_as (turn g c) refl nothing_done)
 
 pub returns-clause-section : goal.returns-clause-section
 returns-clause-section g c = rw (now_was (turn g c) _ c.self.view_is, after_is (turn g c)) (ended (turn g c) _ _ c.args.reading (at g c) c.read_unlock.ensures.ends)

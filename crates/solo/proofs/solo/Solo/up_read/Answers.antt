@@ -1,6 +1,6 @@
 use Rattle.std.proofs.Common.{[], refl, ap}
 use Rattle.solo.proofs.Needing.{stays}
-use Rattle.solo.proofs.Queueing.{none_more}
+use Rattle.solo.proofs.Tallying.{adds_none, nothing_done}
 use Rattle.solo.proofs.Hand.{is_inside, in_vector, all_behind, is_its_own}
 use Rattle.solo.proofs.ProcessorActs.{Turn, now_was, after_is, ended_here, ended_met, same_as}
 use Rattle.solo.proofs.solo.Solo.up_read.Given.{Over}
@@ -27,8 +27,8 @@ turn g c = record {
   needs = stays _ _ (ap (λ x. x.needs) c.up_read.ensures.rest);
   own = refl;
   others = λ q _. refl;
-  more = 0;
-  calls = none_more _ _ (ap (λ x. x.calls) c.up_read.ensures.rest);
+  act = [];
+  adds = adds_none _ _ (ap (λ x. x.calls) c.up_read.ensures.rest);
 }
 
 pub index_mut-requires : goal.index_mut-requires
@@ -44,7 +44,7 @@ pub invariant_of-self : goal.invariant_of-self
 invariant_of-self g c = record { engine = c.settle.ensures.meets.left; met = ended_met (turn g c) refl _ _ c.args.held c.up_read.ensures.ends }
 
 pub returns-clause-same : goal.returns-clause-same
-returns-clause-same g c = rw (now_was (turn g c) _ c.self.view_is, after_is (turn g c)) (same_as (turn g c) refl refl)
+returns-clause-same g c = rw (now_was (turn g c) _ c.self.view_is, after_is (turn g c)) (same_as (turn g c) refl nothing_done)
 
 pub returns-clause-section : goal.returns-clause-section
 returns-clause-section g c = rw (now_was (turn g c) _ c.self.view_is, after_is (turn g c)) (ended_here (turn g c) _ _ c.args.held c.up_read.ensures.ends)

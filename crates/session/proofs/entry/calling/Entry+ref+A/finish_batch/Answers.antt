@@ -1,7 +1,7 @@
-use Rattle.std.proofs.Common.{rules, ◌≡◌, ◌∙◌, refl, sym, ap, arith, None, Some}
-use Rattle.std.specs.Prelude.{IfSome}
-use Rattle.session.specs.JobLists.{JobsView, jobs_of, IsEmptied}
-use Rattle.session.proofs.Callbacks.{jobs_without, out_is, emptied_out, jobs_without_out, over, over_none}
+use Rattle.std.proofs.Common.{rules, ◌≡◌, ◌∙◌, refl, sym, ap, subst, None}
+use Rattle.solo.specs.Calls.{Finishes}
+use Rattle.session.specs.JobLists.{JobsView, jobs_of}
+use Rattle.session.proofs.Callbacks.{jobs_kept, jobs_finished, here_out, out_is, emptied_out, jobs_without_out, together_finished, over, over_none}
 use Rattle.session.proofs.entry.calling.Entry+ref+A.finish_batch.Goals as goal
 
 pub finish-requires : goal.finish-requires
@@ -13,17 +13,33 @@ finish-requires g c =
 pub invariant_of-self : goal.invariant_of-self
 invariant_of-self g c =
     let small = rw (← c.self.view_is) at c.requires in
-    (c.self.invariant.0, jobs_without c.self.inside.domain c.self.inside.jobs.items c.self.invariant.1 c.args.processor c.index_mut.result.now small c.index_mut.ensures.value c.take_out.new.self (ap (λ (x : JobsView). x.out) c.take_out.ensures.none))
+    let nothing : c.take_out.result ≡ None = search rules in
+    let none = sym c.take_out.ensures.out ∙ nothing in
+    (c.self.invariant.0, jobs_kept c.self.inside.domain c.self.inside.jobs.items c.self.invariant.1 c.args.processor c.index_mut.result.now small c.index_mut.ensures.value c.take_out.new.self (ap (λ (x : JobsView). x.out) c.take_out.ensures.none ∙ sym none))
 
 pub invariant_of-self-2 : goal.invariant_of-self-2
 invariant_of-self-2 g c =
     let small = rw (← c.self.view_is) at c.requires in
-    rw c.finish.ensures (c.self.invariant.0, jobs_without c.self.inside.domain c.self.inside.jobs.items c.self.invariant.1 c.args.processor c.index_mut.result.now small c.index_mut.ensures.value c.take_out.new.self (ap (λ (x : JobsView). x.out) c.take_out.ensures.none))
+    let out = sym c.take_out.ensures.out ∙ c.in-Some.is in
+    let none = ap (λ (x : JobsView). x.out) c.take_out.ensures.none in
+    let here = here_out c.self.inside.domain c.self.inside.jobs.items c.self.invariant.1 c.args.processor c.index_mut.result.now small c.index_mut.ensures.value c.in-Some.out out in
+    let finishes = subst (λ p. Finishes p c.in-Some.out.0.count c.self.inside.domain c.finish.new.self) here.0 c.finish.ensures in (
+      together_finished c.self.inside.domain c.finish.new.self c.self.inside.names.tokens c.self.inside.parking c.self.invariant.0 c.args.processor c.in-Some.out.0.count finishes,
+      jobs_finished c.self.inside.domain c.self.inside.jobs.items c.self.invariant.1 c.args.processor c.index_mut.result.now small c.index_mut.ensures.value c.finish.new.self c.take_out.new.self c.in-Some.out.0.count none here.1 finishes,
+    )
 
 pub returns-clause-does : goal.returns-clause-does
 returns-clause-does g c =
     let small = rw (← c.self.view_is) at c.requires in
-    rw (← c.self.view_is, c.len.ensures) (over c.self.inside.name c.self.inside.names.tokens c.self.inside.parking.parked c.self.inside.jobs.items c.self.inside.domain c.finish.new.self c.self.invariant.1 c.args.processor c.index_mut.result.now small c.index_mut.ensures.value c.self.inside.domain.limits c.in-Some.out c.take_out.new.self (sym c.take_out.ensures.out ∙ c.in-Some.is) c.finish.ensures c.take_out.ensures.none)
+    let out = sym c.take_out.ensures.out ∙ c.in-Some.is in
+    let here = here_out c.self.inside.domain c.self.inside.jobs.items c.self.invariant.1 c.args.processor c.index_mut.result.now small c.index_mut.ensures.value c.in-Some.out out in
+    let finishes = subst (λ p. Finishes p c.in-Some.out.0.count c.self.inside.domain c.finish.new.self) here.0 c.finish.ensures in
+    rw (← c.self.view_is, c.count-count.ensures) (over c.self.inside.name c.self.inside.names.tokens c.self.inside.parking.parked c.self.inside.jobs.items c.self.inside.domain c.finish.new.self c.self.invariant.1 c.args.processor c.index_mut.result.now small c.index_mut.ensures.value c.self.inside.domain.limits c.in-Some.out c.take_out.new.self out finishes c.take_out.ensures.none)
+
+pub returns-clause-limits : goal.returns-clause-limits
+returns-clause-limits g c =
+    let (n, there, after) = c.finish.ensures in
+    rw (← c.self.view_is, after) refl
 
 pub returns-in_default-clause-does : goal.returns-in_default-clause-does
 returns-in_default-clause-does g c =

@@ -1,0 +1,87 @@
+//! Taking a domain down.
+ghost use Rattle.std.specs.Prelude.{◌≡◌, MatchResult};
+ghost use Rattle.session.specs.Entries.{AreClosed, AreSpent};
+ghost use Rattle.session.specs.Scripts.{IsTakenDown, IsInUse};
+
+use super::Entry;
+use crate::jobs::Jobs;
+use crate::names::{Names, Token, take_last};
+use crate::parking::Parking;
+use requests::Cause;
+use solo::{InUse, Totals};
+use std::alloc::Allocator;
+use std::sync::Wait;
+
+/// Drops what is left of a domain that was taken down: its looks and tickets, and its desk.
+fn drop_all<'a, A: Allocator>(
+    names: Names<&'a A>,
+    parking: Parking<&'a A>,
+    mut jobs: Vec<Jobs<&'a A>, &'a A>,
+)
+    requires { AreSpent names.tokens parking jobs.items }
+{
+    let parked = parking.close();
+    let None = parked else { unreachable!() };
+    drop_tokens(names);
+    while let Some(last) = jobs.pop() {
+        let out = last.close();
+        let None = out else { unreachable!() };
+    }
+    jobs.destroy_empty();
+}
+
+/// Drops looks and tickets.
+fn drop_tokens<A: Allocator>(names: Names<A>)
+    requires { AreClosed names.tokens }
+{
+    let mut tokens = names.into_tokens();
+    while let Some(token) = take_last(&mut tokens) {
+        match token {
+            Token::Look(_look) => {}
+            Token::Ticket(_ticket) => {}
+            Token::Reading(_reading) => unreachable!(),
+            Token::Held(_held) => unreachable!(),
+        }
+    }
+    tokens.destroy_empty();
+}
+
+impl<'a, A: Allocator> Entry<&'a A> {
+    /// Takes the domain down, and drops its looks and its tickets; or tells why it is in use, and it comes back as it was.
+    pub fn cleanup(self, rt: &impl Wait) -> Result<Totals, (Cause, Entry<&'a A>)>
+        ensures { MatchResult result
+            (λ totals. IsTakenDown self.entry.state totals.opened totals.closed)
+            (λ refused. IsInUse self.entry.state refused.0 × (refused.1 ≡ self.entry)) }
+    {
+        let Entry {
+            name,
+            domain,
+            names,
+            parking,
+            jobs,
+        } = self;
+        match domain.cleanup(rt) {
+            Ok(totals) => {
+                // No section is open and each job is finished, so nothing is left that has to be spent.
+                drop_all(names, parking, jobs);
+                Ok(totals)
+            }
+            Err((in_use, domain)) => {
+                let entry = Entry {
+                    name,
+                    domain,
+                    names,
+                    parking,
+                    jobs,
+                };
+                match in_use {
+                    InUse::Sections(open) => Err((Cause::Sections(open), entry)),
+                    InUse::Period => Err((Cause::Period, entry)),
+                    InUse::Callbacks(waiting) => Err((Cause::Callbacks(waiting), entry)),
+                    // All processors are in one hand.
+                    InUse::Missing(_missing) => unreachable!(),
+                }
+            }
+        }
+    }
+}

@@ -1,0 +1,267 @@
+-- What was done at the tally words, where all processors are in one hand: each has just its own deeds, so the counts are those of before and of the act.
+use Rattle.std.proofs.Common.{◌≡◌, ◌≢◌, ℕ, suc, ◌+◌, ◌<◌, cond, if◌then◌else◌, map, List, [], ◌∷◌, ◌++◌, length, get_or, set, refl, sym, ap, ◌∙◌, subst, arith, append-nil, length-append, length-set, get_or-set_other, get_or-set_same, eq-eqb, ne_eqb}
+use Rattle.std.specs.Prelude.{Some, replicate, slice_get}
+use Rattle.std.proofs.lemmas.List.{length-map, get_or-map, ext_get_or, append_cancel_left}
+use Rattle.std.proofs.lemmas.Option.{slice_get-get_or}
+use mathlib.Core.Logic.{dite}
+use native.Mathlib.Decide.{ℕ_discrete}
+use Rattle.calls.specs.declared.view.Act.{Act}
+use Rattle.calls.specs.declared.view.Act.TheVariants.{Queue, Finish, LoadQueued, LoadFinished}
+use Rattle.calls.specs.declared.view.Deed.{Deed}
+use Rattle.calls.specs.Tallies.{deed, queued_in, finished_by, finished_in, deeds_of, IsFinisher, AreFinishers, IsBeginning}
+use Rattle.calls.specs.Views.{CallSeatView}
+use Rattle.calls.specs.Calls.{IsSameSeat, Does}
+use Rattle.calls.specs.Barriers.{Loads, queued_loads, finished_loads}
+use Rattle.calls.specs.Meetings.{Covers, Accepts}
+use Rattle.calls.proofs.CallerLemmas.{begins_itself, begins_on, deeds_append, same_queued}
+use Rattle.domain.specs.Views.{DomainView, CpuView}
+use Rattle.domain.specs.Meetings.{TalliesMeet}
+use Rattle.solo.specs.Settling.{TallyTogether}
+
+-- One processor's act
+
+-- the same seat has seen as much, or more, and did these itself
+pub record Adds (act : List Deed) (s t : CallSeatView) : Type 0 where
+  pub same : IsSameSeat s t
+  pub since : IsBeginning s.seen t.seen
+  pub own : deeds_of s.processor t.seen ≡ deeds_of s.processor s.seen ++ act
+
+-- nothing was done there
+pub adds_none : (s t : CallSeatView) → t ≡ s → Adds [] s t
+adds_none s t is = subst (λ (z : CallSeatView). Adds [] s z) (sym is) (record { same = (refl, refl, refl); since = begins_itself s.seen; own = sym (append-nil (deeds_of s.processor s.seen)) })
+
+pub adds_deed : (act : Act) (s t : CallSeatView) → Does act s t → Adds (deed s.processor act ∷ []) s t
+adds_deed act s t h =
+    let p : ℕ = s.processor in
+    let d : Deed = deed s.processor act in record {
+      same = h.same;
+      since = begins_on h.since (record { rest = d ∷ []; whole = h.seen });
+      own = ap (deeds_of p) h.seen ∙ (deeds_append p h.before (d ∷ []) ∙ (ap (λ l. l ++ deeds_of p (d ∷ [])) h.own ∙ ap (λ b. deeds_of p s.seen ++ cond b (d ∷ []) []) (eq-eqb p p refl)));
+    }
+
+pub adds_loads : (acts : List Act) (s t : CallSeatView) → Loads acts s t → Adds (map (deed s.processor) acts) s t
+adds_loads acts s t h = record { same = h.same; since = h.since; own = h.own }
+
+-- a load that is no deed
+pub adds_seen : (other : List Deed) (s t : CallSeatView) → Covers s other t → Adds [] s t
+adds_seen other s t h = record {
+  same = (ap (λ (z : CallSeatView). z.tallies) h.same, ap (λ (z : CallSeatView). z.processors) h.same, ap (λ (z : CallSeatView). z.processor) h.same);
+  since = h.since;
+  own = h.own ∙ sym (append-nil (deeds_of s.processor s.seen));
+}
+
+-- What it counts
+
+-- no call was queued, and none finished
+pub record CountsNothing (act : List Deed) : Type 0 where
+  pub queued : (q : ℕ) → queued_in q act ≡ 0
+  pub finished : (q : ℕ) → finished_in q act ≡ 0
+
+pub nothing_done : CountsNothing []
+nothing_done = record { queued = λ q. refl; finished = λ q. refl }
+
+pub queued_loads_count : (by k : ℕ) (ns : List ℕ) → CountsNothing (map (deed by) (queued_loads k ns))
+queued_loads_count by k [] = nothing_done
+queued_loads_count by k (n ∷ ns) = let rest = queued_loads_count by (k + 1) ns in record { queued = λ q. let none = rest.queued q in omega (arith, none); finished = λ q. let none = rest.finished q in omega (arith, none) }
+
+pub finished_loads_count : (by k : ℕ) (ns : List ℕ) → CountsNothing (map (deed by) (finished_loads k ns))
+finished_loads_count by k [] = nothing_done
+finished_loads_count by k (n ∷ ns) = let rest = finished_loads_count by (k + 1) ns in record { queued = λ q. let none = rest.queued q in omega (arith, none); finished = λ q. let none = rest.finished q in omega (arith, none) }
+
+queued_append : (p : ℕ) (a b : List Deed) → queued_in p (a ++ b) ≡ queued_in p a + queued_in p b
+queued_append p [] b = omega arith
+queued_append p (x ∷ xs) b = let r = queued_append p xs b in omega (arith, r)
+
+finished_append : (p : ℕ) (a b : List Deed) → finished_in p (a ++ b) ≡ finished_in p a + finished_in p b
+finished_append p [] b = omega arith
+finished_append p (x ∷ xs) b = let r = finished_append p xs b in omega (arith, r)
+
+pub both_count : (a b : List Deed) → CountsNothing a → CountsNothing b → CountsNothing (a ++ b)
+both_count a b first second = record {
+  queued = λ q. let cut = queued_append q a b in let f = first.queued q in let s = second.queued q in omega (arith, cut, f, s);
+  finished = λ q. let cut = finished_append q a b in let f = first.finished q in let s = second.finished q in omega (arith, cut, f, s);
+}
+
+-- a job was queued
+pub queued_one : (p : ℕ) → queued_in p (deed p Queue ∷ []) ≡ 1
+queued_one p = ap (λ b. (if b then 1 else 0) + 0) (eq-eqb p p refl)
+
+-- a batch was finished
+pub finished_here : (by p n : ℕ) → finished_in p (deed by (Finish p n) ∷ []) ≡ n
+finished_here by p n = let one : finished_in p (deed by (Finish p n) ∷ []) ≡ n + 0 = ap (λ b. (if b then n else 0) + 0) (eq-eqb p p refl) in omega (arith, one)
+
+pub finished_else : (by p n q : ℕ) → q ≢ p → finished_in q (deed by (Finish p n) ∷ []) ≡ 0
+finished_else by p n q other = ap (λ b. (if b then n else 0) + 0) (ne_eqb p q (λ e. other (sym e)))
+
+-- Among all
+
+-- the list goes on from one that all had seen. In what came behind it are these deeds of processor p, and none of the others; and all batches were finished by processors that are there
+pub record GoesOnBy (n p : ℕ) (before act all : List Deed) : Type 0 where
+  pub since : IsBeginning before all
+  pub own : deeds_of p all ≡ deeds_of p before ++ act
+  pub others : (q : ℕ) → q < n → q ≢ p → deeds_of q all ≡ deeds_of q before
+  pub finishers : AreFinishers n all
+
+later_finishers : (n : ℕ) (a b : List Deed) → AreFinishers n (a ++ b) → AreFinishers n b
+later_finishers n [] b h = h
+later_finishers n (x ∷ xs) b h = later_finishers n xs b h.1
+
+none_left : (l : List Deed) → length l ≡ 0 → l ≡ []
+none_left [] none = refl
+none_left (x ∷ l) none = absurd (omega (arith, none))
+
+not_first : (x : Deed) (xs : List Deed) → deeds_of x.by (x ∷ xs) ≡ [] → ⊥
+not_first x xs is = let h : x ∷ deeds_of x.by xs ≡ [] = sym (ap (λ b. cond b (x ∷ deeds_of x.by xs) (deeds_of x.by xs)) (eq-eqb x.by x.by refl)) ∙ is in cc
+
+none_behind : (q : ℕ) (x : Deed) (xs : List Deed) → deeds_of q (x ∷ xs) ≡ [] → deeds_of q xs ≡ []
+none_behind q x xs is = dite (ℕ_discrete x.by q)
+    (λ e. absurd (not_first x xs (subst (λ k. deeds_of k (x ∷ xs) ≡ []) (sym e) is)))
+    (λ other. sym (ap (λ b. cond b (x ∷ deeds_of q xs) (deeds_of q xs)) (ne_eqb x.by q other)) ∙ is)
+
+deeds_twice : (p : ℕ) (l : List Deed) → deeds_of p (deeds_of p l) ≡ deeds_of p l
+deeds_twice p [] = refl
+deeds_twice p (x ∷ xs) = dite (ℕ_discrete x.by p)
+    (λ e. let kept : deeds_of p (x ∷ xs) ≡ x ∷ deeds_of p xs = ap (λ b. cond b (x ∷ deeds_of p xs) (deeds_of p xs)) (eq-eqb x.by p e) in
+    ap (deeds_of p) kept ∙ (ap (λ b. cond b (x ∷ deeds_of p (deeds_of p xs)) (deeds_of p (deeds_of p xs))) (eq-eqb x.by p e) ∙ (ap (λ l. x ∷ l) (deeds_twice p xs) ∙ sym kept)))
+    (λ other. let kept : deeds_of p (x ∷ xs) ≡ deeds_of p xs = ap (λ b. cond b (x ∷ deeds_of p xs) (deeds_of p xs)) (ne_eqb x.by p other) in ap (deeds_of p) kept ∙ (deeds_twice p xs ∙ sym kept))
+
+finishes_none : (n q by : ℕ) (act : Act) → IsFinisher n by act → (by < n → ⊥) → finished_by q act ≡ 0
+finishes_none n q by Queue h away = refl
+finishes_none n q by (Finish p k) h away = absurd (away h)
+finishes_none n q by (LoadQueued p k) h away = refl
+finishes_none n q by (LoadFinished p k) h away = refl
+
+-- where no other processor that is there did anything, the deeds of one tell what is finished
+finished_by_one : (n p q : ℕ) (l : List Deed) → AreFinishers n l → ((k : ℕ) → k < n → k ≢ p → deeds_of k l ≡ []) → finished_in q l ≡ finished_in q (deeds_of p l)
+finished_by_one n p q [] h others = refl
+finished_by_one n p q (x ∷ xs) h others =
+    let rest = finished_by_one n p q xs h.1 (λ k lt ne. none_behind k x xs (others k lt ne)) in
+    dite (ℕ_discrete x.by p)
+    (λ e. let kept : finished_in q (deeds_of p (x ∷ xs)) ≡ finished_by q x.act + finished_in q (deeds_of p xs) = ap (λ b. finished_in q (cond b (x ∷ deeds_of p xs) (deeds_of p xs))) (eq-eqb x.by p e) in omega (arith, kept, rest))
+    (λ other. let kept : finished_in q (deeds_of p (x ∷ xs)) ≡ finished_in q (deeds_of p xs) = ap (λ b. finished_in q (cond b (x ∷ deeds_of p xs) (deeds_of p xs))) (ne_eqb x.by p other) in
+    let none = finishes_none n q x.by x.act h.0 (λ lt. not_first x xs (others x.by lt other)) in omega (arith, kept, none, rest))
+
+module _ (n p : ℕ) (before act all : List Deed) (h : GoesOnBy n p before act all) where
+  rest_of_others : (q : ℕ) → q < n → q ≢ p → deeds_of q h.since.rest ≡ []
+  rest_of_others q lt other =
+      let whole = ap (λ l. length (deeds_of q l)) h.since.whole in
+      let parts = ap length (deeds_append q before h.since.rest) ∙ length-append (deeds_of q before) (deeds_of q h.since.rest) in
+      let same = ap length (h.others q lt other) in
+      none_left (deeds_of q h.since.rest) (omega (arith, whole, parts, same))
+
+  rest_of_one : deeds_of p h.since.rest ≡ act
+  rest_of_one = append_cancel_left (deeds_of p before) (deeds_of p h.since.rest) act (sym (deeds_append p before h.since.rest) ∙ (ap (deeds_of p) (sym h.since.whole) ∙ h.own))
+
+  pub finished_are : (q : ℕ) → finished_in q all ≡ finished_in q before + finished_in q act
+  finished_are q =
+      let whole = ap (finished_in q) h.since.whole ∙ finished_append q before h.since.rest in
+      let one = finished_by_one n p q h.since.rest (later_finishers n before h.since.rest (subst (λ l. AreFinishers n l) h.since.whole h.finishers)) rest_of_others ∙ ap (finished_in q) rest_of_one in
+      omega (arith, whole, one)
+
+  pub queued_here : queued_in p all ≡ queued_in p before + queued_in p act
+  queued_here =
+      let whole = ap (queued_in p) h.since.whole ∙ queued_append p before h.since.rest in
+      let one : queued_in p h.since.rest ≡ queued_in p act = same_queued p h.since.rest act (rest_of_one ∙ own_of_own) in
+      omega (arith, whole, one)
+    where
+      own_of_own : act ≡ deeds_of p act
+      own_of_own = sym rest_of_one ∙ (sym (deeds_twice p h.since.rest) ∙ ap (deeds_of p) rest_of_one)
+
+  pub queued_else : (q : ℕ) → q < n → q ≢ p → queued_in q all ≡ queued_in q before
+  queued_else q lt other = same_queued q all before (h.others q lt other)
+
+  module _ (none : CountsNothing act) where
+    pub still_finished : (q : ℕ) → finished_in q all ≡ finished_in q before
+    still_finished q = let are = finished_are q in let no = none.finished q in omega (arith, are, no)
+
+    pub still_queued : (q : ℕ) → q < n → queued_in q all ≡ queued_in q before
+    still_queued q lt = dite (ℕ_discrete q p)
+        (λ same. subst (λ k. queued_in k all ≡ queued_in k before) (sym same) (let are = queued_here in let no = none.queued p in omega (arith, are, no)))
+        (λ other. queued_else q lt other)
+
+-- All processors
+
+-- a count of each processor, as it knows it
+abbrev pub counts_on : (ℕ → List Deed → ℕ) → List CpuView → List ℕ
+counts_on count cpus = map (λ c. count c.calls.processor c.calls.seen) cpus
+
+module _ (count : ℕ → List Deed → ℕ) where
+  abbrev count_for : CpuView → ℕ
+  count_for c = count c.calls.processor c.calls.seen
+
+  -- where all have seen one list, these are its counts
+  pub count_at : (d : DomainView) (deeds : List Deed) (cpus : List CpuView) → TallyTogether d deeds cpus → (k : ℕ) → k < length cpus → get_or (counts_on count cpus) k 0 ≡ count k deeds
+  count_at d deeds [] together k lt = absurd (omega (arith, lt))
+  count_at d deeds (c ∷ cpus) together k lt = get_or-map count_for (c ∷ cpus) k c 0 lt ∙ ap (λ (s : CallSeatView). count s.processor s.seen) (together.seats k c lt)
+
+  pub found_at : (d : DomainView) (deeds : List Deed) (cpus : List CpuView) → TallyTogether d deeds cpus → (k : ℕ) → k < length cpus → slice_get (counts_on count cpus) k ≡ Some (count k deeds)
+  found_at d deeds cpus together k lt = slice_get-get_or (counts_on count cpus) k 0 (let long = length-map cpus count_for in omega (arith, long, lt)) ∙ ap Some (count_at d deeds cpus together k lt)
+
+  module _ (d d' : DomainView) (deeds deeds' : List Deed) (cpus cpus' : List CpuView) (together : TallyTogether d deeds cpus) (together' : TallyTogether d' deeds' cpus') (long : length cpus' ≡ length cpus) where
+    many : length (counts_on count cpus') ≡ length cpus
+    many = length-map cpus' count_for ∙ long
+
+    pub same_counts : ((k : ℕ) → k < length cpus → count k deeds' ≡ count k deeds) → counts_on count cpus' ≡ counts_on count cpus
+    same_counts same = ext_get_or 0 (counts_on count cpus') (counts_on count cpus) (many ∙ sym (length-map cpus count_for)) (λ k lt.
+        let inside : k < length cpus = (let all = many in omega (arith, all, lt)) in
+        count_at d' deeds' cpus' together' k (omega (arith, inside, long)) ∙ (same k inside ∙ sym (count_at d deeds cpus together k inside)))
+
+    -- but for one
+    pub one_count : (p m : ℕ) → p < length cpus → count p deeds' ≡ m → ((k : ℕ) → k < length cpus → k ≢ p → count k deeds' ≡ count k deeds) → counts_on count cpus' ≡ set (counts_on count cpus) p m
+    one_count p m there here others =
+        let old : length (counts_on count cpus) ≡ length cpus = length-map cpus count_for in
+        ext_get_or 0 (counts_on count cpus') (set (counts_on count cpus) p m) (many ∙ sym (length-set (counts_on count cpus) p m ∙ old)) (λ k lt.
+        let inside : k < length cpus = (let all = many in omega (arith, all, lt)) in
+        let found : get_or (counts_on count cpus') k 0 ≡ count k deeds' = count_at d' deeds' cpus' together' k (omega (arith, inside, long)) in
+        found ∙ dite (ℕ_discrete k p)
+        (λ same. subst (λ q. count q deeds' ≡ get_or (set (counts_on count cpus) p m) q 0) (sym same) (here ∙ sym (get_or-set_same (counts_on count cpus) p m 0 (omega (arith, there, old)))))
+        (λ other. others k inside other ∙ (sym (count_at d deeds cpus together k inside) ∙ sym (get_or-set_other (counts_on count cpus) p k m 0 other))))
+
+  -- where nothing is counted of any
+  pub none_counted : (cpus : List CpuView) → ((k : ℕ) (c : CpuView) → k < length cpus → count_for (get_or cpus k c) ≡ 0) → counts_on count cpus ≡ replicate (length cpus) 0
+  none_counted [] none = refl
+  none_counted (x ∷ cpus) none = λ i. none 0 x (omega arith) i ∷ none_counted cpus (λ k c lt. none (suc k) c (omega (arith, lt))) i
+
+-- one of them acted, and then all met
+module _ (d d' : DomainView) (before : List Deed) (cpus cpus' : List CpuView) (p : ℕ) (was now : CpuView) (inside : p < length cpus) (is : was ≡ get_or cpus p was) (together : TallyTogether d before cpus) (act : List Deed) (adds : Adds act was.calls now.calls)
+    (count : length cpus' ≡ length (set cpus p now)) (meets : TalliesMeet (set cpus p now) cpus') (same : d'.tallies ≡ d.tallies) where
+  was_is : was.calls ≡ record { tallies = d.tallies; processors = length cpus; processor = p; seen = before }
+  was_is = ap (λ (z : CpuView). z.calls) is ∙ together.seats p was inside
+
+  within : (k : ℕ) → k < length cpus → k < length (set cpus p now)
+  within k lt = omega (arith, length-set cpus p now, lt)
+
+  accepts_here : (c : CpuView) → Accepts now.calls meets.deeds (get_or cpus' p c).calls
+  accepts_here c = subst (λ (z : CpuView). Accepts z.calls meets.deeds (get_or cpus' p c).calls) (get_or-set_same cpus p now c inside) (meets.each p c (within p inside))
+
+  accepts_else : (k : ℕ) (c : CpuView) → k < length cpus → k ≢ p → Accepts (record { tallies = d.tallies; processors = length cpus; processor = k; seen = before }) meets.deeds (get_or cpus' k c).calls
+  accepts_else k c lt other = subst (λ (s : CallSeatView). Accepts s meets.deeds (get_or cpus' k c).calls) (ap (λ (z : CpuView). z.calls) (get_or-set_other cpus p k now c other) ∙ together.seats k c lt) (meets.each k c (within k lt))
+
+  pub goes_on : GoesOnBy (length cpus) p before act meets.deeds
+  goes_on = record {
+    since = begins_on (subst (λ l. IsBeginning l now.calls.seen) (ap (λ (s : CallSeatView). s.seen) was_is) adds.since) (accepts_here was).since;
+    own =
+        let here : now.calls.processor ≡ p = adds.same.2 ∙ ap (λ (s : CallSeatView). s.processor) was_is in
+        let kept : deeds_of p meets.deeds ≡ deeds_of p now.calls.seen = subst (λ k. deeds_of k meets.deeds ≡ deeds_of k now.calls.seen) here (accepts_here was).own in
+        let more : deeds_of p now.calls.seen ≡ deeds_of p before ++ act = subst (λ (s : CallSeatView). deeds_of s.processor now.calls.seen ≡ deeds_of s.processor s.seen ++ act) was_is adds.own in
+        kept ∙ more;
+    others = λ q lt other. (accepts_else q was lt other).own;
+    finishers = subst (λ k. AreFinishers k meets.deeds) (length-set cpus p now) meets.finishers;
+  }
+
+  pub tally_together : TallyTogether d' meets.deeds cpus'
+  tally_together = record {
+    seats = λ k c lt.
+        let there : k < length cpus = omega (arith, count, length-set cpus p now, lt) in
+        let long : length cpus ≡ length cpus' = sym (count ∙ length-set cpus p now) in
+        dite (ℕ_discrete k p)
+        (λ at. subst (λ q. (get_or cpus' q c).calls ≡ record { tallies = d'.tallies; processors = length cpus'; processor = q; seen = meets.deeds }) (sym at)
+        ((accepts_here c).is ∙ (λ i. record {
+          tallies = (adds.same.0 ∙ (ap (λ (s : CallSeatView). s.tallies) was_is ∙ sym same)) i;
+          processors = (adds.same.1 ∙ (ap (λ (s : CallSeatView). s.processors) was_is ∙ long)) i;
+          processor = (adds.same.2 ∙ ap (λ (s : CallSeatView). s.processor) was_is) i;
+          seen = meets.deeds;
+        })))
+        (λ other. (accepts_else k c there other).is ∙ (λ i. record { tallies = sym same i; processors = long i; processor = k; seen = meets.deeds }));
+    finishers = subst (λ k. AreFinishers k meets.deeds) (sym count) meets.finishers;
+  }
