@@ -8,7 +8,5 @@ mod open;
 mod parking;
 mod scene;
 mod session;
-#[cfg(test)]
-mod tests;
 
 pub use session::Session;

@@ -5,6 +5,8 @@ ghost use Rattle.sections.specs.Limits.{AreInRange};
 
 mod command_line;
 mod help;
+#[cfg(test)]
+mod replies;
 mod script;
 mod status;
 

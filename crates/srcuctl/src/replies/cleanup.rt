@@ -1,5 +1,5 @@
 //! Domains that are taken down.
-use crate::tests::{AMPLE, check};
+use crate::replies::{AMPLE, check};
 use std::test::Fail;
 
 /// Would catch a cause that is missed or told before another one, counts that are too small, and a refusal that changes

@@ -1,5 +1,5 @@
 //! Tickets of barriers.
-use crate::tests::{AMPLE, check};
+use crate::replies::{AMPLE, check};
 use sections::Limits;
 use std::test::Fail;
 

@@ -1,6 +1,6 @@
 ghost use Rattle.sections.specs.Limits.{AreInRange};
 
-use crate::session::Session;
+use session::Session;
 use lines::Answers;
 use sections::Limits;
 use std::alloc::{AllocError, Global};

@@ -1,5 +1,5 @@
 //! Sections that any processor may end, and the desk.
-use crate::tests::{AMPLE, check};
+use crate::replies::{AMPLE, check};
 use sections::Limits;
 use std::test::Fail;
 

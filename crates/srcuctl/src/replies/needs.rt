@@ -1,5 +1,5 @@
 //! Needs: what was asked for, and what the engine makes of it.
-use crate::tests::{AMPLE, check};
+use crate::replies::{AMPLE, check};
 use sections::Limits;
 use std::test::Fail;
 

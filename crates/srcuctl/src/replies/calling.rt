@@ -1,5 +1,5 @@
 //! Jobs that are queued, and the batches that are out.
-use crate::tests::{AMPLE, check};
+use crate::replies::{AMPLE, check};
 use std::test::Fail;
 
 /// Would catch a batch that is taken while one is out, one that is out without a job, a finished one that stays out, and
