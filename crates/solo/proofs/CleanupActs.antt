@@ -104,8 +104,8 @@ module _ (d : DomainView) (limits : Limits) (cpus : List DomainCpu) (lay : View)
         let since : IsBeginning lay.seat.seen history = subst (λ l. IsBeginning l history) (met.together.seen 0 nobody some) (of_all.since 0 nobody some) in
         (nothing_between (length cpus) lay.seat.seen [] [] history (subst (λ l. IsBeginning l history) (sym same) since) (subst (λ n. All (HasItsMaker n) history) many of_all.makers) (λ m is. ap length (each_made m is ∙ ap (made_by m) (sym same)))).1 ∙ same
 
-    seen_history : history ≡ seen.standing.history
-    seen_history = history_is ∙ sym (ap (λ (x : SoloView). x.standing.history) view_is)
+    seen_history : history ≡ seen.course.standing.history
+    seen_history = history_is ∙ sym (ap (λ (x : SoloView). x.course.standing.history) view_is)
 
   module _ (deeds : List Deed) (of_all : AreDeedsOf d cpus deeds) where
     abbrev counting : List Deed
@@ -129,19 +129,19 @@ module _ (d : DomainView) (limits : Limits) (cpus : List DomainCpu) (lay : View)
     pub same_finished : (k : ℕ) → finished_in k deeds ≡ finished_in k met.deeds
     same_finished = still_finished (length cpus) 0 met.deeds counting deeds goes_by_first counts_nothing
 
-    queued_sum : all_queued d.processors deeds ≡ sum seen.queued
+    queued_sum : all_queued d.processors deeds ≡ sum seen.course.queued
     queued_sum =
         let long : length (queued_on cpus) ≡ length cpus = length-map cpus (λ c. queued_in c.calls.processor c.calls.seen) in
-        ap (λ n. all_queued n deeds) (many ∙ sym long) ∙ (sym (sum_is (λ p. queued_in p deeds) 0 (queued_on cpus) (λ k lt. let there : k < length cpus = omega (arith, lt, long) in count_at queued_in d met.deeds cpus met.tally_together k there ∙ (sym (same_queued k there) ∙ ap (λ q. queued_in q deeds) (let e : k ≡ 0 + k = omega arith in e)))) ∙ sym (ap (λ (x : SoloView). sum x.queued) view_is))
+        ap (λ n. all_queued n deeds) (many ∙ sym long) ∙ (sym (sum_is (λ p. queued_in p deeds) 0 (queued_on cpus) (λ k lt. let there : k < length cpus = omega (arith, lt, long) in count_at queued_in d met.deeds cpus met.tally_together k there ∙ (sym (same_queued k there) ∙ ap (λ q. queued_in q deeds) (let e : k ≡ 0 + k = omega arith in e)))) ∙ sym (ap (λ (x : SoloView). sum x.course.queued) view_is))
 
-    finished_sum : all_finished d.processors deeds ≡ sum seen.finished
+    finished_sum : all_finished d.processors deeds ≡ sum seen.course.finished
     finished_sum =
         let long : length (finished_on cpus) ≡ length cpus = length-map cpus (λ c. finished_in c.calls.processor c.calls.seen) in
-        ap (λ n. all_finished n deeds) (many ∙ sym long) ∙ (sym (sum_is (λ p. finished_in p deeds) 0 (finished_on cpus) (λ k lt. let there : k < length cpus = omega (arith, lt, long) in count_at finished_in d met.deeds cpus met.tally_together k there ∙ (sym (same_finished k) ∙ ap (λ q. finished_in q deeds) (let e : k ≡ 0 + k = omega arith in e)))) ∙ sym (ap (λ (x : SoloView). sum x.finished) view_is))
+        ap (λ n. all_finished n deeds) (many ∙ sym long) ∙ (sym (sum_is (λ p. finished_in p deeds) 0 (finished_on cpus) (λ k lt. let there : k < length cpus = omega (arith, lt, long) in count_at finished_in d met.deeds cpus met.tally_together k there ∙ (sym (same_finished k) ∙ ap (λ q. finished_in q deeds) (let e : k ≡ 0 + k = omega arith in e)))) ∙ sym (ap (λ (x : SoloView). sum x.course.finished) view_is))
 
   -- Totals
 
-  pub taken_down : (t : Totals) → cleanup.IsTakenDown d cpus t → IsTakenDown seen t
+  pub taken_down : (t : Totals) → cleanup.IsTakenDown d cpus t → IsTakenDown seen.course t
   taken_down t h =
       let same = seen_history h.history h.of_all in
       let queued = queued_sum h.all h.deeds_of_all in
@@ -158,7 +158,7 @@ module _ (d : DomainView) (limits : Limits) (cpus : List DomainCpu) (lay : View)
 
   -- Why it is in use
 
-  cause_is : (cause : InUse) (history : List Event) (deeds : List Deed) → IsHistoryOf d cpus history → AreDeedsOf d cpus deeds → cleanup.IsCause d.processors history deeds cause → IsInUse seen cause
+  cause_is : (cause : InUse) (history : List Event) (deeds : List Deed) → IsHistoryOf d cpus history → AreDeedsOf d cpus deeds → cleanup.IsCause d.processors history deeds cause → IsInUse seen.course cause
   cause_is (Missing n) history deeds of_all deeds_of_all h = h
   cause_is (Sections n) history deeds of_all deeds_of_all h = subst (λ l. (n ≡ open_count l) × (0 < n)) (seen_history history of_all) h
   cause_is Period history deeds of_all deeds_of_all h = subst (λ l. (open_count l ≡ 0) × IsRunning l) (seen_history history of_all) h
@@ -175,7 +175,7 @@ module _ (d : DomainView) (limits : Limits) (cpus : List DomainCpu) (lay : View)
   refused_is Period dm mid h = h
   refused_is (Callbacks n) dm mid h = h
 
-  pub in_use : (cause : InUse) (dm : DomainView) (mid : List DomainCpu) → cleanup.IsRefused d cpus cause dm mid → IsInUse seen cause
+  pub in_use : (cause : InUse) (dm : DomainView) (mid : List DomainCpu) → cleanup.IsRefused d cpus cause dm mid → IsInUse seen.course cause
   in_use cause dm mid h = let r = refused_is cause dm mid h in cause_is cause r.history r.all r.of_all r.deeds_of_all r.is
 
   -- all come back
@@ -341,16 +341,18 @@ module _ (d : DomainView) (limits : Limits) (cpus : List DomainCpu) (lay : View)
         ∙ ((λ i. record {
           table = same_engine.0 i;
           limits = limits;
-          standing = record {
-            processors = same_engine.1 i;
-            periods = same_engine.2 i;
-            history = history_stays i;
-            changes = changes_stay i;
-            so_far = ap (λ (x : View). x.so_far) rest_is i;
-            began = ap (λ (x : View). x.began) rest_is i;
-          };
-          asked = same_asked i;
           tallies = same_tallies i;
-          queued = queued_are i;
-          finished = finished_are i;
+          course = record {
+            standing = record {
+              processors = same_engine.1 i;
+              periods = same_engine.2 i;
+              history = history_stays i;
+              changes = changes_stay i;
+              so_far = ap (λ (x : View). x.so_far) rest_is i;
+              began = ap (λ (x : View). x.began) rest_is i;
+            };
+            asked = same_asked i;
+            queued = queued_are i;
+            finished = finished_are i;
+          };
         }) ∙ sym view_is)

@@ -11,7 +11,8 @@ use Rattle.funnel.specs.Histories.{greatest}
 use Rattle.funnel.specs.Views.{FunnelView}
 use Rattle.funnel.specs.Calls.{IsSameSeat}
 use Rattle.desk.specs.BayCalls.{lies, holds}
-use Rattle.domain.specs.Views.{DomainView, CpuView, IsOf, with_cpu}
+use Rattle.sections.specs.Views as sections
+use Rattle.domain.specs.Views.{DomainView, CpuView, IsOf, with_cpu, with_calls}
 use Rattle.domain.specs.Meetings.{IsAllOf}
 use Rattle.domain.proofs.CallerLemmas.{seat_the_same, still_fits}
 use Rattle.solo.specs.Calls.{SoloView}
@@ -40,8 +41,8 @@ module _ (d : DomainView) (limits : Limits) (cpus : List CpuView) (v : View) (me
     now_is = sym same ∙ is_seen
 
     -- a processor that the caller may name
-    pub is_inside : (p : ℕ) → p < now.standing.processors → p < length cpus
-    is_inside p small = let n = ap (λ (x : SoloView). x.standing.processors) now_is in let all = met.together.hold.all in omega (arith, small, n, all)
+    pub is_inside : (p : ℕ) → p < now.course.standing.processors → p < length cpus
+    is_inside p small = let n = ap (λ (x : SoloView). x.course.standing.processors) now_is in let all = met.together.hold.all in omega (arith, small, n, all)
 
     -- a token of the domain is one of the processor's domain
     pub is_its_own : (p : ℕ) (c : CpuView) (table : TableId) → p < length cpus → c ≡ get_or cpus p c → table ≡ now.table → table ≡ c.cpu.domain
@@ -113,3 +114,62 @@ all_behind d limits cpus v met p was now inside is same rest =
 -- the vector has as many
 pub in_vector : (n : ℕ) (items : List CpuView) (p : ℕ) → n ≡ length items → p < length items → p < n
 in_vector n items p same inside = omega (arith, same, inside)
+
+-- A processor that is called
+
+module _ {d : DomainView} {limits : Limits} {cpus : List CpuView} {v : View} {s : SoloView} (met : HaveMet d limits cpus v) (seen : seen_first d limits cpus ≡ s) where
+  -- its table
+  pub own_table : s.table ≡ d.domain
+  own_table = ap (λ (x : SoloView). x.table) (now_is d limits cpus v met s seen) ∙ by_first cpus met
+    where
+      by_first : (all : List CpuView) → HaveMet d limits all v → v.seat.domain ≡ d.domain
+      by_first [] m = let some = m.all.some in absurd (omega (arith, some))
+      by_first (c ∷ rest) m = sym (m.together.hold.each 0 c m.all.some).domain ∙ (m.all.here 0 c m.all.some).domain
+
+  pub own_tallies : s.tallies ≡ d.tallies
+  own_tallies = ap (λ (x : SoloView). x.tallies) (now_is d limits cpus v met s seen)
+
+  pub first_small : 0 < s.course.standing.processors
+  first_small = let n = ap (λ (x : SoloView). x.course.standing.processors) (now_is d limits cpus v met s seen) in let all = met.together.hold.all in let some = met.all.some in omega (arith, n, all, some)
+
+  module _ {p : ℕ} (small : p < s.course.standing.processors) where
+    placed : p < length cpus
+    placed = is_inside d limits cpus v met s seen p small
+
+    pub in_items : (n : ℕ) → n ≡ length cpus → p < n
+    in_items n same = in_vector n cpus p same placed
+
+    -- the domain has as many processors as are in hand
+    pub in_domain : p < d.processors
+    in_domain = by_place cpus met placed
+      where
+        by_place : (all : List CpuView) → HaveMet d limits all v → p < length all → p < d.processors
+        by_place [] m inside = absurd (omega (arith, inside))
+        by_place (c ∷ rest) m inside = let many = (m.all.here p c inside).many in let count = m.all.count p c inside in omega (arith, many, count, inside)
+
+    -- there are at most 64, so that the number of each has room
+    pub in_room : p < 64
+    in_room = let inside = placed in let all = met.together.hold.all in let most = met.together.hold.count.1 in omega (arith, all, most, inside)
+
+    module _ {was : CpuView} (is : was ≡ get_or cpus p was) where
+      pub lent : IsOf d was
+      lent = here d limits cpus v met p was placed is
+
+      pub of_table : (table : TableId) → table ≡ s.table → table ≡ was.cpu.domain
+      of_table table own = is_its_own d limits cpus v met s seen p was table placed is own
+
+      pub of_number : (q : ℕ) → q ≡ p → q ≡ was.cpu.processor
+      of_number q same = same ∙ sym (ap (λ (x : CpuView). x.cpu.processor) is ∙ (met.together.hold.each p was placed).processor)
+
+      -- behind its call all are there
+      module _ {now : CpuView} where
+        pub all_stay : IsOf d now → IsSameCpu was.cpu now.cpu → IsSameSeat was.needs now.needs → IsAllOf d (set cpus p now)
+        all_stay of cpu needs = all_still cpus p now placed d was met.all is (record { is_of = of; cpu = cpu; needs = needs })
+
+        pub all_but_cpu : IsSameCpu was.cpu now.cpu → now ≡ with_cpu now.cpu was → IsAllOf d (set cpus p now)
+        all_but_cpu same rest = all_behind d limits cpus v met p was now placed is same rest
+
+        pub all_but_calls : IsOf d now → now ≡ with_calls now.calls was → IsAllOf d (set cpus p now)
+        all_but_calls of rest = all_stay of
+            (subst (λ (z : sections.CpuView). IsSameCpu was.cpu z) (sym (ap (λ (x : CpuView). x.cpu) rest)) (refl, refl, refl, refl))
+            (subst (λ (z : FunnelView). IsSameSeat was.needs z) (sym (ap (λ (x : CpuView). x.needs) rest)) (record { domain = refl; shape = refl; holder = refl }))

@@ -10,18 +10,12 @@ use Rattle.funnel.specs.Tree.{leaf_of}
 use Rattle.funnel.specs.Histories.{IsBeginning, greatest, raised_by}
 use Rattle.funnel.specs.Seats.{climb_from}
 use Rattle.funnel.specs.Views.{FunnelView}
-use Rattle.funnel.specs.Calls.{IsSameSeat}
 use Rattle.funnel.specs.Calls as funnel
 use Rattle.funnel.proofs.CallerLemmas.{begins_itself, begins_on, made_on, climb_is_own, climb_of_no_other, greatest_climbed}
 use Rattle.domain.specs.Views.{CpuView}
 use Rattle.solo.specs.Settling.{AskTogether}
+use Rattle.solo.specs.Acting.{GoesOn}
 use Rattle.solo.proofs.Settled.{HaveAsked}
-
--- the same seat has seen as much, or more, and raised these itself
-pub record GoesOn (raised : List Raise) (e f : FunnelView) : Type 0 where
-  pub same : IsSameSeat e f
-  pub since : IsBeginning e.seen f.seen
-  pub mine : f.mine ≡ e.mine ++ raised
 
 pub stays : (e f : FunnelView) → f ≡ e → GoesOn [] e f
 stays e f is = subst (λ (z : FunnelView). GoesOn [] e z) (sym is) record { same = record { domain = refl; shape = refl; holder = refl }; since = begins_itself e.seen; mine = sym (append-nil e.mine) }

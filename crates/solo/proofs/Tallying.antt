@@ -10,21 +10,16 @@ use Rattle.calls.specs.declared.view.Act.TheVariants.{Queue, Finish, LoadQueued,
 use Rattle.calls.specs.declared.view.Deed.{Deed}
 use Rattle.calls.specs.Tallies.{deed, queued_in, finished_by, finished_in, deeds_of, IsFinisher, AreFinishers, IsBeginning}
 use Rattle.calls.specs.Views.{CallSeatView}
-use Rattle.calls.specs.Calls.{IsSameSeat, Does}
+use Rattle.calls.specs.Calls.{Does}
 use Rattle.calls.specs.Barriers.{Loads, queued_loads, finished_loads}
 use Rattle.calls.specs.Meetings.{Covers, Accepts}
 use Rattle.calls.proofs.CallerLemmas.{begins_itself, begins_on, deeds_append, same_queued}
 use Rattle.domain.specs.Views.{DomainView, CpuView}
 use Rattle.domain.specs.Meetings.{TalliesMeet}
 use Rattle.solo.specs.Settling.{TallyTogether}
+use Rattle.solo.specs.Acting.{Adds}
 
 -- One processor's act
-
--- the same seat has seen as much, or more, and did these itself
-pub record Adds (act : List Deed) (s t : CallSeatView) : Type 0 where
-  pub same : IsSameSeat s t
-  pub since : IsBeginning s.seen t.seen
-  pub own : deeds_of s.processor t.seen ≡ deeds_of s.processor s.seen ++ act
 
 -- nothing was done there
 pub adds_none : (s t : CallSeatView) → t ≡ s → Adds [] s t

@@ -1,4 +1,6 @@
+pub mod Courses
 pub mod Calls
+pub mod Acting
 pub mod Settling
 pub mod Refusals
 pub mod Insides
