@@ -8,11 +8,12 @@ use Rattle.sseq.specs.Indexes.{same_index}
 use Rattle.onedom.specs.declared.event.Maker.TheVariants.{Processor}
 use Rattle.onedom.specs.declared.event.Event.{Event}
 use Rattle.onedom.specs.declared.event.Event.TheVariants.{Begin, End}
-use Rattle.onedom.specs.Histories.{begins_of, index_of, IsLegal}
+use Rattle.onedom.specs.Histories.{begins_of, index_of, IsLegal, IsLegalAfter}
 use Rattle.onedom.proofs.CallerLemmas.{begins_of_push, index_of_begun, index_of_kept, begun_once, legal_push, open_begun}
 use Rattle.sections.specs.declared.limits.Limits.{Limits}
 use Rattle.sections.specs.Views.{ReadingView}
-use Rattle.solo.specs.Courses.{Course, Does, makes}
+use Rattle.domain.specs.Acting.{Act, makes}
+use Rattle.solo.specs.Courses.{Course, Does, with_events}
 use Rattle.solo.specs.Calls.{SoloView, IsSameDomain, Begins, Ends, IsReadingAt}
 use Rattle.solo.specs.Barriers.{IsTicketOf}
 use Rattle.calls.specs.Views.{TicketView}
@@ -47,15 +48,18 @@ later_quietly d d' there h = record {
   indexes = λ t some. h.quiet.indexes t;
 }
 
-pub later_happened : (p : ℕ) (e : Event) (d d' : SoloView) → IsThere d d' → IsLegal d.course.standing.history → Does p (makes e) d.course d'.course → IsLater d d'
-later_happened p e d d' there legal h =
+-- one event happened
+pub later_happened : {p : ℕ} {what : ℕ → Act} (e : Event) (d d' : SoloView) → IsThere d d' → IsLegal d.course.standing.history → what p ≡ makes e → Does p what d.course d'.course → IsLater d d'
+later_happened {p} {what} e d d' there legal one h =
     let before = d.course.standing.history in
-    let same : d'.course.standing.history ≡ before ++ e ∷ [] = ap (λ (x : Course). x.standing.history) h.come in record {
+    let same : d'.course.standing.history ≡ before ++ e ∷ [] = ap (λ (x : Course). x.standing.history) h.come ∙ ap (λ (a : Act). with_events a.events before) one in
+    let follows : IsLegalAfter before (e ∷ []) = subst (λ (a : Act). IsLegalAfter before a.events) one h.follows in
+    record {
       there = there;
       processors = ap (λ (x : Course). x.standing.processors) h.come;
-      legal = subst IsLegal (sym same) (legal_push before e legal h.follows.0);
+      legal = subst IsLegal (sym same) (legal_push before e legal follows.0);
       begun = λ t some. let more = begins_of_push t before e in let is : begins_of t d'.course.standing.history ≡ begins_of t (before ++ e ∷ []) = ap (begins_of t) same in omega (arith, more, is, some);
-      indexes = λ t some. ap (index_of t) same ∙ index_of_kept t before e (begun_once t before e h.follows.0 some);
+      indexes = λ t some. ap (index_of t) same ∙ index_of_kept t before e (begun_once t before e follows.0 some);
     }
 
 module _ (d d' : SoloView) (later : IsLater d d') where
@@ -129,7 +133,7 @@ module _ {A : Type 0} where
   held_begun sort limits p i d d' tokens name r h there small begins is =
       let before = d.course.standing.history in
       let e : Event = Begin r.section p i (Processor p) in
-      let later = later_happened p e d d' there h.legal begins.happens in
+      let later = later_happened e d d' there h.legal refl begins.happens in
       let same : d'.course.standing.history ≡ before ++ e ∷ [] = ap (λ (x : Course). x.standing.history) begins.happens.come in
       let here = open_begun r.section p i (Processor p) before h.legal begins.happens.follows.0 in record {
         legal = later.legal;
@@ -177,7 +181,7 @@ module _ {A : Type 0} (d : SoloView) (tokens rest : List (List ℕ × Token A)) 
   held_ended sort p r d' moves there ends =
       let before = d.course.standing.history in
       let e : Event = End r.section p (Processor p) in
-      let later = later_happened p e d d' there h.legal ends in
+      let later = later_happened e d d' there h.legal refl ends in
       let same : d'.course.standing.history ≡ before ++ e ∷ [] = ap (λ (x : Course). x.standing.history) ends.come in
       let is : IsReadingOf d.table d.course.standing r = reading_as A sort d r (token_of (as_token sort r) moves) in record {
         legal = later.legal;

@@ -13,7 +13,8 @@ use Rattle.scan.specs.declared.progress.Progress.TheVariants as answer
 use Rattle.scan.specs.Standings.{Standing, events_of, IsAnswered, StepsThrough, Advances as AdvancesBy, Starts as StartsBy}
 use Rattle.calls.specs.declared.refusals.CallRefusal.{CallRefusal}
 use Rattle.calls.specs.declared.refusals.CallRefusal.TheVariants as calling
-use Rattle.solo.specs.Courses.{Course, Act, Does, Works, with_events, more_at}
+use Rattle.domain.specs.Acting.{Act}
+use Rattle.solo.specs.Courses.{Course, Does, Works, with_events, more_at}
 use Rattle.solo.specs.Calls.{StepsOf, QueuesNone}
 use Rattle.session.specs.OpenSections.{open_of}
 use Rattle.session.proofs.OpenSections.{open_of_plain}
@@ -121,10 +122,10 @@ with_events_is : (es h : List Event) → h ++ es ≡ with_events es h
 with_events_is [] h = append-nil h
 with_events_is (e ∷ es) h = refl
 
-pub does_quietly : {p : ℕ} {a : Act} {c c' : Course} → IsLegal c.standing.history → AreQuiet a.events → Does p a c c' → GoesOnQuietly c.standing c'.standing
-does_quietly {p} {a} {c} {c'} legal quiet h =
-    let same : c'.standing.history ≡ c.standing.history ++ a.events = ap (λ (x : Course). x.standing.history) h.come ∙ sym (with_events_is a.events c.standing.history) in
-    let on = on_quietly c.standing.history a.events legal h.follows quiet in record {
+pub does_quietly : {p : ℕ} {what : ℕ → Act} {c c' : Course} → IsLegal c.standing.history → AreQuiet (what p).events → Does p what c c' → GoesOnQuietly c.standing c'.standing
+does_quietly {p} {what} {c} {c'} legal quiet h =
+    let same : c'.standing.history ≡ c.standing.history ++ (what p).events = ap (λ (x : Course). x.standing.history) h.come ∙ sym (with_events_is (what p).events c.standing.history) in
+    let on = on_quietly c.standing.history (what p).events legal h.follows quiet in record {
       processors = ap (λ (x : Course). x.standing.processors) h.come;
       legal = subst IsLegal (sym same) on.0;
       quiet = subst (IsQuiet c.standing.history) (sym same) on.1;
@@ -158,15 +159,15 @@ more_more p zero xs q = omega arith
 more_more p (suc n) xs q = set_more xs p (slice_index xs p + suc n) q (omega arith)
 
 -- an act that finishes no job
-pub keeps_jobs : {p : ℕ} {a : Act} {c c' : Course} → a.finished ≡ 0 → Does p a c c' → KeepsJobs c c'
-keeps_jobs {p} {a} {c} {c'} none h = record {
+pub keeps_jobs : {p : ℕ} {what : ℕ → Act} {c c' : Course} → (what p).finished ≡ 0 → Does p what c c' → KeepsJobs c c'
+keeps_jobs {p} {what} {c} {c'} none h = record {
   processors = ap (λ (x : Course). x.standing.processors) h.come;
-  queued = λ q. let more = more_more p a.queued c.queued q in let is : slice_index c'.queued q ≡ slice_index (more_at p a.queued c.queued) q = ap (λ (x : Course). slice_index x.queued q) h.come in omega (arith, more, is);
-  finished = ap (λ (x : Course). x.finished) h.come ∙ ap (λ n. more_at p n c.finished) none;
+  queued = λ q. let more = more_more p (what p).queued c.queued q in let is : slice_index c'.queued q ≡ slice_index (more_at p (what p).queued c.queued) q = ap (λ (x : Course). slice_index x.queued q) h.come in omega (arith, more, is);
+  finished = ap (λ (x : Course). x.finished) h.come ∙ ap (λ n. more_at (what p).owner n c.finished) none;
 }
 
 -- and begins and ends no section
-pub does_keeps : {p : ℕ} {a : Act} {c c' : Course} → IsLegal c.standing.history → AreQuiet a.events → a.finished ≡ 0 → Does p a c c' → KeepsOn c c'
+pub does_keeps : {p : ℕ} {what : ℕ → Act} {c c' : Course} → IsLegal c.standing.history → AreQuiet (what p).events → (what p).finished ≡ 0 → Does p what c c' → KeepsOn c c'
 does_keeps legal quiet none h = record { on = does_quietly legal quiet h; jobs = keeps_jobs none h }
 
 -- what the engine does

@@ -18,7 +18,8 @@ use Rattle.domain.specs.declared.domain.cleanup.InUse.TheVariants as busy
 use Rattle.calls.specs.declared.refusals.CallRefusal.{CallRefusal}
 use Rattle.calls.specs.declared.refusals.CallRefusal.TheVariants as calling
 use Rattle.solo.specs.declared.queued.Queued.{Queued}
-use Rattle.solo.specs.Courses.{Course, finishes, Does as DoesAct}
+use Rattle.domain.specs.Acting.{finishes}
+use Rattle.solo.specs.Courses.{Course, Does as DoesAct}
 use Rattle.solo.specs.Calls as solo
 use Rattle.solo.specs.Calls.{new_course, Begins, IsOutOfSections, Ends, GivesCookie, Asks as AsksIfDone, AsksFor, ReadsNumber, QueuesNone, Starts, StartsNone, Steps, Advances, IsAskedTooMuch}
 use Rattle.solo.specs.Cleanup.{IsTakenDown, IsInUse as IsInUseFor}
@@ -189,7 +190,7 @@ AsksHowFar p c c' = AsksIfDone p (4 * ended_in c.standing.history) true c c'
 
 -- what was taken is finished at once. Refused where a batch is out, and nothing is done
 abbrev pub Runs : ℕ → DomainState → Reply → DomainState → Type 0
-Runs p d r d' = ((count : ℕ) × (taken : List Job) × (c : Course) × Takes p count taken None d d' × AsksHowFar p d.course c × DoesAct p (finishes count) c d'.course × (r ≡ reply.Ran (names_of_jobs taken)))
+Runs p d r d' = ((count : ℕ) × (taken : List Job) × (c : Course) × Takes p count taken None d d' × AsksHowFar p d.course c × DoesAct p (finishes p count) c d'.course × (r ≡ reply.Ran (names_of_jobs taken)))
     ⊎ IsRefused command.Run Invoking d r d'
 
 -- so many jobs are a batch that is out, these among them; without a job none is
@@ -207,7 +208,7 @@ pub record IsOver (p : ℕ) (d : DomainState) (r : Reply) (d' : DomainState) : T
   pub batch : Batch
   pub there : slice_get d.jobs p ≡ Some jobs
   pub out : jobs.out ≡ Some batch
-  pub over : DoesAct p (finishes batch.count) d.course d'.course
+  pub over : DoesAct p (finishes p batch.count) d.course d'.course
   pub rest : d' ≡ record d { course = d'.course; jobs = slice_set d.jobs p (record jobs { out = None }) }
   pub reply : r ≡ reply.Finished batch.count
 

@@ -41,9 +41,10 @@ use Rattle.solo.specs.Courses.{Course, Works}
 use Rattle.solo.specs.Settling.{View, Holds, AllHold, AskTogether, TurnTogether, TallyTogether, IsWanted, HaveMet}
 use Rattle.solo.specs.Insides.{queued_on, finished_on, seen_as, seen_first}
 use Rattle.solo.proofs.NothingBetween.{made_by_append}
-use Rattle.solo.specs.Acting.{GoesOn, Adds}
-use Rattle.solo.proofs.Needing.{stays, goes_further, squeezed, raised_here}
-use Rattle.solo.proofs.Tallying.{GoesOnBy, adds_none, nothing_done, still_queued, still_finished, same_counts, goes_on, tally_together}
+use Rattle.domain.specs.Acting.{GoesOn, Adds}
+use Rattle.domain.proofs.CallerLemmas.{stays, goes_further, adds_none, nothing_done}
+use Rattle.solo.proofs.Needing.{squeezed, raised_here}
+use Rattle.solo.proofs.Tallying.{GoesOnBy, still_queued, still_finished, same_counts, goes_on, tally_together}
 use Rattle.solo.proofs.Settled.{HaveAsked, IsSettled, settled, all_raised, asked_together}
 use Rattle.solo.proofs.Turning.{turn_found, meeting_found, turn_turned}
 use Rattle.solo.proofs.Hand.{IsStill, first_seen, is_seen}

@@ -1,14 +1,14 @@
 -- A processor of the domain in one hand acted, and then all have met: the domain has come just so far as the act says.
 use Rattle.std.proofs.Common.{◌≡◌, ◌≢◌, ℕ, zero, suc, ◌+◌, ◌*◌, ◌%◌, ◌<◌, ◌≤◌, ◌⊎◌, cond, max, inl, inr, List, [], ◌∷◌, ◌++◌, length, get_or, set, refl, sym, ap, ◌∙◌, subst, append-nil, arith, length-set, get_or-set_other, get_or-set_same, le-ltb}
 use Rattle.std.specs.Prelude.{All, Some, slice_get}
-use Rattle.std.proofs.lemmas.List.{get_or_default, set-get_or, length-map}
+use Rattle.std.proofs.lemmas.List.{get_or_default, set-get_or, length-map, append_cancel_left}
 use mathlib.Core.Logic.{dite}
 use native.Mathlib.Decide.{ℕ_discrete}
 use Rattle.onedom.specs.declared.event.Maker.TheVariants.{Processor, Engine}
 use Rattle.onedom.specs.declared.event.Event.{Event}
 use Rattle.onedom.specs.declared.event.Event.TheVariants.{Note}
 use Rattle.onedom.specs.Histories.{IsLegal, IsLegalAfter, IsRunning, IsBeginning, starts_in, ended_in, made_by, cookie_after}
-use Rattle.onedom.proofs.CallerLemmas.{beginning_refl, legal_after_append}
+use Rattle.onedom.proofs.CallerLemmas.{legal_after_append}
 use Rattle.sections.specs.declared.limits.Limits.{Limits}
 use Rattle.sections.specs.Words.{Reaches}
 use Rattle.sections.specs.Rule.{HasItsMaker}
@@ -16,6 +16,8 @@ use Rattle.sections.specs.EngineCalls.{IsSameEngine}
 use Rattle.sections.proofs.CallerLemmas.{last_may_follow}
 use Rattle.scan.specs.Standings.{number_at_rest}
 use Rattle.scan.specs.Progress.{standing_of, with_seat}
+use Rattle.funnel.specs.declared.view.Holder.{Holder}
+use Rattle.funnel.specs.declared.view.Holder.TheVariants as holder
 use Rattle.funnel.specs.Histories.{IsBeginning as IsBeginningAtTree, value, greatest}
 use Rattle.funnel.specs.Calls.{LoadsRoot}
 use Rattle.calls.specs.declared.view.Deed.{Deed}
@@ -24,8 +26,8 @@ use Rattle.calls.specs.Tallies.{queued_in, finished_in}
 use Rattle.domain.specs.Views.{DomainView, CpuView}
 use Rattle.domain.specs.Meetings.{IsAllOf, EngineMeets, MeetsHere}
 use Rattle.solo.specs.Calls.{SoloView, IsSameDomain}
-use Rattle.solo.specs.Courses.{Course, Act, after, with_asked, more_at, with_events, Does}
-use Rattle.solo.specs.Acting.{Acts}
+use Rattle.domain.specs.Acting.{Act, Acts, ActsAs}
+use Rattle.solo.specs.Courses.{Course, after, with_asked, more_at, with_events, Does}
 use Rattle.solo.specs.Settling.{View, Holds, AllHold, AskTogether, TurnTogether, TallyTogether, HaveMet}
 use Rattle.solo.specs.Insides.{queued_on, finished_on, seen_as, seen_first}
 use Rattle.solo.proofs.Hand.{first_seen, now_is, is_inside}
@@ -54,6 +56,11 @@ next_above : (history : List Event) (asked : ℕ) → ¬ IsRunning history → a
 next_above history asked resting cookie above =
     let one : cookie_after history ≡ 4 * (ended_in history + 1) = ap (λ b. 4 * (ended_in history + cond b 2 1)) (le-ltb (ended_in history) (starts_in history) (omega (arith, resting))) in
     omega (arith, one, cookie, above)
+
+-- the processor whose seat at the tree it is
+abbrev number_of : Holder → ℕ
+number_of (holder.Processor q) = q
+number_of holder.Engine = 0
 
 -- the domain had come so far, and all had met; processor p was called, and all have met again
 pub record Hand : Type 0 where
@@ -127,9 +134,18 @@ module _ (t : Hand) where
   pub makers_were : All (HasItsMaker t.s.course.standing.processors) t.s.course.standing.history
   makers_were = subst (λ (x : SoloView). All (HasItsMaker x.course.standing.processors) x.course.standing.history) (sym view_is) t.met.together.history.makers
 
+  holder_is : t.was.needs.holder ≡ holder.Processor t.p
+  holder_is = ap (λ (x : CpuView). x.needs.holder) t.is ∙ (t.met.all.asks t.p t.was t.inside).2
+
   -- It acted
 
-  module _ (a : Act) (acts : Acts t.p a t.was t.now) where
+  module _ (what : ℕ → Act) (did : ActsAs what t.was t.now) where
+    abbrev a : Act
+    a = what t.p
+
+    acts : Acts t.p a t.was t.now
+    acts = subst (λ q. Acts q (what q) t.was t.now) held.processor did
+
     abbrev acted_cpus : List CpuView
     acted_cpus = set t.cpus t.p t.now
 
@@ -172,7 +188,7 @@ module _ (t : Hand) where
     -- The tree
 
     have_asked : HaveAsked t.p t.met.raises acts.raised acted_cpus
-    have_asked = raised_here t.met.raises t.cpus t.met.ask_together t.p t.inside t.was t.now t.is acts.raised acts.needs acts.ask_for.own acts.ask_for.others
+    have_asked = raised_here t.met.raises t.cpus t.met.ask_together t.p t.inside t.was t.now t.is acts.raised acts.needs (acts.ask_for.own t.p holder_is) (λ q other. acts.ask_for.others q (λ is. other (sym (ap number_of (sym holder_is ∙ is)))))
 
     raises_are : t.meets.needs.raises ≡ t.met.raises ++ acts.raised
     raises_are = all_raised t.d' acted_cpus t.cpus' t.all count t.meets.needs t.was t.p t.met.raises acts.raised have_asked
@@ -181,7 +197,7 @@ module _ (t : Hand) where
     ask_together = asked_together t.d' acted_cpus t.cpus' t.all count t.meets.needs t.was t.p t.met.raises acts.raised have_asked
 
     asked_is : greatest t.meets.needs.raises ≡ with_asked a.asked (greatest t.met.raises)
-    asked_is = ap greatest raises_are ∙ acts.ask_for.greatest_is t.met.raises
+    asked_is = ap greatest raises_are ∙ (acts.ask_for.greatest_is t.met.raises ∙ sym (with_asked_is a.asked (greatest t.met.raises)))
 
     -- The tally words
 
@@ -206,17 +222,17 @@ module _ (t : Hand) where
         let was = count_at queued_in t.d t.met.deeds t.cpus t.met.tally_together t.p t.inside in
         let now = queued_here (length t.cpus) t.p t.met.deeds acts.deeds deeds_after on in
         let more = acts.count.queued in
-        one_count queued_in t.d t.d' t.met.deeds deeds_after t.cpus t.cpus' t.met.tally_together all_tally (count ∙ long) t.p (get_or (queued_on t.cpus) t.p 0 + a.queued) t.inside (omega (arith, was, now, more)) (queued_else (length t.cpus) t.p t.met.deeds acts.deeds deeds_after on)
+        one_count queued_in t.d t.d' t.met.deeds deeds_after t.cpus t.cpus' t.met.tally_together all_tally (count ∙ long) t.p (get_or (queued_on t.cpus) t.p 0 + a.queued) (λ there. omega (arith, was, now, more)) (queued_else (length t.cpus) t.p t.met.deeds acts.deeds deeds_after on)
         ∙ more_is t.p a.queued (queued_on t.cpus)
 
-    finished_after : finished_on t.cpus' ≡ more_at t.p a.finished (finished_on t.cpus)
+    finished_after : finished_on t.cpus' ≡ more_at a.owner a.finished (finished_on t.cpus)
     finished_after =
-        let was = count_at finished_in t.d t.met.deeds t.cpus t.met.tally_together t.p t.inside in
-        let now = finished_are (length t.cpus) t.p t.met.deeds acts.deeds deeds_after on t.p in
+        let now = finished_are (length t.cpus) t.p t.met.deeds acts.deeds deeds_after on a.owner in
         let more = acts.count.finished in
-        one_count finished_in t.d t.d' t.met.deeds deeds_after t.cpus t.cpus' t.met.tally_together all_tally (count ∙ long) t.p (get_or (finished_on t.cpus) t.p 0 + a.finished) t.inside (omega (arith, was, now, more))
+        one_count finished_in t.d t.d' t.met.deeds deeds_after t.cpus t.cpus' t.met.tally_together all_tally (count ∙ long) a.owner (get_or (finished_on t.cpus) a.owner 0 + a.finished)
+        (λ there. let was = count_at finished_in t.d t.met.deeds t.cpus t.met.tally_together a.owner there in omega (arith, was, now, more))
         (λ k lt other. let are = finished_are (length t.cpus) t.p t.met.deeds acts.deeds deeds_after on k in let none = acts.count.others k other in omega (arith, are, none))
-        ∙ more_is t.p a.finished (finished_on t.cpus)
+        ∙ more_is a.owner a.finished (finished_on t.cpus)
 
     -- The history
 
@@ -258,12 +274,13 @@ module _ (t : Hand) where
           (record { domain = old.domain; processors_are = old.processors_are; sections = old.sections; processor = old.processor; mine = old.mine ∙ none_own k (acts.are_of.others k other) }));
     }
 
-    seen_here : (get_or acted_cpus t.p t.was).cpu.seen ≡ t.v.seat.seen ++ (acts.events.others ++ a.events)
-    seen_here = ap (λ (x : CpuView). x.cpu.seen) (here t.was) ∙ (acts.events.seen ∙ ap (λ l. l ++ (acts.events.others ++ a.events)) (ap (λ (x : CpuView). x.cpu.seen) t.is ∙ t.met.together.seen t.p t.was t.inside))
+    seen_here : IsBeginning (t.v.seat.seen ++ (acts.events.others ++ a.events)) (get_or acted_cpus t.p t.was).cpu.seen
+    seen_here = subst (λ (x : CpuView). IsBeginning (t.v.seat.seen ++ (acts.events.others ++ a.events)) x.cpu.seen) (sym (here t.was))
+        (subst (λ l. IsBeginning (l ++ (acts.events.others ++ a.events)) t.now.cpu.seen) (ap (λ (x : CpuView). x.cpu.seen) t.is ∙ t.met.together.seen t.p t.was t.inside) acts.events.since)
 
     acted : IsSettled t.limits t.v.seat.seen acts.events.others a.events t.cpus' t.meets.left.seat
     acted = settled acted_cpus t.cpus' t.v.seat t.meets.left.seat count engine_meets t.was t.limits t.v.seat.seen acts.events.others a.events
-        (record { hold = hold; seen = inr (t.p, t.was, within, subst (λ l. IsBeginning l (get_or acted_cpus t.p t.was).cpu.seen) seen_here (beginning_refl (get_or acted_cpus t.p t.was).cpu.seen)) })
+        (record { hold = hold; seen = inr (t.p, t.was, within, seen_here) })
 
     -- The theorem
 
@@ -333,7 +350,7 @@ module _ (t : Hand) where
           };
         }) ∙ sym (ap (λ (x : SoloView). record x { course = after t.p a x.course }) view_is))
 
-    pub does : Does t.p a t.s.course s'.course
+    pub does : Does t.p what t.s.course s'.course
     does = record {
       follows = subst (λ (x : SoloView). IsLegalAfter x.course.standing.history a.events) (sym view_is) (legal_after_append [] t.v.seat.seen a.events (subst IsLegal acted.seen acted.together.history.legal)).1;
       come = ap (λ (x : SoloView). x.course) come;
@@ -348,8 +365,9 @@ module _ (t : Hand) where
     changes_are = all_changes ∙ sym (ap (λ (x : SoloView). x.course.standing.changes) view_is)
 
     -- a load of the root found just what had been asked for
-    pub root_is : acts.raised ≡ [] → (found : ℕ) → LoadsRoot t.was.needs found t.now.needs → found ≡ t.s.course.asked
-    root_is none found h =
+    pub root_is : (found : ℕ) → LoadsRoot t.was.needs found t.now.needs → found ≡ t.s.course.asked
+    root_is found h =
+        let none : acts.raised ≡ [] = append_cancel_left t.was.needs.mine acts.raised [] (sym acts.needs.mine ∙ (h.mine ∙ sym (append-nil t.was.needs.mine))) in
         let seen : t.was.needs.seen ≡ t.met.raises = ap (λ (z : CpuView). z.needs.seen) t.is ∙ t.met.ask_together.seen t.p t.was t.inside in
         let into : IsBeginningAtTree t.now.needs.seen t.meets.needs.raises = subst (λ (z : CpuView). IsBeginningAtTree z.needs.seen t.meets.needs.raises) (here t.was) (t.meets.needs.each t.p t.was within).since in
         let same : t.now.needs.seen ≡ t.met.raises = squeezed t.met.raises t.now.needs.seen t.meets.needs.raises (subst (λ l. IsBeginningAtTree l t.now.needs.seen) seen h.since) into (raises_are ∙ (ap (λ l. t.met.raises ++ l) none ∙ append-nil t.met.raises)) in
@@ -362,5 +380,5 @@ module _ (t : Hand) where
     pub queued_now : (k : ℕ) → k < length t.cpus → queued_in k deeds_after ≡ get_or (more_at t.p a.queued t.s.course.queued) k 0
     queued_now k lt = sym (count_at queued_in t.d' deeds_after t.cpus' all_tally k (omega (arith, count, length-set t.cpus t.p t.now, lt))) ∙ (ap (λ l. get_or l k 0) queued_after ∙ sym (ap (λ (x : SoloView). get_or (more_at t.p a.queued x.course.queued) k 0) view_is))
 
-    pub finished_now : (k : ℕ) → k < length t.cpus → finished_in k deeds_after ≡ get_or (more_at t.p a.finished t.s.course.finished) k 0
-    finished_now k lt = sym (count_at finished_in t.d' deeds_after t.cpus' all_tally k (omega (arith, count, length-set t.cpus t.p t.now, lt))) ∙ (ap (λ l. get_or l k 0) finished_after ∙ sym (ap (λ (x : SoloView). get_or (more_at t.p a.finished x.course.finished) k 0) view_is))
+    pub finished_now : (k : ℕ) → k < length t.cpus → finished_in k deeds_after ≡ get_or (more_at a.owner a.finished t.s.course.finished) k 0
+    finished_now k lt = sym (count_at finished_in t.d' deeds_after t.cpus' all_tally k (omega (arith, count, length-set t.cpus t.p t.now, lt))) ∙ (ap (λ l. get_or l k 0) finished_after ∙ sym (ap (λ (x : SoloView). get_or (more_at a.owner a.finished x.course.finished) k 0) view_is))

@@ -2,9 +2,6 @@
 use Rattle.std.specs.Prelude.{◌≡◌, ℕ, ◌+◌, ◌*◌, ◌<◌, ◌≤◌, max, Bool, true, List, [], ◌∷◌, ◌++◌, All, Option, Some, IfSome, Result, Ok, length, replicate, slice_get, slice_index, slice_set}
 use Rattle.sseq.specs.declared.index.Index.{Index}
 use Rattle.atomic_table.specs.Seated.{TableId}
-use Rattle.onedom.specs.declared.event.Maker.TheVariants.{Processor}
-use Rattle.onedom.specs.declared.event.Event.{Event}
-use Rattle.onedom.specs.declared.event.Event.TheVariants.{Begin, End, Note, Ask}
 use Rattle.onedom.specs.Histories.{IsRunning, ended_in, cookie_after}
 use Rattle.sections.specs.declared.limits.Limits.{Limits}
 use Rattle.sections.specs.declared.limits.MakeError.{MakeError}
@@ -23,7 +20,8 @@ use Rattle.scan.specs.declared.progress.StartRefusal.TheVariants as refusal
 use Rattle.scan.specs.Standings as engine
 use Rattle.scan.specs.Standings.{Standing, index_now, number_now, number_at_rest, IsOutOfPeriods}
 use Rattle.solo.specs.declared.queued.Queued.{Queued}
-use Rattle.solo.specs.Courses.{Course, Does, Works, makes, asks_for, finishes}
+use Rattle.domain.specs.Acting.{begins, ends, notes, asks_whether, asks_for, finishes}
+use Rattle.solo.specs.Courses.{Course, Does, Works}
 
 -- `table` tells which looks and readings are of this domain, and `tallies` which batches; `course` is how far it has come
 pub record SoloView : Type 0 where
@@ -82,21 +80,21 @@ IsOutOfSections limits p i c = locks p i c.standing.history ≡ limits.sections
 -- the section begins on the processor with index i
 pub record Begins (limits : Limits) (p : ℕ) (i : Index) (section : ℕ) (c c' : Course) : Type 0 where
   pub room : locks p i c.standing.history < limits.sections
-  pub happens : Does p (makes (Begin section p i (Processor p))) c c'
+  pub happens : Does p (begins section i) c c'
 
 -- the section ends on the processor
 abbrev pub Ends : ℕ → ℕ → Course → Course → Type 0
-Ends section p = Does p (makes (End section p (Processor p)))
+Ends section p = Does p (ends section)
 
 -- Cookies and the number
 
 -- the processor is given the cookie of now, of this number
 abbrev pub GivesCookie : ℕ → ℕ → Course → Course → Type 0
-GivesCookie p cookie = Does p (makes (Note cookie (Processor p)))
+GivesCookie p cookie = Does p (notes cookie)
 
 -- the processor asks whether the cookie is done, and is told
 abbrev pub Asks : ℕ → ℕ → Bool → Course → Course → Type 0
-Asks p cookie done = Does p (makes (Ask cookie done (Processor p)))
+Asks p cookie done = Does p (asks_whether cookie done)
 
 -- `n` is the number, and processor 0 has noted the cookie of now
 pub record ReadsNumber (n : ℕ) (c c' : Course) : Type 0 where
@@ -105,14 +103,14 @@ pub record ReadsNumber (n : ℕ) (c c' : Course) : Type 0 where
 
 -- the processor is given the cookie of now, and asks for a grace period up to it
 abbrev pub AsksFor : ℕ → ℕ → Course → Course → Type 0
-AsksFor p cookie = Does p (asks_for p cookie 0)
+AsksFor p cookie = Does p (asks_for cookie 0)
 
 -- Callbacks
 
 -- the processor is given the cookie of now, the job is queued there with it, as the last one, and a grace period up to it is asked for
 pub record Queues (p : ℕ) (job : Queued) (c c' : Course) : Type 0 where
   pub number : slice_get c.queued p ≡ Some job.k
-  pub queues : Does p (asks_for p job.cookie 1) c c'
+  pub queues : Does p (asks_for job.cookie 1) c c'
 
 -- why: as many were queued there as may be; or the processor was given a cookie, and nothing else happened
 abbrev pub QueuesNone : ℕ → CallRefusal → Course → Course → Type 0
@@ -144,7 +142,7 @@ module _ {J : Type 0} where
 pub record Finishes (p count : ℕ) (c c' : Course) : Type 0 where
   pub n : ℕ
   pub there : slice_get c.finished p ≡ Some n
-  pub finishes_are : Does p (finishes count) c c'
+  pub finishes_are : Does p (finishes p count) c c'
 
 -- so many calls of the processor are out: they are queued, and not finished
 abbrev pub AreOut : ℕ → ℕ → Course → Type 0

@@ -1,6 +1,5 @@
 pub mod Courses
 pub mod Calls
-pub mod Acting
 pub mod Settling
 pub mod Refusals
 pub mod Insides

@@ -1,6 +1,6 @@
-use Rattle.solo.proofs.Hand.{in_items, all_stay, lent}
-use Rattle.solo.proofs.Meeting.{Hand, hand_of}
-use Rattle.solo.proofs.Jobs.{ask_says}
+use Rattle.solo.proofs.Hand.{in_items, lent, all_there}
+use Rattle.domain.specs.Acting.{asks_for}
+use Rattle.solo.proofs.Meeting.{Hand, hand_of, does, same_domain, have_met}
 use Rattle.solo.proofs.solo.Solo.ask.Given.{Over}
 use Rattle.solo.proofs.solo.Solo.ask.Goals as goal
 
@@ -14,13 +14,13 @@ pub start_poll-cookie-requires : goal.start_poll-cookie-requires
 start_poll-cookie-requires g c = lent c.self.invariant.met c.self.view_is c.requires c.index_mut-cpu.ensures.value
 
 pub settle-requires : goal.settle-requires
-settle-requires g c = all_stay c.self.invariant.met c.self.view_is c.requires c.index_mut-cpu.ensures.value c.start_poll-cookie.ensures.here c.start_poll-cookie.ensures.starts.gives.notes.adds.same c.start_poll-cookie.ensures.starts.asks.same
+settle-requires g c = all_there c.self.invariant.met c.self.view_is c.requires c.index_mut-cpu.ensures.value c.start_poll-cookie.ensures.acts c.start_poll-cookie.ensures.here
 
 pub invariant_of-self : goal.invariant_of-self
-invariant_of-self g c = record { engine = c.settle.ensures.meets.left; met = (ask_says (hand g c) c.start_poll-cookie.result c.start_poll-cookie.ensures.starts).met }
+invariant_of-self g c = record { engine = c.settle.ensures.meets.left; met = have_met (hand g c) (asks_for c.start_poll-cookie.result.number 0) c.start_poll-cookie.ensures.acts }
 
 pub returns-clause-same : goal.returns-clause-same
-returns-clause-same g c = (ask_says (hand g c) c.start_poll-cookie.result c.start_poll-cookie.ensures.starts).same
+returns-clause-same g c = same_domain (hand g c) (asks_for c.start_poll-cookie.result.number 0) c.start_poll-cookie.ensures.acts
 
 pub returns-clause-asks : goal.returns-clause-asks
-returns-clause-asks g c = rw c.number.ensures.value (ask_says (hand g c) c.start_poll-cookie.result c.start_poll-cookie.ensures.starts).what
+returns-clause-asks g c = rw c.number.ensures.value (does (hand g c) (asks_for c.start_poll-cookie.result.number 0) c.start_poll-cookie.ensures.acts)

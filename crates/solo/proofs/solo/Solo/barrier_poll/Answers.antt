@@ -1,5 +1,5 @@
 use Rattle.std.proofs.Common.{◌∙◌}
-use Rattle.solo.proofs.Hand.{in_items, lent, own_tallies, all_but_calls}
+use Rattle.solo.proofs.Hand.{in_items, lent, own_tallies, all_there}
 use Rattle.solo.proofs.Meeting.{Hand, hand_of}
 use Rattle.solo.proofs.Barriers.{poll_says}
 use Rattle.solo.proofs.solo.Solo.barrier_poll.Given.{Over}
@@ -18,13 +18,13 @@ pub barrier_poll-done-requires-clause-ticket : goal.barrier_poll-done-requires-c
 barrier_poll-done-requires-clause-ticket g c = c.requires.ticket.0 ∙ own_tallies c.self.invariant.met c.self.view_is
 
 pub settle-requires : goal.settle-requires
-settle-requires g c = all_but_calls c.self.invariant.met c.self.view_is c.requires.processor c.index_mut-cpu.ensures.value c.barrier_poll-done.ensures.here c.barrier_poll-done.ensures.rest
+settle-requires g c = all_there c.self.invariant.met c.self.view_is c.requires.processor c.index_mut-cpu.ensures.value c.barrier_poll-done.ensures.acts c.barrier_poll-done.ensures.here
 
 pub invariant_of-self : goal.invariant_of-self
-invariant_of-self g c = record { engine = c.settle.ensures.meets.left; met = (poll_says (hand g c) c.barrier_poll-done.ensures.rest c.args.ticket.now c.requires.ticket c.barrier_poll-done.result c.barrier_poll-done.ensures.polls c.barrier_poll-done.ensures.done).met }
+invariant_of-self g c = record { engine = c.settle.ensures.meets.left; met = (poll_says (hand g c) c.barrier_poll-done.ensures.acts c.args.ticket.now c.requires.ticket c.barrier_poll-done.result c.barrier_poll-done.ensures.done).met }
 
 pub returns-clause-after : goal.returns-clause-after
-returns-clause-after g c = (poll_says (hand g c) c.barrier_poll-done.ensures.rest c.args.ticket.now c.requires.ticket c.barrier_poll-done.result c.barrier_poll-done.ensures.polls c.barrier_poll-done.ensures.done).what.0
+returns-clause-after g c = (poll_says (hand g c) c.barrier_poll-done.ensures.acts c.args.ticket.now c.requires.ticket c.barrier_poll-done.result c.barrier_poll-done.ensures.done).what.0
 
 pub returns-clause-done : goal.returns-clause-done
-returns-clause-done g c = (poll_says (hand g c) c.barrier_poll-done.ensures.rest c.args.ticket.now c.requires.ticket c.barrier_poll-done.result c.barrier_poll-done.ensures.polls c.barrier_poll-done.ensures.done).what.1
+returns-clause-done g c = (poll_says (hand g c) c.barrier_poll-done.ensures.acts c.args.ticket.now c.requires.ticket c.barrier_poll-done.result c.barrier_poll-done.ensures.done).what.1

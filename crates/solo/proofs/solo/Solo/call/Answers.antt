@@ -17,10 +17,10 @@ pub settle-requires : goal.settle-requires
 settle-requires g c = all_stay c.self.invariant.met c.self.view_is c.requires c.index_mut-cpu.ensures.value c.call-answer.ensures.here c.call-answer.ensures.same.cpu c.call-answer.ensures.same.needs
 
 pub invariant_of-self : goal.invariant_of-self
-invariant_of-self g c = record { engine = c.settle.ensures.meets.left; met = (call_says (hand g c) _ c.call-answer.result c.call-answer.ensures.calls c.queued.result c.queued.ensures.told).met }
+invariant_of-self g c = record { engine = c.settle.ensures.meets.left; met = (call_says (hand g c) _ c.call-answer.result c.call-answer.ensures.calls c.call-answer.ensures.acts c.queued.result c.queued.ensures.told).met }
 
 pub returns-clause-domain : goal.returns-clause-domain
-returns-clause-domain g c = (call_says (hand g c) _ c.call-answer.result c.call-answer.ensures.calls c.queued.result c.queued.ensures.told).same
+returns-clause-domain g c = (call_says (hand g c) _ c.call-answer.result c.call-answer.ensures.calls c.call-answer.ensures.acts c.queued.result c.queued.ensures.told).same
 
 pub returns-clause-answer : goal.returns-clause-answer
-returns-clause-answer g c = (call_says (hand g c) _ c.call-answer.result c.call-answer.ensures.calls c.queued.result c.queued.ensures.told).what
+returns-clause-answer g c = (call_says (hand g c) _ c.call-answer.result c.call-answer.ensures.calls c.call-answer.ensures.acts c.queued.result c.queued.ensures.told).what

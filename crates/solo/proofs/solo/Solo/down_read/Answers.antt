@@ -1,7 +1,7 @@
 use Rattle.std.proofs.Common.{true}
-use Rattle.solo.proofs.Hand.{in_items, all_but_cpu}
+use Rattle.solo.proofs.Hand.{in_items, all_here, either}
 use Rattle.solo.proofs.Meeting.{Hand, hand_of}
-use Rattle.solo.proofs.Quiet.{lock_says, same_behind_lock}
+use Rattle.solo.proofs.Quiet.{lock_says}
 use Rattle.solo.proofs.solo.Solo.down_read.Given.{Over}
 use Rattle.solo.proofs.solo.Solo.down_read.Goals as goal
 
@@ -12,13 +12,13 @@ pub index_mut-requires : goal.index_mut-requires
 index_mut-requires g c = in_items c.self.invariant.met c.self.view_is c.requires _ c.self.inside.members.cpus.ok.0
 
 pub settle-requires : goal.settle-requires
-settle-requires g c = all_but_cpu c.self.invariant.met c.self.view_is c.requires c.index_mut.ensures.value (same_behind_lock true _ _ c.down_read-taken.result c.down_read-taken.ensures.downs) c.down_read-taken.ensures.rest
+settle-requires g c = either c.down_read-taken.result c.down_read-taken.ensures.acts (λ r did. all_here c.self.invariant.met c.self.view_is c.requires c.index_mut.ensures.value did c.down_read-taken.ensures.stays) (λ e did. all_here c.self.invariant.met c.self.view_is c.requires c.index_mut.ensures.value did c.down_read-taken.ensures.stays)
 
 pub invariant_of-self : goal.invariant_of-self
-invariant_of-self g c = record { engine = c.settle.ensures.meets.left; met = (lock_says (hand g c) c.down_read-taken.ensures.rest true c.down_read-taken.result c.down_read-taken.ensures.downs).met }
+invariant_of-self g c = record { engine = c.settle.ensures.meets.left; met = (lock_says (hand g c) true c.down_read-taken.result c.down_read-taken.ensures.downs c.down_read-taken.ensures.acts).met }
 
 pub returns-clause-same : goal.returns-clause-same
-returns-clause-same g c = (lock_says (hand g c) c.down_read-taken.ensures.rest true c.down_read-taken.result c.down_read-taken.ensures.downs).same
+returns-clause-same g c = (lock_says (hand g c) true c.down_read-taken.result c.down_read-taken.ensures.downs c.down_read-taken.ensures.acts).same
 
 pub returns-clause-section : goal.returns-clause-section
-returns-clause-section g c = (lock_says (hand g c) c.down_read-taken.ensures.rest true c.down_read-taken.result c.down_read-taken.ensures.downs).what
+returns-clause-section g c = (lock_says (hand g c) true c.down_read-taken.result c.down_read-taken.ensures.downs c.down_read-taken.ensures.acts).what

@@ -1,6 +1,6 @@
-use Rattle.solo.proofs.Hand.{in_items, all_but_cpu, of_table}
+use Rattle.solo.proofs.Hand.{in_items, of_table, all_here, either}
 use Rattle.solo.proofs.Meeting.{Hand, hand_of}
-use Rattle.solo.proofs.Quiet.{enter_says, same_behind_enter}
+use Rattle.solo.proofs.Quiet.{enter_says}
 use Rattle.solo.proofs.solo.Solo.enter.Given.{Over}
 use Rattle.solo.proofs.solo.Solo.enter.Goals as goal
 
@@ -14,13 +14,13 @@ pub enter-taken-requires : goal.enter-taken-requires
 enter-taken-requires g c = of_table c.self.invariant.met c.self.view_is c.requires.processor c.index_mut.ensures.value _ c.requires.look
 
 pub settle-requires : goal.settle-requires
-settle-requires g c = all_but_cpu c.self.invariant.met c.self.view_is c.requires.processor c.index_mut.ensures.value (same_behind_enter c.args.look _ _ c.enter-taken.result c.enter-taken.ensures.enters) c.enter-taken.ensures.rest
+settle-requires g c = either c.enter-taken.result c.enter-taken.ensures.acts (λ r did. all_here c.self.invariant.met c.self.view_is c.requires.processor c.index_mut.ensures.value did c.enter-taken.ensures.stays) (λ e did. all_here c.self.invariant.met c.self.view_is c.requires.processor c.index_mut.ensures.value did c.enter-taken.ensures.stays)
 
 pub invariant_of-self : goal.invariant_of-self
-invariant_of-self g c = record { engine = c.settle.ensures.meets.left; met = (enter_says (hand g c) c.enter-taken.ensures.rest c.args.look c.enter-taken.result c.enter-taken.ensures.enters).met }
+invariant_of-self g c = record { engine = c.settle.ensures.meets.left; met = (enter_says (hand g c) c.args.look c.enter-taken.result c.enter-taken.ensures.enters c.enter-taken.ensures.acts).met }
 
 pub returns-clause-same : goal.returns-clause-same
-returns-clause-same g c = (enter_says (hand g c) c.enter-taken.ensures.rest c.args.look c.enter-taken.result c.enter-taken.ensures.enters).same
+returns-clause-same g c = (enter_says (hand g c) c.args.look c.enter-taken.result c.enter-taken.ensures.enters c.enter-taken.ensures.acts).same
 
 pub returns-clause-section : goal.returns-clause-section
-returns-clause-section g c = (enter_says (hand g c) c.enter-taken.ensures.rest c.args.look c.enter-taken.result c.enter-taken.ensures.enters).what
+returns-clause-section g c = (enter_says (hand g c) c.args.look c.enter-taken.result c.enter-taken.ensures.enters c.enter-taken.ensures.acts).what

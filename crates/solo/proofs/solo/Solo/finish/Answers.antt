@@ -1,5 +1,5 @@
 use Rattle.std.proofs.Common.{◌≡◌, ◌<◌, ◌∙◌, sym, subst, rules}
-use Rattle.solo.proofs.Hand.{in_items, in_domain, lent, own_tallies, all_but_calls}
+use Rattle.solo.proofs.Hand.{in_items, in_domain, lent, own_tallies, all_there}
 use Rattle.solo.proofs.Meeting.{Hand, hand_of}
 use Rattle.solo.proofs.Jobs.{finish_says}
 use Rattle.solo.proofs.solo.Solo.finish.Given.{Over}
@@ -25,13 +25,13 @@ finish-requires g c =
 pub settle-requires : goal.settle-requires
 settle-requires g c =
     let same : c.args.batch.processor ≡ c.from-processor.result = search rules in
-    all_but_calls c.self.invariant.met c.self.view_is (subst (λ p. p < c.args.self.now.course.standing.processors) same c.requires.batch.there) c.index_mut-cpu.ensures.value c.finish.ensures.here c.finish.ensures.rest
+    all_there c.self.invariant.met c.self.view_is (subst (λ p. p < c.args.self.now.course.standing.processors) same c.requires.batch.there) c.index_mut-cpu.ensures.value c.finish.ensures.acts c.finish.ensures.here
 
 pub invariant_of-self : goal.invariant_of-self
-invariant_of-self g c = record { engine = c.settle.ensures.meets.left; met = (finish_says (hand g c) c.args.batch c.finish.ensures.finishes c.finish.ensures.rest (at g c)).met }
+invariant_of-self g c = record { engine = c.settle.ensures.meets.left; met = (finish_says (hand g c) c.args.batch.processor c.args.batch.count c.finish.ensures.acts (at g c)).met }
 
 pub returns-clause-same : goal.returns-clause-same
-returns-clause-same g c = (finish_says (hand g c) c.args.batch c.finish.ensures.finishes c.finish.ensures.rest (at g c)).same
+returns-clause-same g c = (finish_says (hand g c) c.args.batch.processor c.args.batch.count c.finish.ensures.acts (at g c)).same
 
 pub returns-clause-finishes : goal.returns-clause-finishes
-returns-clause-finishes g c = (finish_says (hand g c) c.args.batch c.finish.ensures.finishes c.finish.ensures.rest (at g c)).what
+returns-clause-finishes g c = (finish_says (hand g c) c.args.batch.processor c.args.batch.count c.finish.ensures.acts (at g c)).what

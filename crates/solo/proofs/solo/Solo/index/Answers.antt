@@ -1,5 +1,5 @@
 use Rattle.std.proofs.Common.{◌∙◌}
-use Rattle.solo.proofs.Hand.{in_items, all_but_cpu, first_small}
+use Rattle.solo.proofs.Hand.{in_items, first_small, all_here}
 use Rattle.solo.proofs.Meeting.{Hand, hand_of}
 use Rattle.solo.proofs.Quiet.{look_says}
 use Rattle.solo.proofs.solo.Solo.index.Given.{Over}
@@ -12,13 +12,13 @@ pub index_mut-requires : goal.index_mut-requires
 index_mut-requires g c = in_items c.self.invariant.met c.self.view_is (first_small c.self.invariant.met c.self.view_is) _ c.self.inside.members.cpus.ok.0
 
 pub settle-requires : goal.settle-requires
-settle-requires g c = all_but_cpu c.self.invariant.met c.self.view_is (first_small c.self.invariant.met c.self.view_is) c.index_mut.ensures.value c.look-look.ensures.looks.load.same c.look-look.ensures.rest
+settle-requires g c = all_here c.self.invariant.met c.self.view_is (first_small c.self.invariant.met c.self.view_is) c.index_mut.ensures.value c.look-look.ensures.acts c.look-look.ensures.stays
 
 pub invariant_of-self : goal.invariant_of-self
-invariant_of-self g c = record { engine = c.settle.ensures.meets.left; met = (look_says (hand g c) c.look-look.ensures.rest c.look-look.result c.look-look.ensures.looks).met }
+invariant_of-self g c = record { engine = c.settle.ensures.meets.left; met = (look_says (hand g c) c.look-look.result c.look-look.ensures.looks c.look-look.ensures.acts).met }
 
 pub returns-clause-value : goal.returns-clause-value
-returns-clause-value g c = c.index.ensures ∙ (look_says (hand g c) c.look-look.ensures.rest c.look-look.result c.look-look.ensures.looks).what.0.index
+returns-clause-value g c = c.index.ensures ∙ (look_says (hand g c) c.look-look.result c.look-look.ensures.looks c.look-look.ensures.acts).what.0.index
 
 pub returns-clause-after : goal.returns-clause-after
-returns-clause-after g c = (look_says (hand g c) c.look-look.ensures.rest c.look-look.result c.look-look.ensures.looks).what.1
+returns-clause-after g c = (look_says (hand g c) c.look-look.result c.look-look.ensures.looks c.look-look.ensures.acts).what.1

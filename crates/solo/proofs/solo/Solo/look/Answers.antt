@@ -1,4 +1,4 @@
-use Rattle.solo.proofs.Hand.{in_items, all_but_cpu}
+use Rattle.solo.proofs.Hand.{in_items, all_here}
 use Rattle.solo.proofs.Meeting.{Hand, hand_of}
 use Rattle.solo.proofs.Quiet.{look_says}
 use Rattle.solo.proofs.solo.Solo.look.Given.{Over}
@@ -11,13 +11,13 @@ pub index_mut-requires : goal.index_mut-requires
 index_mut-requires g c = in_items c.self.invariant.met c.self.view_is c.requires _ c.self.inside.members.cpus.ok.0
 
 pub settle-requires : goal.settle-requires
-settle-requires g c = all_but_cpu c.self.invariant.met c.self.view_is c.requires c.index_mut.ensures.value c.look-look.ensures.looks.load.same c.look-look.ensures.rest
+settle-requires g c = all_here c.self.invariant.met c.self.view_is c.requires c.index_mut.ensures.value c.look-look.ensures.acts c.look-look.ensures.stays
 
 pub invariant_of-self : goal.invariant_of-self
-invariant_of-self g c = record { engine = c.settle.ensures.meets.left; met = (look_says (hand g c) c.look-look.ensures.rest c.look-look.result c.look-look.ensures.looks).met }
+invariant_of-self g c = record { engine = c.settle.ensures.meets.left; met = (look_says (hand g c) c.look-look.result c.look-look.ensures.looks c.look-look.ensures.acts).met }
 
 pub returns-clause-look : goal.returns-clause-look
-returns-clause-look g c = (look_says (hand g c) c.look-look.ensures.rest c.look-look.result c.look-look.ensures.looks).what.0
+returns-clause-look g c = (look_says (hand g c) c.look-look.result c.look-look.ensures.looks c.look-look.ensures.acts).what.0
 
 pub returns-clause-after : goal.returns-clause-after
-returns-clause-after g c = (look_says (hand g c) c.look-look.ensures.rest c.look-look.result c.look-look.ensures.looks).what.1
+returns-clause-after g c = (look_says (hand g c) c.look-look.result c.look-look.ensures.looks c.look-look.ensures.acts).what.1

@@ -1,6 +1,4 @@
-use Rattle.std.proofs.Common.{refl, sym, ap, subst}
-use Rattle.sections.specs.Calls.{IsSameCpu}
-use Rattle.solo.proofs.Hand.{in_items, all_stay, first_small, lent}
+use Rattle.solo.proofs.Hand.{in_items, first_small, lent, all_there}
 use Rattle.solo.proofs.Meeting.{Hand, hand_of}
 use Rattle.solo.proofs.Jobs.{need_says}
 use Rattle.solo.proofs.solo.Solo.need.Given.{Over}
@@ -16,13 +14,13 @@ pub need-need-requires : goal.need-need-requires
 need-need-requires g c = lent c.self.invariant.met c.self.view_is (first_small c.self.invariant.met c.self.view_is) c.index_mut.ensures.value
 
 pub settle-requires : goal.settle-requires
-settle-requires g c = all_stay c.self.invariant.met c.self.view_is (first_small c.self.invariant.met c.self.view_is) c.index_mut.ensures.value c.need-need.ensures.here (subst (λ z. IsSameCpu c.index_mut.result.now.cpu z) (sym (ap (λ x. x.cpu) c.need-need.ensures.need.rest)) (refl, refl, refl, refl)) c.need-need.ensures.need.load.same
+settle-requires g c = all_there c.self.invariant.met c.self.view_is (first_small c.self.invariant.met c.self.view_is) c.index_mut.ensures.value c.need-need.ensures.acts c.need-need.ensures.here
 
 pub invariant_of-self : goal.invariant_of-self
-invariant_of-self g c = record { engine = c.settle.ensures.meets.left; met = (need_says (hand g c) c.need-need.result c.need-need.ensures.need).met }
+invariant_of-self g c = record { engine = c.settle.ensures.meets.left; met = (need_says (hand g c) c.need-need.result c.need-need.ensures.need c.need-need.ensures.acts).met }
 
 pub returns-clause-value : goal.returns-clause-value
-returns-clause-value g c = (need_says (hand g c) c.need-need.result c.need-need.ensures.need).what.1
+returns-clause-value g c = (need_says (hand g c) c.need-need.result c.need-need.ensures.need c.need-need.ensures.acts).what.1
 
 pub returns-clause-after : goal.returns-clause-after
-returns-clause-after g c = (need_says (hand g c) c.need-need.result c.need-need.ensures.need).what.0
+returns-clause-after g c = (need_says (hand g c) c.need-need.result c.need-need.ensures.need c.need-need.ensures.acts).what.0

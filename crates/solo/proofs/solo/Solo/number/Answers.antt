@@ -1,4 +1,4 @@
-use Rattle.solo.proofs.Hand.{in_items, all_but_cpu, first_small}
+use Rattle.solo.proofs.Hand.{in_items, first_small, all_here}
 use Rattle.solo.proofs.Meeting.{Hand, hand_of}
 use Rattle.solo.proofs.Quiet.{number_says}
 use Rattle.solo.proofs.solo.Solo.number.Given.{Over}
@@ -11,13 +11,13 @@ pub index_mut-requires : goal.index_mut-requires
 index_mut-requires g c = in_items c.self.invariant.met c.self.view_is (first_small c.self.invariant.met c.self.view_is) _ c.self.inside.members.cpus.ok.0
 
 pub settle-requires : goal.settle-requires
-settle-requires g c = all_but_cpu c.self.invariant.met c.self.view_is (first_small c.self.invariant.met c.self.view_is) c.index_mut.ensures.value c.number-number.ensures.notes.adds.same c.number-number.ensures.rest
+settle-requires g c = all_here c.self.invariant.met c.self.view_is (first_small c.self.invariant.met c.self.view_is) c.index_mut.ensures.value c.number-number.ensures.acts c.number-number.ensures.stays
 
 pub invariant_of-self : goal.invariant_of-self
-invariant_of-self g c = record { engine = c.settle.ensures.meets.left; met = (number_says (hand g c) c.number-number.ensures.rest c.number-number.result c.number-number.ensures.notes).met }
+invariant_of-self g c = record { engine = c.settle.ensures.meets.left; met = (number_says (hand g c) c.number-number.result c.number-number.ensures.notes c.number-number.ensures.acts).met }
 
 pub returns-clause-same : goal.returns-clause-same
-returns-clause-same g c = (number_says (hand g c) c.number-number.ensures.rest c.number-number.result c.number-number.ensures.notes).same
+returns-clause-same g c = (number_says (hand g c) c.number-number.result c.number-number.ensures.notes c.number-number.ensures.acts).same
 
 pub returns-clause-number : goal.returns-clause-number
-returns-clause-number g c = record { number = (number_says (hand g c) c.number-number.ensures.rest c.number-number.result c.number-number.ensures.notes).what.0; notes = (number_says (hand g c) c.number-number.ensures.rest c.number-number.result c.number-number.ensures.notes).what.1 }
+returns-clause-number g c = record { number = (number_says (hand g c) c.number-number.result c.number-number.ensures.notes c.number-number.ensures.acts).what.0; notes = (number_says (hand g c) c.number-number.result c.number-number.ensures.notes c.number-number.ensures.acts).what.1 }

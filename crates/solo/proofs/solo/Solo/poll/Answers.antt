@@ -1,6 +1,6 @@
-use Rattle.solo.proofs.Hand.{in_items, all_but_cpu}
+use Rattle.solo.proofs.Hand.{in_items, all_here, either}
 use Rattle.solo.proofs.Meeting.{Hand, hand_of}
-use Rattle.solo.proofs.Quiet.{poll_says, same_behind_poll}
+use Rattle.solo.proofs.Quiet.{poll_says}
 use Rattle.solo.proofs.solo.Solo.poll.Given.{Over}
 use Rattle.solo.proofs.solo.Solo.poll.Goals as goal
 
@@ -11,13 +11,13 @@ pub index_mut-requires : goal.index_mut-requires
 index_mut-requires g c = in_items c.self.invariant.met c.self.view_is c.requires _ c.self.inside.members.cpus.ok.0
 
 pub settle-requires : goal.settle-requires
-settle-requires g c = all_but_cpu c.self.invariant.met c.self.view_is c.requires c.index_mut.ensures.value (same_behind_poll c.args.cookie _ _ c.poll_number-answer.result c.poll_number-answer.ensures.asks) c.poll_number-answer.ensures.rest
+settle-requires g c = either c.poll_number-answer.result c.poll_number-answer.ensures.acts (λ r did. all_here c.self.invariant.met c.self.view_is c.requires c.index_mut.ensures.value did c.poll_number-answer.ensures.stays) (λ e did. all_here c.self.invariant.met c.self.view_is c.requires c.index_mut.ensures.value did c.poll_number-answer.ensures.stays)
 
 pub invariant_of-self : goal.invariant_of-self
-invariant_of-self g c = record { engine = c.settle.ensures.meets.left; met = (poll_says (hand g c) c.poll_number-answer.ensures.rest c.args.cookie c.poll_number-answer.result c.poll_number-answer.ensures.asks).met }
+invariant_of-self g c = record { engine = c.settle.ensures.meets.left; met = (poll_says (hand g c) c.args.cookie c.poll_number-answer.result c.poll_number-answer.ensures.asks c.poll_number-answer.ensures.acts).met }
 
 pub returns-clause-same : goal.returns-clause-same
-returns-clause-same g c = (poll_says (hand g c) c.poll_number-answer.ensures.rest c.args.cookie c.poll_number-answer.result c.poll_number-answer.ensures.asks).same
+returns-clause-same g c = (poll_says (hand g c) c.args.cookie c.poll_number-answer.result c.poll_number-answer.ensures.asks c.poll_number-answer.ensures.acts).same
 
 pub returns-clause-answer : goal.returns-clause-answer
-returns-clause-answer g c = (poll_says (hand g c) c.poll_number-answer.ensures.rest c.args.cookie c.poll_number-answer.result c.poll_number-answer.ensures.asks).what
+returns-clause-answer g c = (poll_says (hand g c) c.args.cookie c.poll_number-answer.result c.poll_number-answer.ensures.asks c.poll_number-answer.ensures.acts).what

@@ -1,7 +1,7 @@
 use Rattle.std.proofs.Common.{false}
-use Rattle.solo.proofs.Hand.{in_items, all_but_cpu}
+use Rattle.solo.proofs.Hand.{in_items, all_here, either}
 use Rattle.solo.proofs.Meeting.{Hand, hand_of}
-use Rattle.solo.proofs.Quiet.{lock_says, same_behind_lock}
+use Rattle.solo.proofs.Quiet.{lock_says}
 use Rattle.solo.proofs.solo.Solo.read_lock.Given.{Over}
 use Rattle.solo.proofs.solo.Solo.read_lock.Goals as goal
 
@@ -12,13 +12,13 @@ pub index_mut-requires : goal.index_mut-requires
 index_mut-requires g c = in_items c.self.invariant.met c.self.view_is c.requires _ c.self.inside.members.cpus.ok.0
 
 pub settle-requires : goal.settle-requires
-settle-requires g c = all_but_cpu c.self.invariant.met c.self.view_is c.requires c.index_mut.ensures.value (same_behind_lock false _ _ c.read_lock-taken.result c.read_lock-taken.ensures.locks) c.read_lock-taken.ensures.rest
+settle-requires g c = either c.read_lock-taken.result c.read_lock-taken.ensures.acts (λ r did. all_here c.self.invariant.met c.self.view_is c.requires c.index_mut.ensures.value did c.read_lock-taken.ensures.stays) (λ e did. all_here c.self.invariant.met c.self.view_is c.requires c.index_mut.ensures.value did c.read_lock-taken.ensures.stays)
 
 pub invariant_of-self : goal.invariant_of-self
-invariant_of-self g c = record { engine = c.settle.ensures.meets.left; met = (lock_says (hand g c) c.read_lock-taken.ensures.rest false c.read_lock-taken.result c.read_lock-taken.ensures.locks).met }
+invariant_of-self g c = record { engine = c.settle.ensures.meets.left; met = (lock_says (hand g c) false c.read_lock-taken.result c.read_lock-taken.ensures.locks c.read_lock-taken.ensures.acts).met }
 
 pub returns-clause-same : goal.returns-clause-same
-returns-clause-same g c = (lock_says (hand g c) c.read_lock-taken.ensures.rest false c.read_lock-taken.result c.read_lock-taken.ensures.locks).same
+returns-clause-same g c = (lock_says (hand g c) false c.read_lock-taken.result c.read_lock-taken.ensures.locks c.read_lock-taken.ensures.acts).same
 
 pub returns-clause-section : goal.returns-clause-section
-returns-clause-section g c = (lock_says (hand g c) c.read_lock-taken.ensures.rest false c.read_lock-taken.result c.read_lock-taken.ensures.locks).what
+returns-clause-section g c = (lock_says (hand g c) false c.read_lock-taken.result c.read_lock-taken.ensures.locks c.read_lock-taken.ensures.acts).what

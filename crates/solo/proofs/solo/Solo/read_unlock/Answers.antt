@@ -1,7 +1,7 @@
 use Rattle.std.proofs.Common.{◌≡◌, ◌<◌, sym, subst, rules}
-use Rattle.solo.proofs.Hand.{in_items, of_table, of_number, all_but_cpu}
-use Rattle.solo.proofs.Meeting.{Hand, hand_of, s'}
-use Rattle.solo.proofs.Quiet.{end_says}
+use Rattle.solo.proofs.Hand.{in_items, of_table, of_number, all_here}
+use Rattle.domain.specs.Acting.{ends}
+use Rattle.solo.proofs.Meeting.{Hand, hand_of, s', does, same_domain, have_met}
 use Rattle.solo.specs.Calls.{Ends}
 use Rattle.solo.proofs.solo.Solo.read_unlock.Given.{Over}
 use Rattle.solo.proofs.solo.Solo.read_unlock.Goals as goal
@@ -26,13 +26,13 @@ read_unlock-requires g c =
 pub settle-requires : goal.settle-requires
 settle-requires g c =
     let same : c.args.reading.processor ≡ c.from-processor.result = search rules in
-    all_but_cpu c.self.invariant.met c.self.view_is (subst (λ p. p < c.args.self.now.course.standing.processors) same c.requires.processor) c.index_mut.ensures.value c.read_unlock.ensures.ends.same c.read_unlock.ensures.rest
+    all_here c.self.invariant.met c.self.view_is (subst (λ p. p < c.args.self.now.course.standing.processors) same c.requires.processor) c.index_mut.ensures.value c.read_unlock.ensures.acts c.read_unlock.ensures.stays
 
 pub invariant_of-self : goal.invariant_of-self
-invariant_of-self g c = record { engine = c.settle.ensures.meets.left; met = (end_says (hand g c) c.read_unlock.ensures.rest c.args.reading c.read_unlock.ensures.ends).met }
+invariant_of-self g c = record { engine = c.settle.ensures.meets.left; met = have_met (hand g c) (ends c.args.reading.section) c.read_unlock.ensures.acts }
 
 pub returns-clause-same : goal.returns-clause-same
-returns-clause-same g c = (end_says (hand g c) c.read_unlock.ensures.rest c.args.reading c.read_unlock.ensures.ends).same
+returns-clause-same g c = same_domain (hand g c) (ends c.args.reading.section) c.read_unlock.ensures.acts
 
 pub returns-clause-section : goal.returns-clause-section
-returns-clause-section g c = subst (λ p. Ends c.args.reading.section p c.args.self.now.course (s' (hand g c)).course) (sym (at g c)) (end_says (hand g c) c.read_unlock.ensures.rest c.args.reading c.read_unlock.ensures.ends).what
+returns-clause-section g c = subst (λ p. Ends c.args.reading.section p c.args.self.now.course (s' (hand g c)).course) (sym (at g c)) (does (hand g c) (ends c.args.reading.section) c.read_unlock.ensures.acts)

@@ -1,5 +1,5 @@
 use Rattle.std.proofs.Common.{◌≡◌, ◌<◌, ◌∙◌, subst, rules}
-use Rattle.solo.proofs.Hand.{in_items, lent, own_tallies, all_but_calls}
+use Rattle.solo.proofs.Hand.{in_items, lent, own_tallies, all_there}
 use Rattle.solo.proofs.Meeting.{Hand, hand_of}
 use Rattle.solo.proofs.Barriers.{out_says}
 use Rattle.solo.proofs.solo.Solo.see_out.Given.{Over}
@@ -25,13 +25,13 @@ see_out-requires g c =
 pub settle-requires : goal.settle-requires
 settle-requires g c =
     let same : c.args.batch.now.processor ≡ c.from-processor.result = search rules in
-    all_but_calls c.self.invariant.met c.self.view_is (subst (λ p. p < c.args.self.now.course.standing.processors) same c.requires.there) c.index_mut-cpu.ensures.value c.see_out.ensures.here c.see_out.ensures.rest
+    all_there c.self.invariant.met c.self.view_is (subst (λ p. p < c.args.self.now.course.standing.processors) same c.requires.there) c.index_mut-cpu.ensures.value c.see_out.ensures.acts c.see_out.ensures.here
 
 pub invariant_of-self : goal.invariant_of-self
-invariant_of-self g c = record { engine = c.settle.ensures.meets.left; met = (out_says (hand g c) c.see_out.ensures.rest _ c.see_out.ensures.out c.requires.there).met }
+invariant_of-self g c = record { engine = c.settle.ensures.meets.left; met = (out_says (hand g c) c.see_out.ensures.acts _ c.see_out.ensures.out c.requires.there).met }
 
 pub returns-clause-after : goal.returns-clause-after
-returns-clause-after g c = (out_says (hand g c) c.see_out.ensures.rest _ c.see_out.ensures.out c.requires.there).what.0
+returns-clause-after g c = (out_says (hand g c) c.see_out.ensures.acts _ c.see_out.ensures.out c.requires.there).what.0
 
 pub returns-clause-out : goal.returns-clause-out
-returns-clause-out g c = (out_says (hand g c) c.see_out.ensures.rest _ c.see_out.ensures.out c.requires.there).what.1
+returns-clause-out g c = (out_says (hand g c) c.see_out.ensures.acts _ c.see_out.ensures.out c.requires.there).what.1

@@ -1,5 +1,5 @@
 use Rattle.std.proofs.Common.{arith, rules}
-use Rattle.solo.proofs.Hand.{in_items, all_but_cpu, in_domain, in_room, lent}
+use Rattle.solo.proofs.Hand.{in_items, in_domain, in_room, lent, all_there, either}
 use Rattle.solo.proofs.Meeting.{Hand, hand_of}
 use Rattle.solo.proofs.Jobs.{take_says}
 use Rattle.solo.proofs.solo.Solo.take_ready.Given.{Over}
@@ -18,13 +18,13 @@ pub take_ready-taken-requires : goal.take_ready-taken-requires
 take_ready-taken-requires g c = (search rules, (lent c.self.invariant.met c.self.view_is c.requires c.index_mut-taker.ensures.value, in_domain c.self.invariant.met c.self.view_is c.requires))
 
 pub settle-requires : goal.settle-requires
-settle-requires g c = all_but_cpu c.self.invariant.met c.self.view_is c.requires c.index_mut-taker.ensures.value c.take_ready-taken.ensures.same c.take_ready-taken.ensures.rest
+settle-requires g c = either c.take_ready-taken.result c.take_ready-taken.ensures.acts (λ r did. all_there c.self.invariant.met c.self.view_is c.requires c.index_mut-taker.ensures.value did c.take_ready-taken.ensures.here) (λ e did. all_there c.self.invariant.met c.self.view_is c.requires c.index_mut-taker.ensures.value did c.take_ready-taken.ensures.here)
 
 pub invariant_of-self : goal.invariant_of-self
-invariant_of-self g c = record { engine = c.settle.ensures.meets.left; met = (take_says (hand g c) c.args.max c.take_ready-taken.ensures.rest c.requires c.take_ready-taken.result c.take_ready-taken.ensures.takes c.take_ready-taken.ensures.handed).met }
+invariant_of-self g c = record { engine = c.settle.ensures.meets.left; met = (take_says (hand g c) c.args.max c.requires c.take_ready-taken.result c.take_ready-taken.ensures.takes c.take_ready-taken.ensures.handed c.take_ready-taken.ensures.acts).met }
 
 pub returns-clause-same : goal.returns-clause-same
-returns-clause-same g c = (take_says (hand g c) c.args.max c.take_ready-taken.ensures.rest c.requires c.take_ready-taken.result c.take_ready-taken.ensures.takes c.take_ready-taken.ensures.handed).same
+returns-clause-same g c = (take_says (hand g c) c.args.max c.requires c.take_ready-taken.result c.take_ready-taken.ensures.takes c.take_ready-taken.ensures.handed c.take_ready-taken.ensures.acts).same
 
 pub returns-clause-answer : goal.returns-clause-answer
-returns-clause-answer g c = (take_says (hand g c) c.args.max c.take_ready-taken.ensures.rest c.requires c.take_ready-taken.result c.take_ready-taken.ensures.takes c.take_ready-taken.ensures.handed).what
+returns-clause-answer g c = (take_says (hand g c) c.args.max c.requires c.take_ready-taken.result c.take_ready-taken.ensures.takes c.take_ready-taken.ensures.handed c.take_ready-taken.ensures.acts).what

@@ -1,6 +1,6 @@
-use Rattle.solo.proofs.Hand.{in_items, all_but_cpu, of_table}
-use Rattle.solo.proofs.Meeting.{Hand, hand_of}
-use Rattle.solo.proofs.Quiet.{end_says}
+use Rattle.solo.proofs.Hand.{in_items, of_table, all_here}
+use Rattle.domain.specs.Acting.{ends}
+use Rattle.solo.proofs.Meeting.{Hand, hand_of, does, same_domain, have_met}
 use Rattle.solo.proofs.solo.Solo.up_read.Given.{Over}
 use Rattle.solo.proofs.solo.Solo.up_read.Goals as goal
 
@@ -14,13 +14,13 @@ pub up_read-requires : goal.up_read-requires
 up_read-requires g c = of_table c.self.invariant.met c.self.view_is c.requires.processor c.index_mut.ensures.value _ c.requires.held
 
 pub settle-requires : goal.settle-requires
-settle-requires g c = all_but_cpu c.self.invariant.met c.self.view_is c.requires.processor c.index_mut.ensures.value c.up_read.ensures.ends.same c.up_read.ensures.rest
+settle-requires g c = all_here c.self.invariant.met c.self.view_is c.requires.processor c.index_mut.ensures.value c.up_read.ensures.acts c.up_read.ensures.stays
 
 pub invariant_of-self : goal.invariant_of-self
-invariant_of-self g c = record { engine = c.settle.ensures.meets.left; met = (end_says (hand g c) c.up_read.ensures.rest c.args.held c.up_read.ensures.ends).met }
+invariant_of-self g c = record { engine = c.settle.ensures.meets.left; met = have_met (hand g c) (ends c.args.held.section) c.up_read.ensures.acts }
 
 pub returns-clause-same : goal.returns-clause-same
-returns-clause-same g c = (end_says (hand g c) c.up_read.ensures.rest c.args.held c.up_read.ensures.ends).same
+returns-clause-same g c = same_domain (hand g c) (ends c.args.held.section) c.up_read.ensures.acts
 
 pub returns-clause-section : goal.returns-clause-section
-returns-clause-section g c = (end_says (hand g c) c.up_read.ensures.rest c.args.held c.up_read.ensures.ends).what
+returns-clause-section g c = does (hand g c) (ends c.args.held.section) c.up_read.ensures.acts
