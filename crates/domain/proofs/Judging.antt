@@ -28,7 +28,7 @@ use Rattle.domain.specs.Views.{Engine, DomainView, CpuView, IsOf}
 use Rattle.domain.specs.Turns.{TakesTurn}
 use Rattle.domain.specs.Parts.{Each}
 use Rattle.domain.specs.Counts.{IsHistoryOf, CountsHistory, AreAllThere, CountsInAll, AreDeedsOf, CountsCalls, IsBack, AreBack}
-use Rattle.domain.specs.Cleanup.{is_there, missing_of, open_count, IsUnused, AreTotals, IsCause, IsJudged, IsTakenDown, IsRefused, IsHandedBack, IsNothingLeft, IsLeft}
+use Rattle.domain.specs.Cleanup.{is_there, missing_of, open_count, whole_of, IsUnused, AreTotals, IsCause, IsJudged, IsTakenDown, IsRefused, IsHandedBack, IsNothingLeft, IsLeft}
 
 -- Who is there
 
@@ -77,7 +77,7 @@ module _ (d : DomainView) (cpus : List CpuView) (history : List Event) (all : Li
   rests_there : number % 4 ≡ 0 → ¬ IsRunning history
   rests_there rests = let n = counts.number_is in idle_not_running counts.changes history (omega (arith, n, rests)) counts.reaches
 
-  causes : (cause : InUse) → IsLeft t number cause → IsCause d.processors history all cause
+  causes : (cause : InUse) → IsLeft t number cause → IsCause (whole_of d.processors history all) cause
   causes (Missing n) h = h
   causes (Sections n) h = let is = open_is in let left = h.0 in (omega (arith, is, left), h.1)
   causes Period h =
@@ -89,7 +89,7 @@ module _ (d : DomainView) (cpus : List CpuView) (history : List Event) (all : Li
   causes (Callbacks n) h = let is = open_is in let left = h.0 in let waiting = h.2 in (omega (arith, is, left), rests_there h.1, omega (arith, queued, finished, waiting), h.3)
 
   says : t.periods ≡ periods_ended number → (answer : Result Totals InUse) → MatchResult answer (λ u. (u ≡ t) × IsNothingLeft t number) (λ cause. IsLeft t number cause)
-      → MatchResult answer (λ u. IsUnused d.processors history all × AreTotals d.processors history all u) (λ cause. IsCause d.processors history all cause)
+      → MatchResult answer (λ u. IsUnused (whole_of d.processors history all) × AreTotals (whole_of d.processors history all) u) (IsCause (whole_of d.processors history all))
   says periods (Ok u) h =
       let nothing = h.1 in
       let is = open_is in
@@ -98,7 +98,7 @@ module _ (d : DomainView) (cpus : List CpuView) (history : List Event) (all : Li
       let n = counts.number_is in
       let e = counts.reaches.ended in (
         record { closed = omega (arith, is, left); rests = rests_there nothing.rests; run = omega (arith, queued, finished, run) },
-        subst (λ (z : Totals). AreTotals d.processors history all z) (sym h.0) record { opened = counts.opened_are; closed = counts.closed_are; queued = queued; finished = finished; periods = omega (arith, periods, n, e) },
+        subst (λ (z : Totals). AreTotals (whole_of d.processors history all) z) (sym h.0) record { opened = counts.opened_are; closed = counts.closed_are; queued = queued; finished = finished; periods = omega (arith, periods, n, e) },
       )
   says periods (Err cause) h = causes cause h
 

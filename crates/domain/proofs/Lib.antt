@@ -1,3 +1,4 @@
+mod Acting
 mod Counted
 mod Counting
 mod Covering

@@ -29,26 +29,36 @@ missing_of processors cpus = sum_below (λ p. if is_there p cpus then 0 else 1) 
 abbrev pub open_count : List Event → ℕ
 open_count history = length (open_sections history)
 
+-- all that was done, as it counts for taking a domain down: its history, how many calls were queued, and how many of these are finished
+pub record Whole : Type 0 where
+  pub history : List Event
+  pub queued : ℕ
+  pub finished : ℕ
+
+-- on so many processors
+abbrev pub whole_of : ℕ → List Event → List Deed → Whole
+whole_of processors history all = record { history = history; queued = all_queued processors all; finished = all_finished processors all }
+
 -- no section is open, no grace period runs, and each call that was queued is finished
-pub record IsUnused (processors : ℕ) (history : List Event) (all : List Deed) : Type 0 where
-  pub closed : open_count history ≡ 0
-  pub rests : ¬ IsRunning history
-  pub run : all_queued processors all ≡ all_finished processors all
+pub record IsUnused (w : Whole) : Type 0 where
+  pub closed : open_count w.history ≡ 0
+  pub rests : ¬ IsRunning w.history
+  pub run : w.queued ≡ w.finished
 
 -- the counts of all that was done
-pub record AreTotals (processors : ℕ) (history : List Event) (all : List Deed) (t : Totals) : Type 0 where
-  pub opened : t.opened ≡ opened_in history
-  pub closed : t.closed ≡ closed_in history
-  pub queued : t.queued ≡ all_queued processors all
-  pub finished : t.finished ≡ all_finished processors all
-  pub periods : t.periods ≡ ended_in history
+pub record AreTotals (w : Whole) (t : Totals) : Type 0 where
+  pub opened : t.opened ≡ opened_in w.history
+  pub closed : t.closed ≡ closed_in w.history
+  pub queued : t.queued ≡ w.queued
+  pub finished : t.finished ≡ w.finished
+  pub periods : t.periods ≡ ended_in w.history
 
--- why a domain of which this was done is in use: the first cause that holds
-abbrev pub IsCause : ℕ → List Event → List Deed → InUse → Type 0
-IsCause processors history all (Missing n) = ⊥
-IsCause processors history all (Sections n) = (n ≡ open_count history) × (0 < n)
-IsCause processors history all Period = (open_count history ≡ 0) × IsRunning history
-IsCause processors history all (Callbacks n) = (open_count history ≡ 0) × (¬ IsRunning history) × (all_queued processors all ≡ all_finished processors all + n) × (0 < n)
+-- why a domain in which this was done is in use: the first cause that holds. Who is missing is another matter
+abbrev pub IsCause : Whole → InUse → Type 0
+IsCause w (Missing n) = ⊥
+IsCause w (Sections n) = (n ≡ open_count w.history) × (0 < n)
+IsCause w Period = (open_count w.history ≡ 0) × IsRunning w.history
+IsCause w (Callbacks n) = (open_count w.history ≡ 0) × (¬ IsRunning w.history) × (w.queued ≡ w.finished + n) × (0 < n)
 
 -- Answers
 
@@ -58,7 +68,7 @@ pub record IsJudged (d : DomainView) (cpus : List CpuView) (answer : Result Tota
   pub of_all : IsHistoryOf d cpus history
   pub all : List Deed
   pub deeds_of_all : AreDeedsOf d cpus all
-  pub says : MatchResult answer (λ t. IsUnused d.processors history all × AreTotals d.processors history all t) (λ cause. IsCause d.processors history all cause)
+  pub says : MatchResult answer (λ t. IsUnused (whole_of d.processors history all) × AreTotals (whole_of d.processors history all) t) (IsCause (whole_of d.processors history all))
   pub back : AreBack d history all cpus cpus'
 
 -- the domain was taken down: no processor is missing, and it is not in use
@@ -68,8 +78,8 @@ pub record IsTakenDown (d : DomainView) (cpus : List CpuView) (t : Totals) : Typ
   pub of_all : IsHistoryOf d cpus history
   pub all : List Deed
   pub deeds_of_all : AreDeedsOf d cpus all
-  pub unused : IsUnused d.processors history all
-  pub totals : AreTotals d.processors history all t
+  pub unused : IsUnused (whole_of d.processors history all)
+  pub totals : AreTotals (whole_of d.processors history all) t
 
 -- no processor is missing, and the domain is in use for this cause. It is handed back with its processors
 pub record IsInUse (d : DomainView) (cpus : List CpuView) (cause : InUse) (d' : DomainView) (cpus' : List CpuView) : Type 0 where
@@ -78,7 +88,7 @@ pub record IsInUse (d : DomainView) (cpus : List CpuView) (cause : InUse) (d' : 
   pub of_all : IsHistoryOf d cpus history
   pub all : List Deed
   pub deeds_of_all : AreDeedsOf d cpus all
-  pub is : IsCause d.processors history all cause
+  pub is : IsCause (whole_of d.processors history all) cause
   pub domain : d' ≡ d
   pub back : AreBack d history all cpus cpus'
 

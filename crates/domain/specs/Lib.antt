@@ -11,4 +11,5 @@ pub mod Barriers
 pub mod Counts
 pub mod Cleanup
 pub mod Making
+pub mod Acting
 pub mod Insides

@@ -8,7 +8,8 @@ use Rattle.sseq.specs.Numbers.{state_bits}
 use Rattle.sections.specs.Views.{LookView, ReadingView}
 use Rattle.calls.specs.Views.{TicketView}
 use Rattle.scan.specs.Standings.{index_now}
-use Rattle.solo.specs.Calls.{SoloView, IsSame, IsLookNow, IsReadingAt, Begins, IsOutOfSections, Ends, ReadsNumber}
+use Rattle.solo.specs.Courses.{Course}
+use Rattle.solo.specs.Calls.{SoloView, IsLookNow, IsReadingAt, Begins, IsOutOfSections, Ends, ReadsNumber}
 use Rattle.solo.specs.Barriers.{ticket_of, AreReached}
 use Rattle.requests.specs.declared.command.Command.{Command}
 use Rattle.requests.specs.declared.command.Command.TheVariants as command
@@ -132,10 +133,6 @@ there name tokens t is = bearer_at_is name tokens ∙ ap (option_map bearer_of) 
 -- What is done
 
 module _ {A : Type 0} (own : List ℕ) (tokens : List (List ℕ × Token A)) (parked : Option Named) (jobs : List JobsView) (d d' : SoloView) where
-  -- the names and how far the domain has come may change
-  goes_on : (tokens' : List (List ℕ × Token A)) → IsSame d d' → state_with own tokens' parked jobs d' ≡ record (state_with own tokens parked jobs d) { names = names_of tokens'; standing = d'.standing }
-  goes_on tokens' same = λ i. record (state_with own tokens parked jobs d) { names = names_of tokens'; asked = same.4 i; standing = d'.standing; queued = same.6 i; finished = same.7 i }
-
   pub looked : (p : ℕ) (name : List ℕ) (l : LookView) → token_at name tokens ≡ None → IsLookNow d l → d' ≡ d
       → Does d.limits (act.Look p name) (state_with own tokens parked jobs d) (reply.Look l.index) (state_with own (tokens ++ (name, token.Look l) ∷ []) parked jobs d')
   looked p name l free now same = record {
@@ -144,41 +141,41 @@ module _ {A : Type 0} (own : List ℕ) (tokens : List (List ℕ × Token A)) (pa
     reply = ap reply.Look now.index;
   }
 
-  begun : (p : ℕ) (i : Index) (name : List ℕ) (r : ReadingView) (tokens' : List (List ℕ × Token A)) → IsSame d d' → Becomes name (Some (Reading r.section r.processor)) (names_of tokens) (names_of tokens')
-      → Begins d.limits p i r.section d.standing d'.standing → IsReadingAt d.table p i r
+  begun : (p : ℕ) (i : Index) (name : List ℕ) (r : ReadingView) (tokens' : List (List ℕ × Token A)) → Becomes name (Some (Reading r.section r.processor)) (names_of tokens) (names_of tokens')
+      → Begins d.limits p i r.section d.course d'.course → IsReadingAt d.table p i r
       → BeginsUnder d.limits p i (λ s. Reading s p) name (state_with own tokens parked jobs d) (reply.Index r.index) (state_with own tokens' parked jobs d')
-  begun p i name r tokens' same named begins is = record {
+  begun p i name r tokens' named begins is = record {
     section = r.section;
     begins = begins;
     names = subst (λ q. Becomes name (Some (Reading r.section q)) (names_of tokens) (names_of tokens')) is.processor named;
-    rest = goes_on tokens' same;
+    rest = refl;
     reply = ap reply.Index is.index;
   }
 
-  pub locked : (p : ℕ) (name : List ℕ) (r : ReadingView) → IsSame d d' → token_at name tokens ≡ None
-      → Begins d.limits p (index_now d.standing) r.section d.standing d'.standing → IsReadingAt d.table p (index_now d.standing) r
+  pub locked : (p : ℕ) (name : List ℕ) (r : ReadingView) → token_at name tokens ≡ None
+      → Begins d.limits p (index_now d.course.standing) r.section d.course d'.course → IsReadingAt d.table p (index_now d.course.standing) r
       → Does d.limits (act.Lock p name) (state_with own tokens parked jobs d) (reply.Index r.index) (state_with own (tokens ++ (name, token.Reading r) ∷ []) parked jobs d')
-  locked p name r same free begins is = inl (begun p (index_now d.standing) name r (tokens ++ (name, token.Reading r) ∷ []) same (comes name (token.Reading r) tokens free) begins is)
+  locked p name r free begins is = inl (begun p (index_now d.course.standing) name r (tokens ++ (name, token.Reading r) ∷ []) (comes name (token.Reading r) tokens free) begins is)
 
-  pub downed : (p : ℕ) (name : List ℕ) (h : ReadingView) → IsSame d d' → token_at name tokens ≡ None
-      → Begins d.limits p (index_now d.standing) h.section d.standing d'.standing → IsReadingAt d.table p (index_now d.standing) h
+  pub downed : (p : ℕ) (name : List ℕ) (h : ReadingView) → token_at name tokens ≡ None
+      → Begins d.limits p (index_now d.course.standing) h.section d.course d'.course → IsReadingAt d.table p (index_now d.course.standing) h
       → Does d.limits (act.Down p name) (state_with own tokens parked jobs d) (reply.Index h.index) (state_with own (tokens ++ (name, token.Held h) ∷ []) parked jobs d')
-  downed p name h same free begins is = inl (record { section = h.section; begins = begins; names = comes name (token.Held h) tokens free; rest = goes_on (tokens ++ (name, token.Held h) ∷ []) same; reply = ap reply.Index is.index })
+  downed p name h free begins is = inl (record { section = h.section; begins = begins; names = comes name (token.Held h) tokens free; rest = refl; reply = ap reply.Index is.index })
 
-  pub begun_none : (p : ℕ) (c : Command) (bearer : ℕ → Bearer) (name : List ℕ) → IsOutOfSections d.limits p (index_now d.standing) d.standing → d' ≡ d
+  pub begun_none : (p : ℕ) (c : Command) (bearer : ℕ → Bearer) (name : List ℕ) → IsOutOfSections d.limits p (index_now d.course.standing) d.course → d' ≡ d
       → BeginsNow d.limits p c bearer name (state_with own tokens parked jobs d) (reply.Refused c cause.Exhausted) (state_with own tokens parked jobs d')
   begun_none p c bearer name full same = inr (full, record { after = ap (state_with own tokens parked jobs) same; reply = refl })
 
   module _ (name : List ℕ) (rest : List (List ℕ × Token A)) (frees : Frees name tokens rest) where
-    pub entered : (p : ℕ) (l : LookView) (r : ReadingView) → IsSame d d' → Some (token.Look l) ≡ token_at name tokens → Begins d.limits p l.index r.section d.standing d'.standing → IsReadingAt d.table p l.index r
+    pub entered : (p : ℕ) (l : LookView) (r : ReadingView) → Some (token.Look l) ≡ token_at name tokens → Begins d.limits p l.index r.section d.course d'.course → IsReadingAt d.table p l.index r
         → Does d.limits (act.Enter p name) (state_with own tokens parked jobs d) (reply.Index r.index) (state_with own (rest ++ (name, token.Reading r) ∷ []) parked jobs d')
-    entered p l r same is begins at = record {
+    entered p l r is begins at = record {
       index = l.index;
       there = there name tokens (token.Look l) is;
-      enters = inl (begun p l.index name r (rest ++ (name, token.Reading r) ∷ []) same (changes name (token.Reading r) tokens rest frees) begins at);
+      enters = inl (begun p l.index name r (rest ++ (name, token.Reading r) ∷ []) (changes name (token.Reading r) tokens rest frees) begins at);
     }
 
-    pub entered_none : (p : ℕ) (l : LookView) → Some (token.Look l) ≡ token_at name tokens → IsOutOfSections d.limits p l.index d.standing → d' ≡ d
+    pub entered_none : (p : ℕ) (l : LookView) → Some (token.Look l) ≡ token_at name tokens → IsOutOfSections d.limits p l.index d.course → d' ≡ d
         → Does d.limits (act.Enter p name) (state_with own tokens parked jobs d) (reply.Refused command.Enter cause.Exhausted) (state_with own rest parked jobs d')
     entered_none p l is full same = record {
       index = l.index;
@@ -186,26 +183,26 @@ module _ {A : Type 0} (own : List ℕ) (tokens : List (List ℕ × Token A)) (pa
       enters = inr (record { full = full; names = goes name tokens rest frees; rest = ap (state_with own rest parked jobs) same; reply = refl });
     }
 
-    pub unlocked : (r : ReadingView) → IsSame d d' → Some (token.Reading r) ≡ token_at name tokens → Ends r.section r.processor d.standing d'.standing
+    pub unlocked : (r : ReadingView) → Some (token.Reading r) ≡ token_at name tokens → Ends r.section r.processor d.course d'.course
         → Does d.limits (act.Unlock name) (state_with own tokens parked jobs d) reply.Closed (state_with own rest parked jobs d')
-    unlocked r same is ends = record {
+    unlocked r is ends = record {
       section = r.section;
       processor = r.processor;
       there = there name tokens (token.Reading r) is;
       ends = ends;
       names = goes name tokens rest frees;
-      rest = goes_on rest same;
+      rest = refl;
       reply = refl;
     }
 
-    pub upped : (p : ℕ) (h : ReadingView) → IsSame d d' → Some (token.Held h) ≡ token_at name tokens → Ends h.section p d.standing d'.standing
+    pub upped : (p : ℕ) (h : ReadingView) → Some (token.Held h) ≡ token_at name tokens → Ends h.section p d.course d'.course
         → Does d.limits (act.Up p name) (state_with own tokens parked jobs d) reply.Closed (state_with own rest parked jobs d')
-    upped p h same is ends = record {
+    upped p h is ends = record {
       section = h.section;
       there = there name tokens (token.Held h) is;
       ends = ends;
       names = goes name tokens rest frees;
-      rest = goes_on rest same;
+      rest = refl;
       reply = refl;
     }
 
@@ -233,20 +230,21 @@ module _ {A : Type 0} (own : List ℕ) (tokens : List (List ℕ × Token A)) (pa
     reply = refl;
   })
 
-  pub shown : IsSame d d' → (need number : ℕ) (phase : Phase) (index : Index) (counted other_counted : ℕ) → AreOf d (tokens_with parked tokens) → ReadsNumber number d.standing d'.standing → number % 4 ≡ state_bits phase
-      → index ≡ index_now d'.standing → counted ≡ held_of Zero (tokens_with parked tokens) → other_counted ≡ held_of One (tokens_with parked tokens) → need ≡ d'.asked
+  pub shown : (need number : ℕ) (phase : Phase) (index : Index) (counted other_counted : ℕ) → AreOf d (tokens_with parked tokens) → ReadsNumber number d.course d'.course → number % 4 ≡ state_bits phase
+      → index ≡ index_now d'.course.standing → counted ≡ held_of Zero (tokens_with parked tokens) → other_counted ≡ held_of One (tokens_with parked tokens) → need ≡ d'.course.asked
       → Does d.limits act.State (state_with own tokens parked jobs d) (reply.State own (record { number = number; phase = phase }) (record { index = index; zero = counted; one = other_counted; need = need })) (state_with own tokens parked jobs d')
-  shown same need number phase index counted other_counted held reads p x z o n = record {
-    number = number;
-    phase = phase;
-    reads = reads;
-    state = p;
-    replies = record {
-      rest = goes_on tokens same;
-      reply = λ k. reply.State own (record { number = number; phase = phase })
-          (record { index = (x ∙ ap index_now reads.notes.after) k; zero = (z ∙ held.counted Zero) k; one = (o ∙ held.counted One) k; need = (n ∙ same.4) k });
-    };
-  }
+  shown need number phase index counted other_counted held reads p x z o n =
+      let asked = ap (λ (c : Course). c.asked) reads.notes.come in record {
+        number = number;
+        phase = phase;
+        reads = reads;
+        state = p;
+        replies = record {
+          rest = refl;
+          reply = λ k. reply.State own (record { number = number; phase = phase })
+              (record { index = (x ∙ ap (λ (c : Course). index_now c.standing) reads.notes.come) k; zero = (z ∙ held.counted Zero) k; one = (o ∙ held.counted One) k; need = (n ∙ asked) k });
+        };
+      }
 
   -- barriers
 
@@ -261,7 +259,7 @@ module _ {A : Type 0} (own : List ℕ) (tokens : List (List ℕ × Token A)) (pa
   pub ticket_not_given : (p : ℕ) (name : List ℕ) → d' ≡ d → Does d.limits (act.Barrier p name) (state_with own tokens parked jobs d) (reply.Refused command.Barrier cause.Memory) (state_with own tokens parked jobs d')
   ticket_not_given p name same = inr (record { after = ap (state_with own tokens parked jobs) same; reply = refl })
 
-  pub ticket_polled : (p : ℕ) (name : List ℕ) (t : TicketView) (done : Bool) → Some (token.Ticket t) ≡ token_at name tokens → MatchBool done (AreReached t.numbers d.finished) (¬ AreReached t.numbers d.finished) → d' ≡ d
+  pub ticket_polled : (p : ℕ) (name : List ℕ) (t : TicketView) (done : Bool) → Some (token.Ticket t) ≡ token_at name tokens → MatchBool done (AreReached t.numbers d.course.finished) (¬ AreReached t.numbers d.course.finished) → d' ≡ d
       → Does d.limits (act.BarrierPoll p name) (state_with own tokens parked jobs d) (if done then reply.Done else reply.NotYet) (state_with own tokens parked jobs d')
   ticket_polled p name t done is reached same = record {
     numbers = t.numbers;

@@ -8,14 +8,13 @@ use Rattle.sseq.specs.Indexes.{same_index}
 use Rattle.onedom.specs.declared.event.Maker.TheVariants.{Processor}
 use Rattle.onedom.specs.declared.event.Event.{Event}
 use Rattle.onedom.specs.declared.event.Event.TheVariants.{Begin, End}
-use Rattle.onedom.specs.Histories.{begins_of, index_of, IsLegal}
+use Rattle.onedom.specs.Histories.{begins_of, index_of, IsLegal, IsLegalAfter}
 use Rattle.onedom.proofs.CallerLemmas.{begins_of_push, index_of_begun, index_of_kept, begun_once, legal_push, open_begun}
 use Rattle.sections.specs.declared.limits.Limits.{Limits}
 use Rattle.sections.specs.Views.{ReadingView}
-use Rattle.scan.specs.Standings.{Standing}
-use Rattle.scan.specs.declared.progress.StartRefusal.{StartRefusal}
-use Rattle.sections.specs.Calls.{IsNoCookie}
-use Rattle.solo.specs.Calls.{SoloView, Happens, Begins, Ends, IsReadingAt, Asks, Starts, StartsNone}
+use Rattle.domain.specs.Acting.{Act, makes}
+use Rattle.solo.specs.Courses.{Course, Does, with_events}
+use Rattle.solo.specs.Calls.{SoloView, IsSameDomain, Begins, Ends, IsReadingAt}
 use Rattle.solo.specs.Barriers.{IsTicketOf}
 use Rattle.calls.specs.Views.{TicketView}
 use Rattle.session.specs.declared.names.Token.{Token}
@@ -25,22 +24,22 @@ use Rattle.session.specs.Tokens.{open_index, held_of}
 use Rattle.session.specs.Entries.{IsReadingOf, IsTokenOf, AreOf}
 use Rattle.session.proofs.OpenSections.{open_of_begun, open_of_ended}
 use Rattle.session.proofs.Held.{held_more, held_less}
-use Rattle.session.proofs.Quiet.{GoesOnQuietly, quiet_same, quietly_asked, quietly_started}
+use Rattle.session.proofs.Quiet.{GoesOnQuietly}
 
 -- A domain that has gone on
 
--- the same table words and tally words
+-- the same domain, which may have gone on
 abbrev pub IsThere : SoloView → SoloView → Type 0
-IsThere d d' = (d'.table ≡ d.table) × (d'.tallies ≡ d.tallies)
+IsThere = IsSameDomain
 
 pub record IsLater (d d' : SoloView) : Type 0 where
   pub there : IsThere d d'
-  pub processors : d'.standing.processors ≡ d.standing.processors
-  pub legal : IsLegal d'.standing.history
-  pub begun : (t : ℕ) → 0 < begins_of t d.standing.history → 0 < begins_of t d'.standing.history
-  pub indexes : (t : ℕ) → 0 < begins_of t d.standing.history → index_of t d'.standing.history ≡ index_of t d.standing.history
+  pub processors : d'.course.standing.processors ≡ d.course.standing.processors
+  pub legal : IsLegal d'.course.standing.history
+  pub begun : (t : ℕ) → 0 < begins_of t d.course.standing.history → 0 < begins_of t d'.course.standing.history
+  pub indexes : (t : ℕ) → 0 < begins_of t d.course.standing.history → index_of t d'.course.standing.history ≡ index_of t d.course.standing.history
 
-pub later_quietly : (d d' : SoloView) → IsThere d d' → GoesOnQuietly d.standing d'.standing → IsLater d d'
+pub later_quietly : (d d' : SoloView) → IsThere d d' → GoesOnQuietly d.course.standing d'.course.standing → IsLater d d'
 later_quietly d d' there h = record {
   there = there;
   processors = h.processors;
@@ -49,19 +48,22 @@ later_quietly d d' there h = record {
   indexes = λ t some. h.quiet.indexes t;
 }
 
-pub later_happened : (e : Event) (d d' : SoloView) → IsThere d d' → IsLegal d.standing.history → Happens e d.standing d'.standing → IsLater d d'
-later_happened e d d' there legal h =
-    let before = d.standing.history in
-    let same : d'.standing.history ≡ before ++ e ∷ [] = ap (λ (x : Standing). x.history) h.after in record {
+-- one event happened
+pub later_happened : {p : ℕ} {what : ℕ → Act} (e : Event) (d d' : SoloView) → IsThere d d' → IsLegal d.course.standing.history → what p ≡ makes e → Does p what d.course d'.course → IsLater d d'
+later_happened {p} {what} e d d' there legal one h =
+    let before = d.course.standing.history in
+    let same : d'.course.standing.history ≡ before ++ e ∷ [] = ap (λ (x : Course). x.standing.history) h.come ∙ ap (λ (a : Act). with_events a.events before) one in
+    let follows : IsLegalAfter before (e ∷ []) = subst (λ (a : Act). IsLegalAfter before a.events) one h.follows in
+    record {
       there = there;
-      processors = ap (λ (x : Standing). x.processors) h.after;
-      legal = subst IsLegal (sym same) (legal_push before e legal h.follows);
-      begun = λ t some. let more = begins_of_push t before e in let is : begins_of t d'.standing.history ≡ begins_of t (before ++ e ∷ []) = ap (begins_of t) same in omega (arith, more, is, some);
-      indexes = λ t some. ap (index_of t) same ∙ index_of_kept t before e (begun_once t before e h.follows some);
+      processors = ap (λ (x : Course). x.standing.processors) h.come;
+      legal = subst IsLegal (sym same) (legal_push before e legal follows.0);
+      begun = λ t some. let more = begins_of_push t before e in let is : begins_of t d'.course.standing.history ≡ begins_of t (before ++ e ∷ []) = ap (begins_of t) same in omega (arith, more, is, some);
+      indexes = λ t some. ap (index_of t) same ∙ index_of_kept t before e (begun_once t before e follows.0 some);
     }
 
 module _ (d d' : SoloView) (later : IsLater d d') where
-  reading_later : (r : ReadingView) → IsReadingOf d.table d.standing r → IsReadingOf d'.table d'.standing r
+  reading_later : (r : ReadingView) → IsReadingOf d.table d.course.standing r → IsReadingOf d'.table d'.course.standing r
   reading_later r h = record {
     of_domain = record { table_is = h.of_domain.table_is ∙ sym later.there.0; processor = subst (λ n. r.processor < n) (sym later.processors) h.of_domain.processor };
     begun = later.begun r.section h.begun;
@@ -69,7 +71,7 @@ module _ (d d' : SoloView) (later : IsLater d d') where
   }
 
   ticket_later : (t : TicketView) → IsTicketOf d t → IsTicketOf d' t
-  ticket_later t h = (h.0 ∙ sym later.there.1, h.1 ∙ sym later.processors)
+  ticket_later t h = (h.0 ∙ sym later.there.4, h.1 ∙ sym later.processors)
 
   token_later : {A : Type 0} (t : Token A) → IsTokenOf d t → IsTokenOf d' t
   token_later (token.Look l) h = h ∙ sym later.there.0
@@ -82,7 +84,7 @@ module _ (d d' : SoloView) (later : IsLater d d') where
 
 module _ {A : Type 0} (d d' : SoloView) (tokens : List (List ℕ × Token A)) (h : AreOf d tokens) where
   -- no section begins or ends
-  pub held_on : IsThere d d' → GoesOnQuietly d.standing d'.standing → AreOf d' tokens
+  pub held_on : IsThere d d' → GoesOnQuietly d.course.standing d'.course.standing → AreOf d' tokens
   held_on there on = record {
     legal = on.legal;
     each = tokens_later d d' (later_quietly d d' there on) tokens h.each;
@@ -91,18 +93,6 @@ module _ {A : Type 0} (d d' : SoloView) (tokens : List (List ℕ × Token A)) (h
 
   pub held_same : d' ≡ d → AreOf d' tokens
   held_same same = subst (λ (x : SoloView). AreOf x tokens) (sym same) h
-
-  -- nothing has happened
-  pub held_kept : IsThere d d' → d'.standing ≡ d.standing → AreOf d' tokens
-  held_kept there same = held_on there (record { processors = ap (λ (s : Standing). s.processors) same; legal = subst (λ (s : Standing). IsLegal s.history) (sym same) h.legal; quiet = quiet_same d.standing.history d'.standing.history (ap (λ (s : Standing). s.history) same) })
-
-  pub held_polled : {E : Type 0} (p cookie : ℕ) (r : Result Bool E) → IsThere d d' → MatchResult r (λ done. Asks p cookie done d.standing d'.standing) (λ _. IsNoCookie cookie × (d' ≡ d)) → AreOf d' tokens
-  held_polled p cookie (Ok done) there asks = held_on there (quietly_asked p cookie done d.standing d'.standing h.legal asks)
-  held_polled p cookie (Err e) there none = held_same none.1
-
-  pub held_started : (r : Result ℕ StartRefusal) → IsThere d d' → MatchResult r (λ n. Starts n d.standing d'.standing) (λ e. StartsNone e d.standing × (d' ≡ d)) → AreOf d' tokens
-  held_started (Ok n) there starts = held_on there (quietly_started n d.standing d'.standing starts)
-  held_started (Err e) there none = held_same none.1
 
 -- a token comes that is no open section
 pub held_more_unopened : {A : Type 0} (d : SoloView) (tokens : List (List ℕ × Token A)) (name : List ℕ) (t : Token A) → AreOf d tokens → IsTokenOf d t → open_index t ≡ None → AreOf d (tokens ++ (name, t) ∷ [])
@@ -128,33 +118,33 @@ open_as : (A : Type 0) (sort : Sort) (r : ReadingView) → open_index (as_token 
 open_as A Own r = refl
 open_as A Any r = refl
 
-is_as : (A : Type 0) (sort : Sort) (d : SoloView) (r : ReadingView) → IsReadingOf d.table d.standing r → IsTokenOf d (as_token {A = A} sort r)
+is_as : (A : Type 0) (sort : Sort) (d : SoloView) (r : ReadingView) → IsReadingOf d.table d.course.standing r → IsTokenOf d (as_token {A = A} sort r)
 is_as A Own d r h = h
 is_as A Any d r h = h
 
-pub reading_as : (A : Type 0) (sort : Sort) (d : SoloView) (r : ReadingView) → IsTokenOf d (as_token {A = A} sort r) → IsReadingOf d.table d.standing r
+pub reading_as : (A : Type 0) (sort : Sort) (d : SoloView) (r : ReadingView) → IsTokenOf d (as_token {A = A} sort r) → IsReadingOf d.table d.course.standing r
 reading_as A Own d r h = h
 reading_as A Any d r h = h
 
 module _ {A : Type 0} where
   -- a section begins, and its token comes
   pub held_begun : (sort : Sort) (limits : Limits) (p : ℕ) (i : Index) (d d' : SoloView) (tokens : List (List ℕ × Token A)) (name : List ℕ) (r : ReadingView)
-      → AreOf d tokens → IsThere d d' → p < d.standing.processors → Begins limits p i r.section d.standing d'.standing → IsReadingAt d.table p i r → AreOf d' (tokens ++ (name, as_token sort r) ∷ [])
+      → AreOf d tokens → IsThere d d' → p < d.course.standing.processors → Begins limits p i r.section d.course d'.course → IsReadingAt d.table p i r → AreOf d' (tokens ++ (name, as_token sort r) ∷ [])
   held_begun sort limits p i d d' tokens name r h there small begins is =
-      let before = d.standing.history in
+      let before = d.course.standing.history in
       let e : Event = Begin r.section p i (Processor p) in
-      let later = later_happened e d d' there h.legal begins.happens in
-      let same : d'.standing.history ≡ before ++ e ∷ [] = ap (λ (x : Standing). x.history) begins.happens.after in
-      let here = open_begun r.section p i (Processor p) before h.legal begins.happens.follows in record {
+      let later = later_happened e d d' there h.legal refl begins.happens in
+      let same : d'.course.standing.history ≡ before ++ e ∷ [] = ap (λ (x : Course). x.standing.history) begins.happens.come in
+      let here = open_begun r.section p i (Processor p) before h.legal begins.happens.follows.0 in record {
         legal = later.legal;
         each = All-push (λ (t : List ℕ × Token A). IsTokenOf d' t.1) tokens (name, as_token sort r) (tokens_later d d' later tokens h.each) (is_as A sort d' r (record {
-          of_domain = record { table_is = is.table_is ∙ sym there.0; processor = subst (λ n. r.processor < n) (sym later.processors) (subst (λ n. n < d.standing.processors) (sym is.processor) small) };
+          of_domain = record { table_is = is.table_is ∙ sym there.0; processor = subst (λ n. r.processor < n) (sym later.processors) (subst (λ n. n < d.course.standing.processors) (sym is.processor) small) };
           begun = subst (λ l. 0 < begins_of r.section l) (sym same) here.0;
           index = ap (index_of r.section) same ∙ (index_of_begun r.section p i (Processor p) before ∙ sym is.index);
         }));
         counted = λ j. held_more j tokens name (as_token sort r)
             ∙ (ap (λ o. held_of j tokens + (if is_index j o then 1 else 0)) (open_as A sort r) ∙ ((λ k. h.counted j k + (if same_index (is.index k) j then 1 else 0))
-            ∙ (sym (open_of_begun j before r.section p i (Processor p) h.legal begins.happens.follows) ∙ ap (open_of j) (sym same))));
+            ∙ (sym (open_of_begun j before r.section p i (Processor p) h.legal begins.happens.follows.0) ∙ ap (open_of j) (sym same))));
       }
 
 -- A token that is taken out
@@ -187,22 +177,22 @@ module _ {A : Type 0} (d : SoloView) (tokens rest : List (List ℕ × Token A)) 
     }
 
   -- the token of a section that then ends
-  pub held_ended : (sort : Sort) (p : ℕ) (r : ReadingView) (d' : SoloView) → IsPermutation tokens ((stored, as_token sort r) ∷ rest) → IsThere d d' → Ends r.section p d.standing d'.standing → AreOf d' rest
+  pub held_ended : (sort : Sort) (p : ℕ) (r : ReadingView) (d' : SoloView) → IsPermutation tokens ((stored, as_token sort r) ∷ rest) → IsThere d d' → Ends r.section p d.course d'.course → AreOf d' rest
   held_ended sort p r d' moves there ends =
-      let before = d.standing.history in
+      let before = d.course.standing.history in
       let e : Event = End r.section p (Processor p) in
-      let later = later_happened e d d' there h.legal ends in
-      let same : d'.standing.history ≡ before ++ e ∷ [] = ap (λ (x : Standing). x.history) ends.after in
-      let is : IsReadingOf d.table d.standing r = reading_as A sort d r (token_of (as_token sort r) moves) in record {
+      let later = later_happened e d d' there h.legal refl ends in
+      let same : d'.course.standing.history ≡ before ++ e ∷ [] = ap (λ (x : Course). x.standing.history) ends.come in
+      let is : IsReadingOf d.table d.course.standing r = reading_as A sort d r (token_of (as_token sort r) moves) in record {
         legal = later.legal;
         each = tokens_later d d' later rest (rest_of (as_token sort r) moves);
         counted = λ j.
             let less = held_less j tokens rest stored (as_token sort r) moves in
             let shown : ◌≡◌ {A = ℕ} (if is_index j (open_index (as_token {A = A} sort r)) then 1 else 0) (if same_index r.index j then 1 else 0) = ap (λ o. if is_index j o then 1 else 0) (open_as A sort r) in
             let was = h.counted j in
-            let ended = open_of_ended j before r.section p (Processor p) h.legal ends.follows in
+            let ended = open_of_ended j before r.section p (Processor p) h.legal ends.follows.0 in
             let index : ◌≡◌ {A = ℕ} (if same_index (index_of r.section before) j then 1 else 0) (if same_index r.index j then 1 else 0) = ap (λ (x : Index). if same_index x j then 1 else 0) is.index in
-            let now : open_of j d'.standing.history ≡ open_of j (before ++ e ∷ []) = ap (open_of j) same in
+            let now : open_of j d'.course.standing.history ≡ open_of j (before ++ e ∷ []) = ap (open_of j) same in
             omega (arith, less, shown, was, ended, index, now);
       }
 

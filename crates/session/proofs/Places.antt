@@ -19,7 +19,9 @@ use Rattle.requests.specs.declared.reply.Reply.TheVariants as reply
 use Rattle.requests.specs.declared.scene.Kind.{Kind}
 use Rattle.requests.specs.Requests.{Fits}
 use Rattle.session.specs.States.{State, DomainState, EntryView, states_of, kind_at, domain_place, scene_of}
-use Rattle.session.specs.Scripts.{Does, Answers, IsTakenDown, IsInUse, CleansUp, CleansNone}
+use Rattle.domain.specs.declared.domain.cleanup.Totals.{Totals}
+use Rattle.solo.specs.Cleanup.{IsTakenDown}
+use Rattle.session.specs.Scripts.{Does, Answers, IsInUse, CleansUp, CleansNone}
 
 prefix-map : {X Y : Type 0} (p : Y → Bool) (f : X → Y) (xs : List X) → prefix_len p (map f xs) ≡ prefix_len (λ x. p (f x)) xs
 prefix-map p f [] = refl
@@ -56,13 +58,13 @@ state_there entries k e h is = slice_get-map (λ (x : EntryView). x.state) entri
 -- What is there at a place
 
 module _ (state : State) (place : ℕ) (d : DomainState) (at : slice_get state place ≡ Some d) where
-  pub processors_there : (scene_of state).processors_of place ≡ d.standing.processors
-  processors_there = ap (λ o. option_map_or (λ (x : DomainState). x.standing.processors) o 0) at
+  pub processors_there : (scene_of state).processors_of place ≡ d.course.standing.processors
+  processors_there = ap (λ o. option_map_or (λ (x : DomainState). x.course.standing.processors) o 0) at
 
   pub kind_there : (name : List ℕ) → (scene_of state).kind_of place name ≡ kind_at name d
   kind_there name = ap (option_and_then (λ (x : DomainState). kind_at name x)) at
 
-  small : (p : ℕ) → p < (scene_of state).processors_of place → p < d.standing.processors
+  small : (p : ℕ) → p < (scene_of state).processors_of place → p < d.course.standing.processors
   small p h = subst (λ n. p < n) processors_there h
 
   kind_is : (name : List ℕ) (k : Option Kind) → (scene_of state).kind_of place name ≡ k → kind_at name d ≡ k
@@ -124,8 +126,8 @@ limits_without limits entries k same =
     All-append P (take k entries) (drop (suc k) entries) (All-take P k entries same) (All-drop P (suc k) entries same)
 
 module _ (entries : List EntryView) (k : ℕ) (e : EntryView) (within : k < length entries) (is : e ≡ get_or entries k e) where
-  pub cleaned : (opened closed : ℕ) → IsTakenDown e.state opened closed → CleansUp (states_of entries) k (reply.Cleaned opened closed) (states_of (remove entries k))
-  cleaned opened closed down = record { domain = e.state; opened = opened; closed = closed; there = state_there entries k e within is; taken_down = down; gone = states_without entries k; reply = refl }
+  pub cleaned : (totals : Totals) → IsTakenDown e.state.course totals → CleansUp (states_of entries) k (reply.Cleaned totals.opened totals.closed) (states_of (remove entries k))
+  cleaned totals down = record { domain = e.state; totals = totals; there = state_there entries k e within is; taken_down = down; gone = states_without entries k; reply = refl }
 
-  pub not_cleaned : (why : Cause) → IsInUse e.state why → CleansNone (states_of entries) k (reply.Refused command.Cleanup why) (states_of entries)
+  pub not_cleaned : (why : Cause) → IsInUse e.state.course why → CleansNone (states_of entries) k (reply.Refused command.Cleanup why) (states_of entries)
   not_cleaned why in_use = record { domain = e.state; there = state_there entries k e within is; cause = why; in_use = in_use; after = refl; reply = refl }

@@ -1,16 +1,21 @@
 -- Histories in which no section begins or ends.
-use Rattle.std.proofs.Common.{◌≡◌, ℕ, Bool, false, List, [], ◌∷◌, ◌++◌, None, refl, sym, ap, ◌∙◌, subst, append-nil, arith}
+use Rattle.std.proofs.Common.{◌≡◌, ℕ, zero, suc, ◌+◌, ◌≤◌, Bool, false, List, [], ◌∷◌, ◌++◌, None, set, refl, sym, ap, ◌∙◌, subst, append-nil, append_assoc, arith}
+use Rattle.std.specs.Prelude.{slice_index, Result, Ok, Err, MatchResult}
 use Rattle.sseq.specs.declared.index.Index.{Index}
 use Rattle.onedom.specs.declared.event.Maker.TheVariants.{Processor, Engine}
 use Rattle.onedom.specs.declared.event.Event.{Event}
-use Rattle.onedom.specs.declared.event.Event.TheVariants.{Start, Finish, Note, Ask}
+use Rattle.onedom.specs.declared.event.Event.TheVariants.{Begin, End, Start, Finish, Note, Ask}
 use Rattle.onedom.specs.declared.event.Maker.{Maker}
-use Rattle.onedom.specs.Histories.{begins, ends, begins_of, index_of, section_begun, IsLegal}
+use Rattle.onedom.specs.Histories.{begins, ends, begins_of, index_of, section_begun, IsLegal, IsLegalAfter}
 use Rattle.onedom.proofs.CallerLemmas.{bit, begins_of_push, index_of_kept, legal_push}
 use Rattle.scan.specs.declared.progress.Progress.{Progress}
 use Rattle.scan.specs.declared.progress.Progress.TheVariants as answer
-use Rattle.scan.specs.Standings.{Standing, events_of, IsAnswered, StepsThrough}
-use Rattle.solo.specs.Calls.{Happens, GivesCookie, Asks, Steps, Advances, Starts}
+use Rattle.scan.specs.Standings.{Standing, events_of, IsAnswered, StepsThrough, Advances as AdvancesBy, Starts as StartsBy}
+use Rattle.calls.specs.declared.refusals.CallRefusal.{CallRefusal}
+use Rattle.calls.specs.declared.refusals.CallRefusal.TheVariants as calling
+use Rattle.domain.specs.Acting.{Act}
+use Rattle.solo.specs.Courses.{Course, Does, Works, with_events, more_at}
+use Rattle.solo.specs.Calls.{StepsOf, QueuesNone}
 use Rattle.session.specs.OpenSections.{open_of}
 use Rattle.session.proofs.OpenSections.{open_of_plain}
 
@@ -58,6 +63,9 @@ pub record GoesOnQuietly (s s' : Standing) : Type 0 where
   pub legal : IsLegal s'.history
   pub quiet : IsQuiet s.history s'.history
 
+pub quietly_none : (s : Standing) → IsLegal s.history → GoesOnQuietly s s
+quietly_none s legal = record { processors = refl; legal = legal; quiet = quiet_same s.history s.history refl }
+
 quietly_answered : (need : ℕ) (a : Progress) (s s' : Standing) → IsAnswered [] need a s s' → GoesOnQuietly s s'
 quietly_answered need a s s' h = record {
   processors = h.same.0;
@@ -65,10 +73,10 @@ quietly_answered need a s s' h = record {
   quiet = subst (IsQuiet s.history) (sym h.events) (quiet_events s.history a);
 }
 
-pub quietly_stepped : (need : ℕ) (a : Progress) (s s' : Standing) → Steps need a s s' → GoesOnQuietly s s'
+pub quietly_stepped : (need : ℕ) (a : Progress) (s s' : Standing) → StepsOf need a s s' → GoesOnQuietly s s'
 quietly_stepped need a s s' h = quietly_answered need a s s' h.answered
 
-quietly_through : (need : ℕ) (between : List Standing) (a : Progress) (s s' : Standing) → StepsThrough (Steps need) between a s s' → GoesOnQuietly s s'
+quietly_through : (need : ℕ) (between : List Standing) (a : Progress) (s s' : Standing) → StepsThrough (StepsOf need) between a s s' → GoesOnQuietly s s'
 quietly_through need [] a s s' h = quietly_stepped need a s s' h
 quietly_through need (t ∷ ts) a s s' h =
     let first = quietly_stepped need answer.Step s t h.0 in
@@ -78,26 +86,107 @@ quietly_through need (t ∷ ts) a s s' h =
       quiet = quiet_then s.history t.history s'.history first.quiet rest.quiet;
     }
 
-pub quietly_advanced : (need : ℕ) (a : Progress) (s s' : Standing) → Advances need a s s' → GoesOnQuietly s s'
+pub quietly_advanced : (need : ℕ) (a : Progress) (s s' : Standing) → AdvancesBy (StepsOf need) a s s' → GoesOnQuietly s s'
 quietly_advanced need a s s' h = quietly_through need h.between a s s' h.through
 
-pub quietly_started : (n : ℕ) (s s' : Standing) → Starts n s s' → GoesOnQuietly s s'
+pub quietly_started : (n : ℕ) (s s' : Standing) → StartsBy [] n s s' → GoesOnQuietly s s'
 quietly_started n s s' h = record {
   processors = h.same.0;
   legal = h.legal;
   quiet = subst (IsQuiet s.history) (sym h.events) (quiet_start s.history);
 }
 
-quietly_happened : (e : Event) (s s' : Standing) → IsLegal s.history → Happens e s s' → IsQuiet s.history (s.history ++ e ∷ []) → GoesOnQuietly s s'
-quietly_happened e s s' legal h quiet =
-    let same : s'.history ≡ s.history ++ e ∷ [] = ap (λ (x : Standing). x.history) h.after in record {
-      processors = ap (λ (x : Standing). x.processors) h.after;
-      legal = subst IsLegal (sym same) (legal_push s.history e legal h.follows);
-      quiet = subst (IsQuiet s.history) (sym same) quiet;
+-- Acts of a processor
+
+-- no section begins or ends with these
+abbrev pub AreQuiet : List Event → Type 0
+AreQuiet [] = Unit {0}
+AreQuiet (Note cookie by ∷ es) = AreQuiet es
+AreQuiet (Ask cookie done by ∷ es) = AreQuiet es
+AreQuiet (e ∷ es) = ⊥
+
+on_quietly : (h es : List Event) → IsLegal h → IsLegalAfter h es → AreQuiet es → IsLegal (h ++ es) × IsQuiet h (h ++ es)
+on_quietly h [] legal follows quiet = (subst IsLegal (sym (append-nil h)) legal, quiet_same h (h ++ []) (append-nil h))
+on_quietly h (Note cookie by ∷ es) legal follows quiet =
+    let (more, rest) = on_quietly (h ++ Note cookie by ∷ []) es (legal_push h (Note cookie by) legal follows.0) follows.1 quiet in
+    subst (λ l. IsLegal l × IsQuiet h l) (append_assoc h (Note cookie by ∷ []) es) (more, quiet_then h (h ++ Note cookie by ∷ []) ((h ++ Note cookie by ∷ []) ++ es) (quiet_note h cookie by) rest)
+on_quietly h (Ask cookie done by ∷ es) legal follows quiet =
+    let (more, rest) = on_quietly (h ++ Ask cookie done by ∷ []) es (legal_push h (Ask cookie done by) legal follows.0) follows.1 quiet in
+    subst (λ l. IsLegal l × IsQuiet h l) (append_assoc h (Ask cookie done by ∷ []) es) (more, quiet_then h (h ++ Ask cookie done by ∷ []) ((h ++ Ask cookie done by ∷ []) ++ es) (quiet_ask h cookie done by) rest)
+on_quietly h (Begin s p i by ∷ es) legal follows quiet = absurd quiet
+on_quietly h (End s p by ∷ es) legal follows quiet = absurd quiet
+on_quietly h (Start by ∷ es) legal follows quiet = absurd quiet
+on_quietly h (Finish by ∷ es) legal follows quiet = absurd quiet
+
+with_events_is : (es h : List Event) → h ++ es ≡ with_events es h
+with_events_is [] h = append-nil h
+with_events_is (e ∷ es) h = refl
+
+pub does_quietly : {p : ℕ} {what : ℕ → Act} {c c' : Course} → IsLegal c.standing.history → AreQuiet (what p).events → Does p what c c' → GoesOnQuietly c.standing c'.standing
+does_quietly {p} {what} {c} {c'} legal quiet h =
+    let same : c'.standing.history ≡ c.standing.history ++ (what p).events = ap (λ (x : Course). x.standing.history) h.come ∙ sym (with_events_is (what p).events c.standing.history) in
+    let on = on_quietly c.standing.history (what p).events legal h.follows quiet in record {
+      processors = ap (λ (x : Course). x.standing.processors) h.come;
+      legal = subst IsLegal (sym same) on.0;
+      quiet = subst (IsQuiet c.standing.history) (sym same) on.1;
     }
 
-pub quietly_noted : (p cookie : ℕ) (s s' : Standing) → IsLegal s.history → GivesCookie p cookie s s' → GoesOnQuietly s s'
-quietly_noted p cookie s s' legal h = quietly_happened (Note cookie (Processor p)) s s' legal h (quiet_note s.history cookie (Processor p))
+-- Courses that go on
 
-pub quietly_asked : (p cookie : ℕ) (done : Bool) (s s' : Standing) → IsLegal s.history → Asks p cookie done s s' → GoesOnQuietly s s'
-quietly_asked p cookie done s s' legal h = quietly_happened (Ask cookie done (Processor p)) s s' legal h (quiet_ask s.history cookie done (Processor p))
+-- more jobs may be queued, and none is finished
+pub record KeepsJobs (c c' : Course) : Type 0 where
+  pub processors : c'.standing.processors ≡ c.standing.processors
+  pub queued : (p : ℕ) → slice_index c.queued p ≤ slice_index c'.queued p
+  pub finished : c'.finished ≡ c.finished
+
+-- and no section begins or ends
+pub record KeepsOn (c c' : Course) : Type 0 where
+  pub on : GoesOnQuietly c.standing c'.standing
+  pub jobs : KeepsJobs c c'
+
+no_fewer : (xs ys : List ℕ) → ys ≡ xs → (p : ℕ) → slice_index xs p ≤ slice_index ys p
+no_fewer xs ys same p = let is : slice_index ys p ≡ slice_index xs p = ap (λ (l : List ℕ). slice_index l p) same in omega (arith, is)
+
+set_more : (xs : List ℕ) (p v q : ℕ) → slice_index xs p ≤ v → slice_index xs q ≤ slice_index (set xs p v) q
+set_more [] p v q le = omega arith
+set_more (x ∷ xs) zero v zero le = le
+set_more (x ∷ xs) zero v (suc q) le = omega arith
+set_more (x ∷ xs) (suc p) v zero le = omega arith
+set_more (x ∷ xs) (suc p) v (suc q) le = set_more xs p v q le
+
+more_more : (p n : ℕ) (xs : List ℕ) (q : ℕ) → slice_index xs q ≤ slice_index (more_at p n xs) q
+more_more p zero xs q = omega arith
+more_more p (suc n) xs q = set_more xs p (slice_index xs p + suc n) q (omega arith)
+
+-- an act that finishes no job
+pub keeps_jobs : {p : ℕ} {what : ℕ → Act} {c c' : Course} → (what p).finished ≡ 0 → Does p what c c' → KeepsJobs c c'
+keeps_jobs {p} {what} {c} {c'} none h = record {
+  processors = ap (λ (x : Course). x.standing.processors) h.come;
+  queued = λ q. let more = more_more p (what p).queued c.queued q in let is : slice_index c'.queued q ≡ slice_index (more_at p (what p).queued c.queued) q = ap (λ (x : Course). slice_index x.queued q) h.come in omega (arith, more, is);
+  finished = ap (λ (x : Course). x.finished) h.come ∙ ap (λ n. more_at (what p).owner n c.finished) none;
+}
+
+-- and begins and ends no section
+pub does_keeps : {p : ℕ} {what : ℕ → Act} {c c' : Course} → IsLegal c.standing.history → AreQuiet (what p).events → (what p).finished ≡ 0 → Does p what c c' → KeepsOn c c'
+does_keeps legal quiet none h = record { on = does_quietly legal quiet h; jobs = keeps_jobs none h }
+
+-- what the engine does
+pub works_keeps : {work : Standing → Standing → Type 0} {c c' : Course} → Works work c c' → (work c.standing c'.standing → GoesOnQuietly c.standing c'.standing) → KeepsOn c c'
+works_keeps {work} {c} {c'} h quietly =
+    let on = quietly h.work_is in
+    record { on = on; jobs = record { processors = on.processors; queued = no_fewer c.queued c'.queued (ap (λ (x : Course). x.queued) h.rest); finished = ap (λ (x : Course). x.finished) h.rest } }
+
+pub same_keeps : {c c' : Course} → IsLegal c.standing.history → c' ≡ c → KeepsOn c c'
+same_keeps {c} {c'} legal same = subst (KeepsOn c) (sym same) (record {
+  on = quietly_none c.standing legal;
+  jobs = record { processors = refl; queued = λ q. omega arith; finished = refl };
+})
+
+pub none_queued_keeps : {c c' : Course} (p : ℕ) (why : CallRefusal) → IsLegal c.standing.history → QueuesNone p why c c' → KeepsOn c c'
+none_queued_keeps p calling.Exhausted legal h = same_keeps legal h.1
+none_queued_keeps p calling.Memory legal h = does_keeps legal tt refl h.1
+
+-- whatever the answer is
+pub either_way : {T E K : Type 0} {P : T → Type 0} {Q : E → Type 0} (r : Result T E) → MatchResult r P Q → ((x : T) → P x → K) → ((e : E) → Q e → K) → K
+either_way (Ok x) h ok err = ok x h
+either_way (Err e) h ok err = err e h

@@ -88,10 +88,10 @@ none_out_case : (d : SoloView) (o : Option Out) → IfSome o (λ (x : Out). IsEm
 none_out_case d None is none = refl
 none_out_case d (Some o) is none = let some = is.some in absurd (omega (arith, some, none))
 
-module _ (d : SoloView) (jobs : List JobsView) (h : AreJobsOf d jobs) (run : sum d.queued ≡ sum d.finished) where
+module _ (d : SoloView) (jobs : List JobsView) (h : AreJobsOf d jobs) (run : sum d.course.queued ≡ sum d.course.finished) where
   none_counted : (p : ℕ) → count_out jobs p ≡ 0
   none_counted p =
-      let more = more_together d.finished d.queued p (count_out jobs p) (λ q. let e = h.unfinished q in omega (arith, e)) (h.unfinished p) in
+      let more = more_together d.course.finished d.course.queued p (count_out jobs p) (λ q. let e = h.unfinished q in omega (arith, e)) (h.unfinished p) in
       omega (arith, more, run)
 
   pub none_out : All (λ (j : JobsView). j.out ≡ None) jobs
@@ -101,7 +101,7 @@ module _ (d : SoloView) (jobs : List JobsView) (h : AreJobsOf d jobs) (run : sum
 
 -- The domain was taken down
 
-pub are_spent : {A : Type 0} (d : SoloView) (tokens : List (List ℕ × Token A)) (q : ParkingView) (jobs : List JobsView) → AreTogether d tokens q → AreJobsOf d jobs → open_count d.standing.history ≡ 0 → sum d.queued ≡ sum d.finished → AreSpent tokens q jobs
+pub are_spent : {A : Type 0} (d : SoloView) (tokens : List (List ℕ × Token A)) (q : ParkingView) (jobs : List JobsView) → AreTogether d tokens q → AreJobsOf d jobs → open_count d.course.standing.history ≡ 0 → sum d.course.queued ≡ sum d.course.finished → AreSpent tokens q jobs
 are_spent d tokens q jobs together of_jobs closed run =
-    let (none, empty) = none_with q.parked tokens (λ i. together.all.counted i ∙ none_open i d.standing.history closed) in
+    let (none, empty) = none_with q.parked tokens (λ i. together.all.counted i ∙ none_open i d.course.standing.history closed) in
     record { closed = none; empty = empty; finished = none_out d jobs of_jobs run }

@@ -5,20 +5,16 @@ use Rattle.std.proofs.lemmas.List.Sorted.{IsPermutation-refl}
 use Rattle.std.proofs.lemmas.List.Elements.{All-tail}
 use Rattle.std.proofs.lemmas.Map.Entries.{All-lookup}
 use Rattle.sections.specs.Views.{ReadingView}
-use Rattle.sections.specs.Calls.{IsNoCookie}
-use Rattle.scan.specs.declared.progress.Progress.{Progress}
-use Rattle.scan.specs.declared.progress.StartRefusal.{StartRefusal}
-use Rattle.scan.specs.Standings.{Standing}
 use Rattle.sseq.specs.declared.index.Index.{Index}
-use Rattle.solo.specs.Calls.{SoloView, Begins, Ends, IsReadingAt, Asks, Starts, StartsNone}
+use Rattle.solo.specs.Calls.{SoloView, Begins, Ends, IsReadingAt}
 use Rattle.session.specs.declared.names.Token.{Token}
 use Rattle.session.specs.declared.names.Token.TheVariants as token
 use Rattle.session.specs.Tokens.{token_at, open_index, Frees}
 use Rattle.session.specs.Parkings.{ParkingView}
 use Rattle.session.specs.States.{is_parked}
 use Rattle.session.specs.Entries.{IsTokenOf, IsReadingOf, AreOf, AreTogether, desk_of, tokens_with}
-use Rattle.session.proofs.Quiet.{GoesOnQuietly}
-use Rattle.session.proofs.Holding.{Sort, Any, as_token, reading_as, IsThere, held_kept, held_on, held_polled, held_started, held_more_unopened, held_begun, token_of, held_less_unopened, held_ended, held_moved, held_moved_back}
+use Rattle.session.proofs.Quiet.{GoesOnQuietly, quietly_none}
+use Rattle.session.proofs.Holding.{Sort, Any, as_token, reading_as, IsThere, held_on, held_more_unopened, held_begun, token_of, held_less_unopened, held_ended, held_moved, held_moved_back}
 use Rattle.session.proofs.Parked.{Named, IsApart, with_push, apart_push, with_moved, apart_gone}
 
 some_case : (parked : Option Named) (r : ReadingView) → option_map (λ (q : Named). q.1) parked ≡ Some r → (name : List ℕ) × (parked ≡ Some (name, r))
@@ -39,23 +35,11 @@ module _ {A : Type 0} (d : SoloView) (tokens : List (List ℕ × Token A)) (p : 
     pub together_same : d' ≡ d → AreTogether d' tokens p
     together_same same = subst (λ x. AreTogether x tokens p) (sym same) h
 
-    pub together_kept : IsThere d d' → d'.standing ≡ d.standing → AreTogether d' tokens p
-    together_kept there same = stays there.0 (held_kept d d' (tokens_with p.parked tokens) h.all there same)
-
-    pub together_on : IsThere d d' → GoesOnQuietly d.standing d'.standing → AreTogether d' tokens p
+    pub together_on : IsThere d d' → GoesOnQuietly d.course.standing d'.course.standing → AreTogether d' tokens p
     together_on there on = stays there.0 (held_on d d' (tokens_with p.parked tokens) h.all there on)
 
-    pub together_polled : {E : Type 0} (q cookie : ℕ) (r : Result Bool E) → IsThere d d' → MatchResult r (λ done. Asks q cookie done d.standing d'.standing) (λ _. IsNoCookie cookie × (d' ≡ d)) → AreTogether d' tokens p
-    together_polled q cookie r there asks = stays there.0 (held_polled d d' (tokens_with p.parked tokens) h.all q cookie r there asks)
-
-    pub together_started : (r : Result ℕ StartRefusal) → IsThere d d' → MatchResult r (λ n. Starts n d.standing d'.standing) (λ e. StartsNone e d.standing × (d' ≡ d)) → AreTogether d' tokens p
-    together_started r there starts = stays there.0 (held_started d d' (tokens_with p.parked tokens) h.all r there starts)
-
-    -- what the engine did, or nothing
-    pub together_worked : {E : Type 0} (work : Progress → Standing → Standing → Type 0) (Refused : Type 0) (r : Result Progress E) → ((a : Progress) → work a d.standing d'.standing → GoesOnQuietly d.standing d'.standing)
-        → IsThere d d' → MatchResult r (λ a. work a d.standing d'.standing) (λ _. Refused × (d' ≡ d)) → AreTogether d' tokens p
-    together_worked work Refused (Ok a) quietly there worked = together_on there (quietly a worked)
-    together_worked work Refused (Err e) quietly there none = together_same none.1
+    pub together_kept : IsThere d d' → d'.course.standing ≡ d.course.standing → AreTogether d' tokens p
+    together_kept there same = together_on there (subst (λ s. GoesOnQuietly d.course.standing s) (sym same) (quietly_none d.course.standing h.all.legal))
 
   -- a token that comes
 
@@ -68,7 +52,7 @@ module _ {A : Type 0} (d : SoloView) (tokens : List (List ℕ × Token A)) (p : 
       apart = apart_push p.parked tokens name t free h.apart;
     }
 
-    pub together_begun : (sort : Sort) (d' : SoloView) (q : ℕ) (i : Index) (r : ReadingView) → IsThere d d' → q < d.standing.processors → Begins d.limits q i r.section d.standing d'.standing → IsReadingAt d.table q i r
+    pub together_begun : (sort : Sort) (d' : SoloView) (q : ℕ) (i : Index) (r : ReadingView) → IsThere d d' → q < d.course.standing.processors → Begins d.limits q i r.section d.course d'.course → IsReadingAt d.table q i r
         → AreTogether d' (tokens ++ (name, as_token sort r) ∷ []) p
     together_begun sort d' q i r there small begins is = record {
       all = subst (AreOf d') (sym (with_push p.parked tokens (name, as_token sort r))) (held_begun sort d.limits q i d d' (tokens_with p.parked tokens) name r h.all there small begins is);
@@ -94,10 +78,10 @@ module _ {A : Type 0} (d : SoloView) (tokens : List (List ℕ × Token A)) (p : 
         apart = apart_gone p.parked tokens rest name frees h.apart;
       }
 
-    pub reading_is_of : (sort : Sort) (r : ReadingView) → IsPermutation tokens ((stored, as_token sort r) ∷ rest) → IsReadingOf d.table d.standing r
+    pub reading_is_of : (sort : Sort) (r : ReadingView) → IsPermutation tokens ((stored, as_token sort r) ∷ rest) → IsReadingOf d.table d.course.standing r
     reading_is_of sort r moves = reading_as A sort d r (it_is_of (as_token sort r) moves)
 
-    pub together_ended : (sort : Sort) (d' : SoloView) (q : ℕ) (r : ReadingView) → IsThere d d' → IsPermutation tokens ((stored, as_token sort r) ∷ rest) → Ends r.section q d.standing d'.standing → AreTogether d' rest p
+    pub together_ended : (sort : Sort) (d' : SoloView) (q : ℕ) (r : ReadingView) → IsThere d d' → IsPermutation tokens ((stored, as_token sort r) ∷ rest) → Ends r.section q d.course d'.course → AreTogether d' rest p
     together_ended sort d' q r there moves ends = record {
       all = held_ended d (tokens_with p.parked tokens) (tokens_with p.parked rest) stored h.all sort q r d' (all_move (as_token sort r) moves) there ends;
       desk = h.desk ∙ sym there.0;
@@ -129,13 +113,13 @@ module _ {A : Type 0} (d : SoloView) (tokens : List (List ℕ × Token A)) (p : 
     all_are : AreOf d (((some_case p.parked r lay).0, token.Held r) ∷ tokens)
     all_are = subst (λ o. AreOf d (tokens_with o tokens)) (some_case p.parked r lay).1 h.all
 
-    pub parked_is_of : IsReadingOf d.table d.standing r
+    pub parked_is_of : IsReadingOf d.table d.course.standing r
     parked_is_of =
         let stored = (some_case p.parked r lay).0 in
         token_of d ((stored, token.Held r) ∷ tokens) tokens stored all_are (token.Held r) (IsPermutation-refl ((stored, token.Held r) ∷ tokens))
 
     -- the section that lay there then ends
-    pub held_without_parked : (d' : SoloView) (q : ℕ) → IsThere d d' → Ends r.section q d.standing d'.standing → AreOf d' tokens
+    pub held_without_parked : (d' : SoloView) (q : ℕ) → IsThere d d' → Ends r.section q d.course d'.course → AreOf d' tokens
     held_without_parked d' q there ends =
         let stored = (some_case p.parked r lay).0 in
         held_ended d ((stored, token.Held r) ∷ tokens) tokens stored all_are Any q r d' (IsPermutation-refl ((stored, token.Held r) ∷ tokens)) there ends

@@ -41,11 +41,8 @@ module _ {A : Type 0} where
     name = name;
     names = names_of tokens;
     desk = desk_of parked;
-    asked = d.asked;
-    standing = d.standing;
-    queued = d.queued;
-    finished = d.finished;
     jobs = map jobs_of jobs;
+    course = d.course;
   }
 
   abbrev pub entry_with : List ℕ → List (List ℕ × Token A) → Option (List ℕ × ReadingView) → List JobsView → SoloView → EntryView
@@ -59,15 +56,15 @@ module _ {A : Type 0} where
   -- the token is of this domain
   abbrev pub IsTokenOf : SoloView → Token A → Type 0
   IsTokenOf d (token.Look l) = l.domain ≡ d.table
-  IsTokenOf d (token.Reading r) = IsReadingOf d.table d.standing r
-  IsTokenOf d (token.Held h) = IsReadingOf d.table d.standing h
+  IsTokenOf d (token.Reading r) = IsReadingOf d.table d.course.standing r
+  IsTokenOf d (token.Held h) = IsReadingOf d.table d.course.standing h
   IsTokenOf d (token.Ticket t) = IsTicketOf d t
 
   -- all tokens are of the domain, and as many of them are open sections of an index as sections of it are open
   pub record AreOf (d : SoloView) (tokens : List (List ℕ × Token A)) : Type 0 where
-    pub legal : IsLegal d.standing.history
+    pub legal : IsLegal d.course.standing.history
     pub each : All (λ (t : List ℕ × Token A). IsTokenOf d t.1) tokens
-    pub counted : (i : Index) → held_of i tokens ≡ open_of i d.standing.history
+    pub counted : (i : Index) → held_of i tokens ≡ open_of i d.course.standing.history
 
   -- a domain, the tokens under names there, and its desk: that is of this domain, and the name of what lies there is no other token's
   pub record AreTogether (d : SoloView) (tokens : List (List ℕ × Token A)) (p : ParkingView) : Type 0 where

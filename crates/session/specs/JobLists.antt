@@ -41,7 +41,7 @@ pub record IsEmptied (d : SoloView) (b : BatchView (Unit {0})) : Type 0 where
 
 -- jobs for each processor of the domain. Each batch that is out is of it and of its processor, and empty; and so many jobs of each processor are queued, and not finished
 pub record AreJobsOf (d : SoloView) (jobs : List JobsView) : Type 0 where
-  pub count : length jobs ≡ d.standing.processors
+  pub count : length jobs ≡ d.course.standing.processors
   pub out : All (λ j. IfSome j.out (λ o. IsEmptied d o.0)) jobs
   pub here : (p : ℕ) (j : JobsView) → slice_get jobs p ≡ Some j → IfSome j.out (λ o. o.0.processor ≡ p)
-  pub unfinished : (p : ℕ) → AreOut p (count_out jobs p) d
+  pub unfinished : (p : ℕ) → AreOut p (count_out jobs p) d.course

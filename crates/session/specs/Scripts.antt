@@ -7,16 +7,22 @@ use Rattle.sseq.specs.Numbers.{state_bits}
 use Rattle.sections.specs.declared.limits.Limits.{Limits}
 use Rattle.sections.specs.Calls.{IsNoCookie}
 use Rattle.sections.specs.Making.{IsCount}
-use Rattle.sections.specs.Words.{opened_in, closed_in}
-use Rattle.onedom.specs.Histories.{ended_in, IsRunning}
-use Rattle.domain.specs.Cleanup.{open_count}
-use Rattle.calls.specs.Tallies.{most_calls}
+use Rattle.onedom.specs.Histories.{ended_in}
 use Rattle.scan.specs.declared.progress.Progress.{Progress}
 use Rattle.scan.specs.declared.progress.Progress.TheVariants as progress
 use Rattle.scan.specs.declared.progress.StartRefusal.{StartRefusal}
 use Rattle.scan.specs.declared.progress.StartRefusal.TheVariants as refusal
-use Rattle.scan.specs.Standings.{Standing, index_now}
-use Rattle.solo.specs.Calls.{new_standing, Begins, IsOutOfSections, Ends, GivesCookie, Asks as AsksIfDone, ReadsNumber, Starts, StartsNone, Steps, Advances, IsAskedTooMuch}
+use Rattle.scan.specs.Standings.{index_now}
+use Rattle.domain.specs.declared.domain.cleanup.Totals.{Totals}
+use Rattle.domain.specs.declared.domain.cleanup.InUse.TheVariants as busy
+use Rattle.calls.specs.declared.refusals.CallRefusal.{CallRefusal}
+use Rattle.calls.specs.declared.refusals.CallRefusal.TheVariants as calling
+use Rattle.solo.specs.declared.queued.Queued.{Queued}
+use Rattle.domain.specs.Acting.{finishes}
+use Rattle.solo.specs.Courses.{Course, Does as DoesAct}
+use Rattle.solo.specs.Calls as solo
+use Rattle.solo.specs.Calls.{new_course, Begins, IsOutOfSections, Ends, GivesCookie, Asks as AsksIfDone, AsksFor, ReadsNumber, QueuesNone, Starts, StartsNone, Steps, Advances, IsAskedTooMuch}
+use Rattle.solo.specs.Cleanup.{IsTakenDown, IsInUse as IsInUseFor}
 use Rattle.solo.specs.Barriers.{AreReached}
 use Rattle.lines.specs.Lines.{words_of}
 use Rattle.requests.specs.declared.fault.Fault.{Fault}
@@ -49,21 +55,21 @@ pub record IsRefused (c : Command) (cause : Cause) (d : DomainState) (r : Reply)
 -- a section of index i begins on the processor, and has the name
 pub record BeginsUnder (limits : Limits) (p : ℕ) (i : Index) (bearer : ℕ → Bearer) (name : List ℕ) (d : DomainState) (r : Reply) (d' : DomainState) : Type 0 where
   pub section : ℕ
-  pub begins : Begins limits p i section d.standing d'.standing
+  pub begins : Begins limits p i section d.course d'.course
   pub names : Becomes name (Some (bearer section)) d.names d'.names
-  pub rest : d' ≡ record d { names = d'.names; standing = d'.standing }
+  pub rest : d' ≡ record d { names = d'.names; course = d'.course }
   pub reply : r ≡ reply.Index i
 
 -- a look has the index that now is, and the name
 pub record LooksUnder (name : List ℕ) (d : DomainState) (r : Reply) (d' : DomainState) : Type 0 where
-  pub names : Becomes name (Some (Look (index_now d.standing))) d.names d'.names
+  pub names : Becomes name (Some (Look (index_now d.course.standing))) d.names d'.names
   pub rest : d' ≡ record d { names = d'.names }
-  pub reply : r ≡ reply.Look (index_now d.standing)
+  pub reply : r ≡ reply.Look (index_now d.course.standing)
 
 -- a section of the index that now is begins on the processor, for this command, unless as many were begun there as may
 abbrev pub BeginsNow : Limits → ℕ → Command → (ℕ → Bearer) → List ℕ → DomainState → Reply → DomainState → Type 0
-BeginsNow limits p c bearer name d r d' = BeginsUnder limits p (index_now d.standing) bearer name d r d'
-    ⊎ IsOutOfSections limits p (index_now d.standing) d.standing × IsRefused c Exhausted d r d'
+BeginsNow limits p c bearer name d r d' = BeginsUnder limits p (index_now d.course.standing) bearer name d r d'
+    ⊎ IsOutOfSections limits p (index_now d.course.standing) d.course × IsRefused c Exhausted d r d'
 
 -- it ends on the processor where it begins
 abbrev pub Locks : Limits → ℕ → List ℕ → DomainState → Reply → DomainState → Type 0
@@ -75,7 +81,7 @@ Downs limits p name d r d' = BeginsNow limits p command.Down Held name d r d'
 
 -- the look is used up in vain: as many sections of its index were begun on the processor as may. Its name is free
 pub record LosesLook (limits : Limits) (p : ℕ) (i : Index) (name : List ℕ) (d : DomainState) (r : Reply) (d' : DomainState) : Type 0 where
-  pub full : IsOutOfSections limits p i d.standing
+  pub full : IsOutOfSections limits p i d.course
   pub names : Becomes name None d.names d'.names
   pub rest : d' ≡ record d { names = d'.names }
   pub reply : r ≡ reply.Refused command.Enter Exhausted
@@ -91,18 +97,18 @@ pub record Unlocks (name : List ℕ) (d : DomainState) (r : Reply) (d' : DomainS
   pub section : ℕ
   pub processor : ℕ
   pub there : bearer_at name d.names ≡ Some (Reading section processor)
-  pub ends : Ends section processor d.standing d'.standing
+  pub ends : Ends section processor d.course d'.course
   pub names : Becomes name None d.names d'.names
-  pub rest : d' ≡ record d { names = d'.names; standing = d'.standing }
+  pub rest : d' ≡ record d { names = d'.names; course = d'.course }
   pub reply : r ≡ reply.Closed
 
 -- the held section of this name ends, on this processor, and the name is free
 pub record Ups (p : ℕ) (name : List ℕ) (d : DomainState) (r : Reply) (d' : DomainState) : Type 0 where
   pub section : ℕ
   pub there : bearer_at name d.names ≡ Some (Held section)
-  pub ends : Ends section p d.standing d'.standing
+  pub ends : Ends section p d.course d'.course
   pub names : Becomes name None d.names d'.names
-  pub rest : d' ≡ record d { names = d'.names; standing = d'.standing }
+  pub rest : d' ≡ record d { names = d'.names; course = d'.course }
   pub reply : r ≡ reply.Closed
 
 -- the held section of this name is laid on the desk, where nothing lay
@@ -130,74 +136,61 @@ Unparks d r d' = PicksUp d r d' ⊎ (d.desk ≡ None) × IsRefused command.Unpar
 
 -- the names stay, and what lies on the desk, what was asked for, and the jobs. This is the reply
 pub record Replies (given : Reply) (d : DomainState) (r : Reply) (d' : DomainState) : Type 0 where
-  pub rest : d' ≡ record d { standing = d'.standing }
+  pub rest : d' ≡ record d { course = d'.course }
   pub reply : r ≡ given
 
 abbrev pub cause_of : StartRefusal → Cause
 cause_of refusal.Running = Running
 cause_of refusal.Exhausted = Exhausted
 
--- the processor is given the cookie of now, and a grace period is asked for up to it
-pub record AsksForPeriod (p : ℕ) (d : DomainState) (r : Reply) (d' : DomainState) : Type 0 where
-  pub cookie : ℕ
-  pub gives : GivesCookie p cookie d.standing d'.standing
-  pub rest : d' ≡ record d { asked = max d.asked cookie; standing = d'.standing }
-  pub reply : r ≡ reply.Cookie cookie
-
 -- what the engine does, in steps or until there is an answer; refused where a grace period is asked for, and as many have ended as may
-abbrev pub Works : (Progress → Standing → Standing → Type 0) → Command → DomainState → Reply → DomainState → Type 0
-Works work c d r d' = ((said : Progress) × work said d.standing d'.standing × Replies (reply.Progress said) d r d')
-    ⊎ IsAskedTooMuch d.asked d.standing × IsRefused c Exhausted d r d'
+abbrev pub Works : (Progress → Course → Course → Type 0) → Command → DomainState → Reply → DomainState → Type 0
+Works work c d r d' = ((said : Progress) × work said d.course d'.course × Replies (reply.Progress said) d r d')
+    ⊎ IsAskedTooMuch d.course × IsRefused c Exhausted d r d'
 
 -- where the domain stands
 pub record Shows (d : DomainState) (r : Reply) (d' : DomainState) : Type 0 where
   pub number : ℕ
   pub phase : Phase
-  pub reads : ReadsNumber number d.standing d'.standing
+  pub reads : ReadsNumber number d.course d'.course
   pub state : number % 4 ≡ state_bits phase
   pub replies : Replies (reply.State d.name
       (record { number = number; phase = phase })
-      (record { index = index_now d.standing; zero = open_of Zero d.standing.history; one = open_of One d.standing.history; need = d.asked })) d r d'
+      (record { index = index_now d.course.standing; zero = open_of Zero d.course.standing.history; one = open_of One d.course.standing.history; need = d.course.asked })) d r d'
 
--- the processor is given the cookie of now, the job of this name comes last of those that wait there, and a grace period up to its cookie is asked for
+-- the job is queued, and comes last of those that wait there, under this name
 pub record Queues (p : ℕ) (name : List ℕ) (d : DomainState) (r : Reply) (d' : DomainState) : Type 0 where
-  pub k : ℕ
-  pub cookie : ℕ
+  pub job : Queued
   pub jobs : Jobs
-  pub number : slice_get d.queued p ≡ Some k
   pub there : slice_get d.jobs p ≡ Some jobs
-  pub gives : GivesCookie p cookie d.standing d'.standing
-  pub rest : d' ≡ record d {
-    asked = max d.asked cookie;
-    standing = d'.standing;
-    queued = slice_set d.queued p (k + 1);
-    jobs = slice_set d.jobs p (record jobs { waiting = jobs.waiting ++ record { name = name; cookie = cookie } ∷ [] });
-  }
-  pub reply : r ≡ reply.Queued k cookie
+  pub queues : solo.Queues p job d.course d'.course
+  pub rest : d' ≡ record d { course = d'.course; jobs = slice_set d.jobs p (record jobs { waiting = jobs.waiting ++ record { name = name; cookie = job.cookie } ∷ [] }) }
+  pub reply : r ≡ reply.Queued job.k job.cookie
 
--- refused where as many were queued there as may ever be, or memory is: then the processor was given a cookie, and nothing else is done
+abbrev pub cause_of_none : CallRefusal → Cause
+cause_of_none calling.Exhausted = Exhausted
+cause_of_none calling.Memory = Memory
+
 abbrev pub Calls : ℕ → List ℕ → DomainState → Reply → DomainState → Type 0
 Calls p name d r d' = Queues p name d r d'
-    ⊎ (slice_get d.queued p ≡ Some most_calls) × IsRefused command.Call Exhausted d r d'
-    ⊎ (cookie : ℕ) × GivesCookie p cookie d.standing d'.standing × Replies (reply.Refused command.Call Memory) d r d'
+    ⊎ (why : CallRefusal) × QueuesNone p why d.course d'.course × Replies (reply.Refused command.Call (cause_of_none why)) d r d'
 
--- no batch of the processor was out. It asks how far the grace periods have come, and so many jobs leave, for which they have come far enough, these among them; `out` is out then, and so many are `finished`. A list stands behind a lock, so it isn't said which of those that are due leave
-pub record Takes (p count : ℕ) (taken : List Job) (out : Option Batch) (finished : List ℕ) (d d' : DomainState) : Type 0 where
+-- no batch of the processor was out, and so many jobs leave, for which the grace periods have come far enough, these among them; `out` is out then. A list stands behind a lock, so it isn't said which of those that are due leave
+pub record Takes (p count : ℕ) (taken : List Job) (out : Option Batch) (d d' : DomainState) : Type 0 where
   pub jobs : Jobs
   pub waiting : List Job
   pub there : slice_get d.jobs p ≡ Some jobs
   pub none_out : jobs.out ≡ None
-  pub asks : AsksIfDone p (4 * ended_in d.standing.history) true d.standing d'.standing
-  pub leave : AreTaken (4 * ended_in d.standing.history) count taken jobs.waiting waiting
-  pub rest : d' ≡ record d { standing = d'.standing; finished = finished; jobs = slice_set d.jobs p (record { waiting = waiting; out = out }) }
+  pub leave : AreTaken (4 * ended_in d.course.standing.history) count taken jobs.waiting waiting
+  pub rest : d' ≡ record d { course = d'.course; jobs = slice_set d.jobs p (record { waiting = waiting; out = out }) }
 
--- so many jobs more of the processor are finished
-abbrev pub with_finished : ℕ → ℕ → List ℕ → List ℕ
-with_finished p count finished = slice_set finished p (slice_index finished p + count)
+-- the processor asks how far the grace periods have come
+abbrev pub AsksHowFar : ℕ → Course → Course → Type 0
+AsksHowFar p c c' = AsksIfDone p (4 * ended_in c.standing.history) true c c'
 
 -- what was taken is finished at once. Refused where a batch is out, and nothing is done
 abbrev pub Runs : ℕ → DomainState → Reply → DomainState → Type 0
-Runs p d r d' = ((count : ℕ) × (taken : List Job) × Takes p count taken None (with_finished p count d.finished) d d' × (r ≡ reply.Ran (names_of_jobs taken)))
+Runs p d r d' = ((count : ℕ) × (taken : List Job) × (c : Course) × Takes p count taken None d d' × AsksHowFar p d.course c × DoesAct p (finishes p count) c d'.course × (r ≡ reply.Ran (names_of_jobs taken)))
     ⊎ IsRefused command.Run Invoking d r d'
 
 -- so many jobs are a batch that is out, these among them; without a job none is
@@ -206,7 +199,7 @@ AreOut count taken out = (0 < count) × (out ≡ Some (record { count = count; n
 
 -- what was taken stays out. Refused where a batch is out, and nothing is done
 abbrev pub TakesOut : ℕ → DomainState → Reply → DomainState → Type 0
-TakesOut p d r d' = ((count : ℕ) × (taken : List Job) × (out : Option Batch) × Takes p count taken out d.finished d d' × AreOut count taken out × (r ≡ reply.TookJobs (names_of_jobs taken)))
+TakesOut p d r d' = ((count : ℕ) × (taken : List Job) × (out : Option Batch) × Takes p count taken out d d' × AsksHowFar p d.course d'.course × AreOut count taken out × (r ≡ reply.TookJobs (names_of_jobs taken)))
     ⊎ IsRefused command.Batch Invoking d r d'
 
 -- the batch of the processor that is out is over, and its jobs are finished
@@ -215,7 +208,8 @@ pub record IsOver (p : ℕ) (d : DomainState) (r : Reply) (d' : DomainState) : T
   pub batch : Batch
   pub there : slice_get d.jobs p ≡ Some jobs
   pub out : jobs.out ≡ Some batch
-  pub rest : d' ≡ record d { finished = with_finished p batch.count d.finished; jobs = slice_set d.jobs p (record jobs { out = None }) }
+  pub over : DoesAct p (finishes p batch.count) d.course d'.course
+  pub rest : d' ≡ record d { course = d'.course; jobs = slice_set d.jobs p (record jobs { out = None }) }
   pub reply : r ≡ reply.Finished batch.count
 
 abbrev pub Finishes : ℕ → DomainState → Reply → DomainState → Type 0
@@ -228,7 +222,7 @@ ShowsSegments d r d' = (d' ≡ d) × ((segments : Segments) × (r ≡ reply.Segs
 
 -- a ticket has the name, which waits for all jobs that are queued now
 pub record GivesTicket (name : List ℕ) (d : DomainState) (r : Reply) (d' : DomainState) : Type 0 where
-  pub names : Becomes name (Some (Ticket d.queued)) d.names d'.names
+  pub names : Becomes name (Some (Ticket d.course.queued)) d.names d'.names
   pub rest : d' ≡ record d { names = d'.names }
   pub reply : r ≡ reply.Ticket
 
@@ -240,7 +234,7 @@ pub record PollsBarrier (name : List ℕ) (d : DomainState) (r : Reply) (d' : Do
   pub numbers : List ℕ
   pub there : bearer_at name d.names ≡ Some (Ticket numbers)
   pub done : Bool
-  pub reached : MatchBool done (AreReached numbers d.finished) (¬ AreReached numbers d.finished)
+  pub reached : MatchBool done (AreReached numbers d.course.finished) (¬ AreReached numbers d.course.finished)
   pub after : d' ≡ d
   pub reply : r ≡ (if done then reply.Done else reply.NotYet)
 
@@ -255,14 +249,14 @@ Does limits (act.Down p name) d r d' = Downs limits p name d r d'
 Does limits (act.Up p name) d r d' = Ups p name d r d'
 Does limits (act.Park name) d r d' = Parks name d r d'
 Does limits act.Unpark d r d' = Unparks d r d'
-Does limits (act.Ask p) d r d' = AsksForPeriod p d r d'
-Does limits (act.Get p) d r d' = (cookie : ℕ) × GivesCookie p cookie d.standing d'.standing × Replies (reply.Cookie cookie) d r d'
-Does limits (act.Poll p cookie) d r d' = ((done : Bool) × AsksIfDone p cookie done d.standing d'.standing × Replies (if done then reply.Done else reply.NotYet) d r d')
+Does limits (act.Ask p) d r d' = (cookie : ℕ) × AsksFor p cookie d.course d'.course × Replies (reply.Cookie cookie) d r d'
+Does limits (act.Get p) d r d' = (cookie : ℕ) × GivesCookie p cookie d.course d'.course × Replies (reply.Cookie cookie) d r d'
+Does limits (act.Poll p cookie) d r d' = ((done : Bool) × AsksIfDone p cookie done d.course d'.course × Replies (if done then reply.Done else reply.NotYet) d r d')
     ⊎ IsNoCookie cookie × IsRefused command.Poll NotACookie d r d'
-Does limits (act.Start p) d r d' = ((number : ℕ) × Starts number d.standing d'.standing × Replies (reply.Progress (progress.Started number)) d r d')
-    ⊎ (why : StartRefusal) × StartsNone why d.standing × IsRefused command.Start (cause_of why) d r d'
-Does limits (act.Advance p) d r d' = Works (Advances d.asked) command.Advance d r d'
-Does limits (act.Step p) d r d' = Works (Steps d.asked) command.Step d r d'
+Does limits (act.Start p) d r d' = ((number : ℕ) × Starts number d.course d'.course × Replies (reply.Progress (progress.Started number)) d r d')
+    ⊎ (why : StartRefusal) × StartsNone why d.course × IsRefused command.Start (cause_of why) d r d'
+Does limits (act.Advance p) d r d' = Works Advances command.Advance d r d'
+Does limits (act.Step p) d r d' = Works Steps command.Step d r d'
 Does limits (act.Call p name) d r d' = Calls p name d r d'
 Does limits (act.Run p) d r d' = Runs p d r d'
 Does limits (act.Batch p) d r d' = TakesOut p d r d'
@@ -283,16 +277,7 @@ abbrev pub no_jobs : Jobs
 no_jobs = record { waiting = []; out = None }
 
 abbrev pub new_domain : Limits → List ℕ → ℕ → DomainState
-new_domain limits name processors = record {
-  name = name;
-  names = [];
-  desk = None;
-  asked = 0;
-  standing = new_standing limits processors;
-  queued = replicate processors 0;
-  finished = replicate processors 0;
-  jobs = replicate processors no_jobs;
-}
+new_domain limits name processors = record { name = name; names = []; desk = None; jobs = replicate processors no_jobs; course = new_course limits processors }
 
 -- a domain comes behind those that are there
 pub record Makes (limits : Limits) (state : State) (name : List ℕ) (processors : ℕ) (r : Reply) (state' : State) : Type 0 where
@@ -308,37 +293,28 @@ pub record MakesNone (state : State) (processors : ℕ) (r : Reply) (state' : St
       ⊎ (length state < 8) × (¬ IsCount processors) × (r ≡ reply.Refused command.Domain Processors)
       ⊎ (length state < 8) × IsCount processors × (r ≡ reply.Refused command.Domain Memory)
 
--- no section of the domain is open, no grace period runs, and all jobs that were queued are finished. So many sections ever began there, and so many ended
-pub record IsTakenDown (d : DomainState) (opened closed : ℕ) : Type 0 where
-  pub none_open : open_count d.standing.history ≡ 0
-  pub rests : ¬ IsRunning d.standing.history
-  pub run : sum d.queued ≡ sum d.finished
-  pub opened_are : opened ≡ opened_in d.standing.history
-  pub closed_are : closed ≡ closed_in d.standing.history
-
 -- why a domain is in use: the first cause that holds
-abbrev pub IsInUse : DomainState → Cause → Type 0
-IsInUse d (Sections n) = (n ≡ open_count d.standing.history) × (0 < n)
-IsInUse d Period = (open_count d.standing.history ≡ 0) × IsRunning d.standing.history
-IsInUse d (Callbacks n) = (open_count d.standing.history ≡ 0) × (¬ IsRunning d.standing.history) × (sum d.queued ≡ sum d.finished + n) × (0 < n)
-IsInUse d other = ⊥
+abbrev pub IsInUse : Course → Cause → Type 0
+IsInUse c (Sections n) = IsInUseFor c (busy.Sections n)
+IsInUse c Period = IsInUseFor c busy.Period
+IsInUse c (Callbacks n) = IsInUseFor c (busy.Callbacks n)
+IsInUse c other = ⊥
 
 -- the domain at the place isn't in use, and goes, with all names there. The others stay in their order
 pub record CleansUp (state : State) (place : ℕ) (r : Reply) (state' : State) : Type 0 where
   pub domain : DomainState
-  pub opened : ℕ
-  pub closed : ℕ
+  pub totals : Totals
   pub there : slice_get state place ≡ Some domain
-  pub taken_down : IsTakenDown domain opened closed
+  pub taken_down : IsTakenDown domain.course totals
   pub gone : state' ≡ remove state place
-  pub reply : r ≡ reply.Cleaned opened closed
+  pub reply : r ≡ reply.Cleaned totals.opened totals.closed
 
 -- it is in use for this cause, and nothing is done
 pub record CleansNone (state : State) (place : ℕ) (r : Reply) (state' : State) : Type 0 where
   pub domain : DomainState
   pub there : slice_get state place ≡ Some domain
   pub cause : Cause
-  pub in_use : IsInUse domain cause
+  pub in_use : IsInUse domain.course cause
   pub after : state' ≡ state
   pub reply : r ≡ reply.Refused command.Cleanup cause
 

@@ -4,7 +4,7 @@ use Rattle.std.specs.Option.{option_map_or}
 use Rattle.std.specs.Map.{lookup}
 use Rattle.sseq.specs.declared.index.Index.{Index}
 use Rattle.sections.specs.declared.limits.Limits.{Limits}
-use Rattle.scan.specs.Standings.{Standing}
+use Rattle.solo.specs.Courses.{Course}
 use Rattle.requests.specs.declared.scene.Kind.{Kind}
 use Rattle.requests.specs.declared.scene.Kind.TheVariants as kind
 use Rattle.requests.specs.Scenes.{SceneView}
@@ -36,16 +36,13 @@ pub record Jobs : Type 0 where
   pub waiting : List Job
   pub out : Option Batch
 
--- a domain: its name, the names in use there but that of the section on its desk, what lies on the desk, the greatest number that was asked for (0 if none), and how far the domain has come. For each processor, how many jobs were ever queued there, how many of these are finished, and its jobs
+-- a domain: its name, the names in use there but that of the section on its desk, what lies on the desk, the jobs of each processor, and how far it has come
 pub record DomainState : Type 0 where
   pub name : List ℕ
   pub names : Names
   pub desk : Option Parked
-  pub asked : ℕ
-  pub standing : Standing
-  pub queued : List ℕ
-  pub finished : List ℕ
   pub jobs : List Jobs
+  pub course : Course
 
 -- the domains, in the order in which they were made
 abbrev pub State : Type 0
@@ -111,6 +108,6 @@ kind_at name d = if is_parked name d.desk then Some kind.Parked else option_map 
 abbrev pub scene_of : State → SceneView
 scene_of state = record {
   place_of = λ w. domain_place w state;
-  processors_of = λ place. option_map_or (λ d. d.standing.processors) (slice_get state place) 0;
+  processors_of = λ place. option_map_or (λ d. d.course.standing.processors) (slice_get state place) 0;
   kind_of = λ place name. option_and_then (λ d. kind_at name d) (slice_get state place);
 }

@@ -56,8 +56,8 @@ impl<A: Allocator> Entry<A> {
     pub fn new(alloc: A, name: Name, mut domain: Solo<A>) -> Result<Entry<A>, AllocError>
     where
         A: Copy,
-        requires { IsNew domain.limits domain.standing.processors domain }
-        ensures { IfOk result (λ e. e ≡ record { limits = domain.limits; state = new_domain domain.limits name domain.standing.processors }) }
+        requires { IsNew domain.limits domain.course.standing.processors domain }
+        ensures { IfOk result (λ e. e ≡ record { limits = domain.limits; state = new_domain domain.limits name domain.course.standing.processors }) }
     {
         let parking = Parking::new(alloc, domain.home())?;
         let Ok(jobs) = new_jobs(alloc, domain.processors()) else {
@@ -83,7 +83,7 @@ impl<A: Allocator> Entry<A> {
 
     /// How many processors the domain has.
     pub fn processors(&self) -> u64
-        ensures { result ≡ self.now.state.standing.processors }
+        ensures { result ≡ self.now.state.course.standing.processors }
     {
         self.domain.processors()
     }
@@ -258,7 +258,7 @@ impl<A: Allocator> Entry<A> {
 
     /// Whether a cookie is done, as a processor finds it; refused where no cookie has this number.
     fn poll(&mut self, rt: &impl Wait, processor: u64, cookie: u64) -> Reply
-        requires { processor < self.old.state.standing.processors }
+        requires { processor < self.old.state.course.standing.processors }
         ensures limits { self.new.limits ≡ self.old.limits }
         ensures name { self.new.state.name ≡ self.old.state.name }
         ensures does { Does self.old.limits (Act.Poll processor cookie) self.old.state result self.new.state }

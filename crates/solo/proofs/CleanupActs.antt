@@ -7,10 +7,10 @@ use Rattle.std.proofs.lemmas.List.Folds.{list_any_at}
 use Rattle.onedom.specs.declared.event.Maker.{Maker}
 use Rattle.onedom.specs.declared.event.Maker.TheVariants.{Processor, Engine}
 use Rattle.onedom.specs.declared.event.Event.{Event}
-use Rattle.onedom.specs.Histories.{IsBeginning, IsRunning, made_by, ended_in}
+use Rattle.onedom.specs.Histories.{IsBeginning, IsRunning, made_by}
 use Rattle.onedom.proofs.CallerLemmas.{beginning_refl}
 use Rattle.sections.specs.declared.limits.Limits.{Limits}
-use Rattle.sections.specs.Words.{sum_below, opened_in, closed_in}
+use Rattle.sections.specs.Words.{sum_below}
 use Rattle.sections.specs.Rule.{HasItsMaker}
 use Rattle.sections.specs.Making.{IsCount, bounds_of}
 use Rattle.sections.specs.EngineCalls.{IsSameEngine}
@@ -34,16 +34,16 @@ use Rattle.domain.specs.Turns.{TakesTurn}
 use Rattle.domain.specs.Meetings.{IsAllOf, EngineMeets, TalliesMeet, MeetsHere}
 use Rattle.domain.specs.Counts.{IsHistoryOf, AreDeedsOf, AreBack}
 use Rattle.domain.specs.Cleanup as cleanup
-use Rattle.domain.specs.Cleanup.{is_there, missing_of, open_count, IsHandedBack}
-use Rattle.domain.proofs.CallerLemmas.{all_the_same}
+use Rattle.domain.specs.Cleanup.{is_there, missing_of, IsUnused, AreTotals, IsCause, IsHandedBack}
+use Rattle.domain.proofs.CallerLemmas.{all_the_same, CountsNothing, nothing_done, adds_none, queued_loads_count, finished_loads_count, both_count}
 use Rattle.solo.specs.Calls.{SoloView}
-use Rattle.solo.specs.Cleanup.{IsTakenDown, IsInUse}
+use Rattle.solo.specs.Cleanup.{whole_of, IsTakenDown, IsInUse}
 use Rattle.solo.specs.Settling.{View, AllHold, AskTogether, TurnTogether, TallyTogether, HaveMet}
 use Rattle.solo.specs.Insides.{queued_on, finished_on, seen_first}
 use Rattle.solo.proofs.NothingBetween.{IsMaker, nothing_between}
 use Rattle.solo.proofs.Turning.{turn_found, meeting_found, turn_turned}
 use Rattle.solo.proofs.Settled.{HaveAsked, IsSettled, settled, all_raised, asked_together}
-use Rattle.solo.proofs.Tallying.{CountsNothing, GoesOnBy, nothing_done, adds_none, queued_loads_count, finished_loads_count, both_count, still_queued, still_finished, count_at, same_counts, goes_on, tally_together}
+use Rattle.solo.proofs.Tallying.{GoesOnBy, still_queued, still_finished, count_at, same_counts, goes_on, tally_together}
 use Rattle.solo.proofs.Hand.{first_seen, view, now_is}
 
 -- Counts of all processors together
@@ -104,8 +104,8 @@ module _ (d : DomainView) (limits : Limits) (cpus : List DomainCpu) (lay : View)
         let since : IsBeginning lay.seat.seen history = subst (λ l. IsBeginning l history) (met.together.seen 0 nobody some) (of_all.since 0 nobody some) in
         (nothing_between (length cpus) lay.seat.seen [] [] history (subst (λ l. IsBeginning l history) (sym same) since) (subst (λ n. All (HasItsMaker n) history) many of_all.makers) (λ m is. ap length (each_made m is ∙ ap (made_by m) (sym same)))).1 ∙ same
 
-    seen_history : history ≡ seen.standing.history
-    seen_history = history_is ∙ sym (ap (λ (x : SoloView). x.standing.history) view_is)
+    seen_history : history ≡ seen.course.standing.history
+    seen_history = history_is ∙ sym (ap (λ (x : SoloView). x.course.standing.history) view_is)
 
   module _ (deeds : List Deed) (of_all : AreDeedsOf d cpus deeds) where
     abbrev counting : List Deed
@@ -129,45 +129,25 @@ module _ (d : DomainView) (limits : Limits) (cpus : List DomainCpu) (lay : View)
     pub same_finished : (k : ℕ) → finished_in k deeds ≡ finished_in k met.deeds
     same_finished = still_finished (length cpus) 0 met.deeds counting deeds goes_by_first counts_nothing
 
-    queued_sum : all_queued d.processors deeds ≡ sum seen.queued
+    queued_sum : all_queued d.processors deeds ≡ sum seen.course.queued
     queued_sum =
         let long : length (queued_on cpus) ≡ length cpus = length-map cpus (λ c. queued_in c.calls.processor c.calls.seen) in
-        ap (λ n. all_queued n deeds) (many ∙ sym long) ∙ (sym (sum_is (λ p. queued_in p deeds) 0 (queued_on cpus) (λ k lt. let there : k < length cpus = omega (arith, lt, long) in count_at queued_in d met.deeds cpus met.tally_together k there ∙ (sym (same_queued k there) ∙ ap (λ q. queued_in q deeds) (let e : k ≡ 0 + k = omega arith in e)))) ∙ sym (ap (λ (x : SoloView). sum x.queued) view_is))
+        ap (λ n. all_queued n deeds) (many ∙ sym long) ∙ (sym (sum_is (λ p. queued_in p deeds) 0 (queued_on cpus) (λ k lt. let there : k < length cpus = omega (arith, lt, long) in count_at queued_in d met.deeds cpus met.tally_together k there ∙ (sym (same_queued k there) ∙ ap (λ q. queued_in q deeds) (let e : k ≡ 0 + k = omega arith in e)))) ∙ sym (ap (λ (x : SoloView). sum x.course.queued) view_is))
 
-    finished_sum : all_finished d.processors deeds ≡ sum seen.finished
+    finished_sum : all_finished d.processors deeds ≡ sum seen.course.finished
     finished_sum =
         let long : length (finished_on cpus) ≡ length cpus = length-map cpus (λ c. finished_in c.calls.processor c.calls.seen) in
-        ap (λ n. all_finished n deeds) (many ∙ sym long) ∙ (sym (sum_is (λ p. finished_in p deeds) 0 (finished_on cpus) (λ k lt. let there : k < length cpus = omega (arith, lt, long) in count_at finished_in d met.deeds cpus met.tally_together k there ∙ (sym (same_finished k) ∙ ap (λ q. finished_in q deeds) (let e : k ≡ 0 + k = omega arith in e)))) ∙ sym (ap (λ (x : SoloView). sum x.finished) view_is))
+        ap (λ n. all_finished n deeds) (many ∙ sym long) ∙ (sym (sum_is (λ p. finished_in p deeds) 0 (finished_on cpus) (λ k lt. let there : k < length cpus = omega (arith, lt, long) in count_at finished_in d met.deeds cpus met.tally_together k there ∙ (sym (same_finished k) ∙ ap (λ q. finished_in q deeds) (let e : k ≡ 0 + k = omega arith in e)))) ∙ sym (ap (λ (x : SoloView). sum x.course.finished) view_is))
 
-  -- Totals
+  -- Totals, and why it is in use
 
-  pub taken_down : (t : Totals) → cleanup.IsTakenDown d cpus t → IsTakenDown seen t
+  whole_is : (history : List Event) (deeds : List Deed) → IsHistoryOf d cpus history → AreDeedsOf d cpus deeds → cleanup.whole_of d.processors history deeds ≡ whole_of seen.course
+  whole_is history deeds of_all deeds_of_all = λ i. record { history = seen_history history of_all i; queued = queued_sum deeds deeds_of_all i; finished = finished_sum deeds deeds_of_all i }
+
+  pub taken_down : (t : Totals) → cleanup.IsTakenDown d cpus t → IsTakenDown seen.course t
   taken_down t h =
-      let same = seen_history h.history h.of_all in
-      let queued = queued_sum h.all h.deeds_of_all in
-      let finished = finished_sum h.all h.deeds_of_all in record {
-        closed = ap open_count (sym same) ∙ h.unused.closed;
-        rests = λ running. h.unused.rests (subst IsRunning (sym same) running);
-        run = sym queued ∙ (h.unused.run ∙ finished);
-        opened = h.totals.opened ∙ ap opened_in same;
-        closed_are = h.totals.closed ∙ ap closed_in same;
-        queued = h.totals.queued ∙ queued;
-        finished = h.totals.finished ∙ finished;
-        periods = h.totals.periods ∙ ap ended_in same;
-      }
-
-  -- Why it is in use
-
-  cause_is : (cause : InUse) (history : List Event) (deeds : List Deed) → IsHistoryOf d cpus history → AreDeedsOf d cpus deeds → cleanup.IsCause d.processors history deeds cause → IsInUse seen cause
-  cause_is (Missing n) history deeds of_all deeds_of_all h = h
-  cause_is (Sections n) history deeds of_all deeds_of_all h = subst (λ l. (n ≡ open_count l) × (0 < n)) (seen_history history of_all) h
-  cause_is Period history deeds of_all deeds_of_all h = subst (λ l. (open_count l ≡ 0) × IsRunning l) (seen_history history of_all) h
-  cause_is (Callbacks n) history deeds of_all deeds_of_all h =
-      let same = seen_history history of_all in
-      let queued = queued_sum deeds deeds_of_all in
-      let finished = finished_sum deeds deeds_of_all in
-      let left = h.2 in
-      (ap open_count (sym same) ∙ h.0, λ running. h.1 (subst IsRunning (sym same) running), omega (arith, queued, finished, left), h.3)
+      let same = whole_is h.history h.all h.of_all h.deeds_of_all in
+      record { unused = subst IsUnused same h.unused; totals = subst (λ w. AreTotals w t) same h.totals }
 
   pub refused_is : (cause : InUse) (dm : DomainView) (mid : List DomainCpu) → cleanup.IsRefused d cpus cause dm mid → cleanup.IsInUse d cpus cause dm mid
   refused_is (Missing n) dm mid h = let none = all_there in let is = h.0 in let some = h.1 in absurd (omega (arith, none, is, some))
@@ -175,8 +155,8 @@ module _ (d : DomainView) (limits : Limits) (cpus : List DomainCpu) (lay : View)
   refused_is Period dm mid h = h
   refused_is (Callbacks n) dm mid h = h
 
-  pub in_use : (cause : InUse) (dm : DomainView) (mid : List DomainCpu) → cleanup.IsRefused d cpus cause dm mid → IsInUse seen cause
-  in_use cause dm mid h = let r = refused_is cause dm mid h in cause_is cause r.history r.all r.of_all r.deeds_of_all r.is
+  pub in_use : (cause : InUse) (dm : DomainView) (mid : List DomainCpu) → cleanup.IsRefused d cpus cause dm mid → IsInUse seen.course cause
+  in_use cause dm mid h = let r = refused_is cause dm mid h in subst (λ w. IsCause w cause) (whole_is r.history r.all r.of_all r.deeds_of_all) r.is
 
   -- all come back
   pub handed_back : (dm : DomainView) (mid : List DomainCpu) → dm ≡ d → IsHandedBack d cpus dm mid → IsAllOf dm mid
@@ -341,16 +321,18 @@ module _ (d : DomainView) (limits : Limits) (cpus : List DomainCpu) (lay : View)
         ∙ ((λ i. record {
           table = same_engine.0 i;
           limits = limits;
-          standing = record {
-            processors = same_engine.1 i;
-            periods = same_engine.2 i;
-            history = history_stays i;
-            changes = changes_stay i;
-            so_far = ap (λ (x : View). x.so_far) rest_is i;
-            began = ap (λ (x : View). x.began) rest_is i;
-          };
-          asked = same_asked i;
           tallies = same_tallies i;
-          queued = queued_are i;
-          finished = finished_are i;
+          course = record {
+            standing = record {
+              processors = same_engine.1 i;
+              periods = same_engine.2 i;
+              history = history_stays i;
+              changes = changes_stay i;
+              so_far = ap (λ (x : View). x.so_far) rest_is i;
+              began = ap (λ (x : View). x.began) rest_is i;
+            };
+            asked = same_asked i;
+            queued = queued_are i;
+            finished = finished_are i;
+          };
         }) ∙ sym view_is)

@@ -36,12 +36,15 @@ use Rattle.domain.specs.Turns.{TakesTurn, Lends, StepsIn, AdvancesIn, FindsExhau
 use Rattle.solo.specs.Refusals.{IsNotBusy, NoneIsBusy, IsToldAs, IsStartedAs}
 use Rattle.domain.specs.Waiting.{LoadsNeed, StartsPoll}
 use Rattle.domain.specs.Meetings.{IsAllOf, EngineMeets, MeetsHere}
-use Rattle.solo.specs.Calls.{SoloView, IsSame, Starts, StartsNone, Steps, Advances, IsAskedTooMuch}
+use Rattle.solo.specs.Calls.{SoloView, IsSameDomain, Starts, StartsNone, StepsOf, Steps, Advances, IsAskedTooMuch}
+use Rattle.solo.specs.Courses.{Course, Works}
 use Rattle.solo.specs.Settling.{View, Holds, AllHold, AskTogether, TurnTogether, TallyTogether, IsWanted, HaveMet}
 use Rattle.solo.specs.Insides.{queued_on, finished_on, seen_as, seen_first}
 use Rattle.solo.proofs.NothingBetween.{made_by_append}
-use Rattle.solo.proofs.Needing.{GoesOn, stays, goes_further, squeezed, raised_here}
-use Rattle.solo.proofs.Tallying.{Adds, GoesOnBy, adds_none, nothing_done, still_queued, still_finished, same_counts, goes_on, tally_together}
+use Rattle.domain.specs.Acting.{GoesOn, Adds}
+use Rattle.domain.proofs.CallerLemmas.{stays, goes_further, adds_none, nothing_done}
+use Rattle.solo.proofs.Needing.{squeezed, raised_here}
+use Rattle.solo.proofs.Tallying.{GoesOnBy, still_queued, still_finished, same_counts, goes_on, tally_together}
 use Rattle.solo.proofs.Settled.{HaveAsked, IsSettled, settled, all_raised, asked_together}
 use Rattle.solo.proofs.Turning.{turn_found, meeting_found, turn_turned}
 use Rattle.solo.proofs.Hand.{IsStill, first_seen, is_seen}
@@ -133,7 +136,7 @@ said_running m n (answer.Ended k) s s' running h = h.answered.says
 said_running m n (answer.Waiting i) s s' running h = h.answered.says
 said_running m n answer.Step s s' running h = h.answered.says
 
-with_need : (m n : ℕ) (a : Progress) (s s' : Standing) → (¬ IsRunning s.history → m ≡ n) → engine.Steps [] m a s s' → Steps n a s s'
+with_need : (m n : ℕ) (a : Progress) (s s' : Standing) → (¬ IsRunning s.history → m ≡ n) → engine.Steps [] m a s s' → StepsOf n a s s'
 with_need m n a s s' same h = dite (dec_lt (ended_in s.history) (starts_in s.history))
     (λ running. record {
       answered = record { same = h.answered.same; events = h.answered.events; legal = h.answered.legal; agree = h.answered.agree; changes = h.answered.changes; says = said_running m n a s s' running h };
@@ -145,8 +148,8 @@ with_need m n a s s' same h = dite (dec_lt (ended_in s.history) (starts_in s.his
     (λ resting. subst (λ k. engine.Steps [] k a s s') (same resting) h)
 
 -- a step that nobody comes before, up to what is as it was behind it
-step_alone : (others : List Event) (need asked_for : ℕ) (a : Progress) (s s' s'' : Standing) → others ≡ [] → (¬ IsRunning s.history → need ≡ asked_for) → s'' ≡ s' → engine.Steps others need a s s' → Steps asked_for a s s''
-step_alone others need asked_for a s s' s'' nobody same_need same steps = subst (λ (x : Standing). Steps asked_for a s x) (sym same) (with_need need asked_for a s s' same_need (subst (λ l. engine.Steps l need a s s') nobody steps))
+step_alone : (others : List Event) (need asked_for : ℕ) (a : Progress) (s s' s'' : Standing) → others ≡ [] → (¬ IsRunning s.history → need ≡ asked_for) → s'' ≡ s' → engine.Steps others need a s s' → StepsOf asked_for a s s''
+step_alone others need asked_for a s s' s'' nobody same_need same steps = subst (λ (x : Standing). StepsOf asked_for a s x) (sym same) (with_need need asked_for a s s' same_need (subst (λ l. engine.Steps l need a s s') nobody steps))
 
 none_left : (l r : List Event) → length l + length r ≡ 0 → l ≡ []
 none_left [] r none = refl
@@ -168,7 +171,7 @@ through_needs (u ∷ us) v w a h = goes_further v.needs u.needs w.needs (loaded_
 
 module _ (raises : List Raise) (root : value 0 raises ≡ greatest raises) where
   -- where in the end nobody came, nobody came before any of the steps, and each found just what had been asked for
-  through_alone : (us : List View) (v w : View) (a : Progress) (s' : Standing) → StepsThrough (λ b x y. StepsTo LoadsRoot x b y) us a v w → Knows raises v → w.needs.seen ≡ raises → w.seat.seen ≡ v.seat.seen ++ events_of a → s' ≡ standing_of w → StepsThrough (Steps (greatest raises)) (map standing_of us) a (standing_of v) s'
+  through_alone : (us : List View) (v w : View) (a : Progress) (s' : Standing) → StepsThrough (λ b x y. StepsTo LoadsRoot x b y) us a v w → Knows raises v → w.needs.seen ≡ raises → w.seat.seen ≡ v.seat.seen ++ events_of a → s' ≡ standing_of w → StepsThrough (StepsOf (greatest raises)) (map standing_of us) a (standing_of v) s'
   through_alone [] v w a s' s knows still seen same =
       let o = s.goes_on.others in
       let long = ap length (sym s.step.answered.events ∙ seen) in
@@ -423,8 +426,11 @@ module _ (t : Turn) where
       began = ap (λ (x : View). x.began) rest_is z;
     }
 
-    same_as : IsSame (before) (after)
-    same_as = (same_engine.0 ∙ own.same.0, refl, same_engine.1 ∙ own.same.1, same_engine.2 ∙ own.same.2, same_asked, same_tallies, same_queued, same_finished)
+    same_as : IsSameDomain before after
+    same_as = (same_engine.0 ∙ own.same.0, refl, same_engine.1 ∙ own.same.1, same_engine.2 ∙ own.same.2, same_tallies)
+
+    worked : (work : Standing → Standing → Type 0) → work (standing_of t.v) (standing_of t.meets.left) → Works work before.course after.course
+    worked work it = record { work_is = it; rest = λ i. record { standing = standing_of t.meets.left; asked = same_asked i; queued = same_queued i; finished = same_finished i } }
 
     -- all that is true of a domain in one hand
     met_after : (¬ IsRunning w.seat.seen → 0 < w.so_far → IsWanted (greatest raises) w) → HaveMet t.d' t.limits t.cpus' t.meets.left
@@ -457,14 +463,14 @@ module _ (t : Turn) where
     pub stepped_met : HaveMet t.d' t.limits t.cpus' t.meets.left
     stepped_met = met_after (events_of a) s.goes_on.others (own_answer v w a s.goes_on) s.step.answered.events (wanted_after raises root v w known still a s)
 
-    pub stepped_same : IsSame before after
+    pub stepped_same : IsSameDomain before after
     stepped_same = same_as (events_of a) s.goes_on.others (own_answer v w a s.goes_on) s.step.answered.events
 
-    pub stepped : Steps asked_before a (standing_of t.v) (standing_of t.meets.left)
+    pub stepped : Steps a before.course after.course
     stepped =
         let own = own_answer v w a s.goes_on in
-        step_alone s.goes_on.others s.needs.need asked_before a (standing_of t.v) (standing_of w) (standing_of t.meets.left)
-        (acted (events_of a) s.goes_on.others own s.step.answered.events).alone (need_is_asked raises root v w known still s.needs) (as_before (events_of a) s.goes_on.others own s.step.answered.events) s.step
+        worked (events_of a) s.goes_on.others own s.step.answered.events _ (step_alone s.goes_on.others s.needs.need asked_before a (standing_of t.v) (standing_of w) (standing_of t.meets.left)
+        (acted (events_of a) s.goes_on.others own s.step.answered.events).alone (need_is_asked raises root v w known still s.needs) (as_before (events_of a) s.goes_on.others own s.step.answered.events) s.step)
 
   -- Steps until there is an answer
 
@@ -472,16 +478,16 @@ module _ (t : Turn) where
     pub advanced_met : HaveMet t.d' t.limits t.cpus' t.meets.left
     advanced_met = met_after (events_of a) s.goes_on.others (own_answer v w a s.goes_on) s.answered.events (λ _ some. absurd (nothing_half w.so_far s.done some))
 
-    pub advanced_same : IsSame before after
+    pub advanced_same : IsSameDomain before after
     advanced_same = same_as (events_of a) s.goes_on.others (own_answer v w a s.goes_on) s.answered.events
 
-    pub advanced : Advances asked_before a (standing_of t.v) (standing_of t.meets.left)
+    pub advanced : Advances a before.course after.course
     advanced =
-        let own = own_answer v w a s.goes_on in record {
+        let own = own_answer v w a s.goes_on in worked (events_of a) s.goes_on.others own s.answered.events _ (record {
           between = map standing_of s.advances.between;
           through = through_alone raises root s.advances.between v w a (standing_of t.meets.left) s.advances.through known still (seen_alone (events_of a) s.goes_on.others own s.answered.events) (as_before (events_of a) s.goes_on.others own s.answered.events);
           answer = s.advances.answer;
-        }
+        })
 
   -- Nothing was done but a load of the need, by the engine or by another
 
@@ -504,15 +510,12 @@ module _ (t : Turn) where
     loaded_same = λ i. record {
       table = (same_engine.0 ∙ ap (λ e. e.domain) seat_kept) i;
       limits = t.limits;
-      standing = (as_before [] [] (own_none v w seat_kept) seen_kept ∙ ap standing_of rest) i;
-      asked = same_asked i;
       tallies = same_tallies i;
-      queued = same_queued i;
-      finished = same_finished i;
+      course = record { standing = (as_before [] [] (own_none v w seat_kept) seen_kept ∙ ap standing_of rest) i; asked = same_asked i; queued = same_queued i; finished = same_finished i };
     }
 
   module _ (x : FindsExhausted LoadsRoot v w) where
-    pub refused : IsAskedTooMuch asked_before (standing_of t.v)
+    pub refused : IsAskedTooMuch before.course
     refused = record {
       out = subst engine.IsOutOfPeriods (ap standing_of x.rest) x.out;
       asked = (let above = x.asked in let same = ap (λ (z : View). number_at_rest z.seat.seen) x.rest in let found = finds_asked raises root v w known still x.need x.load in omega (arith, above, same, found));
@@ -525,18 +528,18 @@ module _ (t : Turn) where
     pub started_met : HaveMet t.d' t.limits t.cpus' t.meets.left
     started_met = met_after (Start Engine ∷ []) s.others (own_start v w n s) s.starts.events (λ _ some. absurd (nothing_half w.so_far s.starts.done some))
 
-    pub started_same : IsSame before after
+    pub started_same : IsSameDomain before after
     started_same = same_as (Start Engine ∷ []) s.others (own_start v w n s) s.starts.events
 
-    pub started : Starts n (standing_of t.v) (standing_of t.meets.left)
+    pub started : Starts n before.course after.course
     started =
         let own = own_start v w n s in
         let alone = (acted (Start Engine ∷ []) s.others own s.starts.events).alone in
-        subst (λ (x : Standing). engine.Starts [] n (standing_of t.v) x) (sym (as_before (Start Engine ∷ []) s.others own s.starts.events)) (subst (λ l. engine.Starts l n (standing_of t.v) (standing_of w)) alone s.starts)
+        worked (Start Engine ∷ []) s.others own s.starts.events _ (subst (λ (x : Standing). engine.Starts [] n (standing_of t.v) x) (sym (as_before (Start Engine ∷ []) s.others own s.starts.events)) (subst (λ l. engine.Starts l n (standing_of t.v) (standing_of w)) alone s.starts))
 
 -- where nothing has changed
-pub unchanged : (d d' : SoloView) → d' ≡ d → IsSame d d'
-unchanged d d' same = (ap (λ (x : SoloView). x.table) same, ap (λ (x : SoloView). x.limits) same, ap (λ (x : SoloView). x.standing.processors) same, ap (λ (x : SoloView). x.standing.periods) same, ap (λ (x : SoloView). x.asked) same, ap (λ (x : SoloView). x.tallies) same, ap (λ (x : SoloView). x.queued) same, ap (λ (x : SoloView). x.finished) same)
+pub unchanged : (d d' : SoloView) → d' ≡ d → IsSameDomain d d'
+unchanged d d' same = subst (IsSameDomain d) (sym same) (refl, refl, refl, refl, refl)
 
 -- Each call that drives the engine leaves the processor what it was
 
@@ -574,9 +577,9 @@ poll_still d was now cookie h is_of = record { is_of = is_of; cpu = h.gives.note
 
 -- What the calls say: each is a turn
 
-not_started : (v : View) (refusal : scan.StartRefusal) → IsNoStart v refusal → StartsNone refusal (standing_of v)
-not_started v refusal_of.Running h = h
-not_started v refusal_of.Exhausted h = h
+not_started : (v : View) (c : Course) (refusal : scan.StartRefusal) → c.standing ≡ standing_of v → IsNoStart v refusal → StartsNone refusal c
+not_started v c refusal_of.Running same h = subst (λ (z : Standing). IsRunning z.history) (sym same) h
+not_started v c refusal_of.Exhausted same h = subst engine.IsOutOfPeriods (sym same) h
 
 pub not_busy : (was now : DomainCpu) (P : Progress → Type 0) (r : Result Progress AdvanceRefusal) → MatchResult r P (λ refusal. IsRefused was refusal now) → IsNotBusy r
 not_busy was now P (Ok a) h = tt
@@ -592,7 +595,7 @@ none_busy was now P (Err start.Exhausted) h = tt
 -- all that a call says: the domain is in one hand again, it is the same, and this
 pub record Says (d' : DomainView) (limits : Limits) (cpus' : List DomainCpu) (left : View) (seen seen' : SoloView) (it : Type 0) : Type 0 where
   pub met : HaveMet d' limits cpus' left
-  pub same : IsSame seen seen'
+  pub same : IsSameDomain seen seen'
   pub what : it
 
 module _ (d : DomainView) (limits : Limits) (cpus : List DomainCpu) (lay : View) (was now : DomainCpu) (d' : DomainView) (cpus' : List DomainCpu) (met : HaveMet d limits cpus lay) (is : was ≡ get_or cpus 0 was) (all : IsAllOf d' cpus') (meets : MeetsHere (set cpus 0 now) cpus')
@@ -617,75 +620,75 @@ module _ (d : DomainView) (limits : Limits) (cpus : List DomainCpu) (lay : View)
     say : (P : SoloView → SoloView → Type 0) → P (before t) (after t) → P seen seen'
     say P it = subst (λ (z : SoloView × SoloView). P z.0 z.1) (λ i. (sym told_first i, sym told_second i)) it
 
-  refused_for : (h : FindsExhaustedIn was now) (told : Result Progress Exhausted) → IsErr told → (P : Progress → Type 0) → MatchResult told P (λ _. IsAskedTooMuch seen.asked seen.standing × (seen' ≡ seen))
+  refused_for : (h : FindsExhaustedIn was now) (told : Result Progress Exhausted) → IsErr told → (P : Progress → Type 0) → MatchResult told P (λ _. IsAskedTooMuch seen.course × (seen' ≡ seen))
   refused_for h (Ok a) err P = absurd (true≢false (sym err))
   refused_for h (Err e) err P =
       let on = exhausted_goes_on (with_needs was.needs h.found) h.worked h.works in
       let x = works (a_turn _ h on) in
-      (say _ h on (λ a b. IsAskedTooMuch a.asked a.standing) (refused (a_turn _ h on) x), say _ h on (λ a b. b ≡ a) (loaded_same (a_turn _ h on) x.rest))
+      (say _ h on (λ a b. IsAskedTooMuch a.course) (refused (a_turn _ h on) x), say _ h on (λ a b. b ≡ a) (loaded_same (a_turn _ h on) x.rest))
 
-  exhausted_says : (h : FindsExhaustedIn was now) (told : Result Progress Exhausted) → IsErr told → (P : Progress → Type 0) → Says d' limits cpus' meets.left seen seen' (MatchResult told P (λ _. IsAskedTooMuch seen.asked seen.standing × (seen' ≡ seen)))
+  exhausted_says : (h : FindsExhaustedIn was now) (told : Result Progress Exhausted) → IsErr told → (P : Progress → Type 0) → Says d' limits cpus' meets.left seen seen' (MatchResult told P (λ _. IsAskedTooMuch seen.course × (seen' ≡ seen)))
   exhausted_says h told err P =
       let on = exhausted_goes_on (with_needs was.needs h.found) h.worked h.works in
       let t = a_turn _ h on in
       let x = works t in record {
         met = loaded_met t x.rest;
-        same = say _ h on IsSame (unchanged (before t) (after t) (loaded_same t x.rest));
+        same = say _ h on IsSameDomain (unchanged (before t) (after t) (loaded_same t x.rest));
         what = refused_for h told err P;
       }
 
   pub step_says : (r : Result Progress AdvanceRefusal) → MatchResult r (λ a. StepsIn was a now) (λ refusal. IsRefused was refusal now) → (told : Result Progress Exhausted) → IsToldAs r told
-      → Says d' limits cpus' meets.left seen seen' (MatchResult told (λ a. Steps seen.asked a seen.standing seen'.standing) (λ _. IsAskedTooMuch seen.asked seen.standing × (seen' ≡ seen)))
+      → Says d' limits cpus' meets.left seen seen' (MatchResult told (λ a. Steps a seen.course seen'.course) (λ _. IsAskedTooMuch seen.course × (seen' ≡ seen)))
   step_says (Ok a) h told same =
       let on = loaded_goes_on (with_needs was.needs h.found) h.worked h.works.needs in
       let t = a_turn _ h on in
       let s = works t in record {
         met = stepped_met t a s;
-        same = say _ h on IsSame (stepped_same t a s);
-        what = subst (λ x. MatchResult x (λ b. Steps seen.asked b seen.standing seen'.standing) (λ _. IsAskedTooMuch seen.asked seen.standing × (seen' ≡ seen))) (sym same) (say _ h on (λ x y. Steps x.asked a x.standing y.standing) (stepped t a s));
+        same = say _ h on IsSameDomain (stepped_same t a s);
+        what = subst (λ x. MatchResult x (λ b. Steps b seen.course seen'.course) (λ _. IsAskedTooMuch seen.course × (seen' ≡ seen))) (sym same) (say _ h on (λ x y. Steps a x.course y.course) (stepped t a s));
       }
   step_says (Err advance.Busy) h told same = absurd h
-  step_says (Err advance.Exhausted) h told same = exhausted_says h told same (λ a. Steps seen.asked a seen.standing seen'.standing)
+  step_says (Err advance.Exhausted) h told same = exhausted_says h told same (λ a. Steps a seen.course seen'.course)
 
   pub advance_says : (r : Result Progress AdvanceRefusal) → MatchResult r (λ a. AdvancesIn was a now) (λ refusal. IsRefused was refusal now) → (told : Result Progress Exhausted) → IsToldAs r told
-      → Says d' limits cpus' meets.left seen seen' (MatchResult told (λ a. Advances seen.asked a seen.standing seen'.standing) (λ _. IsAskedTooMuch seen.asked seen.standing × (seen' ≡ seen)))
+      → Says d' limits cpus' meets.left seen seen' (MatchResult told (λ a. Advances a seen.course seen'.course) (λ _. IsAskedTooMuch seen.course × (seen' ≡ seen)))
   advance_says (Ok a) h told same =
       let on = loaded_goes_on (with_needs was.needs h.found) h.worked h.works.needs in
       let t = a_turn _ h on in
       let s = works t in record {
         met = advanced_met t a s;
-        same = say _ h on IsSame (advanced_same t a s);
-        what = subst (λ x. MatchResult x (λ b. Advances seen.asked b seen.standing seen'.standing) (λ _. IsAskedTooMuch seen.asked seen.standing × (seen' ≡ seen))) (sym same) (say _ h on (λ x y. Advances x.asked a x.standing y.standing) (advanced t a s));
+        same = say _ h on IsSameDomain (advanced_same t a s);
+        what = subst (λ x. MatchResult x (λ b. Advances b seen.course seen'.course) (λ _. IsAskedTooMuch seen.course × (seen' ≡ seen))) (sym same) (say _ h on (λ x y. Advances a x.course y.course) (advanced t a s));
       }
   advance_says (Err advance.Busy) h told same = absurd h
-  advance_says (Err advance.Exhausted) h told same = exhausted_says h told same (λ a. Advances seen.asked a seen.standing seen'.standing)
+  advance_says (Err advance.Exhausted) h told same = exhausted_says h told same (λ a. Advances a seen.course seen'.course)
 
   module _ (refusal : scan.StartRefusal) (h : StartsNoneIn was refusal now) where
-    no_start_says : Says d' limits cpus' meets.left seen seen' (StartsNone refusal seen.standing × (seen' ≡ seen))
+    no_start_says : Says d' limits cpus' meets.left seen seen' (StartsNone refusal seen.course × (seen' ≡ seen))
     no_start_says =
         let on = no_start_goes_on (with_needs was.needs h.found) h.worked h.works.1 in
         let t = a_turn _ h on in
         let x = works t in
         let rest : w t ≡ record (v t) { needs = (w t).needs } = x.1 ∙ ap (λ (z : View). record (v t) { needs = z.needs }) (sym x.1) in record {
           met = loaded_met t rest;
-          same = say _ h on IsSame (unchanged (before t) (after t) (loaded_same t rest));
-          what = (say _ h on (λ a b. StartsNone refusal a.standing) (not_started (v t) refusal x.0), say _ h on (λ a b. b ≡ a) (loaded_same t rest));
+          same = say _ h on IsSameDomain (unchanged (before t) (after t) (loaded_same t rest));
+          what = (say _ h on (λ a b. StartsNone refusal a.course) (not_started (v t) (before t).course refusal refl x.0), say _ h on (λ a b. b ≡ a) (loaded_same t rest));
         }
 
   pub start_says : (r : Result ℕ StartRefusal) → MatchResult r (λ n. StartsIn was n now) (λ refusal. IsNotStarted was refusal now) → (told : Result ℕ scan.StartRefusal) → IsStartedAs r told
-      → Says d' limits cpus' meets.left seen seen' (MatchResult told (λ n. Starts n seen.standing seen'.standing) (λ e. StartsNone e seen.standing × (seen' ≡ seen)))
+      → Says d' limits cpus' meets.left seen seen' (MatchResult told (λ n. Starts n seen.course seen'.course) (λ e. StartsNone e seen.course × (seen' ≡ seen)))
   start_says (Ok n) h told same =
       let on = stays was.needs h.worked.needs h.works.needs in
       let t = a_turn _ h on in
       let s = works t in record {
         met = started_met t n s;
-        same = say _ h on IsSame (started_same t n s);
-        what = subst (λ x. MatchResult x (λ m. Starts m seen.standing seen'.standing) (λ e. StartsNone e seen.standing × (seen' ≡ seen))) (sym same) (say _ h on (λ x y. Starts n x.standing y.standing) (started t n s));
+        same = say _ h on IsSameDomain (started_same t n s);
+        what = subst (λ x. MatchResult x (λ m. Starts m seen.course seen'.course) (λ e. StartsNone e seen.course × (seen' ≡ seen))) (sym same) (say _ h on (λ x y. Starts n x.course y.course) (started t n s));
       }
   start_says (Err start.Busy) h told same = absurd h
   start_says (Err start.Running) h told same =
       let it = no_start_says refusal_of.Running h in
-      record { met = it.met; same = it.same; what = subst (λ x. MatchResult x (λ m. Starts m seen.standing seen'.standing) (λ e. StartsNone e seen.standing × (seen' ≡ seen))) (sym same) it.what }
+      record { met = it.met; same = it.same; what = subst (λ x. MatchResult x (λ m. Starts m seen.course seen'.course) (λ e. StartsNone e seen.course × (seen' ≡ seen))) (sym same) it.what }
   start_says (Err start.Exhausted) h told same =
       let it = no_start_says refusal_of.Exhausted h in
-      record { met = it.met; same = it.same; what = subst (λ x. MatchResult x (λ m. Starts m seen.standing seen'.standing) (λ e. StartsNone e seen.standing × (seen' ≡ seen))) (sym same) it.what }
+      record { met = it.met; same = it.same; what = subst (λ x. MatchResult x (λ m. Starts m seen.course seen'.course) (λ e. StartsNone e seen.course × (seen' ≡ seen))) (sym same) it.what }

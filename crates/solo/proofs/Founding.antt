@@ -14,7 +14,7 @@ use Rattle.calls.specs.Tallies.{queued_in, finished_in}
 use Rattle.domain.specs.Views.{DomainView, CpuView, IsOf}
 use Rattle.domain.specs.Making.{IsMade, idle_engine, new_cpu}
 use Rattle.domain.specs.Meetings.{IsAllOf}
-use Rattle.solo.specs.Calls.{IsNew}
+use Rattle.solo.specs.Calls.{IsNew, new_standing}
 use Rattle.solo.specs.Settling.{View, Holds, AreTogether, AskTogether, TurnTogether, TallyTogether, HaveMet}
 use Rattle.solo.specs.Insides.{queued_on, finished_on, seen_first}
 use Rattle.solo.proofs.Tallying.{none_counted}
@@ -93,4 +93,4 @@ module _ (limits : Limits) (processors : ℕ) (d : DomainView) (cpus : List CpuV
   finished = none_counted finished_in cpus (λ k c lt. ap (λ (z : CpuView). finished_in z.calls.processor z.calls.seen) (is_new k c lt)) ∙ ap (λ n. replicate n 0) made.count
 
   pub is_new_domain : IsNew limits processors (seen_first d limits cpus)
-  is_new_domain = subst (IsNew limits processors) (sym (first_seen d limits cpus engine 0 all.some turn_together.lying (λ c. ap (λ (z : CpuView). greatest z.needs.seen) (is_new 0 c all.some)))) (record { limits_are = refl; nothing_yet = refl; none_asked = refl; none_queued = queued; none_finished = finished; count = count })
+  is_new_domain = subst (IsNew limits processors) (sym (first_seen d limits cpus engine 0 all.some turn_together.lying (λ c. ap (λ (z : CpuView). greatest z.needs.seen) (is_new 0 c all.some)))) (record { limits_are = refl; nothing_yet = λ i. record { standing = new_standing limits processors; asked = 0; queued = queued i; finished = finished i }; count = count })

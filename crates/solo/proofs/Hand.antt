@@ -1,6 +1,6 @@
 -- All processors in one hand: how the domain is seen, and what an act of one of them leaves as it was.
 use Rattle.std.proofs.Common.{◌≡◌, ℕ, ◌<◌, List, [], ◌∷◌, length, get_or, set, refl, sym, ap, ◌∙◌, subst, arith, length-set, get_or-set_other, get_or-set_same}
-use Rattle.std.specs.Prelude.{Option, Some}
+use Rattle.std.specs.Prelude.{Option, Some, Result, Ok, Err, MatchResult}
 use mathlib.Core.Logic.{dite}
 use native.Mathlib.Decide.{ℕ_discrete}
 use Rattle.atomic_table.specs.Seated.{TableId}
@@ -8,12 +8,11 @@ use Rattle.sections.specs.declared.limits.Limits.{Limits}
 use Rattle.sections.specs.Calls.{IsSameCpu}
 use Rattle.funnel.specs.declared.view.Holder.TheVariants.{Processor}
 use Rattle.funnel.specs.Histories.{greatest}
-use Rattle.funnel.specs.Views.{FunnelView}
 use Rattle.funnel.specs.Calls.{IsSameSeat}
-use Rattle.desk.specs.BayCalls.{lies, holds}
-use Rattle.domain.specs.Views.{DomainView, CpuView, IsOf, with_cpu}
+use Rattle.desk.specs.BayCalls.{lies}
+use Rattle.domain.specs.Views.{DomainView, CpuView, IsOf, Stays}
+use Rattle.domain.specs.Acting.{Act, Acts}
 use Rattle.domain.specs.Meetings.{IsAllOf}
-use Rattle.domain.proofs.CallerLemmas.{seat_the_same, still_fits}
 use Rattle.solo.specs.Calls.{SoloView}
 use Rattle.solo.specs.Settling.{View, HaveMet}
 use Rattle.solo.specs.Insides.{queued_on, finished_on, seen_as, seen_with, seen_first}
@@ -40,8 +39,8 @@ module _ (d : DomainView) (limits : Limits) (cpus : List CpuView) (v : View) (me
     now_is = sym same ∙ is_seen
 
     -- a processor that the caller may name
-    pub is_inside : (p : ℕ) → p < now.standing.processors → p < length cpus
-    is_inside p small = let n = ap (λ (x : SoloView). x.standing.processors) now_is in let all = met.together.hold.all in omega (arith, small, n, all)
+    pub is_inside : (p : ℕ) → p < now.course.standing.processors → p < length cpus
+    is_inside p small = let n = ap (λ (x : SoloView). x.course.standing.processors) now_is in let all = met.together.hold.all in omega (arith, small, n, all)
 
     -- a token of the domain is one of the processor's domain
     pub is_its_own : (p : ℕ) (c : CpuView) (table : TableId) → p < length cpus → c ≡ get_or cpus p c → table ≡ now.table → table ≡ c.cpu.domain
@@ -61,25 +60,6 @@ pub record IsStill (d : DomainView) (was now : CpuView) : Type 0 where
   pub is_of : IsOf d now
   pub cpu : IsSameCpu was.cpu now.cpu
   pub needs : IsSameSeat was.needs now.needs
-
--- where it made no turn
-pub without_turn : (d : DomainView) (was now : CpuView) → IsOf d was → IsSameCpu was.cpu now.cpu → IsSameSeat was.needs now.needs → now.turn ≡ was.turn → now.calls ≡ was.calls → IsStill d was now
-without_turn d was now h cpu needs turn calls = record {
-  is_of = record {
-    domain = cpu.0 ∙ h.domain;
-    bay = ap (λ t. t.bay) turn ∙ h.bay;
-    home = ap (λ t. t.domain) turn ∙ h.home;
-    free = ap (λ t. holds t) turn ∙ h.free;
-    asks = (h.asks.0, needs.holder ∙ h.asks.1);
-    many = cpu.1 ∙ h.many;
-    fits = still_fits d was now cpu (seat_the_same was.calls now.calls calls) h.fits;
-    number = ap (λ t. t.number) turn ∙ (h.number ∙ sym cpu.3);
-    seats = ap (λ t. t.seats) turn ∙ h.seats;
-    words = ap (λ t. t.processors) calls ∙ h.words;
-  };
-  cpu = cpu;
-  needs = needs;
-}
 
 module _ (cpus : List CpuView) (p : ℕ) (now : CpuView) (inside : p < length cpus) where
   -- what holds of all, with one in the place of another
@@ -104,12 +84,68 @@ module _ (cpus : List CpuView) (p : ℕ) (now : CpuView) (inside : p < length cp
     leaves = all.leaves ∙ sym (length-set cpus p now);
   }
 
--- processor p did something, and nothing but its seat at the domain's words may have changed
-pub all_behind : (d : DomainView) (limits : Limits) (cpus : List CpuView) (v : View) (met : HaveMet d limits cpus v) (p : ℕ) (was now : CpuView) → p < length cpus → was ≡ get_or cpus p was → IsSameCpu was.cpu now.cpu → now ≡ with_cpu now.cpu was → IsAllOf d (set cpus p now)
-all_behind d limits cpus v met p was now inside is same rest =
-    all_still cpus p now inside d was met.all is (without_turn d was now (here d limits cpus v met p was inside is) same
-    (subst (λ (z : FunnelView). IsSameSeat was.needs z) (sym (ap (λ (x : CpuView). x.needs) rest)) (record { domain = refl; shape = refl; holder = refl })) (ap (λ (x : CpuView). x.turn) rest) (ap (λ (x : CpuView). x.calls) rest))
-
 -- the vector has as many
 pub in_vector : (n : ℕ) (items : List CpuView) (p : ℕ) → n ≡ length items → p < length items → p < n
 in_vector n items p same inside = omega (arith, same, inside)
+
+-- whatever the answer is
+pub either : {T E K : Type 0} {P : T → Type 0} {Q : E → Type 0} (r : Result T E) → MatchResult r P Q → ((x : T) → P x → K) → ((e : E) → Q e → K) → K
+either (Ok x) h ok err = ok x h
+either (Err e) h ok err = err e h
+
+-- A processor that is called
+
+module _ {d : DomainView} {limits : Limits} {cpus : List CpuView} {v : View} {s : SoloView} (met : HaveMet d limits cpus v) (seen : seen_first d limits cpus ≡ s) where
+  -- its table
+  pub own_table : s.table ≡ d.domain
+  own_table = ap (λ (x : SoloView). x.table) (now_is d limits cpus v met s seen) ∙ by_first cpus met
+    where
+      by_first : (all : List CpuView) → HaveMet d limits all v → v.seat.domain ≡ d.domain
+      by_first [] m = let some = m.all.some in absurd (omega (arith, some))
+      by_first (c ∷ rest) m = sym (m.together.hold.each 0 c m.all.some).domain ∙ (m.all.here 0 c m.all.some).domain
+
+  pub own_tallies : s.tallies ≡ d.tallies
+  own_tallies = ap (λ (x : SoloView). x.tallies) (now_is d limits cpus v met s seen)
+
+  pub first_small : 0 < s.course.standing.processors
+  first_small = let n = ap (λ (x : SoloView). x.course.standing.processors) (now_is d limits cpus v met s seen) in let all = met.together.hold.all in let some = met.all.some in omega (arith, n, all, some)
+
+  module _ {p : ℕ} (small : p < s.course.standing.processors) where
+    placed : p < length cpus
+    placed = is_inside d limits cpus v met s seen p small
+
+    pub in_items : (n : ℕ) → n ≡ length cpus → p < n
+    in_items n same = in_vector n cpus p same placed
+
+    -- the domain has as many processors as are in hand
+    pub in_domain : p < d.processors
+    in_domain = by_place cpus met placed
+      where
+        by_place : (all : List CpuView) → HaveMet d limits all v → p < length all → p < d.processors
+        by_place [] m inside = absurd (omega (arith, inside))
+        by_place (c ∷ rest) m inside = let many = (m.all.here p c inside).many in let count = m.all.count p c inside in omega (arith, many, count, inside)
+
+    -- there are at most 64, so that the number of each has room
+    pub in_room : p < 64
+    in_room = let inside = placed in let all = met.together.hold.all in let most = met.together.hold.count.1 in omega (arith, all, most, inside)
+
+    module _ {was : CpuView} (is : was ≡ get_or cpus p was) where
+      pub lent : IsOf d was
+      lent = here d limits cpus v met p was placed is
+
+      pub of_table : (table : TableId) → table ≡ s.table → table ≡ was.cpu.domain
+      of_table table own = is_its_own d limits cpus v met s seen p was table placed is own
+
+      pub of_number : (q : ℕ) → q ≡ p → q ≡ was.cpu.processor
+      of_number q same = same ∙ sym (ap (λ (x : CpuView). x.cpu.processor) is ∙ (met.together.hold.each p was placed).processor)
+
+      -- behind its call all are there
+      module _ {now : CpuView} where
+        pub all_stay : IsOf d now → IsSameCpu was.cpu now.cpu → IsSameSeat was.needs now.needs → IsAllOf d (set cpus p now)
+        all_stay of cpu needs = all_still cpus p now placed d was met.all is (record { is_of = of; cpu = cpu; needs = needs })
+
+        pub all_there : {q : ℕ} {a : Act} → Acts q a was now → IsOf d now → IsAllOf d (set cpus p now)
+        all_there did of = all_stay of did.events.same did.needs.same
+
+        pub all_here : {q : ℕ} {a : Act} → Acts q a was now → Stays was now → IsAllOf d (set cpus p now)
+        all_here did stays = all_there did (stays d lent)

@@ -4,9 +4,11 @@ mod Settled
 mod Needing
 mod Tallying
 mod Hand
-mod ProcessorActs
-mod CallbackActs
-mod BarrierActs
+mod Meeting
+mod Called
+mod Quiet
+mod Jobs
+mod Barriers
 mod CleanupActs
 mod EngineActs
 mod Founding

@@ -10,28 +10,12 @@ use Rattle.funnel.specs.Tree.{leaf_of}
 use Rattle.funnel.specs.Histories.{IsBeginning, greatest, raised_by}
 use Rattle.funnel.specs.Seats.{climb_from}
 use Rattle.funnel.specs.Views.{FunnelView}
-use Rattle.funnel.specs.Calls.{IsSameSeat}
 use Rattle.funnel.specs.Calls as funnel
 use Rattle.funnel.proofs.CallerLemmas.{begins_itself, begins_on, made_on, climb_is_own, climb_of_no_other, greatest_climbed}
 use Rattle.domain.specs.Views.{CpuView}
 use Rattle.solo.specs.Settling.{AskTogether}
+use Rattle.domain.specs.Acting.{GoesOn}
 use Rattle.solo.proofs.Settled.{HaveAsked}
-
--- the same seat has seen as much, or more, and raised these itself
-pub record GoesOn (raised : List Raise) (e f : FunnelView) : Type 0 where
-  pub same : IsSameSeat e f
-  pub since : IsBeginning e.seen f.seen
-  pub mine : f.mine ≡ e.mine ++ raised
-
-pub stays : (e f : FunnelView) → f ≡ e → GoesOn [] e f
-stays e f is = subst (λ (z : FunnelView). GoesOn [] e z) (sym is) record { same = record { domain = refl; shape = refl; holder = refl }; since = begins_itself e.seen; mine = sym (append-nil e.mine) }
-
-pub goes_further : (e f h : FunnelView) → GoesOn [] e f → GoesOn [] f h → GoesOn [] e h
-goes_further e f h a b = record {
-  same = record { domain = b.same.domain ∙ a.same.domain; shape = b.same.shape ∙ a.same.shape; holder = b.same.holder ∙ a.same.holder };
-  since = begins_on a.since b.since;
-  mine = b.mine ∙ (append-nil f.mine ∙ a.mine);
-}
 
 none_left : (rest : List Raise) → length rest ≡ 0 → rest ≡ []
 none_left [] none = refl
@@ -62,34 +46,3 @@ raised_here raises cpus together p inside was now is act on own others = record 
   others = others;
   since = λ d. subst (λ (z : CpuView). IsBeginning raises z.needs.seen) (sym (get_or-set_same cpus p now d inside)) (subst (λ l. IsBeginning l now.needs.seen) (ap (λ (z : CpuView). z.needs.seen) is ∙ together.seen p was inside) on.since);
 }
-
--- a call of processor p that asks for a number
-
-module _ (p n : ℕ) (v w : FunnelView) (level : Level) (holder : v.holder ≡ Processor p) (h : funnel.Asks n v level w) where
-  abbrev pub climb : List Raise
-  climb = climb_from p n (leaf_of v.shape.nodes p) level.nodes
-
-  asker_is : h.processor ≡ p
-  asker_is = ap number_of (sym h.asker ∙ holder)
-    where
-      number_of : Holder → ℕ
-      number_of (Processor q) = q
-      number_of Engine = p
-
-  pub climb_on : GoesOn climb v w
-  climb_on = record {
-    same = h.same;
-    since = begins_on h.since (record { rest = _ ∷ []; whole = h.seen });
-    mine = h.mine ∙ ap (λ q. v.mine ++ climb_from q n (leaf_of v.shape.nodes q) level.nodes) asker_is;
-  }
-
-  pub climb_own : raised_by p climb ≡ climb
-  climb_own = climb_is_own p n (leaf_of v.shape.nodes p) level.nodes
-
-  pub climb_others : (q : ℕ) → q ≢ p → raised_by q climb ≡ []
-  climb_others = climb_of_no_other p n (leaf_of v.shape.nodes p) level.nodes
-
-  pub greatest_asked : (before : List Raise) → greatest (before ++ climb) ≡ max (greatest before) n
-  greatest_asked before =
-      let some : level.nodes ≡ suc h.above = (let nodes = h.nodes in omega (arith, nodes)) in
-      ap (λ m. greatest (before ++ climb_from p n (leaf_of v.shape.nodes p) m)) some ∙ greatest_climbed p n (leaf_of v.shape.nodes p) h.above before

@@ -10,88 +10,15 @@ use Rattle.calls.specs.declared.view.Act.TheVariants.{Queue, Finish, LoadQueued,
 use Rattle.calls.specs.declared.view.Deed.{Deed}
 use Rattle.calls.specs.Tallies.{deed, queued_in, finished_by, finished_in, deeds_of, IsFinisher, AreFinishers, IsBeginning}
 use Rattle.calls.specs.Views.{CallSeatView}
-use Rattle.calls.specs.Calls.{IsSameSeat, Does}
+use Rattle.calls.specs.Calls.{Does}
 use Rattle.calls.specs.Barriers.{Loads, queued_loads, finished_loads}
 use Rattle.calls.specs.Meetings.{Covers, Accepts}
 use Rattle.calls.proofs.CallerLemmas.{begins_itself, begins_on, deeds_append, same_queued}
 use Rattle.domain.specs.Views.{DomainView, CpuView}
 use Rattle.domain.specs.Meetings.{TalliesMeet}
 use Rattle.solo.specs.Settling.{TallyTogether}
-
--- One processor's act
-
--- the same seat has seen as much, or more, and did these itself
-pub record Adds (act : List Deed) (s t : CallSeatView) : Type 0 where
-  pub same : IsSameSeat s t
-  pub since : IsBeginning s.seen t.seen
-  pub own : deeds_of s.processor t.seen ≡ deeds_of s.processor s.seen ++ act
-
--- nothing was done there
-pub adds_none : (s t : CallSeatView) → t ≡ s → Adds [] s t
-adds_none s t is = subst (λ (z : CallSeatView). Adds [] s z) (sym is) (record { same = (refl, refl, refl); since = begins_itself s.seen; own = sym (append-nil (deeds_of s.processor s.seen)) })
-
-pub adds_deed : (act : Act) (s t : CallSeatView) → Does act s t → Adds (deed s.processor act ∷ []) s t
-adds_deed act s t h =
-    let p : ℕ = s.processor in
-    let d : Deed = deed s.processor act in record {
-      same = h.same;
-      since = begins_on h.since (record { rest = d ∷ []; whole = h.seen });
-      own = ap (deeds_of p) h.seen ∙ (deeds_append p h.before (d ∷ []) ∙ (ap (λ l. l ++ deeds_of p (d ∷ [])) h.own ∙ ap (λ b. deeds_of p s.seen ++ cond b (d ∷ []) []) (eq-eqb p p refl)));
-    }
-
-pub adds_loads : (acts : List Act) (s t : CallSeatView) → Loads acts s t → Adds (map (deed s.processor) acts) s t
-adds_loads acts s t h = record { same = h.same; since = h.since; own = h.own }
-
--- a load that is no deed
-pub adds_seen : (other : List Deed) (s t : CallSeatView) → Covers s other t → Adds [] s t
-adds_seen other s t h = record {
-  same = (ap (λ (z : CallSeatView). z.tallies) h.same, ap (λ (z : CallSeatView). z.processors) h.same, ap (λ (z : CallSeatView). z.processor) h.same);
-  since = h.since;
-  own = h.own ∙ sym (append-nil (deeds_of s.processor s.seen));
-}
-
--- What it counts
-
--- no call was queued, and none finished
-pub record CountsNothing (act : List Deed) : Type 0 where
-  pub queued : (q : ℕ) → queued_in q act ≡ 0
-  pub finished : (q : ℕ) → finished_in q act ≡ 0
-
-pub nothing_done : CountsNothing []
-nothing_done = record { queued = λ q. refl; finished = λ q. refl }
-
-pub queued_loads_count : (by k : ℕ) (ns : List ℕ) → CountsNothing (map (deed by) (queued_loads k ns))
-queued_loads_count by k [] = nothing_done
-queued_loads_count by k (n ∷ ns) = let rest = queued_loads_count by (k + 1) ns in record { queued = λ q. let none = rest.queued q in omega (arith, none); finished = λ q. let none = rest.finished q in omega (arith, none) }
-
-pub finished_loads_count : (by k : ℕ) (ns : List ℕ) → CountsNothing (map (deed by) (finished_loads k ns))
-finished_loads_count by k [] = nothing_done
-finished_loads_count by k (n ∷ ns) = let rest = finished_loads_count by (k + 1) ns in record { queued = λ q. let none = rest.queued q in omega (arith, none); finished = λ q. let none = rest.finished q in omega (arith, none) }
-
-queued_append : (p : ℕ) (a b : List Deed) → queued_in p (a ++ b) ≡ queued_in p a + queued_in p b
-queued_append p [] b = omega arith
-queued_append p (x ∷ xs) b = let r = queued_append p xs b in omega (arith, r)
-
-finished_append : (p : ℕ) (a b : List Deed) → finished_in p (a ++ b) ≡ finished_in p a + finished_in p b
-finished_append p [] b = omega arith
-finished_append p (x ∷ xs) b = let r = finished_append p xs b in omega (arith, r)
-
-pub both_count : (a b : List Deed) → CountsNothing a → CountsNothing b → CountsNothing (a ++ b)
-both_count a b first second = record {
-  queued = λ q. let cut = queued_append q a b in let f = first.queued q in let s = second.queued q in omega (arith, cut, f, s);
-  finished = λ q. let cut = finished_append q a b in let f = first.finished q in let s = second.finished q in omega (arith, cut, f, s);
-}
-
--- a job was queued
-pub queued_one : (p : ℕ) → queued_in p (deed p Queue ∷ []) ≡ 1
-queued_one p = ap (λ b. (if b then 1 else 0) + 0) (eq-eqb p p refl)
-
--- a batch was finished
-pub finished_here : (by p n : ℕ) → finished_in p (deed by (Finish p n) ∷ []) ≡ n
-finished_here by p n = let one : finished_in p (deed by (Finish p n) ∷ []) ≡ n + 0 = ap (λ b. (if b then n else 0) + 0) (eq-eqb p p refl) in omega (arith, one)
-
-pub finished_else : (by p n q : ℕ) → q ≢ p → finished_in q (deed by (Finish p n) ∷ []) ≡ 0
-finished_else by p n q other = ap (λ b. (if b then n else 0) + 0) (ne_eqb p q (λ e. other (sym e)))
+use Rattle.domain.specs.Acting.{Adds}
+use Rattle.domain.proofs.CallerLemmas.{CountsNothing, queued_append, finished_append}
 
 -- Among all
 
@@ -207,14 +134,15 @@ module _ (count : ℕ → List Deed → ℕ) where
         count_at d' deeds' cpus' together' k (omega (arith, inside, long)) ∙ (same k inside ∙ sym (count_at d deeds cpus together k inside)))
 
     -- but for one
-    pub one_count : (p m : ℕ) → p < length cpus → count p deeds' ≡ m → ((k : ℕ) → k < length cpus → k ≢ p → count k deeds' ≡ count k deeds) → counts_on count cpus' ≡ set (counts_on count cpus) p m
-    one_count p m there here others =
+    pub one_count : (p m : ℕ) → (p < length cpus → count p deeds' ≡ m) → ((k : ℕ) → k < length cpus → k ≢ p → count k deeds' ≡ count k deeds) → counts_on count cpus' ≡ set (counts_on count cpus) p m
+    one_count p m here others =
         let old : length (counts_on count cpus) ≡ length cpus = length-map cpus count_for in
         ext_get_or 0 (counts_on count cpus') (set (counts_on count cpus) p m) (many ∙ sym (length-set (counts_on count cpus) p m ∙ old)) (λ k lt.
         let inside : k < length cpus = (let all = many in omega (arith, all, lt)) in
         let found : get_or (counts_on count cpus') k 0 ≡ count k deeds' = count_at d' deeds' cpus' together' k (omega (arith, inside, long)) in
         found ∙ dite (ℕ_discrete k p)
-        (λ same. subst (λ q. count q deeds' ≡ get_or (set (counts_on count cpus) p m) q 0) (sym same) (here ∙ sym (get_or-set_same (counts_on count cpus) p m 0 (omega (arith, there, old)))))
+        (λ same. let there : p < length cpus = omega (arith, inside, same) in
+        subst (λ q. count q deeds' ≡ get_or (set (counts_on count cpus) p m) q 0) (sym same) (here there ∙ sym (get_or-set_same (counts_on count cpus) p m 0 (omega (arith, there, old)))))
         (λ other. others k inside other ∙ (sym (count_at d deeds cpus together k inside) ∙ sym (get_or-set_other (counts_on count cpus) p k m 0 other))))
 
   -- where nothing is counted of any

@@ -21,11 +21,11 @@ finished_on cpus = map (λ c. finished_in c.calls.processor c.calls.seen) cpus
 
 -- with these tally words, this asked for, these calls, and this engine
 abbrev pub seen_as : TableId → Limits → ℕ → List ℕ → List ℕ → View → SoloView
-seen_as tallies limits asked queued finished v = record { table = v.seat.domain; limits = limits; standing = standing_of v; asked = asked; tallies = tallies; queued = queued; finished = finished }
+seen_as tallies limits asked queued finished v = record { table = v.seat.domain; limits = limits; tallies = tallies; course = record { standing = standing_of v; asked = asked; queued = queued; finished = finished } }
 
 -- a domain without processors or engine, which there is none of
 abbrev pub nobody : DomainView → Limits → SoloView
-nobody d limits = record { table = d.domain; limits = limits; standing = new_standing limits 0; asked = 0; tallies = d.tallies; queued = []; finished = [] }
+nobody d limits = record { table = d.domain; limits = limits; tallies = d.tallies; course = record { standing = new_standing limits 0; asked = 0; queued = []; finished = [] } }
 
 abbrev pub seen_with : DomainView → Limits → ℕ → List ℕ → List ℕ → Option View → SoloView
 seen_with d limits asked queued finished None = nobody d limits

@@ -1,3 +1,4 @@
+pub mod Courses
 pub mod Calls
 pub mod Settling
 pub mod Refusals

@@ -3,7 +3,7 @@ ghost use Rattle.std.specs.Prelude.{◌≡◌, ◌+◌, ◌^◌, ◌<◌, ◌≤
 ghost use Rattle.sections.specs.Limits.{AreInRange};
 ghost use Rattle.sections.specs.Calls.{IsNoCookie};
 ghost use Rattle.scan.specs.Standings.{index_now};
-ghost use Rattle.solo.specs.Calls.{IsSame, IsSameDomain, IsNew, IsNotMade, IsOf, IsReadingAt, IsLookNow, Begins, IsOutOfSections, Ends, GivesCookie, Asks, AsksFor, ReadsNumber, Starts, StartsNone, Steps, Advances, IsAskedTooMuch};
+ghost use Rattle.solo.specs.Calls.{IsSameDomain, IsNew, IsNotMade, IsOf, IsReadingAt, IsLookNow, Begins, IsOutOfSections, Ends, GivesCookie, Asks, AsksFor, ReadsNumber, Starts, StartsNone, Steps, Advances, IsAskedTooMuch};
 
 use crate::members::Members;
 use crate::refusals::{started, told};
@@ -58,7 +58,7 @@ impl<A: Allocator> Solo<A> {
 
     /// How many processors there are.
     pub fn processors(&self) -> u64
-        ensures { result ≡ self.now.standing.processors }
+        ensures { result ≡ self.now.course.standing.processors }
     {
         self.members.cpus.len() as u64
     }
@@ -73,7 +73,7 @@ impl<A: Allocator> Solo<A> {
 
     /// Reads the index word on a processor, as the first half of `srcu_read_lock` does.
     pub fn look(&mut self, rt: &impl Wait, processor: u64) -> Look
-        requires { processor < self.old.standing.processors }
+        requires { processor < self.old.course.standing.processors }
         ensures look { IsLookNow self.old result }
         ensures after { self.new ≡ self.old }
     {
@@ -91,11 +91,11 @@ impl<A: Allocator> Solo<A> {
         processor: u64,
         look: Look,
     ) -> Result<Reading, Exhausted>
-        requires processor { processor < self.old.standing.processors }
+        requires processor { processor < self.old.course.standing.processors }
         requires look { look.domain ≡ self.old.table }
-        ensures same { IsSame self.old self.new }
-        ensures section { MatchResult result (λ r. Begins self.old.limits processor look.index r.section self.old.standing self.new.standing × IsReadingAt self.old.table processor look.index r)
-            (λ _. IsOutOfSections self.old.limits processor look.index self.old.standing × (self.new ≡ self.old)) }
+        ensures same { IsSameDomain self.old self.new }
+        ensures section { MatchResult result (λ r. Begins self.old.limits processor look.index r.section self.old.course self.new.course × IsReadingAt self.old.table processor look.index r)
+            (λ _. IsOutOfSections self.old.limits processor look.index self.old.course × (self.new ≡ self.old)) }
     {
         let taken = self.members.cpus[processor as usize].enter(look);
         self.members.settle(rt);
@@ -104,10 +104,10 @@ impl<A: Allocator> Solo<A> {
 
     /// Begins a section of the current index on a processor (`srcu_read_lock`); refused as `enter` is.
     pub fn read_lock(&mut self, rt: &impl Wait, processor: u64) -> Result<Reading, Exhausted>
-        requires { processor < self.old.standing.processors }
-        ensures same { IsSame self.old self.new }
-        ensures section { MatchResult result (λ r. Begins self.old.limits processor (index_now self.old.standing) r.section self.old.standing self.new.standing × IsReadingAt self.old.table processor (index_now self.old.standing) r)
-            (λ _. IsOutOfSections self.old.limits processor (index_now self.old.standing) self.old.standing × (self.new ≡ self.old)) }
+        requires { processor < self.old.course.standing.processors }
+        ensures same { IsSameDomain self.old self.new }
+        ensures section { MatchResult result (λ r. Begins self.old.limits processor (index_now self.old.course.standing) r.section self.old.course self.new.course × IsReadingAt self.old.table processor (index_now self.old.course.standing) r)
+            (λ _. IsOutOfSections self.old.limits processor (index_now self.old.course.standing) self.old.course × (self.new ≡ self.old)) }
     {
         let taken = self.members.cpus[processor as usize].read_lock();
         self.members.settle(rt);
@@ -116,9 +116,9 @@ impl<A: Allocator> Solo<A> {
 
     /// Ends the reading's section, on its own processor (`srcu_read_unlock`).
     pub fn read_unlock(&mut self, rt: &impl Wait, reading: Reading)
-        requires { IsOf self.old.table self.old.standing.processors reading }
-        ensures same { IsSame self.old self.new }
-        ensures section { Ends reading.section reading.processor self.old.standing self.new.standing }
+        requires { IsOf self.old.table self.old.course.standing.processors reading }
+        ensures same { IsSameDomain self.old self.new }
+        ensures section { Ends reading.section reading.processor self.old.course self.new.course }
     {
         let processor = usize::from(reading.processor());
         self.members.cpus[processor].read_unlock(reading);
@@ -127,10 +127,10 @@ impl<A: Allocator> Solo<A> {
 
     /// Begins a section of the current index on a processor, that may end on any (`srcu_down_read`); refused as `enter` is.
     pub fn down_read(&mut self, rt: &impl Wait, processor: u64) -> Result<Held, Exhausted>
-        requires { processor < self.old.standing.processors }
-        ensures same { IsSame self.old self.new }
-        ensures section { MatchResult result (λ h. Begins self.old.limits processor (index_now self.old.standing) h.section self.old.standing self.new.standing × IsReadingAt self.old.table processor (index_now self.old.standing) h)
-            (λ _. IsOutOfSections self.old.limits processor (index_now self.old.standing) self.old.standing × (self.new ≡ self.old)) }
+        requires { processor < self.old.course.standing.processors }
+        ensures same { IsSameDomain self.old self.new }
+        ensures section { MatchResult result (λ h. Begins self.old.limits processor (index_now self.old.course.standing) h.section self.old.course self.new.course × IsReadingAt self.old.table processor (index_now self.old.course.standing) h)
+            (λ _. IsOutOfSections self.old.limits processor (index_now self.old.course.standing) self.old.course × (self.new ≡ self.old)) }
     {
         let taken = self.members.cpus[processor as usize].down_read();
         self.members.settle(rt);
@@ -139,10 +139,10 @@ impl<A: Allocator> Solo<A> {
 
     /// Ends a held section on a processor, wherever it was begun (`srcu_up_read`).
     pub fn up_read(&mut self, rt: &impl Wait, processor: u64, held: Held)
-        requires processor { processor < self.old.standing.processors }
+        requires processor { processor < self.old.course.standing.processors }
         requires held { held.domain ≡ self.old.table }
-        ensures same { IsSame self.old self.new }
-        ensures section { Ends held.section processor self.old.standing self.new.standing }
+        ensures same { IsSameDomain self.old self.new }
+        ensures section { Ends held.section processor self.old.course self.new.course }
     {
         self.members.cpus[processor as usize].up_read(held);
         self.members.settle(rt);
@@ -151,9 +151,9 @@ impl<A: Allocator> Solo<A> {
     /// The number of the cookie that a processor is given now (`get_state_synchronize_srcu`): at most 2^61, so that it is a
     /// [`Number`] itself.
     pub fn cookie(&mut self, rt: &impl Wait, processor: u64) -> u64
-        requires { processor < self.old.standing.processors }
-        ensures same { IsSame self.old self.new }
-        ensures cookie { GivesCookie processor result self.old.standing self.new.standing }
+        requires { processor < self.old.course.standing.processors }
+        ensures same { IsSameDomain self.old self.new }
+        ensures cookie { GivesCookie processor result self.old.course self.new.course }
         ensures small { result ≤ 2 ^ 61 }
     {
         let cookie = self.members.cpus[processor as usize].cookie();
@@ -164,9 +164,9 @@ impl<A: Allocator> Solo<A> {
     /// Gives a processor a cookie of now, as `cookie` does, and asks for a grace period up to it, from the processor's leaf
     /// of the tree upward (`start_poll_synchronize_srcu`). The engine starts one once it finds the need.
     pub fn ask(&mut self, rt: &impl Wait, processor: u64) -> u64
-        requires { processor < self.old.standing.processors }
+        requires { processor < self.old.course.standing.processors }
         ensures same { IsSameDomain self.old self.new }
-        ensures asks { AsksFor processor result self.old self.new }
+        ensures asks { AsksFor processor result self.old.course self.new.course }
         ensures small { result ≤ 2 ^ 61 }
     {
         let cpu = &mut self.members.cpus[processor as usize];
@@ -178,9 +178,9 @@ impl<A: Allocator> Solo<A> {
     /// Whether the cookie of this number is done, as a processor finds it (`poll_state_synchronize_srcu`); refused,
     /// with nothing done, where the number is no multiple of four.
     pub fn poll(&mut self, rt: &impl Wait, processor: u64, cookie: u64) -> Result<bool, NotACookie>
-        requires { processor < self.old.standing.processors }
-        ensures same { IsSame self.old self.new }
-        ensures answer { MatchResult result (λ done. Asks processor cookie done self.old.standing self.new.standing)
+        requires { processor < self.old.course.standing.processors }
+        ensures same { IsSameDomain self.old self.new }
+        ensures answer { MatchResult result (λ done. Asks processor cookie done self.old.course self.new.course)
             (λ _. IsNoCookie cookie × (self.new ≡ self.old)) }
     {
         let answer = self.members.cpus[processor as usize].poll_number(cookie);
@@ -191,8 +191,8 @@ impl<A: Allocator> Solo<A> {
     /// Starts a grace period, whether it is asked for or not, and answers the number from then on (`srcu_gp_start`).
     /// It is refused, with nothing done, where one runs or as many have ended as may.
     pub fn start(&mut self, rt: &impl Wait) -> Result<Number, StartRefusal>
-        ensures same { IsSame self.old self.new }
-        ensures start { MatchResult result (λ n. Starts n self.old.standing self.new.standing) (λ e. StartsNone e self.old.standing × (self.new ≡ self.old)) }
+        ensures same { IsSameDomain self.old self.new }
+        ensures start { MatchResult result (λ n. Starts n self.old.course self.new.course) (λ e. StartsNone e self.old.course × (self.new ≡ self.old)) }
     {
         let answer = self.members.domain.start(rt, &mut self.members.cpus[0]);
         self.members.settle(rt);
@@ -202,9 +202,9 @@ impl<A: Allocator> Solo<A> {
     /// Has the engine make steps until there is an answer (`srcu_advance_state`). It is refused, with nothing done but a
     /// load of the need, where a grace period is asked for and as many have ended as may.
     pub fn advance(&mut self, rt: &impl Wait) -> Result<Progress, NoMorePeriods>
-        ensures same { IsSame self.old self.new }
-        ensures answer { MatchResult result (λ a. Advances self.old.asked a self.old.standing self.new.standing)
-            (λ _. IsAskedTooMuch self.old.asked self.old.standing × (self.new ≡ self.old)) }
+        ensures same { IsSameDomain self.old self.new }
+        ensures answer { MatchResult result (λ a. Advances a self.old.course self.new.course)
+            (λ _. IsAskedTooMuch self.old.course × (self.new ≡ self.old)) }
     {
         let answer = self.members.domain.advance(rt, &mut self.members.cpus[0]);
         self.members.settle(rt);
@@ -213,9 +213,9 @@ impl<A: Allocator> Solo<A> {
 
     /// Has the engine make one step; refused as `advance` is.
     pub fn step(&mut self, rt: &impl Wait) -> Result<Progress, NoMorePeriods>
-        ensures same { IsSame self.old self.new }
-        ensures answer { MatchResult result (λ a. Steps self.old.asked a self.old.standing self.new.standing)
-            (λ _. IsAskedTooMuch self.old.asked self.old.standing × (self.new ≡ self.old)) }
+        ensures same { IsSameDomain self.old self.new }
+        ensures answer { MatchResult result (λ a. Steps a self.old.course self.new.course)
+            (λ _. IsAskedTooMuch self.old.course × (self.new ≡ self.old)) }
     {
         let answer = self.members.domain.step(rt, &mut self.members.cpus[0]);
         self.members.settle(rt);
@@ -224,7 +224,7 @@ impl<A: Allocator> Solo<A> {
 
     /// The greatest number that was asked for (`srcu_gp_seq_needed`), 0 if none, as processor 0 finds it at the root.
     pub fn need(&mut self, rt: &impl Wait) -> Number
-        ensures value { result ≡ self.old.asked }
+        ensures value { result ≡ self.old.course.asked }
         ensures after { self.new ≡ self.old }
     {
         let need = self.members.domain.need(&mut self.members.cpus[0]);
@@ -234,7 +234,7 @@ impl<A: Allocator> Solo<A> {
 
     /// The current index, as processor 0 finds it.
     pub fn index(&mut self, rt: &impl Wait) -> Index
-        ensures value { result ≡ index_now self.old.standing }
+        ensures value { result ≡ index_now self.old.course.standing }
         ensures after { self.new ≡ self.old }
     {
         let look = self.members.cpus[0].look();
@@ -245,8 +245,8 @@ impl<A: Allocator> Solo<A> {
     /// The number, as processor 0 loads it: at most 2^61 - 4, so that [`snap`](sseq::snap) may be asked of it. The load
     /// is a note of the cookie of now.
     pub fn number(&mut self, rt: &impl Wait) -> Number
-        ensures same { IsSame self.old self.new }
-        ensures number { ReadsNumber result self.old.standing self.new.standing }
+        ensures same { IsSameDomain self.old self.new }
+        ensures number { ReadsNumber result self.old.course self.new.course }
         ensures small { result + 4 ≤ 2 ^ 61 }
     {
         let number = self.members.cpus[0].number();

@@ -1,7 +1,9 @@
 //! Numbers and cookies on a processor, each call as that of `sections`.
 ghost use Rattle.std.specs.Prelude.{◌≡◌, IsTrue, MatchResult};
+ghost use Rattle.sseq.specs.Numbers.{cookie_at};
 ghost use Rattle.sections.specs.Calls.{Notes, GivesCookie, Asks, IsNoCookie, AllClosed};
 ghost use Rattle.domain.specs.Views.{Stays, with_cpu};
+ghost use Rattle.domain.specs.Acting.{loads, notes, asks_whether, ActsAs};
 
 use super::Cpu;
 use sections::{Cookie, NotACookie};
@@ -16,6 +18,7 @@ impl<J, A: Allocator> Cpu<J, A> {
         ensures notes { Notes result self.old.cpu self.new.cpu }
         ensures rest { self.new ≡ with_cpu self.new.cpu self.old }
         ensures stays { Stays self.old self.new }
+        ensures acts { ActsAs (notes (cookie_at result)) self.old self.new }
     {
         self.cpu.number()
     }
@@ -26,6 +29,7 @@ impl<J, A: Allocator> Cpu<J, A> {
         ensures gives { GivesCookie self.old.cpu self.new.cpu result }
         ensures rest { self.new ≡ with_cpu self.new.cpu self.old }
         ensures stays { Stays self.old self.new }
+        ensures acts { ActsAs (notes result.number) self.old self.new }
     {
         self.cpu.cookie()
     }
@@ -39,6 +43,7 @@ impl<J, A: Allocator> Cpu<J, A> {
         ensures closed { IsTrue result → AllClosed cookie.old.seen self.new.cpu.seen }
         ensures rest { self.new ≡ with_cpu self.new.cpu self.old }
         ensures stays { Stays self.old self.new }
+        ensures acts { ActsAs (asks_whether cookie.old.number result) self.old self.new }
     {
         self.cpu.poll(cookie)
     }
@@ -48,6 +53,7 @@ impl<J, A: Allocator> Cpu<J, A> {
         ensures asks { MatchResult result (λ b. Asks self.old.cpu.seen self.old.cpu.changes cookie b self.old.cpu self.new.cpu) (λ _. IsNoCookie cookie × (self.new.cpu ≡ self.old.cpu)) }
         ensures rest { self.new ≡ with_cpu self.new.cpu self.old }
         ensures stays { Stays self.old self.new }
+        ensures acts { MatchResult result (λ b. ActsAs (asks_whether cookie b) self.old self.new) (λ _. ActsAs loads self.old self.new) }
     {
         self.cpu.poll_number(cookie)
     }

@@ -4,6 +4,7 @@ ghost use Rattle.onedom.specs.Histories.{index_of};
 ghost use Rattle.sections.specs.Words.{open_readings};
 ghost use Rattle.sections.specs.Calls.{Looks, Enters, ReadLocks, DownReads, Unlocks, HasBegun, LooksInVain, IsExhausted, IsHere};
 ghost use Rattle.domain.specs.Views.{Stays, with_cpu};
+ghost use Rattle.domain.specs.Acting.{loads, begins, ends, ActsAs};
 
 use super::Cpu;
 use sections::{Exhausted, Held, Look, Reading};
@@ -29,6 +30,7 @@ impl<J, A: Allocator> Cpu<J, A> {
         ensures looks { Looks self.old.cpu self.new.cpu result }
         ensures rest { self.new ≡ with_cpu self.new.cpu self.old }
         ensures stays { Stays self.old self.new }
+        ensures acts { ActsAs loads self.old self.new }
     {
         self.cpu.look()
     }
@@ -40,6 +42,7 @@ impl<J, A: Allocator> Cpu<J, A> {
         ensures enters { MatchResult result (λ r. Enters self.old.cpu look self.new.cpu r) (λ _. IsExhausted self.old.cpu look.index × (self.new.cpu ≡ self.old.cpu)) }
         ensures rest { self.new ≡ with_cpu self.new.cpu self.old }
         ensures stays { Stays self.old self.new }
+        ensures acts { MatchResult result (λ r. ActsAs (begins r.section r.index) self.old self.new) (λ _. ActsAs loads self.old self.new) }
     {
         self.cpu.enter(look)
     }
@@ -50,6 +53,7 @@ impl<J, A: Allocator> Cpu<J, A> {
         ensures locks { MatchResult result (λ r. ReadLocks self.old.cpu self.new.cpu r) (λ _. LooksInVain self.old.cpu self.new.cpu) }
         ensures rest { self.new ≡ with_cpu self.new.cpu self.old }
         ensures stays { Stays self.old self.new }
+        ensures acts { MatchResult result (λ r. ActsAs (begins r.section r.index) self.old self.new) (λ _. ActsAs loads self.old self.new) }
     {
         self.cpu.read_lock()
     }
@@ -62,6 +66,7 @@ impl<J, A: Allocator> Cpu<J, A> {
         ensures index { index_of reading.section self.new.cpu.seen ≡ reading.index }
         ensures rest { self.new ≡ with_cpu self.new.cpu self.old }
         ensures stays { Stays self.old self.new }
+        ensures acts { ActsAs (ends reading.section) self.old self.new }
     {
         self.cpu.read_unlock(reading);
     }
@@ -71,6 +76,7 @@ impl<J, A: Allocator> Cpu<J, A> {
         ensures downs { MatchResult result (λ h. DownReads self.old.cpu self.new.cpu h) (λ _. LooksInVain self.old.cpu self.new.cpu) }
         ensures rest { self.new ≡ with_cpu self.new.cpu self.old }
         ensures stays { Stays self.old self.new }
+        ensures acts { MatchResult result (λ h. ActsAs (begins h.section h.index) self.old self.new) (λ _. ActsAs loads self.old self.new) }
     {
         self.cpu.down_read()
     }
@@ -82,6 +88,7 @@ impl<J, A: Allocator> Cpu<J, A> {
         ensures index { index_of held.section self.new.cpu.seen ≡ held.index }
         ensures rest { self.new ≡ with_cpu self.new.cpu self.old }
         ensures stays { Stays self.old self.new }
+        ensures acts { ActsAs (ends held.section) self.old self.new }
     {
         self.cpu.up_read(held);
     }

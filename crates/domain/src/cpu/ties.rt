@@ -3,6 +3,7 @@ ghost use Rattle.std.specs.Prelude.{◌≡◌, ◌≤◌};
 ghost use Rattle.onedom.specs.Histories.{IsBeginning};
 ghost use Rattle.sections.specs.Calls.{Hears, Accepts, Ties};
 ghost use Rattle.domain.specs.Views.{Stays, with_cpu};
+ghost use Rattle.domain.specs.Acting.{loads, ActsAs};
 
 use super::Cpu;
 use std::alloc::Allocator;
@@ -14,6 +15,7 @@ impl<J, A: Allocator> Cpu<J, A> {
         ensures hears { Hears self.old.cpu other.old.cpu.seen other.old.cpu.changes self.new.cpu }
         ensures rest { self.new ≡ with_cpu self.new.cpu self.old }
         ensures stays { Stays self.old self.new }
+        ensures acts { ActsAs loads self.old self.new }
         ensures other { other.new ≡ other.old }
     {
         self.cpu.cover(&mut other.cpu);
@@ -28,6 +30,7 @@ impl<J, A: Allocator> Cpu<J, A> {
         ensures other { Accepts other.old.cpu self.old.cpu.seen self.old.cpu.changes other.new.cpu }
         ensures rest { other.new ≡ with_cpu other.new.cpu other.old }
         ensures stays { Stays other.old other.new }
+        ensures acts { ActsAs loads other.old other.new }
     {
         self.cpu.admit(&mut other.cpu);
     }
@@ -41,6 +44,8 @@ impl<J, A: Allocator> Cpu<J, A> {
         ensures stays { Stays self.old self.new }
         ensures others { other.new ≡ with_cpu other.new.cpu other.old }
         ensures stays_too { Stays other.old other.new }
+        ensures acts { ActsAs loads self.old self.new }
+        ensures acts_too { ActsAs loads other.old other.new }
     {
         self.cpu.tie(&mut other.cpu);
     }

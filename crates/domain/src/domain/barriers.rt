@@ -5,6 +5,7 @@ ghost use Rattle.calls.specs.Barriers.{IsQueued, IsDone, Starts, CoversAll, IsBe
 ghost use Rattle.domain.specs.Views.{IsOf, with_calls};
 ghost use Rattle.domain.specs.Waiting.{HasNoneOpen};
 ghost use Rattle.domain.specs.Barriers.{IsTicketOf, IsReceiptOf, PollsUntilDone};
+ghost use Rattle.domain.specs.Acting.{loads, ActsAs};
 
 use crate::cpu::Cpu;
 use crate::domain::Domain;
@@ -20,6 +21,7 @@ impl<J, A: Allocator + Copy> Domain<J, A> {
         requires { IsOf self.now cpu.old }
         ensures here { IsOf self.now cpu.new }
         ensures starts { MatchResult result (λ ticket. Starts cpu.old.calls ticket cpu.new.calls) (λ _. cpu.new ≡ cpu.old) }
+        ensures acts { ActsAs loads cpu.old cpu.new }
         ensures same { IsSameSeat cpu.old.calls cpu.new.calls }
         ensures rest { cpu.new ≡ with_calls cpu.new.calls cpu.old }
         ensures ticket { IfOk result (λ ticket. IsTicketOf self.now ticket) }
@@ -41,6 +43,7 @@ impl<J, A: Allocator> Domain<J, A> {
         requires ticket { IsTicketOf self.now ticket.now }
         ensures here { IsOf self.now cpu.new }
         ensures polls { Polls ticket.now cpu.old.calls result cpu.new.calls }
+        ensures acts { ActsAs loads cpu.old cpu.new }
         ensures same { IsSameSeat cpu.old.calls cpu.new.calls }
         ensures rest { cpu.new ≡ with_calls cpu.new.calls cpu.old }
         ensures done { MatchBool result (IsDone ticket.now cpu.new.calls.seen) (IsBehind ticket.now cpu.old.calls cpu.new.calls) }
@@ -59,6 +62,7 @@ impl<J, A: Allocator> Domain<J, A> {
         requires receipt { IsReceiptOf self.now receipt.old }
         ensures here { IsOf self.now cpu.new }
         ensures hears { Hears receipt.old cpu.old.calls cpu.new.calls }
+        ensures acts { ActsAs loads cpu.old cpu.new }
         ensures same { IsSameSeat cpu.old.calls cpu.new.calls }
         ensures rest { cpu.new ≡ with_calls cpu.new.calls cpu.old }
         ensures receipt { receipt.new ≡ receipt.old }
@@ -80,6 +84,7 @@ impl<J, A: Allocator> Domain<J, A> {
         requires none { HasNoneOpen cpu.old }
         ensures here { IsOf self.now cpu.new }
         ensures waits { PollsUntilDone ticket.now cpu.old.calls cpu.new.calls }
+        ensures acts { ActsAs loads cpu.old cpu.new }
         ensures same { IsSameSeat cpu.old.calls cpu.new.calls }
         ensures rest { cpu.new ≡ with_calls cpu.new.calls cpu.old }
         ensures still_none { HasNoneOpen cpu.new }

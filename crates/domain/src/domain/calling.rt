@@ -7,6 +7,7 @@ ghost use Rattle.calls.specs.Meetings.{SeesOut};
 ghost use Rattle.calls.specs.Calls.{IsSameSeat, IsOfProcessor, TakesIn, InvokesIn, AreHanded, FinishesIn, IsListOf};
 ghost use Rattle.domain.specs.Views.{IsOf, IsSameProcessor, callbacks_of, with_cpu, with_calls};
 ghost use Rattle.domain.specs.Calling.{CallsIn, RefusesCall, MayFinish};
+ghost use Rattle.domain.specs.Acting.{loads, asks_how_far, asks_for, finishes, ActsAs, QueuesNone};
 
 use crate::cpu::Cpu;
 use crate::domain::Domain;
@@ -31,6 +32,9 @@ impl<J: Drop, A: Allocator + Copy> Domain<J, A> {
         ensures calls { MatchResult result
             (λ receipt. CallsIn self.now cpu.old job receipt cpu.new)
             (λ refused. RefusesCall self.now cpu.old job refused cpu.new) }
+        ensures acts { MatchResult result
+            (λ receipt. ActsAs (asks_for receipt.cookie.number 1) cpu.old cpu.new)
+            (λ refused. QueuesNone refused.1 cpu.old cpu.new) }
     {
         let receipt = self.calls.call(rt, &mut cpu.cpu, &mut cpu.calls, job)?;
         // It is asked for behind the queueing, and by the number of the job's own cookie: for a smaller one the engine
@@ -55,6 +59,7 @@ impl<J: Drop, A: Allocator + Copy> Domain<J, A> {
         ensures takes { MatchResult result
             (λ taken. TakesIn (callbacks_of self.now) processor max cpu.old.cpu taken cpu.new.cpu)
             (λ _. InvokesIn J (callbacks_of self.now) processor × (cpu.new.cpu ≡ cpu.old.cpu)) }
+        ensures acts { MatchResult result (λ _. ActsAs (asks_how_far cpu.new.cpu.changes) cpu.old cpu.new) (λ _. ActsAs loads cpu.old cpu.new) }
         ensures same { IsSameCpu cpu.old.cpu cpu.new.cpu }
         ensures rest { cpu.new ≡ with_cpu cpu.new.cpu cpu.old }
         ensures batch { IfOk result (λ taken. IfSome taken (λ batch. IsOfProcessor (callbacks_of self.now) processor batch)) }
@@ -77,6 +82,7 @@ impl<J: Drop, A: Allocator + Copy> Domain<J, A> {
         requires batch { batch.old.tallies ≡ self.now.tallies }
         ensures here { IsOf self.now cpu.new }
         ensures out { SeesOut batch.old cpu.old.calls cpu.new.calls }
+        ensures acts { ActsAs loads cpu.old cpu.new }
         ensures rest { cpu.new ≡ with_calls cpu.new.calls cpu.old }
         ensures batch { batch.new ≡ batch.old }
     {
@@ -90,6 +96,7 @@ impl<J: Drop, A: Allocator + Copy> Domain<J, A> {
         requires batch { MayFinish self.now batch }
         ensures here { IsOf self.now cpu.new }
         ensures finishes { FinishesIn (callbacks_of self.now) cpu.old.calls batch cpu.new.calls }
+        ensures acts { ActsAs (finishes batch.processor batch.count) cpu.old cpu.new }
         ensures same { IsSameSeat cpu.old.calls cpu.new.calls }
         ensures rest { cpu.new ≡ with_calls cpu.new.calls cpu.old }
     {

@@ -1,6 +1,7 @@
 //! Asking for grace periods.
 ghost use Rattle.domain.specs.Views.{IsOf};
 ghost use Rattle.domain.specs.Waiting.{StartsPoll, LoadsNeed};
+ghost use Rattle.domain.specs.Acting.{loads, asks_for, ActsAs};
 
 use crate::cpu::Cpu;
 use crate::domain::Domain;
@@ -15,6 +16,7 @@ impl<J, A: Allocator> Domain<J, A> {
         requires { IsOf self.now cpu.old }
         ensures here { IsOf self.now cpu.new }
         ensures starts { StartsPoll cpu.old result cpu.new }
+        ensures acts { ActsAs (asks_for result.number 0) cpu.old cpu.new }
     {
         let cookie = cpu.cpu.cookie();
         // It is asked for behind the cookie's note, and by the cookie's number, not by one of now: a period that ended
@@ -29,6 +31,7 @@ impl<J, A: Allocator> Domain<J, A> {
         requires { IsOf self.now cpu.old }
         ensures here { IsOf self.now cpu.new }
         ensures need { LoadsNeed cpu.old result cpu.new }
+        ensures acts { ActsAs loads cpu.old cpu.new }
     {
         cpu.needs.root_need()
     }

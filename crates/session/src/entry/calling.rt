@@ -23,7 +23,7 @@ pub(super) fn finish_all<'a, A: Allocator>(
     mut jobs: Vec<Jobs<&'a A>, &'a A>,
 )
     requires { AreJobsOf domain.old jobs.items }
-    ensures { IsSameDomain domain.old domain.new × (domain.new.standing ≡ domain.old.standing) }
+    ensures { IsSameDomain domain.old domain.new × (domain.new.course.standing ≡ domain.old.course.standing) }
 {
     while let Some(last) = jobs.pop() {
         if let Some(batch) = last.close() {
@@ -42,7 +42,7 @@ impl<'a, A: Allocator> Entry<&'a A> {
         processor: u64,
         name: Name,
     ) -> Result<Reply, AllocError>
-        requires { processor < self.old.state.standing.processors }
+        requires { processor < self.old.state.course.standing.processors }
         ensures limits { self.new.limits ≡ self.old.limits }
         ensures name { self.new.state.name ≡ self.old.state.name }
         ensures does { IfOk result (λ r. Does self.old.limits (Act.Call processor name) self.old.state r self.new.state) }
@@ -66,7 +66,7 @@ impl<'a, A: Allocator> Entry<&'a A> {
 
     /// Takes what is ready on a processor, and finishes it at once; refused, with nothing done, where a batch is out.
     pub(super) fn run(&mut self, rt: &impl Wait, processor: u64) -> Reply
-        requires { processor < self.old.state.standing.processors }
+        requires { processor < self.old.state.course.standing.processors }
         ensures limits { self.new.limits ≡ self.old.limits }
         ensures name { self.new.state.name ≡ self.old.state.name }
         ensures does { Does self.old.limits (Act.Run processor) self.old.state result self.new.state }
@@ -90,7 +90,7 @@ impl<'a, A: Allocator> Entry<&'a A> {
 
     /// Takes what is ready on a processor. The batch stays out; none is where nothing was ready. It is refused as `run` is.
     pub(super) fn take_batch(&mut self, rt: &impl Wait, processor: u64) -> Reply
-        requires { processor < self.old.state.standing.processors }
+        requires { processor < self.old.state.course.standing.processors }
         ensures limits { self.new.limits ≡ self.old.limits }
         ensures name { self.new.state.name ≡ self.old.state.name }
         ensures does { Does self.old.limits (Act.Batch processor) self.old.state result self.new.state }
@@ -114,7 +114,7 @@ impl<'a, A: Allocator> Entry<&'a A> {
 
     /// Finishes the batch of a processor that is out; refused, with nothing done, where none is.
     pub(super) fn finish_batch(&mut self, rt: &impl Wait, processor: u64) -> Reply
-        requires { processor < self.old.state.standing.processors }
+        requires { processor < self.old.state.course.standing.processors }
         ensures limits { self.new.limits ≡ self.old.limits }
         ensures name { self.new.state.name ≡ self.old.state.name }
         ensures does { Does self.old.limits (Act.Finish processor) self.old.state result self.new.state }
@@ -130,7 +130,7 @@ impl<'a, A: Allocator> Entry<&'a A> {
 
     /// How the jobs of a processor wait; refused where the domain has no memory.
     pub(super) fn segs(&self, rt: &impl Wait, processor: u64) -> Reply
-        requires { processor < self.now.state.standing.processors }
+        requires { processor < self.now.state.course.standing.processors }
         ensures { Does self.now.limits (Act.Segs processor) self.now.state result self.now.state }
     {
         let Ok(lens) = self.domain.lens(rt, processor) else {

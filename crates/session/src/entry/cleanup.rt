@@ -1,7 +1,8 @@
 //! Taking a domain down.
 ghost use Rattle.std.specs.Prelude.{◌≡◌, MatchResult};
 ghost use Rattle.session.specs.Entries.{AreClosed, AreSpent};
-ghost use Rattle.session.specs.Scripts.{IsTakenDown, IsInUse};
+ghost use Rattle.solo.specs.Cleanup.{IsTakenDown};
+ghost use Rattle.session.specs.Scripts.{IsInUse};
 
 use super::Entry;
 use crate::jobs::Jobs;
@@ -50,8 +51,8 @@ impl<'a, A: Allocator> Entry<&'a A> {
     /// Takes the domain down, and drops its looks and its tickets; or tells why it is in use, and it comes back as it was.
     pub fn cleanup(self, rt: &impl Wait) -> Result<Totals, (Cause, Entry<&'a A>)>
         ensures { MatchResult result
-            (λ totals. IsTakenDown self.entry.state totals.opened totals.closed)
-            (λ refused. IsInUse self.entry.state refused.0 × (refused.1 ≡ self.entry)) }
+            (λ totals. IsTakenDown self.entry.state.course totals)
+            (λ refused. IsInUse self.entry.state.course refused.0 × (refused.1 ≡ self.entry)) }
     {
         let Entry {
             name,

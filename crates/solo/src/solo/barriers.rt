@@ -11,7 +11,7 @@ impl<A: Allocator + Copy> Solo<A> {
     /// Starts a barrier on a processor (`srcu_barrier`): it waits for what is queued now, on every processor. Where there is
     /// not enough memory for its ticket, nothing has changed.
     pub fn barrier_start(&mut self, rt: &impl Wait, processor: u64) -> Result<Ticket<A>, Memory>
-        requires { processor < self.old.standing.processors }
+        requires { processor < self.old.course.standing.processors }
         ensures after { self.new ≡ self.old }
         ensures ticket { IfOk result (λ ticket. ticket ≡ ticket_of self.old) }
         ensures here { IfOk result (λ ticket. IsTicketOf self.old ticket) }
@@ -25,10 +25,10 @@ impl<A: Allocator + Copy> Solo<A> {
     /// Whether the barrier is done, as a processor finds it: as many calls are finished of each processor as it waits for. What
     /// was only taken out isn't. Any processor may ask, and as often as it likes.
     pub fn barrier_poll(&mut self, rt: &impl Wait, processor: u64, ticket: &Ticket<A>) -> bool
-        requires processor { processor < self.old.standing.processors }
+        requires processor { processor < self.old.course.standing.processors }
         requires ticket { IsTicketOf self.old ticket.now }
         ensures after { self.new ≡ self.old }
-        ensures done { MatchBool result (AreReached ticket.now.numbers self.old.finished) (¬ AreReached ticket.now.numbers self.old.finished) }
+        ensures done { MatchBool result (AreReached ticket.now.numbers self.old.course.finished) (¬ AreReached ticket.now.numbers self.old.course.finished) }
     {
         let cpu = &mut self.members.cpus[processor as usize];
         let done = self.members.domain.barrier_poll(cpu, ticket);

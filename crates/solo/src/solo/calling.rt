@@ -1,7 +1,7 @@
 //! Callbacks: a job is queued on a processor, and given out after a full grace period. Who queues a job keeps what it
 //! is; the domain has only that there is one.
 ghost use Rattle.std.specs.Prelude.{◌≡◌, ◌^◌, ◌<◌, ◌≤◌, [], IfOk, MatchResult};
-ghost use Rattle.solo.specs.Calls.{IsSame, IsSameDomain, IsBatchOf, Queues, QueuesNone, Takes, Finishes, AreOut, TellsLens};
+ghost use Rattle.solo.specs.Calls.{IsSameDomain, IsBatchOf, Queues, QueuesNone, Takes, Finishes, AreOut, TellsLens};
 
 use crate::queued::Queued;
 use crate::refusals::queued;
@@ -15,9 +15,9 @@ impl<A: Allocator + Copy> Solo<A> {
     /// where as many were queued there as may ever be, 2^54, and nothing has changed; or where memory is, and the processor
     /// was given a cookie that nobody waits for.
     pub fn call(&mut self, rt: &impl Wait, processor: u64) -> Result<Queued, CallRefusal>
-        requires { processor < self.old.standing.processors }
+        requires { processor < self.old.course.standing.processors }
         ensures domain { IsSameDomain self.old self.new }
-        ensures answer { MatchResult result (λ job. Queues processor job self.old self.new) (λ why. QueuesNone processor why self.old self.new) }
+        ensures answer { MatchResult result (λ job. Queues processor job self.old.course self.new.course) (λ why. QueuesNone processor why self.old.course self.new.course) }
         ensures small { IfOk result (λ job. job.cookie ≤ 2 ^ 61) }
     {
         let cpu = &mut self.members.cpus[processor as usize];
@@ -35,8 +35,8 @@ impl<A: Allocator + Copy> Solo<A> {
         processor: u64,
         max: usize,
     ) -> Result<Option<Batch<(), A>>, TakeRefusal>
-        requires { processor < self.old.standing.processors }
-        ensures same { IsSame self.old self.new }
+        requires { processor < self.old.course.standing.processors }
+        ensures same { IsSameDomain self.old self.new }
         ensures answer { MatchResult result (λ taken. Takes processor max taken self.old self.new) (λ _. self.new ≡ self.old) }
     {
         let taker = &mut self.members.cpus[processor as usize];
@@ -54,7 +54,7 @@ impl<A: Allocator + Copy> Solo<A> {
         requires { IsBatchOf self.old batch.old.processor batch.old }
         ensures after { self.new ≡ self.old }
         ensures batch { batch.new ≡ batch.old }
-        ensures out { AreOut batch.old.processor batch.old.count self.old }
+        ensures out { AreOut batch.old.processor batch.old.count self.old.course }
     {
         let processor = usize::from(batch.processor());
         let cpu = &mut self.members.cpus[processor];
@@ -66,7 +66,8 @@ impl<A: Allocator + Copy> Solo<A> {
     pub fn finish(&mut self, rt: &impl Wait, batch: Batch<(), A>)
         requires batch { IsBatchOf self.old batch.processor batch }
         requires empty { batch.entries ≡ [] }
-        ensures { Finishes batch.processor batch.count self.old self.new }
+        ensures same { IsSameDomain self.old self.new }
+        ensures finishes { Finishes batch.processor batch.count self.old.course self.new.course }
     {
         let processor = usize::from(batch.processor());
         let cpu = &mut self.members.cpus[processor];
@@ -77,7 +78,7 @@ impl<A: Allocator + Copy> Solo<A> {
     /// How many jobs of a processor are done, wait for the first and for the second number, and have none yet; and the two
     /// numbers, 0 where there is none. What is out isn't counted. It takes no memory, so it always succeeds.
     pub fn lens(&self, rt: &impl Wait, processor: u64) -> Result<([usize; 4], [u64; 2]), Memory>
-        requires { processor < self.now.standing.processors }
+        requires { processor < self.now.course.standing.processors }
         ensures { TellsLens self.now processor result }
     {
         self.members.domain.lens(rt, processor as u16)

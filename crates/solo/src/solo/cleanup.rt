@@ -13,7 +13,7 @@ impl<A: Allocator + Copy> Solo<A> {
     /// grace period runs, or a callback is queued and not finished: the first of these, with its count. Then the domain
     /// comes back, in which nothing has changed. No processor is ever missing.
     pub fn cleanup(self, rt: &impl Wait) -> Result<Totals, (InUse, Solo<A>)>
-        ensures { MatchResult result (IsTakenDown self) (λ refused. IsInUse self refused.0 × (refused.1 ≡ self)) }
+        ensures { MatchResult result (IsTakenDown self.course) (λ refused. IsInUse self.course refused.0 × (refused.1 ≡ self)) }
     {
         let Solo { members, limits } = self;
         match members.domain.cleanup(members.cpus) {

@@ -1,6 +1,6 @@
 //! Jobs that are queued at a domain in one hand, and given out there.
 ghost use Rattle.std.specs.Prelude.{◌≡◌, ◌<◌};
-ghost use Rattle.solo.specs.Calls.{IsSameDomain, IsSame, IsBatchOf};
+ghost use Rattle.solo.specs.Calls.{IsSameDomain, IsBatchOf};
 
 use super::{LIMITS, ended, started};
 use crate::{Queued, Solo};
@@ -28,7 +28,7 @@ pub(super) fn run_ready(
     processor: u64,
     max: usize,
 ) -> Result<Option<(usize, Option<u64>)>, TakeRefusal>
-    requires { processor < domain.old.standing.processors }
+    requires { processor < domain.old.course.standing.processors }
     ensures { IsSameDomain domain.old domain.new }
 {
     let Some(batch) = domain.take_ready(rt, processor, max)? else {
@@ -41,7 +41,7 @@ pub(super) fn run_ready(
 
 /// Drives a whole grace period, and tells the number behind it.
 pub(super) fn drive(rt: &impl Wait, domain: &mut Solo<Global>) -> Option<u64>
-    ensures { IsSame domain.old domain.new }
+    ensures { IsSameDomain domain.old domain.new }
 {
     let begun = started(domain.advance(rt));
     let flipped = domain.advance(rt);

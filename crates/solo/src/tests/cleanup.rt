@@ -63,7 +63,7 @@ fn each_cause_in_turn(rt: HostRuntime) -> Result<(), Fail> {
 
 /// Queues a job on a processor, and begins and ends a section there; tells whether there was room for both.
 fn uses(rt: &impl Wait, domain: &mut Solo<Global>, processor: u64) -> bool
-    requires { processor < domain.old.standing.processors }
+    requires { processor < domain.old.course.standing.processors }
     ensures { IsSameDomain domain.old domain.new }
 {
     let queued = domain.call(rt, processor).is_ok();

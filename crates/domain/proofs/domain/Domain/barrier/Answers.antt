@@ -1,4 +1,5 @@
 use Rattle.domain.proofs.Polling.{polls_none, polls_in_vain, polls_until_done, rest_at_the_end, none_at_tallies}
+use Rattle.domain.proofs.Acting.{barrier_waits}
 use Rattle.domain.proofs.domain.Domain.barrier.Goals as goal
 
 pub loop-init : goal.loop-init
@@ -21,3 +22,6 @@ returns-then-barrier_poll-clause-rest g c = rest_at_the_end _ _ _ _ _ c.loop.inv
 
 pub returns-then-barrier_poll-clause-still_none : goal.returns-then-barrier_poll-clause-still_none
 returns-then-barrier_poll-clause-still_none g c = none_at_tallies c.args.cpu.now c.barrier_poll.new.cpu c.requires.none (rest_at_the_end _ _ _ c.barrier_poll.new.cpu _ c.loop.invariant.polled c.barrier_poll.ensures.rest)
+
+pub returns-then-barrier_poll-clause-acts : goal.returns-then-barrier_poll-clause-acts
+returns-then-barrier_poll-clause-acts g c = barrier_waits c.args.cpu.now c.barrier_poll.new.cpu (rest_at_the_end _ _ _ _ _ c.loop.invariant.polled c.barrier_poll.ensures.rest) (polls_until_done _ _ _ c.barrier_poll.new.cpu _ c.loop.invariant.polled c.if-barrier_poll.ensures.polls)

@@ -5,6 +5,4 @@ pub finish_all-requires : goal.finish_all-requires
 finish_all-requires g c = c.self.invariant.1
 
 pub end_all-requires : goal.end_all-requires
-end_all-requires g c =
-    let same = c.finish_all.ensures in
-    together_kept c.self.inside.domain c.self.inside.names.tokens c.self.inside.parking c.self.invariant.0 c.finish_all.new.domain (same.0.0, same.0.4) same.1
+end_all-requires g c = together_kept c.self.inside.domain c.self.inside.names.tokens c.self.inside.parking c.self.invariant.0 c.finish_all.new.domain c.finish_all.ensures.0 c.finish_all.ensures.1

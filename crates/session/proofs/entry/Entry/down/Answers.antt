@@ -1,8 +1,10 @@
+use Rattle.std.proofs.Common.{refl}
 use Rattle.requests.specs.declared.command.Command.TheVariants as command
 use Rattle.session.specs.States.{Held}
 use Rattle.session.specs.Entries.{AreTogether}
 use Rattle.scan.specs.Standings.{index_now}
-use Rattle.session.proofs.Callbacks.{jobs_then}
+use Rattle.session.proofs.Callbacks.{jobs_on}
+use Rattle.session.proofs.Quiet.{keeps_jobs}
 use Rattle.session.proofs.Holding.{Any}
 use Rattle.session.proofs.Together.{together_begun}
 use Rattle.session.proofs.Acting.{is_free, is_not_parked, downed, begun_none}
@@ -20,9 +22,9 @@ invariant_of-self-in-Ok g c =
     let held : AreTogether c.self.inside.domain c.reserve.new.self.tokens c.self.inside.parking = rw c.in_ok-reserve.ensures.tokens c.self.invariant.0 in
     let free = is_not_parked c.self.inside.name c.args.name c.self.inside.names.tokens c.self.inside.parking.parked c.self.inside.jobs.items d asked.1 in
     rw c.insert.ensures (
-      together_begun d c.reserve.new.self.tokens c.self.inside.parking held c.args.name free Any c.down_read.new.self c.args.processor (index_now d.standing) c.in-Ok.held
-          (c.down_read.ensures.same.0, c.down_read.ensures.same.5) asked.0 c.in-Ok.ensures.section.0 c.in-Ok.ensures.section.1,
-      jobs_then c.self.inside.domain c.self.inside.jobs.items c.self.invariant.1 c.down_read.new.self c.down_read.ensures.same,
+      together_begun d c.reserve.new.self.tokens c.self.inside.parking held c.args.name free Any c.down_read.new.self c.args.processor (index_now d.course.standing) c.in-Ok.held
+          c.down_read.ensures.same asked.0 c.in-Ok.ensures.section.0 c.in-Ok.ensures.section.1,
+      jobs_on c.self.inside.domain c.self.inside.jobs.items c.self.invariant.1 c.down_read.new.self c.down_read.ensures.same (keeps_jobs refl c.in-Ok.ensures.section.0.happens),
     )
 
 pub returns-in-Ok-clause-does : goal.returns-in-Ok-clause-does
@@ -30,7 +32,7 @@ returns-in-Ok-clause-does g c =
     let asked = rw (← c.self.view_is) at c.requires in
     let free = is_free c.self.inside.name c.args.name c.reserve.new.self.tokens c.self.inside.parking.parked c.self.inside.jobs.items c.self.inside.domain (rw c.in_ok-reserve.ensures.tokens asked.1) in
     rw (← c.self.view_is, c.index-index.ensures.value, c.insert.ensures, ← c.in_ok-reserve.ensures.tokens)
-    (downed c.self.inside.name c.reserve.new.self.tokens c.self.inside.parking.parked c.self.inside.jobs.items c.self.inside.domain c.down_read.new.self c.args.processor c.args.name c.in-Ok.held c.down_read.ensures.same free c.in-Ok.ensures.section.0 c.in-Ok.ensures.section.1)
+    (downed c.self.inside.name c.reserve.new.self.tokens c.self.inside.parking.parked c.self.inside.jobs.items c.self.inside.domain c.down_read.new.self c.args.processor c.args.name c.in-Ok.held free c.in-Ok.ensures.section.0 c.in-Ok.ensures.section.1)
 
 pub returns-in-Err-clause-does : goal.returns-in-Err-clause-does
 returns-in-Err-clause-does g c =

@@ -4,7 +4,8 @@ use Rattle.session.specs.declared.names.Token.{Token}
 use Rattle.session.specs.declared.names.Token.TheVariants as token
 use Rattle.requests.specs.declared.scene.Kind.TheVariants as kind
 use Rattle.session.specs.Entries.{AreTogether}
-use Rattle.session.proofs.Callbacks.{jobs_then}
+use Rattle.session.proofs.Callbacks.{jobs_on}
+use Rattle.session.proofs.Quiet.{keeps_jobs}
 use Rattle.session.proofs.Holding.{Own}
 use Rattle.session.proofs.Together.{it_is_of, together_without, together_begun}
 use Rattle.session.proofs.Acting.{wrong_kind, is_plain, entered, entered_none}
@@ -49,8 +50,8 @@ invariant_of-self-in-Ok g c =
     let free = is_plain c.self.inside.name c.args.name c.self.inside.names.tokens c.self.inside.parking.parked c.self.inside.jobs.items d kind.Look refl asked.1 in
     rw c.insert.ensures (
       together_begun d c.remove.new.self.tokens c.self.inside.parking left c.args.name free Own c.enter.new.self c.args.processor c.in-Some-Look.look.index c.in-Ok.reading
-          (c.enter.ensures.same.0, c.enter.ensures.same.5) asked.0 c.in-Ok.ensures.section.0 c.in-Ok.ensures.section.1,
-      jobs_then c.self.inside.domain c.self.inside.jobs.items c.self.invariant.1 c.enter.new.self c.enter.ensures.same,
+          c.enter.ensures.same asked.0 c.in-Ok.ensures.section.0 c.in-Ok.ensures.section.1,
+      jobs_on c.self.inside.domain c.self.inside.jobs.items c.self.invariant.1 c.enter.new.self c.enter.ensures.same (keeps_jobs refl c.in-Ok.ensures.section.0.happens),
     )
 
 pub invariant_of-self-in-Err : goal.invariant_of-self-in-Err
@@ -63,7 +64,7 @@ invariant_of-self-in-Err g c =
 pub returns-in-Ok-clause-does : goal.returns-in-Ok-clause-does
 returns-in-Ok-clause-does g c =
     rw (← c.self.view_is, c.index-index.ensures.value, c.insert.ensures, ← c.in_ok-reserve.ensures.tokens)
-    (entered c.self.inside.name c.reserve.new.self.tokens c.self.inside.parking.parked c.self.inside.jobs.items c.self.inside.domain c.enter.new.self c.args.name c.remove.new.self.tokens c.remove.ensures.frees c.args.processor c.in-Some-Look.look c.in-Ok.reading c.enter.ensures.same
+    (entered c.self.inside.name c.reserve.new.self.tokens c.self.inside.parking.parked c.self.inside.jobs.items c.self.inside.domain c.enter.new.self c.args.name c.remove.new.self.tokens c.remove.ensures.frees c.args.processor c.in-Some-Look.look c.in-Ok.reading
     (ap (λ (t : Token _). Some t) (sym c.in-Some-Look.field-0-is) ∙ (sym c.in-Some-Look.is ∙ c.remove.ensures.token)) c.in-Ok.ensures.section.0 c.in-Ok.ensures.section.1)
 
 pub returns-in-Err-clause-does : goal.returns-in-Err-clause-does

@@ -1,24 +1,18 @@
-use Rattle.std.proofs.Common.{ap, ◌∙◌}
+use Rattle.std.proofs.Common.{ap, refl, ◌∙◌}
 use Rattle.sseq.specs.declared.index.Index.TheVariants.{Zero, One}
-use Rattle.onedom.specs.Histories.{cookie_after}
 use Rattle.solo.specs.Calls.{SoloView}
-use Rattle.session.proofs.Callbacks.{jobs_then}
-use Rattle.session.proofs.Quiet.{quietly_noted}
+use Rattle.session.proofs.Callbacks.{entry_on}
+use Rattle.session.proofs.Quiet.{does_keeps}
 use Rattle.session.proofs.Parked.{counted_with}
-use Rattle.session.proofs.Together.{together_on}
 use Rattle.session.proofs.Acting.{shown}
 use Rattle.session.proofs.entry.Entry.show.Goals as goal
 
 pub invariant_of-self : goal.invariant_of-self
-invariant_of-self g c = rw (c.need.ensures.after, c.index.ensures.after) (
-  together_on c.self.inside.domain c.self.inside.names.tokens c.self.inside.parking c.self.invariant.0 c.number-number.new.self (c.number-number.ensures.same.0, c.number-number.ensures.same.5)
-      (quietly_noted 0 (cookie_after c.self.inside.domain.standing.history) c.self.inside.domain.standing c.number-number.new.self.standing c.self.invariant.0.all.legal c.number-number.ensures.number.notes),
-  jobs_then c.self.inside.domain c.self.inside.jobs.items c.self.invariant.1 c.number-number.new.self c.number-number.ensures.same,
-)
+invariant_of-self g c = rw (c.need.ensures.after, c.index.ensures.after) (entry_on c.self.invariant c.number-number.ensures.same (does_keeps c.self.invariant.0.all.legal tt refl c.number-number.ensures.number.notes))
 
 pub returns-clause-does : goal.returns-clause-does
 returns-clause-does g c =
     let counted = counted_with c.open-open.result c.raise.new.self c.self.inside.parking.parked c.self.inside.names.tokens c.open_index.result c.open-open.ensures.counted c.open_index.ensures c.raise.ensures in
-    let need = c.need.ensures.value ∙ ap (λ (d : SoloView). d.asked) c.index.ensures.after in
-    rw (← c.self.view_is, c.need.ensures.after, c.index.ensures.after) (shown c.self.inside.name c.self.inside.names.tokens c.self.inside.parking.parked c.self.inside.jobs.items c.self.inside.domain c.number-number.new.self c.number-number.ensures.same
+    let need = c.need.ensures.value ∙ ap (λ (d : SoloView). d.course.asked) c.index.ensures.after in
+    rw (← c.self.view_is, c.need.ensures.after, c.index.ensures.after) (shown c.self.inside.name c.self.inside.names.tokens c.self.inside.parking.parked c.self.inside.jobs.items c.self.inside.domain c.number-number.new.self
     c.need.result c.number-number.result c.state.result c.index.result c.raise.new.self.zero c.raise.new.self.one c.self.invariant.0.all c.number-number.ensures.number c.state.ensures c.index.ensures.value (counted Zero) (counted One) need)

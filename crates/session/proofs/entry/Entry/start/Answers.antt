@@ -1,6 +1,8 @@
-use Rattle.session.proofs.Callbacks.{jobs_then}
-use Rattle.session.proofs.Together.{together_started}
+use Rattle.std.proofs.Common.{ap}
+use Rattle.solo.specs.Calls.{SoloView}
+use Rattle.session.proofs.Callbacks.{entry_on}
+use Rattle.session.proofs.Quiet.{quietly_started, works_keeps, same_keeps, either_way}
 use Rattle.session.proofs.entry.Entry.start.Goals as goal
 
 pub invariant_of-self : goal.invariant_of-self
-invariant_of-self g c = (together_started c.self.inside.domain c.self.inside.names.tokens c.self.inside.parking c.self.invariant.0 c.start.new.self c.start.result (c.start.ensures.same.0, c.start.ensures.same.5) c.start.ensures.start, jobs_then c.self.inside.domain c.self.inside.jobs.items c.self.invariant.1 c.start.new.self c.start.ensures.same)
+invariant_of-self g c = entry_on c.self.invariant c.start.ensures.same (either_way c.start.result c.start.ensures.start (λ n h. works_keeps h (quietly_started n _ _)) (λ _ h. same_keeps c.self.invariant.0.all.legal (ap (λ (x : SoloView). x.course) h.1)))

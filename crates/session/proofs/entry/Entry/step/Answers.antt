@@ -1,13 +1,8 @@
-use Rattle.solo.specs.Calls.{Steps, IsAskedTooMuch}
-use Rattle.session.proofs.Callbacks.{jobs_then}
-use Rattle.session.proofs.Quiet.{quietly_stepped}
-use Rattle.session.proofs.Together.{together_worked}
+use Rattle.std.proofs.Common.{ap}
+use Rattle.solo.specs.Calls.{SoloView}
+use Rattle.session.proofs.Callbacks.{entry_on}
+use Rattle.session.proofs.Quiet.{quietly_stepped, works_keeps, same_keeps, either_way}
 use Rattle.session.proofs.entry.Entry.step.Goals as goal
 
 pub invariant_of-self : goal.invariant_of-self
-invariant_of-self g c =
-    let d = c.self.inside.domain in (
-      together_worked c.self.inside.domain c.self.inside.names.tokens c.self.inside.parking c.self.invariant.0 c.step.new.self (Steps d.asked) (IsAskedTooMuch d.asked d.standing) c.step.result (λ a. quietly_stepped d.asked a d.standing c.step.new.self.standing)
-          (c.step.ensures.same.0, c.step.ensures.same.5) c.step.ensures.answer,
-      jobs_then c.self.inside.domain c.self.inside.jobs.items c.self.invariant.1 c.step.new.self c.step.ensures.same,
-    )
+invariant_of-self g c = entry_on c.self.invariant c.step.ensures.same (either_way c.step.result c.step.ensures.answer (λ a h. works_keeps h (quietly_stepped c.self.inside.domain.course.asked a _ _)) (λ _ h. same_keeps c.self.invariant.0.all.legal (ap (λ (x : SoloView). x.course) h.1)))

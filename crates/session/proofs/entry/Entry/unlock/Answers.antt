@@ -3,7 +3,8 @@ use Rattle.std.specs.Prelude.{Some, None}
 use Rattle.session.specs.declared.names.Token.{Token}
 use Rattle.session.specs.declared.names.Token.TheVariants as token
 use Rattle.requests.specs.declared.scene.Kind.TheVariants as kind
-use Rattle.session.proofs.Callbacks.{jobs_then}
+use Rattle.session.proofs.Callbacks.{jobs_on}
+use Rattle.session.proofs.Quiet.{keeps_jobs}
 use Rattle.session.proofs.Holding.{Own}
 use Rattle.session.proofs.Together.{reading_is_of, together_ended}
 use Rattle.session.proofs.Acting.{wrong_kind, unlocked}
@@ -42,11 +43,11 @@ pub invariant_of-self : goal.invariant_of-self
 invariant_of-self g c =
     let out = rw c.in-Some-Reading.field-0-is at c.in-Some-Reading.ensures.others in (
       together_ended c.self.inside.domain c.self.inside.names.tokens c.self.inside.parking c.self.invariant.0 c.args.name out.0 c.remove.new.self.tokens c.remove.ensures.frees Own c.read_unlock.new.self c.in-Some-Reading.reading.processor c.in-Some-Reading.reading
-          (c.read_unlock.ensures.same.0, c.read_unlock.ensures.same.5) out.1 c.read_unlock.ensures.section,
-      jobs_then c.self.inside.domain c.self.inside.jobs.items c.self.invariant.1 c.read_unlock.new.self c.read_unlock.ensures.same,
+          c.read_unlock.ensures.same out.1 c.read_unlock.ensures.section,
+      jobs_on c.self.inside.domain c.self.inside.jobs.items c.self.invariant.1 c.read_unlock.new.self c.read_unlock.ensures.same (keeps_jobs refl c.read_unlock.ensures.section),
     )
 
 pub returns-clause-does : goal.returns-clause-does
 returns-clause-does g c = rw (← c.self.view_is)
-    (unlocked c.self.inside.name c.self.inside.names.tokens c.self.inside.parking.parked c.self.inside.jobs.items c.self.inside.domain c.read_unlock.new.self c.args.name c.remove.new.self.tokens c.remove.ensures.frees c.in-Some-Reading.reading c.read_unlock.ensures.same
+    (unlocked c.self.inside.name c.self.inside.names.tokens c.self.inside.parking.parked c.self.inside.jobs.items c.self.inside.domain c.read_unlock.new.self c.args.name c.remove.new.self.tokens c.remove.ensures.frees c.in-Some-Reading.reading
     (ap (λ (t : Token _). Some t) (sym c.in-Some-Reading.field-0-is) ∙ (sym c.in-Some-Reading.is ∙ c.remove.ensures.token)) c.read_unlock.ensures.section)

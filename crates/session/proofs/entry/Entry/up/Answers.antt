@@ -3,7 +3,8 @@ use Rattle.std.specs.Prelude.{Some, None}
 use Rattle.session.specs.declared.names.Token.{Token}
 use Rattle.session.specs.declared.names.Token.TheVariants as token
 use Rattle.requests.specs.declared.scene.Kind.TheVariants as kind
-use Rattle.session.proofs.Callbacks.{jobs_then}
+use Rattle.session.proofs.Callbacks.{jobs_on}
+use Rattle.session.proofs.Quiet.{keeps_jobs}
 use Rattle.session.proofs.Holding.{Any}
 use Rattle.session.proofs.Together.{reading_is_of, together_ended}
 use Rattle.session.proofs.Acting.{wrong_kind, upped}
@@ -42,11 +43,11 @@ pub invariant_of-self : goal.invariant_of-self
 invariant_of-self g c =
     let out = rw c.in-Some-Held.field-0-is at c.in-Some-Held.ensures.others in (
       together_ended c.self.inside.domain c.self.inside.names.tokens c.self.inside.parking c.self.invariant.0 c.args.name out.0 c.remove.new.self.tokens c.remove.ensures.frees Any c.up_read.new.self c.args.processor c.in-Some-Held.held
-          (c.up_read.ensures.same.0, c.up_read.ensures.same.5) out.1 c.up_read.ensures.section,
-      jobs_then c.self.inside.domain c.self.inside.jobs.items c.self.invariant.1 c.up_read.new.self c.up_read.ensures.same,
+          c.up_read.ensures.same out.1 c.up_read.ensures.section,
+      jobs_on c.self.inside.domain c.self.inside.jobs.items c.self.invariant.1 c.up_read.new.self c.up_read.ensures.same (keeps_jobs refl c.up_read.ensures.section),
     )
 
 pub returns-clause-does : goal.returns-clause-does
 returns-clause-does g c = rw (← c.self.view_is)
     (upped c.self.inside.name c.self.inside.names.tokens c.self.inside.parking.parked c.self.inside.jobs.items c.self.inside.domain c.up_read.new.self c.args.name c.remove.new.self.tokens c.remove.ensures.frees c.args.processor c.in-Some-Held.held
-    c.up_read.ensures.same (ap (λ (t : Token _). Some t) (sym c.in-Some-Held.field-0-is) ∙ (sym c.in-Some-Held.is ∙ c.remove.ensures.token)) c.up_read.ensures.section)
+    (ap (λ (t : Token _). Some t) (sym c.in-Some-Held.field-0-is) ∙ (sym c.in-Some-Held.is ∙ c.remove.ensures.token)) c.up_read.ensures.section)

@@ -1,4 +1,5 @@
-use Rattle.std.proofs.Common.{rules, ◌∙◌, refl, sym}
+use Rattle.std.proofs.Common.{rules, ◌∙◌, ap, refl, sym}
+use Rattle.solo.specs.Courses.{Course}
 use Rattle.std.proofs.lemmas.List.Elements.{All-pop}
 use Rattle.session.proofs.Callbacks.{IsOut, emptied_is, out_finished}
 use Rattle.session.proofs.entry.calling.finish_all.Goals as goal
@@ -16,8 +17,10 @@ pub loop-last-preserved-in-Some-close : goal.loop-last-preserved-in-Some-close
 loop-last-preserved-in-Some-close g c =
     let v = c.loop-last.invariant in
     let out = (All-pop (IsOut c.loop-last.domain) c.loop-last.jobs.items c.pop.new.self.items c.pop.result c.pop.ensures.items v.out).0 in
-    let (n, there, after) = c.finish.ensures in
-    rw after record { out = out_finished c.loop-last.domain c.pop.new.self.items _ out; same = v.same; standing = v.standing }
+    let on = c.finish.ensures.same in
+    let (a, b, d, e, f) = on in
+    let (a', b', d', e', f') = v.same in
+    record { out = out_finished c.loop-last.domain c.finish.new.self c.pop.new.self.items on out; same = (a ∙ a', b ∙ b', d ∙ d', e ∙ e', f ∙ f'); standing = ap (λ (x : Course). x.standing) c.finish.ensures.finishes.finishes_are.come ∙ v.standing }
 
 pub loop-last-preserved : goal.loop-last-preserved
 loop-last-preserved g c =

@@ -8,7 +8,7 @@ abbrev pub invariant-loop-last : goal.invariant-loop-last
 invariant-loop-last g l = record {
   out : All (λ j. IfSome j.out (λ o. IsEmptied l.domain o.0)) l.jobs.items;
   same : IsSameDomain l.fn.domain l.domain;
-  standing : l.domain.standing ≡ l.fn.domain.standing;
+  standing : l.domain.course.standing ≡ l.fn.domain.course.standing;
 }
 
 abbrev pub decreases-loop-last : goal.decreases-loop-last

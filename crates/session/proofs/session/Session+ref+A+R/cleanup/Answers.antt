@@ -27,7 +27,7 @@ returns-in-Ok-clause-cleans g c =
     let entries = c.self.inside.entries.items in
     let small = rw (← c.self.view_is) at c.requires in
     let within : c.args.place < length entries = let same = length-map entries (λ (e : EntryView). e.state) in omega (arith, small, same) in
-    rw (← c.self.view_is, c.remove-entry.ensures.items) (inl (cleaned entries c.args.place c.remove-entry.result within c.remove-entry.ensures.value c.in-Ok.totals.opened c.in-Ok.totals.closed c.in-Ok.ensures))
+    rw (← c.self.view_is, c.remove-entry.ensures.items) (inl (cleaned entries c.args.place c.remove-entry.result within c.remove-entry.ensures.value c.in-Ok.totals c.in-Ok.ensures))
 
 pub returns-in-Err-clause-cleans : goal.returns-in-Err-clause-cleans
 returns-in-Err-clause-cleans g c =

@@ -53,7 +53,7 @@ returns-clause-ok g c =
     let made = c.in-Ok.ensures in
     let few : length entries < 8 = omega (arith, c.if-len-ge-MOST_DOMAINS.false, c.len.ensures, c.self.inside.entries.ok.0) in
     let pushed : c.push.new.self.items ≡ entries ++ entry ∷ [] = search rules in
-    let processors : c.in-Ok.domain.standing.processors ≡ c.args.processors = ap (λ z. z.processors) made.nothing_yet in
+    let processors : c.in-Ok.domain.course.standing.processors ≡ c.args.processors = ap (λ z. z.standing.processors) made.nothing_yet in
     let state : entry.state ≡ new_domain c.self.inside.limits c.args.name c.args.processors = ap (λ (e : EntryView). e.state) c.in_ok-entry.ensures ∙ (λ i. new_domain (made.limits_are i) c.args.name (processors i)) in
     rw (← c.self.view_is) (inl (record {
       room = omega (arith, few, length-map entries (λ (e : EntryView). e.state));

@@ -1,51 +1,26 @@
-use Rattle.std.proofs.Common.{[], refl, ap}
-use Rattle.std.proofs.lemmas.Result.{MatchResult-weaker}
-use Rattle.solo.proofs.Needing.{stays}
-use Rattle.solo.proofs.Tallying.{adds_none, nothing_done}
-use Rattle.solo.proofs.Hand.{is_inside, in_vector, all_behind, is_its_own}
-use Rattle.solo.proofs.ProcessorActs.{Turn, now_was, after_is, enter_met, entered, entered_none, same_as, same_behind_enter}
+use Rattle.solo.proofs.Hand.{in_items, of_table, all_here, either}
+use Rattle.solo.proofs.Meeting.{Hand, hand_of}
+use Rattle.solo.proofs.Quiet.{enter_says}
 use Rattle.solo.proofs.solo.Solo.enter.Given.{Over}
 use Rattle.solo.proofs.solo.Solo.enter.Goals as goal
 
-abbrev turn : (g : Over) → goal.After-settle g → Turn
-turn g c = record {
-  d = c.self.inside.members.domain;
-  limits = c.self.inside.limits;
-  cpus = c.self.inside.members.cpus.items;
-  v = c.self.invariant.engine;
-  p = c.args.processor;
-  was = c.index_mut.result.now;
-  now = c.enter-taken.new.self;
-  d' = c.settle.new.self.domain;
-  cpus' = c.settle.new.self.cpus.items;
-  met = c.self.invariant.met;
-  inside = is_inside _ _ _ _ c.self.invariant.met _ c.self.view_is c.args.processor c.requires.processor;
-  is = c.index_mut.ensures.value;
-  turn = ap (λ x. x.turn) c.enter-taken.ensures.rest;
-  all = c.settle.ensures.all;
-  meets = c.settle.ensures.meets;
-  raised = [];
-  needs = stays _ _ (ap (λ x. x.needs) c.enter-taken.ensures.rest);
-  own = refl;
-  others = λ q _. refl;
-  act = [];
-  adds = adds_none _ _ (ap (λ x. x.calls) c.enter-taken.ensures.rest);
-}
+abbrev hand : (g : Over) → goal.After-settle g → Hand
+hand g c = hand_of c.args.processor c.enter-taken.new.self c.self.invariant.met c.self.view_is c.requires.processor c.index_mut.ensures.value c.settle.ensures.all c.settle.ensures.meets
 
 pub index_mut-requires : goal.index_mut-requires
-index_mut-requires g c = in_vector _ c.self.inside.members.cpus.items _ c.self.inside.members.cpus.ok.0 (is_inside _ _ _ _ c.self.invariant.met _ c.self.view_is c.args.processor c.requires.processor)
-
-pub settle-requires : goal.settle-requires
-settle-requires g c = all_behind _ _ _ _ c.self.invariant.met (c.args.processor) _ _ (is_inside _ _ _ _ c.self.invariant.met _ c.self.view_is c.args.processor c.requires.processor) c.index_mut.ensures.value (same_behind_enter c.args.look _ _ c.enter-taken.result c.enter-taken.ensures.enters) c.enter-taken.ensures.rest
+index_mut-requires g c = in_items c.self.invariant.met c.self.view_is c.requires.processor _ c.self.inside.members.cpus.ok.0
 
 pub enter-taken-requires : goal.enter-taken-requires
-enter-taken-requires g c = is_its_own _ _ _ _ c.self.invariant.met _ c.self.view_is c.args.processor _ c.args.look.domain (is_inside _ _ _ _ c.self.invariant.met _ c.self.view_is c.args.processor c.requires.processor) c.index_mut.ensures.value c.requires.look
+enter-taken-requires g c = of_table c.self.invariant.met c.self.view_is c.requires.processor c.index_mut.ensures.value _ c.requires.look
+
+pub settle-requires : goal.settle-requires
+settle-requires g c = either c.enter-taken.result c.enter-taken.ensures.acts (λ r did. all_here c.self.invariant.met c.self.view_is c.requires.processor c.index_mut.ensures.value did c.enter-taken.ensures.stays) (λ e did. all_here c.self.invariant.met c.self.view_is c.requires.processor c.index_mut.ensures.value did c.enter-taken.ensures.stays)
 
 pub invariant_of-self : goal.invariant_of-self
-invariant_of-self g c = record { engine = c.settle.ensures.meets.left; met = enter_met (turn g c) c.args.look refl c.enter-taken.result c.enter-taken.ensures.enters }
+invariant_of-self g c = record { engine = c.settle.ensures.meets.left; met = (enter_says (hand g c) c.args.look c.enter-taken.result c.enter-taken.ensures.enters c.enter-taken.ensures.acts).met }
 
 pub returns-clause-same : goal.returns-clause-same
-returns-clause-same g c = rw (now_was (turn g c) _ c.self.view_is, after_is (turn g c)) (same_as (turn g c) refl nothing_done)
+returns-clause-same g c = (enter_says (hand g c) c.args.look c.enter-taken.result c.enter-taken.ensures.enters c.enter-taken.ensures.acts).same
 
 pub returns-clause-section : goal.returns-clause-section
-returns-clause-section g c = rw (now_was (turn g c) _ c.self.view_is, after_is (turn g c)) (MatchResult-weaker c.enter-taken.result c.enter-taken.ensures.enters (λ r h. entered (turn g c) c.args.look r h) (λ _ h. entered_none (turn g c) c.args.look refl nothing_done h.0 h.1))
+returns-clause-section g c = (enter_says (hand g c) c.args.look c.enter-taken.result c.enter-taken.ensures.enters c.enter-taken.ensures.acts).what

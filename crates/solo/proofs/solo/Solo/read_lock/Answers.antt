@@ -1,48 +1,24 @@
-use Rattle.std.proofs.Common.{[], refl, ap, false}
-use Rattle.std.proofs.lemmas.Result.{MatchResult-weaker}
-use Rattle.solo.proofs.Needing.{stays}
-use Rattle.solo.proofs.Tallying.{adds_none, nothing_done}
-use Rattle.solo.proofs.Hand.{is_inside, in_vector, all_behind}
-use Rattle.solo.proofs.ProcessorActs.{Turn, now_was, after_is, lock_met, locked, locked_none, same_as, same_behind_lock}
+use Rattle.std.proofs.Common.{false}
+use Rattle.solo.proofs.Hand.{in_items, all_here, either}
+use Rattle.solo.proofs.Meeting.{Hand, hand_of}
+use Rattle.solo.proofs.Quiet.{lock_says}
 use Rattle.solo.proofs.solo.Solo.read_lock.Given.{Over}
 use Rattle.solo.proofs.solo.Solo.read_lock.Goals as goal
 
-abbrev turn : (g : Over) → goal.After-settle g → Turn
-turn g c = record {
-  d = c.self.inside.members.domain;
-  limits = c.self.inside.limits;
-  cpus = c.self.inside.members.cpus.items;
-  v = c.self.invariant.engine;
-  p = c.args.processor;
-  was = c.index_mut.result.now;
-  now = c.read_lock-taken.new.self;
-  d' = c.settle.new.self.domain;
-  cpus' = c.settle.new.self.cpus.items;
-  met = c.self.invariant.met;
-  inside = is_inside _ _ _ _ c.self.invariant.met _ c.self.view_is c.args.processor c.requires;
-  is = c.index_mut.ensures.value;
-  turn = ap (λ x. x.turn) c.read_lock-taken.ensures.rest;
-  all = c.settle.ensures.all;
-  meets = c.settle.ensures.meets;
-  raised = [];
-  needs = stays _ _ (ap (λ x. x.needs) c.read_lock-taken.ensures.rest);
-  own = refl;
-  others = λ q _. refl;
-  act = [];
-  adds = adds_none _ _ (ap (λ x. x.calls) c.read_lock-taken.ensures.rest);
-}
+abbrev hand : (g : Over) → goal.After-settle g → Hand
+hand g c = hand_of c.args.processor c.read_lock-taken.new.self c.self.invariant.met c.self.view_is c.requires c.index_mut.ensures.value c.settle.ensures.all c.settle.ensures.meets
 
 pub index_mut-requires : goal.index_mut-requires
-index_mut-requires g c = in_vector _ c.self.inside.members.cpus.items _ c.self.inside.members.cpus.ok.0 (is_inside _ _ _ _ c.self.invariant.met _ c.self.view_is c.args.processor c.requires)
+index_mut-requires g c = in_items c.self.invariant.met c.self.view_is c.requires _ c.self.inside.members.cpus.ok.0
 
 pub settle-requires : goal.settle-requires
-settle-requires g c = all_behind _ _ _ _ c.self.invariant.met (c.args.processor) _ _ (is_inside _ _ _ _ c.self.invariant.met _ c.self.view_is c.args.processor c.requires) c.index_mut.ensures.value (same_behind_lock false _ _ c.read_lock-taken.result c.read_lock-taken.ensures.locks) c.read_lock-taken.ensures.rest
+settle-requires g c = either c.read_lock-taken.result c.read_lock-taken.ensures.acts (λ r did. all_here c.self.invariant.met c.self.view_is c.requires c.index_mut.ensures.value did c.read_lock-taken.ensures.stays) (λ e did. all_here c.self.invariant.met c.self.view_is c.requires c.index_mut.ensures.value did c.read_lock-taken.ensures.stays)
 
 pub invariant_of-self : goal.invariant_of-self
-invariant_of-self g c = record { engine = c.settle.ensures.meets.left; met = lock_met (turn g c) refl false c.read_lock-taken.result c.read_lock-taken.ensures.locks }
+invariant_of-self g c = record { engine = c.settle.ensures.meets.left; met = (lock_says (hand g c) false c.read_lock-taken.result c.read_lock-taken.ensures.locks c.read_lock-taken.ensures.acts).met }
 
 pub returns-clause-same : goal.returns-clause-same
-returns-clause-same g c = rw (now_was (turn g c) _ c.self.view_is, after_is (turn g c)) (same_as (turn g c) refl nothing_done)
+returns-clause-same g c = (lock_says (hand g c) false c.read_lock-taken.result c.read_lock-taken.ensures.locks c.read_lock-taken.ensures.acts).same
 
 pub returns-clause-section : goal.returns-clause-section
-returns-clause-section g c = rw (now_was (turn g c) _ c.self.view_is, after_is (turn g c)) (MatchResult-weaker c.read_lock-taken.result c.read_lock-taken.ensures.locks (λ r h. locked (turn g c) false r h) (λ _ h. locked_none (turn g c) refl nothing_done h))
+returns-clause-section g c = (lock_says (hand g c) false c.read_lock-taken.result c.read_lock-taken.ensures.locks c.read_lock-taken.ensures.acts).what

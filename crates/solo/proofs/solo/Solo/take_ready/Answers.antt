@@ -1,31 +1,30 @@
 use Rattle.std.proofs.Common.{arith, rules}
-use Rattle.solo.proofs.Hand.{is_inside, here, in_vector, all_behind}
-use Rattle.solo.proofs.CallbackActs.{take_says, many_in_hand, small_enough}
+use Rattle.solo.proofs.Hand.{in_items, in_domain, in_room, lent, all_there, either}
+use Rattle.solo.proofs.Meeting.{Hand, hand_of}
+use Rattle.solo.proofs.Jobs.{take_says}
+use Rattle.solo.proofs.solo.Solo.take_ready.Given.{Over}
 use Rattle.solo.proofs.solo.Solo.take_ready.Goals as goal
 
+abbrev hand : (g : Over) → goal.After-settle g → Hand
+hand g c = hand_of c.args.processor c.take_ready-taken.new.cpu c.self.invariant.met c.self.view_is c.requires c.index_mut-taker.ensures.value c.settle.ensures.all c.settle.ensures.meets
+
 pub index_mut-taker-requires : goal.index_mut-taker-requires
-index_mut-taker-requires g c = in_vector _ c.self.inside.members.cpus.items _ c.self.inside.members.cpus.ok.0 (is_inside _ _ _ _ c.self.invariant.met _ c.self.view_is c.args.processor c.requires)
+index_mut-taker-requires g c = in_items c.self.invariant.met c.self.view_is c.requires _ c.self.inside.members.cpus.ok.0
 
 pub overflow_cast-processor : goal.overflow_cast-processor
-overflow_cast-processor g c = let small = small_enough _ _ _ _ c.self.invariant.met c.args.processor (is_inside _ _ _ _ c.self.invariant.met _ c.self.view_is c.args.processor c.requires) in omega (arith, small)
+overflow_cast-processor g c = let small = in_room c.self.invariant.met c.self.view_is c.requires in omega (arith, small)
 
 pub take_ready-taken-requires : goal.take_ready-taken-requires
-take_ready-taken-requires g c = (
-  search rules,
-  (
-    here _ _ _ _ c.self.invariant.met c.args.processor _ (is_inside _ _ _ _ c.self.invariant.met _ c.self.view_is c.args.processor c.requires) c.index_mut-taker.ensures.value,
-    many_in_hand _ _ _ _ c.self.invariant.met c.args.processor (is_inside _ _ _ _ c.self.invariant.met _ c.self.view_is c.args.processor c.requires),
-  ),
-)
+take_ready-taken-requires g c = (search rules, (lent c.self.invariant.met c.self.view_is c.requires c.index_mut-taker.ensures.value, in_domain c.self.invariant.met c.self.view_is c.requires))
 
 pub settle-requires : goal.settle-requires
-settle-requires g c = all_behind _ _ _ _ c.self.invariant.met c.args.processor _ _ (is_inside _ _ _ _ c.self.invariant.met _ c.self.view_is c.args.processor c.requires) c.index_mut-taker.ensures.value c.take_ready-taken.ensures.same c.take_ready-taken.ensures.rest
+settle-requires g c = either c.take_ready-taken.result c.take_ready-taken.ensures.acts (λ r did. all_there c.self.invariant.met c.self.view_is c.requires c.index_mut-taker.ensures.value did c.take_ready-taken.ensures.here) (λ e did. all_there c.self.invariant.met c.self.view_is c.requires c.index_mut-taker.ensures.value did c.take_ready-taken.ensures.here)
 
 pub invariant_of-self : goal.invariant_of-self
-invariant_of-self g c = record { engine = c.settle.ensures.meets.left; met = (take_says _ _ _ _ c.args.processor _ _ _ _ c.self.invariant.met (is_inside _ _ _ _ c.self.invariant.met _ c.self.view_is c.args.processor c.requires) c.index_mut-taker.ensures.value c.settle.ensures.all c.settle.ensures.meets _ c.self.view_is c.take_ready-taken.ensures.rest c.args.max c.requires c.take_ready-taken.result c.take_ready-taken.ensures.takes c.take_ready-taken.ensures.handed).met }
+invariant_of-self g c = record { engine = c.settle.ensures.meets.left; met = (take_says (hand g c) c.args.max c.requires c.take_ready-taken.result c.take_ready-taken.ensures.takes c.take_ready-taken.ensures.handed c.take_ready-taken.ensures.acts).met }
 
 pub returns-clause-same : goal.returns-clause-same
-returns-clause-same g c = (take_says _ _ _ _ c.args.processor _ _ _ _ c.self.invariant.met (is_inside _ _ _ _ c.self.invariant.met _ c.self.view_is c.args.processor c.requires) c.index_mut-taker.ensures.value c.settle.ensures.all c.settle.ensures.meets _ c.self.view_is c.take_ready-taken.ensures.rest c.args.max c.requires c.take_ready-taken.result c.take_ready-taken.ensures.takes c.take_ready-taken.ensures.handed).stays
+returns-clause-same g c = (take_says (hand g c) c.args.max c.requires c.take_ready-taken.result c.take_ready-taken.ensures.takes c.take_ready-taken.ensures.handed c.take_ready-taken.ensures.acts).same
 
 pub returns-clause-answer : goal.returns-clause-answer
-returns-clause-answer g c = (take_says _ _ _ _ c.args.processor _ _ _ _ c.self.invariant.met (is_inside _ _ _ _ c.self.invariant.met _ c.self.view_is c.args.processor c.requires) c.index_mut-taker.ensures.value c.settle.ensures.all c.settle.ensures.meets _ c.self.view_is c.take_ready-taken.ensures.rest c.args.max c.requires c.take_ready-taken.result c.take_ready-taken.ensures.takes c.take_ready-taken.ensures.handed).what
+returns-clause-answer g c = (take_says (hand g c) c.args.max c.requires c.take_ready-taken.result c.take_ready-taken.ensures.takes c.take_ready-taken.ensures.handed c.take_ready-taken.ensures.acts).what

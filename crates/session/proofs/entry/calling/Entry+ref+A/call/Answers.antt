@@ -2,7 +2,8 @@ use Rattle.std.proofs.Common.{◌∷◌, ◌++◌, [], ◌∙◌, refl, ap}
 use Rattle.calls.specs.declared.refusals.CallRefusal.TheVariants as calling
 use Rattle.session.specs.States.{Jobs}
 use Rattle.session.specs.JobLists.{JobsView, jobs_of}
-use Rattle.session.proofs.Callbacks.{jobs_on, jobs_kept, on_queued, on_not_queued, together_called, together_not_called, not_done, on_err, called, called_none}
+use Rattle.session.proofs.Callbacks.{entry_on, jobs_kept, not_done, on_err, called, called_none}
+use Rattle.session.proofs.Quiet.{does_keeps, none_queued_keeps}
 use Rattle.session.proofs.entry.calling.Entry+ref+A.call.Goals.{in-Ok, in-Err-Exhausted, in-Err-Memory}
 use Rattle.session.proofs.entry.calling.Entry+ref+A.call.Goals as goal
 
@@ -19,20 +20,12 @@ returns-in_err-reserve-clause-err g c =
 pub invariant_of-self-2 : goal.invariant_of-self-2
 invariant_of-self-2 g c =
     let small = rw (← c.self.view_is) at c.requires in
-    let domain = c.call.ensures.domain in
+    let legal = c.self.invariant.0.all.legal in
+    let kept = jobs_kept c.self.inside.domain c.self.inside.jobs.items c.self.invariant.1 c.args.processor c.index_mut-jobs.result.now small c.index_mut-jobs.ensures.value in
     elim c.match-call.branch [
-      | in-Ok w ↦ rw w.self-inside-is (
-        together_called c.self.inside.domain c.call.new.self c.self.inside.names.tokens c.self.inside.parking c.self.invariant.0 c.args.processor w.in-Ok.queued (domain.0, domain.4) w.in-Ok.ensures.answer,
-        jobs_on c.self.inside.domain _ (jobs_kept c.self.inside.domain c.self.inside.jobs.items c.self.invariant.1 c.args.processor c.index_mut-jobs.result.now small c.index_mut-jobs.ensures.value w.push.new.self (ap (λ (x : JobsView). x.out) w.push.ensures ∙ c.reserve.ensures.out)) c.call.new.self (on_queued c.self.inside.domain c.call.new.self c.args.processor w.in-Ok.queued domain w.in-Ok.ensures.answer),
-      )
-      | in-Err-Exhausted w ↦ rw w.self-inside-is (
-        together_not_called c.self.inside.domain c.call.new.self c.self.inside.names.tokens c.self.inside.parking c.self.invariant.0 c.args.processor calling.Exhausted (domain.0, domain.4) (rw w.in-Err-Exhausted.field-0-is at w.in-Err-Exhausted.ensures.answer),
-        jobs_on c.self.inside.domain _ (jobs_kept c.self.inside.domain c.self.inside.jobs.items c.self.invariant.1 c.args.processor c.index_mut-jobs.result.now small c.index_mut-jobs.ensures.value c.reserve.new.self (c.reserve.ensures.out)) c.call.new.self (on_not_queued c.self.inside.domain c.call.new.self c.args.processor calling.Exhausted domain (rw w.in-Err-Exhausted.field-0-is at w.in-Err-Exhausted.ensures.answer)),
-      )
-      | in-Err-Memory w ↦ rw w.self-inside-is (
-        together_not_called c.self.inside.domain c.call.new.self c.self.inside.names.tokens c.self.inside.parking c.self.invariant.0 c.args.processor calling.Memory (domain.0, domain.4) (rw w.in-Err-Memory.field-0-is at w.in-Err-Memory.ensures.answer),
-        jobs_on c.self.inside.domain _ (jobs_kept c.self.inside.domain c.self.inside.jobs.items c.self.invariant.1 c.args.processor c.index_mut-jobs.result.now small c.index_mut-jobs.ensures.value c.reserve.new.self (c.reserve.ensures.out)) c.call.new.self (on_not_queued c.self.inside.domain c.call.new.self c.args.processor calling.Memory domain (rw w.in-Err-Memory.field-0-is at w.in-Err-Memory.ensures.answer)),
-      )
+      | in-Ok w ↦ rw w.self-inside-is (entry_on (c.self.invariant.0, kept w.push.new.self (ap (λ (x : JobsView). x.out) w.push.ensures ∙ c.reserve.ensures.out)) c.call.ensures.domain (does_keeps legal tt refl w.in-Ok.ensures.answer.queues))
+      | in-Err-Exhausted w ↦ rw w.self-inside-is (entry_on (c.self.invariant.0, kept c.reserve.new.self c.reserve.ensures.out) c.call.ensures.domain (none_queued_keeps c.args.processor calling.Exhausted legal (rw w.in-Err-Exhausted.field-0-is at w.in-Err-Exhausted.ensures.answer)))
+      | in-Err-Memory w ↦ rw w.self-inside-is (entry_on (c.self.invariant.0, kept c.reserve.new.self c.reserve.ensures.out) c.call.ensures.domain (none_queued_keeps c.args.processor calling.Memory legal (rw w.in-Err-Memory.field-0-is at w.in-Err-Memory.ensures.answer)))
     ]
 
 pub returns-clause-limits : goal.returns-clause-limits

@@ -1,20 +1,23 @@
-use Rattle.std.proofs.Common.{rules, ◌≡◌, ◌<◌, ◌∙◌, sym, ap, refl, subst, None, Some}
+use Rattle.std.proofs.Common.{rules, ◌*◌, ◌≡◌, ◌<◌, ◌∙◌, sym, ap, refl, subst, None, Some}
 use Rattle.std.specs.Prelude.{Option}
 use Rattle.calls.specs.Views.{BatchView}
 use Rattle.solo.specs.Calls.{AreOut}
 use Rattle.session.specs.JobLists.{JobsView, AreTakenWith, IsEmptied}
-use Rattle.session.proofs.Callbacks.{Out, jobs_then, jobs_kept, jobs_out, emptied_taken, few_given, none_out_is, together_taken, invoking_take_batch, took, took_none}
+use Rattle.session.proofs.Callbacks.{Out, jobs_on, jobs_kept, jobs_out, emptied_taken, few_given, none_out_is, invoking_take_batch, took, took_none}
+use Rattle.session.proofs.Quiet.{does_quietly, keeps_jobs}
+use Rattle.session.proofs.Together.{together_on}
+use Rattle.onedom.specs.Histories.{ended_in}
 use Rattle.session.proofs.entry.calling.Entry+ref+A.take_batch.Goals as goal
 
 pub take-names-requires : goal.take-names-requires
 take-names-requires g c =
     let takes = rw c.in-Ok-Some.field-0-is at c.in-Ok-Some.ensures.answer in
-    (search rules, few_given c.self.inside.domain c.args.processor 8 takes.reached c.in-Ok-Some.batch takes.batch)
+    (search rules, few_given c.self.inside.domain c.args.processor 8 (4 * ended_in c.self.inside.domain.course.standing.history) c.in-Ok-Some.batch takes.batch)
 
 pub see_out-requires : goal.see_out-requires
 see_out-requires g c =
     let takes = rw c.in-Ok-Some.field-0-is at c.in-Ok-Some.ensures.answer in
-    let emptied = emptied_taken c.self.inside.domain c.take_ready.new.self c.args.processor 8 takes.reached c.in-Ok-Some.batch c.take-names.new.batch c.take_ready.ensures.same takes.batch c.take-names.ensures.batch in
+    let emptied = emptied_taken c.self.inside.domain c.take_ready.new.self c.args.processor 8 (4 * ended_in c.self.inside.domain.course.standing.history) c.in-Ok-Some.batch c.take-names.new.batch c.take_ready.ensures.same takes.batch c.take-names.ensures.batch in
     (search rules, emptied.of_domain)
 
 pub put_out-requires : goal.put_out-requires
@@ -34,16 +37,16 @@ pub invariant_of-self-in-Ok-Some : goal.invariant_of-self-in-Ok-Some
 invariant_of-self-in-Ok-Some g c =
     let small = rw (← c.self.view_is) at c.requires in
     let takes = rw c.in-Ok-Some.field-0-is at c.in-Ok-Some.ensures.answer in
-    let emptied : IsEmptied c.take_ready.new.self c.take-names.new.batch = emptied_taken c.self.inside.domain c.take_ready.new.self c.args.processor 8 takes.reached c.in-Ok-Some.batch c.take-names.new.batch c.take_ready.ensures.same takes.batch c.take-names.ensures.batch in
+    let emptied : IsEmptied c.take_ready.new.self c.take-names.new.batch = emptied_taken c.self.inside.domain c.take_ready.new.self c.args.processor 8 (4 * ended_in c.self.inside.domain.course.standing.history) c.in-Ok-Some.batch c.take-names.new.batch c.take_ready.ensures.same takes.batch c.take-names.ensures.batch in
     let same = c.take_ready.ensures.same in
-    let jobs = jobs_then c.self.inside.domain c.self.inside.jobs.items c.self.invariant.1 c.take_ready.new.self same in
+    let jobs = jobs_on c.self.inside.domain c.self.inside.jobs.items c.self.invariant.1 c.take_ready.new.self same (keeps_jobs refl takes.asks) in
     let out = ap (λ (x : JobsView). x.out) c.put_out.ensures in
     let at = ap (λ (x : BatchView (Unit {0})). x.processor) c.take-names.ensures.batch ∙ takes.batch.is_of.processor in
-    let many = subst (λ q. AreOut q c.take-names.new.batch.count c.take_ready.new.self) at c.see_out.ensures.out in
+    let many = subst (λ q. AreOut q c.take-names.new.batch.count c.take_ready.new.self.course) at c.see_out.ensures.out in
     let left : Option Out = Some (c.take-names.new.batch, c.take-names.result) in
     let out_is : c.put_out.new.self.out ≡ left = out ∙ ap (λ (b : BatchView (Unit {0})). Some (b, c.take-names.result)) c.see_out.ensures.batch in
     rw c.see_out.ensures.after (
-      together_taken c.self.inside.domain c.take_ready.new.self c.self.inside.names.tokens c.self.inside.parking c.self.invariant.0 c.args.processor 8 (Some c.in-Ok-Some.batch) (same.0, same.5) takes,
+      together_on c.self.inside.domain c.self.inside.names.tokens c.self.inside.parking c.self.invariant.0 c.take_ready.new.self c.take_ready.ensures.same (does_quietly c.self.invariant.0.all.legal tt takes.asks),
       jobs_out c.take_ready.new.self c.self.inside.jobs.items jobs c.args.processor c.index_mut-jobs.result.now (subst (λ n. c.args.processor < n) (sym same.2) small) c.index_mut-jobs.ensures.value c.put_out.new.self (c.take-names.new.batch, c.take-names.result) out_is emptied at many,
     )
 
@@ -51,7 +54,7 @@ pub invariant_of-self-in-Ok-None : goal.invariant_of-self-in-Ok-None
 invariant_of-self-in-Ok-None g c =
     let small = rw (← c.self.view_is) at c.requires in
     let takes = rw c.in-Ok-None.field-0-is at c.in-Ok-None.ensures.answer in
-    (together_taken c.self.inside.domain c.take_ready.new.self c.self.inside.names.tokens c.self.inside.parking c.self.invariant.0 c.args.processor 8 None (c.take_ready.ensures.same.0, c.take_ready.ensures.same.5) takes, jobs_then c.self.inside.domain _ (jobs_kept c.self.inside.domain c.self.inside.jobs.items c.self.invariant.1 c.args.processor c.index_mut-jobs.result.now small c.index_mut-jobs.ensures.value c.index_mut-jobs.result.now (refl)) c.take_ready.new.self c.take_ready.ensures.same)
+    (together_on c.self.inside.domain c.self.inside.names.tokens c.self.inside.parking c.self.invariant.0 c.take_ready.new.self c.take_ready.ensures.same (does_quietly c.self.invariant.0.all.legal tt takes.asks), jobs_on c.self.inside.domain _ (jobs_kept c.self.inside.domain c.self.inside.jobs.items c.self.invariant.1 c.args.processor c.index_mut-jobs.result.now small c.index_mut-jobs.ensures.value c.index_mut-jobs.result.now (refl)) c.take_ready.new.self c.take_ready.ensures.same (keeps_jobs refl takes.asks))
 
 pub returns-in-Ok-Some-clause-limits : goal.returns-in-Ok-Some-clause-limits
 returns-in-Ok-Some-clause-limits g c = rw (← c.self.view_is, c.see_out.ensures.after) c.take_ready.ensures.same.1

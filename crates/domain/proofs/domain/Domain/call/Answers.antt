@@ -1,0 +1,17 @@
+use Rattle.std.proofs.Common.{rules, ◌≡◌, refl}
+use Rattle.std.proofs.lemmas.Result.{err_from_is_err_and}
+use Rattle.domain.proofs.Acting.{queue_acts, refusal_acts}
+use Rattle.domain.proofs.domain.Domain.call.Goals as goal
+
+pub returns-clause-acts : goal.returns-clause-acts
+returns-clause-acts g c =
+    let n : c.unwrap.result ≡ c.in_ok-receipt.receipt.cookie.number = search rules in
+    let same = rw (← c.cpu.view_is) at c.requires.fits.cpu in
+    rw (← c.cpu.view_is) (queue_acts c.self.inside.calls _ _ c.args.job same c.in_ok-receipt.receipt c.in_ok-receipt.ensures.queues c.unwrap.result n c.ask.result c.ask.ensures.asks refl)
+
+pub returns-in_err-receipt-clause-acts : goal.returns-in_err-receipt-clause-acts
+returns-in_err-receipt-clause-acts g c =
+    let seat = c.in_err-receipt.ensures.queues.refuses.seat in
+    let given = err_from_is_err_and c.from_residual.result c.from_residual.ensures.1 in
+    let same : given.0 ≡ c.in_err-receipt.field-0.0 = search rules in
+    rw (given.1, same, ← c.cpu.view_is) (refusal_acts c.self.inside.calls _ _ c.args.job (λ i. record { cpu = c.call.new.cpu; needs = c.cpu.inside.needs; turn = c.cpu.inside.turn; calls = seat i }) c.in_err-receipt.field-0.0 c.in_err-receipt.ensures.queues)

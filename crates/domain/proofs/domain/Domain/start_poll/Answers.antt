@@ -1,0 +1,8 @@
+use Rattle.std.proofs.Common.{rules, ◌≡◌, refl}
+use Rattle.domain.proofs.Acting.{start_acts}
+use Rattle.domain.proofs.domain.Domain.start_poll.Goals as goal
+
+pub returns-clause-acts : goal.returns-clause-acts
+returns-clause-acts g c =
+    let n : c.unwrap.result ≡ c.cookie-cookie.result.number = search rules in
+    rw (← c.cpu.view_is) (start_acts _ _ c.cookie-cookie.result c.cookie-cookie.ensures c.unwrap.result n c.ask.result c.ask.ensures.asks refl refl)
