@@ -4,8 +4,6 @@ use std::alloc::{Allocator, Global};
 use std::marker::Model;
 
 mod counts;
-#[cfg(test)]
-mod tests;
 mod tickets;
 
 /// What a barrier waits for (`srcu_barrier`): of each processor, how many calls had been queued when the barrier was

@@ -1,12 +1,12 @@
-ghost use Rattle.std.specs.Prelude.{◌≡◌, ◌+◌, IsTrue, IfOk, IfSome};
+ghost use Rattle.std.specs.Prelude.{◌≡◌, ◌+◌, ◌<◌, IsTrue, IfOk, IfSome};
 ghost use Rattle.sseq.specs.Indexes.{low_bit, other_index};
 ghost use Rattle.sseq.specs.declared.index.Index.TheVariants.{One};
 ghost use Rattle.onedom.specs.Histories.{WasEmpty};
 ghost use Rattle.sections.specs.Words.{index_word, IsBeforeFlip, IsBehindFlip};
+ghost use Rattle.sections.specs.Calls.{IsSameCpu};
 ghost use Rattle.sections.specs.EngineCalls.{IsSameEngine, IsSeenByEngine};
 
 use super::*;
-use crate::board::{place_of_lock, place_of_unlock};
 use bumpalo::Bump;
 use linked_list_allocator::LocalHeap;
 use sseq::{Index, Number};
@@ -90,119 +90,256 @@ fn end_behind_scan(engine: &mut EngineSeat) -> Option<Number>
     Some(engine.add_end())
 }
 
-/// Would catch calls that no caller can meet, and answers that every clause leaves open.
+/// How many sections of the index the processor's counters say were begun there, and how many were ended.
+fn counted(engine: &mut EngineSeat, processor: u16, index: Index) -> (u64, u64)
+    requires { processor < engine.old.processors }
+    ensures { IsSameEngine engine.old engine.new }
+{
+    (
+        engine.locks(processor, index),
+        engine.unlocks(processor, index),
+    )
+}
+
+/// What the counters of two processors say, of index 0 and then of index 1.
+fn counted_on_two(engine: &mut EngineSeat) -> [(u64, u64); 4]
+    requires { engine.old.processors ≡ 2 }
+{
+    let first = counted(engine, 0, Index::Zero);
+    let second = counted(engine, 1, Index::Zero);
+    let first_next = counted(engine, 0, Index::One);
+    [first, second, first_next, counted(engine, 1, Index::One)]
+}
+
+/// The index and the processor of a section that this processor enters by a look of another one, and how many are open on
+/// each of the two meanwhile and behind.
+fn enter_by_look(cpu: &mut Cpu, other: &mut Cpu) -> Option<(Index, u16, [(u64, u64); 2])>
+    requires { other.old.domain ≡ cpu.old.domain }
+    ensures { other.new.domain ≡ cpu.new.domain }
+{
+    let look = other.look();
+    let entered = cpu.enter(look).ok()?;
+    let (index, processor) = (entered.index(), entered.processor());
+    let open = (cpu.open_here(), other.open_here());
+    cpu.read_unlock(entered);
+    Some((
+        index,
+        processor,
+        [open, (cpu.open_here(), other.open_here())],
+    ))
+}
+
+/// Begins and ends a section. Tells its index and processor, and how many are open here meanwhile and behind.
+fn begin_and_end(cpu: &mut Cpu) -> Option<(Index, u16, u64, u64)>
+    ensures { IsSameCpu cpu.old cpu.new }
+{
+    let reading = cpu.read_lock().ok()?;
+    let (index, processor, open) = (reading.index(), reading.processor(), cpu.open_here());
+    cpu.read_unlock(reading);
+    Some((index, processor, open, cpu.open_here()))
+}
+
+/// Would catch sections that no caller can begin, with another index or processor, or that count elsewhere.
 #[test]
-fn makes_a_domain(rt: HostRuntime) -> Result<(), Fail> {
-    let (mut first, mut second, mut engine) = meet_in_new_domain(rt.alloc())?;
-    assert_eq!(rt; (first.processor(), second.processor()), (0, 1));
+fn begins_sections(rt: HostRuntime) -> Result<(), Fail> {
+    let (mut first, mut second, _) = meet_in_new_domain(rt.alloc())?;
+    let there = enter_by_look(&mut second, &mut first);
+    let here = begin_and_end(&mut first);
+    assert_eq!(rt; there, Some((Index::Zero, 1, [(1, 0), (0, 0)])));
+    assert_eq!(rt; here, Some((Index::Zero, 0, 1, 0)));
+    Ok(())
+}
 
-    let look = first.look();
-    assert_eq!(rt; look.index(), Index::Zero);
-    assert_eq!(rt; second.open_here(), 0);
-    let Ok(entered) = second.enter(look) else {
-        panic!(rt; "there is room");
-    };
-    assert_eq!(rt; (entered.index(), entered.processor()), (Index::Zero, 1));
-    assert_eq!(rt; (first.open_here(), second.open_here()), (0, 1));
-    let Ok(locked) = first.read_lock() else {
-        panic!(rt; "there is room");
-    };
-    assert_eq!(rt; (locked.index(), locked.processor()), (Index::Zero, 0));
-
-    assert_eq!(rt; (engine.processors(), engine.periods()), (2, 2));
-    assert_eq!(rt; engine.number().get(), 0);
-    assert_eq!(rt; engine.add_start().get(), 1);
-    assert_eq!(rt; engine.number().get(), 1);
-    assert_eq!(rt; (first.number().get(), second.number().get()), (1, 1));
-    first.tie(&mut second);
-    engine.tie(&mut first);
-    second.cover(&mut first);
-    second.admit(&mut first);
-    engine.cover(&mut second);
-    engine.admit(&mut second);
-
-    first.read_unlock(locked);
-    second.read_unlock(entered);
-    assert_eq!(rt; (first.open_here(), second.open_here()), (0, 0));
-    let look = second.look();
-    let full = match first.enter(look) {
+/// Whether one more section is refused here, by a look of another processor and by one of its own.
+fn is_full(cpu: &mut Cpu, other: &mut Cpu) -> (bool, bool)
+    requires { other.old.domain ≡ cpu.old.domain }
+    ensures { other.new.domain ≡ cpu.new.domain }
+{
+    let look = other.look();
+    let entered = match cpu.enter(look) {
         Ok(reading) => {
-            first.read_unlock(reading);
+            cpu.read_unlock(reading);
             false
         }
         Err(Exhausted) => true,
     };
-    assert!(rt; full);
-    let full = match second.read_lock() {
+    match cpu.read_lock() {
         Ok(reading) => {
-            second.read_unlock(reading);
-            false
+            cpu.read_unlock(reading);
+            (entered, false)
         }
-        Err(Exhausted) => true,
-    };
-    assert!(rt; full);
+        Err(Exhausted) => (entered, true),
+    }
+}
+
+/// Would catch a limit that is off by one, or that two processors share.
+#[test]
+fn sections_up_to_the_limit(rt: HostRuntime) -> Result<(), Fail> {
+    let (mut first, mut second, _) = meet_in_new_domain(rt.alloc())?;
+    let begun = begin_and_end(&mut first).is_some();
+    let full = is_full(&mut first, &mut second);
+    let there = is_full(&mut second, &mut first);
+    assert_eq!(rt; (begun, full, there), (true, (true, true), (false, true)));
     assert_eq!(rt; (first.open_here(), second.open_here()), (0, 0));
     Ok(())
 }
 
-/// Would catch a cookie that is done too early or too late, counters of the wrong processor or index, and a flip that
-/// leaves the index as it is. The look of the first period is older than the flip, so its section holds up the second.
+/// Ties and meetings of two processors and the engine.
+fn tie_all(first: &mut Cpu, second: &mut Cpu, engine: &mut EngineSeat)
+    requires { (first.old.domain ≡ engine.old.domain) × (second.old.domain ≡ engine.old.domain) }
+{
+    first.tie(second);
+    engine.tie(first);
+    second.cover(first);
+    second.admit(first);
+    engine.cover(second);
+    engine.admit(second);
+}
+
+/// Would catch calls that no caller can meet, and numbers that every clause leaves open.
+#[test]
+fn makes_a_domain(rt: HostRuntime) -> Result<(), Fail> {
+    let (mut first, mut second, mut engine) = meet_in_new_domain(rt.alloc())?;
+    assert_eq!(rt;
+        (
+            first.processor(),
+            second.processor(),
+            engine.processors(),
+            engine.periods()
+        ),
+        (0, 1, 2, 2)
+    );
+    let before = engine.number().get();
+    let started = engine.add_start().get();
+    assert_eq!(rt; [before, started, engine.number().get()], [0, 1, 1]);
+    assert_eq!(rt; [first.number().get(), second.number().get()], [1, 1]);
+    tie_all(&mut first, &mut second, &mut engine);
+    Ok(())
+}
+
+/// A whole period. Tells the numbers of the cookies that two processors give before it and while it runs; and whether the
+/// first cookie is done before the end, for one processor, and behind it, for both, and whether the second one is then.
+fn ask_in_a_period(
+    first: &mut Cpu,
+    second: &mut Cpu,
+    engine: &mut EngineSeat,
+) -> Option<([u64; 2], [bool; 4])>
+    requires domain { second.old.domain ≡ first.old.domain }
+    requires new { (engine.old.changes ≡ 0) × (engine.old.periods ≡ 2) × (engine.old.processors ≡ 2) }
+{
+    let mut at_rest = first.cookie();
+    engine.add_start();
+    let mut running = second.cookie();
+    flip_behind_scan(engine, Index::One)?;
+    let early = first.poll(&mut at_rest);
+    end_behind_scan(engine)?;
+    let late = first.poll(&mut at_rest);
+    let there = second.poll(&mut at_rest);
+    let next = first.poll(&mut running);
+    Some((
+        [at_rest.number(), running.number()],
+        [early, late, there, next],
+    ))
+}
+
+/// Would catch a cookie that is done too early or too late, or for the processor alone that gave it.
+#[test]
+fn cookies_of_a_period(rt: HostRuntime) -> Result<(), Fail> {
+    let (mut first, mut second, mut engine) = meet_in_new_domain(rt.alloc())?;
+    let asked = ask_in_a_period(&mut first, &mut second, &mut engine);
+    assert_eq!(rt; asked, Some(([4, 8], [false, true, true, false])));
+    Ok(())
+}
+
+/// A period that a section holds up, which the processor begins before. Tells whether the second scan finds it, and the
+/// numbers of the period's three steps, each as it was answered and as it then stands, with the index behind the flip.
+fn period_with_section(
+    cpu: &mut Cpu,
+    engine: &mut EngineSeat,
+) -> Option<(bool, Index, [(u64, u64); 3])>
+    requires new { (engine.old.changes ≡ 0) × (engine.old.periods ≡ 2) × (engine.old.processors ≡ 2) }
+    ensures { engine.new.processors ≡ 2 }
+{
+    let reading = cpu.read_lock().ok()?;
+    let start = (engine.add_start().get(), engine.number().get());
+    let Some((index, number)) = flip_behind_scan(engine, Index::One) else {
+        cpu.read_unlock(reading);
+        return None;
+    };
+    let flip = (number.get(), engine.number().get());
+    let is_empty = scan(engine, Index::Zero);
+    cpu.read_unlock(reading);
+    let number = end_behind_scan(engine)?;
+    let end = (number.get(), engine.number().get());
+    Some((!is_empty, index, [start, flip, end]))
+}
+
+/// Would catch a scan that overlooks a section, counters of the wrong processor or index, and steps that answer another
+/// number.
 #[test]
 fn whole_period(rt: HostRuntime) -> Result<(), Fail> {
-    let (mut first, mut second, mut engine) = meet_in_new_domain(rt.alloc())?;
-    let mut at_rest = first.cookie();
-    assert_eq!(rt; (at_rest.number(), first.number().get()), (4, 0));
-    let look = first.look();
-    let Ok(reading) = second.read_lock() else {
-        panic!(rt; "there is room");
-    };
-    assert_eq!(rt; engine.add_start().get(), 1);
-    let mut running = second.cookie();
-    assert_eq!(rt; (running.number(), second.number().get()), (8, 1));
+    let (_, mut second, mut engine) = meet_in_new_domain(rt.alloc())?;
+    let period = period_with_section(&mut second, &mut engine);
+    assert_eq!(rt; period, Some((true, Index::One, [(1, 1), (2, 2), (4, 4)])));
     assert_eq!(rt;
-        (engine.locks(1, Index::Zero), engine.unlocks(1, Index::Zero)),
-        (1, 0)
+        counted_on_two(&mut engine),
+        [(0, 0), (1, 1), (0, 0), (0, 0)]
     );
-    assert_eq!(rt;
-        (engine.locks(0, Index::Zero), engine.unlocks(0, Index::Zero)),
-        (0, 0)
-    );
-    let Some((current, number)) = flip_behind_scan(&mut engine, Index::One) else {
-        panic!(rt; "no section of index 1 was begun");
-    };
-    assert_eq!(rt;
-        (current, number.get(), engine.number().get()),
-        (Index::One, 2, 2)
-    );
-    assert!(rt; !scan(&mut engine, Index::Zero));
-    assert!(rt; !first.poll(&mut at_rest));
-    second.read_unlock(reading);
-    let Some(number) = end_behind_scan(&mut engine) else {
-        panic!(rt; "the section is closed");
-    };
-    assert_eq!(rt; (number.get(), engine.number().get()), (4, 4));
-    assert_eq!(rt;
-        (engine.locks(1, Index::Zero), engine.unlocks(1, Index::Zero)),
-        (1, 1)
-    );
-    assert!(rt; second.poll(&mut at_rest));
-    assert!(rt; first.poll(&mut at_rest));
-    assert!(rt; !first.poll(&mut running));
-    assert_eq!(rt; (at_rest.number(), running.number()), (4, 8));
-    let newer = first.look();
-    assert_eq!(rt; newer.index(), Index::One);
-    assert_eq!(rt; engine.add_start().get(), 5);
-    let Ok(late) = first.enter(look) else {
-        panic!(rt; "there is room");
-    };
-    assert_eq!(rt; late.index(), Index::Zero);
-    assert!(rt; !scan(&mut engine, Index::Zero));
-    first.read_unlock(late);
-    let Some((current, number)) = flip_behind_scan(&mut engine, Index::Zero) else {
-        panic!(rt; "the section is closed");
-    };
-    assert_eq!(rt; (current, number.get()), (Index::Zero, 6));
     Ok(())
+}
+
+/// Two periods. The processor's look is older than the first, and its section begins in the second. Tells whether the scan
+/// finds it, its index and that of a newer look, and the index and the number behind the second flip.
+fn late_section(cpu: &mut Cpu, engine: &mut EngineSeat) -> Option<(bool, [Index; 3], u64)>
+    requires new { (engine.old.changes ≡ 0) × (engine.old.periods ≡ 2) × (engine.old.processors ≡ 2) }
+{
+    let look = cpu.look();
+    drive(engine)?;
+    engine.add_start();
+    let newer = cpu.look().index();
+    let late = cpu.enter(look).ok()?;
+    let index = late.index();
+    let is_empty = scan(engine, Index::Zero);
+    cpu.read_unlock(late);
+    let (current, number) = flip_behind_scan(engine, Index::Zero)?;
+    Some((!is_empty, [index, newer, current], number.get()))
+}
+
+/// Would catch a flip that leaves the index as it is, and a period that passes a section whose look is older than the flip.
+#[test]
+fn an_older_look(rt: HostRuntime) -> Result<(), Fail> {
+    let (mut first, _, mut engine) = meet_in_new_domain(rt.alloc())?;
+    let late = late_section(&mut first, &mut engine);
+    assert_eq!(rt;
+        late,
+        Some((true, [Index::Zero, Index::One, Index::Zero], 6))
+    );
+    Ok(())
+}
+
+/// A period that a held section holds up, which begins on the first processor and ends on the second. Tells its index and
+/// processor, how many readings are open on both meanwhile, whether the scan finds it, and the number behind the end.
+fn hold_and_end_elsewhere(
+    first: &mut Cpu,
+    second: &mut Cpu,
+    engine: &mut EngineSeat,
+) -> Option<(Index, u16, (u64, u64), bool, u64)>
+    requires domain { second.old.domain ≡ first.old.domain }
+    requires new { (engine.old.changes ≡ 0) × (engine.old.periods ≡ 2) × (engine.old.processors ≡ 2) }
+    ensures { engine.new.processors ≡ 2 }
+{
+    let held = first.down_read().ok()?;
+    let (index, processor) = (held.index(), held.processor());
+    let open = (first.open_here(), second.open_here());
+    engine.add_start();
+    let Some(_) = flip_behind_scan(engine, Index::One) else {
+        second.up_read(held);
+        return None;
+    };
+    let is_empty = scan(engine, Index::Zero);
+    second.up_read(held);
+    let number = end_behind_scan(engine)?;
+    Some((index, processor, open, !is_empty, number.get()))
 }
 
 /// Would catch an end that goes to the counter of the processor that began the section, or to the index that is current
@@ -210,54 +347,40 @@ fn whole_period(rt: HostRuntime) -> Result<(), Fail> {
 #[test]
 fn held_ends_elsewhere(rt: HostRuntime) -> Result<(), Fail> {
     let (mut first, mut second, mut engine) = meet_in_new_domain(rt.alloc())?;
-    let Ok(held) = first.down_read() else {
-        panic!(rt; "there is room");
-    };
-    assert_eq!(rt; (held.index(), held.processor()), (Index::Zero, 0));
+    let held = hold_and_end_elsewhere(&mut first, &mut second, &mut engine);
+    assert_eq!(rt; held, Some((Index::Zero, 0, (0, 0), true, 4)));
     assert_eq!(rt; (first.open_here(), second.open_here()), (0, 0));
-    engine.add_start();
-    let Some((current, _)) = flip_behind_scan(&mut engine, Index::One) else {
-        panic!(rt; "no section of index 1 was begun");
-    };
-    assert_eq!(rt; current, Index::One);
-    assert!(rt; !scan(&mut engine, Index::Zero));
-    second.up_read(held);
-    assert_eq!(rt; (first.open_here(), second.open_here()), (0, 0));
-    assert_eq!(rt; end_behind_scan(&mut engine).map(Number::get), Some(4));
-    let here = (engine.locks(0, Index::Zero), engine.unlocks(0, Index::Zero));
-    let there = (engine.locks(1, Index::Zero), engine.unlocks(1, Index::Zero));
-    assert_eq!(rt; (here, there), ((1, 0), (0, 1)));
+    assert_eq!(rt;
+        counted_on_two(&mut engine),
+        [(1, 0), (0, 1), (0, 0), (0, 0)]
+    );
     Ok(())
+}
+
+/// Whether one more held section is refused here. Where it is not, it ends on the other processor.
+fn holds_no_more(cpu: &mut Cpu, other: &mut Cpu) -> bool
+    requires { other.old.domain ≡ cpu.old.domain }
+    ensures { other.new.domain ≡ cpu.new.domain }
+{
+    match cpu.down_read() {
+        Ok(held) => {
+            other.up_read(held);
+            false
+        }
+        Err(Exhausted) => true,
+    }
 }
 
 /// Would catch held sections that don't count to the limit, or that count where they end.
 #[test]
 fn held_up_to_the_limit(rt: HostRuntime) -> Result<(), Fail> {
     let (mut first, mut second, _) = meet_in_new_domain(rt.alloc())?;
-    let Ok(held) = first.down_read() else {
-        panic!(rt; "there is room");
-    };
-    second.up_read(held);
-    let full = match first.down_read() {
-        Ok(held) => {
-            first.up_read(held);
-            false
-        }
-        Err(Exhausted) => true,
-    };
-    assert!(rt; full);
-    let Ok(reading) = second.read_lock() else {
-        panic!(rt; "there is room");
-    };
-    let full = match second.down_read() {
-        Ok(held) => {
-            first.up_read(held);
-            false
-        }
-        Err(Exhausted) => true,
-    };
-    assert!(rt; full);
-    second.read_unlock(reading);
+    let early = holds_no_more(&mut first, &mut second);
+    let full = holds_no_more(&mut first, &mut second);
+    let begun = begin_and_end(&mut second).is_some();
+    let full_there = holds_no_more(&mut second, &mut first);
+    assert_eq!(rt; (early, full), (false, true));
+    assert_eq!(rt; (begun, full_there), (true, true));
     Ok(())
 }
 
@@ -273,7 +396,7 @@ fn hold(mut cpu: Cpu) -> Option<(Cpu, Held)>
 /// section that only its own thread or processor can end.
 #[test]
 fn held_goes_to_another_thread(rt: HostRuntime) -> Result<(), Fail> {
-    let (first, second, engine) = meet_in_new_domain(rt.alloc())?;
+    let (first, second, mut engine) = meet_in_new_domain(rt.alloc())?;
     let (here, there) = join(&rt, move || hold(first), move || hold(second));
     let Some((mut first, of_first)) = here else {
         panic!(rt; "there is room");
@@ -284,33 +407,36 @@ fn held_goes_to_another_thread(rt: HostRuntime) -> Result<(), Fail> {
     assert_eq!(rt; (of_first.processor(), of_second.processor()), (0, 1));
     first.up_read(of_second);
     second.up_read(of_first);
-    for processor in [0, 1] {
-        let words = &engine.table.shared;
-        let locks = words.peek(place_of_lock(processor, Index::Zero));
-        let unlocks = words.peek(place_of_unlock(processor, Index::Zero));
-        assert_eq!(rt; (locks, unlocks), (1, 1), "at {processor}");
-    }
+    assert_eq!(rt;
+        counted_on_two(&mut engine),
+        [(1, 1), (1, 1), (0, 0), (0, 0)]
+    );
     Ok(())
+}
+
+/// Whether one section of index 0 was begun and ended on each of 64 processors.
+fn once_on_each(engine: &mut EngineSeat) -> bool
+    requires { engine.old.processors ≡ 64 }
+{
+    let mut once = true;
+    for processor in 0..64 {
+        once &= counted(engine, processor, Index::Zero) == (1, 1);
+    }
+    once
 }
 
 /// Would catch counters that two of 64 processors share, and a processor that is not dealt.
 #[test]
 fn most_processors(rt: HostRuntime) -> Result<(), Fail> {
-    let Made { mut cpus, engine } = make(rt.alloc(), MOST_PROCESSORS, limits(1))?;
+    let Made {
+        mut cpus,
+        mut engine,
+    } = make(rt.alloc(), MOST_PROCESSORS, limits(1))?;
     assert_eq!(rt; (cpus.len(), engine.processors()), (64, 64));
     for (k, cpu) in cpus.iter_mut().enumerate() {
-        assert_eq!(rt; cpu.processor() as usize, k);
-        let Ok(reading) = cpu.read_lock() else {
-            panic!(rt; "there is room");
-        };
-        cpu.read_unlock(reading);
+        assert_eq!(rt; begin_and_end(cpu), Some((Index::Zero, k as u16, 1, 0)));
     }
-    for processor in 0..64 {
-        let words = &engine.table.shared;
-        let locks = words.peek(place_of_lock(processor, Index::Zero));
-        let unlocks = words.peek(place_of_unlock(processor, Index::Zero));
-        assert_eq!(rt; (locks, unlocks), (1, 1), "at {processor}");
-    }
+    assert!(rt; once_on_each(&mut engine));
     Ok(())
 }
 
@@ -319,6 +445,8 @@ fn drive(engine: &mut EngineSeat) -> Option<Number>
     requires two { engine.old.processors ≡ 2 }
     requires rests { engine.old.changes ≡ 0 }
     requires room { engine.old.periods ≡ 2 }
+    ensures same { IsSameEngine engine.old engine.new }
+    ensures ended { IfSome result (λ _. engine.new.changes ≡ 4) }
 {
     engine.add_start();
     flip_behind_scan(engine, Index::One)?;
@@ -344,19 +472,37 @@ fn one_thread_gives_and_another_asks(rt: HostRuntime) -> Result<(), Fail> {
     Ok(())
 }
 
+/// What is told through a sight of the engine, before a period and behind it: the number of a cookie and of its copy, and
+/// how far the domain is; and then whether the copy is done, and the number of a newer cookie.
+fn tell_by_a_sight(
+    first: &mut Cpu,
+    second: &mut Cpu,
+    engine: &mut EngineSeat,
+) -> Option<([u64; 3], u64, bool, u64)>
+    requires domain { (first.old.domain ≡ engine.old.domain) × (second.old.domain ≡ engine.old.domain) }
+    requires new { (engine.old.changes ≡ 0) × (engine.old.periods ≡ 2) × (engine.old.processors ≡ 2) }
+{
+    let mut sight = engine.sight();
+    let mut cookie = first.cookie_behind(&mut sight);
+    let mut copy = second.copy_cookie(&mut cookie);
+    let before = [
+        cookie.number(),
+        copy.number(),
+        second.how_far(&mut sight).get(),
+    ];
+    drive(engine)?;
+    let behind = second.how_far(&mut sight).get();
+    let done = first.poll(&mut copy);
+    let newer = first.cookie_behind(&mut sight);
+    Some((before, behind, done, newer.number()))
+}
+
 /// Would catch a sight that doesn't go along, so that a later cookie is smaller, and a copy that is another cookie.
 #[test]
 fn behind_a_sight(rt: HostRuntime) -> Result<(), Fail> {
     let (mut first, mut second, mut engine) = meet_in_new_domain(rt.alloc())?;
-    let mut sight = engine.sight();
-    let mut cookie = first.cookie_behind(&mut sight);
-    let mut copy = second.copy_cookie(&mut cookie);
-    assert_eq!(rt; (cookie.number(), copy.number()), (4, 4));
-    assert_eq!(rt; second.how_far(&mut sight).get(), 0);
-    assert_eq!(rt; drive(&mut engine).map(Number::get), Some(4));
-    assert_eq!(rt; second.how_far(&mut sight).get(), 4);
-    assert!(rt; first.poll(&mut copy));
-    assert_eq!(rt; first.cookie_behind(&mut sight).number(), 8);
+    let told = tell_by_a_sight(&mut first, &mut second, &mut engine);
+    assert_eq!(rt; told, Some(([4, 4, 0], 4, true, 8)));
     Ok(())
 }
 
@@ -365,10 +511,13 @@ fn behind_a_sight(rt: HostRuntime) -> Result<(), Fail> {
 fn polls_numbers(rt: HostRuntime) -> Result<(), Fail> {
     let (mut first, _, _) = meet_in_new_domain(rt.alloc())?;
     for (number, done) in [(0, true), (4, false), (8, false), (u64::MAX - 3, false)] {
-        assert_eq!(rt; first.poll_number(number), Ok(done), "at {number}");
+        assert_eq!(rt; (number, first.poll_number(number)), (number, Ok(done)));
     }
     for number in [1, 2, 3, 5, 6, 7, u64::MAX] {
-        assert_eq!(rt; first.poll_number(number), Err(NotACookie), "at {number}");
+        assert_eq!(rt;
+            (number, first.poll_number(number)),
+            (number, Err(NotACookie))
+        );
     }
     Ok(())
 }
@@ -382,6 +531,11 @@ fn numbers_of_refusals(rt: HostRuntime) {
         MakeError::Memory as u8,
     ];
     assert_eq!(rt; numbers, [1, 2, 3]);
+}
+
+/// Why such a domain is not made, if it is not.
+fn refusal(alloc: Global, processors: usize, limits: Limits) -> Option<MakeError> {
+    make(alloc, processors, limits).err()
 }
 
 /// Would catch a wrong bound in the limits' ranges, and refusals in another order.
@@ -411,16 +565,20 @@ fn refuses_to_make(rt: HostRuntime) {
         Limits { cells: 1, ..most },
     ];
     for processors in [1, 2, MOST_PROCESSORS] {
-        assert!(rt; make(rt.alloc(), processors, most).is_ok());
+        assert_eq!(rt; refusal(rt.alloc(), processors, most), None);
         for limits in wrong {
-            let refused = make(rt.alloc(), processors, limits).err();
-            assert_eq!(rt; refused, Some(MakeError::Limits), "at {limits:?}");
+            assert_eq!(rt;
+                (limits, refusal(rt.alloc(), processors, limits)),
+                (limits, Some(MakeError::Limits))
+            );
         }
     }
     for processors in [0, 65] {
         for limits in [most, no_sections, no_periods] {
-            let refused = make(rt.alloc(), processors, limits).err();
-            assert_eq!(rt; refused, Some(MakeError::Processors), "at {limits:?}");
+            assert_eq!(rt;
+                (limits, refusal(rt.alloc(), processors, limits)),
+                (limits, Some(MakeError::Processors))
+            );
         }
     }
 }
@@ -465,7 +623,10 @@ fn visit(cpu: &mut Cpu) -> Option<u64> {
 /// counters.
 #[test]
 fn two_threads(rt: HostRuntime) -> Result<(), Fail> {
-    let Made { mut cpus, engine } = make(rt.alloc(), 2, limits(VISITS + 1))?;
+    let Made {
+        mut cpus,
+        mut engine,
+    } = make(rt.alloc(), 2, limits(VISITS + 1))?;
     let mut second = cpus.pop().unwrap();
     let mut first = cpus.pop().unwrap();
     let (one, two) = (AtomicBool::new(false), AtomicBool::new(false));
@@ -481,15 +642,17 @@ fn two_threads(rt: HostRuntime) -> Result<(), Fail> {
         },
     );
     assert_eq!(rt; (here, there), ((true, Some(0)), (true, Some(0))));
-    for processor in [0, 1] {
-        for (index, count) in [(Index::Zero, VISITS + 1), (Index::One, 0)] {
-            let words = &engine.table.shared;
-            let locks = words.peek(place_of_lock(processor, index));
-            let unlocks = words.peek(place_of_unlock(processor, index));
-            assert_eq!(rt; (locks, unlocks), (count, count), "at {processor}");
-        }
-    }
+    let each = (VISITS + 1, VISITS + 1);
+    assert_eq!(rt; counted_on_two(&mut engine), [each, each, (0, 0), (0, 0)]);
     Ok(())
+}
+
+/// Makes a domain in the heap's room, and drops it. Tells how much of the heap it used.
+fn make_and_drop(heap: &LocalHeap) -> Result<usize, MakeError> {
+    let made = make(heap, 2, limits(1))?;
+    let used = heap.used();
+    drop(made);
+    Ok(used)
 }
 
 /// Would catch a refused allocation that leaves something allocated.
@@ -497,16 +660,13 @@ fn two_threads(rt: HostRuntime) -> Result<(), Fail> {
 fn gives_back_what_a_refused_domain_took(rt: HostRuntime) -> Result<(), Fail> {
     for room in 0..100 {
         let heap = LocalHeap::new(rt.alloc(), 64 + 64 * room)?;
-        match make(&heap, 2, limits(1)) {
-            Ok(made) => {
-                assert!(rt; room > 0 && heap.used() > 0);
-                drop(made);
-                assert_eq!(rt; heap.used(), 0);
-                return Ok(());
-            }
-            Err(error) => assert_eq!(rt; error, MakeError::Memory),
-        }
+        let made = make_and_drop(&heap);
         assert_eq!(rt; heap.used(), 0);
+        if let Ok(used) = made {
+            assert!(rt; room > 0 && used > 0);
+            return Ok(());
+        }
+        assert_eq!(rt; made, Err(MakeError::Memory));
     }
     panic!(rt; "it never fits")
 }

@@ -1,10 +1,23 @@
 ghost use Rattle.std.specs.Prelude.{◌≡◌, IfOk};
 ghost use Rattle.calls.specs.Calls.{FitsIn};
 
-use super::*;
+use super::LIMITS;
+use crate::{CallRefusal, CallSeat, Calls};
 use linked_list_allocator::LocalHeap;
-use sections::{EngineSeat, MakeError};
-use std::alloc::AllocError;
+use sections::{Cpu, EngineSeat, Made, MakeError, make};
+use std::alloc::{AllocError, Global};
+use std::process::Abort;
+use std::sync::Wait;
+use std::test::Fail;
+
+/// Makes callbacks in the heap's room, and drops them. Tells how many seats there were, and how much of the heap was used.
+fn make_and_drop(heap: &LocalHeap, engine: &mut EngineSeat) -> Option<(usize, usize)> {
+    let (calls, seats) = Calls::<u64, _>::make(heap, engine).ok()?;
+    let made = (seats.len(), heap.used());
+    drop(calls);
+    drop(seats);
+    Some(made)
+}
 
 /// Would catch a refused allocation that leaves something allocated. There are several: the tally words, the table, the
 /// seats, the locks.
@@ -13,18 +26,15 @@ fn new_in_little_room(rt: HostRuntime) -> Result<(), Fail> {
     let Made {
         cpus: _,
         mut engine,
-    } = make(rt.alloc(), 2, limits())?;
+    } = make(rt.alloc(), 2, LIMITS)?;
     for room in 0..200 {
         let heap = LocalHeap::new(rt.alloc(), 64 + 16 * room)?;
-        if let Ok((calls, seats)) = Calls::<u64, _>::make(&heap, &mut engine) {
-            assert!(rt; room > 0 && heap.used() > 0);
-            assert_eq!(rt; seats.len(), 2);
-            drop(calls);
-            drop(seats);
-            assert_eq!(rt; heap.used(), 0);
+        let made = make_and_drop(&heap, &mut engine);
+        assert_eq!(rt; heap.used(), 0);
+        if let Some((seats, used)) = made {
+            assert!(rt; room > 0 && seats == 2 && used > 0);
             return Ok(());
         }
-        assert_eq!(rt; heap.used(), 0);
     }
     panic!(rt; "it never fits")
 }
@@ -33,7 +43,7 @@ fn new_in_little_room(rt: HostRuntime) -> Result<(), Fail> {
 fn new_domain(alloc: Global) -> Result<(Cpu, EngineSeat), MakeError>
     ensures { IfOk result (λ r. (r.0.domain ≡ r.1.domain) × (r.0.processor ≡ 0) × (r.1.processors ≡ 1)) }
 {
-    let Made { mut cpus, engine } = make(alloc, 1, limits())?;
+    let Made { mut cpus, engine } = make(alloc, 1, LIMITS)?;
     let cpu = cpus.pop().unwrap();
     Ok((cpu, engine))
 }
@@ -85,13 +95,32 @@ fn fill<R: Wait + Abort>(
         match calls.call(rt, cpu, seat, job) {
             Ok(receipt) => assert_eq!(rt; receipt.k, job),
             Err(refused) => {
-                assert_eq!(rt; refused, (job, CallRefusal::Memory));
-                assert_eq!(rt; calls.lens(rt, 0), before);
+                let wanted = ((job, CallRefusal::Memory), before);
+                assert_eq!(rt; (refused, calls.lens(rt, 0)), wanted);
                 return job;
             }
         }
     }
     end
+}
+
+/// Does so while there is no room in the heap.
+fn fill_without_room<R: Wait + Abort + AllocGlobal>(
+    rt: &R,
+    heap: &LocalHeap,
+    calls: &Calls<u64, &LocalHeap>,
+    cpu: &mut Cpu,
+    seat: &mut CallSeat<&LocalHeap>,
+    first: u64,
+    end: u64,
+) -> Result<u64, AllocError>
+    requires { FitsIn calls.now cpu.old seat.old }
+    ensures { FitsIn calls.now cpu.new seat.new }
+{
+    let full = stuff(rt.alloc(), heap)?;
+    let refused = fill(rt, calls, cpu, seat, first, end);
+    drop(full);
+    Ok(refused)
 }
 
 /// Would catch a refused job that stays, or that is counted, and a list that takes no more jobs once one was refused.
@@ -100,22 +129,18 @@ fn call_in_little_room(rt: HostRuntime) -> Result<(), Fail> {
     let (mut cpu, mut engine) = new_domain(rt.alloc())?;
     let heap = LocalHeap::new(rt.alloc(), 8 * 1024)?;
     let (calls, mut seat) = make_in(&heap, &mut engine, &cpu)?;
-
-    let full = stuff(rt.alloc(), &heap)?;
-    let refused = fill(&rt, &calls, &mut cpu, &mut seat, 0, 20);
-    assert_eq!(rt; (refused, calls.lens(&rt, 0)), (0, Ok(([0; 4], [0; 2]))));
-    drop(full);
-    assert_eq!(rt; fill(&rt, &calls, &mut cpu, &mut seat, 0, 1), 1);
-
+    let none = fill_without_room(&rt, &heap, &calls, &mut cpu, &mut seat, 0, 20)?;
+    let empty = calls.lens(&rt, 0);
+    let one = fill(&rt, &calls, &mut cpu, &mut seat, 0, 1);
     // There is room for some more before the list has to grow.
-    let full = stuff(rt.alloc(), &heap)?;
-    let refused = fill(&rt, &calls, &mut cpu, &mut seat, 1, 20);
-    assert!(rt; refused < 20);
-    drop(full);
-    assert_eq!(rt; fill(&rt, &calls, &mut cpu, &mut seat, refused, 20), 20);
-    assert_eq!(rt; calls.lens(&rt, 0), Ok(([0, 20, 0, 0], [4, 0])));
+    let some = fill_without_room(&rt, &heap, &calls, &mut cpu, &mut seat, 1, 20)?;
+    let all = fill(&rt, &calls, &mut cpu, &mut seat, some, 20);
+    let lens = calls.lens(&rt, 0);
     drop(calls);
     drop(seat);
     assert_eq!(rt; heap.used(), 0);
+    assert_eq!(rt; (none, one, some < 20, all), (0, 1, true, 20));
+    assert_eq!(rt; empty, Ok(([0; 4], [0; 2])));
+    assert_eq!(rt; lens, Ok(([0, 20, 0, 0], [4, 0])));
     Ok(())
 }

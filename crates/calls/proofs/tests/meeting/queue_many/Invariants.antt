@@ -1,6 +1,6 @@
 -- It stays the same processor and its seat.
 use Rattle.calls.specs.Calls.{FitsIn}
-use Rattle.calls.proofs.tests.queue_many.Given as goal
+use Rattle.calls.proofs.tests.meeting.queue_many.Given as goal
 
 abbrev pub invariant-loop-job : goal.invariant-loop-job
 invariant-loop-job g l = record {
