@@ -1,8 +1,8 @@
 ghost use Rattle.sections.specs.Limits.{AreInRange};
 
-use session::Session;
 use lines::Answers;
 use sections::Limits;
+use session::Session;
 use std::alloc::{AllocError, Global};
 use std::process::Abort;
 use std::sync::Wait;
