@@ -1,5 +1,5 @@
 -- Calls of a processor act: from what a call says of its seats to its act.
-use Rattle.std.proofs.Common.{◌≡◌, ◌≢◌, ℕ, suc, ◌+◌, ◌*◌, ◌≤◌, cond, if◌then◌else◌, max, map, inl, inr, Bool, true, false, List, [], ◌∷◌, ◌++◌, refl, sym, ap, ◌∙◌, subst, append-nil, append_assoc, arith, eq-eqb, ne_eqb}
+use Rattle.std.proofs.Common.{◌≡◌, ◌≢◌, ℕ, suc, ◌+◌, ◌*◌, ◌≤◌, cond, if◌then◌else◌, map, inl, inr, Bool, true, false, List, [], ◌∷◌, ◌++◌, refl, sym, ap, ◌∙◌, subst, append-nil, append_assoc, arith, eq-eqb, ne_eqb}
 use Rattle.std.specs.Prelude.{Option, Result, Ok, Err, MatchResult}
 use Rattle.std.proofs.lemmas.List.{map-append}
 use mathlib.Core.Logic.{dite}
@@ -8,7 +8,7 @@ use Rattle.sseq.specs.Numbers.{periods_ended, cookie_at}
 use Rattle.onedom.specs.declared.event.Maker.TheVariants.{Processor, Engine}
 use Rattle.onedom.specs.declared.event.Event.{Event}
 use Rattle.onedom.specs.declared.event.Event.TheVariants.{Begin, End, Note, Ask}
-use Rattle.onedom.specs.Histories.{is_start, is_finish, starts_in, ended_in, maker_of, same_maker, made_by, IsBeginning}
+use Rattle.onedom.specs.Histories.{is_start, is_finish, starts_in, ended_in, maker_of, same_maker, IsBeginning}
 use Rattle.onedom.proofs.CallerLemmas.{bit, beginning_refl, beginning_append, beginning_trans, starts_in_push, ended_in_push, made_by_other, made_by_own, same_maker_refl}
 use Rattle.sections.specs.declared.view.Step.{Step}
 use Rattle.sections.specs.declared.cpu.Exhausted.{Exhausted}
@@ -43,7 +43,7 @@ use Rattle.calls.specs.Meetings.{Covers, SeesOut}
 use Rattle.calls.proofs.CallerLemmas.{begins_itself, begins_on, deeds_append}
 use Rattle.domain.specs.Views.{CpuView, with_cpu, with_calls}
 use Rattle.domain.specs.Barriers.{rows_of_loads, PollsUntilDone}
-use Rattle.domain.specs.Acting.{Act, nothing, makes, loads, begins, ends, notes, asks_whether, asks_how_far, asks_for, finishes, MakesEvents, GoesOn, Adds, AreOf, AskFor, Count, Acts, ActsAs, QueuesNone}
+use Rattle.domain.specs.Acting.{Act, makes, loads, begins, ends, notes, asks_whether, asks_how_far, asks_for, finishes, MakesEvents, GoesOn, Adds, AreOf, AskFor, Count, Acts, ActsAs, QueuesNone}
 
 -- At the domain's words
 

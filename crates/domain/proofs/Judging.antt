@@ -1,5 +1,5 @@
 -- Who is there, and what the counts say of the history.
-use Rattle.std.proofs.Common.{◌≡◌, ℕ, zero, suc, ◌+◌, ◌*◌, ◌/◌, ◌%◌, ◌<◌, ◌≤◌, ◌==◌, ◌||◌, cond, Bool, true, false, List, [], ◌∷◌, ◌++◌, map, take, get_or, length, Ok, Err, refl, sym, ap, ◌∙◌, subst, arith, eqb-true}
+use Rattle.std.proofs.Common.{◌≡◌, ℕ, zero, suc, ◌+◌, ◌%◌, ◌<◌, ◌≤◌, ◌==◌, ◌||◌, cond, Bool, true, false, List, [], ◌∷◌, ◌++◌, map, take, get_or, length, Ok, Err, refl, sym, ap, ◌∙◌, subst, arith, eqb-true}
 use Rattle.std.specs.Prelude.{Result, MatchResult}
 use Rattle.std.specs.List.{list_any}
 use Rattle.std.proofs.Math.Seq.{take-append_seam}
@@ -19,7 +19,7 @@ use Rattle.domain.proofs.Lending.{turn_same}
 use Rattle.sections.specs.Views as sections
 use Rattle.sections.specs.Calls.{IsSameCpu}
 use Rattle.sseq.specs.Numbers.{periods_ended}
-use Rattle.sections.specs.Words.{sum_below, number_word}
+use Rattle.sections.specs.Words.{sum_below}
 use Rattle.sections.proofs.CallerLemmas.{idle_not_running, busy_running, counters_add_up}
 use Rattle.domain.specs.declared.domain.cleanup.InUse.{InUse}
 use Rattle.domain.specs.declared.domain.cleanup.InUse.TheVariants.{Missing, Sections, Period, Callbacks}

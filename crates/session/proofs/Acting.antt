@@ -21,11 +21,12 @@ use Rattle.requests.specs.declared.scene.Kind.TheVariants as kind
 use Rattle.requests.specs.Faults.{same_kind}
 use Rattle.session.specs.declared.names.Token.{Token}
 use Rattle.session.specs.declared.names.Token.TheVariants as token
-use Rattle.session.specs.Tokens.{token_at, ticket_in, held_of, Frees}
+use Rattle.session.specs.Tokens.{token_at, bearer_of, kind_in, held_of, TakesOut}
 use Rattle.session.specs.JobLists.{JobsView}
 use Rattle.session.specs.States.{Bearer, Look, Reading, Ticket, Becomes, bearer_at, kind_of, kind_at, is_parked}
-use Rattle.session.specs.Entries.{bearer_of, names_of, desk_of, state_with, tokens_with, AreOf}
+use Rattle.session.specs.Entries.{names_of, desk_of, state_with, tokens_with, AreOf}
 use Rattle.session.specs.Scripts.{Does, BeginsUnder, BeginsNow}
+use Rattle.session.proofs.TokenKinds.{apart_kinds}
 use Rattle.session.proofs.Naming.{bearer_at_is, comes, goes, changes}
 use Rattle.session.proofs.Parked.{Named}
 
@@ -57,32 +58,10 @@ module _ {A : Type 0} (own name : List ℕ) (tokens : List (List ℕ × Token A)
   pub is_not_parked : kind_at name (state_with own tokens parked jobs d) ≡ None → is_parked name (desk_of parked) ≡ false
   is_not_parked h = (found_kind None never_free h).0
 
-abbrev is_of : {A : Type 0} → Option (Token A) → Kind → Bool
-is_of None k = false
-is_of (Some t) k = same_kind (kind_of (bearer_of t)) k
-
-same_as_itself : (k : Kind) → same_kind k k ≡ true
-same_as_itself kind.Look = refl
-same_as_itself kind.Reading = refl
-same_as_itself kind.Held = refl
-same_as_itself kind.Parked = refl
-same_as_itself kind.Ticket = refl
-
-apart_kinds : (k given : Kind) → same_kind k given ≡ false → Some k ≡ Some given → ⊥
-apart_kinds k given other e =
-    let is : k ≡ given = cc in
-    let yes : same_kind k given ≡ true = ap (λ x. same_kind x given) is ∙ same_as_itself given in
-    absurd cc
-
-wrong_case : {A : Type 0} (given : Kind) (t : Option (Token A)) → is_of t given ≡ false → option_map kind_of (option_map bearer_of t) ≡ Some given → ⊥
-wrong_case given None other e = absurd cc
-wrong_case given (Some t) other e = apart_kinds (kind_of (bearer_of t)) given other e
-
--- nothing of another kind has the name
-pub wrong_kind : {A : Type 0} (own name : List ℕ) (tokens : List (List ℕ × Token A)) (parked : Option Named) (jobs : List JobsView) (d : SoloView) (given : Kind) (t : Option (Token A)) → same_kind kind.Parked given ≡ false → is_of t given ≡ false
-    → kind_at name (state_with own tokens parked jobs d) ≡ Some given → t ≡ token_at name tokens → ⊥
-wrong_kind own name tokens parked jobs d given t other wrong h is =
-    wrong_case given t wrong (ap (λ o. option_map kind_of (option_map bearer_of o)) is ∙ (found_kind own name tokens parked jobs d (Some given) (apart_kinds kind.Parked given other) h).1)
+-- what has the name is of a kind that can be used
+pub has_kind : {A : Type 0} (own name : List ℕ) (tokens : List (List ℕ × Token A)) (parked : Option Named) (jobs : List JobsView) (d : SoloView) (given : Kind) → same_kind kind.Parked given ≡ false
+    → kind_at name (state_with own tokens parked jobs d) ≡ Some given → kind_in name tokens ≡ Some given
+has_kind own name tokens parked jobs d given other h = (found_kind own name tokens parked jobs d (Some given) (apart_kinds kind.Parked given other) h).1
 
 -- a thing of a kind that can be used is not on the desk
 pub is_plain : {A : Type 0} (own name : List ℕ) (tokens : List (List ℕ × Token A)) (parked : Option Named) (jobs : List JobsView) (d : SoloView) (given : Kind) → same_kind kind.Parked given ≡ false
@@ -96,39 +75,8 @@ known_kind own name tokens parked jobs d o free is =
     ap (λ t. option_map kind_of (option_map bearer_of t)) is ∙ ap (option_map kind_of) (sym (bearer_at_is name tokens))
     ∙ sym (ap (λ b. if b then Some kind.Parked else option_map kind_of (bearer_at name (names_of tokens))) free)
 
--- the ticket that is such a token
-ticket_case : {A : Type 0} (t : Option (Token A)) → option_map kind_of (option_map bearer_of t) ≡ Some kind.Ticket → (ticket : TicketView) × (t ≡ Some (token.Ticket ticket))
-ticket_case None h = absurd cc
-ticket_case (Some (token.Look l)) h = absurd (apart_kinds kind.Look kind.Ticket refl h)
-ticket_case (Some (token.Reading r)) h = absurd (apart_kinds kind.Reading kind.Ticket refl h)
-ticket_case (Some (token.Held r)) h = absurd (apart_kinds kind.Held kind.Ticket refl h)
-ticket_case (Some (token.Ticket t)) h = (t, refl)
-
--- a ticket has this name
-pub ticket_there : {A : Type 0} (own name : List ℕ) (tokens : List (List ℕ × Token A)) (parked : Option Named) (jobs : List JobsView) (d : SoloView) → kind_at name (state_with own tokens parked jobs d) ≡ Some kind.Ticket
-    → (ticket : TicketView) × (token_at name tokens ≡ Some (token.Ticket ticket))
-ticket_there own name tokens parked jobs d h = ticket_case (token_at name tokens) (found_kind own name tokens parked jobs d (Some kind.Ticket) (apart_kinds kind.Parked kind.Ticket refl) h).1
-
-no_ticket : {A : Type 0} (o : Option (Token A)) (t : TicketView) → o ≡ Some (token.Ticket t) → None ≡ ticket_in o → ⊥
-no_ticket o t is none = let found : ◌≡◌ {A = Option TicketView} None (Some t) = none ∙ ap ticket_in is in absurd cc
-
--- so it is found
-pub ticket_missing : {A : Type 0} (own name : List ℕ) (tokens : List (List ℕ × Token A)) (parked : Option Named) (jobs : List JobsView) (d : SoloView) → kind_at name (state_with own tokens parked jobs d) ≡ Some kind.Ticket
-    → None ≡ ticket_in (token_at name tokens) → ⊥
-ticket_missing own name tokens parked jobs d h none = let (t, is) = ticket_there own name tokens parked jobs d h in no_ticket (token_at name tokens) t is none
-
-same_ticket : {A : Type 0} (o : Option (Token A)) (t found : TicketView) → o ≡ Some (token.Ticket t) → Some found ≡ ticket_in o → o ≡ Some (token.Ticket found)
-same_ticket o t found is found_is =
-    let same : ◌≡◌ {A = Option TicketView} (Some found) (Some t) = found_is ∙ ap ticket_in is in
-    let it : found ≡ t = cc in
-    is ∙ ap (λ x. Some (token.Ticket x)) (sym it)
-
-pub ticket_found : {A : Type 0} (own name : List ℕ) (tokens : List (List ℕ × Token A)) (parked : Option Named) (jobs : List JobsView) (d : SoloView) (found : TicketView) → kind_at name (state_with own tokens parked jobs d) ≡ Some kind.Ticket
-    → Some found ≡ ticket_in (token_at name tokens) → token_at name tokens ≡ Some (token.Ticket found)
-ticket_found own name tokens parked jobs d found h found_is = let (t, is) = ticket_there own name tokens parked jobs d h in same_ticket (token_at name tokens) t found is found_is
-
-there : {A : Type 0} (name : List ℕ) (tokens : List (List ℕ × Token A)) (t : Token A) → Some t ≡ token_at name tokens → bearer_at name (names_of tokens) ≡ Some (bearer_of t)
-there name tokens t is = bearer_at_is name tokens ∙ ap (option_map bearer_of) (sym is)
+there : {A : Type 0} (name : List ℕ) (tokens : List (List ℕ × Token A)) (t : Token A) → token_at name tokens ≡ Some t → bearer_at name (names_of tokens) ≡ Some (bearer_of t)
+there name tokens t is = bearer_at_is name tokens ∙ ap (option_map bearer_of) is
 
 -- What is done
 
@@ -166,53 +114,53 @@ module _ {A : Type 0} (own : List ℕ) (tokens : List (List ℕ × Token A)) (pa
       → BeginsNow d.limits p c bearer name (state_with own tokens parked jobs d) (reply.Refused c cause.Exhausted) (state_with own tokens parked jobs d')
   begun_none p c bearer name full same = inr (full, record { after = ap (state_with own tokens parked jobs) same; reply = refl })
 
-  module _ (name : List ℕ) (rest : List (List ℕ × Token A)) (frees : Frees name tokens rest) where
-    pub entered : (p : ℕ) (l : LookView) (r : ReadingView) → Some (token.Look l) ≡ token_at name tokens → Begins d.limits p l.index r.section d.course d'.course → IsReadingAt d.table p l.index r
+  module _ {name : List ℕ} {rest : List (List ℕ × Token A)} where
+    pub entered : (p : ℕ) (l : LookView) (r : ReadingView) → TakesOut name (token.Look l) tokens rest → Begins d.limits p l.index r.section d.course d'.course → IsReadingAt d.table p l.index r
         → Does d.limits (act.Enter p name) (state_with own tokens parked jobs d) (reply.Index r.index) (state_with own (rest ++ (name, token.Reading r) ∷ []) parked jobs d')
-    entered p l r is begins at = record {
+    entered p l r out begins at = record {
       index = l.index;
-      there = there name tokens (token.Look l) is;
-      enters = inl (begun p l.index name r (rest ++ (name, token.Reading r) ∷ []) (changes name (token.Reading r) tokens rest frees) begins at);
+      there = there name tokens (token.Look l) out.there;
+      enters = inl (begun p l.index name r (rest ++ (name, token.Reading r) ∷ []) (changes name (token.Reading r) tokens rest out.frees) begins at);
     }
 
-    pub entered_none : (p : ℕ) (l : LookView) → Some (token.Look l) ≡ token_at name tokens → IsOutOfSections d.limits p l.index d.course → d' ≡ d
+    pub entered_none : (p : ℕ) (l : LookView) → TakesOut name (token.Look l) tokens rest → IsOutOfSections d.limits p l.index d.course → d' ≡ d
         → Does d.limits (act.Enter p name) (state_with own tokens parked jobs d) (reply.Refused command.Enter cause.Exhausted) (state_with own rest parked jobs d')
-    entered_none p l is full same = record {
+    entered_none p l out full same = record {
       index = l.index;
-      there = there name tokens (token.Look l) is;
-      enters = inr (record { full = full; names = goes name tokens rest frees; rest = ap (state_with own rest parked jobs) same; reply = refl });
+      there = there name tokens (token.Look l) out.there;
+      enters = inr (record { full = full; names = goes name tokens rest out.frees; rest = ap (state_with own rest parked jobs) same; reply = refl });
     }
 
-    pub unlocked : (r : ReadingView) → Some (token.Reading r) ≡ token_at name tokens → Ends r.section r.processor d.course d'.course
+    pub unlocked : (r : ReadingView) → TakesOut name (token.Reading r) tokens rest → Ends r.section r.processor d.course d'.course
         → Does d.limits (act.Unlock name) (state_with own tokens parked jobs d) reply.Closed (state_with own rest parked jobs d')
-    unlocked r is ends = record {
+    unlocked r out ends = record {
       section = r.section;
       processor = r.processor;
-      there = there name tokens (token.Reading r) is;
+      there = there name tokens (token.Reading r) out.there;
       ends = ends;
-      names = goes name tokens rest frees;
+      names = goes name tokens rest out.frees;
       rest = refl;
       reply = refl;
     }
 
-    pub upped : (p : ℕ) (h : ReadingView) → Some (token.Held h) ≡ token_at name tokens → Ends h.section p d.course d'.course
+    pub upped : (p : ℕ) (h : ReadingView) → TakesOut name (token.Held h) tokens rest → Ends h.section p d.course d'.course
         → Does d.limits (act.Up p name) (state_with own tokens parked jobs d) reply.Closed (state_with own rest parked jobs d')
-    upped p h is ends = record {
+    upped p h out ends = record {
       section = h.section;
-      there = there name tokens (token.Held h) is;
+      there = there name tokens (token.Held h) out.there;
       ends = ends;
-      names = goes name tokens rest frees;
+      names = goes name tokens rest out.frees;
       rest = refl;
       reply = refl;
     }
 
-    pub laid_down : (h : ReadingView) → parked ≡ None → Some (token.Held h) ≡ token_at name tokens
+    pub laid_down : (h : ReadingView) → parked ≡ None → TakesOut name (token.Held h) tokens rest
         → Does d.limits (act.Park name) (state_with own tokens parked jobs d) reply.Parked (state_with own rest (Some (name, h)) jobs d)
-    laid_down h empty is = inl (record {
+    laid_down h empty out = inl (record {
       section = h.section;
-      there = there name tokens (token.Held h) is;
+      there = there name tokens (token.Held h) out.there;
       empty = ap desk_of empty;
-      names = goes name tokens rest frees;
+      names = goes name tokens rest out.frees;
       rest = refl;
       reply = refl;
     })
@@ -259,7 +207,7 @@ module _ {A : Type 0} (own : List ℕ) (tokens : List (List ℕ × Token A)) (pa
   pub ticket_not_given : (p : ℕ) (name : List ℕ) → d' ≡ d → Does d.limits (act.Barrier p name) (state_with own tokens parked jobs d) (reply.Refused command.Barrier cause.Memory) (state_with own tokens parked jobs d')
   ticket_not_given p name same = inr (record { after = ap (state_with own tokens parked jobs) same; reply = refl })
 
-  pub ticket_polled : (p : ℕ) (name : List ℕ) (t : TicketView) (done : Bool) → Some (token.Ticket t) ≡ token_at name tokens → MatchBool done (AreReached t.numbers d.course.finished) (¬ AreReached t.numbers d.course.finished) → d' ≡ d
+  pub ticket_polled : (p : ℕ) (name : List ℕ) (t : TicketView) (done : Bool) → token_at name tokens ≡ Some (token.Ticket t) → MatchBool done (AreReached t.numbers d.course.finished) (¬ AreReached t.numbers d.course.finished) → d' ≡ d
       → Does d.limits (act.BarrierPoll p name) (state_with own tokens parked jobs d) (if done then reply.Done else reply.NotYet) (state_with own tokens parked jobs d')
   ticket_polled p name t done is reached same = record {
     numbers = t.numbers;

@@ -11,12 +11,10 @@ use Rattle.onedom.specs.Histories.{ended_in}
 use Rattle.sections.specs.declared.limits.Limits.{Limits}
 use Rattle.calls.specs.Views.{BatchView}
 use Rattle.calls.specs.declared.refusals.CallRefusal.{CallRefusal}
-use Rattle.calls.specs.declared.refusals.CallRefusal.TheVariants as calling
 use Rattle.solo.specs.declared.queued.Queued.{Queued}
 use Rattle.solo.specs.Courses.{Course, more_at}
 use Rattle.solo.specs.Calls.{SoloView, IsNew, new_course, IsGiven, IsSameDomain, Queues, QueuesNone, Takes, Finishes, AreOut}
 use Rattle.requests.specs.declared.command.Command.TheVariants as command
-use Rattle.requests.specs.declared.cause.Cause.{Cause}
 use Rattle.requests.specs.declared.cause.Cause.TheVariants as cause
 use Rattle.requests.specs.declared.request.Act.TheVariants as act
 use Rattle.requests.specs.declared.reply.Reply.TheVariants as reply

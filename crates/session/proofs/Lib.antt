@@ -3,6 +3,7 @@ mod Answering
 mod Callbacks
 mod Held
 mod Holding
+mod TokenKinds
 mod Naming
 mod Parked
 mod OpenSections

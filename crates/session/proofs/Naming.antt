@@ -5,9 +5,9 @@ use Rattle.std.specs.Map.{lookup}
 use Rattle.std.proofs.lemmas.Map.Made.{lookup-map_values}
 use Rattle.std.proofs.lemmas.Slice.Eq.{bytes_eq-Decides}
 use Rattle.session.specs.declared.names.Token.{Token}
-use Rattle.session.specs.Tokens.{token_at, Frees}
+use Rattle.session.specs.Tokens.{token_at, bearer_of, Frees}
 use Rattle.session.specs.States.{Becomes, bearer_at}
-use Rattle.session.specs.Entries.{bearer_of, names_of}
+use Rattle.session.specs.Entries.{names_of}
 
 false_case : (b : Bool) → (b ≡ true → ⊥) → b ≡ false
 false_case true never = absurd (never refl)

@@ -1,6 +1,6 @@
 -- A domain, its tokens and its desk, as the domain goes on.
-use Rattle.std.proofs.Common.{◌≡◌, ℕ, ◌<◌, Bool, false, List, [], ◌∷◌, ◌++◌, refl, sym, ◌∙◌, subst}
-use Rattle.std.specs.Prelude.{Option, Some, None, option_map, All, IfSome, IsPermutation, Result, Ok, Err, MatchResult, bytes_eq}
+use Rattle.std.proofs.Common.{◌≡◌, ℕ, ◌<◌, false, List, [], ◌∷◌, ◌++◌, refl, sym, ◌∙◌, subst}
+use Rattle.std.specs.Prelude.{Option, Some, None, option_map, All, IfSome, IsPermutation, bytes_eq}
 use Rattle.std.proofs.lemmas.List.Sorted.{IsPermutation-refl}
 use Rattle.std.proofs.lemmas.List.Elements.{All-tail}
 use Rattle.std.proofs.lemmas.Map.Entries.{All-lookup}
@@ -9,12 +9,12 @@ use Rattle.sseq.specs.declared.index.Index.{Index}
 use Rattle.solo.specs.Calls.{SoloView, Begins, Ends, IsReadingAt}
 use Rattle.session.specs.declared.names.Token.{Token}
 use Rattle.session.specs.declared.names.Token.TheVariants as token
-use Rattle.session.specs.Tokens.{token_at, open_index, Frees}
+use Rattle.session.specs.Tokens.{token_at, open_index, TakesOut}
 use Rattle.session.specs.Parkings.{ParkingView}
 use Rattle.session.specs.States.{is_parked}
 use Rattle.session.specs.Entries.{IsTokenOf, IsReadingOf, AreOf, AreTogether, desk_of, tokens_with}
 use Rattle.session.proofs.Quiet.{GoesOnQuietly, quietly_none}
-use Rattle.session.proofs.Holding.{Sort, Any, as_token, reading_as, IsThere, held_on, held_more_unopened, held_begun, token_of, held_less_unopened, held_ended, held_moved, held_moved_back}
+use Rattle.session.proofs.Holding.{Sort, Any, as_token, IsThere, held_on, held_more_unopened, held_begun, token_of, held_less_unopened, held_ended, held_moved, held_moved_back}
 use Rattle.session.proofs.Parked.{Named, IsApart, with_push, apart_push, with_moved, apart_gone}
 
 some_case : (parked : Option Named) (r : ReadingView) → option_map (λ (q : Named). q.1) parked ≡ Some r → (name : List ℕ) × (parked ≡ Some (name, r))
@@ -62,39 +62,35 @@ module _ {A : Type 0} (d : SoloView) (tokens : List (List ℕ × Token A)) (p : 
 
   -- a token that goes
 
-  module _ (name stored : List ℕ) (rest : List (List ℕ × Token A)) (frees : Frees name tokens rest) where
-    module _ (t : Token A) (moves : IsPermutation tokens ((stored, t) ∷ rest)) where
-      all_move : IsPermutation (tokens_with p.parked tokens) ((stored, t) ∷ tokens_with p.parked rest)
-      all_move = with_moved p.parked tokens rest (stored, t) moves
+  module _ {t : Token A} {name : List ℕ} {rest : List (List ℕ × Token A)} (out : TakesOut name t tokens rest) where
+    all_move : IsPermutation (tokens_with p.parked tokens) ((out.stored, t) ∷ tokens_with p.parked rest)
+    all_move = with_moved p.parked tokens rest (out.stored, t) out.moves
 
-      pub it_is_of : IsTokenOf d t
-      it_is_of = token_of d (tokens_with p.parked tokens) (tokens_with p.parked rest) stored h.all t all_move
+    pub it_is_of : IsTokenOf d t
+    it_is_of = token_of d (tokens_with p.parked tokens) (tokens_with p.parked rest) out.stored h.all t all_move
 
-      -- it is no open section
-      pub together_without : open_index t ≡ None → AreTogether d rest p
-      together_without none = record {
-        all = held_less_unopened d (tokens_with p.parked tokens) (tokens_with p.parked rest) stored h.all t all_move none;
-        desk = h.desk;
-        apart = apart_gone p.parked tokens rest name frees h.apart;
-      }
-
-    pub reading_is_of : (sort : Sort) (r : ReadingView) → IsPermutation tokens ((stored, as_token sort r) ∷ rest) → IsReadingOf d.table d.course.standing r
-    reading_is_of sort r moves = reading_as A sort d r (it_is_of (as_token sort r) moves)
-
-    pub together_ended : (sort : Sort) (d' : SoloView) (q : ℕ) (r : ReadingView) → IsThere d d' → IsPermutation tokens ((stored, as_token sort r) ∷ rest) → Ends r.section q d.course d'.course → AreTogether d' rest p
-    together_ended sort d' q r there moves ends = record {
-      all = held_ended d (tokens_with p.parked tokens) (tokens_with p.parked rest) stored h.all sort q r d' (all_move (as_token sort r) moves) there ends;
-      desk = h.desk ∙ sym there.0;
-      apart = apart_gone p.parked tokens rest name frees h.apart;
-    }
-
-    -- it goes to the desk
-    pub together_parked : (r : ReadingView) → p.parked ≡ None → IsPermutation tokens ((stored, token.Held r) ∷ rest) → AreTogether d rest (record p { parked = Some (name, r) })
-    together_parked r none moves = record {
-      all = held_moved d tokens rest stored name (token.Held r) (subst (λ o. AreOf d (tokens_with o tokens)) none h.all) moves;
+    -- it is no open section
+    pub together_without : open_index t ≡ None → AreTogether d rest p
+    together_without none = record {
+      all = held_less_unopened d (tokens_with p.parked tokens) (tokens_with p.parked rest) out.stored h.all t all_move none;
       desk = h.desk;
-      apart = frees.here;
+      apart = apart_gone p.parked tokens rest name out.frees h.apart;
     }
+
+  pub together_ended : (sort : Sort) (r : ReadingView) {name : List ℕ} {rest : List (List ℕ × Token A)} → TakesOut name (as_token sort r) tokens rest → (d' : SoloView) (q : ℕ) → IsThere d d' → Ends r.section q d.course d'.course → AreTogether d' rest p
+  together_ended sort r {name} {rest} out d' q there ends = record {
+    all = held_ended d (tokens_with p.parked tokens) (tokens_with p.parked rest) out.stored h.all sort q r d' (all_move out) there ends;
+    desk = h.desk ∙ sym there.0;
+    apart = apart_gone p.parked tokens rest name out.frees h.apart;
+  }
+
+  -- it goes to the desk
+  pub together_parked : {r : ReadingView} {name : List ℕ} {rest : List (List ℕ × Token A)} → TakesOut name (token.Held r) tokens rest → p.parked ≡ None → AreTogether d rest (record p { parked = Some (name, r) })
+  together_parked {r} {name} {rest} out none = record {
+    all = held_moved d tokens rest out.stored name (token.Held r) (subst (λ o. AreOf d (tokens_with o tokens)) none h.all) out.moves;
+    desk = h.desk;
+    apart = out.frees.here;
+  }
 
   -- it comes from the desk
   pub together_unparked : (q : Named) → p.parked ≡ Some q → AreTogether d (tokens ++ (q.0, token.Held q.1) ∷ []) (record p { parked = None })

@@ -11,10 +11,10 @@ use Rattle.session.specs.declared.names.Token.{Token}
 use Rattle.session.specs.declared.names.Token.TheVariants as token
 use Rattle.session.specs.declared.entry.Entry.TheInside as entry
 use Rattle.session.specs.OpenSections.{open_of}
-use Rattle.session.specs.Tokens.{token_at, open_index, held_of}
+use Rattle.session.specs.Tokens.{token_at, bearer_of, open_index, held_of}
 use Rattle.session.specs.Parkings.{ParkingView}
 use Rattle.session.specs.JobLists.{JobsView, jobs_of, AreJobsOf}
-use Rattle.session.specs.States.{Bearer, Look, Reading, Held, Ticket, Parked, Names, DomainState, EntryView}
+use Rattle.session.specs.States.{Parked, Names, DomainState, EntryView}
 
 -- what lies on the desk
 abbrev pub desk_of : Option (List ℕ × ReadingView) → Option Parked
@@ -27,12 +27,6 @@ pub record IsReadingOf (table : TableId) (s : Standing) (r : ReadingView) : Type
   pub index : index_of r.section s.history ≡ r.index
 
 module _ {A : Type 0} where
-  abbrev pub bearer_of : Token A → Bearer
-  bearer_of (token.Look l) = Look l.index
-  bearer_of (token.Reading r) = Reading r.section r.processor
-  bearer_of (token.Held h) = Held h.section
-  bearer_of (token.Ticket t) = Ticket t.numbers
-
   abbrev pub names_of : List (List ℕ × Token A) → Names
   names_of tokens = map (λ t. (t.0, bearer_of t.1)) tokens
 

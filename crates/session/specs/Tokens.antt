@@ -1,11 +1,12 @@
 -- The names in use in a domain, with the tokens that have them.
-use Rattle.std.specs.Prelude.{◌≡◌, ℕ, false, List, Option, Some, None, bytes_eq, count_by}
+use Rattle.std.specs.Prelude.{◌≡◌, ℕ, false, List, ◌∷◌, Option, Some, None, option_map, bytes_eq, count_by, IsPermutation}
 use Rattle.std.specs.Map.{lookup}
 use Rattle.sseq.specs.declared.index.Index.{Index}
 use Rattle.session.specs.declared.names.Token.{Token}
 use Rattle.session.specs.declared.names.Token.TheVariants as token
-use Rattle.calls.specs.Views.{TicketView}
+use Rattle.requests.specs.declared.scene.Kind.{Kind}
 use Rattle.session.specs.OpenSections.{is_index}
+use Rattle.session.specs.States.{Bearer, Look, Reading, Held, Ticket, kind_of}
 
 -- `tokens` are the names with what has them, in an order that means nothing, and `room` is how many more there is memory for
 pub record NamesView (A : Type 0) : Type 0 where
@@ -22,10 +23,23 @@ module _ {A : Type 0} where
     pub here : token_at name new ≡ None
     pub others : (other : List ℕ) → bytes_eq name other ≡ false → token_at other new ≡ token_at other old
 
-  -- the ticket that a token is
-  abbrev pub ticket_in : Option (Token A) → Option TicketView
-  ticket_in (Some (token.Ticket t)) = Some t
-  ticket_in _ = None
+  -- what a script knows of a token
+  abbrev pub bearer_of : Token A → Bearer
+  bearer_of (token.Look l) = Look l.index
+  bearer_of (token.Reading r) = Reading r.section r.processor
+  bearer_of (token.Held h) = Held h.section
+  bearer_of (token.Ticket t) = Ticket t.numbers
+
+  -- of which kind it is that has this name
+  abbrev pub kind_in : List ℕ → List (List ℕ × Token A) → Option Kind
+  kind_in name tokens = option_map kind_of (option_map bearer_of (token_at name tokens))
+
+  -- this had the name, which is free now
+  pub record TakesOut (name : List ℕ) (t : Token A) (old new : List (List ℕ × Token A)) : Type 0 where
+    pub there : token_at name old ≡ Some t
+    pub frees : Frees name old new
+    pub stored : List ℕ
+    pub moves : IsPermutation old ((stored, t) ∷ new)
 
   -- the index of the open section that a token stands for
   abbrev pub open_index : Token A → Option Index

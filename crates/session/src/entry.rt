@@ -129,13 +129,7 @@ impl<A: Allocator> Entry<A> {
         ensures err { OnErr result (self.new ≡ self.old) }
     {
         self.names.reserve()?;
-        let look = match self.names.remove(&name) {
-            Some(Token::Look(look)) => look,
-            Some(Token::Reading(_reading)) => unreachable!(),
-            Some(Token::Held(_held)) => unreachable!(),
-            Some(Token::Ticket(_ticket)) => unreachable!(),
-            None => unreachable!(),
-        };
+        let look = self.names.take_look(&name);
         match self.domain.enter(rt, processor, look) {
             Ok(reading) => {
                 let index = reading.index();
@@ -173,13 +167,8 @@ impl<A: Allocator> Entry<A> {
         ensures name { self.new.state.name ≡ self.old.state.name }
         ensures does { Does self.old.limits (Act.Unlock name) self.old.state result self.new.state }
     {
-        match self.names.remove(&name) {
-            Some(Token::Reading(reading)) => self.domain.read_unlock(rt, reading),
-            Some(Token::Look(_look)) => unreachable!(),
-            Some(Token::Held(_held)) => unreachable!(),
-            Some(Token::Ticket(_ticket)) => unreachable!(),
-            None => unreachable!(),
-        }
+        let reading = self.names.take_reading(&name);
+        self.domain.read_unlock(rt, reading);
         Reply::Closed
     }
 
@@ -210,13 +199,8 @@ impl<A: Allocator> Entry<A> {
         ensures name { self.new.state.name ≡ self.old.state.name }
         ensures does { Does self.old.limits (Act.Up processor name) self.old.state result self.new.state }
     {
-        match self.names.remove(&name) {
-            Some(Token::Held(held)) => self.domain.up_read(rt, processor, held),
-            Some(Token::Look(_look)) => unreachable!(),
-            Some(Token::Reading(_reading)) => unreachable!(),
-            Some(Token::Ticket(_ticket)) => unreachable!(),
-            None => unreachable!(),
-        }
+        let held = self.names.take_held(&name);
+        self.domain.up_read(rt, processor, held);
         Reply::Closed
     }
 
@@ -230,13 +214,8 @@ impl<A: Allocator> Entry<A> {
         if !self.parking.is_empty() {
             return Reply::Refused(Command::Park, Cause::Full);
         }
-        match self.names.remove(&name) {
-            Some(Token::Held(held)) => self.parking.park(name, held),
-            Some(Token::Look(_look)) => unreachable!(),
-            Some(Token::Reading(_reading)) => unreachable!(),
-            Some(Token::Ticket(_ticket)) => unreachable!(),
-            None => unreachable!(),
-        }
+        let held = self.names.take_held(&name);
+        self.parking.park(name, held);
         Reply::Parked
     }
 

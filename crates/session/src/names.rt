@@ -3,7 +3,7 @@ ghost use Rattle.std.specs.Prelude.{◌≡◌, ℕ, ◌<◌, ◌^◌, ◌++◌, 
 ghost use Rattle.std.specs.Option.{option_copied};
 ghost use Rattle.sseq.specs.declared.index.Index.{Index};
 ghost use Rattle.session.specs.OpenSections.{count_of};
-ghost use Rattle.session.specs.Tokens.{token_at, ticket_in, open_index, held_of, Frees};
+ghost use Rattle.session.specs.Tokens.{token_at, open_index, held_of, Frees};
 
 use crate::open::Open;
 use calls::Ticket;
@@ -14,6 +14,8 @@ use sseq::Index;
 use std::alloc::{AllocError, Allocator};
 use std::hash::{BuildHasherDefault, FoldHasher};
 use std::marker::Model;
+
+mod taking;
 
 /// What has a name: a look; an open section, which its own processor ends or any may end; or the ticket of a barrier.
 pub enum Token<A: Allocator> {
@@ -63,18 +65,6 @@ impl<A: Allocator> Names<A> {
         ensures { option_copied result ≡ token_at name.now self.now.tokens }
     {
         self.tokens.get(name)
-    }
-
-    /// The ticket that has the name.
-    pub fn ticket(&self, name: &Name) -> Option<&Ticket<A>>
-        ensures { option_copied result ≡ ticket_in (token_at name.now self.now.tokens) }
-    {
-        match self.get(name)? {
-            Token::Ticket(ticket) => Some(ticket),
-            Token::Look(_look) => None,
-            Token::Reading(_reading) => None,
-            Token::Held(_held) => None,
-        }
     }
 
     /// How many of the tokens are open sections of each index.

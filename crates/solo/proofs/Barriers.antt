@@ -1,5 +1,5 @@
 -- What barriers, and a look at a batch that is out, say of the domain in one hand: they only load, and find the counts.
-use Rattle.std.proofs.Common.{◌≡◌, ℕ, ◌<◌, ◌≤◌, List, length, get_or, sym, ap, ◌∙◌, subst, arith}
+use Rattle.std.proofs.Common.{◌≡◌, ℕ, ◌<◌, ◌≤◌, length, get_or, sym, ap, ◌∙◌, subst, arith}
 use Rattle.std.specs.Prelude.{Bool, true, false, MatchBool, Result, Ok, Err, MatchResult, IfOk}
 use Rattle.std.proofs.lemmas.List.{get_or_past, ext_get_or}
 use mathlib.Core.Logic.{dite}
@@ -10,7 +10,7 @@ use Rattle.calls.specs.Barriers.{Starts, IsDone, IsBehind}
 use Rattle.calls.specs.Meetings.{SeesOut}
 use Rattle.calls.proofs.CallerLemmas.{queued_later, finished_later}
 use Rattle.domain.specs.Acting.{loads, ActsAs}
-use Rattle.solo.specs.Calls.{SoloView, AreOut}
+use Rattle.solo.specs.Calls.{AreOut}
 use Rattle.solo.specs.Barriers.{ticket_of, IsTicketOf, AreReached}
 use Rattle.solo.proofs.Meeting.{Hand, s', deeds_were, queued_were, finished_were, queued_long, tallies_are, many_are, seen_by_all, queued_now, finished_now}
 use Rattle.solo.proofs.Called.{Says, says, still}

@@ -1,5 +1,5 @@
 -- A processor of the domain in one hand acted, and then all have met: the domain has come just so far as the act says.
-use Rattle.std.proofs.Common.{◌≡◌, ◌≢◌, ℕ, zero, suc, ◌+◌, ◌*◌, ◌%◌, ◌<◌, ◌≤◌, ◌⊎◌, cond, max, inl, inr, List, [], ◌∷◌, ◌++◌, length, get_or, set, refl, sym, ap, ◌∙◌, subst, append-nil, arith, length-set, get_or-set_other, get_or-set_same, le-ltb}
+use Rattle.std.proofs.Common.{◌≡◌, ℕ, zero, suc, ◌+◌, ◌*◌, ◌%◌, ◌<◌, ◌≤◌, ◌⊎◌, cond, max, inl, inr, List, [], ◌∷◌, ◌++◌, length, get_or, set, refl, sym, ap, ◌∙◌, subst, append-nil, arith, length-set, get_or-set_other, get_or-set_same, le-ltb}
 use Rattle.std.specs.Prelude.{All, Some, slice_get}
 use Rattle.std.proofs.lemmas.List.{get_or_default, set-get_or, length-map, append_cancel_left}
 use mathlib.Core.Logic.{dite}
@@ -15,7 +15,7 @@ use Rattle.sections.specs.Rule.{HasItsMaker}
 use Rattle.sections.specs.EngineCalls.{IsSameEngine}
 use Rattle.sections.proofs.CallerLemmas.{last_may_follow}
 use Rattle.scan.specs.Standings.{number_at_rest}
-use Rattle.scan.specs.Progress.{standing_of, with_seat}
+use Rattle.scan.specs.Progress.{with_seat}
 use Rattle.funnel.specs.declared.view.Holder.{Holder}
 use Rattle.funnel.specs.declared.view.Holder.TheVariants as holder
 use Rattle.funnel.specs.Histories.{IsBeginning as IsBeginningAtTree, value, greatest}
@@ -27,7 +27,7 @@ use Rattle.domain.specs.Views.{DomainView, CpuView}
 use Rattle.domain.specs.Meetings.{IsAllOf, EngineMeets, MeetsHere}
 use Rattle.solo.specs.Calls.{SoloView, IsSameDomain}
 use Rattle.domain.specs.Acting.{Act, Acts, ActsAs}
-use Rattle.solo.specs.Courses.{Course, after, with_asked, more_at, with_events, Does}
+use Rattle.solo.specs.Courses.{after, with_asked, more_at, with_events, Does}
 use Rattle.solo.specs.Settling.{View, Holds, AllHold, AskTogether, TurnTogether, TallyTogether, HaveMet}
 use Rattle.solo.specs.Insides.{queued_on, finished_on, seen_as, seen_first}
 use Rattle.solo.proofs.Hand.{first_seen, now_is, is_inside}

@@ -1,17 +1,10 @@
 -- What was asked for, where all seats at the tree are in one hand.
-use Rattle.std.proofs.Common.{◌≡◌, ◌≢◌, ℕ, suc, ◌<◌, max, List, [], ◌∷◌, ◌++◌, length, get_or, set, refl, sym, ap, ◌∙◌, subst, append-nil, length-append, arith, length-set, get_or-set_other, get_or-set_same}
+use Rattle.std.proofs.Common.{◌≡◌, ◌≢◌, ℕ, ◌<◌, List, [], ◌∷◌, ◌++◌, length, get_or, set, refl, sym, ap, ◌∙◌, subst, append-nil, length-append, arith, length-set, get_or-set_other, get_or-set_same}
 use mathlib.Core.Logic.{dite}
 use native.Mathlib.Decide.{ℕ_discrete}
-use Rattle.funnel.specs.declared.view.Holder.{Holder}
-use Rattle.funnel.specs.declared.view.Holder.TheVariants.{Processor, Engine}
 use Rattle.funnel.specs.declared.view.Raise.{Raise}
-use Rattle.funnel.specs.declared.seat.Level.{Level}
-use Rattle.funnel.specs.Tree.{leaf_of}
-use Rattle.funnel.specs.Histories.{IsBeginning, greatest, raised_by}
-use Rattle.funnel.specs.Seats.{climb_from}
-use Rattle.funnel.specs.Views.{FunnelView}
-use Rattle.funnel.specs.Calls as funnel
-use Rattle.funnel.proofs.CallerLemmas.{begins_itself, begins_on, made_on, climb_is_own, climb_of_no_other, greatest_climbed}
+use Rattle.funnel.specs.Histories.{IsBeginning, raised_by}
+use Rattle.funnel.proofs.CallerLemmas.{made_on}
 use Rattle.domain.specs.Views.{CpuView}
 use Rattle.solo.specs.Settling.{AskTogether}
 use Rattle.domain.specs.Acting.{GoesOn}

@@ -1,5 +1,5 @@
 -- What was done at the tally words, where all processors are in one hand: each has just its own deeds, so the counts are those of before and of the act.
-use Rattle.std.proofs.Common.{◌≡◌, ◌≢◌, ℕ, suc, ◌+◌, ◌<◌, cond, if◌then◌else◌, map, List, [], ◌∷◌, ◌++◌, length, get_or, set, refl, sym, ap, ◌∙◌, subst, arith, append-nil, length-append, length-set, get_or-set_other, get_or-set_same, eq-eqb, ne_eqb}
+use Rattle.std.proofs.Common.{◌≡◌, ◌≢◌, ℕ, suc, ◌+◌, ◌<◌, cond, if◌then◌else◌, map, List, [], ◌∷◌, ◌++◌, length, get_or, set, refl, sym, ap, ◌∙◌, subst, arith, length-append, length-set, get_or-set_other, get_or-set_same, eq-eqb, ne_eqb}
 use Rattle.std.specs.Prelude.{Some, replicate, slice_get}
 use Rattle.std.proofs.lemmas.List.{length-map, get_or-map, ext_get_or, append_cancel_left}
 use Rattle.std.proofs.lemmas.Option.{slice_get-get_or}
@@ -8,12 +8,10 @@ use native.Mathlib.Decide.{ℕ_discrete}
 use Rattle.calls.specs.declared.view.Act.{Act}
 use Rattle.calls.specs.declared.view.Act.TheVariants.{Queue, Finish, LoadQueued, LoadFinished}
 use Rattle.calls.specs.declared.view.Deed.{Deed}
-use Rattle.calls.specs.Tallies.{deed, queued_in, finished_by, finished_in, deeds_of, IsFinisher, AreFinishers, IsBeginning}
+use Rattle.calls.specs.Tallies.{queued_in, finished_by, finished_in, deeds_of, IsFinisher, AreFinishers, IsBeginning}
 use Rattle.calls.specs.Views.{CallSeatView}
-use Rattle.calls.specs.Calls.{Does}
-use Rattle.calls.specs.Barriers.{Loads, queued_loads, finished_loads}
-use Rattle.calls.specs.Meetings.{Covers, Accepts}
-use Rattle.calls.proofs.CallerLemmas.{begins_itself, begins_on, deeds_append, same_queued}
+use Rattle.calls.specs.Meetings.{Accepts}
+use Rattle.calls.proofs.CallerLemmas.{begins_on, deeds_append, same_queued}
 use Rattle.domain.specs.Views.{DomainView, CpuView}
 use Rattle.domain.specs.Meetings.{TalliesMeet}
 use Rattle.solo.specs.Settling.{TallyTogether}

@@ -1,5 +1,5 @@
 -- What the calls of a domain in one hand do: each is said of how far the domain has come before and behind it.
-use Rattle.std.specs.Prelude.{◌≡◌, ℕ, ◌+◌, ◌*◌, ◌<◌, ◌≤◌, max, Bool, true, List, [], ◌∷◌, ◌++◌, All, Option, Some, IfSome, Result, Ok, length, replicate, slice_get, slice_index, slice_set}
+use Rattle.std.specs.Prelude.{◌≡◌, ℕ, ◌+◌, ◌*◌, ◌<◌, ◌≤◌, max, Bool, true, List, [], All, Option, Some, IfSome, Result, Ok, length, replicate, slice_get, slice_index}
 use Rattle.sseq.specs.declared.index.Index.{Index}
 use Rattle.atomic_table.specs.Seated.{TableId}
 use Rattle.onedom.specs.Histories.{IsRunning, ended_in, cookie_after}

@@ -41,9 +41,7 @@ impl<'a, A: Allocator> Entry<&'a A> {
         ensures name { self.new.state.name ≡ self.old.state.name }
         ensures does { Does self.old.limits (Act.BarrierPoll processor name.now) self.old.state result self.new.state }
     {
-        let Some(ticket) = self.names.ticket(name) else {
-            unreachable!()
-        };
+        let ticket = self.names.ticket(name);
         if self.domain.barrier_poll(rt, processor, ticket) {
             return Reply::Done;
         }

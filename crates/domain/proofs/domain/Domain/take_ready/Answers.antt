@@ -1,4 +1,4 @@
-use Rattle.std.proofs.Common.{refl, sym, subst}
+use Rattle.std.proofs.Common.{sym, subst}
 use Rattle.domain.specs.Views.{CpuView, IsOf}
 use Rattle.domain.proofs.Staying.{still_with_cpu}
 use Rattle.domain.proofs.Acting.{take_acts}

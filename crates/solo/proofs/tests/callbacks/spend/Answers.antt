@@ -1,4 +1,3 @@
-use Rattle.std.proofs.Common.{◌∙◌}
 use Rattle.solo.proofs.tests.callbacks.spend.Goals as goal
 
 pub returns : goal.returns

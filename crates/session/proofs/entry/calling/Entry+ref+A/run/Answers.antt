@@ -1,4 +1,4 @@
-use Rattle.std.proofs.Common.{rules, ◌*◌, ◌<◌, ◌∙◌, sym, refl, subst, None, Some}
+use Rattle.std.proofs.Common.{rules, ◌*◌, ◌<◌, ◌∙◌, sym, refl, subst}
 use Rattle.session.proofs.Callbacks.{jobs_on, jobs_kept, jobs_finished, emptied_taken, finished_taken, few_given, none_out_is, together_finished, invoking_run, ran, ran_none}
 use Rattle.session.proofs.Quiet.{does_quietly, keeps_jobs}
 use Rattle.session.proofs.Together.{together_on}

@@ -1,4 +1,4 @@
-use Rattle.std.proofs.Common.{rules, ◌*◌, ◌≡◌, ◌<◌, ◌∙◌, sym, ap, refl, subst, None, Some}
+use Rattle.std.proofs.Common.{rules, ◌*◌, ◌≡◌, ◌<◌, ◌∙◌, sym, ap, refl, subst, Some}
 use Rattle.std.specs.Prelude.{Option}
 use Rattle.calls.specs.Views.{BatchView}
 use Rattle.solo.specs.Calls.{AreOut}

@@ -1,0 +1,73 @@
+//! Taking out a token of a kind that is known, as that of a line's name is once the line was read. The branches of the
+//! other kinds stand here, and nowhere else. They are never reached.
+ghost use Rattle.std.specs.Prelude.{◌≡◌, ◌<◌, Some};
+ghost use Rattle.session.specs.Tokens.{token_at, kind_in, TakesOut};
+
+use super::{Names, Token};
+use calls::Ticket;
+use lines::Name;
+use requests::Kind;
+use sections::{Held, Look, Reading};
+use std::alloc::Allocator;
+
+impl<A: Allocator> Names<A> {
+    /// Takes out what has this name. The name is then free, and there is no less room than there was.
+    fn take(&mut self, name: &Name) -> Token<A>
+        requires { (k : Kind) × (kind_in name.now self.old.tokens ≡ Some k) }
+        ensures taken { TakesOut name.now result self.old.tokens self.new.tokens }
+        ensures room { 0 < self.old.room → 0 < self.new.room }
+    {
+        let Some(token) = self.remove(name) else {
+            unreachable!()
+        };
+        token
+    }
+
+    /// Takes out the look of this name.
+    pub fn take_look(&mut self, name: &Name) -> Look
+        requires { kind_in name.now self.old.tokens ≡ Some Kind.Look }
+        ensures taken { TakesOut name.now (Token.Look result) self.old.tokens self.new.tokens }
+        ensures room { 0 < self.old.room → 0 < self.new.room }
+    {
+        match self.take(name) {
+            Token::Look(look) => look,
+            _other => unreachable!(),
+        }
+    }
+
+    /// Takes out the reading of this name.
+    pub fn take_reading(&mut self, name: &Name) -> Reading
+        requires { kind_in name.now self.old.tokens ≡ Some Kind.Reading }
+        ensures { TakesOut name.now (Token.Reading result) self.old.tokens self.new.tokens }
+    {
+        match self.take(name) {
+            Token::Reading(reading) => reading,
+            _other => unreachable!(),
+        }
+    }
+
+    /// Takes out the held section of this name.
+    pub fn take_held(&mut self, name: &Name) -> Held
+        requires { kind_in name.now self.old.tokens ≡ Some Kind.Held }
+        ensures { TakesOut name.now (Token.Held result) self.old.tokens self.new.tokens }
+    {
+        match self.take(name) {
+            Token::Held(held) => held,
+            _other => unreachable!(),
+        }
+    }
+
+    /// The ticket of this name, which keeps it.
+    pub fn ticket(&self, name: &Name) -> &Ticket<A>
+        requires { kind_in name.now self.now.tokens ≡ Some Kind.Ticket }
+        ensures { token_at name.now self.now.tokens ≡ Some (Token.Ticket result.now) }
+    {
+        let Some(token) = self.get(name) else {
+            unreachable!()
+        };
+        match token {
+            Token::Ticket(ticket) => ticket,
+            _other => unreachable!(),
+        }
+    }
+}
