@@ -1,5 +1,3 @@
-ghost use Rattle.std.specs.Prelude.{◌<◌, length};
-
 mod jobs;
 mod stage;
 mod tickets;
@@ -8,7 +6,7 @@ use crate::tests::stage::Stage;
 use crate::{
     Act, Cause, Command, Fault, Period, Reply, Request, Sections, is_skipped, parse, push_reply,
 };
-use lines::Name;
+use lines::{Name, words};
 use scan::Progress;
 use sseq::{Index, Number, Phase};
 use std::process::Abort;
@@ -52,50 +50,55 @@ fn rows_make_the_help(rt: HostRuntime) -> Result<(), Fail> {
     Ok(())
 }
 
+/// Would catch a word that is another command's, or one that is none and counts.
 #[test]
-fn words_of_commands(rt: HostRuntime) {
-    let rows: [(&[u8], Option<Command>); 37] = [
-        (b"domain", Some(Command::Domain)),
-        (b"state", Some(Command::State)),
-        (b"look", Some(Command::Look)),
-        (b"enter", Some(Command::Enter)),
-        (b"lock", Some(Command::Lock)),
-        (b"unlock", Some(Command::Unlock)),
-        (b"down", Some(Command::Down)),
-        (b"up", Some(Command::Up)),
-        (b"park", Some(Command::Park)),
-        (b"unpark", Some(Command::Unpark)),
-        (b"ask", Some(Command::Ask)),
-        (b"get", Some(Command::Get)),
-        (b"poll", Some(Command::Poll)),
-        (b"start", Some(Command::Start)),
-        (b"advance", Some(Command::Advance)),
-        (b"step", Some(Command::Step)),
-        (b"call", Some(Command::Call)),
-        (b"run", Some(Command::Run)),
-        (b"batch", Some(Command::Batch)),
-        (b"finish", Some(Command::Finish)),
-        (b"segs", Some(Command::Segs)),
-        (b"barrier", Some(Command::Barrier)),
-        (b"barrier-poll", Some(Command::BarrierPoll)),
-        (b"cleanup", Some(Command::Cleanup)),
-        (b"", None),
-        (b"loc", None),
-        (b"locks", None),
-        (b"ups", None),
-        (b"seg", None),
-        (b"calls", None),
-        (b"barriers", None),
-        (b"barrier-", None),
-        (b"barrierpoll", None),
-        (b"barrier_poll", None),
-        (b"clean", None),
-        (b"LOCK", None),
-        (b"frob", None),
-    ];
-    for (word, command) in rows {
-        assert_eq!(rt; Command::of_word(word), command);
+fn words_of_commands(rt: HostRuntime) -> Result<(), Fail> {
+    let table = "
+        domain           Some(Domain)
+        state            Some(State)
+        look             Some(Look)
+        enter            Some(Enter)
+        lock             Some(Lock)
+        unlock           Some(Unlock)
+        down             Some(Down)
+        up               Some(Up)
+        park             Some(Park)
+        unpark           Some(Unpark)
+        ask              Some(Ask)
+        get              Some(Get)
+        poll             Some(Poll)
+        start            Some(Start)
+        advance          Some(Advance)
+        step             Some(Step)
+        call             Some(Call)
+        run              Some(Run)
+        batch            Some(Batch)
+        finish           Some(Finish)
+        segs             Some(Segs)
+        barrier          Some(Barrier)
+        barrier-poll     Some(BarrierPoll)
+        cleanup          Some(Cleanup)
+        loc              None
+        locks            None
+        ups              None
+        seg              None
+        calls            None
+        barriers         None
+        barrier-         None
+        barrierpoll      None
+        barrier_poll     None
+        clean            None
+        LOCK             None
+        frob             None";
+    for row in table.as_bytes().split(|byte| *byte == b'\n') {
+        let words = words(rt.alloc(), row)?;
+        if let [word, wanted] = words.as_slice() {
+            let found = format!(in rt.alloc(); "{:?}", Command::of_word(word))?;
+            assert_eq!(rt; found.as_bytes(), *wanted);
+        }
     }
+    assert_eq!(rt; Command::of_word(b""), None);
+    Ok(())
 }
 
 #[test]
@@ -112,125 +115,134 @@ fn skipped_lines(rt: HostRuntime) {
     }
 }
 
-/// The fault of these words on the stage.
-fn fault_of(words: &[&[u8]]) -> Option<Fault>
-    requires { 0 < length words.now }
-{
-    match parse(words, &Stage) {
-        Ok(_) => None,
-        Err(fault) => Some(fault),
+/// Checks the fault of the first words of a row, on the stage. It is the last word, `none` where there is no fault.
+fn check_fault(rt: &(impl Abort + AllocGlobal), row: &[&[u8]]) -> Result<(), Fail> {
+    let Some((wanted, line)) = row.split_last() else {
+        return Ok(());
+    };
+    assert!(rt; !line.is_empty());
+    let found = match parse(line, &Stage) {
+        Ok(_) => "none".to_string(rt.alloc())?,
+        Err(fault) => fault.to_string(rt.alloc())?,
+    };
+    assert_eq!(rt; found.as_bytes(), *wanted);
+    Ok(())
+}
+
+/// Checks the fault of each line of a table, which stands behind it.
+fn check_faults(rt: &(impl Abort + AllocGlobal), table: &str) -> Result<(), Fail> {
+    for row in table.as_bytes().split(|byte| *byte == b'\n') {
+        let words = words(rt.alloc(), row)?;
+        if !is_skipped(&words) {
+            check_fault(rt, &words)?;
+        }
     }
+    Ok(())
 }
 
 /// Would catch a fault that is named before another to the left of it.
 #[test]
-fn faults_from_left_to_right(rt: HostRuntime) {
-    let rows: [(&[&[u8]], Option<Fault>); 36] = [
-        (&[b"frob"], Some(Fault::Command)),
-        (&[b"frob", b"A"], Some(Fault::Command)),
-        (&[b"state"], Some(Fault::Words)),
-        (&[b"state", b"A", b"B"], Some(Fault::Words)),
-        (&[b"lock", b"A", b"x"], Some(Fault::Words)),
-        (&[b"state", b"A"], Some(Fault::Name)),
-        (&[b"state", b"abcdefghij0123456"], Some(Fault::Name)),
-        (&[b"state", b"b"], Some(Fault::Domain)),
-        (&[b"state", b"a"], None),
-        (&[b"domain", b"A", b"x"], Some(Fault::Name)),
-        (&[b"domain", b"a", b"x"], Some(Fault::Taken)),
-        (&[b"domain", b"b", b"x"], Some(Fault::Number)),
-        (&[b"domain", b"b", b"300"], None),
-        (&[b"domain", b"b", b"18446744073709551615"], None),
-        (
-            &[b"domain", b"b", b"18446744073709551616"],
-            Some(Fault::Number),
-        ),
-        (&[b"lock", b"b", b"x", b"S"], Some(Fault::Domain)),
-        (&[b"lock", b"a", b"x", b"S"], Some(Fault::Number)),
-        (&[b"lock", b"a", b"01", b"S"], Some(Fault::Number)),
-        (&[b"lock", b"a", b"2", b"S"], Some(Fault::Processor)),
-        (&[b"lock", b"a", b"1", b"S"], Some(Fault::Name)),
-        (&[b"lock", b"a", b"1", b"s"], Some(Fault::Taken)),
-        (&[b"lock", b"a", b"1", b"r"], Some(Fault::Taken)),
-        (&[b"lock", b"a", b"1", b"a"], None),
-        (&[b"look", b"a", b"0", b"r"], Some(Fault::Taken)),
-        (&[b"look", b"a", b"0", b"t"], None),
-        (&[b"enter", b"a", b"2", b"t"], Some(Fault::Processor)),
-        (&[b"enter", b"a", b"0", b"t"], Some(Fault::Name)),
-        (&[b"enter", b"a", b"0", b"s"], Some(Fault::Name)),
-        (&[b"enter", b"a", b"0", b"R"], Some(Fault::Name)),
-        (&[b"enter", b"a", b"0", b"r"], None),
-        (&[b"unlock", b"a", b"r"], Some(Fault::Name)),
-        (&[b"unlock", b"a", b"s"], None),
-        (&[b"poll", b"a", b"2", b"x"], Some(Fault::Processor)),
-        (&[b"poll", b"a", b"1", b"x"], Some(Fault::Number)),
-        (&[b"poll", b"a", b"1", b"6"], None),
-        (&[b"get", b"a", b"1"], None),
-    ];
-    for (words, fault) in rows {
-        assert!(rt; !words.is_empty());
-        assert_eq!(rt; fault_of(words), fault);
-    }
+fn faults_from_left_to_right(rt: HostRuntime) -> Result<(), Fail> {
+    let table = "
+        frob                             command
+        frob A                           command
+        state                            words
+        state A B                        words
+        lock A x                         words
+        state A                          name
+        state abcdefghij0123456          name
+        state b                          domain
+        state a                          none
+        domain A x                       name
+        domain a x                       taken
+        domain b x                       number
+        domain b 300                     none
+        domain b 18446744073709551615    none
+        domain b 18446744073709551616    number
+        lock b x S                       domain
+        lock a x S                       number
+        lock a 01 S                      number
+        lock a 2 S                       processor
+        lock a 1 S                       name
+        lock a 1 s                       taken
+        lock a 1 r                       taken
+        lock a 1 a                       none
+        look a 0 r                       taken
+        look a 0 t                       none
+        enter a 2 t                      processor
+        enter a 0 t                      name
+        enter a 0 s                      name
+        enter a 0 R                      name
+        enter a 0 r                      none
+        unlock a r                       name
+        unlock a s                       none
+        poll a 2 x                       processor
+        poll a 1 x                       number
+        poll a 1 6                       none
+        get a 1                          none";
+    check_faults(&rt, table)
 }
 
 /// Would catch a line that takes a section of the other kind or a parked one, or one that makes a second thing of a
 /// parked section's name.
 #[test]
-fn faults_of_held_sections(rt: HostRuntime) {
-    let rows: [(&[&[u8]], Option<Fault>); 40] = [
-        // `unlock` takes what `lock` and `enter` began, `up` and `park` what `down` began and is not parked
-        (&[b"unlock", b"a", b"h"], Some(Fault::Name)),
-        (&[b"unlock", b"a", b"p"], Some(Fault::Name)),
-        (&[b"enter", b"a", b"0", b"h"], Some(Fault::Name)),
-        (&[b"enter", b"a", b"0", b"p"], Some(Fault::Name)),
-        (&[b"up", b"a", b"0", b"r"], Some(Fault::Name)),
-        (&[b"up", b"a", b"0", b"s"], Some(Fault::Name)),
-        (&[b"up", b"a", b"0", b"p"], Some(Fault::Name)),
-        (&[b"up", b"a", b"0", b"t"], Some(Fault::Name)),
-        (&[b"up", b"a", b"0", b"H"], Some(Fault::Name)),
-        (&[b"up", b"a", b"1", b"h"], None),
-        (&[b"up", b"a", b"h"], Some(Fault::Words)),
-        (&[b"up", b"b", b"x", b"S"], Some(Fault::Domain)),
-        (&[b"up", b"a", b"x", b"S"], Some(Fault::Number)),
-        (&[b"up", b"a", b"2", b"S"], Some(Fault::Processor)),
-        (&[b"park", b"a", b"r"], Some(Fault::Name)),
-        (&[b"park", b"a", b"s"], Some(Fault::Name)),
-        (&[b"park", b"a", b"p"], Some(Fault::Name)),
-        (&[b"park", b"a", b"t"], Some(Fault::Name)),
-        (&[b"park", b"a", b"h"], None),
-        (&[b"park", b"a"], Some(Fault::Words)),
-        (&[b"park", b"a", b"0", b"h"], Some(Fault::Words)),
-        (&[b"park", b"b", b"S"], Some(Fault::Domain)),
-        // a name in use is taken, also that of a parked section
-        (&[b"down", b"a", b"0", b"r"], Some(Fault::Taken)),
-        (&[b"down", b"a", b"0", b"s"], Some(Fault::Taken)),
-        (&[b"down", b"a", b"0", b"h"], Some(Fault::Taken)),
-        (&[b"down", b"a", b"0", b"p"], Some(Fault::Taken)),
-        (&[b"look", b"a", b"0", b"p"], Some(Fault::Taken)),
-        (&[b"lock", b"a", b"0", b"p"], Some(Fault::Taken)),
-        (&[b"lock", b"a", b"0", b"h"], Some(Fault::Taken)),
-        (&[b"down", b"a", b"x", b"p"], Some(Fault::Number)),
-        (&[b"down", b"a", b"2", b"p"], Some(Fault::Processor)),
-        (&[b"down", b"a", b"1", b"S"], Some(Fault::Name)),
-        (&[b"down", b"a", b"1", b"t"], None),
-        (&[b"unpark", b"b"], Some(Fault::Domain)),
-        (&[b"unpark", b"a", b"p"], Some(Fault::Words)),
-        (&[b"unpark", b"a"], None),
-        (&[b"ask", b"a"], Some(Fault::Words)),
-        (&[b"ask", b"b", b"x"], Some(Fault::Domain)),
-        (&[b"ask", b"a", b"2"], Some(Fault::Processor)),
-        (&[b"ask", b"a", b"1"], None),
-    ];
-    for (words, fault) in rows {
-        assert!(rt; !words.is_empty());
-        assert_eq!(rt; fault_of(words), fault);
-    }
+fn faults_of_held_sections(rt: HostRuntime) -> Result<(), Fail> {
+    let table = "
+        # `unlock` takes what `lock` and `enter` began, `up` and `park` what `down` began and is not parked
+        unlock a h                       name
+        unlock a p                       name
+        enter a 0 h                      name
+        enter a 0 p                      name
+        up a 0 r                         name
+        up a 0 s                         name
+        up a 0 p                         name
+        up a 0 t                         name
+        up a 0 H                         name
+        up a 1 h                         none
+        up a h                           words
+        up b x S                         domain
+        up a x S                         number
+        up a 2 S                         processor
+        park a r                         name
+        park a s                         name
+        park a p                         name
+        park a t                         name
+        park a h                         none
+        park a                           words
+        park a 0 h                       words
+        park b S                         domain
+        # a name in use is taken, also that of a parked section
+        down a 0 r                       taken
+        down a 0 s                       taken
+        down a 0 h                       taken
+        down a 0 p                       taken
+        look a 0 p                       taken
+        lock a 0 p                       taken
+        lock a 0 h                       taken
+        down a x p                       number
+        down a 2 p                       processor
+        down a 1 S                       name
+        down a 1 t                       none
+        unpark b                         domain
+        unpark a p                       words
+        unpark a                         none
+        ask a                            words
+        ask b x                          domain
+        ask a 2                          processor
+        ask a 1                          none";
+    check_faults(&rt, table)
 }
 
-/// Whether these words ask the domain of the stage for this act.
-fn asks_for(words: &[&[u8]], act: Act) -> bool
-    requires { 0 < length words.now }
-{
-    parse(words, &Stage).ok() == Some(Request::On { domain: 0, act })
+/// What the words of a line ask for on the stage, if there is no fault.
+fn asked(rt: &(impl Abort + AllocGlobal), line: &str) -> Result<Option<Request>, Fail> {
+    let words = words(rt.alloc(), line.as_bytes())?;
+    assert!(rt; !words.is_empty());
+    Ok(parse(&words, &Stage).ok())
+}
+
+/// Whether a line asks the domain of the stage for this act.
+fn asks_for(rt: &(impl Abort + AllocGlobal), line: &str, act: Act) -> Result<bool, Fail> {
+    Ok(asked(rt, line)? == Some(Request::On { domain: 0, act }))
 }
 
 #[test]
@@ -239,75 +251,76 @@ fn words_ask(rt: HostRuntime) -> Result<(), Fail> {
     let s = Name::new(b"s").ok_or("a name")?;
     let t = Name::new(b"t").ok_or("a name")?;
     let h = Name::new(b"h").ok_or("a name")?;
-    let rows: [(&[&[u8]], Act); 15] = [
-        (&[b"state", b"a"], Act::State),
+    let rows = [
+        ("state a", Act::State),
         (
-            &[b"look", b"a", b"1", b"t"],
+            "look a 1 t",
             Act::Look {
                 processor: 1,
                 look: t,
             },
         ),
         (
-            &[b"enter", b"a", b"1", b"r"],
+            "enter a 1 r",
             Act::Enter {
                 processor: 1,
                 look: r,
             },
         ),
         (
-            &[b"lock", b"a", b"1", b"t"],
+            "lock a 1 t",
             Act::Lock {
                 processor: 1,
                 section: t,
             },
         ),
-        (&[b"unlock", b"a", b"s"], Act::Unlock { section: s }),
+        ("unlock a s", Act::Unlock { section: s }),
         (
-            &[b"down", b"a", b"1", b"t"],
+            "down a 1 t",
             Act::Down {
                 processor: 1,
                 section: t,
             },
         ),
         (
-            &[b"up", b"a", b"1", b"h"],
+            "up a 1 h",
             Act::Up {
                 processor: 1,
                 section: h,
             },
         ),
-        (&[b"park", b"a", b"h"], Act::Park { section: h }),
-        (&[b"unpark", b"a"], Act::Unpark),
-        (&[b"get", b"a", b"1"], Act::Get { processor: 1 }),
-        (&[b"ask", b"a", b"1"], Act::Ask { processor: 1 }),
+        ("park a h", Act::Park { section: h }),
+        ("unpark a", Act::Unpark),
+        ("get a 1", Act::Get { processor: 1 }),
+        ("ask a 1", Act::Ask { processor: 1 }),
         (
-            &[b"poll", b"a", b"1", b"7"],
+            "poll a 1 7",
             Act::Poll {
                 processor: 1,
                 cookie: 7,
             },
         ),
-        (&[b"start", b"a", b"1"], Act::Start { processor: 1 }),
-        (&[b"advance", b"a", b"1"], Act::Advance { processor: 1 }),
-        (&[b"step", b"a", b"0"], Act::Step { processor: 0 }),
+        ("start a 1", Act::Start { processor: 1 }),
+        ("advance a 1", Act::Advance { processor: 1 }),
+        ("step a 0", Act::Step { processor: 0 }),
     ];
-    for (words, act) in rows {
-        assert!(rt; !words.is_empty());
-        assert!(rt; asks_for(words, act));
+    for (line, act) in rows {
+        assert!(rt; asks_for(&rt, line, act)?);
     }
     let made = Request::Domain {
         name: t,
         processors: 9,
     };
-    assert!(rt; parse(&[b"domain", b"t", b"9"], &Stage).ok() == Some(made));
+    assert!(rt; asked(&rt, "domain t 9")? == Some(made));
     Ok(())
 }
 
-/// Checks the text of a reply.
-fn check_text(rt: &(impl Abort + AllocGlobal), reply: Reply, text: &str) -> Result<(), Fail> {
+/// Checks the text of replies.
+fn check_texts(rt: &(impl Abort + AllocGlobal), replies: &[Reply], text: &str) -> Result<(), Fail> {
     let mut bytes = Vec::new(rt.alloc());
-    push_reply(&mut bytes, &reply)?;
+    for reply in replies {
+        push_reply(&mut bytes, reply)?;
+    }
     assert_eq!(rt; bytes.as_slice(), text.as_bytes());
     Ok(())
 }
@@ -326,114 +339,129 @@ fn texts_of_replies(rt: HostRuntime) -> Result<(), Fail> {
         one: 4,
         need: Number::new(8).ok_or("a number")?,
     };
-    let rows = [
-        (
-            Reply::Made {
-                domain,
-                processors: 2,
-            },
-            "made web0 2\n",
-        ),
-        (
-            Reply::State {
-                domain,
-                period,
-                sections,
-            },
-            "state web0 number 6 scan2 index 1 open 3 4 need 8\n",
-        ),
-        (Reply::Look(Index::Zero), "look 0\n"),
-        (Reply::Index(Index::One), "index 1\n"),
-        (Reply::Closed, "closed\n"),
-        (Reply::Parked, "parked\n"),
-        (Reply::Took(domain), "took web0\n"),
-        (
-            Reply::Cookie(2_305_843_009_213_693_952),
-            "cookie 2305843009213693952\n",
-        ),
-        (Reply::Done, "done\n"),
-        (Reply::NotYet, "not yet\n"),
-        (Reply::Progress(Progress::Idle), "idle\n"),
-        (Reply::Progress(Progress::Started(number)), "started 6\n"),
-        (
-            Reply::Progress(Progress::Flipped(Index::One)),
-            "flipped 1\n",
-        ),
-        (Reply::Progress(Progress::Ended(number)), "ended 6\n"),
-        (
-            Reply::Progress(Progress::Waiting(Index::Zero)),
-            "waiting 0\n",
-        ),
-        (Reply::Progress(Progress::Step), "step\n"),
-        (
-            Reply::Refused(Command::Lock, Cause::Exhausted),
-            "refused lock exhausted\n",
-        ),
-        (
-            Reply::Faulty {
-                line: 7,
-                fault: Fault::Taken,
-            },
-            "line 7: taken\n",
-        ),
+    let replies = [
+        Reply::Made {
+            domain,
+            processors: 2,
+        },
+        Reply::State {
+            domain,
+            period,
+            sections,
+        },
+        Reply::Look(Index::Zero),
+        Reply::Index(Index::One),
+        Reply::Closed,
+        Reply::Parked,
+        Reply::Took(domain),
+        Reply::Cookie(2_305_843_009_213_693_952),
+        Reply::Done,
+        Reply::NotYet,
+        Reply::Progress(Progress::Idle),
+        Reply::Progress(Progress::Started(number)),
+        Reply::Progress(Progress::Flipped(Index::One)),
+        Reply::Progress(Progress::Ended(number)),
+        Reply::Progress(Progress::Waiting(Index::Zero)),
+        Reply::Progress(Progress::Step),
+        Reply::Refused(Command::Lock, Cause::Exhausted),
+        Reply::Faulty {
+            line: 7,
+            fault: Fault::Taken,
+        },
     ];
-    for (reply, text) in rows {
-        check_text(&rt, reply, text)?;
-    }
-    Ok(())
+    let text = "made web0 2\n\
+        state web0 number 6 scan2 index 1 open 3 4 need 8\n\
+        look 0\n\
+        index 1\n\
+        closed\n\
+        parked\n\
+        took web0\n\
+        cookie 2305843009213693952\n\
+        done\n\
+        not yet\n\
+        idle\n\
+        started 6\n\
+        flipped 1\n\
+        ended 6\n\
+        waiting 0\n\
+        step\n\
+        refused lock exhausted\n\
+        line 7: taken\n";
+    check_texts(&rt, &replies, text)
 }
 
 #[test]
 fn texts_of_faults(rt: HostRuntime) -> Result<(), Fail> {
-    let rows = [
-        (Fault::Text, "line 1: text\n"),
-        (Fault::Command, "line 1: command\n"),
-        (Fault::Words, "line 1: words\n"),
-        (Fault::Name, "line 1: name\n"),
-        (Fault::Domain, "line 1: domain\n"),
-        (Fault::Taken, "line 1: taken\n"),
-        (Fault::Number, "line 1: number\n"),
-        (Fault::Processor, "line 1: processor\n"),
+    let replies = [
+        Reply::Faulty {
+            line: 1,
+            fault: Fault::Text,
+        },
+        Reply::Faulty {
+            line: 1,
+            fault: Fault::Command,
+        },
+        Reply::Faulty {
+            line: 1,
+            fault: Fault::Words,
+        },
+        Reply::Faulty {
+            line: 1,
+            fault: Fault::Name,
+        },
+        Reply::Faulty {
+            line: 1,
+            fault: Fault::Domain,
+        },
+        Reply::Faulty {
+            line: 1,
+            fault: Fault::Taken,
+        },
+        Reply::Faulty {
+            line: 1,
+            fault: Fault::Number,
+        },
+        Reply::Faulty {
+            line: 1,
+            fault: Fault::Processor,
+        },
     ];
-    for (fault, text) in rows {
-        check_text(&rt, Reply::Faulty { line: 1, fault }, text)?;
-    }
-    Ok(())
+    let text = "line 1: text\n\
+        line 1: command\n\
+        line 1: words\n\
+        line 1: name\n\
+        line 1: domain\n\
+        line 1: taken\n\
+        line 1: number\n\
+        line 1: processor\n";
+    check_texts(&rt, &replies, text)
 }
 
 #[test]
 fn texts_of_refusals(rt: HostRuntime) -> Result<(), Fail> {
-    let rows = [
-        (Command::Domain, Cause::Full, "refused domain full\n"),
-        (
-            Command::Domain,
-            Cause::Processors,
-            "refused domain processors\n",
-        ),
-        (Command::Domain, Cause::Memory, "refused domain memory\n"),
-        (
-            Command::Enter,
-            Cause::Exhausted,
-            "refused enter exhausted\n",
-        ),
-        (Command::Down, Cause::Exhausted, "refused down exhausted\n"),
-        (Command::Park, Cause::Full, "refused park full\n"),
-        (Command::Unpark, Cause::Empty, "refused unpark empty\n"),
-        (
-            Command::Advance,
-            Cause::Exhausted,
-            "refused advance exhausted\n",
-        ),
-        (Command::Step, Cause::Exhausted, "refused step exhausted\n"),
-        (Command::Start, Cause::Running, "refused start running\n"),
-        (
-            Command::Poll,
-            Cause::NotACookie,
-            "refused poll not-a-cookie\n",
-        ),
+    let replies = [
+        Reply::Refused(Command::Domain, Cause::Full),
+        Reply::Refused(Command::Domain, Cause::Processors),
+        Reply::Refused(Command::Domain, Cause::Memory),
+        Reply::Refused(Command::Enter, Cause::Exhausted),
+        Reply::Refused(Command::Down, Cause::Exhausted),
+        Reply::Refused(Command::Park, Cause::Full),
+        Reply::Refused(Command::Unpark, Cause::Empty),
+        Reply::Refused(Command::Advance, Cause::Exhausted),
+        Reply::Refused(Command::Step, Cause::Exhausted),
+        Reply::Refused(Command::Start, Cause::Running),
+        Reply::Refused(Command::Poll, Cause::NotACookie),
     ];
-    for (command, cause, text) in rows {
-        check_text(&rt, Reply::Refused(command, cause), text)?;
-    }
-    Ok(())
+    let text = "refused domain full\n\
+        refused domain processors\n\
+        refused domain memory\n\
+        refused enter exhausted\n\
+        refused down exhausted\n\
+        refused park full\n\
+        refused unpark empty\n\
+        refused advance exhausted\n\
+        refused step exhausted\n\
+        refused start running\n\
+        refused poll not-a-cookie\n";
+    check_texts(&rt, &replies, text)
 }

@@ -1,106 +1,94 @@
 //! The lines of callbacks.
 ghost use Rattle.std.specs.Prelude.{◌≤◌, length};
 
-use super::{asks_for, check_text, fault_of};
+use super::{asks_for, check_faults, check_texts};
 use crate::{Act, Cause, Command, Fault, JobNames, Reply, Segments, Waiting};
 use lines::Name;
 use std::test::Fail;
 
 /// Would catch a job's name that has to be new, or one that has to be there.
 #[test]
-fn faults_of_calls(rt: HostRuntime) {
-    let rows: [(&[&[u8]], Option<Fault>); 18] = [
-        (&[b"call"], Some(Fault::Words)),
-        (&[b"call", b"A", b"x"], Some(Fault::Words)),
-        (&[b"call", b"a", b"0", b"j", b"j"], Some(Fault::Words)),
-        (&[b"call", b"A", b"x", b"J"], Some(Fault::Name)),
-        (&[b"call", b"b", b"x", b"J"], Some(Fault::Domain)),
-        (&[b"call", b"a", b"x", b"J"], Some(Fault::Number)),
-        (&[b"call", b"a", b"01", b"J"], Some(Fault::Number)),
-        (&[b"call", b"a", b"2", b"J"], Some(Fault::Processor)),
-        (&[b"call", b"a", b"1", b"J"], Some(Fault::Name)),
-        (
-            &[b"call", b"a", b"1", b"abcdefghij0123456"],
-            Some(Fault::Name),
-        ),
-        (&[b"call", b"a", b"1", b"abcdefghij012345"], None),
-        // a job's name may be that of a domain, and of whatever has a name there
-        (&[b"call", b"a", b"0", b"j"], None),
-        (&[b"call", b"a", b"0", b"a"], None),
-        (&[b"call", b"a", b"0", b"r"], None),
-        (&[b"call", b"a", b"0", b"s"], None),
-        (&[b"call", b"a", b"0", b"h"], None),
-        (&[b"call", b"a", b"0", b"p"], None),
-        (&[b"calls", b"a", b"0", b"j"], Some(Fault::Command)),
-    ];
-    for (words, fault) in rows {
-        assert!(rt; !words.is_empty());
-        assert_eq!(rt; fault_of(words), fault);
-    }
+fn faults_of_calls(rt: HostRuntime) -> Result<(), Fail> {
+    let table = "
+        call                             words
+        call A x                         words
+        call a 0 j j                     words
+        call A x J                       name
+        call b x J                       domain
+        call a x J                       number
+        call a 01 J                      number
+        call a 2 J                       processor
+        call a 1 J                       name
+        call a 1 abcdefghij0123456       name
+        call a 1 abcdefghij012345        none
+        # a job's name may be that of a domain, and of whatever has a name there
+        call a 0 j                       none
+        call a 0 a                       none
+        call a 0 r                       none
+        call a 0 s                       none
+        call a 0 h                       none
+        call a 0 p                       none
+        calls a 0 j                      command";
+    check_faults(&rt, table)
 }
 
 /// Would catch a line that wants another number of words, or none of its processor.
 #[test]
-fn faults_of_batches(rt: HostRuntime) {
-    let rows: [(&[&[u8]], Option<Fault>); 24] = [
-        (&[b"run", b"a"], Some(Fault::Words)),
-        (&[b"run", b"a", b"0", b"j"], Some(Fault::Words)),
-        (&[b"run", b"A", b"x"], Some(Fault::Name)),
-        (&[b"run", b"b", b"x"], Some(Fault::Domain)),
-        (&[b"run", b"a", b"x"], Some(Fault::Number)),
-        (&[b"run", b"a", b"2"], Some(Fault::Processor)),
-        (&[b"run", b"a", b"1"], None),
-        (&[b"batch", b"a"], Some(Fault::Words)),
-        (&[b"batch", b"b", b"x"], Some(Fault::Domain)),
-        (&[b"batch", b"a", b"x"], Some(Fault::Number)),
-        (&[b"batch", b"a", b"2"], Some(Fault::Processor)),
-        (&[b"batch", b"a", b"1"], None),
-        (&[b"finish", b"a"], Some(Fault::Words)),
-        (&[b"finish", b"b", b"x"], Some(Fault::Domain)),
-        (&[b"finish", b"a", b"x"], Some(Fault::Number)),
-        (&[b"finish", b"a", b"2"], Some(Fault::Processor)),
-        (&[b"finish", b"a", b"0", b"1"], Some(Fault::Words)),
-        (&[b"finish", b"a", b"1"], None),
-        (&[b"segs", b"a"], Some(Fault::Words)),
-        (&[b"segs", b"A", b"x"], Some(Fault::Name)),
-        (&[b"segs", b"b", b"x"], Some(Fault::Domain)),
-        (&[b"segs", b"a", b"x"], Some(Fault::Number)),
-        (&[b"segs", b"a", b"2"], Some(Fault::Processor)),
-        (&[b"segs", b"a", b"0"], None),
-    ];
-    for (words, fault) in rows {
-        assert!(rt; !words.is_empty());
-        assert_eq!(rt; fault_of(words), fault);
-    }
+fn faults_of_batches(rt: HostRuntime) -> Result<(), Fail> {
+    let table = "
+        run a                            words
+        run a 0 j                        words
+        run A x                          name
+        run b x                          domain
+        run a x                          number
+        run a 2                          processor
+        run a 1                          none
+        batch a                          words
+        batch b x                        domain
+        batch a x                        number
+        batch a 2                        processor
+        batch a 1                        none
+        finish a                         words
+        finish b x                       domain
+        finish a x                       number
+        finish a 2                       processor
+        finish a 0 1                     words
+        finish a 1                       none
+        segs a                           words
+        segs A x                         name
+        segs b x                         domain
+        segs a x                         number
+        segs a 2                         processor
+        segs a 0                         none";
+    check_faults(&rt, table)
 }
 
 #[test]
 fn words_ask_for_jobs(rt: HostRuntime) -> Result<(), Fail> {
     let j = Name::new(b"j").ok_or("a name")?;
     let p = Name::new(b"p").ok_or("a name")?;
-    let rows: [(&[&[u8]], Act); 6] = [
+    let rows = [
         (
-            &[b"call", b"a", b"1", b"j"],
+            "call a 1 j",
             Act::Call {
                 processor: 1,
                 job: j,
             },
         ),
         (
-            &[b"call", b"a", b"0", b"p"],
+            "call a 0 p",
             Act::Call {
                 processor: 0,
                 job: p,
             },
         ),
-        (&[b"run", b"a", b"1"], Act::Run { processor: 1 }),
-        (&[b"batch", b"a", b"1"], Act::Batch { processor: 1 }),
-        (&[b"finish", b"a", b"0"], Act::Finish { processor: 0 }),
-        (&[b"segs", b"a", b"1"], Act::Segs { processor: 1 }),
+        ("run a 1", Act::Run { processor: 1 }),
+        ("batch a 1", Act::Batch { processor: 1 }),
+        ("finish a 0", Act::Finish { processor: 0 }),
+        ("segs a 1", Act::Segs { processor: 1 }),
     ];
-    for (words, act) in rows {
-        assert!(rt; !words.is_empty());
-        assert!(rt; asks_for(words, act));
+    for (line, act) in rows {
+        assert!(rt; asks_for(&rt, line, act)?);
     }
     Ok(())
 }
@@ -144,27 +132,33 @@ fn texts_of_jobs(rt: HostRuntime) -> Result<(), Fail> {
         b"g",
         b"0123456789abcdef",
     ]);
-    let rows = [
-        (Reply::Queued { k: 0, cookie: 4 }, "queued 0 cookie 4\n"),
-        (Reply::Queued { k: 12, cookie: 8 }, "queued 12 cookie 8\n"),
-        (Reply::Ran(none), "ran\n"),
-        (Reply::Ran(one), "ran j1\n"),
-        (Reply::Ran(three), "ran j3 j1 j3\n"),
-        (Reply::Ran(eight), "ran a b c d e f g 0123456789abcdef\n"),
-        (Reply::TookJobs(none), "took\n"),
-        (Reply::TookJobs(one), "took j1\n"),
-        (Reply::TookJobs(three), "took j3 j1 j3\n"),
-        (
-            Reply::TookJobs(eight),
-            "took a b c d e f g 0123456789abcdef\n",
-        ),
-        (Reply::Finished(1), "finished 1\n"),
-        (Reply::Finished(8), "finished 8\n"),
+    let replies = [
+        Reply::Queued { k: 0, cookie: 4 },
+        Reply::Queued { k: 12, cookie: 8 },
+        Reply::Ran(none),
+        Reply::Ran(one),
+        Reply::Ran(three),
+        Reply::Ran(eight),
+        Reply::TookJobs(none),
+        Reply::TookJobs(one),
+        Reply::TookJobs(three),
+        Reply::TookJobs(eight),
+        Reply::Finished(1),
+        Reply::Finished(8),
     ];
-    for (reply, text) in rows {
-        check_text(&rt, reply, text)?;
-    }
-    Ok(())
+    let text = "queued 0 cookie 4\n\
+        queued 12 cookie 8\n\
+        ran\n\
+        ran j1\n\
+        ran j3 j1 j3\n\
+        ran a b c d e f g 0123456789abcdef\n\
+        took\n\
+        took j1\n\
+        took j3 j1 j3\n\
+        took a b c d e f g 0123456789abcdef\n\
+        finished 1\n\
+        finished 8\n";
+    check_texts(&rt, &replies, text)
 }
 
 #[test]
@@ -181,43 +175,38 @@ fn texts_of_segments(rt: HostRuntime) -> Result<(), Fail> {
         count: 0,
         number: 0,
     };
-    let rows = [
-        (
-            Segments {
-                done: 1,
-                wait,
-                ready,
-                next: 5,
-            },
-            "segs done 1 wait 2 8 ready 3 12 next 5\n",
-        ),
-        (
-            Segments {
-                done: 0,
-                wait: empty,
-                ready: empty,
-                next: 0,
-            },
-            "segs done 0 wait 0 0 ready 0 0 next 0\n",
-        ),
+    let replies = [
+        Reply::Segs(Segments {
+            done: 1,
+            wait,
+            ready,
+            next: 5,
+        }),
+        Reply::Segs(Segments {
+            done: 0,
+            wait: empty,
+            ready: empty,
+            next: 0,
+        }),
     ];
-    for (segments, text) in rows {
-        check_text(&rt, Reply::Segs(segments), text)?;
-    }
-    Ok(())
+    let text = "segs done 1 wait 2 8 ready 3 12 next 5\n\
+        segs done 0 wait 0 0 ready 0 0 next 0\n";
+    check_texts(&rt, &replies, text)
 }
 
 #[test]
 fn texts_of_refused_jobs(rt: HostRuntime) -> Result<(), Fail> {
-    let rows = [
-        (Command::Call, Cause::Exhausted, "refused call exhausted\n"),
-        (Command::Call, Cause::Memory, "refused call memory\n"),
-        (Command::Run, Cause::Invoking, "refused run invoking\n"),
-        (Command::Batch, Cause::Invoking, "refused batch invoking\n"),
-        (Command::Finish, Cause::NoBatch, "refused finish none\n"),
+    let replies = [
+        Reply::Refused(Command::Call, Cause::Exhausted),
+        Reply::Refused(Command::Call, Cause::Memory),
+        Reply::Refused(Command::Run, Cause::Invoking),
+        Reply::Refused(Command::Batch, Cause::Invoking),
+        Reply::Refused(Command::Finish, Cause::NoBatch),
     ];
-    for (command, cause, text) in rows {
-        check_text(&rt, Reply::Refused(command, cause), text)?;
-    }
-    Ok(())
+    let text = "refused call exhausted\n\
+        refused call memory\n\
+        refused run invoking\n\
+        refused batch invoking\n\
+        refused finish none\n";
+    check_texts(&rt, &replies, text)
 }

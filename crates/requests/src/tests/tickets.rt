@@ -1,181 +1,156 @@
 //! The lines of tickets, and of taking a domain down.
-use super::{asks_for, check_text, fault_of};
-use crate::tests::stage::Stage;
-use crate::{Act, Cause, Command, Fault, Reply, Request, parse};
+use super::{asked, asks_for, check_faults, check_texts};
+use crate::{Act, Cause, Command, Fault, Reply, Request};
 use lines::Name;
 use std::test::Fail;
 
 /// Would catch a ticket's name that may be in use, whatever has it.
 #[test]
-fn faults_of_barriers(rt: HostRuntime) {
-    let rows: [(&[&[u8]], Option<Fault>); 20] = [
-        (&[b"barrier", b"a", b"0"], Some(Fault::Words)),
-        (&[b"barrier", b"a", b"0", b"t", b"t"], Some(Fault::Words)),
-        (&[b"barrier", b"A", b"x", b"T"], Some(Fault::Name)),
-        (&[b"barrier", b"b", b"x", b"T"], Some(Fault::Domain)),
-        (&[b"barrier", b"a", b"x", b"T"], Some(Fault::Number)),
-        (&[b"barrier", b"a", b"2", b"T"], Some(Fault::Processor)),
-        (&[b"barrier", b"a", b"2", b"b"], Some(Fault::Processor)),
-        (&[b"barrier", b"a", b"1", b"T"], Some(Fault::Name)),
-        (
-            &[b"barrier", b"a", b"1", b"abcdefghij0123456"],
-            Some(Fault::Name),
-        ),
-        (&[b"barrier", b"a", b"1", b"r"], Some(Fault::Taken)),
-        (&[b"barrier", b"a", b"1", b"s"], Some(Fault::Taken)),
-        (&[b"barrier", b"a", b"1", b"h"], Some(Fault::Taken)),
-        (&[b"barrier", b"a", b"1", b"p"], Some(Fault::Taken)),
-        (&[b"barrier", b"a", b"1", b"b"], Some(Fault::Taken)),
-        (&[b"barrier", b"a", b"1", b"t"], None),
-        // the name of the domain is no name in it
-        (&[b"barrier", b"a", b"0", b"a"], None),
-        // and a ticket's name is taken for looks and sections too
-        (&[b"look", b"a", b"0", b"b"], Some(Fault::Taken)),
-        (&[b"lock", b"a", b"0", b"b"], Some(Fault::Taken)),
-        (&[b"down", b"a", b"0", b"b"], Some(Fault::Taken)),
-        (&[b"call", b"a", b"0", b"b"], None),
-    ];
-    for (words, fault) in rows {
-        assert!(rt; !words.is_empty());
-        assert_eq!(rt; fault_of(words), fault);
-    }
+fn faults_of_barriers(rt: HostRuntime) -> Result<(), Fail> {
+    let table = "
+        barrier a 0                      words
+        barrier a 0 t t                  words
+        barrier A x T                    name
+        barrier b x T                    domain
+        barrier a x T                    number
+        barrier a 2 T                    processor
+        barrier a 2 b                    processor
+        barrier a 1 T                    name
+        barrier a 1 abcdefghij0123456    name
+        barrier a 1 r                    taken
+        barrier a 1 s                    taken
+        barrier a 1 h                    taken
+        barrier a 1 p                    taken
+        barrier a 1 b                    taken
+        barrier a 1 t                    none
+        # the name of the domain is no name in it
+        barrier a 0 a                    none
+        # and a ticket's name is taken for looks and sections too
+        look a 0 b                       taken
+        lock a 0 b                       taken
+        down a 0 b                       taken
+        call a 0 b                       none";
+    check_faults(&rt, table)
 }
 
 /// Would catch a poll of what is no ticket, and another line that takes a ticket.
 #[test]
-fn faults_of_polled_tickets(rt: HostRuntime) {
-    let rows: [(&[&[u8]], Option<Fault>); 19] = [
-        (&[b"barrier-poll", b"a", b"0"], Some(Fault::Words)),
-        (
-            &[b"barrier-poll", b"a", b"0", b"b", b"b"],
-            Some(Fault::Words),
-        ),
-        (&[b"barrier-poll", b"A", b"x", b"T"], Some(Fault::Name)),
-        (&[b"barrier-poll", b"b", b"x", b"T"], Some(Fault::Domain)),
-        (&[b"barrier-poll", b"a", b"x", b"T"], Some(Fault::Number)),
-        (&[b"barrier-poll", b"a", b"2", b"T"], Some(Fault::Processor)),
-        (&[b"barrier-poll", b"a", b"1", b"T"], Some(Fault::Name)),
-        (&[b"barrier-poll", b"a", b"1", b"t"], Some(Fault::Name)),
-        (&[b"barrier-poll", b"a", b"1", b"r"], Some(Fault::Name)),
-        (&[b"barrier-poll", b"a", b"1", b"s"], Some(Fault::Name)),
-        (&[b"barrier-poll", b"a", b"1", b"h"], Some(Fault::Name)),
-        (&[b"barrier-poll", b"a", b"1", b"p"], Some(Fault::Name)),
-        (&[b"barrier-poll", b"a", b"1", b"b"], None),
-        (&[b"barrier-poll", b"a", b"0", b"b"], None),
-        (&[b"enter", b"a", b"0", b"b"], Some(Fault::Name)),
-        (&[b"unlock", b"a", b"b"], Some(Fault::Name)),
-        (&[b"up", b"a", b"0", b"b"], Some(Fault::Name)),
-        (&[b"park", b"a", b"b"], Some(Fault::Name)),
-        (&[b"barrierpoll", b"a", b"0", b"b"], Some(Fault::Command)),
-    ];
-    for (words, fault) in rows {
-        assert!(rt; !words.is_empty());
-        assert_eq!(rt; fault_of(words), fault);
-    }
+fn faults_of_polled_tickets(rt: HostRuntime) -> Result<(), Fail> {
+    let table = "
+        barrier-poll a 0                 words
+        barrier-poll a 0 b b             words
+        barrier-poll A x T               name
+        barrier-poll b x T               domain
+        barrier-poll a x T               number
+        barrier-poll a 2 T               processor
+        barrier-poll a 1 T               name
+        barrier-poll a 1 t               name
+        barrier-poll a 1 r               name
+        barrier-poll a 1 s               name
+        barrier-poll a 1 h               name
+        barrier-poll a 1 p               name
+        barrier-poll a 1 b               none
+        barrier-poll a 0 b               none
+        enter a 0 b                      name
+        unlock a b                       name
+        up a 0 b                         name
+        park a b                         name
+        barrierpoll a 0 b                command";
+    check_faults(&rt, table)
 }
 
 #[test]
-fn faults_of_cleanup(rt: HostRuntime) {
-    let rows: [(&[&[u8]], Option<Fault>); 6] = [
-        (&[b"cleanup"], Some(Fault::Words)),
-        (&[b"cleanup", b"a", b"0"], Some(Fault::Words)),
-        (&[b"cleanup", b"A"], Some(Fault::Name)),
-        (&[b"cleanup", b"b"], Some(Fault::Domain)),
-        (&[b"cleanup", b"a"], None),
-        (&[b"cleanups", b"a"], Some(Fault::Command)),
-    ];
-    for (words, fault) in rows {
-        assert!(rt; !words.is_empty());
-        assert_eq!(rt; fault_of(words), fault);
-    }
+fn faults_of_cleanup(rt: HostRuntime) -> Result<(), Fail> {
+    let table = "
+        cleanup                          words
+        cleanup a 0                      words
+        cleanup A                        name
+        cleanup b                        domain
+        cleanup a                        none
+        cleanups a                       command";
+    check_faults(&rt, table)
 }
 
 #[test]
 fn words_ask_for_tickets(rt: HostRuntime) -> Result<(), Fail> {
     let b = Name::new(b"b").ok_or("a name")?;
     let t = Name::new(b"t").ok_or("a name")?;
-    let rows: [(&[&[u8]], Act); 3] = [
+    let rows = [
         (
-            &[b"barrier", b"a", b"1", b"t"],
+            "barrier a 1 t",
             Act::Barrier {
                 processor: 1,
                 ticket: t,
             },
         ),
         (
-            &[b"barrier-poll", b"a", b"1", b"b"],
+            "barrier-poll a 1 b",
             Act::BarrierPoll {
                 processor: 1,
                 ticket: b,
             },
         ),
         (
-            &[b"barrier-poll", b"a", b"0", b"b"],
+            "barrier-poll a 0 b",
             Act::BarrierPoll {
                 processor: 0,
                 ticket: b,
             },
         ),
     ];
-    for (words, act) in rows {
-        assert!(rt; !words.is_empty());
-        assert!(rt; asks_for(words, act));
+    for (line, act) in rows {
+        assert!(rt; asks_for(&rt, line, act)?);
     }
-    assert!(rt; parse(&[b"cleanup", b"a"], &Stage).ok() == Some(Request::Cleanup { domain: 0 }));
+    assert!(rt; asked(&rt, "cleanup a")? == Some(Request::Cleanup { domain: 0 }));
     Ok(())
 }
 
 #[test]
 fn texts_of_tickets(rt: HostRuntime) -> Result<(), Fail> {
-    let rows = [
-        (Reply::Ticket, "ticket\n"),
-        (
-            Reply::Cleaned {
-                opened: 0,
-                closed: 0,
-            },
-            "cleaned opened 0 closed 0\n",
-        ),
-        (
-            Reply::Cleaned {
-                opened: 18_446_744_073_709_551_615,
-                closed: 12,
-            },
-            "cleaned opened 18446744073709551615 closed 12\n",
-        ),
+    let replies = [
+        Reply::Ticket,
+        Reply::Cleaned {
+            opened: 0,
+            closed: 0,
+        },
+        Reply::Cleaned {
+            opened: 18_446_744_073_709_551_615,
+            closed: 12,
+        },
     ];
-    for (reply, text) in rows {
-        check_text(&rt, reply, text)?;
-    }
-    Ok(())
+    let text = "ticket\n\
+        cleaned opened 0 closed 0\n\
+        cleaned opened 18446744073709551615 closed 12\n";
+    check_texts(&rt, &replies, text)
 }
 
 /// Would catch a count that is left out, or cut to 64 bits.
 #[test]
 fn texts_of_refused_cleanups(rt: HostRuntime) -> Result<(), Fail> {
-    let rows = [
-        (Cause::Sections(1), "refused cleanup sections 1\n"),
-        (
+    let replies = [
+        Reply::Refused(Command::Cleanup, Cause::Sections(1)),
+        Reply::Refused(
+            Command::Cleanup,
             Cause::Sections(18_446_744_073_709_551_615),
-            "refused cleanup sections 18446744073709551615\n",
         ),
-        (Cause::Period, "refused cleanup period\n"),
-        (Cause::Callbacks(1), "refused cleanup callbacks 1\n"),
-        (
+        Reply::Refused(Command::Cleanup, Cause::Period),
+        Reply::Refused(Command::Cleanup, Cause::Callbacks(1)),
+        Reply::Refused(
+            Command::Cleanup,
             Cause::Callbacks(18_446_744_073_709_551_616),
-            "refused cleanup callbacks 18446744073709551616\n",
         ),
-        (
-            Cause::Callbacks(u128::MAX),
-            "refused cleanup callbacks 340282366920938463463374607431768211455\n",
-        ),
+        Reply::Refused(Command::Cleanup, Cause::Callbacks(u128::MAX)),
     ];
-    for (cause, text) in rows {
-        check_text(&rt, Reply::Refused(Command::Cleanup, cause), text)?;
-    }
-    check_text(
+    let text = "refused cleanup sections 1\n\
+        refused cleanup sections 18446744073709551615\n\
+        refused cleanup period\n\
+        refused cleanup callbacks 1\n\
+        refused cleanup callbacks 18446744073709551616\n\
+        refused cleanup callbacks 340282366920938463463374607431768211455\n";
+    check_texts(&rt, &replies, text)?;
+    check_texts(
         &rt,
-        Reply::Refused(Command::Barrier, Cause::Memory),
+        &[Reply::Refused(Command::Barrier, Cause::Memory)],
         "refused barrier memory\n",
     )
 }
