@@ -1,5 +1,5 @@
 -- All are ready, and so each that was taken out.
-use Rattle.std.proofs.Common.{All}
+use Rattle.std.proofs.Common.{All, arith}
 use Rattle.std.proofs.lemmas.List.Elements.{All-pop}
 use Rattle.domain.specs.Views.{CpuView}
 use Rattle.tour.specs.Parts.{IsReady}
@@ -13,3 +13,16 @@ returns c =
     let second = All-pop P _ _ _ c.pop.ensures.items all in
     let first = All-pop P _ _ _ c.pop-2.ensures.items second.0 in
     (rw c.unwrap-first.ensures at first.1, rw c.unwrap-second.ensures at second.1)
+
+pub unwrap-second-requires : goal.unwrap-second-requires
+unwrap-second-requires c =
+    let count = c.in_ok-domain.ensures.made.count in
+    let long = c.in_ok-domain.cpus.ok.0 in
+    c.pop.ensures.variant.1 (omega (arith, count, long))
+
+pub unwrap-first-requires : goal.unwrap-first-requires
+unwrap-first-requires c =
+    let count = c.in_ok-domain.ensures.made.count in
+    let long = c.in_ok-domain.cpus.ok.0 in
+    let one = rw c.unwrap-second.ensures at c.pop.ensures.len in
+    c.pop-2.ensures.variant.1 (omega (arith, count, long, one))

@@ -2,6 +2,16 @@
 use Rattle.std.proofs.Common.{sym, ap, ◌∙◌}
 use Rattle.tour.proofs.updaters.replace_and_poll.Goals as goal
 
+pub poll-early-requires : goal.poll-early-requires
+poll-early-requires g c =
+    let gives = c.start_poll-cookie.ensures.starts.gives in
+    ap (λ k. k.domain) gives.cookie_is ∙ sym gives.notes.adds.same.0
+
+pub up_read-requires : goal.up_read-requires
+up_read-requires g c =
+    let here = c.poll-early.ensures.stays _ c.start_poll-cookie.ensures.here in
+    c.requires.held ∙ (c.requires.domain.domain ∙ sym here.domain)
+
 pub loop-init : goal.loop-init
 loop-init g c =
     let given = c.start_poll-cookie.ensures.starts.gives.cookie_is in record {
