@@ -31,6 +31,10 @@ pub queues_none : (d : DomainView) (jobs : ℕ) (c c' : CpuView) → QueuesAll d
 queues_none d zero c c' same none = subst HasNoneOpen (sym same) none
 queues_none d (suc n) c c' (between, r, before, calls) none = call_none d between c' n r calls (queues_none d n c between before none)
 
+-- one more
+pub one_job : (d : DomainView) (n : ℕ) (c between c' : CpuView) (r : Receipt) → QueuesAll d n c between → CallsIn d between n r c' → QueuesAll d (n + 1) c c'
+one_job d n c between c' r before calls = subst (λ k. QueuesAll d k c c') (sym (add-one n)) (between, r, before, calls)
+
 -- Batches
 
 few_of : {J : Type 0} (l l' : ListView J) (gone : List (Entry J)) (b : BatchView J) (n : ℕ) → IsTaken l gone (Some b) l' → length gone ≡ min 8 n → length b.entries ≤ 8
