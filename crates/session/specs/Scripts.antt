@@ -134,7 +134,7 @@ pub record PicksUp (d : DomainState) (r : Reply) (d' : DomainState) : Type 0 whe
 abbrev pub Unparks : DomainState → Reply → DomainState → Type 0
 Unparks d r d' = PicksUp d r d' ⊎ (d.desk ≡ None) × IsRefused command.Unpark Empty d r d'
 
--- the names stay, and what lies on the desk, what was asked for, and the jobs. This is the reply
+-- the names stay, and what lies on the desk, and the jobs that wait or are out. This is the reply
 pub record Replies (given : Reply) (d : DomainState) (r : Reply) (d' : DomainState) : Type 0 where
   pub rest : d' ≡ record d { course = d'.course }
   pub reply : r ≡ given

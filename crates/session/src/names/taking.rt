@@ -1,5 +1,5 @@
 //! Taking out a token of a kind that is known, as that of a line's name is once the line was read. The branches of the
-//! other kinds stand here, and nowhere else. They are never reached.
+//! other kinds stand here. They are never reached.
 ghost use Rattle.std.specs.Prelude.{◌≡◌, ◌<◌, Some};
 ghost use Rattle.session.specs.Tokens.{token_at, kind_in, TakesOut};
 
