@@ -3,4 +3,5 @@ mod barriers;
 mod calling;
 mod cleanup;
 mod jobs;
+mod queues;
 mod threads;

@@ -60,7 +60,7 @@ fn advances(rt: HostRuntime) -> Result<(), Fail> {
             Progress::Idle,
             Progress::Idle,
         ] {
-            assert_eq!(rt; engine.advance(), Ok(answer), "of {processors}");
+            assert_eq!(rt; (processors, engine.advance()), (processors, Ok(answer)));
         }
     }
     Ok(())
@@ -85,30 +85,60 @@ fn steps(rt: HostRuntime) -> Result<(), Fail> {
     .into_iter()
     .enumerate()
     {
-        assert_eq!(rt; engine.step(), Ok(answer), "at {at}");
+        assert_eq!(rt; (at, engine.step()), (at, Ok(answer)));
     }
     Ok(())
+}
+
+/// What the engine answers three times.
+fn three(engine: &mut Engine<Asks>) -> [Result<Progress, Exhausted>; 3] {
+    [engine.advance(), engine.advance(), engine.advance()]
 }
 
 /// Would catch refusals that no caller gets, and a need that is asked twice for one period.
 #[test]
 fn starts(rt: HostRuntime) -> Result<(), Fail> {
     let (_cpus, mut engine) = new_domain(rt.alloc(), 1, 1, 8)?;
-    assert_eq!(rt; engine.start(), Ok(number(1)));
-    assert_eq!(rt; engine.start(), Err(StartRefusal::Running));
-    assert_eq!(rt; engine.advance(), Ok(Progress::Flipped(Index::One)));
-    assert_eq!(rt; engine.start(), Err(StartRefusal::Running));
-    assert_eq!(rt; engine.advance(), Ok(Progress::Ended(number(4))));
-    assert_eq!(rt; engine.start(), Err(StartRefusal::Exhausted));
-    assert_eq!(rt; engine.advance(), Err(Exhausted));
-    assert_eq!(rt; engine.step(), Err(Exhausted));
+    let started = [engine.start(), engine.start()];
+    let flipped = engine.advance();
+    let running = engine.start();
+    let ended = engine.advance();
+    let exhausted = engine.start();
+    let behind = [engine.advance(), engine.step()];
+    assert_eq!(rt;
+        (started, running, exhausted),
+        (
+            [Ok(number(1)), Err(StartRefusal::Running)],
+            Err(StartRefusal::Running),
+            Err(StartRefusal::Exhausted),
+        )
+    );
+    assert_eq!(rt;
+        (flipped, ended, behind),
+        (
+            Ok(Progress::Flipped(Index::One)),
+            Ok(Progress::Ended(number(4))),
+            [Err(Exhausted), Err(Exhausted)],
+        )
+    );
+    Ok(())
+}
 
+/// Would catch a start that asks once more for a period that was asked for already.
+#[test]
+fn starts_what_is_asked_for(rt: HostRuntime) -> Result<(), Fail> {
     let (_cpus, mut engine) = new_domain(rt.alloc(), 1, 2, 4)?;
-    assert_eq!(rt; engine.step(), Ok(Progress::Step));
-    assert_eq!(rt; engine.start(), Ok(number(1)));
-    assert_eq!(rt; engine.advance(), Ok(Progress::Flipped(Index::One)));
-    assert_eq!(rt; engine.advance(), Ok(Progress::Ended(number(4))));
-    assert_eq!(rt; engine.advance(), Ok(Progress::Idle));
+    let asked = engine.step();
+    let started = engine.start();
+    assert_eq!(rt; (asked, started), (Ok(Progress::Step), Ok(number(1))));
+    assert_eq!(rt;
+        three(&mut engine),
+        [
+            Ok(Progress::Flipped(Index::One)),
+            Ok(Progress::Ended(number(4))),
+            Ok(Progress::Idle),
+        ]
+    );
     Ok(())
 }
 
@@ -125,9 +155,38 @@ fn lends_its_needs(rt: HostRuntime) -> Result<(), Fail> {
 /// Would catch numbers of refusals that have changed: a status may be made of them.
 #[test]
 fn refusals(rt: HostRuntime) -> Result<(), Fail> {
-    assert_eq!(rt; StartRefusal::Running as u8, 1);
-    assert_eq!(rt; StartRefusal::Exhausted as u8, 2);
+    let numbers = [StartRefusal::Running as u8, StartRefusal::Exhausted as u8];
+    assert_eq!(rt; numbers, [1, 2]);
     Ok(())
+}
+
+/// What the engine answers to one call.
+type Answer = Result<Progress, Exhausted>;
+
+/// Two periods. In the second one a section of each index is open: one by a look from before the first, and one that was
+/// begun behind it. Tells their indices, and what the engine answers: in the first period, while both are open, while the
+/// second one is, and while none is.
+fn wait_for_both(
+    first: &mut Cpu,
+    second: &mut Cpu,
+    engine: &mut Engine<Asks>,
+) -> Option<((Index, Index), [[Answer; 3]; 3], [Answer; 2])> {
+    let look = first.look();
+    let period = three(engine);
+    let Ok(late) = first.enter(look) else {
+        return None;
+    };
+    let Ok(current) = second.read_lock() else {
+        first.read_unlock(late);
+        return None;
+    };
+    let indices = (late.index(), current.index());
+    let both = three(engine);
+    first.read_unlock(late);
+    let one = three(engine);
+    second.read_unlock(current);
+    let none = [engine.advance(), engine.advance()];
+    Some((indices, [period, both, one], none))
 }
 
 /// Would catch a scan that waits for nobody, or for a section of the other index.
@@ -138,32 +197,26 @@ fn waits(rt: HostRuntime) -> Result<(), Fail> {
     let (Some(mut second), Some(mut first)) = (cpus.pop(), cpus.pop()) else {
         panic!(rt; "there are two");
     };
-    let look = first.look();
-    for answer in [
-        Progress::Started(number(1)),
-        Progress::Flipped(Index::One),
-        Progress::Ended(number(4)),
-    ] {
-        assert_eq!(rt; engine.advance(), Ok(answer));
-    }
-    let Ok(late) = first.enter(look) else {
-        panic!(rt; "there is room");
-    };
-    let Ok(current) = second.read_lock() else {
-        panic!(rt; "there is room");
-    };
-    assert_eq!(rt; (late.index(), current.index()), (Index::Zero, Index::One));
-
-    assert_eq!(rt; engine.advance(), Ok(Progress::Started(number(5))));
-    assert_eq!(rt; engine.advance(), Ok(Progress::Waiting(Index::Zero)));
-    assert_eq!(rt; engine.advance(), Ok(Progress::Waiting(Index::Zero)));
-    first.read_unlock(late);
-    assert_eq!(rt; engine.advance(), Ok(Progress::Flipped(Index::Zero)));
-    assert_eq!(rt; engine.advance(), Ok(Progress::Waiting(Index::One)));
-    assert_eq!(rt; engine.advance(), Ok(Progress::Waiting(Index::One)));
-    second.read_unlock(current);
-    assert_eq!(rt; engine.advance(), Ok(Progress::Ended(number(8))));
-    assert_eq!(rt; engine.advance(), Ok(Progress::Idle));
+    let waited = wait_for_both(&mut first, &mut second, &mut engine);
+    let answers = [
+        [
+            Ok(Progress::Started(number(1))),
+            Ok(Progress::Flipped(Index::One)),
+            Ok(Progress::Ended(number(4))),
+        ],
+        [
+            Ok(Progress::Started(number(5))),
+            Ok(Progress::Waiting(Index::Zero)),
+            Ok(Progress::Waiting(Index::Zero)),
+        ],
+        [
+            Ok(Progress::Flipped(Index::Zero)),
+            Ok(Progress::Waiting(Index::One)),
+            Ok(Progress::Waiting(Index::One)),
+        ],
+    ];
+    let end = [Ok(Progress::Ended(number(8))), Ok(Progress::Idle)];
+    assert_eq!(rt; waited, Some(((Index::Zero, Index::One), answers, end)));
     Ok(())
 }
 
@@ -186,11 +239,15 @@ fn the_library_in_use(rt: HostRuntime) -> Result<(), Fail> {
     first.read_unlock(section);
     let ended = engine.advance();
     let done = second.poll(&mut cookie);
-    assert_eq!(rt; started, Ok(number(1)));
-    assert_eq!(rt; flipped, Ok(Progress::Flipped(Index::One)));
-    assert_eq!(rt; waiting, Ok(Progress::Waiting(Index::Zero)));
-    assert_eq!(rt; ended, Ok(Progress::Ended(number(4))));
-    assert_eq!(rt; (early, done), (false, true));
+    assert_eq!(rt; (started, early, done), (Ok(number(1)), false, true));
+    assert_eq!(rt;
+        [flipped, waiting, ended],
+        [
+            Ok(Progress::Flipped(Index::One)),
+            Ok(Progress::Waiting(Index::Zero)),
+            Ok(Progress::Ended(number(4))),
+        ]
+    );
     Ok(())
 }
 
@@ -276,9 +333,7 @@ fn two_threads(rt: HostRuntime) -> Result<(), Fail> {
         || -> bool { read(&mut cpu, &told) },
         || -> bool { end_early(&mut engine, &told) },
     );
-    assert!(rt; none_was_refused);
-    assert!(rt; !ended_early);
-    assert!(rt; told.closing.load(Ordering::SeqCst));
+    assert!(rt; none_was_refused && !ended_early && told.closing.load(Ordering::SeqCst));
     assert!(rt; ends_soon(&mut engine));
     Ok(())
 }

@@ -4,12 +4,14 @@ ghost use Rattle.domain.specs.Views.{IsOf, IsSameProcessor, Stays};
 ghost use Rattle.domain.specs.Meetings.{IsAllOf};
 ghost use Rattle.domain.specs.Waiting.{HasNoneOpen};
 
+use super::calling::{Answer, drive, held_up, hold_up};
 use crate::{
     AdvanceRefusal, Cpu, Domain, Exhausted, Index, Limits, MakeError, NotACookie, Number,
     PeriodsExhausted, Progress, StartRefusal,
 };
 use linked_list_allocator::LocalHeap;
 use std::alloc::Global;
+use std::process::Abort;
 use std::sync::Wait;
 use std::test::Fail;
 
@@ -54,24 +56,28 @@ fn last_two(
     Ok((domain, other, last))
 }
 
+/// Makes a domain in the heap's room, and drops it. Tells how many processors there were, and how much of the heap was used.
+fn make_and_drop(heap: &LocalHeap) -> Result<(usize, usize), MakeError> {
+    let (domain, cpus) = Domain::<(), _>::new(heap, 2, SCARCE)?;
+    let made = (cpus.len(), heap.used());
+    drop(cpus);
+    drop(domain);
+    Ok(made)
+}
+
 /// Would catch a refused allocation that is told as another error or that leaves something allocated, and a domain that
 /// keeps memory behind its drop.
 #[test]
 fn new_in_little_room(rt: HostRuntime) -> Result<(), Fail> {
     for room in 0..2048 {
         let heap = LocalHeap::new(rt.alloc(), 64 + 16 * room)?;
-        match Domain::<(), _>::new(&heap, 2, SCARCE) {
-            Ok((domain, cpus)) => {
-                assert_eq!(rt; cpus.len(), 2);
-                assert!(rt; room > 0 && heap.used() > 0);
-                drop(cpus);
-                drop(domain);
-                assert_eq!(rt; heap.used(), 0);
-                return Ok(());
-            }
-            Err(error) => assert_eq!(rt; error, MakeError::Memory),
+        let made = make_and_drop(&heap);
+        assert_eq!(rt; heap.used(), 0);
+        if let Ok((processors, used)) = made {
+            assert!(rt; room > 0 && processors == 2 && used > 0);
+            return Ok(());
         }
-        assert_eq!(rt; heap.used(), 0, "with {room}");
+        assert_eq!(rt; made, Err(MakeError::Memory));
     }
     panic!(rt; "it never fits")
 }
@@ -81,23 +87,36 @@ fn new_in_little_room(rt: HostRuntime) -> Result<(), Fail> {
 fn sixty_four(rt: HostRuntime) -> Result<(), Fail> {
     let (domain, mut driver, mut last) = last_two(rt.alloc(), 64, SCARCE)?;
     assert_eq!(rt; (driver.processor(), last.processor()), (62, 63));
-    let Ok(section) = last.read_lock() else {
-        panic!(rt; "there is room");
-    };
-    let mut cookie = domain.start_poll(&mut driver);
-    let started = domain.advance(&rt, &mut driver);
-    let flipped = domain.advance(&rt, &mut driver);
-    let waiting = domain.advance(&rt, &mut driver);
-    let early = driver.poll(&mut cookie);
-    last.read_unlock(section);
-    let ended = domain.advance(&rt, &mut driver);
-    let late = driver.poll(&mut cookie);
-    assert_eq!(rt; started, Ok(Progress::Started(number(1))));
-    assert_eq!(rt; flipped, Ok(Progress::Flipped(Index::One)));
-    assert_eq!(rt; waiting, Ok(Progress::Waiting(Index::Zero)));
-    assert_eq!(rt; ended, Ok(Progress::Ended(number(4))));
-    assert_eq!(rt; (early, late), (false, true));
+    let period = hold_up(&rt, &domain, &mut driver, &mut last);
+    assert_eq!(rt; period, Some(held_up()));
     Ok(())
+}
+
+/// What the engine answers before a cookie is asked for, in its period, and behind it; the need before and behind the
+/// asking, and at the end, where the number is told too; and whether the cookie is done before the end and behind it.
+fn ask_and_drive<R: Wait>(
+    rt: &R,
+    domain: &Domain<()>,
+    cpu: &mut Cpu<()>,
+) -> ([Answer; 5], [Number; 4], (u64, bool, bool))
+    requires { IsOf domain.now cpu.old }
+{
+    let before = domain.need(cpu);
+    let idle = domain.advance(rt, cpu);
+    let mut cookie = domain.start_poll(cpu);
+    let need = domain.need(cpu);
+    let started = domain.advance(rt, cpu);
+    let flipped = domain.advance(rt, cpu);
+    let early = cpu.poll(&mut cookie);
+    let ended = domain.advance(rt, cpu);
+    let late = cpu.poll(&mut cookie);
+    let idle_again = domain.advance(rt, cpu);
+    let behind = domain.need(cpu);
+    (
+        [idle, started, flipped, ended, idle_again],
+        [before, need, behind, cpu.number()],
+        (cookie.number(), early, late),
+    )
 }
 
 /// Would catch a need that does not come to the root, or that the engine does not find, and a period that goes on where
@@ -105,48 +124,46 @@ fn sixty_four(rt: HostRuntime) -> Result<(), Fail> {
 #[test]
 fn a_period_that_is_asked_for(rt: HostRuntime) -> Result<(), Fail> {
     let (domain, mut cpu) = single(rt.alloc(), AMPLE)?;
-    let before = domain.need(&mut cpu);
-    let idle = domain.advance(&rt, &mut cpu);
-    let mut cookie = domain.start_poll(&mut cpu);
-    let need = domain.need(&mut cpu);
-    let started = domain.advance(&rt, &mut cpu);
-    let flipped = domain.advance(&rt, &mut cpu);
-    let early = cpu.poll(&mut cookie);
-    let ended = domain.advance(&rt, &mut cpu);
-    let late = cpu.poll(&mut cookie);
-    let idle_again = domain.advance(&rt, &mut cpu);
-    let behind = domain.need(&mut cpu);
-    assert_eq!(rt; (before.get(), need.get(), behind.get()), (0, 4, 4));
-    assert_eq!(rt; (cookie.number(), cpu.number().get()), (4, 4));
-    assert_eq!(rt;
-        (idle, idle_again),
-        (Ok(Progress::Idle), Ok(Progress::Idle))
-    );
-    assert_eq!(rt; started, Ok(Progress::Started(number(1))));
-    assert_eq!(rt; flipped, Ok(Progress::Flipped(Index::One)));
-    assert_eq!(rt; ended, Ok(Progress::Ended(number(4))));
-    assert_eq!(rt; (early, late), (false, true));
+    let (answers, numbers, cookie) = ask_and_drive(&rt, &domain, &mut cpu);
+    let period = [
+        Ok(Progress::Idle),
+        Ok(Progress::Started(number(1))),
+        Ok(Progress::Flipped(Index::One)),
+        Ok(Progress::Ended(number(4))),
+        Ok(Progress::Idle),
+    ];
+    let four = number(4);
+    assert_eq!(rt; (answers, numbers), (period, [number(0), four, four, four]));
+    assert_eq!(rt; cookie, (4, false, true));
     Ok(())
+}
+
+/// What the engine answers to ten steps.
+fn ten_steps<R: Wait>(rt: &R, domain: &Domain<()>, cpu: &mut Cpu<()>) -> [Answer; 10]
+    requires { IsOf domain.now cpu.old }
+{
+    [
+        domain.step(rt, cpu),
+        domain.step(rt, cpu),
+        domain.step(rt, cpu),
+        domain.step(rt, cpu),
+        domain.step(rt, cpu),
+        domain.step(rt, cpu),
+        domain.step(rt, cpu),
+        domain.step(rt, cpu),
+        domain.step(rt, cpu),
+        domain.step(rt, cpu),
+    ]
 }
 
 /// Would catch a step that makes none or several, and an order of them that nobody meant.
 #[test]
 fn steps_of_a_period(rt: HostRuntime) -> Result<(), Fail> {
     let (domain, mut cpu) = single(rt.alloc(), AMPLE)?;
-    assert_eq!(rt; domain.step(&rt, &mut cpu), Ok(Progress::Idle));
-    assert_eq!(rt; domain.start_poll(&mut cpu).number(), 4);
-    let steps = [
-        domain.step(&rt, &mut cpu),
-        domain.step(&rt, &mut cpu),
-        domain.step(&rt, &mut cpu),
-        domain.step(&rt, &mut cpu),
-        domain.step(&rt, &mut cpu),
-        domain.step(&rt, &mut cpu),
-        domain.step(&rt, &mut cpu),
-        domain.step(&rt, &mut cpu),
-        domain.step(&rt, &mut cpu),
-        domain.step(&rt, &mut cpu),
-    ];
+    let idle = domain.step(&rt, &mut cpu);
+    let asked = domain.start_poll(&mut cpu).number();
+    let steps = ten_steps(&rt, &domain, &mut cpu);
+    assert_eq!(rt; (idle, asked), (Ok(Progress::Idle), 4));
     assert_eq!(rt;
         steps,
         [
@@ -165,37 +182,82 @@ fn steps_of_a_period(rt: HostRuntime) -> Result<(), Fail> {
     Ok(())
 }
 
+/// A period, in which another one is started in vain, twice: what the starts answer, and the engine.
+fn start_in_a_period<R: Wait>(
+    rt: &R,
+    domain: &Domain<()>,
+    cpu: &mut Cpu<()>,
+) -> ([Result<Number, StartRefusal>; 3], [Answer; 2])
+    requires { IsOf domain.now cpu.old }
+    ensures { IsOf domain.now cpu.new }
+{
+    let started = domain.start(rt, cpu);
+    let running = domain.start(rt, cpu);
+    let flipped = domain.advance(rt, cpu);
+    let running_still = domain.start(rt, cpu);
+    let ended = domain.advance(rt, cpu);
+    ([started, running, running_still], [flipped, ended])
+}
+
+/// What is refused behind the last period: a start, a turn of the engine and a step, a wait; and then what a cookie says
+/// that is asked for, whether it is done, and the need.
+fn start_beyond_the_last<R: Wait + Abort>(
+    rt: &R,
+    domain: &Domain<()>,
+    cpu: &mut Cpu<()>,
+) -> (
+    Result<Number, StartRefusal>,
+    [Answer; 3],
+    Result<(), PeriodsExhausted>,
+    (u64, bool, u64),
+)
+    requires { IsOf domain.now cpu.old }
+{
+    let idle = domain.advance(rt, cpu);
+    let not_started = domain.start(rt, cpu);
+    let mut cookie = domain.start_poll(cpu);
+    let not_advanced = domain.advance(rt, cpu);
+    let no_step = domain.step(rt, cpu);
+    assert_eq!(rt; cpu.open_here(), 0);
+    let not_synchronized = domain.synchronize(rt, cpu);
+    let done = cpu.poll(&mut cookie);
+    let need = domain.need(cpu);
+    let asked = (cookie.number(), done, need.get());
+    (
+        not_started,
+        [idle, not_advanced, no_step],
+        not_synchronized,
+        asked,
+    )
+}
+
 /// Would catch a period that starts beyond the limit, a refusal that is told as another, and one that keeps the engine.
 #[test]
 fn refusals_of_periods(rt: HostRuntime) -> Result<(), Fail> {
     let (domain, mut cpu) = single(rt.alloc(), SCARCE)?;
-    let started = domain.start(&rt, &mut cpu);
-    let running = domain.start(&rt, &mut cpu);
-    let flipped = domain.advance(&rt, &mut cpu);
-    let running_still = domain.start(&rt, &mut cpu);
-    let ended = domain.advance(&rt, &mut cpu);
-    assert_eq!(rt; started, Ok(number(1)));
+    let within = start_in_a_period(&rt, &domain, &mut cpu);
+    let behind = start_beyond_the_last(&rt, &domain, &mut cpu);
+    let starts = [
+        Ok(number(1)),
+        Err(StartRefusal::Running),
+        Err(StartRefusal::Running),
+    ];
+    let turns = [
+        Ok(Progress::Flipped(Index::One)),
+        Ok(Progress::Ended(number(4))),
+    ];
+    assert_eq!(rt; within, (starts, turns));
+    let refused = [
+        Ok(Progress::Idle),
+        Err(AdvanceRefusal::Exhausted),
+        Err(AdvanceRefusal::Exhausted),
+    ];
+    let not_started = Err(StartRefusal::Exhausted);
+    let not_synchronized = Err(PeriodsExhausted);
     assert_eq!(rt;
-        (running, running_still),
-        (Err(StartRefusal::Running), Err(StartRefusal::Running))
+        behind,
+        (not_started, refused, not_synchronized, (8, false, 8))
     );
-    assert_eq!(rt; flipped, Ok(Progress::Flipped(Index::One)));
-    assert_eq!(rt; ended, Ok(Progress::Ended(number(4))));
-    let idle = domain.advance(&rt, &mut cpu);
-    let not_started = domain.start(&rt, &mut cpu);
-    let mut cookie = domain.start_poll(&mut cpu);
-    let not_advanced = domain.advance(&rt, &mut cpu);
-    let no_step = domain.step(&rt, &mut cpu);
-    assert_eq!(rt; cpu.open_here(), 0);
-    let not_synchronized = domain.synchronize(&rt, &mut cpu);
-    let done = cpu.poll(&mut cookie);
-    let need = domain.need(&mut cpu);
-    assert_eq!(rt; idle, Ok(Progress::Idle));
-    assert_eq!(rt; not_started, Err(StartRefusal::Exhausted));
-    assert_eq!(rt; not_advanced, Err(AdvanceRefusal::Exhausted));
-    assert_eq!(rt; no_step, Err(AdvanceRefusal::Exhausted));
-    assert_eq!(rt; not_synchronized, Err(PeriodsExhausted));
-    assert_eq!(rt; (cookie.number(), done, need.get()), (8, false, 8));
     Ok(())
 }
 
@@ -220,38 +282,86 @@ fn is_full(cpu: &mut Cpu<()>) -> bool
     reading && held
 }
 
+/// A section of each index, of which there may be one. Tells of both the index and how many readings are open in it; and
+/// then whether another one was refused, of index 0, of index 1, and of index 0 by a look of before; and what the start of
+/// the period and its flip answer.
+fn fill_both_indices<R: Wait>(
+    rt: &R,
+    domain: &Domain<()>,
+    cpu: &mut Cpu<()>,
+) -> Option<
+    (
+        [(Index, u64); 2],
+        [bool; 3],
+        (Result<Number, StartRefusal>, Answer),
+    ),
+>
+    requires { IsOf domain.now cpu.old }
+{
+    let Ok(section) = cpu.read_lock() else {
+        return None;
+    };
+    let zero = (section.index(), cpu.open_here());
+    cpu.read_unlock(section);
+    let full = is_full(cpu);
+    let look = cpu.look();
+    let started = domain.start(rt, cpu);
+    let flipped = domain.advance(rt, cpu);
+    let Ok(held) = cpu.down_read() else {
+        return None;
+    };
+    let one = (held.index(), cpu.open_here());
+    cpu.up_read(held);
+    let full_then = is_full(cpu);
+    let mut refused = true;
+    if let Ok(section) = cpu.enter(look) {
+        cpu.read_unlock(section);
+        refused = false;
+    }
+    Some(([zero, one], [full, full_then, refused], (started, flipped)))
+}
+
 /// Would catch a limit of sections that is off by one, that both indices share, or to which held sections don't count.
 #[test]
 fn refusals_of_sections(rt: HostRuntime) -> Result<(), Fail> {
     let (domain, mut cpu) = single(rt.alloc(), SCARCE)?;
-    let Ok(section) = cpu.read_lock() else {
-        panic!(rt; "there is room");
-    };
-    let (index, open) = (section.index(), cpu.open_here());
-    cpu.read_unlock(section);
-    assert_eq!(rt; (index, open, cpu.open_here()), (Index::Zero, 1, 0));
-    assert!(rt; is_full(&mut cpu));
-    let look = cpu.look();
-    let started = domain.start(&rt, &mut cpu);
-    let flipped = domain.advance(&rt, &mut cpu);
-    assert_eq!(rt; started, Ok(number(1)));
-    assert_eq!(rt; flipped, Ok(Progress::Flipped(Index::One)));
-    let Ok(held) = cpu.down_read() else {
-        panic!(rt; "there is room");
-    };
-    let (index, open) = (held.index(), cpu.open_here());
-    cpu.up_read(held);
-    assert_eq!(rt; (index, open), (Index::One, 0));
-    assert!(rt; is_full(&mut cpu));
-    assert_eq!(rt; look.index(), Index::Zero);
-    match cpu.enter(look) {
-        Ok(section) => {
-            cpu.read_unlock(section);
-            panic!(rt; "the look's index is used up")
-        }
-        Err(error) => assert_eq!(rt; error, Exhausted),
-    }
+    let filled = fill_both_indices(&rt, &domain, &mut cpu);
+    let sections = [(Index::Zero, 1), (Index::One, 0)];
+    let flip = (Ok(number(1)), Ok(Progress::Flipped(Index::One)));
+    assert_eq!(rt; filled, Some((sections, [true; 3], flip)));
+    assert_eq!(rt; cpu.open_here(), 0);
     Ok(())
+}
+
+/// Waits three times, where there may be two periods. Tells what the waits answer, the number behind the first and the
+/// second, the need, and whether a cookie of before is done before and behind the first.
+fn wait_thrice<R: Wait>(
+    rt: &R,
+    domain: &Domain<()>,
+    reader: &mut Cpu<()>,
+    updater: &mut Cpu<()>,
+) -> Option<([Result<(), PeriodsExhausted>; 3], [Number; 3], [bool; 2])>
+    requires reader { IsOf domain.now reader.old }
+    requires updater { IsOf domain.now updater.old × HasNoneOpen updater.old }
+{
+    let Ok(section) = reader.read_lock() else {
+        return None;
+    };
+    reader.read_unlock(section);
+    let mut older = reader.cookie();
+    let early = reader.poll(&mut older);
+    let first = domain.synchronize(rt, updater);
+    let at_first = reader.number();
+    let late = reader.poll(&mut older);
+    let second = domain.synchronize(rt, updater);
+    let at_second = reader.number();
+    let third = domain.synchronize(rt, updater);
+    let need = domain.need(updater);
+    Some((
+        [first, second, third],
+        [at_first, at_second, need],
+        [early, late],
+    ))
 }
 
 /// Would catch a wait for sections that are closed, one that asks for no period or for two, and one that comes back
@@ -264,25 +374,17 @@ fn synchronizes_alone(rt: HostRuntime) -> Result<(), Fail> {
         cells: 0,
     };
     let (domain, mut reader, mut updater) = last_two(rt.alloc(), 2, limits)?;
-    let Ok(section) = reader.read_lock() else {
-        panic!(rt; "there is room");
-    };
-    reader.read_unlock(section);
-    let mut older = reader.cookie();
-    let early = reader.poll(&mut older);
-    let first = domain.synchronize(&rt, &mut updater);
-    let at_first = reader.number();
-    let late = reader.poll(&mut older);
-    let second = domain.synchronize(&rt, &mut updater);
-    let at_second = reader.number();
-    let third = domain.synchronize(&rt, &mut updater);
-    let need = domain.need(&mut updater);
-    assert_eq!(rt; (first, second), (Ok(()), Ok(())));
-    assert_eq!(rt; third, Err(PeriodsExhausted));
-    assert_eq!(rt; (early, late), (false, true));
-    assert_eq!(rt; (at_first.get(), at_second.get(), need.get()), (4, 8, 12));
+    let waited = wait_thrice(&rt, &domain, &mut reader, &mut updater);
+    let answers = [Ok(()), Ok(()), Err(PeriodsExhausted)];
+    let numbers = [number(4), number(8), number(12)];
+    assert_eq!(rt; waited, Some((answers, numbers, [false, true])));
     assert_eq!(rt; reader.number().get(), 8);
     Ok(())
+}
+
+/// Why such a domain is not made, if it is not.
+fn refusal(alloc: Global, processors: usize, limits: Limits) -> Option<MakeError> {
+    Domain::<()>::new(alloc, processors, limits).err()
 }
 
 /// Would catch a wrong bound of processors or limits, and refusals in another order.
@@ -308,63 +410,92 @@ fn what_is_not_made(rt: HostRuntime) -> Result<(), Fail> {
         Limits { cells: 1, ..AMPLE },
     ];
     for processors in [1, 64] {
-        assert!(rt; Domain::<()>::new(rt.alloc(), processors, AMPLE).is_ok());
+        assert_eq!(rt; refusal(rt.alloc(), processors, AMPLE), None);
         for limits in wrong {
-            let refused = Domain::<()>::new(rt.alloc(), processors, limits).err();
-            assert_eq!(rt; refused, Some(MakeError::Limits), "at {limits:?}");
+            let refused = refusal(rt.alloc(), processors, limits);
+            assert_eq!(rt; (limits, refused), (limits, Some(MakeError::Limits)));
         }
     }
     for processors in [0, 65, usize::MAX] {
         for limits in [AMPLE, SCARCE, Limits { cells: 1, ..AMPLE }] {
-            let refused = Domain::<()>::new(rt.alloc(), processors, limits).err();
-            assert_eq!(rt; refused, Some(MakeError::Processors), "at {limits:?}");
+            let refused = refusal(rt.alloc(), processors, limits);
+            assert_eq!(rt; (limits, refused), (limits, Some(MakeError::Processors)));
         }
     }
     Ok(())
+}
+
+/// A period that a held section holds up, which begins on the first processor and ends on the second. Tells its index and
+/// processor, how many readings are open there, what the engine answers until the end and behind it, and whether the
+/// cookie is done then.
+fn close_elsewhere<R: Wait>(
+    rt: &R,
+    domain: &Domain<()>,
+    first: &mut Cpu<()>,
+    second: &mut Cpu<()>,
+) -> Option<((Index, u16, u64), ([Answer; 3], Answer, bool))>
+    requires { IsOf domain.now first.old × IsOf domain.now second.old }
+{
+    let Ok(held) = first.down_read() else {
+        return None;
+    };
+    let begun = (held.index(), held.processor(), first.open_here());
+    let mut cookie = domain.start_poll(second);
+    let period = drive(rt, domain, first);
+    second.up_read(held);
+    let ended = domain.advance(rt, first);
+    Some((begun, (period, ended, first.poll(&mut cookie))))
 }
 
 /// Would catch a held section that ends at the counter of the processor where it began, or for which no period waits.
 #[test]
 fn closed_on_the_other_processor(rt: HostRuntime) -> Result<(), Fail> {
     let (domain, mut first, mut second) = last_two(rt.alloc(), 2, AMPLE)?;
-    let Ok(held) = first.down_read() else {
-        panic!(rt; "there is room");
-    };
-    let begun = (held.index(), held.processor(), first.open_here());
-    let mut cookie = domain.start_poll(&mut second);
-    let started = domain.advance(&rt, &mut first);
-    let flipped = domain.advance(&rt, &mut first);
-    let waiting = domain.advance(&rt, &mut first);
-    second.up_read(held);
-    let ended = domain.advance(&rt, &mut first);
-    let done = first.poll(&mut cookie);
-    assert_eq!(rt; begun, (Index::Zero, 0, 0));
-    assert_eq!(rt; started, Ok(Progress::Started(number(1))));
-    assert_eq!(rt; flipped, Ok(Progress::Flipped(Index::One)));
-    assert_eq!(rt; waiting, Ok(Progress::Waiting(Index::Zero)));
-    assert_eq!(rt; ended, Ok(Progress::Ended(number(4))));
-    assert_eq!(rt; (cookie.number(), done), (4, true));
+    let closed = close_elsewhere(&rt, &domain, &mut first, &mut second);
+    let (period, ended, _, done) = held_up();
+    assert_eq!(rt; closed, Some(((Index::Zero, 0, 0), (period, ended, done))));
     Ok(())
+}
+
+/// A cookie that is asked for before a period, and one of the period itself. Tells both numbers, what the engine answers,
+/// and whether the later cookie is done behind the period, and the earlier one.
+fn ask_while_running<R: Wait>(
+    rt: &R,
+    domain: &Domain<()>,
+    first: &mut Cpu<()>,
+    second: &mut Cpu<()>,
+) -> ([u64; 2], [Answer; 4], [Result<bool, NotACookie>; 2])
+    requires first { IsOf domain.now first.old }
+    requires second { IsOf domain.now second.old }
+{
+    let asked = domain.start_poll(first);
+    let started = domain.advance(rt, first);
+    let running = second.cookie();
+    let flipped = domain.advance(rt, second);
+    let ended = domain.advance(rt, first);
+    let not_yet = second.poll_number(8);
+    let done = second.poll_number(4);
+    let idle = domain.advance(rt, first);
+    (
+        [asked.number(), running.number()],
+        [started, flipped, ended, idle],
+        [not_yet, done],
+    )
 }
 
 /// Would catch a running period that counts for a later cookie.
 #[test]
 fn a_running_period_does_not_count(rt: HostRuntime) -> Result<(), Fail> {
     let (domain, mut first, mut second) = last_two(rt.alloc(), 2, AMPLE)?;
-    let asked = domain.start_poll(&mut first);
-    let started = domain.advance(&rt, &mut first);
-    let running = second.cookie();
-    let flipped = domain.advance(&rt, &mut second);
-    let ended = domain.advance(&rt, &mut first);
-    let not_yet = second.poll_number(8);
-    let done = second.poll_number(4);
-    let idle = domain.advance(&rt, &mut first);
-    assert_eq!(rt; (asked.number(), running.number()), (4, 8));
-    assert_eq!(rt; started, Ok(Progress::Started(number(1))));
-    assert_eq!(rt; flipped, Ok(Progress::Flipped(Index::One)));
-    assert_eq!(rt; ended, Ok(Progress::Ended(number(4))));
-    assert_eq!(rt; (not_yet, done), (Ok(false), Ok(true)));
-    assert_eq!(rt; idle, Ok(Progress::Idle));
+    let (cookies, answers, polls) = ask_while_running(&rt, &domain, &mut first, &mut second);
+    let period = [
+        Ok(Progress::Started(number(1))),
+        Ok(Progress::Flipped(Index::One)),
+        Ok(Progress::Ended(number(4))),
+        Ok(Progress::Idle),
+    ];
+    assert_eq!(rt; (cookies, polls), ([4, 8], [Ok(false), Ok(true)]));
+    assert_eq!(rt; answers, period);
     Ok(())
 }
 
@@ -372,9 +503,8 @@ fn a_running_period_does_not_count(rt: HostRuntime) -> Result<(), Fail> {
 #[test]
 fn polls_by_number(rt: HostRuntime) -> Result<(), Fail> {
     let (_domain, mut cpu) = single(rt.alloc(), AMPLE)?;
-    let polled = [cpu.poll_number(0), cpu.poll_number(4)];
-    assert_eq!(rt; polled, [Ok(true), Ok(false)]);
-    assert_eq!(rt; cpu.poll_number(6), Err(NotACookie));
+    let polled = [cpu.poll_number(0), cpu.poll_number(4), cpu.poll_number(6)];
+    assert_eq!(rt; polled, [Ok(true), Ok(false), Err(NotACookie)]);
     Ok(())
 }
 
@@ -435,18 +565,24 @@ fn numbers_and_texts_of_refusals(rt: HostRuntime) -> Result<(), Fail> {
         StartRefusal::Exhausted as u8,
     ];
     assert_eq!(rt; (advance, start), ([1, 2], [1, 2, 3]));
-    for (refusal, text) in [
-        (AdvanceRefusal::Busy, "another call has the engine"),
-        (AdvanceRefusal::Exhausted, "no more grace periods may start"),
-    ] {
-        assert_eq!(rt; format!(in rt.alloc(); "{refusal}")?.as_str(), text);
-    }
-    for (refusal, text) in [
-        (StartRefusal::Busy, "another call has the engine"),
-        (StartRefusal::Running, "a grace period runs"),
-        (StartRefusal::Exhausted, "no more grace periods may start"),
-    ] {
-        assert_eq!(rt; format!(in rt.alloc(); "{refusal}")?.as_str(), text);
-    }
+    let advance = format!(in rt.alloc();
+        "{}; {}",
+        AdvanceRefusal::Busy,
+        AdvanceRefusal::Exhausted
+    )?;
+    assert_eq!(rt;
+        advance.as_str(),
+        "another call has the engine; no more grace periods may start"
+    );
+    let (busy, running, exhausted) = (
+        StartRefusal::Busy,
+        StartRefusal::Running,
+        StartRefusal::Exhausted,
+    );
+    let start = format!(in rt.alloc(); "{busy}; {running}; {exhausted}")?;
+    assert_eq!(rt;
+        start.as_str(),
+        "another call has the engine; a grace period runs; no more grace periods may start"
+    );
     Ok(())
 }

@@ -45,7 +45,7 @@ pub(super) fn run_ready<R: Wait + Abort>(
     ensures { IsOf domain.now cpu.new }
 {
     let processor = cpu.processor();
-    let Some(mut batch) = domain.take_ready(rt, cpu, processor, 8)? else {
+    let Some(mut batch) = domain.take_ready(rt, cpu, processor, 20)? else {
         return Ok(None); // nothing is ready here
     };
     let count = batch.count(); // from 1 to 8
@@ -56,12 +56,11 @@ pub(super) fn run_ready<R: Wait + Abort>(
     Ok(Some(count))
 }
 
+/// What the engine answers to one call.
+pub(super) type Answer = Result<Progress, AdvanceRefusal>;
+
 /// Drives a whole grace period, with a step for each of its parts.
-pub(super) fn drive<J, R: Wait>(
-    rt: &R,
-    domain: &Domain<J>,
-    cpu: &mut Cpu<J>,
-) -> [Result<Progress, AdvanceRefusal>; 3]
+pub(super) fn drive<J, R: Wait>(rt: &R, domain: &Domain<J>, cpu: &mut Cpu<J>) -> [Answer; 3]
     requires { IsOf domain.now cpu.old }
     ensures { IsOf domain.now cpu.new }
 {
@@ -71,33 +70,84 @@ pub(super) fn drive<J, R: Wait>(
     [started, flipped, ended]
 }
 
+/// A period that a section on another processor holds up. Tells what the engine answers until the section's end, and
+/// behind it; and whether a cookie of before is done, both times.
+pub(super) fn hold_up<J, R: Wait>(
+    rt: &R,
+    domain: &Domain<J>,
+    driver: &mut Cpu<J>,
+    reader: &mut Cpu<J>,
+) -> Option<([Answer; 3], Answer, bool, bool)>
+    requires { IsOf domain.now driver.old × IsOf domain.now reader.old }
+{
+    let Ok(section) = reader.read_lock() else {
+        return None;
+    };
+    let mut cookie = domain.start_poll(driver);
+    let period = drive(rt, domain, driver);
+    let early = driver.poll(&mut cookie);
+    reader.read_unlock(section);
+    let ended = domain.advance(rt, driver);
+    let late = driver.poll(&mut cookie);
+    Some((period, ended, early, late))
+}
+
+/// What it has to tell of the first period.
+pub(super) fn held_up() -> ([Answer; 3], Answer, bool, bool) {
+    let period = [
+        Ok(Progress::Started(number(1))),
+        Ok(Progress::Flipped(Index::One)),
+        Ok(Progress::Waiting(Index::Zero)),
+    ];
+    (period, Ok(Progress::Ended(number(4))), false, true)
+}
+
+/// What is told of a job that is queued: its processor, its number, its cookie's, and the need; what the engine answers;
+/// and how many jobs are ready before the period, behind it, and behind that.
+type Told = (
+    (u16, u64, u64, u64),
+    [Answer; 3],
+    [Result<Option<usize>, TakeRefusal>; 3],
+);
+
+/// Queues a job, and runs it behind a period.
+fn queue_and_run<R: Wait + Abort>(
+    rt: &R,
+    domain: &Domain<u64>,
+    cpu: &mut Cpu<u64>,
+    ran: &mut Vec<u64>,
+) -> Option<Told>
+    requires { IsOf domain.now cpu.old }
+    ensures { IsOf domain.now cpu.new }
+{
+    let receipt = domain.call(rt, cpu, 7).ok()?; // call_srcu
+    let need = domain.need(cpu);
+    let early = run_ready(rt, domain, cpu, ran);
+    let period = drive(rt, domain, cpu);
+    let given = run_ready(rt, domain, cpu, ran);
+    let again = run_ready(rt, domain, cpu, ran);
+    let queued = (
+        receipt.processor,
+        receipt.k,
+        receipt.cookie.number(),
+        need.get(),
+    );
+    Some((queued, period, [early, given, again]))
+}
+
 /// Would catch a job that is given out too early, twice or never, and one for which nobody asks.
 #[test]
 fn hands_a_job_out_once(rt: HostRuntime) -> Result<(), Fail> {
     let (domain, mut cpu) = single(rt.alloc())?;
     let mut ran = Vec::new(rt.alloc());
-    let Ok(receipt) = domain.call(&rt, &mut cpu, 7) else { // call_srcu
-        panic!(rt; "there is room");
-    };
-    let need = domain.need(&mut cpu);
-    let early = run_ready(&rt, &domain, &mut cpu, &mut ran);
-    let period = drive(&rt, &domain, &mut cpu);
-    let given = run_ready(&rt, &domain, &mut cpu, &mut ran);
-    let again = run_ready(&rt, &domain, &mut cpu, &mut ran);
-    assert_eq!(rt;
-        (receipt.processor, receipt.k, receipt.cookie.number()),
-        (0, 0, 4)
-    );
-    assert_eq!(rt; need.get(), 4);
-    assert_eq!(rt;
-        period,
-        [
-            Ok(Progress::Started(number(1))),
-            Ok(Progress::Flipped(Index::One)),
-            Ok(Progress::Ended(number(4))),
-        ]
-    );
-    assert_eq!(rt; (early, given, again), (Ok(None), Ok(Some(1)), Ok(None)));
+    let told = queue_and_run(&rt, &domain, &mut cpu, &mut ran);
+    let period = [
+        Ok(Progress::Started(number(1))),
+        Ok(Progress::Flipped(Index::One)),
+        Ok(Progress::Ended(number(4))),
+    ];
+    let ready = [Ok(None), Ok(Some(1)), Ok(None)];
+    assert_eq!(rt; told, Some(((0, 0, 4, 4), period, ready)));
     assert_eq!(rt; ran.as_slice(), [7].as_slice());
     assert_eq!(rt; domain.lens(&rt, 0), Ok(([0; 4], [0; 2])));
     Ok(())
@@ -125,18 +175,18 @@ fn gives_the_job_back(rt: HostRuntime) -> Result<(), Fail> {
     let (domain, mut cpu) = single(&heap)?;
     let full = stuff(rt.alloc(), &heap)?;
     let refused = domain.call(&rt, &mut cpu, 7).err();
-    let need = domain.need(&mut cpu);
-    assert_eq!(rt; refused, Some((7, CallRefusal::Memory)));
-    assert_eq!(rt; need.get(), 0);
-    assert_eq!(rt; domain.lens(&rt, 0), Ok(([0; 4], [0; 2])));
+    let empty = (domain.need(&mut cpu).get(), domain.lens(&rt, 0));
     drop(full);
     let queued = domain.call(&rt, &mut cpu, 7).ok().map(|receipt| receipt.k);
-    let need = domain.need(&mut cpu);
-    assert_eq!(rt; queued, Some(0));
-    assert_eq!(rt; need.get(), 4);
-    assert_eq!(rt; domain.lens(&rt, 0), Ok(([0, 1, 0, 0], [4, 0])));
+    let then = (domain.need(&mut cpu).get(), domain.lens(&rt, 0));
     drop(domain);
     drop(cpu);
+    assert_eq!(rt;
+        (refused, queued),
+        (Some((7, CallRefusal::Memory)), Some(0))
+    );
+    assert_eq!(rt; empty, (0, Ok(([0; 4], [0; 2]))));
+    assert_eq!(rt; then, (4, Ok(([0, 1, 0, 0], [4, 0]))));
     assert_eq!(rt; heap.used(), 0);
     Ok(())
 }

@@ -2,7 +2,7 @@
 ghost use Rattle.std.specs.Prelude.{◌≡◌, ◌<◌, IfOk, []};
 ghost use Rattle.domain.specs.Views.{IsOf};
 
-use super::calling::{drive, run_ready};
+use super::calling::{drive, held_up, hold_up, run_ready};
 use crate::{Batch, Cpu, Domain, InUse, Index, Limits, MakeError, Number, Progress, Totals};
 use std::alloc::Global;
 use std::process::Abort;
@@ -115,22 +115,8 @@ fn number(value: u64) -> Number {
 fn one_of_three_is_missing(rt: HostRuntime) -> Result<(), Fail> {
     let (domain, first, second) = last_two(rt.alloc(), 3)?;
     let (cause, domain, mut first, mut second) = refused(&rt, rt.alloc(), domain, first, second);
-    assert_eq!(rt; cause, InUse::Missing(1));
-    let Ok(section) = second.read_lock() else {
-        panic!(rt; "there is room");
-    };
-    let mut cookie = domain.start_poll(&mut first);
-    let started = domain.advance(&rt, &mut first);
-    let flipped = domain.advance(&rt, &mut first);
-    let waiting = domain.advance(&rt, &mut first);
-    second.read_unlock(section);
-    let ended = domain.advance(&rt, &mut first);
-    let done = first.poll(&mut cookie);
-    assert_eq!(rt; started, Ok(Progress::Started(number(1))));
-    assert_eq!(rt; flipped, Ok(Progress::Flipped(Index::One)));
-    assert_eq!(rt; waiting, Ok(Progress::Waiting(Index::Zero)));
-    assert_eq!(rt; ended, Ok(Progress::Ended(number(4))));
-    assert!(rt; done);
+    let period = hold_up(&rt, &domain, &mut first, &mut second);
+    assert_eq!(rt; (cause, period), (InUse::Missing(1), Some(held_up())));
     Ok(())
 }
 
@@ -179,12 +165,17 @@ fn each_cause_in_turn(rt: HostRuntime) -> Result<(), Fail> {
     let totals = taken_down_alone(&rt, rt.alloc(), domain, cpu);
     assert!(rt; queued);
     assert_eq!(rt; started, Ok(number(1)));
-    assert_eq!(rt; flipped, Ok(Progress::Flipped(Index::One)));
-    assert_eq!(rt; ended, Ok(Progress::Ended(number(4))));
+    assert_eq!(rt;
+        [flipped, ended],
+        [
+            Ok(Progress::Flipped(Index::One)),
+            Ok(Progress::Ended(number(4)))
+        ]
+    );
     assert_eq!(rt; (given, ran.as_slice()), (Ok(Some(1)), [7].as_slice()));
     assert_eq!(rt;
-        (open, running, waiting),
-        (InUse::Sections(1), InUse::Period, InUse::Callbacks(1))
+        [open, running, waiting],
+        [InUse::Sections(1), InUse::Period, InUse::Callbacks(1)]
     );
     assert_eq!(rt;
         totals,
@@ -211,7 +202,7 @@ fn queue_three<R: Wait>(rt: &R, domain: &Domain<u64>, cpu: &mut Cpu<u64>) -> boo
 }
 
 /// Runs all jobs of a batch.
-fn run_all<R: Abort>(rt: &R, batch: &mut Batch<u64>, ran: &mut Vec<u64>)
+pub(super) fn run_all<R: Abort>(rt: &R, batch: &mut Batch<u64>, ran: &mut Vec<u64>)
     ensures empty { batch.new.entries ≡ [] }
     ensures tallies { batch.new.tallies ≡ batch.old.tallies }
     ensures processor { batch.new.processor ≡ batch.old.processor }
@@ -222,11 +213,12 @@ fn run_all<R: Abort>(rt: &R, batch: &mut Batch<u64>, ran: &mut Vec<u64>)
 }
 
 /// Would catch a cleanup that forgets a batch which is out, or that counts it as finished, a batch that is of no use behind
-/// the refusal, and totals of what is queued alone.
+/// the refusal, and totals of what is queued alone or of one processor.
 #[test]
 fn a_batch_is_out(rt: HostRuntime) -> Result<(), Fail> {
     let (domain, mut first, mut second) = last_two(rt.alloc(), 2)?;
     let queued = queue_three(&rt, &domain, &mut first);
+    let queued_there = queue_three(&rt, &domain, &mut second);
     let period = drive(&rt, &domain, &mut second);
     let processor = first.processor();
     let Ok(Some(mut batch)) = domain.take_ready(&rt, &mut second, processor, 2) else {
@@ -237,23 +229,22 @@ fn a_batch_is_out(rt: HostRuntime) -> Result<(), Fail> {
     domain.see_out(&mut second, &mut batch);
     run_all(&rt, &mut batch, &mut ran);
     domain.finish(&rt, &mut second, batch);
-    let (left, domain, mut first, second) = refused(&rt, rt.alloc(), domain, first, second);
+    let (left, domain, mut first, mut second) = refused(&rt, rt.alloc(), domain, first, second);
     let given = run_ready(&rt, &domain, &mut first, &mut ran);
+    let given_there = run_ready(&rt, &domain, &mut second, &mut ran);
     let totals = taken_down(&rt, rt.alloc(), domain, first, second);
-    assert!(rt; queued);
+    assert!(rt; queued && queued_there);
     assert_eq!(rt; period[2], Ok(Progress::Ended(number(4))));
-    assert_eq!(rt; (out, left), (InUse::Callbacks(3), InUse::Callbacks(1)));
-    assert_eq!(rt;
-        (given, ran.as_slice()),
-        (Ok(Some(1)), [7, 8, 9].as_slice())
-    );
+    assert_eq!(rt; (out, left), (InUse::Callbacks(6), InUse::Callbacks(4)));
+    assert_eq!(rt; (given, given_there), (Ok(Some(1)), Ok(Some(3))));
+    assert_eq!(rt; ran.as_slice(), [7, 8, 9, 7, 8, 9].as_slice());
     assert_eq!(rt;
         totals,
         Totals {
             opened: 0,
             closed: 0,
-            queued: 3,
-            finished: 3,
+            queued: 6,
+            finished: 6,
             periods: 1,
         }
     );

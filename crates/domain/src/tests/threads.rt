@@ -196,15 +196,17 @@ fn desk_cross(rt: HostRuntime) -> Result<(), Fail> {
         panic!(rt; "the section came");
     };
     let ended = Number::new(4).unwrap_or(Number::zero());
-    assert_eq!(rt; (crossing.opened_on, crossing.closed_on), (0, 1));
+    let sections = (tally.opened.load(SeqCst), tally.closing.load(SeqCst));
     assert_eq!(rt;
-        crossing.before,
-        (Ok(Progress::Waiting(Index::Zero)), false)
+        (crossing.opened_on, crossing.closed_on, sections),
+        (0, 1, (1, 0))
     );
-    assert_eq!(rt; crossing.behind, (Ok(Progress::Ended(ended)), true));
     assert_eq!(rt;
-        (tally.opened.load(SeqCst), tally.closing.load(SeqCst)),
-        (1, 0)
+        [crossing.before, crossing.behind],
+        [
+            (Ok(Progress::Waiting(Index::Zero)), false),
+            (Ok(Progress::Ended(ended)), true)
+        ]
     );
     Ok(())
 }
@@ -494,6 +496,50 @@ fn ends_in_some_turns<R: Wait>(rt: &R, domain: &Domain<()>, cpu: &mut Cpu<()>) -
     cpu.poll(&mut cookie)
 }
 
+/// Four threads hand sections on, while this one drives grace periods beside them.
+fn hand_on_beside<R: Wait + Threads + Sync>(
+    rt: &R,
+    domain: &Domain<()>,
+    driver: Cpu<()>,
+    cpus: Cpus,
+    seats: Seats,
+    desk: &Desk<Held>,
+    tally: &Tally,
+) -> (Seats, (Cpu<()>, bool))
+    requires driver { IsOf domain.now driver }
+    requires first { (seats.first.desk ≡ desk.now.desk) × (cpus.first.cpu.domain ≡ seats.first.domain) }
+    requires second { (seats.second.desk ≡ desk.now.desk) × (cpus.second.cpu.domain ≡ seats.second.domain) }
+    requires third { (seats.third.desk ≡ desk.now.desk) × (cpus.third.cpu.domain ≡ seats.third.domain) }
+    requires fourth { (seats.fourth.desk ≡ desk.now.desk) × (cpus.fourth.cpu.domain ≡ seats.fourth.domain) }
+    ensures driver { IsOf domain.now result.1.0 }
+    ensures first { (result.0.first.desk ≡ seats.first.desk) × (result.0.first.number ≡ seats.first.number) }
+    ensures second { (result.0.second.desk ≡ seats.second.desk) × (result.0.second.number ≡ seats.second.number) }
+    ensures third { (result.0.third.desk ≡ seats.third.desk) × (result.0.third.number ≡ seats.third.number) }
+    ensures fourth { (result.0.fourth.desk ≡ seats.fourth.desk) × (result.0.fourth.number ≡ seats.fourth.number) }
+{
+    join(
+        rt,
+        ||
+            requires first { (seats.first.desk ≡ desk.now.desk) × (cpus.first.cpu.domain ≡ seats.first.domain) }
+            requires second { (seats.second.desk ≡ desk.now.desk) × (cpus.second.cpu.domain ≡ seats.second.domain) }
+            requires third { (seats.third.desk ≡ desk.now.desk) × (cpus.third.cpu.domain ≡ seats.third.domain) }
+            requires fourth { (seats.fourth.desk ≡ desk.now.desk) × (cpus.fourth.cpu.domain ≡ seats.fourth.domain) }
+        { hand_on_by_four(rt, cpus, seats, desk, tally) },
+        || drive_beside(rt, domain, driver, tally),
+    )
+}
+
+/// Closes a section that was handed on last. Tells whether a grace period ends that is asked for before, and two behind.
+fn close_last<R: Wait>(rt: &R, domain: &Domain<()>, driver: &mut Cpu<()>, held: Held) -> [bool; 3]
+    requires driver { IsOf domain.now driver.old }
+    requires held { held.domain ≡ domain.now.domain }
+{
+    let early = ends_in_some_turns(rt, domain, driver);
+    driver.up_read(held);
+    let late = ends_in_some_turns(rt, domain, driver);
+    [early, late, ends_in_some_turns(rt, domain, driver)]
+}
+
 /// Would catch a desk that loses or doubles what lies there, a section's end that is lost among those of other
 /// processors, and a grace period that ends while a section is open that was handed on.
 #[test]
@@ -501,23 +547,17 @@ fn desk_of_a_thousand(rt: HostRuntime) -> Result<(), Fail> {
     let (domain, cpus, mut driver) = five_cpus(rt.alloc())?;
     let (desk, seats) = four_seats(rt.alloc(), driver.home())?;
     let tally = Tally::new();
-    let (seats, (mut driver, in_time)) = join(
-        &rt,
-        || hand_on_by_four(&rt, cpus, seats, &desk, &tally),
-        || drive_beside(&rt, &domain, driver, &tally),
+    let (seats, (mut driver, in_time)) = hand_on_beside(
+        &rt, &domain, driver, cpus, seats, &desk, &tally,
     );
-    let last = close_four(&rt, desk, seats);
-    let Some(held) = last else {
+    let Some(held) = close_four(&rt, desk, seats) else {
         panic!(rt; "the last one lies there");
     };
-    let early = ends_in_some_turns(&rt, &domain, &mut driver);
-    driver.up_read(held);
-    let late = ends_in_some_turns(&rt, &domain, &mut driver);
-    let again = ends_in_some_turns(&rt, &domain, &mut driver);
+    let ended = close_last(&rt, &domain, &mut driver, held);
+    let sections = (tally.opened.load(SeqCst), tally.closing.load(SeqCst));
     assert_eq!(rt;
-        (tally.opened.load(SeqCst), tally.closing.load(SeqCst)),
-        (1000, 999)
+        (sections, in_time, ended),
+        ((1000, 999), true, [false, true, true])
     );
-    assert_eq!(rt; (in_time, early, late, again), (true, false, true, true));
     Ok(())
 }

@@ -1,5 +1,5 @@
 -- A poll leaves the processor in its domain.
-use Rattle.domain.proofs.tests.alone.a_period_that_is_asked_for.Goals as goal
+use Rattle.domain.proofs.tests.alone.ask_and_drive.Goals as goal
 
 pub advance-ended-requires : goal.advance-ended-requires
 advance-ended-requires g c = c.poll-early.ensures.stays _ c.advance-flipped.ensures.here
