@@ -36,8 +36,10 @@ fn levels(rt: HostRuntime) -> Result<(), Fail> {
     ];
     for (processor, asked, nodes, found, root) in calls {
         let level = ask_at(seats.as_mut_slice(), processor, asked);
-        assert_eq!(rt; level, Some(Level { nodes, found }), "at {processor}");
-        assert_eq!(rt; engine.root_need(), number(root), "at {processor}");
+        assert_eq!(rt;
+            (processor, level, engine.root_need()),
+            (processor, Some(Level { nodes, found }), number(root))
+        );
     }
     Ok(())
 }
@@ -58,20 +60,19 @@ fn heights(rt: HostRuntime) -> Result<(), Fail> {
     ];
     for (processors, height) in trees {
         let (mut seats, mut engine) = make(rt.alloc(), processors)?;
-        assert_eq!(rt; seats.len(), processors);
-        assert_eq!(rt; engine.root_need(), number(0));
+        let count = seats.len();
+        let before = engine.root_need();
+        let first = ask_at(seats.as_mut_slice(), 0, 4);
+        let last = ask_at(seats.as_mut_slice(), processors - 1, 8);
         let level = Level {
             nodes: height,
             found: false,
         };
-        let first = ask_at(seats.as_mut_slice(), 0, 4);
-        let last = ask_at(seats.as_mut_slice(), processors - 1, 8);
         assert_eq!(rt;
-            (first, last),
-            (Some(level), Some(level)),
-            "of {processors}"
+            (count, first, last),
+            (processors, Some(level), Some(level))
         );
-        assert_eq!(rt; engine.root_need(), number(8));
+        assert_eq!(rt; [before, engine.root_need()], [number(0), number(8)]);
     }
     Ok(())
 }

@@ -2,7 +2,7 @@ ghost use Rattle.std.specs.Prelude.{◌≡◌, IfOk};
 ghost use Rattle.calls.specs.Calls.{FitsIn};
 
 use super::LIMITS;
-use crate::{CallRefusal, CallSeat, Calls};
+use crate::{CallRefusal, CallSeat, Calls, Memory};
 use linked_list_allocator::LocalHeap;
 use sections::{Cpu, EngineSeat, Made, MakeError, make};
 use std::alloc::{AllocError, Global};
@@ -123,24 +123,43 @@ fn fill_without_room<R: Wait + Abort + AllocGlobal>(
     Ok(refused)
 }
 
+/// What a list is found to be: how many jobs are in each segment, and the two numbers.
+type Lens = Result<([usize; 4], [u64; 2]), Memory>;
+
+/// Queues 20 jobs, while there is room in the heap and while there is none, by turns. Tells which job was refused each time,
+/// and the list behind the first refusal and in the end.
+fn fill_by_turns<R: Wait + Abort + AllocGlobal>(
+    rt: &R,
+    heap: &LocalHeap,
+    calls: &Calls<u64, &LocalHeap>,
+    cpu: &mut Cpu,
+    seat: &mut CallSeat<&LocalHeap>,
+) -> Result<([u64; 4], [Lens; 2]), AllocError>
+    requires { FitsIn calls.now cpu.old seat.old }
+{
+    let none = fill_without_room(rt, heap, calls, cpu, seat, 0, 20)?;
+    let empty = calls.lens(rt, 0);
+    let one = fill(rt, calls, cpu, seat, 0, 1);
+    // There is room for some more before the list has to grow.
+    let some = fill_without_room(rt, heap, calls, cpu, seat, 1, 20)?;
+    let all = fill(rt, calls, cpu, seat, some, 20);
+    Ok(([none, one, some, all], [empty, calls.lens(rt, 0)]))
+}
+
 /// Would catch a refused job that stays, or that is counted, and a list that takes no more jobs once one was refused.
 #[test]
 fn call_in_little_room(rt: HostRuntime) -> Result<(), Fail> {
     let (mut cpu, mut engine) = new_domain(rt.alloc())?;
     let heap = LocalHeap::new(rt.alloc(), 8 * 1024)?;
     let (calls, mut seat) = make_in(&heap, &mut engine, &cpu)?;
-    let none = fill_without_room(&rt, &heap, &calls, &mut cpu, &mut seat, 0, 20)?;
-    let empty = calls.lens(&rt, 0);
-    let one = fill(&rt, &calls, &mut cpu, &mut seat, 0, 1);
-    // There is room for some more before the list has to grow.
-    let some = fill_without_room(&rt, &heap, &calls, &mut cpu, &mut seat, 1, 20)?;
-    let all = fill(&rt, &calls, &mut cpu, &mut seat, some, 20);
-    let lens = calls.lens(&rt, 0);
+    let (refused, lens) = fill_by_turns(&rt, &heap, &calls, &mut cpu, &mut seat)?;
     drop(calls);
     drop(seat);
+    assert_eq!(rt;
+        (refused[0], refused[1], refused[2] < 20, refused[3]),
+        (0, 1, true, 20)
+    );
+    assert_eq!(rt; lens, [Ok(([0; 4], [0; 2])), Ok(([0, 20, 0, 0], [4, 0]))]);
     assert_eq!(rt; heap.used(), 0);
-    assert_eq!(rt; (none, one, some < 20, all), (0, 1, true, 20));
-    assert_eq!(rt; empty, Ok(([0; 4], [0; 2])));
-    assert_eq!(rt; lens, Ok(([0, 20, 0, 0], [4, 0])));
     Ok(())
 }
