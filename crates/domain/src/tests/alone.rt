@@ -261,24 +261,38 @@ fn refusals_of_periods(rt: HostRuntime) -> Result<(), Fail> {
     Ok(())
 }
 
-/// Whether a section of the current index is refused, and a held one too.
-fn is_full(cpu: &mut Cpu<()>) -> bool
+/// Whether a section of the current index is refused.
+fn refuses_a_reading(cpu: &mut Cpu<()>) -> bool
     ensures { Stays cpu.old cpu.new }
 {
-    let reading = match cpu.read_lock() {
+    match cpu.read_lock() {
         Ok(reading) => {
             cpu.read_unlock(reading);
             false
         }
         Err(Exhausted) => true,
-    };
-    let held = match cpu.down_read() {
+    }
+}
+
+/// Whether a held section of the current index is refused.
+fn refuses_a_held(cpu: &mut Cpu<()>) -> bool
+    ensures { Stays cpu.old cpu.new }
+{
+    match cpu.down_read() {
         Ok(held) => {
             cpu.up_read(held);
             false
         }
         Err(Exhausted) => true,
-    };
+    }
+}
+
+/// Whether a section of the current index is refused, and a held one too.
+fn is_full(cpu: &mut Cpu<()>) -> bool
+    ensures { Stays cpu.old cpu.new }
+{
+    let reading = refuses_a_reading(cpu);
+    let held = refuses_a_held(cpu);
     reading && held
 }
 
