@@ -130,3 +130,23 @@ pub use Rattle.onedom.proofs.Periods.{law}
 pub use Rattle.onedom.proofs.Pushes.{begun_once}
 -- a section that was begun keeps its index
 pub use Rattle.onedom.proofs.Periods.{index_kept}
+-- Versions
+
+-- an event that is no Put of the cell leaves its slot and its version
+pub use Rattle.onedom.proofs.Versions.{slot_kept, version_kept}
+-- and one that is no Put of the slot what was put there last
+pub use Rattle.onedom.proofs.Versions.{shelved_kept}
+-- a Put sets all three
+pub use Rattle.onedom.proofs.Versions.{slot_put, version_put, shelved_put}
+-- so often was a slot found, after one more event
+pub use Rattle.onedom.proofs.Versions.{finds_push}
+-- what may find a slot: an open section, where the slot is current
+pub use Rattle.onedom.proofs.Versions.{find_is}
+-- a slot that is not current stays so, and is not found, until something is put into it
+pub use Rattle.onedom.proofs.Versions.{resting_on, unfound_on}
+-- a section that has found something was begun
+pub use Rattle.onedom.proofs.Versions.{found_begun}
+-- the four laws: a slot that nobody can read stays so until a Put, what is current lies in its slot, what was found stays there, and reclamation
+pub use Rattle.onedom.proofs.Versions.{clear_until_put, current_is_shelved, found_stays, reclaim}
+-- versions only grow, and where a cell's version stays, nothing was put into it
+pub use Rattle.onedom.proofs.Versions.{version_up, versions_up, quiet}

@@ -4,4 +4,6 @@ mod Beginnings
 mod Opens
 mod Refused
 mod Periods
+mod Cells
+mod Versions
 mod Lawful

@@ -7,7 +7,7 @@ use native.Mathlib.Decide.{ℕ_discrete}
 use Rattle.sseq.specs.declared.index.Index.{Index}
 use Rattle.onedom.specs.declared.event.Maker.{Maker}
 use Rattle.onedom.specs.declared.event.Event.{Event}
-use Rattle.onedom.specs.declared.event.Event.TheVariants.{Begin, End, Start, Finish, Note, Ask}
+use Rattle.onedom.specs.declared.event.Event.TheVariants.{Begin, End, Start, Finish, Note, Ask, Find, Put}
 use Rattle.onedom.specs.Histories.{begins, ends, begins_of, ends_of, IsOpen, made_by, section_begun, open_sections, IsLegal}
 use Rattle.onedom.specs.Laws.{times}
 use Rattle.onedom.proofs.Pushes.{bit, count_cons, let_in, begins_of_made, ends_of_made, no_ends, ends_of_push, well_used}
@@ -73,6 +73,8 @@ times_begun s (Start by ∷ es) = let r = times_begun s es in let d = count_cons
 times_begun s (Finish by ∷ es) = let r = times_begun s es in let d = count_cons (begins s) (Finish by) es in omega (arith, r, d)
 times_begun s (Note cookie by ∷ es) = let r = times_begun s es in let d = count_cons (begins s) (Note cookie by) es in omega (arith, r, d)
 times_begun s (Ask cookie done by ∷ es) = let r = times_begun s es in let d = count_cons (begins s) (Ask cookie done by) es in omega (arith, r, d)
+times_begun s (Find u cell slot version by ∷ es) = let r = times_begun s es in let d = count_cons (begins s) (Find u cell slot version by) es in omega (arith, r, d)
+times_begun s (Put cell slot version by ∷ es) = let r = times_begun s es in let d = count_cons (begins s) (Put cell slot version by) es in omega (arith, r, d)
 
 -- a section that has not ended stands among the open ones as often as it was begun
 pub times_open : (s : ℕ) (history : List Event) → ends_of s history ≡ 0 → times s (open_sections history) ≡ begins_of s history

@@ -5,7 +5,7 @@ use Rattle.std.proofs.lemmas.List.{take_more}
 use Rattle.sseq.specs.declared.index.Index.{Index}
 use Rattle.onedom.specs.declared.event.Maker.{Maker}
 use Rattle.onedom.specs.declared.event.Event.{Event}
-use Rattle.onedom.specs.declared.event.Event.TheVariants.{Begin, End, Start, Finish, Note, Ask}
+use Rattle.onedom.specs.declared.event.Event.TheVariants.{Begin, End, Start, Finish, Note, Ask, Find, Put}
 use Rattle.onedom.specs.Histories.{begins, begins_of, IsOpen, index_of, is_start, is_finish, starts_in, ended_in, IsBeforeLastStart, WasOpenAtStart, WasEmpty, cookie_after, MayFollow, IsLegal, IsBeginning}
 use Rattle.onedom.specs.Laws.{EmptyInTurnMayEnd, GracePeriodLaw}
 use Rattle.onedom.proofs.Pushes.{bit, count_cons, count_append, begins_of_push, ends_of_push, starts_in_push, ended_in_push, along, along_after, begun_once, index_of_kept}
@@ -59,6 +59,8 @@ started_by history (Start by) is = started_now history by
 started_by history (Finish by) is = absurd cc
 started_by history (Note cookie by) is = absurd cc
 started_by history (Ask cookie done by) is = absurd cc
+started_by history (Find u cell slot version by) is = absurd cc
+started_by history (Put cell slot version by) is = absurd cc
 
 -- with one event more
 pub last_start_here : (events : List Event) (n : ℕ) (d : Event) → n < length events → is_start (get_or events n d) ≡ true → IsLastStart (Some n) (n + 1) events
@@ -93,6 +95,8 @@ passed_other before history (Start by) other s was is_open = refl
 passed_other before history (Finish by) other s was is_open = refl
 passed_other before history (Note cookie by) other s was is_open = refl
 passed_other before history (Ask cookie done by) other s was is_open = refl
+passed_other before history (Find u cell slot version by) other s was is_open = refl
+passed_other before history (Put cell slot version by) other s was is_open = refl
 
 pub passed_on : (before history : List Event) (n : ℕ) (d e : Event) → n < length before → get_or before n d ≡ e → BeginsNone before history e → IsPassed before history n → IsPassed before history (n + 1)
 passed_on before history n d e inside is none passed = passed_more before history n d inside (λ s was is_open. ap (begins s) is ∙ none s was is_open) passed
@@ -117,6 +121,8 @@ one_step history (Start by) legal may one = let c = starts_in_push history (Star
 one_step history (Finish by) legal may one = let c = starts_in_push history (Finish by) in let d = ended_in_push history (Finish by) in let l = may.0 in let m = one.1 in (omega (arith, c, d, l), omega (arith, c, d, m))
 one_step history (Note cookie by) legal may one = let c = starts_in_push history (Note cookie by) in let d = ended_in_push history (Note cookie by) in let l = one.0 in let m = one.1 in (omega (arith, c, d, l), omega (arith, c, d, m))
 one_step history (Ask cookie done by) legal may one = let c = starts_in_push history (Ask cookie done by) in let d = ended_in_push history (Ask cookie done by) in let l = one.0 in let m = one.1 in (omega (arith, c, d, l), omega (arith, c, d, m))
+one_step history (Find u cell slot version by) legal may one = let c = starts_in_push history (Find u cell slot version by) in let d = ended_in_push history (Find u cell slot version by) in let l = one.0 in let m = one.1 in (omega (arith, c, d, l), omega (arith, c, d, m))
+one_step history (Put cell slot version by) legal may one = let c = starts_in_push history (Put cell slot version by) in let d = ended_in_push history (Put cell slot version by) in let l = one.0 in let m = one.1 in (omega (arith, c, d, l), omega (arith, c, d, m))
 
 pub one_period : (history : List Event) → IsLegal history → (ended_in history ≤ starts_in history) × (starts_in history ≤ ended_in history + 1)
 one_period history legal = along (λ h. (ended_in h ≤ starts_in h) × (starts_in h ≤ ended_in h + 1)) (omega arith, omega arith) one_step history legal
@@ -185,6 +191,8 @@ outlasts_step s started history (Finish by) legal may k = let e : Event = Finish
     not_above m n never = omega arith
 outlasts_step s started history (Note cookie by) legal may k = outlasts_plain s started history (Note cookie by) refl refl k
 outlasts_step s started history (Ask cookie done by) legal may k = outlasts_plain s started history (Ask cookie done by) refl refl k
+outlasts_step s started history (Find u cell slot version by) legal may k = outlasts_plain s started history (Find u cell slot version by) refl refl k
+outlasts_step s started history (Put cell slot version by) legal may k = outlasts_plain s started history (Put cell slot version by) refl refl k
 
 -- a cookie is above all periods that have started
 cookie_case : (ended started : ℕ) (b : Bool) → nat_lt ended started ≡ b → started ≤ ended + 1 → 4 * (started + 1) ≤ 4 * (ended + cond b 2 1)

@@ -9,7 +9,7 @@ use Rattle.sseq.specs.declared.index.Index.TheVariants.{Zero}
 use Rattle.onedom.specs.declared.event.Maker.{Maker}
 use Rattle.onedom.specs.declared.event.Maker.TheVariants.{Processor, Engine}
 use Rattle.onedom.specs.declared.event.Event.{Event}
-use Rattle.onedom.specs.declared.event.Event.TheVariants.{Begin, End, Start, Finish, Note, Ask}
+use Rattle.onedom.specs.declared.event.Event.TheVariants.{Begin, End, Start, Finish, Note, Ask, Find, Put}
 use Rattle.onedom.specs.Histories.{begins, ends, begins_of, ends_of, IsOpen, index_after, index_of, is_start, starts_in, is_finish, ended_in, MayFollow, IsLegalAfter, IsLegal, maker_of, same_maker, made_by}
 
 -- 1 for `true`, 0 for `false`
@@ -130,6 +130,8 @@ index_after_kept s k (Start by) miss = refl
 index_after_kept s k (Finish by) miss = refl
 index_after_kept s k (Note cookie by) miss = refl
 index_after_kept s k (Ask cookie done by) miss = refl
+index_after_kept s k (Find u cell slot version by) miss = refl
+index_after_kept s k (Put cell slot version by) miss = refl
 
 -- any other section
 pub index_of_kept : (s : ℕ) (history : List Event) (e : Event) → begins s e ≡ false → index_of s (history ++ e ∷ []) ≡ index_of s history
@@ -200,6 +202,10 @@ used_well s history (Note cookie by) legal may w = let c = begins_of_push s hist
     record { once = omega (arith, c, a); ended_after = omega (arith, c, d, b) }
 used_well s history (Ask cookie done by) legal may w = let c = begins_of_push s history (Ask cookie done by) in let d = ends_of_push s history (Ask cookie done by) in let a = w.once in let b = w.ended_after in
     record { once = omega (arith, c, a); ended_after = omega (arith, c, d, b) }
+used_well s history (Find u cell slot version by) legal may w = let c = begins_of_push s history (Find u cell slot version by) in let d = ends_of_push s history (Find u cell slot version by) in let a = w.once in let b = w.ended_after in
+    record { once = omega (arith, c, a); ended_after = omega (arith, c, d, b) }
+used_well s history (Put cell slot version by) legal may w = let c = begins_of_push s history (Put cell slot version by) in let d = ends_of_push s history (Put cell slot version by) in let a = w.once in let b = w.ended_after in
+    record { once = omega (arith, c, a); ended_after = omega (arith, c, d, b) }
 
 pub well_used : (s : ℕ) (history : List Event) → IsLegal history → WellUsed s history
 well_used s history legal = along (λ h. WellUsed s h) (record { once = omega arith; ended_after = omega arith }) (used_well s) history legal
@@ -216,6 +222,8 @@ begun_once s history (Start by) may begun = refl
 begun_once s history (Finish by) may begun = refl
 begun_once s history (Note cookie by) may begun = refl
 begun_once s history (Ask cookie done by) may begun = refl
+begun_once s history (Find u cell slot version by) may begun = refl
+begun_once s history (Put cell slot version by) may begun = refl
 
 -- an open section neither
 pub not_again : (s : ℕ) (history : List Event) (e : Event) → MayFollow history e → IsOpen history s → begins s e ≡ false
@@ -253,6 +261,8 @@ bound (Start by ∷ es) = let r = bound es in (r.0, record { above = λ s le. le
 bound (Finish by ∷ es) = let r = bound es in (r.0, record { above = λ s le. let c = count_cons (begins s) (Finish by) es in let z : begins_of s es ≡ 0 = r.1.above s le in omega (arith, c, z) })
 bound (Note cookie by ∷ es) = let r = bound es in (r.0, record { above = λ s le. let c = count_cons (begins s) (Note cookie by) es in let z : begins_of s es ≡ 0 = r.1.above s le in omega (arith, c, z) })
 bound (Ask cookie done by ∷ es) = let r = bound es in (r.0, record { above = λ s le. let c = count_cons (begins s) (Ask cookie done by) es in let z : begins_of s es ≡ 0 = r.1.above s le in omega (arith, c, z) })
+bound (Find u cell slot version by ∷ es) = let r = bound es in (r.0, record { above = λ s le. let c = count_cons (begins s) (Find u cell slot version by) es in let z : begins_of s es ≡ 0 = r.1.above s le in omega (arith, c, z) })
+bound (Put cell slot version by ∷ es) = let r = bound es in (r.0, record { above = λ s le. let c = count_cons (begins s) (Put cell slot version by) es in let z : begins_of s es ≡ 0 = r.1.above s le in omega (arith, c, z) })
 
 -- a number for a new section
 pub fresh : (history : List Event) → (s : ℕ) × (begins_of s history ≡ 0)

@@ -1,12 +1,12 @@
 -- Histories of a domain: lists of events, the oldest first.
-use Rattle.std.specs.Prelude.{◌≡◌, ◌≢◌, ℕ, ◌+◌, ◌*◌, ◌%◌, ◌<◌, ◌≤◌, ◌==◌, ◌↔◌, nat_lt, Bool, true, false, IsTrue, List, [], ◌∷◌, ◌++◌, Option, Some, None, count_by, filter, fold, if◌then◌else◌}
+use Rattle.std.specs.Prelude.{◌≡◌, ◌≢◌, ℕ, ◌+◌, ◌*◌, ◌%◌, ◌<◌, ◌≤◌, ◌==◌, ◌&&◌, ◌↔◌, nat_lt, Bool, true, false, IsTrue, List, [], ◌∷◌, ◌++◌, Option, Some, None, count_by, filter, fold, if◌then◌else◌}
 use Rattle.std.specs.List.{filter_map}
 use Rattle.sseq.specs.declared.index.Index.{Index}
 use Rattle.sseq.specs.declared.index.Index.TheVariants.{Zero}
 use Rattle.onedom.specs.declared.event.Maker.{Maker}
 use Rattle.onedom.specs.declared.event.Maker.TheVariants.{Processor, Engine}
 use Rattle.onedom.specs.declared.event.Event.{Event}
-use Rattle.onedom.specs.declared.event.Event.TheVariants.{Begin, End, Start, Finish, Note, Ask}
+use Rattle.onedom.specs.declared.event.Event.TheVariants.{Begin, End, Start, Finish, Note, Ask, Find, Put}
 
 -- Sections
 
@@ -108,9 +108,64 @@ cookie_after history = 4 * (ended_in history + (if nat_lt (ended_in history) (st
 abbrev pub IsDone : ℕ → List Event → Type 0
 IsDone cookie history = cookie ≤ 4 * ended_in history
 
+-- Versions
+
+abbrev pub slot_after : ℕ → ℕ → Event → ℕ
+slot_after cell k (Put c slot version by) = if c == cell then slot else k
+slot_after cell k e = k
+
+-- the slot that is current in a cell: that of its last Put
+abbrev pub slot_of : ℕ → List Event → ℕ
+slot_of cell history = fold (slot_after cell) 0 history
+
+abbrev pub version_after : ℕ → ℕ → Event → ℕ
+version_after cell k (Put c slot version by) = if c == cell then version else k
+version_after cell k e = k
+
+-- the version that is current in a cell
+abbrev pub version_of : ℕ → List Event → ℕ
+version_of cell history = fold (version_after cell) 0 history
+
+abbrev pub finds : ℕ → ℕ → ℕ → Event → Bool
+finds s cell slot (Find t c x version by) = (t == s) && ((c == cell) && (x == slot))
+finds s cell slot e = false
+
+-- how often a section has found a slot of a cell
+abbrev pub finds_of : ℕ → ℕ → ℕ → List Event → ℕ
+finds_of s cell slot history = count_by (finds s cell slot) history
+
+-- a Put of this cell, and one of this slot of it
+abbrev pub puts_in : ℕ → Event → Bool
+puts_in cell (Put c slot version by) = c == cell
+puts_in cell e = false
+
+abbrev pub puts : ℕ → ℕ → Event → Bool
+puts cell slot (Put c x version by) = (c == cell) && (x == slot)
+puts cell slot e = false
+
+abbrev pub shelved_after : ℕ → ℕ → ℕ → Event → ℕ
+shelved_after cell slot k (Put c x version by) = if (c == cell) && (x == slot) then version else k
+shelved_after cell slot k e = k
+
+-- the version that was put into a slot last
+abbrev pub shelved : ℕ → ℕ → List Event → ℕ
+shelved cell slot history = fold (shelved_after cell slot) 0 history
+
+-- the section has found this slot, with this version
+pub record HasFound (history : List Event) (s cell slot version : ℕ) : Type 0 where
+  pub before : List Event
+  pub by : Maker
+  pub after : List Event
+  pub whole : history ≡ before ++ Find s cell slot version by ∷ after
+
+-- nobody can read the slot: it is not current, and no section that is open has found it
+pub record IsClear (history : List Event) (cell slot : ℕ) : Type 0 where
+  pub resting : slot ≢ slot_of cell history
+  pub unread : (s : ℕ) → IsOpen history s → finds_of s cell slot history ≡ 0
+
 -- What may follow
 
--- A section has a number that no section had; only an open section can end. One grace period runs at a time, and it ends only once every section that was open at its start is closed. A cookie waits for a period that is still to start, and whoever asks is told whether it is done
+-- A section has a number that no section had; only an open section can end. One grace period runs at a time, and it ends only once every section that was open at its start is closed. A cookie waits for a period that is still to start, and whoever asks is told whether it is done. An open section finds what is current in a cell, and the next version goes into a slot that nobody can read
 abbrev pub MayFollow : List Event → Event → Type 0
 MayFollow history (Begin s p i by) = begins_of s history ≡ 0
 MayFollow history (End s q by) = IsOpen history s
@@ -118,6 +173,8 @@ MayFollow history (Start by) = ¬ IsRunning history
 MayFollow history (Finish by) = IsRunning history × ((s : ℕ) → WasOpenAtStart history s → ¬ IsOpen history s)
 MayFollow history (Note cookie by) = cookie ≡ cookie_after history
 MayFollow history (Ask cookie done by) = (cookie % 4 ≡ 0) × (IsTrue done ↔ IsDone cookie history)
+MayFollow history (Find s cell slot version by) = IsOpen history s × (slot ≡ slot_of cell history) × (version ≡ version_of cell history)
+MayFollow history (Put cell slot version by) = IsClear history cell slot × (version ≡ version_of cell history + 1)
 
 abbrev pub IsLegalAfter : List Event → List Event → Type 0
 IsLegalAfter before [] = Unit {0}
@@ -136,6 +193,8 @@ maker_of (Start by) = by
 maker_of (Finish by) = by
 maker_of (Note cookie by) = by
 maker_of (Ask cookie done by) = by
+maker_of (Find s cell slot version by) = by
+maker_of (Put cell slot version by) = by
 
 abbrev pub same_maker : Maker → Maker → Bool
 same_maker (Processor p) (Processor q) = p == q

@@ -1,10 +1,10 @@
 -- What holds of all legal histories. It follows from the definitions, and shows that they say what they should.
-use Rattle.std.specs.Prelude.{◌≡◌, ℕ, ◌+◌, ◌<◌, ◌≤◌, ◌==◌, ◌↔◌, true, List, [], ◌∷◌, ◌++◌, count_by}
+use Rattle.std.specs.Prelude.{◌≡◌, ℕ, ◌+◌, ◌<◌, ◌≤◌, ◌==◌, ◌↔◌, ◌≢◌, true, false, List, [], ◌∷◌, ◌++◌, count_by}
 use Rattle.sseq.specs.declared.index.Index.{Index}
 use Rattle.onedom.specs.declared.event.Maker.{Maker}
 use Rattle.onedom.specs.declared.event.Event.{Event}
 use Rattle.onedom.specs.declared.event.Event.TheVariants.{End, Finish, Note, Ask}
-use Rattle.onedom.specs.Histories.{begins_of, ends_of, IsOpen, open_sections, starts_in, ended_in, IsRunning, WasEmpty, MayFollow, IsLegal, IsBeginning}
+use Rattle.onedom.specs.Histories.{begins_of, ends_of, IsOpen, open_sections, starts_in, ended_in, IsRunning, WasEmpty, slot_of, version_of, shelved, puts, finds_of, HasFound, IsClear, MayFollow, IsLegal, IsBeginning}
 
 -- how often a number stands in a list
 abbrev pub times : ℕ → List ℕ → ℕ
@@ -50,3 +50,24 @@ EmptyInTurnMayEnd = (history : List Event) (by : Maker) → IsLegal history → 
 -- The law of grace periods: where a cookie was given, and later somebody who asked after it, or after a greater one, was told that it is done, no section that was open when it was given is still open
 abbrev pub GracePeriodLaw : Type 0
 GracePeriodLaw = (before between after : List Event) (cookie asked : ℕ) (giver asker : Maker) → IsLegal (before ++ Note cookie giver ∷ between ++ Ask asked true asker ∷ after) → cookie ≤ asked → (s : ℕ) → IsOpen before s → ¬ IsOpen (before ++ Note cookie giver ∷ between) s
+
+-- Versions
+
+-- what is current in a cell was put into its slot last
+abbrev pub CurrentIsShelved : Type 0
+CurrentIsShelved = (history : List Event) (cell : ℕ) → IsLegal history → shelved cell (slot_of cell history) history ≡ version_of cell history
+
+-- what a section found is there as long as the section is open
+abbrev pub FoundStays : Type 0
+FoundStays = (history : List Event) (s cell slot version : ℕ) → IsLegal history → IsOpen history s → HasFound history s cell slot version → shelved cell slot history ≡ version
+
+-- a slot that nobody can read stays so until something is put into it
+abbrev pub ClearUntilPut : Type 0
+ClearUntilPut = (history : List Event) (e : Event) (cell slot : ℕ) → IsLegal history → MayFollow history e → puts cell slot e ≡ false → IsClear history cell slot → IsClear (history ++ e ∷ []) cell slot
+
+-- The law of reclamation: where a slot was not current any more when a cookie was given, and has not been found or put since, nobody can read it once somebody who asked was told that the cookie is done
+abbrev pub ReclaimLaw : Type 0
+ReclaimLaw = (before between after : List Event) (cookie asked cell slot : ℕ) (giver asker : Maker) → IsLegal (before ++ Note cookie giver ∷ between ++ Ask asked true asker ∷ after) → cookie ≤ asked
+    → ((s : ℕ) → finds_of s cell slot (before ++ Note cookie giver ∷ between ++ Ask asked true asker ∷ after) ≡ finds_of s cell slot before)
+    → slot ≢ slot_of cell (before ++ Note cookie giver ∷ between ++ Ask asked true asker ∷ after)
+    → IsClear (before ++ Note cookie giver ∷ between ++ Ask asked true asker ∷ after) cell slot

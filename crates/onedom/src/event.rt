@@ -47,4 +47,20 @@ pub enum Event {
         done: bool,
         by: Maker,
     },
+    /// An open section finds what lies in a cell: the slot and the version of the cell's last Put, or slot 0 with
+    /// version 0 where there was none (`srcu_dereference`).
+    Find {
+        section: u64,
+        cell: u64,
+        slot: u64,
+        version: u64,
+        by: Maker,
+    },
+    /// The next version of a cell is put, in a slot that no open section has found (`rcu_assign_pointer`).
+    Put {
+        cell: u64,
+        slot: u64,
+        version: u64,
+        by: Maker,
+    },
 }

@@ -19,6 +19,10 @@ pub enum Illegal {
     WrongCookie = 6,
     /// The answer is not the one that the cookie gets now, or this is no cookie: not a multiple of four.
     WrongPoll = 7,
+    /// That is not the slot and the version that are current in the cell.
+    WrongFind = 8,
+    /// The slot is current in the cell, or an open section has found it, or this is not the cell's next version.
+    WrongPut = 9,
     /// The event may follow, but there was no memory to keep it.
     Memory = 10,
 }
@@ -38,6 +42,8 @@ impl fmt::Display for Illegal {
             Illegal::StillOpen => f.write_str("a section that was open at the start is open"),
             Illegal::WrongCookie => f.write_str("another cookie is given now"),
             Illegal::WrongPoll => f.write_str("that is not the answer to this cookie"),
+            Illegal::WrongFind => f.write_str("that is not current in the cell"),
+            Illegal::WrongPut => f.write_str("that can't be put into the cell"),
             Illegal::Memory => f.write_str("out of memory"),
         }
     }

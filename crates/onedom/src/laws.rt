@@ -1,5 +1,5 @@
 //! What follows from the definitions alone, for callers and readers: the calls do nothing.
-ghost use Rattle.onedom.specs.Laws.{EachMayFollow, OneMore, BeginningsAreLegal, OpenHasOneBegin, OnlyOpenEnds, ClosedForGood, OpenAreListed, OnePeriodRuns, EmptyInTurnMayEnd, GracePeriodLaw};
+ghost use Rattle.onedom.specs.Laws.{EachMayFollow, OneMore, BeginningsAreLegal, OpenHasOneBegin, OnlyOpenEnds, ClosedForGood, OpenAreListed, OnePeriodRuns, EmptyInTurnMayEnd, GracePeriodLaw, CurrentIsShelved, FoundStays, ClearUntilPut, ReclaimLaw};
 
 /// A history is legal just where each event may follow those before it, so each beginning of a legal history is legal.
 pub fn legality_of_histories()
@@ -27,4 +27,13 @@ pub fn periods_of_a_legal_history()
 /// The law of grace periods: once a cookie is done, no section that was open when it was given is still open.
 pub fn law_of_grace_periods()
     ensures { GracePeriodLaw }
+{}
+
+/// In a legal history what is current in a cell lies in its slot, what an open section found stays there, and a slot that
+/// nobody can read stays so until something is put into it. A slot that was replaced is such a one after a grace period.
+pub fn versions_of_a_legal_history()
+    ensures current { CurrentIsShelved }
+    ensures found { FoundStays }
+    ensures clear { ClearUntilPut }
+    ensures reclaim { ReclaimLaw }
 {}

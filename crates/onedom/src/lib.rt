@@ -12,6 +12,6 @@ pub use event::{Event, Maker};
 pub use illegal::Illegal;
 pub use laws::{
     law_of_grace_periods, legality_of_histories, periods_of_a_legal_history,
-    sections_of_a_legal_history,
+    sections_of_a_legal_history, versions_of_a_legal_history,
 };
 pub use one_domain::{Memory, OneDomain, legal};

@@ -1,6 +1,6 @@
 //! A domain of one thread, which keeps its whole history and asks the definitions of it.
-ghost use Rattle.std.specs.Prelude.{◌≡◌, ℕ, ◌%◌, ◌≤◌, ◌↔◌, [], ◌∷◌, ◌++◌, length, IfOk, IfErr, OnOk, OnErr, MatchOption, IsTrue};
-ghost use Rattle.onedom.specs.Histories.{begins, ends, is_start, is_finish, begins_of, ends_of, starts_in, ended_in, IsOpen, IsRunning, IsBeforeLastStart, WasOpenAtStart, cookie_after, IsDone, MayFollow, IsLegal};
+ghost use Rattle.std.specs.Prelude.{◌≡◌, ℕ, ◌+◌, ◌%◌, ◌<◌, ◌≤◌, ◌↔◌, [], ◌∷◌, ◌++◌, length, IfOk, IfErr, OnOk, OnErr, MatchOption, IsTrue, true};
+ghost use Rattle.onedom.specs.Histories.{begins, ends, is_start, is_finish, begins_of, ends_of, starts_in, ended_in, IsOpen, IsRunning, IsBeforeLastStart, WasOpenAtStart, cookie_after, IsDone, slot_after, slot_of, version_after, version_of, finds, finds_of, IsClear, MayFollow, IsLegal};
 ghost use Rattle.onedom.specs.Refusals.{IsRefusal};
 
 use crate::event::Event;
@@ -94,6 +94,19 @@ fn may_follow(history: &[Event], event: Event) -> Result<(), Illegal>
         Event::Ask { cookie, done, .. } if !is_answer(history, cookie, done) => Err(
             Illegal::WrongPoll,
         ),
+        Event::Find { section, .. } if !is_open(history, section) => Err(Illegal::NotOpen),
+        Event::Find {
+            cell,
+            slot,
+            version,
+            ..
+        } if !is_current(history, cell, slot, version) => Err(Illegal::WrongFind),
+        Event::Put {
+            cell,
+            slot,
+            version,
+            ..
+        } if !is_next(history, cell, slot, version) => Err(Illegal::WrongPut),
         _ => Ok(()),
     }
 }
@@ -153,6 +166,104 @@ fn is_answer(history: &[Event], cookie: u64, done: bool) -> bool
     ensures { IsTrue result ↔ (cookie % 4 ≡ 0) × (IsTrue done ↔ IsDone cookie history.now) }
 {
     cookie % 4 == 0 && done == (cookie / 4 <= ended_in(history) as u64)
+}
+
+// Whether these are the slot and the version that are current in the cell.
+fn is_current(history: &[Event], cell: u64, slot: u64, version: u64) -> bool
+    ensures { IsTrue result ↔ (slot ≡ slot_of cell history.now) × (version ≡ version_of cell history.now) }
+{
+    slot == slot_of(history, cell) && version == version_of(history, cell)
+}
+
+// Whether this is the next version of the cell, and nobody can read the slot.
+fn is_next(history: &[Event], cell: u64, slot: u64, version: u64) -> bool
+    ensures { IsTrue result ↔ IsClear history.now cell slot × (version ≡ version_of cell history.now + 1) }
+{
+    if version == 0 || version - 1 != version_of(history, cell) {
+        return false;
+    }
+    is_clear(history, cell, slot)
+}
+
+// Whether nobody can read the slot.
+fn is_clear(history: &[Event], cell: u64, slot: u64) -> bool
+    ensures { IsTrue result ↔ IsClear history.now cell slot }
+{
+    if slot == slot_of(history, cell) {
+        return false;
+    }
+    !is_found(history, cell, slot)
+}
+
+// Whether an open section has found the slot.
+fn is_found(history: &[Event], cell: u64, slot: u64) -> bool
+    ensures { IsTrue result ↔ (s : ℕ) × IsOpen history.now s × (0 < finds_of s cell slot history.now) }
+{
+    for event in history {
+        if is_reading(history, cell, slot, *event) {
+            return true;
+        }
+    }
+    false
+}
+
+// Whether the event is a Find of the slot, and its section is open.
+fn is_reading(history: &[Event], cell: u64, slot: u64, event: Event) -> bool
+    ensures { IsTrue result ↔ (s : ℕ) × IsOpen history.now s × (finds s cell slot event ≡ true) }
+{
+    match event {
+        Event::Find {
+            section,
+            cell: read,
+            slot: found,
+            ..
+        } => read == cell && found == slot && is_open(history, section),
+        _ => false,
+    }
+}
+
+// The slot that is current in the cell.
+fn slot_of(history: &[Event], cell: u64) -> u64
+    ensures { result ≡ slot_of cell history.now }
+{
+    history
+        .iter()
+        .fold(0, |slot, event| slot_after(cell, slot, *event))
+}
+
+// The version that is current in the cell.
+fn version_of(history: &[Event], cell: u64) -> u64
+    ensures { result ≡ version_of cell history.now }
+{
+    history
+        .iter()
+        .fold(0, |version, event| version_after(cell, version, *event))
+}
+
+fn slot_after(cell: u64, before: u64, event: Event) -> u64
+    ensures { result ≡ slot_after cell before event }
+{
+    match event {
+        Event::Put {
+            cell: written,
+            slot,
+            ..
+        } if written == cell => slot,
+        _ => before,
+    }
+}
+
+fn version_after(cell: u64, before: u64, event: Event) -> u64
+    ensures { result ≡ version_after cell before event }
+{
+    match event {
+        Event::Put {
+            cell: written,
+            version,
+            ..
+        } if written == cell => version,
+        _ => before,
+    }
 }
 
 fn begins_of(history: &[Event], section: u64) -> usize

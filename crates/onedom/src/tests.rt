@@ -39,6 +39,25 @@ fn ask(cookie: u64, done: bool) -> Event {
     }
 }
 
+fn find(section: u64, slot: u64, version: u64) -> Event {
+    Event::Find {
+        section,
+        cell: 1,
+        slot,
+        version,
+        by: READER,
+    }
+}
+
+fn put(slot: u64, version: u64) -> Event {
+    Event::Put {
+        cell: 1,
+        slot,
+        version,
+        by: READER,
+    }
+}
+
 #[test]
 fn one_domain(rt: HostRuntime) -> Result<(), Fail> {
     let events = [begin(0), START, begin(1), end(0)];
@@ -212,6 +231,70 @@ fn answers_to_cookies(rt: HostRuntime) -> Result<(), Fail> {
     Ok(())
 }
 
+// Only an open section finds something, and just what is current. The next version goes into a slot that is not current
+// and that no open section has found, and cells have nothing to do with each other.
+#[test]
+fn versions_in_cells(rt: HostRuntime) -> Result<(), Fail> {
+    let wrong_find = Err(Illegal::WrongFind);
+    let wrong_put = Err(Illegal::WrongPut);
+    let other_cell = Event::Put {
+        cell: 0,
+        slot: 5,
+        version: 1,
+        by: READER,
+    };
+    let steps = [
+        (find(0, 0, 0), Err(Illegal::NotOpen)),
+        (begin(0), Ok(())),
+        (find(0, 1, 0), wrong_find),
+        (find(0, 0, 1), wrong_find),
+        (find(0, 0, 0), Ok(())),
+        (put(0, 1), wrong_put),
+        (put(1, 0), wrong_put),
+        (put(1, 2), wrong_put),
+        (put(1, 1), Ok(())),
+        (find(0, 0, 0), wrong_find),
+        (put(0, 2), wrong_put),
+        (put(1, 2), wrong_put),
+        (other_cell, Ok(())),
+        (put(2, 2), Ok(())),
+        (begin(1), Ok(())),
+        (find(1, 2, 2), Ok(())),
+        (end(0), Ok(())),
+        (find(0, 2, 2), Err(Illegal::NotOpen)),
+        (put(0, 3), Ok(())),
+        (put(2, 4), wrong_put),
+        (put(1, u64::MAX), wrong_put),
+        (put(1, 4), Ok(())),
+        (end(1), Ok(())),
+        (put(2, 5), Ok(())),
+    ];
+    let accepted = [
+        begin(0),
+        find(0, 0, 0),
+        put(1, 1),
+        other_cell,
+        put(2, 2),
+        begin(1),
+        find(1, 2, 2),
+        end(0),
+        put(0, 3),
+        put(1, 4),
+        end(1),
+        put(2, 5),
+    ];
+    let mut domain = OneDomain::new(rt.alloc());
+    for (event, answer) in steps {
+        assert_eq!(rt; domain.apply(event), answer);
+    }
+    assert_eq!(rt; domain.history(), accepted.as_slice());
+
+    assert_eq!(rt; legal(rt.alloc(), &accepted), Ok(true));
+    assert_eq!(rt; legal(rt.alloc(), &[put(1, 1), put(1, 2)]), Ok(false));
+    assert_eq!(rt; legal(rt.alloc(), &[put(1, 1), put(0, 2)]), Ok(true));
+    Ok(())
+}
+
 // A domain that gives up after some events, at an index or at a processor, would meet the contract too.
 #[test]
 fn many_sections(rt: HostRuntime) -> Result<(), Fail> {
@@ -267,6 +350,8 @@ fn refusals_outside(rt: HostRuntime) -> Result<(), Fail> {
             7,
             "that is not the answer to this cookie",
         ),
+        (Illegal::WrongFind, 8, "that is not current in the cell"),
+        (Illegal::WrongPut, 9, "that can't be put into the cell"),
         (Illegal::Memory, 10, "out of memory"),
     ];
     for (cause, number, text) in table {

@@ -7,7 +7,7 @@ use Rattle.sseq.specs.declared.index.Index.{Index}
 use Rattle.sseq.specs.declared.index.Index.TheVariants.{Zero, One}
 use Rattle.sseq.specs.Indexes.{index_number}
 use Rattle.onedom.specs.declared.event.Event.{Event}
-use Rattle.onedom.specs.declared.event.Event.TheVariants.{Begin, End, Start, Finish, Note, Ask}
+use Rattle.onedom.specs.declared.event.Event.TheVariants.{Begin, End, Start, Finish, Note, Ask, Find, Put}
 use Rattle.onedom.specs.Histories.{IsOpen, index_of, IsLegal, IsBeginning}
 use Rattle.onedom.proofs.CallerLemmas.{legal_after_append, open_begun, index_of_begun, legal_beginning, beginning_append, beginning_refl, beginning_trans}
 use Rattle.sections.specs.Words.{locks_at, locks, all_locks, all_unlocks}
@@ -64,6 +64,8 @@ module _ (n : ℕ) (i : Index) (first : List Event) (most : ℕ) where
   begun_later front (Finish by ∷ es) since legal low high = on front (Finish by) es since legal (λ _. refl) low high (begun_later (front ++ Finish by ∷ []) es)
   begun_later front (Note c by ∷ es) since legal low high = on front (Note c by) es since legal (λ _. refl) low high (begun_later (front ++ Note c by ∷ []) es)
   begun_later front (Ask c b by ∷ es) since legal low high = on front (Ask c b by) es since legal (λ _. refl) low high (begun_later (front ++ Ask c b by ∷ []) es)
+  begun_later front (Find u d x v by ∷ es) since legal low high = on front (Find u d x v by) es since legal (λ _. refl) low high (begun_later (front ++ Find u d x v by ∷ []) es)
+  begun_later front (Put d x v by ∷ es) since legal low high = on front (Put d x v by) es since legal (λ _. refl) low high (begun_later (front ++ Put d x v by ∷ []) es)
 
 pub open_between : (n : ℕ) (i : Index) (first history : List Event) → IsBeginning first history → IsLegal history → All (HasItsMaker n) history → all_unlocks n i first < all_locks n i history → OpenBetween i first history
 open_between n i first history since legal makers more = dite (dec_le (all_locks n i first) (all_unlocks n i first))

@@ -8,7 +8,7 @@ use Rattle.onedom.specs.declared.event.Event.{Event}
 use Rattle.onedom.specs.Histories.{starts_in, WasEmpty, IsEmpty, IsBeginning}
 use Rattle.onedom.proofs.CallerLemmas.{beginning_refl, beginning_trans, legal_beginning, length_grows, empty_grows, count_append, count_cons}
 use Rattle.sections.specs.declared.view.Step.{Step}
-use Rattle.sections.specs.declared.view.Step.TheVariants.{LoadIndex, LoadUnlocks, LoadLocks, AddIndex, AddNumber}
+use Rattle.sections.specs.declared.view.Step.TheVariants.{LoadIndex, LoadUnlocks, LoadLocks, AddIndex, AddNumber, LoadWord}
 use Rattle.sections.specs.Words.{index_word, locks, unlocks, sum_below, all_locks, all_unlocks, IsBeforeFlip, IsBehindFlip}
 use Rattle.sections.specs.Views.{EngineView}
 use Rattle.sections.specs.EngineCalls.{IsSeenByEngine, TakesStep, CountsUnlocks, CountsLocks}
@@ -36,6 +36,7 @@ seen_at_first loads (LoadLocks q j n m ∷ b) i found seen rest is = ap (pick m 
 seen_at_first loads (LoadIndex n ∷ b) i found seen rest is = seen_at_first loads b i found seen rest is
 seen_at_first loads (AddIndex n ∷ b) i found seen rest is = seen_at_first loads b i found seen rest is
 seen_at_first loads (AddNumber n ∷ b) i found seen rest is = seen_at_first loads b i found seen rest is
+seen_at_first loads (LoadWord c v x m ∷ b) i found seen rest is = seen_at_first loads b i found seen rest is
 
 pub began_seen : (loads : ℕ) (e : EngineView) (first : List Event) → BeganScan loads e first → seen_at_load loads e.steps ≡ length first
 began_seen loads e first b = ap (seen_at_load loads) b.steps ∙ seen_at_first loads b.before (not_current e.changes) b.found (length first) b.rest b.count
@@ -47,6 +48,7 @@ seen_none loads (LoadLocks q j n m ∷ b) none = absurd (let c = count_cons is_c
 seen_none loads (LoadIndex n ∷ b) none = seen_none loads b (let c = count_cons is_counter_load (LoadIndex n) b in omega (arith, none, c))
 seen_none loads (AddIndex n ∷ b) none = seen_none loads b (let c = count_cons is_counter_load (AddIndex n) b in omega (arith, none, c))
 seen_none loads (AddNumber n ∷ b) none = seen_none loads b (let c = count_cons is_counter_load (AddNumber n) b in omega (arith, none, c))
+seen_none loads (LoadWord c v x m ∷ b) none = seen_none loads b (let c = count_cons is_counter_load (LoadWord c v x m) b in omega (arith, none, c))
 
 -- what is no load of a counter changes nothing of it
 pub seen_still : (loads : ℕ) (steps extra : List Step) → counter_loads extra ≡ 0 → seen_at_load loads (steps ++ extra) ≡ seen_at_load loads steps
@@ -56,6 +58,7 @@ seen_still loads (LoadLocks q j n m ∷ b) extra none = let same : counter_loads
 seen_still loads (LoadIndex n ∷ b) extra none = seen_still loads b extra none
 seen_still loads (AddIndex n ∷ b) extra none = seen_still loads b extra none
 seen_still loads (AddNumber n ∷ b) extra none = seen_still loads b extra none
+seen_still loads (LoadWord c v x m ∷ b) extra none = seen_still loads b extra none
 
 first_as : (since since' so_far began : ℕ) (seen seen' : List Event) → since' ≡ since → FirstLoaded since so_far began seen seen' → FirstLoaded since' so_far began seen seen'
 first_as since since' so_far began seen seen' is h = subst (λ n. FirstLoaded n so_far began seen seen') (sym is) h

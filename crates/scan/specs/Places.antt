@@ -4,7 +4,7 @@ use Rattle.sseq.specs.declared.index.Index.{Index}
 use Rattle.onedom.specs.declared.event.Event.{Event}
 use Rattle.onedom.specs.Histories.{starts_in, WasEmpty, IsBeginning}
 use Rattle.sections.specs.declared.view.Step.{Step}
-use Rattle.sections.specs.declared.view.Step.TheVariants.{LoadIndex, LoadUnlocks, LoadLocks, AddIndex, AddNumber}
+use Rattle.sections.specs.declared.view.Step.TheVariants.{LoadIndex, LoadUnlocks, LoadLocks, AddIndex, AddNumber, LoadWord}
 use Rattle.sections.specs.Words.{number_word, locks, unlocks, sum_below, all_unlocks, IsIdle, IsBeforeFlip, IsFlipping, IsBehindFlip}
 use Rattle.sections.specs.Views.{EngineView}
 use Rattle.sections.specs.EngineCalls.{IsSeenByEngine, IsSameEngine}
@@ -31,6 +31,7 @@ seen_at_load loads (LoadLocks p i found seen ∷ rest) = if counter_loads rest +
 seen_at_load loads (LoadIndex n ∷ rest) = seen_at_load loads rest
 seen_at_load loads (AddIndex n ∷ rest) = seen_at_load loads rest
 seen_at_load loads (AddNumber n ∷ rest) = seen_at_load loads rest
+seen_at_load loads (LoadWord c v x n ∷ rest) = seen_at_load loads rest
 
 -- how long it was at the first load of the scan
 abbrev pub began : EngineView → Place → ℕ

@@ -6,7 +6,7 @@ use Rattle.onedom.specs.declared.event.Event.{Event}
 use Rattle.onedom.specs.declared.event.Event.TheVariants.{Start}
 use Rattle.onedom.specs.Histories.{IsRunning}
 use Rattle.sections.specs.declared.view.Step.{Step}
-use Rattle.sections.specs.declared.view.Step.TheVariants.{LoadIndex, LoadUnlocks, LoadLocks, AddIndex, AddNumber}
+use Rattle.sections.specs.declared.view.Step.TheVariants.{LoadIndex, LoadUnlocks, LoadLocks, AddIndex, AddNumber, LoadWord}
 use Rattle.sections.specs.Views.{EngineView}
 use Rattle.sections.specs.EngineCalls.{IsSeenByEngine, IsSameEngine, AddsEngineEvent}
 use Rattle.scan.specs.declared.progress.Progress.{Progress}
@@ -39,6 +39,7 @@ IsStepAt processors so_far i (LoadLocks p j found seen) = (p + processors ≡ so
 IsStepAt processors so_far i (AddIndex n) = so_far ≡ 2 * processors
 IsStepAt processors so_far i (AddNumber n) = so_far ≡ 2 * processors + 1
 IsStepAt processors so_far i (LoadIndex n) = ⊥
+IsStepAt processors so_far i (LoadWord c v x n) = ⊥
 
 -- as many loads of counters as a scan makes were the last ones, the first of them of this index, when the history was `since` long
 pub record HasScanned (i : Index) (since : ℕ) (e : EngineView) : Type 0 where

@@ -6,7 +6,7 @@ use Rattle.sseq.specs.declared.index.Index.{Index}
 use Rattle.sseq.specs.Indexes.{same_index}
 use Rattle.onedom.specs.declared.event.Maker.{Maker}
 use Rattle.onedom.specs.declared.event.Event.{Event}
-use Rattle.onedom.specs.declared.event.Event.TheVariants.{Begin, End, Start, Finish, Note, Ask}
+use Rattle.onedom.specs.declared.event.Event.TheVariants.{Begin, End, Start, Finish, Note, Ask, Find, Put}
 use Rattle.onedom.specs.Histories.{maker_of, same_maker, made_by, index_of, is_start, is_finish, starts_in, IsRunning}
 use Rattle.onedom.specs.declared.event.Maker.TheVariants.{Engine}
 use Rattle.onedom.proofs.CallerLemmas.{bit, count_cons, starts_in_push, ended_in_push}
@@ -157,6 +157,8 @@ not_started n (Start by) has other = let w : true ≡ false = ap (λ m. same_mak
 not_started n (Finish by) has other = refl
 not_started n (Note c by) has other = refl
 not_started n (Ask c b by) has other = refl
+not_started n (Find u d x v by) has other = refl
+not_started n (Put d x v by) has other = refl
 
 starts_case : (e : Event) (es mine : List Event) (b : Bool) → (b ≡ false → is_start e ≡ false) → starts_in mine ≡ starts_in es → starts_in (cond b (e ∷ mine) mine) ≡ starts_in (e ∷ es)
 starts_case e es mine true h r = count_cons is_start e mine ∙ (ap (λ k. bit (is_start e) + k) r ∙ sym (count_cons is_start e es))

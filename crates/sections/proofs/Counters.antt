@@ -9,7 +9,7 @@ use Rattle.sseq.specs.declared.index.Index.TheVariants.{Zero, One}
 use Rattle.sseq.specs.Indexes.{index_number, same_index}
 use Rattle.onedom.specs.declared.event.Maker.TheVariants.{Processor}
 use Rattle.onedom.specs.declared.event.Event.{Event}
-use Rattle.onedom.specs.declared.event.Event.TheVariants.{Begin, End, Start, Finish, Note, Ask}
+use Rattle.onedom.specs.declared.event.Event.TheVariants.{Begin, End, Start, Finish, Note, Ask, Find, Put}
 use Rattle.onedom.specs.Histories.{ends, section_begun, index_of, MayFollow, IsLegal, maker_of, same_maker, made_by, open_sections, IsBeginning}
 use Rattle.onedom.proofs.CallerLemmas.{bit, count_push, count_cons, along, no_ends, count_grows, one_more_open, one_less_open, same_open_plain, open_once}
 use Rattle.sections.specs.Words.{locks_at, locks, unlocks_at, unlocks_after, unlocks, sum_below, is_begin, is_end}
@@ -78,6 +78,8 @@ not_mine n p i (Start by) has other = refl
 not_mine n p i (Finish by) has other = refl
 not_mine n p i (Note c by) has other = refl
 not_mine n p i (Ask c b by) has other = refl
+not_mine n p i (Find u d x v by) has other = refl
+not_mine n p i (Put d x v by) has other = refl
 
 locks_case : (p : ℕ) (i : Index) (e : Event) (es mine : List Event) (b : Bool) → (b ≡ false → locks_at p i e ≡ false) → locks p i mine ≡ locks p i es → locks p i (cond b (e ∷ mine) mine) ≡ locks p i (e ∷ es)
 locks_case p i e es mine true h r = count_cons (locks_at p i) e mine ∙ (ap (λ n. bit (locks_at p i e) + n) r ∙ sym (count_cons (locks_at p i) e es))
@@ -103,6 +105,8 @@ balances_push log (Start by) legal may h = balances_plain log (Start by) refl (�
 balances_push log (Finish by) legal may h = balances_plain log (Finish by) refl (λ _. refl) refl refl h
 balances_push log (Note c by) legal may h = balances_plain log (Note c by) refl (λ _. refl) refl refl h
 balances_push log (Ask c b by) legal may h = balances_plain log (Ask c b by) refl (λ _. refl) refl refl h
+balances_push log (Find u d x v by) legal may h = balances_plain log (Find u d x v by) refl (λ _. refl) refl refl h
+balances_push log (Put d x v by) legal may h = balances_plain log (Put d x v by) refl (λ _. refl) refl refl h
 
 -- those that have ended and those that are open were begun
 pub balances : (log : List Event) → IsLegal log → Balances log
@@ -154,6 +158,10 @@ begun_somewhere n (Note k by ∷ es) all = let rest = begun_somewhere n es (All-
     let up = sum_le (λ p. both p es) (λ p. both p (Note k by ∷ es)) n (λ p. both_cons p (Note k by) es) in omega (arith, rest, c, up)
 begun_somewhere n (Ask k b by ∷ es) all = let rest = begun_somewhere n es (All-tail (HasItsMaker n) (Ask k b by) es all) in let c = count_cons is_begin (Ask k b by) es in
     let up = sum_le (λ p. both p es) (λ p. both p (Ask k b by ∷ es)) n (λ p. both_cons p (Ask k b by) es) in omega (arith, rest, c, up)
+begun_somewhere n (Find u d x v by ∷ es) all = let rest = begun_somewhere n es (All-tail (HasItsMaker n) (Find u d x v by) es all) in let c = count_cons is_begin (Find u d x v by) es in
+    let up = sum_le (λ p. both p es) (λ p. both p (Find u d x v by ∷ es)) n (λ p. both_cons p (Find u d x v by) es) in omega (arith, rest, c, up)
+begun_somewhere n (Put d x v by ∷ es) all = let rest = begun_somewhere n es (All-tail (HasItsMaker n) (Put d x v by) es all) in let c = count_cons is_begin (Put d x v by) es in
+    let up = sum_le (λ p. both p es) (λ p. both p (Put d x v by ∷ es)) n (λ p. both_cons p (Put d x v by) es) in omega (arith, rest, c, up)
 
 unlocks_at_end : (q : ℕ) (i : Index) (before : List Event) (e : Event) → bit (unlocks_at q i before e) ≤ bit (is_end e)
 unlocks_at_end q i before (Begin s p j by) = omega arith
@@ -166,6 +174,8 @@ unlocks_at_end q i before (Start by) = omega arith
 unlocks_at_end q i before (Finish by) = omega arith
 unlocks_at_end q i before (Note c by) = omega arith
 unlocks_at_end q i before (Ask c b by) = omega arith
+unlocks_at_end q i before (Find u d x v by) = omega arith
+unlocks_at_end q i before (Put d x v by) = omega arith
 
 unlocks_are_ends : (q : ℕ) (i : Index) (before log : List Event) → unlocks_after q i before log ≤ count_by is_end log
 unlocks_are_ends q i before [] = omega arith

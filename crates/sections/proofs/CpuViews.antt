@@ -31,7 +31,7 @@ use Rattle.sections.proofs.Deeds.{cpu_makes}
 use Rattle.sections.proofs.Counters.{locks_push, locks_here, elsewhere, index_low, index_number_same}
 
 abbrev pub seen_as : TableId → ℕ → ℕ → ℕ → View → CpuView
-seen_as d n limit p v = record { domain = d; processors = n; sections = limit; processor = p; seen = v.seen; changes = v.changes; mine = v.mine; steps = steps_of (Processor p) v.done }
+seen_as d n limit p v = record { domain = d; processors = n; sections = limit; processor = p; seen = v.seen; changes = v.changes; texts = v.texts; mine = v.mine; steps = steps_of (Processor p) v.done }
 
 -- What was seen
 
@@ -58,6 +58,7 @@ loads_from l d d' n limit p v w same sized is h = record {
   steps = h.steps (Processor p) (cpu_makes p v.role is);
   since = h.since;
   later = h.later;
+  texts = h.texts.since;
   history = history_of n p w (h.processors ∙ sized) (h.role ∙ is) h.sound;
 }
 
@@ -74,10 +75,11 @@ adds_event e d d' n limit p v o j w same sized is joined h =
       seen = a.seen;
       since = a.since;
       later = a.later;
-      covers = (All-head (λ m. GoesOn m (record { history = a.before; changes = w.changes })) (moment_of o) v.told a.covers).history;
-      not_before = (All-head (λ m. GoesOn m (record { history = a.before; changes = w.changes })) (moment_of o) v.told a.covers).changes;
+      covers = (All-head (λ m. GoesOn m (record { history = a.before; changes = w.changes; texts = [] })) (moment_of o) v.told a.covers).history;
+      not_before = (All-head (λ m. GoesOn m (record { history = a.before; changes = w.changes; texts = [] })) (moment_of o) v.told a.covers).changes;
       mine = a.mine;
       steps = ap (steps_of (Processor p)) a.done;
+      texts = a.texts.since;
       history = history_of n p w (a.processors ∙ sized) (a.role ∙ is) a.sound;
     }
 
@@ -99,6 +101,7 @@ adds_alone e d d' n limit p v w w' same sized is cut a =
       not_before = a.later;
       mine = a.mine;
       steps = ap (steps_of (Processor p)) a.done;
+      texts = a.texts.since;
       history = history_of n p w (a.processors ∙ sized) (a.role ∙ is) a.sound;
     }
 

@@ -1,5 +1,5 @@
 -- Each step of the engine's seat keeps the rule.
-use Rattle.std.proofs.Common.{◌≡◌, ℕ, ◌+◌, ◌*◌, ◌%◌, ◌^◌, ◌<◌, ◌≤◌, true, false, List, [], ◌∷◌, ◌++◌, All, Option, length, get_or, set, refl, sym, ap, ◌∙◌, subst, arith}
+use Rattle.std.proofs.Common.{◌≡◌, ℕ, ◌+◌, ◌*◌, ◌%◌, ◌^◌, ◌<◌, ◌≤◌, true, false, List, [], ◌∷◌, ◌++◌, All, Option, None, ◌⊎◌, inl, length, get_or, set, refl, sym, ap, ◌∙◌, subst, arith}
 use Rattle.std.proofs.lemmas.List.Elements.{All-nil}
 use mathlib.Core.Option.{none}
 use Rattle.atomic_table.specs.Table.{State, step, keeps, stepped, Allows}
@@ -18,10 +18,13 @@ use Rattle.sections.specs.declared.view.Step.TheVariants.{LoadUnlocks, LoadLocks
 use Rattle.sections.specs.declared.view.View.{View}
 use Rattle.sections.specs.Words.{index_place, number_place, lock_place, unlock_place, locks_at, locks, unlocks_at, unlocks, all_locks, index_word, number_word, IsIdle, IsBeforeFlip, IsFlipping, IsBehindFlip, Reaches, Agree}
 use Rattle.sections.specs.Rule.{HasItsMaker, GoesOn, IsTrueOf, IsMaker, Makes, Fits, Kept}
+use Rattle.sections.specs.declared.view.Text.{Text}
+use Rattle.sections.specs.Shelves.{put_cell, IsTrueWord, KeepsShelf}
 use Rattle.sections.specs.Plays.{Owns, Sees, Adds, Sat, counted_unlocks, counted_locks, started, flipped, moved_on, finished}
 use Rattle.sections.proofs.Counters.{locks_push, sum_most}
 use Rattle.sections.proofs.Agreement.{lock_places, unlock_places, agrees_numbered, agrees_flipped, locks_not_at, unlocks_not_at, reaches_started, reaches_finished, reaches_on, idle_not_running, busy_running}
-use Rattle.sections.proofs.Knowing.{now, told_later, views_set, has_stays, fits_later, makes_later, has_later, knows_all, owns_from_makes, false≠true}
+use Rattle.sections.proofs.Knowing.{now, covers_as, told_later, views_set, has_stays, fits_later, makes_later, has_later, knows_all, owns_from_makes, false≠true}
+use Rattle.sections.proofs.Shelving.{same_set, texts_on, writes_on, writes_event, shelf_event, shelf_deed, knows_texts, fits_all}
 use Rattle.sections.proofs.Deeds.{deed, engine_makes, done_later, done_push, one_more_step}
 use Rattle.sections.proofs.Steps.{exact, loads_here, added, alone, each_more, sound_after}
 
@@ -32,12 +35,13 @@ record IsDriven (e : Event) : Type 0 where
   no_unlock : (before : List Event) (q : ℕ) (i : Index) → unlocks_at q i before e ≡ false
   no_end : (s : ℕ) → ends s e ≡ false
   maker : (n : ℕ) → HasItsMaker n e
+  no_put : put_cell e ≡ None
 
 start_driven : IsDriven (Start Engine)
-start_driven = record { by = refl; no_lock = λ _ _. refl; no_unlock = λ _ _ _. refl; no_end = λ _. refl; maker = λ _. refl }
+start_driven = record { by = refl; no_lock = λ _ _. refl; no_unlock = λ _ _ _. refl; no_end = λ _. refl; maker = λ _. refl; no_put = refl }
 
 finish_driven : IsDriven (Finish Engine)
-finish_driven = record { by = refl; no_lock = λ _ _. refl; no_unlock = λ _ _ _. refl; no_end = λ _. refl; maker = λ _. refl }
+finish_driven = record { by = refl; no_lock = λ _ _. refl; no_unlock = λ _ _ _. refl; no_end = λ _. refl; maker = λ _. refl; no_put = refl }
 
 known_on : (reached : ℕ → ℕ) (changes : ℕ) → ((p : ℕ) → reached p ≤ changes) → (p : ℕ) → reached p ≤ changes + 1
 known_on reached changes known p = let most = known p in omega (arith, most)
@@ -53,8 +57,8 @@ module _ (bounds : Bounds) where
   pub counts_unlocks : (slots id k : ℕ) (me : Sat) (m : Maker) (q : ℕ) (i : Index) → me.0.processors ≡ bounds.processors → IsMaker me.0.role m → q < bounds.processors → k ≡ unlock_place q i
       → Allows (Kept bounds) slots id me k (λ x. x) (counted_unlocks (step slots k 0 0 none) me)
   counts_unlocks slots id k me m q i sized is lt place = loads_here bounds slots id k me m (λ n h. LoadUnlocks q i n (length h)) (counted_unlocks (step slots k 0 0 none) me) is sized
-      (λ s r. (ap (λ z. get_or s.words z 0) place ∙ r.words.unlock_counters q i lt, refl))
-      (λ s r w at seen changes sees.
+      (λ s r _. ((ap (λ z. get_or s.words z 0) place ∙ r.words.unlock_counters q i lt, refl), tt))
+      (λ s r w at seen changes _ sees.
       let n : ℕ = get_or s.words k 0 in
       let found : n ≡ unlocks q i w.seen = ap (λ z. get_or s.words z 0) place ∙ (r.words.unlock_counters q i lt ∙ ap (unlocks q i) (sym seen)) in (
         refl,
@@ -66,8 +70,8 @@ module _ (bounds : Bounds) where
   pub counts_locks : (slots id k : ℕ) (me : Sat) (m : Maker) (q : ℕ) (i : Index) → me.0.processors ≡ bounds.processors → IsMaker me.0.role m → q < bounds.processors → k ≡ lock_place q i
       → Allows (Kept bounds) slots id me k (λ x. x) (counted_locks (step slots k 0 0 none) me)
   counts_locks slots id k me m q i sized is lt place = loads_here bounds slots id k me m (λ n h. LoadLocks q i n (length h)) (counted_locks (step slots k 0 0 none) me) is sized
-      (λ s r. (ap (λ z. get_or s.words z 0) place ∙ r.words.lock_counters q i lt, refl))
-      (λ s r w at seen changes sees.
+      (λ s r _. ((ap (λ z. get_or s.words z 0) place ∙ r.words.lock_counters q i lt, refl), tt))
+      (λ s r w at seen changes _ sees.
       let n : ℕ = get_or s.words k 0 in
       let found : n ≡ locks q i w.seen = ap (λ z. get_or s.words z 0) place ∙ (r.words.lock_counters q i lt ∙ ap (locks q i) (sym seen)) in (
         refl,
@@ -102,7 +106,7 @@ module _ (bounds : Bounds) where
       (λ p i. locks_not_at p i r.log e (driven.no_lock p i)) (λ q i. unlocks_not_at q i r.log e (driven.no_unlock r.log q i)) in
       let by_engine : same_maker (maker_of e) Engine ≡ true = ap (λ m. same_maker m Engine) driven.by ∙ same_maker_refl Engine in
       let mine' : v.mine ++ e ∷ [] ≡ made_by Engine log' = ap (λ l. l ++ e ∷ []) made.1 ∙ sym (made_by_own Engine r.log e by_engine) in
-      let w : View = record { processors = v.processors; role = v.role; mine = v.mine ++ e ∷ []; seen = log'; changes = changes'; told = []; right = v.right; shown = v.shown; done = v.done } in
+      let w : View = record { processors = v.processors; role = v.role; mine = v.mine ++ e ∷ []; seen = log'; changes = changes'; texts = r.shelf.texts; told = []; right = v.right; shown = v.shown; done = v.done } in
       let fits : Fits log' changes' r.seat_of r.reached r.holder r.engine id w = record {
         seen = beginning_refl log';
         knows = knows_all log' changes' r.seat_of r.reached r.holder r.engine id (known_on r.reached r.changes r.known) v.role;
@@ -121,7 +125,10 @@ module _ (bounds : Bounds) where
             (λ j ne m there. ap (λ o. same_maker o m) driven.by ∙ alone bounds r.seat_of r.engine id Engine made.0 j ne m there)
             (λ u hit. absurd (false≠true (sym (driven.no_end u) ∙ hit)))
             (λ u _. refl)
-            fits v at refl refl,
+            fits v at refl refl
+            (let same = same_set s.words k y (inl (omega arith)) in shelf_event s.words (set s.words k y) s.views r.log r.deeds id w e r.shelf same r.within.legal may.0 driven.no_put
+            (fits_all (set s.words k y) log' r.shelf.texts r.shelf.writer_of id w refl refl refl (texts_on r.shelf.texts r.log e driven.no_put r.shelf.shelved.cells)
+            (writes_event s.words (set s.words k y) r.log e r.shelf.writer_of id same driven.no_put v.right (r.shelf.each id v at).writes))),
         tells x w refl (ap (λ c. c + 1) (sym known)) record {
           before = r.log;
           seen = refl;
@@ -134,6 +141,7 @@ module _ (bounds : Bounds) where
           shown = refl;
           told = refl;
           done = refl;
+          texts = knows_texts s.words r.log r.shelf.texts r.shelf.writer_of id v w (r.shelf.each id v at) refl (texts_on r.shelf.texts r.log e driven.no_put r.shelf.shelved.cells);
           sound = sound_after bounds s r e v.processors v.role (v.mine ++ e ∷ []) changes' may.0 (driven.maker bounds.processors) sized may.1 (subst (λ (m : Role). Owns m (v.mine ++ e ∷ []) log') (sym is) mine');
         },
       )
@@ -161,8 +169,9 @@ module _ (bounds : Bounds) where
 
   -- the rule after a change of a word
   changed : (s : State (Option ℕ) View) (r : Kept bounds s) (id k x : ℕ) (cs : List (ℕ × Option ℕ)) (w : View) (l : Step) → IsTrueOf (now r.log (r.changes + 1)) l → w.done ≡ r.deeds ++ deed Engine l (now r.log (r.changes + 1)) ∷ [] → Agree bounds.processors (set s.words k x) r.log (r.changes + 1) → r.changes + 1 ≤ 4 * bounds.periods → r.engine ≡ id
-      → Fits r.log (r.changes + 1) r.seat_of r.reached r.holder r.engine id w → Kept bounds (stepped s k x id cs w keeps)
-  changed s r id k x cs w l is all agree most here fits = record {
+      → Fits r.log (r.changes + 1) r.seat_of r.reached r.holder r.engine id w
+      → KeepsShelf (set s.words k x) (set s.views id w) r.log (r.deeds ++ deed Engine l (now r.log (r.changes + 1)) ∷ []) → Kept bounds (stepped s k x id cs w keeps)
+  changed s r id k x cs w l is all agree most here fits shelf = record {
     log = r.log;
     changes = r.changes + 1;
     seat_of = r.seat_of;
@@ -178,17 +187,19 @@ module _ (bounds : Bounds) where
     deeds = r.deeds ++ deed Engine l (now r.log (r.changes + 1)) ∷ [];
     done = done_push r.deeds Engine l (now r.log (r.changes + 1)) is (done_later r.deeds (now r.log r.changes) (now r.log (r.changes + 1)) (record { history = beginning_refl r.log; changes = omega arith }) r.done);
     each_done = each_more bounds s r id (deed Engine l (now r.log (r.changes + 1))) w here all;
+    shelf = shelf;
   }
 
   -- an addition of 1 that is no event
   changes_here : (slots id k : ℕ) (me : Sat) (d : ℕ) (word : ℕ → ℕ) (l : ℕ → Step) (told_of : ℕ → Sat → Type 0) → me.0.processors ≡ bounds.processors → me.0.role ≡ Driver d
       → ((log : List Event) (changes n : ℕ) → n ≡ word changes → IsTrueOf (now log changes) (l n))
+      → (k < 32) ⊎ (608 ≤ k) → ((log : List Event) (texts : List Text) (n : ℕ) → IsTrueWord log texts (l n))
       → word me.0.changes < 2 ^ 62 → 0 < me.0.changes % 4 → me.0.changes % 4 < 3 → word (me.0.changes + 1) ≡ word me.0.changes + 1
       → ((s : State (Option ℕ) View) (r : Kept bounds s) → (get_or s.words k 0 ≡ word r.changes)
       × ((y : ℕ) → y ≡ word (r.changes + 1) → r.changes ≡ me.0.changes → Agree bounds.processors (set s.words k y) r.log (r.changes + 1)))
       → ((n : ℕ) (w : View) → w.changes ≡ me.0.changes + 1 → n + 1 ≡ word w.changes → Sees (l (n + 1)) me.0 w → told_of n (w, me.1))
       → Allows (Kept bounds) slots id me k (λ x. (x + 1) % 2 ^ 64) told_of
-  changes_here slots id k me d word l told_of sized is true_of small busy few grows agrees tells s r _ at _ =
+  changes_here slots id k me d word l told_of sized is true_of aside no_word small busy few grows agrees tells s r _ at _ =
       let v : View = me.0 in
       let f = r.each_view id v at in
       let known : v.changes ≡ r.changes = exact bounds s r id v d at is in
@@ -202,7 +213,7 @@ module _ (bounds : Bounds) where
       let one : x + 1 ≡ word changes' = omega (arith, found, grows, next) in
       let most = r.within.periods in
       let reached = reaches_on r.changes r.log (omega (arith, known, busy)) (omega (arith, known, few)) r.words.reaches in
-      let w : View = record { processors = v.processors; role = v.role; mine = v.mine; seen = r.log; changes = changes'; told = []; right = v.right; shown = v.shown; done = r.deeds ++ deed Engine (l (x + 1)) (now r.log changes') ∷ [] } in
+      let w : View = record { processors = v.processors; role = v.role; mine = v.mine; seen = r.log; changes = changes'; texts = r.shelf.texts; told = []; right = v.right; shown = v.shown; done = r.deeds ++ deed Engine (l (x + 1)) (now r.log changes') ∷ [] } in
       let fits : Fits r.log changes' r.seat_of r.reached r.holder r.engine id w = record {
         seen = beginning_refl r.log;
         knows = knows_all r.log changes' r.seat_of r.reached r.holder r.engine id (known_on r.reached r.changes r.known) v.role;
@@ -214,7 +225,9 @@ module _ (bounds : Bounds) where
         w,
         keeps,
         tt,
-        changed s r id k y me.1 w (l (x + 1)) (true_of r.log changes' (x + 1) one) refl ((agrees s r).1 y up (sym known)) (omega (arith, most, known, busy, few)) made.0 fits,
+        changed s r id k y me.1 w (l (x + 1)) (true_of r.log changes' (x + 1) one) refl ((agrees s r).1 y up (sym known)) (omega (arith, most, known, busy, few)) made.0 fits
+            (let same = same_set s.words k y aside in shelf_deed s.words (set s.words k y) s.views r.log r.deeds id w (deed Engine (l (x + 1)) (now r.log changes')) r.shelf same (no_word r.log r.shelf.texts (x + 1))
+            (fits_all (set s.words k y) r.log r.shelf.texts r.shelf.writer_of id w refl refl refl r.shelf.shelved.cells (writes_on s.words (set s.words k y) r.log r.log r.shelf.writer_of id same (beginning_refl r.log) (λ c. refl) v.right (r.shelf.each id v at).writes))),
         tells x w (ap (λ c. c + 1) (sym known)) one record {
           processors = refl;
           role = refl;
@@ -225,7 +238,8 @@ module _ (bounds : Bounds) where
           steps = one_more_step v.role Engine (l (x + 1)) (now r.log changes') v.done r.deeds (engine_makes d v.role is) (r.each_done id v at).own;
           since = f.seen;
           later = omega (arith, known);
-          covers = told_later v.told r.log r.changes changes' (omega arith) f.told;
+          covers = covers_as v.told r.log changes' r.shelf.texts (told_later v.told r.log r.changes changes' (omega arith) f.told);
+          texts = knows_texts s.words r.log r.shelf.texts r.shelf.writer_of id v w (r.shelf.each id v at) refl r.shelf.shelved.cells;
           sound = record {
             legal = r.within.legal;
             makers = subst (λ (z : ℕ). All (HasItsMaker z) r.log) (sym sized) r.within.makers;
@@ -237,12 +251,12 @@ module _ (bounds : Bounds) where
 
   pub flips_here : (slots id : ℕ) (me : Sat) (d : ℕ) → me.0.processors ≡ bounds.processors → me.0.role ≡ Driver d → IsBeforeFlip me.0.changes → number_word me.0.changes < 2 ^ 62
       → Allows (Kept bounds) slots id me index_place (λ x. (x + 1) % 2 ^ 64) (flipped (step slots index_place 1 0 none) me)
-  flips_here slots id me d sized is before small = changes_here slots id index_place me d index_word AddIndex (flipped (step slots index_place 1 0 none) me) sized is (λ _ _ _ e. e) (omega (arith, small, before)) (omega (arith, before)) (omega (arith, before)) (omega (arith, before))
+  flips_here slots id me d sized is before small = changes_here slots id index_place me d index_word AddIndex (flipped (step slots index_place 1 0 none) me) sized is (λ _ _ _ e. e) (inl (omega arith)) (λ _ _ _. tt) (omega (arith, small, before)) (omega (arith, before)) (omega (arith, before)) (omega (arith, before))
       (λ s r. (r.words.index, λ y is' same. agrees_flipped bounds.processors s.words r.log r.changes r.words y (reaches_on r.changes r.log (omega (arith, same, before)) (omega (arith, same, before)) r.words.reaches) is' (omega (arith, same, before))))
       (λ n w changes one sees. (refl, changes, sees, one))
 
   pub moves_on_here : (slots id : ℕ) (me : Sat) (d : ℕ) → me.0.processors ≡ bounds.processors → me.0.role ≡ Driver d → IsFlipping me.0.changes → number_word me.0.changes < 2 ^ 62
       → Allows (Kept bounds) slots id me number_place (λ x. (x + 1) % 2 ^ 64) (moved_on (step slots number_place 1 0 none) me)
-  moves_on_here slots id me d sized is flipping small = changes_here slots id number_place me d number_word AddNumber (moved_on (step slots number_place 1 0 none) me) sized is (λ _ _ _ e. e) small (omega (arith, flipping)) (omega (arith, flipping)) (omega (arith, flipping))
+  moves_on_here slots id me d sized is flipping small = changes_here slots id number_place me d number_word AddNumber (moved_on (step slots number_place 1 0 none) me) sized is (λ _ _ _ e. e) (inl (omega arith)) (λ _ _ _. tt) small (omega (arith, flipping)) (omega (arith, flipping)) (omega (arith, flipping))
       (λ s r. (r.words.number, λ y is' same. agrees_numbered bounds.processors s.words r.log r.changes r.words y r.log (reaches_on r.changes r.log (omega (arith, same, flipping)) (omega (arith, same, flipping)) r.words.reaches) (omega (arith, same, flipping)) is' (λ _ _. refl) (λ _ _. refl)))
       (λ n w changes one sees. (refl, changes, sees, one))

@@ -10,14 +10,17 @@ use Rattle.onedom.specs.declared.event.Maker.{Maker}
 use Rattle.onedom.specs.declared.event.Maker.TheVariants.{Processor, Engine}
 use Rattle.onedom.specs.declared.event.Event.{Event}
 use Rattle.onedom.specs.declared.event.Event.TheVariants.{Ask}
-use Rattle.onedom.specs.Histories.{IsLegal, MayFollow, maker_of, same_maker, made_by, IsBeginning}
-use Rattle.onedom.proofs.CallerLemmas.{legal_push, made_by_other, same_maker_refl, same_maker_false, beginning_empty, beginning_refl, beginning_push, beginning_by_length, beginning_made_by}
+use Rattle.onedom.specs.Histories.{IsLegal, version_of, MayFollow, maker_of, same_maker, made_by, IsBeginning}
+use Rattle.onedom.proofs.CallerLemmas.{version_kept, legal_push, made_by_other, same_maker_refl, same_maker_false, beginning_empty, beginning_refl, beginning_push, beginning_by_length, beginning_made_by}
 use Rattle.sections.specs.declared.view.Bounds.{Bounds}
 use Rattle.sections.specs.declared.view.Role.{Role}
 use Rattle.sections.specs.declared.view.Role.TheVariants.{Bearer, Cpu, Driver}
 use Rattle.sections.specs.declared.view.View.{View}
 use Rattle.sections.specs.Words.{locks, Agree}
 use Rattle.sections.specs.Rule.{HasItsMaker, IsProcessor, GoesOn, StandsFor, HasDone, Makes, Knows, Fits, Kept, spent}
+use Rattle.sections.specs.declared.view.Text.{Text}
+use Rattle.sections.specs.Shelves.{texts_at, AreShelved, FitsShelf}
+use Rattle.sections.proofs.Shelving.{same_shelf, shelved_on, fits_shelf_on, loaded_later}
 use Rattle.sections.specs.Laws.{HasNoEventMore, NoStepIsForged}
 use Rattle.sections.proofs.Agreement.{agrees_plain}
 use Rattle.sections.proofs.Counters.{All-push, locks_push}
@@ -92,6 +95,14 @@ longer_made : (q k : ℕ) (log : List Event) (m : Maker) → same_maker (Process
 longer_made q zero log m other = refl
 longer_made q (suc k) log m other = made_by_other m (longer q k log) (question q) other ∙ longer_made q k log m other
 
+longer_versions : (q k : ℕ) (log : List Event) (c : ℕ) → version_of c (longer q k log) ≡ version_of c log
+longer_versions q zero log c = refl
+longer_versions q (suc k) log c = version_kept c (longer q k log) (question q) refl ∙ longer_versions q k log c
+
+longer_shelved : (words : List ℕ) (q k : ℕ) (log : List Event) (texts : List Text) → IsLegal log → AreShelved words log texts → AreShelved words (longer q k log) texts
+longer_shelved words q zero log texts legal h = h
+longer_shelved words q (suc k) log texts legal h = shelved_on words words (longer q k log) texts (question q) (same_shelf words) (longer_legal q k log legal) (may_ask q (longer q k log)) refl (longer_shelved words q k log texts legal h)
+
 -- a seat that isn't this processor's knows what it knew
 longer_fits : (log : List Event) (changes : ℕ) (seat_of reached holder : ℕ → ℕ) (engine j q k : ℕ) → ((m : Maker) → seat_at seat_of engine m ≡ j → same_maker (Processor q) m ≡ false)
     → (v : View) → Fits log changes seat_of reached holder engine j v → Fits (longer q k log) changes seat_of reached holder engine j v
@@ -128,12 +139,12 @@ as_before : (o : Maker) (v : View) → stands v.role o ≡ false → without o v
 as_before o v e = ap (λ b. cond b spent v) e
 
 -- a token that has seen all
-abbrev knowing : List Event → View
-knowing log = record spent { seen = log }
+abbrev knowing : List Text → List Event → View
+knowing texts log = record spent { seen = log; texts = texts_at texts log }
 
 -- a token that knows of nothing but of what it has seen fits at each seat
-token_fits : (log : List Event) (changes : ℕ) (seat_of reached holder : ℕ → ℕ) (engine j : ℕ) (seen : List Event) → IsBeginning seen log → Fits log changes seat_of reached holder engine j (knowing seen)
-token_fits log changes seat_of reached holder engine j seen h = record { seen = h; knows = omega arith; told = All-nil (λ m. GoesOn m (now log changes)); makes = tt; has = tt; shown = tt }
+token_fits : (log : List Event) (changes : ℕ) (seat_of reached holder : ℕ → ℕ) (engine j : ℕ) (texts : List Text) (seen : List Event) → IsBeginning seen log → Fits log changes seat_of reached holder engine j (knowing texts seen)
+token_fits log changes seat_of reached holder engine j texts seen h = record { seen = h; knows = omega arith; told = All-nil (λ m. GoesOn m (now log changes)); makes = tt; has = tt; shown = tt }
 
 module _ (bounds : Bounds) (s : State (Option ℕ) View) (r : Kept bounds s) (q : ℕ) (lt : q < bounds.processors) (k : ℕ) where
   abbrev all : List Event
@@ -149,13 +160,13 @@ module _ (bounds : Bounds) (s : State (Option ℕ) View) (r : Kept bounds s) (q 
   seats = given q last r.seat_of
 
   abbrev state : State (Option ℕ) View
-  state = record { words = s.words; homes = s.homes; views = rest ++ knowing all ∷ [] }
+  state = record { words = s.words; homes = s.homes; views = rest ++ knowing r.shelf.texts all ∷ [] }
 
   no_maker : (j : ℕ) → j ≢ last → (m : Maker) → seat_at seats r.engine m ≡ j → same_maker (Processor q) m ≡ false
   no_maker j ne m at = same_maker_false (Processor q) m (λ e. ne (sym at ∙ (ap (seat_at seats r.engine) (sym e) ∙ given_here q last r.seat_of)))
 
   fits_without : (j : ℕ) (u : View) → j ≢ last → Fits r.log r.changes r.seat_of r.reached r.holder r.engine j u → (b : Bool) → stands u.role (Processor q) ≡ b → Fits all r.changes seats r.reached r.holder r.engine j (without (Processor q) u)
-  fits_without j u ne f true e = subst (λ (z : View). Fits all r.changes seats r.reached r.holder r.engine j z) (sym (ap (λ b. cond b spent u) e)) (token_fits all r.changes seats r.reached r.holder r.engine j [] (beginning_empty all))
+  fits_without j u ne f true e = subst (λ (z : View). Fits all r.changes seats r.reached r.holder r.engine j z) (sym (ap (λ b. cond b spent u) e)) (token_fits all r.changes seats r.reached r.holder r.engine j r.shelf.texts [] (beginning_empty all))
   fits_without j u ne f false e = subst (λ (z : View). Fits all r.changes seats r.reached r.holder r.engine j z) (sym (as_before (Processor q) u e))
       (longer_fits r.log r.changes seats r.reached r.holder r.engine j q k (no_maker j ne) u
       (fits_else r.log r.changes r.seat_of r.reached r.holder r.engine j q last u (λ h. false≠true (sym (others u.role (Processor q) e (Processor q) h) ∙ same_maker_refl (Processor q))) f))
@@ -164,10 +175,10 @@ module _ (bounds : Bounds) (s : State (Option ℕ) View) (r : Kept bounds s) (q 
   each_view j d e = ⊎_elim
       (λ (t : (j ≢ last) × (get_elem? rest j ≡ some d)). let (u, at, is) = from_map (without (Processor q)) s.views j d t.1 in
       subst (λ (z : View). Fits all r.changes seats r.reached r.holder r.engine j z) is (fits_without j u t.0 (r.each_view j u at) (stands u.role (Processor q)) refl))
-      (λ (t : (j ≡ last) × (knowing all ≡ d)). subst (λ (z : View). Fits all r.changes seats r.reached r.holder r.engine j z) t.1 (token_fits all r.changes seats r.reached r.holder r.engine j all (beginning_refl all)))
-      (at_snoc rest (knowing all) d j e)
+      (λ (t : (j ≡ last) × (knowing r.shelf.texts all ≡ d)). subst (λ (z : View). Fits all r.changes seats r.reached r.holder r.engine j z) t.1 (token_fits all r.changes seats r.reached r.holder r.engine j r.shelf.texts all (beginning_refl all)))
+      (at_snoc rest (knowing r.shelf.texts all) d j e)
 
-  token_done : (seen : List Event) → HasDone r.deeds (knowing seen)
+  token_done : (seen : List Event) → HasDone r.deeds (knowing r.shelf.texts seen)
   token_done seen = record { upto = record { rest = r.deeds; whole = refl }; own = λ m g. absurd g }
 
   done_without : (u : View) → HasDone r.deeds u → (b : Bool) → stands u.role (Processor q) ≡ b → HasDone r.deeds (without (Processor q) u)
@@ -178,8 +189,21 @@ module _ (bounds : Bounds) (s : State (Option ℕ) View) (r : Kept bounds s) (q 
   each_done j d e = ⊎_elim
       (λ (t : (j ≢ last) × (get_elem? rest j ≡ some d)). let (u, at, is) = from_map (without (Processor q)) s.views j d t.1 in
       subst (λ (z : View). HasDone r.deeds z) is (done_without u (r.each_done j u at) (stands u.role (Processor q)) refl))
-      (λ (t : (j ≡ last) × (knowing all ≡ d)). subst (λ (z : View). HasDone r.deeds z) t.1 (token_done all))
-      (at_snoc rest (knowing all) d j e)
+      (λ (t : (j ≡ last) × (knowing r.shelf.texts all ≡ d)). subst (λ (z : View). HasDone r.deeds z) t.1 (token_done all))
+      (at_snoc rest (knowing r.shelf.texts all) d j e)
+
+  shelf_without : (j : ℕ) (u : View) → FitsShelf s.words r.log r.shelf.texts r.shelf.writer_of j u → (b : Bool) → stands u.role (Processor q) ≡ b → FitsShelf s.words all r.shelf.texts r.shelf.writer_of j (without (Processor q) u)
+  shelf_without j u f true e = subst (λ (z : View). FitsShelf s.words all r.shelf.texts r.shelf.writer_of j z) (sym (ap (λ b. cond b spent u) e)) record { has = refl; told = All-nil (λ m. m.texts ≡ texts_at r.shelf.texts m.history); writes = tt }
+  shelf_without j u f false e = subst (λ (z : View). FitsShelf s.words all r.shelf.texts r.shelf.writer_of j z) (sym (as_before (Processor q) u e))
+      (fits_shelf_on s.words s.words r.log all r.shelf.texts r.shelf.writer_of j (same_shelf s.words) (longer_since q k r.log) (longer_versions q k r.log) u f)
+
+  each_shelf : (j : ℕ) (d : View) → get_elem? state.views j ≡ some d → FitsShelf s.words all r.shelf.texts r.shelf.writer_of j d
+  each_shelf j d e = ⊎_elim
+      (λ (t : (j ≢ last) × (get_elem? rest j ≡ some d)). let (u, at, is) = from_map (without (Processor q)) s.views j d t.1 in
+      subst (λ (z : View). FitsShelf s.words all r.shelf.texts r.shelf.writer_of j z) is (shelf_without j u (r.shelf.each j u at) (stands u.role (Processor q)) refl))
+      (λ (t : (j ≡ last) × (knowing r.shelf.texts all ≡ d)). subst (λ (z : View). FitsShelf s.words all r.shelf.texts r.shelf.writer_of j z) t.1
+      record { has = refl; told = All-nil (λ m. m.texts ≡ texts_at r.shelf.texts m.history); writes = tt })
+      (at_snoc rest (knowing r.shelf.texts all) d j e)
 
   kept : Kept bounds state
   kept = record {
@@ -202,27 +226,28 @@ module _ (bounds : Bounds) (s : State (Option ℕ) View) (r : Kept bounds s) (q 
     deeds = r.deeds;
     done = done_later r.deeds (now r.log r.changes) (now all r.changes) (record { history = longer_since q k r.log; changes = omega arith }) r.done;
     each_done = each_done;
+    shelf = record { texts = r.shelf.texts; writer_of = r.shelf.writer_of; shelved = longer_shelved s.words q k r.log r.shelf.texts r.within.legal r.shelf.shelved; each = each_shelf; loaded = loaded_later r.deeds r.log all r.shelf.texts (longer_versions q k r.log) r.shelf.loaded };
   }
 
   -- a seat that isn't that processor's is there as before
   there : (id : ℕ) (v : View) → get_elem? s.views id ≡ some v → (StandsFor v.role (Processor q) → ⊥) → get_elem? state.views id ≡ some v
-  there id v at not = at_longer rest (knowing all ∷ []) id v (at_map (without (Processor q)) s.views id v at ∙ ap some (as_before (Processor q) v (not_standing v.role (Processor q) not)))
+  there id v at not = at_longer rest (knowing r.shelf.texts all ∷ []) id v (at_map (without (Processor q)) s.views id v at ∙ ap some (as_before (Processor q) v (not_standing v.role (Processor q) not)))
 
   below : (id : ℕ) (v : View) → get_elem? s.views id ≡ some v → id < last
   below id v at = let b = at_below s.views v id at in let n = length_map (without (Processor q)) s.views in omega (arith, b, n)
 
-  knows_all : get_elem? state.views last ≡ some (knowing all)
-  knows_all = at_last rest (knowing all) last refl
+  knows_all : get_elem? state.views last ≡ some (knowing r.shelf.texts all)
+  knows_all = at_last rest (knowing r.shelf.texts all) last refl
 
   module _ (id : ℕ) (v : View) (at : get_elem? s.views id ≡ some v) (m : Maker) (is : StandsFor v.role m) (not : StandsFor v.role (Processor q) → ⊥) where
     other_maker : same_maker (Processor q) m ≡ false
     other_maker = same_maker_false (Processor q) m (λ e. not (subst (StandsFor v.role) (sym e) is))
 
     -- what was seen is no longer than what the token has seen, and both are beginnings of one history
-    says : (after : State (Option ℕ) View) → Kept bounds after → get_elem? after.views last ≡ some (knowing all) → (j : ℕ) (w : View) → get_elem? after.views j ≡ some w → length w.seen ≤ k → HasNoEventMore m v w
+    says : (after : State (Option ℕ) View) → Kept bounds after → get_elem? after.views last ≡ some (knowing r.shelf.texts all) → (j : ℕ) (w : View) → get_elem? after.views j ≡ some w → length w.seen ≤ k → HasNoEventMore m v w
     says after a whole j w here short =
         let long = longer_long q k r.log in
-        let b = beginning_made_by m (beginning_by_length (a.each_view j w here).seen (a.each_view last (knowing all) whole).seen (omega (arith, short, long))) in
+        let b = beginning_made_by m (beginning_by_length (a.each_view j w here).seen (a.each_view last (knowing r.shelf.texts all) whole).seen (omega (arith, short, long))) in
         record {
           rest = b.rest;
           whole = own_events r.log r.changes r.seat_of r.reached r.holder r.engine id v.role v.mine m is (r.each_view id v at).makes ∙ (sym (longer_made q k r.log m other_maker) ∙ b.whole);
@@ -232,14 +257,14 @@ module _ (bounds : Bounds) (s : State (Option ℕ) View) (r : Kept bounds s) (q 
     cut_left left right short splits =
         let low = below id v at in
         says record { words = state.words; homes = state.homes; views = set state.views id left ++ right ∷ [] } (splits state kept (there id v at not))
-        (at_longer (set state.views id left) (right ∷ []) last (knowing all) (set_else state.views id last left (λ h. omega (arith, h, low)) ∙ knows_all))
+        (at_longer (set state.views id left) (right ∷ []) last (knowing r.shelf.texts all) (set_else state.views id last left (λ h. omega (arith, h, low)) ∙ knows_all))
         id left (at_longer (set state.views id left) (right ∷ []) id left (set_here state.views id left (at_below state.views v id (there id v at not)))) short
 
     pub cut_right : (left right : View) → length right.seen ≤ k → Splits (Kept bounds) id v left right → HasNoEventMore m v right
     cut_right left right short splits =
         let low = below id v at in
         says record { words = state.words; homes = state.homes; views = set state.views id left ++ right ∷ [] } (splits state kept (there id v at not))
-        (at_longer (set state.views id left) (right ∷ []) last (knowing all) (set_else state.views id last left (λ h. omega (arith, h, low)) ∙ knows_all))
+        (at_longer (set state.views id left) (right ∷ []) last (knowing r.shelf.texts all) (set_else state.views id last left (λ h. omega (arith, h, low)) ∙ knows_all))
         (length (set state.views id left)) right (at_last (set state.views id left) right (length (set state.views id left)) refl) short
 
     pub joined : (other : ℕ) (w both gone : View) → (other ≡ id → ⊥) → get_elem? s.views other ≡ some w → (StandsFor w.role (Processor q) → ⊥) → length both.seen ≤ k → Joins (Kept bounds) id v other w both gone → HasNoEventMore m v both

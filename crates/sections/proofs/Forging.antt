@@ -1,7 +1,7 @@
 -- No seat can claim a step that it did not make.
 use Rattle.std.proofs.Common.{◌≡◌, ℕ, zero, suc, ◌<◌, ◌≤◌, ◌≢◌, ◌⊎◌, Bool, true, false, cond, nat_le, List, [], ◌∷◌, ◌++◌, Option, map, length, set, refl, sym, ap, ◌∙◌, subst, inl, inr, ⊎_elim, append-nil, le-leb, leb-true, ne_eqb, arith}
 use Rattle.std.proofs.lemmas.List.{map-append}
-use Rattle.std.proofs.lemmas.List.Elements.{All-nil, filter-append}
+use Rattle.std.proofs.lemmas.List.Elements.{All-nil, All-push, filter-append}
 use mathlib.Core.Option.{some, some-injective, some-ne-none}
 use lib.ListN.{get_elem?}
 use Rattle.atomic_table.specs.Table.{State, Splits, Joins}
@@ -20,6 +20,7 @@ use Rattle.sections.specs.declared.view.Deed.{Deed}
 use Rattle.sections.specs.declared.view.View.{View}
 use Rattle.sections.specs.Words.{index_word}
 use Rattle.sections.specs.Rule.{GoesOn, IsTrueOf, done_by, steps_of, IsUpto, StandsFor, HasDone, Fits, Kept, spent}
+use Rattle.sections.specs.Shelves.{texts_at, FitsShelf, IsTrueWord}
 use Rattle.sections.specs.Laws.{HasNoStepMore}
 use Rattle.sections.proofs.Knowing.{now, at_snoc, at_below, not_false, false≠true}
 use Rattle.sections.proofs.Deeds.{deed, done_push, has_done_push, has_done_all}
@@ -121,8 +122,16 @@ module _ (bounds : Bounds) (s : State (Option ℕ) View) (r : Kept bounds s) (o 
       (λ (t : (j ≡ last) × (knowing longer ≡ d)). subst (λ (z : View). HasDone longer z) t.1 (record { upto = record { rest = []; whole = sym (append-nil longer) }; own = λ m g. absurd g }))
       (at_snoc (map (taught o longer) s.views) (knowing longer) d j e)
 
-  kept : IsTrueOf (now r.log r.changes) l → Kept bounds state
-  kept is = record {
+  each_shelf : (j : ℕ) (d : View) → get_elem? views j ≡ some d → FitsShelf s.words r.log r.shelf.texts r.shelf.writer_of j d
+  each_shelf j d e = ⊎_elim
+      (λ (t : (j ≢ last) × (get_elem? (map (taught o longer) s.views) j ≡ some d)). let (u, at, is) = from_map (taught o longer) s.views j d t.1 in let f = r.shelf.each j u at in
+      subst (λ (z : View). FitsShelf s.words r.log r.shelf.texts r.shelf.writer_of j z) is (record { has = f.has; told = f.told; writes = f.writes }))
+      (λ (t : (j ≡ last) × (knowing longer ≡ d)). subst (λ (z : View). FitsShelf s.words r.log r.shelf.texts r.shelf.writer_of j z) t.1
+      (record { has = refl; told = All-nil (λ m. m.texts ≡ texts_at r.shelf.texts m.history); writes = tt }))
+      (at_snoc (map (taught o longer) s.views) (knowing longer) d j e)
+
+  kept : IsTrueOf (now r.log r.changes) l → IsTrueWord r.log r.shelf.texts l → Kept bounds state
+  kept is word = record {
     log = r.log;
     changes = r.changes;
     seat_of = r.seat_of;
@@ -137,6 +146,7 @@ module _ (bounds : Bounds) (s : State (Option ℕ) View) (r : Kept bounds s) (o 
     deeds = longer;
     done = done_push r.deeds o l (now r.log r.changes) is r.done;
     each_done = each_done;
+    shelf = record { texts = r.shelf.texts; writer_of = r.shelf.writer_of; shelved = r.shelf.shelved; each = each_shelf; loaded = All-push (λ d. IsTrueWord r.log r.shelf.texts d.step) r.deeds (deed o l (now r.log r.changes)) r.shelf.loaded word };
   }
 
   -- a seat that doesn't stand for that maker is there as before
@@ -156,20 +166,20 @@ module _ (bounds : Bounds) (s : State (Option ℕ) View) (r : Kept bounds s) (o 
   told after k all j w at = let a = (k.each_done j w at).upto in let b = (k.each_done last (knowing longer) all).upto in
       either_way w.done a.rest r.deeds (deed o l (now r.log r.changes)) b.rest (sym a.whole ∙ b.whole)
 
-  cut : IsTrueOf (now r.log r.changes) l → (id : ℕ) (v left right : View) → get_elem? s.views id ≡ some v → (StandsFor v.role o → ⊥) → Splits (Kept bounds) id v left right → Told left × Told right
-  cut is id v left right at not splits =
+  cut : IsTrueOf (now r.log r.changes) l → IsTrueWord r.log r.shelf.texts l → (id : ℕ) (v left right : View) → get_elem? s.views id ≡ some v → (StandsFor v.role o → ⊥) → Splits (Kept bounds) id v left right → Told left × Told right
+  cut is word id v left right at not splits =
       let after : State (Option ℕ) View = record { words = s.words; homes = s.homes; views = set views id left ++ right ∷ [] } in
-      let k : Kept bounds after = splits state (kept is) (there id v at not) in
+      let k : Kept bounds after = splits state (kept is word) (there id v at not) in
       let low = below id v at in
       let all : get_elem? after.views last ≡ some (knowing longer) = at_longer (set views id left) (right ∷ []) last (knowing longer) (set_else views id last left (λ h. omega (arith, h, low)) ∙ knows_all) in (
         told after k all id left (at_longer (set views id left) (right ∷ []) id left (set_here views id left (at_below views v id (there id v at not)))),
         told after k all (length (set views id left)) right (at_last (set views id left) right (length (set views id left)) refl),
       )
 
-  taken : IsTrueOf (now r.log r.changes) l → (id : ℕ) (v : View) (other : ℕ) (w both gone : View) → get_elem? s.views id ≡ some v → (StandsFor v.role o → ⊥) → (other ≡ id → ⊥) → get_elem? s.views other ≡ some w → (StandsFor w.role o → ⊥) → Joins (Kept bounds) id v other w both gone → Told both
-  taken is id v other w both gone at not apart there_too neither_one joins =
+  taken : IsTrueOf (now r.log r.changes) l → IsTrueWord r.log r.shelf.texts l → (id : ℕ) (v : View) (other : ℕ) (w both gone : View) → get_elem? s.views id ≡ some v → (StandsFor v.role o → ⊥) → (other ≡ id → ⊥) → get_elem? s.views other ≡ some w → (StandsFor w.role o → ⊥) → Joins (Kept bounds) id v other w both gone → Told both
+  taken is word id v other w both gone at not apart there_too neither_one joins =
       let after : State (Option ℕ) View = record { words = s.words; homes = s.homes; views = set (set views id both) other gone } in
-      let k : Kept bounds after = joins state (kept is) (there id v at not) apart (set_else views id other both apart ∙ there other w there_too neither_one) in
+      let k : Kept bounds after = joins state (kept is word) (there id v at not) apart (set_else views id other both apart ∙ there other w there_too neither_one) in
       let low = below id v at in
       let low_too = below other w there_too in
       let all : get_elem? after.views last ≡ some (knowing longer) = set_else (set views id both) other last gone (λ h. omega (arith, h, low_too)) ∙ (set_else views id last both (λ h. omega (arith, h, low)) ∙ knows_all) in
@@ -195,7 +205,7 @@ module _ (bounds : Bounds) (s : State (Option ℕ) View) (r : Kept bounds s) (id
       no_more r.deeds m v w (r.each_done id v at) is (neither w.done r.deeds (deed o (LoadIndex n) at_now) (deed o (AddIndex n) at_now) (λ e. other_step (ap (λ d. d.step) e)) a b)
 
   pub no_step_by_split : (left right : View) → Splits (Kept bounds) id v left right → HasNoStepMore m v left × HasNoStepMore m v right
-  no_step_by_split left right splits = let a = cut bounds s r o (LoadIndex n) refl id v left right at not splits in let b = cut bounds s r o (AddIndex n) refl id v left right at not splits in (neither_step left a.0 b.0, neither_step right a.1 b.1)
+  no_step_by_split left right splits = let a = cut bounds s r o (LoadIndex n) refl tt id v left right at not splits in let b = cut bounds s r o (AddIndex n) refl tt id v left right at not splits in (neither_step left a.0 b.0, neither_step right a.1 b.1)
 
   pub no_step_by_join : (other : ℕ) (w both gone : View) → (other ≡ id → ⊥) → get_elem? s.views other ≡ some w → (StandsFor w.role o → ⊥) → Joins (Kept bounds) id v other w both gone → HasNoStepMore m v both
-  no_step_by_join other w both gone apart there_too neither_one joins = neither_step both (taken bounds s r o (LoadIndex n) refl id v other w both gone at not apart there_too neither_one joins) (taken bounds s r o (AddIndex n) refl id v other w both gone at not apart there_too neither_one joins)
+  no_step_by_join other w both gone apart there_too neither_one joins = neither_step both (taken bounds s r o (LoadIndex n) refl tt id v other w both gone at not apart there_too neither_one joins) (taken bounds s r o (AddIndex n) refl tt id v other w both gone at not apart there_too neither_one joins)

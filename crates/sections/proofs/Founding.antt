@@ -11,6 +11,7 @@ use Rattle.sections.specs.Limits.{AreInRange}
 use Rattle.sections.specs.Views.{CpuView}
 use Rattle.sections.specs.Calls.{new_cpu, AreNew}
 use Rattle.sections.specs.declared.view.Role.TheVariants.{Driver}
+use Rattle.sections.specs.declared.view.Right.TheVariants.{Nothing}
 use Rattle.sections.specs.Rule.{HasItsMaker, founder}
 use Rattle.sections.specs.Insides.{IsAtRest}
 use Rattle.sections.specs.Making.{IsCount, IsSmall}
@@ -38,5 +39,5 @@ small_enough processors limits count range = let most = count.1 in let few = ran
   words = record { counters = omega (arith, product); periods = range.periods };
 }
 
-pub rests_founding : (bounds : Bounds) (k : ℕ) → IsAtRest (record (founder bounds) { role = Driver k })
+pub rests_founding : (bounds : Bounds) (k : ℕ) → IsAtRest (record (founder bounds) { role = Driver k; right = Nothing })
 rests_founding bounds k = record { free = refl; told = refl; sound = record { legal = tt; makers = All-nil (HasItsMaker bounds.processors); own = refl; reaches = record { started = refl; ended = refl } } }

@@ -15,9 +15,10 @@ use Rattle.sections.specs.declared.view.Moment.{Moment}
 use Rattle.sections.specs.declared.view.Role.{Role}
 use Rattle.sections.specs.declared.view.Role.TheVariants.{Bearer, Cpu, Driver}
 use Rattle.sections.specs.declared.view.Right.{Right}
-use Rattle.sections.specs.declared.view.Right.TheVariants.{Nothing, Section}
+use Rattle.sections.specs.declared.view.Right.TheVariants.{Nothing, Section, Shelf, Undealt}
 use Rattle.sections.specs.declared.view.Shown.{Shown}
 use Rattle.sections.specs.declared.view.Shown.TheVariants.{Unknown, To}
+use Rattle.sections.specs.declared.view.Text.{Text}
 use Rattle.sections.specs.declared.view.View.{View}
 use Rattle.sections.specs.Rule.{HasReached, GoesOn, Makes, Has, Knows, Fits}
 use Rattle.sections.specs.Plays.{Owns}
@@ -53,7 +54,7 @@ views_split K vs id v left right at a b others j d e = ⊎_elim
 -- Who makes and who holds what
 
 abbrev pub now : List Event → ℕ → Moment
-now log changes = record { history = log; changes = changes }
+now log changes = record { history = log; changes = changes; texts = [] }
 
 abbrev pub given : ℕ → ℕ → (ℕ → ℕ) → ℕ → ℕ
 given t id holder u = cond (eqb u t) id (holder u)
@@ -77,6 +78,8 @@ makes_as log changes seat_of reached holder holder' engine j (Driver k) mine h =
 pub has_as : (log : List Event) (changes : ℕ) (seat_of seat_of' reached holder holder' : ℕ → ℕ) (engine j : ℕ) → ((s : ℕ) → holder s ≡ j → holder' s ≡ j) → (t : Right) → Has log changes seat_of reached holder engine j t → Has log changes seat_of' reached holder' engine j t
 has_as log changes seat_of seat_of' reached holder holder' engine j same Nothing h = tt
 has_as log changes seat_of seat_of' reached holder holder' engine j same (Section s p i) h = (same s h.0, h.1, h.2, h.3)
+has_as log changes seat_of seat_of' reached holder holder' engine j same (Shelf c words seen) h = tt
+has_as log changes seat_of seat_of' reached holder holder' engine j same (Undealt c) h = tt
 
 pub knows_as : (log : List Event) (changes : ℕ) (seat_of reached holder holder' : ℕ → ℕ) (engine j : ℕ) (m : Role) (known : ℕ) → Knows log changes seat_of reached holder engine j m known → Knows log changes seat_of reached holder' engine j m known
 knows_as log changes seat_of reached holder holder' engine j Bearer known h = h
@@ -104,6 +107,8 @@ makes_reached log changes seat_of reached reached' holder engine j (Driver k) mi
 has_reached : (log : List Event) (changes : ℕ) (seat_of reached reached' holder : ℕ → ℕ) (engine j : ℕ) (t : Right) → Has log changes seat_of reached holder engine j t → Has log changes seat_of reached' holder engine j t
 has_reached log changes seat_of reached reached' holder engine j Nothing h = h
 has_reached log changes seat_of reached reached' holder engine j (Section s p i) h = h
+has_reached log changes seat_of reached reached' holder engine j (Shelf c words seen) h = h
+has_reached log changes seat_of reached reached' holder engine j (Undealt c) h = h
 
 knows_reached : (log : List Event) (changes : ℕ) (seat_of reached reached' holder : ℕ → ℕ) (engine j : ℕ) (m : Role) (known : ℕ) → ((p : ℕ) → m ≡ Cpu p → reached' p ≤ known)
     → Knows log changes seat_of reached holder engine j m known → Knows log changes seat_of reached' holder engine j m known
@@ -130,14 +135,20 @@ reached_more log changes seat_of reached reached' holder engine j more v low f =
 abbrev pub moved : Right → ℕ → (ℕ → ℕ) → ℕ → ℕ
 moved Nothing m holder u = holder u
 moved (Section t p i) m holder u = given t m holder u
+moved (Shelf c words seen) m holder u = holder u
+moved (Undealt c) m holder u = holder u
 
 pub moved_has : (log : List Event) (changes : ℕ) (seat_of reached holder : ℕ → ℕ) (engine j m : ℕ) (t : Right) → Has log changes seat_of reached holder engine j t → Has log changes seat_of reached (moved t m holder) engine m t
 moved_has log changes seat_of reached holder engine j m Nothing h = tt
 moved_has log changes seat_of reached holder engine j m (Section t p i) h = (given_here t m holder, h.1, h.2, h.3)
+moved_has log changes seat_of reached holder engine j m (Shelf c words seen) h = tt
+moved_has log changes seat_of reached holder engine j m (Undealt c) h = tt
 
 pub moved_else : (log : List Event) (changes : ℕ) (seat_of reached holder : ℕ → ℕ) (engine j m : ℕ) (t : Right) → Has log changes seat_of reached holder engine j t → (k : ℕ) → k ≢ j → (s : ℕ) → holder s ≡ k → moved t m holder s ≡ k
 moved_else log changes seat_of reached holder engine j m Nothing h k other s at = at
 moved_else log changes seat_of reached holder engine j m (Section t p i) h k other s at = given_else t m holder s (λ st. other (sym at ∙ (ap holder st ∙ h.0))) ∙ at
+moved_else log changes seat_of reached holder engine j m (Shelf c words seen) h k other s at = at
+moved_else log changes seat_of reached holder engine j m (Undealt c) h k other s at = at
 
 -- What a seat knows stays so where another seat's maker adds an event
 
@@ -164,11 +175,17 @@ has_stays log changes seat_of reached holder holder' engine j e may unended same
   open_index_stays s log e may h.1 ∙ h.2,
   own_begins_stay s (Processor p) log e miss ∙ h.3,
 )
+has_stays log changes seat_of reached holder holder' engine j e may unended same (Shelf c words seen) h = tt
+has_stays log changes seat_of reached holder holder' engine j e may unended same (Undealt c) h = tt
 
 pub knows_stay : (log : List Event) (changes : ℕ) (seat_of reached holder holder' : ℕ → ℕ) (engine j : ℕ) (e : Event) (m : Role) (known : ℕ) → Knows log changes seat_of reached holder engine j m known → Knows (log ++ e ∷ []) changes seat_of reached holder' engine j m known
 knows_stay log changes seat_of reached holder holder' engine j e Bearer known h = h
 knows_stay log changes seat_of reached holder holder' engine j e (Cpu p) known h = h
 knows_stay log changes seat_of reached holder holder' engine j e (Driver k) known h = h
+
+-- what was told is covered, whatever texts go with the moment
+pub covers_as : (told : List Moment) (log : List Event) (changes : ℕ) (texts : List Text) → All (λ m. GoesOn m (now log changes)) told → All (λ m. GoesOn m record { history = log; changes = changes; texts = texts }) told
+covers_as told log changes texts h = All-weaker (λ m. GoesOn m (now log changes)) (λ m. GoesOn m record { history = log; changes = changes; texts = texts }) (λ m g. record { history = g.history; changes = g.changes }) told h
 
 pub told_push : (told : List Moment) (log : List Event) (changes : ℕ) (e : Event) → All (λ m. GoesOn m (now log changes)) told → All (λ m. GoesOn m (now (log ++ e ∷ []) changes)) told
 told_push told log changes e h = All-weaker (λ m. GoesOn m (now log changes)) (λ m. GoesOn m (now (log ++ e ∷ []) changes)) (λ m g. record { history = beginning_push e g.history; changes = g.changes }) told h
@@ -204,6 +221,8 @@ makes_later log changes changes' seat_of reached holder engine j (Driver k) mine
 pub has_later : (log : List Event) (changes changes' : ℕ) (seat_of reached holder : ℕ → ℕ) (engine j : ℕ) (t : Right) → Has log changes seat_of reached holder engine j t → Has log changes' seat_of reached holder engine j t
 has_later log changes changes' seat_of reached holder engine j Nothing h = h
 has_later log changes changes' seat_of reached holder engine j (Section s p i) h = h
+has_later log changes changes' seat_of reached holder engine j (Shelf c words seen) h = h
+has_later log changes changes' seat_of reached holder engine j (Undealt c) h = h
 
 pub fits_later : (log : List Event) (changes changes' : ℕ) (seat_of reached holder : ℕ → ℕ) (engine j : ℕ) → changes ≤ changes' → (engine ≡ j → changes' ≡ changes) → (v : View) → Fits log changes seat_of reached holder engine j v → Fits log changes' seat_of reached holder engine j v
 fits_later log changes changes' seat_of reached holder engine j le same v f = record {

@@ -10,7 +10,7 @@ use Rattle.atomic_table.specs.Seated.{TableId}
 use Rattle.onedom.specs.declared.event.Maker.{Maker}
 use Rattle.onedom.specs.declared.event.Maker.TheVariants.{Processor, Engine}
 use Rattle.onedom.specs.declared.event.Event.{Event}
-use Rattle.onedom.specs.declared.event.Event.TheVariants.{Begin, End, Start, Finish, Note, Ask}
+use Rattle.onedom.specs.declared.event.Event.TheVariants.{Begin, End, Start, Finish, Note, Ask, Find, Put}
 use Rattle.onedom.specs.Histories.{made_by, IsBeginning, is_start, is_finish, starts_in, ended_in}
 use Rattle.onedom.proofs.CallerLemmas.{count_append, beginning_trans, beginnings_compare, beginning_made_by}
 use Rattle.sections.specs.declared.view.Role.TheVariants.{Cpu}
@@ -41,6 +41,7 @@ hears_from d d' n limit p v o w same sized is h = record {
     steps = h.steps (Processor p) (cpu_makes p v.role is);
     since = h.since;
     later = h.later;
+    texts = h.texts;
     history = history_of n p w (h.processors ∙ sized) (h.role ∙ is) h.sound;
   };
   covers = h.covers;
@@ -184,6 +185,10 @@ engine_events n (e ∷ es) all = engine_event n e es (All-head (HasItsMaker n) e
     engine_event n (Note c Engine) es h r = absurd h
     engine_event n (Ask c b (Processor p)) es h r = r
     engine_event n (Ask c b Engine) es h r = absurd h
+    engine_event n (Find u d x v (Processor p)) es h r = r
+    engine_event n (Find u d x v Engine) es h r = absurd h
+    engine_event n (Put d x v (Processor p)) es h r = r
+    engine_event n (Put d x v Engine) es h r = absurd h
 
 -- where all changes are known, so are all events of the engine
 pub seen_all : (e e' : EngineView) (c : CpuView) → IsSeenBy c → IsBeginning c.seen e'.seen → IsHistoryOf e'.processors Engine e'.mine e'.seen e'.changes → c.changes ≡ e'.changes → e'.mine ≡ e.mine → e'.changes ≡ e.changes → HasSeenAll e c

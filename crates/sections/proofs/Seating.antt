@@ -40,6 +40,7 @@ covers_from n v o j w free joined h current driven = let l : Sees (LoadIndex n) 
   steps = l.steps;
   since = l.since;
   later = l.later;
+  texts = l.texts.since;
   shown = l.shown;
   driven = subst (λ (z : View). (k : ℕ) → z.role ≡ Driver k → w.changes ≡ z.changes) joined driven;
   covers = (All-head (λ m. GoesOn m (moment_of w)) (moment_of o) v.told l.covers).history;

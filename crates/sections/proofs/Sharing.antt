@@ -1,6 +1,8 @@
 -- Seats that are cut in two, joined and dealt keep the rule.
-use Rattle.std.proofs.Common.{◌≡◌, ℕ, zero, suc, ◌+◌, ◌≤◌, ◌≢◌, List, [], ◌∷◌, ◌++◌, All, Option, get_or, length, set, refl, sym, ap, ◌∙◌, subst, ⊎_elim, arith}
+use Rattle.std.proofs.Common.{◌≡◌, ℕ, zero, suc, ◌+◌, ◌*◌, ◌<◌, ◌≤◌, ◌≢◌, List, [], ◌∷◌, ◌++◌, All, Option, get_or, length, set, refl, sym, ap, ◌∙◌, subst, ⊎_elim, arith}
+use Rattle.std.proofs.lemmas.List.{get_or-replicate, length-replicate}
 use Rattle.std.proofs.lemmas.List.Elements.{All-nil, All-cons}
+use Rattle.sections.specs.declared.view.Right.TheVariants.{Undealt}
 use mathlib.Core.Logic.{dite}
 use native.Mathlib.Decide.{ℕ_discrete}
 use mathlib.Core.Option.{some, some-injective, some-ne-none}
@@ -17,8 +19,11 @@ use Rattle.sections.specs.declared.view.Role.{Role}
 use Rattle.sections.specs.declared.view.Role.TheVariants.{Bearer, Cpu, Driver}
 use Rattle.sections.specs.declared.view.Right.{Right}
 use Rattle.sections.specs.declared.view.View.{View}
-use Rattle.sections.specs.Words.{word_count}
-use Rattle.sections.specs.Rule.{HasItsMaker, GoesOn, IsTrueOf, StandsFor, HasDone, moment_of, Makes, Has, Knows, Fits, AreSmall, Kept, founder, HasReached, lacking, bearer, informed, mark, shower, hearing, noting, spent, without_next, next_role, dealer, dealt}
+use Rattle.sections.specs.Words.{word_count, word_place}
+use Rattle.sections.specs.Rule.{HasItsMaker, GoesOn, IsTrueOf, StandsFor, HasDone, moment_of, Makes, Has, Knows, Fits, AreSmall, Kept, founder, HasReached, lacking, bearer, informed, mark, shower, hearing, noting, regaining, spent, without_next, next_role, dealer, dealt, without_cell, next_cell, pen_dealer, pen_dealt}
+use Rattle.sections.specs.declared.view.Moment.{Moment}
+use Rattle.sections.specs.Shelves.{texts_at, Writes, FitsShelf, IsTrueWord}
+use Rattle.sections.proofs.Shelving.{moved_pen, moved_writes, moved_pen_else, fits_shelf_as, shelved_new}
 use Rattle.sections.proofs.Agreement.{agrees_new}
 use Rattle.sections.proofs.Deeds.{upto_empty, has_done_as, has_done_none}
 use Rattle.sections.proofs.Knowing.{now, views_set, views_split, given, given_here, given_else, makes_as, has_as, knows_as, reheld, reached_more, moved, moved_has, moved_else, known_before}
@@ -29,8 +34,9 @@ module _ (bounds : Bounds) where
   -- the same words and history, and other views
   reviewed : (s : State (Option ℕ) View) (r : Kept bounds s) (views : List View) (seat_of reached holder : ℕ → ℕ) → ((p : ℕ) → reached p ≤ r.changes) → ((j : ℕ) (d : View) → get_elem? views j ≡ some d → Fits r.log r.changes seat_of reached holder r.engine j d)
       → ((j : ℕ) (d : View) → get_elem? views j ≡ some d → HasDone r.deeds d)
+      → (writer_of : ℕ → ℕ) → ((j : ℕ) (d : View) → get_elem? views j ≡ some d → FitsShelf s.words r.log r.shelf.texts writer_of j d)
       → Kept bounds record { words = s.words; homes = s.homes; views = views }
-  reviewed s r views seat_of reached holder known each each_done = record {
+  reviewed s r views seat_of reached holder known each each_done writer_of each_shelf = record {
     log = r.log;
     changes = r.changes;
     seat_of = seat_of;
@@ -45,6 +51,7 @@ module _ (bounds : Bounds) where
     deeds = r.deeds;
     done = r.done;
     each_done = each_done;
+    shelf = record { texts = r.shelf.texts; writer_of = writer_of; shelved = r.shelf.shelved; each = each_shelf; loaded = r.shelf.loaded };
   }
 
   pub gives_token : (id : ℕ) (v : View) → Splits (Kept bounds) id v (lacking v) (bearer v)
@@ -54,13 +61,17 @@ module _ (bounds : Bounds) where
       record { seen = f.seen; knows = known_before r.log r.changes r.seat_of r.reached r.holder r.engine id v.role v.changes f.knows; told = All-nil (λ m. GoesOn m (now r.log r.changes)); makes = tt; has = moved_has r.log r.changes r.seat_of r.reached r.holder r.engine id m v.right f.has; shown = tt }
       (λ j d ne e. reheld r.log r.changes r.seat_of r.reached r.holder holder' r.engine j (moved_else r.log r.changes r.seat_of r.reached r.holder r.engine id m v.right f.has j ne) d (r.each_view j d e)))
       (views_split (λ _ u. HasDone r.deeds u) s.views id v (lacking v) (bearer v) at (has_done_as r.deeds v (lacking v) refl refl (r.each_done id v at)) (has_done_none r.deeds (bearer v) refl refl) (λ j u _ e. r.each_done j u e))
+      (moved_pen v.right m r.shelf.writer_of) (let g = r.shelf.each id v at in let P : ℕ → View → Type 0 = FitsShelf s.words r.log r.shelf.texts (moved_pen v.right m r.shelf.writer_of) in views_split P s.views id v (lacking v) (bearer v) at
+      record { has = g.has; told = g.told; writes = tt }
+      record { has = g.has; told = All-nil (λ x. x.texts ≡ texts_at r.shelf.texts x.history); writes = moved_writes s.words r.log r.shelf.writer_of id m v.right g.writes }
+      (λ j d ne e. fits_shelf_as s.words r.log r.shelf.texts r.shelf.writer_of (moved_pen v.right m r.shelf.writer_of) j (moved_pen_else s.words r.log r.shelf.writer_of id m v.right g.writes j ne) d (r.shelf.each j d e)))
 
   -- two seats become one, which takes over the right of the other
-  joined : (id : ℕ) (v : View) (other : ℕ) (w both : View) → both.role ≡ v.role → both.mine ≡ v.mine → both.done ≡ v.done → both.right ≡ w.right
+  joined : (id : ℕ) (v : View) (other : ℕ) (w both : View) → both.role ≡ v.role → both.mine ≡ v.mine → both.done ≡ v.done → both.right ≡ w.right → both.seen ≡ v.seen → both.texts ≡ v.texts → ((P : Moment → Type 0) → All P v.told → P (moment_of w) → All P both.told)
       → ((log : List Event) (changes : ℕ) (seat_of reached holder : ℕ → ℕ) (engine : ℕ) → Fits log changes seat_of reached holder engine id v → IsBeginning w.seen log → w.changes ≤ changes → HasReached reached w.shown
       → IsBeginning both.seen log × Knows log changes seat_of reached holder engine id both.role both.changes × All (λ m. GoesOn m (now log changes)) both.told × HasReached reached both.shown)
       → Joins (Kept bounds) id v other w both spent
-  joined id v other w both same_role same_mine same_done same_right learns s r at apart there =
+  joined id v other w both same_role same_mine same_done same_right same_seen same_texts tells learns s r at apart there =
       let f = r.each_view id v at in
       let was : get_elem? s.views other ≡ some w = ⊎_elim (λ (t : (other ≡ id) × (both ≡ w)). absurd (apart t.0)) (λ (t : (other ≢ id) × (get_elem? s.views other ≡ some w)). t.1) (at_set s.views id other both w there) in
       let g = r.each_view other w was in
@@ -82,17 +93,30 @@ module _ (bounds : Bounds) where
       (at_set s.views id j both d e)))
       (views_set (λ _ u. HasDone r.deeds u) (set s.views id both) other spent (has_done_none r.deeds spent refl refl)
       (λ j u _ e. views_set (λ _ z. HasDone r.deeds z) s.views id both (has_done_as r.deeds v both same_role same_done (r.each_done id v at)) (λ i z _ h. r.each_done i z h) j u e))
+      (moved_pen w.right id r.shelf.writer_of) (let a = r.shelf.each id v at in let b = r.shelf.each other w was in let P : ℕ → View → Type 0 = FitsShelf s.words r.log r.shelf.texts (moved_pen w.right id r.shelf.writer_of) in
+      let mine : P id both = record {
+        has = same_texts ∙ (a.has ∙ ap (texts_at r.shelf.texts) (sym same_seen));
+        told = tells (λ x. x.texts ≡ texts_at r.shelf.texts x.history) a.told b.has;
+        writes = subst (λ (t : Right). Writes s.words r.log (moved_pen w.right id r.shelf.writer_of) id t) (sym same_right) (moved_writes s.words r.log r.shelf.writer_of other id w.right b.writes);
+      } in
+      views_set P (set s.views id both) other spent record { has = refl; told = All-nil (λ x. x.texts ≡ texts_at r.shelf.texts x.history); writes = tt }
+      (λ j d ne e. ⊎_elim (λ (t : (j ≡ id) × (both ≡ d)). subst (λ (x : ℕ × View). P x.0 x.1) (λ i. (sym t.0 i, t.1 i)) mine)
+      (λ (t : (j ≢ id) × (get_elem? s.views j ≡ some d)). fits_shelf_as s.words r.log r.shelf.texts r.shelf.writer_of (moved_pen w.right id r.shelf.writer_of) j (moved_pen_else s.words r.log r.shelf.writer_of other id w.right b.writes j ne) d (r.shelf.each j d t.1))
+      (at_set s.views id j both d e)))
 
   pub takes_token : (id : ℕ) (v : View) (other : ℕ) (w : View) → Joins (Kept bounds) id v other w (informed v w) spent
-  takes_token id v other w = joined id v other w (informed v w) refl refl refl refl (λ log changes seat_of reached holder engine f seen known shown.
+  takes_token id v other w = joined id v other w (informed v w) refl refl refl refl refl refl (λ P a p. All-cons P (moment_of w) v.told p a) (λ log changes seat_of reached holder engine f seen known shown.
       (f.seen, f.knows, All-cons (λ m. GoesOn m (now log changes)) (moment_of w) v.told (record { history = seen; changes = known }) f.told, f.shown))
 
   pub hears : (id : ℕ) (v : View) (other : ℕ) (w : View) → Joins (Kept bounds) id v other w (hearing v w) spent
-  hears id v other w = joined id v other w (hearing v w) refl refl refl refl (λ log changes seat_of reached holder engine f seen known shown.
+  hears id v other w = joined id v other w (hearing v w) refl refl refl refl refl refl (λ P a p. All-cons P (moment_of w) v.told p a) (λ log changes seat_of reached holder engine f seen known shown.
       (f.seen, f.knows, All-cons (λ m. GoesOn m (now log changes)) (moment_of w) v.told (record { history = seen; changes = known }) f.told, shown))
 
   pub notes : (id : ℕ) (v : View) (other : ℕ) (w : View) → Joins (Kept bounds) id v other w (noting v w) spent
-  notes id v other w = joined id v other w (noting v w) refl refl refl refl (λ log changes seat_of reached holder engine f seen known shown. (f.seen, f.knows, f.told, shown))
+  notes id v other w = joined id v other w (noting v w) refl refl refl refl refl refl (λ P a p. a) (λ log changes seat_of reached holder engine f seen known shown. (f.seen, f.knows, f.told, shown))
+
+  pub regains : (id : ℕ) (v : View) (other : ℕ) (w : View) → Joins (Kept bounds) id v other w (regaining v w) spent
+  regains id v other w = joined id v other w (regaining v w) refl refl refl refl refl refl (λ P a p. a) (λ log changes seat_of reached holder engine f seen known shown. (f.seen, f.knows, f.told, f.shown))
 
   -- A seat shows how many changes its processor has seen. From then on the rule keeps that it has
 
@@ -107,6 +131,8 @@ module _ (bounds : Bounds) where
       record { seen = f.seen; knows = known_before r.log r.changes r.seat_of r.reached r.holder r.engine id v.role v.changes f.knows; told = All-nil (λ m. GoesOn m (now r.log r.changes)); makes = tt; has = tt; shown = is }
       (λ j d ne e. reached_more r.log r.changes r.seat_of r.reached reached' r.holder r.engine j more d (λ p cpu. keep j d p e cpu) (r.each_view j d e)))
       (views_split (λ _ u. HasDone r.deeds u) s.views id v v (shower v) at (r.each_done id v at) (has_done_none r.deeds (shower v) refl refl) (λ j u _ e. r.each_done j u e))
+      r.shelf.writer_of (let g = r.shelf.each id v at in views_split (FitsShelf s.words r.log r.shelf.texts r.shelf.writer_of) s.views id v v (shower v) at g
+      record { has = g.has; told = All-nil (λ x. x.texts ≡ texts_at r.shelf.texts x.history); writes = tt } (λ j d _ e. r.shelf.each j d e))
 
   -- what is known of a processor it has seen
   knows_reached : (s : State (Option ℕ) View) (r : Kept bounds s) (j : ℕ) (d : View) (p : ℕ) → get_elem? s.views j ≡ some d → d.role ≡ Cpu p → r.reached p ≤ d.changes
@@ -188,6 +214,8 @@ module _ (bounds : Bounds) where
       record { upto = g.upto; own = λ n h. g.own n (still_stands k v.role n is h) }
       record { upto = g.upto; own = λ n h. g.own n (stood_before k v.role n is h) }
       (λ j u _ e. r.each_done j u e))
+      r.shelf.writer_of (let g = r.shelf.each id v at in views_split (FitsShelf s.words r.log r.shelf.texts r.shelf.writer_of) s.views id v (dealer v) (dealt v) at
+      record { has = g.has; told = g.told; writes = g.writes } record { has = g.has; told = All-nil (λ x. x.texts ≡ texts_at r.shelf.texts x.history); writes = tt } (λ j d _ e. r.shelf.each j d e))
     where
       fewer : (k : ℕ) (n : Maker) → StandsFor (Driver (k + 1)) n → StandsFor (Driver k) n
       fewer k Engine h = tt
@@ -201,6 +229,36 @@ module _ (bounds : Bounds) where
 
       stood_before : (k : ℕ) (role : Role) (n : Maker) → role ≡ Driver k → StandsFor (next_role role) n → StandsFor role n
       stood_before k role n is h = subst (λ (z : Role). StandsFor z n) (sym is) (next_one k n (subst (λ (z : Role). StandsFor (next_role z) n) is h))
+
+  -- the seat of the next cell's writer
+  pub deals_pen : (id : ℕ) (v : View) (c : ℕ) → v.right ≡ Undealt c → c < 4 → Splits (Kept bounds) id v (pen_dealer v) (pen_dealt v)
+  deals_pen id v c is lc s r at =
+      let f = r.each_view id v at in
+      let g = r.shelf.each id v at in
+      let m : ℕ = length s.views in
+      let undealt : Writes s.words r.log r.shelf.writer_of id (Undealt c) = subst (λ (t : Right). Writes s.words r.log r.shelf.writer_of id t) is g.writes in
+      let writer' : ℕ → ℕ = given c m r.shelf.writer_of in
+      let first = undealt c (omega arith) in
+      reviewed s r (set s.views id (pen_dealer v) ++ pen_dealt v ∷ []) r.seat_of r.reached r.holder r.known (views_split (Fits r.log r.changes r.seat_of r.reached r.holder r.engine) s.views id v (pen_dealer v) (pen_dealt v) at
+      record { seen = f.seen; knows = f.knows; told = f.told; makes = f.makes; has = subst (λ (t : Right). Has r.log r.changes r.seat_of r.reached r.holder r.engine id (without_cell t)) (sym is) tt; shown = f.shown }
+      record { seen = f.seen; knows = known_before r.log r.changes r.seat_of r.reached r.holder r.engine id v.role v.changes f.knows; told = All-nil (λ x. GoesOn x (now r.log r.changes)); makes = tt; has = subst (λ (t : Right). Has r.log r.changes r.seat_of r.reached r.holder r.engine m (next_cell t)) (sym is) tt; shown = tt }
+      (λ j d _ e. r.each_view j d e))
+      (views_split (λ _ u. HasDone r.deeds u) s.views id v (pen_dealer v) (pen_dealt v) at (has_done_as r.deeds v (pen_dealer v) refl refl (r.each_done id v at)) (has_done_none r.deeds (pen_dealt v) refl refl) (λ j u _ e. r.each_done j u e))
+      writer' (views_split (FitsShelf s.words r.log r.shelf.texts writer') s.views id v (pen_dealer v) (pen_dealt v) at
+      record { has = g.has; told = g.told; writes = subst (λ (t : Right). Writes s.words r.log writer' id (without_cell t)) (sym is) (λ d le. let n = undealt d (omega (arith, le)) in record { writer = given_else c m r.shelf.writer_of d (λ e. omega (arith, e, le)) ∙ n.writer; unput = n.unput; zeros = n.zeros }) }
+      record {
+        has = g.has;
+        told = All-nil (λ x. x.texts ≡ texts_at r.shelf.texts x.history);
+        writes = subst (λ (t : Right). Writes s.words r.log writer' m (next_cell t)) (sym is) record {
+          writer = given_here c m r.shelf.writer_of;
+          cell = lc;
+          upto = beginning_empty r.log;
+          all = first.unput;
+          long = length-replicate {A = ℕ} 128 0;
+          stored = λ x i lx li. first.zeros x i lc lx li ∙ sym (get_or-replicate 128 (16 * x + i) 0 0 (omega (arith, lx, li)));
+        };
+      }
+      (λ j d ne e. fits_shelf_as s.words r.log r.shelf.texts r.shelf.writer_of writer' j (λ b h. given_else c m r.shelf.writer_of b (λ bc. ne (sym h ∙ (ap r.shelf.writer_of bc ∙ first.writer))) ∙ h) d (r.shelf.each j d e)))
 
   first_view : (j : ℕ) (d : View) → get_elem? (founder bounds ∷ []) j ≡ some d → Fits [] 0 (λ _. 0) (λ _. 0) (λ _. 0) 0 j d
   first_view zero d e = subst (λ (v : View). Fits [] 0 (λ _. 0) (λ _. 0) (λ _. 0) 0 0 v) (some-injective (founder bounds) d e) record {
@@ -216,6 +274,10 @@ module _ (bounds : Bounds) where
   first_done : (j : ℕ) (d : View) → get_elem? (founder bounds ∷ []) j ≡ some d → HasDone [] d
   first_done zero d e = subst (λ (v : View). HasDone [] v) (some-injective (founder bounds) d e) record { upto = upto_empty []; own = λ m _. refl }
   first_done (suc j) d e = absurd (some-ne-none d (sym e))
+
+  first_shelf : (words : List ℕ) → ((k : ℕ) → get_or words k 0 ≡ 0) → (j : ℕ) (d : View) → get_elem? (founder bounds ∷ []) j ≡ some d → FitsShelf words [] [] (λ _. 0) j d
+  first_shelf words zeros zero d e = subst (λ (v : View). FitsShelf words [] [] (λ _. 0) 0 v) (some-injective (founder bounds) d e) record { has = refl; told = All-nil (λ x. x.texts ≡ texts_at [] x.history); writes = λ c _. record { writer = refl; unput = refl; zeros = λ x i _ _ _. zeros (word_place c x i) } }
+  first_shelf words zeros (suc j) d e = absurd (some-ne-none d (sym e))
 
   -- a table whose words are all 0 has an empty history
   pub opens : (words : List ℕ) → length words ≡ word_count bounds.processors → ((k : ℕ) → get_or words k 0 ≡ 0) → AreSmall bounds → Kept bounds (opening words [] (founder bounds))
@@ -234,4 +296,5 @@ module _ (bounds : Bounds) where
     deeds = [];
     done = record { words = All-nil (λ d. IsTrueOf d.at d.step); ordered = tt; until = All-nil (λ d. GoesOn d.at (now [] 0)) };
     each_done = first_done;
+    shelf = record { texts = []; writer_of = λ _. 0; shelved = shelved_new words zeros; each = first_shelf words zeros; loaded = All-nil (λ d. IsTrueWord [] [] d.step) };
   }

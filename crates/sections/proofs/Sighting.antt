@@ -24,7 +24,7 @@ same_cpu p q h = cc
 pub asks_how_far : (bounds : Bounds) (slots id : ℕ) (me : Sat) (p : ℕ) → me.0.processors ≡ bounds.processors → me.0.role ≡ Cpu p → p < bounds.processors
     → Allows (Kept bounds) slots id me number_place (λ x. x) (asked_how_far (step slots number_place 0 0 none) me)
 asks_how_far bounds slots id me p sized is lt = tells_here bounds slots id me p (λ n. Ask (4 * periods_ended n) true (Processor p)) (asked_how_far (step slots number_place 0 0 none) me) sized is lt
-    (λ n. record { by = refl; no_start = refl; no_finish = refl; no_lock = λ _ _. refl; no_unlock = λ _ _ _. refl; no_end = λ _. refl; maker = λ m lt. lt })
+    (λ n. record { by = refl; no_start = refl; no_finish = refl; no_lock = λ _ _. refl; no_unlock = λ _ _ _. refl; no_end = λ _. refl; maker = λ m lt. lt; no_put = refl })
     (λ s r. let number = r.words.number in let ended = r.words.reaches.ended in (omega arith, ((λ _. omega (arith, number, ended)), (λ _. refl))))
     (λ n w found right adds. (refl, right, found, λ q is'. subst (λ (z : ℕ). Adds me.0 (Ask (4 * periods_ended n) true (Processor z)) w) (same_cpu p q (sym is ∙ is')) adds))
 

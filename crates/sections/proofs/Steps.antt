@@ -1,5 +1,5 @@
 -- Each step of a processor keeps the rule.
-use Rattle.std.proofs.Common.{◌≡◌, ℕ, ◌+◌, ◌*◌, ◌%◌, ◌^◌, ◌<◌, ◌≤◌, ◌≢◌, Bool, true, false, cond, eqb, ltb, ◌&&◌, nat_le, List, [], ◌∷◌, ◌++◌, All, Option, get_or, set, refl, sym, ap, ◌∙◌, subst, eq-eqb, ne_eqb, lt-ltb, le-ltb, leb-true, le-leb, arith}
+use Rattle.std.proofs.Common.{◌≡◌, ℕ, ◌+◌, ◌*◌, ◌%◌, ◌^◌, ◌<◌, ◌≤◌, ◌≢◌, Bool, true, false, cond, eqb, ltb, ◌&&◌, nat_le, List, [], ◌∷◌, ◌++◌, All, Option, None, inr, get_or, set, refl, sym, ap, ◌∙◌, subst, eq-eqb, ne_eqb, lt-ltb, le-ltb, leb-true, le-leb, arith}
 use Rattle.std.proofs.lemmas.List.Elements.{All-nil, All-head}
 use mathlib.Core.Logic.{dite}
 use mathlib.Core.Option.{none, some}
@@ -23,7 +23,7 @@ use Rattle.sections.specs.declared.view.Moment.{Moment}
 use Rattle.sections.specs.declared.view.Role.{Role}
 use Rattle.sections.specs.declared.view.Role.TheVariants.{Cpu, Driver}
 use Rattle.sections.specs.declared.view.Right.{Right}
-use Rattle.sections.specs.declared.view.Right.TheVariants.{Nothing, Section}
+use Rattle.sections.specs.declared.view.Right.TheVariants.{Nothing, Section, Shelf, Undealt}
 use Rattle.sections.specs.declared.view.Step.{Step}
 use Rattle.sections.specs.declared.view.Step.TheVariants.{LoadIndex}
 use Rattle.sections.specs.declared.view.Shown.TheVariants.{Unknown}
@@ -31,15 +31,17 @@ use Rattle.sections.specs.declared.view.View.{View}
 use Rattle.sections.specs.Words.{is_held, number_place, lock_place, unlock_place, locks_at, locks, unlocks_at, unlocks, index_word, number_word, Reaches, Agree}
 use Rattle.sections.specs.declared.view.Deed.{Deed}
 use Rattle.sections.specs.Rule.{HasItsMaker, HasReached, GoesOn, IsTrueOf, IsMaker, HasDone, Makes, Has, Knows, Fits, Kept}
+use Rattle.sections.specs.Shelves.{put_cell, texts_at, FitsShelf, IsTrueWord, KeepsShelf}
 use Rattle.sections.specs.Plays.{Owns, IsSound, Sees, Admits, Adds, Sat, looked, admitted, began, ended, FindsNumber, noted, asked}
 use Rattle.sections.proofs.Counters.{index_number_same, locks_push, elsewhere, locks_mine, All-push, unlocks_bounded}
 use Rattle.sections.proofs.Agreement.{agrees_begun, agrees_ended, agrees_plain}
+use Rattle.sections.proofs.Shelving.{IsSameShelf, same_shelf, same_set, texts_on, writes_event, shelf_event, shelf_deed, knows_texts, fits_all}
 use Rattle.sections.proofs.Deeds.{cpu_makes, stands_at, maker_at, deed, done_later, done_push, has_done_push, has_done_all, has_done_as, one_more_step}
-use Rattle.sections.proofs.Knowing.{now, views_set, given, given_here, given_else, seat_at, has_stays, fits_stay, fits_later, known_before, knows_all, owns_from_makes, owns_between, not_false, false≠true, hits}
+use Rattle.sections.proofs.Knowing.{now, covers_as, views_set, given, given_here, given_else, seat_at, has_stays, fits_stay, fits_later, known_before, knows_all, owns_from_makes, owns_between, not_false, false≠true, hits}
 
 -- The cookie of the number, and what is asked of it
 
-same_cpu : (p q : ℕ) → Cpu p ≡ Cpu q → p ≡ q
+pub same_cpu : (p q : ℕ) → Cpu p ≡ Cpu q → p ≡ q
 same_cpu p q h = cc
 
 abbrev factor : Bool → ℕ
@@ -73,21 +75,28 @@ pub record IsTold (p : ℕ) (e : Event) : Type 0 where
   pub no_unlock : (before : List Event) (q : ℕ) (i : Index) → unlocks_at q i before e ≡ false
   pub no_end : (s : ℕ) → ends s e ≡ false
   pub maker : (n : ℕ) → p < n → HasItsMaker n e
+  pub no_put : put_cell e ≡ None
 
-same_section : (s t p q : ℕ) (i j : Index) → Section s p i ≡ Section t q j → (s ≡ t) × (p ≡ q) × (i ≡ j)
+pub same_section : (s t p q : ℕ) (i j : Index) → Section s p i ≡ Section t q j → (s ≡ t) × (p ≡ q) × (i ≡ j)
 same_section s t p q i j h = (λ k. section_in (h k), λ k. processor_in (h k), λ k. index_in (h k))
   where
     section_in : Right → ℕ
     section_in Nothing = 0
     section_in (Section s p i) = s
+    section_in (Shelf c words seen) = 0
+    section_in (Undealt c) = 0
 
     processor_in : Right → ℕ
     processor_in Nothing = 0
     processor_in (Section s p i) = p
+    processor_in (Shelf c words seen) = 0
+    processor_in (Undealt c) = 0
 
     index_in : Right → Index
     index_in Nothing = Zero
     index_in (Section s p i) = i
+    index_in (Shelf c words seen) = Zero
+    index_in (Undealt c) = Zero
 
 module _ (bounds : Bounds) where
   -- What was done
@@ -110,8 +119,9 @@ module _ (bounds : Bounds) where
   -- Loads that are no events
 
   -- a load changes no word, and its seat has then seen all
-  unmoved : (s : State (Option ℕ) View) (r : Kept bounds s) (k id : ℕ) (cs : List (ℕ × Option ℕ)) (w : View) (by : Maker) (l : Step) → IsTrueOf (now r.log r.changes) l → seat_at r.seat_of r.engine by ≡ id → w.done ≡ r.deeds ++ deed by l (now r.log r.changes) ∷ [] → Fits r.log r.changes r.seat_of r.reached r.holder r.engine id w → Kept bounds (stepped s k (get_or s.words k 0) id cs w keeps)
-  unmoved s r k id cs w by l is here all fits = subst (λ (ws : List ℕ). Kept bounds record { words = ws; homes = s.homes; views = set s.views id w }) (sym (set-get_or s.words k 0)) record {
+  unmoved : (s : State (Option ℕ) View) (r : Kept bounds s) (k id : ℕ) (cs : List (ℕ × Option ℕ)) (w : View) (by : Maker) (l : Step) → IsTrueOf (now r.log r.changes) l → seat_at r.seat_of r.engine by ≡ id → w.done ≡ r.deeds ++ deed by l (now r.log r.changes) ∷ [] → Fits r.log r.changes r.seat_of r.reached r.holder r.engine id w
+      → IsTrueWord r.log r.shelf.texts l → FitsShelf s.words r.log r.shelf.texts r.shelf.writer_of id w → Kept bounds (stepped s k (get_or s.words k 0) id cs w keeps)
+  unmoved s r k id cs w by l is here all fits word fits_shelf = subst (λ (ws : List ℕ). Kept bounds record { words = ws; homes = s.homes; views = set s.views id w }) (sym (set-get_or s.words k 0)) record {
     log = r.log;
     changes = r.changes;
     seat_of = r.seat_of;
@@ -126,27 +136,28 @@ module _ (bounds : Bounds) where
     deeds = r.deeds ++ deed by l (now r.log r.changes) ∷ [];
     done = done_push r.deeds by l (now r.log r.changes) is r.done;
     each_done = each_more s r id (deed by l (now r.log r.changes)) w here all;
+    shelf = shelf_deed s.words s.words s.views r.log r.deeds id w (deed by l (now r.log r.changes)) r.shelf (same_shelf s.words) word fits_shelf;
   }
 
   -- what the seat is told by such a load, it may be told whatever the table is
   pub loads_here : (slots id k : ℕ) (me : Sat) (m : Maker) (l : ℕ → List Event → Step) (told_of : ℕ → Sat → Type 0) → IsMaker me.0.role m → me.0.processors ≡ bounds.processors
-      → ((s : State (Option ℕ) View) (r : Kept bounds s) → IsTrueOf (now r.log r.changes) (l (get_or s.words k 0) r.log))
-      → ((s : State (Option ℕ) View) (r : Kept bounds s) (w : View) → get_elem? s.views id ≡ some me.0 → w.seen ≡ r.log → w.changes ≡ r.changes → Sees (l (get_or s.words k 0) w.seen) me.0 w → told_of (get_or s.words k 0) (w, me.1))
+      → ((s : State (Option ℕ) View) (r : Kept bounds s) → get_elem? s.views id ≡ some me.0 → IsTrueOf (now r.log r.changes) (l (get_or s.words k 0) r.log) × IsTrueWord r.log r.shelf.texts (l (get_or s.words k 0) r.log))
+      → ((s : State (Option ℕ) View) (r : Kept bounds s) (w : View) → get_elem? s.views id ≡ some me.0 → w.seen ≡ r.log → w.changes ≡ r.changes → w.texts ≡ r.shelf.texts → Sees (l (get_or s.words k 0) w.seen) me.0 w → told_of (get_or s.words k 0) (w, me.1))
       → Allows (Kept bounds) slots id me k (λ x. x) told_of
   loads_here slots id k me m l told_of is sized true_of tells s r _ at _ = let v : View = me.0 in let f = r.each_view id v at in let n : ℕ = get_or s.words k 0 in
-      let w : View = record { processors = v.processors; role = v.role; mine = v.mine; seen = r.log; changes = r.changes; told = []; right = v.right; shown = v.shown; done = r.deeds ++ deed m (l n r.log) (now r.log r.changes) ∷ [] } in (
+      let w : View = record { processors = v.processors; role = v.role; mine = v.mine; seen = r.log; changes = r.changes; texts = r.shelf.texts; told = []; right = v.right; shown = v.shown; done = r.deeds ++ deed m (l n r.log) (now r.log r.changes) ∷ [] } in (
         w,
         keeps,
         tt,
-        unmoved s r k id me.1 w m (l n r.log) (true_of s r) (maker_at r.log r.changes r.seat_of r.reached r.holder r.engine id v.role v.mine m f.makes is) refl record {
+        unmoved s r k id me.1 w m (l n r.log) (true_of s r at).0 (maker_at r.log r.changes r.seat_of r.reached r.holder r.engine id v.role v.mine m f.makes is) refl record {
           seen = beginning_refl r.log;
           knows = knows_all r.log r.changes r.seat_of r.reached r.holder r.engine id r.known v.role;
           told = All-nil (λ m. GoesOn m (now r.log r.changes));
           makes = f.makes;
           has = f.has;
           shown = f.shown;
-        },
-        tells s r w at refl refl record {
+        } (true_of s r at).1 (fits_all s.words r.log r.shelf.texts r.shelf.writer_of id w refl refl refl r.shelf.shelved.cells (r.shelf.each id v at).writes),
+        tells s r w at refl refl refl record {
           processors = refl;
           role = refl;
           mine = refl;
@@ -156,7 +167,8 @@ module _ (bounds : Bounds) where
           steps = one_more_step v.role m (l n r.log) (now r.log r.changes) v.done r.deeds is (r.each_done id v at).own;
           since = f.seen;
           later = known_before r.log r.changes r.seat_of r.reached r.holder r.engine id v.role v.changes f.knows;
-          covers = f.told;
+          covers = covers_as v.told r.log r.changes r.shelf.texts f.told;
+          texts = knows_texts s.words r.log r.shelf.texts r.shelf.writer_of id v w (r.shelf.each id v at) refl r.shelf.shelved.cells;
           sound = record {
             legal = r.within.legal;
             makers = subst (λ (z : ℕ). All (HasItsMaker z) r.log) (sym sized) r.within.makers;
@@ -171,7 +183,7 @@ module _ (bounds : Bounds) where
   exact s r id v d at is = subst (λ (m : Role). Knows r.log r.changes r.seat_of r.reached r.holder r.engine id m v.changes) is (r.each_view id v at).knows
 
   pub looks : (slots id : ℕ) (me : Sat) (m : Maker) → IsMaker me.0.role m → me.0.processors ≡ bounds.processors → Allows (Kept bounds) slots id me 0 (λ x. x) (looked (step slots 0 0 0 none) me)
-  looks slots id me m is sized = loads_here slots id 0 me m (λ n _. LoadIndex n) (looked (step slots 0 0 0 none) me) is sized (λ s r. r.words.index) (λ s r w at seen changes sees. (refl, sees, r.words.index ∙ ap index_word (sym changes), refl, λ d is. changes ∙ sym (exact s r id me.0 d at is)))
+  looks slots id me m is sized = loads_here slots id 0 me m (λ n _. LoadIndex n) (looked (step slots 0 0 0 none) me) is sized (λ s r _. (r.words.index, tt)) (λ s r w at seen changes _ sees. (refl, sees, r.words.index ∙ ap index_word (sym changes), refl, λ d is. changes ∙ sym (exact s r id me.0 d at is)))
 
   -- a load by a processor that was told of a history, which covers its own: it made no event that is not there
   pub admits_here : (slots id : ℕ) (me : Sat) (p : ℕ) (o : Moment) → me.0.processors ≡ bounds.processors → me.0.role ≡ Cpu p → me.0.told ≡ o ∷ [] → IsBeginning me.0.seen o.history → me.0.changes ≤ o.changes
@@ -187,7 +199,7 @@ module _ (bounds : Bounds) where
       let low = goes.changes in
       let knows : Knows r.log r.changes r.seat_of r.reached r.holder r.engine id (Cpu p) v.changes = subst (λ (x : Role). Knows r.log r.changes r.seat_of r.reached r.holder r.engine id x v.changes) is f.knows in
       let known = knows.0 in
-      let w : View = record { processors = v.processors; role = v.role; mine = v.mine; seen = o.history; changes = o.changes; told = []; right = v.right; shown = Unknown; done = r.deeds ++ deed m (LoadIndex n) (now r.log r.changes) ∷ [] } in (
+      let w : View = record { processors = v.processors; role = v.role; mine = v.mine; seen = o.history; changes = o.changes; texts = texts_at r.shelf.texts o.history; told = []; right = v.right; shown = Unknown; done = r.deeds ++ deed m (LoadIndex n) (now r.log r.changes) ∷ [] } in (
         w,
         keeps,
         tt,
@@ -198,7 +210,7 @@ module _ (bounds : Bounds) where
           makes = f.makes;
           has = f.has;
           shown = tt;
-        },
+        } tt record { has = refl; told = All-nil (λ x. x.texts ≡ texts_at r.shelf.texts x.history); writes = (r.shelf.each id v at).writes },
         (
           refl,
           refl,
@@ -211,6 +223,7 @@ module _ (bounds : Bounds) where
             steps = one_more_step v.role m (LoadIndex n) (now r.log r.changes) v.done r.deeds makes (r.each_done id v at).own;
             seen = refl;
             changes = refl;
+            texts = sym (All-head (λ x. x.texts ≡ texts_at r.shelf.texts x.history) o [] (subst (λ (l : List Moment). All (λ x. x.texts ≡ texts_at r.shelf.texts x.history) l) told (r.shelf.each id v at).told));
             found = record { moment = r.changes; word = r.words.index; not_before = goes.changes };
             heard = λ q c is' shown'.
                 let reached : c ≤ r.reached q = subst (HasReached r.reached) shown' f.shown in
@@ -242,8 +255,9 @@ module _ (bounds : Bounds) where
       → ((t : ℕ) → IsOpen r.log t → holder' t ≡ r.holder t)
       → Fits (r.log ++ e ∷ []) changes' r.seat_of r.reached holder' r.engine id w
       → (v : View) → get_elem? s.views id ≡ some v → w.role ≡ v.role → w.done ≡ v.done
+      → KeepsShelf (set s.words k x) (set s.views id w) (r.log ++ e ∷ []) r.deeds
       → Kept bounds (stepped s k x id cs w keeps)
-  added s r id k x cs w e changes' holder' may made agree forth most same_changes limited other ended_here same fits v at role done = record {
+  added s r id k x cs w e changes' holder' may made agree forth most same_changes limited other ended_here same fits v at role done shelf = record {
     log = r.log ++ e ∷ [];
     changes = changes';
     seat_of = r.seat_of;
@@ -260,10 +274,11 @@ module _ (bounds : Bounds) where
     deeds = r.deeds;
     done = done_later r.deeds (now r.log r.changes) (now (r.log ++ e ∷ []) changes') (record { history = beginning_push e (beginning_refl r.log); changes = forth }) r.done;
     each_done = each_as s r id v w at role done;
+    shelf = shelf;
   }
 
   -- an event of a processor leaves the number and the index word as they are
-  happened : (s : State (Option ℕ) View) (r : Kept bounds s) (id k x : ℕ) (cs : List (ℕ × Option ℕ)) (w : View) (e : Event) (holder' : ℕ → ℕ) → MayFollow r.log e → HasItsMaker bounds.processors e
+  pub happened : (s : State (Option ℕ) View) (r : Kept bounds s) (id k x : ℕ) (cs : List (ℕ × Option ℕ)) (w : View) (e : Event) (holder' : ℕ → ℕ) → MayFollow r.log e → HasItsMaker bounds.processors e
       → Agree bounds.processors (set s.words k x) (r.log ++ e ∷ []) r.changes
       → ((p : ℕ) (i : Index) → locks p i (r.log ++ e ∷ []) ≤ bounds.sections)
       → ((j : ℕ) → j ≢ id → (m : Maker) → seat_at r.seat_of r.engine m ≡ j → same_maker (maker_of e) m ≡ false)
@@ -271,8 +286,9 @@ module _ (bounds : Bounds) where
       → ((t : ℕ) → IsOpen r.log t → holder' t ≡ r.holder t)
       → Fits (r.log ++ e ∷ []) r.changes r.seat_of r.reached holder' r.engine id w
       → (v : View) → get_elem? s.views id ≡ some v → w.role ≡ v.role → w.done ≡ v.done
+      → KeepsShelf (set s.words k x) (set s.views id w) (r.log ++ e ∷ []) r.deeds
       → Kept bounds (stepped s k x id cs w keeps)
-  happened s r id k x cs w e holder' may made agree limited other ended_here same fits v at role done = let most = r.within.periods in added s r id k x cs w e r.changes holder' may made agree (omega arith) most (λ _ _ _. refl) limited other ended_here same fits v at role done
+  happened s r id k x cs w e holder' may made agree limited other ended_here same fits v at role done shelf = let most = r.within.periods in added s r id k x cs w e r.changes holder' may made agree (omega arith) most (λ _ _ _. refl) limited other ended_here same fits v at role done shelf
 
   pub sound_after : (s : State (Option ℕ) View) (r : Kept bounds s) (e : Event) (n : ℕ) (role : Role) (mine : List Event) (changes' : ℕ) → MayFollow r.log e → HasItsMaker bounds.processors e → n ≡ bounds.processors
       → Reaches changes' (r.log ++ e ∷ []) → Owns role mine (r.log ++ e ∷ []) → IsSound n role mine (r.log ++ e ∷ []) changes'
@@ -303,7 +319,7 @@ module _ (bounds : Bounds) where
       let small = r.small.counters in
       let below : bounds.sections < 2 ^ 62 = small_limit bounds.processors bounds.sections p lt small in
       let up : y ≡ x + 1 = omega (arith, found, same, room, below) in
-      let w : View = record { processors = v.processors; role = v.role; mine = v.mine ++ e ∷ []; seen = log'; changes = r.changes; told = []; right = Section t p i; shown = v.shown; done = v.done } in
+      let w : View = record { processors = v.processors; role = v.role; mine = v.mine ++ e ∷ []; seen = log'; changes = r.changes; texts = r.shelf.texts; told = []; right = Section t p i; shown = v.shown; done = v.done } in
       let holder' : ℕ → ℕ = given t id r.holder in
       let by_p : same_maker (Processor p) (Processor p) ≡ true = same_maker_refl (Processor p) in
       let mine' : v.mine ++ e ∷ [] ≡ made_by (Processor p) log' = ap (λ l. l ++ e ∷ []) made.1 ∙ sym (made_by_own (Processor p) r.log e by_p) in
@@ -329,7 +345,9 @@ module _ (bounds : Bounds) where
             (λ j ne m there. alone r.seat_of r.engine id (Processor p) made.0 j ne m there)
             (λ u no_end. absurd (false≠true no_end))
             (λ u is_open. given_else t id r.holder u (λ ut. let begun : 0 < begins_of t r.log = subst (λ (z : ℕ). 0 < begins_of z r.log) ut is_open.0 in let unbegun = new.1 in omega (arith, begun, unbegun)))
-            fits v at refl refl,
+            fits v at refl refl
+            (shelf_event s.words (set s.words k y) s.views r.log r.deeds id w e r.shelf (same_set s.words k y (inr (omega (arith, place)))) r.within.legal new.1 refl
+            (fits_all (set s.words k y) log' r.shelf.texts r.shelf.writer_of id w refl refl refl (texts_on r.shelf.texts r.log e refl r.shelf.shelved.cells) tt)),
         (
           refl,
           λ q j is' word. let pq : p ≡ q = same_cpu p q (sym is ∙ is') in let ij : i ≡ j = same_lock p q i j pq (sym place ∙ word) in
@@ -347,6 +365,7 @@ module _ (bounds : Bounds) where
                   shown = refl;
                   told = refl;
                   done = refl;
+                  texts = knows_texts s.words r.log r.shelf.texts r.shelf.writer_of id v w (r.shelf.each id v at) refl (texts_on r.shelf.texts r.log e refl r.shelf.shelved.cells);
                   sound = sound_after s r e v.processors v.role (v.mine ++ e ∷ []) r.changes new.1 (lt, refl) sized agree.reaches (subst (λ (m : Role). Owns m (v.mine ++ e ∷ []) log') (sym is) mine');
                 },
                 refl,
@@ -407,7 +426,7 @@ module _ (bounds : Bounds) where
       let up : y ≡ x + 1 = omega (arith, found, most, small) in
       let by_q : same_maker (Processor q) (Processor q) ≡ true = same_maker_refl (Processor q) in
       let mine' : v.mine ++ e ∷ [] ≡ made_by (Processor q) log' = ap (λ l. l ++ e ∷ []) made.1 ∙ sym (made_by_own (Processor q) r.log e by_q) in
-      let w : View = record { processors = v.processors; role = v.role; mine = v.mine ++ e ∷ []; seen = log'; changes = r.changes; told = []; right = Nothing; shown = v.shown; done = v.done } in
+      let w : View = record { processors = v.processors; role = v.role; mine = v.mine ++ e ∷ []; seen = log'; changes = r.changes; texts = r.shelf.texts; told = []; right = Nothing; shown = v.shown; done = v.done } in
       let fits : Fits log' r.changes r.seat_of r.reached r.holder r.engine id w = record {
         seen = beginning_refl log';
         knows = knows_all log' r.changes r.seat_of r.reached r.holder r.engine id r.known v.role;
@@ -425,7 +444,9 @@ module _ (bounds : Bounds) where
             (λ j ne m there. alone r.seat_of r.engine id (Processor q) made.0 j ne m there)
             (λ u hit. ap r.holder (sym (hits t u hit)) ∙ has.0)
             (λ u _. refl)
-            fits v at refl refl,
+            fits v at refl refl
+            (shelf_event s.words (set s.words k y) s.views r.log r.deeds id w e r.shelf (same_set s.words k y (inr (omega (arith, place)))) r.within.legal has.1 refl
+            (fits_all (set s.words k y) log' r.shelf.texts r.shelf.writer_of id w refl refl refl (texts_on r.shelf.texts r.log e refl r.shelf.shelved.cells) tt)),
         (
           refl,
           refl,
@@ -442,6 +463,7 @@ module _ (bounds : Bounds) where
               shown = refl;
               told = refl;
               done = refl;
+              texts = knows_texts s.words r.log r.shelf.texts r.shelf.writer_of id v w (r.shelf.each id v at) refl (texts_on r.shelf.texts r.log e refl r.shelf.shelved.cells);
               sound = sound_after s r e v.processors v.role (v.mine ++ e ∷ []) r.changes has.1 (lt, refl) sized agree.reaches (subst (λ (m : Role). Owns m (v.mine ++ e ∷ []) log') (sym is) mine');
             },
             λ oc. let qp : q ≡ p = qc ∙ (sym oc ∙ sym same.1) in (λ h. begins_of (sym same.0 h) v.mine) ∙ (ap (begins_of t) (made.1 ∙ (λ h. made_by (Processor (qp h)) r.log)) ∙ has.3),
@@ -459,23 +481,23 @@ module _ (bounds : Bounds) where
   finds s r w same = let most = r.within.periods in let few = r.small.periods in let is = r.words.number in record { current = r.words.number ∙ ap number_word (sym same); room = omega (arith, is, most, few) }
 
   -- an event that a load makes
-  pub tells_here : (slots id : ℕ) (me : Sat) (p : ℕ) (e : ℕ → Event) (told_of : ℕ → Sat → Type 0) → me.0.processors ≡ bounds.processors → me.0.role ≡ Cpu p → p < bounds.processors
-      → ((n : ℕ) → IsTold p (e n)) → ((s : State (Option ℕ) View) (r : Kept bounds s) → MayFollow r.log (e (get_or s.words number_place 0)))
-      → ((n : ℕ) (w : View) → FindsNumber n w → w.right ≡ me.0.right → Adds me.0 (e n) w → told_of n (w, me.1))
-      → Allows (Kept bounds) slots id me number_place (λ x. x) told_of
-  tells_here slots id me p event told_of sized is lt told follows tells s r _ at _ =
+  pub tells_at : (slots id k : ℕ) (me : Sat) (p : ℕ) (e : ℕ → Event) (told_of : ℕ → Sat → Type 0) → me.0.processors ≡ bounds.processors → me.0.role ≡ Cpu p → p < bounds.processors
+      → ((n : ℕ) → IsTold p (e n)) → ((s : State (Option ℕ) View) (r : Kept bounds s) → get_elem? s.views id ≡ some me.0 → MayFollow r.log (e (get_or s.words k 0)))
+      → ((s : State (Option ℕ) View) (r : Kept bounds s) (w : View) → w.changes ≡ r.changes → w.texts ≡ r.shelf.texts → w.right ≡ me.0.right → Adds me.0 (e (get_or s.words k 0)) w → told_of (get_or s.words k 0) (w, me.1))
+      → Allows (Kept bounds) slots id me k (λ x. x) told_of
+  tells_at slots id k me p event told_of sized is lt told follows tells s r _ at _ =
       let v : View = me.0 in
       let f = r.each_view id v at in
       let made : Makes r.log r.changes r.seat_of r.reached r.holder r.engine id (Cpu p) v.mine = subst (λ (m : Role). Makes r.log r.changes r.seat_of r.reached r.holder r.engine id m v.mine) is f.makes in
-      let n : ℕ = get_or s.words number_place 0 in
+      let n : ℕ = get_or s.words k 0 in
       let e : Event = event n in
       let t = told n in
-      let may = follows s r in
+      let may = follows s r at in
       let log' : List Event = r.log ++ e ∷ [] in
       let agree : Agree bounds.processors s.words log' r.changes = agrees_plain bounds.processors s.words r.log r.changes r.words e t.no_start t.no_finish t.no_lock (t.no_unlock r.log) in
       let by_p : same_maker (maker_of e) (Processor p) ≡ true = ap (λ m. same_maker m (Processor p)) t.by ∙ same_maker_refl (Processor p) in
       let mine' : v.mine ++ e ∷ [] ≡ made_by (Processor p) log' = ap (λ l. l ++ e ∷ []) made.1 ∙ sym (made_by_own (Processor p) r.log e by_p) in
-      let w : View = record { processors = v.processors; role = v.role; mine = v.mine ++ e ∷ []; seen = log'; changes = r.changes; told = []; right = v.right; shown = v.shown; done = v.done } in
+      let w : View = record { processors = v.processors; role = v.role; mine = v.mine ++ e ∷ []; seen = log'; changes = r.changes; texts = r.shelf.texts; told = []; right = v.right; shown = v.shown; done = v.done } in
       let fits : Fits log' r.changes r.seat_of r.reached r.holder r.engine id w = record {
         seen = beginning_refl log';
         knows = knows_all log' r.changes r.seat_of r.reached r.holder r.engine id r.known v.role;
@@ -487,14 +509,17 @@ module _ (bounds : Bounds) where
         w,
         keeps,
         tt,
-        happened s r id number_place n me.1 w e r.holder may (t.maker bounds.processors lt)
-            (subst (λ (ws : List ℕ). Agree bounds.processors ws log' r.changes) (sym (set-get_or s.words number_place 0)) agree)
+        happened s r id k n me.1 w e r.holder may (t.maker bounds.processors lt)
+            (subst (λ (ws : List ℕ). Agree bounds.processors ws log' r.changes) (sym (set-get_or s.words k 0)) agree)
             (λ q j. let c = locks_push q j r.log e in let z = ap bit (t.no_lock q j) in let was = r.within.limited q j in omega (arith, c, z, was))
             (λ j ne m there. ap (λ x. same_maker x m) t.by ∙ alone r.seat_of r.engine id (Processor p) made.0 j ne m there)
             (λ u hit. absurd (false≠true (sym (t.no_end u) ∙ hit)))
             (λ u _. refl)
-            fits v at refl refl,
-        tells n w (finds s r w refl) refl record {
+            fits v at refl refl
+            (let same : IsSameShelf s.words (set s.words k n) = subst (λ (ws : List ℕ). IsSameShelf s.words ws) (sym (set-get_or s.words k 0)) (same_shelf s.words) in shelf_event s.words (set s.words k n) s.views r.log r.deeds id w e r.shelf same r.within.legal may t.no_put
+            (fits_all (set s.words k n) log' r.shelf.texts r.shelf.writer_of id w refl refl refl (texts_on r.shelf.texts r.log e t.no_put r.shelf.shelved.cells)
+            (writes_event s.words (set s.words k n) r.log e r.shelf.writer_of id same t.no_put v.right (r.shelf.each id v at).writes))),
+        tells s r w refl refl refl record {
           before = r.log;
           seen = refl;
           since = f.seen;
@@ -506,18 +531,25 @@ module _ (bounds : Bounds) where
           shown = refl;
           told = refl;
           done = refl;
+          texts = knows_texts s.words r.log r.shelf.texts r.shelf.writer_of id v w (r.shelf.each id v at) refl (texts_on r.shelf.texts r.log e t.no_put r.shelf.shelved.cells);
           sound = sound_after s r e v.processors v.role (v.mine ++ e ∷ []) r.changes may (t.maker bounds.processors lt) sized agree.reaches (subst (λ (m : Role). Owns m (v.mine ++ e ∷ []) log') (sym is) mine');
         },
       )
 
+  pub tells_here : (slots id : ℕ) (me : Sat) (p : ℕ) (e : ℕ → Event) (told_of : ℕ → Sat → Type 0) → me.0.processors ≡ bounds.processors → me.0.role ≡ Cpu p → p < bounds.processors
+      → ((n : ℕ) → IsTold p (e n)) → ((s : State (Option ℕ) View) (r : Kept bounds s) → MayFollow r.log (e (get_or s.words number_place 0)))
+      → ((n : ℕ) (w : View) → FindsNumber n w → w.right ≡ me.0.right → Adds me.0 (e n) w → told_of n (w, me.1))
+      → Allows (Kept bounds) slots id me number_place (λ x. x) told_of
+  tells_here slots id me p event told_of sized is lt told follows tells = tells_at slots id number_place me p event told_of sized is lt told (λ s r _. follows s r) (λ s r w changes _ right adds. tells (get_or s.words number_place 0) w (finds s r w changes) right adds)
+
   pub notes_here : (slots id : ℕ) (me : Sat) (p : ℕ) → me.0.processors ≡ bounds.processors → me.0.role ≡ Cpu p → p < bounds.processors → Allows (Kept bounds) slots id me number_place (λ x. x) (noted (step slots number_place 0 0 none) me)
   notes_here slots id me p sized is lt = tells_here slots id me p (λ n. Note (cookie_at n) (Processor p)) (noted (step slots number_place 0 0 none) me) sized is lt
-      (λ n. record { by = refl; no_start = refl; no_finish = refl; no_lock = λ _ _. refl; no_unlock = λ _ _ _. refl; no_end = λ _. refl; maker = λ m lt. lt })
+      (λ n. record { by = refl; no_start = refl; no_finish = refl; no_lock = λ _ _. refl; no_unlock = λ _ _ _. refl; no_end = λ _. refl; maker = λ m lt. lt; no_put = refl })
       (λ s r. note_follows (get_or s.words number_place 0) r.changes r.log r.words.number r.words.reaches)
       (λ n w found right adds. (refl, right, found, λ q is'. subst (λ (z : ℕ). Adds me.0 (Note (cookie_at n) (Processor z)) w) (same_cpu p q (sym is ∙ is')) adds))
 
   pub asks_here : (slots id : ℕ) (me : Sat) (p cookie : ℕ) → me.0.processors ≡ bounds.processors → me.0.role ≡ Cpu p → p < bounds.processors → cookie % 4 ≡ 0 → Allows (Kept bounds) slots id me number_place (λ x. x) (asked cookie (step slots number_place 0 0 none) me)
   asks_here slots id me p cookie sized is lt whole = tells_here slots id me p (λ n. Ask cookie (nat_le cookie n) (Processor p)) (asked cookie (step slots number_place 0 0 none) me) sized is lt
-      (λ n. record { by = refl; no_start = refl; no_finish = refl; no_lock = λ _ _. refl; no_unlock = λ _ _ _. refl; no_end = λ _. refl; maker = λ m lt. lt })
+      (λ n. record { by = refl; no_start = refl; no_finish = refl; no_lock = λ _ _. refl; no_unlock = λ _ _ _. refl; no_end = λ _. refl; maker = λ m lt. lt; no_put = refl })
       (λ s r. ask_follows cookie (get_or s.words number_place 0) r.changes r.log whole r.words.number r.words.reaches)
       (λ n w found right adds. (refl, right, found, λ q is'. subst (λ (z : ℕ). Adds me.0 (Ask cookie (nat_le cookie n) (Processor z)) w) (same_cpu p q (sym is ∙ is')) adds))

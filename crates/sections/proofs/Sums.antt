@@ -9,7 +9,7 @@ use Rattle.sseq.specs.declared.index.Index.TheVariants.{Zero, One}
 use Rattle.sseq.specs.Indexes.{same_index}
 use Rattle.onedom.specs.declared.event.Maker.{Maker}
 use Rattle.onedom.specs.declared.event.Event.{Event}
-use Rattle.onedom.specs.declared.event.Event.TheVariants.{Begin, End, Start, Finish, Note, Ask}
+use Rattle.onedom.specs.declared.event.Event.TheVariants.{Begin, End, Start, Finish, Note, Ask, Find, Put}
 use Rattle.onedom.specs.Histories.{begins, ends, section_begun, open_sections, index_of, IsEmpty, MayFollow, IsLegal}
 use Rattle.onedom.specs.Laws.{times}
 use Rattle.onedom.proofs.CallerLemmas.{bit, count_push, count_cons, index_of_push, index_of_begun, index_of_kept, along, no_ends, count_grows, times_cons, times_open_le, open_sections_begun, open_sections_plain, open_sections_ended, open_once, open_there}
@@ -110,6 +110,8 @@ balances_push i log (Start by) legal may h = balances_plain i log (Start by) (wa
 balances_push i log (Finish by) legal may h = balances_plain i log (Finish by) (waiting_plain i log (Finish by) refl (λ _. refl) (λ _. refl)) refl refl h
 balances_push i log (Note c by) legal may h = balances_plain i log (Note c by) (waiting_plain i log (Note c by) refl (λ _. refl) (λ _. refl)) refl refl h
 balances_push i log (Ask c b by) legal may h = balances_plain i log (Ask c b by) (waiting_plain i log (Ask c b by) refl (λ _. refl) (λ _. refl)) refl refl h
+balances_push i log (Find u d x v by) legal may h = balances_plain i log (Find u d x v by) (waiting_plain i log (Find u d x v by) refl (λ _. refl) (λ _. refl)) refl refl h
+balances_push i log (Put d x v by) legal may h = balances_plain i log (Put d x v by) (waiting_plain i log (Put d x v by) refl (λ _. refl) (λ _. refl)) refl refl h
 
 balances : (i : Index) (log : List Event) → IsLegal log → Balances i log
 balances i log legal = along (Balances i) refl (balances_push i) log legal
@@ -147,6 +149,8 @@ locks_once n i (Start by) has = sum_none n
 locks_once n i (Finish by) has = sum_none n
 locks_once n i (Note c by) has = sum_none n
 locks_once n i (Ask c b by) has = sum_none n
+locks_once n i (Find u d x v by) has = sum_none n
+locks_once n i (Put d x v by) has = sum_none n
 
 unlocks_once : (n : ℕ) (i : Index) (before : List Event) (e : Event) → HasItsMaker n e → sum_below (λ q. bit (unlocks_at q i before e)) n ≡ bit (ends_with i before e)
 unlocks_once n i before (Begin s p j by) has = sum_none n
@@ -155,6 +159,8 @@ unlocks_once n i before (Start by) has = sum_none n
 unlocks_once n i before (Finish by) has = sum_none n
 unlocks_once n i before (Note c by) has = sum_none n
 unlocks_once n i before (Ask c b by) has = sum_none n
+unlocks_once n i before (Find u d x v by) has = sum_none n
+unlocks_once n i before (Put d x v by) has = sum_none n
 
 locks_are_begins : (n : ℕ) (i : Index) (log : List Event) → All (HasItsMaker n) log → all_locks n i log ≡ count_by (begins_with i) log
 locks_are_begins n i [] all = sum_none n
@@ -188,6 +194,8 @@ begin_split (Start by) = refl
 begin_split (Finish by) = refl
 begin_split (Note c by) = refl
 begin_split (Ask c b by) = refl
+begin_split (Find u d x v by) = refl
+begin_split (Put d x v by) = refl
 
 -- each was begun with one index
 begins_split : (log : List Event) → count_by (begins_with Zero) log + count_by (begins_with One) log ≡ opened_in log
@@ -201,6 +209,8 @@ end_split before (Start by) = refl
 end_split before (Finish by) = refl
 end_split before (Note c by) = refl
 end_split before (Ask c b by) = refl
+end_split before (Find u d x v by) = refl
+end_split before (Put d x v by) = refl
 
 ends_split : (before log : List Event) → ended_after Zero before log + ended_after One before log ≡ closed_in log
 ends_split before [] = refl

@@ -13,6 +13,7 @@ use Rattle.sections.specs.declared.view.Step.{Step}
 use Rattle.sections.specs.declared.view.Step.TheVariants.{LoadIndex, LoadUnlocks, LoadLocks}
 use Rattle.sections.specs.Words.{is_held, index_word, number_word, locks, unlocks, all_locks, Reaches}
 use Rattle.sections.specs.Rule.{HasItsMaker}
+use Rattle.sections.specs.Shelves.{IsStart}
 use Rattle.sections.specs.Plays.{IsIndexWord}
 use Rattle.sections.specs.Views.{CpuView, LookView, ReadingView, CookieView}
 
@@ -41,6 +42,7 @@ pub record Loads (l : Step) (c d : CpuView) : Type 0 where
   pub steps : d.steps ≡ c.steps ++ l ∷ []
   pub since : IsBeginning c.seen d.seen
   pub later : c.changes ≤ d.changes
+  pub texts : IsStart c.texts d.texts
   pub history : IsSeenBy d
 
 -- the event was made, behind all that the processor had seen and all that another has, who has seen so many changes
@@ -54,6 +56,7 @@ pub record AddsEvent (other : List Event) (reached : ℕ) (e : Event) (c d : Cpu
   pub not_before : reached ≤ d.changes
   pub mine : d.mine ≡ c.mine ++ e ∷ []
   pub steps : d.steps ≡ c.steps
+  pub texts : IsStart c.texts d.texts
   pub history : IsSeenBy d
 
 -- Sections
@@ -174,7 +177,7 @@ pub record FindsUnlocks (q : ℕ) (i : Index) (found : ℕ) (c d : CpuView) : Ty
 
 -- a processor that knows of nothing yet
 abbrev pub new_cpu : TableId → ℕ → ℕ → ℕ → CpuView
-new_cpu domain processors sections k = record { domain = domain; processors = processors; sections = sections; processor = k; seen = []; changes = 0; mine = []; steps = [] }
+new_cpu domain processors sections k = record { domain = domain; processors = processors; sections = sections; processor = k; seen = []; changes = 0; texts = []; mine = []; steps = [] }
 
 -- processor k stands at k
 abbrev pub AreNew : TableId → ℕ → ℕ → List CpuView → Type 0

@@ -6,7 +6,7 @@ use Rattle.sseq.specs.Indexes.{index_number}
 use Rattle.onedom.specs.declared.event.Maker.TheVariants.{Processor, Engine}
 use Rattle.sections.specs.declared.view.View.{View}
 use Rattle.sections.specs.declared.view.Right.{Right}
-use Rattle.sections.specs.declared.view.Right.TheVariants.{Nothing, Section}
+use Rattle.sections.specs.declared.view.Right.TheVariants.{Nothing, Section, Shelf, Undealt}
 use Rattle.sections.specs.declared.view.Role.TheVariants.{Cpu, Driver}
 use Rattle.sections.specs.declared.cpu.Cpu.TheInside as cpu
 use Rattle.sections.specs.declared.cpu.Look.TheInside as look
@@ -24,6 +24,8 @@ use Rattle.sections.specs.Views.{CpuView, EngineView, LookView, ReadingView, Coo
 abbrev pub section_of : Right → ℕ
 section_of Nothing = 0
 section_of (Section s p i) = s
+section_of (Shelf c words seen) = 0
+section_of (Undealt c) = 0
 
 -- a seat between two calls: it has no right of its own, all that it was told is seen, and what it has seen is sound
 pub record IsAtRest (v : View) : Type 0 where
@@ -36,7 +38,7 @@ view_of_look l = record { domain = l.seat.table_id; index = l.index; seen = l.se
 
 pub record IsLook (l : look.Inside) : Type 0 where
   pub bare : l.seat.me.1 ≡ []
-  pub plain : l.seat.me.0 ≡ token l.seat.me.0.seen l.seat.me.0.changes Nothing
+  pub plain : l.seat.me.0 ≡ token l.seat.me.0.seen l.seat.me.0.changes l.seat.me.0.texts Nothing
 
 abbrev pub view_of_reading : reading.Inside → ReadingView
 view_of_reading r = record { domain = r.seat.table_id; section = section_of r.seat.me.0.right; processor = r.processor; index = r.index; seen = r.seat.me.0.seen; changes = r.seat.me.0.changes }
@@ -61,14 +63,14 @@ view_of_cookie k = record { domain = k.seat.table_id; number = k.number; seen = 
 
 pub record IsCookie (k : cookie.Inside) : Type 0 where
   pub bare : k.seat.me.1 ≡ []
-  pub plain : k.seat.me.0 ≡ token k.seat.me.0.seen k.seat.me.0.changes Nothing
+  pub plain : k.seat.me.0 ≡ token k.seat.me.0.seen k.seat.me.0.changes k.seat.me.0.texts Nothing
   pub given : EndsWithNote k.number k.seat.me.0.seen
   pub whole : k.number % 4 ≡ 0
   pub small : k.number ≤ 2 ^ 61
 
 module _ {A : Type 0} where
   abbrev pub view_of_cpu : cpu.Inside A → CpuView
-  view_of_cpu c = record { domain = c.seat.table_id; processors = (arc_value c.table).shared.key.processors; sections = c.limit; processor = c.processor; seen = c.seat.me.0.seen; changes = c.seat.me.0.changes; mine = c.seat.me.0.mine; steps = steps_of (Processor c.processor) c.seat.me.0.done }
+  view_of_cpu c = record { domain = c.seat.table_id; processors = (arc_value c.table).shared.key.processors; sections = c.limit; processor = c.processor; seen = c.seat.me.0.seen; changes = c.seat.me.0.changes; texts = c.seat.me.0.texts; mine = c.seat.me.0.mine; steps = steps_of (Processor c.processor) c.seat.me.0.done }
 
   pub record IsCpu (c : cpu.Inside A) : Type 0 where
     pub placed : IsPlaced (arc_value c.table).shared.key (arc_value c.table).shared.table_id c.seat

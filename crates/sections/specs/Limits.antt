@@ -1,5 +1,5 @@
 -- The ranges of a domain's limits.
-use Rattle.std.specs.Prelude.{◌≡◌, ℕ, ◌<◌, ◌≤◌, ◌^◌, List, codes}
+use Rattle.std.specs.Prelude.{ℕ, ◌<◌, ◌≤◌, ◌^◌, List, codes}
 use Rattle.sections.specs.declared.limits.Limits.{Limits}
 use Rattle.sections.specs.declared.limits.MakeError.{MakeError}
 use Rattle.sections.specs.declared.limits.MakeError.TheVariants as refused
@@ -9,7 +9,7 @@ pub record AreInRange (limits : Limits) : Type 0 where
   pub sections : limits.sections ≤ 2 ^ 54
   pub some_periods : 1 ≤ limits.periods
   pub periods : limits.periods < 2 ^ 59
-  pub cells : limits.cells ≡ 0
+  pub cells : limits.cells ≤ 4
 
 -- as a refusal is printed
 abbrev pub make_error_text : MakeError → List ℕ

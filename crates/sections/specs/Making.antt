@@ -6,6 +6,7 @@ use Rattle.sections.specs.declared.limits.Limits.{Limits}
 use Rattle.sections.specs.declared.limits.MakeError.{MakeError}
 use Rattle.sections.specs.declared.limits.MakeError.TheVariants as refused
 use Rattle.sections.specs.declared.view.Role.TheVariants.{Driver}
+use Rattle.sections.specs.declared.view.Right.TheVariants.{Nothing, Undealt}
 use Rattle.sections.specs.Limits.{AreInRange}
 use Rattle.sections.specs.Words.{word_count}
 use Rattle.sections.specs.Rule.{AreSmall, founder}
@@ -29,10 +30,17 @@ pub record IsFounder (bounds key : Bounds) (table : TableId) (k : ℕ) (seat : D
   pub key_is : key ≡ bounds
   pub wide : table.words ≡ word_count bounds.processors
   pub seated : seat.table_id ≡ table
-  pub me : seat.me ≡ (record (founder bounds) { role = Driver k }, [])
+  pub me : seat.me ≡ (record (founder bounds) { role = Driver k; right = Nothing }, [])
+
+-- and of all cells from c on
+pub record DealsCells (bounds key : Bounds) (table : TableId) (c : ℕ) (seat : DomainSeat) : Type 0 where
+  pub key_is : key ≡ bounds
+  pub wide : table.words ≡ word_count bounds.processors
+  pub seated : seat.table_id ≡ table
+  pub me : seat.me ≡ (record (founder bounds) { right = Undealt c }, [])
 
 abbrev pub NewTable : Bounds → Bounds → TableId → DomainSeat → Type 0
-NewTable bounds key table seat = IsFounder bounds key table 0 seat
+NewTable bounds key table seat = DealsCells bounds key table 0 seat
 
 abbrev pub bounds_of : ℕ → Limits → Bounds
 bounds_of processors limits = record { processors = processors; sections = limits.sections; periods = limits.periods }

@@ -1,22 +1,24 @@
 -- What each step on a domain's table tells the seat that makes it.
-use Rattle.std.specs.Prelude.{◌≡◌, ℕ, ◌+◌, ◌^◌, ◌≤◌, nat_le, Bool, List, [], ◌∷◌, ◌++◌, length, All, Option}
+use Rattle.std.specs.Prelude.{◌≡◌, ℕ, ◌+◌, ◌*◌, ◌/◌, ◌%◌, ◌^◌, ◌<◌, ◌≤◌, nat_le, Bool, List, [], ◌∷◌, ◌++◌, length, All, Option, slice_set}
 use Rattle.atomic_table.specs.Table.{Me, Step as TableStep}
 use Rattle.sseq.specs.declared.index.Index.{Index}
 use Rattle.sseq.specs.Numbers.{cookie_at}
 use Rattle.onedom.specs.declared.event.Maker.{Maker}
 use Rattle.onedom.specs.declared.event.Maker.TheVariants.{Processor, Engine}
 use Rattle.onedom.specs.declared.event.Event.{Event}
-use Rattle.onedom.specs.declared.event.Event.TheVariants.{Begin, End, Start, Finish, Note, Ask}
-use Rattle.onedom.specs.Histories.{begins_of, IsLegal, made_by, IsBeginning}
+use Rattle.onedom.specs.declared.event.Event.TheVariants.{Begin, End, Start, Finish, Note, Ask, Find, Put}
+use Rattle.onedom.specs.Histories.{HasFound, version_of, IsClear, begins_of, IsLegal, made_by, IsBeginning}
 use Rattle.sections.specs.declared.view.Role.{Role}
 use Rattle.sections.specs.declared.view.Role.TheVariants.{Bearer, Cpu, Driver}
-use Rattle.sections.specs.declared.view.Right.TheVariants.{Nothing, Section}
+use Rattle.sections.specs.declared.view.Right.TheVariants.{Nothing, Section, Shelf}
 use Rattle.sections.specs.declared.view.Moment.{Moment}
 use Rattle.sections.specs.declared.view.Step.{Step}
-use Rattle.sections.specs.declared.view.Step.TheVariants.{LoadIndex, LoadUnlocks, LoadLocks, AddIndex, AddNumber}
+use Rattle.sections.specs.declared.view.Step.TheVariants.{LoadIndex, LoadUnlocks, LoadLocks, AddIndex, AddNumber, LoadWord}
 use Rattle.sections.specs.declared.view.Shown.TheVariants.{To}
+use Rattle.sections.specs.declared.view.Text.{Text}
 use Rattle.sections.specs.declared.view.View.{View}
-use Rattle.sections.specs.Words.{is_held, index_place, lock_place, unlock_place, locks, unlocks, all_locks, index_word, number_word, Reaches}
+use Rattle.sections.specs.Words.{is_held, index_place, lock_place, unlock_place, cell_place, word_place, locks, unlocks, all_locks, index_word, number_word, Reaches}
+use Rattle.sections.specs.Shelves.{IsStart, IsKnown, AreTextsOf, word_of, slot_words}
 use Rattle.sections.specs.Rule.{HasItsMaker, GoesOn, moment_of, steps_of, IsMaker}
 
 -- the maker's own events are all of its events in what was seen
@@ -32,6 +34,24 @@ pub record IsSound (processors : ℕ) (role : Role) (mine seen : List Event) (ch
   pub own : Owns role mine seen
   pub reaches : Reaches changes seen
 
+-- what is known has a text for each Put that was seen. It goes on from what was known before, and from what was told
+pub record KnowsTexts (v w : View) : Type 0 where
+  pub puts : AreTextsOf w.texts w.seen
+  pub since : IsStart v.texts w.texts
+  pub covers : All (λ m. IsStart m.texts w.texts) v.told
+
+-- the last text is this
+pub record EndsWithText (c : ℕ) (words : List ℕ) (texts : List Text) : Type 0 where
+  pub before : List Text
+  pub whole : texts ≡ before ++ record { cell = c; words = words } ∷ []
+
+-- this event was added last, and before it nothing was put into the cell since that history
+pub record ComesFrom (c : ℕ) (h seen : List Event) (e : Event) : Type 0 where
+  pub before : List Event
+  pub whole : seen ≡ before ++ e ∷ []
+  pub goes_on : IsBeginning h before
+  pub same : version_of c before ≡ version_of c h
+
 -- what is seen covers what was seen before and all that was told, the step is noted, and nothing else changes
 pub record Sees (l : Step) (v w : View) : Type 0 where
   pub processors : w.processors ≡ v.processors
@@ -44,6 +64,7 @@ pub record Sees (l : Step) (v w : View) : Type 0 where
   pub since : IsBeginning v.seen w.seen
   pub later : v.changes ≤ w.changes
   pub covers : All (λ m. GoesOn m (moment_of w)) v.told
+  pub texts : KnowsTexts v w
   pub sound : IsSound w.processors w.role w.mine w.seen w.changes
 
 -- the event was added behind all that was seen before and all that was told
@@ -52,13 +73,14 @@ pub record Adds (v : View) (e : Event) (w : View) : Type 0 where
   pub seen : w.seen ≡ before ++ e ∷ []
   pub since : IsBeginning v.seen before
   pub later : v.changes ≤ w.changes
-  pub covers : All (λ m. GoesOn m record { history = before; changes = w.changes }) v.told
+  pub covers : All (λ m. GoesOn m record { history = before; changes = w.changes; texts = [] }) v.told
   pub processors : w.processors ≡ v.processors
   pub role : w.role ≡ v.role
   pub mine : w.mine ≡ v.mine ++ e ∷ []
   pub shown : w.shown ≡ v.shown
   pub told : w.told ≡ []
   pub done : w.done ≡ v.done
+  pub texts : KnowsTexts v w
   pub sound : IsSound w.processors w.role w.mine w.seen w.changes
 
 abbrev pub Sat : Type 0
@@ -84,6 +106,7 @@ pub record Admits (n : ℕ) (o : Moment) (v w : View) : Type 0 where
   pub steps : (m : Maker) → IsMaker v.role m → steps_of m w.done ≡ steps_of m v.done ++ LoadIndex n ∷ []
   pub seen : w.seen ≡ o.history
   pub changes : w.changes ≡ o.changes
+  pub texts : w.texts ≡ o.texts
   pub found : IsIndexWord n o.changes
   pub heard : (p changes : ℕ) → v.role ≡ Cpu p → v.shown ≡ To p changes → changes ≤ v.changes
   pub sound : IsSound w.processors w.role w.mine w.seen w.changes
@@ -125,6 +148,49 @@ counted_unlocks st m n m' = (m'.1 ≡ m.1) × ((k : ℕ) → m.0.role ≡ Driver
 -- load of a lock counter
 abbrev pub counted_locks : TableStep (Option ℕ) → Sat → ℕ → Sat → Type 0
 counted_locks st m n m' = (m'.1 ≡ m.1) × ((k : ℕ) → m.0.role ≡ Driver k → m'.0.changes ≡ m.0.changes) × ((p : ℕ) (i : Index) → st.word ≡ lock_place p i → Sees (LoadLocks p i n (length m'.0.seen)) m.0 m'.0 × (n ≡ locks p i m'.0.seen) × (all_locks m.0.processors i m'.0.seen ≤ 2 ^ 60))
+
+-- Cells
+
+-- load of a cell by the seat with the right to a section, which finds what is there
+abbrev pub found : TableStep (Option ℕ) → Sat → ℕ → Sat → Type 0
+found st m n m' = (m'.1 ≡ m.1) × (m'.0.right ≡ m.0.right) × ((s p q c : ℕ) (i : Index) → m.0.role ≡ Cpu p → m.0.right ≡ Section s q i → st.word ≡ cell_place c
+    → Adds m.0 (Find s c (n % 16) (n / 16) (Processor p)) m'.0 × IsKnown c (n / 16) m'.0.texts × (n % 16 < 8))
+
+-- load of a word of a slot by the seat with the right to a section, which was told that the section has found that slot. The word is that of the version that was found
+abbrev pub loaded : TableStep (Option ℕ) → Sat → ℕ → Sat → Type 0
+loaded st m n m' = (m'.1 ≡ m.1) × (m'.0.right ≡ m.0.right) × ((s q c x v i : ℕ) (j : Index) (a b : Moment) → m.0.right ≡ Section s q j → m.0.told ≡ a ∷ b ∷ [] → HasFound b.history s c x v → c < 4 → x < 8 → i < 16 → st.word ≡ word_place c x i
+    → Sees (LoadWord c v i n) m.0 m'.0 × (n ≡ word_of c v i m'.0.texts))
+
+-- The words that only the seat with the right to a cell changes
+
+-- store to a cell: the next version is put, and its words are those of the slot
+abbrev pub put : TableStep (Option ℕ) → Sat → ℕ → Sat → Type 0
+put st m n m' = (m'.1 ≡ m.1) × ((p c x : ℕ) (own : List ℕ) (h : List Event) → m.0.role ≡ Cpu p → m.0.right ≡ Shelf c own h → x < 8 → st.word ≡ cell_place c → n ≡ 16 * (version_of c h + 1) + x
+    → Adds m.0 (Put c x (version_of c h + 1) (Processor p)) m'.0 × (m'.0.right ≡ Shelf c own m'.0.seen) × EndsWithText c (slot_words x own) m'.0.texts × ComesFrom c h m'.0.seen (Put c x (version_of c h + 1) (Processor p)))
+
+-- what is seen covers what was seen before, what was told, and what goes with the right. Nothing was put into the cell since
+pub record Keeps (c : ℕ) (h : List Event) (v w : View) : Type 0 where
+  pub processors : w.processors ≡ v.processors
+  pub role : w.role ≡ v.role
+  pub mine : w.mine ≡ v.mine
+  pub shown : w.shown ≡ v.shown
+  pub told : w.told ≡ []
+  pub done : w.done ≡ v.done
+  pub since : IsBeginning v.seen w.seen
+  pub later : v.changes ≤ w.changes
+  pub covers : All (λ m. GoesOn m (moment_of w)) v.told
+  pub goes_on : IsBeginning h w.seen
+  pub same : version_of c w.seen ≡ version_of c h
+  pub legal : IsLegal w.seen
+
+-- load of a cell by the seat with the right to it
+abbrev pub refreshed : TableStep (Option ℕ) → Sat → ℕ → Sat → Type 0
+refreshed st m n m' = (m'.1 ≡ m.1) × ((c : ℕ) (own : List ℕ) (h : List Event) → m.0.right ≡ Shelf c own h → Keeps c h m.0 m'.0 × (m'.0.right ≡ Shelf c own m'.0.seen))
+
+-- store of a word of a slot that nobody can read
+abbrev pub stored : TableStep (Option ℕ) → Sat → ℕ → Sat → Type 0
+stored st m n m' = (m'.1 ≡ m.1) × ((c x i : ℕ) (own : List ℕ) (h : List Event) → m.0.right ≡ Shelf c own h → x < 8 → i < 16 → st.word ≡ word_place c x i
+    → Keeps c h m.0 m'.0 × (m'.0.right ≡ Shelf c (slice_set own (16 * x + i) n) m'.0.seen) × IsClear m'.0.seen c x)
 
 -- The engine's
 

@@ -1,5 +1,5 @@
 -- The rule of a domain's table: there is one legal history, the words agree with it, and each seat knows a part of it.
-use Rattle.std.specs.Prelude.{◌≡◌, ℕ, ◌+◌, ◌*◌, ◌^◌, ◌<◌, ◌≤◌, List, [], ◌∷◌, ◌++◌, All, Option, length, filter, map}
+use Rattle.std.specs.Prelude.{◌≡◌, ℕ, ◌+◌, ◌*◌, ◌^◌, ◌<◌, ◌≤◌, List, [], ◌∷◌, ◌++◌, All, Option, length, filter, map, replicate}
 use mathlib.Core.Option.{some}
 use lib.ListN.{get_elem?}
 use Rattle.atomic_table.specs.Table.{State}
@@ -7,21 +7,23 @@ use Rattle.sseq.specs.declared.index.Index.{Index}
 use Rattle.onedom.specs.declared.event.Maker.{Maker}
 use Rattle.onedom.specs.declared.event.Maker.TheVariants.{Processor, Engine}
 use Rattle.onedom.specs.declared.event.Event.{Event}
-use Rattle.onedom.specs.declared.event.Event.TheVariants.{Begin, End, Start, Finish, Note, Ask}
+use Rattle.onedom.specs.declared.event.Event.TheVariants.{Begin, End, Start, Finish, Note, Ask, Find, Put}
 use Rattle.onedom.specs.Histories.{begins_of, IsOpen, index_of, IsLegal, same_maker, made_by, IsBeginning}
 use Rattle.sections.specs.declared.view.Bounds.{Bounds}
 use Rattle.sections.specs.declared.view.Role.{Role}
 use Rattle.sections.specs.declared.view.Role.TheVariants.{Bearer, Cpu, Driver}
 use Rattle.sections.specs.declared.view.Right.{Right}
-use Rattle.sections.specs.declared.view.Right.TheVariants.{Nothing, Section}
+use Rattle.sections.specs.declared.view.Right.TheVariants.{Nothing, Section, Shelf, Undealt}
 use Rattle.sections.specs.declared.view.Shown.{Shown}
 use Rattle.sections.specs.declared.view.Shown.TheVariants.{Unknown, To}
 use Rattle.sections.specs.declared.view.Moment.{Moment}
 use Rattle.sections.specs.declared.view.Step.{Step}
-use Rattle.sections.specs.declared.view.Step.TheVariants.{LoadIndex, LoadUnlocks, LoadLocks, AddIndex, AddNumber}
+use Rattle.sections.specs.declared.view.Step.TheVariants.{LoadIndex, LoadUnlocks, LoadLocks, AddIndex, AddNumber, LoadWord}
 use Rattle.sections.specs.declared.view.Deed.{Deed}
+use Rattle.sections.specs.declared.view.Text.{Text}
 use Rattle.sections.specs.declared.view.View.{View}
 use Rattle.sections.specs.Words.{locks, unlocks, index_word, number_word, Agree}
+use Rattle.sections.specs.Shelves.{KeepsShelf}
 
 abbrev pub IsProcessor : ℕ → Maker → Type 0
 IsProcessor processors (Processor p) = p < processors
@@ -35,6 +37,8 @@ HasItsMaker processors (Start by) = by ≡ Engine
 HasItsMaker processors (Finish by) = by ≡ Engine
 HasItsMaker processors (Note cookie by) = IsProcessor processors by
 HasItsMaker processors (Ask cookie done by) = IsProcessor processors by
+HasItsMaker processors (Find s cell slot version by) = IsProcessor processors by
+HasItsMaker processors (Put cell slot version by) = IsProcessor processors by
 
 -- Moments
 
@@ -44,7 +48,7 @@ pub record GoesOn (a b : Moment) : Type 0 where
   pub changes : a.changes ≤ b.changes
 
 abbrev pub moment_of : View → Moment
-moment_of v = record { history = v.seen; changes = v.changes }
+moment_of v = record { history = v.seen; changes = v.changes; texts = v.texts }
 
 -- what is known of a processor: it has seen so many changes, at least
 abbrev pub HasReached : (ℕ → ℕ) → Shown → Type 0
@@ -60,6 +64,7 @@ IsTrueOf m (LoadUnlocks q i n long) = (n ≡ unlocks q i m.history) × (long ≡
 IsTrueOf m (LoadLocks p i n long) = (n ≡ locks p i m.history) × (long ≡ length m.history)
 IsTrueOf m (AddIndex n) = n ≡ index_word m.changes
 IsTrueOf m (AddNumber n) = n ≡ number_word m.changes
+IsTrueOf m (LoadWord c v i n) = Unit {0}
 
 -- each was done at a moment that goes on from those of the ones before
 abbrev pub AreOrdered : List Deed → Type 0
@@ -114,6 +119,8 @@ module _ (log : List Event) (changes : ℕ) (seat_of reached holder : ℕ → �
   abbrev pub Has : Right → Type 0
   Has Nothing = Unit {0}
   Has (Section s p i) = (holder s ≡ seat) × IsOpen log s × (index_of s log ≡ i) × (begins_of s (made_by (Processor p) log) ≡ 1)
+  Has (Shelf c words seen) = Unit {0}
+  Has (Undealt c) = Unit {0}
 
   -- nobody has seen more changes than there were, the engine knows how many there were, and a processor has seen what is known of it
   abbrev pub Knows : Role → ℕ → Type 0
@@ -124,7 +131,7 @@ module _ (log : List Event) (changes : ℕ) (seat_of reached holder : ℕ → �
   pub record Fits (v : View) : Type 0 where
     pub seen : IsBeginning v.seen log
     pub knows : Knows v.role v.changes
-    pub told : All (λ m. GoesOn m record { history = log; changes = changes }) v.told
+    pub told : All (λ m. GoesOn m record { history = log; changes = changes; texts = [] }) v.told
     pub makes : Makes v.role v.mine
     pub has : Has v.right
     pub shown : HasReached reached v.shown
@@ -156,23 +163,24 @@ pub record Kept (bounds : Bounds) (s : State (Option ℕ) View) : Type 0 where
   pub known : (p : ℕ) → reached p ≤ changes
   pub each_view : (j : ℕ) (v : View) → get_elem? s.views j ≡ some v → Fits log changes seat_of reached holder engine j v
   pub deeds : List Deed
-  pub done : AreDone deeds record { history = log; changes = changes }
+  pub done : AreDone deeds record { history = log; changes = changes; texts = [] }
   pub each_done : (j : ℕ) (v : View) → get_elem? s.views j ≡ some v → HasDone deeds v
+  pub shelf : KeepsShelf s.words s.views log deeds
 
 -- Views that are made
 
 abbrev pub founder : Bounds → View
-founder bounds = record { processors = bounds.processors; role = Driver 0; mine = []; seen = []; changes = 0; told = []; right = Nothing; shown = To 0 0; done = [] }
+founder bounds = record { processors = bounds.processors; role = Driver 0; mine = []; seen = []; changes = 0; texts = []; told = []; right = Undealt 0; shown = To 0 0; done = [] }
 
-abbrev pub token : List Event → ℕ → Right → View
-token seen changes right = record { processors = 0; role = Bearer; mine = []; seen = seen; changes = changes; told = []; right = right; shown = Unknown; done = [] }
+abbrev pub token : List Event → ℕ → List Text → Right → View
+token seen changes texts right = record { processors = 0; role = Bearer; mine = []; seen = seen; changes = changes; texts = texts; told = []; right = right; shown = Unknown; done = [] }
 
 -- a seat of its own takes the right, and has seen as much
 abbrev pub lacking : View → View
 lacking v = record v { right = Nothing }
 
 abbrev pub bearer : View → View
-bearer v = token v.seen v.changes v.right
+bearer v = token v.seen v.changes v.texts v.right
 
 -- what the other seat has seen is told, and its right is taken over
 abbrev pub informed : View → View → View
@@ -185,7 +193,7 @@ mark (Cpu p) changes known = To p changes
 mark (Driver k) changes known = known
 
 abbrev pub shower : View → View
-shower v = record (token v.seen v.changes Nothing) { shown = mark v.role v.changes v.shown }
+shower v = record (token v.seen v.changes v.texts Nothing) { shown = mark v.role v.changes v.shown }
 
 -- what the other seat has seen is told, and what is known of a processor
 abbrev pub hearing : View → View → View
@@ -195,9 +203,13 @@ hearing v w = record v { told = moment_of w ∷ v.told; right = w.right; shown =
 abbrev pub noting : View → View → View
 noting v w = record v { right = w.right; shown = w.shown }
 
+-- the other seat's right is taken back, and nothing is told
+abbrev pub regaining : View → View → View
+regaining v w = record v { right = w.right }
+
 -- what is left of a seat that was taken in
 abbrev pub spent : View
-spent = token [] 0 Nothing
+spent = token [] 0 [] Nothing
 
 abbrev pub without_next : Role → Role
 without_next Bearer = Bearer
@@ -213,5 +225,24 @@ next_role (Driver k) = Cpu k
 abbrev pub dealer : View → View
 dealer v = record v { role = without_next v.role }
 
+abbrev pub without_cell : Right → Right
+without_cell Nothing = Nothing
+without_cell (Section s p i) = Nothing
+without_cell (Shelf c words seen) = Nothing
+without_cell (Undealt k) = Undealt (k + 1)
+
+abbrev pub next_cell : Right → Right
+next_cell Nothing = Nothing
+next_cell (Section s p i) = Nothing
+next_cell (Shelf c words seen) = Nothing
+next_cell (Undealt k) = Shelf k (replicate 128 0) []
+
+-- the engine lets go of its next cell
+abbrev pub pen_dealer : View → View
+pen_dealer v = record v { right = without_cell v.right }
+
+abbrev pub pen_dealt : View → View
+pen_dealt v = token v.seen v.changes v.texts (next_cell v.right)
+
 abbrev pub dealt : View → View
-dealt v = record { processors = v.processors; role = next_role v.role; mine = []; seen = v.seen; changes = v.changes; told = []; right = Nothing; shown = Unknown; done = v.done }
+dealt v = record { processors = v.processors; role = next_role v.role; mine = []; seen = v.seen; changes = v.changes; texts = v.texts; told = []; right = Nothing; shown = Unknown; done = v.done }

@@ -14,6 +14,7 @@ use Rattle.sections.specs.declared.view.Step.TheVariants.{LoadIndex}
 use Rattle.sections.specs.declared.view.Role.TheVariants.{Cpu, Driver}
 use Rattle.sections.specs.Words.{is_held, word_count, index_word}
 use Rattle.sections.specs.declared.view.Shown.TheVariants.{To}
+use Rattle.sections.specs.Shelves.{IsStart}
 use Rattle.sections.specs.Rule.{steps_of, IsMaker, lacking, bearer, mark}
 use Rattle.sections.specs.Plays.{IsSound, Adds, IsIndexWord, FindsNumber}
 use Rattle.sseq.specs.Numbers.{cookie_at}
@@ -69,6 +70,7 @@ pub record Covers (v o w : View) : Type 0 where
   pub steps : (m : Maker) → IsMaker v.role m → steps_of m w.done ≡ steps_of m v.done ++ LoadIndex value ∷ []
   pub since : IsBeginning v.seen w.seen
   pub later : v.changes ≤ w.changes
+  pub texts : IsStart v.texts w.texts
   pub driven : (k : ℕ) → v.role ≡ Driver k → w.changes ≡ v.changes
   pub shown : w.shown ≡ v.shown
   pub covers : IsBeginning o.seen w.seen

@@ -10,4 +10,4 @@ view_of_sight s = record { domain = s.seat.table_id; seen = s.seat.me.0.seen; ch
 
 pub record IsSight (s : sight.Inside) : Type 0 where
   pub bare : s.seat.me.1 ≡ []
-  pub plain : s.seat.me.0 ≡ token s.seat.me.0.seen s.seat.me.0.changes Nothing
+  pub plain : s.seat.me.0 ≡ token s.seat.me.0.seen s.seat.me.0.changes s.seat.me.0.texts Nothing

@@ -4,9 +4,10 @@ use Rattle.atomic_table.specs.Seated.{TableId}
 use Rattle.sseq.specs.declared.index.Index.{Index}
 use Rattle.onedom.specs.declared.event.Event.{Event}
 use Rattle.sections.specs.declared.view.Step.{Step}
+use Rattle.sections.specs.declared.view.Text.{Text}
 use Rattle.sections.specs.declared.view.Shown.{Shown}
 
--- `domain` is the table of the domain, `processors` how many processors it has, `sections` how many sections of one index this one may begin, `processor` its number. `seen` is the history as far as this processor has seen it, and `changes` how often the engine had changed the number and the index word by then. `mine` are its own events in the history, and `steps` its steps that are no events
+-- `domain` is the table of the domain, `processors` how many processors it has, `sections` how many sections of one index this one may begin, `processor` its number. `seen` is the history as far as this processor has seen it, and `changes` how often the engine had changed the number and the index word by then. `texts` are the words of the versions that were put there, one text for each Put, in their order. `mine` are its own events in the history, and `steps` its steps that are no events
 pub record CpuView : Type 0 where
   pub domain : TableId
   pub processors : ℕ
@@ -14,6 +15,7 @@ pub record CpuView : Type 0 where
   pub processor : ℕ
   pub seen : List Event
   pub changes : ℕ
+  pub texts : List Text
   pub mine : List Event
   pub steps : List Step
 
@@ -46,3 +48,13 @@ pub record CookieView : Type 0 where
   pub number : ℕ
   pub seen : List Event
   pub changes : ℕ
+
+-- what a section found: `version` of `cell` lies in `slot`. `texts` are the words of the versions that were put in the history that was seen
+pub record FoundView : Type 0 where
+  pub domain : TableId
+  pub cell : ℕ
+  pub slot : ℕ
+  pub version : ℕ
+  pub seen : List Event
+  pub changes : ℕ
+  pub texts : List Text

@@ -11,10 +11,13 @@ mod cookies;
 mod counting;
 mod holding;
 mod home;
+pub(crate) mod pinning;
+pub(crate) mod pins;
 mod readings;
 mod sections;
 pub(crate) mod steps;
 mod tokens;
+pub(crate) mod writing;
 
 /// A processor of a domain. It is a value that one thread owns: which processor of the machine the thread runs on
 /// makes no difference. Contracts see what it has seen of the domain's history, its own events there, and its loads.

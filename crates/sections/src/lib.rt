@@ -14,7 +14,9 @@ mod sight;
 mod tests;
 mod token;
 mod view;
+mod writer;
 
+pub use cpu::pins::{Found, HeldPin, Pin};
 pub use cpu::{Cookie, Cpu, Exhausted, Held, Look, NotACookie, Reading};
 pub use engine::EngineSeat;
 pub use laws::{steps_of_a_domain, sums_of_a_domain, totals_of_a_domain, words_of_a_domain};
@@ -22,3 +24,4 @@ pub use limits::{Limits, MOST_PROCESSORS, MakeError};
 pub use making::{Made, make};
 pub use sight::Sight;
 pub use token::{Home, Token};
+pub use writer::{Slot, Standing, Writer};

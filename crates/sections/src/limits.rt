@@ -16,7 +16,7 @@ pub struct Limits {
     pub sections: u64,
     /// How many grace periods there may ever be: 1 to 2^59 - 1.
     pub periods: u64,
-    /// How many cells of versions a domain has: 0, as long as there are none.
+    /// How many cells of versions a domain has: 0 to 4. Each has eight slots.
     pub cells: u64,
 }
 
@@ -34,7 +34,7 @@ impl Limits {
             && self.sections <= Limits::MOST_SECTIONS
             && 1 <= self.periods
             && self.periods <= Limits::MOST_PERIODS
-            && self.cells == 0
+            && self.cells <= 4
     }
 }
 

@@ -1,9 +1,10 @@
 //! A new domain.
-ghost use Rattle.std.specs.Prelude.{◌≡◌, ◌+◌, ◌<◌, IfOk};
+ghost use Rattle.std.specs.Prelude.{◌≡◌, ◌+◌, ◌<◌, ◌≤◌, IfOk};
 ghost use Rattle.std.specs.Arc.{arc_value};
 ghost use Rattle.sections.specs.Calls.{new_cpu};
 ghost use Rattle.sections.specs.EngineCalls.{IsTied};
 ghost use Rattle.sections.specs.Making.{IsSmall, IsFounder, IsMade, IsRefused, NewTable, bounds_of};
+ghost use Rattle.sections.specs.Dealing.{AreNewWriters};
 
 use crate::board::{DomainSeat, Words};
 use crate::cpu::Cpu;
@@ -11,16 +12,23 @@ use crate::engine::EngineSeat;
 use crate::limits::{Limits, MOST_PROCESSORS, MakeError};
 use crate::plays;
 use crate::view::Bounds;
+use crate::writer::Writer;
+use crate::writer::dealing::deal_writer;
 use atomic_table::Table;
 use sseq::Number;
 use std::alloc::{AllocError, Allocator, Global};
 use std::sync::Arc;
 
-/// The processors of a new domain, in the order of their numbers, and the seat that drives its grace periods.
+/// How many slots a cell has.
+pub(crate) const SLOTS: usize = 8;
+
+/// The processors of a new domain, in the order of their numbers, the seat that drives its grace periods, and the writers
+/// of its cells.
 #[derive(Drop)]
 pub struct Made<A: Allocator = Global> {
     pub cpus: Vec<Cpu<A>, A>,
     pub engine: EngineSeat<A>,
+    pub writers: Vec<Writer, A>,
 }
 
 /// The words of a new domain, all 0, and the seat that stands for all of its makers.
@@ -31,8 +39,28 @@ fn new_table<A: Allocator + Clone>(
     requires { IsSmall bounds }
     ensures { IfOk result (λ t. NewTable bounds t.0.shared.key t.0.shared.table_id t.1) }
 {
-    let words = vec![in alloc.clone()?; 0u64; 16 * bounds.processors + 32]?;
+    let words = vec![in alloc.clone()?; 0u64; 16 * bounds.processors + 608]?;
     Table::of_words(alloc, words.as_slice(), &bounds)
+}
+
+/// The writers of so many cells, in their order. The right to the others goes with a seat that is let go.
+fn deal_writers<A: Allocator>(
+    alloc: A,
+    table: &Words<A>,
+    seat: &mut DomainSeat,
+    cells: usize,
+    bounds: Bounds,
+) -> Result<Vec<Writer, A>, AllocError>
+    requires cells { cells ≤ 4 }
+    requires new { NewTable bounds table.now.shared.key table.now.shared.table_id seat.old }
+    ensures { IfOk result (λ w. IsFounder bounds table.now.shared.key table.now.shared.table_id 0 seat.new × AreNewWriters seat.new.table_id cells w.items) }
+{
+    let mut writers = Vec::with_capacity(alloc, cells)?;
+    for cell in 0..cells {
+        writers.push(deal_writer(&table.shared, seat, cell, SLOTS))?;
+    }
+    table.shared.split_seat::<plays::GiveToken>(seat);
+    Ok(writers)
 }
 
 /// The next processor.
@@ -61,11 +89,18 @@ fn deal<A: Allocator>(
     })
 }
 
-fn build<A: Allocator + Clone>(alloc: A, bounds: Bounds) -> Result<Made<A>, AllocError>
-    requires { IsSmall bounds }
-    ensures { IfOk result (λ m. IsMade bounds m.cpus.items m.engine) }
+fn build<A: Allocator + Clone>(
+    alloc: A,
+    bounds: Bounds,
+    cells: usize,
+) -> Result<Made<A>, AllocError>
+    requires small { IsSmall bounds }
+    requires cells { cells ≤ 4 }
+    ensures made { IfOk result (λ m. IsMade bounds m.cpus.items m.engine) }
+    ensures writers { IfOk result (λ m. AreNewWriters m.engine.domain cells m.writers.items) }
 {
     let (table, mut seat) = new_table(alloc.clone()?, bounds)?;
+    let writers = deal_writers(alloc.clone()?, &table, &mut seat, cells, bounds)?;
     let table = Arc::new(alloc.clone()?, table)?;
     let mut cpus = Vec::with_capacity(alloc, bounds.processors)?;
     for processor in 0..bounds.processors {
@@ -80,6 +115,7 @@ fn build<A: Allocator + Clone>(alloc: A, bounds: Bounds) -> Result<Made<A>, Allo
             number: Number::zero(),
             periods: bounds.periods,
         },
+        writers,
     })
 }
 
@@ -92,6 +128,7 @@ pub fn make<A: Allocator + Clone>(
 ) -> Result<Made<A>, MakeError>
     ensures made { IfOk result (λ m.
         IsMade (bounds_of processors limits) m.cpus.items m.engine) }
+    ensures writers { IfOk result (λ m. AreNewWriters m.engine.domain limits.cells m.writers.items) }
     ensures tied { IfOk result (λ m. IsTied m.engine) }
     ensures refused { IsRefused processors limits result }
 {
@@ -106,7 +143,7 @@ pub fn make<A: Allocator + Clone>(
         sections: limits.sections,
         periods: limits.periods,
     };
-    match build(alloc, bounds) {
+    match build(alloc, bounds, limits.cells as usize) {
         Ok(made) => Ok(made),
         Err(AllocError) => Err(MakeError::Memory),
     }

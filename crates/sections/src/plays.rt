@@ -1,7 +1,7 @@
 //! What each step on the table tells the one that makes it.
 ghost use Rattle.std.specs.Prelude.{ℕ, true, false};
-ghost use Rattle.sections.specs.Rule.{lacking, bearer, informed, shower, hearing, noting, spent, dealer, dealt};
-ghost use Rattle.sections.specs.Plays.{looked, admitted, began, ended, noted, asked, counted_unlocks, counted_locks, started, flipped, moved_on, finished};
+ghost use Rattle.sections.specs.Rule.{lacking, bearer, informed, shower, hearing, noting, regaining, spent, dealer, dealt, pen_dealer, pen_dealt};
+ghost use Rattle.sections.specs.Plays.{looked, admitted, began, ended, noted, asked, counted_unlocks, counted_locks, found, loaded, put, refreshed, stored, started, flipped, moved_on, finished};
 ghost use Rattle.sections.specs.Sights.{asked_how_far};
 
 use crate::board::NoSlot;
@@ -88,6 +88,41 @@ impl Play<NoSlot, View> for CountLocks {
     ghost then = { counted_locks };
 }
 
+/// Load of a cell, by an open section.
+pub(crate) struct FindThere;
+
+impl Play<NoSlot, View> for FindThere {
+    ghost then = { found };
+}
+
+/// Load of a word of a slot that an open section has found.
+pub(crate) struct LoadPayload;
+
+impl Play<NoSlot, View> for LoadPayload {
+    ghost then = { loaded };
+}
+
+/// Store to a cell.
+pub(crate) struct PutSlot;
+
+impl Play<NoSlot, View> for PutSlot {
+    ghost then = { put };
+}
+
+/// Load of a cell by the one that writes it.
+pub(crate) struct Refresh;
+
+impl Play<NoSlot, View> for Refresh {
+    ghost then = { refreshed };
+}
+
+/// Store of a word of a slot that nobody can read.
+pub(crate) struct StorePayload;
+
+impl Play<NoSlot, View> for StorePayload {
+    ghost then = { stored };
+}
+
 /// Addition of 1 to the number, at rest.
 pub(crate) struct StartPeriod;
 
@@ -134,6 +169,15 @@ impl Join<View> for TakeToken {
     ghost spent = { spent };
 }
 
+/// The other seat's right is taken back, and nothing is told.
+pub(crate) struct TakeBack;
+
+impl Join<View> for TakeBack {
+    ghost both = { regaining };
+
+    ghost spent = { spent };
+}
+
 /// A new seat has seen as much, and can show how many changes this processor has seen.
 pub(crate) struct Show;
 
@@ -159,6 +203,15 @@ impl Join<View> for NoteShown {
     ghost both = { noting };
 
     ghost spent = { spent };
+}
+
+/// A new seat is that of the next cell's writer.
+pub(crate) struct DealPen;
+
+impl Split<View> for DealPen {
+    ghost left = { pen_dealer };
+
+    ghost right = { pen_dealt };
 }
 
 /// A new seat is the next processor's.

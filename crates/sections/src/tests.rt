@@ -35,6 +35,7 @@ fn meet_in_new_domain(alloc: Global) -> Result<(Cpu, Cpu, EngineSeat), MakeError
     let Made {
         mut cpus,
         mut engine,
+        ..
     } = make(alloc, 2, limits(1))?;
     engine.meet(cpus.as_mut_slice());
     let second = cpus.pop().unwrap();
@@ -431,6 +432,7 @@ fn most_processors(rt: HostRuntime) -> Result<(), Fail> {
     let Made {
         mut cpus,
         mut engine,
+        ..
     } = make(rt.alloc(), MOST_PROCESSORS, limits(1))?;
     assert_eq!(rt; (cpus.len(), engine.processors()), (64, 64));
     for (k, cpu) in cpus.iter_mut().enumerate() {
@@ -562,7 +564,7 @@ fn refuses_to_make(rt: HostRuntime) {
             periods: 1 << 59,
             ..most
         },
-        Limits { cells: 1, ..most },
+        Limits { cells: 5, ..most },
     ];
     for processors in [1, 2, MOST_PROCESSORS] {
         assert_eq!(rt; refusal(rt.alloc(), processors, most), None);
@@ -626,6 +628,7 @@ fn two_threads(rt: HostRuntime) -> Result<(), Fail> {
     let Made {
         mut cpus,
         mut engine,
+        ..
     } = make(rt.alloc(), 2, limits(VISITS + 1))?;
     let mut second = cpus.pop().unwrap();
     let mut first = cpus.pop().unwrap();
@@ -658,7 +661,7 @@ fn make_and_drop(heap: &LocalHeap) -> Result<usize, MakeError> {
 /// Would catch a refused allocation that leaves something allocated.
 #[test]
 fn gives_back_what_a_refused_domain_took(rt: HostRuntime) -> Result<(), Fail> {
-    for room in 0..100 {
+    for room in 0..400 {
         let heap = LocalHeap::new(rt.alloc(), 64 + 64 * room)?;
         let made = make_and_drop(&heap);
         assert_eq!(rt; heap.used(), 0);
@@ -676,14 +679,14 @@ fn gives_back_what_a_refused_domain_took(rt: HostRuntime) -> Result<(), Fail> {
 /// room than the one before it.
 #[test]
 fn make_in_little_room(rt: HostRuntime) -> Result<(), Fail> {
-    let words = 8 * 64;
+    let words = 8 * 640;
     let processors = 2 * size_of::<Cpu<&Bump>>();
-    let zeros = vec![in rt.alloc(); 0u8; 8192]?;
-    for room in (0..4096).step_by(16) {
-        let arena = Bump::try_with_capacity(rt.alloc(), 4096)?;
+    let zeros = vec![in rt.alloc(); 0u8; 32768]?;
+    for room in (0..16384).step_by(16) {
+        let arena = Bump::try_with_capacity(rt.alloc(), 16384)?;
         arena.set_allocation_limit(Some(arena.allocated_bytes()));
         let filled = arena.chunk_capacity().saturating_sub(room);
-        arena.try_alloc_slice_copy(&zeros[..filled.min(8192)])?;
+        arena.try_alloc_slice_copy(&zeros[..filled.min(32768)])?;
         assert_eq!(rt; arena.chunk_capacity(), room);
         match make(&arena, 2, limits(1)) {
             Ok(made) => {

@@ -32,6 +32,21 @@ pub enum Right {
         processor: u16,
         index: Index,
     },
+    /// Put into this cell, and store to its slots. These are the words of its slots, one slot behind the other, and a
+    /// history in which all Puts of the cell are.
+    Shelf {
+        cell: u64,
+        words: [u64; 0],
+        seen: [Event; 0],
+    },
+    /// The same for each cell from this one on. Nothing was put there yet, and the words of their slots are 0.
+    Undealt(u64),
+}
+
+/// What was put into a cell: the words of one version. Versions of a cell come in their order, from version 1 on.
+pub struct Text {
+    pub cell: u64,
+    pub words: [u64; 0],
 }
 
 /// What a seat knows of how much a processor has seen.
@@ -64,6 +79,13 @@ pub enum Step {
     AddIndex(u64),
     /// Behind the flip 1 is added to the number, and the second scan may begin.
     AddNumber(u64),
+    /// Load of a word of a version of a cell.
+    LoadWord {
+        cell: u64,
+        version: u64,
+        place: u64,
+        found: u64,
+    },
 }
 
 /// Somebody's knowledge of a domain: a beginning of its history, and how often the engine had changed the number and
@@ -71,6 +93,8 @@ pub enum Step {
 pub struct Moment {
     pub history: [Event; 0],
     pub changes: u64,
+    /// The words of the versions that were put there.
+    pub texts: [Text; 0],
 }
 
 /// A step that is no event, who made it, and the moment behind it: all that had happened by then.
@@ -92,6 +116,8 @@ pub struct View {
     /// How often the engine had changed the number and the index word by then, at least. The engine's own seat knows
     /// it exactly.
     pub changes: u64,
+    /// The words of all versions whose Put is in that beginning, in the order of these Puts.
+    pub texts: [Text; 0],
     /// What was handed in, which the next step covers.
     pub told: [Moment; 0],
     pub right: Right,

@@ -9,12 +9,13 @@ use Rattle.sections.specs.Words.{word_count, number_word}
 use Rattle.onedom.specs.declared.event.Maker.TheVariants.{Engine}
 use Rattle.sections.specs.Rule.{steps_of}
 use Rattle.sections.specs.Insides.{IsAtRest}
+use Rattle.sections.specs.Dealing.{AreNewWriters}
 use Rattle.sections.proofs.Founding.{new_pushed, rests_founding}
 use Rattle.sections.proofs.making.build.Goals as goal
 
 pub loop-processor-init : goal.loop-processor-init
 loop-processor-init g c = record {
-  founder = rw c.in_ok-table-2.ensures.ok c.in_ok-table.ensures;
+  founder = rw c.in_ok-table-2.ensures.ok c.in_ok-writers.ensures.0;
   count = search rules;
   cpus_new = subst (λ (xs : List CpuView). AreNew (arc_value c.in_ok-table-2.table).shared.table_id c.args.bounds.processors c.args.bounds.sections xs) (sym c.in_ok-cpus.ensures.items) (λ k d lt. absurd (omega (arith, lt)));
 }
@@ -39,8 +40,8 @@ invariant_of-result g c =
     let done = c.loop-processor-test.false in
     let all : c.loop-processor.processor ≡ c.args.bounds.processors = omega arith in
     let key = ap (λ (b : Bounds). b.processors) f.key_is in
-    let few = c.requires.processors in
-    let some = c.requires.some in
+    let few = c.requires.small.processors in
+    let some = c.requires.small.some in
     record {
       placed = record { seated = f.seated; wide = f.wide ∙ ap word_count (sym key); bare = ap (λ m. m.1) f.me; sized = ap (λ m. m.0.processors) f.me ∙ sym key };
       rests = subst (λ (v : View). IsAtRest v) (sym (ap (λ m. m.0) f.me)) (rests_founding c.args.bounds c.loop-processor.processor);
@@ -49,12 +50,12 @@ invariant_of-result g c =
       some = omega (arith, key, few, some);
       number = c.zero.ensures ∙ sym (ap (λ m. number_word m.0.changes) f.me);
       periods = ap (λ (b : Bounds). b.periods) (sym f.key_is);
-      small = c.requires.words.periods;
+      small = c.requires.small.words.periods;
       few = (let none = ap (λ m. m.0.changes) f.me in omega (arith, none));
     }
 
-pub returns : goal.returns
-returns g c =
+pub returns-clause-made : goal.returns-clause-made
+returns-clause-made g c =
     let v = c.loop-processor.invariant in
     let f = v.founder in
     let done = c.loop-processor-test.false in
@@ -63,3 +64,9 @@ returns g c =
       cpus_new = subst (λ t. AreNew t c.args.bounds.processors c.args.bounds.sections c.loop-processor.cpus.items) (sym f.seated) v.cpus_new;
       engine_new = λ k. record { domain = c.loop-processor.seat.table_id; processors = (f.key_is k).processors; periods = c.args.bounds.periods; seen = (f.me k).0.seen; changes = (f.me k).0.changes; shown = (f.me k).0.shown; mine = (f.me k).0.mine; steps = steps_of Engine (f.me k).0.done };
     }
+
+pub returns-clause-writers : goal.returns-clause-writers
+returns-clause-writers g c =
+    let f = c.loop-processor.invariant.founder in
+    let w = c.in_ok-writers.ensures in
+    subst (λ t. AreNewWriters t c.args.cells c.in_ok-writers.writers.items) (w.0.seated ∙ (ap (λ t. t.shared.table_id) (sym c.in_ok-table-2.ensures.ok) ∙ sym f.seated)) w.1

@@ -69,7 +69,7 @@ invariant_of-result g c =
     let seen = ap (λ m. m.0.seen) s.4 in
     let is = c.snap.ensures.meaning in record {
       bare = ap (λ m. m.1) s.4;
-      plain = ap (λ m. m.0) s.4 ∙ (λ i. token (ap (λ m. m.0.seen) (sym s.4) i) (ap (λ m. m.0.changes) (sym s.4) i) (free i));
+      plain = ap (λ m. m.0) s.4 ∙ (λ i. token (ap (λ m. m.0.seen) (sym s.4) i) (ap (λ m. m.0.changes) (sym s.4) i) (ap (λ m. m.0.texts) (sym s.4) i) (free i));
       given = record { before = a.before; by = Processor c.self.inside.processor; whole = seen ∙ (a.seen ∙ ap (λ n. a.before ++ Note n (Processor c.self.inside.processor) ∷ []) (sym is)) };
       whole = subst (λ (n : ℕ). n % 4 ≡ 0) (sym is) (whole_cookie c.note_number-number.result);
       small = subst (λ (n : ℕ). n ≤ 2 ^ 61) (sym is) (small_cookie c.note_number-number.result told.finds.room);

@@ -1,0 +1,187 @@
+use Rattle.std.proofs.Common.{◌≡◌, ◌≢◌, ℕ, ◌+◌, ◌<◌, List, [], ◌∷◌, ◌++◌, length, rules, refl, sym, ap, ◌∙◌, subst, arith}
+use Rattle.sseq.specs.Numbers.{cookie_at}
+use Rattle.onedom.specs.declared.event.Event.{Event}
+use Rattle.onedom.specs.declared.event.Event.TheVariants.{Put, Note}
+use Rattle.onedom.specs.declared.event.Maker.TheVariants.{Processor}
+use Rattle.onedom.specs.Histories.{slot_of, version_of, IsBeginning}
+use Rattle.onedom.proofs.CallerLemmas.{version_put, slot_put}
+use Rattle.sections.specs.declared.view.Right.TheVariants.{Shelf}
+use Rattle.sections.specs.declared.view.Text.{Text}
+use Rattle.sections.specs.declared.view.View.{View}
+use Rattle.sections.specs.Shelves.{slot_words}
+use Rattle.sections.specs.Rule.{bearer, informed}
+use Rattle.sections.specs.Plays.{Adds, EndsWithText}
+use Rattle.sections.specs.WriterInsides.{words_with}
+use Rattle.sections.specs.WriterViews.{WriterView, SlotView}
+use Rattle.sections.specs.Writers.{IsOwn, IsRetired}
+use Rattle.sections.specs.Insides.{IsAtRest}
+use Rattle.sections.proofs.CpuViews.{seen_as, adds_cut, notes_from, whole_cookie, locks_told, unclosed_told}
+use Rattle.sections.proofs.Writing.{slot_quiet}
+use Rattle.sections.proofs.Standings.{stands_over, retires, put_stands, put_count, out_clear}
+use Rattle.sections.proofs.writer.Writer.put.Goals as goal
+
+pub note_number-requires-clause-placed : goal.note_number-requires-clause-placed
+note_number-requires-clause-placed g c =
+    let P = c.put_in.ensures in
+    let a = P.adds c.cpu.inside.processor (words_with c.self.inside.seat.me.0.right) c.self.inside.seat.me.0.seen c.cpu.invariant.role c.self.invariant.right in
+    rw c.deref.ensures (record {
+      seated = P.same_table.0 ∙ c.cpu.invariant.placed.seated;
+      wide = c.cpu.invariant.placed.wide;
+      bare = ap (λ m. m.1) P.stays;
+      sized = ap (λ m. m.0.processors) P.stays ∙ (a.0.processors ∙ c.cpu.invariant.placed.sized);
+    })
+
+pub note_number-requires-clause-role : goal.note_number-requires-clause-role
+note_number-requires-clause-role g c =
+    let P = c.put_in.ensures in
+    let a = P.adds c.cpu.inside.processor (words_with c.self.inside.seat.me.0.right) c.self.inside.seat.me.0.seen c.cpu.invariant.role c.self.invariant.right in
+    rw c.deref.ensures (c.cpu.inside.processor, ap (λ m. m.0.role) P.stays ∙ (a.0.role ∙ c.cpu.invariant.role), c.cpu.invariant.there)
+
+pub refresh_in-requires-clause-placed : goal.refresh_in-requires-clause-placed
+refresh_in-requires-clause-placed g c =
+    let P = c.put_in.ensures in
+    let N = c.note_number.ensures in
+    let a = P.adds c.cpu.inside.processor (words_with c.self.inside.seat.me.0.right) c.self.inside.seat.me.0.seen c.cpu.invariant.role c.self.invariant.right in
+    let b = N.adds c.cpu.inside.processor (ap (λ m. m.0.role) P.stays ∙ (a.0.role ∙ c.cpu.invariant.role)) in
+    rw c.deref.ensures (
+      record {
+        seated = N.same_table ∙ (P.same_table.0 ∙ c.cpu.invariant.placed.seated);
+        wide = c.cpu.invariant.placed.wide;
+        bare = N.bare ∙ ap (λ m. m.1) P.stays;
+        sized = b.processors ∙ (ap (λ m. m.0.processors) P.stays ∙ (a.0.processors ∙ c.cpu.invariant.placed.sized));
+      },
+      record { free = N.right ∙ ap (λ m. m.0.right) P.stays; told = b.told; sound = b.sound },
+    )
+
+pub refresh_in-requires-clause-pen : goal.refresh_in-requires-clause-pen
+refresh_in-requires-clause-pen g c =
+    let P = c.put_in.ensures in
+    let a = P.adds c.cpu.inside.processor (words_with c.self.inside.seat.me.0.right) c.self.inside.seat.me.0.seen c.cpu.invariant.role c.self.invariant.right in
+    rw c.deref.ensures (record {
+      seated = P.same_table.1 ∙ c.cpu.invariant.placed.seated;
+      bare = ap (λ m. m.1) P.given;
+      own = words_with c.self.inside.seat.me.0.right;
+      upto = P.after.seen;
+      right = ap (λ m. m.0.right) P.given ∙ a.1;
+      inside = c.self.invariant.inside;
+    })
+
+pub invariant_of-self : goal.invariant_of-self
+invariant_of-self g c =
+    let i = c.self.invariant in
+    let p : ℕ = c.cpu.inside.processor in
+    let P = c.put_in.ensures in
+    let N = c.note_number.ensures in
+    let R = c.refresh_in.ensures.pen in
+    let cell : ℕ = c.self.inside.cell in
+    let slot : ℕ = c.slot.inside.slot in
+    let cur : ℕ = c.self.inside.current in
+    let W : List ℕ = words_with c.self.inside.seat.me.0.right in
+    let old : List Event = c.self.inside.seat.me.0.seen in
+    let a = P.adds p W old c.cpu.invariant.role i.right in
+    let b = N.adds p (ap (λ m. m.0.role) P.stays ∙ (a.0.role ∙ c.cpu.invariant.role)) in
+    let k = R.keeps W P.after.seen (ap (λ m. m.0.right) P.given ∙ a.1) in
+    let new : List Event = c.refresh_in.new.pen.me.0.seen in
+    let own : IsOwn (record { domain = c.self.inside.seat.table_id; cell = cell; slots = c.self.inside.slots; version = c.self.inside.version; current = cur; standings = c.self.inside.standings; words = W; seen = old; changes = c.self.inside.seat.me.0.changes; texts = c.self.inside.seat.me.0.texts }) (record { cell = c.slot.inside.cell; slot = slot }) =
+    subst (λ (z : WriterView × SlotView). IsOwn z.0 z.1) (λ n. (sym c.self.view_is n, sym c.slot.view_is n)) c.requires.own in
+    let low = own.inside in
+    let most = i.most in
+    let few = i.low in
+    let eight : length c.self.inside.standings ≡ 8 = search rules in
+    let lx : slot < length c.self.inside.standings = omega (arith, low, most, eight) in
+    let lc : cur < length c.self.inside.standings = omega (arith, few, most, eight) in
+    let clear = out_clear old cell slot _ own.out (i.stands slot low) in
+    let apart : slot ≢ cur = λ e. clear.resting (e ∙ sym i.current) in
+    let on : IsBeginning (a.3.before ++ Put cell slot (version_of cell old + 1) (Processor p) ∷ []) new = subst (λ (l : List Event). IsBeginning l new) a.3.whole k.0.goes_on in
+    let later : version_of cell new ≡ version_of cell (a.3.before ++ Put cell slot (version_of cell old + 1) (Processor p) ∷ []) = k.0.same ∙ ap (version_of cell) a.3.whole in
+    let put_slot : slot_of cell P.after.seen ≡ slot = ap (slot_of cell) a.3.whole ∙ slot_put cell slot (version_of cell old + 1) (Processor p) a.3.before in
+    let now : slot_of cell new ≡ slot = slot_quiet cell P.after.seen new k.0.goes_on k.0.legal k.0.same ∙ put_slot in
+    let noted : IsBeginning (b.before ++ Note (cookie_at c.note_number.result) (Processor p) ∷ []) new = subst (λ (l : List Event). IsBeginning l new) b.seen k.0.since in
+    let retired : IsRetired new cell cur (cookie_at c.note_number.result) = retires cell cur (cookie_at c.note_number.result) (Processor p) P.after.seen b.before new k.0.legal (subst (λ (l : List Event). IsBeginning l b.before) (ap (λ m. m.0.seen) P.stays) b.since) noted k.0.same (λ e. apart (sym (e ∙ put_slot))) (whole_cookie c.note_number.result) in
+    let is = c.snap-cookie.ensures.meaning in
+    let count = put_count c.self.inside.standings cur slot c.snap-cookie.result lc lx apart own.out in
+    let small = i.small in
+    let next = i.version in record {
+      bare = R.bare;
+      right = k.1 ∙ ap (λ o. Shelf cell o new) (sym (ap words_with k.1));
+      legal = k.0.legal;
+      inside = i.inside;
+      some = i.some;
+      most = i.most;
+      version = ap (λ n. n + 1) i.version ∙ sym (later ∙ version_put cell slot (version_of cell old + 1) (Processor p) a.3.before);
+      current = now;
+      low = low;
+      small = omega (arith, small, count);
+      stands = put_stands new cell c.self.inside.slots c.self.inside.standings cur slot c.snap-cookie.result lc lx apart
+          (λ z lz nx nc. stands_over cell z slot (version_of cell old + 1) (Processor p) old a.3.before new k.0.legal a.3.goes_on a.3.same on later nx (λ e. nc (e ∙ i.current)) _ (i.stands z lz))
+          (subst (λ (n : ℕ). IsRetired new cell cur n) (sym is) retired) (sym now);
+    }
+
+pub invariant_of-cpu : goal.invariant_of-cpu
+invariant_of-cpu g c =
+    let p : ℕ = c.cpu.inside.processor in
+    let P = c.put_in.ensures in
+    let N = c.note_number.ensures in
+    let S = c.refresh_in.ensures.seat in
+    let old : List Event = c.self.inside.seat.me.0.seen in
+    let e : Event = Put c.self.inside.cell c.slot.inside.slot (version_of c.self.inside.cell old + 1) (Processor p) in
+    let n : Event = Note (cookie_at c.note_number.result) (Processor p) in
+    let a = P.adds p (words_with c.self.inside.seat.me.0.right) old c.cpu.invariant.role c.self.invariant.right in
+    let role = ap (λ m. m.0.role) P.stays ∙ (a.0.role ∙ c.cpu.invariant.role) in
+    let b = N.adds p role in
+    let first = ap (λ m. m.0.mine) P.stays ∙ a.0.mine in
+    let second = ap (λ m. m.0.mine) S.1 ∙ b.mine in record {
+      placed = record {
+        seated = S.0 ∙ (N.same_table ∙ (P.same_table.0 ∙ c.cpu.invariant.placed.seated));
+        wide = c.cpu.invariant.placed.wide;
+        bare = ap (λ m. m.1) S.1 ∙ (N.bare ∙ ap (λ m. m.1) P.stays);
+        sized = ap (λ m. m.0.processors) S.1 ∙ (b.processors ∙ (ap (λ m. m.0.processors) P.stays ∙ (a.0.processors ∙ c.cpu.invariant.placed.sized)));
+      };
+      rests = subst (λ (z : View). IsAtRest z) (sym (ap (λ m. m.0) S.1)) record { free = N.right ∙ ap (λ m. m.0.right) P.stays; told = b.told; sound = b.sound };
+      role = ap (λ m. m.0.role) S.1 ∙ (b.role ∙ role);
+      there = c.cpu.invariant.there;
+      limit = c.cpu.invariant.limit;
+      begun = λ i. c.cpu.invariant.begun i ∙ sym (locks_told p i n c.put_in.new.seat.me.0.mine _ refl second ∙ locks_told p i e c.cpu.inside.seat.me.0.mine _ refl first);
+      limited = c.cpu.invariant.limited;
+      small = c.cpu.invariant.small;
+      settled = c.cpu.invariant.settled ∙ ap (λ m. m + c.cpu.inside.settled) (sym (unclosed_told n c.put_in.new.seat.me.0.mine _ refl (λ _. refl) second ∙ unclosed_told e c.cpu.inside.seat.me.0.mine _ refl (λ _. refl) first));
+    }
+
+pub returns : goal.returns
+returns g c =
+    let i = c.self.invariant in
+    let p : ℕ = c.cpu.inside.processor in
+    let P = c.put_in.ensures in
+    let N = c.note_number.ensures in
+    let R = c.refresh_in.ensures.pen in
+    let S = c.refresh_in.ensures.seat in
+    let cell : ℕ = c.self.inside.cell in
+    let slot : ℕ = c.slot.inside.slot in
+    let W : List ℕ = words_with c.self.inside.seat.me.0.right in
+    let old : List Event = c.self.inside.seat.me.0.seen in
+    let v : View = c.cpu.inside.seat.me.0 in
+    let o : View = bearer c.self.inside.seat.me.0 in
+    let a = P.adds p W old c.cpu.invariant.role i.right in
+    let role = ap (λ m. m.0.role) P.stays ∙ (a.0.role ∙ c.cpu.invariant.role) in
+    let sized = ap (λ m. m.0.processors) P.stays ∙ (a.0.processors ∙ c.cpu.invariant.placed.sized) in
+    let b = N.adds p role in
+    let k = R.keeps W P.after.seen (ap (λ m. m.0.right) P.given ∙ a.1) in
+    let free = N.right ∙ ap (λ m. m.0.right) P.stays in
+    let w : View = c.note_number.new.seat.me.0 in
+    rw (← c.self.view_is, ← c.cpu.view_is, ← c.slot.view_is) (record {
+      between = seen_as c.put_in.new.seat.table_id _ c.cpu.inside.limit p c.put_in.new.seat.me.0;
+      number = c.note_number.result;
+      puts = adds_cut (Put cell slot (c.self.inside.version + 1) (Processor p)) _ _ _ _ p v o (informed v o) P.after c.put_in.new.seat.me.0 P.same_table.0 c.cpu.invariant.placed.sized c.cpu.invariant.role refl (ap (λ m. m.0) P.stays)
+          (subst (λ (n : ℕ). Adds (informed v o) (Put cell slot (n + 1) (Processor p)) P.after) (sym i.version) a.0);
+      text = subst (λ (l : List Text). EndsWithText cell (slot_words slot W) l) (sym (ap (λ m. m.0.texts) P.stays)) a.2;
+      notes = notes_from _ _ _ _ _ _ c.put_in.new.seat.me.0 w c.refresh_in.new.seat.me.0 (S.0 ∙ N.same_table) sized role (ap (λ m. m.0) S.1 ∙ (λ n. record w { right = free n })) N.finds b;
+      cookie_is = c.snap-cookie.ensures.meaning;
+      cell = λ _. cell;
+      domain = R.same_table ∙ (N.same_table ∙ (P.same_table.0 ∙ (ap (λ z. z.domain) c.cpu.view_is ∙ (c.requires.here ∙ ap (λ z. z.domain) (sym c.self.view_is)))));
+      slots = λ _. c.self.inside.slots;
+      version = λ _. c.self.inside.version + 1;
+      current = λ _. slot;
+      standings = refl;
+      words = ap words_with k.1;
+      since = subst (λ (l : List Event). IsBeginning l c.refresh_in.new.pen.me.0.seen) (sym (ap (λ m. m.0.seen) S.1)) k.0.since;
+    })

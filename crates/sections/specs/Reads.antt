@@ -1,0 +1,29 @@
+-- What a section reads of versions.
+use Rattle.std.specs.Prelude.{◌≡◌, ℕ, ◌<◌, ◌≤◌}
+use Rattle.onedom.specs.declared.event.Maker.TheVariants.{Processor}
+use Rattle.onedom.specs.declared.event.Event.TheVariants.{Find}
+use Rattle.onedom.specs.Histories.{HasFound, IsBeginning}
+use Rattle.sections.specs.declared.view.Step.TheVariants.{LoadWord}
+use Rattle.sections.specs.Shelves.{IsKnown, IsStart, word_of}
+use Rattle.sections.specs.Views.{CpuView, ReadingView, FoundView}
+use Rattle.sections.specs.Calls.{Loads, AddsEvent}
+
+-- the section of the reading has found this
+abbrev pub IsPinned : ReadingView → FoundView → Type 0
+IsPinned r f = (f.domain ≡ r.domain) × HasFound f.seen r.section f.cell f.slot f.version
+
+-- one load of the cell, in the section of the reading, found what is current there in the history that is then seen
+pub record Finds (cell : ℕ) (r : ReadingView) (c d : CpuView) (f : FoundView) : Type 0 where
+  pub adds : AddsEvent r.seen r.changes (Find r.section cell f.slot f.version (Processor c.processor)) c d
+  pub low : f.slot < 8
+  pub known : IsKnown cell f.version d.texts
+  pub found_is : f ≡ record { domain = c.domain; cell = cell; slot = f.slot; version = f.version; seen = d.seen; changes = d.changes; texts = d.texts }
+
+-- one load of a word, in the section that found the version, behind all that the section had seen then. It is the word of that version, as it was when it was found and ever since it was put
+pub record ReadsWord (r : ReadingView) (f : FoundView) (i word : ℕ) (c d : CpuView) : Type 0 where
+  pub load : Loads (LoadWord f.cell f.version i word) c d
+  pub covers_reading : IsBeginning r.seen d.seen
+  pub covers : IsBeginning f.seen d.seen
+  pub not_before : f.changes ≤ d.changes
+  pub texts : IsStart f.texts d.texts
+  pub value : word ≡ word_of f.cell f.version i f.texts

@@ -1,0 +1,39 @@
+-- How the fields of the writer of a cell and of a slot are seen, and what is always true of them.
+use Rattle.std.specs.Prelude.{◌≡◌, ℕ, ◌+◌, ◌^◌, ◌<◌, ◌≤◌, List, [], count_by, slice_index_or}
+use Rattle.onedom.specs.Histories.{slot_of, version_of, IsLegal}
+use Rattle.sections.specs.declared.view.Right.{Right}
+use Rattle.sections.specs.declared.view.Right.TheVariants.{Nothing, Section, Shelf, Undealt}
+use Rattle.sections.specs.declared.writer.Writer.TheInside as writer
+use Rattle.sections.specs.declared.writer.Slot.TheInside as slot
+use Rattle.sections.specs.declared.writer.Standing.TheVariants.{Blank}
+use Rattle.sections.specs.WriterViews.{WriterView, SlotView}
+use Rattle.sections.specs.Writers.{is_out, Stands}
+
+-- the words that go with a right to a cell
+abbrev pub words_with : Right → List ℕ
+words_with Nothing = []
+words_with (Section s p i) = []
+words_with (Shelf c own h) = own
+words_with (Undealt k) = []
+
+abbrev pub view_of_writer : writer.Inside → WriterView
+view_of_writer w = record { domain = w.seat.table_id; cell = w.cell; slots = w.slots; version = w.version; current = w.current; standings = w.standings; words = words_with w.seat.me.0.right; seen = w.seat.me.0.seen; changes = w.seat.me.0.changes; texts = w.seat.me.0.texts }
+
+pub record IsWriter (w : writer.Inside) : Type 0 where
+  pub bare : w.seat.me.1 ≡ []
+  pub right : w.seat.me.0.right ≡ Shelf w.cell (words_with w.seat.me.0.right) w.seat.me.0.seen
+  pub legal : IsLegal w.seat.me.0.seen
+  pub inside : w.cell < 4
+  pub some : 2 ≤ w.slots
+  pub most : w.slots ≤ 8
+  pub version : w.version ≡ version_of w.cell w.seat.me.0.seen
+  pub current : slot_of w.cell w.seat.me.0.seen ≡ w.current
+  pub low : w.current < w.slots
+  pub small : w.version + count_by is_out w.standings ≤ 2 ^ 54 + 7
+  pub stands : (x : ℕ) → x < w.slots → Stands w.seat.me.0.seen w.cell x (slice_index_or w.standings x Blank)
+
+abbrev pub view_of_slot : slot.Inside → SlotView
+view_of_slot s = record { cell = s.cell; slot = s.slot }
+
+pub record IsSlot (s : slot.Inside) : Type 0 where
+  pub low : s.slot < 8

@@ -1,0 +1,117 @@
+-- What the writer of a cell does.
+use Rattle.std.specs.Prelude.{◌≡◌, ◌≢◌, ℕ, ◌+◌, ◌*◌, ◌%◌, ◌^◌, ◌<◌, ◌≤◌, ◌⊎◌, Bool, true, false, List, ◌∷◌, ◌++◌, slice_set, slice_index_or}
+use Rattle.onedom.specs.declared.event.Maker.{Maker}
+use Rattle.onedom.specs.declared.event.Event.{Event}
+use Rattle.onedom.specs.declared.event.Event.TheVariants.{Note, Put}
+use Rattle.onedom.specs.Histories.{slot_of, finds_of, IsClear, IsBeginning}
+use Rattle.sections.specs.declared.writer.Standing.{Standing}
+use Rattle.sections.specs.declared.writer.Standing.TheVariants.{Blank, Out, Current, Retired}
+use Rattle.onedom.specs.declared.event.Maker.TheVariants.{Processor}
+use Rattle.sseq.specs.Numbers.{cookie_at}
+use Rattle.sections.specs.Shelves.{slot_words}
+use Rattle.sections.specs.Plays.{EndsWithText}
+use Rattle.sections.specs.Views.{CpuView}
+use Rattle.sections.specs.Calls.{AddsEvent, Notes, Asks}
+use Rattle.sections.specs.WriterViews.{WriterView, SlotView}
+
+abbrev pub standing_of : WriterView → ℕ → Standing
+standing_of w x = slice_index_or w.standings x Blank
+
+-- the slot was given out by this writer, and not given back
+pub record IsOwn (w : WriterView) (s : SlotView) : Type 0 where
+  pub cell : s.cell ≡ w.cell
+  pub inside : s.slot < w.slots
+  pub out : standing_of w s.slot ≡ Out
+
+-- the same writer, which has put nothing
+pub record IsSameWriter (w w' : WriterView) : Type 0 where
+  pub domain : w'.domain ≡ w.domain
+  pub cell : w'.cell ≡ w.cell
+  pub slots : w'.slots ≡ w.slots
+  pub version : w'.version ≡ w.version
+  pub current : w'.current ≡ w.current
+
+-- one word was stored. What is then seen goes on from what was seen before, and nobody can read the slot there
+pub record Sets (slot place value : ℕ) (w w' : WriterView) : Type 0 where
+  pub same : IsSameWriter w w'
+  pub standings : w'.standings ≡ w.standings
+  pub words : w'.words ≡ slice_set w.words (16 * slot + place) value
+  pub since : IsBeginning w.seen w'.seen
+  pub clear : IsClear w'.seen w.cell slot
+
+pub record GivesBack (slot : ℕ) (w w' : WriterView) : Type 0 where
+  pub same : IsSameWriter w w'
+  pub standings : w'.standings ≡ slice_set w.standings slot Blank
+  pub words : w'.words ≡ w.words
+  pub seen : w'.seen ≡ w.seen
+
+-- What a put does
+-- the slot was put as the next version, behind all that the two had seen, and then a cookie was given, of this number. The slot that was current is retired with it. The version has the words that the slot had
+pub record PutsSlot (slot cookie : ℕ) (w : WriterView) (c : CpuView) (w' : WriterView) (c' : CpuView) : Type 0 where
+  pub between : CpuView
+  pub number : ℕ
+  pub puts : AddsEvent w.seen w.changes (Put w.cell slot (w.version + 1) (Processor c.processor)) c between
+  pub text : EndsWithText w.cell (slot_words slot w.words) between.texts
+  pub notes : Notes number between c'
+  pub cookie_is : cookie ≡ cookie_at number
+  pub cell : w'.cell ≡ w.cell
+  pub domain : w'.domain ≡ w.domain
+  pub slots : w'.slots ≡ w.slots
+  pub version : w'.version ≡ w.version + 1
+  pub current : w'.current ≡ slot
+  pub standings : w'.standings ≡ slice_set (slice_set w.standings w.current (Retired cookie)) slot Current
+  pub words : w'.words ≡ w.words
+  pub since : IsBeginning c'.seen w'.seen
+
+-- What a reclaim does of one slot
+-- somebody asked after the cookie of the slot, behind all that the two had seen, and the slot is blank again just where it is done
+pub record Reclaims (slot number : ℕ) (answer : Bool) (w : WriterView) (c : CpuView) (w' : WriterView) (c' : CpuView) : Type 0 where
+  pub asks : Asks w.seen w.changes number answer c c'
+  pub same : IsSameWriter w w'
+  pub done : answer ≡ true → w'.standings ≡ slice_set w.standings slot Blank
+  pub waits : answer ≡ false → w'.standings ≡ w.standings
+  pub words : w'.words ≡ w.words
+  pub since : IsBeginning w.seen w'.seen
+  pub covers : IsBeginning c'.seen w'.seen
+
+-- Which slot is given out
+-- a blank slot was given out, and fewer than 2 ^ 54 versions were put
+pub record Gives (w w' : WriterView) (s : SlotView) : Type 0 where
+  pub room : w.version < 2 ^ 54
+  pub inside : s.slot < w.slots
+  pub cell : s.cell ≡ w.cell
+  pub blank : standing_of w s.slot ≡ Blank
+  pub same : IsSameWriter w w'
+  pub standings : w'.standings ≡ slice_set w.standings s.slot Out
+  pub words : w'.words ≡ w.words
+  pub seen : w'.seen ≡ w.seen
+
+abbrev pub NoneBlank : WriterView → Type 0
+NoneBlank w = (x : ℕ) → x < w.slots → standing_of w x ≢ Blank
+
+-- none was blank, or 2 ^ 54 versions were put
+pub record GivesNone (w w' : WriterView) : Type 0 where
+  pub none : 2 ^ 54 ≤ w.version ⊎ NoneBlank w
+  pub same : w' ≡ w
+
+-- How slots stand
+
+abbrev pub is_out : Standing → Bool
+is_out Out = true
+is_out s = false
+
+-- the slot was not current any more when the cookie of this number was given, and nobody has found it since
+pub record IsRetired (seen : List Event) (c x number : ℕ) : Type 0 where
+  pub before : List Event
+  pub by : Maker
+  pub since : List Event
+  pub whole : seen ≡ before ++ Note number by ∷ since
+  pub unfound : (s : ℕ) → finds_of s c x seen ≡ finds_of s c x before
+  pub resting : x ≢ slot_of c seen
+  pub multiple : number % 4 ≡ 0
+
+abbrev pub Stands : List Event → ℕ → ℕ → Standing → Type 0
+Stands seen c x Blank = IsClear seen c x
+Stands seen c x Out = IsClear seen c x
+Stands seen c x Current = x ≡ slot_of c seen
+Stands seen c x (Retired number) = IsRetired seen c x number

@@ -1,0 +1,69 @@
+//! Slots are given out, filled and given back.
+ghost use Rattle.std.specs.Prelude.{◌≡◌, ◌<◌, MatchOption};
+ghost use Rattle.sections.specs.Writers.{IsOwn, Sets, GivesBack, Gives, GivesNone, NoneBlank, standing_of};
+ghost use Rattle.sections.specs.declared.writer.Standing.TheVariants.{Blank};
+
+use super::{Slot, Standing, Writer};
+use crate::cpu::Cpu;
+use crate::cpu::writing::store_in;
+use std::alloc::Allocator;
+
+/// From so many versions on no slot is given out.
+const MOST_VERSIONS: u64 = 18_014_398_509_481_984;
+
+impl Writer {
+    /// A slot that nobody can read, to be filled. None exactly where no slot is blank, or 2^54 versions were put.
+    pub fn blank(&mut self) -> Option<Slot>
+        ensures { MatchOption result (GivesNone self.old self.new) (λ s. Gives self.old self.new s) }
+    {
+        if self.version >= MOST_VERSIONS {
+            return None;
+        }
+        let slot = self.first_blank()?;
+        self.standings[slot] = Standing::Out;
+        Some(Slot {
+            cell: self.cell,
+            slot,
+        })
+    }
+
+    // The first slot that is blank.
+    fn first_blank(&self) -> Option<usize>
+        ensures { MatchOption result (NoneBlank self.now) (λ x. (x < self.now.slots) × (standing_of self.now x ≡ Blank)) }
+    {
+        for slot in 0..self.slots {
+            if matches!(self.standings[slot], Standing::Blank) {
+                return Some(slot);
+            }
+        }
+        None
+    }
+
+    /// Stores a word of the slot. No open section has found this slot then. The writer has then seen all that there is.
+    pub fn set<A: Allocator>(&mut self, cpu: &mut Cpu<A>, slot: &mut Slot, place: usize, value: u64)
+        requires here { cpu.old.domain ≡ self.old.domain }
+        requires own { IsOwn self.old slot.old }
+        requires place { place < 16 }
+        ensures sets { Sets slot.old.slot place value self.old self.new }
+        ensures cpu { cpu.new ≡ cpu.old }
+        ensures slot { slot.new ≡ slot.old }
+    {
+        store_in(
+            &cpu.table.shared,
+            &mut self.seat,
+            self.cell,
+            slot.slot,
+            place,
+            value,
+        );
+    }
+
+    /// The slot is blank again. What was stored there stays until it is stored over.
+    pub fn give_back(&mut self, slot: Slot)
+        requires own { IsOwn self.old slot }
+        ensures back { GivesBack slot.slot self.old self.new }
+    {
+        let Slot { cell: _, slot } = slot;
+        self.standings[slot] = Standing::Blank;
+    }
+}

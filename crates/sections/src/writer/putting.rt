@@ -1,0 +1,33 @@
+//! A filled slot becomes the next version of its cell.
+ghost use Rattle.std.specs.Prelude.{◌≡◌};
+ghost use Rattle.sections.specs.Writers.{IsOwn, PutsSlot};
+
+use super::{Slot, Standing, Writer};
+use crate::cpu::Cpu;
+use crate::cpu::steps::note_number;
+use crate::cpu::writing::{put_in, refresh_in};
+use sseq::snap;
+use std::alloc::Allocator;
+
+impl Writer {
+    /// Puts the slot as the next version of the cell (`rcu_assign_pointer`). The slot that was current is retired, with a
+    /// cookie of now: its number is the answer. Once that is done, [`Writer::reclaim`] makes it blank.
+    pub fn put<A: Allocator>(&mut self, cpu: &mut Cpu<A>, slot: Slot) -> u64
+        requires here { cpu.old.domain ≡ self.old.domain }
+        requires own { IsOwn self.old slot }
+        ensures { PutsSlot slot.slot result self.old cpu.old self.new cpu.new }
+    {
+        let Slot { cell: _, slot } = slot;
+        let top = &cpu.table.shared;
+        let word = 16 * (self.version + 1) + slot as u64;
+        put_in(top, &mut cpu.seat, &mut self.seat, self.cell, slot, word);
+        let cookie = snap(note_number(top, &mut cpu.seat));
+        refresh_in(top, &mut cpu.seat, &mut self.seat, self.cell);
+        let retired = self.current;
+        self.standings[retired] = Standing::Retired(cookie);
+        self.standings[slot] = Standing::Current;
+        self.current = slot;
+        self.version += 1;
+        cookie
+    }
+}
