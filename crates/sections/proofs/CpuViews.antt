@@ -35,20 +35,22 @@ seen_as d n limit p v = record { domain = d; processors = n; sections = limit; p
 
 -- What was seen
 
-pub history_of : (n p : ℕ) (w : View) → w.processors ≡ n → w.role ≡ Cpu p → IsSound w.processors w.role w.mine w.seen w.changes → IsHistoryOf n (Processor p) w.mine w.seen w.changes
+pub history_of : (n p : ℕ) (w : View) → w.processors ≡ n → w.role ≡ Cpu p → IsSound w.processors w.role w.mine w.seen w.changes w.texts → IsHistoryOf n (Processor p) w.mine w.seen w.changes w.texts
 history_of n p w sized is h = record {
   legal = h.legal;
   makers = subst (λ (z : ℕ). All (HasItsMaker z) w.seen) sized h.makers;
   own = subst (λ (z : Role). Owns z w.mine w.seen) is h.own;
   reaches = h.reaches;
+  texts = h.texts;
 }
 
-pub engine_history_of : (n k : ℕ) (w : View) → w.processors ≡ n → w.role ≡ Driver k → IsSound w.processors w.role w.mine w.seen w.changes → IsHistoryOf n Engine w.mine w.seen w.changes
+pub engine_history_of : (n k : ℕ) (w : View) → w.processors ≡ n → w.role ≡ Driver k → IsSound w.processors w.role w.mine w.seen w.changes w.texts → IsHistoryOf n Engine w.mine w.seen w.changes w.texts
 engine_history_of n k w sized is h = record {
   legal = h.legal;
   makers = subst (λ (z : ℕ). All (HasItsMaker z) w.seen) sized h.makers;
   own = subst (λ (z : Role). Owns z w.mine w.seen) is h.own;
   reaches = h.reaches;
+  texts = h.texts;
 }
 
 pub loads_from : (l : Step) (d d' : TableId) (n limit p : ℕ) (v w : View) → d' ≡ d → v.processors ≡ n → v.role ≡ Cpu p → Sees l v w → Loads l (seen_as d n limit p v) (seen_as d' n limit p w)

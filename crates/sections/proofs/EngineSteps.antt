@@ -141,8 +141,8 @@ module _ (bounds : Bounds) where
           shown = refl;
           told = refl;
           done = refl;
-          texts = knows_texts s.words r.log r.shelf.texts r.shelf.writer_of id v w (r.shelf.each id v at) refl (texts_on r.shelf.texts r.log e driven.no_put r.shelf.shelved.cells);
-          sound = sound_after bounds s r e v.processors v.role (v.mine ++ e ∷ []) changes' may.0 (driven.maker bounds.processors) sized may.1 (subst (λ (m : Role). Owns m (v.mine ++ e ∷ []) log') (sym is) mine');
+          texts = knows_texts s.words r.log r.shelf.texts r.shelf.writer_of id v w (r.shelf.each id v at) refl;
+          sound = sound_after bounds s r e v.processors v.role (v.mine ++ e ∷ []) changes' r.shelf.texts may.0 (driven.maker bounds.processors) sized may.1 (subst (λ (m : Role). Owns m (v.mine ++ e ∷ []) log') (sym is) mine') (texts_on r.shelf.texts r.log e driven.no_put r.shelf.shelved.cells);
         },
       )
 
@@ -239,12 +239,13 @@ module _ (bounds : Bounds) where
           since = f.seen;
           later = omega (arith, known);
           covers = covers_as v.told r.log changes' r.shelf.texts (told_later v.told r.log r.changes changes' (omega arith) f.told);
-          texts = knows_texts s.words r.log r.shelf.texts r.shelf.writer_of id v w (r.shelf.each id v at) refl r.shelf.shelved.cells;
+          texts = knows_texts s.words r.log r.shelf.texts r.shelf.writer_of id v w (r.shelf.each id v at) refl;
           sound = record {
             legal = r.within.legal;
             makers = subst (λ (z : ℕ). All (HasItsMaker z) r.log) (sym sized) r.within.makers;
             own = owns_from_makes r.log r.changes r.seat_of r.reached r.holder r.engine id v.role v.mine f.makes;
             reaches = reached;
+            texts = r.shelf.shelved.cells;
           };
         },
       )

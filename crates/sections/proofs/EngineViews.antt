@@ -19,7 +19,7 @@ use Rattle.sections.proofs.Deeds.{engine_makes}
 use Rattle.sections.proofs.CpuViews.{engine_history_of, last_may_follow}
 
 abbrev pub engine_as : TableId → ℕ → ℕ → View → EngineView
-engine_as d n periods v = record { domain = d; processors = n; periods = periods; seen = v.seen; changes = v.changes; shown = v.shown; mine = v.mine; steps = steps_of Engine v.done }
+engine_as d n periods v = record { domain = d; processors = n; periods = periods; seen = v.seen; changes = v.changes; texts = v.texts; shown = v.shown; mine = v.mine; steps = steps_of Engine v.done }
 
 pub adds_engine_event : (e : Event) (d d' : TableId) (n periods k : ℕ) (v w : View) → d' ≡ d → v.processors ≡ n → v.role ≡ Driver k → w.changes ≡ v.changes + 1 → Adds v e w → AddsEngineEvent e (engine_as d n periods v) (engine_as d' n periods w)
 adds_engine_event e d d' n periods k v w same sized is changes a = record {
@@ -27,6 +27,7 @@ adds_engine_event e d d' n periods k v w same sized is changes a = record {
   before = a.before;
   seen = a.seen;
   since = a.since;
+  texts = a.texts.since;
   changes_are = changes;
   shown = a.shown;
   mine = a.mine;
@@ -42,6 +43,7 @@ takes_step l changes d d' n periods k v w same sized is known h = record {
   changes_are = known;
   shown = h.shown;
   since = h.since;
+  texts = h.texts.since;
   history = engine_history_of n k w (h.processors ∙ sized) (h.role ∙ is) h.sound;
 }
 
@@ -57,6 +59,7 @@ covers_engine d d' n periods k v o w same sized is h = record {
     changes_are = h.driven k is;
     shown = h.shown;
     since = h.since;
+    texts = h.texts;
     history = engine_history_of n k w (h.processors ∙ sized) (h.role ∙ is) h.sound;
   };
   covers = h.covers;

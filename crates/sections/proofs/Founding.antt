@@ -40,4 +40,4 @@ small_enough processors limits count range = let most = count.1 in let few = ran
 }
 
 pub rests_founding : (bounds : Bounds) (k : ℕ) → IsAtRest (record (founder bounds) { role = Driver k; right = Nothing })
-rests_founding bounds k = record { free = refl; told = refl; sound = record { legal = tt; makers = All-nil (HasItsMaker bounds.processors); own = refl; reaches = record { started = refl; ended = refl } } }
+rests_founding bounds k = record { free = refl; told = refl; sound = record { legal = tt; makers = All-nil (HasItsMaker bounds.processors); own = refl; reaches = record { started = refl; ended = refl }; texts = refl } }

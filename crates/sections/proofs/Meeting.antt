@@ -15,7 +15,9 @@ use Rattle.onedom.specs.Histories.{made_by, IsBeginning, is_start, is_finish, st
 use Rattle.onedom.proofs.CallerLemmas.{count_append, beginning_trans, beginnings_compare, beginning_made_by}
 use Rattle.sections.specs.declared.view.Role.TheVariants.{Cpu}
 use Rattle.sections.specs.declared.view.Shown.TheVariants.{To}
+use Rattle.sections.specs.declared.view.Text.{Text}
 use Rattle.sections.specs.declared.view.View.{View}
+use Rattle.sections.specs.Shelves.{IsStart}
 use Rattle.sections.specs.declared.view.Step.{Step}
 use Rattle.sections.specs.declared.view.Step.TheVariants.{LoadIndex}
 use Rattle.sections.specs.Seats as seats
@@ -48,7 +50,7 @@ hears_from d d' n limit p v o w same sized is h = record {
   not_before = h.not_before;
 }
 
-pub accepted : (d d' : TableId) (n limit p : ℕ) (v o w : View) → d' ≡ d → v.processors ≡ n → v.role ≡ Cpu p → seats.Accepts v o w → Accepts (seen_as d n limit p v) o.seen o.changes (seen_as d' n limit p w)
+pub accepted : (d d' : TableId) (n limit p : ℕ) (v o w : View) → d' ≡ d → v.processors ≡ n → v.role ≡ Cpu p → seats.Accepts v o w → Accepts (seen_as d n limit p v) o.seen o.changes o.texts (seen_as d' n limit p w)
 accepted d d' n limit p v o w same sized is h = record {
   value = h.value;
   same = (same, refl, refl, refl);
@@ -56,13 +58,15 @@ accepted d d' n limit p v o w same sized is h = record {
   steps = h.steps (Processor p) (cpu_makes p v.role is);
   seen = h.seen;
   changes = h.changes;
+  texts = h.texts;
+  texts_since = subst (λ (z : List Text). IsStart v.texts z) h.texts h.texts_since;
   found = h.found;
   history = history_of n p w (h.processors ∙ sized) (h.role ∙ is) h.sound;
 }
 
-pub ties_from : (c c' c'' d d' d'' : CpuView) → Hears c d.seen d.changes c' → d' ≡ d → c'' ≡ c' → Accepts d' c'.seen c'.changes d'' → Ties c d c'' d''
+pub ties_from : (c c' c'' d d' d'' : CpuView) → Hears c d.seen d.changes c' → d' ≡ d → c'' ≡ c' → Accepts d' c'.seen c'.changes c'.texts d'' → Ties c d c'' d''
 ties_from c c' c'' d d' d'' h same_other same a =
-    let accepts : Accepts d c'.seen c'.changes d'' = subst (λ (z : CpuView). Accepts z c'.seen c'.changes d'') same_other a in
+    let accepts : Accepts d c'.seen c'.changes c'.texts d'' = subst (λ (z : CpuView). Accepts z c'.seen c'.changes c'.texts d'') same_other a in
     subst (λ (z : CpuView). Ties c d z d'') (sym same) record {
       value = h.value;
       current = h.current;
@@ -77,9 +81,9 @@ ties_from c c' c'' d d' d'' h same_other same a =
 
 -- The engine and a processor
 
-pub ties_engine : (e e' e'' e''' : EngineView) (c c' c'' c''' : CpuView) → Covers e c.seen c.changes e' → c' ≡ c → e'' ≡ e' → Accepts c' e'.seen e'.changes c'' → c''' ≡ c'' → e''' ≡ noted c''.processor c''.changes e'' → TiesEngine e c e''' c'''
+pub ties_engine : (e e' e'' e''' : EngineView) (c c' c'' c''' : CpuView) → Covers e c.seen c.changes e' → c' ≡ c → e'' ≡ e' → Accepts c' e'.seen e'.changes e'.texts c'' → c''' ≡ c'' → e''' ≡ noted c''.processor c''.changes e'' → TiesEngine e c e''' c'''
 ties_engine e e' e'' e''' c c' c'' c''' h same_cpu same_engine a last_cpu last_engine =
-    let accepts : Accepts c e'.seen e'.changes c'' = subst (λ (z : CpuView). Accepts z e'.seen e'.changes c'') same_cpu a in
+    let accepts : Accepts c e'.seen e'.changes e'.texts c'' = subst (λ (z : CpuView). Accepts z e'.seen e'.changes e'.texts c'') same_cpu a in
     let noted_as : e''' ≡ noted c.processor e'.changes e' = last_engine ∙ (λ k. noted (accepts.same.3 k) (accepts.changes k) (same_engine k)) in
     subst (λ (z : EngineView × CpuView). TiesEngine e c z.0 z.1) (λ k. (sym noted_as k, sym last_cpu k)) record {
       between = e';
@@ -133,24 +137,24 @@ heard_more was now i e long inside rest here so_far k d lt = dite (ℕ_discrete 
     (λ ki. subst (λ (z : CpuView). Heard e z) (rest i d (omega arith) ∙ ap (λ z. get_or was z d) (sym ki)) (here d))
     (λ n. so_far k d (omega arith))
 
-pub joins_more : (was now : List CpuView) (i : ℕ) (new : CpuView) (all : List Event) (changes : ℕ) → length now ≡ length was → i < length now → ((k : ℕ) (d : CpuView) → k < length was → IsBeginning (get_or was k d).seen all)
+pub joins_more : (was now : List CpuView) (i : ℕ) (new : CpuView) (all : List Event) (changes : ℕ) (texts : List Text) → length now ≡ length was → i < length now → ((k : ℕ) (d : CpuView) → k < length was → IsBeginning (get_or was k d).seen all)
     → ((k : ℕ) (d : CpuView) → k < length was → (get_or was k d).changes ≤ changes)
-    → ((d : CpuView) → Accepts (get_or now i d) all changes new)
+    → ((d : CpuView) → Accepts (get_or now i d) all changes texts new)
     → ((k : ℕ) (d : CpuView) → i ≤ k → get_or now k d ≡ get_or was k d)
-    → ((k : ℕ) (d : CpuView) → k < i → Joins (get_or was k d) all changes (get_or now k d))
-    → (k : ℕ) (d : CpuView) → k < i + 1 → Joins (get_or was k d) all changes (get_or (set now i new) k d)
-joins_more was now i new all changes long inside covers reached accepts rest so_far k d lt = dite (ℕ_discrete k i)
+    → ((k : ℕ) (d : CpuView) → k < i → Joins (get_or was k d) all changes texts (get_or now k d))
+    → (k : ℕ) (d : CpuView) → k < i + 1 → Joins (get_or was k d) all changes texts (get_or (set now i new) k d)
+joins_more was now i new all changes texts long inside covers reached accepts rest so_far k d lt = dite (ℕ_discrete k i)
     (λ e. let there : get_or (set now i new) k d ≡ new = ap (λ z. get_or (set now i new) z d) e ∙ get_or-set_same now i new d inside in
     let old : get_or now i d ≡ get_or was k d = rest i d (omega arith) ∙ ap (λ z. get_or was z d) (sym e) in
-    let here : Accepts (get_or was k d) all changes new = subst (λ (z : CpuView). Accepts z all changes new) old (accepts d) in
-    subst (λ (z : CpuView). Joins (get_or was k d) all changes z) (sym there) (record { accepts = here; since = covers k d (omega arith); later = reached k d (omega arith) }))
-    (λ n. let other : get_or (set now i new) k d ≡ get_or now k d = get_or-set_other now i k new d n in subst (λ (z : CpuView). Joins (get_or was k d) all changes z) (sym other) (so_far k d (omega arith)))
+    let here : Accepts (get_or was k d) all changes texts new = subst (λ (z : CpuView). Accepts z all changes texts new) old (accepts d) in
+    subst (λ (z : CpuView). Joins (get_or was k d) all changes texts z) (sym there) (record { accepts = here; since = covers k d (omega arith); later = reached k d (omega arith) }))
+    (λ n. let other : get_or (set now i new) k d ≡ get_or now k d = get_or-set_other now i k new d n in subst (λ (z : CpuView). Joins (get_or was k d) all changes texts z) (sym other) (so_far k d (omega arith)))
 
 pub rest_same : (was now : List CpuView) (i : ℕ) (new : CpuView) → ((k : ℕ) (d : CpuView) → i ≤ k → get_or now k d ≡ get_or was k d) → (k : ℕ) (d : CpuView) → i + 1 ≤ k → get_or (set now i new) k d ≡ get_or was k d
 rest_same was now i new rest k d le = get_or-set_other now i k new d (λ e. omega arith) ∙ rest k d (omega arith)
 
 pub meets_from : (e e' e'' : EngineView) (cpus cpus' cpus'' : List CpuView) → CoversAll e cpus e' → cpus' ≡ cpus → e'' ≡ e' → length cpus'' ≡ length cpus'
-    → ((k : ℕ) (d : CpuView) → k < length cpus' → Joins (get_or cpus' k d) e'.seen e'.changes (get_or cpus'' k d))
+    → ((k : ℕ) (d : CpuView) → k < length cpus' → Joins (get_or cpus' k d) e'.seen e'.changes e'.texts (get_or cpus'' k d))
     → ((k : ℕ) (d : CpuView) → k < length cpus' → Heard e' (get_or cpus' k d)) → Meets e cpus e'' cpus''
 meets_from e e' e'' cpus cpus' cpus'' h same_cpus steady count joined heard =
     let hears : (k : ℕ) (d : CpuView) → k < length cpus → Heard e' (get_or cpus k d) = λ k d lt. subst (λ (xs : List CpuView). Heard e' (get_or xs k d)) same_cpus (heard k d (subst (λ (xs : List CpuView). k < length xs) (sym same_cpus) lt)) in
@@ -162,9 +166,10 @@ meets_from e e' e'' cpus cpus' cpus'' h same_cpus steady count joined heard =
       mine = h.mine;
       changes_are = h.changes_are;
       since = h.since;
+      texts = h.texts;
       history = h.history;
       count = count ∙ ap length same_cpus;
-      each = λ k d lt. subst (λ (xs : List CpuView). Joins (get_or xs k d) e'.seen e'.changes (get_or cpus'' k d)) same_cpus (joined k d (subst (λ (xs : List CpuView). k < length xs) (sym same_cpus) lt));
+      each = λ k d lt. subst (λ (xs : List CpuView). Joins (get_or xs k d) e'.seen e'.changes e'.texts (get_or cpus'' k d)) same_cpus (joined k d (subst (λ (xs : List CpuView). k < length xs) (sym same_cpus) lt));
       shown = h.shown;
       sized = λ k d lt. (hears k d lt).sized ∙ h.same.1;
       were = λ k d lt. (hears k d lt).was;
@@ -191,7 +196,7 @@ engine_events n (e ∷ es) all = engine_event n e es (All-head (HasItsMaker n) e
     engine_event n (Put d x v Engine) es h r = absurd h
 
 -- where all changes are known, so are all events of the engine
-pub seen_all : (e e' : EngineView) (c : CpuView) → IsSeenBy c → IsBeginning c.seen e'.seen → IsHistoryOf e'.processors Engine e'.mine e'.seen e'.changes → c.changes ≡ e'.changes → e'.mine ≡ e.mine → e'.changes ≡ e.changes → HasSeenAll e c
+pub seen_all : (e e' : EngineView) (c : CpuView) → IsSeenBy c → IsBeginning c.seen e'.seen → IsHistoryOf e'.processors Engine e'.mine e'.seen e'.changes e'.texts → c.changes ≡ e'.changes → e'.mine ≡ e.mine → e'.changes ≡ e.changes → HasSeenAll e c
 seen_all e e' c was since now same mine changes = record {
   events =
       let a = engine_events c.processors c.seen was.makers in

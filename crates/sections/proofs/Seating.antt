@@ -1,5 +1,5 @@
 -- From what a step tells a seat to what the calls say of it.
-use Rattle.std.proofs.Common.{◌≡◌, ℕ, ◌<◌, ◌≤◌, [], ◌∷◌, All, sym, ap, ◌∙◌, subst, arith}
+use Rattle.std.proofs.Common.{◌≡◌, ℕ, ◌<◌, ◌≤◌, List, [], ◌∷◌, All, sym, ap, ◌∙◌, subst, arith}
 use Rattle.std.proofs.lemmas.List.Elements.{All-head}
 use mathlib.Core.Option.{none}
 use Rattle.atomic_table.specs.Table.{step, Allows}
@@ -10,7 +10,9 @@ use Rattle.sections.specs.declared.view.Role.TheVariants.{Cpu, Driver}
 use Rattle.sections.specs.declared.view.Right.TheVariants.{Nothing}
 use Rattle.sections.specs.declared.view.Step.{Step}
 use Rattle.sections.specs.declared.view.Step.TheVariants.{LoadIndex}
+use Rattle.sections.specs.declared.view.Text.{Text}
 use Rattle.sections.specs.declared.view.View.{View}
+use Rattle.sections.specs.Shelves.{IsStart}
 use Rattle.sections.specs.Words.{word_count, index_word}
 use Rattle.sections.specs.Rule.{HasItsMaker, GoesOn, Kept, moment_of, bearer, informed, mark, shower, hearing}
 use Rattle.sections.specs.Plays.{Sat, Sees, Admits, admitted}
@@ -54,10 +56,10 @@ pub may_accept : (bounds : Bounds) (slots id p : ℕ) (v o : View) (me : Sat) �
 may_accept bounds slots id p v o me joined sized other_sized is rests other since later =
     subst (λ (z : View). Allows (Kept bounds) slots id (z, me.1) 0 (λ x. x) (admitted (step slots 0 0 0 none) (z, me.1))) (sym joined)
     (admits_here bounds slots id (hearing v (shower o), me.1) p (moment_of o) sized is (ap (λ t. moment_of o ∷ t) rests.told) since later rests.sound.own other.sound.legal
-    (subst (λ (z : ℕ). All (HasItsMaker z) o.seen) other_sized other.sound.makers) other.sound.reaches)
+    (subst (λ (z : ℕ). All (HasItsMaker z) o.seen) other_sized other.sound.makers) other.sound.reaches other.sound.texts)
 
-pub accepts_from : (n : ℕ) (v o j w : View) → v.told ≡ [] → j ≡ hearing v (shower o) → ((m : Moment) → j.told ≡ m ∷ [] → Admits n m j w) → Accepts v o w
-accepts_from n v o j w untold joined admits =
+pub accepts_from : (n : ℕ) (v o j w : View) → v.told ≡ [] → j ≡ hearing v (shower o) → ((m : Moment) → j.told ≡ m ∷ [] → Admits n m j w) → IsBeginning v.seen o.seen → Accepts v o w
+accepts_from n v o j w untold joined admits since =
     let l : Admits n (moment_of o) (hearing v (shower o)) w = subst (λ (z : View). Admits n (moment_of o) z w) joined (admits (moment_of o) (ap (λ (z : View). z.told) joined ∙ ap (λ t. moment_of o ∷ t) untold)) in record {
       value = n;
       processors = l.processors;
@@ -68,6 +70,8 @@ accepts_from n v o j w untold joined admits =
       steps = l.steps;
       seen = l.seen;
       changes = l.changes;
+      texts = l.texts;
+      texts_since = subst (λ (z : List Text). IsStart v.texts z) (sym l.texts) (l.texts_since since);
       found = l.found;
       heard = λ p k c is driver shown. l.heard p c is (ap (λ m. mark m o.changes o.shown) driver ∙ shown);
       sound = l.sound;

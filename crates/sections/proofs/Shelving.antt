@@ -1,7 +1,7 @@
 -- What the rule says of cells and slots stays so.
-use Rattle.std.proofs.Common.{◌≡◌, ℕ, ◌<◌, ◌≤◌, ◌≢◌, ◌⊎◌, inl, inr, ⊎_elim, false, cond, nat_le, None, List, [], ◌∷◌, ◌++◌, All, length, take, drop, get_or, set, refl, sym, ap, ◌∙◌, subst, append-nil, le-leb, leb-true, arith, get_or-set_other, take-append-drop}
+use Rattle.std.proofs.Common.{◌≡◌, ℕ, ◌<◌, ◌≤◌, ◌≢◌, ◌⊎◌, inl, inr, ⊎_elim, false, cond, nat_le, None, List, [], ◌∷◌, ◌++◌, All, length, take, drop, get_or, set, refl, sym, ap, ◌∙◌, subst, append-nil, append_assoc, length-append, le-leb, leb-true, arith, get_or-set_other, take-append-drop}
 use Rattle.std.specs.List.{cons_option}
-use Rattle.std.proofs.lemmas.List.{length-map, get_or-replicate}
+use Rattle.std.proofs.lemmas.List.{length-map, get_or-replicate, take-take}
 use Rattle.std.proofs.lemmas.List.Elements.{All-nil, All-weaker, All-push, filter_map-append}
 use Rattle.std.proofs.Math.Seq.{take-length}
 use Rattle.onedom.specs.declared.event.Event.{Event}
@@ -28,6 +28,19 @@ texts_all texts log h = sym (ap (λ n. take n texts) (sym (ap length h) ∙ leng
 
 pub start_at : (n : ℕ) (texts : List Text) → IsStart (take n texts) texts
 start_at n texts = record { rest = drop n texts; whole = sym (take-append-drop n texts) }
+
+pub fewer_puts : (seen log : List Event) → IsBeginning seen log → length (put_cells seen) ≤ length (put_cells log)
+fewer_puts seen log b = let all = ap (λ l. length (put_cells l)) b.whole in let parts = ap length (filter_map-append put_cell seen b.rest) in let sum = length-append (put_cells seen) (put_cells b.rest) in omega (arith, all, parts, sum)
+
+-- the texts of a beginning are a beginning of the texts
+pub start_between : (seen more : List Event) (texts : List Text) → IsBeginning seen more → IsStart (texts_at texts seen) (texts_at texts more)
+start_between seen more texts b = subst (λ (z : List Text). IsStart z (texts_at texts more)) (take-take (length (put_cells seen)) (length (put_cells more)) texts (fewer_puts seen more b)) (start_at (length (put_cells seen)) (texts_at texts more))
+
+pub start_refl : (texts : List Text) → IsStart texts texts
+start_refl texts = record { rest = []; whole = sym (append-nil texts) }
+
+pub start_trans : {a b c : List Text} → IsStart a b → IsStart b c → IsStart a c
+start_trans {a = a} ab bc = record { rest = ab.rest ++ bc.rest; whole = bc.whole ∙ (ap (λ l. l ++ bc.rest) ab.whole ∙ append_assoc a ab.rest bc.rest) }
 
 pub no_put : (e : Event) → put_cell e ≡ None → (c : ℕ) → puts_in c e ≡ false
 no_put (Begin s p i by) none c = refl
@@ -188,9 +201,8 @@ shelf_deed words after views log deeds id w d k same is fits = record {
 }
 
 -- who has seen all
-pub knows_texts : (words : List ℕ) (log : List Event) (texts : List Text) (writer_of : ℕ → ℕ) (j : ℕ) (v w : View) → FitsShelf words log texts writer_of j v → w.texts ≡ texts → AreTextsOf texts w.seen → KnowsTexts v w
-knows_texts words log texts writer_of j v w f is all = record {
-  puts = subst (λ (z : List Text). AreTextsOf z w.seen) (sym is) all;
+pub knows_texts : (words : List ℕ) (log : List Event) (texts : List Text) (writer_of : ℕ → ℕ) (j : ℕ) (v w : View) → FitsShelf words log texts writer_of j v → w.texts ≡ texts → KnowsTexts v w
+knows_texts words log texts writer_of j v w f is = record {
   since = subst (λ (z : List Text × List Text). IsStart z.0 z.1) (λ i. (sym f.has i, sym is i)) (start_at (length (put_cells v.seen)) texts);
   covers = All-weaker (λ m. m.texts ≡ texts_at texts m.history) (λ m. IsStart m.texts w.texts)
       (λ m e. subst (λ (z : List Text × List Text). IsStart z.0 z.1) (λ i. (sym e i, sym is i)) (start_at (length (put_cells m.history)) texts)) v.told f.told;

@@ -27,15 +27,16 @@ use Rattle.sections.specs.declared.view.Right.TheVariants.{Nothing, Section, She
 use Rattle.sections.specs.declared.view.Step.{Step}
 use Rattle.sections.specs.declared.view.Step.TheVariants.{LoadIndex}
 use Rattle.sections.specs.declared.view.Shown.TheVariants.{Unknown}
+use Rattle.sections.specs.declared.view.Text.{Text}
 use Rattle.sections.specs.declared.view.View.{View}
 use Rattle.sections.specs.Words.{is_held, number_place, lock_place, unlock_place, locks_at, locks, unlocks_at, unlocks, index_word, number_word, Reaches, Agree}
 use Rattle.sections.specs.declared.view.Deed.{Deed}
 use Rattle.sections.specs.Rule.{HasItsMaker, HasReached, GoesOn, IsTrueOf, IsMaker, HasDone, Makes, Has, Knows, Fits, Kept}
-use Rattle.sections.specs.Shelves.{put_cell, texts_at, FitsShelf, IsTrueWord, KeepsShelf}
+use Rattle.sections.specs.Shelves.{put_cell, texts_at, IsStart, AreTextsOf, FitsShelf, IsTrueWord, KeepsShelf}
 use Rattle.sections.specs.Plays.{Owns, IsSound, Sees, Admits, Adds, Sat, looked, admitted, began, ended, FindsNumber, noted, asked}
 use Rattle.sections.proofs.Counters.{index_number_same, locks_push, elsewhere, locks_mine, All-push, unlocks_bounded}
 use Rattle.sections.proofs.Agreement.{agrees_begun, agrees_ended, agrees_plain}
-use Rattle.sections.proofs.Shelving.{IsSameShelf, same_shelf, same_set, texts_on, writes_event, shelf_event, shelf_deed, knows_texts, fits_all}
+use Rattle.sections.proofs.Shelving.{start_between, IsSameShelf, same_shelf, same_set, texts_on, writes_event, shelf_event, shelf_deed, knows_texts, fits_all}
 use Rattle.sections.proofs.Deeds.{cpu_makes, stands_at, maker_at, deed, done_later, done_push, has_done_push, has_done_all, has_done_as, one_more_step}
 use Rattle.sections.proofs.Knowing.{now, covers_as, views_set, given, given_here, given_else, seat_at, has_stays, fits_stay, fits_later, known_before, knows_all, owns_from_makes, owns_between, not_false, false≠true, hits}
 
@@ -168,12 +169,13 @@ module _ (bounds : Bounds) where
           since = f.seen;
           later = known_before r.log r.changes r.seat_of r.reached r.holder r.engine id v.role v.changes f.knows;
           covers = covers_as v.told r.log r.changes r.shelf.texts f.told;
-          texts = knows_texts s.words r.log r.shelf.texts r.shelf.writer_of id v w (r.shelf.each id v at) refl r.shelf.shelved.cells;
+          texts = knows_texts s.words r.log r.shelf.texts r.shelf.writer_of id v w (r.shelf.each id v at) refl;
           sound = record {
             legal = r.within.legal;
             makers = subst (λ (z : ℕ). All (HasItsMaker z) r.log) (sym sized) r.within.makers;
             own = owns_from_makes r.log r.changes r.seat_of r.reached r.holder r.engine id v.role v.mine f.makes;
             reaches = r.words.reaches;
+            texts = r.shelf.shelved.cells;
           };
         },
       )
@@ -187,9 +189,9 @@ module _ (bounds : Bounds) where
 
   -- a load by a processor that was told of a history, which covers its own: it made no event that is not there
   pub admits_here : (slots id : ℕ) (me : Sat) (p : ℕ) (o : Moment) → me.0.processors ≡ bounds.processors → me.0.role ≡ Cpu p → me.0.told ≡ o ∷ [] → IsBeginning me.0.seen o.history → me.0.changes ≤ o.changes
-      → Owns me.0.role me.0.mine me.0.seen → IsLegal o.history → All (HasItsMaker bounds.processors) o.history → Reaches o.changes o.history
+      → Owns me.0.role me.0.mine me.0.seen → IsLegal o.history → All (HasItsMaker bounds.processors) o.history → Reaches o.changes o.history → AreTextsOf o.texts o.history
       → Allows (Kept bounds) slots id me 0 (λ x. x) (admitted (step slots 0 0 0 none) me)
-  admits_here slots id me p o sized is told since later own legal makers reaches s r _ at _ =
+  admits_here slots id me p o sized is told since later own legal makers reaches texts s r _ at _ =
       let v : View = me.0 in
       let f = r.each_view id v at in
       let n : ℕ = get_or s.words 0 0 in
@@ -197,6 +199,7 @@ module _ (bounds : Bounds) where
       let makes : IsMaker v.role m = cpu_makes p v.role is in
       let goes : GoesOn o (now r.log r.changes) = All-head (λ x. GoesOn x (now r.log r.changes)) o [] (subst (λ (l : List Moment). All (λ x. GoesOn x (now r.log r.changes)) l) told f.told) in
       let low = goes.changes in
+      let has_texts : o.texts ≡ texts_at r.shelf.texts o.history = All-head (λ x. x.texts ≡ texts_at r.shelf.texts x.history) o [] (subst (λ (l : List Moment). All (λ x. x.texts ≡ texts_at r.shelf.texts x.history) l) told (r.shelf.each id v at).told) in
       let knows : Knows r.log r.changes r.seat_of r.reached r.holder r.engine id (Cpu p) v.changes = subst (λ (x : Role). Knows r.log r.changes r.seat_of r.reached r.holder r.engine id x v.changes) is f.knows in
       let known = knows.0 in
       let w : View = record { processors = v.processors; role = v.role; mine = v.mine; seen = o.history; changes = o.changes; texts = texts_at r.shelf.texts o.history; told = []; right = v.right; shown = Unknown; done = r.deeds ++ deed m (LoadIndex n) (now r.log r.changes) ∷ [] } in (
@@ -223,7 +226,8 @@ module _ (bounds : Bounds) where
             steps = one_more_step v.role m (LoadIndex n) (now r.log r.changes) v.done r.deeds makes (r.each_done id v at).own;
             seen = refl;
             changes = refl;
-            texts = sym (All-head (λ x. x.texts ≡ texts_at r.shelf.texts x.history) o [] (subst (λ (l : List Moment). All (λ x. x.texts ≡ texts_at r.shelf.texts x.history) l) told (r.shelf.each id v at).told));
+            texts = sym has_texts;
+            texts_since = λ b. subst (λ (z : List Text × List Text). IsStart z.0 z.1) (λ i. (sym (r.shelf.each id v at).has i, sym has_texts i)) (start_between v.seen o.history r.shelf.texts b);
             found = record { moment = r.changes; word = r.words.index; not_before = goes.changes };
             heard = λ q c is' shown'.
                 let reached : c ≤ r.reached q = subst (HasReached r.reached) shown' f.shown in
@@ -234,6 +238,7 @@ module _ (bounds : Bounds) where
               makers = subst (λ (z : ℕ). All (HasItsMaker z) o.history) (sym sized) makers;
               own = owns_between v.role v.mine v.seen o.history r.log own since goes.history (owns_from_makes r.log r.changes r.seat_of r.reached r.holder r.engine id v.role v.mine f.makes);
               reaches = reaches;
+              texts = subst (λ (z : List Text). AreTextsOf z o.history) has_texts texts;
             };
           },
         ),
@@ -290,13 +295,14 @@ module _ (bounds : Bounds) where
       → Kept bounds (stepped s k x id cs w keeps)
   happened s r id k x cs w e holder' may made agree limited other ended_here same fits v at role done shelf = let most = r.within.periods in added s r id k x cs w e r.changes holder' may made agree (omega arith) most (λ _ _ _. refl) limited other ended_here same fits v at role done shelf
 
-  pub sound_after : (s : State (Option ℕ) View) (r : Kept bounds s) (e : Event) (n : ℕ) (role : Role) (mine : List Event) (changes' : ℕ) → MayFollow r.log e → HasItsMaker bounds.processors e → n ≡ bounds.processors
-      → Reaches changes' (r.log ++ e ∷ []) → Owns role mine (r.log ++ e ∷ []) → IsSound n role mine (r.log ++ e ∷ []) changes'
-  sound_after s r e n role mine changes' may made sized reaches own = record {
+  pub sound_after : (s : State (Option ℕ) View) (r : Kept bounds s) (e : Event) (n : ℕ) (role : Role) (mine : List Event) (changes' : ℕ) (known : List Text) → MayFollow r.log e → HasItsMaker bounds.processors e → n ≡ bounds.processors
+      → Reaches changes' (r.log ++ e ∷ []) → Owns role mine (r.log ++ e ∷ []) → AreTextsOf known (r.log ++ e ∷ []) → IsSound n role mine (r.log ++ e ∷ []) changes' known
+  sound_after s r e n role mine changes' known may made sized reaches own texts = record {
     legal = legal_push r.log e r.within.legal may;
     makers = subst (λ (z : ℕ). All (HasItsMaker z) (r.log ++ e ∷ [])) (sym sized) (All-push (HasItsMaker bounds.processors) r.log e r.within.makers made);
     own = own;
     reaches = reaches;
+    texts = texts;
   }
 
   -- A section begins: its number is new, and no other seat can know it
@@ -365,8 +371,8 @@ module _ (bounds : Bounds) where
                   shown = refl;
                   told = refl;
                   done = refl;
-                  texts = knows_texts s.words r.log r.shelf.texts r.shelf.writer_of id v w (r.shelf.each id v at) refl (texts_on r.shelf.texts r.log e refl r.shelf.shelved.cells);
-                  sound = sound_after s r e v.processors v.role (v.mine ++ e ∷ []) r.changes new.1 (lt, refl) sized agree.reaches (subst (λ (m : Role). Owns m (v.mine ++ e ∷ []) log') (sym is) mine');
+                  texts = knows_texts s.words r.log r.shelf.texts r.shelf.writer_of id v w (r.shelf.each id v at) refl;
+                  sound = sound_after s r e v.processors v.role (v.mine ++ e ∷ []) r.changes r.shelf.texts new.1 (lt, refl) sized agree.reaches (subst (λ (m : Role). Owns m (v.mine ++ e ∷ []) log') (sym is) mine') (texts_on r.shelf.texts r.log e refl r.shelf.shelved.cells);
                 },
                 refl,
                 new.2,
@@ -463,8 +469,8 @@ module _ (bounds : Bounds) where
               shown = refl;
               told = refl;
               done = refl;
-              texts = knows_texts s.words r.log r.shelf.texts r.shelf.writer_of id v w (r.shelf.each id v at) refl (texts_on r.shelf.texts r.log e refl r.shelf.shelved.cells);
-              sound = sound_after s r e v.processors v.role (v.mine ++ e ∷ []) r.changes has.1 (lt, refl) sized agree.reaches (subst (λ (m : Role). Owns m (v.mine ++ e ∷ []) log') (sym is) mine');
+              texts = knows_texts s.words r.log r.shelf.texts r.shelf.writer_of id v w (r.shelf.each id v at) refl;
+              sound = sound_after s r e v.processors v.role (v.mine ++ e ∷ []) r.changes r.shelf.texts has.1 (lt, refl) sized agree.reaches (subst (λ (m : Role). Owns m (v.mine ++ e ∷ []) log') (sym is) mine') (texts_on r.shelf.texts r.log e refl r.shelf.shelved.cells);
             },
             λ oc. let qp : q ≡ p = qc ∙ (sym oc ∙ sym same.1) in (λ h. begins_of (sym same.0 h) v.mine) ∙ (ap (begins_of t) (made.1 ∙ (λ h. made_by (Processor (qp h)) r.log)) ∙ has.3),
           ),
@@ -531,8 +537,8 @@ module _ (bounds : Bounds) where
           shown = refl;
           told = refl;
           done = refl;
-          texts = knows_texts s.words r.log r.shelf.texts r.shelf.writer_of id v w (r.shelf.each id v at) refl (texts_on r.shelf.texts r.log e t.no_put r.shelf.shelved.cells);
-          sound = sound_after s r e v.processors v.role (v.mine ++ e ∷ []) r.changes may (t.maker bounds.processors lt) sized agree.reaches (subst (λ (m : Role). Owns m (v.mine ++ e ∷ []) log') (sym is) mine');
+          texts = knows_texts s.words r.log r.shelf.texts r.shelf.writer_of id v w (r.shelf.each id v at) refl;
+          sound = sound_after s r e v.processors v.role (v.mine ++ e ∷ []) r.changes r.shelf.texts may (t.maker bounds.processors lt) sized agree.reaches (subst (λ (m : Role). Owns m (v.mine ++ e ∷ []) log') (sym is) mine') (texts_on r.shelf.texts r.log e t.no_put r.shelf.shelved.cells);
         },
       )
 

@@ -32,7 +32,7 @@ use Rattle.sections.specs.Plays.{Owns, Adds, Keeps, EndsWithText, ComesFrom, Sat
 use Rattle.sections.proofs.Counters.{locks_push}
 use Rattle.sections.proofs.Agreement.{agrees_plain}
 use Rattle.sections.proofs.Knowing.{now, covers_as, views_set, known_before, knows_all, false≠true}
-use Rattle.sections.proofs.Shelving.{texts_all, start_at, fits_all}
+use Rattle.sections.proofs.Shelving.{texts_all, start_at, fewer_puts, fits_all}
 use Rattle.sections.proofs.Finding.{texts_are, texts_of_append, words_stay, same_cell, same_slot}
 use Rattle.sections.proofs.Steps.{alone, same_cpu, sound_after, happened, each_as}
 
@@ -126,9 +126,6 @@ all_two P Q R f (x ∷ xs) a b = All-cons R x xs (f x (All-head P x xs a) (All-h
 and_false : (a : Bool) → (a && false) ≡ false
 and_false true = refl
 and_false false = refl
-
-fewer_puts : (seen log : List Event) → IsBeginning seen log → length (put_cells seen) ≤ length (put_cells log)
-fewer_puts seen log b = let all = ap (λ l. length (put_cells l)) b.whole in let parts = ap length (filter_map-append put_cell seen b.rest) in let sum = length-append (put_cells seen) (put_cells b.rest) in omega (arith, all, parts, sum)
 
 count_texts : (texts : List Text) (log : List Event) → AreTextsOf texts log → length texts ≡ length (put_cells log)
 count_texts texts log h = sym (length-map texts (λ t. t.cell)) ∙ ap length h
@@ -349,11 +346,11 @@ module _ (bounds : Bounds) where
                   told = refl;
                   done = refl;
                   texts = record {
-                    puts = put_cells_are s.words s.views r.log r.changes r.deeds r.shelf r.within.legal id c own h has inside seen_each told_each x y (version_of c h + 1) (Processor p) lx may value;
                     since = start v.seen v.texts g.has;
                     covers = All-weaker (λ m. m.texts ≡ texts_at r.shelf.texts m.history) (λ m. IsStart m.texts texts') (λ m i. start m.history m.texts i) v.told g.told;
                   };
-                  sound = sound_after bounds s r e v.processors v.role (v.mine ++ e ∷ []) r.changes may lt sized agree.reaches (subst (λ (m : Role). Owns m (v.mine ++ e ∷ []) log') (sym is) mine');
+                  sound = sound_after bounds s r e v.processors v.role (v.mine ++ e ∷ []) r.changes texts' may lt sized agree.reaches (subst (λ (m : Role). Owns m (v.mine ++ e ∷ []) log') (sym is) mine')
+                      (put_cells_are s.words s.views r.log r.changes r.deeds r.shelf r.within.legal id c own h has inside seen_each told_each x y (version_of c h + 1) (Processor p) lx may value);
                 },
                 refl,
                 record { before = r.shelf.texts; whole = refl },

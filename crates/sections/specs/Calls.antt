@@ -11,21 +11,23 @@ use Rattle.onedom.specs.declared.event.Event.TheVariants.{Begin, End, Note, Ask}
 use Rattle.onedom.specs.Histories.{begins_of, IsOpen, IsLegal, made_by, IsBeginning}
 use Rattle.sections.specs.declared.view.Step.{Step}
 use Rattle.sections.specs.declared.view.Step.TheVariants.{LoadIndex, LoadUnlocks, LoadLocks}
+use Rattle.sections.specs.declared.view.Text.{Text}
 use Rattle.sections.specs.Words.{is_held, index_word, number_word, locks, unlocks, all_locks, Reaches}
 use Rattle.sections.specs.Rule.{HasItsMaker}
-use Rattle.sections.specs.Shelves.{IsStart}
+use Rattle.sections.specs.Shelves.{IsStart, AreTextsOf}
 use Rattle.sections.specs.Plays.{IsIndexWord}
 use Rattle.sections.specs.Views.{CpuView, LookView, ReadingView, CookieView}
 
--- a legal history of a domain of so many processors, in which a maker has just these events and the engine has made so many changes
-pub record IsHistoryOf (processors : ℕ) (maker : Maker) (mine seen : List Event) (changes : ℕ) : Type 0 where
+-- a legal history of a domain of so many processors, in which a maker has just these events and the engine has made so many changes. These are the texts of its Puts
+pub record IsHistoryOf (processors : ℕ) (maker : Maker) (mine seen : List Event) (changes : ℕ) (known : List Text) : Type 0 where
   pub legal : IsLegal seen
   pub makers : All (HasItsMaker processors) seen
   pub own : mine ≡ made_by maker seen
   pub reaches : Reaches changes seen
+  pub texts : AreTextsOf known seen
 
 abbrev pub IsSeenBy : CpuView → Type 0
-IsSeenBy c = IsHistoryOf c.processors (Processor c.processor) c.mine c.seen c.changes
+IsSeenBy c = IsHistoryOf c.processors (Processor c.processor) c.mine c.seen c.changes c.texts
 
 -- of this maker, whose own events these are, a holder with that history has seen a beginning of them
 abbrev pub HasSeenOf : Maker → List Event → List Event → Type 0
@@ -193,14 +195,16 @@ pub record Hears (c : CpuView) (other : List Event) (reached : ℕ) (c' : CpuVie
   pub covers : IsBeginning other c'.seen
   pub not_before : reached ≤ c'.changes
 
--- one load of the index word by the processor, after which it has seen just this. The word is no older than that
-pub record Accepts (c : CpuView) (all : List Event) (reached : ℕ) (c' : CpuView) : Type 0 where
+-- one load of the index word by the processor, after which it has seen just this, with these texts. The word is no older than that
+pub record Accepts (c : CpuView) (all : List Event) (reached : ℕ) (known : List Text) (c' : CpuView) : Type 0 where
   pub value : ℕ
   pub same : IsSameCpu c c'
   pub mine : c'.mine ≡ c.mine
   pub steps : c'.steps ≡ c.steps ++ LoadIndex value ∷ []
   pub seen : c'.seen ≡ all
   pub changes : c'.changes ≡ reached
+  pub texts : c'.texts ≡ known
+  pub texts_since : IsStart c.texts known
   pub found : IsIndexWord value reached
   pub history : IsSeenBy c'
 
@@ -209,7 +213,7 @@ pub record Ties (c d c' d' : CpuView) : Type 0 where
   pub value : ℕ
   pub current : value ≡ index_word c'.changes
   pub looks : Loads (LoadIndex value) c c'
-  pub accepts : Accepts d c'.seen c'.changes d'
+  pub accepts : Accepts d c'.seen c'.changes c'.texts d'
   pub since : IsBeginning d.seen d'.seen
   pub later : d.changes ≤ d'.changes
   pub comparable : IsBeginning c.seen d.seen ⊎ IsBeginning d.seen c.seen

@@ -8,18 +8,20 @@ use Rattle.onedom.specs.Histories.{IsOpen, WasOpenAtStart, IsBeginning, made_by}
 use Rattle.sections.specs.declared.view.Shown.TheVariants.{To}
 use Rattle.sections.specs.declared.view.Step.{Step}
 use Rattle.sections.specs.declared.view.Step.TheVariants.{LoadIndex, LoadUnlocks, LoadLocks, AddIndex, AddNumber}
+use Rattle.sections.specs.declared.view.Text.{Text}
+use Rattle.sections.specs.Shelves.{IsStart}
 use Rattle.sections.specs.Words.{index_word, number_word, locks, unlocks, all_locks}
 use Rattle.sections.specs.Views.{CpuView, EngineView}
 use Rattle.sections.specs.Calls.{IsHistoryOf, IsSeenBy, HasSeenOf, Accepts}
 
 abbrev pub IsSeenByEngine : EngineView → Type 0
-IsSeenByEngine e = IsHistoryOf e.processors Engine e.mine e.seen e.changes
+IsSeenByEngine e = IsHistoryOf e.processors Engine e.mine e.seen e.changes e.texts
 
 abbrev pub IsSameEngine : EngineView → EngineView → Type 0
 IsSameEngine e f = (f.domain ≡ e.domain) × (f.processors ≡ e.processors) × (f.periods ≡ e.periods)
 
 abbrev pub new_engine : TableId → ℕ → ℕ → EngineView
-new_engine domain processors periods = record { domain = domain; processors = processors; periods = periods; seen = []; changes = 0; shown = To 0 0; mine = []; steps = [] }
+new_engine domain processors periods = record { domain = domain; processors = processors; periods = periods; seen = []; changes = 0; texts = []; shown = To 0 0; mine = []; steps = [] }
 
 -- Steps
 
@@ -31,6 +33,7 @@ pub record TakesStep (l : Step) (changes : ℕ) (e f : EngineView) : Type 0 wher
   pub changes_are : f.changes ≡ changes
   pub shown : f.shown ≡ e.shown
   pub since : IsBeginning e.seen f.seen
+  pub texts : IsStart e.texts f.texts
   pub history : IsSeenByEngine f
 
 -- one load of an unlock counter found as many as have ended there, with this index, in what is then seen
@@ -59,6 +62,7 @@ pub record AddsEngineEvent (ev : Event) (e f : EngineView) : Type 0 where
   pub before : List Event
   pub seen : f.seen ≡ before ++ ev ∷ []
   pub since : IsBeginning e.seen before
+  pub texts : IsStart e.texts f.texts
   pub changes_are : f.changes ≡ e.changes + 1
   pub shown : f.shown ≡ e.shown
   pub mine : f.mine ≡ e.mine ++ ev ∷ []
@@ -89,13 +93,14 @@ pub record CoversAll (e : EngineView) (cpus : List CpuView) (e' : EngineView) : 
   pub changes_are : e'.changes ≡ e.changes
   pub shown : e'.shown ≡ e.shown
   pub since : IsBeginning e.seen e'.seen
+  pub texts : IsStart e.texts e'.texts
   pub covers : (k : ℕ) (d : CpuView) → k < length cpus → IsBeginning (slice_index_or cpus k d).seen e'.seen
   pub not_before : (k : ℕ) (d : CpuView) → k < length cpus → (slice_index_or cpus k d).changes ≤ e'.changes
   pub history : IsSeenByEngine e'
 
 -- the processor is known to have seen so many changes
 abbrev pub noted : ℕ → ℕ → EngineView → EngineView
-noted p changes e = record { domain = e.domain; processors = e.processors; periods = e.periods; seen = e.seen; changes = e.changes; shown = To p changes; mine = e.mine; steps = e.steps }
+noted p changes e = record { domain = e.domain; processors = e.processors; periods = e.periods; seen = e.seen; changes = e.changes; texts = e.texts; shown = To p changes; mine = e.mine; steps = e.steps }
 
 -- the engine has made no change that no processor has seen
 pub record IsTied (e : EngineView) : Type 0 where
@@ -123,7 +128,7 @@ pub record TiesEngine (e : EngineView) (c : CpuView) (e' : EngineView) (c' : Cpu
   pub between : EngineView
   pub covers : Covers e c.seen c.changes between
   pub notes : e' ≡ noted c.processor between.changes between
-  pub accepts : Accepts c e'.seen e'.changes c'
+  pub accepts : Accepts c e'.seen e'.changes e'.texts c'
   pub since : IsBeginning c.seen c'.seen
   pub later : c.changes ≤ c'.changes
   pub comparable : IsBeginning e.seen c.seen ⊎ IsBeginning c.seen e.seen
@@ -131,8 +136,8 @@ pub record TiesEngine (e : EngineView) (c : CpuView) (e' : EngineView) (c' : Cpu
   pub cpu_known : HasSeenOf (Processor c.processor) c.mine e.seen
 
 -- the processor made a load and no event, and has seen this history, which goes on from what it had seen
-pub record Joins (c : CpuView) (seen : List Event) (changes : ℕ) (c' : CpuView) : Type 0 where
-  pub accepts : Accepts c seen changes c'
+pub record Joins (c : CpuView) (seen : List Event) (changes : ℕ) (known : List Text) (c' : CpuView) : Type 0 where
+  pub accepts : Accepts c seen changes known c'
   pub since : IsBeginning c.seen seen
   pub later : c.changes ≤ changes
 
@@ -145,9 +150,10 @@ pub record Meets (e : EngineView) (cpus : List CpuView) (e' : EngineView) (cpus'
   pub mine : e'.mine ≡ e.mine
   pub changes_are : e'.changes ≡ e.changes
   pub since : IsBeginning e.seen e'.seen
+  pub texts : IsStart e.texts e'.texts
   pub history : IsSeenByEngine e'
   pub count : length cpus' ≡ length cpus
-  pub each : (k : ℕ) (d : CpuView) → k < length cpus → Joins (slice_index_or cpus k d) e'.seen e'.changes (slice_index_or cpus' k d)
+  pub each : (k : ℕ) (d : CpuView) → k < length cpus → Joins (slice_index_or cpus k d) e'.seen e'.changes e'.texts (slice_index_or cpus' k d)
   pub shown : e'.shown ≡ e.shown
   pub sized : (k : ℕ) (d : CpuView) → k < length cpus → (slice_index_or cpus k d).processors ≡ e.processors
   pub were : (k : ℕ) (d : CpuView) → k < length cpus → IsSeenBy (slice_index_or cpus k d)

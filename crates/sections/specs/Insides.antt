@@ -31,7 +31,7 @@ section_of (Undealt c) = 0
 pub record IsAtRest (v : View) : Type 0 where
   pub free : v.right ≡ Nothing
   pub told : v.told ≡ []
-  pub sound : IsSound v.processors v.role v.mine v.seen v.changes
+  pub sound : IsSound v.processors v.role v.mine v.seen v.changes v.texts
 
 abbrev pub view_of_look : look.Inside → LookView
 view_of_look l = record { domain = l.seat.table_id; index = l.index; seen = l.seat.me.0.seen; changes = l.seat.me.0.changes }
@@ -84,7 +84,7 @@ module _ {A : Type 0} where
     pub settled : slice_index c.begun 0 + slice_index c.begun 1 ≡ length (open_readings c.seat.me.0.mine) + c.settled
 
   abbrev pub view_of_engine : engine.Inside A → EngineView
-  view_of_engine e = record { domain = e.seat.table_id; processors = (arc_value e.table).shared.key.processors; periods = e.periods; seen = e.seat.me.0.seen; changes = e.seat.me.0.changes; shown = e.seat.me.0.shown; mine = e.seat.me.0.mine; steps = steps_of Engine e.seat.me.0.done }
+  view_of_engine e = record { domain = e.seat.table_id; processors = (arc_value e.table).shared.key.processors; periods = e.periods; seen = e.seat.me.0.seen; changes = e.seat.me.0.changes; texts = e.seat.me.0.texts; shown = e.seat.me.0.shown; mine = e.seat.me.0.mine; steps = steps_of Engine e.seat.me.0.done }
 
   pub record IsEngine (e : engine.Inside A) : Type 0 where
     pub placed : IsPlaced (arc_value e.table).shared.key (arc_value e.table).shared.table_id e.seat

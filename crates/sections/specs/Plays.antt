@@ -27,16 +27,16 @@ Owns Bearer mine seen = Unit {0}
 Owns (Cpu p) mine seen = mine ≡ made_by (Processor p) seen
 Owns (Driver k) mine seen = mine ≡ made_by Engine seen
 
--- what was seen is a legal history of a domain of so many processors, in which the maker finds its own events and no others of its own
-pub record IsSound (processors : ℕ) (role : Role) (mine seen : List Event) (changes : ℕ) : Type 0 where
+-- what was seen is a legal history of a domain of so many processors, in which the maker finds its own events and no others of its own. A text is known for each Put that was seen
+pub record IsSound (processors : ℕ) (role : Role) (mine seen : List Event) (changes : ℕ) (known : List Text) : Type 0 where
   pub legal : IsLegal seen
   pub makers : All (HasItsMaker processors) seen
   pub own : Owns role mine seen
   pub reaches : Reaches changes seen
+  pub texts : AreTextsOf known seen
 
--- what is known has a text for each Put that was seen. It goes on from what was known before, and from what was told
+-- what is known of texts goes on from what was known before, and from what was told
 pub record KnowsTexts (v w : View) : Type 0 where
-  pub puts : AreTextsOf w.texts w.seen
   pub since : IsStart v.texts w.texts
   pub covers : All (λ m. IsStart m.texts w.texts) v.told
 
@@ -65,7 +65,7 @@ pub record Sees (l : Step) (v w : View) : Type 0 where
   pub later : v.changes ≤ w.changes
   pub covers : All (λ m. GoesOn m (moment_of w)) v.told
   pub texts : KnowsTexts v w
-  pub sound : IsSound w.processors w.role w.mine w.seen w.changes
+  pub sound : IsSound w.processors w.role w.mine w.seen w.changes w.texts
 
 -- the event was added behind all that was seen before and all that was told
 pub record Adds (v : View) (e : Event) (w : View) : Type 0 where
@@ -81,7 +81,7 @@ pub record Adds (v : View) (e : Event) (w : View) : Type 0 where
   pub told : w.told ≡ []
   pub done : w.done ≡ v.done
   pub texts : KnowsTexts v w
-  pub sound : IsSound w.processors w.role w.mine w.seen w.changes
+  pub sound : IsSound w.processors w.role w.mine w.seen w.changes w.texts
 
 abbrev pub Sat : Type 0
 Sat = Me (Option ℕ) View
@@ -107,9 +107,10 @@ pub record Admits (n : ℕ) (o : Moment) (v w : View) : Type 0 where
   pub seen : w.seen ≡ o.history
   pub changes : w.changes ≡ o.changes
   pub texts : w.texts ≡ o.texts
+  pub texts_since : IsBeginning v.seen o.history → IsStart v.texts o.texts
   pub found : IsIndexWord n o.changes
   pub heard : (p changes : ℕ) → v.role ≡ Cpu p → v.shown ≡ To p changes → changes ≤ v.changes
-  pub sound : IsSound w.processors w.role w.mine w.seen w.changes
+  pub sound : IsSound w.processors w.role w.mine w.seen w.changes w.texts
 
 -- load of the index word by one that was told of a history
 abbrev pub admitted : TableStep (Option ℕ) → Sat → ℕ → Sat → Type 0

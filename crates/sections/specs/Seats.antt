@@ -75,7 +75,7 @@ pub record Covers (v o w : View) : Type 0 where
   pub shown : w.shown ≡ v.shown
   pub covers : IsBeginning o.seen w.seen
   pub not_before : o.changes ≤ w.changes
-  pub sound : IsSound w.processors w.role w.mine w.seen w.changes
+  pub sound : IsSound w.processors w.role w.mine w.seen w.changes w.texts
 
 -- after one load of the index word, w has seen just what o has, and else is as v was
 pub record Accepts (v o w : View) : Type 0 where
@@ -88,9 +88,11 @@ pub record Accepts (v o w : View) : Type 0 where
   pub steps : (m : Maker) → IsMaker v.role m → steps_of m w.done ≡ steps_of m v.done ++ LoadIndex value ∷ []
   pub seen : w.seen ≡ o.seen
   pub changes : w.changes ≡ o.changes
+  pub texts : w.texts ≡ o.texts
+  pub texts_since : IsStart v.texts w.texts
   pub found : IsIndexWord value o.changes
   pub heard : (p k changes : ℕ) → v.role ≡ Cpu p → o.role ≡ Driver k → o.shown ≡ To p changes → changes ≤ v.changes
-  pub sound : IsSound w.processors w.role w.mine w.seen w.changes
+  pub sound : IsSound w.processors w.role w.mine w.seen w.changes w.texts
 
 -- what the seat of a processor has seen is noted
 pub record NotesShown (o : View) (seat seat' : DomainSeat) : Type 0 where

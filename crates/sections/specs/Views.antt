@@ -25,6 +25,7 @@ pub record EngineView : Type 0 where
   pub periods : ℕ
   pub seen : List Event
   pub changes : ℕ
+  pub texts : List Text
   pub shown : Shown
   pub mine : List Event
   pub steps : List Step

@@ -103,7 +103,7 @@ impl<A: Allocator> Cpu<A> {
         requires domain { other.old.domain ≡ self.old.domain }
         requires covered { IsBeginning other.old.seen self.old.seen × (other.old.changes ≤ self.old.changes) }
         ensures this { self.new ≡ self.old }
-        ensures other { Accepts other.old self.old.seen self.old.changes other.new }
+        ensures other { Accepts other.old self.old.seen self.old.changes self.old.texts other.new }
     {
         accept(&self.table.shared, &mut other.seat, &mut self.seat);
     }

@@ -27,7 +27,7 @@ impl<A: Allocator> EngineSeat<A> {
         requires domain { cpu.old.domain ≡ self.old.domain }
         requires covered { IsBeginning cpu.old.seen self.old.seen × (cpu.old.changes ≤ self.old.changes) }
         ensures engine { self.new ≡ self.old }
-        ensures cpu { Accepts cpu.old self.old.seen self.old.changes cpu.new }
+        ensures cpu { Accepts cpu.old self.old.seen self.old.changes self.old.texts cpu.new }
         ensures was { IsSeenBy cpu.old }
         ensures sized { cpu.old.processors ≡ self.old.processors }
         ensures heard { (n : ℕ) → self.old.shown ≡ To cpu.old.processor n → n ≤ cpu.old.changes }

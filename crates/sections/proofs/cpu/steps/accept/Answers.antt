@@ -21,13 +21,13 @@ load-requires c =
 pub returns-clause-first : goal.returns-clause-first
 returns-clause-first c =
     let joined = ap (λ m. m.0) c.join_seat.ensures.2 ∙ ap (λ m. hearing c.args.first.now.me.0 m.0) c.split_seat-token.ensures.4 in
-    accepts_from c.load.result c.args.first.now.me.0 c.args.second.now.me.0 _ _ c.requires.first.1.told joined c.load.ensures.2.2
+    accepts_from c.load.result c.args.first.now.me.0 c.args.second.now.me.0 _ _ c.requires.first.1.told joined c.load.ensures.2.2 c.requires.covered.0
 
 pub returns-clause-placed : goal.returns-clause-placed
 returns-clause-placed c =
     let first = c.requires.first.0 in
     let joined = ap (λ m. m.0) c.join_seat.ensures.2 ∙ ap (λ m. hearing c.args.first.now.me.0 m.0) c.split_seat-token.ensures.4 in
-    let accepts = accepts_from c.load.result c.args.first.now.me.0 c.args.second.now.me.0 _ _ c.requires.first.1.told joined c.load.ensures.2.2 in record {
+    let accepts = accepts_from c.load.result c.args.first.now.me.0 c.args.second.now.me.0 _ _ c.requires.first.1.told joined c.load.ensures.2.2 c.requires.covered.0 in record {
       seated = c.load.ensures.0 ∙ (c.join_seat.ensures.0 ∙ first.seated);
       wide = first.wide;
       bare = c.load.ensures.2.0 ∙ (ap (λ m. m.1) c.join_seat.ensures.2 ∙ first.bare);

@@ -4,6 +4,7 @@ use Rattle.onedom.specs.Histories.{IsBeginning}
 use Rattle.onedom.proofs.CallerLemmas.{beginning_refl, beginning_trans}
 use Rattle.sections.specs.Views.{CpuView, EngineView}
 use Rattle.sections.specs.EngineCalls.{IsSeenByEngine}
+use Rattle.sections.proofs.Shelving.{start_refl, start_trans}
 use Rattle.sections.proofs.CpuViews.{engine_history_of}
 use Rattle.sections.proofs.Meeting.{covers_more, changes_more, one_more_load}
 use Rattle.sections.proofs.engine.EngineSeat.cover_all.Goals as goal
@@ -16,6 +17,7 @@ loop-next-init g c = record {
   changes_are = refl;
   shown = refl;
   since = beginning_refl _;
+  texts = start_refl _;
   unchanged = refl;
   covers = λ k d lt. absurd (omega (arith, lt));
   not_before = λ k d lt. absurd (omega (arith, lt));
@@ -41,6 +43,7 @@ loop-next-preserved g c =
       changes_are = h.step.changes_are ∙ v.changes_are;
       shown = h.step.shown ∙ v.shown;
       since = beginning_trans v.since h.step.since;
+      texts = start_trans v.texts h.step.texts;
       unchanged = still ∙ v.unchanged;
       covers = covers_more c.args.cpus.now c.loop-next.next-index item _ _ (omega arith) (c.next-item.is ∙ ap (λ xs. get_or xs c.loop-next.next-index item) v.unchanged) h.step.since (subst (λ (z : CpuView). IsBeginning z.seen c.cover.new.self.seen) (sym c.next-item.is) h.covers) v.covers;
       not_before = changes_more c.args.cpus.now c.loop-next.next-index item _ _ (omega arith) (c.next-item.is ∙ ap (λ xs. get_or xs c.loop-next.next-index item) v.unchanged) (sym h.step.changes_are) (subst (λ (z : CpuView). z.changes ≤ c.cover.new.self.changes) (sym c.next-item.is) h.not_before) v.not_before;
@@ -48,7 +51,7 @@ loop-next-preserved g c =
     }
 
 pub returns-clause-engine : goal.returns-clause-engine
-returns-clause-engine g c = let v = c.loop-next.invariant in let done = c.loop-next-test.false in let l = v.steps in record { found = l.0; one_each = l.1 ∙ omega arith; steps = l.2; same = v.same; mine = v.mine; changes_are = v.changes_are; shown = v.shown; since = v.since; covers = λ k d lt. v.covers k d (omega arith); not_before = λ k d lt. v.not_before k d (omega arith); history = v.history }
+returns-clause-engine g c = let v = c.loop-next.invariant in let done = c.loop-next-test.false in let l = v.steps in record { found = l.0; one_each = l.1 ∙ omega arith; steps = l.2; same = v.same; mine = v.mine; changes_are = v.changes_are; shown = v.shown; since = v.since; texts = v.texts; covers = λ k d lt. v.covers k d (omega arith); not_before = λ k d lt. v.not_before k d (omega arith); history = v.history }
 
 pub returns-clause-cpus : goal.returns-clause-cpus
 returns-clause-cpus g c = c.loop-next.invariant.unchanged

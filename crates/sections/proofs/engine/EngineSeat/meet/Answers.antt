@@ -46,12 +46,12 @@ loop-next-preserved g c =
     λ k d lt. subst (λ (xs : List CpuView). (get_or xs k d).changes ≤ c.cover_all.new.self.changes) (sym e.cpus) (e.engine.not_before k d (subst (λ (xs : List CpuView). k < length xs) e.cpus lt)) in
     let heard : (d : CpuView) → Heard c.cover_all.new.self (get_or c.loop-next.cpus i d) =
     λ d. subst (λ (z : CpuView × EngineView). Heard z.1 z.0) (λ k. (get_or_default c.loop-next.cpus i item d within k, v.steady k)) (record { sized = c.admit.ensures.sized; was = c.admit.ensures.was; heard = c.admit.ensures.heard }) in
-    let accepts : (d : CpuView) → Accepts (get_or c.loop-next.cpus i d) all c.cover_all.new.self.changes c.admit.new.cpu =
-    λ d. subst (λ (z : CpuView × EngineView). Accepts z.0 z.1.seen z.1.changes c.admit.new.cpu) (λ k. (get_or_default c.loop-next.cpus i item d within k, v.steady k)) c.admit.ensures.cpu in record {
+    let accepts : (d : CpuView) → Accepts (get_or c.loop-next.cpus i d) all c.cover_all.new.self.changes c.cover_all.new.self.texts c.admit.new.cpu =
+    λ d. subst (λ (z : CpuView × EngineView). Accepts z.0 z.1.seen z.1.changes z.1.texts c.admit.new.cpu) (λ k. (get_or_default c.loop-next.cpus i item d within k, v.steady k)) c.admit.ensures.cpu in record {
       steady = c.admit.ensures.engine ∙ v.steady;
       count = length-set c.loop-next.cpus i c.admit.new.cpu ∙ v.count;
       rest = rest_same c.cover_all.new.cpus c.loop-next.cpus i c.admit.new.cpu v.rest;
-      joined = joins_more c.cover_all.new.cpus c.loop-next.cpus i c.admit.new.cpu all c.cover_all.new.self.changes v.count within covers reached accepts v.rest v.joined;
+      joined = joins_more c.cover_all.new.cpus c.loop-next.cpus i c.admit.new.cpu all c.cover_all.new.self.changes c.cover_all.new.self.texts v.count within covers reached accepts v.rest v.joined;
       heard = heard_more c.cover_all.new.cpus c.loop-next.cpus i c.cover_all.new.self v.count within v.rest heard v.heard;
     }
 

@@ -10,6 +10,6 @@ invariant-loop-next g l = record {
   steady : l.self ≡ l.initial.self;
   count : length l.cpus ≡ length l.initial.cpus;
   rest : (k : ℕ) (d : CpuView) → l.next-index ≤ k → slice_index_or l.cpus k d ≡ slice_index_or l.initial.cpus k d;
-  joined : (k : ℕ) (d : CpuView) → k < l.next-index → Joins (slice_index_or l.initial.cpus k d) l.initial.self.seen l.initial.self.changes (slice_index_or l.cpus k d);
+  joined : (k : ℕ) (d : CpuView) → k < l.next-index → Joins (slice_index_or l.initial.cpus k d) l.initial.self.seen l.initial.self.changes l.initial.self.texts (slice_index_or l.cpus k d);
   heard : (k : ℕ) (d : CpuView) → k < l.next-index → Heard l.initial.self (slice_index_or l.initial.cpus k d);
 }
