@@ -8,6 +8,7 @@ mod Steps
 mod Finding
 mod Writing
 mod Standings
+mod Reclaiming
 mod EngineSteps
 mod Sharing
 mod Seating

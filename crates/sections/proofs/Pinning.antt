@@ -1,9 +1,13 @@
 -- From what a load of a word tells a seat to what a caller sees.
-use Rattle.std.proofs.Common.{◌≡◌, ℕ, ◌∷◌, get_or, refl, sym, ap, ◌∙◌, subst}
+use Rattle.std.proofs.Common.{◌≡◌, ℕ, ◌≤◌, List, [], ◌∷◌, ◌++◌, arith, get_or, refl, sym, ap, ◌∙◌, subst}
 use Rattle.std.proofs.lemmas.List.Elements.{All-head, All-tail}
 use Rattle.atomic_table.specs.Seated.{TableId}
+use Rattle.onedom.specs.declared.event.Maker.{Maker}
 use Rattle.onedom.specs.declared.event.Maker.TheVariants.{Processor}
-use Rattle.onedom.specs.Histories.{IsBeginning}
+use Rattle.onedom.specs.declared.event.Event.{Event}
+use Rattle.onedom.specs.declared.event.Event.TheVariants.{Find}
+use Rattle.onedom.specs.Histories.{slot_of, version_of, IsLegal, IsBeginning}
+use Rattle.onedom.proofs.CallerLemmas.{beginning_append, legal_beginning, slot_kept, version_kept, versions_up}
 use Rattle.sections.specs.declared.view.Role.TheVariants.{Cpu}
 use Rattle.sections.specs.declared.view.Step.{Step}
 use Rattle.sections.specs.declared.view.View.{View}
@@ -13,11 +17,24 @@ use Rattle.sections.specs.Plays.{Sees}
 use Rattle.sections.specs.Insides.{IsAtRest}
 use Rattle.sections.specs.Calls.{Loads}
 use Rattle.sections.proofs.Deeds.{cpu_makes}
-use Rattle.sections.proofs.CpuViews.{seen_as, history_of}
+use Rattle.sections.proofs.CpuViews.{seen_as, history_of, last_may_follow}
 use Rattle.sections.proofs.Finding.{words_stay}
 
 pub rests_lacking : (l : Step) (v w w' : View) → w' ≡ lacking w → Sees l v w → IsAtRest w'
 rests_lacking l v w w' cut h = subst (λ (z : View). IsAtRest z) (sym cut) (record { free = refl; told = h.told; sound = h.sound })
+
+-- what was found is current in what is then seen, and no older than what was seen before
+pub finds_current : (t c x n : ℕ) (by : Maker) (old before new : List Event) → new ≡ before ++ Find t c x n by ∷ [] → IsLegal new → IsBeginning old before → (x ≡ slot_of c new) × (n ≡ version_of c new) × (version_of c old ≤ n)
+finds_current t c x n by old before new is legal since =
+    let whole : IsLegal (before ++ Find t c x n by ∷ []) = subst IsLegal is legal in
+    let may = last_may_follow before (Find t c x n by) whole in
+    let first : IsLegal before = legal_beginning (beginning_append before (Find t c x n by ∷ [])) whole in
+    let up : version_of c old ≤ version_of c before = subst (λ (l : List Event). version_of c old ≤ version_of c l) (sym since.whole) (versions_up c old since.rest (subst IsLegal since.whole first)) in
+    let at = may.2 in (
+      may.1 ∙ sym (ap (slot_of c) is ∙ slot_kept c before (Find t c x n by) refl),
+      may.2 ∙ sym (ap (version_of c) is ∙ version_kept c before (Find t c x n by) refl),
+      omega (arith, up, at),
+    )
 
 module _ (l : Step) (v o t w w' : View) (cut : w' ≡ lacking w) (h : Sees l (informed (informed v o) t) w) where
   pub loads_lent : (d d' : TableId) (n limit p : ℕ) → d' ≡ d → v.processors ≡ n → v.role ≡ Cpu p → Loads l (seen_as d n limit p v) (seen_as d' n limit p w')

@@ -1,5 +1,5 @@
 -- How slots of a cell stand, as the history goes on.
-use Rattle.std.proofs.Common.{◌≡◌, ℕ, ◌+◌, ◌%◌, ◌<◌, ◌≤◌, ◌≢◌, Bool, true, false, List, [], ◌∷◌, ◌++◌, zero, suc, count_by, get_or, set, length, refl, sym, ap, ◌∙◌, subst, append_assoc, length-append, length-set, ne_eqb, eqb, ◌&&◌, arith, get_or-set_other, get_or-set_same}
+use Rattle.std.proofs.Common.{◌≡◌, ℕ, ◌+◌, ◌%◌, ◌<◌, ◌≤◌, ◌≢◌, Bool, true, false, List, [], ◌∷◌, ◌++◌, Option, Some, None, zero, suc, count_by, get_or, set, length, refl, sym, ap, ◌∙◌, subst, append_assoc, length-append, length-set, ne_eqb, eqb, ◌&&◌, arith, get_or-set_other, get_or-set_same}
 use Rattle.std.proofs.lemmas.List.{get_or_push, get_or_append_left}
 use Rattle.atomic_table.specs.Seated.{TableId}
 use Rattle.sections.specs.WriterViews.{WriterView}
@@ -52,6 +52,33 @@ pub stands_set : (seen : List Event) (c slots : ℕ) (xs : List Standing) (x : �
 stands_set seen c slots xs x t long all here z lz = dite (ℕ_discrete z x)
     (λ e. subst (λ (u : ℕ × Standing). Stands seen c u.0 u.1) (λ k. (sym e k, sym (ap (λ n. get_or (set xs x t) n Blank) e ∙ get_or-set_same xs x t Blank long) k)) here)
     (λ n. subst (λ (u : Standing). Stands seen c z u) (sym (get_or-set_other xs x z t Blank n)) (all z lz))
+
+pub retired_out : {n : ℕ} → Retired n ≡ Out → ⊥
+retired_out e = cc
+
+-- the homes of the slots that lie with the writer
+abbrev pub HasHomes : TableId → ℕ → List Standing → List (Option TableId) → Type 0
+HasHomes domain slots xs homes = (x : ℕ) → x < slots → get_or xs x Blank ≢ Out → get_or homes x None ≡ Some domain
+
+-- of these two slots, one has its home again, and no other comes to be out
+pub homes_back : (domain : TableId) (slots x : ℕ) (xs ys : List Standing) (homes : List (Option TableId)) → x < length homes → ((z : ℕ) → z < slots → z ≢ x → get_or ys z Blank ≢ Out → get_or xs z Blank ≢ Out)
+    → HasHomes domain slots xs homes → HasHomes domain slots ys (set homes x (Some domain))
+homes_back domain slots x xs ys homes lx only h z lz there = dite (ℕ_discrete z x)
+    (λ e. ap (λ n. get_or (set homes x (Some domain)) n None) e ∙ get_or-set_same homes x (Some domain) None lx)
+    (λ n. get_or-set_other homes x z (Some domain) None n ∙ h z lz (only z lz n there))
+
+-- a slot goes out, with its home
+pub homes_out : (domain : TableId) (slots x : ℕ) (xs : List Standing) (homes : List (Option TableId)) → x < length xs
+    → HasHomes domain slots xs homes → HasHomes domain slots (set xs x Out) (set homes x None)
+homes_out domain slots x xs homes lx h z lz there = dite (ℕ_discrete z x)
+    (λ e. absurd (there (ap (λ n. get_or (set xs x Out) n Blank) e ∙ get_or-set_same xs x Out Blank lx)))
+    (λ n. get_or-set_other homes x z None None n ∙ h z lz (λ o. there (get_or-set_other xs x z Out Blank n ∙ o)))
+
+-- another standing, where neither is out
+pub homes_stay : (domain : TableId) (slots x : ℕ) (t : Standing) (xs : List Standing) (homes : List (Option TableId)) → x < length xs → get_or xs x Blank ≢ Out → HasHomes domain slots xs homes → HasHomes domain slots (set xs x t) homes
+homes_stay domain slots x t xs homes lx was h z lz there = dite (ℕ_discrete z x)
+    (λ e. h z lz (λ o. was (ap (λ n. get_or xs n Blank) (sym e) ∙ o)))
+    (λ n. h z lz (λ o. there (get_or-set_other xs x z t Blank n ∙ o)))
 
 -- A put
 
@@ -152,13 +179,13 @@ new_stands c (suc (suc (suc (suc (suc (suc zero)))))) lt = clear_new c (suc (suc
 new_stands c (suc (suc (suc (suc (suc (suc (suc zero))))))) lt = clear_new c (suc (suc (suc (suc (suc (suc (suc zero))))))) (omega arith)
 new_stands c (suc (suc (suc (suc (suc (suc (suc (suc x)))))))) lt = absurd (omega (arith, lt))
 
-pub no_writers : (domain : TableId) (writers : List WriterView) → writers ≡ [] → AreNewWriters domain 0 writers
-no_writers domain writers is = record { count = ap length is; each = λ k d lt. absurd (omega (arith, lt)) }
+pub no_writers : (domain : TableId) (slots : ℕ) (writers : List WriterView) → writers ≡ [] → AreNewWriters domain 0 slots writers
+no_writers domain slots writers is = record { count = ap length is; each = λ k d lt. absurd (omega (arith, lt)) }
 
-pub writer_pushed : (domain : TableId) (k : ℕ) (writers after : List WriterView) (new : WriterView) → AreNewWriters domain k writers → new ≡ new_writer domain k 8 → after ≡ writers ++ new ∷ [] → AreNewWriters domain (k + 1) after
-writer_pushed domain k writers after new h is pushed = let n = h.count in record {
+pub writer_pushed : (domain : TableId) (k slots : ℕ) (writers after : List WriterView) (new : WriterView) → AreNewWriters domain k slots writers → new ≡ new_writer domain k slots → after ≡ writers ++ new ∷ [] → AreNewWriters domain (k + 1) slots after
+writer_pushed domain k slots writers after new h is pushed = let n = h.count in record {
   count = ap length pushed ∙ (length-append writers (new ∷ []) ∙ omega (arith, n));
   each = λ j d lt. ap (λ l. get_or l j d) pushed ∙ dite (ℕ_discrete j k)
-      (λ e. get_or_push writers new d j (n ∙ sym e) ∙ (is ∙ ap (λ z. new_writer domain z 8) (sym e)))
+      (λ e. get_or_push writers new d j (n ∙ sym e) ∙ (is ∙ ap (λ z. new_writer domain z slots) (sym e)))
       (λ ne. get_or_append_left writers (new ∷ []) d j (omega (arith, n, lt, ne)) ∙ h.each j d (omega (arith, lt, ne)));
 }

@@ -18,7 +18,7 @@ new_writer domain cell slots = record {
   texts = [];
 }
 
--- one for each cell, in their order, each with eight slots
-pub record AreNewWriters (domain : TableId) (cells : ℕ) (writers : List WriterView) : Type 0 where
+-- one for each cell, in their order, each with so many slots
+pub record AreNewWriters (domain : TableId) (cells slots : ℕ) (writers : List WriterView) : Type 0 where
   pub count : length writers ≡ cells
-  pub each : (k : ℕ) (d : WriterView) → k < cells → slice_index_or writers k d ≡ new_writer domain k 8
+  pub each : (k : ℕ) (d : WriterView) → k < cells → slice_index_or writers k d ≡ new_writer domain k slots

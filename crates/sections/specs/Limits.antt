@@ -10,6 +10,8 @@ pub record AreInRange (limits : Limits) : Type 0 where
   pub some_periods : 1 ≤ limits.periods
   pub periods : limits.periods < 2 ^ 59
   pub cells : limits.cells ≤ 4
+  pub some_slots : 2 ≤ limits.slots
+  pub slots : limits.slots ≤ 8
 
 -- as a refusal is printed
 abbrev pub make_error_text : MakeError → List ℕ

@@ -2,7 +2,7 @@
 use Rattle.std.specs.Prelude.{◌≡◌, ℕ, ◌<◌, ◌≤◌}
 use Rattle.onedom.specs.declared.event.Maker.TheVariants.{Processor}
 use Rattle.onedom.specs.declared.event.Event.TheVariants.{Find}
-use Rattle.onedom.specs.Histories.{HasFound, IsBeginning}
+use Rattle.onedom.specs.Histories.{slot_of, version_of, HasFound, IsBeginning}
 use Rattle.sections.specs.declared.view.Step.TheVariants.{LoadWord}
 use Rattle.sections.specs.Shelves.{IsKnown, IsStart, word_of}
 use Rattle.sections.specs.Views.{CpuView, ReadingView, FoundView}
@@ -12,9 +12,11 @@ use Rattle.sections.specs.Calls.{Loads, AddsEvent}
 abbrev pub IsPinned : ReadingView → FoundView → Type 0
 IsPinned r f = (f.domain ≡ r.domain) × HasFound f.seen r.section f.cell f.slot f.version
 
--- one load of the cell, in the section of the reading, found what is current there in the history that is then seen
+-- one load of the cell, in the section of the reading, found what is current there in the history that is then seen: a version that is no older than any that the processor had seen there
 pub record Finds (cell : ℕ) (r : ReadingView) (c d : CpuView) (f : FoundView) : Type 0 where
   pub adds : AddsEvent r.seen r.changes (Find r.section cell f.slot f.version (Processor c.processor)) c d
+  pub current : (f.slot ≡ slot_of cell d.seen) × (f.version ≡ version_of cell d.seen)
+  pub not_older : version_of cell c.seen ≤ f.version
   pub low : f.slot < 8
   pub known : IsKnown cell f.version d.texts
   pub found_is : f ≡ record { domain = c.domain; cell = cell; slot = f.slot; version = f.version; seen = d.seen; changes = d.changes; texts = d.texts }

@@ -1,11 +1,11 @@
 -- How the fields of the writer of a cell and of a slot are seen, and what is always true of them.
-use Rattle.std.specs.Prelude.{◌≡◌, ℕ, ◌+◌, ◌^◌, ◌<◌, ◌≤◌, List, [], count_by, slice_index_or}
+use Rattle.std.specs.Prelude.{◌≡◌, ◌≢◌, Option, Some, None, ℕ, ◌+◌, ◌^◌, ◌<◌, ◌≤◌, List, [], count_by, slice_index_or}
 use Rattle.onedom.specs.Histories.{slot_of, version_of, IsLegal}
 use Rattle.sections.specs.declared.view.Right.{Right}
 use Rattle.sections.specs.declared.view.Right.TheVariants.{Nothing, Section, Shelf, Undealt}
 use Rattle.sections.specs.declared.writer.Writer.TheInside as writer
 use Rattle.sections.specs.declared.writer.Slot.TheInside as slot
-use Rattle.sections.specs.declared.writer.Standing.TheVariants.{Blank}
+use Rattle.sections.specs.declared.writer.Standing.TheVariants.{Blank, Out}
 use Rattle.sections.specs.WriterViews.{WriterView, SlotView}
 use Rattle.sections.specs.Writers.{is_out, Stands}
 
@@ -30,10 +30,11 @@ pub record IsWriter (w : writer.Inside) : Type 0 where
   pub current : slot_of w.cell w.seat.me.0.seen ≡ w.current
   pub low : w.current < w.slots
   pub small : w.version + count_by is_out w.standings ≤ 2 ^ 54 + 7
+  pub homes : (x : ℕ) → x < w.slots → slice_index_or w.standings x Blank ≢ Out → slice_index_or w.homes x None ≡ Some w.seat.table_id
   pub stands : (x : ℕ) → x < w.slots → Stands w.seat.me.0.seen w.cell x (slice_index_or w.standings x Blank)
 
 abbrev pub view_of_slot : slot.Inside → SlotView
-view_of_slot s = record { cell = s.cell; slot = s.slot }
+view_of_slot s = record { domain = s.home; cell = s.cell; slot = s.slot }
 
 pub record IsSlot (s : slot.Inside) : Type 0 where
   pub low : s.slot < 8

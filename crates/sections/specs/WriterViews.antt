@@ -18,6 +18,8 @@ pub record WriterView : Type 0 where
   pub changes : ℕ
   pub texts : List Text
 
+-- slot `slot` of `cell`: its writer is that of the cell, in this domain
 pub record SlotView : Type 0 where
+  pub domain : TableId
   pub cell : ℕ
   pub slot : ℕ

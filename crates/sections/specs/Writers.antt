@@ -1,17 +1,17 @@
 -- What the writer of a cell does.
-use Rattle.std.specs.Prelude.{◌≡◌, ◌≢◌, ℕ, ◌+◌, ◌*◌, ◌%◌, ◌^◌, ◌<◌, ◌≤◌, ◌⊎◌, Bool, true, false, List, ◌∷◌, ◌++◌, slice_set, slice_index_or}
+use Rattle.std.specs.Prelude.{zero, suc, [], length, if◌then◌else◌, ◌≡◌, ◌≢◌, ℕ, ◌+◌, ◌*◌, ◌%◌, ◌^◌, ◌<◌, ◌≤◌, ◌⊎◌, Bool, true, false, List, ◌∷◌, ◌++◌, slice_set, slice_index_or}
 use Rattle.onedom.specs.declared.event.Maker.{Maker}
 use Rattle.onedom.specs.declared.event.Event.{Event}
-use Rattle.onedom.specs.declared.event.Event.TheVariants.{Note, Put}
+use Rattle.onedom.specs.declared.event.Event.TheVariants.{Note, Ask, Put}
 use Rattle.onedom.specs.Histories.{slot_of, finds_of, IsClear, IsBeginning}
 use Rattle.sections.specs.declared.writer.Standing.{Standing}
 use Rattle.sections.specs.declared.writer.Standing.TheVariants.{Blank, Out, Current, Retired}
 use Rattle.onedom.specs.declared.event.Maker.TheVariants.{Processor}
 use Rattle.sseq.specs.Numbers.{cookie_at}
-use Rattle.sections.specs.Shelves.{slot_words}
+use Rattle.sections.specs.Shelves.{IsStart, slot_words}
 use Rattle.sections.specs.Plays.{EndsWithText}
 use Rattle.sections.specs.Views.{CpuView}
-use Rattle.sections.specs.Calls.{AddsEvent, Notes, Asks}
+use Rattle.sections.specs.Calls.{IsSeenBy, IsSameCpu, AddsEvent, Notes, Asks}
 use Rattle.sections.specs.WriterViews.{WriterView, SlotView}
 
 abbrev pub standing_of : WriterView → ℕ → Standing
@@ -19,6 +19,7 @@ standing_of w x = slice_index_or w.standings x Blank
 
 -- the slot was given out by this writer, and not given back
 pub record IsOwn (w : WriterView) (s : SlotView) : Type 0 where
+  pub domain : s.domain ≡ w.domain
   pub cell : s.cell ≡ w.cell
   pub inside : s.slot < w.slots
   pub out : standing_of w s.slot ≡ Out
@@ -63,9 +64,10 @@ pub record PutsSlot (slot cookie : ℕ) (w : WriterView) (c : CpuView) (w' : Wri
   pub words : w'.words ≡ w.words
   pub since : IsBeginning c'.seen w'.seen
 
--- What a reclaim does of one slot
+-- What a reclaim does
+
 -- somebody asked after the cookie of the slot, behind all that the two had seen, and the slot is blank again just where it is done
-pub record Reclaims (slot number : ℕ) (answer : Bool) (w : WriterView) (c : CpuView) (w' : WriterView) (c' : CpuView) : Type 0 where
+pub record ReclaimsSlot (slot number : ℕ) (answer : Bool) (w : WriterView) (c : CpuView) (w' : WriterView) (c' : CpuView) : Type 0 where
   pub asks : Asks w.seen w.changes number answer c c'
   pub same : IsSameWriter w w'
   pub done : answer ≡ true → w'.standings ≡ slice_set w.standings slot Blank
@@ -74,11 +76,55 @@ pub record Reclaims (slot number : ℕ) (answer : Bool) (w : WriterView) (c : Cp
   pub since : IsBeginning w.seen w'.seen
   pub covers : IsBeginning c'.seen w'.seen
 
+-- a retired slot is blank once its cookie is done. Each other one stays as it is
+abbrev pub reclaimed : Bool → Standing → Standing
+reclaimed done Blank = Blank
+reclaimed done Out = Out
+reclaimed done Current = Current
+reclaimed done (Retired number) = if done then Blank else Retired number
+
+-- the one question about a retired slot, with its answer
+abbrev pub question : ℕ → Bool → Standing → List Event
+question p done Blank = []
+question p done Out = []
+question p done Current = []
+question p done (Retired number) = Ask number done (Processor p) ∷ []
+
+-- those about the slots below this one, in their order
+abbrev pub questions : ℕ → (ℕ → Bool) → WriterView → ℕ → List Event
+questions p done w zero = []
+questions p done w (suc x) = questions p done w x ++ question p (done x) (standing_of w x)
+
+-- what was seen ends with the processor's own last event
+pub record EndsWithOwn (c : CpuView) : Type 0 where
+  pub own : List Event
+  pub before : List Event
+  pub last : Event
+  pub mine : c.mine ≡ own ++ last ∷ []
+  pub seen : c.seen ≡ before ++ last ∷ []
+
+-- of each retired slot below this one it was asked once whether its cookie is done, and it is blank again just where it is
+pub record ReclaimsBelow (slots : ℕ) (w : WriterView) (c : CpuView) (w' : WriterView) (c' : CpuView) : Type 0 where
+  pub done : ℕ → Bool
+  pub standings : (x : ℕ) → x < slots → standing_of w' x ≡ reclaimed (done x) (standing_of w x)
+  pub mine : c'.mine ≡ c.mine ++ questions c.processor done w slots
+  pub steps : c'.steps ≡ c.steps
+  pub none : length (questions c.processor done w slots) ≡ 0 → (w' ≡ w) × (c' ≡ c)
+  pub some : 0 < length (questions c.processor done w slots) → EndsWithOwn c' × IsBeginning w.seen c'.seen × IsBeginning c'.seen w'.seen × IsSeenBy c'
+  pub same : IsSameWriter w w' × IsSameCpu c c'
+  pub words : w'.words ≡ w.words
+  pub since : IsBeginning c.seen c'.seen × (c.changes ≤ c'.changes) × IsStart c.texts c'.texts × IsBeginning w.seen w'.seen
+
+-- all slots of the writer
+abbrev pub Reclaims : WriterView → CpuView → WriterView → CpuView → Type 0
+Reclaims w c w' c' = ReclaimsBelow w.slots w c w' c'
+
 -- Which slot is given out
 -- a blank slot was given out, and fewer than 2 ^ 54 versions were put
 pub record Gives (w w' : WriterView) (s : SlotView) : Type 0 where
   pub room : w.version < 2 ^ 54
   pub inside : s.slot < w.slots
+  pub domain : s.domain ≡ w.domain
   pub cell : s.cell ≡ w.cell
   pub blank : standing_of w s.slot ≡ Blank
   pub same : IsSameWriter w w'

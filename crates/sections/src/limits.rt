@@ -16,8 +16,10 @@ pub struct Limits {
     pub sections: u64,
     /// How many grace periods there may ever be: 1 to 2^59 - 1.
     pub periods: u64,
-    /// How many cells of versions a domain has: 0 to 4. Each has eight slots.
+    /// How many cells of versions the domain has: 0 to 4.
     pub cells: u64,
+    /// How many slots each cell has: 2 to 8.
+    pub slots: u64,
 }
 
 impl Limits {
@@ -35,6 +37,8 @@ impl Limits {
             && 1 <= self.periods
             && self.periods <= Limits::MOST_PERIODS
             && self.cells <= 4
+            && 2 <= self.slots
+            && self.slots <= 8
     }
 }
 

@@ -19,9 +19,6 @@ use sseq::Number;
 use std::alloc::{AllocError, Allocator, Global};
 use std::sync::Arc;
 
-/// How many slots a cell has.
-pub(crate) const SLOTS: usize = 8;
-
 /// The processors of a new domain, in the order of their numbers, the seat that drives its grace periods, and the writers
 /// of its cells.
 #[derive(Drop)]
@@ -49,15 +46,17 @@ fn deal_writers<A: Allocator>(
     table: &Words<A>,
     seat: &mut DomainSeat,
     cells: usize,
+    slots: usize,
     bounds: Bounds,
 ) -> Result<Vec<Writer, A>, AllocError>
     requires cells { cells ≤ 4 }
+    requires slots { (2 ≤ slots) × (slots ≤ 8) }
     requires new { NewTable bounds table.now.shared.key table.now.shared.table_id seat.old }
-    ensures { IfOk result (λ w. IsFounder bounds table.now.shared.key table.now.shared.table_id 0 seat.new × AreNewWriters seat.new.table_id cells w.items) }
+    ensures { IfOk result (λ w. IsFounder bounds table.now.shared.key table.now.shared.table_id 0 seat.new × AreNewWriters seat.new.table_id cells slots w.items) }
 {
     let mut writers = Vec::with_capacity(alloc, cells)?;
     for cell in 0..cells {
-        writers.push(deal_writer(&table.shared, seat, cell, SLOTS))?;
+        writers.push(deal_writer(&table.shared, seat, cell, slots))?;
     }
     table.shared.split_seat::<plays::GiveToken>(seat);
     Ok(writers)
@@ -93,14 +92,16 @@ fn build<A: Allocator + Clone>(
     alloc: A,
     bounds: Bounds,
     cells: usize,
+    slots: usize,
 ) -> Result<Made<A>, AllocError>
     requires small { IsSmall bounds }
     requires cells { cells ≤ 4 }
+    requires slots { (2 ≤ slots) × (slots ≤ 8) }
     ensures made { IfOk result (λ m. IsMade bounds m.cpus.items m.engine) }
-    ensures writers { IfOk result (λ m. AreNewWriters m.engine.domain cells m.writers.items) }
+    ensures writers { IfOk result (λ m. AreNewWriters m.engine.domain cells slots m.writers.items) }
 {
     let (table, mut seat) = new_table(alloc.clone()?, bounds)?;
-    let writers = deal_writers(alloc.clone()?, &table, &mut seat, cells, bounds)?;
+    let writers = deal_writers(alloc.clone()?, &table, &mut seat, cells, slots, bounds)?;
     let table = Arc::new(alloc.clone()?, table)?;
     let mut cpus = Vec::with_capacity(alloc, bounds.processors)?;
     for processor in 0..bounds.processors {
@@ -128,7 +129,7 @@ pub fn make<A: Allocator + Clone>(
 ) -> Result<Made<A>, MakeError>
     ensures made { IfOk result (λ m.
         IsMade (bounds_of processors limits) m.cpus.items m.engine) }
-    ensures writers { IfOk result (λ m. AreNewWriters m.engine.domain limits.cells m.writers.items) }
+    ensures writers { IfOk result (λ m. AreNewWriters m.engine.domain limits.cells limits.slots m.writers.items) }
     ensures tied { IfOk result (λ m. IsTied m.engine) }
     ensures refused { IsRefused processors limits result }
 {
@@ -143,7 +144,7 @@ pub fn make<A: Allocator + Clone>(
         sections: limits.sections,
         periods: limits.periods,
     };
-    match build(alloc, bounds, limits.cells as usize) {
+    match build(alloc, bounds, limits.cells as usize, limits.slots as usize) {
         Ok(made) => Ok(made),
         Err(AllocError) => Err(MakeError::Memory),
     }

@@ -25,6 +25,7 @@ fn limits(sections: u64) -> Limits
         sections,
         periods: 2,
         cells: 0,
+        slots: 2,
     }
 }
 
@@ -547,6 +548,7 @@ fn refuses_to_make(rt: HostRuntime) {
         sections: 1 << 54,
         periods: (1 << 59) - 1,
         cells: 0,
+        slots: 2,
     };
     let no_sections = Limits {
         sections: 0,
@@ -565,6 +567,8 @@ fn refuses_to_make(rt: HostRuntime) {
             ..most
         },
         Limits { cells: 5, ..most },
+        Limits { slots: 1, ..most },
+        Limits { slots: 9, ..most },
     ];
     for processors in [1, 2, MOST_PROCESSORS] {
         assert_eq!(rt; refusal(rt.alloc(), processors, most), None);

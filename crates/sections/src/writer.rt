@@ -1,6 +1,6 @@
 //! The writer of a cell, and its slots.
 use crate::board::DomainSeat;
-use crate::token::Token;
+use crate::token::{Home, Token};
 use std::marker::Model;
 
 pub(crate) mod dealing;
@@ -33,6 +33,8 @@ pub struct Writer {
     /// The slot that is current.
     pub(crate) current: usize,
     pub(crate) standings: [Standing; 8],
+    /// By what each slot knows its domain. It is with the slot while that is out.
+    pub(crate) homes: [Option<Home>; 8],
 }
 
 impl Model for Writer {
@@ -51,8 +53,10 @@ impl Token for Writer {
     ghost domain = { λ w. w.domain };
 }
 
-/// A slot that nobody can read, to be filled. It can't be dropped: spend it by [`Writer::put`] or [`Writer::give_back`].
+/// A slot of a cell that nobody can read, to be filled by the writer of that cell. It can't be dropped: spend it by
+/// [`Writer::put`] or [`Writer::give_back`].
 pub struct Slot {
+    pub(crate) home: Home,
     pub(crate) cell: usize,
     pub(crate) slot: usize,
 }
@@ -67,4 +71,8 @@ impl Model for Slot {
     ghost view = { view_of_slot };
 
     ghost invariant = { IsSlot };
+}
+
+impl Token for Slot {
+    ghost domain = { λ s. s.domain };
 }

@@ -41,6 +41,13 @@ pub struct Pin<'a> {
     pub found: Found,
 }
 
+/// A version that a held section found. It keeps the section lent, as a [`Pin`] keeps a reading.
+#[derive(Drop)]
+pub struct DownPin<'a> {
+    pub held: &'a mut Held,
+    pub found: Found,
+}
+
 /// A version that a held section found, with that section. It can't be dropped: get the section back by
 /// [`HeldPin::into_held`] and end it.
 pub struct HeldPin {
@@ -106,6 +113,49 @@ impl<A: Allocator> Cpu<A> {
             &self.table.shared,
             &mut self.seat,
             &mut reading.seat,
+            &mut found.seat,
+            found.cell,
+            found.slot,
+            place,
+        )
+    }
+
+    /// As [`Cpu::find`], in a held section.
+    pub fn find_down<'a>(&mut self, held: &'a mut Held, cell: usize) -> DownPin<'a>
+        requires here { held.old.domain ≡ self.old.domain }
+        requires cell { cell < 4 }
+        ensures finds { Finds cell held.old self.old self.new result.found }
+        ensures pinned { IsPinned held.old result.found }
+        ensures held { result.held.now ≡ held.old }
+        ensures same_reference { result.held.ghost_name ≡ held.entry.ghost_name }
+    {
+        let (word, seat) = find_in(&self.table.shared, &mut self.seat, &mut held.seat, cell);
+        DownPin {
+            held,
+            found: Found {
+                cell,
+                slot: (word % 16) as usize,
+                version: word / 16,
+                seat,
+            },
+        }
+    }
+
+    /// As [`Cpu::word`], in a held section that is lent, on any processor of the domain.
+    pub fn word_down(&mut self, pin: &mut DownPin<'_>, place: usize) -> u64
+        requires here { pin.old.held.now.domain ≡ self.old.domain }
+        requires pinned { IsPinned pin.old.held.now pin.old.found }
+        requires place { place < 16 }
+        ensures reads { ReadsWord pin.old.held.now pin.old.found place result self.old self.new }
+        ensures same { (pin.new.held.now ≡ pin.old.held.now) × (pin.new.found ≡ pin.old.found) }
+        ensures same_reference { pin.new.held.ghost_name ≡ pin.old.held.ghost_name }
+    {
+        let held = &mut *pin.held;
+        let found = &mut pin.found;
+        word_in(
+            &self.table.shared,
+            &mut self.seat,
+            &mut held.seat,
             &mut found.seat,
             found.cell,
             found.slot,

@@ -20,8 +20,10 @@ impl Writer {
             return None;
         }
         let slot = self.first_blank()?;
+        let home = self.homes[slot].take().unwrap();
         self.standings[slot] = Standing::Out;
         Some(Slot {
+            home,
             cell: self.cell,
             slot,
         })
@@ -63,7 +65,12 @@ impl Writer {
         requires own { IsOwn self.old slot }
         ensures back { GivesBack slot.slot self.old self.new }
     {
-        let Slot { cell: _, slot } = slot;
+        let Slot {
+            home,
+            cell: _,
+            slot,
+        } = slot;
+        self.homes[slot] = Some(home);
         self.standings[slot] = Standing::Blank;
     }
 }

@@ -17,7 +17,11 @@ impl Writer {
         requires own { IsOwn self.old slot }
         ensures { PutsSlot slot.slot result self.old cpu.old self.new cpu.new }
     {
-        let Slot { cell: _, slot } = slot;
+        let Slot {
+            home,
+            cell: _,
+            slot,
+        } = slot;
         let top = &cpu.table.shared;
         let word = 16 * (self.version + 1) + slot as u64;
         put_in(top, &mut cpu.seat, &mut self.seat, self.cell, slot, word);
@@ -26,6 +30,7 @@ impl Writer {
         let retired = self.current;
         self.standings[retired] = Standing::Retired(cookie);
         self.standings[slot] = Standing::Current;
+        self.homes[slot] = Some(home);
         self.current = slot;
         self.version += 1;
         cookie

@@ -1,7 +1,7 @@
 //! Retired slots become blank again, once nobody can read them.
 ghost use Rattle.std.specs.Prelude.{◌≡◌, ◌<◌};
 ghost use Rattle.sections.specs.declared.writer.Standing.TheVariants.{Retired};
-ghost use Rattle.sections.specs.Writers.{Reclaims, standing_of};
+ghost use Rattle.sections.specs.Writers.{Reclaims, ReclaimsSlot, standing_of};
 
 use super::{Standing, Writer};
 use crate::cpu::Cpu;
@@ -12,12 +12,24 @@ use std::alloc::Allocator;
 use std::marker::Brand;
 
 impl Writer {
-    /// Asks whether the cookie of a retired slot is done: then no section is open that had found it, and it is blank
-    /// again.
-    pub fn reclaim_slot<A: Allocator>(&mut self, cpu: &mut Cpu<A>, slot: usize, number: u64) -> bool
+    /// Asks after the cookie of each retired slot, once. Where it is done, no section is open that has found the slot,
+    /// and it is blank again. Each other slot stays as it is.
+    pub fn reclaim<A: Allocator>(&mut self, cpu: &mut Cpu<A>)
+        requires here { cpu.old.domain ≡ self.old.domain }
+        ensures { Reclaims self.old cpu.old self.new cpu.new }
+    {
+        for slot in 0..self.slots {
+            if let Standing::Retired(number) = self.standings[slot] {
+                self.reclaim_slot(cpu, slot, number);
+            }
+        }
+    }
+
+    // Asks after the cookie of a retired slot, which is blank again where it is done.
+    fn reclaim_slot<A: Allocator>(&mut self, cpu: &mut Cpu<A>, slot: usize, number: u64) -> bool
         requires here { cpu.old.domain ≡ self.old.domain }
         requires slot { (slot < self.old.slots) × (standing_of self.old slot ≡ Retired number) }
-        ensures { Reclaims slot number result self.old cpu.old self.new cpu.new }
+        ensures { ReclaimsSlot slot number result self.old cpu.old self.new cpu.new }
     {
         let top = &cpu.table.shared;
         let told = top.split_seat::<plays::Show>(&mut self.seat);

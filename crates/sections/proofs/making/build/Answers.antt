@@ -69,4 +69,4 @@ pub returns-clause-writers : goal.returns-clause-writers
 returns-clause-writers g c =
     let f = c.loop-processor.invariant.founder in
     let w = c.in_ok-writers.ensures in
-    subst (λ t. AreNewWriters t c.args.cells c.in_ok-writers.writers.items) (w.0.seated ∙ (ap (λ t. t.shared.table_id) (sym c.in_ok-table-2.ensures.ok) ∙ sym f.seated)) w.1
+    subst (λ t. AreNewWriters t c.args.cells c.args.slots c.in_ok-writers.writers.items) (w.0.seated ∙ (ap (λ t. t.shared.table_id) (sym c.in_ok-table-2.ensures.ok) ∙ sym f.seated)) w.1

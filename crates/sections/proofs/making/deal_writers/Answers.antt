@@ -11,7 +11,7 @@ use Rattle.sections.proofs.making.deal_writers.Goals as goal
 pub loop-cell-init : goal.loop-cell-init
 loop-cell-init g c = record {
   seat = c.requires.new;
-  writers = no_writers _ _ c.in_ok-writers.ensures.items;
+  writers = no_writers _ _ _ c.in_ok-writers.ensures.items;
 }
 
 pub deal_writer-requires-clause-seat : goal.deal_writer-requires-clause-seat
@@ -34,7 +34,7 @@ loop-cell-preserved g c =
         seated = d.seat.same_table ∙ v.seat.seated;
         me = d.seat.me ∙ ap (λ m. (record m.0 { right = Undealt (c.loop-cell.cell + 1) }, m.1)) v.seat.me;
       };
-      writers = writer_pushed _ _ _ _ _ v.writers (d.writer ∙ ap (λ t. new_writer t c.loop-cell.cell 8) v.seat.seated) c.in_ok-push.ensures.items;
+      writers = writer_pushed _ _ _ _ _ _ v.writers (d.writer ∙ ap (λ t. new_writer t c.loop-cell.cell c.args.slots) v.seat.seated) c.in_ok-push.ensures.items;
     }
 
 pub split_seat-requires : goal.split_seat-requires
@@ -47,5 +47,5 @@ returns g c =
     let done = c.loop-cell-test.false in
     let all : c.loop-cell.cell ≡ c.args.cells = omega arith in (
       record { key_is = s.key_is; wide = s.wide; seated = c.split_seat.ensures.0 ∙ s.seated; me = c.split_seat.ensures.2 ∙ ap (λ m. (lacking m.0, m.1)) s.me },
-      subst (λ (z : TableId × ℕ). AreNewWriters z.0 z.1 c.loop-cell.writers.items) (λ k. (sym (c.split_seat.ensures.0 ∙ s.seated) k, all k)) v.writers,
+      subst (λ (z : TableId × ℕ). AreNewWriters z.0 z.1 c.args.slots c.loop-cell.writers.items) (λ k. (sym (c.split_seat.ensures.0 ∙ s.seated) k, all k)) v.writers,
     )

@@ -6,5 +6,5 @@ use Rattle.sections.proofs.making.deal_writers.Given as goal
 abbrev pub invariant-loop-cell : goal.invariant-loop-cell
 invariant-loop-cell g l = record {
   seat : DealsCells l.fn.bounds l.table.shared.key l.table.shared.table_id l.cell l.seat;
-  writers : AreNewWriters l.table.shared.table_id l.cell l.writers.items;
+  writers : AreNewWriters l.table.shared.table_id l.cell l.fn.slots l.writers.items;
 }

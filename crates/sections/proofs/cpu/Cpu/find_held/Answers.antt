@@ -7,6 +7,8 @@ use Rattle.sections.specs.declared.view.View.{View}
 use Rattle.sections.specs.Shelves.{IsKnown}
 use Rattle.sections.specs.Rule.{bearer, informed}
 use Rattle.sections.specs.Insides.{section_of}
+use Rattle.onedom.specs.Histories.{IsLegal}
+use Rattle.sections.proofs.Pinning.{finds_current}
 use Rattle.sections.proofs.CpuViews.{adds_cut, rests_cut, locks_told, unclosed_told}
 use Rattle.sections.proofs.cpu.Cpu.find_held.Goals as goal
 
@@ -53,8 +55,11 @@ returns-clause-finds g c =
     let t : ℕ = section_of c.held.inside.seat.me.0.right in
     let a = f.adds t c.held.inside.processor p c.held.inside.index c.self.invariant.role c.held.invariant.right in
     let e : Event = Find t c.args.cell (c.find_in-word.result.0 % 16) (c.find_in-word.result.0 / 16) (Processor p) in
+    let now = finds_current t c.args.cell (c.find_in-word.result.0 % 16) (c.find_in-word.result.0 / 16) (Processor p) c.self.inside.seat.me.0.seen a.0.before c.find_in-word.new.seat.me.0.seen (ap (λ m. m.0.seen) f.stays ∙ a.0.seen) (subst (λ (l : List Event). IsLegal l) (sym (ap (λ m. m.0.seen) f.stays)) a.0.sound.legal) a.0.since in
     rw (← c.self.view_is, ← c.held.view_is) (record {
       adds = adds_cut e _ _ _ _ p c.self.inside.seat.me.0 (bearer c.held.inside.seat.me.0) (informed c.self.inside.seat.me.0 (bearer c.held.inside.seat.me.0)) f.after c.find_in-word.new.seat.me.0 f.same_table.0 c.self.invariant.placed.sized c.self.invariant.role refl (ap (λ m. m.0) f.stays) a.0;
+      current = (now.0, now.1);
+      not_older = now.2;
       low = a.2;
       known = subst (λ (l : List Text). IsKnown c.args.cell (c.find_in-word.result.0 / 16) l) (sym (ap (λ m. m.0.texts) f.stays)) a.1;
       found_is = λ i. record {

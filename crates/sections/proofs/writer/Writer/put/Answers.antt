@@ -1,4 +1,7 @@
-use Rattle.std.proofs.Common.{◌≡◌, ◌≢◌, ℕ, ◌+◌, ◌<◌, List, [], ◌∷◌, ◌++◌, length, rules, refl, sym, ap, ◌∙◌, subst, arith}
+use Rattle.std.proofs.Common.{◌≡◌, ◌≢◌, ℕ, ◌+◌, ◌<◌, List, [], ◌∷◌, ◌++◌, Some, get_or, set, get_or-set_other, length, rules, refl, sym, ap, ◌∙◌, subst, arith}
+use mathlib.Core.Logic.{dite}
+use native.Mathlib.Decide.{ℕ_discrete}
+use Rattle.atomic_table.specs.Seated.{TableId}
 use Rattle.sseq.specs.Numbers.{cookie_at}
 use Rattle.onedom.specs.declared.event.Event.{Event}
 use Rattle.onedom.specs.declared.event.Event.TheVariants.{Put, Note}
@@ -17,7 +20,8 @@ use Rattle.sections.specs.Writers.{IsOwn, IsRetired}
 use Rattle.sections.specs.Insides.{IsAtRest}
 use Rattle.sections.proofs.CpuViews.{seen_as, adds_cut, notes_from, whole_cookie, locks_told, unclosed_told}
 use Rattle.sections.proofs.Writing.{slot_quiet}
-use Rattle.sections.proofs.Standings.{stands_over, retires, put_stands, put_count, out_clear}
+use Rattle.sections.specs.declared.writer.Standing.TheVariants.{Blank, Out, Current, Retired}
+use Rattle.sections.proofs.Standings.{HasHomes, homes_back, stands_over, retires, put_stands, put_count, out_clear}
 use Rattle.sections.proofs.writer.Writer.put.Goals as goal
 
 pub note_number-requires-clause-placed : goal.note_number-requires-clause-placed
@@ -82,7 +86,7 @@ invariant_of-self g c =
     let b = N.adds p (ap (λ m. m.0.role) P.stays ∙ (a.0.role ∙ c.cpu.invariant.role)) in
     let k = R.keeps W P.after.seen (ap (λ m. m.0.right) P.given ∙ a.1) in
     let new : List Event = c.refresh_in.new.pen.me.0.seen in
-    let own : IsOwn (record { domain = c.self.inside.seat.table_id; cell = cell; slots = c.self.inside.slots; version = c.self.inside.version; current = cur; standings = c.self.inside.standings; words = W; seen = old; changes = c.self.inside.seat.me.0.changes; texts = c.self.inside.seat.me.0.texts }) (record { cell = c.slot.inside.cell; slot = slot }) =
+    let own : IsOwn (record { domain = c.self.inside.seat.table_id; cell = cell; slots = c.self.inside.slots; version = c.self.inside.version; current = cur; standings = c.self.inside.standings; words = W; seen = old; changes = c.self.inside.seat.me.0.changes; texts = c.self.inside.seat.me.0.texts }) (record { domain = c.slot.inside.home; cell = c.slot.inside.cell; slot = slot }) =
     subst (λ (z : WriterView × SlotView). IsOwn z.0 z.1) (λ n. (sym c.self.view_is n, sym c.slot.view_is n)) c.requires.own in
     let low = own.inside in
     let most = i.most in
@@ -101,6 +105,12 @@ invariant_of-self g c =
     let is = c.snap-cookie.ensures.meaning in
     let count = put_count c.self.inside.standings cur slot c.snap-cookie.result lc lx apart own.out in
     let small = i.small in
+    let eight_homes : length c.self.inside.homes ≡ 8 = search rules in
+    let same_home : c.slot.inside.home ≡ c.refresh_in.new.pen.table_id = own.domain ∙ (ap (λ z. z.domain) c.self.view_is ∙ (sym c.requires.here ∙ (ap (λ z. z.domain) (sym c.cpu.view_is) ∙ sym (R.same_table ∙ (N.same_table ∙ P.same_table.0))))) in
+    let only : (z : ℕ) → z < c.self.inside.slots → z ≢ slot → get_or (set (set c.self.inside.standings cur (Retired c.snap-cookie.result)) slot Current) z Blank ≢ Out → get_or c.self.inside.standings z Blank ≢ Out =
+    λ z lz nx there. dite (ℕ_discrete z cur)
+    (λ e o. (out_clear old cell cur _ (ap (λ n. get_or c.self.inside.standings n Blank) (sym e) ∙ o) (i.stands cur few)).resting (sym i.current))
+    (λ n o. there (get_or-set_other (set c.self.inside.standings cur (Retired c.snap-cookie.result)) slot z Current Blank nx ∙ (get_or-set_other c.self.inside.standings cur z (Retired c.snap-cookie.result) Blank n ∙ o))) in
     let next = i.version in record {
       bare = R.bare;
       right = k.1 ∙ ap (λ o. Shelf cell o new) (sym (ap words_with k.1));
@@ -112,6 +122,9 @@ invariant_of-self g c =
       current = now;
       low = low;
       small = omega (arith, small, count);
+      homes = subst (λ (t : TableId). HasHomes t c.self.inside.slots (set (set c.self.inside.standings cur (Retired c.snap-cookie.result)) slot Current) (set c.self.inside.homes slot (Some c.slot.inside.home))) same_home
+          (homes_back c.slot.inside.home c.self.inside.slots slot c.self.inside.standings (set (set c.self.inside.standings cur (Retired c.snap-cookie.result)) slot Current) c.self.inside.homes (omega (arith, low, most, eight_homes)) only
+          (subst (λ (t : TableId). HasHomes t c.self.inside.slots c.self.inside.standings c.self.inside.homes) (sym own.domain) i.homes));
       stands = put_stands new cell c.self.inside.slots c.self.inside.standings cur slot c.snap-cookie.result lc lx apart
           (λ z lz nx nc. stands_over cell z slot (version_of cell old + 1) (Processor p) old a.3.before new k.0.legal a.3.goes_on a.3.same on later nx (λ e. nc (e ∙ i.current)) _ (i.stands z lz))
           (subst (λ (n : ℕ). IsRetired new cell cur n) (sym is) retired) (sym now);

@@ -1,4 +1,4 @@
-use Rattle.std.proofs.Common.{rules, ◌≡◌, ℕ, ◌+◌, ◌<◌, Bool, true, false, List, [], ◌∷◌, ◌++◌, length, All, get_or, refl, sym, ap, ◌∙◌, subst, arith}
+use Rattle.std.proofs.Common.{rules, ◌≡◌, ℕ, ◌+◌, ◌<◌, Bool, true, false, List, [], ◌∷◌, ◌++◌, length, All, get_or, set, refl, sym, ap, ◌∙◌, subst, arith}
 use Rattle.std.proofs.lemmas.List.Elements.{All-head}
 use Rattle.std.specs.Arc.{arc_value}
 use Rattle.onedom.specs.declared.event.Event.{Event}
@@ -19,7 +19,8 @@ use Rattle.sections.proofs.Sharing.{shows, takes_token}
 use Rattle.sections.proofs.Seating.{some_words}
 use Rattle.sections.proofs.CpuViews.{seen_as, asks_from, locks_told, unclosed_told}
 use Rattle.sections.proofs.Writing.{slot_quiet}
-use Rattle.sections.proofs.Standings.{stands_quiet, stands_set, reclaimed, count_less}
+use Rattle.atomic_table.specs.Seated.{TableId}
+use Rattle.sections.proofs.Standings.{HasHomes, homes_stay, retired_out, stands_quiet, stands_set, reclaimed, count_less}
 use Rattle.sections.proofs.writer.Writer.reclaim_slot.Goals as goal
 
 pub split_seat-told-requires : goal.split_seat-told-requires
@@ -95,6 +96,7 @@ invariant_of-self g c =
     let lx : slot < length c.self.inside.standings = omega (arith, low, most, eight) in
     let small = i.small in
     let count = count_less c.self.inside.standings slot lx in
+    let same_home : c.self.inside.seat.table_id ≡ c.refresh_in.new.pen.table_id = sym (R.same_table ∙ (N.same_table ∙ (J.0 ∙ (ap (λ z. z.domain) c.cpu.view_is ∙ (c.requires.here ∙ ap (λ z. z.domain) (sym c.self.view_is)))))) in
     record {
       bare = R.bare;
       right = k.1 ∙ ap (λ o. Shelf cell o new) (sym (ap words_with k.1));
@@ -106,6 +108,7 @@ invariant_of-self g c =
       current = slot_quiet cell old new k.0.goes_on k.0.legal k.0.same ∙ i.current;
       low = i.low;
       small = omega (arith, small, count);
+      homes = subst (λ (t : TableId). HasHomes t c.self.inside.slots (set c.self.inside.standings slot Blank) c.self.inside.homes) same_home (homes_stay c.self.inside.seat.table_id c.self.inside.slots slot Blank c.self.inside.standings c.self.inside.homes lx (λ o. retired_out (sym at.1 ∙ o)) i.homes);
       stands = stands_set new cell c.self.inside.slots c.self.inside.standings slot Blank lx still clear;
     }
 
@@ -150,6 +153,7 @@ invariant_of-self-else-done g c =
     let b = N.adds p (ap (λ m. m.0.role) J.2 ∙ c.cpu.invariant.role) in
     let k = R.keeps W old (ap (λ m. m.0.right) c.split_seat-told.ensures.2 ∙ i.right) in
     let still : (x : ℕ) → x < c.self.inside.slots → Stands new cell x (get_or c.self.inside.standings x Blank) = λ x lx. stands_quiet cell x old new k.0.goes_on k.0.legal k.0.same _ (i.stands x lx) in
+    let same_home : c.self.inside.seat.table_id ≡ c.refresh_in.new.pen.table_id = sym (R.same_table ∙ (N.same_table ∙ (J.0 ∙ (ap (λ z. z.domain) c.cpu.view_is ∙ (c.requires.here ∙ ap (λ z. z.domain) (sym c.self.view_is)))))) in
     record {
       bare = R.bare;
       right = k.1 ∙ ap (λ o. Shelf cell o new) (sym (ap words_with k.1));
@@ -161,6 +165,7 @@ invariant_of-self-else-done g c =
       current = slot_quiet cell old new k.0.goes_on k.0.legal k.0.same ∙ i.current;
       low = i.low;
       small = i.small;
+      homes = subst (λ (t : TableId). HasHomes t c.self.inside.slots c.self.inside.standings c.self.inside.homes) same_home i.homes;
       stands = still;
     }
 

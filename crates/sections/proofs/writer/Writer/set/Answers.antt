@@ -1,4 +1,4 @@
-use Rattle.std.proofs.Common.{ℕ, List, sym, ap, ◌∙◌}
+use Rattle.std.proofs.Common.{ℕ, List, Some, sym, ap, ◌∙◌}
 use Rattle.onedom.specs.declared.event.Event.{Event}
 use Rattle.sections.specs.declared.view.Right.TheVariants.{Shelf}
 use Rattle.sections.specs.WriterInsides.{words_with}
@@ -23,6 +23,7 @@ invariant_of-self g c =
       current = slot_quiet cell old new k.0.goes_on k.0.legal k.0.same ∙ i.current;
       low = i.low;
       small = i.small;
+      homes = λ x lx there. i.homes x lx there ∙ ap Some (sym c.store_in.ensures.same_table);
       stands = λ x lx. stands_quiet cell x old new k.0.goes_on k.0.legal k.0.same _ (i.stands x lx);
     }
 

@@ -1,4 +1,6 @@
-use Rattle.std.proofs.Common.{List, get_or, sym, ap, ◌∙◌, subst, arith}
+use Rattle.std.proofs.lemmas.List.{get_or-replicate}
+use Rattle.atomic_table.specs.Seated.{TableId}
+use Rattle.std.proofs.Common.{List, Option, Some, None, get_or, sym, ap, ◌∙◌, subst, arith}
 use Rattle.onedom.specs.declared.event.Event.{Event}
 use Rattle.onedom.specs.Histories.{slot_of, version_of, IsLegal}
 use Rattle.sections.specs.declared.view.Right.TheVariants.{Shelf}
@@ -15,7 +17,7 @@ split_seat-pen-requires c = (c.requires.seat.seated, c.requires.seat.some, deals
 
 pub invariant_of-result : goal.invariant_of-result
 invariant_of-result c =
-    let me = c.split_seat-pen.ensures.4 in
+    let me = c.homes_of-homes.ensures.seat.1 ∙ c.split_seat-pen.ensures.4 in
     let right = ap (λ m. m.0.right) me ∙ ap next_cell c.requires.seat.right in
     let seen = ap (λ m. m.0.seen) me ∙ c.requires.seat.nothing in record {
       bare = ap (λ m. m.1) me;
@@ -28,6 +30,7 @@ invariant_of-result c =
       current = ap (slot_of c.args.cell) seen;
       low = (let two = c.requires.slots.0 in omega (arith, two));
       small = omega arith;
+      homes = λ x lx _. ap (λ (l : List (Option TableId)). get_or l x None) c.homes_of-homes.ensures.homes ∙ (get_or-replicate 8 x (Some c.split_seat-pen.result.table_id) None (let most = c.requires.slots.1 in omega (arith, lx, most)) ∙ ap Some (sym c.homes_of-homes.ensures.seat.0));
       stands = λ x lx. subst (λ (l : List Event). Stands l c.args.cell x (get_or new_standings x Blank)) (sym seen) (new_stands c.args.cell x (let most = c.requires.slots.1 in omega (arith, lx, most)));
     }
 
@@ -38,8 +41,8 @@ returns-clause-seat c = record {
 }
 
 pub returns-clause-writer : goal.returns-clause-writer
-returns-clause-writer c = let me = c.split_seat-pen.ensures.4 in λ k. record {
-  domain = c.split_seat-pen.ensures.3 k;
+returns-clause-writer c = let me = c.homes_of-homes.ensures.seat.1 ∙ c.split_seat-pen.ensures.4 in λ k. record {
+  domain = (c.homes_of-homes.ensures.seat.0 ∙ c.split_seat-pen.ensures.3) k;
   cell = c.args.cell;
   slots = c.args.slots;
   version = 0;
