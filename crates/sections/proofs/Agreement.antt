@@ -1,5 +1,5 @@
 -- The words agree with the history after each step.
-use Rattle.std.proofs.Common.{◌≡◌, ℕ, ◌+◌, ◌%◌, ◌<◌, ◌≢◌, Bool, true, false, cond, ◌&&◌, eqb, List, [], ◌∷◌, ◌++◌, All, length, get_or, set, refl, sym, ap, ◌∙◌, arith, length-set, get_or-set_other, get_or-set_same}
+use Rattle.std.proofs.Common.{◌≡◌, ℕ, ◌+◌, ◌%◌, ◌<◌, ◌≤◌, ◌≢◌, Bool, true, false, cond, ◌&&◌, eqb, List, [], ◌∷◌, ◌++◌, All, length, get_or, set, refl, sym, ap, ◌∙◌, arith, length-set, get_or-set_other, get_or-set_same}
 use mathlib.Core.Logic.{dite}
 use native.Mathlib.Decide.{ℕ_discrete}
 use Rattle.sseq.specs.declared.index.Index.{Index}
@@ -12,7 +12,7 @@ use Rattle.onedom.specs.declared.event.Maker.TheVariants.{Engine}
 use Rattle.onedom.proofs.CallerLemmas.{bit, count_cons, starts_in_push, ended_in_push}
 use Rattle.std.proofs.lemmas.List.Elements.{All-head, All-tail}
 use Rattle.sections.specs.Rule.{HasItsMaker}
-use Rattle.sections.specs.Words.{index_place, number_place, lock_place, unlock_place, word_count, locks_at, locks, unlocks_at, unlocks, index_word, number_word, IsIdle, IsBehindFlip, Reaches, Agree}
+use Rattle.sections.specs.Words.{index_place, number_place, lock_place, unlock_place, cells_from, word_count, locks_at, locks, unlocks_at, unlocks, index_word, number_word, IsIdle, IsBehindFlip, Reaches, Agree}
 use Rattle.sections.proofs.Counters.{index_low, index_number_same, locks_push, unlocks_push, locks_here, elsewhere}
 
 -- How far the engine has come
@@ -51,14 +51,14 @@ unlock_places p q i j e = let a = index_low i in let b = index_low j in (omega (
 apart : (p q : ℕ) (i j : Index) → lock_place p i ≢ unlock_place q j
 apart p q i j e = let a = index_low i in let b = index_low j in omega (arith, a, b, e)
 
-lock_inside : (n p : ℕ) (i : Index) → p < n → lock_place p i < word_count n
+lock_inside : (n p : ℕ) (i : Index) → p < n → lock_place p i < cells_from n
 lock_inside n p i lt = let a = index_low i in omega (arith, a, lt)
 
-pub lock_there : (n p : ℕ) (i : Index) → p < n → lock_place p i < word_count n
-lock_there n p i lt = lock_inside n p i lt
+pub lock_there : (n cells p : ℕ) (i : Index) → p < n → lock_place p i < word_count n cells
+lock_there n cells p i lt = let a = lock_inside n p i lt in omega (arith, a)
 
-pub unlock_there : (n p : ℕ) (i : Index) → p < n → unlock_place p i < word_count n
-unlock_there n p i lt = let a = index_low i in omega (arith, a, lt)
+pub unlock_there : (n cells p : ℕ) (i : Index) → p < n → unlock_place p i < word_count n cells
+unlock_there n cells p i lt = let a = index_low i in omega (arith, a, lt)
 
 module _ (n : ℕ) (words : List ℕ) (log : List Event) (changes : ℕ) (r : Agree n words log changes) where
   pub agrees_begun : (s p : ℕ) (i : Index) (by : Maker) → p < n → Agree n (set words (lock_place p i) (get_or words (lock_place p i) 0 + 1)) (log ++ Begin s p i by ∷ []) changes
@@ -69,7 +69,7 @@ module _ (n : ℕ) (words : List ℕ) (log : List Event) (changes : ℕ) (r : Ag
       let wide = r.wide in
       let low = index_low i in
       let inside : k < length words = omega (arith, wide, low, lt) in record {
-        wide = length-set words k y ∙ r.wide;
+        wide = let l = length-set words k y in omega (arith, l, wide);
         reaches = reaches_plain changes log e refl refl r.reaches;
         index = get_or-set_other words k 0 y 0 (λ h. omega arith) ∙ r.index;
         number = get_or-set_other words k 16 y 0 (λ h. omega arith) ∙ r.number;
@@ -89,7 +89,7 @@ module _ (n : ℕ) (words : List ℕ) (log : List Event) (changes : ℕ) (r : Ag
       let wide = r.wide in
       let low = index_low i in
       let inside : k < length words = omega (arith, wide, low, lt) in record {
-        wide = length-set words k y ∙ r.wide;
+        wide = let l = length-set words k y in omega (arith, l, wide);
         reaches = reaches_plain changes log e refl refl r.reaches;
         index = get_or-set_other words k 0 y 0 (λ h. omega arith) ∙ r.index;
         number = get_or-set_other words k 16 y 0 (λ h. omega arith) ∙ r.number;
@@ -120,7 +120,7 @@ module _ (n : ℕ) (words : List ℕ) (log : List Event) (changes : ℕ) (r : Ag
       let k : ℕ = number_place in
       let wide = r.wide in
       let inside : k < length words = omega (arith, wide) in record {
-        wide = length-set words k y ∙ r.wide;
+        wide = let l = length-set words k y in omega (arith, l, wide);
         reaches = reaches;
         index = get_or-set_other words k 0 y 0 (λ h. omega arith) ∙ (r.index ∙ sym same);
         number = get_or-set_same words k y 0 inside ∙ is;
@@ -134,7 +134,7 @@ module _ (n : ℕ) (words : List ℕ) (log : List Event) (changes : ℕ) (r : Ag
       let k : ℕ = index_place in
       let wide = r.wide in
       let inside : k < length words = omega (arith, wide) in record {
-        wide = length-set words k y ∙ r.wide;
+        wide = let l = length-set words k y in omega (arith, l, wide);
         reaches = reaches;
         index = get_or-set_same words k y 0 inside ∙ is;
         number = get_or-set_other words k 16 y 0 (λ h. omega arith) ∙ (r.number ∙ sym same);
@@ -168,7 +168,7 @@ pub starts_mine : (n : ℕ) (log : List Event) → All (HasItsMaker n) log → s
 starts_mine n [] all = refl
 starts_mine n (e ∷ es) all = starts_case e es (made_by Engine es) (same_maker (maker_of e) Engine) (not_started n e (All-head (HasItsMaker n) e es all)) (starts_mine n es (All-tail (HasItsMaker n) e es all))
 
-pub agrees_new : (n : ℕ) (words : List ℕ) → length words ≡ word_count n → ((k : ℕ) → get_or words k 0 ≡ 0) → Agree n words [] 0
+pub agrees_new : (n : ℕ) (words : List ℕ) → cells_from n ≤ length words → ((k : ℕ) → get_or words k 0 ≡ 0) → Agree n words [] 0
 agrees_new n words wide zeros = record {
   wide = wide;
   reaches = record { started = refl; ended = refl };

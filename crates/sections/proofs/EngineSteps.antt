@@ -1,5 +1,5 @@
 -- Each step of the engine's seat keeps the rule.
-use Rattle.std.proofs.Common.{◌≡◌, ℕ, ◌+◌, ◌*◌, ◌%◌, ◌^◌, ◌<◌, ◌≤◌, true, false, List, [], ◌∷◌, ◌++◌, All, Option, None, ◌⊎◌, inl, length, get_or, set, refl, sym, ap, ◌∙◌, subst, arith}
+use Rattle.std.proofs.Common.{length-set, ◌≡◌, ℕ, ◌+◌, ◌*◌, ◌%◌, ◌^◌, ◌<◌, ◌≤◌, true, false, List, [], ◌∷◌, ◌++◌, All, Option, None, ◌⊎◌, inl, length, get_or, set, refl, sym, ap, ◌∙◌, subst, arith}
 use Rattle.std.proofs.lemmas.List.Elements.{All-nil}
 use mathlib.Core.Option.{none}
 use Rattle.atomic_table.specs.Table.{State, step, keeps, stepped, Allows}
@@ -126,9 +126,9 @@ module _ (bounds : Bounds) where
             (λ u hit. absurd (false≠true (sym (driven.no_end u) ∙ hit)))
             (λ u _. refl)
             fits v at refl refl
-            (let same = same_set s.words k y (inl (omega arith)) in shelf_event s.words (set s.words k y) s.views r.log r.deeds id w e r.shelf same r.within.legal may.0 driven.no_put
-            (fits_all (set s.words k y) log' r.shelf.texts r.shelf.writer_of id w refl refl refl (texts_on r.shelf.texts r.log e driven.no_put r.shelf.shelved.cells)
-            (writes_event s.words (set s.words k y) r.log e r.shelf.writer_of id same driven.no_put v.right (r.shelf.each id v at).writes))),
+            (let same = same_set bounds s.words k y (omega arith) in shelf_event bounds s.words (set s.words k y) s.views r.log r.deeds id w e r.shelf same (length-set s.words k y) r.within.legal may.0 driven.no_put
+            (fits_all bounds (set s.words k y) log' r.shelf.texts r.shelf.writer_of id w refl refl refl (texts_on r.shelf.texts r.log e driven.no_put r.shelf.shelved.cells)
+            (writes_event bounds s.words (set s.words k y) r.log e r.shelf.writer_of id same driven.no_put v.right (r.shelf.each id v at).writes))),
         tells x w refl (ap (λ c. c + 1) (sym known)) record {
           before = r.log;
           seen = refl;
@@ -141,7 +141,7 @@ module _ (bounds : Bounds) where
           shown = refl;
           told = refl;
           done = refl;
-          texts = knows_texts s.words r.log r.shelf.texts r.shelf.writer_of id v w (r.shelf.each id v at) refl;
+          texts = knows_texts bounds s.words r.log r.shelf.texts r.shelf.writer_of id v w (r.shelf.each id v at) refl;
           sound = sound_after bounds s r e v.processors v.role (v.mine ++ e ∷ []) changes' r.shelf.texts may.0 (driven.maker bounds.processors) sized may.1 (subst (λ (m : Role). Owns m (v.mine ++ e ∷ []) log') (sym is) mine') (texts_on r.shelf.texts r.log e driven.no_put r.shelf.shelved.cells);
         },
       )
@@ -170,7 +170,7 @@ module _ (bounds : Bounds) where
   -- the rule after a change of a word
   changed : (s : State (Option ℕ) View) (r : Kept bounds s) (id k x : ℕ) (cs : List (ℕ × Option ℕ)) (w : View) (l : Step) → IsTrueOf (now r.log (r.changes + 1)) l → w.done ≡ r.deeds ++ deed Engine l (now r.log (r.changes + 1)) ∷ [] → Agree bounds.processors (set s.words k x) r.log (r.changes + 1) → r.changes + 1 ≤ 4 * bounds.periods → r.engine ≡ id
       → Fits r.log (r.changes + 1) r.seat_of r.reached r.holder r.engine id w
-      → KeepsShelf (set s.words k x) (set s.views id w) r.log (r.deeds ++ deed Engine l (now r.log (r.changes + 1)) ∷ []) → Kept bounds (stepped s k x id cs w keeps)
+      → KeepsShelf bounds (set s.words k x) (set s.views id w) r.log (r.deeds ++ deed Engine l (now r.log (r.changes + 1)) ∷ []) → Kept bounds (stepped s k x id cs w keeps)
   changed s r id k x cs w l is all agree most here fits shelf = record {
     log = r.log;
     changes = r.changes + 1;
@@ -193,7 +193,7 @@ module _ (bounds : Bounds) where
   -- an addition of 1 that is no event
   changes_here : (slots id k : ℕ) (me : Sat) (d : ℕ) (word : ℕ → ℕ) (l : ℕ → Step) (told_of : ℕ → Sat → Type 0) → me.0.processors ≡ bounds.processors → me.0.role ≡ Driver d
       → ((log : List Event) (changes n : ℕ) → n ≡ word changes → IsTrueOf (now log changes) (l n))
-      → (k < 32) ⊎ (608 ≤ k) → ((log : List Event) (texts : List Text) (n : ℕ) → IsTrueWord log texts (l n))
+      → k < 32 → ((log : List Event) (texts : List Text) (n : ℕ) → IsTrueWord log texts (l n))
       → word me.0.changes < 2 ^ 62 → 0 < me.0.changes % 4 → me.0.changes % 4 < 3 → word (me.0.changes + 1) ≡ word me.0.changes + 1
       → ((s : State (Option ℕ) View) (r : Kept bounds s) → (get_or s.words k 0 ≡ word r.changes)
       × ((y : ℕ) → y ≡ word (r.changes + 1) → r.changes ≡ me.0.changes → Agree bounds.processors (set s.words k y) r.log (r.changes + 1)))
@@ -226,8 +226,8 @@ module _ (bounds : Bounds) where
         keeps,
         tt,
         changed s r id k y me.1 w (l (x + 1)) (true_of r.log changes' (x + 1) one) refl ((agrees s r).1 y up (sym known)) (omega (arith, most, known, busy, few)) made.0 fits
-            (let same = same_set s.words k y aside in shelf_deed s.words (set s.words k y) s.views r.log r.deeds id w (deed Engine (l (x + 1)) (now r.log changes')) r.shelf same (no_word r.log r.shelf.texts (x + 1))
-            (fits_all (set s.words k y) r.log r.shelf.texts r.shelf.writer_of id w refl refl refl r.shelf.shelved.cells (writes_on s.words (set s.words k y) r.log r.log r.shelf.writer_of id same (beginning_refl r.log) (λ c. refl) v.right (r.shelf.each id v at).writes))),
+            (let same = same_set bounds s.words k y (omega (arith, aside)) in shelf_deed bounds s.words (set s.words k y) s.views r.log r.deeds id w (deed Engine (l (x + 1)) (now r.log changes')) r.shelf same (length-set s.words k y) (no_word r.log r.shelf.texts (x + 1))
+            (fits_all bounds (set s.words k y) r.log r.shelf.texts r.shelf.writer_of id w refl refl refl r.shelf.shelved.cells (writes_on bounds s.words (set s.words k y) r.log r.log r.shelf.writer_of id same (beginning_refl r.log) (λ c. refl) v.right (r.shelf.each id v at).writes))),
         tells x w (ap (λ c. c + 1) (sym known)) one record {
           processors = refl;
           role = refl;
@@ -239,7 +239,7 @@ module _ (bounds : Bounds) where
           since = f.seen;
           later = omega (arith, known);
           covers = covers_as v.told r.log changes' r.shelf.texts (told_later v.told r.log r.changes changes' (omega arith) f.told);
-          texts = knows_texts s.words r.log r.shelf.texts r.shelf.writer_of id v w (r.shelf.each id v at) refl;
+          texts = knows_texts bounds s.words r.log r.shelf.texts r.shelf.writer_of id v w (r.shelf.each id v at) refl;
           sound = record {
             legal = r.within.legal;
             makers = subst (λ (z : ℕ). All (HasItsMaker z) r.log) (sym sized) r.within.makers;
@@ -252,12 +252,12 @@ module _ (bounds : Bounds) where
 
   pub flips_here : (slots id : ℕ) (me : Sat) (d : ℕ) → me.0.processors ≡ bounds.processors → me.0.role ≡ Driver d → IsBeforeFlip me.0.changes → number_word me.0.changes < 2 ^ 62
       → Allows (Kept bounds) slots id me index_place (λ x. (x + 1) % 2 ^ 64) (flipped (step slots index_place 1 0 none) me)
-  flips_here slots id me d sized is before small = changes_here slots id index_place me d index_word AddIndex (flipped (step slots index_place 1 0 none) me) sized is (λ _ _ _ e. e) (inl (omega arith)) (λ _ _ _. tt) (omega (arith, small, before)) (omega (arith, before)) (omega (arith, before)) (omega (arith, before))
+  flips_here slots id me d sized is before small = changes_here slots id index_place me d index_word AddIndex (flipped (step slots index_place 1 0 none) me) sized is (λ _ _ _ e. e) (omega arith) (λ _ _ _. tt) (omega (arith, small, before)) (omega (arith, before)) (omega (arith, before)) (omega (arith, before))
       (λ s r. (r.words.index, λ y is' same. agrees_flipped bounds.processors s.words r.log r.changes r.words y (reaches_on r.changes r.log (omega (arith, same, before)) (omega (arith, same, before)) r.words.reaches) is' (omega (arith, same, before))))
       (λ n w changes one sees. (refl, changes, sees, one))
 
   pub moves_on_here : (slots id : ℕ) (me : Sat) (d : ℕ) → me.0.processors ≡ bounds.processors → me.0.role ≡ Driver d → IsFlipping me.0.changes → number_word me.0.changes < 2 ^ 62
       → Allows (Kept bounds) slots id me number_place (λ x. (x + 1) % 2 ^ 64) (moved_on (step slots number_place 1 0 none) me)
-  moves_on_here slots id me d sized is flipping small = changes_here slots id number_place me d number_word AddNumber (moved_on (step slots number_place 1 0 none) me) sized is (λ _ _ _ e. e) (inl (omega arith)) (λ _ _ _. tt) small (omega (arith, flipping)) (omega (arith, flipping)) (omega (arith, flipping))
+  moves_on_here slots id me d sized is flipping small = changes_here slots id number_place me d number_word AddNumber (moved_on (step slots number_place 1 0 none) me) sized is (λ _ _ _ e. e) (omega arith) (λ _ _ _. tt) small (omega (arith, flipping)) (omega (arith, flipping)) (omega (arith, flipping))
       (λ s r. (r.words.number, λ y is' same. agrees_numbered bounds.processors s.words r.log r.changes r.words y r.log (reaches_on r.changes r.log (omega (arith, same, flipping)) (omega (arith, same, flipping)) r.words.reaches) (omega (arith, same, flipping)) is' (λ _ _. refl) (λ _ _. refl)))
       (λ n w changes one sees. (refl, changes, sees, one))

@@ -99,9 +99,9 @@ longer_versions : (q k : ℕ) (log : List Event) (c : ℕ) → version_of c (lon
 longer_versions q zero log c = refl
 longer_versions q (suc k) log c = version_kept c (longer q k log) (question q) refl ∙ longer_versions q k log c
 
-longer_shelved : (words : List ℕ) (q k : ℕ) (log : List Event) (texts : List Text) → IsLegal log → AreShelved words log texts → AreShelved words (longer q k log) texts
-longer_shelved words q zero log texts legal h = h
-longer_shelved words q (suc k) log texts legal h = shelved_on words words (longer q k log) texts (question q) (same_shelf words) (longer_legal q k log legal) (may_ask q (longer q k log)) refl (longer_shelved words q k log texts legal h)
+longer_shelved : (bounds : Bounds) (words : List ℕ) (q k : ℕ) (log : List Event) (texts : List Text) → IsLegal log → AreShelved bounds words log texts → AreShelved bounds words (longer q k log) texts
+longer_shelved bounds words q zero log texts legal h = h
+longer_shelved bounds words q (suc k) log texts legal h = shelved_on bounds words words (longer q k log) texts (question q) (same_shelf bounds words) (longer_legal q k log legal) (may_ask q (longer q k log)) refl (longer_shelved bounds words q k log texts legal h)
 
 -- a seat that isn't this processor's knows what it knew
 longer_fits : (log : List Event) (changes : ℕ) (seat_of reached holder : ℕ → ℕ) (engine j q k : ℕ) → ((m : Maker) → seat_at seat_of engine m ≡ j → same_maker (Processor q) m ≡ false)
@@ -192,16 +192,16 @@ module _ (bounds : Bounds) (s : State (Option ℕ) View) (r : Kept bounds s) (q 
       (λ (t : (j ≡ last) × (knowing r.shelf.texts all ≡ d)). subst (λ (z : View). HasDone r.deeds z) t.1 (token_done all))
       (at_snoc rest (knowing r.shelf.texts all) d j e)
 
-  shelf_without : (j : ℕ) (u : View) → FitsShelf s.words r.log r.shelf.texts r.shelf.writer_of j u → (b : Bool) → stands u.role (Processor q) ≡ b → FitsShelf s.words all r.shelf.texts r.shelf.writer_of j (without (Processor q) u)
-  shelf_without j u f true e = subst (λ (z : View). FitsShelf s.words all r.shelf.texts r.shelf.writer_of j z) (sym (ap (λ b. cond b spent u) e)) record { has = refl; told = All-nil (λ m. m.texts ≡ texts_at r.shelf.texts m.history); writes = tt }
-  shelf_without j u f false e = subst (λ (z : View). FitsShelf s.words all r.shelf.texts r.shelf.writer_of j z) (sym (as_before (Processor q) u e))
-      (fits_shelf_on s.words s.words r.log all r.shelf.texts r.shelf.writer_of j (same_shelf s.words) (longer_since q k r.log) (longer_versions q k r.log) u f)
+  shelf_without : (j : ℕ) (u : View) → FitsShelf bounds s.words r.log r.shelf.texts r.shelf.writer_of j u → (b : Bool) → stands u.role (Processor q) ≡ b → FitsShelf bounds s.words all r.shelf.texts r.shelf.writer_of j (without (Processor q) u)
+  shelf_without j u f true e = subst (λ (z : View). FitsShelf bounds s.words all r.shelf.texts r.shelf.writer_of j z) (sym (ap (λ b. cond b spent u) e)) record { has = refl; told = All-nil (λ m. m.texts ≡ texts_at r.shelf.texts m.history); writes = tt }
+  shelf_without j u f false e = subst (λ (z : View). FitsShelf bounds s.words all r.shelf.texts r.shelf.writer_of j z) (sym (as_before (Processor q) u e))
+      (fits_shelf_on bounds s.words s.words r.log all r.shelf.texts r.shelf.writer_of j (same_shelf bounds s.words) (longer_since q k r.log) (longer_versions q k r.log) u f)
 
-  each_shelf : (j : ℕ) (d : View) → get_elem? state.views j ≡ some d → FitsShelf s.words all r.shelf.texts r.shelf.writer_of j d
+  each_shelf : (j : ℕ) (d : View) → get_elem? state.views j ≡ some d → FitsShelf bounds s.words all r.shelf.texts r.shelf.writer_of j d
   each_shelf j d e = ⊎_elim
       (λ (t : (j ≢ last) × (get_elem? rest j ≡ some d)). let (u, at, is) = from_map (without (Processor q)) s.views j d t.1 in
-      subst (λ (z : View). FitsShelf s.words all r.shelf.texts r.shelf.writer_of j z) is (shelf_without j u (r.shelf.each j u at) (stands u.role (Processor q)) refl))
-      (λ (t : (j ≡ last) × (knowing r.shelf.texts all ≡ d)). subst (λ (z : View). FitsShelf s.words all r.shelf.texts r.shelf.writer_of j z) t.1
+      subst (λ (z : View). FitsShelf bounds s.words all r.shelf.texts r.shelf.writer_of j z) is (shelf_without j u (r.shelf.each j u at) (stands u.role (Processor q)) refl))
+      (λ (t : (j ≡ last) × (knowing r.shelf.texts all ≡ d)). subst (λ (z : View). FitsShelf bounds s.words all r.shelf.texts r.shelf.writer_of j z) t.1
       record { has = refl; told = All-nil (λ m. m.texts ≡ texts_at r.shelf.texts m.history); writes = tt })
       (at_snoc rest (knowing r.shelf.texts all) d j e)
 
@@ -226,7 +226,7 @@ module _ (bounds : Bounds) (s : State (Option ℕ) View) (r : Kept bounds s) (q 
     deeds = r.deeds;
     done = done_later r.deeds (now r.log r.changes) (now all r.changes) (record { history = longer_since q k r.log; changes = omega arith }) r.done;
     each_done = each_done;
-    shelf = record { texts = r.shelf.texts; writer_of = r.shelf.writer_of; shelved = longer_shelved s.words q k r.log r.shelf.texts r.within.legal r.shelf.shelved; each = each_shelf; loaded = loaded_later r.deeds r.log all r.shelf.texts (longer_versions q k r.log) r.shelf.loaded };
+    shelf = record { texts = r.shelf.texts; writer_of = r.shelf.writer_of; room = r.shelf.room; shelved = longer_shelved bounds s.words q k r.log r.shelf.texts r.within.legal r.shelf.shelved; each = each_shelf; loaded = loaded_later r.deeds r.log all r.shelf.texts (longer_versions q k r.log) r.shelf.loaded };
   }
 
   -- a seat that isn't that processor's is there as before

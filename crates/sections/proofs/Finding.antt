@@ -98,26 +98,26 @@ found_version h s c x v legal f = let e : Event = Find s c x v f.by in let parts
     let whole = ap (version_of c) f.whole in let is = split.2 in omega (arith, up, whole, is)
 
 -- an open section finds the words of its version
-pub there : (words : List ℕ) (log : List Event) (texts : List Text) (s c x v i : ℕ) → AreShelved words log texts → IsLegal log → IsOpen log s → HasFound log s c x v → c < 4 → x < 8 → i < 16 → get_or words (word_place c x i) 0 ≡ word_of c v i texts
-there words log texts s c x v i h legal is_open f lc lx li = ⊎_elim
+pub there : (bounds : Bounds) (words : List ℕ) (log : List Event) (texts : List Text) (s c x v i : ℕ) → AreShelved bounds words log texts → IsLegal log → IsOpen log s → HasFound log s c x v → c < bounds.cells → x < 8 → i < 16 → get_or words (word_place bounds.processors c x i) 0 ≡ word_of c v i texts
+there bounds words log texts s c x v i h legal is_open f lc lx li = ⊎_elim
     (λ (clear : IsClear log c x). let none = clear.unread s is_open in let some = found_counts log s c x v f in absurd (omega (arith, none, some)))
-    (λ (lies : (i : ℕ) → i < 16 → get_or words (word_place c x i) 0 ≡ word_of c (shelved c x log) i texts). lies i li ∙ ap (λ z. word_of c z i texts) (found_stays log s c x v legal is_open f))
+    (λ (lies : (i : ℕ) → i < 16 → get_or words (word_place bounds.processors c x i) 0 ≡ word_of c (shelved c x log) i texts). lies i li ∙ ap (λ z. word_of c z i texts) (found_stays log s c x v legal is_open f))
     (h.slots c x lc lx)
 
-pub same_cell : (c d : ℕ) → cell_place c ≡ cell_place d → c ≡ d
-same_cell c d e = omega arith
+pub same_cell : (n c d : ℕ) → cell_place n c ≡ cell_place n d → c ≡ d
+same_cell n c d e = omega arith
 
-pub same_slot : (c d x y i j : ℕ) → x < 8 → y < 8 → i < 16 → j < 16 → word_place c x i ≡ word_place d y j → (c ≡ d) × (x ≡ y) × (i ≡ j)
-same_slot c d x y i j lx ly li lj e = (omega (arith, lx, ly, li, lj, e), omega (arith, lx, ly, li, lj, e), omega (arith, lx, ly, li, lj, e))
+pub same_slot : (n c d x y i j : ℕ) → x < 8 → y < 8 → i < 16 → j < 16 → word_place n c x i ≡ word_place n d y j → (c ≡ d) × (x ≡ y) × (i ≡ j)
+same_slot n c d x y i j lx ly li lj e = (omega (arith, lx, ly, li, lj, e), omega (arith, lx, ly, li, lj, e), omega (arith, lx, ly, li, lj, e))
 
-pub cell_there : (n words c k : ℕ) → c < 4 → words ≡ word_count n → k ≡ cell_place c → k < words
+pub cell_there : (n words c k : ℕ) {cells : ℕ} → c < cells → words ≡ word_count n cells → k ≡ cell_place n c → k < words
 cell_there n words c k lc wide place = omega (arith, lc, wide, place)
 
-pub word_there : (n words c x i k : ℕ) → c < 4 → x < 8 → i < 16 → words ≡ word_count n → k ≡ word_place c x i → k < words
+pub word_there : (n words c x i k : ℕ) {cells : ℕ} → c < cells → x < 8 → i < 16 → words ≡ word_count n cells → k ≡ word_place n c x i → k < words
 word_there n words c x i k lc lx li wide place = omega (arith, lc, lx, li, wide, place)
 
 module _ (bounds : Bounds) where
-  pub finds_here : (slots id k : ℕ) (me : Sat) (s p q c : ℕ) (i : Index) → me.0.processors ≡ bounds.processors → me.0.role ≡ Cpu p → p < bounds.processors → me.0.right ≡ Section s q i → c < 4 → k ≡ cell_place c
+  pub finds_here : (slots id k : ℕ) (me : Sat) (s p q c : ℕ) (i : Index) → me.0.processors ≡ bounds.processors → me.0.role ≡ Cpu p → p < bounds.processors → me.0.right ≡ Section s q i → c < bounds.cells → k ≡ cell_place bounds.processors c
       → Allows (Kept bounds) slots id me k (λ x. x) (found (step slots k 0 0 none) me)
   finds_here slots id k me s p q c i sized is lt right lc place = tells_at bounds slots id k me p (λ n. Find s c (n % 16) (n / 16) (Processor p)) (found (step slots k 0 0 none) me) sized is lt
       (λ n. record { by = refl; no_start = refl; no_finish = refl; no_lock = λ _ _. refl; no_unlock = λ _ _ _. refl; no_end = λ _. refl; maker = λ m lt. lt; no_put = refl })
@@ -125,7 +125,7 @@ module _ (bounds : Bounds) where
       (λ st r w changes texts right' adds. let n : ℕ = get_or st.words k 0 in (
         refl,
         right',
-        λ t o u d j is' there' word. let pq : p ≡ o = same_cpu p o (sym is ∙ is') in let st' : s ≡ t = (same_section s t q u i j (sym right ∙ there')).0 in let cd : c ≡ d = same_cell c d (sym place ∙ word) in
+        λ t o u d j is' there' word. let pq : p ≡ o = same_cpu p o (sym is ∙ is') in let st' : s ≡ t = (same_section s t q u i j (sym right ∙ there')).0 in let cd : c ≡ d = same_cell bounds.processors c d (sym place ∙ (word ∙ ap (λ n. cell_place n d) sized)) in
             subst (λ (z : ℕ × ℕ × ℕ). Adds me.0 (Find z.0 z.1 (n % 16) (n / 16) (Processor z.2)) w × IsKnown z.1 (n / 16) w.texts × (n % 16 < 8)) (λ h. (st' h, cd h, pq h)) (
               adds,
               subst (λ (z : List Text). IsKnown c (n / 16) z) (sym texts) (let all = texts_are c r.shelf.texts r.log r.within.legal r.shelf.shelved.cells in let v = version st r in omega (arith, all, v)),
@@ -146,15 +146,15 @@ module _ (bounds : Bounds) where
       version st r = let n = word st r in let low = r.shelf.shelved.low c in omega (arith, n, low)
 
   pub loads_word_here : (slots id k : ℕ) (me : Sat) (m : Maker) (s q c x v i : ℕ) (j : Index) (a b : Moment) → IsMaker me.0.role m → me.0.processors ≡ bounds.processors → me.0.right ≡ Section s q j → me.0.told ≡ a ∷ b ∷ []
-      → HasFound b.history s c x v → c < 4 → x < 8 → i < 16 → k ≡ word_place c x i
+      → HasFound b.history s c x v → c < bounds.cells → x < 8 → i < 16 → k ≡ word_place bounds.processors c x i
       → Allows (Kept bounds) slots id me k (λ x. x) (loaded (step slots k 0 0 none) me)
   loads_word_here slots id k me m s q c x v i j a b is sized right told had lc lx li place = loads_here bounds slots id k me m (λ n _. LoadWord c v i n) (loaded (step slots k 0 0 none) me) is sized
       (λ st r at. (tt, (found_version r.log s c x v r.within.legal (met st r at s x v had), word st r at)))
       (λ st r w at seen changes texts sees. let n : ℕ = get_or st.words k 0 in (
         refl,
         sees.right,
-        λ s' q' c' x' v' i' j' a' b' right' told' found' lc' lx' li' place'.
-            let places = same_slot c c' x x' i i' lx lx' li li' (sym place ∙ place') in
+        λ s' q' c' x' v' i' j' a' b' right' told' found' lx' li' place'.
+            let places = same_slot bounds.processors c c' x x' i i' lx lx' li li' (sym place ∙ (place' ∙ ap (λ n. word_place n c' x' i') sized)) in
             let ss : s ≡ s' = (same_section s s' q q' j j' (sym right ∙ right')).0 in
             let bb : b ≡ b' = second a b a' b' (sym told ∙ told') in
             let again : HasFound b.history s c x v' = subst (λ (z : Moment × ℕ × ℕ × ℕ). HasFound z.0.history z.1 z.2 z.3 v') (λ h. (sym bb h, sym ss h, sym places.0 h, sym places.1 h)) found' in
@@ -174,4 +174,4 @@ module _ (bounds : Bounds) where
           let one = All-head (λ o. GoesOn o (now r.log r.changes)) b [] (All-tail (λ o. GoesOn o (now r.log r.changes)) a (b ∷ []) all) in found_later b.history r.log s c x v one.history f
 
       word : (st : State (Option ℕ) View) (r : Kept bounds st) → get_elem? st.views id ≡ some me.0 → get_or st.words k 0 ≡ word_of c v i r.shelf.texts
-      word st r at = ap (λ z. get_or st.words z 0) place ∙ there st.words r.log r.shelf.texts s c x v i r.shelf.shelved r.within.legal (held st r at).1 (met st r at s x v had) lc lx li
+      word st r at = ap (λ z. get_or st.words z 0) place ∙ there bounds st.words r.log r.shelf.texts s c x v i r.shelf.shelved r.within.legal (held st r at).1 (met st r at s x v had) lc lx li

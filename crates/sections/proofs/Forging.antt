@@ -122,11 +122,11 @@ module _ (bounds : Bounds) (s : State (Option ℕ) View) (r : Kept bounds s) (o 
       (λ (t : (j ≡ last) × (knowing longer ≡ d)). subst (λ (z : View). HasDone longer z) t.1 (record { upto = record { rest = []; whole = sym (append-nil longer) }; own = λ m g. absurd g }))
       (at_snoc (map (taught o longer) s.views) (knowing longer) d j e)
 
-  each_shelf : (j : ℕ) (d : View) → get_elem? views j ≡ some d → FitsShelf s.words r.log r.shelf.texts r.shelf.writer_of j d
+  each_shelf : (j : ℕ) (d : View) → get_elem? views j ≡ some d → FitsShelf bounds s.words r.log r.shelf.texts r.shelf.writer_of j d
   each_shelf j d e = ⊎_elim
       (λ (t : (j ≢ last) × (get_elem? (map (taught o longer) s.views) j ≡ some d)). let (u, at, is) = from_map (taught o longer) s.views j d t.1 in let f = r.shelf.each j u at in
-      subst (λ (z : View). FitsShelf s.words r.log r.shelf.texts r.shelf.writer_of j z) is (record { has = f.has; told = f.told; writes = f.writes }))
-      (λ (t : (j ≡ last) × (knowing longer ≡ d)). subst (λ (z : View). FitsShelf s.words r.log r.shelf.texts r.shelf.writer_of j z) t.1
+      subst (λ (z : View). FitsShelf bounds s.words r.log r.shelf.texts r.shelf.writer_of j z) is (record { has = f.has; told = f.told; writes = f.writes }))
+      (λ (t : (j ≡ last) × (knowing longer ≡ d)). subst (λ (z : View). FitsShelf bounds s.words r.log r.shelf.texts r.shelf.writer_of j z) t.1
       (record { has = refl; told = All-nil (λ m. m.texts ≡ texts_at r.shelf.texts m.history); writes = tt }))
       (at_snoc (map (taught o longer) s.views) (knowing longer) d j e)
 
@@ -146,7 +146,7 @@ module _ (bounds : Bounds) (s : State (Option ℕ) View) (r : Kept bounds s) (o 
     deeds = longer;
     done = done_push r.deeds o l (now r.log r.changes) is r.done;
     each_done = each_done;
-    shelf = record { texts = r.shelf.texts; writer_of = r.shelf.writer_of; shelved = r.shelf.shelved; each = each_shelf; loaded = All-push (λ d. IsTrueWord r.log r.shelf.texts d.step) r.deeds (deed o l (now r.log r.changes)) r.shelf.loaded word };
+    shelf = record { texts = r.shelf.texts; writer_of = r.shelf.writer_of; room = r.shelf.room; shelved = r.shelf.shelved; each = each_shelf; loaded = All-push (λ d. IsTrueWord r.log r.shelf.texts d.step) r.deeds (deed o l (now r.log r.changes)) r.shelf.loaded word };
   }
 
   -- a seat that doesn't stand for that maker is there as before

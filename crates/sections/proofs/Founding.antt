@@ -32,11 +32,12 @@ new_pushed domain processors sections i cpus new count is all k d lt = dite (ℕ
     length_pushed (y ∷ ys) x = let r = length_pushed ys x in omega (arith, r)
 
 -- within the limits no counter comes near 2 ^ 64
-pub small_enough : (processors : ℕ) (limits : Limits) → IsCount processors → AreInRange limits → IsSmall (record { processors = processors; sections = limits.sections; periods = limits.periods })
+pub small_enough : (processors : ℕ) (limits : Limits) → IsCount processors → AreInRange limits → IsSmall (record { processors = processors; sections = limits.sections; periods = limits.periods; cells = limits.cells })
 small_enough processors limits count range = let most = count.1 in let few = range.sections in let product = mul-le-mul most few in record {
   some = count.0;
   processors = omega arith;
   words = record { counters = omega (arith, product); periods = range.periods };
+  cells = range.cells;
 }
 
 pub rests_founding : (bounds : Bounds) (k : ℕ) → IsAtRest (record (founder bounds) { role = Driver k; right = Nothing })

@@ -1,5 +1,5 @@
 -- From what a step tells a seat to what the calls say of it.
-use Rattle.std.proofs.Common.{◌≡◌, ℕ, ◌<◌, ◌≤◌, List, [], ◌∷◌, All, sym, ap, ◌∙◌, subst, arith}
+use Rattle.std.proofs.Common.{◌≡◌, ℕ, ◌<◌, ◌≤◌, ◌%◌, List, [], ◌∷◌, All, sym, ap, ◌∙◌, subst, arith}
 use Rattle.std.proofs.lemmas.List.Elements.{All-head}
 use mathlib.Core.Option.{none}
 use Rattle.atomic_table.specs.Table.{step, Allows}
@@ -20,15 +20,19 @@ use Rattle.sections.specs.Seats.{Covers, Accepts}
 use Rattle.sections.specs.Insides.{IsAtRest}
 use Rattle.sections.proofs.Steps.{admits_here}
 
-pub some_words : (words n : ℕ) → words ≡ word_count n → 0 < words
-some_words words n e = omega arith
+pub some_words : (words n cells : ℕ) → words ≡ word_count n cells → 0 < words
+some_words words n cells e = omega (arith, e)
 
-pub two_words : (words n : ℕ) → words ≡ word_count n → 16 < words
-two_words words n e = omega arith
+pub two_words : (words n cells : ℕ) → words ≡ word_count n cells → 16 < words
+two_words words n cells e = omega (arith, e)
 
 -- a domain's table has one number of processors
-pub same_count : (words n m : ℕ) → words ≡ word_count n → words ≡ word_count m → n ≡ m
-same_count words n m a b = omega arith
+pub same_count : (words n m : ℕ) {cells others : ℕ} → words ≡ word_count n cells → words ≡ word_count m others → cells ≤ 4 → others ≤ 4 → n ≡ m
+same_count words n m e f few other = omega (arith, e, f, few, other)
+
+-- and of cells
+pub cells_are : (words n : ℕ) {cells : ℕ} → words ≡ word_count n cells → cells ≤ 4 → words % 16 ≡ cells
+cells_are words n e few = omega (arith, e, few)
 
 pub covers_from : (n : ℕ) (v o j w : View) → o.right ≡ Nothing → j ≡ informed v (bearer o) → Sees (LoadIndex n) j w → n ≡ index_word w.changes → ((k : ℕ) → j.role ≡ Driver k → w.changes ≡ j.changes) → Covers v o w
 covers_from n v o j w free joined h current driven = let l : Sees (LoadIndex n) (informed v (bearer o)) w = subst (λ (z : View). Sees (LoadIndex n) z w) joined h in record {

@@ -34,7 +34,7 @@ module _ (bounds : Bounds) where
   -- the same words and history, and other views
   reviewed : (s : State (Option ℕ) View) (r : Kept bounds s) (views : List View) (seat_of reached holder : ℕ → ℕ) → ((p : ℕ) → reached p ≤ r.changes) → ((j : ℕ) (d : View) → get_elem? views j ≡ some d → Fits r.log r.changes seat_of reached holder r.engine j d)
       → ((j : ℕ) (d : View) → get_elem? views j ≡ some d → HasDone r.deeds d)
-      → (writer_of : ℕ → ℕ) → ((j : ℕ) (d : View) → get_elem? views j ≡ some d → FitsShelf s.words r.log r.shelf.texts writer_of j d)
+      → (writer_of : ℕ → ℕ) → ((j : ℕ) (d : View) → get_elem? views j ≡ some d → FitsShelf bounds s.words r.log r.shelf.texts writer_of j d)
       → Kept bounds record { words = s.words; homes = s.homes; views = views }
   reviewed s r views seat_of reached holder known each each_done writer_of each_shelf = record {
     log = r.log;
@@ -51,7 +51,7 @@ module _ (bounds : Bounds) where
     deeds = r.deeds;
     done = r.done;
     each_done = each_done;
-    shelf = record { texts = r.shelf.texts; writer_of = writer_of; shelved = r.shelf.shelved; each = each_shelf; loaded = r.shelf.loaded };
+    shelf = record { texts = r.shelf.texts; writer_of = writer_of; room = r.shelf.room; shelved = r.shelf.shelved; each = each_shelf; loaded = r.shelf.loaded };
   }
 
   pub gives_token : (id : ℕ) (v : View) → Splits (Kept bounds) id v (lacking v) (bearer v)
@@ -61,10 +61,10 @@ module _ (bounds : Bounds) where
       record { seen = f.seen; knows = known_before r.log r.changes r.seat_of r.reached r.holder r.engine id v.role v.changes f.knows; told = All-nil (λ m. GoesOn m (now r.log r.changes)); makes = tt; has = moved_has r.log r.changes r.seat_of r.reached r.holder r.engine id m v.right f.has; shown = tt }
       (λ j d ne e. reheld r.log r.changes r.seat_of r.reached r.holder holder' r.engine j (moved_else r.log r.changes r.seat_of r.reached r.holder r.engine id m v.right f.has j ne) d (r.each_view j d e)))
       (views_split (λ _ u. HasDone r.deeds u) s.views id v (lacking v) (bearer v) at (has_done_as r.deeds v (lacking v) refl refl (r.each_done id v at)) (has_done_none r.deeds (bearer v) refl refl) (λ j u _ e. r.each_done j u e))
-      (moved_pen v.right m r.shelf.writer_of) (let g = r.shelf.each id v at in let P : ℕ → View → Type 0 = FitsShelf s.words r.log r.shelf.texts (moved_pen v.right m r.shelf.writer_of) in views_split P s.views id v (lacking v) (bearer v) at
+      (moved_pen v.right m r.shelf.writer_of) (let g = r.shelf.each id v at in let P : ℕ → View → Type 0 = FitsShelf bounds s.words r.log r.shelf.texts (moved_pen v.right m r.shelf.writer_of) in views_split P s.views id v (lacking v) (bearer v) at
       record { has = g.has; told = g.told; writes = tt }
-      record { has = g.has; told = All-nil (λ x. x.texts ≡ texts_at r.shelf.texts x.history); writes = moved_writes s.words r.log r.shelf.writer_of id m v.right g.writes }
-      (λ j d ne e. fits_shelf_as s.words r.log r.shelf.texts r.shelf.writer_of (moved_pen v.right m r.shelf.writer_of) j (moved_pen_else s.words r.log r.shelf.writer_of id m v.right g.writes j ne) d (r.shelf.each j d e)))
+      record { has = g.has; told = All-nil (λ x. x.texts ≡ texts_at r.shelf.texts x.history); writes = moved_writes bounds s.words r.log r.shelf.writer_of id m v.right g.writes }
+      (λ j d ne e. fits_shelf_as bounds s.words r.log r.shelf.texts r.shelf.writer_of (moved_pen v.right m r.shelf.writer_of) j (moved_pen_else bounds s.words r.log r.shelf.writer_of id m v.right g.writes j ne) d (r.shelf.each j d e)))
 
   -- two seats become one, which takes over the right of the other
   joined : (id : ℕ) (v : View) (other : ℕ) (w both : View) → both.role ≡ v.role → both.mine ≡ v.mine → both.done ≡ v.done → both.right ≡ w.right → both.seen ≡ v.seen → both.texts ≡ v.texts → ((P : Moment → Type 0) → All P v.told → P (moment_of w) → All P both.told)
@@ -93,15 +93,15 @@ module _ (bounds : Bounds) where
       (at_set s.views id j both d e)))
       (views_set (λ _ u. HasDone r.deeds u) (set s.views id both) other spent (has_done_none r.deeds spent refl refl)
       (λ j u _ e. views_set (λ _ z. HasDone r.deeds z) s.views id both (has_done_as r.deeds v both same_role same_done (r.each_done id v at)) (λ i z _ h. r.each_done i z h) j u e))
-      (moved_pen w.right id r.shelf.writer_of) (let a = r.shelf.each id v at in let b = r.shelf.each other w was in let P : ℕ → View → Type 0 = FitsShelf s.words r.log r.shelf.texts (moved_pen w.right id r.shelf.writer_of) in
+      (moved_pen w.right id r.shelf.writer_of) (let a = r.shelf.each id v at in let b = r.shelf.each other w was in let P : ℕ → View → Type 0 = FitsShelf bounds s.words r.log r.shelf.texts (moved_pen w.right id r.shelf.writer_of) in
       let mine : P id both = record {
         has = same_texts ∙ (a.has ∙ ap (texts_at r.shelf.texts) (sym same_seen));
         told = tells (λ x. x.texts ≡ texts_at r.shelf.texts x.history) a.told b.has;
-        writes = subst (λ (t : Right). Writes s.words r.log (moved_pen w.right id r.shelf.writer_of) id t) (sym same_right) (moved_writes s.words r.log r.shelf.writer_of other id w.right b.writes);
+        writes = subst (λ (t : Right). Writes bounds s.words r.log (moved_pen w.right id r.shelf.writer_of) id t) (sym same_right) (moved_writes bounds s.words r.log r.shelf.writer_of other id w.right b.writes);
       } in
       views_set P (set s.views id both) other spent record { has = refl; told = All-nil (λ x. x.texts ≡ texts_at r.shelf.texts x.history); writes = tt }
       (λ j d ne e. ⊎_elim (λ (t : (j ≡ id) × (both ≡ d)). subst (λ (x : ℕ × View). P x.0 x.1) (λ i. (sym t.0 i, t.1 i)) mine)
-      (λ (t : (j ≢ id) × (get_elem? s.views j ≡ some d)). fits_shelf_as s.words r.log r.shelf.texts r.shelf.writer_of (moved_pen w.right id r.shelf.writer_of) j (moved_pen_else s.words r.log r.shelf.writer_of other id w.right b.writes j ne) d (r.shelf.each j d t.1))
+      (λ (t : (j ≢ id) × (get_elem? s.views j ≡ some d)). fits_shelf_as bounds s.words r.log r.shelf.texts r.shelf.writer_of (moved_pen w.right id r.shelf.writer_of) j (moved_pen_else bounds s.words r.log r.shelf.writer_of other id w.right b.writes j ne) d (r.shelf.each j d t.1))
       (at_set s.views id j both d e)))
 
   pub takes_token : (id : ℕ) (v : View) (other : ℕ) (w : View) → Joins (Kept bounds) id v other w (informed v w) spent
@@ -131,7 +131,7 @@ module _ (bounds : Bounds) where
       record { seen = f.seen; knows = known_before r.log r.changes r.seat_of r.reached r.holder r.engine id v.role v.changes f.knows; told = All-nil (λ m. GoesOn m (now r.log r.changes)); makes = tt; has = tt; shown = is }
       (λ j d ne e. reached_more r.log r.changes r.seat_of r.reached reached' r.holder r.engine j more d (λ p cpu. keep j d p e cpu) (r.each_view j d e)))
       (views_split (λ _ u. HasDone r.deeds u) s.views id v v (shower v) at (r.each_done id v at) (has_done_none r.deeds (shower v) refl refl) (λ j u _ e. r.each_done j u e))
-      r.shelf.writer_of (let g = r.shelf.each id v at in views_split (FitsShelf s.words r.log r.shelf.texts r.shelf.writer_of) s.views id v v (shower v) at g
+      r.shelf.writer_of (let g = r.shelf.each id v at in views_split (FitsShelf bounds s.words r.log r.shelf.texts r.shelf.writer_of) s.views id v v (shower v) at g
       record { has = g.has; told = All-nil (λ x. x.texts ≡ texts_at r.shelf.texts x.history); writes = tt } (λ j d _ e. r.shelf.each j d e))
 
   -- what is known of a processor it has seen
@@ -214,7 +214,7 @@ module _ (bounds : Bounds) where
       record { upto = g.upto; own = λ n h. g.own n (still_stands k v.role n is h) }
       record { upto = g.upto; own = λ n h. g.own n (stood_before k v.role n is h) }
       (λ j u _ e. r.each_done j u e))
-      r.shelf.writer_of (let g = r.shelf.each id v at in views_split (FitsShelf s.words r.log r.shelf.texts r.shelf.writer_of) s.views id v (dealer v) (dealt v) at
+      r.shelf.writer_of (let g = r.shelf.each id v at in views_split (FitsShelf bounds s.words r.log r.shelf.texts r.shelf.writer_of) s.views id v (dealer v) (dealt v) at
       record { has = g.has; told = g.told; writes = g.writes } record { has = g.has; told = All-nil (λ x. x.texts ≡ texts_at r.shelf.texts x.history); writes = tt } (λ j d _ e. r.shelf.each j d e))
     where
       fewer : (k : ℕ) (n : Maker) → StandsFor (Driver (k + 1)) n → StandsFor (Driver k) n
@@ -231,12 +231,12 @@ module _ (bounds : Bounds) where
       stood_before k role n is h = subst (λ (z : Role). StandsFor z n) (sym is) (next_one k n (subst (λ (z : Role). StandsFor (next_role z) n) is h))
 
   -- the seat of the next cell's writer
-  pub deals_pen : (id : ℕ) (v : View) (c : ℕ) → v.right ≡ Undealt c → c < 4 → Splits (Kept bounds) id v (pen_dealer v) (pen_dealt v)
+  pub deals_pen : (id : ℕ) (v : View) (c : ℕ) → v.right ≡ Undealt c → c < bounds.cells → Splits (Kept bounds) id v (pen_dealer v) (pen_dealt v)
   deals_pen id v c is lc s r at =
       let f = r.each_view id v at in
       let g = r.shelf.each id v at in
       let m : ℕ = length s.views in
-      let undealt : Writes s.words r.log r.shelf.writer_of id (Undealt c) = subst (λ (t : Right). Writes s.words r.log r.shelf.writer_of id t) is g.writes in
+      let undealt : Writes bounds s.words r.log r.shelf.writer_of id (Undealt c) = subst (λ (t : Right). Writes bounds s.words r.log r.shelf.writer_of id t) is g.writes in
       let writer' : ℕ → ℕ = given c m r.shelf.writer_of in
       let first = undealt c (omega arith) in
       reviewed s r (set s.views id (pen_dealer v) ++ pen_dealt v ∷ []) r.seat_of r.reached r.holder r.known (views_split (Fits r.log r.changes r.seat_of r.reached r.holder r.engine) s.views id v (pen_dealer v) (pen_dealt v) at
@@ -244,12 +244,12 @@ module _ (bounds : Bounds) where
       record { seen = f.seen; knows = known_before r.log r.changes r.seat_of r.reached r.holder r.engine id v.role v.changes f.knows; told = All-nil (λ x. GoesOn x (now r.log r.changes)); makes = tt; has = subst (λ (t : Right). Has r.log r.changes r.seat_of r.reached r.holder r.engine m (next_cell t)) (sym is) tt; shown = tt }
       (λ j d _ e. r.each_view j d e))
       (views_split (λ _ u. HasDone r.deeds u) s.views id v (pen_dealer v) (pen_dealt v) at (has_done_as r.deeds v (pen_dealer v) refl refl (r.each_done id v at)) (has_done_none r.deeds (pen_dealt v) refl refl) (λ j u _ e. r.each_done j u e))
-      writer' (views_split (FitsShelf s.words r.log r.shelf.texts writer') s.views id v (pen_dealer v) (pen_dealt v) at
-      record { has = g.has; told = g.told; writes = subst (λ (t : Right). Writes s.words r.log writer' id (without_cell t)) (sym is) (λ d le. let n = undealt d (omega (arith, le)) in record { writer = given_else c m r.shelf.writer_of d (λ e. omega (arith, e, le)) ∙ n.writer; unput = n.unput; zeros = n.zeros }) }
+      writer' (views_split (FitsShelf bounds s.words r.log r.shelf.texts writer') s.views id v (pen_dealer v) (pen_dealt v) at
+      record { has = g.has; told = g.told; writes = subst (λ (t : Right). Writes bounds s.words r.log writer' id (without_cell t)) (sym is) (λ d le. let n = undealt d (omega (arith, le)) in record { writer = given_else c m r.shelf.writer_of d (λ e. omega (arith, e, le)) ∙ n.writer; unput = n.unput; zeros = n.zeros }) }
       record {
         has = g.has;
         told = All-nil (λ x. x.texts ≡ texts_at r.shelf.texts x.history);
-        writes = subst (λ (t : Right). Writes s.words r.log writer' m (next_cell t)) (sym is) record {
+        writes = subst (λ (t : Right). Writes bounds s.words r.log writer' m (next_cell t)) (sym is) record {
           writer = given_here c m r.shelf.writer_of;
           cell = lc;
           upto = beginning_empty r.log;
@@ -258,7 +258,7 @@ module _ (bounds : Bounds) where
           stored = λ x i lx li. first.zeros x i lc lx li ∙ sym (get_or-replicate 128 (16 * x + i) 0 0 (omega (arith, lx, li)));
         };
       }
-      (λ j d ne e. fits_shelf_as s.words r.log r.shelf.texts r.shelf.writer_of writer' j (λ b h. given_else c m r.shelf.writer_of b (λ bc. ne (sym h ∙ (ap r.shelf.writer_of bc ∙ first.writer))) ∙ h) d (r.shelf.each j d e)))
+      (λ j d ne e. fits_shelf_as bounds s.words r.log r.shelf.texts r.shelf.writer_of writer' j (λ b h. given_else c m r.shelf.writer_of b (λ bc. ne (sym h ∙ (ap r.shelf.writer_of bc ∙ first.writer))) ∙ h) d (r.shelf.each j d e)))
 
   first_view : (j : ℕ) (d : View) → get_elem? (founder bounds ∷ []) j ≡ some d → Fits [] 0 (λ _. 0) (λ _. 0) (λ _. 0) 0 j d
   first_view zero d e = subst (λ (v : View). Fits [] 0 (λ _. 0) (λ _. 0) (λ _. 0) 0 0 v) (some-injective (founder bounds) d e) record {
@@ -275,12 +275,12 @@ module _ (bounds : Bounds) where
   first_done zero d e = subst (λ (v : View). HasDone [] v) (some-injective (founder bounds) d e) record { upto = upto_empty []; own = λ m _. refl }
   first_done (suc j) d e = absurd (some-ne-none d (sym e))
 
-  first_shelf : (words : List ℕ) → ((k : ℕ) → get_or words k 0 ≡ 0) → (j : ℕ) (d : View) → get_elem? (founder bounds ∷ []) j ≡ some d → FitsShelf words [] [] (λ _. 0) j d
-  first_shelf words zeros zero d e = subst (λ (v : View). FitsShelf words [] [] (λ _. 0) 0 v) (some-injective (founder bounds) d e) record { has = refl; told = All-nil (λ x. x.texts ≡ texts_at [] x.history); writes = λ c _. record { writer = refl; unput = refl; zeros = λ x i _ _ _. zeros (word_place c x i) } }
+  first_shelf : (words : List ℕ) → ((k : ℕ) → get_or words k 0 ≡ 0) → (j : ℕ) (d : View) → get_elem? (founder bounds ∷ []) j ≡ some d → FitsShelf bounds words [] [] (λ _. 0) j d
+  first_shelf words zeros zero d e = subst (λ (v : View). FitsShelf bounds words [] [] (λ _. 0) 0 v) (some-injective (founder bounds) d e) record { has = refl; told = All-nil (λ x. x.texts ≡ texts_at [] x.history); writes = λ c _. record { writer = refl; unput = refl; zeros = λ x i _ _ _. zeros (word_place bounds.processors c x i) } }
   first_shelf words zeros (suc j) d e = absurd (some-ne-none d (sym e))
 
   -- a table whose words are all 0 has an empty history
-  pub opens : (words : List ℕ) → length words ≡ word_count bounds.processors → ((k : ℕ) → get_or words k 0 ≡ 0) → AreSmall bounds → Kept bounds (opening words [] (founder bounds))
+  pub opens : (words : List ℕ) → length words ≡ word_count bounds.processors bounds.cells → ((k : ℕ) → get_or words k 0 ≡ 0) → AreSmall bounds → Kept bounds (opening words [] (founder bounds))
   opens words wide zeros small = record {
     log = [];
     changes = 0;
@@ -291,10 +291,10 @@ module _ (bounds : Bounds) where
     engine = 0;
     small = small;
     within = record { legal = tt; makers = All-nil (HasItsMaker bounds.processors); limited = λ p i. omega arith; periods = omega arith };
-    words = agrees_new bounds.processors words wide zeros;
+    words = agrees_new bounds.processors words (omega (arith, wide)) zeros;
     each_view = first_view;
     deeds = [];
     done = record { words = All-nil (λ d. IsTrueOf d.at d.step); ordered = tt; until = All-nil (λ d. GoesOn d.at (now [] 0)) };
     each_done = first_done;
-    shelf = record { texts = []; writer_of = λ _. 0; shelved = shelved_new words zeros; each = first_shelf words zeros; loaded = All-nil (λ d. IsTrueWord [] [] d.step) };
+    shelf = record { texts = []; writer_of = λ _. 0; room = wide; shelved = shelved_new bounds words zeros; each = first_shelf words zeros; loaded = All-nil (λ d. IsTrueWord [] [] d.step) };
   }

@@ -1,5 +1,5 @@
 -- Each step of a processor keeps the rule.
-use Rattle.std.proofs.Common.{◌≡◌, ℕ, ◌+◌, ◌*◌, ◌%◌, ◌^◌, ◌<◌, ◌≤◌, ◌≢◌, Bool, true, false, cond, eqb, ltb, ◌&&◌, nat_le, List, [], ◌∷◌, ◌++◌, All, Option, None, inr, get_or, set, refl, sym, ap, ◌∙◌, subst, eq-eqb, ne_eqb, lt-ltb, le-ltb, leb-true, le-leb, arith}
+use Rattle.std.proofs.Common.{length-set, ◌≡◌, ℕ, ◌+◌, ◌*◌, ◌%◌, ◌^◌, ◌<◌, ◌≤◌, ◌≢◌, Bool, true, false, cond, eqb, ltb, ◌&&◌, nat_le, List, [], ◌∷◌, ◌++◌, All, Option, None, inr, get_or, set, refl, sym, ap, ◌∙◌, subst, eq-eqb, ne_eqb, lt-ltb, le-ltb, leb-true, le-leb, arith}
 use Rattle.std.proofs.lemmas.List.Elements.{All-nil, All-head}
 use mathlib.Core.Logic.{dite}
 use mathlib.Core.Option.{none, some}
@@ -34,7 +34,7 @@ use Rattle.sections.specs.declared.view.Deed.{Deed}
 use Rattle.sections.specs.Rule.{HasItsMaker, HasReached, GoesOn, IsTrueOf, IsMaker, HasDone, Makes, Has, Knows, Fits, Kept}
 use Rattle.sections.specs.Shelves.{put_cell, texts_at, IsStart, AreTextsOf, FitsShelf, IsTrueWord, KeepsShelf}
 use Rattle.sections.specs.Plays.{Owns, IsSound, Sees, Admits, Adds, Sat, looked, admitted, began, ended, FindsNumber, noted, asked}
-use Rattle.sections.proofs.Counters.{index_number_same, locks_push, elsewhere, locks_mine, All-push, unlocks_bounded}
+use Rattle.sections.proofs.Counters.{index_low, index_number_same, locks_push, elsewhere, locks_mine, All-push, unlocks_bounded}
 use Rattle.sections.proofs.Agreement.{agrees_begun, agrees_ended, agrees_plain}
 use Rattle.sections.proofs.Shelving.{start_between, IsSameShelf, same_shelf, same_set, texts_on, writes_event, shelf_event, shelf_deed, knows_texts, fits_all}
 use Rattle.sections.proofs.Deeds.{cpu_makes, stands_at, maker_at, deed, done_later, done_push, has_done_push, has_done_all, has_done_as, one_more_step}
@@ -121,7 +121,7 @@ module _ (bounds : Bounds) where
 
   -- a load changes no word, and its seat has then seen all
   unmoved : (s : State (Option ℕ) View) (r : Kept bounds s) (k id : ℕ) (cs : List (ℕ × Option ℕ)) (w : View) (by : Maker) (l : Step) → IsTrueOf (now r.log r.changes) l → seat_at r.seat_of r.engine by ≡ id → w.done ≡ r.deeds ++ deed by l (now r.log r.changes) ∷ [] → Fits r.log r.changes r.seat_of r.reached r.holder r.engine id w
-      → IsTrueWord r.log r.shelf.texts l → FitsShelf s.words r.log r.shelf.texts r.shelf.writer_of id w → Kept bounds (stepped s k (get_or s.words k 0) id cs w keeps)
+      → IsTrueWord r.log r.shelf.texts l → FitsShelf bounds s.words r.log r.shelf.texts r.shelf.writer_of id w → Kept bounds (stepped s k (get_or s.words k 0) id cs w keeps)
   unmoved s r k id cs w by l is here all fits word fits_shelf = subst (λ (ws : List ℕ). Kept bounds record { words = ws; homes = s.homes; views = set s.views id w }) (sym (set-get_or s.words k 0)) record {
     log = r.log;
     changes = r.changes;
@@ -137,7 +137,7 @@ module _ (bounds : Bounds) where
     deeds = r.deeds ++ deed by l (now r.log r.changes) ∷ [];
     done = done_push r.deeds by l (now r.log r.changes) is r.done;
     each_done = each_more s r id (deed by l (now r.log r.changes)) w here all;
-    shelf = shelf_deed s.words s.words s.views r.log r.deeds id w (deed by l (now r.log r.changes)) r.shelf (same_shelf s.words) word fits_shelf;
+    shelf = shelf_deed bounds s.words s.words s.views r.log r.deeds id w (deed by l (now r.log r.changes)) r.shelf (same_shelf bounds s.words) refl word fits_shelf;
   }
 
   -- what the seat is told by such a load, it may be told whatever the table is
@@ -157,7 +157,7 @@ module _ (bounds : Bounds) where
           makes = f.makes;
           has = f.has;
           shown = f.shown;
-        } (true_of s r at).1 (fits_all s.words r.log r.shelf.texts r.shelf.writer_of id w refl refl refl r.shelf.shelved.cells (r.shelf.each id v at).writes),
+        } (true_of s r at).1 (fits_all bounds s.words r.log r.shelf.texts r.shelf.writer_of id w refl refl refl r.shelf.shelved.cells (r.shelf.each id v at).writes),
         tells s r w at refl refl refl record {
           processors = refl;
           role = refl;
@@ -169,7 +169,7 @@ module _ (bounds : Bounds) where
           since = f.seen;
           later = known_before r.log r.changes r.seat_of r.reached r.holder r.engine id v.role v.changes f.knows;
           covers = covers_as v.told r.log r.changes r.shelf.texts f.told;
-          texts = knows_texts s.words r.log r.shelf.texts r.shelf.writer_of id v w (r.shelf.each id v at) refl;
+          texts = knows_texts bounds s.words r.log r.shelf.texts r.shelf.writer_of id v w (r.shelf.each id v at) refl;
           sound = record {
             legal = r.within.legal;
             makers = subst (λ (z : ℕ). All (HasItsMaker z) r.log) (sym sized) r.within.makers;
@@ -260,7 +260,7 @@ module _ (bounds : Bounds) where
       → ((t : ℕ) → IsOpen r.log t → holder' t ≡ r.holder t)
       → Fits (r.log ++ e ∷ []) changes' r.seat_of r.reached holder' r.engine id w
       → (v : View) → get_elem? s.views id ≡ some v → w.role ≡ v.role → w.done ≡ v.done
-      → KeepsShelf (set s.words k x) (set s.views id w) (r.log ++ e ∷ []) r.deeds
+      → KeepsShelf bounds (set s.words k x) (set s.views id w) (r.log ++ e ∷ []) r.deeds
       → Kept bounds (stepped s k x id cs w keeps)
   added s r id k x cs w e changes' holder' may made agree forth most same_changes limited other ended_here same fits v at role done shelf = record {
     log = r.log ++ e ∷ [];
@@ -291,7 +291,7 @@ module _ (bounds : Bounds) where
       → ((t : ℕ) → IsOpen r.log t → holder' t ≡ r.holder t)
       → Fits (r.log ++ e ∷ []) r.changes r.seat_of r.reached holder' r.engine id w
       → (v : View) → get_elem? s.views id ≡ some v → w.role ≡ v.role → w.done ≡ v.done
-      → KeepsShelf (set s.words k x) (set s.views id w) (r.log ++ e ∷ []) r.deeds
+      → KeepsShelf bounds (set s.words k x) (set s.views id w) (r.log ++ e ∷ []) r.deeds
       → Kept bounds (stepped s k x id cs w keeps)
   happened s r id k x cs w e holder' may made agree limited other ended_here same fits v at role done shelf = let most = r.within.periods in added s r id k x cs w e r.changes holder' may made agree (omega arith) most (λ _ _ _. refl) limited other ended_here same fits v at role done shelf
 
@@ -352,8 +352,8 @@ module _ (bounds : Bounds) where
             (λ u no_end. absurd (false≠true no_end))
             (λ u is_open. given_else t id r.holder u (λ ut. let begun : 0 < begins_of t r.log = subst (λ (z : ℕ). 0 < begins_of z r.log) ut is_open.0 in let unbegun = new.1 in omega (arith, begun, unbegun)))
             fits v at refl refl
-            (shelf_event s.words (set s.words k y) s.views r.log r.deeds id w e r.shelf (same_set s.words k y (inr (omega (arith, place)))) r.within.legal new.1 refl
-            (fits_all (set s.words k y) log' r.shelf.texts r.shelf.writer_of id w refl refl refl (texts_on r.shelf.texts r.log e refl r.shelf.shelved.cells) tt)),
+            (shelf_event bounds s.words (set s.words k y) s.views r.log r.deeds id w e r.shelf (same_set bounds s.words k y (let low = index_low i in omega (arith, place, lt, low))) (length-set s.words k y) r.within.legal new.1 refl
+            (fits_all bounds (set s.words k y) log' r.shelf.texts r.shelf.writer_of id w refl refl refl (texts_on r.shelf.texts r.log e refl r.shelf.shelved.cells) tt)),
         (
           refl,
           λ q j is' word. let pq : p ≡ q = same_cpu p q (sym is ∙ is') in let ij : i ≡ j = same_lock p q i j pq (sym place ∙ word) in
@@ -371,7 +371,7 @@ module _ (bounds : Bounds) where
                   shown = refl;
                   told = refl;
                   done = refl;
-                  texts = knows_texts s.words r.log r.shelf.texts r.shelf.writer_of id v w (r.shelf.each id v at) refl;
+                  texts = knows_texts bounds s.words r.log r.shelf.texts r.shelf.writer_of id v w (r.shelf.each id v at) refl;
                   sound = sound_after s r e v.processors v.role (v.mine ++ e ∷ []) r.changes r.shelf.texts new.1 (lt, refl) sized agree.reaches (subst (λ (m : Role). Owns m (v.mine ++ e ∷ []) log') (sym is) mine') (texts_on r.shelf.texts r.log e refl r.shelf.shelved.cells);
                 },
                 refl,
@@ -451,8 +451,8 @@ module _ (bounds : Bounds) where
             (λ u hit. ap r.holder (sym (hits t u hit)) ∙ has.0)
             (λ u _. refl)
             fits v at refl refl
-            (shelf_event s.words (set s.words k y) s.views r.log r.deeds id w e r.shelf (same_set s.words k y (inr (omega (arith, place)))) r.within.legal has.1 refl
-            (fits_all (set s.words k y) log' r.shelf.texts r.shelf.writer_of id w refl refl refl (texts_on r.shelf.texts r.log e refl r.shelf.shelved.cells) tt)),
+            (shelf_event bounds s.words (set s.words k y) s.views r.log r.deeds id w e r.shelf (same_set bounds s.words k y (let low = index_low i in omega (arith, place, lt, low))) (length-set s.words k y) r.within.legal has.1 refl
+            (fits_all bounds (set s.words k y) log' r.shelf.texts r.shelf.writer_of id w refl refl refl (texts_on r.shelf.texts r.log e refl r.shelf.shelved.cells) tt)),
         (
           refl,
           refl,
@@ -469,7 +469,7 @@ module _ (bounds : Bounds) where
               shown = refl;
               told = refl;
               done = refl;
-              texts = knows_texts s.words r.log r.shelf.texts r.shelf.writer_of id v w (r.shelf.each id v at) refl;
+              texts = knows_texts bounds s.words r.log r.shelf.texts r.shelf.writer_of id v w (r.shelf.each id v at) refl;
               sound = sound_after s r e v.processors v.role (v.mine ++ e ∷ []) r.changes r.shelf.texts has.1 (lt, refl) sized agree.reaches (subst (λ (m : Role). Owns m (v.mine ++ e ∷ []) log') (sym is) mine') (texts_on r.shelf.texts r.log e refl r.shelf.shelved.cells);
             },
             λ oc. let qp : q ≡ p = qc ∙ (sym oc ∙ sym same.1) in (λ h. begins_of (sym same.0 h) v.mine) ∙ (ap (begins_of t) (made.1 ∙ (λ h. made_by (Processor (qp h)) r.log)) ∙ has.3),
@@ -522,9 +522,9 @@ module _ (bounds : Bounds) where
             (λ u hit. absurd (false≠true (sym (t.no_end u) ∙ hit)))
             (λ u _. refl)
             fits v at refl refl
-            (let same : IsSameShelf s.words (set s.words k n) = subst (λ (ws : List ℕ). IsSameShelf s.words ws) (sym (set-get_or s.words k 0)) (same_shelf s.words) in shelf_event s.words (set s.words k n) s.views r.log r.deeds id w e r.shelf same r.within.legal may t.no_put
-            (fits_all (set s.words k n) log' r.shelf.texts r.shelf.writer_of id w refl refl refl (texts_on r.shelf.texts r.log e t.no_put r.shelf.shelved.cells)
-            (writes_event s.words (set s.words k n) r.log e r.shelf.writer_of id same t.no_put v.right (r.shelf.each id v at).writes))),
+            (let same : IsSameShelf bounds s.words (set s.words k n) = subst (λ (ws : List ℕ). IsSameShelf bounds s.words ws) (sym (set-get_or s.words k 0)) (same_shelf bounds s.words) in shelf_event bounds s.words (set s.words k n) s.views r.log r.deeds id w e r.shelf same (length-set s.words k n) r.within.legal may t.no_put
+            (fits_all bounds (set s.words k n) log' r.shelf.texts r.shelf.writer_of id w refl refl refl (texts_on r.shelf.texts r.log e t.no_put r.shelf.shelved.cells)
+            (writes_event bounds s.words (set s.words k n) r.log e r.shelf.writer_of id same t.no_put v.right (r.shelf.each id v at).writes))),
         tells s r w refl refl refl record {
           before = r.log;
           seen = refl;
@@ -537,7 +537,7 @@ module _ (bounds : Bounds) where
           shown = refl;
           told = refl;
           done = refl;
-          texts = knows_texts s.words r.log r.shelf.texts r.shelf.writer_of id v w (r.shelf.each id v at) refl;
+          texts = knows_texts bounds s.words r.log r.shelf.texts r.shelf.writer_of id v w (r.shelf.each id v at) refl;
           sound = sound_after s r e v.processors v.role (v.mine ++ e ∷ []) r.changes r.shelf.texts may (t.maker bounds.processors lt) sized agree.reaches (subst (λ (m : Role). Owns m (v.mine ++ e ∷ []) log') (sym is) mine') (texts_on r.shelf.texts r.log e t.no_put r.shelf.shelved.cells);
         },
       )

@@ -25,11 +25,11 @@ use Rattle.sections.specs.declared.view.Step.TheVariants.{LoadIndex, LoadUnlocks
 use Rattle.sections.specs.declared.view.Deed.{Deed}
 use Rattle.sections.specs.declared.view.Text.{Text}
 use Rattle.sections.specs.declared.view.View.{View}
-use Rattle.sections.specs.Words.{cell_place, word_place, Agree}
+use Rattle.sections.specs.Words.{cells_from, cell_place, word_place, Agree}
 use Rattle.sections.specs.Shelves.{put_cell, put_cells, texts_of, blank_words, word_of, slot_words, texts_at, IsStart, AreTextsOf, Lies, AreShelved, HasShelf, Writes, FitsShelf, IsTrueWord, KeepsShelf}
 use Rattle.sections.specs.Rule.{GoesOn, Makes, Fits, Kept}
 use Rattle.sections.specs.Plays.{Owns, Adds, Keeps, EndsWithText, ComesFrom, Sat, put, refreshed, stored}
-use Rattle.sections.proofs.Counters.{locks_push}
+use Rattle.sections.proofs.Counters.{index_low, locks_push}
 use Rattle.sections.proofs.Agreement.{agrees_plain}
 use Rattle.sections.proofs.Knowing.{now, covers_as, views_set, known_before, knows_all, false≠true}
 use Rattle.sections.proofs.Shelving.{texts_all, start_at, fewer_puts, fits_all}
@@ -85,14 +85,14 @@ shelved_low c x h legal = along (λ l. shelved c x l ≤ version_of c l) (omega 
 
 -- Words
 
-agree_aside : (n : ℕ) (words : List ℕ) (log : List Event) (changes k y : ℕ) → 32 ≤ k → k < 608 → Agree n words log changes → Agree n (set words k y) log changes
-agree_aside n words log changes k y low high r = record {
-  wide = length-set words k y ∙ r.wide;
+agree_aside : (n : ℕ) (words : List ℕ) (log : List Event) (changes k y : ℕ) → cells_from n ≤ k → Agree n words log changes → Agree n (set words k y) log changes
+agree_aside n words log changes k y low r = record {
+  wide = let l = length-set words k y in let w = r.wide in omega (arith, l, w);
   reaches = r.reaches;
   index = get_or-set_other words k 0 y 0 (λ h. omega (arith, h, low)) ∙ r.index;
   number = get_or-set_other words k 16 y 0 (λ h. omega (arith, h, low)) ∙ r.number;
-  lock_counters = λ p i lt. get_or-set_other words k _ y 0 (λ h. omega (arith, h, high)) ∙ r.lock_counters p i lt;
-  unlock_counters = λ q i lt. get_or-set_other words k _ y 0 (λ h. omega (arith, h, high)) ∙ r.unlock_counters q i lt;
+  lock_counters = λ p i lt. get_or-set_other words k _ y 0 (λ h. let a = index_low i in omega (arith, h, low, lt, a)) ∙ r.lock_counters p i lt;
+  unlock_counters = λ q i lt. get_or-set_other words k _ y 0 (λ h. let a = index_low i in omega (arith, h, low, lt, a)) ∙ r.unlock_counters q i lt;
 }
 
 -- the words of the cells and slots but for one
@@ -157,7 +157,7 @@ same_next c x own own' h h' e = ap (λ l. 16 * (version_of c l + 1) + x) (same_s
 
 -- A version is put
 
-module _ (words : List ℕ) (views : List View) (log : List Event) (changes : ℕ) (deeds : List Deed) (k : KeepsShelf words views log deeds) (legal : IsLegal log) (id c : ℕ) (own : List ℕ) (h : List Event) (has : HasShelf words log k.writer_of id c own h) (inside : cell_place c < length words)
+module _ (bounds : Bounds) (words : List ℕ) (views : List View) (log : List Event) (changes : ℕ) (deeds : List Deed) (k : KeepsShelf bounds words views log deeds) (legal : IsLegal log) (id c : ℕ) (own : List ℕ) (h : List Event) (has : HasShelf bounds words log k.writer_of id c own h) (inside : cell_place bounds.processors c < length words)
     (each_seen : (j : ℕ) (v : View) → get_elem? views j ≡ some v → IsBeginning v.seen log) (each_told : (j : ℕ) (v : View) → get_elem? views j ≡ some v → All (λ m. GoesOn m (now log changes)) v.told)
     (x y v : ℕ) (by : Maker) (lx : x < 8) (may : MayFollow log (Put c x v by)) (is : y ≡ 16 * v + x) where
   abbrev text : Text
@@ -173,7 +173,7 @@ module _ (words : List ℕ) (views : List View) (log : List Event) (changes : �
   longer = log ++ event ∷ []
 
   abbrev after : List ℕ
-  after = set words (cell_place c) y
+  after = set words (cell_place bounds.processors c) y
 
   start : IsStart k.texts texts
   start = record { rest = text ∷ []; whole = refl }
@@ -181,8 +181,8 @@ module _ (words : List ℕ) (views : List View) (log : List Event) (changes : �
   long : (d : ℕ) → length (texts_of d k.texts) ≡ version_of d log
   long d = texts_are d k.texts log legal k.shelved.cells
 
-  word_same : (d z i : ℕ) → d < 4 → z < 8 → i < 16 → get_or after (word_place d z i) 0 ≡ get_or words (word_place d z i) 0
-  word_same d z i ld lz li = set_else words (cell_place c) y (word_place d z i) (λ e. omega (arith, e, lz, li))
+  word_same : (d z i : ℕ) → d < bounds.cells → z < 8 → i < 16 → get_or after (word_place bounds.processors d z i) 0 ≡ get_or words (word_place bounds.processors d z i) 0
+  word_same d z i ld lz li = set_else words (cell_place bounds.processors c) y (word_place bounds.processors d z i) (λ e. omega (arith, e, lz, li))
 
   other_cell : (d : ℕ) → d ≢ c → eqb c d ≡ false
   other_cell d n = ne_eqb c d (λ e. n (sym e))
@@ -190,34 +190,34 @@ module _ (words : List ℕ) (views : List View) (log : List Event) (changes : �
   pub put_cells_are : AreTextsOf texts longer
   put_cells_are = map-append (λ t. t.cell) k.texts (text ∷ []) ∙ (ap (λ l. l ++ c ∷ []) k.shelved.cells ∙ sym (filter_map-append put_cell log (event ∷ [])))
 
-  lies_still : (d z : ℕ) → d < 4 → z < 8 → puts d z event ≡ false → Lies words log k.texts d z → Lies after longer texts d z
+  lies_still : (d z : ℕ) → d < bounds.cells → z < 8 → puts d z event ≡ false → Lies bounds words log k.texts d z → Lies bounds after longer texts d z
   lies_still d z ld lz miss l = ⊎_elim
       (λ (clear : IsClear log d z). inl (clear_until_put log event d z legal may miss clear))
-      (λ (lies : (i : ℕ) → i < 16 → get_or words (word_place d z i) 0 ≡ word_of d (shelved d z log) i k.texts). inr (λ i li.
+      (λ (lies : (i : ℕ) → i < 16 → get_or words (word_place bounds.processors d z i) 0 ≡ word_of d (shelved d z log) i k.texts). inr (λ i li.
       word_same d z i ld lz li ∙ (lies i li ∙ sym (ap (λ n. word_of d n i texts) (shelved_kept d z log event miss) ∙ ap (λ ws. get_or ws i 0) (words_stay d (shelved d z log) k.texts texts start (let a = shelved_low d z log legal in let b = long d in omega (arith, a, b)))))))
       l
 
-  lies_there : Lies after longer texts c x
+  lies_there : Lies bounds after longer texts c x
   lies_there = inr (λ i li. word_same c x i has.cell lx li ∙ (has.stored x i lx li ∙ sym (ap (λ n. word_of c n i texts) (shelved_put c x v by log) ∙ (ap (λ n. word_of c n i texts) may.1 ∙ put_word c (version_of c log) x i own k.texts (long c) li))))
 
-  put_shelved : AreShelved after longer texts
+  put_shelved : AreShelved bounds after longer texts
   put_shelved = record {
     cells = put_cells_are;
     low = λ d. dite (ℕ_discrete d c)
         (λ e. subst (λ (z : ℕ). slot_of z longer < 8) (sym e) (let s = slot_put c x v by log in omega (arith, s, lx)))
         (λ n. let s = slot_kept d log event (other_cell d n) in let l = k.shelved.low d in omega (arith, s, l));
     current = λ d ld. dite (ℕ_discrete d c)
-        (λ e. subst (λ (z : ℕ). get_or after (cell_place z) 0 ≡ 16 * version_of z longer + slot_of z longer) (sym e)
-        (let a = get_or-set_same words (cell_place c) y 0 inside in let b = version_put c x v by log in let s = slot_put c x v by log in omega (arith, a, b, s, is)))
-        (λ n. let a = set_else words (cell_place c) y (cell_place d) (λ e. n (same_cell d c e)) in let b = version_kept d log event (other_cell d n) in let s = slot_kept d log event (other_cell d n) in let o = k.shelved.current d ld in omega (arith, a, b, s, o));
+        (λ e. subst (λ (z : ℕ). get_or after (cell_place bounds.processors z) 0 ≡ 16 * version_of z longer + slot_of z longer) (sym e)
+        (let a = get_or-set_same words (cell_place bounds.processors c) y 0 inside in let b = version_put c x v by log in let s = slot_put c x v by log in omega (arith, a, b, s, is)))
+        (λ n. let a = set_else words (cell_place bounds.processors c) y (cell_place bounds.processors d) (λ e. n (same_cell bounds.processors d c e)) in let b = version_kept d log event (other_cell d n) in let s = slot_kept d log event (other_cell d n) in let o = k.shelved.current d ld in omega (arith, a, b, s, o));
     slots = λ d z ld lz. dite (ℕ_discrete d c)
         (λ e. dite (ℕ_discrete z x)
-        (λ f. subst (λ (p : ℕ × ℕ). Lies after longer texts p.0 p.1) (λ i. (sym e i, sym f i)) lies_there)
+        (λ f. subst (λ (p : ℕ × ℕ). Lies bounds after longer texts p.0 p.1) (λ i. (sym e i, sym f i)) lies_there)
         (λ f. lies_still d z ld lz (ap (λ b. eqb c d && b) (ne_eqb x z (λ g. f (sym g))) ∙ and_false (eqb c d)) (k.shelved.slots d z ld lz)))
         (λ n. lies_still d z ld lz (ap (λ b. b && eqb x z) (other_cell d n)) (k.shelved.slots d z ld lz));
   }
 
-  others_write : (j : ℕ) → j ≢ id → (t : Right) → Writes words log k.writer_of j t → Writes after longer k.writer_of j t
+  others_write : (j : ℕ) → j ≢ id → (t : Right) → Writes bounds words log k.writer_of j t → Writes bounds after longer k.writer_of j t
   others_write j ne Nothing w = tt
   others_write j ne (Section s p i) w = tt
   others_write j ne (Shelf d mine seen) w = let other : d ≢ c = λ e. ne (sym w.writer ∙ (ap k.writer_of e ∙ has.writer)) in record {
@@ -237,7 +237,7 @@ module _ (words : List ℕ) (views : List View) (log : List Event) (changes : �
   texts_before : (seen : List Event) (known : List Text) → IsBeginning seen log → known ≡ texts_at k.texts seen → known ≡ texts_at texts seen
   texts_before seen known b is = is ∙ sym (take-append-le (length (put_cells seen)) k.texts (text ∷ []) (let a = fewer_puts seen log b in let n = count_texts k.texts log k.shelved.cells in omega (arith, a, n)))
 
-  others_fit : (j : ℕ) (d : View) → j ≢ id → get_elem? views j ≡ some d → FitsShelf after longer texts k.writer_of j d
+  others_fit : (j : ℕ) (d : View) → j ≢ id → get_elem? views j ≡ some d → FitsShelf bounds after longer texts k.writer_of j d
   others_fit j d ne at = let f = k.each j d at in record {
     has = texts_before d.seen d.texts (each_seen j d at) f.has;
     told = all_two (λ m. GoesOn m (now log changes)) (λ m. m.texts ≡ texts_at k.texts m.history) (λ m. m.texts ≡ texts_at texts m.history) (λ m g e. texts_before m.history m.texts g.history e) d.told (each_told j d at) f.told;
@@ -255,16 +255,17 @@ module _ (words : List ℕ) (views : List View) (log : List Event) (changes : �
     t.1 ∙ sym (ap (λ ws. get_or ws i 0) (words_stay d n k.texts texts start (let b = long d in omega (arith, low, b)))),
   )
 
-  pub shelf_put : (w : View) → w.texts ≡ texts → w.seen ≡ longer → w.told ≡ [] → w.right ≡ Shelf c own longer → KeepsShelf after (set views id w) longer deeds
+  pub shelf_put : (w : View) → w.texts ≡ texts → w.seen ≡ longer → w.told ≡ [] → w.right ≡ Shelf c own longer → KeepsShelf bounds after (set views id w) longer deeds
   shelf_put w same seen untold right = record {
     texts = texts;
     writer_of = k.writer_of;
+    room = length-set words (cell_place bounds.processors c) y ∙ k.room;
     shelved = put_shelved;
-    each = views_set (FitsShelf after longer texts k.writer_of) views id w
+    each = views_set (FitsShelf bounds after longer texts k.writer_of) views id w
         record {
           has = same ∙ (texts_all texts longer put_cells_are ∙ ap (texts_at texts) (sym seen));
           told = subst (λ (l : List Moment). All (λ m. m.texts ≡ texts_at texts m.history) l) (sym untold) (All-nil (λ m. m.texts ≡ texts_at texts m.history));
-          writes = subst (λ (t : Right). Writes after longer k.writer_of id t) (sym right) record {
+          writes = subst (λ (t : Right). Writes bounds after longer k.writer_of id t) (sym right) record {
             writer = has.writer;
             cell = has.cell;
             upto = beginning_refl longer;
@@ -282,31 +283,31 @@ module _ (words : List ℕ) (views : List View) (log : List Event) (changes : �
   start_of seen known e = let s = start_at (length (put_cells seen)) k.texts in record { rest = s.rest ++ text ∷ []; whole = ap (λ l. l ++ text ∷ []) s.whole ∙ (append_assoc (texts_at k.texts seen) s.rest (text ∷ []) ∙ ap (λ l. l ++ (s.rest ++ text ∷ [])) (sym e)) }
 
 module _ (bounds : Bounds) where
-  pub puts_here : (slots id k y : ℕ) (me : Sat) (p c x : ℕ) (own : List ℕ) (h : List Event) → me.0.processors ≡ bounds.processors → me.0.role ≡ Cpu p → p < bounds.processors → me.0.right ≡ Shelf c own h → IsClear h c x → x < 8 → k ≡ cell_place c → y ≡ 16 * (version_of c h + 1) + x
+  pub puts_here : (slots id k y : ℕ) (me : Sat) (p c x : ℕ) (own : List ℕ) (h : List Event) → me.0.processors ≡ bounds.processors → me.0.role ≡ Cpu p → p < bounds.processors → me.0.right ≡ Shelf c own h → IsClear h c x → x < 8 → k ≡ cell_place bounds.processors c → y ≡ 16 * (version_of c h + 1) + x
       → Allows (Kept bounds) slots id me k (λ _. y) (λ _. put (step slots k y 0 none) me y)
   puts_here slots id k y me p c x own h sized is lt right clear lx place value s r _ at _ =
       let v : View = me.0 in
       let f = r.each_view id v at in
       let made : Makes r.log r.changes r.seat_of r.reached r.holder r.engine id (Cpu p) v.mine = subst (λ (m : Role). Makes r.log r.changes r.seat_of r.reached r.holder r.engine id m v.mine) is f.makes in
-      let has : HasShelf s.words r.log r.shelf.writer_of id c own h = subst (λ (t : Right). Writes s.words r.log r.shelf.writer_of id t) right (r.shelf.each id v at).writes in
+      let has : HasShelf bounds s.words r.log r.shelf.writer_of id c own h = subst (λ (t : Right). Writes bounds s.words r.log r.shelf.writer_of id t) right (r.shelf.each id v at).writes in
       let e : Event = Put c x (version_of c h + 1) (Processor p) in
       let all = has.all in
       let next : version_of c h + 1 ≡ version_of c r.log + 1 = omega (arith, all) in
       let lc = has.cell in
       let may : MayFollow r.log e = (clear_quiet c x h r.log has.upto r.within.legal has.all clear, next) in
       let log' : List Event = r.log ++ e ∷ [] in
-      let wide = r.words.wide in
-      let agree : Agree bounds.processors (set s.words k y) log' r.changes = agree_aside bounds.processors s.words log' r.changes k y (omega (arith, place)) (omega (arith, place, lc)) (agrees_plain bounds.processors s.words r.log r.changes r.words e refl refl (λ _ _. refl) (λ _ _. refl)) in
+      let wide = r.shelf.room in
+      let agree : Agree bounds.processors (set s.words k y) log' r.changes = agree_aside bounds.processors s.words log' r.changes k y (omega (arith, place)) (agrees_plain bounds.processors s.words r.log r.changes r.words e refl refl (λ _ _. refl) (λ _ _. refl)) in
       let mine' : v.mine ++ e ∷ [] ≡ made_by (Processor p) log' = ap (λ l. l ++ e ∷ []) made.1 ∙ sym (made_by_own (Processor p) r.log e (same_maker_refl (Processor p))) in
       let texts' : List Text = r.shelf.texts ++ record { cell = c; words = slot_words x own } ∷ [] in
-      let inside : cell_place c < length s.words = omega (arith, wide, lc) in
+      let inside : cell_place bounds.processors c < length s.words = omega (arith, wide, lc) in
       let w : View = record { processors = v.processors; role = v.role; mine = v.mine ++ e ∷ []; seen = log'; changes = r.changes; texts = texts'; told = []; right = Shelf c own log'; shown = v.shown; done = v.done } in
       let seen_each : (j : ℕ) (u : View) → get_elem? s.views j ≡ some u → IsBeginning u.seen r.log = λ j u e. (r.each_view j u e).seen in
       let told_each : (j : ℕ) (u : View) → get_elem? s.views j ≡ some u → All (λ m. GoesOn m (now r.log r.changes)) u.told = λ j u e. (r.each_view j u e).told in
-      let shelf : KeepsShelf (set s.words k y) (set s.views id w) log' r.deeds = subst (λ (z : ℕ). KeepsShelf (set s.words z y) (set s.views id w) log' r.deeds) (sym place)
-      (shelf_put s.words s.views r.log r.changes r.deeds r.shelf r.within.legal id c own h has inside seen_each told_each x y (version_of c h + 1) (Processor p) lx may value w refl refl refl refl) in
+      let shelf : KeepsShelf bounds (set s.words k y) (set s.views id w) log' r.deeds = subst (λ (z : ℕ). KeepsShelf bounds (set s.words z y) (set s.views id w) log' r.deeds) (sym place)
+      (shelf_put bounds s.words s.views r.log r.changes r.deeds r.shelf r.within.legal id c own h has inside seen_each told_each x y (version_of c h + 1) (Processor p) lx may value w refl refl refl refl) in
       let g = r.shelf.each id v at in
-      let start : (seen : List Event) (known : List Text) → known ≡ texts_at r.shelf.texts seen → IsStart known texts' = start_of s.words s.views r.log r.changes r.deeds r.shelf r.within.legal id c own h has inside seen_each told_each x y (version_of c h + 1) (Processor p) lx may value in (
+      let start : (seen : List Event) (known : List Text) → known ≡ texts_at r.shelf.texts seen → IsStart known texts' = start_of bounds s.words s.views r.log r.changes r.deeds r.shelf r.within.legal id c own h has inside seen_each told_each x y (version_of c h + 1) (Processor p) lx may value in (
         w,
         keeps,
         tt,
@@ -350,7 +351,7 @@ module _ (bounds : Bounds) where
                     covers = All-weaker (λ m. m.texts ≡ texts_at r.shelf.texts m.history) (λ m. IsStart m.texts texts') (λ m i. start m.history m.texts i) v.told g.told;
                   };
                   sound = sound_after bounds s r e v.processors v.role (v.mine ++ e ∷ []) r.changes texts' may lt sized agree.reaches (subst (λ (m : Role). Owns m (v.mine ++ e ∷ []) log') (sym is) mine')
-                      (put_cells_are s.words s.views r.log r.changes r.deeds r.shelf r.within.legal id c own h has inside seen_each told_each x y (version_of c h + 1) (Processor p) lx may value);
+                      (put_cells_are bounds s.words s.views r.log r.changes r.deeds r.shelf r.within.legal id c own h has inside seen_each told_each x y (version_of c h + 1) (Processor p) lx may value);
                 },
                 refl,
                 record { before = r.shelf.texts; whole = refl },
@@ -364,7 +365,7 @@ module _ (bounds : Bounds) where
 module _ (bounds : Bounds) where
   -- the same history and steps, where one word of a cell or slot may have changed
   remains : (s : State (Option ℕ) View) (r : Kept bounds s) (id : ℕ) (words : List ℕ) (v w : View) → get_elem? s.views id ≡ some v → w.role ≡ v.role → w.done ≡ v.done → Agree bounds.processors words r.log r.changes
-      → Fits r.log r.changes r.seat_of r.reached r.holder r.engine id w → KeepsShelf words (set s.views id w) r.log r.deeds
+      → Fits r.log r.changes r.seat_of r.reached r.holder r.engine id w → KeepsShelf bounds words (set s.views id w) r.log r.deeds
       → Kept bounds record { words = words; homes = s.homes; views = set s.views id w }
   remains s r id words v w at role done agree fits shelf = record {
     log = r.log;
@@ -398,7 +399,7 @@ module _ (bounds : Bounds) where
     shown = f.shown;
   }
 
-  seeing_keeps : (s : State (Option ℕ) View) (r : Kept bounds s) (id : ℕ) (v : View) (c : ℕ) (own own' : List ℕ) (h : List Event) → get_elem? s.views id ≡ some v → HasShelf s.words r.log r.shelf.writer_of id c own h → Keeps c h v (seeing s r v (Shelf c own' r.log))
+  seeing_keeps : (s : State (Option ℕ) View) (r : Kept bounds s) (id : ℕ) (v : View) (c : ℕ) (own own' : List ℕ) (h : List Event) → get_elem? s.views id ≡ some v → HasShelf bounds s.words r.log r.shelf.writer_of id c own h → Keeps c h v (seeing s r v (Shelf c own' r.log))
   seeing_keeps s r id v c own own' h at has = let f = r.each_view id v at in record {
     processors = refl;
     role = refl;
@@ -414,8 +415,8 @@ module _ (bounds : Bounds) where
     legal = r.within.legal;
   }
 
-  has_shelf : (s : State (Option ℕ) View) (r : Kept bounds s) (id : ℕ) (v : View) (c : ℕ) (own : List ℕ) (h : List Event) → get_elem? s.views id ≡ some v → v.right ≡ Shelf c own h → HasShelf s.words r.log r.shelf.writer_of id c own h
-  has_shelf s r id v c own h at right = subst (λ (t : Right). Writes s.words r.log r.shelf.writer_of id t) right (r.shelf.each id v at).writes
+  has_shelf : (s : State (Option ℕ) View) (r : Kept bounds s) (id : ℕ) (v : View) (c : ℕ) (own : List ℕ) (h : List Event) → get_elem? s.views id ≡ some v → v.right ≡ Shelf c own h → HasShelf bounds s.words r.log r.shelf.writer_of id c own h
+  has_shelf s r id v c own h at right = subst (λ (t : Right). Writes bounds s.words r.log r.shelf.writer_of id t) right (r.shelf.each id v at).writes
 
   -- load of the cell
   pub refreshes_here : (slots id k : ℕ) (me : Sat) (c : ℕ) (own : List ℕ) (h : List Event) → me.0.right ≡ Shelf c own h → Allows (Kept bounds) slots id me k (λ x. x) (refreshed (step slots k 0 0 none) me)
@@ -424,12 +425,13 @@ module _ (bounds : Bounds) where
       let has = has_shelf s r id v c own h at right in
       let w : View = seeing s r v (Shelf c own r.log) in
       let K = r.shelf in
-      let shelf : KeepsShelf s.words (set s.views id w) r.log r.deeds = record {
+      let shelf : KeepsShelf bounds s.words (set s.views id w) r.log r.deeds = record {
         texts = K.texts;
         writer_of = K.writer_of;
+        room = K.room;
         shelved = K.shelved;
-        each = views_set (FitsShelf s.words r.log K.texts K.writer_of) s.views id w
-            (fits_all s.words r.log K.texts K.writer_of id w refl refl refl K.shelved.cells record { writer = has.writer; cell = has.cell; upto = beginning_refl r.log; all = refl; long = has.long; stored = has.stored })
+        each = views_set (FitsShelf bounds s.words r.log K.texts K.writer_of) s.views id w
+            (fits_all bounds s.words r.log K.texts K.writer_of id w refl refl refl K.shelved.cells record { writer = has.writer; cell = has.cell; upto = beginning_refl r.log; all = refl; long = has.long; stored = has.stored })
             (λ j d _ e. K.each j d e);
         loaded = K.loaded;
       } in (
@@ -445,7 +447,7 @@ module _ (bounds : Bounds) where
       )
 
   -- store of a word of a slot
-  pub stores_here : (slots id k y : ℕ) (me : Sat) (c x i : ℕ) (own : List ℕ) (h : List Event) → me.0.right ≡ Shelf c own h → IsClear h c x → x < 8 → i < 16 → k ≡ word_place c x i → Allows (Kept bounds) slots id me k (λ _. y) (λ _. stored (step slots k y 0 none) me y)
+  pub stores_here : (slots id k y : ℕ) (me : Sat) (c x i : ℕ) (own : List ℕ) (h : List Event) → me.0.right ≡ Shelf c own h → IsClear h c x → x < 8 → i < 16 → k ≡ word_place bounds.processors c x i → Allows (Kept bounds) slots id me k (λ _. y) (λ _. stored bounds.processors (step slots k y 0 none) me y)
   stores_here slots id k y me c x i own h right clear lx li place s r _ at _ =
       let v : View = me.0 in
       let has = has_shelf s r id v c own h at right in
@@ -453,38 +455,38 @@ module _ (bounds : Bounds) where
       let own' : List ℕ = set own (16 * x + i) y in
       let w : View = seeing s r v (Shelf c own' r.log) in
       let K = r.shelf in
-      let wide = r.words.wide in
+      let wide = K.room in
       let long = has.long in
       let after : List ℕ = set s.words k y in
       let now_clear : IsClear r.log c x = clear_quiet c x h r.log has.upto r.within.legal has.all clear in
-      let low : 32 ≤ k = omega (arith, place) in
-      let high : k < 608 = omega (arith, place, lc, lx, li) in
-      let else_word : (d z j : ℕ) → d < 4 → z < 8 → j < 16 → ((d ≡ c) × (z ≡ x) × (j ≡ i) → ⊥) → get_or after (word_place d z j) 0 ≡ get_or s.words (word_place d z j) 0 =
-      λ d z j ld lz lj ne. set_else s.words k y (word_place d z j) (λ e. ne (same_slot d c z x j i lz lx lj li (e ∙ place))) in
-      let shelf : KeepsShelf after (set s.views id w) r.log r.deeds = record {
+      let low : cells_from bounds.processors ≤ k = omega (arith, place) in
+      let else_word : (d z j : ℕ) → d < bounds.cells → z < 8 → j < 16 → ((d ≡ c) × (z ≡ x) × (j ≡ i) → ⊥) → get_or after (word_place bounds.processors d z j) 0 ≡ get_or s.words (word_place bounds.processors d z j) 0 =
+      λ d z j ld lz lj ne. set_else s.words k y (word_place bounds.processors d z j) (λ e. ne (same_slot bounds.processors d c z x j i lz lx lj li (e ∙ place))) in
+      let shelf : KeepsShelf bounds after (set s.views id w) r.log r.deeds = record {
         texts = K.texts;
         writer_of = K.writer_of;
+        room = length-set s.words k y ∙ K.room;
         shelved = record {
           cells = K.shelved.cells;
           low = K.shelved.low;
-          current = λ d ld. set_else s.words k y (cell_place d) (λ e. omega (arith, e, place, lx, li)) ∙ K.shelved.current d ld;
+          current = λ d ld. set_else s.words k y (cell_place bounds.processors d) (λ e. omega (arith, e, place, lx, li)) ∙ K.shelved.current d ld;
           slots = λ d z ld lz. dite (ℕ_discrete d c)
               (λ e. dite (ℕ_discrete z x)
               (λ f. inl (subst (λ (n : ℕ × ℕ). IsClear r.log n.0 n.1) (λ m. (sym e m, sym f m)) now_clear))
               (λ f. lies_else s.words after r.log K.texts d z (λ j lj. else_word d z j ld lz lj (λ n. f n.1)) (K.shelved.slots d z ld lz)))
               (λ n. lies_else s.words after r.log K.texts d z (λ j lj. else_word d z j ld lz lj (λ q. n q.0)) (K.shelved.slots d z ld lz));
         };
-        each = views_set (FitsShelf after r.log K.texts K.writer_of) s.views id w
-            (fits_all after r.log K.texts K.writer_of id w refl refl refl K.shelved.cells record {
+        each = views_set (FitsShelf bounds after r.log K.texts K.writer_of) s.views id w
+            (fits_all bounds after r.log K.texts K.writer_of id w refl refl refl K.shelved.cells record {
               writer = has.writer;
               cell = has.cell;
               upto = beginning_refl r.log;
               all = refl;
               long = length-set own (16 * x + i) y ∙ has.long;
               stored = λ z j lz lj. dite (ℕ_discrete (16 * z + j) (16 * x + i))
-                  (λ e. ap (λ n. get_or after n 0) (let n : word_place c z j ≡ k = omega (arith, e, place) in n)
-                  ∙ (get_or-set_same s.words k y 0 (omega (arith, wide, high)) ∙ sym (ap (λ n. get_or own' n 0) e ∙ get_or-set_same own (16 * x + i) y 0 (omega (arith, long, lx, li)))))
-                  (λ n. set_else s.words k y (word_place c z j) (λ e. n (omega (arith, e, place))) ∙ (has.stored z j lz lj ∙ sym (get_or-set_other own (16 * x + i) (16 * z + j) y 0 n)));
+                  (λ e. ap (λ n. get_or after n 0) (let n : word_place bounds.processors c z j ≡ k = omega (arith, e, place) in n)
+                  ∙ (get_or-set_same s.words k y 0 (omega (arith, wide, place, lc, lx, li)) ∙ sym (ap (λ n. get_or own' n 0) e ∙ get_or-set_same own (16 * x + i) y 0 (omega (arith, long, lx, li)))))
+                  (λ n. set_else s.words k y (word_place bounds.processors c z j) (λ e. n (omega (arith, e, place))) ∙ (has.stored z j lz lj ∙ sym (get_or-set_other own (16 * x + i) (16 * z + j) y 0 n)));
             })
             (λ j d ne e. let f = K.each j d e in record { has = f.has; told = f.told; writes = others_keep s.words after r.log K.writer_of j (λ d t at_j. ne (sym at_j ∙ (ap K.writer_of t ∙ has.writer))) (λ d z m nd ld lz lm. else_word d z m ld lz lm (λ q. nd q.0)) d.right f.writes });
         loaded = K.loaded;
@@ -492,23 +494,23 @@ module _ (bounds : Bounds) where
         w,
         keeps,
         tt,
-        remains s r id after v w at refl refl (agree_aside bounds.processors s.words r.log r.changes k y low high r.words) (seeing_fits s r id v c own' at) shelf,
+        remains s r id after v w at refl refl (agree_aside bounds.processors s.words r.log r.changes k y low r.words) (seeing_fits s r id v c own' at) shelf,
         (
           refl,
           λ d z j mine h' right' lz lj word.
               let same = same_shelf_right c d own mine h h' (sym right ∙ right') in
-              let places = same_slot c d x z i j lx lz li lj (sym place ∙ word) in
+              let places = same_slot bounds.processors c d x z i j lx lz li lj (sym place ∙ word) in
               subst (λ (n : ℕ × ℕ × ℕ × List ℕ × List Event). Keeps n.0 n.4 v w × (w.right ≡ Shelf n.0 (set n.3 (16 * n.1 + n.2) y) w.seen) × IsClear w.seen n.0 n.1) (λ m. (same.0 m, places.1 m, places.2 m, same.1 m, same.2 m))
               (seeing_keeps s r id v c own own' h at has, refl, now_clear),
         ),
       )
     where
-      lies_else : (words after : List ℕ) (log : List Event) (texts : List Text) (d z : ℕ) → ((j : ℕ) → j < 16 → get_or after (word_place d z j) 0 ≡ get_or words (word_place d z j) 0) → Lies words log texts d z → Lies after log texts d z
+      lies_else : (words after : List ℕ) (log : List Event) (texts : List Text) (d z : ℕ) → ((j : ℕ) → j < 16 → get_or after (word_place bounds.processors d z j) 0 ≡ get_or words (word_place bounds.processors d z j) 0) → Lies bounds words log texts d z → Lies bounds after log texts d z
       lies_else words after log texts d z same l = ⊎_elim (λ (clear : IsClear log d z). inl clear)
-          (λ (lies : (j : ℕ) → j < 16 → get_or words (word_place d z j) 0 ≡ word_of d (shelved d z log) j texts). inr (λ j lj. same j lj ∙ lies j lj)) l
+          (λ (lies : (j : ℕ) → j < 16 → get_or words (word_place bounds.processors d z j) 0 ≡ word_of d (shelved d z log) j texts). inr (λ j lj. same j lj ∙ lies j lj)) l
 
-      others_keep : (words after : List ℕ) (log : List Event) (writer_of : ℕ → ℕ) (j : ℕ) → ((d : ℕ) → d ≡ c → writer_of d ≡ j → ⊥) → ((d z m : ℕ) → d ≢ c → d < 4 → z < 8 → m < 16 → get_or after (word_place d z m) 0 ≡ get_or words (word_place d z m) 0)
-          → (t : Right) → Writes words log writer_of j t → Writes after log writer_of j t
+      others_keep : (words after : List ℕ) (log : List Event) (writer_of : ℕ → ℕ) (j : ℕ) → ((d : ℕ) → d ≡ c → writer_of d ≡ j → ⊥) → ((d z m : ℕ) → d ≢ c → d < bounds.cells → z < 8 → m < 16 → get_or after (word_place bounds.processors d z m) 0 ≡ get_or words (word_place bounds.processors d z m) 0)
+          → (t : Right) → Writes bounds words log writer_of j t → Writes bounds after log writer_of j t
       others_keep words after log writer_of j apart same Nothing w = tt
       others_keep words after log writer_of j apart same (Section s p i) w = tt
       others_keep words after log writer_of j apart same (Shelf d mine seen) w = record {

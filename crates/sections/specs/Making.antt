@@ -24,18 +24,19 @@ pub record IsSmall (bounds : Bounds) : Type 0 where
   pub some : 1 ≤ bounds.processors
   pub processors : bounds.processors ≤ 256
   pub words : AreSmall bounds
+  pub cells : bounds.cells ≤ 4
 
 -- the seat is the engine's and that of the processors from k on, and nothing has happened
 pub record IsFounder (bounds key : Bounds) (table : TableId) (k : ℕ) (seat : DomainSeat) : Type 0 where
   pub key_is : key ≡ bounds
-  pub wide : table.words ≡ word_count bounds.processors
+  pub wide : table.words ≡ word_count bounds.processors bounds.cells
   pub seated : seat.table_id ≡ table
   pub me : seat.me ≡ (record (founder bounds) { role = Driver k; right = Nothing }, [])
 
 -- and of all cells from c on
 pub record DealsCells (bounds key : Bounds) (table : TableId) (c : ℕ) (seat : DomainSeat) : Type 0 where
   pub key_is : key ≡ bounds
-  pub wide : table.words ≡ word_count bounds.processors
+  pub wide : table.words ≡ word_count bounds.processors bounds.cells
   pub seated : seat.table_id ≡ table
   pub me : seat.me ≡ (record (founder bounds) { right = Undealt c }, [])
 
@@ -43,7 +44,7 @@ abbrev pub NewTable : Bounds → Bounds → TableId → DomainSeat → Type 0
 NewTable bounds key table seat = DealsCells bounds key table 0 seat
 
 abbrev pub bounds_of : ℕ → Limits → Bounds
-bounds_of processors limits = record { processors = processors; sections = limits.sections; periods = limits.periods }
+bounds_of processors limits = record { processors = processors; sections = limits.sections; periods = limits.periods; cells = limits.cells }
 
 -- the processors in order, and the engine's seat, all knowing of nothing yet
 pub record IsMade (bounds : Bounds) (cpus : List CpuView) (engine : EngineView) : Type 0 where

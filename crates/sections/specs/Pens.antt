@@ -1,5 +1,5 @@
 -- What the steps of the one that writes a cell do to the seats that they are made with.
-use Rattle.std.specs.Prelude.{◌≡◌, ℕ, ◌+◌, ◌*◌, ◌<◌, slice_set, List, []}
+use Rattle.std.specs.Prelude.{◌≡◌, ℕ, ◌+◌, ◌*◌, ◌<◌, ◌≤◌, slice_set, List, []}
 use Rattle.atomic_table.specs.Seated.{TableId}
 use Rattle.onedom.specs.declared.event.Maker.TheVariants.{Processor}
 use Rattle.onedom.specs.declared.event.Event.{Event}
@@ -9,7 +9,7 @@ use Rattle.sections.specs.declared.view.Bounds.{Bounds}
 use Rattle.sections.specs.declared.view.View.{View}
 use Rattle.sections.specs.declared.view.Role.TheVariants.{Cpu}
 use Rattle.sections.specs.declared.view.Right.TheVariants.{Shelf, Undealt}
-use Rattle.sections.specs.Words.{word_count}
+use Rattle.sections.specs.Words.{word_count, cells_in}
 use Rattle.sections.specs.Shelves.{slot_words}
 use Rattle.sections.specs.Rule.{lacking, bearer, informed}
 use Rattle.sections.specs.Plays.{Adds, Keeps, EndsWithText, ComesFrom}
@@ -17,7 +17,7 @@ use Rattle.sections.specs.Seats.{DomainSeat}
 
 -- the table of a domain with these bounds
 abbrev pub IsWide : Bounds → TableId → Type 0
-IsWide bounds table = table.words ≡ word_count bounds.processors
+IsWide bounds table = (table.words ≡ word_count bounds.processors bounds.cells) × (bounds.cells ≤ 4)
 
 -- the seat has the right to the cell
 pub record HasPen (table : TableId) (cell : ℕ) (pen : DomainSeat) : Type 0 where
@@ -26,7 +26,7 @@ pub record HasPen (table : TableId) (cell : ℕ) (pen : DomainSeat) : Type 0 whe
   pub own : List ℕ
   pub upto : List Event
   pub right : pen.me.0.right ≡ Shelf cell own upto
-  pub inside : cell < 4
+  pub inside : cell < cells_in table
 
 -- it knows that nobody can read the slot
 abbrev pub CanWrite : ℕ → ℕ → DomainSeat → Type 0

@@ -2,6 +2,7 @@
 use Rattle.std.specs.Prelude.{◌≡◌, ◌<◌, []}
 use Rattle.sections.specs.declared.view.Right.TheVariants.{Nothing}
 use Rattle.sections.specs.declared.cpu.pins.Found.TheInside as found
+use Rattle.sections.specs.Words.{cells_in}
 use Rattle.sections.specs.Shelves.{IsKnown}
 use Rattle.sections.specs.Views.{FoundView}
 
@@ -11,6 +12,6 @@ view_of_found f = record { domain = f.seat.table_id; cell = f.cell; slot = f.slo
 pub record IsFound (f : found.Inside) : Type 0 where
   pub bare : f.seat.me.1 ≡ []
   pub free : f.seat.me.0.right ≡ Nothing
-  pub cell : f.cell < 4
+  pub cell : f.cell < cells_in f.seat.table_id
   pub slot : f.slot < 8
   pub known : IsKnown f.cell f.version f.seat.me.0.texts

@@ -154,19 +154,19 @@ counted_locks st m n m' = (m'.1 ≡ m.1) × ((k : ℕ) → m.0.role ≡ Driver k
 
 -- load of a cell by the seat with the right to a section, which finds what is there
 abbrev pub found : TableStep (Option ℕ) → Sat → ℕ → Sat → Type 0
-found st m n m' = (m'.1 ≡ m.1) × (m'.0.right ≡ m.0.right) × ((s p q c : ℕ) (i : Index) → m.0.role ≡ Cpu p → m.0.right ≡ Section s q i → st.word ≡ cell_place c
+found st m n m' = (m'.1 ≡ m.1) × (m'.0.right ≡ m.0.right) × ((s p q c : ℕ) (i : Index) → m.0.role ≡ Cpu p → m.0.right ≡ Section s q i → st.word ≡ cell_place m.0.processors c
     → Adds m.0 (Find s c (n % 16) (n / 16) (Processor p)) m'.0 × IsKnown c (n / 16) m'.0.texts × (n % 16 < 8))
 
 -- load of a word of a slot by the seat with the right to a section, which was told that the section has found that slot. The word is that of the version that was found
 abbrev pub loaded : TableStep (Option ℕ) → Sat → ℕ → Sat → Type 0
-loaded st m n m' = (m'.1 ≡ m.1) × (m'.0.right ≡ m.0.right) × ((s q c x v i : ℕ) (j : Index) (a b : Moment) → m.0.right ≡ Section s q j → m.0.told ≡ a ∷ b ∷ [] → HasFound b.history s c x v → c < 4 → x < 8 → i < 16 → st.word ≡ word_place c x i
+loaded st m n m' = (m'.1 ≡ m.1) × (m'.0.right ≡ m.0.right) × ((s q c x v i : ℕ) (j : Index) (a b : Moment) → m.0.right ≡ Section s q j → m.0.told ≡ a ∷ b ∷ [] → HasFound b.history s c x v → x < 8 → i < 16 → st.word ≡ word_place m.0.processors c x i
     → Sees (LoadWord c v i n) m.0 m'.0 × (n ≡ word_of c v i m'.0.texts))
 
 -- The words that only the seat with the right to a cell changes
 
 -- store to a cell: the next version is put, and its words are those of the slot
 abbrev pub put : TableStep (Option ℕ) → Sat → ℕ → Sat → Type 0
-put st m n m' = (m'.1 ≡ m.1) × ((p c x : ℕ) (own : List ℕ) (h : List Event) → m.0.role ≡ Cpu p → m.0.right ≡ Shelf c own h → x < 8 → st.word ≡ cell_place c → n ≡ 16 * (version_of c h + 1) + x
+put st m n m' = (m'.1 ≡ m.1) × ((p c x : ℕ) (own : List ℕ) (h : List Event) → m.0.role ≡ Cpu p → m.0.right ≡ Shelf c own h → x < 8 → st.word ≡ cell_place m.0.processors c → n ≡ 16 * (version_of c h + 1) + x
     → Adds m.0 (Put c x (version_of c h + 1) (Processor p)) m'.0 × (m'.0.right ≡ Shelf c own m'.0.seen) × EndsWithText c (slot_words x own) m'.0.texts × ComesFrom c h m'.0.seen (Put c x (version_of c h + 1) (Processor p)))
 
 -- what is seen covers what was seen before, what was told, and what goes with the right. Nothing was put into the cell since
@@ -188,9 +188,9 @@ pub record Keeps (c : ℕ) (h : List Event) (v w : View) : Type 0 where
 abbrev pub refreshed : TableStep (Option ℕ) → Sat → ℕ → Sat → Type 0
 refreshed st m n m' = (m'.1 ≡ m.1) × ((c : ℕ) (own : List ℕ) (h : List Event) → m.0.right ≡ Shelf c own h → Keeps c h m.0 m'.0 × (m'.0.right ≡ Shelf c own m'.0.seen))
 
--- store of a word of a slot that nobody can read
-abbrev pub stored : TableStep (Option ℕ) → Sat → ℕ → Sat → Type 0
-stored st m n m' = (m'.1 ≡ m.1) × ((c x i : ℕ) (own : List ℕ) (h : List Event) → m.0.right ≡ Shelf c own h → x < 8 → i < 16 → st.word ≡ word_place c x i
+-- store of a word of a slot that nobody can read, in a domain of so many processors
+abbrev pub stored : ℕ → TableStep (Option ℕ) → Sat → ℕ → Sat → Type 0
+stored processors st m n m' = (m'.1 ≡ m.1) × ((c x i : ℕ) (own : List ℕ) (h : List Event) → m.0.right ≡ Shelf c own h → x < 8 → i < 16 → st.word ≡ word_place processors c x i
     → Keeps c h m.0 m'.0 × (m'.0.right ≡ Shelf c (slice_set own (16 * x + i) n) m'.0.seen) × IsClear m'.0.seen c x)
 
 -- The engine's

@@ -165,7 +165,7 @@ pub record Kept (bounds : Bounds) (s : State (Option ℕ) View) : Type 0 where
   pub deeds : List Deed
   pub done : AreDone deeds record { history = log; changes = changes; texts = [] }
   pub each_done : (j : ℕ) (v : View) → get_elem? s.views j ≡ some v → HasDone deeds v
-  pub shelf : KeepsShelf s.words s.views log deeds
+  pub shelf : KeepsShelf bounds s.words s.views log deeds
 
 -- Views that are made
 

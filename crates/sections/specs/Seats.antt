@@ -25,7 +25,8 @@ DomainSeat = Seat (Option ℕ) View
 -- the seat is at the table of a domain with these bounds
 pub record IsPlaced (bounds : Bounds) (table : TableId) (seat : DomainSeat) : Type 0 where
   pub seated : seat.table_id ≡ table
-  pub wide : table.words ≡ word_count bounds.processors
+  pub wide : table.words ≡ word_count bounds.processors bounds.cells
+  pub cells : bounds.cells ≤ 4
   pub bare : seat.me.1 ≡ []
   pub sized : seat.me.0.processors ≡ bounds.processors
 

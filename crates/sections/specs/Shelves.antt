@@ -6,6 +6,7 @@ use lib.ListN.{get_elem?}
 use Rattle.onedom.specs.declared.event.Event.{Event}
 use Rattle.onedom.specs.declared.event.Event.TheVariants.{Put}
 use Rattle.onedom.specs.Histories.{slot_of, version_of, shelved, IsClear, IsBeginning}
+use Rattle.sections.specs.declared.view.Bounds.{Bounds}
 use Rattle.sections.specs.declared.view.Right.{Right}
 use Rattle.sections.specs.declared.view.Right.TheVariants.{Nothing, Section, Shelf, Undealt}
 use Rattle.sections.specs.declared.view.Step.{Step}
@@ -13,7 +14,7 @@ use Rattle.sections.specs.declared.view.Step.TheVariants.{LoadWord}
 use Rattle.sections.specs.declared.view.Deed.{Deed}
 use Rattle.sections.specs.declared.view.Text.{Text}
 use Rattle.sections.specs.declared.view.View.{View}
-use Rattle.sections.specs.Words.{cell_place, word_place}
+use Rattle.sections.specs.Words.{cell_place, word_place, word_count}
 
 -- Texts
 
@@ -63,50 +64,51 @@ IsKnown c v texts = v ≤ length (texts_of c texts)
 -- Slots
 
 -- nobody can read the slot, or its words are those of the version that was put there last
-abbrev pub Lies : List ℕ → List Event → List Text → ℕ → ℕ → Type 0
-Lies words log texts c x = IsClear log c x ⊎ ((i : ℕ) → i < 16 → slice_index words (word_place c x i) ≡ word_of c (shelved c x log) i texts)
+abbrev pub Lies : Bounds → List ℕ → List Event → List Text → ℕ → ℕ → Type 0
+Lies bounds words log texts c x = IsClear log c x ⊎ ((i : ℕ) → i < 16 → slice_index words (word_place bounds.processors c x i) ≡ word_of c (shelved c x log) i texts)
 
-pub record AreShelved (words : List ℕ) (log : List Event) (texts : List Text) : Type 0 where
+pub record AreShelved (bounds : Bounds) (words : List ℕ) (log : List Event) (texts : List Text) : Type 0 where
   pub cells : AreTextsOf texts log
   pub low : (c : ℕ) → slot_of c log < 8
-  pub current : (c : ℕ) → c < 4 → slice_index words (cell_place c) ≡ 16 * version_of c log + slot_of c log
-  pub slots : (c x : ℕ) → c < 4 → x < 8 → Lies words log texts c x
+  pub current : (c : ℕ) → c < bounds.cells → slice_index words (cell_place bounds.processors c) ≡ 16 * version_of c log + slot_of c log
+  pub slots : (c x : ℕ) → c < bounds.cells → x < 8 → Lies bounds words log texts c x
 
 -- the right to a cell is at one seat alone, which knows all of its Puts and the words of its slots
-pub record HasShelf (words : List ℕ) (log : List Event) (writer_of : ℕ → ℕ) (seat c : ℕ) (own : List ℕ) (seen : List Event) : Type 0 where
+pub record HasShelf (bounds : Bounds) (words : List ℕ) (log : List Event) (writer_of : ℕ → ℕ) (seat c : ℕ) (own : List ℕ) (seen : List Event) : Type 0 where
   pub writer : writer_of c ≡ seat
-  pub cell : c < 4
+  pub cell : c < bounds.cells
   pub upto : IsBeginning seen log
   pub all : version_of c log ≡ version_of c seen
   pub long : length own ≡ 128
-  pub stored : (x i : ℕ) → x < 8 → i < 16 → slice_index words (word_place c x i) ≡ slice_index own (16 * x + i)
+  pub stored : (x i : ℕ) → x < 8 → i < 16 → slice_index words (word_place bounds.processors c x i) ≡ slice_index own (16 * x + i)
 
 -- nothing was put into the cell yet
-pub record IsNew (words : List ℕ) (log : List Event) (writer_of : ℕ → ℕ) (seat c : ℕ) : Type 0 where
+pub record IsNew (bounds : Bounds) (words : List ℕ) (log : List Event) (writer_of : ℕ → ℕ) (seat c : ℕ) : Type 0 where
   pub writer : writer_of c ≡ seat
   pub unput : version_of c log ≡ 0
-  pub zeros : (x i : ℕ) → c < 4 → x < 8 → i < 16 → slice_index words (word_place c x i) ≡ 0
+  pub zeros : (x i : ℕ) → c < bounds.cells → x < 8 → i < 16 → slice_index words (word_place bounds.processors c x i) ≡ 0
 
-abbrev pub Writes : List ℕ → List Event → (ℕ → ℕ) → ℕ → Right → Type 0
-Writes words log writer_of seat Nothing = Unit {0}
-Writes words log writer_of seat (Section s p i) = Unit {0}
-Writes words log writer_of seat (Shelf c own seen) = HasShelf words log writer_of seat c own seen
-Writes words log writer_of seat (Undealt k) = (c : ℕ) → k ≤ c → IsNew words log writer_of seat c
+abbrev pub Writes : Bounds → List ℕ → List Event → (ℕ → ℕ) → ℕ → Right → Type 0
+Writes bounds words log writer_of seat Nothing = Unit {0}
+Writes bounds words log writer_of seat (Section s p i) = Unit {0}
+Writes bounds words log writer_of seat (Shelf c own seen) = HasShelf bounds words log writer_of seat c own seen
+Writes bounds words log writer_of seat (Undealt k) = (c : ℕ) → k ≤ c → IsNew bounds words log writer_of seat c
 
 -- what a seat knows has the texts of the Puts that it has seen, and so has what it was told
-pub record FitsShelf (words : List ℕ) (log : List Event) (texts : List Text) (writer_of : ℕ → ℕ) (seat : ℕ) (v : View) : Type 0 where
+pub record FitsShelf (bounds : Bounds) (words : List ℕ) (log : List Event) (texts : List Text) (writer_of : ℕ → ℕ) (seat : ℕ) (v : View) : Type 0 where
   pub has : v.texts ≡ texts_at texts v.seen
   pub told : All (λ m. m.texts ≡ texts_at texts m.history) v.told
-  pub writes : Writes words log writer_of seat v.right
+  pub writes : Writes bounds words log writer_of seat v.right
 
 -- a word that was loaded is that of its version
 abbrev pub IsTrueWord : List Event → List Text → Step → Type 0
 IsTrueWord log texts (LoadWord c v i n) = (v ≤ version_of c log) × (n ≡ word_of c v i texts)
 IsTrueWord log texts l = Unit {0}
 
-pub record KeepsShelf (words : List ℕ) (views : List View) (log : List Event) (deeds : List Deed) : Type 0 where
+pub record KeepsShelf (bounds : Bounds) (words : List ℕ) (views : List View) (log : List Event) (deeds : List Deed) : Type 0 where
   pub texts : List Text
   pub writer_of : ℕ → ℕ
-  pub shelved : AreShelved words log texts
-  pub each : (j : ℕ) (v : View) → get_elem? views j ≡ some v → FitsShelf words log texts writer_of j v
+  pub room : length words ≡ word_count bounds.processors bounds.cells
+  pub shelved : AreShelved bounds words log texts
+  pub each : (j : ℕ) (v : View) → get_elem? views j ≡ some v → FitsShelf bounds words log texts writer_of j v
   pub loaded : All (λ d. IsTrueWord log texts d.step) deeds

@@ -6,6 +6,7 @@ use Rattle.sections.specs.declared.view.Right.TheVariants.{Nothing, Section, She
 use Rattle.sections.specs.declared.writer.Writer.TheInside as writer
 use Rattle.sections.specs.declared.writer.Slot.TheInside as slot
 use Rattle.sections.specs.declared.writer.Standing.TheVariants.{Blank, Out}
+use Rattle.sections.specs.Words.{cells_in}
 use Rattle.sections.specs.WriterViews.{WriterView, SlotView}
 use Rattle.sections.specs.Writers.{is_out, Stands}
 
@@ -23,7 +24,7 @@ pub record IsWriter (w : writer.Inside) : Type 0 where
   pub bare : w.seat.me.1 ≡ []
   pub right : w.seat.me.0.right ≡ Shelf w.cell (words_with w.seat.me.0.right) w.seat.me.0.seen
   pub legal : IsLegal w.seat.me.0.seen
-  pub inside : w.cell < 4
+  pub inside : w.cell < cells_in w.seat.table_id
   pub some : 2 ≤ w.slots
   pub most : w.slots ≤ 8
   pub version : w.version ≡ version_of w.cell w.seat.me.0.seen

@@ -4,9 +4,10 @@ ghost use Rattle.std.specs.Arc.{arc_value};
 ghost use Rattle.sections.specs.Calls.{new_cpu};
 ghost use Rattle.sections.specs.EngineCalls.{IsTied};
 ghost use Rattle.sections.specs.Making.{IsSmall, IsFounder, IsMade, IsRefused, NewTable, bounds_of};
+ghost use Rattle.sections.specs.Words.{cells_in};
 ghost use Rattle.sections.specs.Dealing.{AreNewWriters};
 
-use crate::board::{DomainSeat, Words};
+use crate::board::{DomainSeat, Words, words_of};
 use crate::cpu::Cpu;
 use crate::engine::EngineSeat;
 use crate::limits::{Limits, MOST_PROCESSORS, MakeError};
@@ -36,7 +37,7 @@ fn new_table<A: Allocator + Clone>(
     requires { IsSmall bounds }
     ensures { IfOk result (λ t. NewTable bounds t.0.shared.key t.0.shared.table_id t.1) }
 {
-    let words = vec![in alloc.clone()?; 0u64; 16 * bounds.processors + 608]?;
+    let words = vec![in alloc.clone()?; 0u64; words_of(bounds)]?;
     Table::of_words(alloc, words.as_slice(), &bounds)
 }
 
@@ -45,17 +46,16 @@ fn deal_writers<A: Allocator>(
     alloc: A,
     table: &Words<A>,
     seat: &mut DomainSeat,
-    cells: usize,
     slots: usize,
     bounds: Bounds,
 ) -> Result<Vec<Writer, A>, AllocError>
-    requires cells { cells ≤ 4 }
+    requires cells { bounds.cells ≤ 4 }
     requires slots { (2 ≤ slots) × (slots ≤ 8) }
     requires new { NewTable bounds table.now.shared.key table.now.shared.table_id seat.old }
-    ensures { IfOk result (λ w. IsFounder bounds table.now.shared.key table.now.shared.table_id 0 seat.new × AreNewWriters seat.new.table_id cells slots w.items) }
+    ensures { IfOk result (λ w. IsFounder bounds table.now.shared.key table.now.shared.table_id 0 seat.new × AreNewWriters seat.new.table_id bounds.cells slots w.items) }
 {
-    let mut writers = Vec::with_capacity(alloc, cells)?;
-    for cell in 0..cells {
+    let mut writers = Vec::with_capacity(alloc, bounds.cells)?;
+    for cell in 0..bounds.cells {
         writers.push(deal_writer(&table.shared, seat, cell, slots))?;
     }
     table.shared.split_seat::<plays::GiveToken>(seat);
@@ -91,17 +91,16 @@ fn deal<A: Allocator>(
 fn build<A: Allocator + Clone>(
     alloc: A,
     bounds: Bounds,
-    cells: usize,
     slots: usize,
 ) -> Result<Made<A>, AllocError>
     requires small { IsSmall bounds }
-    requires cells { cells ≤ 4 }
     requires slots { (2 ≤ slots) × (slots ≤ 8) }
     ensures made { IfOk result (λ m. IsMade bounds m.cpus.items m.engine) }
-    ensures writers { IfOk result (λ m. AreNewWriters m.engine.domain cells slots m.writers.items) }
+    ensures cells { IfOk result (λ m. cells_in m.engine.domain ≡ bounds.cells) }
+    ensures writers { IfOk result (λ m. AreNewWriters m.engine.domain bounds.cells slots m.writers.items) }
 {
     let (table, mut seat) = new_table(alloc.clone()?, bounds)?;
-    let writers = deal_writers(alloc.clone()?, &table, &mut seat, cells, slots, bounds)?;
+    let writers = deal_writers(alloc.clone()?, &table, &mut seat, slots, bounds)?;
     let table = Arc::new(alloc.clone()?, table)?;
     let mut cpus = Vec::with_capacity(alloc, bounds.processors)?;
     for processor in 0..bounds.processors {
@@ -130,6 +129,7 @@ pub fn make<A: Allocator + Clone>(
     ensures made { IfOk result (λ m.
         IsMade (bounds_of processors limits) m.cpus.items m.engine) }
     ensures writers { IfOk result (λ m. AreNewWriters m.engine.domain limits.cells limits.slots m.writers.items) }
+    ensures cells { IfOk result (λ m. cells_in m.engine.domain ≡ limits.cells) }
     ensures tied { IfOk result (λ m. IsTied m.engine) }
     ensures refused { IsRefused processors limits result }
 {
@@ -143,8 +143,9 @@ pub fn make<A: Allocator + Clone>(
         processors,
         sections: limits.sections,
         periods: limits.periods,
+        cells: limits.cells as usize,
     };
-    match build(alloc, bounds, limits.cells as usize, limits.slots as usize) {
+    match build(alloc, bounds, limits.slots as usize) {
         Ok(made) => Ok(made),
         Err(AllocError) => Err(MakeError::Memory),
     }

@@ -116,11 +116,20 @@ impl Play<NoSlot, View> for Refresh {
     ghost then = { refreshed };
 }
 
-/// Store of a word of a slot that nobody can read.
-pub(crate) struct StorePayload;
+/// How many processors the domain has in which somebody stores a word: a writer's seat doesn't know. Each call says it.
+pub trait HasProcessors {
+    ghost processors: { ℕ };
+}
 
-impl Play<NoSlot, View> for StorePayload {
-    ghost then = { stored };
+impl HasProcessors for Brand {
+    ghost processors = { 0 };
+}
+
+/// Store of a word of a slot that nobody can read.
+pub(crate) struct StorePayload<N: HasProcessors>(PhantomData<N>);
+
+impl<N: HasProcessors> Play<NoSlot, View> for StorePayload<N> {
+    ghost then = { stored N.processors };
 }
 
 /// Addition of 1 to the number, at rest.

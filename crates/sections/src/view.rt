@@ -11,6 +11,8 @@ pub struct Bounds {
     pub sections: u64,
     /// How many grace periods there may ever be.
     pub periods: u64,
+    /// How many cells it has, and room for as many.
+    pub cells: usize,
 }
 
 /// Whose events a seat makes.

@@ -1,5 +1,6 @@
 //! Reading versions: what a section finds in a cell stays as it is until the section ends.
 ghost use Rattle.std.specs.Prelude.{◌≡◌, ◌<◌};
+ghost use Rattle.sections.specs.Words.{cells_in};
 ghost use Rattle.sections.specs.Reads.{Finds, IsPinned, ReadsWord};
 
 use super::pinning::{find_in, word_in};
@@ -79,13 +80,13 @@ impl<A: Allocator> Cpu<A> {
     /// domain may use. One load of the cell. The words of that version stay as they are until the section ends.
     pub fn find<'a>(&mut self, reading: &'a mut Reading, cell: usize) -> Pin<'a>
         requires here { reading.old.domain ≡ self.old.domain }
-        requires cell { cell < 4 }
+        requires cell { cell < cells_in self.old.domain }
         ensures finds { Finds cell reading.old self.old self.new result.found }
         ensures pinned { IsPinned reading.old result.found }
         ensures reading { result.reading.now ≡ reading.old }
         ensures same_reference { result.reading.ghost_name ≡ reading.entry.ghost_name }
     {
-        let (word, seat) = find_in(&self.table.shared, &mut self.seat, &mut reading.seat, cell);
+        let (word, seat) = find_in(&*self.table, &mut self.seat, &mut reading.seat, cell);
         Pin {
             reading,
             found: Found {
@@ -110,7 +111,7 @@ impl<A: Allocator> Cpu<A> {
         let reading = &mut *pin.reading;
         let found = &mut pin.found;
         word_in(
-            &self.table.shared,
+            &*self.table,
             &mut self.seat,
             &mut reading.seat,
             &mut found.seat,
@@ -123,13 +124,13 @@ impl<A: Allocator> Cpu<A> {
     /// As [`Cpu::find`], in a held section.
     pub fn find_down<'a>(&mut self, held: &'a mut Held, cell: usize) -> DownPin<'a>
         requires here { held.old.domain ≡ self.old.domain }
-        requires cell { cell < 4 }
+        requires cell { cell < cells_in self.old.domain }
         ensures finds { Finds cell held.old self.old self.new result.found }
         ensures pinned { IsPinned held.old result.found }
         ensures held { result.held.now ≡ held.old }
         ensures same_reference { result.held.ghost_name ≡ held.entry.ghost_name }
     {
-        let (word, seat) = find_in(&self.table.shared, &mut self.seat, &mut held.seat, cell);
+        let (word, seat) = find_in(&*self.table, &mut self.seat, &mut held.seat, cell);
         DownPin {
             held,
             found: Found {
@@ -153,7 +154,7 @@ impl<A: Allocator> Cpu<A> {
         let held = &mut *pin.held;
         let found = &mut pin.found;
         word_in(
-            &self.table.shared,
+            &*self.table,
             &mut self.seat,
             &mut held.seat,
             &mut found.seat,
@@ -166,13 +167,13 @@ impl<A: Allocator> Cpu<A> {
     /// As [`Cpu::find`], in a held section, which the pin then owns. It may go to another thread with it.
     pub fn find_held(&mut self, held: Held, cell: usize) -> HeldPin
         requires here { held.domain ≡ self.old.domain }
-        requires cell { cell < 4 }
+        requires cell { cell < cells_in self.old.domain }
         ensures finds { Finds cell held self.old self.new result.found }
         ensures pinned { IsPinned held result.found }
         ensures held { result.held ≡ held }
     {
         let mut held = held;
-        let (word, seat) = find_in(&self.table.shared, &mut self.seat, &mut held.seat, cell);
+        let (word, seat) = find_in(&*self.table, &mut self.seat, &mut held.seat, cell);
         HeldPin {
             held,
             found: Found {
@@ -195,7 +196,7 @@ impl<A: Allocator> Cpu<A> {
         let held = &mut pin.held;
         let found = &mut pin.found;
         word_in(
-            &self.table.shared,
+            &*self.table,
             &mut self.seat,
             &mut held.seat,
             &mut found.seat,

@@ -1,6 +1,7 @@
 //! New writers.
 ghost use Rattle.std.specs.Prelude.{◌≡◌, ◌<◌, ◌≤◌, Some, replicate};
-ghost use Rattle.sections.specs.Pens.{DealsPens, DealsPen};
+ghost use Rattle.sections.specs.Words.{cells_in};
+ghost use Rattle.sections.specs.Pens.{IsWide, DealsPens, DealsPen};
 ghost use Rattle.sections.specs.Dealing.{new_writer};
 
 use super::{Standing, Writer};
@@ -38,8 +39,9 @@ fn homes_of(top: &Board, seat: &mut DomainSeat) -> [Option<Home>; 8]
 
 /// The writer of the next cell: slot 0 is current there with all words 0, and the others are blank.
 pub(crate) fn deal_writer(top: &Board, seat: &mut DomainSeat, cell: usize, slots: usize) -> Writer
+    requires wide { IsWide top.now.key top.now.table_id }
     requires seat { DealsPens top.now.table_id cell seat.old }
-    requires cell { cell < 4 }
+    requires cell { cell < cells_in top.now.table_id }
     requires slots { (2 ≤ slots) × (slots ≤ 8) }
     ensures seat { DealsPen cell seat.old seat.new }
     ensures writer { result ≡ new_writer seat.old.table_id cell slots }

@@ -7,6 +7,7 @@ use super::{Slot, Standing, Writer};
 use crate::cpu::Cpu;
 use crate::cpu::writing::store_in;
 use std::alloc::Allocator;
+use std::marker::Brand;
 
 /// From so many versions on no slot is given out.
 const MOST_VERSIONS: u64 = 18_014_398_509_481_984;
@@ -50,8 +51,8 @@ impl Writer {
         ensures cpu { cpu.new ≡ cpu.old }
         ensures slot { slot.new ≡ slot.old }
     {
-        store_in(
-            &cpu.table.shared,
+        store_in::<A, Brand>(
+            &*cpu.table,
             &mut self.seat,
             self.cell,
             slot.slot,

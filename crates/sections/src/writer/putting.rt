@@ -22,11 +22,11 @@ impl Writer {
             cell: _,
             slot,
         } = slot;
-        let top = &cpu.table.shared;
+        let table = &*cpu.table;
         let word = 16 * (self.version + 1) + slot as u64;
-        put_in(top, &mut cpu.seat, &mut self.seat, self.cell, slot, word);
-        let cookie = snap(note_number(top, &mut cpu.seat));
-        refresh_in(top, &mut cpu.seat, &mut self.seat, self.cell);
+        put_in(table, &mut cpu.seat, &mut self.seat, self.cell, slot, word);
+        let cookie = snap(note_number(&table.shared, &mut cpu.seat));
+        refresh_in(table, &mut cpu.seat, &mut self.seat, self.cell);
         let retired = self.current;
         self.standings[retired] = Standing::Retired(cookie);
         self.standings[slot] = Standing::Current;

@@ -31,11 +31,12 @@ impl Writer {
         requires slot { (slot < self.old.slots) × (standing_of self.old slot ≡ Retired number) }
         ensures { ReclaimsSlot slot number result self.old cpu.old self.new cpu.new }
     {
-        let top = &cpu.table.shared;
+        let table = &*cpu.table;
+        let top = &table.shared;
         let told = top.split_seat::<plays::Show>(&mut self.seat);
         top.join_seat::<plays::TakeToken>(&mut cpu.seat, told);
         let done = ask_number::<Brand>(top, &mut cpu.seat, number);
-        refresh_in(top, &mut cpu.seat, &mut self.seat, self.cell);
+        refresh_in(table, &mut cpu.seat, &mut self.seat, self.cell);
         if done {
             self.standings[slot] = Standing::Blank;
         }

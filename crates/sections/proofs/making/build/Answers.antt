@@ -1,4 +1,4 @@
-use Rattle.std.proofs.Common.{rules, ◌≡◌, List, ap, sym, ◌∙◌, subst, arith}
+use Rattle.std.proofs.Common.{◌≤◌, ◌%◌, rules, ◌≡◌, List, ap, sym, ◌∙◌, subst, arith}
 use Rattle.std.specs.Arc.{arc_value}
 use Rattle.sections.specs.Views.{CpuView}
 use Rattle.sections.specs.Calls.{new_cpu, AreNew}
@@ -9,6 +9,7 @@ use Rattle.sections.specs.Words.{word_count, number_word}
 use Rattle.onedom.specs.declared.event.Maker.TheVariants.{Engine}
 use Rattle.sections.specs.Rule.{steps_of}
 use Rattle.sections.specs.Insides.{IsAtRest}
+use Rattle.sections.proofs.Seating.{cells_are}
 use Rattle.sections.specs.Dealing.{AreNewWriters}
 use Rattle.sections.proofs.Founding.{new_pushed, rests_founding}
 use Rattle.sections.proofs.making.build.Goals as goal
@@ -43,7 +44,7 @@ invariant_of-result g c =
     let few = c.requires.small.processors in
     let some = c.requires.small.some in
     record {
-      placed = record { seated = f.seated; wide = f.wide ∙ ap word_count (sym key); bare = ap (λ m. m.1) f.me; sized = ap (λ m. m.0.processors) f.me ∙ sym key };
+      placed = record { seated = f.seated; wide = f.wide ∙ ap (λ b. word_count b.processors b.cells) (sym f.key_is); cells = subst (λ (b : Bounds). b.cells ≤ 4) (sym f.key_is) c.requires.small.cells; bare = ap (λ m. m.1) f.me; sized = ap (λ m. m.0.processors) f.me ∙ sym key };
       rests = subst (λ (v : View). IsAtRest v) (sym (ap (λ m. m.0) f.me)) (rests_founding c.args.bounds c.loop-processor.processor);
       role = ap (λ m. m.0.role) f.me ∙ ap Driver (all ∙ sym key);
       processors = omega (arith, key, few);
@@ -69,4 +70,7 @@ pub returns-clause-writers : goal.returns-clause-writers
 returns-clause-writers g c =
     let f = c.loop-processor.invariant.founder in
     let w = c.in_ok-writers.ensures in
-    subst (λ t. AreNewWriters t c.args.cells c.args.slots c.in_ok-writers.writers.items) (w.0.seated ∙ (ap (λ t. t.shared.table_id) (sym c.in_ok-table-2.ensures.ok) ∙ sym f.seated)) w.1
+    subst (λ t. AreNewWriters t c.args.bounds.cells c.args.slots c.in_ok-writers.writers.items) (w.0.seated ∙ (ap (λ t. t.shared.table_id) (sym c.in_ok-table-2.ensures.ok) ∙ sym f.seated)) w.1
+
+pub returns-clause-cells : goal.returns-clause-cells
+returns-clause-cells g c = let f = c.loop-processor.invariant.founder in ap (λ t. t.words % 16) f.seated ∙ cells_are _ _ f.wide c.requires.small.cells

@@ -4,4 +4,4 @@ use Rattle.sections.proofs.Founding.{all_zero}
 use Rattle.sections.proofs.making.new_table.Goals as goal
 
 pub of_words-requires : goal.of_words-requires
-of_words-requires g c = opens _ _ (c.as_slice.ensures.len ∙ c.in_ok-words.ensures.len) (all_zero _ _ (c.as_slice.ensures.value ∙ c.in_ok-words.ensures.items_if_clones_equal (λ y e. e))) c.requires.words
+of_words-requires g c = opens _ _ (c.as_slice.ensures.len ∙ (c.in_ok-words.ensures.len ∙ c.words_of.ensures)) (all_zero _ _ (c.as_slice.ensures.value ∙ c.in_ok-words.ensures.items_if_clones_equal (λ y e. e))) c.requires.words

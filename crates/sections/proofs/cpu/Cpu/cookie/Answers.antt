@@ -12,8 +12,8 @@ use Rattle.sections.proofs.CpuViews.{notes_from, locks_told, unclosed_told, rest
 use Rattle.sections.proofs.cpu.Cpu.cookie.Goals as goal
 
 pub split_seat-seat-requires : goal.split_seat-seat-requires
-split_seat-seat-requires g c = let wide : c.deref.result.now.shared.table_id.words ≡ word_count c.deref.result.now.shared.key.processors = search rules in
-    (c.note_number-number.ensures.same_table ∙ search rules, some_words _ _ wide, gives_token _ _ _)
+split_seat-seat-requires g c = let wide : c.deref.result.now.shared.table_id.words ≡ word_count c.deref.result.now.shared.key.processors c.deref.result.now.shared.key.cells = search rules in
+    (c.note_number-number.ensures.same_table ∙ search rules, some_words _ _ _ wide, gives_token _ _ _)
 
 pub invariant_of-self : goal.invariant_of-self
 invariant_of-self g c =
@@ -26,7 +26,7 @@ invariant_of-self g c =
     let mine = ap (λ (v : View). v.mine) cut ∙ a.mine in record {
       placed = record {
         seated = s.0 ∙ (told.same_table ∙ c.self.invariant.placed.seated);
-        wide = c.self.invariant.placed.wide;
+        wide = c.self.invariant.placed.wide; cells = c.self.invariant.placed.cells;
         bare = ap (λ m. m.1) s.2 ∙ (told.bare ∙ c.self.invariant.placed.bare);
         sized = ap (λ (v : View). v.processors) cut ∙ (a.processors ∙ c.self.invariant.placed.sized);
       };

@@ -12,23 +12,23 @@ use Rattle.sections.proofs.CpuViews.{adds_cut, number_grows, locks_told, unclose
 use Rattle.sections.proofs.cpu.Cpu.cookie_behind.Goals as goal
 
 pub split_seat-told-requires : goal.split_seat-told-requires
-split_seat-told-requires g c = let wide : c.deref.result.now.shared.table_id.words ≡ word_count c.deref.result.now.shared.key.processors = search rules in
-    (search rules, some_words _ _ wide, gives_token _ _ _)
+split_seat-told-requires g c = let wide : c.deref.result.now.shared.table_id.words ≡ word_count c.deref.result.now.shared.key.processors c.deref.result.now.shared.key.cells = search rules in
+    (search rules, some_words _ _ _ wide, gives_token _ _ _)
 
 pub join_seat-requires : goal.join_seat-requires
-join_seat-requires g c = let wide : c.deref.result.now.shared.table_id.words ≡ word_count c.deref.result.now.shared.key.processors = search rules in
-    (search rules, search rules, ap (λ m. m.1) c.split_seat-told.ensures.4, some_words _ _ wide, takes_token _ _ _ _ _)
+join_seat-requires g c = let wide : c.deref.result.now.shared.table_id.words ≡ word_count c.deref.result.now.shared.key.processors c.deref.result.now.shared.key.cells = search rules in
+    (search rules, search rules, ap (λ m. m.1) c.split_seat-told.ensures.4, some_words _ _ _ wide, takes_token _ _ _ _ _)
 
 pub note_number-number-requires-clause-role : goal.note_number-number-requires-clause-role
 note_number-number-requires-clause-role g c = (c.self.inside.processor, ap (λ m. m.0.role) c.join_seat.ensures.2 ∙ c.self.invariant.role, search rules)
 
 pub split_seat-seat-requires : goal.split_seat-seat-requires
-split_seat-seat-requires g c = let wide : c.deref.result.now.shared.table_id.words ≡ word_count c.deref.result.now.shared.key.processors = search rules in
-    (c.note_number-number.ensures.same_table ∙ (c.join_seat.ensures.0 ∙ search rules), some_words _ _ wide, gives_token _ _ _)
+split_seat-seat-requires g c = let wide : c.deref.result.now.shared.table_id.words ≡ word_count c.deref.result.now.shared.key.processors c.deref.result.now.shared.key.cells = search rules in
+    (c.note_number-number.ensures.same_table ∙ (c.join_seat.ensures.0 ∙ search rules), some_words _ _ _ wide, gives_token _ _ _)
 
 pub split_seat-requires : goal.split_seat-requires
-split_seat-requires g c = let wide : c.deref.result.now.shared.table_id.words ≡ word_count c.deref.result.now.shared.key.processors = search rules in
-    (c.split_seat-seat.ensures.0 ∙ (c.note_number-number.ensures.same_table ∙ (c.join_seat.ensures.0 ∙ search rules)), some_words _ _ wide, gives_token _ _ _)
+split_seat-requires g c = let wide : c.deref.result.now.shared.table_id.words ≡ word_count c.deref.result.now.shared.key.processors c.deref.result.now.shared.key.cells = search rules in
+    (c.split_seat-seat.ensures.0 ∙ (c.note_number-number.ensures.same_table ∙ (c.join_seat.ensures.0 ∙ search rules)), some_words _ _ _ wide, gives_token _ _ _)
 
 pub invariant_of-self : goal.invariant_of-self
 invariant_of-self g c =
@@ -44,7 +44,7 @@ invariant_of-self g c =
     let mine = ap (λ (v : View). v.mine) cut ∙ (a.mine ∙ ap (λ m. m.0.mine ++ e ∷ []) joined) in record {
       placed = record {
         seated = t.0 ∙ (s.0 ∙ (told.same_table ∙ (c.join_seat.ensures.0 ∙ c.self.invariant.placed.seated)));
-        wide = c.self.invariant.placed.wide;
+        wide = c.self.invariant.placed.wide; cells = c.self.invariant.placed.cells;
         bare = ap (λ m. m.1) t.2 ∙ (ap (λ m. m.1) s.2 ∙ (told.bare ∙ (ap (λ m. m.1) joined ∙ c.self.invariant.placed.bare)));
         sized = ap (λ (v : View). v.processors) cut ∙ (a.processors ∙ (ap (λ m. m.0.processors) joined ∙ c.self.invariant.placed.sized));
       };

@@ -1,10 +1,12 @@
-use Rattle.std.proofs.Common.{ℕ, ◌+◌, ◌/◌, ◌%◌, List, [], refl, sym, ap, ◌∙◌, subst}
+use Rattle.std.proofs.Common.{◌<◌, ℕ, ◌+◌, ◌/◌, ◌%◌, List, [], refl, sym, ap, ◌∙◌, subst}
 use Rattle.onedom.specs.declared.event.Event.{Event}
 use Rattle.onedom.specs.declared.event.Event.TheVariants.{Find}
 use Rattle.onedom.specs.declared.event.Maker.TheVariants.{Processor}
 use Rattle.sections.specs.declared.view.Text.{Text}
 use Rattle.sections.specs.declared.view.View.{View}
 use Rattle.sections.specs.Shelves.{IsKnown}
+use Rattle.atomic_table.specs.Seated.{TableId}
+use Rattle.sections.specs.Words.{cells_in}
 use Rattle.sections.specs.Rule.{bearer, informed}
 use Rattle.sections.specs.Insides.{section_of}
 use Rattle.onedom.specs.Histories.{IsLegal}
@@ -18,7 +20,7 @@ invariant_of-result g c =
     let a = f.adds (section_of c.held.inside.seat.me.0.right) c.held.inside.processor c.self.inside.processor c.held.inside.index c.self.invariant.role c.held.invariant.right in record {
       bare = ap (λ m. m.1) f.given;
       free = ap (λ m. m.0.right) f.given;
-      cell = c.requires.cell;
+      cell = subst (λ (t : TableId). c.args.cell < cells_in t) (sym (f.same_table.1 ∙ ap (λ z. z.domain) c.self.view_is)) c.requires.cell;
       slot = a.2;
       known = subst (λ (l : List Text). IsKnown c.args.cell (c.find_in-word.result.0 / 16) l) (sym (ap (λ m. m.0.texts) f.given)) a.1;
     }
@@ -34,7 +36,7 @@ invariant_of-self g c =
     let mine = ap (λ (v : View). v.mine) cut ∙ a.0.mine in record {
       placed = record {
         seated = f.same_table.0 ∙ c.self.invariant.placed.seated;
-        wide = c.self.invariant.placed.wide;
+        wide = c.self.invariant.placed.wide; cells = c.self.invariant.placed.cells;
         bare = ap (λ m. m.1) f.stays;
         sized = ap (λ (v : View). v.processors) cut ∙ (a.0.processors ∙ c.self.invariant.placed.sized);
       };

@@ -11,12 +11,12 @@ use Rattle.sections.proofs.CpuViews.{asks_from, all_closed, locks_told, unclosed
 use Rattle.sections.proofs.cpu.Cpu.poll.Goals as goal
 
 pub split_seat-token-requires : goal.split_seat-token-requires
-split_seat-token-requires g c = let wide : c.deref.result.now.shared.table_id.words ≡ word_count c.deref.result.now.shared.key.processors = search rules in
-    (search rules, some_words _ _ wide, gives_token _ _ _)
+split_seat-token-requires g c = let wide : c.deref.result.now.shared.table_id.words ≡ word_count c.deref.result.now.shared.key.processors c.deref.result.now.shared.key.cells = search rules in
+    (search rules, some_words _ _ _ wide, gives_token _ _ _)
 
 pub join_seat-requires : goal.join_seat-requires
-join_seat-requires g c = let wide : c.deref.result.now.shared.table_id.words ≡ word_count c.deref.result.now.shared.key.processors = search rules in
-    (search rules, search rules, ap (λ m. m.1) c.split_seat-token.ensures.4, some_words _ _ wide, takes_token _ _ _ _ _)
+join_seat-requires g c = let wide : c.deref.result.now.shared.table_id.words ≡ word_count c.deref.result.now.shared.key.processors c.deref.result.now.shared.key.cells = search rules in
+    (search rules, search rules, ap (λ m. m.1) c.split_seat-token.ensures.4, some_words _ _ _ wide, takes_token _ _ _ _ _)
 
 pub ask_number-requires-clause-cookie : goal.ask_number-requires-clause-cookie
 ask_number-requires-clause-cookie g c = (refl, c.cookie.invariant.whole)
@@ -36,7 +36,7 @@ invariant_of-self g c =
     let free = told.right ∙ (ap (λ m. m.0.right) joined ∙ (ap (λ m. m.0.right) c.split_seat-token.ensures.4 ∙ ap (λ (v : View). v.right) c.cookie.invariant.plain)) in record {
       placed = record {
         seated = told.same_table ∙ (c.join_seat.ensures.0 ∙ c.self.invariant.placed.seated);
-        wide = c.self.invariant.placed.wide;
+        wide = c.self.invariant.placed.wide; cells = c.self.invariant.placed.cells;
         bare = told.bare ∙ (ap (λ m. m.1) joined ∙ c.self.invariant.placed.bare);
         sized = a.processors ∙ (ap (λ m. m.0.processors) joined ∙ c.self.invariant.placed.sized);
       };

@@ -11,9 +11,9 @@ use Rattle.sections.proofs.cpu.Cpu.unlocks.Goals as goal
 
 pub load-requires : goal.load-requires
 load-requires g c =
-    let wide : c.deref.result.now.shared.table_id.words ≡ word_count c.deref.result.now.shared.key.processors = search rules in
+    let wide : c.deref.result.now.shared.table_id.words ≡ word_count c.deref.result.now.shared.key.processors c.deref.result.now.shared.key.cells = search rules in
     let there : c.args.processor < c.deref.result.now.shared.key.processors = (let lt = subst (λ (z : CpuView). c.args.processor < z.processors) (sym c.self.view_is) c.requires in rw c.deref.ensures lt) in
-    (search rules, rw (c.place_of_unlock.ensures, wide) (unlock_there _ _ _ there), counts_unlocks _ _ _ _ _ (Processor c.self.inside.processor) c.args.processor c.args.index (search rules) (cpu_makes _ _ c.self.invariant.role) there c.place_of_unlock.ensures)
+    (search rules, rw (c.place_of_unlock.ensures, wide) (unlock_there _ _ _ _ there), counts_unlocks _ _ _ _ _ (Processor c.self.inside.processor) c.args.processor c.args.index (search rules) (cpu_makes _ _ c.self.invariant.role) there c.place_of_unlock.ensures)
 
 pub invariant_of-self : goal.invariant_of-self
 invariant_of-self g c =
@@ -21,7 +21,7 @@ invariant_of-self g c =
     let told = c.load.ensures in
     let sees = (told.2.2 c.args.processor c.args.index c.place_of_unlock.ensures).0 in
     let mine = sees.mine in record {
-      placed = record { seated = told.0 ∙ e.placed.seated; wide = e.placed.wide; bare = told.2.0 ∙ e.placed.bare; sized = sees.processors ∙ e.placed.sized };
+      placed = record { seated = told.0 ∙ e.placed.seated; wide = e.placed.wide; cells = e.placed.cells; bare = told.2.0 ∙ e.placed.bare; sized = sees.processors ∙ e.placed.sized };
       rests = rests_seen _ _ _ e.rests.free sees;
       role = sees.role ∙ e.role;
       there = e.there;

@@ -5,16 +5,16 @@ use Rattle.sections.proofs.Seating.{some_words, may_accept, accepts_from}
 use Rattle.sections.proofs.cpu.steps.accept.Goals as goal
 
 pub split_seat-token-requires : goal.split_seat-token-requires
-split_seat-token-requires c = (c.requires.second.0.seated, some_words _ _ c.requires.second.0.wide, shows _ _ _)
+split_seat-token-requires c = (c.requires.second.0.seated, some_words _ _ _ c.requires.second.0.wide, shows _ _ _)
 
 pub join_seat-requires : goal.join_seat-requires
-join_seat-requires c = (c.requires.first.0.seated, c.split_seat-token.ensures.3 ∙ c.requires.second.0.seated, ap (λ m. m.1) c.split_seat-token.ensures.4, some_words _ _ c.requires.first.0.wide, hears _ _ _ _ _)
+join_seat-requires c = (c.requires.first.0.seated, c.split_seat-token.ensures.3 ∙ c.requires.second.0.seated, ap (λ m. m.1) c.split_seat-token.ensures.4, some_words _ _ _ c.requires.first.0.wide, hears _ _ _ _ _)
 
 pub load-requires : goal.load-requires
 load-requires c =
     let joined = ap (λ m. m.0) c.join_seat.ensures.2 ∙ ap (λ m. hearing c.args.first.now.me.0 m.0) c.split_seat-token.ensures.4 in (
       c.join_seat.ensures.0 ∙ c.requires.first.0.seated,
-      some_words _ _ c.requires.first.0.wide,
+      some_words _ _ _ c.requires.first.0.wide,
       may_accept _ _ _ c.requires.role.0 c.args.first.now.me.0 c.args.second.now.me.0 _ joined c.requires.first.0.sized c.requires.second.0.sized c.requires.role.1 c.requires.first.1 c.requires.second.1 c.requires.covered.0 c.requires.covered.1,
     )
 
@@ -30,6 +30,7 @@ returns-clause-placed c =
     let accepts = accepts_from c.load.result c.args.first.now.me.0 c.args.second.now.me.0 _ _ c.requires.first.1.told joined c.load.ensures.2.2 c.requires.covered.0 in record {
       seated = c.load.ensures.0 ∙ (c.join_seat.ensures.0 ∙ first.seated);
       wide = first.wide;
+      cells = first.cells;
       bare = c.load.ensures.2.0 ∙ (ap (λ m. m.1) c.join_seat.ensures.2 ∙ first.bare);
       sized = accepts.processors ∙ first.sized;
     }

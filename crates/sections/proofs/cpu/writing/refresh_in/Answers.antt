@@ -1,31 +1,31 @@
-use Rattle.std.proofs.Common.{◌≡◌, ap, ◌∙◌, subst}
+use Rattle.std.proofs.Common.{arith, ◌≡◌, ap, ◌∙◌, subst}
 use Rattle.sections.specs.declared.view.View.{View}
 use Rattle.sections.specs.Rule.{bearer, informed}
 use Rattle.sections.specs.Plays.{Keeps}
 use Rattle.sections.proofs.Sharing.{gives_token, takes_token}
-use Rattle.sections.proofs.Seating.{some_words}
+use Rattle.sections.proofs.Seating.{some_words, cells_are}
 use Rattle.sections.proofs.Finding.{cell_there}
 use Rattle.sections.proofs.Writing.{refreshes_here}
 use Rattle.sections.proofs.cpu.writing.refresh_in.Goals as goal
 
 pub split_seat-fresh-requires : goal.split_seat-fresh-requires
-split_seat-fresh-requires c = (c.requires.placed.0.seated, some_words _ _ c.requires.placed.0.wide, gives_token _ _ _)
+split_seat-fresh-requires g c = (c.requires.placed.0.seated, some_words _ _ _ c.requires.placed.0.wide, gives_token _ _ _)
 
 pub split_seat-right-requires : goal.split_seat-right-requires
-split_seat-right-requires c = (c.requires.pen.seated, some_words _ _ c.requires.placed.0.wide, gives_token _ _ _)
+split_seat-right-requires g c = (c.requires.pen.seated, some_words _ _ _ c.requires.placed.0.wide, gives_token _ _ _)
 
 pub join_seat-requires : goal.join_seat-requires
-join_seat-requires c = (c.split_seat-fresh.ensures.3 ∙ c.requires.placed.0.seated, c.split_seat-right.ensures.3 ∙ c.requires.pen.seated, ap (λ m. m.1) c.split_seat-right.ensures.4, some_words _ _ c.requires.placed.0.wide, takes_token _ _ _ _ _)
+join_seat-requires g c = (c.split_seat-fresh.ensures.3 ∙ c.requires.placed.0.seated, c.split_seat-right.ensures.3 ∙ c.requires.pen.seated, ap (λ m. m.1) c.split_seat-right.ensures.4, some_words _ _ _ c.requires.placed.0.wide, takes_token _ _ _ _ _)
 
 pub load-requires : goal.load-requires
-load-requires c = (
+load-requires g c = (
   c.join_seat.ensures.0 ∙ (c.split_seat-fresh.ensures.3 ∙ c.requires.placed.0.seated),
-  cell_there _ _ _ _ c.requires.pen.inside c.requires.placed.0.wide c.place_of_cell.ensures,
-  refreshes_here c.args.top.now.key _ _ _ c.join_seat.new.seat.me c.args.cell c.requires.pen.own c.requires.pen.upto (ap (λ m. m.0.right) c.join_seat.ensures.2 ∙ (ap (λ m. m.0.right) c.split_seat-right.ensures.4 ∙ c.requires.pen.right)),
+  cell_there _ _ _ _ (let h = cells_are _ _ c.requires.placed.0.wide c.requires.placed.0.cells in let i = c.requires.pen.inside in omega (arith, h, i)) c.requires.placed.0.wide c.place_of_cell.ensures,
+  refreshes_here c.args.table.now.shared.key _ _ _ c.join_seat.new.seat.me c.args.cell c.requires.pen.own c.requires.pen.upto (ap (λ m. m.0.right) c.join_seat.ensures.2 ∙ (ap (λ m. m.0.right) c.split_seat-right.ensures.4 ∙ c.requires.pen.right)),
 )
 
 pub returns-clause-pen : goal.returns-clause-pen
-returns-clause-pen c =
+returns-clause-pen g c =
     let v : View = c.args.seat.now.me.0 in
     let t : View = c.args.pen.now.me.0 in
     let into : c.join_seat.new.seat.me.0 ≡ informed (bearer v) (bearer t) = ap (λ m. m.0) c.join_seat.ensures.2 ∙ (λ k. informed (ap (λ m. m.0) c.split_seat-fresh.ensures.4 k) (ap (λ m. m.0) c.split_seat-right.ensures.4 k)) in record {

@@ -11,9 +11,9 @@ use Rattle.sections.proofs.engine.EngineSeat.locks.Goals as goal
 
 pub load-requires : goal.load-requires
 load-requires g c =
-    let wide : c.deref.result.now.shared.table_id.words ≡ word_count c.deref.result.now.shared.key.processors = search rules in
+    let wide : c.deref.result.now.shared.table_id.words ≡ word_count c.deref.result.now.shared.key.processors c.deref.result.now.shared.key.cells = search rules in
     let there : c.args.processor < c.deref.result.now.shared.key.processors = (let lt = subst (λ (z : EngineView). c.args.processor < z.processors) (sym c.self.view_is) c.requires in rw c.deref.ensures lt) in
-    (search rules, rw (c.place_of_lock.ensures, wide) (lock_there _ _ _ there), counts_locks _ _ _ _ _ Engine c.args.processor c.args.index (search rules) (engine_makes _ _ c.self.invariant.role) there c.place_of_lock.ensures)
+    (search rules, rw (c.place_of_lock.ensures, wide) (lock_there _ _ _ _ there), counts_locks _ _ _ _ _ Engine c.args.processor c.args.index (search rules) (engine_makes _ _ c.self.invariant.role) there c.place_of_lock.ensures)
 
 pub invariant_of-self : goal.invariant_of-self
 invariant_of-self g c =
@@ -22,7 +22,7 @@ invariant_of-self g c =
     let sees = (told.2.2 c.args.processor c.args.index c.place_of_lock.ensures).0 in
     let still = told.2.1 _ e.role in
     let few = e.few in record {
-      placed = record { seated = told.0 ∙ e.placed.seated; wide = e.placed.wide; bare = told.2.0 ∙ e.placed.bare; sized = sees.processors ∙ e.placed.sized };
+      placed = record { seated = told.0 ∙ e.placed.seated; wide = e.placed.wide; cells = e.placed.cells; bare = told.2.0 ∙ e.placed.bare; sized = sees.processors ∙ e.placed.sized };
       rests = rests_seen _ _ _ e.rests.free sees;
       role = sees.role ∙ e.role;
       processors = e.processors;

@@ -12,6 +12,7 @@ use Rattle.sections.specs.declared.view.Right.TheVariants.{Shelf}
 use Rattle.sections.specs.declared.view.Text.{Text}
 use Rattle.sections.specs.declared.view.View.{View}
 use Rattle.sections.specs.Shelves.{slot_words}
+use Rattle.sections.specs.Words.{cells_in}
 use Rattle.sections.specs.Rule.{bearer, informed}
 use Rattle.sections.specs.Plays.{Adds, EndsWithText}
 use Rattle.sections.specs.WriterInsides.{words_with}
@@ -28,9 +29,9 @@ pub note_number-requires-clause-placed : goal.note_number-requires-clause-placed
 note_number-requires-clause-placed g c =
     let P = c.put_in.ensures in
     let a = P.adds c.cpu.inside.processor (words_with c.self.inside.seat.me.0.right) c.self.inside.seat.me.0.seen c.cpu.invariant.role c.self.invariant.right in
-    rw c.deref.ensures (record {
+    rw c.deref-table.ensures (record {
       seated = P.same_table.0 ∙ c.cpu.invariant.placed.seated;
-      wide = c.cpu.invariant.placed.wide;
+      wide = c.cpu.invariant.placed.wide; cells = c.cpu.invariant.placed.cells;
       bare = ap (λ m. m.1) P.stays;
       sized = ap (λ m. m.0.processors) P.stays ∙ (a.0.processors ∙ c.cpu.invariant.placed.sized);
     })
@@ -39,7 +40,7 @@ pub note_number-requires-clause-role : goal.note_number-requires-clause-role
 note_number-requires-clause-role g c =
     let P = c.put_in.ensures in
     let a = P.adds c.cpu.inside.processor (words_with c.self.inside.seat.me.0.right) c.self.inside.seat.me.0.seen c.cpu.invariant.role c.self.invariant.right in
-    rw c.deref.ensures (c.cpu.inside.processor, ap (λ m. m.0.role) P.stays ∙ (a.0.role ∙ c.cpu.invariant.role), c.cpu.invariant.there)
+    rw c.deref-table.ensures (c.cpu.inside.processor, ap (λ m. m.0.role) P.stays ∙ (a.0.role ∙ c.cpu.invariant.role), c.cpu.invariant.there)
 
 pub refresh_in-requires-clause-placed : goal.refresh_in-requires-clause-placed
 refresh_in-requires-clause-placed g c =
@@ -47,10 +48,10 @@ refresh_in-requires-clause-placed g c =
     let N = c.note_number.ensures in
     let a = P.adds c.cpu.inside.processor (words_with c.self.inside.seat.me.0.right) c.self.inside.seat.me.0.seen c.cpu.invariant.role c.self.invariant.right in
     let b = N.adds c.cpu.inside.processor (ap (λ m. m.0.role) P.stays ∙ (a.0.role ∙ c.cpu.invariant.role)) in
-    rw c.deref.ensures (
+    rw c.deref-table.ensures (
       record {
         seated = N.same_table ∙ (P.same_table.0 ∙ c.cpu.invariant.placed.seated);
-        wide = c.cpu.invariant.placed.wide;
+        wide = c.cpu.invariant.placed.wide; cells = c.cpu.invariant.placed.cells;
         bare = N.bare ∙ ap (λ m. m.1) P.stays;
         sized = b.processors ∙ (ap (λ m. m.0.processors) P.stays ∙ (a.0.processors ∙ c.cpu.invariant.placed.sized));
       },
@@ -61,13 +62,13 @@ pub refresh_in-requires-clause-pen : goal.refresh_in-requires-clause-pen
 refresh_in-requires-clause-pen g c =
     let P = c.put_in.ensures in
     let a = P.adds c.cpu.inside.processor (words_with c.self.inside.seat.me.0.right) c.self.inside.seat.me.0.seen c.cpu.invariant.role c.self.invariant.right in
-    rw c.deref.ensures (record {
+    rw c.deref-table.ensures (record {
       seated = P.same_table.1 ∙ c.cpu.invariant.placed.seated;
       bare = ap (λ m. m.1) P.given;
       own = words_with c.self.inside.seat.me.0.right;
       upto = P.after.seen;
       right = ap (λ m. m.0.right) P.given ∙ a.1;
-      inside = c.self.invariant.inside;
+      inside = subst (λ (t : TableId). c.self.inside.cell < cells_in t) (ap (λ z. z.domain) c.self.view_is ∙ (sym c.requires.here ∙ (ap (λ z. z.domain) (sym c.cpu.view_is) ∙ c.cpu.invariant.placed.seated))) c.self.invariant.inside;
     })
 
 pub invariant_of-self : goal.invariant_of-self
@@ -115,7 +116,7 @@ invariant_of-self g c =
       bare = R.bare;
       right = k.1 ∙ ap (λ o. Shelf cell o new) (sym (ap words_with k.1));
       legal = k.0.legal;
-      inside = i.inside;
+      inside = subst (λ (t : TableId). cell < cells_in t) (sym own.domain ∙ same_home) i.inside;
       some = i.some;
       most = i.most;
       version = ap (λ n. n + 1) i.version ∙ sym (later ∙ version_put cell slot (version_of cell old + 1) (Processor p) a.3.before);
@@ -146,7 +147,7 @@ invariant_of-cpu g c =
     let second = ap (λ m. m.0.mine) S.1 ∙ b.mine in record {
       placed = record {
         seated = S.0 ∙ (N.same_table ∙ (P.same_table.0 ∙ c.cpu.invariant.placed.seated));
-        wide = c.cpu.invariant.placed.wide;
+        wide = c.cpu.invariant.placed.wide; cells = c.cpu.invariant.placed.cells;
         bare = ap (λ m. m.1) S.1 ∙ (N.bare ∙ ap (λ m. m.1) P.stays);
         sized = ap (λ m. m.0.processors) S.1 ∙ (b.processors ∙ (ap (λ m. m.0.processors) P.stays ∙ (a.0.processors ∙ c.cpu.invariant.placed.sized)));
       };

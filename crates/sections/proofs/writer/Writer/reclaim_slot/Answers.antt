@@ -9,6 +9,7 @@ use Rattle.sections.specs.declared.view.Right.TheVariants.{Shelf}
 use Rattle.sections.specs.declared.view.View.{View}
 use Rattle.sections.specs.declared.writer.Standing.{Standing}
 use Rattle.sections.specs.declared.writer.Standing.TheVariants.{Blank, Retired}
+use Rattle.sections.specs.Words.{cells_in}
 use Rattle.sections.specs.Rule.{GoesOn, moment_of, shower, informed}
 use Rattle.sections.specs.Insides.{IsAtRest}
 use Rattle.sections.specs.WriterInsides.{words_with}
@@ -24,14 +25,14 @@ use Rattle.sections.proofs.Standings.{HasHomes, homes_stay, retired_out, stands_
 use Rattle.sections.proofs.writer.Writer.reclaim_slot.Goals as goal
 
 pub split_seat-told-requires : goal.split_seat-told-requires
-split_seat-told-requires g c = rw c.deref.ensures (ap (λ z. z.domain) c.self.view_is ∙ (sym c.requires.here ∙ (ap (λ z. z.domain) (sym c.cpu.view_is) ∙ c.cpu.invariant.placed.seated)), some_words _ _ c.cpu.invariant.placed.wide, shows _ _ _)
+split_seat-told-requires g c = rw c.deref-table.ensures (ap (λ z. z.domain) c.self.view_is ∙ (sym c.requires.here ∙ (ap (λ z. z.domain) (sym c.cpu.view_is) ∙ c.cpu.invariant.placed.seated)), some_words _ _ _ c.cpu.invariant.placed.wide, shows _ _ _)
 
 pub join_seat-requires : goal.join_seat-requires
-join_seat-requires g c = rw c.deref.ensures (
+join_seat-requires g c = rw c.deref-table.ensures (
   c.cpu.invariant.placed.seated,
   c.split_seat-told.ensures.3 ∙ (ap (λ z. z.domain) c.self.view_is ∙ (sym c.requires.here ∙ (ap (λ z. z.domain) (sym c.cpu.view_is) ∙ c.cpu.invariant.placed.seated))),
   ap (λ m. m.1) c.split_seat-told.ensures.4,
-  some_words _ _ c.cpu.invariant.placed.wide,
+  some_words _ _ _ c.cpu.invariant.placed.wide,
   takes_token _ _ _ _ _,
 )
 
@@ -41,17 +42,17 @@ ask_number-done-requires-clause-cookie g c =
     let r : IsRetired c.self.inside.seat.me.0.seen c.self.inside.cell c.args.slot c.args.number = subst (λ (t : Standing). Stands c.self.inside.seat.me.0.seen c.self.inside.cell c.args.slot t) at.1 (c.self.invariant.stands c.args.slot at.0) in (refl, r.multiple)
 
 pub ask_number-done-requires-clause-role : goal.ask_number-done-requires-clause-role
-ask_number-done-requires-clause-role g c = rw c.deref.ensures (c.cpu.inside.processor, ap (λ m. m.0.role) c.join_seat.ensures.2 ∙ c.cpu.invariant.role, c.cpu.invariant.there)
+ask_number-done-requires-clause-role g c = rw c.deref-table.ensures (c.cpu.inside.processor, ap (λ m. m.0.role) c.join_seat.ensures.2 ∙ c.cpu.invariant.role, c.cpu.invariant.there)
 
 pub refresh_in-requires-clause-placed : goal.refresh_in-requires-clause-placed
 refresh_in-requires-clause-placed g c =
     let N = c.ask_number-done.ensures in
     let J = c.join_seat.ensures in
     let b = N.adds c.cpu.inside.processor (ap (λ m. m.0.role) J.2 ∙ c.cpu.invariant.role) in
-    rw c.deref.ensures (
+    rw c.deref-table.ensures (
       record {
         seated = N.same_table ∙ (J.0 ∙ c.cpu.invariant.placed.seated);
-        wide = c.cpu.invariant.placed.wide;
+        wide = c.cpu.invariant.placed.wide; cells = c.cpu.invariant.placed.cells;
         bare = N.bare ∙ (ap (λ m. m.1) J.2 ∙ c.cpu.invariant.placed.bare);
         sized = b.processors ∙ (ap (λ m. m.0.processors) J.2 ∙ c.cpu.invariant.placed.sized);
       },
@@ -59,13 +60,13 @@ refresh_in-requires-clause-placed g c =
     )
 
 pub refresh_in-requires-clause-pen : goal.refresh_in-requires-clause-pen
-refresh_in-requires-clause-pen g c = rw c.deref.ensures (record {
+refresh_in-requires-clause-pen g c = rw c.deref-table.ensures (record {
   seated = c.split_seat-told.ensures.0 ∙ (ap (λ z. z.domain) c.self.view_is ∙ (sym c.requires.here ∙ (ap (λ z. z.domain) (sym c.cpu.view_is) ∙ c.cpu.invariant.placed.seated)));
   bare = ap (λ m. m.1) c.split_seat-told.ensures.2 ∙ c.self.invariant.bare;
   own = words_with c.self.inside.seat.me.0.right;
   upto = c.self.inside.seat.me.0.seen;
   right = ap (λ m. m.0.right) c.split_seat-told.ensures.2 ∙ c.self.invariant.right;
-  inside = c.self.invariant.inside;
+  inside = subst (λ (t : TableId). c.self.inside.cell < cells_in t) (ap (λ z. z.domain) c.self.view_is ∙ (sym c.requires.here ∙ (ap (λ z. z.domain) (sym c.cpu.view_is) ∙ c.cpu.invariant.placed.seated))) c.self.invariant.inside;
 })
 
 pub invariant_of-self : goal.invariant_of-self
@@ -101,7 +102,7 @@ invariant_of-self g c =
       bare = R.bare;
       right = k.1 ∙ ap (λ o. Shelf cell o new) (sym (ap words_with k.1));
       legal = k.0.legal;
-      inside = i.inside;
+      inside = subst (λ (t : TableId). cell < cells_in t) same_home i.inside;
       some = i.some;
       most = i.most;
       version = i.version ∙ sym k.0.same;
@@ -124,7 +125,7 @@ invariant_of-cpu g c =
     let mine = ap (λ m. m.0.mine) S.1 ∙ (b.mine ∙ ap (λ m. m.0.mine ++ e ∷ []) J.2) in record {
       placed = record {
         seated = S.0 ∙ (N.same_table ∙ (J.0 ∙ c.cpu.invariant.placed.seated));
-        wide = c.cpu.invariant.placed.wide;
+        wide = c.cpu.invariant.placed.wide; cells = c.cpu.invariant.placed.cells;
         bare = ap (λ m. m.1) S.1 ∙ (N.bare ∙ (ap (λ m. m.1) J.2 ∙ c.cpu.invariant.placed.bare));
         sized = ap (λ m. m.0.processors) S.1 ∙ (b.processors ∙ (ap (λ m. m.0.processors) J.2 ∙ c.cpu.invariant.placed.sized));
       };
@@ -158,7 +159,7 @@ invariant_of-self-else-done g c =
       bare = R.bare;
       right = k.1 ∙ ap (λ o. Shelf cell o new) (sym (ap words_with k.1));
       legal = k.0.legal;
-      inside = i.inside;
+      inside = subst (λ (t : TableId). cell < cells_in t) same_home i.inside;
       some = i.some;
       most = i.most;
       version = i.version ∙ sym k.0.same;
@@ -181,7 +182,7 @@ invariant_of-cpu-else-done g c =
     let mine = ap (λ m. m.0.mine) S.1 ∙ (b.mine ∙ ap (λ m. m.0.mine ++ e ∷ []) J.2) in record {
       placed = record {
         seated = S.0 ∙ (N.same_table ∙ (J.0 ∙ c.cpu.invariant.placed.seated));
-        wide = c.cpu.invariant.placed.wide;
+        wide = c.cpu.invariant.placed.wide; cells = c.cpu.invariant.placed.cells;
         bare = ap (λ m. m.1) S.1 ∙ (N.bare ∙ (ap (λ m. m.1) J.2 ∙ c.cpu.invariant.placed.bare));
         sized = ap (λ m. m.0.processors) S.1 ∙ (b.processors ∙ (ap (λ m. m.0.processors) J.2 ∙ c.cpu.invariant.placed.sized));
       };

@@ -1,6 +1,8 @@
-use Rattle.std.proofs.Common.{ℕ, List, Some, sym, ap, ◌∙◌}
+use Rattle.std.proofs.Common.{◌<◌, subst, ℕ, List, Some, sym, ap, ◌∙◌}
 use Rattle.onedom.specs.declared.event.Event.{Event}
 use Rattle.sections.specs.declared.view.Right.TheVariants.{Shelf}
+use Rattle.atomic_table.specs.Seated.{TableId}
+use Rattle.sections.specs.Words.{cells_in}
 use Rattle.sections.specs.WriterInsides.{words_with}
 use Rattle.sections.proofs.Writing.{slot_quiet}
 use Rattle.sections.proofs.Standings.{stands_quiet}
@@ -16,7 +18,7 @@ invariant_of-self g c =
       bare = c.store_in.ensures.bare;
       right = k.1 ∙ ap (λ o. Shelf cell o new) (sym (ap words_with k.1));
       legal = k.0.legal;
-      inside = i.inside;
+      inside = subst (λ (t : TableId). cell < cells_in t) (sym c.store_in.ensures.same_table) i.inside;
       some = i.some;
       most = i.most;
       version = i.version ∙ sym k.0.same;

@@ -1,19 +1,21 @@
 use Rattle.std.proofs.lemmas.List.{get_or-replicate}
 use Rattle.atomic_table.specs.Seated.{TableId}
-use Rattle.std.proofs.Common.{List, Option, Some, None, get_or, sym, ap, ◌∙◌, subst, arith}
+use Rattle.std.proofs.Common.{◌<◌, List, Option, Some, None, get_or, sym, ap, ◌∙◌, subst, arith}
 use Rattle.onedom.specs.declared.event.Event.{Event}
 use Rattle.onedom.specs.Histories.{slot_of, version_of, IsLegal}
 use Rattle.sections.specs.declared.view.Right.TheVariants.{Shelf}
 use Rattle.sections.specs.declared.writer.Standing.TheVariants.{Blank}
+use Rattle.sections.specs.Words.{cells_in}
 use Rattle.sections.specs.Rule.{next_cell, without_cell}
 use Rattle.sections.specs.WriterInsides.{words_with}
 use Rattle.sections.specs.Writers.{Stands}
+use Rattle.sections.proofs.Seating.{cells_are}
 use Rattle.sections.proofs.Sharing.{deals_pen}
 use Rattle.sections.proofs.Standings.{new_standings, new_stands}
 use Rattle.sections.proofs.writer.dealing.deal_writer.Goals as goal
 
 pub split_seat-pen-requires : goal.split_seat-pen-requires
-split_seat-pen-requires c = (c.requires.seat.seated, c.requires.seat.some, deals_pen _ _ _ c.args.cell c.requires.seat.right c.requires.cell)
+split_seat-pen-requires c = (c.requires.seat.seated, c.requires.seat.some, deals_pen _ _ _ c.args.cell c.requires.seat.right (let h = cells_are _ _ c.requires.wide.0 c.requires.wide.1 in let i = c.requires.cell in omega (arith, h, i)))
 
 pub invariant_of-result : goal.invariant_of-result
 invariant_of-result c =
@@ -23,7 +25,7 @@ invariant_of-result c =
       bare = ap (λ m. m.1) me;
       right = right ∙ (λ k. Shelf c.args.cell (ap words_with (sym right) k) (sym seen k));
       legal = subst (λ (l : List Event). IsLegal l) (sym seen) tt;
-      inside = c.requires.cell;
+      inside = subst (λ (t : TableId). c.args.cell < cells_in t) (sym (c.homes_of-homes.ensures.seat.0 ∙ (c.split_seat-pen.ensures.3 ∙ c.requires.seat.seated))) c.requires.cell;
       some = c.requires.slots.0;
       most = c.requires.slots.1;
       version = ap (version_of c.args.cell) (sym seen);
