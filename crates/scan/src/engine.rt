@@ -152,7 +152,7 @@ impl<N: Needs, A: Allocator> Engine<N, A> {
         requires domain { cpu.old.domain ≡ self.old.seat.domain }
         requires covered { IsBeginning cpu.old.seen self.old.seat.seen × (cpu.old.changes ≤ self.old.seat.changes) }
         ensures engine { self.new ≡ self.old }
-        ensures cpu { Accepts cpu.old self.old.seat.seen self.old.seat.changes cpu.new }
+        ensures cpu { Accepts cpu.old self.old.seat.seen self.old.seat.changes self.old.seat.texts cpu.new }
         ensures was { IsSeenBy cpu.old }
         ensures sized { cpu.old.processors ≡ self.old.seat.processors }
         ensures heard { (n : ℕ) → self.old.seat.shown ≡ To cpu.old.processor n → n ≤ cpu.old.changes }
