@@ -39,3 +39,13 @@ pub use Rattle.sections.proofs.CpuViews.{last_may_follow}
 pub use Rattle.sections.proofs.Meeting.{seen_all}
 -- who was told that as many periods have ended as a cookie waits for, or more, knows that all that was open when it was given is closed
 pub use Rattle.sections.proofs.Sighting.{closed_behind}
+-- Texts
+
+-- texts that go on from what was known go on from that
+pub use Rattle.sections.proofs.Shelving.{start_refl, start_trans}
+-- who has seen no Put more knows no text more
+pub use Rattle.sections.proofs.Shelving.{same_texts}
+-- Slots
+
+-- a slot that was given out is still out where no standing has changed
+pub use Rattle.sections.proofs.Standings.{own_kept}

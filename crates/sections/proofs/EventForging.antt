@@ -19,9 +19,9 @@ use Rattle.sections.specs.declared.view.View.{View}
 use Rattle.sections.specs.Words.{locks, Agree}
 use Rattle.sections.specs.Rule.{HasItsMaker, IsProcessor, GoesOn, StandsFor, HasDone, Makes, Knows, Fits, Kept, spent}
 use Rattle.sections.specs.declared.view.Text.{Text}
-use Rattle.sections.specs.Shelves.{texts_at, AreShelved, FitsShelf}
-use Rattle.sections.proofs.Shelving.{same_shelf, shelved_on, fits_shelf_on, loaded_later}
-use Rattle.sections.specs.Laws.{HasNoEventMore, NoStepIsForged}
+use Rattle.sections.specs.Shelves.{put_cells, IsStart, texts_at, AreShelved, FitsShelf}
+use Rattle.sections.proofs.Shelving.{start_at, start_trans, start_between, same_shelf, shelved_on, fits_shelf_on, loaded_later}
+use Rattle.sections.specs.Laws.{NoTextIsForged, HasNoEventMore, NoStepIsForged}
 use Rattle.sections.proofs.Agreement.{agrees_plain}
 use Rattle.sections.proofs.Counters.{All-push, locks_push}
 use Rattle.sections.proofs.Deeds.{done_later}
@@ -239,50 +239,62 @@ module _ (bounds : Bounds) (s : State (Option ℕ) View) (r : Kept bounds s) (q 
   knows_all : get_elem? state.views last ≡ some (knowing r.shelf.texts all)
   knows_all = at_last rest (knowing r.shelf.texts all) last refl
 
-  module _ (id : ℕ) (v : View) (at : get_elem? s.views id ≡ some v) (m : Maker) (is : StandsFor v.role m) (not : StandsFor v.role (Processor q) → ⊥) where
-    other_maker : same_maker (Processor q) m ≡ false
-    other_maker = same_maker_false (Processor q) m (λ e. not (subst (StandsFor v.role) (sym e) is))
-
-    -- what was seen is no longer than what the token has seen, and both are beginnings of one history
-    says : (after : State (Option ℕ) View) → Kept bounds after → get_elem? after.views last ≡ some (knowing r.shelf.texts all) → (j : ℕ) (w : View) → get_elem? after.views j ≡ some w → length w.seen ≤ k → HasNoEventMore m v w
-    says after a whole j w here short =
-        let long = longer_long q k r.log in
-        let b = beginning_made_by m (beginning_by_length (a.each_view j w here).seen (a.each_view last (knowing r.shelf.texts all) whole).seen (omega (arith, short, long))) in
-        record {
-          rest = b.rest;
-          whole = own_events r.log r.changes r.seat_of r.reached r.holder r.engine id v.role v.mine m is (r.each_view id v at).makes ∙ (sym (longer_made q k r.log m other_maker) ∙ b.whole);
-        }
-
-    pub cut_left : (left right : View) → length left.seen ≤ k → Splits (Kept bounds) id v left right → HasNoEventMore m v left
-    cut_left left right short splits =
+  module _ (id : ℕ) (v : View) (at : get_elem? s.views id ≡ some v) (not : StandsFor v.role (Processor q) → ⊥) (Has : View → Type 0)
+      (says : (after : State (Option ℕ) View) → Kept bounds after → get_elem? after.views last ≡ some (knowing r.shelf.texts all) → (j : ℕ) (w : View) → get_elem? after.views j ≡ some w → length w.seen ≤ k → Has w) where
+    left_has : (left right : View) → length left.seen ≤ k → Splits (Kept bounds) id v left right → Has left
+    left_has left right short splits =
         let low = below id v at in
         says record { words = state.words; homes = state.homes; views = set state.views id left ++ right ∷ [] } (splits state kept (there id v at not))
         (at_longer (set state.views id left) (right ∷ []) last (knowing r.shelf.texts all) (set_else state.views id last left (λ h. omega (arith, h, low)) ∙ knows_all))
         id left (at_longer (set state.views id left) (right ∷ []) id left (set_here state.views id left (at_below state.views v id (there id v at not)))) short
 
-    pub cut_right : (left right : View) → length right.seen ≤ k → Splits (Kept bounds) id v left right → HasNoEventMore m v right
-    cut_right left right short splits =
+    right_has : (left right : View) → length right.seen ≤ k → Splits (Kept bounds) id v left right → Has right
+    right_has left right short splits =
         let low = below id v at in
         says record { words = state.words; homes = state.homes; views = set state.views id left ++ right ∷ [] } (splits state kept (there id v at not))
         (at_longer (set state.views id left) (right ∷ []) last (knowing r.shelf.texts all) (set_else state.views id last left (λ h. omega (arith, h, low)) ∙ knows_all))
         (length (set state.views id left)) right (at_last (set state.views id left) right (length (set state.views id left)) refl) short
 
-    pub joined : (other : ℕ) (w both gone : View) → (other ≡ id → ⊥) → get_elem? s.views other ≡ some w → (StandsFor w.role (Processor q) → ⊥) → length both.seen ≤ k → Joins (Kept bounds) id v other w both gone → HasNoEventMore m v both
-    joined other w both gone apart there_too neither_one short joins =
+    both_have : (other : ℕ) (w both gone : View) → (other ≡ id → ⊥) → get_elem? s.views other ≡ some w → (StandsFor w.role (Processor q) → ⊥) → length both.seen ≤ k → Joins (Kept bounds) id v other w both gone → Has both
+    both_have other w both gone apart there_too neither_one short joins =
         let low = below id v at in
         let low_too = below other w there_too in
         says record { words = state.words; homes = state.homes; views = set (set state.views id both) other gone } (joins state kept (there id v at not) apart (set_else state.views id other both apart ∙ there other w there_too neither_one))
         (set_else (set state.views id both) other last gone (λ h. omega (arith, h, low_too)) ∙ (set_else state.views id last both (λ h. omega (arith, h, low)) ∙ knows_all))
         id both (set_else (set state.views id both) other id gone (λ h. apart (sym h)) ∙ set_here state.views id both (at_below state.views v id (there id v at not))) short
 
+  -- what was seen is no longer than what the token has seen, and both are beginnings of one history
+  begins_all : (after : State (Option ℕ) View) → (a : Kept bounds after) → get_elem? after.views last ≡ some (knowing r.shelf.texts all) → (j : ℕ) (w : View) → get_elem? after.views j ≡ some w → length w.seen ≤ k → IsBeginning w.seen all
+  begins_all after a whole j w here short = let long = longer_long q k r.log in beginning_by_length (a.each_view j w here).seen (a.each_view last (knowing r.shelf.texts all) whole).seen (omega (arith, short, long))
+
+  -- so its texts are a beginning of those that the token has, which are all that there are
+  pub says_texts : (after : State (Option ℕ) View) → Kept bounds after → get_elem? after.views last ≡ some (knowing r.shelf.texts all) → (j : ℕ) (w : View) → get_elem? after.views j ≡ some w → length w.seen ≤ k → IsStart w.texts r.shelf.texts
+  says_texts after a whole j w here short = start_trans (subst (λ (z : List Text × List Text). IsStart z.0 z.1) (λ i. (sym (a.shelf.each j w here).has i, sym (a.shelf.each last (knowing r.shelf.texts all) whole).has i))
+      (start_between w.seen all a.shelf.texts (begins_all after a whole j w here short))) (start_at (length (put_cells all)) r.shelf.texts)
+
+  module _ (id : ℕ) (v : View) (at : get_elem? s.views id ≡ some v) (m : Maker) (is : StandsFor v.role m) (not : StandsFor v.role (Processor q) → ⊥) where
+    other_maker : same_maker (Processor q) m ≡ false
+    other_maker = same_maker_false (Processor q) m (λ e. not (subst (StandsFor v.role) (sym e) is))
+
+    pub says_events : (after : State (Option ℕ) View) → Kept bounds after → get_elem? after.views last ≡ some (knowing r.shelf.texts all) → (j : ℕ) (w : View) → get_elem? after.views j ≡ some w → length w.seen ≤ k → HasNoEventMore m v w
+    says_events after a whole j w here short =
+        let b = beginning_made_by m (begins_all after a whole j w here short) in
+        record {
+          rest = b.rest;
+          whole = own_events r.log r.changes r.seat_of r.reached r.holder r.engine id v.role v.mine m is (r.each_view id v at).makes ∙ (sym (longer_made q k r.log m other_maker) ∙ b.whole);
+        }
+
 no_event_by_split : (bounds : Bounds) (s : State (Option ℕ) View) (r : Kept bounds s) (id : ℕ) (v : View) → get_elem? s.views id ≡ some v → (m o : Maker) → StandsFor v.role m → (StandsFor v.role o → ⊥) → IsProcessor bounds.processors o
     → (left right : View) → Splits (Kept bounds) id v left right → HasNoEventMore m v left × HasNoEventMore m v right
-no_event_by_split bounds s r id v at m (Processor q) is not lt left right splits = (cut_left bounds s r q lt (length left.seen) id v at m is not left right (omega arith) splits, cut_right bounds s r q lt (length right.seen) id v at m is not left right (omega arith) splits)
+no_event_by_split bounds s r id v at m (Processor q) is not lt left right splits = (
+  left_has bounds s r q lt (length left.seen) id v at not (HasNoEventMore m v) (says_events bounds s r q lt (length left.seen) id v at m is not) left right (omega arith) splits,
+  right_has bounds s r q lt (length right.seen) id v at not (HasNoEventMore m v) (says_events bounds s r q lt (length right.seen) id v at m is not) left right (omega arith) splits,
+)
 no_event_by_split bounds s r id v at m Engine is not lt left right splits = absurd lt
 
 no_event_by_join : (bounds : Bounds) (s : State (Option ℕ) View) (r : Kept bounds s) (id : ℕ) (v : View) → get_elem? s.views id ≡ some v → (m o : Maker) → StandsFor v.role m → (StandsFor v.role o → ⊥) → IsProcessor bounds.processors o
     → (other : ℕ) (w both gone : View) → (other ≡ id → ⊥) → get_elem? s.views other ≡ some w → (StandsFor w.role o → ⊥) → Joins (Kept bounds) id v other w both gone → HasNoEventMore m v both
-no_event_by_join bounds s r id v at m (Processor q) is not lt other w both gone apart there_too neither_one joins = joined bounds s r q lt (length both.seen) id v at m is not other w both gone apart there_too neither_one (omega arith) joins
+no_event_by_join bounds s r id v at m (Processor q) is not lt other w both gone apart there_too neither_one joins = both_have bounds s r q lt (length both.seen) id v at not (HasNoEventMore m v) (says_events bounds s r q lt (length both.seen) id v at m is not) other w both gone apart there_too neither_one (omega arith) joins
 no_event_by_join bounds s r id v at m Engine is not lt other w both gone apart there_too neither_one joins = absurd lt
 
 pub never_forged : NoStepIsForged
@@ -295,4 +307,14 @@ never_forged bounds s r id v at m o is not = (
     steps = no_step_by_join bounds s r id v at m o is not other w both gone apart there_too neither_one joins;
     events = λ lt. no_event_by_join bounds s r id v at m o is not lt other w both gone apart there_too neither_one joins;
   }),
+)
+
+pub texts_never_forged : NoTextIsForged
+texts_never_forged bounds s r id v at q lt not = (
+  (λ left right splits. (
+    left_has bounds s r q lt (length left.seen) id v at not (λ u. IsStart u.texts r.shelf.texts) (says_texts bounds s r q lt (length left.seen)) left right (omega arith) splits,
+    right_has bounds s r q lt (length right.seen) id v at not (λ u. IsStart u.texts r.shelf.texts) (says_texts bounds s r q lt (length right.seen)) left right (omega arith) splits,
+  )),
+  (λ other w both gone apart there_too neither_one joins.
+  both_have bounds s r q lt (length both.seen) id v at not (λ u. IsStart u.texts r.shelf.texts) (says_texts bounds s r q lt (length both.seen)) other w both gone apart there_too neither_one (omega arith) joins),
 )

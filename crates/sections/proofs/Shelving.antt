@@ -1,5 +1,5 @@
 -- What the rule says of cells and slots stays so.
-use Rattle.std.proofs.Common.{◌≡◌, ℕ, ◌<◌, ◌≤◌, ◌≢◌, ◌⊎◌, inl, inr, ⊎_elim, false, cond, nat_le, None, List, [], ◌∷◌, ◌++◌, All, length, take, drop, get_or, set, refl, sym, ap, ◌∙◌, subst, append-nil, append_assoc, length-append, le-leb, leb-true, arith, get_or-set_other, take-append-drop}
+use Rattle.std.proofs.Common.{◌≡◌, ℕ, ◌<◌, ◌≤◌, ◌≢◌, inl, inr, ⊎_elim, false, cond, nat_le, None, List, [], ◌∷◌, ◌++◌, All, length, take, drop, get_or, set, refl, sym, ap, ◌∙◌, subst, append-nil, append_assoc, length-append, le-leb, leb-true, arith, get_or-set_other, take-append-drop}
 use Rattle.std.specs.List.{cons_option}
 use Rattle.std.proofs.lemmas.List.{length-map, get_or-replicate, take-take}
 use Rattle.std.proofs.lemmas.List.Elements.{All-nil, All-weaker, All-push, filter_map-append}
@@ -42,6 +42,20 @@ start_refl texts = record { rest = []; whole = sym (append-nil texts) }
 
 pub start_trans : {a b c : List Text} → IsStart a b → IsStart b c → IsStart a c
 start_trans {a = a} ab bc = record { rest = ab.rest ++ bc.rest; whole = bc.whole ∙ (ap (λ l. l ++ bc.rest) ab.whole ∙ append_assoc a ab.rest bc.rest) }
+
+-- who has seen no Put more knows no text more
+pub same_texts : (known texts : List Text) (seen more : List Event) → IsStart known texts → AreTextsOf known seen → AreTextsOf texts more → put_cells more ≡ put_cells seen → texts ≡ known
+same_texts known texts seen more start before after same =
+    let a = ap length before ∙ ap length (sym same) in
+    let b = ap length after in
+    let c = length-map known (λ t. t.cell) in
+    let d = length-map texts (λ t. t.cell) in
+    let whole = ap length start.whole ∙ length-append known start.rest in
+    start.whole ∙ (ap (λ l. known ++ l) (nothing start.rest (omega (arith, a, b, c, d, whole))) ∙ append-nil known)
+  where
+    nothing : (rest : List Text) → length rest ≡ 0 → rest ≡ []
+    nothing [] e = refl
+    nothing (t ∷ ts) e = absurd (omega (arith, e))
 
 pub no_put : (e : Event) → put_cell e ≡ None → (c : ℕ) → puts_in c e ≡ false
 no_put (Begin s p i by) none c = refl

@@ -2,7 +2,7 @@
 use Rattle.std.proofs.Common.{◌≡◌, ℕ, ◌+◌, ◌%◌, ◌<◌, ◌≤◌, ◌≢◌, Bool, true, false, List, [], ◌∷◌, ◌++◌, Option, Some, None, zero, suc, count_by, get_or, set, length, refl, sym, ap, ◌∙◌, subst, append_assoc, length-append, length-set, ne_eqb, eqb, ◌&&◌, arith, get_or-set_other, get_or-set_same}
 use Rattle.std.proofs.lemmas.List.{get_or_push, get_or_append_left}
 use Rattle.atomic_table.specs.Seated.{TableId}
-use Rattle.sections.specs.WriterViews.{WriterView}
+use Rattle.sections.specs.WriterViews.{WriterView, SlotView}
 use Rattle.sections.specs.Dealing.{new_writer, AreNewWriters}
 use mathlib.Core.Logic.{dite}
 use native.Mathlib.Decide.{ℕ_discrete}
@@ -13,7 +13,7 @@ use Rattle.onedom.specs.Histories.{slot_of, version_of, finds_of, IsClear, MayFo
 use Rattle.onedom.proofs.CallerLemmas.{bit, count_cons, beginning_append, beginning_trans, legal_beginning, legal_after_append, clear_until_put, resting_on, unfound_on, quiet, versions_up, reclaim}
 use Rattle.sections.specs.declared.writer.Standing.{Standing}
 use Rattle.sections.specs.declared.writer.Standing.TheVariants.{Blank, Out, Current, Retired}
-use Rattle.sections.specs.Writers.{is_out, IsRetired, Stands}
+use Rattle.sections.specs.Writers.{IsOwn, IsSameWriter, is_out, IsRetired, Stands}
 use Rattle.sections.proofs.Writing.{slot_unput, clear_quiet, slot_quiet}
 
 -- a slot that is not current is neither put nor found where nothing is put into its cell
@@ -52,6 +52,15 @@ pub stands_set : (seen : List Event) (c slots : ℕ) (xs : List Standing) (x : �
 stands_set seen c slots xs x t long all here z lz = dite (ℕ_discrete z x)
     (λ e. subst (λ (u : ℕ × Standing). Stands seen c u.0 u.1) (λ k. (sym e k, sym (ap (λ n. get_or (set xs x t) n Blank) e ∙ get_or-set_same xs x t Blank long) k)) here)
     (λ n. subst (λ (u : Standing). Stands seen c z u) (sym (get_or-set_other xs x z t Blank n)) (all z lz))
+
+-- a slot that was given out is still out where no standing has changed
+pub own_kept : (w w' : WriterView) (s s' : SlotView) → IsSameWriter w w' → w'.standings ≡ w.standings → s' ≡ s → IsOwn w s → IsOwn w' s'
+own_kept w w' s s' same standings slot own = subst (λ (z : SlotView). IsOwn w' z) (sym slot) record {
+  domain = own.domain ∙ sym same.domain;
+  cell = own.cell ∙ sym same.cell;
+  inside = subst (λ (n : ℕ). s.slot < n) (sym same.slots) own.inside;
+  out = ap (λ l. get_or l s.slot Blank) standings ∙ own.out;
+}
 
 pub retired_out : {n : ℕ} → Retired n ≡ Out → ⊥
 retired_out e = cc

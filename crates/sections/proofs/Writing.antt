@@ -1,5 +1,5 @@
 -- What the seat with the right to a cell does there.
-use Rattle.std.proofs.Common.{◌≡◌, ℕ, ◌+◌, ◌*◌, ◌<◌, ◌≤◌, ◌≢◌, inl, inr, ⊎_elim, Bool, true, false, cond, eqb, ◌&&◌, List, [], ◌∷◌, ◌++◌, All, Option, length, map, drop, get_or, set, refl, sym, ap, ◌∙◌, subst, eq-eqb, ne_eqb, eqb-true, append_assoc, length-append, length-set, arith, get_or-set_other, get_or-set_same}
+use Rattle.std.proofs.Common.{◌≡◌, ℕ, ◌+◌, ◌*◌, ◌<◌, ◌≤◌, ◌≢◌, inl, inr, ⊎_elim, Bool, true, false, cond, eqb, ◌&&◌, List, [], ◌∷◌, ◌++◌, All, Option, length, map, drop, get_or, set, refl, sym, ap, ◌∙◌, subst, eq-eqb, ne_eqb, eqb-true, append_assoc, length-set, arith, get_or-set_other, get_or-set_same}
 use Rattle.std.proofs.lemmas.List.{length-map, map-append, get_or-take, get_or-drop, take-append-le, get_or_push}
 use Rattle.std.proofs.lemmas.List.Elements.{All-nil, All-cons, All-head, All-tail, All-weaker, filter_map-append}
 use mathlib.Core.Logic.{dite}

@@ -1,5 +1,5 @@
 -- How the fields of the writer of a cell and of a slot are seen, and what is always true of them.
-use Rattle.std.specs.Prelude.{◌≡◌, ◌≢◌, Option, Some, None, ℕ, ◌+◌, ◌^◌, ◌<◌, ◌≤◌, List, [], count_by, slice_index_or}
+use Rattle.std.specs.Prelude.{◌≡◌, ◌≢◌, Some, None, ℕ, ◌+◌, ◌^◌, ◌<◌, ◌≤◌, List, [], count_by, slice_index_or}
 use Rattle.onedom.specs.Histories.{slot_of, version_of, IsLegal}
 use Rattle.sections.specs.declared.view.Right.{Right}
 use Rattle.sections.specs.declared.view.Right.TheVariants.{Nothing, Section, Shelf, Undealt}

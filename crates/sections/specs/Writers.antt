@@ -123,9 +123,7 @@ Reclaims w c w' c' = ReclaimsBelow w.slots w c w' c'
 -- a blank slot was given out, and fewer than 2 ^ 54 versions were put
 pub record Gives (w w' : WriterView) (s : SlotView) : Type 0 where
   pub room : w.version < 2 ^ 54
-  pub inside : s.slot < w.slots
-  pub domain : s.domain ≡ w.domain
-  pub cell : s.cell ≡ w.cell
+  pub own : IsOwn w' s
   pub blank : standing_of w s.slot ≡ Blank
   pub same : IsSameWriter w w'
   pub standings : w'.standings ≡ slice_set w.standings s.slot Out

@@ -1,5 +1,5 @@
 //! What holds of the words of every domain, for callers and readers: the calls do nothing.
-ghost use Rattle.sections.specs.Laws.{OneHistory, ShownIsSeen, WordsAgree, NoStepIsForged, EqualSumsAreEmpty, FewerEndsShowOne, CountersAddUp, CountersGrow};
+ghost use Rattle.sections.specs.Laws.{OneHistory, ShownIsSeen, WordsAgree, NoStepIsForged, NoTextIsForged, EqualSumsAreEmpty, FewerEndsShowOne, CountersAddUp, CountersGrow};
 
 /// Between any two steps of any threads there is one legal history, the words of the domain agree with it, and what each
 /// seat has seen is a beginning of it. `changes` tell the number and the index word.
@@ -12,9 +12,10 @@ pub fn words_of_a_domain()
 /// A load leaves no mark in the words, so what a processor or the engine says of its loads rests on the rule alone: as
 /// long as there is a maker that has a seat elsewhere, no seat gets a step that it did not make by being cut in two or by
 /// taking another in. Where that maker is a processor, no seat gets to see an event of its own that it did not make: a
-/// load of the number is an event.
+/// load of the number is an event. And no seat gets to know of a version what was not put there.
 pub fn steps_of_a_domain()
-    ensures { NoStepIsForged }
+    ensures steps { NoStepIsForged }
+    ensures texts { NoTextIsForged }
 {}
 
 /// The argument of a scan: as many sections of an index have ended as were begun just where none is open, and the

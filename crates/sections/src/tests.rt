@@ -6,6 +6,8 @@ ghost use Rattle.sections.specs.Words.{index_word, IsBeforeFlip, IsBehindFlip};
 ghost use Rattle.sections.specs.Calls.{IsSameCpu};
 ghost use Rattle.sections.specs.EngineCalls.{IsSameEngine, IsSeenByEngine};
 
+mod shelf;
+
 use super::*;
 use bumpalo::Bump;
 use linked_list_allocator::LocalHeap;
@@ -665,7 +667,7 @@ fn make_and_drop(heap: &LocalHeap) -> Result<usize, MakeError> {
 /// Would catch a refused allocation that leaves something allocated.
 #[test]
 fn gives_back_what_a_refused_domain_took(rt: HostRuntime) -> Result<(), Fail> {
-    for room in 0..400 {
+    for room in 0..100 {
         let heap = LocalHeap::new(rt.alloc(), 64 + 64 * room)?;
         let made = make_and_drop(&heap);
         assert_eq!(rt; heap.used(), 0);
@@ -683,14 +685,14 @@ fn gives_back_what_a_refused_domain_took(rt: HostRuntime) -> Result<(), Fail> {
 /// room than the one before it.
 #[test]
 fn make_in_little_room(rt: HostRuntime) -> Result<(), Fail> {
-    let words = 8 * 640;
+    let words = 8 * 64;
     let processors = 2 * size_of::<Cpu<&Bump>>();
-    let zeros = vec![in rt.alloc(); 0u8; 32768]?;
-    for room in (0..16384).step_by(16) {
-        let arena = Bump::try_with_capacity(rt.alloc(), 16384)?;
+    let zeros = vec![in rt.alloc(); 0u8; 8192]?;
+    for room in (0..4096).step_by(16) {
+        let arena = Bump::try_with_capacity(rt.alloc(), 4096)?;
         arena.set_allocation_limit(Some(arena.allocated_bytes()));
         let filled = arena.chunk_capacity().saturating_sub(room);
-        arena.try_alloc_slice_copy(&zeros[..filled.min(32768)])?;
+        arena.try_alloc_slice_copy(&zeros[..filled.min(8192)])?;
         assert_eq!(rt; arena.chunk_capacity(), room);
         match make(&arena, 2, limits(1)) {
             Ok(made) => {

@@ -36,17 +36,36 @@ impl Token for Found {
 }
 
 /// A version that a reading found. It keeps the reading lent, so that its section stays open and the version as it is.
-#[derive(Drop)]
 pub struct Pin<'a> {
     pub reading: &'a mut Reading,
     pub found: Found,
 }
 
+/// The reading is as it was when the pin let go of it.
+impl Drop for Pin<'_> {
+    fn drop(self)
+        ensures { self.exit.0.now ≡ self.entry.reading.now }
+    {
+        let Pin {
+            reading: _,
+            found: _,
+        } = self;
+    }
+}
+
 /// A version that a held section found. It keeps the section lent, as a [`Pin`] keeps a reading.
-#[derive(Drop)]
 pub struct DownPin<'a> {
     pub held: &'a mut Held,
     pub found: Found,
+}
+
+/// The section is as it was when the pin let go of it.
+impl Drop for DownPin<'_> {
+    fn drop(self)
+        ensures { self.exit.0.now ≡ self.entry.held.now }
+    {
+        let DownPin { held: _, found: _ } = self;
+    }
 }
 
 /// A version that a held section found, with that section. It can't be dropped: get the section back by
@@ -65,7 +84,32 @@ impl Found {
     }
 }
 
+impl Pin<'_> {
+    /// The version that was found.
+    pub fn version(&self) -> u64
+        ensures { result ≡ self.now.found.version }
+    {
+        self.found.version
+    }
+}
+
+impl DownPin<'_> {
+    /// The version that was found.
+    pub fn version(&self) -> u64
+        ensures { result ≡ self.now.found.version }
+    {
+        self.found.version
+    }
+}
+
 impl HeldPin {
+    /// The version that was found.
+    pub fn version(&self) -> u64
+        ensures { result ≡ self.now.found.version }
+    {
+        self.found.version
+    }
+
     /// The section, which is still open.
     pub fn into_held(self) -> Held
         ensures { result ≡ self.held }

@@ -13,6 +13,13 @@ use std::marker::Brand;
 const MOST_VERSIONS: u64 = 18_014_398_509_481_984;
 
 impl Writer {
+    /// The number of its cell.
+    pub fn cell(&self) -> usize
+        ensures { result ≡ self.now.cell }
+    {
+        self.cell
+    }
+
     /// A slot that nobody can read, to be filled. None exactly where no slot is blank, or 2^54 versions were put.
     pub fn blank(&mut self) -> Option<Slot>
         ensures { MatchOption result (GivesNone self.old self.new) (λ s. Gives self.old self.new s) }

@@ -1,5 +1,5 @@
-use Rattle.std.proofs.Common.{◌≡◌, ◌≢◌, ℕ, ◌+◌, ◌≤◌, get_or, refl, sym, ap, ◌∙◌, subst, arith}
-use Rattle.sections.specs.declared.writer.Standing.TheVariants.{Blank, Retired}
+use Rattle.std.proofs.Common.{◌≡◌, ℕ, ◌+◌, ◌≤◌, get_or, refl, sym, ap, ◌∙◌, subst, arith}
+use Rattle.sections.specs.declared.writer.Standing.TheVariants.{Blank}
 use Rattle.sections.specs.Views.{CpuView}
 use Rattle.sections.specs.WriterViews.{WriterView}
 use Rattle.sections.specs.Writers.{standing_of, ReclaimsBelow}
