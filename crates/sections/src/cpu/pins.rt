@@ -41,6 +41,10 @@ pub struct Pin<'a> {
     pub found: Found,
 }
 
+impl Token for HeldPin {
+    ghost domain = { λ p. p.held.domain };
+}
+
 /// The reading is as it was when the pin let go of it.
 impl Drop for Pin<'_> {
     fn drop(self)
