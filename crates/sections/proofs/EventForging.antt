@@ -316,5 +316,5 @@ texts_never_forged bounds s r id v at q lt not = (
     right_has bounds s r q lt (length right.seen) id v at not (λ u. IsStart u.texts r.shelf.texts) (says_texts bounds s r q lt (length right.seen)) left right (omega arith) splits,
   )),
   (λ other w both gone apart there_too neither_one joins.
-  both_have bounds s r q lt (length both.seen) id v at not (λ u. IsStart u.texts r.shelf.texts) (says_texts bounds s r q lt (length both.seen)) other w both gone apart there_too neither_one (omega arith) joins),
+      both_have bounds s r q lt (length both.seen) id v at not (λ u. IsStart u.texts r.shelf.texts) (says_texts bounds s r q lt (length both.seen)) other w both gone apart there_too neither_one (omega arith) joins),
 )

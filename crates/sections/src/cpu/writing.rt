@@ -49,7 +49,9 @@ pub(crate) fn store_in<A: Allocator, N: HasProcessors>(
     ensures { StoresIn cell slot place value pen.old pen.new }
 {
     let place = place_of_word(table, cell, slot, place);
-    table.shared.store::<plays::StorePayload<N>>(pen, place, value);
+    table
+        .shared
+        .store::<plays::StorePayload<N>>(pen, place, value);
 }
 
 /// Loads the cell with the right to it, behind all that both seats have seen.

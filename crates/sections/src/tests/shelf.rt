@@ -124,7 +124,10 @@ fn versions(rt: HostRuntime) -> Result<(), Fail> {
     let (mut cpu, _engine, mut writer) = one_cell(rt.alloc(), 4)?;
     let put = put_words(&mut writer, &mut cpu, 10, 11);
     let read = read_and_put(&mut cpu, &mut writer);
-    assert_eq!(rt; (put, read), (Some(4), Some(((1, 10, 11), (10, Some(4), 10), (2, 20, 21)))));
+    assert_eq!(rt;
+        (put, read),
+        (Some(4), Some(((1, 10, 11), (10, Some(4), 10), (2, 20, 21))))
+    );
     Ok(())
 }
 
@@ -144,7 +147,10 @@ fn read_held(cpu: &mut Cpu) -> Option<[(u64, u64, u64); 2]>
 fn versions_in_held_sections(rt: HostRuntime) -> Result<(), Fail> {
     let (mut cpu, _engine, mut writer) = one_cell(rt.alloc(), 4)?;
     let put = put_words(&mut writer, &mut cpu, 10, 11);
-    assert_eq!(rt; (put, read_held(&mut cpu)), (Some(4), Some([(1, 10, 11); 2])));
+    assert_eq!(rt;
+        (put, read_held(&mut cpu)),
+        (Some(4), Some([(1, 10, 11); 2]))
+    );
     Ok(())
 }
 

@@ -26,7 +26,8 @@ invariant_of-self g c =
     let mine = ap (λ (v : View). v.mine) cut ∙ a.mine in record {
       placed = record {
         seated = s.0 ∙ (told.same_table ∙ c.self.invariant.placed.seated);
-        wide = c.self.invariant.placed.wide; cells = c.self.invariant.placed.cells;
+        wide = c.self.invariant.placed.wide;
+        cells = c.self.invariant.placed.cells;
         bare = ap (λ m. m.1) s.2 ∙ (told.bare ∙ c.self.invariant.placed.bare);
         sized = ap (λ (v : View). v.processors) cut ∙ (a.processors ∙ c.self.invariant.placed.sized);
       };

@@ -49,7 +49,8 @@ invariant_of-self-2 g c =
     rw c.place-2.ensures (record {
       placed = record {
         seated = search rules;
-        wide = c.self.invariant.placed.wide; cells = c.self.invariant.placed.cells;
+        wide = c.self.invariant.placed.wide;
+        cells = c.self.invariant.placed.cells;
         bare = ap (λ m. m.1) b.stays;
         sized = ap (λ (v : View). v.processors) stays ∙ (b.adds.processors ∙ (h.processors ∙ c.self.invariant.placed.sized));
       };

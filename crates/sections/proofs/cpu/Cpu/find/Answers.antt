@@ -36,7 +36,8 @@ invariant_of-self g c =
     let mine = ap (λ (v : View). v.mine) cut ∙ a.0.mine in record {
       placed = record {
         seated = f.same_table.0 ∙ c.self.invariant.placed.seated;
-        wide = c.self.invariant.placed.wide; cells = c.self.invariant.placed.cells;
+        wide = c.self.invariant.placed.wide;
+        cells = c.self.invariant.placed.cells;
         bare = ap (λ m. m.1) f.stays;
         sized = ap (λ (v : View). v.processors) cut ∙ (a.0.processors ∙ c.self.invariant.placed.sized);
       };

@@ -40,7 +40,8 @@ invariant_of-self g c =
     let mine = ap (λ (v : View). v.mine) cut ∙ (a.mine ∙ ap (λ m. m.0.mine ++ e ∷ []) joined) in record {
       placed = record {
         seated = s.0 ∙ (told.0 ∙ (c.join_seat.ensures.0 ∙ c.self.invariant.placed.seated));
-        wide = c.self.invariant.placed.wide; cells = c.self.invariant.placed.cells;
+        wide = c.self.invariant.placed.wide;
+        cells = c.self.invariant.placed.cells;
         bare = ap (λ m. m.1) s.2 ∙ (told.2.0 ∙ (ap (λ m. m.1) joined ∙ c.self.invariant.placed.bare));
         sized = ap (λ (v : View). v.processors) cut ∙ (a.processors ∙ (ap (λ m. m.0.processors) joined ∙ c.self.invariant.placed.sized));
       };

@@ -36,7 +36,8 @@ invariant_of-self g c =
     let free = told.right ∙ (ap (λ m. m.0.right) joined ∙ (ap (λ m. m.0.right) c.split_seat-token.ensures.4 ∙ ap (λ (v : View). v.right) c.cookie.invariant.plain)) in record {
       placed = record {
         seated = told.same_table ∙ (c.join_seat.ensures.0 ∙ c.self.invariant.placed.seated);
-        wide = c.self.invariant.placed.wide; cells = c.self.invariant.placed.cells;
+        wide = c.self.invariant.placed.wide;
+        cells = c.self.invariant.placed.cells;
         bare = told.bare ∙ (ap (λ m. m.1) joined ∙ c.self.invariant.placed.bare);
         sized = a.processors ∙ (ap (λ m. m.0.processors) joined ∙ c.self.invariant.placed.sized);
       };

@@ -14,7 +14,8 @@ invariant_of-self g c =
     let mine = a.mine ∙ ap (λ (l : List Event). l ++ Ask c.args.cookie c.ask_number.result (Processor p) ∷ []) joined in record {
       placed = record {
         seated = told.same_table ∙ c.self.invariant.placed.seated;
-        wide = c.self.invariant.placed.wide; cells = c.self.invariant.placed.cells;
+        wide = c.self.invariant.placed.wide;
+        cells = c.self.invariant.placed.cells;
         bare = told.bare ∙ c.self.invariant.placed.bare;
         sized = a.processors ∙ c.self.invariant.placed.sized;
       };

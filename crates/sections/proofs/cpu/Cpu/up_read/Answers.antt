@@ -32,7 +32,8 @@ invariant_of-self g c =
     let was = c.self.invariant.settled in record {
       placed = record {
         seated = search rules;
-        wide = c.self.invariant.placed.wide; cells = c.self.invariant.placed.cells;
+        wide = c.self.invariant.placed.wide;
+        cells = c.self.invariant.placed.cells;
         bare = c.fetch_add.ensures.2.0 ∙ (ap (λ m. m.1) joined ∙ c.self.invariant.placed.bare);
         sized = told.0.processors ∙ (ap (λ m. m.0.processors) joined ∙ c.self.invariant.placed.sized);
       };

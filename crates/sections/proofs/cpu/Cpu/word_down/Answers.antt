@@ -33,7 +33,8 @@ invariant_of-self g c =
     let mine = ap (λ (v : View). v.mine) cut ∙ h.mine in record {
       placed = record {
         seated = f.same_table ∙ c.self.invariant.placed.seated;
-        wide = c.self.invariant.placed.wide; cells = c.self.invariant.placed.cells;
+        wide = c.self.invariant.placed.wide;
+        cells = c.self.invariant.placed.cells;
         bare = ap (λ m. m.1) f.stays;
         sized = ap (λ (v : View). v.processors) cut ∙ (h.processors ∙ c.self.invariant.placed.sized);
       };

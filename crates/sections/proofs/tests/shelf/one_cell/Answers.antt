@@ -25,6 +25,11 @@ returns c =
     let cpu : d ≡ get_or c.in_ok-cpus.field-0.cpus.items 1 d = cc a in
     let writer : w ≡ get_or c.in_ok-cpus.field-0.writers.items 0 w = cc b in
     let home : d.domain ≡ c.in_ok-cpus.field-0.engine.domain = ap (λ (z : CpuView). z.domain) (cpu ∙ m.cpus_new 1 d (omega (arith, two))) in
-    let pen : w.domain ≡ c.in_ok-cpus.field-0.engine.domain = ap (λ (z : WriterView). z.domain) (writer ∙ ws.each 0 w (omega arith)) in
-    (sym home, pen ∙ sym home, subst (λ (t : TableId). 0 < cells_in t) (sym home) (omega (arith, cells)),
-    ap (λ (z : EngineView). z.processors) m.engine_new, ap (λ (z : EngineView). z.changes) m.engine_new, ap (λ (z : EngineView). z.periods) m.engine_new)
+    let pen : w.domain ≡ c.in_ok-cpus.field-0.engine.domain = ap (λ (z : WriterView). z.domain) (writer ∙ ws.each 0 w (omega arith)) in (
+      sym home,
+      pen ∙ sym home,
+      subst (λ (t : TableId). 0 < cells_in t) (sym home) (omega (arith, cells)),
+      ap (λ (z : EngineView). z.processors) m.engine_new,
+      ap (λ (z : EngineView). z.changes) m.engine_new,
+      ap (λ (z : EngineView). z.periods) m.engine_new,
+    )

@@ -31,7 +31,8 @@ note_number-requires-clause-placed g c =
     let a = P.adds c.cpu.inside.processor (words_with c.self.inside.seat.me.0.right) c.self.inside.seat.me.0.seen c.cpu.invariant.role c.self.invariant.right in
     rw c.deref-table.ensures (record {
       seated = P.same_table.0 ∙ c.cpu.invariant.placed.seated;
-      wide = c.cpu.invariant.placed.wide; cells = c.cpu.invariant.placed.cells;
+      wide = c.cpu.invariant.placed.wide;
+      cells = c.cpu.invariant.placed.cells;
       bare = ap (λ m. m.1) P.stays;
       sized = ap (λ m. m.0.processors) P.stays ∙ (a.0.processors ∙ c.cpu.invariant.placed.sized);
     })
@@ -51,7 +52,8 @@ refresh_in-requires-clause-placed g c =
     rw c.deref-table.ensures (
       record {
         seated = N.same_table ∙ (P.same_table.0 ∙ c.cpu.invariant.placed.seated);
-        wide = c.cpu.invariant.placed.wide; cells = c.cpu.invariant.placed.cells;
+        wide = c.cpu.invariant.placed.wide;
+        cells = c.cpu.invariant.placed.cells;
         bare = N.bare ∙ ap (λ m. m.1) P.stays;
         sized = b.processors ∙ (ap (λ m. m.0.processors) P.stays ∙ (a.0.processors ∙ c.cpu.invariant.placed.sized));
       },
@@ -147,7 +149,8 @@ invariant_of-cpu g c =
     let second = ap (λ m. m.0.mine) S.1 ∙ b.mine in record {
       placed = record {
         seated = S.0 ∙ (N.same_table ∙ (P.same_table.0 ∙ c.cpu.invariant.placed.seated));
-        wide = c.cpu.invariant.placed.wide; cells = c.cpu.invariant.placed.cells;
+        wide = c.cpu.invariant.placed.wide;
+        cells = c.cpu.invariant.placed.cells;
         bare = ap (λ m. m.1) S.1 ∙ (N.bare ∙ ap (λ m. m.1) P.stays);
         sized = ap (λ m. m.0.processors) S.1 ∙ (b.processors ∙ (ap (λ m. m.0.processors) P.stays ∙ (a.0.processors ∙ c.cpu.invariant.placed.sized)));
       };

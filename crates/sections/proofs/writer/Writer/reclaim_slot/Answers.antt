@@ -52,7 +52,8 @@ refresh_in-requires-clause-placed g c =
     rw c.deref-table.ensures (
       record {
         seated = N.same_table ∙ (J.0 ∙ c.cpu.invariant.placed.seated);
-        wide = c.cpu.invariant.placed.wide; cells = c.cpu.invariant.placed.cells;
+        wide = c.cpu.invariant.placed.wide;
+        cells = c.cpu.invariant.placed.cells;
         bare = N.bare ∙ (ap (λ m. m.1) J.2 ∙ c.cpu.invariant.placed.bare);
         sized = b.processors ∙ (ap (λ m. m.0.processors) J.2 ∙ c.cpu.invariant.placed.sized);
       },
@@ -125,7 +126,8 @@ invariant_of-cpu g c =
     let mine = ap (λ m. m.0.mine) S.1 ∙ (b.mine ∙ ap (λ m. m.0.mine ++ e ∷ []) J.2) in record {
       placed = record {
         seated = S.0 ∙ (N.same_table ∙ (J.0 ∙ c.cpu.invariant.placed.seated));
-        wide = c.cpu.invariant.placed.wide; cells = c.cpu.invariant.placed.cells;
+        wide = c.cpu.invariant.placed.wide;
+        cells = c.cpu.invariant.placed.cells;
         bare = ap (λ m. m.1) S.1 ∙ (N.bare ∙ (ap (λ m. m.1) J.2 ∙ c.cpu.invariant.placed.bare));
         sized = ap (λ m. m.0.processors) S.1 ∙ (b.processors ∙ (ap (λ m. m.0.processors) J.2 ∙ c.cpu.invariant.placed.sized));
       };
@@ -182,7 +184,8 @@ invariant_of-cpu-else-done g c =
     let mine = ap (λ m. m.0.mine) S.1 ∙ (b.mine ∙ ap (λ m. m.0.mine ++ e ∷ []) J.2) in record {
       placed = record {
         seated = S.0 ∙ (N.same_table ∙ (J.0 ∙ c.cpu.invariant.placed.seated));
-        wide = c.cpu.invariant.placed.wide; cells = c.cpu.invariant.placed.cells;
+        wide = c.cpu.invariant.placed.wide;
+        cells = c.cpu.invariant.placed.cells;
         bare = ap (λ m. m.1) S.1 ∙ (N.bare ∙ (ap (λ m. m.1) J.2 ∙ c.cpu.invariant.placed.bare));
         sized = ap (λ m. m.0.processors) S.1 ∙ (b.processors ∙ (ap (λ m. m.0.processors) J.2 ∙ c.cpu.invariant.placed.sized));
       };
