@@ -15,7 +15,7 @@ use Rattle.solo.specs.declared.queued.Queued.{Queued}
 use Rattle.domain.specs.Acting.{Act}
 use Rattle.solo.specs.declared.taking.Ran.{Ran}
 use Rattle.solo.specs.Courses.{Course, more_at, Does as Acts}
-use Rattle.solo.specs.Batches.{last_cookie}
+use Rattle.solo.specs.Batches.{IsLastCookie}
 use Rattle.solo.specs.Calls as solo
 use Rattle.solo.specs.Calls.{SoloView, IsNew, new_course, IsGiven, IsSameDomain, Queues, QueuesNone, Takes, Finishes, AreOut}
 use Rattle.requests.specs.declared.command.Command.TheVariants as command
@@ -239,8 +239,8 @@ no_jobs_yet jobs n count none = each jobs none ∙ ap (λ m. replicate m no_jobs
     each (j ∷ js) h = λ i. All-head (λ (x : JobsView). jobs_of x ≡ no_jobs) j js h i ∷ each js (All-tail (λ (x : JobsView). jobs_of x ≡ no_jobs) j js h) i
 
 -- a batch that was taken, emptied
-pub emptied_taken : (d d' : SoloView) (p max far : ℕ) (b b' : BatchView (Unit {0})) → IsSameDomain d d' → IsGiven p max far d b → b' ≡ record b { entries = [] } → IsEmptied d' b'
-emptied_taken d d' p max far b b' same given is =
+pub emptied_taken : (d d' : SoloView) (p max : ℕ) (b b' : BatchView (Unit {0})) → IsSameDomain d d' → IsGiven p max d d' b → b' ≡ record b { entries = [] } → IsEmptied d' b'
+emptied_taken d d' p max b b' same given is =
     let there : b.processor < d'.course.standing.processors = subst (λ n. b.processor < n) (sym same.2) (subst (λ n. n < d.course.standing.processors) (sym given.is_of.processor) given.is_of.there) in
     let counted = given.counted in
     let some = given.ready.some in
@@ -330,43 +330,44 @@ module _ {A : Type 0} (own : List ℕ) (tokens : List (List ℕ × Token A)) (pa
     none_out : (jobs_of j).out ≡ None
     none_out = ap batch_of none
 
-    taken_as : (count : ℕ) (leave : List Job) (out : Option Batch) (j' : JobsView) → AreTaken (4 * ended_in d.course.standing.history) count leave j.waiting j'.waiting → (jobs_of j').out ≡ out → script.Takes p count leave out before (behind j')
-    taken_as count leave out j' are is_out = record {
+    taken_as : (count : ℕ) (leave : List Job) (out : Option Batch) (j' : JobsView) → AreOut p count d.course → AreTaken (4 * ended_in d.course.standing.history) count leave j.waiting j'.waiting → (jobs_of j').out ≡ out → script.Takes p count leave out before (behind j')
+    taken_as count leave out j' queued are is_out = record {
       jobs = jobs_of j;
       waiting = j'.waiting;
       there = there;
       none_out = none_out;
+      queued = queued;
       leave = are;
       rest = ap (λ x. record before { course = d'.course; jobs = x }) (map-set jobs_of jobs p j' ∙ ap (λ (o : Option Batch). set (map jobs_of jobs) p (record { waiting = j'.waiting; out = o })) is_out);
     }
 
-    abbrev far : ℕ
-    far = 4 * ended_in d.course.standing.history
-
     -- nothing was ready
 
+    nothing_out : AreOut p 0 d.course
+    nothing_out = subst (λ (o : Option Out). AreOut p (option_map_or (λ (x : Out). x.0.count) o 0) d.course) none (out_counted d jobs h p j small is)
+
     pub ran_none : solo.Runs p max None d.course d'.course → Does limits (act.Run p) before (reply.Ran []) (behind j)
-    ran_none runs = inl (0, [], taken_as 0 [] None j (none_taken _) none_out, runs.happens, refl)
+    ran_none runs = inl (0, [], taken_as 0 [] None j nothing_out (none_taken _) none_out, runs.happens, refl)
 
     pub took_none : Takes p max None d d' → Does limits (act.Batch p) before (reply.TookJobs []) (behind j)
-    took_none takes = inl (0, [], None, taken_as 0 [] None j (none_taken _) none_out, takes.asks, inr (refl, refl), refl)
+    took_none takes = inl (0, [], None, taken_as 0 [] None j nothing_out (none_taken _) none_out, takes.asks, inr (refl, refl), refl)
 
     -- it is finished at once
     pub ran : (r : Ran) → solo.Runs p max (Some r) d.course d'.course → (names : List (List ℕ)) (j' : JobsView) → AreTakenWith r.reached r.count names j.waiting j'.waiting → j'.out ≡ j.out → Does limits (act.Run p) before (reply.Ran names) (behind j')
     ran r runs names j' are same =
         let (leave, taken, named) = are in
         let were = runs.jobs.0 in
-        inl (r.count, leave, taken_as r.count leave None j' (due_by were.ready were.last taken) (ap batch_of same ∙ none_out), runs.happens, ap reply.Ran named)
+        inl (r.count, leave, taken_as r.count leave None j' runs.jobs.1 (due_by were.ready were.last taken) (ap batch_of same ∙ none_out), runs.happens, ap reply.Ran named)
 
     -- it stays out
-    pub took : (b b' : BatchView (Unit {0})) → Takes p max (Some b) d d' → (reached : ℕ) → reached ≡ last_cookie 0 b.entries → (names : List (List ℕ)) (j' : JobsView) → AreTakenWith reached b.count names j.waiting j'.waiting → b'.count ≡ b.count → j'.out ≡ Some (b', names)
+    pub took : (b b' : BatchView (Unit {0})) → Takes p max (Some b) d d' → (reached : ℕ) → IsLastCookie reached b.entries → (names : List (List ℕ)) (j' : JobsView) → AreTakenWith reached b.count names j.waiting j'.waiting → b'.count ≡ b.count → j'.out ≡ Some (b', names)
         → Does limits (act.Batch p) before (reply.TookJobs names) (behind j')
     took b b' takes reached last names j' are counted same =
         let (leave, taken, named) = are in
         let out : Option Batch = Some (record { count = b.count; names = names_of_jobs leave }) in
         let is_out : (jobs_of j').out ≡ out = ap batch_of same ∙ (λ i. Some (record { count = counted i; names = named i })) in
         let some : 0 < b.count = let many = takes.batch.counted in let some = takes.batch.ready.some in omega (arith, many, some) in
-        inl (b.count, leave, out, taken_as b.count leave out j' (due_by takes.batch.ready last taken) is_out, takes.asks, inl (some, refl), ap reply.TookJobs named)
+        inl (b.count, leave, out, taken_as b.count leave out j' takes.batch.out (due_by takes.batch.ready last taken) is_out, takes.asks, inl (some, refl), ap reply.TookJobs named)
 
   -- the batch is over
 

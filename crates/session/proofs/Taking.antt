@@ -1,10 +1,11 @@
 -- Jobs that leave: for each that left the domain's list one at most.
-use Rattle.std.proofs.Common.{◌≡◌, ℕ, ◌<◌, ◌≤◌, List, [], ◌∷◌, ◌++◌, refl, sym, ap, ◌∙◌, append_assoc, arith}
+use Rattle.std.proofs.Common.{◌≡◌, ℕ, ◌<◌, ◌≤◌, inl, inr, List, [], ◌∷◌, ◌++◌, refl, sym, ap, ◌∙◌, subst, append_assoc, arith}
 use Rattle.std.specs.Prelude.{All}
 use Rattle.std.proofs.lemmas.List.{length-append, map-append}
 use Rattle.std.proofs.lemmas.List.Elements.{All-nil, All-head, All-tail, All-push, All-weaker}
+use Rattle.onedom.specs.declared.event.Event.{Event}
 use Rattle.calls.specs.declared.entry.Entry.{Entry}
-use Rattle.solo.specs.Batches.{last_cookie, AreReady}
+use Rattle.solo.specs.Batches.{IsLastCookie, AreReady}
 use Rattle.session.specs.declared.jobs.Job.{Job}
 use Rattle.session.specs.States.{AreTaken}
 use Rattle.session.specs.JobLists.{AreTakenWith}
@@ -35,11 +36,18 @@ module _ {reached n m : ℕ} {names : List (List ℕ)} {waiting waiting' : List 
 abbrev Entries : Type 0
 Entries = List (Entry (Unit {0}))
 
-last_due : (n far : ℕ) (entries : Entries) → n ≤ far → All (λ e. e.cookie.number ≤ far) entries → last_cookie n entries ≤ far
-last_due n far [] low done = low
-last_due n far (e ∷ es) low done = last_due e.cookie.number far es (All-head (λ (x : Entry (Unit {0})). x.cookie.number ≤ far) e es done) (All-tail (λ (x : Entry (Unit {0})). x.cookie.number ≤ far) e es done)
+last_holds : (P : Entry (Unit {0}) → Type 0) (before : Entries) (e : Entry (Unit {0})) → All P (before ++ e ∷ []) → P e
+last_holds P [] e h = All-head P e [] h
+last_holds P (x ∷ before) e h = last_holds P before e (All-tail P x (before ++ e ∷ []) h)
 
-pub due_by : {reached count max far : ℕ} {entries : Entries} {taken waiting waiting' : List Job} → AreReady max far entries → reached ≡ last_cookie 0 entries → AreTaken reached count taken waiting waiting' → AreTaken far count taken waiting waiting'
-due_by {reached} {count} {max} {far} {entries} {taken} ready last h =
-    let low : reached ≤ far = let most = last_due 0 far entries (omega arith) ready.done in omega (arith, most, last) in
+last_due : (n far : ℕ) (entries : Entries) → IsLastCookie n entries → All (λ e. e.cookie.number ≤ far) entries → n ≤ far
+last_due n far entries (inl none) done = let zero = none.1 in omega (arith, zero)
+last_due n far entries (inr last) done =
+    let (before, e, whole, is) = last in
+    let here : e.cookie.number ≤ far = last_holds (λ (x : Entry (Unit {0})). x.cookie.number ≤ far) before e (subst (All (λ x. x.cookie.number ≤ far)) whole done) in
+    omega (arith, is, here)
+
+pub due_by : {reached count max far : ℕ} {now : List Event} {entries : Entries} {taken waiting waiting' : List Job} → AreReady max far now entries → IsLastCookie reached entries → AreTaken reached count taken waiting waiting' → AreTaken far count taken waiting waiting'
+due_by {reached} {count} {max} {far} {now} {entries} {taken} ready last h =
+    let low : reached ≤ far = last_due reached far entries last ready.done in
     record { first = h.first; known = h.known; few = h.few; due = All-weaker (λ (x : Job). x.cookie ≤ reached) (λ (x : Job). x.cookie ≤ far) (λ job is. omega (arith, is, low)) taken h.due }

@@ -175,12 +175,13 @@ abbrev pub Calls : ℕ → List ℕ → DomainState → Reply → DomainState �
 Calls p name d r d' = Queues p name d r d'
     ⊎ (why : CallRefusal) × QueuesNone p why d.course d'.course × Replies (reply.Refused command.Call (cause_of_none why)) d r d'
 
--- no batch of the processor was out, and so many jobs leave, for which the grace periods have come far enough, these among them; `out` is out then. A list stands behind a lock, so it isn't said which of those that are due leave
+-- no batch of the processor was out, and so many jobs that are queued and not finished leave, for which the grace periods have come far enough, these among them; `out` is out then. A list stands behind a lock, so it isn't said which of those that are due leave
 pub record Takes (p count : ℕ) (taken : List Job) (out : Option Batch) (d d' : DomainState) : Type 0 where
   pub jobs : Jobs
   pub waiting : List Job
   pub there : slice_get d.jobs p ≡ Some jobs
   pub none_out : jobs.out ≡ None
+  pub queued : solo.AreOut p count d.course
   pub leave : AreTaken (4 * ended_in d.course.standing.history) count taken jobs.waiting waiting
   pub rest : d' ≡ record d { course = d'.course; jobs = slice_set d.jobs p (record { waiting = waiting; out = out }) }
 
@@ -188,7 +189,7 @@ pub record Takes (p count : ℕ) (taken : List Job) (out : Option Batch) (d d' :
 abbrev pub AsksHowFar : ℕ → Course → Course → Type 0
 AsksHowFar p c c' = AsksIfDone p (4 * ended_in c.standing.history) true c c'
 
--- what is ready is taken and finished at once. Refused where a batch is out, and nothing is done
+-- what was taken is finished at once. Refused where a batch is out, and nothing is done
 abbrev pub Runs : ℕ → DomainState → Reply → DomainState → Type 0
 Runs p d r d' = ((count : ℕ) × (taken : List Job) × Takes p count taken None d d' × DoesAct p (runs (4 * ended_in d.course.standing.history) count) d.course d'.course × (r ≡ reply.Ran (names_of_jobs taken)))
     ⊎ IsRefused command.Run Invoking d r d'

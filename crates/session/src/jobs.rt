@@ -104,8 +104,8 @@ impl<A: Allocator> Jobs<A> {
         Some(self.waiting.pop_front()?.name)
     }
 
-    /// Takes the first jobs that wait, as many as left the domain's list, and none that waits for a greater number than
-    /// this: the domain gives jobs out in the order in which they were queued. Their names come in this order.
+    /// Takes the first jobs that wait, at most so many, and none that waits for a greater number than `reached`: the domain
+    /// gives jobs out in the order in which they were queued. Their names come in this order.
     pub fn take(&mut self, count: usize, reached: u64) -> JobNames
         requires { count ≤ 8 }
         ensures taken { AreTakenWith reached count result self.old.waiting self.new.waiting }

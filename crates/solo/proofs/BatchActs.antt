@@ -1,5 +1,5 @@
 -- What calls at a batch add, one behind the other: a batch is taken and emptied, and perhaps finished.
-use Rattle.std.proofs.Common.{◌≡◌, ℕ, ◌+◌, ◌≤◌, List, [], ◌∷◌, refl, sym, ap, ◌∙◌, subst}
+use Rattle.std.proofs.Common.{◌≡◌, ℕ, ◌+◌, ◌≤◌, inr, List, [], ◌∷◌, ◌++◌, append-nil, append_assoc, refl, sym, ap, ◌∙◌, subst}
 use Rattle.std.specs.Prelude.{Option, Some, None}
 use Rattle.calls.specs.declared.entry.Entry.{Entry}
 use Rattle.calls.specs.Tallies.{queued_in, finished_in, IsBeginning}
@@ -10,8 +10,8 @@ use Rattle.calls.proofs.CallerLemmas.{begins_on}
 use Rattle.domain.specs.Views.{DomainView, CpuView, callbacks_of, with_cpu, with_calls}
 use Rattle.domain.specs.Acting.{Acts, ActsAs, loads, asks_how_far, finishes}
 use Rattle.domain.proofs.CallerLemmas.{then_finishes}
-use Rattle.solo.specs.Batches.{last_cookie}
-use Rattle.solo.specs.Taking.{TakesOut, runs_so_far}
+use Rattle.solo.specs.Batches.{IsLastCookie}
+use Rattle.solo.specs.Taking.{TakesBatch, asks_how_far_and_finishes}
 
 -- Entries that leave
 
@@ -32,9 +32,21 @@ pub none_is_next : (entries : Entries) → next_cookie entries ≡ None → entr
 none_is_next [] h = refl
 none_is_next (e ∷ es) h = absurd cc
 
--- the last one's cookie stays the last one's
-pub last_on : (n cookie : ℕ) (e : Entry (Unit {0})) (entries rest : Entries) → entries ≡ e ∷ rest → e.cookie.number ≡ cookie → last_cookie cookie rest ≡ last_cookie n entries
-last_on n cookie e entries rest front is = ap (λ m. last_cookie m rest) (sym is) ∙ sym (ap (last_cookie n) front)
+-- what has left so far, and the number of its last cookie
+pub record HaveLeft (before left : Entries) (last : ℕ) : Type 0 where
+  pub gone : Entries
+  pub whole : before ≡ gone ++ left
+  pub last_is : IsLastCookie last gone
+
+pub one_more : {before left rest : Entries} {last cookie : ℕ} → HaveLeft before left last → (e : Entry (Unit {0})) → left ≡ e ∷ rest → e.cookie.number ≡ cookie → HaveLeft before rest cookie
+one_more {before} {left} {rest} h e front is = record {
+  gone = h.gone ++ e ∷ [];
+  whole = h.whole ∙ ap (λ l. h.gone ++ l) front ∙ sym (append_assoc h.gone (e ∷ []) rest);
+  last_is = inr (h.gone, e, refl, sym is);
+}
+
+pub all_left : {before left : Entries} {last : ℕ} → HaveLeft before left last → left ≡ [] → IsLastCookie last before
+all_left {before} {left} {last} h none = subst (IsLastCookie last) (sym (h.whole ∙ (ap (λ l. h.gone ++ l) none ∙ append-nil h.gone))) h.last_is
 
 -- One call and then another
 
@@ -46,14 +58,14 @@ module _ {was mid now : CpuView} (first : ActsAs (asks_how_far mid.cpu.changes) 
       subst (λ n. ActsAs (asks_how_far n) was now) (sym same) (then_finishes {p = was.cpu.processor} {a = asks_how_far mid.cpu.changes was.cpu.processor} {owner = 0} {count = 0} refl first behind)
 
   -- and then finishes jobs of its own
-  pub asks_then_finishes : (owner count : ℕ) → ActsAs (finishes owner count) mid now → owner ≡ was.cpu.processor → ActsAs (runs_so_far now.cpu.changes count) was now
+  pub asks_then_finishes : (owner count : ℕ) → ActsAs (finishes owner count) mid now → owner ≡ was.cpu.processor → ActsAs (asks_how_far_and_finishes now.cpu.changes count) was now
   asks_then_finishes owner count second own =
       let behind : Acts was.cpu.processor (finishes was.cpu.processor count was.cpu.processor) mid now = subst (λ o. Acts was.cpu.processor (finishes o count was.cpu.processor) mid now) own (subst (λ q. Acts q (finishes owner count q) mid now) first.events.same.3 second) in
-      subst (λ n. ActsAs (runs_so_far n count) was now) (sym same) (then_finishes {p = was.cpu.processor} {a = asks_how_far mid.cpu.changes was.cpu.processor} {owner = was.cpu.processor} {count = count} refl first behind)
+      subst (λ n. ActsAs (asks_how_far_and_finishes n count) was now) (sym same) (then_finishes {p = was.cpu.processor} {a = asks_how_far mid.cpu.changes was.cpu.processor} {owner = was.cpu.processor} {count = count} refl first behind)
 
 -- a batch was taken, and seen to be out
 pub takes_out : {d : DomainView} {p max : ℕ} {b : BatchView (Unit {0})} {was mid now : CpuView} → IsOfProcessor (callbacks_of d) p b → TakesIn (callbacks_of d) p max was.cpu (Some b) mid.cpu → AreHanded b.entries mid.cpu.seen → mid ≡ with_cpu mid.cpu was
-    → SeesOut b mid.calls now.calls → now ≡ with_calls now.calls mid → TakesOut d p max b was now
+    → SeesOut b mid.calls now.calls → now ≡ with_calls now.calls mid → TakesBatch d p max b was now
 takes_out {d} {p} {max} {b} {was} {mid} {now} of takes handed rest out rest' =
     let cpu : now.cpu ≡ mid.cpu = ap (λ (x : CpuView). x.cpu) rest' in record {
       of_processor = of;
@@ -66,7 +78,7 @@ takes_out {d} {p} {max} {b} {was} {mid} {now} of takes handed rest out rest' =
     }
 
 -- and then something was done at the tally words
-pub takes_out_on : {d : DomainView} {p max : ℕ} {b : BatchView (Unit {0})} {was mid now : CpuView} → TakesOut d p max b was mid → now ≡ with_calls now.calls mid → IsBeginning mid.calls.seen now.calls.seen → TakesOut d p max b was now
+pub takes_out_on : {d : DomainView} {p max : ℕ} {b : BatchView (Unit {0})} {was mid now : CpuView} → TakesBatch d p max b was mid → now ≡ with_calls now.calls mid → IsBeginning mid.calls.seen now.calls.seen → TakesBatch d p max b was now
 takes_out_on {d} {p} {max} {b} {was} {mid} {now} h rest since =
     let cpu : now.cpu ≡ mid.cpu = ap (λ (x : CpuView). x.cpu) rest in record {
       of_processor = h.of_processor;

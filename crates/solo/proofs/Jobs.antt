@@ -17,7 +17,7 @@ use Rattle.calls.specs.declared.refusals.CallRefusal.TheVariants as calling
 use Rattle.calls.specs.declared.refusals.TakeRefusal.{TakeRefusal}
 use Rattle.calls.specs.Tallies.{queued_in, finished_in}
 use Rattle.calls.specs.Views.{CallSeatView, ListView, BatchView}
-use Rattle.calls.specs.Calls.{IsHanded, IsTaken, IsListOf}
+use Rattle.calls.specs.Calls.{IsHanded, AreHanded, IsTaken, IsListOf}
 use Rattle.calls.proofs.CallerLemmas.{queued_later, finished_later}
 use Rattle.segs.specs.MarkedList.{count_done, lens, numbers}
 use Rattle.domain.specs.Views.{DomainView, CpuView, callbacks_of}
@@ -31,12 +31,12 @@ use Rattle.solo.specs.Refusals.{IsQueuedAs}
 use Rattle.solo.specs.Calls as call
 use Rattle.solo.specs.Calls.{SoloView, Queues, QueuesNone, AreOut, IsGiven, Takes, Runs, Finishes, TellsLens}
 use Rattle.solo.specs.Courses.{Does, more_at, runs}
-use Rattle.solo.specs.Batches.{AreReady, WereReady, count_in}
-use Rattle.solo.specs.Taking.{TakesOut, RunsOut, runs_so_far}
+use Rattle.solo.specs.Batches.{AreReady, WereReady, count_run}
+use Rattle.solo.specs.Taking.{TakesBatch, RunsBatch, asks_how_far_and_finishes}
 use Rattle.solo.specs.Settling.{View, HaveMet}
 use Rattle.solo.specs.Insides.{seen_first}
 use Rattle.solo.proofs.Hand.{now_is, own_table}
-use Rattle.solo.proofs.Meeting.{Hand, s', deeds_were, queued_were, queued_found, finished_were, finished_found, queued_now, seen_by_all, tallies_are, reaches_were, changes_are, root_is, does}
+use Rattle.solo.proofs.Meeting.{Hand, s', deeds_were, queued_were, queued_found, finished_were, finished_found, queued_now, seen_by_all, seen_now, tallies_are, reaches_were, changes_are, root_is, does}
 use Rattle.solo.proofs.Called.{Says, says, still}
 
 -- How far the grace periods have come
@@ -62,12 +62,12 @@ far_enough reached seen before by is e handed =
     omega (arith, told, enough)
 
 -- a batch that was taken from a list
-batch_ready : (max done far : ℕ) (l l' : ListView (Unit {0})) (gone : List (Entry (Unit {0}))) (b : BatchView (Unit {0})) → IsTaken l gone (Some b) l' → length gone ≡ min (min max 8) done → All (λ e. e.cookie.number ≤ far) b.entries → (b.count ≡ length b.entries) × AreReady max far b.entries
-batch_ready max done far l l' [] b is many all = absurd is
-batch_ready max done far l l' (e ∷ es) b is many all =
+batch_ready : (max done far : ℕ) (now : List Event) (l l' : ListView (Unit {0})) (gone : List (Entry (Unit {0}))) (b : BatchView (Unit {0})) → IsTaken l gone (Some b) l' → length gone ≡ min (min max 8) done → All (λ e. e.cookie.number ≤ far) b.entries → AreHanded b.entries now → (b.count ≡ length b.entries) × AreReady max far now b.entries
+batch_ready max done far now l l' [] b is many all handed = absurd is
+batch_ready max done far now l l' (e ∷ es) b is many all handed =
     let counted : length b.entries ≡ length (e ∷ es) = ap (λ (x : BatchView (Unit {0})). length x.entries) is.0 in (
       ap (λ (x : BatchView (Unit {0})). x.count) is.0 ∙ sym counted,
-      record { some = omega (arith, counted); few = omega (arith, counted, many); most = omega (arith, counted, many); done = all },
+      record { some = omega (arith, counted); few = omega (arith, counted, many); most = omega (arith, counted, many); done = all; handed = handed },
     )
 
 module _ (t : Hand) where
@@ -105,7 +105,7 @@ module _ (t : Hand) where
 
   -- A batch is taken: its jobs were ready, and are out
 
-  module _ (most : ℕ) (b : BatchView (Unit {0})) (h : TakesOut t.d t.p most b t.was t.now) (what : ℕ → Act) (did : ActsAs what t.was t.now) where
+  module _ (most : ℕ) (b : BatchView (Unit {0})) (h : TakesBatch t.d t.p most b t.was t.now) (what : ℕ → Act) (did : ActsAs what t.was t.now) where
     abbrev far : ℕ
     far = 4 * ended_in t.s.course.standing.history
 
@@ -116,8 +116,10 @@ module _ (t : Hand) where
         All-weaker (λ (e : Entry (Unit {0})). IsHanded e.cookie.number e.cookie.seen t.now.cpu.seen) (λ (e : Entry (Unit {0})). e.cookie.number ≤ far)
         (λ e it. subst (λ n. e.cookie.number ≤ n) number (far_enough (4 * periods_ended h.takes.takes.number) t.now.cpu.seen asks.adds.before (Processor t.was.cpu.processor) asks.adds.seen e it)) b.entries h.handed
 
-    are_ready : (b.count ≡ length b.entries) × AreReady most far b.entries
-    are_ready = let x = h.takes in batch_ready most (count_done x.takes.moved) far x.list x.list' x.takes.gone b x.takes.taken_is x.takes.many all_done
+    are_ready : (b.count ≡ length b.entries) × AreReady most far (s' t).course.standing.history b.entries
+    are_ready =
+        let x = h.takes in
+        batch_ready most (count_done x.takes.moved) far (s' t).course.standing.history x.list x.list' x.takes.gone b x.takes.taken_is x.takes.many all_done (subst (AreHanded b.entries) (seen_now t what did) h.handed)
 
     are_out : (what t.p).queued ≡ 0 → AreOut t.p b.count t.s.course
     are_out none =
@@ -130,12 +132,12 @@ module _ (t : Hand) where
         let moment = h.queued in
         omega (arith, low, old, was, later, met, now, moment)
 
-  taken_says : (most : ℕ) (taken : Option (BatchView (Unit {0}))) → IfSome taken (λ b. TakesOut t.d t.p most b t.was t.now) → ActsAs (asks_how_far t.now.cpu.changes) t.was t.now → t.p < t.s.course.standing.processors → Says t (Takes t.p most taken t.s (s' t))
+  taken_says : (most : ℕ) (taken : Option (BatchView (Unit {0}))) → IfSome taken (λ b. TakesBatch t.d t.p most b t.was t.now) → ActsAs (asks_how_far t.now.cpu.changes) t.was t.now → t.p < t.s.course.standing.processors → Says t (Takes t.p most taken t.s (s' t))
   taken_says most taken h did small =
       let far_is = asks_how_far t.now.cpu.changes in
       says t far_is did _ (record { asks = subst (λ n. call.Asks t.p n true t.s.course (s' t).course) (reached_is t.now.cpu.changes (changes_are t far_is did)) (does t far_is did); batch = each taken h })
     where
-      each : (taken : Option (BatchView (Unit {0}))) → IfSome taken (λ b. TakesOut t.d t.p most b t.was t.now) → IfSome taken (IsGiven t.p most (4 * ended_in t.s.course.standing.history) t.s)
+      each : (taken : Option (BatchView (Unit {0}))) → IfSome taken (λ b. TakesBatch t.d t.p most b t.was t.now) → IfSome taken (IsGiven t.p most t.s (s' t))
       each None h = tt
       each (Some b) h = let ready = are_ready most b h (asks_how_far t.now.cpu.changes) did in record {
         is_of = record { tallies = h.of_processor.0 ∙ tallies_are t; processor = h.of_processor.1; there = small };
@@ -144,28 +146,28 @@ module _ (t : Hand) where
         out = are_out most b h (asks_how_far t.now.cpu.changes) did refl;
       }
 
-  pub take_says : (most : ℕ) → t.p < t.s.course.standing.processors → (r : Result (Option (BatchView (Unit {0}))) TakeRefusal) → IfOk r (λ taken. IfSome taken (λ b. TakesOut t.d t.p most b t.was t.now))
+  pub take_says : (most : ℕ) → t.p < t.s.course.standing.processors → (r : Result (Option (BatchView (Unit {0}))) TakeRefusal) → IfOk r (λ taken. IfSome taken (λ b. TakesBatch t.d t.p most b t.was t.now))
       → MatchResult r (λ _. ActsAs (asks_how_far t.now.cpu.changes) t.was t.now) (λ _. ActsAs loads t.was t.now) → Says t (MatchResult r (λ taken. Takes t.p most taken t.s (s' t)) (λ _. s' t ≡ t.s))
   take_says most small (Ok taken) h did = taken_says most taken h did small
   take_says most small (Err refusal) h did = says t loads did _ (still t did)
 
   -- and finished at once
 
-  ran_says : (most : ℕ) (ran : Option Ran) → IfSome ran (λ r. RunsOut t.d t.p most r t.was t.now) → ActsAs (runs_so_far t.now.cpu.changes (count_in ran)) t.was t.now → Says t (Runs t.p most ran t.s.course (s' t).course)
+  ran_says : (most : ℕ) (ran : Option Ran) → IfSome ran (λ r. RunsBatch t.d t.p most r t.was t.now) → ActsAs (asks_how_far_and_finishes t.now.cpu.changes (count_run ran)) t.was t.now → Says t (Runs t.p most ran t.s.course (s' t).course)
   ran_says most ran h did =
-      let what = runs_so_far t.now.cpu.changes (count_in ran) in
-      says t what did _ (record { happens = subst (λ n. Does t.p (runs n (count_in ran)) t.s.course (s' t).course) (reached_is t.now.cpu.changes (changes_are t what did)) (does t what did); jobs = each ran h did })
+      let what = asks_how_far_and_finishes t.now.cpu.changes (count_run ran) in
+      says t what did _ (record { n = get_or t.s.course.finished t.p 0; there = finished_found t t.p t.inside; happens = subst (λ n. Does t.p (runs n (count_run ran)) t.s.course (s' t).course) (reached_is t.now.cpu.changes (changes_are t what did)) (does t what did); jobs = each ran h did })
     where
-      each : (ran : Option Ran) → IfSome ran (λ r. RunsOut t.d t.p most r t.was t.now) → ActsAs (runs_so_far t.now.cpu.changes (count_in ran)) t.was t.now → IfSome ran (λ r. WereReady most (4 * ended_in t.s.course.standing.history) r × AreOut t.p r.count t.s.course)
+      each : (ran : Option Ran) → IfSome ran (λ r. RunsBatch t.d t.p most r t.was t.now) → ActsAs (asks_how_far_and_finishes t.now.cpu.changes (count_run ran)) t.was t.now → IfSome ran (λ r. WereReady most (4 * ended_in t.s.course.standing.history) (s' t).course.standing.history r × AreOut t.p r.count t.s.course)
       each None h did = tt
       each (Some r) h did =
-          let what = runs_so_far t.now.cpu.changes r.count in
+          let what = asks_how_far_and_finishes t.now.cpu.changes r.count in
           let ready = are_ready most h.batch h.taken what did in (
             record { entries = h.batch.entries; ready = ready.1; counted = h.counted ∙ ready.0; last = h.last },
             subst (λ n. AreOut t.p n t.s.course) (sym h.counted) (are_out most h.batch h.taken what did refl),
           )
 
-  pub run_says : (most : ℕ) (r : Result (Option Ran) TakeRefusal) → IfOk r (λ ran. IfSome ran (λ k. RunsOut t.d t.p most k t.was t.now)) → MatchResult r (λ ran. ActsAs (runs_so_far t.now.cpu.changes (count_in ran)) t.was t.now) (λ _. ActsAs loads t.was t.now)
+  pub run_says : (most : ℕ) (r : Result (Option Ran) TakeRefusal) → IfOk r (λ ran. IfSome ran (λ k. RunsBatch t.d t.p most k t.was t.now)) → MatchResult r (λ ran. ActsAs (asks_how_far_and_finishes t.now.cpu.changes (count_run ran)) t.was t.now) (λ _. ActsAs loads t.was t.now)
       → Says t (MatchResult r (λ ran. Runs t.p most ran t.s.course (s' t).course) (λ _. s' t ≡ t.s))
   run_says most (Ok ran) h did = ran_says most ran h did
   run_says most (Err refusal) h did = says t loads did _ (still t did)

@@ -23,7 +23,7 @@ use Rattle.solo.specs.declared.queued.Queued.{Queued}
 use Rattle.solo.specs.declared.taking.Ran.{Ran}
 use Rattle.domain.specs.Acting.{begins, ends, notes, asks_whether, asks_for, finishes}
 use Rattle.solo.specs.Courses.{Course, Does, Works, runs}
-use Rattle.solo.specs.Batches.{AreReady, WereReady, count_in}
+use Rattle.solo.specs.Batches.{AreReady, WereReady, count_run}
 
 -- `table` tells which looks and readings are of this domain, and `tallies` which batches; `course` is how far it has come
 pub record SoloView : Type 0 where
@@ -129,17 +129,17 @@ pub record IsBatchOf {J : Type 0} (d : SoloView) (p : ℕ) (b : BatchView J) : T
   pub processor : b.processor ≡ p
   pub there : p < d.course.standing.processors
 
--- a batch of the processor, whose jobs were ready once `far` was reached. They are out
-pub record IsGiven (p max far : ℕ) (d : SoloView) (b : BatchView (Unit {0})) : Type 0 where
+-- a batch of the processor, whose jobs were ready, as it asked, and are out
+pub record IsGiven (p max : ℕ) (d d' : SoloView) (b : BatchView (Unit {0})) : Type 0 where
   pub is_of : IsBatchOf d p b
   pub counted : b.count ≡ length b.entries
-  pub ready : AreReady max far b.entries
+  pub ready : AreReady max (4 * ended_in d.course.standing.history) d'.course.standing.history b.entries
   pub out : AreOut p b.count d.course
 
--- the processor asks how far the grace periods have come, is told, and what is ready by then is taken
+-- the processor asks how far the grace periods have come and is told, and jobs that are ready then are taken, or none
 pub record Takes (p max : ℕ) (taken : Option (BatchView (Unit {0}))) (d d' : SoloView) : Type 0 where
   pub asks : Asks p (4 * ended_in d.course.standing.history) true d.course d'.course
-  pub batch : IfSome taken (IsGiven p max (4 * ended_in d.course.standing.history) d)
+  pub batch : IfSome taken (IsGiven p max d d')
 
 -- so many calls of the processor are finished more, those of the batch
 pub record Finishes (p count : ℕ) (c c' : Course) : Type 0 where
@@ -147,10 +147,12 @@ pub record Finishes (p count : ℕ) (c c' : Course) : Type 0 where
   pub there : slice_get c.finished p ≡ Some n
   pub finishes_are : Does p (finishes p count) c c'
 
--- the processor asks how far the grace periods have come, is told, and what is ready by then is taken and finished
+-- the same, and the jobs are finished too
 pub record Runs (p max : ℕ) (ran : Option Ran) (c c' : Course) : Type 0 where
-  pub happens : Does p (runs (4 * ended_in c.standing.history) (count_in ran)) c c'
-  pub jobs : IfSome ran (λ r. WereReady max (4 * ended_in c.standing.history) r × AreOut p r.count c)
+  pub n : ℕ
+  pub there : slice_get c.finished p ≡ Some n
+  pub happens : Does p (runs (4 * ended_in c.standing.history) (count_run ran)) c c'
+  pub jobs : IfSome ran (λ r. WereReady max (4 * ended_in c.standing.history) c'.standing.history r × AreOut p r.count c)
 
 -- a list of this processor's jobs, whatever they are
 abbrev pub IsListOf : SoloView → ℕ → ListView (Unit {0}) → Type 0

@@ -14,7 +14,7 @@ pub record Course : Type 0 where
 
 -- Acts of a processor
 
--- it is told that the cookies up to `far` are done, and so many of its own jobs are finished
+-- it is told that the cookie of the number `far` is done, and so many of its own jobs are finished
 abbrev pub runs : ℕ → ℕ → ℕ → Act
 runs far count p = record (asks_whether far true p) { finished = count; owner = p }
 

@@ -29,8 +29,8 @@ impl<A: Allocator + Copy> Solo<A> {
     }
 
     /// Takes out what is ready on a processor, the first jobs first: at most `max`, and at most eight
-    /// (`srcu_invoke_callbacks`). `None` where nothing is. It is refused, with nothing done, where a batch of this processor
-    /// is out.
+    /// (`srcu_invoke_callbacks`). They are then queued and not finished. `None` where nothing is ready. It is refused, with
+    /// nothing done, where a batch of this processor is out.
     pub fn take_ready(
         &mut self,
         rt: &impl Wait,
@@ -70,7 +70,8 @@ impl<A: Allocator + Copy> Solo<A> {
     }
 }
 
-// Here the allocator is lent, so that the size of a batch is known inside the call.
+// The allocator is lent here: a batch is taken and spent inside the call, so the prover has to know the size of one, and
+// with it that of the allocator.
 impl<'a, A: Allocator> Solo<&'a A> {
     /// Takes out what is ready on a processor, as [`Solo::take_ready`] does, and finishes it at once.
     pub fn run(

@@ -1,8 +1,10 @@
-use Rattle.std.proofs.Common.{rules, ◌≡◌, ◌<◌, ◌∙◌, None, sym, ap, length, arith}
+use Rattle.std.proofs.Common.{rules, ◌≡◌, ◌<◌, ◌∙◌, [], inl, refl, None, sym, ap, length, arith}
 use Rattle.calls.specs.Views.{BatchView}
-use Rattle.solo.specs.Batches.{last_cookie}
-use Rattle.solo.proofs.BatchActs.{next_is, none_is_next, last_on}
+use Rattle.solo.proofs.BatchActs.{next_is, none_is_next, one_more, all_left}
 use Rattle.solo.proofs.taking.drain.Goals as goal
+
+pub loop-cookie-init : goal.loop-cookie-init
+loop-cookie-init g c = record { batch = refl; left = record { gone = []; whole = refl; last_is = inl (refl, refl) } }
 
 pub loop-cookie-smaller : goal.loop-cookie-smaller
 loop-cookie-smaller g c =
@@ -17,7 +19,7 @@ loop-cookie-preserved g c =
     let (e, front, at) = next_is c.loop-cookie.batch c.next-job.new.self c.next-job.result c.in-Some.cookie c.next-job.ensures (sym c.cookie.ensures ∙ c.in-Some.is) in
     record {
       batch = c.next-job.ensures.0 ∙ ap (λ (b : BatchView (Unit {0})). record b { entries = c.next-job.new.self.entries }) v.batch;
-      last = last_on c.loop-cookie.last c.in-Some.cookie e c.loop-cookie.batch.entries c.next-job.new.self.entries front at ∙ v.last;
+      left = one_more v.left e front at;
     }
 
 pub returns-clause-batch : goal.returns-clause-batch
@@ -29,5 +31,4 @@ returns-clause-batch g c =
 pub returns-clause-last : goal.returns-clause-last
 returns-clause-last g c =
     let none : c.cookie.result ≡ None = search rules in
-    let empty = none_is_next c.loop-cookie.batch.entries (sym c.cookie.ensures ∙ none) in
-    sym (ap (last_cookie c.loop-cookie.last) empty) ∙ c.loop-cookie.invariant.last
+    all_left c.loop-cookie.invariant.left (none_is_next c.loop-cookie.batch.entries (sym c.cookie.ensures ∙ none))

@@ -36,7 +36,7 @@ invariant_of-self-2 g c =
           let many = out_after c.args.processor _ refl takes.asks (subst (λ n. AreOut c.args.processor n d.course) (sym counted) given.out) in
           rw w.self-inside-is (
             together_on d c.self.inside.names.tokens c.self.inside.parking c.self.invariant.0 d' same (does_quietly c.self.invariant.0.all.legal tt takes.asks),
-            jobs_out d' c.self.inside.jobs.items jobs c.args.processor c.index_mut-jobs.result.now (subst (λ n. c.args.processor < n) (sym same.2) small) c.index_mut-jobs.ensures.value w.put_out.new.self left (ap (λ (x : JobsView). x.out) w.put_out.ensures) (emptied_taken d d' c.args.processor 8 _ w.in-Ok-Some.batch w.drain-reached.new.batch same given w.drain-reached.ensures.batch) at many,
+            jobs_out d' c.self.inside.jobs.items jobs c.args.processor c.index_mut-jobs.result.now (subst (λ n. c.args.processor < n) (sym same.2) small) c.index_mut-jobs.ensures.value w.put_out.new.self left (ap (λ (x : JobsView). x.out) w.put_out.ensures) (emptied_taken d d' c.args.processor 8 w.in-Ok-Some.batch w.drain-reached.new.batch same given w.drain-reached.ensures.batch) at many,
           )
       | in-Ok-None w ↦ let takes = rw w.in-Ok-None.field-0-is at w.in-Ok-None.ensures.answer in rw w.self-inside-is (together_on d c.self.inside.names.tokens c.self.inside.parking c.self.invariant.0 d' same (does_quietly c.self.invariant.0.all.legal tt takes.asks), jobs_on d _ kept d' same (keeps_jobs refl takes.asks))
       | in-Err-Invoking w ↦ let still = rw w.in-Err-Invoking.is at c.take_ready.ensures.answer in rw (w.self-inside-is, still) (c.self.invariant.0, kept)
