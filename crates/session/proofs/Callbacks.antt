@@ -12,7 +12,11 @@ use Rattle.sections.specs.declared.limits.Limits.{Limits}
 use Rattle.calls.specs.Views.{BatchView}
 use Rattle.calls.specs.declared.refusals.CallRefusal.{CallRefusal}
 use Rattle.solo.specs.declared.queued.Queued.{Queued}
-use Rattle.solo.specs.Courses.{Course, more_at}
+use Rattle.domain.specs.Acting.{Act}
+use Rattle.solo.specs.declared.taking.Ran.{Ran}
+use Rattle.solo.specs.Courses.{Course, more_at, Does as Acts}
+use Rattle.solo.specs.Batches.{IsLastCookie}
+use Rattle.solo.specs.Calls as solo
 use Rattle.solo.specs.Calls.{SoloView, IsNew, new_course, IsGiven, IsSameDomain, Queues, QueuesNone, Takes, Finishes, AreOut}
 use Rattle.requests.specs.declared.command.Command.TheVariants as command
 use Rattle.requests.specs.declared.cause.Cause.TheVariants as cause
@@ -28,9 +32,10 @@ use Rattle.session.specs.Scripts as script
 use Rattle.session.specs.Scripts.{Does, no_jobs, new_domain}
 use Rattle.session.specs.Tokens.{token_at}
 use Rattle.session.proofs.Parked.{Named}
-use Rattle.session.proofs.Quiet.{KeepsJobs, KeepsOn, does_quietly}
+use Rattle.session.proofs.Quiet.{AreQuiet, KeepsJobs, KeepsOn, does_quietly, keeps_jobs}
 use Rattle.session.proofs.Holding.{IsThere}
 use Rattle.session.proofs.Together.{together_on}
+use Rattle.session.proofs.Taking.{due_by}
 
 -- a batch with the names of its jobs
 abbrev pub Out : Type 0
@@ -60,6 +65,18 @@ same_or_not q p = by_test (eqb q p) refl
 more_is : (p n : ℕ) (counts : List ℕ) → set counts p (slice_index counts p + n) ≡ more_at p n counts
 more_is p zero counts = ap (set counts p) (add-zero (slice_index counts p)) ∙ set-get_or counts p 0
 more_is p (suc n) counts = refl
+
+set_most : (counts : List ℕ) (p n : ℕ) → slice_index (set counts p n) p ≤ n
+set_most [] p n = omega arith
+set_most (x ∷ counts) zero n = omega arith
+set_most (x ∷ counts) (suc p) n = set_most counts p n
+
+-- no more than so many more are finished there, and as many as before of each other
+more_here : (p n : ℕ) (counts : List ℕ) → slice_index (more_at p n counts) p ≤ slice_index counts p + n
+more_here p n counts = subst (λ l. slice_index l p ≤ slice_index counts p + n) (more_is p n counts) (set_most counts p (slice_index counts p + n))
+
+more_else : (p n q : ℕ) (counts : List ℕ) → q ≢ p → slice_index (more_at p n counts) q ≡ slice_index counts q
+more_else p n q counts other = ap (λ l. slice_index l q) (sym (more_is p n counts)) ∙ get_or-set_other counts p q (slice_index counts p + n) 0 other
 
 -- so many of one processor are out, and of each other as many as before
 count_in_is : (jobs : List JobsView) (p : ℕ) (j : JobsView) → p < length jobs → j ≡ get_or jobs p j → count_out jobs p ≡ count_in j
@@ -150,20 +167,20 @@ module _ (d : SoloView) (jobs : List JobsView) (h : AreJobsOf d jobs) where
         (subst (λ x. IfSome x (λ (y : Out). y.0.processor ≡ p)) (sym out) at)
         (subst (λ (x : Option Out). AreOut p (option_map_or (λ (y : Out). y.0.count) x 0) d.course) (sym out) many)
 
-    -- none of it is out any more
-    pub jobs_finished : (d' : SoloView) (j' : JobsView) (count : ℕ) → j'.out ≡ None → AreOut p count d.course → IsThere d d' → Finishes p count d.course d'.course → AreJobsOf d' (set jobs p j')
-    jobs_finished d' j' count none many there f =
-        let queued : d'.course.queued ≡ d.course.queued = ap (λ (c : Course). c.queued) f.finishes_are.come in
-        let finished : d'.course.finished ≡ set d.course.finished p (f.n + count) = ap (λ (c : Course). c.finished) f.finishes_are.come ∙ (sym (more_is p count d.course.finished) ∙ ap (λ n. set d.course.finished p (n + count)) (get_or_from_slice_get d.course.finished p f.n 0 f.there)) in
-        jobs_with d' p j' small there.4 (ap (λ (c : Course). c.standing.processors) f.finishes_are.come)
-        (λ q other. (ap (λ l. slice_index l q) finished ∙ get_or-set_other d.course.finished p q (f.n + count) 0 other, ap (λ l. slice_index l q) queued))
+    -- none of it is out any more, as so many were finished by the processor
+    pub jobs_finished : (d' : SoloView) (j' : JobsView) (count : ℕ) (what : ℕ → Act) → j'.out ≡ None → AreOut p count d.course → IsThere d d' → Acts p what d.course d'.course → ((what p).owner ≡ p) × ((what p).finished ≡ count) × ((what p).queued ≡ 0) → AreJobsOf d' (set jobs p j')
+    jobs_finished d' j' count what none many there did just =
+        let queued : d'.course.queued ≡ d.course.queued = ap (λ (c : Course). c.queued) did.come ∙ ap (λ n. more_at p n d.course.queued) just.2 in
+        let finished : d'.course.finished ≡ more_at p count d.course.finished = ap (λ (c : Course). c.finished) did.come ∙ (λ i. more_at (just.0 i) (just.1 i) d.course.finished) in
+        jobs_with d' p j' small there.4 (ap (λ (c : Course). c.standing.processors) did.come)
+        (λ q other. (ap (λ l. slice_index l q) finished ∙ more_else p count q d.course.finished other, ap (λ l. slice_index l q) queued))
         (subst (λ x. IfSome x (λ (y : Out). IsEmptied d' y.0)) (sym none) tt)
         (subst (λ x. IfSome x (λ (y : Out). y.0.processor ≡ p)) (sym none) tt)
         (subst (λ (x : Option Out). AreOut p (option_map_or (λ (y : Out). y.0.count) x 0) d'.course) (sym none)
-        (let was : slice_index d.course.finished p ≡ f.n = get_or_from_slice_get d.course.finished p f.n 0 f.there in
-        let now : slice_index d'.course.finished p ≡ f.n + count = ap (λ l. slice_index l p) finished ∙ get_or-set_same d.course.finished p (f.n + count) 0 (slice_get_within d.course.finished p f.n f.there) in
-        let same : slice_index d'.course.queued p ≡ slice_index d.course.queued p = ap (λ l. slice_index l p) queued in
-        omega (arith, many, was, now, same)))
+        (let now = ap (λ l. slice_index l p) finished in
+        let most = more_here p count d.course.finished in
+        let same = ap (λ l. slice_index l p) queued in
+        omega (arith, many, now, most, same)))
 
 -- a batch that comes back
 
@@ -222,24 +239,20 @@ no_jobs_yet jobs n count none = each jobs none ∙ ap (λ m. replicate m no_jobs
     each (j ∷ js) h = λ i. All-head (λ (x : JobsView). jobs_of x ≡ no_jobs) j js h i ∷ each js (All-tail (λ (x : JobsView). jobs_of x ≡ no_jobs) j js h) i
 
 -- a batch that was taken, emptied
-pub emptied_taken : (d d' : SoloView) (p max reached : ℕ) (b b' : BatchView (Unit {0})) → IsSameDomain d d' → IsGiven p max reached d b → b' ≡ record b { entries = [] } → IsEmptied d' b'
-emptied_taken d d' p max reached b b' same given is =
+pub emptied_taken : (d d' : SoloView) (p max : ℕ) (b b' : BatchView (Unit {0})) → IsSameDomain d d' → IsGiven p max d d' b → b' ≡ record b { entries = [] } → IsEmptied d' b'
+emptied_taken d d' p max b b' same given is =
     let there : b.processor < d'.course.standing.processors = subst (λ n. b.processor < n) (sym same.2) (subst (λ n. n < d.course.standing.processors) (sym given.is_of.processor) given.is_of.there) in
-    subst (IsEmptied d') (sym is) (record { of_domain = record { tallies = given.is_of.tallies ∙ sym same.4; processor = refl; there = there }; some = given.some; empty = refl })
+    let counted = given.counted in
+    let some = given.ready.some in
+    subst (IsEmptied d') (sym is) (record { of_domain = record { tallies = given.is_of.tallies ∙ sym same.4; processor = refl; there = there }; some = omega (arith, counted, some); empty = refl })
 
--- it is seen that its entries are out, and then they are finished
-pub finished_taken : (d d1 d2 d3 : SoloView) (p max reached : ℕ) (b b1 b2 : BatchView (Unit {0})) → IsGiven p max reached d b → b1 ≡ record b { entries = [] } → b2 ≡ b1
-    → d2 ≡ d1 → AreOut b1.processor b1.count d1.course → IsSameDomain d2 d3 → Finishes b2.processor b2.count d2.course d3.course → AreOut p b.count d1.course × IsSameDomain d1 d3 × Finishes p b.count d1.course d3.course
-finished_taken d d1 d2 d3 p max reached b b1 b2 given emptied kept still out same finishes =
-    let at : b1.processor ≡ p = ap (λ (x : BatchView (Unit {0})). x.processor) emptied ∙ given.is_of.processor in
-    let counted : b1.count ≡ b.count = ap (λ (x : BatchView (Unit {0})). x.count) emptied in (
-      subst (λ n. AreOut p n d1.course) counted (subst (λ q. AreOut q b1.count d1.course) at out),
-      subst (λ x. IsSameDomain x d3) still same,
-      subst (λ x. Finishes p b.count x.course d3.course) still (subst (λ n. Finishes p n d2.course d3.course) counted (subst (λ q. Finishes q b1.count d2.course d3.course) at (subst (λ x. Finishes x.processor x.count d2.course d3.course) kept finishes))),
-    )
-
-pub few_given : (d : SoloView) (p max reached : ℕ) (b : BatchView (Unit {0})) → IsGiven p max reached d b → length b.entries ≤ 8
-few_given d p max reached b given = let count = given.count in let few = given.few in omega (arith, count, few)
+-- jobs that are out stay so where an act finishes none
+pub out_after : (q count : ℕ) {p : ℕ} {what : ℕ → Act} {c c' : Course} → (what p).finished ≡ 0 → Acts p what c c' → AreOut q count c → AreOut q count c'
+out_after q count none did out =
+    let on = keeps_jobs none did in
+    let more = on.queued q in
+    let same = ap (λ (l : List ℕ). slice_index l q) on.finished in
+    omega (arith, out, more, same)
 
 pub none_out_is : (o : Option Out) → is_some o ≡ false → o ≡ None
 none_out_is None h = refl
@@ -258,9 +271,9 @@ on_err (Err e) P h = h
 pub entry_on : {A : Type 0} {d d' : SoloView} {tokens : List (List ℕ × Token A)} {q : ParkingView} {jobs : List JobsView} → AreTogether d tokens q × AreJobsOf d jobs → IsSameDomain d d' → KeepsOn d.course d'.course → AreTogether d' tokens q × AreJobsOf d' jobs
 entry_on {A} {d} {d'} {tokens} {q} {jobs} h same on = (together_on d tokens q h.0 d' same on.on, jobs_on d jobs h.1 d' same on.jobs)
 
--- jobs are finished
-pub together_finished : {A : Type 0} (d d' : SoloView) (tokens : List (List ℕ × Token A)) (q : ParkingView) → AreTogether d tokens q → (p count : ℕ) → IsThere d d' → Finishes p count d.course d'.course → AreTogether d' tokens q
-together_finished d d' tokens q together p count there f = together_on d tokens q together d' there (does_quietly together.all.legal tt f.finishes_are)
+-- jobs are finished, and no section begins or ends
+pub together_finished : {A : Type 0} (d d' : SoloView) (tokens : List (List ℕ × Token A)) (q : ParkingView) → AreTogether d tokens q → (p : ℕ) (what : ℕ → Act) → IsThere d d' → Acts p what d.course d'.course → AreQuiet (what p).events → AreTogether d' tokens q
+together_finished d d' tokens q together p what there did quiet = together_on d tokens q together d' there (does_quietly together.all.legal quiet did)
 
 -- What is done
 
@@ -317,44 +330,44 @@ module _ {A : Type 0} (own : List ℕ) (tokens : List (List ℕ × Token A)) (pa
     none_out : (jobs_of j).out ≡ None
     none_out = ap batch_of none
 
-    taken_as : (count : ℕ) (leave : List Job) (out : Option Batch) (j' : JobsView) → AreTaken (4 * ended_in d.course.standing.history) count leave j.waiting j'.waiting → (jobs_of j').out ≡ out → script.Takes p count leave out before (behind j')
-    taken_as count leave out j' are is_out = record {
+    taken_as : (count : ℕ) (leave : List Job) (out : Option Batch) (j' : JobsView) → AreOut p count d.course → AreTaken (4 * ended_in d.course.standing.history) count leave j.waiting j'.waiting → (jobs_of j').out ≡ out → script.Takes p count leave out before (behind j')
+    taken_as count leave out j' queued are is_out = record {
       jobs = jobs_of j;
       waiting = j'.waiting;
       there = there;
       none_out = none_out;
+      queued = queued;
       leave = are;
       rest = ap (λ x. record before { course = d'.course; jobs = x }) (map-set jobs_of jobs p j' ∙ ap (λ (o : Option Batch). set (map jobs_of jobs) p (record { waiting = j'.waiting; out = o })) is_out);
     }
 
     -- nothing was ready
-    module _ (takes : Takes {J = Unit {0}} p max None d d') where
-      pub ran_none : Does limits (act.Run p) before (reply.Ran []) (behind j)
-      ran_none = inl (0, [], d'.course, taken_as 0 [] None j (none_taken _) none_out, takes.asks, record { follows = tt; come = refl }, refl)
 
-      pub took_none : Does limits (act.Batch p) before (reply.TookJobs []) (behind j)
-      took_none = inl (0, [], None, taken_as 0 [] None j (none_taken _) none_out, takes.asks, inr (refl, refl), refl)
+    nothing_out : AreOut p 0 d.course
+    nothing_out = subst (λ (o : Option Out). AreOut p (option_map_or (λ (x : Out). x.0.count) o 0) d.course) none (out_counted d jobs h p j small is)
 
-    module _ (b : BatchView (Unit {0})) (d1 : SoloView) (takes : Takes p max (Some b) d d1) (names : List (List ℕ)) (j' : JobsView) (are : AreTakenWith b.entries names j.waiting j'.waiting) where
-      abbrev reached : ℕ
-      reached = 4 * ended_in d.course.standing.history
+    pub ran_none : solo.Runs p max None d.course d'.course → Does limits (act.Run p) before (reply.Ran []) (behind j)
+    ran_none runs = inl (0, [], taken_as 0 [] None j nothing_out (none_taken _) none_out, runs.happens, refl)
 
-      leaving : (leave : List Job) × AreTaken reached b.count leave j.waiting j'.waiting × (names ≡ names_of_jobs leave)
-      leaving =
-          let (leave, taken, named) = are reached takes.batch.done in
-          (leave, subst (λ n. AreTaken reached n leave j.waiting j'.waiting) (sym takes.batch.count) taken, named)
+    pub took_none : Takes p max None d d' → Does limits (act.Batch p) before (reply.TookJobs []) (behind j)
+    took_none takes = inl (0, [], None, taken_as 0 [] None j nothing_out (none_taken _) none_out, takes.asks, inr (refl, refl), refl)
 
-      -- it is finished at once
-      pub ran : Finishes p b.count d1.course d'.course → j'.out ≡ j.out → Does limits (act.Run p) before (reply.Ran names) (behind j')
-      ran f same = let (leave, taken, named) = leaving in inl (b.count, leave, d1.course, taken_as b.count leave None j' taken (ap batch_of same ∙ none_out), takes.asks, f.finishes_are, ap reply.Ran named)
+    -- it is finished at once
+    pub ran : (r : Ran) → solo.Runs p max (Some r) d.course d'.course → (names : List (List ℕ)) (j' : JobsView) → AreTakenWith r.reached r.count names j.waiting j'.waiting → j'.out ≡ j.out → Does limits (act.Run p) before (reply.Ran names) (behind j')
+    ran r runs names j' are same =
+        let (leave, taken, named) = are in
+        let were = runs.jobs.0 in
+        inl (r.count, leave, taken_as r.count leave None j' runs.jobs.1 (due_by were.ready were.last taken) (ap batch_of same ∙ none_out), runs.happens, ap reply.Ran named)
 
-      -- it stays out
-      pub took : (b' : BatchView (Unit {0})) → d' ≡ d1 → b'.count ≡ b.count → j'.out ≡ Some (b', names) → Does limits (act.Batch p) before (reply.TookJobs names) (behind j')
-      took b' still counted same =
-          let (leave, taken, named) = leaving in
-          let out : Option Batch = Some (record { count = b.count; names = names_of_jobs leave }) in
-          let is_out : (jobs_of j').out ≡ out = ap batch_of same ∙ (λ i. Some (record { count = counted i; names = named i })) in
-          inl (b.count, leave, out, taken_as b.count leave out j' taken is_out, subst (λ (x : SoloView). script.AsksHowFar p d.course x.course) (sym still) takes.asks, inl (takes.batch.some, refl), ap reply.TookJobs named)
+    -- it stays out
+    pub took : (b b' : BatchView (Unit {0})) → Takes p max (Some b) d d' → (reached : ℕ) → IsLastCookie reached b.entries → (names : List (List ℕ)) (j' : JobsView) → AreTakenWith reached b.count names j.waiting j'.waiting → b'.count ≡ b.count → j'.out ≡ Some (b', names)
+        → Does limits (act.Batch p) before (reply.TookJobs names) (behind j')
+    took b b' takes reached last names j' are counted same =
+        let (leave, taken, named) = are in
+        let out : Option Batch = Some (record { count = b.count; names = names_of_jobs leave }) in
+        let is_out : (jobs_of j').out ≡ out = ap batch_of same ∙ (λ i. Some (record { count = counted i; names = named i })) in
+        let some : 0 < b.count = let many = takes.batch.counted in let some = takes.batch.ready.some in omega (arith, many, some) in
+        inl (b.count, leave, out, taken_as b.count leave out j' takes.batch.out (due_by takes.batch.ready last taken) is_out, takes.asks, inl (some, refl), ap reply.TookJobs named)
 
   -- the batch is over
 

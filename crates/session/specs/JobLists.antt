@@ -1,7 +1,6 @@
 -- What is known of the jobs of a processor.
-use Rattle.std.specs.Prelude.{◌≡◌, ℕ, ◌<◌, ◌≤◌, List, [], All, Option, Some, option_map, IfSome, length, map, slice_get, slice_index}
+use Rattle.std.specs.Prelude.{◌≡◌, ℕ, ◌<◌, List, [], All, Option, Some, option_map, IfSome, length, map, slice_get, slice_index}
 use Rattle.std.specs.Option.{option_map_or}
-use Rattle.calls.specs.declared.entry.Entry.{Entry}
 use Rattle.calls.specs.Views.{BatchView}
 use Rattle.solo.specs.Calls.{SoloView, IsBatchOf, AreOut}
 use Rattle.session.specs.declared.jobs.Job.{Job}
@@ -20,10 +19,9 @@ batch_of out = option_map (λ o. record { count = o.0.count; names = o.1 }) out
 abbrev pub jobs_of : JobsView → Jobs
 jobs_of j = record { waiting = j.waiting; out = batch_of j.out }
 
--- jobs of these names were taken: for as far as all entries of a batch were reached
-abbrev pub AreTakenWith : List (Entry (Unit {0})) → List (List ℕ) → List Job → List Job → Type 0
-AreTakenWith entries names waiting waiting' = (reached : ℕ) → All (λ e. e.cookie.number ≤ reached) entries
-    → (taken : List Job) × AreTaken reached (length entries) taken waiting waiting' × (names ≡ names_of_jobs taken)
+-- jobs of these names were taken, so many at most, none of which waits for more than `reached`
+abbrev pub AreTakenWith : ℕ → ℕ → List (List ℕ) → List Job → List Job → Type 0
+AreTakenWith reached count names waiting waiting' = (taken : List Job) × AreTaken reached count taken waiting waiting' × (names ≡ names_of_jobs taken)
 
 -- how many jobs are out
 abbrev pub count_in : JobsView → ℕ

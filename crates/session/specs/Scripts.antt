@@ -1,5 +1,5 @@
 -- What a line of a script means: which reply it gets, and what it changes.
-use Rattle.std.specs.Prelude.{◌≡◌, ℕ, ◌+◌, ◌*◌, ◌%◌, ◌<◌, ◌≤◌, Bool, true, false, MatchBool, List, [], ◌∷◌, ◌++◌, length, replicate, Option, Some, None, slice_get, slice_set, remove, if◌then◌else◌, ◌⊎◌}
+use Rattle.std.specs.Prelude.{◌≡◌, ℕ, ◌*◌, ◌%◌, ◌<◌, ◌≤◌, Bool, true, false, MatchBool, List, [], ◌∷◌, ◌++◌, length, replicate, Option, Some, None, slice_get, slice_set, remove, if◌then◌else◌, ◌⊎◌}
 use Rattle.sseq.specs.declared.index.Index.{Index}
 use Rattle.sseq.specs.declared.index.Index.TheVariants.{Zero, One}
 use Rattle.sseq.specs.declared.number.Phase.{Phase}
@@ -19,7 +19,7 @@ use Rattle.calls.specs.declared.refusals.CallRefusal.{CallRefusal}
 use Rattle.calls.specs.declared.refusals.CallRefusal.TheVariants as calling
 use Rattle.solo.specs.declared.queued.Queued.{Queued}
 use Rattle.domain.specs.Acting.{finishes}
-use Rattle.solo.specs.Courses.{Course, Does as DoesAct}
+use Rattle.solo.specs.Courses.{Course, Does as DoesAct, runs}
 use Rattle.solo.specs.Calls as solo
 use Rattle.solo.specs.Calls.{new_course, Begins, IsOutOfSections, Ends, GivesCookie, Asks as AsksIfDone, AsksFor, ReadsNumber, QueuesNone, Starts, StartsNone, Steps, Advances, IsAskedTooMuch}
 use Rattle.solo.specs.Cleanup.{IsTakenDown, IsInUse as IsInUseFor}
@@ -175,12 +175,13 @@ abbrev pub Calls : ℕ → List ℕ → DomainState → Reply → DomainState �
 Calls p name d r d' = Queues p name d r d'
     ⊎ (why : CallRefusal) × QueuesNone p why d.course d'.course × Replies (reply.Refused command.Call (cause_of_none why)) d r d'
 
--- no batch of the processor was out, and so many jobs leave, for which the grace periods have come far enough, these among them; `out` is out then. A list stands behind a lock, so it isn't said which of those that are due leave
+-- no batch of the processor was out, and so many jobs that are queued and not finished leave, for which the grace periods have come far enough, these among them; `out` is out then. A list stands behind a lock, so it isn't said which of those that are due leave
 pub record Takes (p count : ℕ) (taken : List Job) (out : Option Batch) (d d' : DomainState) : Type 0 where
   pub jobs : Jobs
   pub waiting : List Job
   pub there : slice_get d.jobs p ≡ Some jobs
   pub none_out : jobs.out ≡ None
+  pub queued : solo.AreOut p count d.course
   pub leave : AreTaken (4 * ended_in d.course.standing.history) count taken jobs.waiting waiting
   pub rest : d' ≡ record d { course = d'.course; jobs = slice_set d.jobs p (record { waiting = waiting; out = out }) }
 
@@ -190,7 +191,7 @@ AsksHowFar p c c' = AsksIfDone p (4 * ended_in c.standing.history) true c c'
 
 -- what was taken is finished at once. Refused where a batch is out, and nothing is done
 abbrev pub Runs : ℕ → DomainState → Reply → DomainState → Type 0
-Runs p d r d' = ((count : ℕ) × (taken : List Job) × (c : Course) × Takes p count taken None d d' × AsksHowFar p d.course c × DoesAct p (finishes p count) c d'.course × (r ≡ reply.Ran (names_of_jobs taken)))
+Runs p d r d' = ((count : ℕ) × (taken : List Job) × Takes p count taken None d d' × DoesAct p (runs (4 * ended_in d.course.standing.history) count) d.course d'.course × (r ≡ reply.Ran (names_of_jobs taken)))
     ⊎ IsRefused command.Run Invoking d r d'
 
 -- so many jobs are a batch that is out, these among them; without a job none is

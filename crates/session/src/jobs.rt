@@ -104,19 +104,15 @@ impl<A: Allocator> Jobs<A> {
         Some(self.waiting.pop_front()?.name)
     }
 
-    /// Takes all entries out of a batch, and with each the first job that waits: the domain gave the entries out in the order
-    /// in which the jobs were queued. Their names come in this order.
-    pub fn take(&mut self, batch: &mut Batch<(), A>) -> JobNames
-    where
-        A: Copy,
-        requires { length batch.old.entries ≤ 8 }
-        ensures batch { batch.new ≡ record batch.old { entries = [] } }
-        ensures taken { AreTakenWith batch.old.entries result self.old.waiting self.new.waiting }
+    /// Takes the first jobs that wait, at most so many, and none that waits for a greater number than `reached`: the domain
+    /// gives jobs out in the order in which they were queued. Their names come in this order.
+    pub fn take(&mut self, count: usize, reached: u64) -> JobNames
+        requires { count ≤ 8 }
+        ensures taken { AreTakenWith reached count result self.old.waiting self.new.waiting }
         ensures out { self.new.out ≡ self.old.out }
     {
         let mut names = JobNames::new();
-        while let Some(reached) = batch.cookie() {
-            let _job = batch.next();
+        for _job in 0..count {
             if let Some(name) = self.pop(reached) {
                 names.push(name);
             }

@@ -5,12 +5,10 @@ use Rattle.std.proofs.lemmas.List.{get_or_past, ext_get_or}
 use mathlib.Core.Logic.{dite}
 use native.Mathlib.Decide.{dec_lt}
 use Rattle.calls.specs.Tallies.{queued_in, finished_in}
-use Rattle.calls.specs.Views.{CallSeatView, TicketView, BatchView}
+use Rattle.calls.specs.Views.{CallSeatView, TicketView}
 use Rattle.calls.specs.Barriers.{Starts, IsDone, IsBehind}
-use Rattle.calls.specs.Meetings.{SeesOut}
 use Rattle.calls.proofs.CallerLemmas.{queued_later, finished_later}
 use Rattle.domain.specs.Acting.{loads, ActsAs}
-use Rattle.solo.specs.Calls.{AreOut}
 use Rattle.solo.specs.Barriers.{ticket_of, IsTicketOf, AreReached}
 use Rattle.solo.proofs.Meeting.{Hand, s', deeds_were, queued_were, finished_were, queued_long, tallies_are, many_are, seen_by_all, queued_now, finished_now}
 use Rattle.solo.proofs.Called.{Says, says, still}
@@ -76,16 +74,3 @@ module _ (t : Hand) (did : ActsAs loads t.was t.now) where
 
     pub poll_says : (done : Bool) → MatchBool done (IsDone ticket t.now.calls.seen) (IsBehind ticket t.was.calls t.now.calls) → Stays (MatchBool done (AreReached ticket.numbers t.s.course.finished) (¬ AreReached ticket.numbers t.s.course.finished))
     poll_says done is = stays _ (found done is)
-
-  -- A batch is out
-
-  pub out_says : {J : Type 0} (b : BatchView J) → SeesOut b t.was.calls t.now.calls → b.processor < t.s.course.standing.processors → Stays (AreOut b.processor b.count t.s.course)
-  out_says b h small =
-      let there : b.processor < length t.cpus = (let all = many_are t in omega (arith, all, small)) in
-      let low = finished_later b.processor h.not_before in
-      let old = ap (finished_in b.processor) seen_before in
-      let moment = h.queued in
-      let later = queued_later b.processor h.covers.covers in
-      let most = no_more_queued b.processor there in
-      let was = finished_were t b.processor there in
-      stays _ (omega (arith, low, old, moment, later, most, was))

@@ -10,30 +10,33 @@ use Rattle.onedom.specs.declared.event.Event.TheVariants.{Ask}
 use Rattle.onedom.specs.Histories.{ended_in}
 use Rattle.sections.specs.declared.limits.Limits.{Limits}
 use Rattle.sections.specs.Words.{number_word}
-use Rattle.sections.specs.Sights.{SightView, AsksHowFar}
 use Rattle.calls.specs.declared.entry.Entry.{Entry}
 use Rattle.calls.specs.declared.list.Receipt.{Receipt}
 use Rattle.calls.specs.declared.refusals.CallRefusal.{CallRefusal}
 use Rattle.calls.specs.declared.refusals.CallRefusal.TheVariants as calling
 use Rattle.calls.specs.declared.refusals.TakeRefusal.{TakeRefusal}
-use Rattle.calls.specs.Tallies.{queued_in}
-use Rattle.calls.specs.Views.{CallSeatView, ListKey, ListView, BatchView, key_of}
-use Rattle.calls.specs.Calls.{IsHanded, AreHanded, IsTaken, TakesIn, InvokesIn, IsListOf}
+use Rattle.calls.specs.Tallies.{queued_in, finished_in}
+use Rattle.calls.specs.Views.{CallSeatView, ListView, BatchView}
+use Rattle.calls.specs.Calls.{IsHanded, AreHanded, IsTaken, IsListOf}
+use Rattle.calls.proofs.CallerLemmas.{queued_later, finished_later}
 use Rattle.segs.specs.MarkedList.{count_done, lens, numbers}
 use Rattle.domain.specs.Views.{DomainView, CpuView, callbacks_of}
 use Rattle.domain.specs.Waiting.{LoadsNeed}
 use Rattle.domain.specs.Calling.{CallsIn, RefusesCall}
 use Rattle.domain.specs.Acting as domain
-use Rattle.domain.specs.Acting.{loads, notes, asks_how_far, asks_for, finishes, ActsAs}
+use Rattle.domain.specs.Acting.{Act, loads, notes, asks_how_far, asks_for, finishes, ActsAs}
 use Rattle.solo.specs.declared.queued.Queued.{Queued}
+use Rattle.solo.specs.declared.taking.Ran.{Ran}
 use Rattle.solo.specs.Refusals.{IsQueuedAs}
 use Rattle.solo.specs.Calls as call
-use Rattle.solo.specs.Calls.{SoloView, IsGiven, Queues, QueuesNone, Takes, Finishes, TellsLens}
-use Rattle.solo.specs.Courses.{Does}
+use Rattle.solo.specs.Calls.{SoloView, Queues, QueuesNone, AreOut, IsGiven, Takes, Runs, Finishes, TellsLens}
+use Rattle.solo.specs.Courses.{Does, more_at, runs}
+use Rattle.solo.specs.Batches.{AreReady, WereReady, count_run}
+use Rattle.solo.specs.Taking.{TakesBatch, RunsBatch, asks_how_far_and_finishes}
 use Rattle.solo.specs.Settling.{View, HaveMet}
 use Rattle.solo.specs.Insides.{seen_first}
 use Rattle.solo.proofs.Hand.{now_is, own_table}
-use Rattle.solo.proofs.Meeting.{Hand, s', deeds_were, queued_were, queued_found, finished_found, tallies_are, reaches_were, changes_are, root_is, does}
+use Rattle.solo.proofs.Meeting.{Hand, s', deeds_were, queued_were, queued_found, finished_were, finished_found, queued_now, seen_by_all, seen_now, tallies_are, reaches_were, changes_are, root_is, does}
 use Rattle.solo.proofs.Called.{Says, says, still}
 
 -- How far the grace periods have come
@@ -58,25 +61,14 @@ far_enough reached seen before by is e handed =
     let enough = handed.not_before in
     omega (arith, told, enough)
 
--- a batch that was taken from a list of the processor
-batch_given : {J : Type 0} (d : DomainView) (p max done reached : ℕ) (seen : SoloView) (l l' : ListView J) (gone : List (Entry J)) (taken : Option (BatchView J)) → seen.tallies ≡ d.tallies → p < seen.course.standing.processors
-    → key_of l ≡ record { domain = d.domain; tallies = d.tallies; processor = p } → IsTaken l gone taken l' → length gone ≡ min (min max 8) done → IfSome taken (λ b. All (λ e. e.cookie.number ≤ reached) b.entries) → IfSome taken (IsGiven p max reached seen)
-batch_given d p max done reached seen l l' [] None tallies there key is many all = tt
-batch_given d p max done reached seen l l' [] (Some b) tallies there key is many all = absurd is
-batch_given d p max done reached seen l l' (e ∷ es) None tallies there key is many all = absurd is
-batch_given d p max done reached seen l l' (e ∷ es) (Some b) tallies there key is many all =
-    let count = ap (λ (x : BatchView _). x.count) is.0 in record {
-      is_of = record {
-        tallies = ap (λ (x : BatchView _). x.tallies) is.0 ∙ (ap (λ (k : ListKey). k.tallies) key ∙ sym tallies);
-        processor = ap (λ (x : BatchView _). x.processor) is.0 ∙ ap (λ (k : ListKey). k.processor) key;
-        there = there;
-      };
-      count = count ∙ sym (ap (λ (x : BatchView _). length x.entries) is.0);
-      some = omega (arith, count);
-      few = omega (arith, count, many);
-      most = omega (arith, count, many);
-      done = all;
-    }
+-- a batch that was taken from a list
+batch_ready : (max done far : ℕ) (now : List Event) (l l' : ListView (Unit {0})) (gone : List (Entry (Unit {0}))) (b : BatchView (Unit {0})) → IsTaken l gone (Some b) l' → length gone ≡ min (min max 8) done → All (λ e. e.cookie.number ≤ far) b.entries → AreHanded b.entries now → (b.count ≡ length b.entries) × AreReady max far now b.entries
+batch_ready max done far now l l' [] b is many all handed = absurd is
+batch_ready max done far now l l' (e ∷ es) b is many all handed =
+    let counted : length b.entries ≡ length (e ∷ es) = ap (λ (x : BatchView (Unit {0})). length x.entries) is.0 in (
+      ap (λ (x : BatchView (Unit {0})). x.count) is.0 ∙ sym counted,
+      record { some = omega (arith, counted); few = omega (arith, counted, many); most = omega (arith, counted, many); done = all; handed = handed },
+    )
 
 module _ (t : Hand) where
   -- the root was loaded
@@ -111,27 +103,74 @@ module _ (t : Hand) where
   reached_is : (changes : ℕ) → changes ≡ t.s.course.standing.changes → 4 * periods_ended (number_word changes) ≡ 4 * ended_in t.s.course.standing.history
   reached_is changes same = let found = ap number_word same in let ended = (reaches_were t).ended in omega (arith, found, ended)
 
-  module _ {J : Type 0} (max_jobs : ℕ) where
-    taken_says : (taken : Option (BatchView J)) → TakesIn (callbacks_of t.d) t.p max_jobs t.was.cpu taken t.now.cpu → IfSome taken (λ b. AreHanded b.entries t.now.cpu.seen) → ActsAs (asks_how_far t.now.cpu.changes) t.was t.now → t.p < t.s.course.standing.processors → Says t (Takes t.p max_jobs taken t.s (s' t))
-    taken_says taken h handed did there =
-        let x = h.takes in
-        let far = asks_how_far t.now.cpu.changes in
-        let reached = reached_is t.now.cpu.changes (changes_are t far did) in
-        let number : 4 * periods_ended x.number ≡ 4 * ended_in t.s.course.standing.history = ap (λ n. 4 * periods_ended n) x.asks.current ∙ reached in
-        says t far did _ (record {
-          asks = subst (λ n. call.Asks t.p n true t.s.course (s' t).course) reached (does t far did);
-          batch = subst (λ n. IfSome taken (IsGiven t.p max_jobs n t.s)) number (batch_given t.d t.p max_jobs (count_done x.moved) (4 * periods_ended x.number) t.s h.list h.list' x.gone taken (sym (tallies_are t)) there h.of_calls x.taken_is x.many (all_done taken x.number _ _ x.asks handed));
-        })
-      where
-        all_done : (taken : Option (BatchView J)) (number : ℕ) (s s1 : SightView) → AsksHowFar number s t.was.cpu t.now.cpu s1 → IfSome taken (λ b. AreHanded b.entries t.now.cpu.seen) → IfSome taken (λ b. All (λ e. e.cookie.number ≤ 4 * periods_ended number) b.entries)
-        all_done None number s s1 a handed = tt
-        all_done (Some b) number s s1 a handed = All-weaker (λ (e : Entry J). IsHanded e.cookie.number e.cookie.seen t.now.cpu.seen) (λ (e : Entry J). e.cookie.number ≤ 4 * periods_ended number)
-            (λ e it. far_enough (4 * periods_ended number) t.now.cpu.seen a.adds.before (Processor t.was.cpu.processor) a.adds.seen e it) b.entries handed
+  -- A batch is taken: its jobs were ready, and are out
 
-    pub take_says : t.p < t.s.course.standing.processors → (r : Result (Option (BatchView J)) TakeRefusal) → MatchResult r (λ taken. TakesIn (callbacks_of t.d) t.p max_jobs t.was.cpu taken t.now.cpu) (λ _. InvokesIn J (callbacks_of t.d) t.p × (t.now.cpu ≡ t.was.cpu))
-        → IfOk r (λ taken. IfSome taken (λ b. AreHanded b.entries t.now.cpu.seen)) → MatchResult r (λ _. ActsAs (asks_how_far t.now.cpu.changes) t.was t.now) (λ _. ActsAs loads t.was t.now) → Says t (MatchResult r (λ taken. Takes t.p max_jobs taken t.s (s' t)) (λ _. s' t ≡ t.s))
-    take_says there (Ok taken) h handed did = taken_says taken h handed did there
-    take_says there (Err refusal) h handed did = says t loads did _ (still t did)
+  module _ (most : ℕ) (b : BatchView (Unit {0})) (h : TakesBatch t.d t.p most b t.was t.now) (what : ℕ → Act) (did : ActsAs what t.was t.now) where
+    abbrev far : ℕ
+    far = 4 * ended_in t.s.course.standing.history
+
+    all_done : All (λ (e : Entry (Unit {0})). e.cookie.number ≤ far) b.entries
+    all_done =
+        let asks = h.takes.takes.asks in
+        let number : 4 * periods_ended h.takes.takes.number ≡ far = ap (λ n. 4 * periods_ended n) asks.current ∙ reached_is t.now.cpu.changes (changes_are t what did) in
+        All-weaker (λ (e : Entry (Unit {0})). IsHanded e.cookie.number e.cookie.seen t.now.cpu.seen) (λ (e : Entry (Unit {0})). e.cookie.number ≤ far)
+        (λ e it. subst (λ n. e.cookie.number ≤ n) number (far_enough (4 * periods_ended h.takes.takes.number) t.now.cpu.seen asks.adds.before (Processor t.was.cpu.processor) asks.adds.seen e it)) b.entries h.handed
+
+    are_ready : (b.count ≡ length b.entries) × AreReady most far (s' t).course.standing.history b.entries
+    are_ready =
+        let x = h.takes in
+        batch_ready most (count_done x.takes.moved) far (s' t).course.standing.history x.list x.list' x.takes.gone b x.takes.taken_is x.takes.many all_done (subst (AreHanded b.entries) (seen_now t what did) h.handed)
+
+    are_out : (what t.p).queued ≡ 0 → AreOut t.p b.count t.s.course
+    are_out none =
+        let low = finished_later t.p h.not_before in
+        let old = ap (λ (s : CallSeatView). finished_in t.p s.seen) (deeds_were t) in
+        let was = finished_were t t.p t.inside in
+        let later = queued_later t.p h.not_after in
+        let met = queued_later t.p (seen_by_all t what did) in
+        let now = queued_now t what did t.p t.inside ∙ ap (λ n. get_or (more_at t.p n t.s.course.queued) t.p 0) none in
+        let moment = h.queued in
+        omega (arith, low, old, was, later, met, now, moment)
+
+  taken_says : (most : ℕ) (taken : Option (BatchView (Unit {0}))) → IfSome taken (λ b. TakesBatch t.d t.p most b t.was t.now) → ActsAs (asks_how_far t.now.cpu.changes) t.was t.now → t.p < t.s.course.standing.processors → Says t (Takes t.p most taken t.s (s' t))
+  taken_says most taken h did small =
+      let far_is = asks_how_far t.now.cpu.changes in
+      says t far_is did _ (record { asks = subst (λ n. call.Asks t.p n true t.s.course (s' t).course) (reached_is t.now.cpu.changes (changes_are t far_is did)) (does t far_is did); batch = each taken h })
+    where
+      each : (taken : Option (BatchView (Unit {0}))) → IfSome taken (λ b. TakesBatch t.d t.p most b t.was t.now) → IfSome taken (IsGiven t.p most t.s (s' t))
+      each None h = tt
+      each (Some b) h = let ready = are_ready most b h (asks_how_far t.now.cpu.changes) did in record {
+        is_of = record { tallies = h.of_processor.0 ∙ tallies_are t; processor = h.of_processor.1; there = small };
+        counted = ready.0;
+        ready = ready.1;
+        out = are_out most b h (asks_how_far t.now.cpu.changes) did refl;
+      }
+
+  pub take_says : (most : ℕ) → t.p < t.s.course.standing.processors → (r : Result (Option (BatchView (Unit {0}))) TakeRefusal) → IfOk r (λ taken. IfSome taken (λ b. TakesBatch t.d t.p most b t.was t.now))
+      → MatchResult r (λ _. ActsAs (asks_how_far t.now.cpu.changes) t.was t.now) (λ _. ActsAs loads t.was t.now) → Says t (MatchResult r (λ taken. Takes t.p most taken t.s (s' t)) (λ _. s' t ≡ t.s))
+  take_says most small (Ok taken) h did = taken_says most taken h did small
+  take_says most small (Err refusal) h did = says t loads did _ (still t did)
+
+  -- and finished at once
+
+  ran_says : (most : ℕ) (ran : Option Ran) → IfSome ran (λ r. RunsBatch t.d t.p most r t.was t.now) → ActsAs (asks_how_far_and_finishes t.now.cpu.changes (count_run ran)) t.was t.now → Says t (Runs t.p most ran t.s.course (s' t).course)
+  ran_says most ran h did =
+      let what = asks_how_far_and_finishes t.now.cpu.changes (count_run ran) in
+      says t what did _ (record { n = get_or t.s.course.finished t.p 0; there = finished_found t t.p t.inside; happens = subst (λ n. Does t.p (runs n (count_run ran)) t.s.course (s' t).course) (reached_is t.now.cpu.changes (changes_are t what did)) (does t what did); jobs = each ran h did })
+    where
+      each : (ran : Option Ran) → IfSome ran (λ r. RunsBatch t.d t.p most r t.was t.now) → ActsAs (asks_how_far_and_finishes t.now.cpu.changes (count_run ran)) t.was t.now → IfSome ran (λ r. WereReady most (4 * ended_in t.s.course.standing.history) (s' t).course.standing.history r × AreOut t.p r.count t.s.course)
+      each None h did = tt
+      each (Some r) h did =
+          let what = asks_how_far_and_finishes t.now.cpu.changes r.count in
+          let ready = are_ready most h.batch h.taken what did in (
+            record { entries = h.batch.entries; ready = ready.1; counted = h.counted ∙ ready.0; last = h.last },
+            subst (λ n. AreOut t.p n t.s.course) (sym h.counted) (are_out most h.batch h.taken what did refl),
+          )
+
+  pub run_says : (most : ℕ) (r : Result (Option Ran) TakeRefusal) → IfOk r (λ ran. IfSome ran (λ k. RunsBatch t.d t.p most k t.was t.now)) → MatchResult r (λ ran. ActsAs (asks_how_far_and_finishes t.now.cpu.changes (count_run ran)) t.was t.now) (λ _. ActsAs loads t.was t.now)
+      → Says t (MatchResult r (λ ran. Runs t.p most ran t.s.course (s' t).course) (λ _. s' t ≡ t.s))
+  run_says most (Ok ran) h did = ran_says most ran h did
+  run_says most (Err refusal) h did = says t loads did _ (still t did)
 
   -- A batch is finished
 

@@ -7,6 +7,7 @@ mod Hand
 mod Meeting
 mod Called
 mod Quiet
+mod BatchActs
 mod Jobs
 mod Barriers
 mod CleanupActs

@@ -1,5 +1,5 @@
 -- A processor of the domain in one hand acted, and then all have met: the domain has come just so far as the act says.
-use Rattle.std.proofs.Common.{◌≡◌, ℕ, zero, suc, ◌+◌, ◌*◌, ◌%◌, ◌<◌, ◌≤◌, ◌⊎◌, cond, max, inl, inr, List, [], ◌∷◌, ◌++◌, length, get_or, set, refl, sym, ap, ◌∙◌, subst, append-nil, arith, length-set, get_or-set_other, get_or-set_same, le-ltb}
+use Rattle.std.proofs.Common.{◌≡◌, ℕ, zero, suc, ◌+◌, ◌*◌, ◌%◌, ◌<◌, ◌≤◌, ◌⊎◌, cond, max, inl, inr, List, [], ◌∷◌, ◌++◌, length, get_or, set, refl, sym, ap, ◌∙◌, subst, append-nil, arith, length-append, length-set, get_or-set_other, get_or-set_same, le-ltb}
 use Rattle.std.specs.Prelude.{All, Some, slice_get}
 use Rattle.std.proofs.lemmas.List.{get_or_default, set-get_or, length-map, append_cancel_left}
 use mathlib.Core.Logic.{dite}
@@ -36,6 +36,17 @@ use Rattle.solo.proofs.Tallying.{GoesOnBy, finished_are, queued_here, queued_els
 use Rattle.solo.proofs.Settled.{HaveAsked, IsSettled, settled, all_raised, asked_together}
 use Rattle.solo.proofs.Turning.{idle_found, idle_turned}
 use Rattle.solo.proofs.NothingBetween.{made_by_append}
+
+-- two that are beginnings of each other
+same_beginning : (h g : List Event) → IsBeginning h g → IsBeginning g h → h ≡ g
+same_beginning h g hg gh =
+    let long = ap length hg.whole ∙ length-append h hg.rest in
+    let short = ap length gh.whole ∙ length-append g gh.rest in
+    sym (hg.whole ∙ (ap (λ l. h ++ l) (none_left hg.rest (omega (arith, long, short))) ∙ append-nil h))
+  where
+    none_left : (rest : List Event) → length rest ≡ 0 → rest ≡ []
+    none_left [] none = refl
+    none_left (e ∷ es) none = absurd (omega (arith, none))
 
 -- What was added
 
@@ -363,6 +374,15 @@ module _ (t : Hand) where
 
     pub changes_are : t.now.cpu.changes ≡ t.s.course.standing.changes
     changes_are = all_changes ∙ sym (ap (λ (x : SoloView). x.course.standing.changes) view_is)
+
+    -- the processor has then seen the whole history
+    pub seen_now : t.now.cpu.seen ≡ s'.course.standing.history
+    seen_now =
+        let alone : t.v.seat.seen ++ (acts.events.others ++ a.events) ≡ t.meets.left.seat.seen = ap (λ l. t.v.seat.seen ++ (l ++ a.events)) acted.alone ∙ sym acted.seen in
+        let low = subst (λ (x : CpuView). IsBeginning t.meets.left.seat.seen x.cpu.seen) (here t.was) (subst (λ l. IsBeginning l (get_or acted_cpus t.p t.was).cpu.seen) alone seen_here) in
+        let high = subst (λ (x : CpuView). IsBeginning x.cpu.seen t.meets.left.seat.seen) (here t.was) (engine_meets.each t.p t.was within).since in
+        let history = ap (λ (x : SoloView). x.course.standing.history) come ∙ ap (λ (x : SoloView). with_events a.events x.course.standing.history) view_is in
+        same_beginning t.now.cpu.seen t.meets.left.seat.seen high low ∙ (acted.seen ∙ (with_events_is a.events t.v.seat.seen ∙ sym history))
 
     -- a load of the root found just what had been asked for
     pub root_is : (found : ℕ) → LoadsRoot t.was.needs found t.now.needs → found ≡ t.s.course.asked

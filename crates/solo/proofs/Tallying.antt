@@ -1,5 +1,5 @@
 -- What was done at the tally words, where all processors are in one hand: each has just its own deeds, so the counts are those of before and of the act.
-use Rattle.std.proofs.Common.{◌≡◌, ◌≢◌, ℕ, suc, ◌+◌, ◌<◌, cond, if◌then◌else◌, map, List, [], ◌∷◌, ◌++◌, length, get_or, set, refl, sym, ap, ◌∙◌, subst, arith, length-append, length-set, get_or-set_other, get_or-set_same, eq-eqb, ne_eqb}
+use Rattle.std.proofs.Common.{◌≡◌, ◌≢◌, ℕ, suc, ◌+◌, ◌<◌, cond, map, List, [], ◌∷◌, ◌++◌, length, get_or, set, refl, sym, ap, ◌∙◌, subst, arith, length-append, length-set, get_or-set_other, get_or-set_same, eq-eqb, ne_eqb}
 use Rattle.std.specs.Prelude.{Some, replicate, slice_get}
 use Rattle.std.proofs.lemmas.List.{length-map, get_or-map, ext_get_or, append_cancel_left}
 use Rattle.std.proofs.lemmas.Option.{slice_get-get_or}

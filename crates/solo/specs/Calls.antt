@@ -1,5 +1,5 @@
 -- What the calls of a domain in one hand do: each is said of how far the domain has come before and behind it.
-use Rattle.std.specs.Prelude.{◌≡◌, ℕ, ◌+◌, ◌*◌, ◌<◌, ◌≤◌, max, Bool, true, List, [], All, Option, Some, IfSome, Result, Ok, length, replicate, slice_get, slice_index}
+use Rattle.std.specs.Prelude.{◌≡◌, ℕ, ◌+◌, ◌*◌, ◌<◌, ◌≤◌, Bool, true, List, [], Option, Some, IfSome, Result, Ok, length, replicate, slice_get, slice_index}
 use Rattle.sseq.specs.declared.index.Index.{Index}
 use Rattle.atomic_table.specs.Seated.{TableId}
 use Rattle.onedom.specs.Histories.{IsRunning, ended_in, cookie_after}
@@ -20,8 +20,10 @@ use Rattle.scan.specs.declared.progress.StartRefusal.TheVariants as refusal
 use Rattle.scan.specs.Standings as engine
 use Rattle.scan.specs.Standings.{Standing, index_now, number_now, number_at_rest, IsOutOfPeriods}
 use Rattle.solo.specs.declared.queued.Queued.{Queued}
+use Rattle.solo.specs.declared.taking.Ran.{Ran}
 use Rattle.domain.specs.Acting.{begins, ends, notes, asks_whether, asks_for, finishes}
-use Rattle.solo.specs.Courses.{Course, Does, Works}
+use Rattle.solo.specs.Courses.{Course, Does, Works, runs}
+use Rattle.solo.specs.Batches.{AreReady, WereReady, count_run}
 
 -- `table` tells which looks and readings are of this domain, and `tallies` which batches; `course` is how far it has come
 pub record SoloView : Type 0 where
@@ -117,26 +119,27 @@ abbrev pub QueuesNone : ℕ → CallRefusal → Course → Course → Type 0
 QueuesNone p calling.Exhausted c c' = (slice_get c.queued p ≡ Some most_calls) × (c' ≡ c)
 QueuesNone p calling.Memory c c' = (cookie : ℕ) × GivesCookie p cookie c c'
 
-module _ {J : Type 0} where
-  -- the batch is of this domain, and of this processor
-  pub record IsBatchOf (d : SoloView) (p : ℕ) (b : BatchView J) : Type 0 where
-    pub tallies : b.tallies ≡ d.tallies
-    pub processor : b.processor ≡ p
-    pub there : p < d.course.standing.processors
+-- so many calls of the processor are out: they are queued, and not finished
+abbrev pub AreOut : ℕ → ℕ → Course → Type 0
+AreOut p count c = slice_index c.finished p + count ≤ slice_index c.queued p
 
-  -- a batch of the processor, with at most `max` jobs and at most eight, whose cookies are done once this number is reached
-  pub record IsGiven (p max reached : ℕ) (d : SoloView) (b : BatchView J) : Type 0 where
-    pub is_of : IsBatchOf d p b
-    pub count : b.count ≡ length b.entries
-    pub some : 0 < b.count
-    pub few : b.count ≤ 8
-    pub most : b.count ≤ max
-    pub done : All (λ e. e.cookie.number ≤ reached) b.entries
+-- the batch is of this domain, and of this processor
+pub record IsBatchOf {J : Type 0} (d : SoloView) (p : ℕ) (b : BatchView J) : Type 0 where
+  pub tallies : b.tallies ≡ d.tallies
+  pub processor : b.processor ≡ p
+  pub there : p < d.course.standing.processors
 
-  -- the processor asks how far the grace periods have come, is told, and what is ready by then is taken
-  pub record Takes (p max : ℕ) (taken : Option (BatchView J)) (d d' : SoloView) : Type 0 where
-    pub asks : Asks p (4 * ended_in d.course.standing.history) true d.course d'.course
-    pub batch : IfSome taken (IsGiven p max (4 * ended_in d.course.standing.history) d)
+-- a batch of the processor, whose jobs were ready, as it asked, and are out
+pub record IsGiven (p max : ℕ) (d d' : SoloView) (b : BatchView (Unit {0})) : Type 0 where
+  pub is_of : IsBatchOf d p b
+  pub counted : b.count ≡ length b.entries
+  pub ready : AreReady max (4 * ended_in d.course.standing.history) d'.course.standing.history b.entries
+  pub out : AreOut p b.count d.course
+
+-- the processor asks how far the grace periods have come and is told, and jobs that are ready then are taken, or none
+pub record Takes (p max : ℕ) (taken : Option (BatchView (Unit {0}))) (d d' : SoloView) : Type 0 where
+  pub asks : Asks p (4 * ended_in d.course.standing.history) true d.course d'.course
+  pub batch : IfSome taken (IsGiven p max d d')
 
 -- so many calls of the processor are finished more, those of the batch
 pub record Finishes (p count : ℕ) (c c' : Course) : Type 0 where
@@ -144,9 +147,12 @@ pub record Finishes (p count : ℕ) (c c' : Course) : Type 0 where
   pub there : slice_get c.finished p ≡ Some n
   pub finishes_are : Does p (finishes p count) c c'
 
--- so many calls of the processor are out: they are queued, and not finished
-abbrev pub AreOut : ℕ → ℕ → Course → Type 0
-AreOut p count c = slice_index c.finished p + count ≤ slice_index c.queued p
+-- the same, and the jobs are finished too
+pub record Runs (p max : ℕ) (ran : Option Ran) (c c' : Course) : Type 0 where
+  pub n : ℕ
+  pub there : slice_get c.finished p ≡ Some n
+  pub happens : Does p (runs (4 * ended_in c.standing.history) (count_run ran)) c c'
+  pub jobs : IfSome ran (λ r. WereReady max (4 * ended_in c.standing.history) c'.standing.history r × AreOut p r.count c)
 
 -- a list of this processor's jobs, whatever they are
 abbrev pub IsListOf : SoloView → ℕ → ListView (Unit {0}) → Type 0

@@ -1,4 +1,6 @@
 pub mod Courses
+pub mod Batches
+pub mod Taking
 pub mod Calls
 pub mod Settling
 pub mod Refusals

@@ -5,9 +5,11 @@ mod members;
 mod queued;
 mod refusals;
 mod solo;
+mod taking;
 #[cfg(test)]
 mod tests;
 
 pub use domain::{InUse, Totals};
 pub use queued::Queued;
 pub use solo::Solo;
+pub use taking::{Ran, drain};

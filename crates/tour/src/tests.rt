@@ -1,134 +1,244 @@
-//! What the guide shows.
+//! What the guide shows. The calls stand where domain and processors are lent, and what they told is compared where these
+//! are gone: a step costs the prover a walk over all that is still to be dropped there.
+ghost use Rattle.std.specs.Prelude.{◌<◌, ◌≡◌};
+ghost use Rattle.domain.specs.Views.{IsOf, Stays};
+ghost use Rattle.tour.specs.Parts.{IsReady};
+
 use super::*;
 use callbacks::{free_ready, replace_and_call};
-use domain::{Exhausted, Index, NotACookie, Number, Progress, StartRefusal};
+use domain::{AdvanceRefusal, Exhausted, Index, NotACookie, Number, Progress, StartRefusal};
 use std::test::Fail;
+
+type Started = Result<Number, StartRefusal>;
+
+type Advanced = Result<Progress, AdvanceRefusal>;
+
+type Polled = Result<bool, NotACookie>;
 
 fn number(value: u64) -> Number {
     Number::new(value).unwrap_or(Number::zero())
 }
 
-/// Would catch a cookie that is done while a section is open that was open when it was given, and one that never is.
-#[test]
-fn cookies(rt: HostRuntime) -> Result<(), Fail> {
-    let (domain, mut reader, mut updater) = pair(rt.alloc())?;
+/// What a cookie answers before a period and behind it, and what the period's steps answer.
+fn poll_round_a_period<R: Wait>(
+    rt: &R,
+    domain: &Domain<Old>,
+    reader: &mut Cpu<Old>,
+    updater: &mut Cpu<Old>,
+) -> Result<((bool, bool), Started, [Advanced; 2])>
+    requires { IsOf domain.now updater.old }
+{
     let section = reader.read_lock()?;
 
     let mut cookie = updater.cookie(); // get_state_synchronize_srcu
     let early = updater.poll(&mut cookie); // poll_state_synchronize_srcu: false
     reader.read_unlock(section);
-    let started = domain.start(&rt, &mut updater); // Ok(1): a period is started, by whomever
-    let flipped = domain.advance(&rt, &mut updater);
-    let ended = domain.advance(&rt, &mut updater); // Ok(Ended(4))
+    let started = domain.start(rt, updater); // Ok(1): a period is started, by whomever
+    let flipped = domain.advance(rt, updater);
+    let ended = domain.advance(rt, updater); // Ok(Ended(4))
     let late = updater.poll(&mut cookie); // true: a whole period has passed meanwhile
 
-    assert_eq!(rt; (early, late), (false, true));
-    assert_eq!(rt; started, Ok(number(1)));
-    assert_eq!(rt; flipped, Ok(Progress::Flipped(Index::One)));
-    assert_eq!(rt; ended, Ok(Progress::Ended(number(4))));
+    Ok(((early, late), started, [flipped, ended]))
+}
+
+fn poll_in_a_pair<R: Wait + AllocGlobal>(rt: &R) -> Result<((bool, bool), Started, [Advanced; 2])> {
+    let (domain, mut reader, mut updater) = pair(rt.alloc())?;
+    poll_round_a_period(rt, &domain, &mut reader, &mut updater)
+}
+
+/// Would catch a cookie that is done while a section is open that was open when it was given, and one that never is.
+#[test]
+fn cookies(rt: HostRuntime) -> Result<(), Fail> {
+    let (polls, started, steps) = poll_in_a_pair(&rt)?;
+    let ended = [
+        Ok(Progress::Flipped(Index::One)),
+        Ok(Progress::Ended(number(4))),
+    ];
+    assert_eq!(rt; (polls, started), ((false, true), Ok(number(1))));
+    assert_eq!(rt; steps, ended);
     Ok(())
 }
 
-/// Would catch a number that is taken for a cookie, and one that is done too early.
-#[test]
-fn numbers(rt: HostRuntime) -> Result<(), Fail> {
-    let (_domain, _reader, mut updater) = pair(rt.alloc())?;
-
+/// A cookie's number, and what is answered of numbers.
+fn poll_by_number(updater: &mut Cpu<Old>) -> (u64, [Polled; 3]) {
     let number = updater.cookie().number(); // a plain number, as the kernel's cookies are
     let done = updater.poll_number(number); // Ok(false)
     let always = updater.poll_number(0); // Ok(true): get_completed_synchronize_srcu
     let refused = updater.poll_number(1); // Err(NotACookie)
 
-    assert_eq!(rt; (number, done, always), (4, Ok(false), Ok(true)));
-    assert_eq!(rt; refused, Err(NotACookie));
+    (number, [done, always, refused])
+}
+
+fn poll_by_number_in_a_pair<R: AllocGlobal>(rt: &R) -> Result<(u64, [Polled; 3])> {
+    let (_domain, _reader, mut updater) = pair(rt.alloc())?;
+    Ok(poll_by_number(&mut updater))
+}
+
+/// Would catch a number that is taken for a cookie, and one that is done too early.
+#[test]
+fn numbers(rt: HostRuntime) -> Result<(), Fail> {
+    let told = poll_by_number_in_a_pair(&rt)?;
+    assert_eq!(rt; told, (4, [Ok(false), Ok(true), Err(NotACookie)]));
     Ok(())
+}
+
+/// What each call of a period answers that waits for a section, and those of the next one.
+fn drive_by_hand<R: Wait>(
+    rt: &R,
+    domain: &Domain<Old>,
+    reader: &mut Cpu<Old>,
+    driver: &mut Cpu<Old>,
+) -> Result<((u64, bool), [Advanced; 6], [Started; 2])>
+    requires { IsOf domain.now driver.old }
+{
+    let section = reader.read_lock()?;
+
+    let mut cookie = domain.start_poll(driver); // the need is now at the root of the tree
+    let need = domain.need(driver); // srcu_gp_seq_needed
+    let started = domain.advance(rt, driver); // Ok(Started(1))
+    let flipped = domain.advance(rt, driver); // Ok(Flipped(One)): the first scan has passed
+    let waiting = domain.advance(rt, driver); // Ok(Waiting(Zero)): the second scan waits for the section
+    reader.read_unlock(section);
+    let ended = domain.advance(rt, driver); // Ok(Ended(4))
+    let idle = domain.advance(rt, driver); // Ok(Idle): nobody asks for more
+    let done = driver.poll(&mut cookie); // true
+
+    let again = domain.start(rt, driver); // Ok(5): a period is started that nobody asked for
+    let refused = domain.start(rt, driver); // Err(Running)
+    let step = domain.step(rt, driver); // Ok(Step): one load of a counter
+
+    Ok((
+        (need.get(), done),
+        [started, flipped, waiting, ended, idle, step],
+        [again, refused],
+    ))
+}
+
+fn drive_a_pair<R: Wait + AllocGlobal>(
+    rt: &R,
+) -> Result<((u64, bool), [Advanced; 6], [Started; 2])> {
+    let (domain, mut reader, mut driver) = pair(rt.alloc())?;
+    drive_by_hand(rt, &domain, &mut reader, &mut driver)
 }
 
 /// Would catch a period that doesn't wait for the section, or waits for another.
 #[test]
 fn by_hand(rt: HostRuntime) -> Result<(), Fail> {
-    let (domain, mut reader, mut driver) = pair(rt.alloc())?;
-    let section = reader.read_lock()?;
-
-    let mut cookie = domain.start_poll(&mut driver); // the need is now at the root of the tree
-    let need = domain.need(&mut driver); // srcu_gp_seq_needed
-    let started = domain.advance(&rt, &mut driver); // Ok(Started(1))
-    let flipped = domain.advance(&rt, &mut driver); // Ok(Flipped(One)): the first scan has passed
-    let waiting = domain.advance(&rt, &mut driver); // Ok(Waiting(Zero)): the second scan waits for the section
-    reader.read_unlock(section);
-    let ended = domain.advance(&rt, &mut driver); // Ok(Ended(4))
-    let idle = domain.advance(&rt, &mut driver); // Ok(Idle): nobody asks for more
-    let done = driver.poll(&mut cookie); // true
-
-    assert_eq!(rt; (need.get(), done), (4, true));
-    assert_eq!(rt; started, Ok(Progress::Started(number(1))));
-    assert_eq!(rt; flipped, Ok(Progress::Flipped(Index::One)));
-    assert_eq!(rt; waiting, Ok(Progress::Waiting(Index::Zero)));
-    assert_eq!(rt; ended, Ok(Progress::Ended(number(4))));
-    assert_eq!(rt; idle, Ok(Progress::Idle));
-
-    let again = domain.start(&rt, &mut driver); // Ok(5): a period is started that nobody asked for
-    let refused = domain.start(&rt, &mut driver); // Err(Running)
-    let step = domain.step(&rt, &mut driver); // Ok(Step): one load of a counter
-
-    assert_eq!(rt; again, Ok(number(5)));
-    assert_eq!(rt; refused, Err(StartRefusal::Running));
-    assert_eq!(rt; step, Ok(Progress::Step));
+    let (asked, steps, starts) = drive_a_pair(&rt)?;
+    let wanted = [
+        Ok(Progress::Started(number(1))),
+        Ok(Progress::Flipped(Index::One)),
+        Ok(Progress::Waiting(Index::Zero)),
+        Ok(Progress::Ended(number(4))),
+        Ok(Progress::Idle),
+        Ok(Progress::Step),
+    ];
+    assert_eq!(rt; steps, wanted);
+    assert_eq!(rt;
+        (asked, starts),
+        ((4, true), [Ok(number(5)), Err(StartRefusal::Running)])
+    );
     Ok(())
+}
+
+/// How many versions are freed while a section is open in which one was found, and behind that; what the version is then;
+/// and what the period's last steps answer.
+fn free_round_a_section<R: Wait>(
+    rt: &R,
+    domain: &Domain<Old>,
+    reader: &mut Cpu<Old>,
+    updater: &mut Cpu<Old>,
+    config: &Config,
+) -> Result<([Advanced; 2], [usize; 2], [Option<u64>; 2])>
+    requires { IsReady domain.now updater.old }
+{
+    let processor = updater.processor();
+    let section = reader.read_lock()?;
+    let found = config.current();
+    let replaced = replace_and_call(rt, domain, updater, config, 2);
+    let _started = domain.advance(rt, updater);
+    let _flipped = domain.advance(rt, updater);
+    let waiting = domain.advance(rt, updater);
+    let early = free_ready(rt, domain, updater, processor, config);
+    let read = found.read();
+    reader.read_unlock(section);
+    let ended = domain.advance(rt, updater);
+    let late = free_ready(rt, domain, updater, processor, config);
+    replaced?;
+    Ok(([waiting, ended], [early?, late?], [read, found.read()]))
+}
+
+fn free_in_a_pair<R: Wait + AllocGlobal>(
+    rt: &R,
+) -> Result<([Advanced; 2], [usize; 2], [Option<u64>; 2])> {
+    let (domain, mut reader, mut updater) = pair(rt.alloc())?;
+    free_round_a_section(rt, &domain, &mut reader, &mut updater, &Config::new(1))
 }
 
 /// Would catch a callback that frees a version while a section is open in which it was found, and one that never does.
 #[test]
 fn callbacks(rt: HostRuntime) -> Result<(), Fail> {
-    let (domain, mut reader, mut updater) = pair(rt.alloc())?;
-    let processor = updater.processor();
-    let config = Config::new(1);
-    let section = reader.read_lock()?;
-    let found = config.current();
-    let replaced = replace_and_call(&rt, &domain, &mut updater, &config, 2);
-    let _started = domain.advance(&rt, &mut updater);
-    let _flipped = domain.advance(&rt, &mut updater);
-    let waiting = domain.advance(&rt, &mut updater);
-    let early = free_ready(&rt, &domain, &mut updater, processor, &config);
-    let read = found.read();
-    reader.read_unlock(section);
-    let ended = domain.advance(&rt, &mut updater);
-    let late = free_ready(&rt, &domain, &mut updater, processor, &config);
-
-    assert_eq!(rt; waiting, Ok(Progress::Waiting(Index::Zero)));
-    assert_eq!(rt; ended, Ok(Progress::Ended(number(4))));
-    assert_eq!(rt;
-        (replaced.is_ok(), early.ok(), late.ok()),
-        (true, Some(0), Some(1))
-    );
-    assert_eq!(rt; (read, found.read()), (Some(1), None));
+    let (steps, freed, read) = free_in_a_pair(&rt)?;
+    let wanted = [
+        Ok(Progress::Waiting(Index::Zero)),
+        Ok(Progress::Ended(number(4))),
+    ];
+    assert_eq!(rt; steps, wanted);
+    assert_eq!(rt; (freed, read), ([0, 1], [Some(1), None]));
     Ok(())
 }
 
-/// Would catch a section that is closed on another processor than that of the call, and held ones that are counted.
-#[test]
-fn sections(rt: HostRuntime) -> Result<(), Fail> {
-    let (_domain, mut first, mut second) = pair(rt.alloc())?;
-
+/// How many sections are open while two are, and behind them.
+fn count_nested(first: &mut Cpu<Old>) -> Result<[u64; 2]>
+    ensures { Stays first.old first.new }
+{
     let outer = first.read_lock()?;
     let inner = first.read_lock(); // sections nest, and may overlap; no `?` while one is open
     let open = first.open_here(); // 2
     first.read_unlock(outer);
     first.read_unlock(inner?);
 
-    assert_eq!(rt; (open, first.open_here()), (2, 0));
+    Ok([open, first.open_here()])
+}
 
+/// Where a held section was opened, which is closed on another processor, and how many are open with it.
+fn close_elsewhere(first: &mut Cpu<Old>, second: &mut Cpu<Old>) -> Result<(u16, u64)>
+    requires { first.old.cpu.domain ≡ second.old.cpu.domain }
+    ensures first { Stays first.old first.new }
+    ensures second { Stays second.old second.new }
+{
     let held = first.down_read()?; // srcu_down_read
     let from = held.processor(); // 0
     let none = first.open_here(); // 0: a held section may be closed elsewhere, so it doesn't count
     second.up_read(held); // srcu_up_read
 
-    assert_eq!(rt; (from, none), (0, 0));
+    Ok((from, none))
+}
 
+/// A section whose index was found by another processor.
+fn look_elsewhere(first: &mut Cpu<Old>, second: &mut Cpu<Old>) -> Result<()>
+    requires { first.old.cpu.domain ≡ second.old.cpu.domain }
+{
     let look = first.look(); // the first half of srcu_read_lock: which index is current
     let section = second.enter(look)?; // the second half: this processor's lock counter of that index
     second.read_unlock(section);
 
+    Ok(())
+}
+
+fn open_and_close<R: AllocGlobal>(rt: &R) -> Result<([u64; 2], (u16, u64))> {
+    let (_domain, mut first, mut second) = pair(rt.alloc())?;
+    let counts = count_nested(&mut first)?;
+    let held = close_elsewhere(&mut first, &mut second)?;
+    look_elsewhere(&mut first, &mut second)?;
+    Ok((counts, held))
+}
+
+/// Would catch a section that is closed on another processor than that of the call, and held ones that are counted.
+#[test]
+fn sections(rt: HostRuntime) -> Result<(), Fail> {
+    let told = open_and_close(&rt)?;
+    assert_eq!(rt; told, ([2, 0], (0, 0)));
     Ok(())
 }
 

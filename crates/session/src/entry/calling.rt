@@ -9,7 +9,7 @@ use crate::jobs::{Job, Jobs};
 use calls::{CallRefusal, TakeRefusal};
 use lines::Name;
 use requests::{Act, Cause, Command, JobNames, Reply, Segments, Waiting};
-use solo::Solo;
+use solo::{Solo, drain};
 use std::alloc::{AllocError, Allocator};
 use std::sync::Wait;
 
@@ -76,13 +76,8 @@ impl<'a, A: Allocator> Entry<&'a A> {
         if jobs.is_out() {
             return Reply::Refused(Command::Run, Cause::Invoking);
         }
-        match self.domain.take_ready(rt, processor, MOST) {
-            Ok(Some(mut batch)) => {
-                let names = jobs.take(&mut batch);
-                self.domain.see_out(rt, &mut batch);
-                self.domain.finish(rt, batch);
-                Reply::Ran(names)
-            }
+        match self.domain.run(rt, processor, MOST) {
+            Ok(Some(ran)) => Reply::Ran(jobs.take(ran.count, ran.reached)),
             Ok(None) => Reply::Ran(JobNames::new()),
             Err(TakeRefusal::Invoking) => Reply::Refused(Command::Run, Cause::Invoking),
         }
@@ -102,8 +97,9 @@ impl<'a, A: Allocator> Entry<&'a A> {
         }
         match self.domain.take_ready(rt, processor, MOST) {
             Ok(Some(mut batch)) => {
-                let names = jobs.take(&mut batch);
-                self.domain.see_out(rt, &mut batch);
+                let count = batch.count();
+                let reached = drain(&mut batch);
+                let names = jobs.take(count, reached);
                 jobs.put_out(batch, names);
                 Reply::TookJobs(names)
             }

@@ -1,11 +1,13 @@
 //! Callbacks: a job is queued on a processor, and given out after a full grace period. Who queues a job keeps what it
 //! is; the domain has only that there is one.
 ghost use Rattle.std.specs.Prelude.{◌≡◌, ◌^◌, ◌<◌, ◌≤◌, [], IfOk, MatchResult};
-ghost use Rattle.solo.specs.Calls.{IsSameDomain, IsBatchOf, Queues, QueuesNone, Takes, Finishes, AreOut, TellsLens};
+ghost use Rattle.solo.specs.Calls.{IsSameDomain, IsBatchOf, Queues, QueuesNone, Takes, Runs, Finishes, TellsLens};
 
+use crate::members::Members;
 use crate::queued::Queued;
 use crate::refusals::queued;
 use crate::solo::Solo;
+use crate::taking::{Ran, run_out, take_out};
 use calls::{Batch, CallRefusal, Memory, TakeRefusal};
 use std::alloc::Allocator;
 use std::sync::Wait;
@@ -27,8 +29,8 @@ impl<A: Allocator + Copy> Solo<A> {
     }
 
     /// Takes out what is ready on a processor, the first jobs first: at most `max`, and at most eight
-    /// (`srcu_invoke_callbacks`). `None` where nothing is. It is refused, with nothing done, where a batch of this processor
-    /// is out.
+    /// (`srcu_invoke_callbacks`). They are then queued and not finished. `None` where nothing is ready. It is refused, with
+    /// nothing done, where a batch of this processor is out.
     pub fn take_ready(
         &mut self,
         rt: &impl Wait,
@@ -40,26 +42,9 @@ impl<A: Allocator + Copy> Solo<A> {
         ensures answer { MatchResult result (λ taken. Takes processor max taken self.old self.new) (λ _. self.new ≡ self.old) }
     {
         let taker = &mut self.members.cpus[processor as usize];
-        let taken = self
-            .members
-            .domain
-            .take_ready(rt, taker, processor as u16, max);
+        let taken = take_out(&self.members.domain, rt, taker, processor as u16, max);
         self.members.settle(rt);
         taken
-    }
-
-    /// One look at the queued word of the batch's processor, by that processor: what is in the batch is queued there, and
-    /// not finished.
-    pub fn see_out(&mut self, rt: &impl Wait, batch: &mut Batch<(), A>)
-        requires { IsBatchOf self.old batch.old.processor batch.old }
-        ensures after { self.new ≡ self.old }
-        ensures batch { batch.new ≡ batch.old }
-        ensures out { AreOut batch.old.processor batch.old.count self.old.course }
-    {
-        let processor = usize::from(batch.processor());
-        let cpu = &mut self.members.cpus[processor];
-        self.members.domain.see_out(cpu, batch);
-        self.members.settle(rt);
     }
 
     /// The batch is over, and empty, as its own processor says: as many calls as it had are finished.
@@ -82,5 +67,27 @@ impl<A: Allocator + Copy> Solo<A> {
         ensures { TellsLens self.now processor result }
     {
         self.members.domain.lens(rt, processor as u16)
+    }
+}
+
+// The allocator is lent here: a batch is taken and spent inside the call, so the prover has to know the size of one, and
+// with it that of the allocator.
+impl<'a, A: Allocator> Solo<&'a A> {
+    /// Takes out what is ready on a processor, as [`Solo::take_ready`] does, and finishes it at once.
+    pub fn run(
+        &mut self,
+        rt: &impl Wait,
+        processor: u64,
+        max: usize,
+    ) -> Result<Option<Ran>, TakeRefusal>
+        requires { processor < self.old.course.standing.processors }
+        ensures same { IsSameDomain self.old self.new }
+        ensures answer { MatchResult result (λ ran. Runs processor max ran self.old.course self.new.course) (λ _. self.new ≡ self.old) }
+    {
+        let Members { domain, cpus } = &mut self.members;
+        let cpu = &mut cpus[processor as usize];
+        let ran = run_out(domain, rt, cpu, processor as u16, max);
+        self.members.settle(rt);
+        ran
     }
 }

@@ -25,10 +25,9 @@ fn waits_for_a_batch(rt: HostRuntime) -> Result<(), Fail> {
     assert_eq!(rt; drive(&rt, &mut domain), Some(4));
     assert!(rt; domain.call(&rt, 1).is_ok());
     let ended = domain.barrier_poll(&rt, 0, &job);
-    let Ok(Some(mut batch)) = domain.take_ready(&rt, 1, 8) else {
+    let Ok(Some(batch)) = domain.take_ready(&rt, 1, 8) else {
         panic!(rt; "it is done");
     };
-    domain.see_out(&rt, &mut batch);
     let out = domain.barrier_poll(&rt, 0, &job);
     let count = batch.count();
     spend(&rt, &mut domain, batch);

@@ -3,12 +3,12 @@ ghost use Rattle.std.specs.Prelude.{◌≡◌, ◌<◌};
 ghost use Rattle.solo.specs.Calls.{IsSameDomain, IsBatchOf};
 
 use super::{LIMITS, ended, started};
-use crate::{Queued, Solo};
+use crate::{Queued, Ran, Solo};
 use calls::{Batch, CallRefusal, TakeRefusal};
 use linked_list_allocator::LocalHeap;
 use scan::Progress;
 use sseq::Index;
-use std::alloc::{AllocError, Global};
+use std::alloc::{AllocError, Allocator, Global};
 use std::sync::Wait;
 use std::test::Fail;
 
@@ -40,7 +40,7 @@ pub(super) fn run_ready(
 }
 
 /// Drives a whole grace period, and tells the number behind it.
-pub(super) fn drive(rt: &impl Wait, domain: &mut Solo<Global>) -> Option<u64>
+pub(super) fn drive<A: Allocator + Copy>(rt: &impl Wait, domain: &mut Solo<A>) -> Option<u64>
     ensures { IsSameDomain domain.old domain.new }
 {
     let begun = started(domain.advance(rt));
@@ -128,5 +128,26 @@ fn refuses_without_memory(rt: HostRuntime) -> Result<(), Fail> {
     assert_eq!(rt; domain.call(&rt, 0), Ok(Queued { k: 0, cookie: 4 }));
     drop(domain);
     assert_eq!(rt; heap.used(), 0);
+    Ok(())
+}
+
+/// Would catch jobs that are run too early, twice or never, or that stay out.
+#[test]
+fn runs_what_is_ready(rt: HostRuntime) -> Result<(), Fail> {
+    let heap = LocalHeap::new(rt.alloc(), 64 * 1024)?;
+    let mut domain = Solo::new(&heap, 1, LIMITS)?;
+    let queued = (domain.call(&rt, 0).is_ok(), domain.call(&rt, 0).is_ok());
+    let early = domain.run(&rt, 0, 8);
+    let number = drive(&rt, &mut domain);
+    let first = domain.run(&rt, 0, 1);
+    let second = domain.run(&rt, 0, 8);
+    let third = domain.run(&rt, 0, 8);
+    let one = Some(Ran {
+        count: 1,
+        reached: 4,
+    });
+    assert_eq!(rt; (queued, number), ((true, true), Some(4)));
+    assert_eq!(rt; (early, first), (Ok(None), Ok(one)));
+    assert_eq!(rt; (second, third), (Ok(one), Ok(None)));
     Ok(())
 }

@@ -1,4 +1,5 @@
 use Rattle.std.proofs.Common.{rules, ◌≡◌, ◌∙◌, refl, sym, ap, subst, None}
+use Rattle.domain.specs.Acting.{finishes}
 use Rattle.solo.specs.Calls.{Finishes}
 use Rattle.session.specs.JobLists.{JobsView, jobs_of}
 use Rattle.session.proofs.Callbacks.{jobs_kept, jobs_finished, here_out, out_is, emptied_out, jobs_without_out, together_finished, over, over_none}
@@ -23,9 +24,10 @@ invariant_of-self-2 g c =
     let out = sym c.take_out.ensures.out ∙ c.in-Some.is in
     let none = ap (λ (x : JobsView). x.out) c.take_out.ensures.none in
     let here = here_out c.self.inside.domain c.self.inside.jobs.items c.self.invariant.1 c.args.processor c.index_mut.result.now small c.index_mut.ensures.value c.in-Some.out out in
-    let finishes = subst (λ p. Finishes p c.in-Some.out.0.count c.self.inside.domain.course c.finish.new.self.course) here.0 c.finish.ensures.finishes in (
-      together_finished c.self.inside.domain c.finish.new.self c.self.inside.names.tokens c.self.inside.parking c.self.invariant.0 c.args.processor c.in-Some.out.0.count c.finish.ensures.same finishes,
-      jobs_finished c.self.inside.domain c.self.inside.jobs.items c.self.invariant.1 c.args.processor c.index_mut.result.now small c.index_mut.ensures.value c.finish.new.self c.take_out.new.self c.in-Some.out.0.count none here.1 c.finish.ensures.same finishes,
+    let over = subst (λ p. Finishes p c.in-Some.out.0.count c.self.inside.domain.course c.finish.new.self.course) here.0 c.finish.ensures.finishes in
+    let what = finishes c.args.processor c.in-Some.out.0.count in (
+      together_finished c.self.inside.domain c.finish.new.self c.self.inside.names.tokens c.self.inside.parking c.self.invariant.0 c.args.processor what c.finish.ensures.same over.finishes_are tt,
+      jobs_finished c.self.inside.domain c.self.inside.jobs.items c.self.invariant.1 c.args.processor c.index_mut.result.now small c.index_mut.ensures.value c.finish.new.self c.take_out.new.self c.in-Some.out.0.count what none here.1 c.finish.ensures.same over.finishes_are (refl, refl, refl),
     )
 
 pub returns-clause-does : goal.returns-clause-does
@@ -33,8 +35,8 @@ returns-clause-does g c =
     let small = rw (← c.self.view_is) at c.requires in
     let out = sym c.take_out.ensures.out ∙ c.in-Some.is in
     let here = here_out c.self.inside.domain c.self.inside.jobs.items c.self.invariant.1 c.args.processor c.index_mut.result.now small c.index_mut.ensures.value c.in-Some.out out in
-    let finishes = subst (λ p. Finishes p c.in-Some.out.0.count c.self.inside.domain.course c.finish.new.self.course) here.0 c.finish.ensures.finishes in
-    rw (← c.self.view_is, c.count-count.ensures) (over c.self.inside.name c.self.inside.names.tokens c.self.inside.parking.parked c.self.inside.jobs.items c.self.inside.domain c.finish.new.self c.self.invariant.1 c.args.processor c.index_mut.result.now small c.index_mut.ensures.value c.self.inside.domain.limits c.in-Some.out c.take_out.new.self out finishes c.take_out.ensures.none)
+    let is_over = subst (λ p. Finishes p c.in-Some.out.0.count c.self.inside.domain.course c.finish.new.self.course) here.0 c.finish.ensures.finishes in
+    rw (← c.self.view_is, c.count-count.ensures) (over c.self.inside.name c.self.inside.names.tokens c.self.inside.parking.parked c.self.inside.jobs.items c.self.inside.domain c.finish.new.self c.self.invariant.1 c.args.processor c.index_mut.result.now small c.index_mut.ensures.value c.self.inside.domain.limits c.in-Some.out c.take_out.new.self out is_over c.take_out.ensures.none)
 
 pub returns-clause-limits : goal.returns-clause-limits
 returns-clause-limits g c = rw (← c.self.view_is) c.finish.ensures.same.1

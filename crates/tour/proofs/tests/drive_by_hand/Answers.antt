@@ -1,10 +1,10 @@
 -- Each call leaves the processor in its domain, and the cookie was given there.
 use Rattle.std.proofs.Common.{sym, ap, ◌∙◌}
 use Rattle.tour.proofs.Reading.{begun_here}
-use Rattle.tour.proofs.tests.by_hand.Goals as goal
+use Rattle.tour.proofs.tests.drive_by_hand.Goals as goal
 
 pub start_poll-cookie-requires : goal.start_poll-cookie-requires
-start_poll-cookie-requires g c = c.in_ok-domain.ensures.1.0
+start_poll-cookie-requires g c = c.requires
 
 pub need-need-requires : goal.need-need-requires
 need-need-requires g c = c.start_poll-cookie.ensures.here
@@ -28,7 +28,7 @@ pub advance-idle-requires : goal.advance-idle-requires
 advance-idle-requires g c = c.advance-ended.ensures.here
 
 pub poll-done-requires : goal.poll-done-requires
-poll-done-requires g c = ap (λ k. k.domain) c.start_poll-cookie.ensures.starts.gives.cookie_is ∙ (c.in_ok-domain.ensures.1.0.domain ∙ sym c.advance-idle.ensures.here.domain)
+poll-done-requires g c = ap (λ k. k.domain) c.start_poll-cookie.ensures.starts.gives.cookie_is ∙ (c.requires.domain ∙ sym c.advance-idle.ensures.here.domain)
 
 pub start-again-requires : goal.start-again-requires
 start-again-requires g c = c.poll-done.ensures.stays _ c.advance-idle.ensures.here

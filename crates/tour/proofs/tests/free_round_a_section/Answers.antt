@@ -1,10 +1,10 @@
 -- Each call leaves the processor in its domain.
 use Rattle.std.proofs.Common.{arith}
 use Rattle.tour.proofs.Reading.{begun_here}
-use Rattle.tour.proofs.tests.callbacks.Goals as goal
+use Rattle.tour.proofs.tests.free_round_a_section.Goals as goal
 
 pub replace_and_call-replaced-requires : goal.replace_and_call-replaced-requires
-replace_and_call-replaced-requires g c = c.in_ok-domain.ensures.1
+replace_and_call-replaced-requires g c = c.requires
 
 pub advance-started-requires : goal.advance-started-requires
 advance-started-requires g c = c.replace_and_call-replaced.ensures.0
@@ -20,7 +20,7 @@ free_ready-early-requires-clause-domain g c = c.advance-waiting.ensures.here
 
 pub free_ready-early-requires-clause-processor : goal.free_ready-early-requires-clause-processor
 free_ready-early-requires-clause-processor g c =
-    let fits = c.in_ok-domain.ensures.1.0.fits in
+    let fits = c.requires.0.fits in
     let is = c.processor-processor.ensures in
     let same = fits.cpu in
     let there = fits.there in
@@ -37,7 +37,7 @@ free_ready-late-requires-clause-domain g c = c.advance-ended.ensures.here
 
 pub free_ready-late-requires-clause-processor : goal.free_ready-late-requires-clause-processor
 free_ready-late-requires-clause-processor g c =
-    let fits = c.in_ok-domain.ensures.1.0.fits in
+    let fits = c.requires.0.fits in
     let is = c.processor-processor.ensures in
     let same = fits.cpu in
     let there = fits.there in

@@ -1,0 +1,91 @@
+-- What calls at a batch add, one behind the other: a batch is taken and emptied, and perhaps finished.
+use Rattle.std.proofs.Common.{◌≡◌, ℕ, ◌+◌, ◌≤◌, inr, List, [], ◌∷◌, ◌++◌, append-nil, append_assoc, refl, sym, ap, ◌∙◌, subst}
+use Rattle.std.specs.Prelude.{Option, Some, None}
+use Rattle.calls.specs.declared.entry.Entry.{Entry}
+use Rattle.calls.specs.Tallies.{queued_in, finished_in, IsBeginning}
+use Rattle.calls.specs.Views.{CallSeatView, BatchView}
+use Rattle.calls.specs.Calls.{GivesNext, next_cookie, IsOfProcessor, TakesIn, AreHanded}
+use Rattle.calls.specs.Meetings.{SeesOut}
+use Rattle.calls.proofs.CallerLemmas.{begins_on}
+use Rattle.domain.specs.Views.{DomainView, CpuView, callbacks_of, with_cpu, with_calls}
+use Rattle.domain.specs.Acting.{Acts, ActsAs, loads, asks_how_far, finishes}
+use Rattle.domain.proofs.CallerLemmas.{then_finishes}
+use Rattle.solo.specs.Batches.{IsLastCookie}
+use Rattle.solo.specs.Taking.{TakesBatch, asks_how_far_and_finishes}
+
+-- Entries that leave
+
+abbrev Entries : Type 0
+Entries = List (Entry (Unit {0}))
+
+-- the entry whose cookie was read
+pub next_is : (b b' : BatchView (Unit {0})) (r : Option (Unit {0})) (cookie : ℕ) → GivesNext b r b' → next_cookie b.entries ≡ Some cookie
+    → (e : Entry (Unit {0})) × (b.entries ≡ e ∷ b'.entries) × (e.cookie.number ≡ cookie)
+next_is b b' None cookie gives some = let none : ◌≡◌ {A = Option ℕ} None (Some cookie) = sym (ap next_cookie gives.1.0) ∙ some in absurd cc
+next_is b b' (Some job) cookie gives some =
+    let (e, front, it) = gives.1 in
+    let same : ◌≡◌ {A = Option ℕ} (Some e.cookie.number) (Some cookie) = sym (ap next_cookie front) ∙ some in
+    let number : e.cookie.number ≡ cookie = cc in
+    (e, front, number)
+
+pub none_is_next : (entries : Entries) → next_cookie entries ≡ None → entries ≡ []
+none_is_next [] h = refl
+none_is_next (e ∷ es) h = absurd cc
+
+-- what has left so far, and the number of its last cookie
+pub record HaveLeft (before left : Entries) (last : ℕ) : Type 0 where
+  pub gone : Entries
+  pub whole : before ≡ gone ++ left
+  pub last_is : IsLastCookie last gone
+
+pub one_more : {before left rest : Entries} {last cookie : ℕ} → HaveLeft before left last → (e : Entry (Unit {0})) → left ≡ e ∷ rest → e.cookie.number ≡ cookie → HaveLeft before rest cookie
+one_more {before} {left} {rest} h e front is = record {
+  gone = h.gone ++ e ∷ [];
+  whole = h.whole ∙ ap (λ l. h.gone ++ l) front ∙ sym (append_assoc h.gone (e ∷ []) rest);
+  last_is = inr (h.gone, e, refl, sym is);
+}
+
+pub all_left : {before left : Entries} {last : ℕ} → HaveLeft before left last → left ≡ [] → IsLastCookie last before
+all_left {before} {left} {last} h none = subst (IsLastCookie last) (sym (h.whole ∙ (ap (λ l. h.gone ++ l) none ∙ append-nil h.gone))) h.last_is
+
+-- One call and then another
+
+module _ {was mid now : CpuView} (first : ActsAs (asks_how_far mid.cpu.changes) was mid) (same : now.cpu.changes ≡ mid.cpu.changes) where
+  -- it is told how far the grace periods have come, and then only loads
+  pub asks_then_loads : ActsAs loads mid now → ActsAs (asks_how_far now.cpu.changes) was now
+  asks_then_loads second =
+      let behind : Acts was.cpu.processor (finishes 0 0 was.cpu.processor) mid now = subst (λ q. Acts q (loads q) mid now) first.events.same.3 second in
+      subst (λ n. ActsAs (asks_how_far n) was now) (sym same) (then_finishes {p = was.cpu.processor} {a = asks_how_far mid.cpu.changes was.cpu.processor} {owner = 0} {count = 0} refl first behind)
+
+  -- and then finishes jobs of its own
+  pub asks_then_finishes : (owner count : ℕ) → ActsAs (finishes owner count) mid now → owner ≡ was.cpu.processor → ActsAs (asks_how_far_and_finishes now.cpu.changes count) was now
+  asks_then_finishes owner count second own =
+      let behind : Acts was.cpu.processor (finishes was.cpu.processor count was.cpu.processor) mid now = subst (λ o. Acts was.cpu.processor (finishes o count was.cpu.processor) mid now) own (subst (λ q. Acts q (finishes owner count q) mid now) first.events.same.3 second) in
+      subst (λ n. ActsAs (asks_how_far_and_finishes n count) was now) (sym same) (then_finishes {p = was.cpu.processor} {a = asks_how_far mid.cpu.changes was.cpu.processor} {owner = was.cpu.processor} {count = count} refl first behind)
+
+-- a batch was taken, and seen to be out
+pub takes_out : {d : DomainView} {p max : ℕ} {b : BatchView (Unit {0})} {was mid now : CpuView} → IsOfProcessor (callbacks_of d) p b → TakesIn (callbacks_of d) p max was.cpu (Some b) mid.cpu → AreHanded b.entries mid.cpu.seen → mid ≡ with_cpu mid.cpu was
+    → SeesOut b mid.calls now.calls → now ≡ with_calls now.calls mid → TakesBatch d p max b was now
+takes_out {d} {p} {max} {b} {was} {mid} {now} of takes handed rest out rest' =
+    let cpu : now.cpu ≡ mid.cpu = ap (λ (x : CpuView). x.cpu) rest' in record {
+      of_processor = of;
+      takes = subst (TakesIn (callbacks_of d) p max was.cpu (Some b)) (sym cpu) takes;
+      handed = subst (λ c. AreHanded b.entries c.seen) (sym cpu) handed;
+      moment = out.moment;
+      not_before = subst (λ (s : CallSeatView). IsBeginning s.seen out.moment) (ap (λ (x : CpuView). x.calls) rest) out.not_before;
+      not_after = out.covers.covers;
+      queued = subst (λ q. finished_in q out.moment + b.count ≤ queued_in q out.moment) of.1 out.queued;
+    }
+
+-- and then something was done at the tally words
+pub takes_out_on : {d : DomainView} {p max : ℕ} {b : BatchView (Unit {0})} {was mid now : CpuView} → TakesBatch d p max b was mid → now ≡ with_calls now.calls mid → IsBeginning mid.calls.seen now.calls.seen → TakesBatch d p max b was now
+takes_out_on {d} {p} {max} {b} {was} {mid} {now} h rest since =
+    let cpu : now.cpu ≡ mid.cpu = ap (λ (x : CpuView). x.cpu) rest in record {
+      of_processor = h.of_processor;
+      takes = subst (TakesIn (callbacks_of d) p max was.cpu (Some b)) (sym cpu) h.takes;
+      handed = subst (λ c. AreHanded b.entries c.seen) (sym cpu) h.handed;
+      moment = h.moment;
+      not_before = h.not_before;
+      not_after = begins_on h.not_after since;
+      queued = h.queued;
+    }
