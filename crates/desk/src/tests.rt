@@ -18,8 +18,9 @@ fn new_domain(alloc: Global) -> Result<(Cpu, Cpu, EngineSeat), MakeError>
         sections: 8,
         periods: 1,
         cells: 0,
+        slots: 2,
     };
-    let Made { mut cpus, engine } = make(alloc, 2, limits)?;
+    let Made { mut cpus, engine, .. } = make(alloc, 2, limits)?;
     let there = cpus.pop().unwrap();
     let here = cpus.pop().unwrap();
     Ok((here, there, engine))

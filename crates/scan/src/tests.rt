@@ -16,6 +16,7 @@ fn limits(periods: u64) -> Limits {
         sections: MANY,
         periods,
         cells: 0,
+        slots: 2,
     }
 }
 
@@ -44,7 +45,7 @@ fn new_domain(
 ) -> Result<(Vec<Cpu>, Engine<Asks>), MakeError>
     ensures { IfOk result (λ r. AreInDomain r.1.seat.domain r.0.items) }
 {
-    let Made { cpus, engine } = make(alloc, processors, limits(periods))?;
+    let Made { cpus, engine, .. } = make(alloc, processors, limits(periods))?;
     Ok((cpus, Engine::new(engine, Asks(number(need)))))
 }
 

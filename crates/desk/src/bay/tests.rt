@@ -26,8 +26,9 @@ fn new_engine(alloc: Global) -> Result<EngineSeat, MakeError> {
         sections: 8,
         periods: 1,
         cells: 0,
+        slots: 2,
     };
-    let Made { cpus: _, engine } = make(alloc, 1, limits)?;
+    let Made { cpus: _, engine, .. } = make(alloc, 1, limits)?;
     Ok(engine)
 }
 
