@@ -8,4 +8,5 @@ const LIMITS: Limits = Limits {
     sections: 1 << 20,
     periods: 1 << 40,
     cells: 0,
+    slots: 2,
 };

@@ -16,6 +16,7 @@ fn pair(alloc: Global) -> Result<(Calls<u64>, (Cpu, CallSeat), (Cpu, CallSeat)),
     let Made {
         mut cpus,
         mut engine,
+        ..
     } = make(alloc, 2, LIMITS)?;
     let (calls, mut seats) = Calls::make(alloc, &mut engine)?;
     let second = (cpus.pop().unwrap(), seats.pop().unwrap());
