@@ -11,6 +11,7 @@ use Rattle.onedom.specs.declared.event.Event.TheVariants.{Begin, End, Note, Ask}
 use Rattle.onedom.specs.Histories.{is_start, is_finish, starts_in, ended_in, maker_of, same_maker, IsBeginning}
 use Rattle.onedom.proofs.CallerLemmas.{bit, beginning_refl, beginning_append, beginning_trans, starts_in_push, ended_in_push, made_by_other, made_by_own, same_maker_refl}
 use Rattle.sections.specs.declared.view.Step.{Step}
+use Rattle.sections.specs.declared.view.Text.{Text}
 use Rattle.sections.specs.declared.cpu.Exhausted.{Exhausted}
 use Rattle.sections.specs.declared.cpu.NotACookie.{NotACookie}
 use Rattle.sections.specs.Views as sections
@@ -221,7 +222,7 @@ module _ (c c' : CpuView) (rest : c' ≡ with_cpu c'.cpu c) where
   still is = does_nothing (none_made c.cpu c'.cpu is)
 
   -- just what another has seen is then seen
-  pub accepts_all : {all : List Event} {reached : ℕ} → IsBeginning c.cpu.seen all → c.cpu.changes ≤ reached → Accepts c.cpu all reached c'.cpu → ActsAs loads c c'
+  pub accepts_all : {all : List Event} {reached : ℕ} {known : List Text} → IsBeginning c.cpu.seen all → c.cpu.changes ≤ reached → Accepts c.cpu all reached known c'.cpu → ActsAs loads c c'
   accepts_all since later h = does_nothing (made_none c.cpu c'.cpu h.same h.mine (subst (λ l. IsBeginning c.cpu.seen l) (sym h.seen) since) (let n = h.changes in omega (arith, later, n)))
 
   pub tie_acts : {first first' : sections.CpuView} → Ties first c.cpu first' c'.cpu → ActsAs loads c c'

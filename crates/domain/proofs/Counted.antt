@@ -6,7 +6,7 @@ use Rattle.std.proofs.lemmas.List.Elements.{filter-append, All-head, All-tail}
 use Rattle.onedom.specs.declared.event.Maker.{Maker}
 use Rattle.onedom.specs.declared.event.Maker.TheVariants.{Processor, Engine}
 use Rattle.onedom.specs.declared.event.Event.{Event}
-use Rattle.onedom.specs.declared.event.Event.TheVariants.{Begin, End, Start, Finish, Note, Ask}
+use Rattle.onedom.specs.declared.event.Event.TheVariants.{Begin, End, Start, Finish, Note, Ask, Find, Put}
 use Rattle.onedom.specs.Histories as events
 use Rattle.onedom.specs.Histories.{maker_of, same_maker, made_by, IsBeginning}
 use Rattle.onedom.proofs.CallerLemmas.{same_maker_refl, beginning_trans, count_grows}
@@ -39,10 +39,10 @@ use Rattle.domain.proofs.Rows.{each_next}
 
 -- the engine stays as it was first, and admits one more processor
 pub joined_here : (e e0 : views.Engine) (c : CpuView) (cpu' : sections.CpuView) → e ≡ e0 → IsBeginning c.cpu.seen e0.seat.seen × (c.cpu.changes ≤ e0.seat.changes)
-    → calls.Accepts c.cpu e.seat.seen e.seat.changes cpu' → calls.IsSeenBy c.cpu → c.cpu.processors ≡ e.seat.processors → ((m : ℕ) → e.seat.shown ≡ To c.cpu.processor m → m ≤ c.cpu.changes)
+    → calls.Accepts c.cpu e.seat.seen e.seat.changes e.seat.texts cpu' → calls.IsSeenBy c.cpu → c.cpu.processors ≡ e.seat.processors → ((m : ℕ) → e.seat.shown ≡ To c.cpu.processor m → m ≤ c.cpu.changes)
     → IsJoined e0.seat c (record { cpu = cpu'; needs = c.needs; turn = c.turn; calls = c.calls })
 joined_here e e0 c cpu' same covered accepts was sized heard = record {
-  cpu = record { accepts = subst (λ (z : views.Engine). calls.Accepts c.cpu z.seat.seen z.seat.changes cpu') same accepts; since = covered.0; later = covered.1 };
+  cpu = record { accepts = subst (λ (z : views.Engine). calls.Accepts c.cpu z.seat.seen z.seat.changes z.seat.texts cpu') same accepts; since = covered.0; later = covered.1 };
   was = was;
   sized = sized ∙ ap (λ (z : views.Engine). z.seat.processors) same;
   heard = subst (λ (z : views.Engine). (m : ℕ) → z.seat.shown ≡ To c.cpu.processor m → m ≤ c.cpu.changes) same heard;
@@ -69,6 +69,8 @@ its_maker n (Start by) h = subst (IsMaker n) (sym h) tt
 its_maker n (Finish by) h = subst (IsMaker n) (sym h) tt
 its_maker n (Note c by) h = a_processor n by h
 its_maker n (Ask c b by) h = a_processor n by h
+its_maker n (Find s c x v by) h = a_processor n by h
+its_maker n (Put c x v by) h = a_processor n by h
 
 made_append : (m : Maker) (a b : List Event) → made m (a ++ b) ≡ made m a + made m b
 made_append m a b = ap length (filter-append (λ e. same_maker (maker_of e) m) a b) ∙ length-append (made_by m a) (made_by m b)
@@ -137,9 +139,9 @@ module _ (d : DomainView) (c : CpuView) (cs : List CpuView) (here : Each (IsOf d
 module _ (d : DomainView) (c : CpuView) (cs cs' : List CpuView) (here : Each (IsOf d) (c ∷ cs)) (there : AreAllThere d (c ∷ cs)) (e0 e1 e2 e3 : views.Engine) (took t' : BaySeatView views.Engine) (cpu1 cpu2 cpu3 : sections.CpuView) (opened closed number : ℕ)
     (takes : Takes c.turn e0 took) (tied : IsTied e0.seat)
     (covers : Covers e0.seat c.cpu.seen c.cpu.changes e1.seat) (covers_all : EngineCovers e1.seat cs e2.seat)
-    (accepts : calls.Accepts c.cpu e2.seat.seen e2.seat.changes cpu1) (was : calls.IsSeenBy c.cpu) (sized : c.cpu.processors ≡ e2.seat.processors) (heard : (n : ℕ) → e2.seat.shown ≡ To c.cpu.processor n → n ≤ c.cpu.changes)
+    (accepts : calls.Accepts c.cpu e2.seat.seen e2.seat.changes e2.seat.texts cpu1) (was : calls.IsSeenBy c.cpu) (sized : c.cpu.processors ≡ e2.seat.processors) (heard : (n : ℕ) → e2.seat.shown ≡ To c.cpu.processor n → n ≤ c.cpu.changes)
     (counts : CountsSections opened closed cpu1 cpu2) (number_is : number ≡ number_word e2.seat.changes)
-    (again : Covers e2.seat cpu2.seen cpu2.changes e3.seat) (accepts_too : calls.Accepts cpu2 e3.seat.seen e3.seat.changes cpu3)
+    (again : Covers e2.seat cpu2.seen cpu2.changes e3.seat) (accepts_too : calls.Accepts cpu2 e3.seat.seen e3.seat.changes e3.seat.texts cpu3)
     (joined : EachBecomes (IsJoined e3.seat) cs cs') (puts : MakesSwap took (Some e3) None t') (free : holds t' ≡ false) where
   abbrev all : List CpuView
   all = c ∷ cs

@@ -11,13 +11,13 @@ use Rattle.sections.specs.declared.view.Step.{Step}
 use Rattle.sections.specs.Words.{locks, unlocks, sum_below, all_locks, all_unlocks, opened_in, closed_in}
 use Rattle.sections.specs.Views as sections
 use Rattle.sections.specs.Calls.{IsSeenBy, Loads, FindsLocks, FindsUnlocks}
-use Rattle.sections.proofs.CallerLemmas.{locks_grow, unlocks_grow, sum_le, equal_sums, counters_add_up}
+use Rattle.sections.proofs.CallerLemmas.{start_refl, start_trans, locks_grow, unlocks_grow, sum_le, equal_sums, counters_add_up}
 use Rattle.domain.specs.Counts.{LoadsCounters, IsBetween, CountsIndex, CountsSections}
 
 -- Loads
 
 no_loads : (c : sections.CpuView) → IsSeenBy c → LoadsCounters 0 c c
-no_loads c h = record { same = (refl, refl, refl, refl); mine = refl; made = []; steps = sym (append-nil c.steps); one_each = refl; since = beginning_refl c.seen; later = omega arith; history = h }
+no_loads c h = record { same = (refl, refl, refl, refl); mine = refl; made = []; steps = sym (append-nil c.steps); one_each = refl; since = beginning_refl c.seen; later = omega arith; texts = start_refl c.texts; history = h }
 
 one_more_load : (many : ℕ) (l : Step) (c d e : sections.CpuView) → LoadsCounters many c d → Loads l d e → LoadsCounters (many + 1) c e
 one_more_load many l c d e h n = record {
@@ -28,6 +28,7 @@ one_more_load many l c d e h n = record {
   one_each = (let more = length-append h.made (l ∷ []) in let so_far = h.one_each in omega (arith, more, so_far));
   since = beginning_trans h.since n.since;
   later = (let a = h.later in let b = n.later in omega (arith, a, b));
+  texts = start_trans h.texts n.texts;
   history = n.history;
 }
 
@@ -43,6 +44,7 @@ loads_and_loads many much c d e h n = record {
   one_each = (let more = length-append h.made n.made in let a = h.one_each in let b = n.one_each in omega (arith, more, a, b));
   since = beginning_trans h.since n.since;
   later = (let a = h.later in let b = n.later in omega (arith, a, b));
+  texts = start_trans h.texts n.texts;
   history = n.history;
 }
 

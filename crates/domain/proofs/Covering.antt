@@ -4,11 +4,13 @@ use Rattle.std.proofs.lemmas.List.{map-append}
 use Rattle.onedom.specs.Histories as events
 use Rattle.onedom.proofs.CallerLemmas.{beginning_refl, beginning_trans}
 use Rattle.sections.specs.declared.view.Step.TheVariants.{LoadIndex}
+use Rattle.sections.specs.Shelves.{IsStart}
 use Rattle.sections.specs.Views as sections
 use Rattle.sections.specs.declared.view.Shown.TheVariants.{To}
 use Rattle.sections.specs.Calls as cpu_calls
 use Rattle.sections.specs.EngineCalls as calls
 use Rattle.sections.specs.EngineCalls.{IsSeenByEngine, IsSameEngine}
+use Rattle.sections.proofs.CallerLemmas.{start_refl, start_trans}
 use Rattle.funnel.specs.declared.view.Raise.{Raise}
 use Rattle.funnel.specs.Views.{FunnelView}
 use Rattle.funnel.specs.Histories as tree
@@ -35,11 +37,12 @@ pub record EngineSoFar (m : ℕ) (e : sections.EngineView) (cpus : List CpuView)
   pub changes : e'.changes ≡ e.changes
   pub shown : e'.shown ≡ e.shown
   pub since : events.IsBeginning e.seen e'.seen
+  pub texts : IsStart e.texts e'.texts
   pub history : IsSeenByEngine e'
   pub covers : (k : ℕ) (c : CpuView) → k < m → events.IsBeginning (get_or cpus k c).cpu.seen e'.seen × ((get_or cpus k c).cpu.changes ≤ e'.changes)
 
 pub engine_none : (e : sections.EngineView) (cpus : List CpuView) → IsSeenByEngine e → EngineSoFar 0 e cpus e
-engine_none e cpus h = record { found = []; one_each = refl; steps = sym (append-nil e.steps); same = (refl, refl, refl); mine = refl; changes = refl; shown = refl; since = beginning_refl e.seen; history = h; covers = λ k c lt. absurd (omega (arith, lt)) }
+engine_none e cpus h = record { found = []; one_each = refl; steps = sym (append-nil e.steps); same = (refl, refl, refl); mine = refl; changes = refl; shown = refl; since = beginning_refl e.seen; texts = start_refl e.texts; history = h; covers = λ k c lt. absurd (omega (arith, lt)) }
 
 pub engine_next : (m : ℕ) (e : sections.EngineView) (cpus : List CpuView) (between e' : sections.EngineView) (item d : CpuView) → m < length cpus → item ≡ get_or cpus m d
     → EngineSoFar m e cpus between → calls.Covers between item.cpu.seen item.cpu.changes e' → EngineSoFar (m + 1) e cpus e'
@@ -52,13 +55,14 @@ engine_next m e cpus between e' item d inside is h c = record {
   changes = c.step.changes_are ∙ h.changes;
   shown = c.step.shown ∙ h.shown;
   since = beginning_trans h.since c.step.since;
+  texts = start_trans h.texts c.step.texts;
   history = c.step.history;
   covers = each_next (λ (x : CpuView). events.IsBeginning x.cpu.seen between.seen × (x.cpu.changes ≤ between.changes)) (λ (x : CpuView). events.IsBeginning x.cpu.seen e'.seen × (x.cpu.changes ≤ e'.changes)) m cpus item d inside is
       (λ x q. (beginning_trans q.0 c.step.since, (let same = c.step.changes_are in let low = q.1 in omega (arith, same, low)))) (c.covers, c.not_before) h.covers;
 }
 
 pub engine_all : (m : ℕ) (e : sections.EngineView) (cpus : List CpuView) (e' : sections.EngineView) → m ≡ length cpus → EngineSoFar m e cpus e' → EngineCovers e cpus e'
-engine_all m e cpus e' all h = record { found = h.found; one_each = h.one_each ∙ all; steps = h.steps; same = h.same; mine = h.mine; changes = h.changes; shown = h.shown; since = h.since; history = h.history; covers = λ k c lt. h.covers k c (omega (arith, lt, all)) }
+engine_all m e cpus e' all h = record { found = h.found; one_each = h.one_each ∙ all; steps = h.steps; same = h.same; mine = h.mine; changes = h.changes; shown = h.shown; since = h.since; texts = h.texts; history = h.history; covers = λ k c lt. h.covers k c (omega (arith, lt, all)) }
 
 -- The tree
 
@@ -128,11 +132,11 @@ turn_all m t cpus t' all h = record { same = h.same; since = h.since; own = h.ow
 -- the engine and the seat stay as they were first, and admit one more processor
 pub admitted_here : (e e0 : Engine) (n n0 : FunnelView) (c : CpuView) (cpu' : sections.CpuView) (needs' : FunnelView) → e ≡ e0 → n ≡ n0
     → events.IsBeginning c.cpu.seen e0.seat.seen × (c.cpu.changes ≤ e0.seat.changes) → tree.IsBeginning c.needs.seen n0.seen
-    → cpu_calls.Accepts c.cpu e.seat.seen e.seat.changes cpu' → cpu_calls.IsSeenBy c.cpu → c.cpu.processors ≡ e.seat.processors → ((m : ℕ) → e.seat.shown ≡ To c.cpu.processor m → m ≤ c.cpu.changes)
+    → cpu_calls.Accepts c.cpu e.seat.seen e.seat.changes e.seat.texts cpu' → cpu_calls.IsSeenBy c.cpu → c.cpu.processors ≡ e.seat.processors → ((m : ℕ) → e.seat.shown ≡ To c.cpu.processor m → m ≤ c.cpu.changes)
     → funnel.Accepts c.needs n.seen needs'
     → IsAdmitted e0.seat n0 c (record { cpu = cpu'; needs = needs'; turn = c.turn; calls = c.calls })
 admitted_here e e0 n n0 c cpu' needs' same_engine same_needs since raises accepts was sized heard a = record {
-  cpu = record { accepts = subst (λ (z : Engine). cpu_calls.Accepts c.cpu z.seat.seen z.seat.changes cpu') same_engine accepts; since = since.0; later = since.1 };
+  cpu = record { accepts = subst (λ (z : Engine). cpu_calls.Accepts c.cpu z.seat.seen z.seat.changes z.seat.texts cpu') same_engine accepts; since = since.0; later = since.1 };
   was = was;
   sized = sized ∙ ap (λ (z : Engine). z.seat.processors) same_engine;
   heard = subst (λ (z : Engine). (m : ℕ) → z.seat.shown ≡ To c.cpu.processor m → m ≤ c.cpu.changes) same_engine heard;

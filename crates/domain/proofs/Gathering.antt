@@ -33,7 +33,7 @@ taken_at_once v t w cpus found h m held = record { vain = 0; waited = v; waits =
 module _ (v t u w : BaySeatView Engine) (cs cs' : List CpuView) (all : AreAllTurns v cs) (first : TurnCovers v cs t) (vain : MakesSwap t None None u) (elsewhere : IsHeldElsewhere u) (again : TurnCovers u cs w) (admitted : EachBecomes (IsTurned w) cs cs') where
   -- for places where nothing stands
   abbrev nobody : CpuView
-  nobody = new_cpu (record { domain = v.bay; bay = v.bay; tallies = v.bay; processors = 0 }) (record { processors = 0; sections = 0; periods = 0 }) v.bay (record { processors = 0; nodes = 0 }) 0
+  nobody = new_cpu (record { domain = v.bay; bay = v.bay; tallies = v.bay; processors = 0 }) (record { processors = 0; sections = 0; periods = 0; cells = 0 }) v.bay (record { processors = 0; nodes = 0 }) 0
 
   same_seat : u ≡ record v { seen = u.seen }
   same_seat = vain.same ∙ ap (λ (z : BaySeatView Engine). record z { seen = u.seen }) first.same

@@ -7,7 +7,7 @@ use Rattle.sections.specs.declared.view.Shown.TheVariants.{To}
 use Rattle.sections.specs.Views as sections
 use Rattle.sections.specs.Calls as calls
 use Rattle.sections.specs.EngineCalls.{Covers, Joins, IsTied}
-use Rattle.sections.proofs.CallerLemmas.{seen_all}
+use Rattle.sections.proofs.CallerLemmas.{seen_all, start_trans}
 use Rattle.scan.specs.Progress.{with_seat}
 use Rattle.funnel.specs.declared.view.Shape.{Shape}
 use Rattle.funnel.specs.declared.view.Holder.{Holder}
@@ -52,7 +52,7 @@ swap_behind v t w cpus left h m =
 module _ (d : DomainView) (c : CpuView) (cs cs1 cs2 cs3 : List CpuView) (e0 e1 e2 : Engine) (cpu' : sections.CpuView) (found : ℕ) (n1 n2 : FunnelView) (took t2 t3 : BaySeatView Engine) (s : CallSeatView)
     (takes : Takes c.turn e0 took) (covers : Covers e0.seat c.cpu.seen c.cpu.changes e1.seat) (load : LoadsRoot c.needs found n1)
     (engine : EngineCovers e1.seat cs e2.seat) (needs : NeedsCover n1 cs n2) (turn : TurnCovers took cs t2)
-    (accepts : calls.Accepts c.cpu e2.seat.seen e2.seat.changes cpu') (was : calls.IsSeenBy c.cpu) (sized : c.cpu.processors ≡ e2.seat.processors) (heard : (n : ℕ) → e2.seat.shown ≡ To c.cpu.processor n → n ≤ c.cpu.changes)
+    (accepts : calls.Accepts c.cpu e2.seat.seen e2.seat.changes e2.seat.texts cpu') (was : calls.IsSeenBy c.cpu) (sized : c.cpu.processors ≡ e2.seat.processors) (heard : (n : ℕ) → e2.seat.shown ≡ To c.cpu.processor n → n ≤ c.cpu.changes)
     (admitted : EachBecomes (IsAdmitted e2.seat n2) cs cs1) (puts : MakesSwap t2 (Some e2) None t3) (turned : EachBecomes (IsTurned t3) cs1 cs2)
     (met : tallies.Accepts c.calls s.seen s) (heard_all : EachBecomes (IsHeard s) cs2 cs3) where
   abbrev pub after : List CpuView
@@ -78,9 +78,9 @@ module _ (d : DomainView) (c : CpuView) (cs cs1 cs2 cs3 : List CpuView) (e0 e1 e
   needs_are k x lt = ap (λ (z : CpuView). z.needs) (heard_all.each k x (in_turned k lt)).rest ∙ (turned.each k x (in_admitted k lt)).needs
 
   -- the domain's words
-  pub each_joins : (k : ℕ) (x : CpuView) → k < length (c ∷ cs) → Joins (get_or (c ∷ cs) k x).cpu e2.seat.seen e2.seat.changes (get_or after k x).cpu
+  pub each_joins : (k : ℕ) (x : CpuView) → k < length (c ∷ cs) → Joins (get_or (c ∷ cs) k x).cpu e2.seat.seen e2.seat.changes e2.seat.texts (get_or after k x).cpu
   each_joins zero x lt = record { accepts = accepts; since = beginning_trans covers.covers engine.since; later = (let low = covers.not_before in let same = engine.changes in omega (arith, low, same)) }
-  each_joins (suc k) x lt = subst (λ (z : sections.CpuView). Joins (get_or cs k x).cpu e2.seat.seen e2.seat.changes z) (sym (cpu_is k x lt)) (admitted.each k x (in_others k lt)).cpu
+  each_joins (suc k) x lt = subst (λ (z : sections.CpuView). Joins (get_or cs k x).cpu e2.seat.seen e2.seat.changes e2.seat.texts z) (sym (cpu_is k x lt)) (admitted.each k x (in_others k lt)).cpu
 
   each_was : (k : ℕ) (x : CpuView) → k < length (c ∷ cs) → calls.IsSeenBy (get_or (c ∷ cs) k x).cpu
   each_was zero x lt = was
@@ -210,6 +210,7 @@ module _ (d : DomainView) (c : CpuView) (cs cs1 cs2 cs3 : List CpuView) (e0 e1 e
         changes = changes;
         shown = shown;
         since = beginning_trans covers.step.since engine.since;
+        texts = start_trans covers.step.texts engine.texts;
         history = engine.history;
         each = each_joins;
         one = k;

@@ -8,6 +8,7 @@ use Rattle.sections.specs.declared.view.Shown.TheVariants.{To}
 use Rattle.sections.specs.declared.view.Step.{Step}
 use Rattle.sections.specs.Words.{all_locks, all_unlocks, opened_in, closed_in, number_word, Reaches}
 use Rattle.sections.specs.Rule.{HasItsMaker}
+use Rattle.sections.specs.Shelves.{IsStart}
 use Rattle.sections.specs.Views as sections
 use Rattle.sections.specs.Calls.{IsSeenBy, IsSameCpu}
 use Rattle.sections.specs.EngineCalls.{IsSameEngine, Joins}
@@ -32,6 +33,7 @@ pub record LoadsCounters (many : ℕ) (c d : sections.CpuView) : Type 0 where
   pub one_each : length made ≡ many
   pub since : IsBeginning c.seen d.seen
   pub later : c.changes ≤ d.changes
+  pub texts : IsStart c.texts d.texts
   pub history : IsSeenBy d
 
 -- so much was found: no less than was counted in the first history, and no more than in the second
@@ -56,7 +58,7 @@ pub record CountsSections (opened closed : ℕ) (c d : sections.CpuView) : Type 
 
 -- the processor has then seen just what the engine has
 pub record IsJoined (e : sections.EngineView) (c c' : CpuView) : Type 0 where
-  pub cpu : Joins c.cpu e.seen e.changes c'.cpu
+  pub cpu : Joins c.cpu e.seen e.changes e.texts c'.cpu
   pub was : IsSeenBy c.cpu
   pub sized : c.cpu.processors ≡ e.processors
   pub heard : (changes : ℕ) → e.shown ≡ To c.cpu.processor changes → changes ≤ c.cpu.changes

@@ -3,6 +3,7 @@ use Rattle.std.specs.Prelude.{◌≡◌, ℕ, ◌<◌, ◌++◌, List, length, m
 use Rattle.atomic_table.specs.Seated.{TableId}
 use Rattle.onedom.specs.Histories as events
 use Rattle.sections.specs.declared.view.Step.TheVariants.{LoadIndex}
+use Rattle.sections.specs.Shelves.{IsStart}
 use Rattle.sections.specs.Views as sections
 use Rattle.sections.specs.EngineCalls.{IsSeenByEngine, IsSameEngine, HasSeenAll, Joins}
 use Rattle.scan.specs.Progress.{with_seat}
@@ -44,8 +45,9 @@ pub record EngineMeets (e : sections.EngineView) (cpus : List CpuView) (e' : sec
   pub changes : e'.changes ≡ e.changes
   pub shown : e'.shown ≡ e.shown
   pub since : events.IsBeginning e.seen e'.seen
+  pub texts : IsStart e.texts e'.texts
   pub history : IsSeenByEngine e'
-  pub each : (k : ℕ) (c : CpuView) → k < length cpus → Joins (slice_index_or cpus k c).cpu e'.seen e'.changes (slice_index_or cpus' k c).cpu
+  pub each : (k : ℕ) (c : CpuView) → k < length cpus → Joins (slice_index_or cpus k c).cpu e'.seen e'.changes e'.texts (slice_index_or cpus' k c).cpu
   pub one : ℕ
   pub there : one < length cpus
   pub knew : (c : CpuView) → HasSeenAll e (slice_index_or cpus one c).cpu

@@ -5,6 +5,7 @@ use Rattle.sections.specs.declared.view.Step.TheVariants.{LoadIndex}
 use Rattle.sections.specs.declared.view.Shown.TheVariants.{To}
 use Rattle.sections.specs.Views as sections
 use Rattle.sections.specs.Calls as calls
+use Rattle.sections.specs.Shelves.{IsStart}
 use Rattle.sections.specs.EngineCalls.{IsSeenByEngine, IsSameEngine, Joins}
 use Rattle.funnel.specs.Views.{FunnelView}
 use Rattle.funnel.specs.Histories as tree
@@ -42,6 +43,7 @@ pub record EngineCovers (e : sections.EngineView) (cpus : List CpuView) (e' : se
   pub changes : e'.changes ≡ e.changes
   pub shown : e'.shown ≡ e.shown
   pub since : events.IsBeginning e.seen e'.seen
+  pub texts : IsStart e.texts e'.texts
   pub history : IsSeenByEngine e'
   pub covers : Each (λ c. events.IsBeginning c.cpu.seen e'.seen × (c.cpu.changes ≤ e'.changes)) cpus
 
@@ -86,7 +88,7 @@ pub record EachBecomes (P : CpuView → CpuView → Type 0) (cpus cpus' : List C
 
 -- the processor has then seen just what the engine has, and at the tree just what this seat has
 pub record IsAdmitted (e : sections.EngineView) (n : FunnelView) (c c' : CpuView) : Type 0 where
-  pub cpu : Joins c.cpu e.seen e.changes c'.cpu
+  pub cpu : Joins c.cpu e.seen e.changes e.texts c'.cpu
   pub was : calls.IsSeenBy c.cpu
   pub sized : c.cpu.processors ≡ e.processors
   pub heard : (changes : ℕ) → e.shown ≡ To c.cpu.processor changes → changes ≤ c.cpu.changes

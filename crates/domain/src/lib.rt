@@ -16,7 +16,7 @@ pub use domain::cleanup::{InUse, Totals};
 pub use refusals::{AdvanceRefusal, StartRefusal};
 pub use scan::{Exhausted as PeriodsExhausted, Progress};
 pub use sections::{
-    Cookie, Exhausted, Held, Home, Limits, Look, MOST_PROCESSORS, MakeError, NotACookie, Reading,
+    Cookie, Exhausted, Held, Home, Limits, Look, MOST_PROCESSORS, MakeError, NotACookie, Reading, Writer,
 };
 pub use sseq::{Index, Number};
 pub use tied::Tied;

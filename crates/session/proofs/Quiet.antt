@@ -4,7 +4,7 @@ use Rattle.std.specs.Prelude.{slice_index, Result, Ok, Err, MatchResult}
 use Rattle.sseq.specs.declared.index.Index.{Index}
 use Rattle.onedom.specs.declared.event.Maker.TheVariants.{Engine}
 use Rattle.onedom.specs.declared.event.Event.{Event}
-use Rattle.onedom.specs.declared.event.Event.TheVariants.{Begin, End, Start, Finish, Note, Ask}
+use Rattle.onedom.specs.declared.event.Event.TheVariants.{Begin, End, Start, Finish, Note, Ask, Find, Put}
 use Rattle.onedom.specs.declared.event.Maker.{Maker}
 use Rattle.onedom.specs.Histories.{begins, ends, begins_of, index_of, section_begun, IsLegal, IsLegalAfter}
 use Rattle.onedom.proofs.CallerLemmas.{bit, begins_of_push, index_of_kept, legal_push}
@@ -43,6 +43,12 @@ quiet_note h cookie by = quiet_plain h (Note cookie by) refl (λ s. refl) (λ s.
 
 pub quiet_ask : (h : List Event) (cookie : ℕ) (done : Bool) (by : Maker) → IsQuiet h (h ++ Ask cookie done by ∷ [])
 quiet_ask h cookie done by = quiet_plain h (Ask cookie done by) refl (λ s. refl) (λ s. refl)
+
+quiet_find : (h : List Event) (u cell slot version : ℕ) (by : Maker) → IsQuiet h (h ++ Find u cell slot version by ∷ [])
+quiet_find h u cell slot version by = quiet_plain h (Find u cell slot version by) refl (λ s. refl) (λ s. refl)
+
+quiet_put : (h : List Event) (cell slot version : ℕ) (by : Maker) → IsQuiet h (h ++ Put cell slot version by ∷ [])
+quiet_put h cell slot version by = quiet_plain h (Put cell slot version by) refl (λ s. refl) (λ s. refl)
 
 quiet_start : (h : List Event) → IsQuiet h (h ++ Start Engine ∷ [])
 quiet_start h = quiet_plain h (Start Engine) refl (λ s. refl) (λ s. refl)
@@ -103,6 +109,8 @@ abbrev pub AreQuiet : List Event → Type 0
 AreQuiet [] = Unit {0}
 AreQuiet (Note cookie by ∷ es) = AreQuiet es
 AreQuiet (Ask cookie done by ∷ es) = AreQuiet es
+AreQuiet (Find s cell slot version by ∷ es) = AreQuiet es
+AreQuiet (Put cell slot version by ∷ es) = AreQuiet es
 AreQuiet (e ∷ es) = ⊥
 
 on_quietly : (h es : List Event) → IsLegal h → IsLegalAfter h es → AreQuiet es → IsLegal (h ++ es) × IsQuiet h (h ++ es)
@@ -113,6 +121,12 @@ on_quietly h (Note cookie by ∷ es) legal follows quiet =
 on_quietly h (Ask cookie done by ∷ es) legal follows quiet =
     let (more, rest) = on_quietly (h ++ Ask cookie done by ∷ []) es (legal_push h (Ask cookie done by) legal follows.0) follows.1 quiet in
     subst (λ l. IsLegal l × IsQuiet h l) (append_assoc h (Ask cookie done by ∷ []) es) (more, quiet_then h (h ++ Ask cookie done by ∷ []) ((h ++ Ask cookie done by ∷ []) ++ es) (quiet_ask h cookie done by) rest)
+on_quietly h (Find u cell slot version by ∷ es) legal follows quiet =
+    let (more, rest) = on_quietly (h ++ Find u cell slot version by ∷ []) es (legal_push h (Find u cell slot version by) legal follows.0) follows.1 quiet in
+    subst (λ l. IsLegal l × IsQuiet h l) (append_assoc h (Find u cell slot version by ∷ []) es) (more, quiet_then h (h ++ Find u cell slot version by ∷ []) ((h ++ Find u cell slot version by ∷ []) ++ es) (quiet_find h u cell slot version by) rest)
+on_quietly h (Put cell slot version by ∷ es) legal follows quiet =
+    let (more, rest) = on_quietly (h ++ Put cell slot version by ∷ []) es (legal_push h (Put cell slot version by) legal follows.0) follows.1 quiet in
+    subst (λ l. IsLegal l × IsQuiet h l) (append_assoc h (Put cell slot version by ∷ []) es) (more, quiet_then h (h ++ Put cell slot version by ∷ []) ((h ++ Put cell slot version by ∷ []) ++ es) (quiet_put h cell slot version by) rest)
 on_quietly h (Begin s p i by ∷ es) legal follows quiet = absurd quiet
 on_quietly h (End s p by ∷ es) legal follows quiet = absurd quiet
 on_quietly h (Start by ∷ es) legal follows quiet = absurd quiet

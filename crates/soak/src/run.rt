@@ -26,6 +26,7 @@ const LIMITS: Limits = Limits {
     sections: Limits::MOST_SECTIONS,
     periods: Limits::MOST_PERIODS,
     cells: 0,
+    slots: 2,
 };
 
 /// Gives each of these processors a seat.
@@ -148,7 +149,7 @@ fn prepare(alloc: Global) -> Result<Start>
     ensures { IfOk result IsPrepared }
 {
     let processors = usize::from(PROCESSORS);
-    let (domain, mut cpus) = Domain::<Job>::new(alloc, processors, LIMITS)?;
+    let (domain, mut cpus, _) = Domain::<Job>::new(alloc, processors, LIMITS)?;
     let mut cpu = cpus.pop().unwrap();
     let room = Vec::with_capacity(alloc, WORKERS)?;
     let parts = Parts {

@@ -43,7 +43,7 @@ module _ (limits : Limits) (processors : ℕ) (d : DomainView) (cpus : List CpuV
   }
 
   history : IsSeenByEngine engine.seat
-  history = record { legal = tt; makers = All-nil (HasItsMaker processors); own = refl; reaches = search rules }
+  history = record { legal = tt; makers = All-nil (HasItsMaker processors); own = refl; reaches = search rules; texts = refl }
 
   together : AreTogether limits cpus engine.seat
   together = record {

@@ -4,7 +4,7 @@ use Rattle.std.proofs.lemmas.List.Elements.{filter-append, All-head, All-tail, A
 use Rattle.onedom.specs.declared.event.Maker.{Maker}
 use Rattle.onedom.specs.declared.event.Maker.TheVariants.{Processor, Engine}
 use Rattle.onedom.specs.declared.event.Event.{Event}
-use Rattle.onedom.specs.declared.event.Event.TheVariants.{Begin, End, Start, Finish, Note, Ask}
+use Rattle.onedom.specs.declared.event.Event.TheVariants.{Begin, End, Start, Finish, Note, Ask, Find, Put}
 use Rattle.onedom.specs.Histories.{maker_of, same_maker, made_by, IsBeginning}
 use Rattle.onedom.proofs.CallerLemmas.{same_maker_refl}
 use Rattle.sections.specs.Rule.{HasItsMaker, IsProcessor}
@@ -34,6 +34,8 @@ its_maker n (Start by) h = subst (IsMaker n) (sym h) tt
 its_maker n (Finish by) h = subst (IsMaker n) (sym h) tt
 its_maker n (Note c by) h = a_processor n by h
 its_maker n (Ask c b by) h = a_processor n by h
+its_maker n (Find s c x v by) h = a_processor n by h
+its_maker n (Put c x v by) h = a_processor n by h
 
 made_first : (e : Event) (es : List Event) → made (maker_of e) (e ∷ es) ≡ suc (made (maker_of e) es)
 made_first e es = ap (λ b. length (cond b (e ∷ made_by (maker_of e) es) (made_by (maker_of e) es))) (same_maker_refl (maker_of e))

@@ -49,7 +49,7 @@ impl<A: Allocator> Solo<A> {
         requires { AreInRange limits }
         ensures { MatchResult result (IsNew limits processors) (IsNotMade processors) }
     {
-        let (domain, cpus) = Domain::new(alloc, processors as usize, limits)?;
+        let (domain, cpus, _) = Domain::new(alloc, processors as usize, limits)?;
         Ok(Solo {
             members: Members { domain, cpus },
             limits,

@@ -13,6 +13,7 @@ const LIMITS: Limits = Limits {
     sections: 1,
     periods: 1,
     cells: 0,
+    slots: 2,
 };
 
 /// The number from a start on, `None` where none was made.
@@ -107,6 +108,7 @@ fn a_start_uses_up_a_need(rt: HostRuntime) -> Result<(), Fail> {
         sections: 1,
         periods: 2,
         cells: 0,
+        slots: 2,
     };
     let mut domain = Solo::new(rt.alloc(), 1, limits)?;
     assert_eq!(rt; domain.ask(&rt, 0), 4);
@@ -147,6 +149,7 @@ fn holds_a_section(rt: HostRuntime) -> Result<(), Fail> {
         sections: 2,
         periods: 1,
         cells: 0,
+        slots: 2,
     };
     let mut domain = Solo::new(rt.alloc(), 64, limits)?;
     let Ok(first) = domain.down_read(&rt, 63) else {

@@ -42,15 +42,15 @@ was_last cpus rest o c whole is =
 new_is_of : (d : DomainView) (bounds : Bounds) (tree : TableId) (shape : Shape) (k : ℕ) → d.processors ≡ bounds.processors → k < bounds.processors → IsOf d (new_cpu d bounds tree shape k)
 new_is_of d bounds tree shape k many there = record { domain = refl; bay = refl; home = refl; free = refl; asks = (k, refl); many = sym many; fits = record { domain = refl; tallies = refl; cpu = refl; there = subst (λ n. k < n) (sym many) there }; number = refl; seats = sym many; words = sym many }
 
-module _ (processors periods : ℕ) (d : DomainView) (cpus : List CpuView) (c : CpuView) (made : IsMade (record { processors = processors; sections = 1; periods = periods }) d cpus) (some : 0 < length cpus) (is : c ≡ slice_index_or cpus (length cpus - 1) c) where
-  is_new : c ≡ new_cpu d (record { processors = processors; sections = 1; periods = periods }) made.tree (record { processors = processors; nodes = made.nodes }) (length cpus - 1)
+module _ (processors periods : ℕ) (d : DomainView) (cpus : List CpuView) (c : CpuView) (made : IsMade (record { processors = processors; sections = 1; periods = periods; cells = 0 }) d cpus) (some : 0 < length cpus) (is : c ≡ slice_index_or cpus (length cpus - 1) c) where
+  is_new : c ≡ new_cpu d (record { processors = processors; sections = 1; periods = periods; cells = 0 }) made.tree (record { processors = processors; nodes = made.nodes }) (length cpus - 1)
   is_new = is ∙ made.each (length cpus - 1) c (omega (arith, some))
 
   pub new_one : IsNewOf processors periods c
   new_one = record { domain = d; tree = made.tree; shape = record { processors = processors; nodes = made.nodes }; number = length cpus - 1; there = (let count = made.count in omega (arith, count, some)); new = is_new }
 
   pub of_this : IsOf d c
-  of_this = subst (λ z. IsOf d z) (sym is_new) (new_is_of d (record { processors = processors; sections = 1; periods = periods }) made.tree (record { processors = processors; nodes = made.nodes }) (length cpus - 1) made.many (let count = made.count in omega (arith, count, some)))
+  of_this = subst (λ z. IsOf d z) (sym is_new) (new_is_of d (record { processors = processors; sections = 1; periods = periods; cells = 0 }) made.tree (record { processors = processors; nodes = made.nodes }) (length cpus - 1) made.many (let count = made.count in omega (arith, count, some)))
 
   pub none_open : HasNoneOpen c
   none_open = subst HasNoneOpen (sym is_new) refl

@@ -36,7 +36,7 @@ pub record IsNewOf (processors periods : ℕ) (c : CpuView) : Type 0 where
   pub shape : Shape
   pub number : ℕ
   pub there : number < processors
-  pub new : c ≡ new_cpu domain (record { processors = processors; sections = 1; periods = periods }) tree shape number
+  pub new : c ≡ new_cpu domain (record { processors = processors; sections = 1; periods = periods; cells = 0 }) tree shape number
 
 pub record HaveDriven (processors periods : ℕ) : Type 0 where
   pub first : CpuView

@@ -20,6 +20,7 @@ const LIMITS: Limits = Limits {
     sections: 1,
     periods: Limits::MOST_PERIODS,
     cells: 0,
+    slots: 2,
 };
 
 /// Room for a list of some ten thousand jobs and for one of half the size, from which it grew. In bytes.
@@ -118,7 +119,7 @@ pub fn run_queueing<R: Threads + Sync + Wait + Clock + AllocGlobal>(
     ensures done { IfOk result (λ timed. timed.done ≡ threads * jobs) }
     ensures queued { IfOk result (λ _. HaveQueued threads jobs) }
 {
-    let (domain, cpus) = Domain::<u64>::new(rt.alloc(), threads, LIMITS)?;
+    let (domain, cpus, _) = Domain::<u64>::new(rt.alloc(), threads, LIMITS)?;
     let start = Instant::now(rt)?;
     let outcomes = queue_together(rt, &domain, cpus, jobs)?;
     let elapsed = start.elapsed(rt)?;
@@ -137,7 +138,7 @@ pub fn run_passing<R: Threads + Sync + Wait + Clock + AllocGlobal>(
     ensures done { IfOk result (λ timed. timed.done ≡ threads * jobs) }
     ensures passed { IfOk result (λ _. HavePassed threads jobs) }
 {
-    let (domain, cpus) = Domain::<u64>::new(rt.alloc(), threads, LIMITS)?;
+    let (domain, cpus, _) = Domain::<u64>::new(rt.alloc(), threads, LIMITS)?;
     let start = Instant::now(rt)?;
     let outcomes = pass_together(rt, &domain, cpus, jobs)?;
     let elapsed = start.elapsed(rt)?;
@@ -148,7 +149,7 @@ pub fn run_passing<R: Threads + Sync + Wait + Clock + AllocGlobal>(
 /// How many bytes of a heap so many jobs take that are queued on one processor.
 pub fn measure_memory<R: Wait + AllocGlobal>(rt: &R, jobs: u64) -> Result<usize> {
     let heap = LocalHeap::new(rt.alloc(), HEAP)?;
-    let (domain, mut cpus) = Domain::<u64, &LocalHeap>::new(&heap, 1, LIMITS)?;
+    let (domain, mut cpus, _) = Domain::<u64, &LocalHeap>::new(&heap, 1, LIMITS)?;
     let mut cpu = cpus.pop().unwrap();
     let before = heap.used();
     queue_all(rt, &domain, &mut cpu, jobs)?;

@@ -125,8 +125,9 @@ pub fn run_periods<R: Wait + Clock + AllocGlobal>(
         sections: 1,
         periods,
         cells: 0,
+        slots: 2,
     };
-    let (domain, mut cpus) = Domain::<()>::new(rt.alloc(), processors, limits)?;
+    let (domain, mut cpus, _) = Domain::<()>::new(rt.alloc(), processors, limits)?;
     let mut cpu = cpus.pop().unwrap();
     let start = Instant::now(rt)?;
     drive_periods(rt, &domain, &mut cpu, periods)?;
@@ -150,8 +151,9 @@ pub fn run_waits<R: Wait + Clock + AllocGlobal>(
         sections: 1,
         periods: times,
         cells: 0,
+        slots: 2,
     };
-    let (domain, mut cpus) = Domain::<()>::new(rt.alloc(), processors, limits)?;
+    let (domain, mut cpus, _) = Domain::<()>::new(rt.alloc(), processors, limits)?;
     let mut cpu = cpus.pop().unwrap();
     let start = Instant::now(rt)?;
     wait_often(rt, &domain, &mut cpu, times)?;

@@ -35,11 +35,9 @@ pub fn run<R: Clock + AllocGlobal>(rt: &R, pairs: u64) -> Result<Timed>
         sections: pairs,
         periods: 1,
         cells: 0,
+        slots: 2,
     };
-    let Made {
-        mut cpus,
-        engine: _,
-    } = make(rt.alloc(), 2, limits)?;
+    let Made { mut cpus, .. } = make(rt.alloc(), 2, limits)?;
     let mut second = cpus.pop().unwrap();
     let mut first = cpus.pop().unwrap();
     let start = Instant::now(rt)?;

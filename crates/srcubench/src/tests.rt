@@ -57,11 +57,9 @@ fn stops_where_no_more_sections_may_begin(rt: HostRuntime) -> Result<(), Fail> {
         sections: 5,
         periods: 1,
         cells: 0,
+        slots: 2,
     };
-    let Made {
-        mut cpus,
-        engine: _,
-    } = make(rt.alloc(), 1, limits)?;
+    let Made { mut cpus, .. } = make(rt.alloc(), 1, limits)?;
     let mut cpu = cpus.pop().unwrap();
     for made in [2, 2, 1, 0] {
         assert_eq!(rt; make_pairs(&mut cpu, 2), made);
@@ -106,8 +104,9 @@ fn stops_where_no_more_periods_may_start(rt: HostRuntime) -> Result<(), Fail> {
             sections: 1,
             periods: most,
             cells: 0,
+            slots: 2,
         };
-        let Made { mut cpus, engine } = make(rt.alloc(), 2, limits)?;
+        let Made { mut cpus, engine, .. } = make(rt.alloc(), 2, limits)?;
         let cpu = cpus.pop().unwrap();
         let mut engine = Engine::new(engine, EveryPeriod { cpu });
         let made = make_periods(&mut engine, periods);
@@ -123,8 +122,9 @@ fn stops_at_an_open_section(rt: HostRuntime) -> Result<(), Fail> {
         sections: 1,
         periods: 3,
         cells: 0,
+        slots: 2,
     };
-    let Made { mut cpus, engine } = make(rt.alloc(), 2, limits)?;
+    let Made { mut cpus, engine, .. } = make(rt.alloc(), 2, limits)?;
     let cpu = cpus.pop().unwrap();
     let mut reader = cpus.pop().unwrap();
     let reading = reader.read_lock()?;
@@ -262,8 +262,9 @@ fn domain_of_four(alloc: Global) -> Result<(Domain<u64>, Vec<Cpu<u64>>), MakeErr
         sections: 1,
         periods: 100,
         cells: 0,
+        slots: 2,
     };
-    let (domain, cpus) = Domain::<u64>::new(alloc, 4, limits)?;
+    let (domain, cpus, _) = Domain::<u64>::new(alloc, 4, limits)?;
     Ok((domain, cpus))
 }
 

@@ -44,8 +44,9 @@ pub fn run<R: Threads + Sync + Clock + AllocGlobal>(
         sections: pairs,
         periods: 1,
         cells: 0,
+        slots: 2,
     };
-    let Made { cpus, engine: _ } = make(rt.alloc(), threads, limits)?;
+    let Made { cpus, .. } = make(rt.alloc(), threads, limits)?;
     let start = Instant::now(rt)?;
     let readers = make_at_once(rt, cpus, pairs)?;
     let elapsed = start.elapsed(rt)?;

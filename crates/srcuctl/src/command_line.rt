@@ -58,6 +58,7 @@ pub fn limits_of(matches: &ArgMatches<'_>) -> Limits
         sections: limit(matches, "sections", Limits::MOST_SECTIONS),
         periods: limit(matches, "periods", Limits::MOST_PERIODS),
         cells: 0,
+        slots: 2,
     }
 }
 

@@ -75,6 +75,7 @@ const AMPLE: Limits = Limits {
     sections: Limits::MOST_SECTIONS,
     periods: Limits::MOST_PERIODS,
     cells: 0,
+    slots: 2,
 };
 
 #[test]
@@ -212,6 +213,7 @@ fn refuses(rt: HostRuntime) -> Result<(), Fail> {
             sections: 2,
             periods: 1,
             cells: 0,
+            slots: 2,
         },
         &[
             ("domain a 0", "refused domain processors"),
@@ -305,6 +307,7 @@ fn refuses_to_enter(rt: HostRuntime) -> Result<(), Fail> {
         sections: 1,
         periods: 1,
         cells: 0,
+        slots: 2,
     };
     check(
         &rt,

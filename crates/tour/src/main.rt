@@ -34,13 +34,14 @@ const LIMITS: Limits = Limits {
     sections: Limits::MOST_SECTIONS,
     periods: Limits::MOST_PERIODS,
     cells: 0,
+    slots: 2,
 };
 
 /// A domain, and its two processors. A processor is a value: whichever thread owns it works with it.
 fn pair(alloc: Global) -> Result<(Domain<Old>, Cpu<Old>, Cpu<Old>)>
     ensures { IfOk result (λ r. IsReady r.0 r.1 × IsReady r.0 r.2) }
 {
-    let (domain, mut cpus) = Domain::new(alloc, 2, LIMITS)?; // init_srcu_struct
+    let (domain, mut cpus, _) = Domain::new(alloc, 2, LIMITS)?; // init_srcu_struct
 
     let second = cpus.pop().unwrap();
     let first = cpus.pop().unwrap();
@@ -51,7 +52,7 @@ fn pair(alloc: Global) -> Result<(Domain<Old>, Cpu<Old>, Cpu<Old>)>
 fn trio(alloc: Global) -> Result<(Domain<Old>, Cpu<Old>, Cpu<Old>, Cpu<Old>)>
     ensures { IfOk result (λ r. IsReady r.0 r.1 × IsReady r.0 r.2 × IsReady r.0 r.3) }
 {
-    let (domain, mut cpus) = Domain::new(alloc, 3, LIMITS)?;
+    let (domain, mut cpus, _) = Domain::new(alloc, 3, LIMITS)?;
     let third = cpus.pop().unwrap();
     let second = cpus.pop().unwrap();
     let first = cpus.pop().unwrap();

@@ -249,8 +249,9 @@ fn limits(rt: HostRuntime) -> Result<(), Fail> {
         sections: 1,
         periods: 1,
         cells: 0,
+        slots: 2,
     };
-    let (domain, mut cpus) = Domain::<Old>::new(rt.alloc(), 1, few)?;
+    let (domain, mut cpus, _) = Domain::<Old>::new(rt.alloc(), 1, few)?;
     let mut cpu = cpus.pop().unwrap();
 
     let section = cpu.read_lock()?;

@@ -27,7 +27,7 @@ impl<J, A: Allocator> Cpu<J, A> {
         requires domain { other.old.cpu.domain ≡ self.old.cpu.domain }
         requires covered { IsBeginning other.old.cpu.seen self.old.cpu.seen × (other.old.cpu.changes ≤ self.old.cpu.changes) }
         ensures this { self.new ≡ self.old }
-        ensures other { Accepts other.old.cpu self.old.cpu.seen self.old.cpu.changes other.new.cpu }
+        ensures other { Accepts other.old.cpu self.old.cpu.seen self.old.cpu.changes self.old.cpu.texts other.new.cpu }
         ensures rest { other.new ≡ with_cpu other.new.cpu other.old }
         ensures stays { Stays other.old other.new }
         ensures acts { ActsAs loads other.old other.new }

@@ -1,6 +1,8 @@
 //! A new domain.
 ghost use Rattle.std.specs.Prelude.{◌≡◌, length, IfOk};
 ghost use Rattle.sections.specs.Limits.{AreInRange};
+ghost use Rattle.sections.specs.Words.{cells_in};
+ghost use Rattle.sections.specs.Dealing.{AreNewWriters};
 ghost use Rattle.sections.specs.Making.{IsCount, IsRefused, bounds_of};
 ghost use Rattle.domain.specs.Making.{IsMade, joined};
 ghost use Rattle.domain.specs.Meetings.{IsAllOf};
@@ -12,7 +14,7 @@ use calls::{CallSeat, Calls};
 use desk::{Bay, BaySeat};
 use funnel::FunnelSeat;
 use scan::Engine;
-use sections::{Limits, MOST_PROCESSORS, Made, MakeError};
+use sections::{Limits, MOST_PROCESSORS, Made, MakeError, Writer};
 use std::alloc::{AllocError, Allocator};
 use std::marker::PhantomData;
 
@@ -47,13 +49,19 @@ fn build<J: Drop, A: Allocator + Copy>(
     alloc: A,
     processors: usize,
     limits: Limits,
-) -> Result<(Domain<J, A>, Vec<Cpu<J, A>, A>), AllocError>
+) -> Result<(Domain<J, A>, Vec<Cpu<J, A>, A>, Vec<Writer, A>), AllocError>
     requires count { IsCount processors }
     requires limits { AreInRange limits }
     ensures made { IfOk result (λ m. IsMade (bounds_of processors limits) m.0 m.1.items) }
     ensures all { IfOk result (λ m. IsAllOf m.0 m.1.items) }
+    ensures cells { IfOk result (λ m. cells_in m.0.domain ≡ limits.cells) }
+    ensures writers { IfOk result (λ m. AreNewWriters m.0.domain limits.cells limits.slots m.2.items) }
 {
-    let Ok(Made { cpus, mut engine }) = sections::make(alloc, processors, limits) else {
+    let Ok(Made {
+        cpus,
+        mut engine,
+        writers,
+    }) = sections::make(alloc, processors, limits) else {
         return Err(AllocError);
     };
     let (needs, root) = funnel::make(alloc, processors)?;
@@ -70,19 +78,21 @@ fn build<J: Drop, A: Allocator + Copy>(
         calls,
         processors: count,
     };
-    Ok((domain, cpus))
+    Ok((domain, cpus, writers))
 }
 
 impl<J: Drop, A: Allocator + Copy> Domain<J, A> {
     /// Makes a domain of so many processors (`init_srcu_struct`), in which nothing has happened, and gives the processors
-    /// in the order of their numbers. Where several refusals hold, the first in the order of [`MakeError`] is answered.
+    /// in the order of their numbers and the writers in that of their cells. Where several refusals hold, the first in the order of [`MakeError`] is answered.
     pub fn new(
         alloc: A,
         processors: usize,
         limits: Limits,
-    ) -> Result<(Domain<J, A>, Vec<Cpu<J, A>, A>), MakeError>
+    ) -> Result<(Domain<J, A>, Vec<Cpu<J, A>, A>, Vec<Writer, A>), MakeError>
         ensures made { IfOk result (λ m. IsMade (bounds_of processors limits) m.0 m.1.items) }
         ensures all { IfOk result (λ m. IsAllOf m.0 m.1.items) }
+        ensures cells { IfOk result (λ m. cells_in m.0.domain ≡ limits.cells) }
+        ensures writers { IfOk result (λ m. AreNewWriters m.0.domain limits.cells limits.slots m.2.items) }
         ensures refused { IsRefused processors limits result }
     {
         if processors == 0 || processors > MOST_PROCESSORS {

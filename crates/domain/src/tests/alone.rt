@@ -19,6 +19,7 @@ const AMPLE: Limits = Limits {
     sections: Limits::MOST_SECTIONS,
     periods: Limits::MOST_PERIODS,
     cells: 0,
+    slots: 2,
 };
 
 /// One section of an index on each processor, and one grace period.
@@ -26,6 +27,7 @@ const SCARCE: Limits = Limits {
     sections: 1,
     periods: 1,
     cells: 0,
+    slots: 2,
 };
 
 fn number(value: u64) -> Number {
@@ -36,7 +38,7 @@ fn number(value: u64) -> Number {
 fn single(alloc: Global, limits: Limits) -> Result<(Domain<()>, Cpu<()>), MakeError>
     ensures { IfOk result (λ r. IsOf r.0 r.1 × HasNoneOpen r.1) }
 {
-    let (domain, mut cpus) = Domain::<()>::new(alloc, 1, limits)?;
+    let (domain, mut cpus, _) = Domain::<()>::new(alloc, 1, limits)?;
     let cpu = cpus.pop().unwrap();
     Ok((domain, cpu))
 }
@@ -50,7 +52,7 @@ fn last_two(
     requires { 1 < processors }
     ensures { IfOk result (λ r. IsOf r.0 r.1 × HasNoneOpen r.1 × IsOf r.0 r.2 × HasNoneOpen r.2) }
 {
-    let (domain, mut cpus) = Domain::<()>::new(alloc, processors, limits)?;
+    let (domain, mut cpus, _) = Domain::<()>::new(alloc, processors, limits)?;
     let last = cpus.pop().unwrap();
     let other = cpus.pop().unwrap();
     Ok((domain, other, last))
@@ -58,7 +60,7 @@ fn last_two(
 
 /// Makes a domain in the heap's room, and drops it. Tells how many processors there were, and how much of the heap was used.
 fn make_and_drop(heap: &LocalHeap) -> Result<(usize, usize), MakeError> {
-    let (domain, cpus) = Domain::<(), _>::new(heap, 2, SCARCE)?;
+    let (domain, cpus, _) = Domain::<(), _>::new(heap, 2, SCARCE)?;
     let made = (cpus.len(), heap.used());
     drop(cpus);
     drop(domain);
@@ -386,6 +388,7 @@ fn synchronizes_alone(rt: HostRuntime) -> Result<(), Fail> {
         sections: 1,
         periods: 2,
         cells: 0,
+        slots: 2,
     };
     let (domain, mut reader, mut updater) = last_two(rt.alloc(), 2, limits)?;
     let waited = wait_thrice(&rt, &domain, &mut reader, &mut updater);
@@ -421,7 +424,7 @@ fn what_is_not_made(rt: HostRuntime) -> Result<(), Fail> {
             periods: 1 << 59,
             ..AMPLE
         },
-        Limits { cells: 1, ..AMPLE },
+        Limits { cells: 5, ..AMPLE },
     ];
     for processors in [1, 64] {
         assert_eq!(rt; refusal(rt.alloc(), processors, AMPLE), None);
@@ -431,7 +434,7 @@ fn what_is_not_made(rt: HostRuntime) -> Result<(), Fail> {
         }
     }
     for processors in [0, 65, usize::MAX] {
-        for limits in [AMPLE, SCARCE, Limits { cells: 1, ..AMPLE }] {
+        for limits in [AMPLE, SCARCE, Limits { cells: 5, ..AMPLE }] {
             let refused = refusal(rt.alloc(), processors, limits);
             assert_eq!(rt; (limits, refused), (limits, Some(MakeError::Processors)));
         }
@@ -560,7 +563,7 @@ fn need_behind_a_meeting<R: Wait>(
 /// processor asks for 4, and the others for 8, since a period runs by then.
 #[test]
 fn meets(rt: HostRuntime) -> Result<(), Fail> {
-    let (domain, mut cpus) = Domain::<()>::new(rt.alloc(), 5, AMPLE)?;
+    let (domain, mut cpus, _) = Domain::<()>::new(rt.alloc(), 5, AMPLE)?;
     let need = need_behind_a_meeting(&rt, &domain, &mut cpus);
     assert_eq!(rt; need.map(Number::get), Some(8));
     for cpu in cpus.iter_mut() {

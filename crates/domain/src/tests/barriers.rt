@@ -18,13 +18,14 @@ const LIMITS: Limits = Limits {
     sections: Limits::MOST_SECTIONS,
     periods: Limits::MOST_PERIODS,
     cells: 0,
+    slots: 2,
 };
 
 /// A new domain whose jobs are numbers, and its two processors.
 fn pair(alloc: Global) -> Result<(Domain<u64>, Cpu<u64>, Cpu<u64>), MakeError>
     ensures { IfOk result (λ r. IsOf r.0 r.1 × IsOf r.0 r.2) }
 {
-    let (domain, mut cpus) = Domain::<u64>::new(alloc, 2, LIMITS)?;
+    let (domain, mut cpus, _) = Domain::<u64>::new(alloc, 2, LIMITS)?;
     let second = cpus.pop().unwrap();
     let first = cpus.pop().unwrap();
     Ok((domain, first, second))

@@ -16,6 +16,7 @@ const LIMITS: Limits = Limits {
     sections: Limits::MOST_SECTIONS,
     periods: Limits::MOST_PERIODS,
     cells: 0,
+    slots: 2,
 };
 
 fn number(value: u64) -> Number {
@@ -28,7 +29,7 @@ pub(super) fn single<A: Allocator + Copy>(
 ) -> Result<(Domain<u64, A>, Cpu<u64, A>), MakeError>
     ensures { IfOk result (λ r. IsOf r.0 r.1 × (0 < r.0.processors)) }
 {
-    let (domain, mut cpus) = Domain::<u64, A>::new(alloc, 1, LIMITS)?;
+    let (domain, mut cpus, _) = Domain::<u64, A>::new(alloc, 1, LIMITS)?;
     let cpu = cpus.pop().unwrap();
     Ok((domain, cpu))
 }

@@ -13,13 +13,14 @@ const LIMITS: Limits = Limits {
     sections: Limits::MOST_SECTIONS,
     periods: Limits::MOST_PERIODS,
     cells: 0,
+    slots: 2,
 };
 
 /// A new domain of one processor.
 fn single<J: Drop>(alloc: Global) -> Result<(Domain<J>, Cpu<J>), MakeError>
     ensures { IfOk result (λ r. IsOf r.0 r.1) }
 {
-    let (domain, mut cpus) = Domain::<J>::new(alloc, 1, LIMITS)?;
+    let (domain, mut cpus, _) = Domain::<J>::new(alloc, 1, LIMITS)?;
     let cpu = cpus.pop().unwrap();
     Ok((domain, cpu))
 }
@@ -32,7 +33,7 @@ fn last_two(
     requires { 1 < processors }
     ensures { IfOk result (λ r. IsOf r.0 r.1 × IsOf r.0 r.2) }
 {
-    let (domain, mut cpus) = Domain::<u64>::new(alloc, processors, LIMITS)?;
+    let (domain, mut cpus, _) = Domain::<u64>::new(alloc, processors, LIMITS)?;
     let last = cpus.pop().unwrap();
     let other = cpus.pop().unwrap();
     Ok((domain, other, last))

@@ -15,6 +15,7 @@ const LIMITS: Limits = Limits {
     sections: Limits::MOST_SECTIONS,
     periods: Limits::MOST_PERIODS,
     cells: 0,
+    slots: 2,
 };
 
 /// A job tells where it was queued.
@@ -91,7 +92,7 @@ fn five_cpus(alloc: Global) -> Result<(Domain<Job>, Cpus, Cpu<Job>), MakeError>
     ensures fifth { IfOk result (λ r. IsOf r.0 r.2) }
     ensures many { IfOk result (λ r. r.0.processors ≡ 5) }
 {
-    let (domain, mut cpus) = Domain::<Job>::new(alloc, 5, LIMITS)?;
+    let (domain, mut cpus, _) = Domain::<Job>::new(alloc, 5, LIMITS)?;
     let fifth = cpus.pop().unwrap();
     let fourth = cpus.pop().unwrap();
     let third = cpus.pop().unwrap();

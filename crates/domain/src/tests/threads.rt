@@ -19,6 +19,7 @@ const LIMITS: Limits = Limits {
     sections: Limits::MOST_SECTIONS,
     periods: Limits::MOST_PERIODS,
     cells: 0,
+    slots: 2,
 };
 
 /// How often a thread looks for what another one does, with a sleep of a millisecond behind each look.
@@ -32,7 +33,7 @@ pub(super) fn two_cpus(alloc: Global) -> Result<(Domain<()>, Cpu<()>, Cpu<()>), 
     ensures of { IfOk result (λ r. IsOf r.0 r.1 × IsOf r.0 r.2) }
     ensures none { IfOk result (λ r. HasNoneOpen r.1 × HasNoneOpen r.2) }
 {
-    let (domain, mut cpus) = Domain::<()>::new(alloc, 2, LIMITS)?;
+    let (domain, mut cpus, _) = Domain::<()>::new(alloc, 2, LIMITS)?;
     let second = cpus.pop().unwrap();
     let first = cpus.pop().unwrap();
     Ok((domain, first, second))
@@ -300,7 +301,7 @@ fn five_cpus(alloc: Global) -> Result<(Domain<()>, Cpus, Cpu<()>), MakeError>
     ensures last { IfOk result (λ r. IsOf r.0 r.1.third × IsOf r.0 r.1.fourth) }
     ensures fifth { IfOk result (λ r. IsOf r.0 r.2) }
 {
-    let (domain, mut cpus) = Domain::<()>::new(alloc, 5, LIMITS)?;
+    let (domain, mut cpus, _) = Domain::<()>::new(alloc, 5, LIMITS)?;
     let fifth = cpus.pop().unwrap();
     let fourth = cpus.pop().unwrap();
     let third = cpus.pop().unwrap();

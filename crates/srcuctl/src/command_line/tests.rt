@@ -15,6 +15,7 @@ fn check(alloc: Global, words: &[&str], limits: Option<(u64, u64)>) -> Result<bo
         sections,
         periods,
         cells: 0,
+        slots: 2,
     });
     Ok(limits_by(alloc, words)? == wanted)
 }

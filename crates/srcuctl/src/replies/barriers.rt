@@ -125,6 +125,7 @@ fn counts_what_is_finished(rt: HostRuntime) -> Result<(), Fail> {
             sections: 1,
             periods: 1,
             cells: 0,
+            slots: 2,
         },
         &[
             ("domain a 2", "made a 2"),

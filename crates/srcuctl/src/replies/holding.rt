@@ -111,6 +111,7 @@ fn refuses_more_held_sections(rt: HostRuntime) -> Result<(), Fail> {
             sections: 2,
             periods: 1,
             cells: 0,
+            slots: 2,
         },
         &[
             ("domain a 2", "made a 2"),

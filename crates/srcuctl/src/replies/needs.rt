@@ -44,6 +44,7 @@ fn refuses_more_periods(rt: HostRuntime) -> Result<(), Fail> {
             sections: 1,
             periods: 1,
             cells: 0,
+            slots: 2,
         },
         &[
             ("domain a 1", "made a 1"),

@@ -17,6 +17,7 @@ const LIMITS: Limits = Limits {
     sections: 18_014_398_509_481_984,
     periods: 576_460_752_303_423_487,
     cells: 0,
+    slots: 2,
 };
 
 /// A section before a grace period and one within it.

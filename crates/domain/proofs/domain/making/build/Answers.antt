@@ -1,4 +1,7 @@
-use Rattle.std.proofs.Common.{refl, ap, ◌∙◌, arith}
+use Rattle.std.proofs.Common.{refl, sym, ap, ◌∙◌, subst, arith}
+use Rattle.atomic_table.specs.Seated.{TableId}
+use Rattle.sections.specs.Words.{cells_in}
+use Rattle.sections.specs.Dealing.{AreNewWriters}
 use Rattle.sections.specs.Views.{EngineView}
 use Rattle.domain.proofs.Founding.{founded, all_of_new}
 use Rattle.domain.proofs.domain.making.build.Goals as goal
@@ -8,3 +11,10 @@ returns-clause-made g c = founded _ _ _ _ _ _ _ _ _ _ _ _ _ _ c.in-Ok.ensures.ma
 
 pub returns-clause-all : goal.returns-clause-all
 returns-clause-all g c = let some = c.requires.count.0 in all_of_new _ _ _ (omega (arith, some)) (returns-clause-made g c)
+
+-- the callbacks are of the domain whose words were made
+pub returns-clause-cells : goal.returns-clause-cells
+returns-clause-cells g c = ap cells_in c.in_ok-calls.ensures.made.of_domain ∙ c.in-Ok.ensures.cells
+
+pub returns-clause-writers : goal.returns-clause-writers
+returns-clause-writers g c = subst (λ (t : TableId). AreNewWriters t c.args.limits.cells c.args.limits.slots c.in-Ok.field-0.writers.items) (sym c.in_ok-calls.ensures.made.of_domain) c.in-Ok.ensures.writers
