@@ -7,7 +7,7 @@ use native.Mathlib.Decide.{ℕ_discrete}
 use Rattle.sseq.specs.Numbers.{periods_ended, cookie_at}
 use Rattle.onedom.specs.declared.event.Maker.TheVariants.{Processor, Engine}
 use Rattle.onedom.specs.declared.event.Event.{Event}
-use Rattle.onedom.specs.declared.event.Event.TheVariants.{Begin, End, Note, Ask}
+use Rattle.onedom.specs.declared.event.Event.TheVariants.{Begin, End, Note, Ask, Find, Put}
 use Rattle.onedom.specs.Histories.{is_start, is_finish, starts_in, ended_in, maker_of, same_maker, IsBeginning}
 use Rattle.onedom.proofs.CallerLemmas.{bit, beginning_refl, beginning_append, beginning_trans, starts_in_push, ended_in_push, made_by_other, made_by_own, same_maker_refl}
 use Rattle.sections.specs.declared.view.Step.{Step}
@@ -15,7 +15,10 @@ use Rattle.sections.specs.declared.view.Text.{Text}
 use Rattle.sections.specs.declared.cpu.Exhausted.{Exhausted}
 use Rattle.sections.specs.declared.cpu.NotACookie.{NotACookie}
 use Rattle.sections.specs.Views as sections
-use Rattle.sections.specs.Views.{LookView, ReadingView, CookieView}
+use Rattle.sections.specs.Views.{LookView, ReadingView, CookieView, FoundView}
+use Rattle.sections.specs.WriterViews.{WriterView}
+use Rattle.sections.specs.Writers.{PutsSlot}
+use Rattle.sections.specs.Reads.{Finds}
 use Rattle.sections.specs.Calls.{IsSameCpu, Loads, AddsEvent, Begins, LooksAndBegins, LooksInVain, IsExhausted, Enters, GivesCookie, Asks, IsNoCookie, Accepts, Ties}
 use Rattle.funnel.specs.declared.view.Holder.{Holder}
 use Rattle.funnel.specs.declared.view.Holder.TheVariants as holder
@@ -44,7 +47,7 @@ use Rattle.calls.specs.Meetings.{Covers, SeesOut}
 use Rattle.calls.proofs.CallerLemmas.{begins_itself, begins_on, deeds_append}
 use Rattle.domain.specs.Views.{CpuView, with_cpu, with_calls}
 use Rattle.domain.specs.Barriers.{rows_of_loads, PollsUntilDone}
-use Rattle.domain.specs.Acting.{Act, makes, loads, begins, ends, notes, asks_whether, asks_how_far, asks_for, finishes, MakesEvents, GoesOn, Adds, AreOf, AskFor, Count, Acts, ActsAs, QueuesNone}
+use Rattle.domain.specs.Acting.{Act, makes, loads, begins, ends, notes, asks_whether, asks_how_far, asks_for, finishes, finds, puts, PutsAndThen, MakesEvents, GoesOn, Adds, AreOf, AskFor, Count, Acts, ActsAs, QueuesNone}
 
 -- At the domain's words
 
@@ -267,6 +270,11 @@ module _ (c c' : CpuView) (rest : c' ≡ with_cpu c'.cpu c) where
   poll_acts cookie (Ok done) h = ask_acts h.adds
   poll_acts cookie (Err x) h = still h.1
 
+  -- Versions
+
+  pub find_acts : {cell : ℕ} {r : ReadingView} {f : FoundView} → Finds cell r c.cpu c'.cpu f → ActsAs (finds r.section cell f) c c'
+  find_acts {cell} {r} {f} h = makes_one (Find r.section cell f.slot f.version (Processor c.cpu.processor)) (one_made c.cpu c'.cpu h.adds) refl refl refl
+
   -- Jobs are taken
 
   pub take_acts : {J : Type 0} (k : CallsView) (processor most : ℕ) (r : Result (Option (BatchView J)) TakeRefusal) → MatchResult r (λ taken. TakesIn k processor most c.cpu taken c'.cpu) (λ _. InvokesIn J k processor × (c'.cpu ≡ c.cpu))
@@ -353,6 +361,24 @@ noted c c' cookie number other reached is adds = subst (λ n. MakesEvents (Note 
 
 pub start_acts : (c c' : CpuView) (cookie : CookieView) → GivesCookie c.cpu c'.cpu cookie → (n : ℕ) → n ≡ cookie.number → (level : Level) → tree.Asks n c.needs level c'.needs → c'.turn ≡ c.turn → c'.calls ≡ c.calls → ActsAs (asks_for cookie.number 0) c c'
 start_acts c c' cookie gives n is level asks turn calls = asked_for c c' cookie.number level (subst (λ m. tree.Asks m c.needs level c'.needs) is asks) turn (noted c.cpu c'.cpu cookie gives.number _ _ gives.cookie_is gives.notes.adds) 0 [] (adds_none c.calls c'.calls calls) (record { queued = refl; finished = refl; others = λ q other. refl })
+
+-- A version is put, and then a cookie is given, and perhaps asked for
+
+module _ (c c' : CpuView) (slot cookie : ℕ) (w w' : WriterView) (h : PutsSlot slot cookie w c.cpu w' c'.cpu) where
+  put_first : ActsAs (puts w.cell slot w'.version) c (with_cpu h.between c)
+  put_first = subst (λ v. ActsAs (puts w.cell slot v) c (with_cpu h.between c)) (sym h.version) (makes_one c (with_cpu h.between c) refl (Put w.cell slot (w.version + 1) (Processor c.cpu.processor)) (one_made c.cpu h.between h.puts) refl refl refl)
+
+  pub put_acts : c' ≡ with_cpu c'.cpu c → PutsAndThen (notes cookie) w.cell slot w'.version c c'
+  put_acts rest = record { between = with_cpu h.between c; put = put_first; next = subst (λ n. ActsAs (notes n) (with_cpu h.between c) c') (sym h.cookie_is) (note_acts (with_cpu h.between c) c' rest h.notes.adds) }
+
+  pub put_asks : (level : Level) → tree.Asks cookie c.needs level c'.needs → c'.turn ≡ c.turn → c'.calls ≡ c.calls → PutsAndThen (asks_for cookie 0) w.cell slot w'.version c c'
+  put_asks level asks turn calls =
+      let m : CpuView = with_cpu h.between c in
+      let made : MakesEvents (Note cookie (Processor m.cpu.processor) ∷ []) m.cpu c'.cpu = subst (λ n. MakesEvents (Note n (Processor m.cpu.processor) ∷ []) m.cpu c'.cpu) (sym h.cookie_is) (one_made m.cpu c'.cpu h.notes.adds) in record {
+        between = m;
+        put = put_first;
+        next = asked_for m c' cookie level asks turn made 0 [] (adds_none c.calls c'.calls calls) (record { queued = refl; finished = refl; others = λ q other. refl });
+      }
 
 module _ {J : Type 0} (k : CallsView) (c c' : CpuView) (job : J) where
   pub queue_acts : c.cpu.processor ≡ c.calls.processor → (r : Receipt) → QueuesIn k c.cpu c.calls job r c'.cpu c'.calls → (n : ℕ) → n ≡ r.cookie.number → (level : Level) → tree.Asks n c.needs level c'.needs → c'.turn ≡ c.turn → ActsAs (asks_for r.cookie.number 1) c c'

@@ -4,10 +4,11 @@ use Rattle.sseq.specs.declared.index.Index.{Index}
 use Rattle.sseq.specs.Numbers.{periods_ended}
 use Rattle.onedom.specs.declared.event.Maker.TheVariants.{Processor, Engine}
 use Rattle.onedom.specs.declared.event.Event.{Event}
-use Rattle.onedom.specs.declared.event.Event.TheVariants.{Begin, End, Note, Ask}
+use Rattle.onedom.specs.declared.event.Event.TheVariants.{Begin, End, Note, Ask, Find, Put}
 use Rattle.onedom.specs.Histories.{made_by, starts_in, ended_in, IsBeginning}
 use Rattle.sections.specs.Words.{number_word}
 use Rattle.sections.specs.Views as sections
+use Rattle.sections.specs.Views.{FoundView}
 use Rattle.sections.specs.Calls.{IsSameCpu}
 use Rattle.funnel.specs.declared.view.Holder.{Holder}
 use Rattle.funnel.specs.declared.view.Holder.TheVariants as holder
@@ -53,6 +54,14 @@ begins section index p = makes (Begin section p index (Processor p))
 
 abbrev pub ends : ℕ → ℕ → Act
 ends section p = makes (End section p (Processor p))
+
+-- the section finds this version in the cell
+abbrev pub finds : ℕ → ℕ → FoundView → ℕ → Act
+finds section cell f p = makes (Find section cell f.slot f.version (Processor p))
+
+-- the slot is put as this version of the cell
+abbrev pub puts : ℕ → ℕ → ℕ → ℕ → Act
+puts cell slot version p = makes (Put cell slot version (Processor p))
 
 -- the processor is given the cookie of this number
 abbrev pub notes : ℕ → ℕ → Act
@@ -136,3 +145,9 @@ ActsAs what c c' = Acts c.cpu.processor (what c.cpu.processor) c c'
 abbrev pub QueuesNone : CallRefusal → CpuView → CpuView → Type 0
 QueuesNone calling.Exhausted c c' = ActsAs loads c c'
 QueuesNone calling.Memory c c' = (cookie : ℕ) × ActsAs (notes cookie) c c'
+
+-- a call that puts a version and then acts so
+pub record PutsAndThen (what : ℕ → Act) (cell slot version : ℕ) (c c' : CpuView) : Type 0 where
+  pub between : CpuView
+  pub put : ActsAs (puts cell slot version) c between
+  pub next : ActsAs what between c'

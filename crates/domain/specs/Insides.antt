@@ -4,6 +4,8 @@ use Rattle.sections.specs.EngineCalls.{IsTied}
 use Rattle.domain.specs.declared.cpu.Cpu.TheInside as cpu
 use Rattle.domain.specs.declared.domain.Domain.TheInside as domain
 use Rattle.domain.specs.declared.tied.Tied.TheInside as tied
+use Rattle.domain.specs.declared.writer.Writer.TheInside as writer
+use Rattle.sections.specs.WriterViews.{WriterView}
 use Rattle.domain.specs.Views.{Engine, CpuView, DomainView}
 
 module _ {A : Type 0} where
@@ -25,3 +27,6 @@ module _ {J A : Type 0} where
   pub record IsDomain (d : domain.Inside J A) : Type 0 where
     pub count : d.processors ≡ d.calls.processors
     pub some : 1 ≤ d.processors
+
+abbrev pub view_of_writer : writer.Inside → WriterView
+view_of_writer w = w.writer

@@ -12,4 +12,5 @@ pub mod Counts
 pub mod Cleanup
 pub mod Making
 pub mod Acting
+pub mod Writers
 pub mod Insides

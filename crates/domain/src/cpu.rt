@@ -10,6 +10,7 @@ mod cookies;
 mod home;
 mod readers;
 mod ties;
+mod versions;
 
 /// A processor of a domain whose callbacks' jobs are of type `J`. It is a value that one thread owns: which processor of
 /// the machine the thread runs on makes no difference. Contracts see its seats: at the domain's words, at the tree of

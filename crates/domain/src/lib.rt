@@ -8,6 +8,7 @@ mod refusals;
 #[cfg(test)]
 mod tests;
 mod tied;
+mod writer;
 
 pub use calls::{Batch, CallRefusal, Entry, Memory, Receipt, TakeRefusal, Ticket};
 pub use cpu::Cpu;
@@ -16,7 +17,9 @@ pub use domain::cleanup::{InUse, Totals};
 pub use refusals::{AdvanceRefusal, StartRefusal};
 pub use scan::{Exhausted as PeriodsExhausted, Progress};
 pub use sections::{
-    Cookie, Exhausted, Held, Home, Limits, Look, MOST_PROCESSORS, MakeError, NotACookie, Reading, Writer,
+    Cookie, DownPin, Exhausted, Found, Held, HeldPin, Home, Limits, Look, MOST_PROCESSORS, MakeError, NotACookie, Pin,
+    Reading, Slot, Standing,
 };
 pub use sseq::{Index, Number};
 pub use tied::Tied;
+pub use writer::Writer;

@@ -31,6 +31,10 @@ pub use Rattle.sections.proofs.Agreement.{busy_running}
 pub use Rattle.sections.proofs.Agreement.{idle_not_running}
 -- all starts are the engine's own events
 pub use Rattle.sections.proofs.Agreement.{starts_mine}
+-- Cookies
+
+-- the cookie of a number is a number
+pub use Rattle.sections.proofs.CpuViews.{small_cookie, whole_cookie}
 -- Legal histories
 
 -- the last event may follow those before it

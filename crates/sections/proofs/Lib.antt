@@ -15,6 +15,7 @@ mod Seating
 mod CpuViews
 mod Meeting
 mod Pinning
+mod Putting
 mod EngineViews
 mod Founding
 mod EventForging

@@ -1,5 +1,5 @@
 -- How the fields of the writer of a cell and of a slot are seen, and what is always true of them.
-use Rattle.std.specs.Prelude.{◌≡◌, ◌≢◌, Some, None, ℕ, ◌+◌, ◌^◌, ◌<◌, ◌≤◌, List, [], count_by, slice_index_or}
+use Rattle.std.specs.Prelude.{◌≡◌, ◌≢◌, Some, None, ℕ, ◌+◌, ◌^◌, ◌<◌, ◌≤◌, List, [], length, count_by, slice_index_or}
 use Rattle.onedom.specs.Histories.{slot_of, version_of, IsLegal}
 use Rattle.sections.specs.declared.view.Right.{Right}
 use Rattle.sections.specs.declared.view.Right.TheVariants.{Nothing, Section, Shelf, Undealt}
@@ -23,6 +23,7 @@ view_of_writer w = record { domain = w.seat.table_id; cell = w.cell; slots = w.s
 pub record IsWriter (w : writer.Inside) : Type 0 where
   pub bare : w.seat.me.1 ≡ []
   pub right : w.seat.me.0.right ≡ Shelf w.cell (words_with w.seat.me.0.right) w.seat.me.0.seen
+  pub long : length (words_with w.seat.me.0.right) ≡ 128
   pub legal : IsLegal w.seat.me.0.seen
   pub inside : w.cell < cells_in w.seat.table_id
   pub some : 2 ≤ w.slots

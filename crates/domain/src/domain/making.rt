@@ -10,11 +10,12 @@ ghost use Rattle.domain.specs.Meetings.{IsAllOf};
 use crate::cpu::Cpu;
 use crate::domain::Domain;
 use crate::tied::Tied;
+use crate::writer::Writer;
 use calls::{CallSeat, Calls};
 use desk::{Bay, BaySeat};
 use funnel::FunnelSeat;
 use scan::Engine;
-use sections::{Limits, MOST_PROCESSORS, Made, MakeError, Writer};
+use sections::{Limits, MOST_PROCESSORS, Made, MakeError};
 use std::alloc::{AllocError, Allocator};
 use std::marker::PhantomData;
 
@@ -40,6 +41,21 @@ fn join_seats<J, A: Allocator>(
             calls: calls.pop().unwrap(),
             marker: PhantomData,
         });
+    }
+    all.reverse();
+    Ok(all)
+}
+
+/// The writers of the cells, in order.
+fn wrap_writers<A: Allocator>(
+    alloc: A,
+    mut writers: Vec<sections::Writer, A>,
+) -> Result<Vec<Writer, A>, AllocError>
+    ensures { IfOk result (λ all. all.items ≡ writers.items) }
+{
+    let mut all = Vec::with_capacity(alloc, writers.len())?;
+    while let Some(writer) = writers.pop() {
+        all.push_reserved(Writer { writer });
     }
     all.reverse();
     Ok(all)
@@ -73,6 +89,7 @@ fn build<J: Drop, A: Allocator + Copy>(
     let engine = Engine::new(engine, root);
     let (bay, turns) = Bay::new(alloc, Tied { engine }, processors, home)?;
     let cpus = join_seats(alloc, cpus, needs, turns, seats)?;
+    let writers = wrap_writers(alloc, writers)?;
     let domain = Domain {
         bay,
         calls,

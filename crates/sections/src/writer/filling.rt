@@ -20,6 +20,13 @@ impl Writer {
         self.cell
     }
 
+    /// The version that is current, 0 where nothing was put.
+    pub fn version(&self) -> u64
+        ensures { result ≡ self.now.version }
+    {
+        self.version
+    }
+
     /// A slot that nobody can read, to be filled. None exactly where no slot is blank, or 2^54 versions were put.
     pub fn blank(&mut self) -> Option<Slot>
         ensures { MatchOption result (GivesNone self.old self.new) (λ s. Gives self.old self.new s) }

@@ -1,5 +1,6 @@
 //! A filled slot becomes the next version of its cell.
 ghost use Rattle.std.specs.Prelude.{◌≡◌};
+ghost use Rattle.sections.specs.Shelves.{words_of, slot_words};
 ghost use Rattle.sections.specs.Writers.{IsOwn, PutsSlot};
 
 use super::{Slot, Standing, Writer};
@@ -11,11 +12,13 @@ use std::alloc::Allocator;
 
 impl Writer {
     /// Puts the slot as the next version of the cell (`rcu_assign_pointer`). The slot that was current is retired, with a
-    /// cookie of now: its number is the answer. Once that is done, [`Writer::reclaim`] makes it blank.
+    /// cookie of now: its number is the answer. Once that is done, [`Writer::reclaim`] makes it blank. The version has the
+    /// words that the slot had.
     pub fn put<A: Allocator>(&mut self, cpu: &mut Cpu<A>, slot: Slot) -> u64
         requires here { cpu.old.domain ≡ self.old.domain }
         requires own { IsOwn self.old slot }
-        ensures { PutsSlot slot.slot result self.old cpu.old self.new cpu.new }
+        ensures puts { PutsSlot slot.slot result self.old cpu.old self.new cpu.new }
+        ensures has { words_of self.old.cell self.new.version cpu.new.texts ≡ slot_words slot.slot self.old.words }
     {
         let Slot {
             home,

@@ -23,6 +23,7 @@ use Rattle.sections.proofs.CpuViews.{seen_as, adds_cut, notes_from, whole_cookie
 use Rattle.sections.proofs.Writing.{slot_quiet}
 use Rattle.sections.specs.declared.writer.Standing.TheVariants.{Blank, Out, Current, Retired}
 use Rattle.sections.proofs.Standings.{HasHomes, homes_back, stands_over, retires, put_stands, put_count, out_clear}
+use Rattle.sections.proofs.Putting.{has_put}
 use Rattle.sections.proofs.writer.Writer.put.Goals as goal
 
 pub note_number-requires-clause-placed : goal.note_number-requires-clause-placed
@@ -117,6 +118,7 @@ invariant_of-self g c =
     let next = i.version in record {
       bare = R.bare;
       right = k.1 ∙ ap (λ o. Shelf cell o new) (sym (ap words_with k.1));
+      long = ap length (ap words_with k.1) ∙ i.long;
       legal = k.0.legal;
       inside = subst (λ (t : TableId). cell < cells_in t) (sym own.domain ∙ same_home) i.inside;
       some = i.some;
@@ -164,8 +166,8 @@ invariant_of-cpu g c =
       settled = c.cpu.invariant.settled ∙ ap (λ m. m + c.cpu.inside.settled) (sym (unclosed_told n c.put_in.new.seat.me.0.mine _ refl (λ _. refl) second ∙ unclosed_told e c.cpu.inside.seat.me.0.mine _ refl (λ _. refl) first));
     }
 
-pub returns : goal.returns
-returns g c =
+pub returns-clause-puts : goal.returns-clause-puts
+returns-clause-puts g c =
     let i = c.self.invariant in
     let p : ℕ = c.cpu.inside.processor in
     let P = c.put_in.ensures in
@@ -202,3 +204,6 @@ returns g c =
       words = ap words_with k.1;
       since = subst (λ (l : List Event). IsBeginning l c.refresh_in.new.pen.me.0.seen) (sym (ap (λ m. m.0.seen) S.1)) k.0.since;
     })
+
+pub returns-clause-has : goal.returns-clause-has
+returns-clause-has g c = has_put _ _ _ _ _ _ (returns-clause-puts g c)

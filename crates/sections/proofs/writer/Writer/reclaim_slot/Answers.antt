@@ -102,6 +102,7 @@ invariant_of-self g c =
     record {
       bare = R.bare;
       right = k.1 ∙ ap (λ o. Shelf cell o new) (sym (ap words_with k.1));
+      long = ap length (ap words_with k.1) ∙ i.long;
       legal = k.0.legal;
       inside = subst (λ (t : TableId). cell < cells_in t) same_home i.inside;
       some = i.some;
@@ -160,6 +161,7 @@ invariant_of-self-else-done g c =
     record {
       bare = R.bare;
       right = k.1 ∙ ap (λ o. Shelf cell o new) (sym (ap words_with k.1));
+      long = ap length (ap words_with k.1) ∙ i.long;
       legal = k.0.legal;
       inside = subst (λ (t : TableId). cell < cells_in t) same_home i.inside;
       some = i.some;

@@ -1,4 +1,4 @@
-use Rattle.std.proofs.Common.{◌<◌, subst, ℕ, List, Some, sym, ap, ◌∙◌}
+use Rattle.std.proofs.Common.{◌+◌, ◌*◌, ◌<◌, subst, ℕ, List, Some, length, sym, ap, ◌∙◌, length-set}
 use Rattle.onedom.specs.declared.event.Event.{Event}
 use Rattle.sections.specs.declared.view.Right.TheVariants.{Shelf}
 use Rattle.atomic_table.specs.Seated.{TableId}
@@ -17,6 +17,7 @@ invariant_of-self g c =
     let k = c.store_in.ensures.keeps (words_with c.self.inside.seat.me.0.right) old i.right in record {
       bare = c.store_in.ensures.bare;
       right = k.1 ∙ ap (λ o. Shelf cell o new) (sym (ap words_with k.1));
+      long = ap length (ap words_with k.1) ∙ (length-set (words_with c.self.inside.seat.me.0.right) (16 * c.slot.inside.slot + c.args.place) c.args.value ∙ i.long);
       legal = k.0.legal;
       inside = subst (λ (t : TableId). cell < cells_in t) (sym c.store_in.ensures.same_table) i.inside;
       some = i.some;

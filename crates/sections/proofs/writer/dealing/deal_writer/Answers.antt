@@ -1,6 +1,6 @@
 use Rattle.std.proofs.lemmas.List.{get_or-replicate}
 use Rattle.atomic_table.specs.Seated.{TableId}
-use Rattle.std.proofs.Common.{◌<◌, List, Option, Some, None, get_or, sym, ap, ◌∙◌, subst, arith}
+use Rattle.std.proofs.Common.{◌<◌, List, Option, Some, None, length, get_or, sym, ap, ◌∙◌, subst, arith}
 use Rattle.onedom.specs.declared.event.Event.{Event}
 use Rattle.onedom.specs.Histories.{slot_of, version_of, IsLegal}
 use Rattle.sections.specs.declared.view.Right.TheVariants.{Shelf}
@@ -24,6 +24,7 @@ invariant_of-result c =
     let seen = ap (λ m. m.0.seen) me ∙ c.requires.seat.nothing in record {
       bare = ap (λ m. m.1) me;
       right = right ∙ (λ k. Shelf c.args.cell (ap words_with (sym right) k) (sym seen k));
+      long = ap length (ap words_with right);
       legal = subst (λ (l : List Event). IsLegal l) (sym seen) tt;
       inside = subst (λ (t : TableId). c.args.cell < cells_in t) (sym (c.homes_of-homes.ensures.seat.0 ∙ (c.split_seat-pen.ensures.3 ∙ c.requires.seat.seated))) c.requires.cell;
       some = c.requires.slots.0;

@@ -1,0 +1,32 @@
+-- The version that was put has the words that its slot had.
+use Rattle.std.proofs.Common.{◌≡◌, ℕ, ◌+◌, [], ◌∷◌, ◌++◌, List, length, get_or, ap, ◌∙◌, length-append, arith}
+use Rattle.std.proofs.lemmas.List.{get_or_push}
+use Rattle.onedom.specs.declared.event.Maker.TheVariants.{Processor}
+use Rattle.onedom.specs.Histories.{version_of}
+use Rattle.onedom.proofs.CallerLemmas.{version_put}
+use Rattle.sections.specs.declared.view.Text.{Text}
+use Rattle.sections.specs.Shelves.{texts_of, blank_words, words_of, slot_words, IsKnown}
+use Rattle.sections.specs.Views.{CpuView}
+use Rattle.sections.specs.WriterViews.{WriterView}
+use Rattle.sections.specs.Writers.{PutsSlot}
+use Rattle.sections.proofs.Finding.{texts_are, texts_of_append, words_stay}
+use Rattle.sections.proofs.Writing.{one_text}
+
+pub has_put : (slot cookie : ℕ) (w : WriterView) (c : CpuView) (w' : WriterView) (c' : CpuView) → PutsSlot slot cookie w c w' c' → words_of w.cell w'.version c'.texts ≡ slot_words slot w.words
+has_put slot cookie w c w' c' h =
+    let cell : ℕ = w.cell in
+    let words : List ℕ = slot_words slot w.words in
+    let first : List Text = h.text.before in
+    let texts : List Text = h.between.texts in
+    let all : texts_of cell texts ≡ texts_of cell first ++ words ∷ [] = ap (texts_of cell) h.text.whole ∙ (texts_of_append cell first (record { cell = cell; words = words } ∷ []) ∙ ap (λ l. texts_of cell first ++ l) (one_text cell words)) in
+    let counted = texts_are cell texts h.between.seen h.puts.history.legal h.puts.history.texts in
+    let version : version_of cell h.between.seen ≡ w.version + 1 = ap (version_of cell) h.puts.seen ∙ version_put cell slot (w.version + 1) (Processor c.processor) h.puts.before in
+    let long = ap length all in
+    let sum = length-append (texts_of cell first) (words ∷ []) in
+    let at : length (texts_of cell first) ≡ w.version = omega (arith, counted, version, long, sum) in
+    let new = h.version in
+    let known : IsKnown cell w'.version texts = omega (arith, new, counted, version) in
+    words_stay cell w'.version texts c'.texts h.notes.adds.texts known
+    ∙ (ap (λ n. words_of cell n texts) new
+    ∙ (ap (λ l. get_or (blank_words ∷ l) (w.version + 1) blank_words) all
+    ∙ get_or_push (blank_words ∷ texts_of cell first) words blank_words (w.version + 1) (omega (arith, at))))

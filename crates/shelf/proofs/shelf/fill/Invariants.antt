@@ -1,0 +1,16 @@
+-- The words before this place are stored.
+use Rattle.std.proofs.Common.{◌≡◌}
+use Rattle.onedom.specs.Histories.{IsBeginning}
+use Rattle.sections.specs.Writers.{IsSameWriter}
+use Rattle.shelf.proofs.Filling.{FilledTo}
+use Rattle.shelf.proofs.shelf.fill.Given as goal
+
+abbrev pub invariant-loop-place : goal.invariant-loop-place
+invariant-loop-place g l = record {
+  words : FilledTo l.place l.slot.slot l.fn.words.now l.initial.writer.words l.writer.words;
+  same : IsSameWriter l.initial.writer l.writer;
+  standings : l.writer.standings ≡ l.initial.writer.standings;
+  since : IsBeginning l.initial.writer.seen l.writer.seen;
+  cpu : l.cpu ≡ l.initial.cpu;
+  slot : l.slot ≡ l.initial.slot;
+}

@@ -1,0 +1,13 @@
+//! Values of a user's own type as versions of a cell. A writer replaces the value, and readers read the one that they
+//! find, inside a section. A slot is used again only behind a grace period.
+#![tactic(auto)]
+
+mod shelf;
+#[cfg(test)]
+mod tests;
+mod values;
+mod versioned;
+
+pub use shelf::{NoSlot, Shelf};
+pub use values::Values;
+pub use versioned::Versioned;

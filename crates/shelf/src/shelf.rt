@@ -1,0 +1,106 @@
+//! The writer of a cell, for values of one type.
+ghost use Rattle.std.specs.Prelude.{◌≡◌, ◌<◌, length, IfOk, MatchResult};
+ghost use Rattle.sections.specs.Shelves.{words_of};
+ghost use Rattle.sections.specs.Writers.{IsOwn};
+ghost use Rattle.domain.specs.Views.{IsOf};
+ghost use Rattle.shelf.specs.Replacing.{Fills, Replaces, FindsNone};
+
+use crate::values::Values;
+use crate::versioned::Versioned;
+use domain::{Cpu, Domain, Slot, Writer};
+use std::alloc::Allocator;
+use std::error::Error;
+use std::fmt;
+use std::marker::{Model, PhantomData};
+
+/// Every slot is read yet: neither is one blank, nor is the cookie of a retired one done. Or 2^54 values were put.
+#[derive(Clone, Copy, Debug, PartialEq, Eq)]
+pub struct NoSlot;
+
+impl fmt::Display for NoSlot {
+    ghost use Rattle.std.specs.Prelude.{Some, codes};
+
+    ghost output = { λ _. Some (codes "no slot of the cell is free") };
+
+    fn fmt<W: fmt::Write>(&self, f: &mut fmt::Formatter<W>) -> fmt::Result {
+        f.write_str("no slot of the cell is free")
+    }
+}
+
+impl Error for NoSlot {}
+
+/// What replaces the values of a cell. There is one for each cell. Contracts see the cell's writer.
+#[derive(Drop)]
+pub struct Shelf<T> {
+    writer: Writer,
+    marker: PhantomData<T>,
+}
+
+impl<T> Model for Shelf<T> {
+    ghost use Rattle.sections.specs.WriterViews.{WriterView};
+
+    ghost Value = { WriterView };
+
+    ghost use Rattle.shelf.specs.Insides.{view_of_shelf};
+
+    ghost view = { view_of_shelf };
+}
+
+impl<T: Versioned> Shelf<T> {
+    /// Takes a cell, and gives what reads its values. Nothing is put.
+    pub fn new(writer: Writer) -> (Shelf<T>, Values<T>)
+        ensures { (result.0 ≡ writer) × (result.1 ≡ writer.cell) }
+    {
+        let cell = writer.cell();
+        let shelf = Shelf {
+            writer,
+            marker: PhantomData,
+        };
+        (shelf, Values::of_cell(cell))
+    }
+
+    /// Replaces the value (`rcu_assign_pointer`), and asks for the grace period behind which nobody reads the one that
+    /// was there (`start_poll_synchronize_srcu`): the answer is the number of its cookie. Sections that have found an
+    /// older value read that. It takes no memory and does not wait. Where no slot is free, retired ones may have become
+    /// blank, and nothing else has changed.
+    pub fn replace<J, A: Allocator>(
+        &mut self,
+        domain: &Domain<J, A>,
+        cpu: &mut Cpu<J, A>,
+        value: &T,
+    ) -> Result<u64, NoSlot>
+        requires domain { IsOf domain.now cpu.old }
+        requires shelf { self.old.domain ≡ domain.now.domain }
+        ensures here { IsOf domain.now cpu.new }
+        ensures replaces { MatchResult result
+            (λ cookie. Replaces (T.words value.now) cookie self.old cpu.old self.new cpu.new)
+            (λ _. FindsNone self.old cpu.old self.new cpu.new) }
+        ensures has { IfOk result (λ _. words_of self.old.cell self.new.version cpu.new.cpu.texts ≡ T.words value.now) }
+    {
+        self.writer.reclaim(cpu);
+        let Some(mut slot) = self.writer.blank() else {
+            return Err(NoSlot);
+        };
+        fill(&mut self.writer, cpu, &mut slot, &value.encode());
+        Ok(self.writer.put_and_ask(domain, cpu, slot))
+    }
+}
+
+/// Stores sixteen words in the slot.
+fn fill<J, A: Allocator>(
+    writer: &mut Writer,
+    cpu: &mut Cpu<J, A>,
+    slot: &mut Slot,
+    words: &[u64; 16],
+)
+    requires here { cpu.old.cpu.domain ≡ writer.old.domain }
+    requires own { IsOwn writer.old slot.old }
+    requires long { (length writer.old.words ≡ 128) × (slot.old.slot < 8) }
+    ensures fills { Fills slot.old.slot words.now writer.old writer.new }
+    ensures cpu { cpu.new ≡ cpu.old }
+    ensures slot { slot.new ≡ slot.old }
+{
+    for place in 0..16 {
+        writer.set(cpu, slot, place, words[place]);
+    }
+}
