@@ -139,7 +139,7 @@ fn replace_thrice<R: Wait>(
 }
 
 /// Makes a domain whose cell has two slots, and replaces there.
-fn replace_in_two_slots<R: Wait + Alloc>(
+fn replace_in_two_slots<R: Wait + AllocGlobal>(
     rt: &R,
 ) -> Result<[Option<([u64; 2], Result<u64, NoSlot>)>; 3], MakeError> {
     let (domain, cpus, mut shelf, values) = five(rt.alloc(), 2)?;
@@ -289,7 +289,7 @@ fn read_by_four<R: Wait + Threads + Sync>(
 }
 
 /// Four threads read while one puts. What they found.
-fn read_and_put<R: Wait + Threads + Sync + Alloc>(
+fn read_and_put<R: Wait + Threads + Sync + AllocGlobal>(
     rt: &R,
 ) -> Result<([Found; 2], [Found; 2]), MakeError> {
     let (domain, cpus, shelf, values) = five(rt.alloc(), 4)?;

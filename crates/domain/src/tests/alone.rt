@@ -4,7 +4,7 @@ ghost use Rattle.domain.specs.Views.{IsOf, IsSameProcessor, Stays};
 ghost use Rattle.domain.specs.Meetings.{IsAllOf};
 ghost use Rattle.domain.specs.Waiting.{HasNoneOpen};
 
-use super::calling::{Answer, drive, held_up, hold_up};
+use super::calling::{Answer, HeldUp, drive, held_up, hold_up};
 use crate::{
     AdvanceRefusal, Cpu, Domain, Exhausted, Index, Limits, MakeError, NotACookie, Number,
     PeriodsExhausted, Progress, StartRefusal,
@@ -84,23 +84,28 @@ fn new_in_little_room(rt: HostRuntime) -> Result<(), Fail> {
     panic!(rt; "it never fits")
 }
 
+/// The numbers of the last two of 64 processors, and a period that the last one holds up.
+fn hold_up_by_the_last<R: Wait + AllocGlobal>(
+    rt: &R,
+) -> Result<((u16, u16), Option<HeldUp>), MakeError> {
+    let (domain, mut driver, mut last) = last_two(rt.alloc(), 64, SCARCE)?;
+    let numbers = (driver.processor(), last.processor());
+    Ok((numbers, hold_up(rt, &domain, &mut driver, &mut last)))
+}
+
 /// Would catch a processor that is not dealt or that a scan leaves out, as where it goes over 63 of 64.
 #[test]
 fn sixty_four(rt: HostRuntime) -> Result<(), Fail> {
-    let (domain, mut driver, mut last) = last_two(rt.alloc(), 64, SCARCE)?;
-    assert_eq!(rt; (driver.processor(), last.processor()), (62, 63));
-    let period = hold_up(&rt, &domain, &mut driver, &mut last);
-    assert_eq!(rt; period, Some(held_up()));
+    let (numbers, period) = hold_up_by_the_last(&rt)?;
+    assert_eq!(rt; (numbers, period), ((62, 63), Some(held_up())));
     Ok(())
 }
 
 /// What the engine answers before a cookie is asked for, in its period, and behind it; the need before and behind the
 /// asking, and at the end, where the number is told too; and whether the cookie is done before the end and behind it.
-fn ask_and_drive<R: Wait>(
-    rt: &R,
-    domain: &Domain<()>,
-    cpu: &mut Cpu<()>,
-) -> ([Answer; 5], [Number; 4], (u64, bool, bool))
+type Asked = ([Answer; 5], [Number; 4], (u64, bool, bool));
+
+fn ask_and_drive<R: Wait>(rt: &R, domain: &Domain<()>, cpu: &mut Cpu<()>) -> Asked
     requires { IsOf domain.now cpu.old }
 {
     let before = domain.need(cpu);
@@ -121,12 +126,16 @@ fn ask_and_drive<R: Wait>(
     )
 }
 
+fn ask_alone<R: Wait + AllocGlobal>(rt: &R) -> Result<Asked, MakeError> {
+    let (domain, mut cpu) = single(rt.alloc(), AMPLE)?;
+    Ok(ask_and_drive(rt, &domain, &mut cpu))
+}
+
 /// Would catch a need that does not come to the root, or that the engine does not find, and a period that goes on where
 /// nobody asks.
 #[test]
 fn a_period_that_is_asked_for(rt: HostRuntime) -> Result<(), Fail> {
-    let (domain, mut cpu) = single(rt.alloc(), AMPLE)?;
-    let (answers, numbers, cookie) = ask_and_drive(&rt, &domain, &mut cpu);
+    let (answers, numbers, cookie) = ask_alone(&rt)?;
     let period = [
         Ok(Progress::Idle),
         Ok(Progress::Started(number(1))),
@@ -158,13 +167,18 @@ fn ten_steps<R: Wait>(rt: &R, domain: &Domain<()>, cpu: &mut Cpu<()>) -> [Answer
     ]
 }
 
+/// A step before a period is asked for, the number of its cookie, and ten steps behind that.
+fn ask_and_step<R: Wait + AllocGlobal>(rt: &R) -> Result<(Answer, u64, [Answer; 10]), MakeError> {
+    let (domain, mut cpu) = single(rt.alloc(), AMPLE)?;
+    let idle = domain.step(rt, &mut cpu);
+    let asked = domain.start_poll(&mut cpu).number();
+    Ok((idle, asked, ten_steps(rt, &domain, &mut cpu)))
+}
+
 /// Would catch a step that makes none or several, and an order of them that nobody meant.
 #[test]
 fn steps_of_a_period(rt: HostRuntime) -> Result<(), Fail> {
-    let (domain, mut cpu) = single(rt.alloc(), AMPLE)?;
-    let idle = domain.step(&rt, &mut cpu);
-    let asked = domain.start_poll(&mut cpu).number();
-    let steps = ten_steps(&rt, &domain, &mut cpu);
+    let (idle, asked, steps) = ask_and_step(&rt)?;
     assert_eq!(rt; (idle, asked), (Ok(Progress::Idle), 4));
     assert_eq!(rt;
         steps,
@@ -184,12 +198,11 @@ fn steps_of_a_period(rt: HostRuntime) -> Result<(), Fail> {
     Ok(())
 }
 
-/// A period, in which another one is started in vain, twice: what the starts answer, and the engine.
-fn start_in_a_period<R: Wait>(
-    rt: &R,
-    domain: &Domain<()>,
-    cpu: &mut Cpu<()>,
-) -> ([Result<Number, StartRefusal>; 3], [Answer; 2])
+/// What three starts answer, and the engine.
+type Started = ([Result<Number, StartRefusal>; 3], [Answer; 2]);
+
+/// A period, in which another one is started in vain, twice.
+fn start_in_a_period<R: Wait>(rt: &R, domain: &Domain<()>, cpu: &mut Cpu<()>) -> Started
     requires { IsOf domain.now cpu.old }
     ensures { IsOf domain.now cpu.new }
 {
@@ -203,16 +216,18 @@ fn start_in_a_period<R: Wait>(
 
 /// What is refused behind the last period: a start, a turn of the engine and a step, a wait; and then what a cookie says
 /// that is asked for, whether it is done, and the need.
-fn start_beyond_the_last<R: Wait + Abort>(
-    rt: &R,
-    domain: &Domain<()>,
-    cpu: &mut Cpu<()>,
-) -> (
+type Refused = (
     Result<Number, StartRefusal>,
     [Answer; 3],
     Result<(), PeriodsExhausted>,
     (u64, bool, u64),
-)
+);
+
+fn start_beyond_the_last<R: Wait + Abort>(
+    rt: &R,
+    domain: &Domain<()>,
+    cpu: &mut Cpu<()>,
+) -> Refused
     requires { IsOf domain.now cpu.old }
 {
     let idle = domain.advance(rt, cpu);
@@ -233,12 +248,18 @@ fn start_beyond_the_last<R: Wait + Abort>(
     )
 }
 
+fn start_within_and_beyond<R: Wait + Abort + AllocGlobal>(
+    rt: &R,
+) -> Result<(Started, Refused), MakeError> {
+    let (domain, mut cpu) = single(rt.alloc(), SCARCE)?;
+    let within = start_in_a_period(rt, &domain, &mut cpu);
+    Ok((within, start_beyond_the_last(rt, &domain, &mut cpu)))
+}
+
 /// Would catch a period that starts beyond the limit, a refusal that is told as another, and one that keeps the engine.
 #[test]
 fn refusals_of_periods(rt: HostRuntime) -> Result<(), Fail> {
-    let (domain, mut cpu) = single(rt.alloc(), SCARCE)?;
-    let within = start_in_a_period(&rt, &domain, &mut cpu);
-    let behind = start_beyond_the_last(&rt, &domain, &mut cpu);
+    let (within, behind) = start_within_and_beyond(&rt)?;
     let starts = [
         Ok(number(1)),
         Err(StartRefusal::Running),
@@ -301,17 +322,17 @@ fn is_full(cpu: &mut Cpu<()>) -> bool
 /// A section of each index, of which there may be one. Tells of both the index and how many readings are open in it; and
 /// then whether another one was refused, of index 0, of index 1, and of index 0 by a look of before; and what the start of
 /// the period and its flip answer.
+type Filled = (
+    [(Index, u64); 2],
+    [bool; 3],
+    (Result<Number, StartRefusal>, Answer),
+);
+
 fn fill_both_indices<R: Wait>(
     rt: &R,
     domain: &Domain<()>,
     cpu: &mut Cpu<()>,
-) -> Option<
-    (
-        [(Index, u64); 2],
-        [bool; 3],
-        (Result<Number, StartRefusal>, Answer),
-    ),
->
+) -> Option<Filled>
     requires { IsOf domain.now cpu.old }
 {
     let Ok(section) = cpu.read_lock() else {
@@ -337,26 +358,33 @@ fn fill_both_indices<R: Wait>(
     Some(([zero, one], [full, full_then, refused], (started, flipped)))
 }
 
+/// The same in a domain of one processor, and how many readings are open there in the end.
+fn fill_alone<R: Wait + AllocGlobal>(rt: &R) -> Result<(Option<Filled>, u64), MakeError> {
+    let (domain, mut cpu) = single(rt.alloc(), SCARCE)?;
+    let filled = fill_both_indices(rt, &domain, &mut cpu);
+    Ok((filled, cpu.open_here()))
+}
+
 /// Would catch a limit of sections that is off by one, that both indices share, or to which held sections don't count.
 #[test]
 fn refusals_of_sections(rt: HostRuntime) -> Result<(), Fail> {
-    let (domain, mut cpu) = single(rt.alloc(), SCARCE)?;
-    let filled = fill_both_indices(&rt, &domain, &mut cpu);
+    let (filled, left) = fill_alone(&rt)?;
     let sections = [(Index::Zero, 1), (Index::One, 0)];
     let flip = (Ok(number(1)), Ok(Progress::Flipped(Index::One)));
-    assert_eq!(rt; filled, Some((sections, [true; 3], flip)));
-    assert_eq!(rt; cpu.open_here(), 0);
+    assert_eq!(rt; (filled, left), (Some((sections, [true; 3], flip)), 0));
     Ok(())
 }
 
 /// Waits three times, where there may be two periods. Tells what the waits answer, the number behind the first and the
 /// second, the need, and whether a cookie of before is done before and behind the first.
+type Waited = ([Result<(), PeriodsExhausted>; 3], [Number; 3], [bool; 2]);
+
 fn wait_thrice<R: Wait>(
     rt: &R,
     domain: &Domain<()>,
     reader: &mut Cpu<()>,
     updater: &mut Cpu<()>,
-) -> Option<([Result<(), PeriodsExhausted>; 3], [Number; 3], [bool; 2])>
+) -> Option<Waited>
     requires reader { IsOf domain.now reader.old }
     requires updater { IsOf domain.now updater.old × HasNoneOpen updater.old }
 {
@@ -380,10 +408,8 @@ fn wait_thrice<R: Wait>(
     ))
 }
 
-/// Would catch a wait for sections that are closed, one that asks for no period or for two, and one that comes back
-/// before its period has ended.
-#[test]
-fn synchronizes_alone(rt: HostRuntime) -> Result<(), Fail> {
+/// The same in a domain of two processors, and the number in the end.
+fn wait_in_a_pair<R: Wait + AllocGlobal>(rt: &R) -> Result<(Option<Waited>, u64), MakeError> {
     let limits = Limits {
         sections: 1,
         periods: 2,
@@ -391,11 +417,18 @@ fn synchronizes_alone(rt: HostRuntime) -> Result<(), Fail> {
         slots: 2,
     };
     let (domain, mut reader, mut updater) = last_two(rt.alloc(), 2, limits)?;
-    let waited = wait_thrice(&rt, &domain, &mut reader, &mut updater);
+    let waited = wait_thrice(rt, &domain, &mut reader, &mut updater);
+    Ok((waited, reader.number().get()))
+}
+
+/// Would catch a wait for sections that are closed, one that asks for no period or for two, and one that comes back
+/// before its period has ended.
+#[test]
+fn synchronizes_alone(rt: HostRuntime) -> Result<(), Fail> {
+    let (waited, last) = wait_in_a_pair(&rt)?;
     let answers = [Ok(()), Ok(()), Err(PeriodsExhausted)];
     let numbers = [number(4), number(8), number(12)];
-    assert_eq!(rt; waited, Some((answers, numbers, [false, true])));
-    assert_eq!(rt; reader.number().get(), 8);
+    assert_eq!(rt; (waited, last), (Some((answers, numbers, [false, true])), 8));
     Ok(())
 }
 
@@ -445,12 +478,14 @@ fn what_is_not_made(rt: HostRuntime) -> Result<(), Fail> {
 /// A period that a held section holds up, which begins on the first processor and ends on the second. Tells its index and
 /// processor, how many readings are open there, what the engine answers until the end and behind it, and whether the
 /// cookie is done then.
+type Closed = ((Index, u16, u64), ([Answer; 3], Answer, bool));
+
 fn close_elsewhere<R: Wait>(
     rt: &R,
     domain: &Domain<()>,
     first: &mut Cpu<()>,
     second: &mut Cpu<()>,
-) -> Option<((Index, u16, u64), ([Answer; 3], Answer, bool))>
+) -> Option<Closed>
     requires { IsOf domain.now first.old × IsOf domain.now second.old }
 {
     let Ok(held) = first.down_read() else {
@@ -464,11 +499,15 @@ fn close_elsewhere<R: Wait>(
     Some((begun, (period, ended, first.poll(&mut cookie))))
 }
 
+fn close_in_a_pair<R: Wait + AllocGlobal>(rt: &R) -> Result<Option<Closed>, MakeError> {
+    let (domain, mut first, mut second) = last_two(rt.alloc(), 2, AMPLE)?;
+    Ok(close_elsewhere(rt, &domain, &mut first, &mut second))
+}
+
 /// Would catch a held section that ends at the counter of the processor where it began, or for which no period waits.
 #[test]
 fn closed_on_the_other_processor(rt: HostRuntime) -> Result<(), Fail> {
-    let (domain, mut first, mut second) = last_two(rt.alloc(), 2, AMPLE)?;
-    let closed = close_elsewhere(&rt, &domain, &mut first, &mut second);
+    let closed = close_in_a_pair(&rt)?;
     let (period, ended, _, done) = held_up();
     assert_eq!(rt; closed, Some(((Index::Zero, 0, 0), (period, ended, done))));
     Ok(())
@@ -476,12 +515,14 @@ fn closed_on_the_other_processor(rt: HostRuntime) -> Result<(), Fail> {
 
 /// A cookie that is asked for before a period, and one of the period itself. Tells both numbers, what the engine answers,
 /// and whether the later cookie is done behind the period, and the earlier one.
+type Overlapping = ([u64; 2], [Answer; 4], [Result<bool, NotACookie>; 2]);
+
 fn ask_while_running<R: Wait>(
     rt: &R,
     domain: &Domain<()>,
     first: &mut Cpu<()>,
     second: &mut Cpu<()>,
-) -> ([u64; 2], [Answer; 4], [Result<bool, NotACookie>; 2])
+) -> Overlapping
     requires first { IsOf domain.now first.old }
     requires second { IsOf domain.now second.old }
 {
@@ -500,11 +541,15 @@ fn ask_while_running<R: Wait>(
     )
 }
 
+fn ask_in_a_pair<R: Wait + AllocGlobal>(rt: &R) -> Result<Overlapping, MakeError> {
+    let (domain, mut first, mut second) = last_two(rt.alloc(), 2, AMPLE)?;
+    Ok(ask_while_running(rt, &domain, &mut first, &mut second))
+}
+
 /// Would catch a running period that counts for a later cookie.
 #[test]
 fn a_running_period_does_not_count(rt: HostRuntime) -> Result<(), Fail> {
-    let (domain, mut first, mut second) = last_two(rt.alloc(), 2, AMPLE)?;
-    let (cookies, answers, polls) = ask_while_running(&rt, &domain, &mut first, &mut second);
+    let (cookies, answers, polls) = ask_in_a_pair(&rt)?;
     let period = [
         Ok(Progress::Started(number(1))),
         Ok(Progress::Flipped(Index::One)),

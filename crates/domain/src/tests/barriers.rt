@@ -56,13 +56,16 @@ fn poll_round_a_batch<R: Wait>(
     Some((last, taken, finished))
 }
 
+/// What two barriers answer: one before a job, and one behind it.
+type Stages = (bool, bool, Option<(Option<u64>, bool, bool)>);
+
 /// Starts a barrier, queues a job, and starts another barrier. Tells whether the first is done at once, whether the second
 /// is done behind a grace period, and then as above.
 fn poll_at_each_stage<R: Wait>(
     rt: &R,
     domain: &Domain<u64>,
     cpu: &mut Cpu<u64>,
-) -> Option<(bool, bool, Option<(Option<u64>, bool, bool)>)>
+) -> Option<Stages>
     requires here { IsOf domain.now cpu.old }
     requires some { 0 < domain.now.processors }
 {
@@ -81,12 +84,16 @@ fn poll_at_each_stage<R: Wait>(
     Some((nothing, ended, poll_round_a_batch(rt, domain, cpu, &behind)))
 }
 
+fn poll_alone<R: Wait + AllocGlobal>(rt: &R) -> Result<Option<Stages>, MakeError> {
+    let (domain, mut cpu) = single(rt.alloc())?;
+    Ok(poll_at_each_stage(rt, &domain, &mut cpu))
+}
+
 /// Would catch a barrier that is done when the grace period has ended, or when the batch is only taken out, and one that
 /// never is.
 #[test]
 fn waits_for_the_batch(rt: HostRuntime) -> Result<(), Fail> {
-    let (domain, mut cpu) = single(rt.alloc())?;
-    let found = poll_at_each_stage(&rt, &domain, &mut cpu);
+    let found = poll_alone(&rt)?;
     assert_eq!(rt; found, Some((true, false, Some((Some(7), false, true)))));
     Ok(())
 }
@@ -151,12 +158,18 @@ fn poll_before_and_behind<R: Wait>(
     Some((early, poll_both(domain, first, second, &behind)))
 }
 
+fn poll_in_a_pair<R: Wait + AllocGlobal>(
+    rt: &R,
+) -> Result<Option<((bool, bool), (bool, bool))>, MakeError> {
+    let (domain, mut first, mut second) = pair(rt.alloc())?;
+    Ok(poll_before_and_behind(rt, &domain, &mut first, &mut second))
+}
+
 /// Would catch a barrier that looks at its own processor alone, one that waits for calls that were queued behind it, and
 /// one that only its starter may poll.
 #[test]
 fn waits_for_another_processor(rt: HostRuntime) -> Result<(), Fail> {
-    let (domain, mut first, mut second) = pair(rt.alloc())?;
-    let found = poll_before_and_behind(&rt, &domain, &mut first, &mut second);
+    let found = poll_in_a_pair(&rt)?;
     assert_eq!(rt; found, Some(((true, true), (false, false))));
     Ok(())
 }

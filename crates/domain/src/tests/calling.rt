@@ -3,7 +3,7 @@ ghost use Rattle.std.specs.Prelude.{◌<◌, IfOk};
 ghost use Rattle.domain.specs.Views.{IsOf};
 
 use crate::{
-    AdvanceRefusal, CallRefusal, Cpu, Domain, Index, Limits, MakeError, Number, Progress,
+    AdvanceRefusal, CallRefusal, Cpu, Domain, Index, Limits, MakeError, Memory, Number, Progress,
     TakeRefusal,
 };
 use linked_list_allocator::LocalHeap;
@@ -71,6 +71,9 @@ pub(super) fn drive<J, R: Wait>(rt: &R, domain: &Domain<J>, cpu: &mut Cpu<J>) ->
     [started, flipped, ended]
 }
 
+/// What is told of a period that is held up.
+pub(super) type HeldUp = ([Answer; 3], Answer, bool, bool);
+
 /// A period that a section on another processor holds up. Tells what the engine answers until the section's end, and
 /// behind it; and whether a cookie of before is done, both times.
 pub(super) fn hold_up<J, R: Wait>(
@@ -78,7 +81,7 @@ pub(super) fn hold_up<J, R: Wait>(
     domain: &Domain<J>,
     driver: &mut Cpu<J>,
     reader: &mut Cpu<J>,
-) -> Option<([Answer; 3], Answer, bool, bool)>
+) -> Option<HeldUp>
     requires { IsOf domain.now driver.old × IsOf domain.now reader.old }
 {
     let Ok(section) = reader.read_lock() else {
@@ -94,7 +97,7 @@ pub(super) fn hold_up<J, R: Wait>(
 }
 
 /// What it has to tell of the first period.
-pub(super) fn held_up() -> ([Answer; 3], Answer, bool, bool) {
+pub(super) fn held_up() -> HeldUp {
     let period = [
         Ok(Progress::Started(number(1))),
         Ok(Progress::Flipped(Index::One)),
@@ -136,12 +139,24 @@ fn queue_and_run<R: Wait + Abort>(
     Some((queued, period, [early, given, again]))
 }
 
+/// The list of a processor: its segments' lengths, and the numbers for which the middle two wait.
+pub(super) type Lens = Result<([usize; 4], [u64; 2]), Memory>;
+
+/// The same in a domain of one processor, and its list in the end.
+fn queue_and_run_alone<R: Wait + Abort + AllocGlobal>(
+    rt: &R,
+    ran: &mut Vec<u64>,
+) -> Result<(Option<Told>, Lens), MakeError> {
+    let (domain, mut cpu) = single(rt.alloc())?;
+    let told = queue_and_run(rt, &domain, &mut cpu, ran);
+    Ok((told, domain.lens(rt, 0)))
+}
+
 /// Would catch a job that is given out too early, twice or never, and one for which nobody asks.
 #[test]
 fn hands_a_job_out_once(rt: HostRuntime) -> Result<(), Fail> {
-    let (domain, mut cpu) = single(rt.alloc())?;
     let mut ran = Vec::new(rt.alloc());
-    let told = queue_and_run(&rt, &domain, &mut cpu, &mut ran);
+    let (told, lens) = queue_and_run_alone(&rt, &mut ran)?;
     let period = [
         Ok(Progress::Started(number(1))),
         Ok(Progress::Flipped(Index::One)),
@@ -150,7 +165,7 @@ fn hands_a_job_out_once(rt: HostRuntime) -> Result<(), Fail> {
     let ready = [Ok(None), Ok(Some(1)), Ok(None)];
     assert_eq!(rt; told, Some(((0, 0, 4, 4), period, ready)));
     assert_eq!(rt; ran.as_slice(), [7].as_slice());
-    assert_eq!(rt; domain.lens(&rt, 0), Ok(([0; 4], [0; 2])));
+    assert_eq!(rt; lens, Ok(([0; 4], [0; 2])));
     Ok(())
 }
 

@@ -2,8 +2,11 @@
 ghost use Rattle.std.specs.Prelude.{◌≡◌, ◌<◌, IfOk, []};
 ghost use Rattle.domain.specs.Views.{IsOf};
 
-use super::calling::{drive, held_up, hold_up, run_ready};
-use crate::{Batch, Cpu, Domain, InUse, Index, Limits, MakeError, Number, Progress, Totals};
+use super::calling::{Answer, HeldUp, drive, held_up, hold_up, run_ready};
+use crate::{
+    Batch, Cpu, Domain, InUse, Index, Limits, MakeError, Number, Progress, StartRefusal,
+    TakeRefusal, Totals,
+};
 use std::alloc::Global;
 use std::process::Abort;
 use std::sync::{Arc, Wait};
@@ -111,27 +114,40 @@ fn number(value: u64) -> Number {
     Number::new(value).unwrap_or(Number::zero())
 }
 
+/// Hands in two of three processors. Tells the cause, and a period behind that.
+fn hand_in_too_few<R: Wait + Abort + AllocGlobal>(
+    rt: &R,
+) -> Result<(InUse, Option<HeldUp>), MakeError> {
+    let (domain, first, second) = last_two(rt.alloc(), 3)?;
+    let (cause, domain, mut first, mut second) = refused(rt, rt.alloc(), domain, first, second);
+    Ok((cause, hold_up(rt, &domain, &mut first, &mut second)))
+}
+
 /// Would catch a cleanup that does not miss a processor, and a domain or processors that are not of use behind a refusal.
 #[test]
 fn one_of_three_is_missing(rt: HostRuntime) -> Result<(), Fail> {
-    let (domain, first, second) = last_two(rt.alloc(), 3)?;
-    let (cause, domain, mut first, mut second) = refused(&rt, rt.alloc(), domain, first, second);
-    let period = hold_up(&rt, &domain, &mut first, &mut second);
+    let (cause, period) = hand_in_too_few(&rt)?;
     assert_eq!(rt; (cause, period), (InUse::Missing(1), Some(held_up())));
     Ok(())
+}
+
+/// Hands in both processors while a section is held, and once it is closed.
+fn hand_in_with_a_section<R: Abort + AllocGlobal>(rt: &R) -> Result<(InUse, Totals), MakeError> {
+    let (domain, mut first, second) = last_two(rt.alloc(), 2)?;
+    let Ok(held) = first.down_read() else {
+        panic!(rt; "there is room");
+    };
+    let (cause, domain, first, mut second) = refused(rt, rt.alloc(), domain, first, second);
+    second.up_read(held);
+    let totals = taken_down(rt, rt.alloc(), domain, first, second);
+    Ok((cause, totals))
 }
 
 /// Would catch a cleanup that forgets a section which is held elsewhere, or that counts those that are closed, and totals
 /// of one processor.
 #[test]
 fn a_held_section_is_open(rt: HostRuntime) -> Result<(), Fail> {
-    let (domain, mut first, second) = last_two(rt.alloc(), 2)?;
-    let Ok(held) = first.down_read() else {
-        panic!(rt; "there is room");
-    };
-    let (cause, domain, first, mut second) = refused(&rt, rt.alloc(), domain, first, second);
-    second.up_read(held);
-    let totals = taken_down(&rt, rt.alloc(), domain, first, second);
+    let (cause, totals) = hand_in_with_a_section(&rt)?;
     assert_eq!(rt; cause, InUse::Sections(1));
     assert_eq!(rt;
         totals,
@@ -146,40 +162,66 @@ fn a_held_section_is_open(rt: HostRuntime) -> Result<(), Fail> {
     Ok(())
 }
 
-/// Would catch causes in another order, and totals that leave something out.
-#[test]
-fn each_cause_in_turn(rt: HostRuntime) -> Result<(), Fail> {
+/// What is told of a domain that is in use for three causes: whether a job was queued, what the start of a period answers
+/// and its end, how many jobs ran, the causes, and the totals.
+#[derive(Drop)]
+struct InTurn {
+    queued: bool,
+    started: Result<Number, StartRefusal>,
+    steps: [Answer; 2],
+    given: Result<Option<usize>, TakeRefusal>,
+    causes: [InUse; 3],
+    totals: Totals,
+}
+
+/// Hands in the processor again and again, and removes a cause in between.
+fn hand_in_thrice<R: Wait + Abort + AllocGlobal>(
+    rt: &R,
+    ran: &mut Vec<u64>,
+) -> Result<InTurn, MakeError> {
     let (domain, mut cpu) = single::<u64>(rt.alloc())?;
-    let queued = domain.call(&rt, &mut cpu, 7).is_ok();
+    let queued = domain.call(rt, &mut cpu, 7).is_ok();
     let Ok(held) = cpu.down_read() else {
         panic!(rt; "there is room");
     };
-    let started = domain.start(&rt, &mut cpu);
-    let (open, domain, mut cpu) = refused_alone(&rt, rt.alloc(), domain, cpu);
+    let started = domain.start(rt, &mut cpu);
+    let (open, domain, mut cpu) = refused_alone(rt, rt.alloc(), domain, cpu);
     cpu.up_read(held);
-    let (running, domain, mut cpu) = refused_alone(&rt, rt.alloc(), domain, cpu);
-    let flipped = domain.advance(&rt, &mut cpu);
-    let ended = domain.advance(&rt, &mut cpu);
-    let (waiting, domain, mut cpu) = refused_alone(&rt, rt.alloc(), domain, cpu);
+    let (running, domain, mut cpu) = refused_alone(rt, rt.alloc(), domain, cpu);
+    let steps = [domain.advance(rt, &mut cpu), domain.advance(rt, &mut cpu)];
+    let (waiting, domain, mut cpu) = refused_alone(rt, rt.alloc(), domain, cpu);
+    let given = run_ready(rt, &domain, &mut cpu, ran);
+    let totals = taken_down_alone(rt, rt.alloc(), domain, cpu);
+    Ok(InTurn {
+        queued,
+        started,
+        steps,
+        given,
+        causes: [open, running, waiting],
+        totals,
+    })
+}
+
+/// Would catch causes in another order, and totals that leave something out.
+#[test]
+fn each_cause_in_turn(rt: HostRuntime) -> Result<(), Fail> {
     let mut ran = Vec::new(rt.alloc());
-    let given = run_ready(&rt, &domain, &mut cpu, &mut ran);
-    let totals = taken_down_alone(&rt, rt.alloc(), domain, cpu);
-    assert!(rt; queued);
-    assert_eq!(rt; started, Ok(number(1)));
+    let told = hand_in_thrice(&rt, &mut ran)?;
+    assert_eq!(rt; (told.queued, told.started), (true, Ok(number(1))));
     assert_eq!(rt;
-        [flipped, ended],
+        told.steps,
         [
             Ok(Progress::Flipped(Index::One)),
             Ok(Progress::Ended(number(4)))
         ]
     );
-    assert_eq!(rt; (given, ran.as_slice()), (Ok(Some(1)), [7].as_slice()));
+    assert_eq!(rt; (told.given, ran.as_slice()), (Ok(Some(1)), [7].as_slice()));
     assert_eq!(rt;
-        [open, running, waiting],
+        told.causes,
         [InUse::Sections(1), InUse::Period, InUse::Callbacks(1)]
     );
     assert_eq!(rt;
-        totals,
+        told.totals,
         Totals {
             opened: 1,
             closed: 1,
@@ -213,34 +255,74 @@ pub(super) fn run_all<R: Abort>(rt: &R, batch: &mut Batch<u64>, ran: &mut Vec<u6
     }
 }
 
+/// Queues three jobs on each of two processors, and drives a period. Tells whether there was room, and what the engine
+/// answers in the end.
+fn queue_on_both<R: Wait>(
+    rt: &R,
+    domain: &Domain<u64>,
+    first: &mut Cpu<u64>,
+    second: &mut Cpu<u64>,
+) -> (bool, Answer)
+    requires { IsOf domain.now first.old × IsOf domain.now second.old }
+    ensures { IsOf domain.now first.new × IsOf domain.now second.new }
+{
+    let here = queue_three(rt, domain, first);
+    let there = queue_three(rt, domain, second);
+    let [_, _, ended] = drive(rt, domain, second);
+    (here && there, ended)
+}
+
+/// What is told of a batch that is out at a cleanup: what its processors tell before, how many jobs ran behind it, the
+/// causes while it was out and behind it, and the totals.
+#[derive(Drop)]
+struct BatchOut {
+    queued: (bool, Answer),
+    given: [Result<Option<usize>, TakeRefusal>; 2],
+    causes: [InUse; 2],
+    totals: Totals,
+}
+
+/// Hands in both processors while a batch is out, while jobs are left, and while nothing is.
+fn hand_in_with_a_batch<R: Wait + Abort + AllocGlobal>(
+    rt: &R,
+    ran: &mut Vec<u64>,
+) -> Result<BatchOut, MakeError> {
+    let (domain, mut first, mut second) = last_two(rt.alloc(), 2)?;
+    let queued = queue_on_both(rt, &domain, &mut first, &mut second);
+    let processor = first.processor();
+    let Ok(Some(mut batch)) = domain.take_ready(rt, &mut second, processor, 2) else {
+        panic!(rt; "two are ready");
+    };
+    let (out, domain, first, mut second) = refused(rt, rt.alloc(), domain, first, second);
+    domain.see_out(&mut second, &mut batch);
+    run_all(rt, &mut batch, ran);
+    domain.finish(rt, &mut second, batch);
+    let (left, domain, mut first, mut second) = refused(rt, rt.alloc(), domain, first, second);
+    let given = [
+        run_ready(rt, &domain, &mut first, ran),
+        run_ready(rt, &domain, &mut second, ran),
+    ];
+    let totals = taken_down(rt, rt.alloc(), domain, first, second);
+    Ok(BatchOut {
+        queued,
+        given,
+        causes: [out, left],
+        totals,
+    })
+}
+
 /// Would catch a cleanup that forgets a batch which is out, or that counts it as finished, a batch that is of no use behind
 /// the refusal, and totals of what is queued alone or of one processor.
 #[test]
 fn a_batch_is_out(rt: HostRuntime) -> Result<(), Fail> {
-    let (domain, mut first, mut second) = last_two(rt.alloc(), 2)?;
-    let queued = queue_three(&rt, &domain, &mut first);
-    let queued_there = queue_three(&rt, &domain, &mut second);
-    let period = drive(&rt, &domain, &mut second);
-    let processor = first.processor();
-    let Ok(Some(mut batch)) = domain.take_ready(&rt, &mut second, processor, 2) else {
-        panic!(rt; "two are ready");
-    };
-    let (out, domain, first, mut second) = refused(&rt, rt.alloc(), domain, first, second);
     let mut ran = Vec::new(rt.alloc());
-    domain.see_out(&mut second, &mut batch);
-    run_all(&rt, &mut batch, &mut ran);
-    domain.finish(&rt, &mut second, batch);
-    let (left, domain, mut first, mut second) = refused(&rt, rt.alloc(), domain, first, second);
-    let given = run_ready(&rt, &domain, &mut first, &mut ran);
-    let given_there = run_ready(&rt, &domain, &mut second, &mut ran);
-    let totals = taken_down(&rt, rt.alloc(), domain, first, second);
-    assert!(rt; queued && queued_there);
-    assert_eq!(rt; period[2], Ok(Progress::Ended(number(4))));
-    assert_eq!(rt; (out, left), (InUse::Callbacks(6), InUse::Callbacks(4)));
-    assert_eq!(rt; (given, given_there), (Ok(Some(1)), Ok(Some(3))));
+    let told = hand_in_with_a_batch(&rt, &mut ran)?;
+    assert_eq!(rt; told.queued, (true, Ok(Progress::Ended(number(4)))));
+    assert_eq!(rt; told.causes, [InUse::Callbacks(6), InUse::Callbacks(4)]);
+    assert_eq!(rt; told.given, [Ok(Some(1)), Ok(Some(3))]);
     assert_eq!(rt; ran.as_slice(), [7, 8, 9, 7, 8, 9].as_slice());
     assert_eq!(rt;
-        totals,
+        told.totals,
         Totals {
             opened: 0,
             closed: 0,
