@@ -371,13 +371,13 @@ module _ (c c' : CpuView) (slot cookie : ℕ) (w w' : WriterView) (h : PutsSlot 
   pub put_acts : c' ≡ with_cpu c'.cpu c → PutsAndThen (notes cookie) w.cell slot w'.version c c'
   put_acts rest = record { between = with_cpu h.between c; put = put_first; next = subst (λ n. ActsAs (notes n) (with_cpu h.between c) c') (sym h.cookie_is) (note_acts (with_cpu h.between c) c' rest h.notes.adds) }
 
-  pub put_asks : (level : Level) → tree.Asks cookie c.needs level c'.needs → c'.turn ≡ c.turn → c'.calls ≡ c.calls → PutsAndThen (asks_for cookie 0) w.cell slot w'.version c c'
-  put_asks level asks turn calls =
+  pub put_asks : (n : ℕ) → n ≡ cookie → (level : Level) → tree.Asks n c.needs level c'.needs → c'.turn ≡ c.turn → c'.calls ≡ c.calls → PutsAndThen (asks_for cookie 0) w.cell slot w'.version c c'
+  put_asks n is level asks turn calls =
       let m : CpuView = with_cpu h.between c in
       let made : MakesEvents (Note cookie (Processor m.cpu.processor) ∷ []) m.cpu c'.cpu = subst (λ n. MakesEvents (Note n (Processor m.cpu.processor) ∷ []) m.cpu c'.cpu) (sym h.cookie_is) (one_made m.cpu c'.cpu h.notes.adds) in record {
         between = m;
         put = put_first;
-        next = asked_for m c' cookie level asks turn made 0 [] (adds_none c.calls c'.calls calls) (record { queued = refl; finished = refl; others = λ q other. refl });
+        next = asked_for m c' cookie level (subst (λ k. tree.Asks k c.needs level c'.needs) is asks) turn made 0 [] (adds_none c.calls c'.calls calls) (record { queued = refl; finished = refl; others = λ q other. refl });
       }
 
 module _ {J : Type 0} (k : CallsView) (c c' : CpuView) (job : J) where

@@ -30,6 +30,14 @@ pub use Rattle.domain.proofs.Queueing.{queued_here}
 -- a call opens no reading, nor does one that is refused, and none is opened at the tally words
 pub use Rattle.domain.proofs.Queueing.{none_queued}
 pub use Rattle.domain.proofs.Polling.{none_at_tallies}
+-- Versions
+
+-- the writers of a new domain are of it, each of one of its cells
+pub use Rattle.domain.proofs.Founding.{writers_here}
+-- a word is loaded, a version found or put, slots are reclaimed: the same sections are open as before
+pub use Rattle.domain.proofs.Unopened.{SameOpen, same_loaded, same_found, same_put, same_reclaimed}
+-- where none was open, none is
+pub use Rattle.domain.proofs.Unopened.{none_still}
 -- What a call adds
 
 -- a seat at the tree that is as it was, and one that loaded twice

@@ -1,8 +1,10 @@
 -- A new domain, from the parts that it is made of.
-use Rattle.std.proofs.Common.{◌≡◌, ◌<◌, List, length, slice_index_or, refl, sym, ap, ◌∙◌, subst, arith}
+use Rattle.std.proofs.Common.{◌≡◌, ℕ, ◌<◌, List, All, length, slice_index_or, refl, sym, ap, ◌∙◌, subst, arith}
 use Rattle.atomic_table.specs.Seated.{TableId}
 use Rattle.sections.specs.declared.view.Bounds.{Bounds}
 use Rattle.sections.specs.Views as sections
+use Rattle.sections.specs.WriterViews.{WriterView}
+use Rattle.sections.specs.Dealing.{AreNewWriters}
 use Rattle.sections.specs.Making as sections_making
 use Rattle.sections.specs.Calls as sections_calls
 use Rattle.sections.specs.EngineCalls as sections_engine
@@ -59,3 +61,9 @@ all_of_new bounds d cpus some made =
       asks = λ k c lt. let e = made.each k c lt in (ap (λ (z : CpuView). z.needs.domain) e, ap (λ (z : CpuView). z.needs.shape) e, ap (λ (z : CpuView). z.needs.holder) e);
       leaves = sym count;
     }
+
+-- the writers of a new domain are of it, each of one of its cells
+pub writers_here : (domain : TableId) (cells slots : ℕ) (writers : List WriterView) → AreNewWriters domain cells slots writers → All (λ w. (w.domain ≡ domain) × (w.cell < cells)) writers
+writers_here domain cells slots writers made = λ k w lt.
+    let there : k < cells = (let count = made.count in omega (arith, lt, count)) in
+    (ap (λ (z : WriterView). z.domain) (made.each k w there), subst (λ n. n < cells) (sym (ap (λ (z : WriterView). z.cell) (made.each k w there))) there)

@@ -18,4 +18,5 @@ mod Starting
 mod Staying
 mod Synchronizing
 mod Turning
+mod Unopened
 pub mod CallerLemmas

@@ -1,2 +1,3 @@
 mod Filling
 mod Loading
+pub mod CallerLemmas

@@ -42,5 +42,5 @@ loaded_more place r f words word c d e lp h reads rest = let l = reads.load in r
     less : (i p : ℕ) → i < p + 1 → i ≢ p → i < p
     less i p lt n = omega (arith, lt, n)
 
-pub loaded_all : (r : ReadingView) (f : FoundView) (words : List ℕ) (c c' : CpuView) → LoadedTo 16 f words c c' → LoadsAll r f words c c'
-loaded_all r f words c c' h = record { words_are = record { long = h.long; each = h.so_far }; same = h.same; mine = h.mine; since = h.since; texts = h.texts; rest = h.rest }
+pub loaded_all : (f : FoundView) (words : List ℕ) (c c' : CpuView) → LoadedTo 16 f words c c' → LoadsAll f words c c'
+loaded_all f words c c' h = record { words_are = record { long = h.long; each = h.so_far }; same = h.same; mine = h.mine; since = h.since; texts = h.texts; rest = h.rest }

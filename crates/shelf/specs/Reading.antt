@@ -1,5 +1,5 @@
 -- What is read of a cell in one section.
-use Rattle.std.specs.Prelude.{◌≡◌, ℕ, ◌<◌, List, ◌++◌, length, map, slice_index_or}
+use Rattle.std.specs.Prelude.{◌≡◌, ℕ, ◌<◌, List, length, slice_index_or}
 use Rattle.onedom.specs.Histories.{IsBeginning}
 use Rattle.sections.specs.Shelves.{IsStart, word_of}
 use Rattle.sections.specs.Views.{ReadingView, FoundView}
@@ -12,8 +12,8 @@ pub record AreWords (f : FoundView) (words : List ℕ) : Type 0 where
   pub long : length words ≡ 16
   pub each : (i : ℕ) → i < 16 → slice_index_or words i 0 ≡ word_of f.cell f.version i f.texts
 
--- they were loaded, in the section that found the version, and nothing was done
-pub record LoadsAll (r : ReadingView) (f : FoundView) (words : List ℕ) (c c' : CpuView) : Type 0 where
+-- they were loaded, and nothing was done
+pub record LoadsAll (f : FoundView) (words : List ℕ) (c c' : CpuView) : Type 0 where
   pub words_are : AreWords f words
   pub same : IsSameCpu c.cpu c'.cpu
   pub mine : c'.cpu.mine ≡ c.cpu.mine
@@ -21,13 +21,17 @@ pub record LoadsAll (r : ReadingView) (f : FoundView) (words : List ℕ) (c c' :
   pub texts : IsStart c.cpu.texts c'.cpu.texts
   pub rest : c' ≡ with_cpu c'.cpu c
 
--- the section found a version of the cell, no older than any that the processor had seen there, and the value is what its words are read as
+-- the value is what they are read as
+pub record Loads {T : Type 0} (value : List ℕ → T) (f : FoundView) (c c' : CpuView) (x : T) : Type 0 where
+  pub words : List ℕ
+  pub loads : LoadsAll f words c c'
+  pub is : x ≡ value words
+
+-- the section found a version of the cell, no older than any that the processor had seen there, and then its words were loaded
 pub record Reads {T : Type 0} (value : List ℕ → T) (cell : ℕ) (r : ReadingView) (c c' : CpuView) (x : T) : Type 0 where
   pub found : FoundView
   pub between : CpuView
-  pub words : List ℕ
   pub finds : Finds cell r c.cpu between.cpu found
   pub pinned : IsPinned r found
   pub only : between ≡ with_cpu between.cpu c
-  pub loads : LoadsAll r found words between c'
-  pub is : x ≡ value words
+  pub loads : Loads value found between c' x

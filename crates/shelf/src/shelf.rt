@@ -72,6 +72,7 @@ impl<T: Versioned> Shelf<T> {
         requires domain { IsOf domain.now cpu.old }
         requires shelf { self.old.domain ≡ domain.now.domain }
         ensures here { IsOf domain.now cpu.new }
+        ensures same { (self.new.domain ≡ self.old.domain) × (self.new.cell ≡ self.old.cell) }
         ensures replaces { MatchResult result
             (λ cookie. Replaces (T.words value.now) cookie self.old cpu.old self.new cpu.new)
             (λ _. FindsNone self.old cpu.old self.new cpu.new) }

@@ -1,12 +1,12 @@
 //! What is read of a cell whose versions are values of one type.
 ghost use Rattle.std.specs.Prelude.{◌≡◌, ◌<◌};
 ghost use Rattle.sections.specs.Words.{cells_in};
-ghost use Rattle.sections.specs.Reads.{IsPinned};
-ghost use Rattle.domain.specs.Views.{Stays};
-ghost use Rattle.shelf.specs.Reading.{Reads, LoadsAll};
+ghost use Rattle.sections.specs.Reads.{Finds, IsPinned};
+ghost use Rattle.domain.specs.Views.{Stays, with_cpu};
+ghost use Rattle.shelf.specs.Reading.{Reads, Loads, LoadsAll};
 
 use crate::versioned::Versioned;
-use domain::{Cpu, Held, Pin, Reading};
+use domain::{Cpu, Held, HeldPin, Pin, Reading};
 use std::alloc::Allocator;
 use std::marker::{Model, PhantomData};
 
@@ -47,8 +47,63 @@ impl<T: Versioned> Values<T> {
         ensures stays { Stays cpu.old cpu.new }
     {
         let mut pin = cpu.find(reading, self.cell);
-        let words = load_all(cpu, &mut pin);
-        T::decode(&words)
+        self.load(cpu, &mut pin)
+    }
+
+    /// Finds the value that is there, to read it again and again: it stays as it is until the section ends.
+    pub fn find<'a, J, A: Allocator>(
+        &self,
+        cpu: &mut Cpu<J, A>,
+        reading: &'a mut Reading,
+    ) -> Pin<'a>
+        requires here { reading.old.domain ≡ cpu.old.cpu.domain }
+        requires cell { self.now < cells_in cpu.old.cpu.domain }
+        ensures finds { Finds self.now reading.old cpu.old.cpu cpu.new.cpu result.found }
+        ensures pinned { IsPinned reading.old result.found }
+        ensures reading { result.reading.now ≡ reading.old }
+        ensures same_reference { result.reading.ghost_name ≡ reading.entry.ghost_name }
+        ensures rest { cpu.new ≡ with_cpu cpu.new.cpu cpu.old }
+        ensures stays { Stays cpu.old cpu.new }
+    {
+        cpu.find(reading, self.cell)
+    }
+
+    /// The value that the pin found, however long its section has slept and whatever has been put since.
+    pub fn load<J, A: Allocator>(&self, cpu: &mut Cpu<J, A>, pin: &mut Pin<'_>) -> T
+        requires here { pin.old.reading.now.domain ≡ cpu.old.cpu.domain }
+        requires pinned { IsPinned pin.old.reading.now pin.old.found }
+        requires cell { pin.old.found.cell ≡ self.now }
+        ensures loads { Loads T.value pin.old.found cpu.old cpu.new result }
+        ensures same { (pin.new.reading.now ≡ pin.old.reading.now) × (pin.new.found ≡ pin.old.found) }
+        ensures same_reference { pin.new.reading.ghost_name ≡ pin.old.reading.ghost_name }
+        ensures stays { Stays cpu.old cpu.new }
+    {
+        T::decode(&load_all(cpu, pin))
+    }
+
+    /// As [`Values::find`], in a held section, which the pin then owns. It may go to another thread.
+    pub fn find_held<J, A: Allocator>(&self, cpu: &mut Cpu<J, A>, held: Held) -> HeldPin
+        requires here { held.domain ≡ cpu.old.cpu.domain }
+        requires cell { self.now < cells_in cpu.old.cpu.domain }
+        ensures finds { Finds self.now held cpu.old.cpu cpu.new.cpu result.found }
+        ensures pinned { IsPinned held result.found }
+        ensures held { result.held ≡ held }
+        ensures rest { cpu.new ≡ with_cpu cpu.new.cpu cpu.old }
+        ensures stays { Stays cpu.old cpu.new }
+    {
+        cpu.find_held(held, self.cell)
+    }
+
+    /// As [`Values::load`], on any processor of the domain.
+    pub fn load_held<J, A: Allocator>(&self, cpu: &mut Cpu<J, A>, pin: &mut HeldPin) -> T
+        requires here { pin.old.held.domain ≡ cpu.old.cpu.domain }
+        requires pinned { IsPinned pin.old.held pin.old.found }
+        requires cell { pin.old.found.cell ≡ self.now }
+        ensures loads { Loads T.value pin.old.found cpu.old cpu.new result }
+        ensures same { (pin.new.held ≡ pin.old.held) × (pin.new.found ≡ pin.old.found) }
+        ensures stays { Stays cpu.old cpu.new }
+    {
+        T::decode(&load_all_held(cpu, pin))
     }
 }
 
@@ -56,7 +111,7 @@ impl<T: Versioned> Values<T> {
 fn load_all<J, A: Allocator>(cpu: &mut Cpu<J, A>, pin: &mut Pin<'_>) -> [u64; 16]
     requires here { pin.old.reading.now.domain ≡ cpu.old.cpu.domain }
     requires pinned { IsPinned pin.old.reading.now pin.old.found }
-    ensures loads { LoadsAll pin.old.reading.now pin.old.found result cpu.old cpu.new }
+    ensures loads { LoadsAll pin.old.found result cpu.old cpu.new }
     ensures same { (pin.new.reading.now ≡ pin.old.reading.now) × (pin.new.found ≡ pin.old.found) }
     ensures same_reference { pin.new.reading.ghost_name ≡ pin.old.reading.ghost_name }
     ensures stays { Stays cpu.old cpu.new }
@@ -64,6 +119,21 @@ fn load_all<J, A: Allocator>(cpu: &mut Cpu<J, A>, pin: &mut Pin<'_>) -> [u64; 16
     let mut words = [0; 16];
     for place in 0..16 {
         words[place] = cpu.word(pin, place);
+    }
+    words
+}
+
+/// The same for a pin that owns its section.
+fn load_all_held<J, A: Allocator>(cpu: &mut Cpu<J, A>, pin: &mut HeldPin) -> [u64; 16]
+    requires here { pin.old.held.domain ≡ cpu.old.cpu.domain }
+    requires pinned { IsPinned pin.old.held pin.old.found }
+    ensures loads { LoadsAll pin.old.found result cpu.old cpu.new }
+    ensures same { (pin.new.held ≡ pin.old.held) × (pin.new.found ≡ pin.old.found) }
+    ensures stays { Stays cpu.old cpu.new }
+{
+    let mut words = [0; 16];
+    for place in 0..16 {
+        words[place] = cpu.word_held(pin, place);
     }
     words
 }

@@ -24,4 +24,6 @@ sum_of c d = record {
   refused = plus c.refused d.refused;
   misplaced = plus c.misplaced d.misplaced;
   early = plus c.early d.early;
+  stale = plus c.stale d.stale;
+  torn = plus c.torn d.torn;
 }

@@ -31,6 +31,10 @@ pub struct Counts {
     pub misplaced: u64,
     /// Waits that came back too early: a cookie was not done then, or a job not run.
     pub early: u64,
+    /// Versions that were read behind the grace period that followed their replacement.
+    pub stale: u64,
+    /// Versions whose words were not those of one put.
+    pub torn: u64,
 }
 
 impl Counts {
@@ -49,6 +53,8 @@ impl Counts {
             refused: 0,
             misplaced: 0,
             early: 0,
+            stale: 0,
+            torn: 0,
         }
     }
 
@@ -69,6 +75,8 @@ impl Counts {
             refused: self.refused.saturating_add(other.refused),
             misplaced: self.misplaced.saturating_add(other.misplaced),
             early: self.early.saturating_add(other.early),
+            stale: self.stale.saturating_add(other.stale),
+            torn: self.torn.saturating_add(other.torn),
         }
     }
 }
@@ -92,6 +100,8 @@ impl fmt::Display for Counts {
         writeln!(f, "sections left on the desk: {}", self.left)?;
         writeln!(f, "calls refused: {}", self.refused)?;
         writeln!(f, "jobs misplaced: {}", self.misplaced)?;
-        write!(f, "waits that were too short: {}", self.early)
+        writeln!(f, "waits that were too short: {}", self.early)?;
+        writeln!(f, "versions that were too old: {}", self.stale)?;
+        write!(f, "versions of several pieces: {}", self.torn)
     }
 }

@@ -5,9 +5,9 @@ ghost use Rattle.domain.specs.Views.{IsOf};
 ghost use Rattle.soak.specs.Drivers.{IsDriving};
 
 use crate::counts::{Counts, count};
-use crate::signs::Signs;
+use crate::signs::{AGES, Signs};
 use crate::worker::{Job, Length};
-use domain::{Batch, Cpu, Domain, Progress};
+use domain::{Batch, Cpu, Domain, Progress, Writer};
 use std::sync::Wait;
 use std::thread::yield_now;
 use std::time::{Clock, Duration, Instant};
@@ -18,10 +18,31 @@ pub const PROCESSORS: u16 = 8;
 /// How many turns of the engine are enough for all grace periods that are still asked for in the end.
 const TURNS: u32 = 64;
 
+/// A version that was replaced.
+#[derive(Clone, Copy)]
+pub struct Replaced {
+    pub version: u64,
+    /// The number of the cookie behind which it is one older.
+    pub cookie: u64,
+    /// 0 where there is none.
+    pub age: u64,
+}
+
+impl Replaced {
+    pub const NONE: Replaced = Replaced {
+        version: 0,
+        cookie: 0,
+        age: 0,
+    };
+}
+
 /// What the thread has.
 #[derive(Drop)]
 pub struct Driver {
     pub cpu: Cpu<Job>,
+    pub writer: Writer,
+    /// The last versions that were replaced, each at its number modulo [`AGES`].
+    pub replaced: [Replaced; AGES],
     pub counts: Counts,
 }
 
@@ -97,6 +118,53 @@ fn take_all<R: Wait>(rt: &R, domain: &Domain<Job>, driver: &mut Driver, signs: &
     }
 }
 
+/// Puts a version, if a slot is free: its number stands in its first and in its last word. The one that was there is one
+/// old then.
+fn put_next(domain: &Domain<Job>, driver: &mut Driver, signs: &Signs)
+    requires { IsDriving domain.now driver.old }
+    ensures { IsDriving domain.now driver.new }
+{
+    driver.writer.reclaim(&mut driver.cpu);
+    let Some(mut slot) = driver.writer.blank() else {
+        return;
+    };
+    let before = driver.writer.version();
+    let version = before.saturating_add(1);
+    driver.writer.set(&mut driver.cpu, &mut slot, 0, version);
+    driver.writer.set(&mut driver.cpu, &mut slot, 15, version);
+    signs.set_age(version, 0);
+    let cookie = driver.writer.put_and_ask(domain, &mut driver.cpu, slot);
+    signs.set_age(before, 1);
+    driver.replaced[before as usize % AGES] = Replaced {
+        version: before,
+        cookie,
+        age: 1,
+    };
+}
+
+/// A version that was replaced is one older behind its grace period.
+fn age(domain: &Domain<Job>, driver: &mut Driver, place: usize, signs: &Signs)
+    requires driver { IsDriving domain.now driver.old }
+    requires place { place < 16 }
+    ensures { IsDriving domain.now driver.new }
+{
+    let replaced = driver.replaced[place];
+    if replaced.age == 1 && driver.cpu.poll_number(replaced.cookie) == Ok(true) {
+        signs.set_age(replaced.version, 2);
+        driver.replaced[place] = Replaced { age: 2, ..replaced };
+    }
+}
+
+/// The same for each of them.
+fn age_all(domain: &Domain<Job>, driver: &mut Driver, signs: &Signs)
+    requires { IsDriving domain.now driver.old }
+    ensures { IsDriving domain.now driver.new }
+{
+    for place in 0..AGES {
+        age(domain, driver, place, signs);
+    }
+}
+
 /// One turn of the engine.
 fn advance<R: Wait>(rt: &R, domain: &Domain<Job>, driver: &mut Driver)
     requires { IsDriving domain.now driver.old }
@@ -142,6 +210,8 @@ pub fn drive<R: Wait + Clock>(
         }
         advance(rt, domain, &mut driver);
         take_all(rt, domain, &mut driver, signs);
+        age_all(domain, &mut driver, signs);
+        put_next(domain, &mut driver, signs);
     }
     rest(rt, domain, &mut driver);
     driver

@@ -35,6 +35,8 @@ impl Outcome {
             && counts.refused == 0
             && counts.misplaced == 0
             && counts.early == 0
+            && counts.stale == 0
+            && counts.torn == 0
     }
 }
 

@@ -1,6 +1,7 @@
 //! A whole run: a domain is made, eight threads are at work in it, and it is taken down.
 ghost use Rattle.std.specs.Prelude.{◌≡◌, ◌<◌, ◌≤◌, vec_len, vec_capacity, All, IfOk};
 ghost use Rattle.std.specs.Thread.{IsSync};
+ghost use Rattle.sections.specs.Words.{cells_in};
 ghost use Rattle.desk.specs.Calls.{AreAllSeats};
 ghost use Rattle.domain.specs.Views.{IsOf};
 ghost use Rattle.domain.specs.Parts.{Each};
@@ -9,9 +10,9 @@ ghost use Rattle.soak.specs.Drivers.{IsDriving};
 ghost use Rattle.soak.specs.Starts.{IsPrepared};
 
 use crate::counts::{Counts, count};
-use crate::driver::{Deadline, Driver, PROCESSORS, drive};
+use crate::driver::{Deadline, Driver, PROCESSORS, Replaced, drive};
 use crate::outcome::Outcome;
-use crate::signs::{Signs, WORKERS};
+use crate::signs::{AGES, Signs, WORKERS};
 use crate::worker::{Job, Length, Worker, work};
 use anyhow::Result;
 use desk::{Desk, DeskSeat};
@@ -25,8 +26,8 @@ use std::time::{Clock, Instant};
 const LIMITS: Limits = Limits {
     sections: Limits::MOST_SECTIONS,
     periods: Limits::MOST_PERIODS,
-    cells: 0,
-    slots: 2,
+    cells: 1,
+    slots: 8,
 };
 
 /// Gives each of these processors a seat.
@@ -40,6 +41,7 @@ fn seat_all(
     requires cpus { Each (IsOf domain.now) cpus.items }
     requires seats { AreAllSeats desk.now seats.items }
     requires home { All (λ v. v.domain ≡ domain.now.domain) seats.items }
+    requires cell { 0 < cells_in domain.now.domain }
     requires as_many { vec_len cpus ≡ vec_len seats }
     requires room { (vec_len workers ≡ 0) × (vec_len seats ≤ vec_capacity workers) }
     ensures all { AreAllAtWork domain.now desk.now result.items }
@@ -149,8 +151,9 @@ fn prepare(alloc: Global) -> Result<Start>
     ensures { IfOk result IsPrepared }
 {
     let processors = usize::from(PROCESSORS);
-    let (domain, mut cpus, _) = Domain::<Job>::new(alloc, processors, LIMITS)?;
+    let (domain, mut cpus, mut writers) = Domain::<Job>::new(alloc, processors, LIMITS)?;
     let mut cpu = cpus.pop().unwrap();
+    let writer = writers.pop().unwrap();
     let room = Vec::with_capacity(alloc, WORKERS)?;
     let parts = Parts {
         cpus: Vec::with_capacity(alloc, processors)?,
@@ -159,8 +162,12 @@ fn prepare(alloc: Global) -> Result<Start>
     };
     let (desk, seats) = Desk::new(alloc, WORKERS, cpu.home())?;
     let workers = seat_all(cpus, seats, room, &domain, &desk);
-    let counts = Counts::new();
-    let driver = Driver { cpu, counts };
+    let driver = Driver {
+        cpu,
+        writer,
+        replaced: [Replaced::NONE; AGES],
+        counts: Counts::new(),
+    };
     Ok(Start {
         domain,
         desk,

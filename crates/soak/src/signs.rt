@@ -5,6 +5,9 @@ use std::sync::atomic::Ordering::SeqCst;
 /// How many threads read, queue and wait. Each has a processor; one more thread has the last processor, and drives.
 pub const WORKERS: usize = 7;
 
+/// For how many versions the ages are kept: more than there are slots, so none is forgotten while somebody reads it.
+pub const AGES: usize = 16;
+
 /// Words that all threads share.
 #[derive(Drop)]
 pub struct Signs {
@@ -14,6 +17,9 @@ pub struct Signs {
     ending: AtomicU64,
     /// 1 from when no worker is left.
     over: AtomicU64,
+    /// How old the last versions are, each at its number modulo [`AGES`]: 0 until it is replaced, 1 from then on, and 2 behind
+    /// the next grace period.
+    ages: [AtomicU64; AGES],
 }
 
 impl Signs {
@@ -30,6 +36,24 @@ impl Signs {
             ],
             ending: AtomicU64::new(0),
             over: AtomicU64::new(0),
+            ages: [
+                AtomicU64::new(0),
+                AtomicU64::new(0),
+                AtomicU64::new(0),
+                AtomicU64::new(0),
+                AtomicU64::new(0),
+                AtomicU64::new(0),
+                AtomicU64::new(0),
+                AtomicU64::new(0),
+                AtomicU64::new(0),
+                AtomicU64::new(0),
+                AtomicU64::new(0),
+                AtomicU64::new(0),
+                AtomicU64::new(0),
+                AtomicU64::new(0),
+                AtomicU64::new(0),
+                AtomicU64::new(0),
+            ],
         }
     }
 
@@ -61,5 +85,15 @@ impl Signs {
     /// How many jobs of this processor were run.
     pub fn run_of(&self, processor: u16) -> u64 {
         self.run[processor as usize % WORKERS].load(SeqCst)
+    }
+
+    /// A version is so old now.
+    pub fn set_age(&self, version: u64, age: u64) {
+        self.ages[version as usize % AGES].store(age, SeqCst);
+    }
+
+    /// How old a version is.
+    pub fn age_of(&self, version: u64) -> u64 {
+        self.ages[version as usize % AGES].load(SeqCst)
     }
 }

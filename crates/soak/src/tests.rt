@@ -52,6 +52,7 @@ fn eight_threads_make_rounds(rt: HostRuntime) -> Result<(), Fail> {
         );
         assert_eq!(rt; (counts.left, counts.refused), (0, 0));
         assert_eq!(rt; (counts.misplaced, counts.early), (0, 0));
+        assert_eq!(rt; (counts.stale, counts.torn), (0, 0));
     }
     Ok(())
 }
@@ -108,7 +109,8 @@ fn prints_an_outcome(rt: HostRuntime) -> Result<(), Fail> {
     let text =
         "sections opened: 2\nsections closed: 2\njobs queued: 1\njobs run: 1\ncookies polled: 0\n\
         waits for a grace period: 0\nbarriers: 0\nsections left on the desk: 0\ncalls refused: 0\n\
-        jobs misplaced: 0\nwaits that were too short: 1";
+        jobs misplaced: 0\nwaits that were too short: 1\nversions that were too old: 0\n\
+        versions of several pieces: 0";
     assert_eq!(rt; format!(in rt.alloc(); "{counts}")?.as_str(), text);
     for (counts, totals, last) in [
         (some_counts(), Ok(some_totals()), "totals: exact"),

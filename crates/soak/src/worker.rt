@@ -8,15 +8,18 @@
 //! another thread has taken it. Hence each section is closed by a thread that doesn't wait. So each grace period ends,
 //! and whoever waits for one drives it. A barrier waits for jobs besides, which the driver runs; the driver waits for no
 //! section and no job, and goes on until no worker is left.
-ghost use Rattle.std.specs.Prelude.{◌≡◌, IfSome};
-ghost use Rattle.domain.specs.Views.{IsOf};
+ghost use Rattle.std.specs.Prelude.{◌≡◌, ◌<◌, IfSome};
+ghost use Rattle.sections.specs.Words.{cells_in};
+ghost use Rattle.sections.specs.Calls.{IsSameCpu};
+ghost use Rattle.domain.specs.Views.{IsOf, Stays};
 ghost use Rattle.soak.specs.Workers.{IsAtWork, StaysAtWork};
 
 use crate::counts::{Counts, count};
 use crate::signs::Signs;
 use desk::{Desk, DeskSeat};
-use domain::{Cpu, Domain, Held};
+use domain::{Cpu, Domain, Held, Reading};
 use std::sync::Wait;
+use std::thread::yield_now;
 
 /// A job tells where it was queued.
 #[derive(Drop)]
@@ -57,18 +60,56 @@ pub struct Worker {
     pub counts: Counts,
 }
 
-/// Opens a section and closes it.
-fn read(domain: &Domain<Job>, desk: &Desk<Held>, worker: &mut Worker)
+/// A version as a section found it: its number, its first and its last word, and how old it was then.
+#[derive(Clone, Copy)]
+struct Sight {
+    version: u64,
+    first: u64,
+    last: u64,
+    age: u64,
+}
+
+/// Finds the version that is there, and reads it. Its age is loaded last, while the section is still open.
+fn look_at(cpu: &mut Cpu<Job>, reading: &mut Reading, signs: &Signs) -> Sight
+    requires here { reading.old.domain ≡ cpu.old.cpu.domain }
+    requires cell { 0 < cells_in cpu.old.cpu.domain }
+    ensures stays { Stays cpu.old cpu.new }
+    ensures same { IsSameCpu cpu.old.cpu cpu.new.cpu }
+    ensures reading { reading.new ≡ reading.old }
+{
+    let mut pin = cpu.find(reading, 0);
+    let version = pin.version();
+    let first = cpu.word(&mut pin, 0);
+    yield_now(); // a reader may sleep
+    let last = cpu.word(&mut pin, 15);
+    Sight {
+        version,
+        first,
+        last,
+        age: signs.age_of(version),
+    }
+}
+
+/// Opens a section, reads the version that is there, and closes it. A version that was replaced may be read until its
+/// next grace period has ended, and that can't end as long as the section is open.
+fn read(domain: &Domain<Job>, desk: &Desk<Held>, signs: &Signs, worker: &mut Worker)
     requires { IsAtWork domain.now desk.now worker.old }
     ensures { StaysAtWork domain.now desk.now worker.old worker.new }
 {
-    let Ok(reading) = worker.cpu.read_lock() else {
+    let Ok(mut reading) = worker.cpu.read_lock() else {
         count(&mut worker.counts.refused);
         return;
     };
     count(&mut worker.counts.opened);
+    let sight = look_at(&mut worker.cpu, &mut reading, signs);
     worker.cpu.read_unlock(reading);
     count(&mut worker.counts.closed);
+    if sight.age > 1 {
+        count(&mut worker.counts.stale);
+    }
+    if sight.first != sight.version || sight.last != sight.version {
+        count(&mut worker.counts.torn);
+    }
 }
 
 /// Closes a section that lay on the desk, if one did.
@@ -189,7 +230,7 @@ fn make_round<R: Wait>(
     requires { IsAtWork domain.now desk.now worker.old }
     ensures { StaysAtWork domain.now desk.now worker.old worker.new }
 {
-    read(domain, desk, worker);
+    read(domain, desk, signs, worker);
     hand_on(domain, desk, worker);
     queue(rt, domain, desk, worker);
     poll(domain, desk, worker);

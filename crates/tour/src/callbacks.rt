@@ -1,41 +1,46 @@
-//! An updater that doesn't wait, and the callbacks that free what it replaced.
-ghost use Rattle.std.specs.Prelude.{◌<◌};
+//! An updater that doesn't wait, and the callbacks of what it replaced.
+ghost use Rattle.std.specs.Prelude.{◌≡◌, ◌<◌};
 ghost use Rattle.domain.specs.Views.{IsOf};
 ghost use Rattle.tour.specs.Parts.{IsReady};
 
-use crate::config::{Config, Old};
+use crate::config::{Archive, Config, Old};
 use anyhow::Result;
 use domain::{Cpu, Domain};
+use shelf::Shelf;
 use std::sync::Wait;
 use std::thread::yield_now;
 
-/// Replaces the configuration, and leaves the old version to a callback. Where that can't be queued, it waits, and frees
-/// the version itself.
+/// Replaces the configuration, and leaves to a callback what is to be done with the old one. Where that can't be queued,
+/// it waits, and does it itself.
 pub fn replace_and_call<R: Wait>(
     rt: &R,
     domain: &Domain<Old>,
     cpu: &mut Cpu<Old>,
-    config: &Config,
+    shelf: &mut Shelf<Config>,
+    archive: &Archive,
+    old: Old,
     number: u64,
 ) -> Result<()>
-    requires { IsReady domain.now cpu.old }
-    ensures { IsReady domain.now cpu.new }
+    requires cpu { IsReady domain.now cpu.old }
+    requires shelf { shelf.old.domain ≡ domain.now.domain }
+    ensures cpu { IsReady domain.now cpu.new }
+    ensures shelf { shelf.new.domain ≡ domain.now.domain }
 {
-    let old = config.publish(number);
-    if let Err((old, _)) = domain.call(rt, cpu, old) { // call_srcu: the job is the old version, and the updater goes on
+    shelf.replace(domain, cpu, &Config::new(number))?;
+    if let Err((old, _)) = domain.call(rt, cpu, old) { // call_srcu: the job tells of the old version, and the updater goes on
         domain.synchronize(rt, cpu)?; // it could not be queued, so it came back
-        config.free(old);
+        archive.file(old);
     }
     Ok(())
 }
 
 /// Takes the callbacks of a processor that are ready, and runs them. Answers how many there were.
-pub fn free_ready<R: Wait>(
+pub fn run_ready<R: Wait>(
     rt: &R,
     domain: &Domain<Old>,
     cpu: &mut Cpu<Old>,
     processor: u16,
-    config: &Config,
+    archive: &Archive,
 ) -> Result<usize>
     requires domain { IsOf domain.now cpu.old }
     requires processor { processor < domain.now.processors }
@@ -46,7 +51,7 @@ pub fn free_ready<R: Wait>(
     };
     let count = batch.count(); // from 1 to 8
     while let Some(old) = batch.next() {
-        config.free(old); // each job once, the first one first: nobody reads this version any more
+        archive.file(old); // each job once, the first one first: nobody reads this version any more
     }
     domain.finish(rt, cpu, batch); // code that loses a batch, or finishes one with jobs left in it, is refused
 
@@ -60,7 +65,7 @@ fn serve<R: Wait>(
     domain: &Domain<Old>,
     mut cpu: Cpu<Old>,
     processor: u16,
-    config: &Config,
+    archive: &Archive,
 ) -> Result<usize>
     requires domain { IsOf domain.now cpu }
     requires processor { processor < domain.now.processors }
@@ -68,7 +73,7 @@ fn serve<R: Wait>(
     let mut ran: usize = 0;
     for _ in rt.forever() {
         domain.advance(rt, &mut cpu)?;
-        ran = ran.saturating_add(free_ready(rt, domain, &mut cpu, processor, config)?);
+        ran = ran.saturating_add(run_ready(rt, domain, &mut cpu, processor, archive)?);
         let (queued, _) = domain.lens(rt, processor)?;
         if queued == [0; 4] {
             break;
@@ -78,18 +83,22 @@ fn serve<R: Wait>(
     Ok(ran)
 }
 
-/// Replaces the configuration with version 4 and then with version 5, and doesn't wait in between. Runs the callbacks
+/// Replaces the configuration with number 4 and then with number 5, and doesn't wait in between. Runs the callbacks
 /// behind that, and answers how many there were.
 pub fn replace_and_serve<R: Wait>(
     rt: &R,
     domain: &Domain<Old>,
     mut cpu: Cpu<Old>,
-    config: &Config,
+    mut shelf: Shelf<Config>,
+    archive: &Archive,
 ) -> Result<usize>
-    requires { IsReady domain.now cpu }
+    requires cpu { IsReady domain.now cpu }
+    requires shelf { shelf.domain ≡ domain.now.domain }
 {
     let processor = cpu.processor();
-    replace_and_call(rt, domain, &mut cpu, config, 4)?;
-    replace_and_call(rt, domain, &mut cpu, config, 5)?;
-    serve(rt, domain, cpu, processor, config)
+    let third = Old { number: 3 };
+    let fourth = Old { number: 4 };
+    replace_and_call(rt, domain, &mut cpu, &mut shelf, archive, third, 4)?;
+    replace_and_call(rt, domain, &mut cpu, &mut shelf, archive, fourth, 5)?;
+    serve(rt, domain, cpu, processor, archive)
 }

@@ -1,90 +1,85 @@
-//! A configuration that is replaced while it is read.
+//! A configuration that is replaced while it is read, and what is done once nobody reads the old one.
+use shelf::Versioned;
+use std::sync::atomic::AtomicU64;
 use std::sync::atomic::Ordering::SeqCst;
-use std::sync::atomic::{AtomicU64, AtomicUsize};
 
-/// A version of the configuration: two words that are equal for as long as somebody may read it.
-#[derive(Drop)]
-pub struct Version {
-    number: AtomicU64,
-    again: AtomicU64,
-}
-
-impl Version {
-    fn new(number: u64) -> Version {
-        Version {
-            number: AtomicU64::new(number),
-            again: AtomicU64::new(number),
-        }
-    }
-
-    /// The version's number, or `None` where somebody has written to it meanwhile.
-    pub fn read(&self) -> Option<u64> {
-        let number = self.number.load(SeqCst);
-        let again = self.again.load(SeqCst);
-        (number == again).then_some(number)
-    }
-
-    fn write(&self, number: u64) {
-        self.number.store(number, SeqCst);
-        self.again.store(number, SeqCst);
-    }
-
-    fn free(&self) {
-        self.number.store(0, SeqCst);
-        self.again.store(u64::MAX, SeqCst);
-    }
-}
-
-/// A version that was replaced, and that is to be freed once nobody reads it.
-#[derive(Drop)]
-pub struct Old {
-    place: usize,
-}
-
-/// How many versions there is room for.
-const ROOM: usize = 3;
-
-/// A configuration: a version to read, and room for the next two. Only one thread at a time replaces it.
-#[derive(Drop)]
+/// The configuration: its number, twice. A reader that saw half of a change would find two numbers.
+#[derive(Clone, Copy, Debug, PartialEq, Eq)]
 pub struct Config {
-    versions: [Version; ROOM],
-    place: AtomicUsize,
+    pub number: u64,
+    pub again: u64,
 }
 
 impl Config {
     pub fn new(number: u64) -> Config {
         Config {
-            versions: [
-                Version::new(number),
-                Version::new(number),
-                Version::new(number),
-            ],
-            place: AtomicUsize::new(0),
+            number,
+            again: number,
         }
     }
 
-    /// The version to read (`srcu_dereference`).
-    pub fn current(&self) -> &Version {
-        &self.versions[self.place.load(SeqCst) % ROOM]
+    /// Whether it is of one piece.
+    pub fn is_whole(&self) -> bool {
+        self.number == self.again
+    }
+}
+
+/// It lies in the first two of a version's sixteen words.
+impl Versioned for Config {
+    ghost use Rattle.std.specs.Prelude.{◌∷◌, replicate, slice_index_or, refl};
+
+    ghost fits = { λ _. Unit {0} };
+
+    ghost words = { λ c. c.number ∷ c.again ∷ replicate 14 0 };
+
+    ghost value = { λ words. record { number = slice_index_or words 0 0; again = slice_index_or words 1 0 } };
+
+    ghost round_trip = { λ _ _. refl };
+
+    fn encode(&self) -> [u64; 16] {
+        let mut words = [0; 16];
+        words[0] = self.number;
+        words[1] = self.again;
+        words
     }
 
-    /// Puts a new version in the place of the current one (`rcu_assign_pointer`), which it gives back: those who read
-    /// that one still may. All that it gave back before must be free by then, but for the last one.
-    pub fn publish(&self, number: u64) -> Old {
-        let place = self.place.load(SeqCst) % ROOM;
-        let next = (place + 1) % ROOM;
-        self.versions[next].write(number);
-        self.place.store(next, SeqCst);
-        Old { place }
+    fn decode(words: &[u64; 16]) -> Config {
+        Config {
+            number: words[0],
+            again: words[1],
+        }
+    }
+}
+
+/// A configuration that was replaced. Something is to be done once nobody reads it any more.
+#[derive(Drop)]
+pub struct Old {
+    pub number: u64,
+}
+
+/// What was replaced and is read by nobody.
+#[derive(Drop)]
+pub struct Archive {
+    count: AtomicU64,
+    last: AtomicU64,
+}
+
+impl Archive {
+    pub fn new() -> Archive {
+        Archive {
+            count: AtomicU64::new(0),
+            last: AtomicU64::new(0),
+        }
     }
 
-    /// The number of a version that was replaced, or `None` where somebody has written to it meanwhile.
-    pub fn read(&self, old: &Old) -> Option<u64> {
-        self.versions[old.place % ROOM].read()
+    /// Nobody reads this one any more.
+    pub fn file(&self, old: Old) {
+        self.last.store(old.number, SeqCst);
+        self.count.fetch_add(1, SeqCst);
     }
 
-    /// Makes a version useless that was replaced (`kfree`).
-    pub fn free(&self, old: Old) {
-        self.versions[old.place % ROOM].free();
+    /// How many lie there, and the number of the last one.
+    pub fn told(&self) -> (u64, u64) {
+        (self.count.load(SeqCst), self.last.load(SeqCst))
     }
 }

@@ -1,7 +1,9 @@
 //! A tour of the library. Threads read a configuration in sections of a domain, while others replace it.
 #![tactic(auto)]
 
-ghost use Rattle.std.specs.Prelude.{IfOk};
+ghost use Rattle.std.specs.Prelude.{◌≡◌, ◌<◌, IfOk};
+ghost use Rattle.sections.specs.Words.{cells_in};
+ghost use Rattle.sections.specs.Reads.{IsPinned};
 ghost use Rattle.domain.specs.Views.{IsOf};
 ghost use Rattle.tour.specs.Parts.{IsReady};
 
@@ -14,9 +16,10 @@ mod updaters;
 
 use anyhow::Result;
 use callbacks::replace_and_serve;
-use config::{Config, Old};
-use domain::{Cpu, Domain, Limits};
+use config::{Archive, Config, Old};
+use domain::{Cpu, Domain, HeldPin, Limits, Writer};
 use readers::{open, read_quickly, read_slowly};
+use shelf::{Shelf, Values};
 use std::alloc::Global;
 use std::fmt;
 use std::sync::Wait;
@@ -33,30 +36,50 @@ const READS: u32 = 1_000;
 const LIMITS: Limits = Limits {
     sections: Limits::MOST_SECTIONS,
     periods: Limits::MOST_PERIODS,
-    cells: 0,
-    slots: 2,
+    cells: 1, // what is replaced lies there
+    slots: 4,
 };
 
-/// A domain, and its two processors. A processor is a value: whichever thread owns it works with it.
-fn pair(alloc: Global) -> Result<(Domain<Old>, Cpu<Old>, Cpu<Old>)>
-    ensures { IfOk result (λ r. IsReady r.0 r.1 × IsReady r.0 r.2) }
+/// A domain, its two processors, and the writer of its cell. A processor is a value: whichever thread owns it works with
+/// it.
+fn pair(alloc: Global) -> Result<(Domain<Old>, Cpu<Old>, Cpu<Old>, Writer)>
+    ensures cpus { IfOk result (λ r. IsReady r.0 r.1 × IsReady r.0 r.2) }
+    ensures writer { IfOk result (λ r. (r.3.domain ≡ r.0.domain) × (r.3.cell < cells_in r.0.domain)) }
 {
-    let (domain, mut cpus, _) = Domain::new(alloc, 2, LIMITS)?; // init_srcu_struct
+    let (domain, mut cpus, mut writers) = Domain::new(alloc, 2, LIMITS)?; // init_srcu_struct
 
     let second = cpus.pop().unwrap();
     let first = cpus.pop().unwrap();
-    Ok((domain, first, second))
+    Ok((domain, first, second, writers.pop().unwrap()))
 }
 
-/// A domain, and its three processors.
-fn trio(alloc: Global) -> Result<(Domain<Old>, Cpu<Old>, Cpu<Old>, Cpu<Old>)>
-    ensures { IfOk result (λ r. IsReady r.0 r.1 × IsReady r.0 r.2 × IsReady r.0 r.3) }
+/// A domain, its three processors, and the writer of its cell.
+fn trio(alloc: Global) -> Result<(Domain<Old>, Cpu<Old>, Cpu<Old>, Cpu<Old>, Writer)>
+    ensures cpus { IfOk result (λ r. IsReady r.0 r.1 × IsReady r.0 r.2 × IsReady r.0 r.3) }
+    ensures writer { IfOk result (λ r. (r.4.domain ≡ r.0.domain) × (r.4.cell < cells_in r.0.domain)) }
 {
-    let (domain, mut cpus, _) = Domain::new(alloc, 3, LIMITS)?;
+    let (domain, mut cpus, mut writers) = Domain::new(alloc, 3, LIMITS)?;
     let third = cpus.pop().unwrap();
     let second = cpus.pop().unwrap();
     let first = cpus.pop().unwrap();
-    Ok((domain, first, second, third))
+    Ok((domain, first, second, third, writers.pop().unwrap()))
+}
+
+/// Takes a cell for the configuration, and puts the first one there.
+fn shelve(
+    domain: &Domain<Old>,
+    cpu: &mut Cpu<Old>,
+    writer: Writer,
+    number: u64,
+) -> Result<(Shelf<Config>, Values<Config>)>
+    requires cpu { IsReady domain.now cpu.old }
+    requires writer { writer.domain ≡ domain.now.domain }
+    ensures cpu { IsReady domain.now cpu.new }
+    ensures cell { IfOk result (λ r. (r.0.domain ≡ domain.now.domain) × (r.1 ≡ writer.cell)) }
+{
+    let (mut shelf, configs) = Shelf::new(writer);
+    shelf.replace(domain, cpu, &Config::new(number))?;
+    Ok((shelf, configs))
 }
 
 /// A reader sleeps in its sections, while an updater replaces the configuration and waits. Answers whether the reader
@@ -66,14 +89,16 @@ fn wait<R: Threads + Wait + Clock + Sync>(
     domain: &Domain<Old>,
     reader: Cpu<Old>,
     updater: Cpu<Old>,
-    config: &Config,
+    shelf: Shelf<Config>,
+    configs: &Values<Config>,
 ) -> Result<bool>
-    requires { IsReady domain.now updater }
+    requires reader { configs.now < cells_in reader.cpu.domain }
+    requires updater { IsReady domain.now updater × (shelf.domain ≡ domain.now.domain) }
 {
     let (same, replaced) = join(
         rt,
-        || read_slowly(rt, reader, config, NAPS),
-        || replace(rt, domain, updater, config, 2),
+        || read_slowly(rt, reader, configs, NAPS),
+        || replace(rt, domain, updater, shelf, 2),
     );
     replaced?;
     same
@@ -84,11 +109,11 @@ fn wait<R: Threads + Wait + Clock + Sync>(
 struct Handed {
     opened_on: u16,
     closed_on: u16,
-    /// What its version held in the beginning.
-    read: Option<u64>,
+    /// The number of the version that was found in the beginning.
+    version: u64,
     /// What the updater found.
     polled: Polled,
-    /// Whether another reader found a version in each of its sections.
+    /// Whether another reader found a whole one in each of its sections.
     found: bool,
 }
 
@@ -97,19 +122,19 @@ impl fmt::Display for Handed {
         let Polled { early, read } = &self.polled;
         writeln!(
             f,
-            "read in {READS} sections, and found a version in each: {}",
+            "read in {READS} sections, and found a whole configuration in each: {}",
             self.found
         )?;
         writeln!(
             f,
-            "opened on processor {}, and read {:?}",
-            self.opened_on, self.read
+            "opened on processor {}, and found version {}",
+            self.opened_on, self.version
         )?;
         writeln!(f, "polled: {early}")?;
         write!(
             f,
-            "closed on processor {}, and read {read:?} just before",
-            self.closed_on
+            "closed on processor {}, and read configuration {} just before",
+            self.closed_on, read.number
         )
     }
 }
@@ -122,44 +147,54 @@ fn hand_over<R: Threads + Wait + Sync>(
     opener: Cpu<Old>,
     reader: Cpu<Old>,
     updater: Cpu<Old>,
-    config: &Config,
+    shelf: Shelf<Config>,
+    configs: &Values<Config>,
 ) -> Result<Handed>
     requires opener { IsOf domain.now opener }
-    requires updater { IsOf domain.now updater }
+    requires reader { IsOf domain.now reader }
+    requires updater { IsOf domain.now updater × (shelf.domain ≡ domain.now.domain) }
+    requires cell { configs.now < cells_in domain.now.domain }
 {
     let (opened, found) = join(
         rt,
-        || open(opener, config),
-        || read_quickly(reader, config, READS),
+        || -> Result<HeldPin>
+            requires { configs.now < cells_in opener.cpu.domain }
+            ensures { IfOk result (λ pin. pin.held.domain ≡ opener.cpu.domain × (IsPinned pin.held pin.found × (pin.found.cell ≡ configs.entry.now))) }
+        { open(opener, configs) },
+        || read_quickly(reader, configs, READS),
     );
-    let (held, read) = opened?;
-    let (opened_on, closed_on) = (held.processor(), updater.processor());
-    let polled = replace_and_poll(rt, domain, updater, config, 3, held)?;
+    let version = opened?;
+    let number = version.version();
+    let (opened_on, closed_on) = (version.held.processor(), updater.processor());
+    let polled = replace_and_poll(rt, domain, updater, shelf, configs, 3, version)?;
     Ok(Handed {
         opened_on,
         closed_on,
-        read,
+        version: number,
         polled,
         found: found?,
     })
 }
 
-/// A reader sleeps in its sections, while an updater replaces the configuration twice and doesn't wait: callbacks free
-/// what it replaced. Answers whether the reader found in each section the same before and behind its sleep, and how many
+/// A reader sleeps in its sections, while an updater replaces the configuration twice and doesn't wait: callbacks run
+/// once nobody reads what it replaced. Answers whether the reader found in each section the same before and behind its sleep, and how many
 /// callbacks ran.
 fn call_back<R: Threads + Wait + Clock + Sync>(
     rt: &R,
     domain: &Domain<Old>,
     reader: Cpu<Old>,
     updater: Cpu<Old>,
-    config: &Config,
+    shelf: Shelf<Config>,
+    configs: &Values<Config>,
+    archive: &Archive,
 ) -> Result<(bool, usize)>
-    requires { IsReady domain.now updater }
+    requires reader { configs.now < cells_in reader.cpu.domain }
+    requires updater { IsReady domain.now updater × (shelf.domain ≡ domain.now.domain) }
 {
     let (same, ran) = join(
         rt,
-        || read_slowly(rt, reader, config, NAPS),
-        || replace_and_serve(rt, domain, updater, config),
+        || read_slowly(rt, reader, configs, NAPS),
+        || replace_and_serve(rt, domain, updater, shelf, archive),
     );
     Ok((same?, ran?))
 }
@@ -167,61 +202,61 @@ fn call_back<R: Threads + Wait + Clock + Sync>(
 /// Prints what the first two did, which is the same each time.
 fn print_wait<R: Print + AllocGlobal>(rt: &R, same: bool) -> Result<()> {
     println!(rt; "slept in {NAPS} sections, and read the same before and behind it: {same}")?;
-    println!(rt; "version 2 is there, and nobody reads version 1")?;
+    println!(rt; "configuration 2 is there, and nobody reads number 1")?;
     Ok(())
 }
 
 /// Prints what the next three did, which is the same each time.
 fn print_handed<R: Print + AllocGlobal>(rt: &R, handed: &Handed) -> Result<()> {
     println!(rt; "{handed}")?;
-    println!(rt; "version 3 is there, and nobody reads version 2")?;
+    println!(rt; "configuration 3 is there, and nobody reads number 2")?;
     Ok(())
 }
 
 /// Prints what the last two did, which is the same each time.
-fn print_freed<R: Print + AllocGlobal>(rt: &R, same: bool, ran: usize) -> Result<()> {
+fn print_filed<R: Print + AllocGlobal>(
+    rt: &R,
+    same: bool,
+    ran: usize,
+    archive: &Archive,
+) -> Result<()> {
+    let (count, last) = archive.told();
     println!(rt; "slept in {NAPS} sections, and read the same before and behind it: {same}")?;
-    println!(rt; "callbacks that freed a version: {ran}")?;
-    println!(rt; "version 5 is there, and nobody reads versions 3 and 4")?;
+    println!(rt; "callbacks that ran: {ran}")?;
+    println!(rt; "configuration 5 is there, {count} are filed, and the last one of them is number {last}")?;
     Ok(())
 }
 
 /// Readers sleep while an updater waits, in a domain of their own.
-fn show_wait<R: Threads + Wait + Clock + Print + AllocGlobal + Sync>(
-    rt: &R,
-    config: &Config,
-) -> Result<()> {
-    let (domain, reader, updater) = pair(rt.alloc())?;
-    let same = wait(rt, &domain, reader, updater, config)?;
+fn show_wait<R: Threads + Wait + Clock + Print + AllocGlobal + Sync>(rt: &R) -> Result<()> {
+    let (domain, reader, mut updater, writer) = pair(rt.alloc())?;
+    let (shelf, configs) = shelve(&domain, &mut updater, writer, 1)?;
+    let same = wait(rt, &domain, reader, updater, shelf, &configs)?;
     print_wait(rt, same)
 }
 
 /// A section goes from a thread to another, in a domain of their own.
-fn show_handed<R: Threads + Wait + Print + AllocGlobal + Sync>(
-    rt: &R,
-    config: &Config,
-) -> Result<()> {
-    let (domain, opener, reader, updater) = trio(rt.alloc())?;
-    let handed = hand_over(rt, &domain, opener, reader, updater, config)?;
+fn show_handed<R: Threads + Wait + Print + AllocGlobal + Sync>(rt: &R) -> Result<()> {
+    let (domain, opener, reader, mut updater, writer) = trio(rt.alloc())?;
+    let (shelf, configs) = shelve(&domain, &mut updater, writer, 2)?;
+    let handed = hand_over(rt, &domain, opener, reader, updater, shelf, &configs)?;
     print_handed(rt, &handed)
 }
 
-/// Callbacks free what an updater replaced, in a domain of their own.
-fn show_freed<R: Threads + Wait + Clock + Print + AllocGlobal + Sync>(
-    rt: &R,
-    config: &Config,
-) -> Result<()> {
-    let (domain, reader, updater) = pair(rt.alloc())?;
-    let (same, ran) = call_back(rt, &domain, reader, updater, config)?;
-    print_freed(rt, same, ran)
+/// Callbacks run behind what an updater replaced, in a domain of their own.
+fn show_filed<R: Threads + Wait + Clock + Print + AllocGlobal + Sync>(rt: &R) -> Result<()> {
+    let (domain, reader, mut updater, writer) = pair(rt.alloc())?;
+    let (shelf, configs) = shelve(&domain, &mut updater, writer, 3)?;
+    let archive = Archive::new();
+    let (same, ran) = call_back(rt, &domain, reader, updater, shelf, &configs, &archive)?;
+    print_filed(rt, same, ran, &archive)
 }
 
 /// The threads' processors go with them, and are gone when they end.
 fn tour<R: Threads + Wait + Clock + Print + AllocGlobal + Sync>(rt: &R) -> Result<()> {
-    let config = Config::new(1);
-    show_wait(rt, &config)?;
-    show_handed(rt, &config)?;
-    show_freed(rt, &config)
+    show_wait(rt)?;
+    show_handed(rt)?;
+    show_filed(rt)
 }
 
 fn main(rt: HostRuntime) -> Result<()> {

@@ -1,11 +1,12 @@
 //! What the guide shows. The calls stand where domain and processors are lent, and what they told is compared where these
 //! are gone: a step costs the prover a walk over all that is still to be dropped there.
 ghost use Rattle.std.specs.Prelude.{◌<◌, ◌≡◌};
+ghost use Rattle.sections.specs.Words.{cells_in};
 ghost use Rattle.domain.specs.Views.{IsOf, Stays};
 ghost use Rattle.tour.specs.Parts.{IsReady};
 
 use super::*;
-use callbacks::{free_ready, replace_and_call};
+use callbacks::{replace_and_call, run_ready};
 use domain::{AdvanceRefusal, Exhausted, Index, NotACookie, Number, Progress, StartRefusal};
 use std::test::Fail;
 
@@ -42,7 +43,7 @@ fn poll_round_a_period<R: Wait>(
 }
 
 fn poll_in_a_pair<R: Wait + AllocGlobal>(rt: &R) -> Result<((bool, bool), Started, [Advanced; 2])> {
-    let (domain, mut reader, mut updater) = pair(rt.alloc())?;
+    let (domain, mut reader, mut updater, _) = pair(rt.alloc())?;
     poll_round_a_period(rt, &domain, &mut reader, &mut updater)
 }
 
@@ -70,7 +71,7 @@ fn poll_by_number(updater: &mut Cpu<Old>) -> (u64, [Polled; 3]) {
 }
 
 fn poll_by_number_in_a_pair<R: AllocGlobal>(rt: &R) -> Result<(u64, [Polled; 3])> {
-    let (_domain, _reader, mut updater) = pair(rt.alloc())?;
+    let (_domain, _reader, mut updater, _) = pair(rt.alloc())?;
     Ok(poll_by_number(&mut updater))
 }
 
@@ -117,7 +118,7 @@ fn drive_by_hand<R: Wait>(
 fn drive_a_pair<R: Wait + AllocGlobal>(
     rt: &R,
 ) -> Result<((u64, bool), [Advanced; 6], [Started; 2])> {
-    let (domain, mut reader, mut driver) = pair(rt.alloc())?;
+    let (domain, mut reader, mut driver, _) = pair(rt.alloc())?;
     drive_by_hand(rt, &domain, &mut reader, &mut driver)
 }
 
@@ -141,50 +142,58 @@ fn by_hand(rt: HostRuntime) -> Result<(), Fail> {
     Ok(())
 }
 
-/// How many versions are freed while a section is open in which one was found, and behind that; what the version is then;
-/// and what the period's last steps answer.
-fn free_round_a_section<R: Wait>(
+/// What is told of a replacement while a section is open: what the period's last steps answer, how many callbacks run
+/// while it is open and behind that, and what the section reads before the replacement and behind it.
+type Around = ([Advanced; 2], [usize; 2], [Config; 2]);
+
+fn run_round_a_section<R: Wait>(
     rt: &R,
     domain: &Domain<Old>,
     reader: &mut Cpu<Old>,
     updater: &mut Cpu<Old>,
-    config: &Config,
-) -> Result<([Advanced; 2], [usize; 2], [Option<u64>; 2])>
-    requires { IsReady domain.now updater.old }
+    shelf: &mut Shelf<Config>,
+    configs: &Values<Config>,
+) -> Result<Around>
+    requires reader { IsOf domain.now reader.old × (configs.now < cells_in domain.now.domain) }
+    requires updater { IsReady domain.now updater.old × (shelf.old.domain ≡ domain.now.domain) }
 {
+    let archive = Archive::new();
     let processor = updater.processor();
-    let section = reader.read_lock()?;
-    let found = config.current();
-    let replaced = replace_and_call(rt, domain, updater, config, 2);
+    let mut section = reader.read_lock()?;
+    let mut version = configs.find(reader, &mut section);
+    let before = configs.load(reader, &mut version);
+    let old = Old { number: 1 };
+    let replaced = replace_and_call(rt, domain, updater, shelf, &archive, old, 2);
     let _started = domain.advance(rt, updater);
     let _flipped = domain.advance(rt, updater);
     let waiting = domain.advance(rt, updater);
-    let early = free_ready(rt, domain, updater, processor, config);
-    let read = found.read();
+    let early = run_ready(rt, domain, updater, processor, &archive);
+    let behind = configs.load(reader, &mut version);
     reader.read_unlock(section);
     let ended = domain.advance(rt, updater);
-    let late = free_ready(rt, domain, updater, processor, config);
+    let late = run_ready(rt, domain, updater, processor, &archive);
     replaced?;
-    Ok(([waiting, ended], [early?, late?], [read, found.read()]))
+    Ok(([waiting, ended], [early?, late?], [before, behind]))
 }
 
-fn free_in_a_pair<R: Wait + AllocGlobal>(
-    rt: &R,
-) -> Result<([Advanced; 2], [usize; 2], [Option<u64>; 2])> {
-    let (domain, mut reader, mut updater) = pair(rt.alloc())?;
-    free_round_a_section(rt, &domain, &mut reader, &mut updater, &Config::new(1))
+fn run_in_a_pair<R: Wait + AllocGlobal>(rt: &R) -> Result<Around> {
+    let (domain, mut reader, mut updater, writer) = pair(rt.alloc())?;
+    let (mut shelf, configs) = Shelf::new(writer);
+    shelf.replace(&domain, &mut updater, &Config::new(1))?;
+    run_round_a_section(rt, &domain, &mut reader, &mut updater, &mut shelf, &configs)
 }
 
-/// Would catch a callback that frees a version while a section is open in which it was found, and one that never does.
+/// Would catch a callback that runs while a section is open in which the version was found, one that never does, and a
+/// version that changes.
 #[test]
 fn callbacks(rt: HostRuntime) -> Result<(), Fail> {
-    let (steps, freed, read) = free_in_a_pair(&rt)?;
+    let (steps, ran, read) = run_in_a_pair(&rt)?;
     let wanted = [
         Ok(Progress::Waiting(Index::Zero)),
         Ok(Progress::Ended(number(4))),
     ];
     assert_eq!(rt; steps, wanted);
-    assert_eq!(rt; (freed, read), ([0, 1], [Some(1), None]));
+    assert_eq!(rt; (ran, read), ([0, 1], [Config::new(1), Config::new(1)]));
     Ok(())
 }
 
@@ -227,7 +236,7 @@ fn look_elsewhere(first: &mut Cpu<Old>, second: &mut Cpu<Old>) -> Result<()>
 }
 
 fn open_and_close<R: AllocGlobal>(rt: &R) -> Result<([u64; 2], (u16, u64))> {
-    let (_domain, mut first, mut second) = pair(rt.alloc())?;
+    let (_domain, mut first, mut second, _) = pair(rt.alloc())?;
     let counts = count_nested(&mut first)?;
     let held = close_elsewhere(&mut first, &mut second)?;
     look_elsewhere(&mut first, &mut second)?;

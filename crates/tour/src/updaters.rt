@@ -1,26 +1,28 @@
 //! Those who replace the configuration, one after the other, each on a processor of its own.
 ghost use Rattle.std.specs.Prelude.{◌≡◌};
+ghost use Rattle.sections.specs.Reads.{IsPinned};
 ghost use Rattle.domain.specs.Views.{IsOf};
 ghost use Rattle.tour.specs.Parts.{IsReady};
 
 use crate::config::{Config, Old};
 use anyhow::Result;
-use domain::{Cpu, Domain, Held};
+use domain::{Cpu, Domain, HeldPin};
+use shelf::{Shelf, Values};
 use std::sync::Wait;
 
-/// Replaces the configuration, and waits until nobody reads the old version.
+/// Replaces the configuration, and waits until nobody reads the old one.
 pub fn replace<R: Wait>(
     rt: &R,
     domain: &Domain<Old>,
     mut cpu: Cpu<Old>,
-    config: &Config,
+    mut shelf: Shelf<Config>,
     number: u64,
 ) -> Result<()>
-    requires { IsReady domain.now cpu }
+    requires cpu { IsReady domain.now cpu }
+    requires shelf { shelf.domain ≡ domain.now.domain }
 {
-    let old = config.publish(number); // rcu_assign_pointer
+    shelf.replace(domain, &mut cpu, &Config::new(number))?; // rcu_assign_pointer
     domain.synchronize(rt, &mut cpu)?; // synchronize_srcu: each section that was open before is closed
-    config.free(old); // so nobody reads the old version any more
 
     Ok(())
 }
@@ -29,29 +31,32 @@ pub fn replace<R: Wait>(
 #[derive(Drop)]
 pub struct Polled {
     /// What a reader's version held, just before its section was closed.
-    pub read: Option<u64>,
+    pub read: Config,
     /// Whether the first poll said that nobody reads it.
     pub early: bool,
 }
 
 /// Replaces the configuration while somebody reads it in a section that another thread opened. Closes that section, and
-/// polls until nobody reads the old version.
+/// polls until nobody reads the old one.
 pub fn replace_and_poll<R: Wait>(
     rt: &R,
     domain: &Domain<Old>,
     mut cpu: Cpu<Old>,
-    config: &Config,
+    mut shelf: Shelf<Config>,
+    configs: &Values<Config>,
     number: u64,
-    held: Held,
+    mut version: HeldPin,
 ) -> Result<Polled>
     requires domain { IsOf domain.now cpu }
-    requires held { held.domain ≡ cpu.cpu.domain }
+    requires shelf { shelf.domain ≡ domain.now.domain }
+    requires held { version.held.domain ≡ domain.now.domain }
+    requires pinned { IsPinned version.held version.found × (version.found.cell ≡ configs.now) }
 {
-    let old = config.publish(number);
+    let replaced = shelf.replace(domain, &mut cpu, &Config::new(number));
     let mut cookie = domain.start_poll(&mut cpu); // start_poll_synchronize_srcu: asks for a period, and goes on
     let early = cpu.poll(&mut cookie); // poll_state_synchronize_srcu: false, as the section is open
-    let read = config.read(&old);
-    cpu.up_read(held); // srcu_up_read: opened there, closed here
+    let read = configs.load_held(&mut cpu, &mut version);
+    cpu.up_read(version.into_held()); // srcu_up_read: opened there, closed here
 
     for _ in rt.forever() {
         if cpu.poll(&mut cookie) {
@@ -59,6 +64,6 @@ pub fn replace_and_poll<R: Wait>(
         }
         domain.advance(rt, &mut cpu)?; // there is no kthread: any thread drives the period on
     }
-    config.free(old);
+    replaced?;
     Ok(Polled { read, early })
 }

@@ -1,13 +1,15 @@
 -- All are ready, and so each that was taken out.
-use Rattle.std.proofs.Common.{All, arith}
+use Rattle.std.proofs.Common.{◌≡◌, ◌<◌, All, arith}
 use Rattle.std.proofs.lemmas.List.Elements.{All-pop}
 use Rattle.domain.specs.Views.{CpuView}
 use Rattle.tour.specs.Parts.{IsReady}
 use Rattle.tour.proofs.Starting.{new_ones_are_ready}
+use Rattle.sections.specs.WriterViews.{WriterView}
+use Rattle.domain.proofs.CallerLemmas.{writers_here}
 use Rattle.tour.proofs.pair.Goals as goal
 
-pub returns : goal.returns
-returns c =
+pub returns-clause-cpus : goal.returns-clause-cpus
+returns-clause-cpus c =
     let P : CpuView → Type 0 = IsReady c.in_ok-domain.domain in
     let all : All P c.in_ok-domain.cpus.items = new_ones_are_ready _ _ c.in_ok-domain.ensures.made in
     let second = All-pop P _ _ _ c.pop.ensures.items all in
@@ -26,3 +28,17 @@ unwrap-first-requires c =
     let long = c.in_ok-domain.cpus.ok.0 in
     let one = rw c.unwrap-second.ensures at c.pop.ensures.len in
     c.pop-2.ensures.variant.1 (omega (arith, count, long, one))
+
+pub returns-clause-writer : goal.returns-clause-writer
+returns-clause-writer c =
+    let P : WriterView → Type 0 = λ w. (w.domain ≡ c.in_ok-domain.domain.domain) × (w.cell < 1) in
+    let cells = c.in_ok-domain.ensures.cells in
+    let writer : P c.unwrap.result = rw c.unwrap.ensures at (All-pop P _ _ _ c.pop-3.ensures.items (writers_here _ _ _ _ c.in_ok-domain.ensures.writers)).1 in
+    let low = writer.1 in
+    (writer.0, omega (arith, low, cells))
+
+pub unwrap-requires : goal.unwrap-requires
+unwrap-requires c =
+    let count = c.in_ok-domain.ensures.writers.count in
+    let long = c.in_ok-domain.writers.ok.0 in
+    c.pop-3.ensures.variant.1 (omega (arith, count, long))

@@ -41,7 +41,7 @@ loop-seat-preserved c =
       cpus = cpus.0;
       of_desk = of_desk.0;
       home = home.0;
-      each = All-same AtWork _ _ c.push_reserved.ensures.items (All-push AtWork _ worker before.each (record { here = here; desk = of_desk.1; home = home.1 }));
+      each = All-same AtWork _ _ c.push_reserved.ensures.items (All-push AtWork _ worker before.each (record { here = here; desk = of_desk.1; home = home.1; cell = c.requires.cell }));
       seats = λ n lt. moved (λ (v : SeatView ReadingView). v.number) (λ (w : Worker). w.seat.number) _ _ seat _ _ worker c.in-Some.ensures.items c.push_reserved.ensures.items refl n (before.seats n lt);
       as_many = search rules;
       all = search rules;

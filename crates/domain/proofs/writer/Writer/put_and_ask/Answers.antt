@@ -1,6 +1,8 @@
-use Rattle.std.proofs.Common.{refl}
+use Rattle.std.proofs.Common.{rules, ◌≡◌, refl}
 use Rattle.domain.proofs.Acting.{put_asks}
 use Rattle.domain.proofs.writer.Writer.put_and_ask.Goals as goal
 
 pub returns-clause-acts : goal.returns-clause-acts
-returns-clause-acts g c = rw (← c.cpu.view_is, ← c.self.view_is) (put_asks _ _ _ _ _ _ c.put.ensures.puts c.ask.result c.ask.ensures.asks refl refl)
+returns-clause-acts g c =
+    let n : c.unwrap.result ≡ c.put-cookie.result = search rules in
+    rw (← c.cpu.view_is, ← c.self.view_is) (put_asks _ _ _ _ _ _ c.put-cookie.ensures.puts c.unwrap.result n c.ask.result c.ask.ensures.asks refl refl)

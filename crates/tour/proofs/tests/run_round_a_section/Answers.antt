@@ -1,7 +1,7 @@
 -- Each call leaves the processor in its domain.
 use Rattle.std.proofs.Common.{arith}
 use Rattle.tour.proofs.Reading.{begun_here}
-use Rattle.tour.proofs.tests.free_round_a_section.Goals as goal
+use Rattle.tour.proofs.tests.run_round_a_section.Goals as goal
 
 pub replace_and_call-replaced-requires : goal.replace_and_call-replaced-requires
 replace_and_call-replaced-requires g c = c.requires
