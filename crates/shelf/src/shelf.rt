@@ -74,9 +74,9 @@ impl<T: Versioned> Shelf<T> {
         ensures here { IsOf domain.now cpu.new }
         ensures same { (self.new.domain ≡ self.old.domain) × (self.new.cell ≡ self.old.cell) }
         ensures replaces { MatchResult result
-            (λ cookie. Replaces (T.words value.now) cookie self.old cpu.old self.new cpu.new)
+            (λ cookie. Replaces (T.text value.now) cookie self.old cpu.old self.new cpu.new)
             (λ _. FindsNone self.old cpu.old self.new cpu.new) }
-        ensures has { IfOk result (λ _. words_of self.old.cell self.new.version cpu.new.cpu.texts ≡ T.words value.now) }
+        ensures has { IfOk result (λ _. words_of self.old.cell self.new.version cpu.new.cpu.texts ≡ T.text value.now) }
     {
         self.writer.reclaim(cpu);
         let Some(mut slot) = self.writer.blank() else {

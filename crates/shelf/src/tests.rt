@@ -24,7 +24,7 @@ impl Versioned for Sixteen {
 
     ghost fits = { λ s. length s.words ≡ 16 };
 
-    ghost words = { λ s. s.words };
+    ghost text = { λ s. s.words };
 
     ghost value = { λ words. record { words = words } };
 

@@ -8,19 +8,19 @@ pub trait Versioned {
     ghost fits: { Self → Type 0 };
 
     /// The sixteen words of a value.
-    ghost words: { Self → List ℕ };
+    ghost text: { Self → List ℕ };
 
     /// What sixteen words are read as, also where no value has them.
     ghost value: { List ℕ → Self };
 
     /// The words of the value.
     fn encode(&self) -> [u64; 16]
-        ensures { result ≡ words self.now };
+        ensures { result ≡ text self.now };
 
     /// The value that has these words. The words of version 0 are zeros: so long as nothing was put, they are read.
     fn decode(words: &[u64; 16]) -> Self
         ensures { result ≡ value words.now };
 
     /// A value is read from its words as it was.
-    ghost round_trip: { (x : Self) → fits x → value (words x) ≡ x };
+    ghost round_trip: { (x : Self) → fits x → value (text x) ≡ x };
 }

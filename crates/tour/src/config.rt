@@ -30,7 +30,7 @@ impl Versioned for Config {
 
     ghost fits = { λ _. Unit {0} };
 
-    ghost words = { λ c. c.number ∷ c.again ∷ replicate 14 0 };
+    ghost text = { λ c. c.number ∷ c.again ∷ replicate 14 0 };
 
     ghost value = { λ words. record { number = slice_index_or words 0 0; again = slice_index_or words 1 0 } };
 

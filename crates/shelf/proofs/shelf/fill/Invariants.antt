@@ -7,7 +7,7 @@ use Rattle.shelf.proofs.shelf.fill.Given as goal
 
 abbrev pub invariant-loop-place : goal.invariant-loop-place
 invariant-loop-place g l = record {
-  words : FilledTo l.place l.slot.slot l.fn.words.now l.initial.writer.words l.writer.words;
+  words : FilledTo l.place l.slot.slot l.fn.words l.initial.writer.words l.writer.words;
   same : IsSameWriter l.initial.writer l.writer;
   standings : l.writer.standings ≡ l.initial.writer.standings;
   since : IsBeginning l.initial.writer.seen l.writer.seen;
