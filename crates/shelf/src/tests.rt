@@ -46,8 +46,8 @@ fn same(number: u64) -> Sixteen {
     }
 }
 
-/// A domain with five processors and one cell of four slots, and who replaces and who reads the values there.
-fn five(
+/// A domain with five processors and one cell of so many slots, and who replaces and who reads the values there.
+fn domain_of_five(
     alloc: Global,
     slots: u64,
 ) -> Result<(Domain<()>, Five, Shelf<Sixteen>, Values<Sixteen>), MakeError>
@@ -69,14 +69,14 @@ fn five(
     let second = cpus.pop().unwrap();
     let first = cpus.pop().unwrap();
     let writer = cpus.pop().unwrap();
-    let five = Five {
+    let cpus = Five {
         first,
         second,
         third,
         fourth,
         writer,
     };
-    Ok((domain, five, shelf, values))
+    Ok((domain, cpus, shelf, values))
 }
 
 /// The processors of four readers and of the one that writes.
@@ -142,7 +142,7 @@ fn replace_thrice<R: Wait>(
 fn replace_in_two_slots<R: Wait + AllocGlobal>(
     rt: &R,
 ) -> Result<[Option<([u64; 2], Result<u64, NoSlot>)>; 3], MakeError> {
-    let (domain, cpus, mut shelf, values) = five(rt.alloc(), 2)?;
+    let (domain, cpus, mut shelf, values) = domain_of_five(rt.alloc(), 2)?;
     let mut cpu = cpus.writer;
     Ok(replace_thrice(rt, &domain, &mut cpu, &mut shelf, &values))
 }
@@ -197,15 +197,17 @@ fn read_on<R: Wait>(rt: &R, mut cpu: Cpu<()>, values: &Values<Sixteen>, done: &A
     };
     for _ in rt.forever() {
         let over = done.load(SeqCst);
-        let Some(Sixteen { words }) = read_once(&mut cpu, values) else {
+        let Some(value) = read_once(&mut cpu, values) else {
             return found;
         };
+        let words = value.words;
         found.whole &= words == [words[0]; 16] && words[0] >= found.last;
         found.last = words[0];
         found.sections = found.sections.saturating_add(1);
         if over {
             return found;
         }
+        yield_now(); // whoever loses its core in a section holds a period up
     }
     unreachable!()
 }
@@ -292,7 +294,7 @@ fn read_by_four<R: Wait + Threads + Sync>(
 fn read_and_put<R: Wait + Threads + Sync + AllocGlobal>(
     rt: &R,
 ) -> Result<([Found; 2], [Found; 2]), MakeError> {
-    let (domain, cpus, shelf, values) = five(rt.alloc(), 4)?;
+    let (domain, cpus, shelf, values) = domain_of_five(rt.alloc(), 8)?;
     let done = AtomicBool::new(false);
     let Five {
         first,
