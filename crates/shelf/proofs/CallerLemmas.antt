@@ -1,12 +1,13 @@
 -- For the proofs of callers: what was put is read.
-use Rattle.std.proofs.Common.{◌≡◌, ℕ, ◌<◌, List, Result, Ok, Err, MatchResult, length, get_or, sym, ap, ◌∙◌, arith, ext_get_or}
+use Rattle.std.proofs.Common.{◌≡◌, ℕ, ◌<◌, List, length, get_or, sym, ap, ◌∙◌, arith, ext_get_or}
 use Rattle.sections.specs.Shelves.{words_of}
-use Rattle.sections.specs.Views.{FoundView}
+use Rattle.sections.specs.Views.{ReadingView, FoundView}
+use Rattle.sections.specs.Calls.{IsSameCpu}
 use Rattle.sections.specs.WriterViews.{WriterView}
 use Rattle.domain.specs.Views.{CpuView}
 use Rattle.domain.specs.Waiting.{HasNoneOpen}
 use Rattle.domain.proofs.CallerLemmas.{same_put, same_reclaimed, none_still}
-use Rattle.shelf.specs.Reading.{AreWords}
+use Rattle.shelf.specs.Reading.{AreWords, Loads, Reads}
 use Rattle.shelf.specs.Replacing.{Replaces, FindsNone}
 
 -- a version has the same words each time
@@ -18,7 +19,16 @@ pub words_put : (f : FoundView) (text words : List ℕ) → length text ≡ 16 �
 words_put f text words long has are = ext_get_or 0 words text (are.long ∙ sym long) (λ i lt. let li : i < 16 = (let n = are.long in omega (arith, lt, n)) in are.each i li ∙ ap (λ l. get_or l i 0) has)
 
 -- replacing opens no section, whether a slot was free or not
-pub none_replaced : {E : Type 0} (text : List ℕ) (w w' : WriterView) (c c' : CpuView) (r : Result ℕ E) → MatchResult r (λ cookie. Replaces text cookie w c w' c') (λ _. FindsNone w c w' c') → HasNoneOpen c → HasNoneOpen c'
-none_replaced text w w' c c' (Ok cookie) h none =
+pub none_replaced : (text : List ℕ) (cookie : ℕ) (w w' : WriterView) (c c' : CpuView) → Replaces text cookie w c w' c' → HasNoneOpen c → HasNoneOpen c'
+none_replaced text cookie w w' c c' h none =
     none_still h.at c' (same_put h.slot cookie h.filled w' h.at.cpu c'.cpu h.puts.puts) (none_still c h.at (same_reclaimed w h.freed c.cpu h.at.cpu h.frees.reclaims) none)
-none_replaced text w w' c c' (Err e) h none = none_still c c' (same_reclaimed w w' c.cpu c'.cpu h.frees.reclaims) none
+
+pub none_refused : (w w' : WriterView) (c c' : CpuView) → FindsNone w c w' c' → HasNoneOpen c → HasNoneOpen c'
+none_refused w w' c c' h none = none_still c c' (same_reclaimed w w' c.cpu c'.cpu h.frees.reclaims) none
+
+-- reading leaves the processor the same, in one call or in two
+pub same_loaded : {T : Type 0} (value : List ℕ → T) (f : FoundView) (c c' : CpuView) (x : T) → Loads value f c c' x → IsSameCpu c.cpu c'.cpu
+same_loaded value f c c' x h = h.loads.same
+
+pub same_read : {T : Type 0} (value : List ℕ → T) (cell : ℕ) (r : ReadingView) (c c' : CpuView) (x : T) → Reads value cell r c c' x → IsSameCpu c.cpu c'.cpu
+same_read value cell r c c' x h = let f = h.finds.adds.same in let l = h.loads.loads.same in (l.0 ∙ f.0, l.1 ∙ f.1, l.2 ∙ f.2, l.3 ∙ f.3)

@@ -53,8 +53,8 @@ fn domain_of_five(
 ) -> Result<(Domain<()>, Five, Shelf<Sixteen>, Values<Sixteen>), MakeError>
     ensures writer { IfOk result (λ r. IsOf r.0 r.1.writer × (r.2.domain ≡ r.0.domain)) }
     ensures cell { IfOk result (λ r. r.3 < cells_in r.0.domain) }
-    ensures first { IfOk result (λ r. IsOf r.0 r.1.first × IsOf r.0 r.1.second) }
-    ensures last { IfOk result (λ r. IsOf r.0 r.1.third × IsOf r.0 r.1.fourth) }
+    ensures first { IfOk result (λ r. (r.3 < cells_in r.1.first.cpu.domain) × (r.3 < cells_in r.1.second.cpu.domain)) }
+    ensures last { IfOk result (λ r. (r.3 < cells_in r.1.third.cpu.domain) × (r.3 < cells_in r.1.fourth.cpu.domain)) }
 {
     let limits = Limits {
         sections: Limits::MOST_SECTIONS,
@@ -285,17 +285,28 @@ fn read_by_four<R: Wait + Threads + Sync>(
 {
     join(
         rt,
-        || read_by_two(rt, first, second, values, done),
-        || read_by_two(rt, third, fourth, values, done),
+        ||
+            requires { (values.now < cells_in first.cpu.domain) × (values.now < cells_in second.cpu.domain) }
+        { read_by_two(rt, first, second, values, done) },
+        ||
+            requires { (values.now < cells_in third.cpu.domain) × (values.now < cells_in fourth.cpu.domain) }
+        { read_by_two(rt, third, fourth, values, done) },
     )
 }
 
-/// Four threads read while one puts. What they found.
-fn read_and_put<R: Wait + Threads + Sync + AllocGlobal>(
+/// Four threads read while one puts.
+fn read_beside<R: Wait + Threads + Sync>(
     rt: &R,
-) -> Result<([Found; 2], [Found; 2]), MakeError> {
-    let (domain, cpus, shelf, values) = domain_of_five(rt.alloc(), 8)?;
-    let done = AtomicBool::new(false);
+    domain: &Domain<()>,
+    cpus: Five,
+    shelf: Shelf<Sixteen>,
+    values: &Values<Sixteen>,
+    done: &AtomicBool,
+) -> ([Found; 2], [Found; 2])
+    requires writer { IsOf domain.now cpus.writer × (shelf.domain ≡ domain.now.domain) }
+    requires first { (values.now < cells_in cpus.first.cpu.domain) × (values.now < cells_in cpus.second.cpu.domain) }
+    requires last { (values.now < cells_in cpus.third.cpu.domain) × (values.now < cells_in cpus.fourth.cpu.domain) }
+{
     let Five {
         first,
         second,
@@ -305,10 +316,24 @@ fn read_and_put<R: Wait + Threads + Sync + AllocGlobal>(
     } = cpus;
     let (found, ()) = join(
         rt,
-        || read_by_four(rt, first, second, third, fourth, &values, &done),
-        || put_all(rt, &domain, writer, shelf, &done),
+        ||
+            requires two { (values.now < cells_in first.cpu.domain) × (values.now < cells_in second.cpu.domain) }
+            requires others { (values.now < cells_in third.cpu.domain) × (values.now < cells_in fourth.cpu.domain) }
+        { read_by_four(rt, first, second, third, fourth, values, done) },
+        ||
+            requires { IsOf domain.now writer × (shelf.domain ≡ domain.now.domain) }
+        { put_all(rt, domain, writer, shelf, done) },
     );
-    Ok(found)
+    found
+}
+
+/// The same in a domain of its own. What the readers found.
+fn read_and_put<R: Wait + Threads + Sync + AllocGlobal>(
+    rt: &R,
+) -> Result<([Found; 2], [Found; 2]), MakeError> {
+    let (domain, cpus, shelf, values) = domain_of_five(rt.alloc(), 8)?;
+    let done = AtomicBool::new(false);
+    Ok(read_beside(rt, &domain, cpus, shelf, &values, &done))
 }
 
 /// Would catch a version whose words change while a section reads them, and a section that finds an older one than the

@@ -24,6 +24,7 @@ fn read_and_sleep<R: Clock>(rt: &R, cpu: &mut Cpu<Old>, configs: &Values<Config>
     let before = configs.load(cpu, &mut version);
     sleep(rt, Duration::from_millis(NAP)); // a reader may sleep in its section
     let behind = configs.load(cpu, &mut version); // word for word the same, whatever was put meanwhile
+    drop(version);
     cpu.read_unlock(section); // srcu_read_unlock: code that leaves a section open is refused
 
     Ok(before.is_whole() && before == behind)

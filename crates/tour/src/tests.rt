@@ -169,6 +169,7 @@ fn run_round_a_section<R: Wait>(
     let waiting = domain.advance(rt, updater);
     let early = run_ready(rt, domain, updater, processor, &archive);
     let behind = configs.load(reader, &mut version);
+    drop(version);
     reader.read_unlock(section);
     let ended = domain.advance(rt, updater);
     let late = run_ready(rt, domain, updater, processor, &archive);

@@ -1,6 +1,8 @@
 -- All processors are of the domain, and so is each that was taken out; likewise its writer.
 use Rattle.std.proofs.Common.{◌≡◌, ◌<◌, All, sym, ap, ◌∙◌, subst, arith}
 use Rattle.std.proofs.lemmas.List.Elements.{All-pop}
+use Rattle.atomic_table.specs.Seated.{TableId}
+use Rattle.sections.specs.Words.{cells_in}
 use Rattle.sections.specs.WriterViews.{WriterView}
 use Rattle.domain.specs.Views.{CpuView, IsOf}
 use Rattle.domain.proofs.CallerLemmas.{writers_here}
@@ -34,11 +36,17 @@ returns-clause-first c =
     let third = All-pop P _ _ _ c.pop-3.ensures.items fourth.0 in
     let second = All-pop P _ _ _ c.pop-4.ensures.items third.0 in
     let first = All-pop P _ _ _ c.pop-5.ensures.items second.0 in
-    (rw c.unwrap-first.ensures at first.1, rw c.unwrap-second.ensures at second.1)
+    let at_first : P c.unwrap-first.result = rw c.unwrap-first.ensures at first.1 in
+    let at_second : P c.unwrap-second.result = rw c.unwrap-second.ensures at second.1 in
+    let There : TableId → Type 0 = λ t. c.new-shelf.result.1 < cells_in t in
+    (subst There (sym at_first.domain) (returns-clause-cell c), subst There (sym at_second.domain) (returns-clause-cell c))
 
 pub returns-clause-last : goal.returns-clause-last
 returns-clause-last c =
     let P : CpuView → Type 0 = IsOf c.in_ok-domain.domain in
     let fourth = All-pop P _ _ _ c.pop-2.ensures.items c.in_ok-domain.ensures.all.here in
     let third = All-pop P _ _ _ c.pop-3.ensures.items fourth.0 in
-    (rw c.unwrap-third.ensures at third.1, rw c.unwrap-fourth.ensures at fourth.1)
+    let at_third : P c.unwrap-third.result = rw c.unwrap-third.ensures at third.1 in
+    let at_fourth : P c.unwrap-fourth.result = rw c.unwrap-fourth.ensures at fourth.1 in
+    let There : TableId → Type 0 = λ t. c.new-shelf.result.1 < cells_in t in
+    (subst There (sym at_third.domain) (returns-clause-cell c), subst There (sym at_fourth.domain) (returns-clause-cell c))

@@ -1,7 +1,9 @@
+-- Replacing opens no section.
+use Rattle.shelf.proofs.CallerLemmas.{none_replaced}
 use Rattle.tour.proofs.updaters.replace.Goals as goal
 
 pub synchronize-requires-clause-domain : goal.synchronize-requires-clause-domain
-synchronize-requires-clause-domain g c = c.requires.0
+synchronize-requires-clause-domain g c = c.in_ok-replace.ensures.here
 
 pub synchronize-requires-clause-none : goal.synchronize-requires-clause-none
-synchronize-requires-clause-none g c = c.requires.1
+synchronize-requires-clause-none g c = none_replaced _ _ _ _ _ _ c.in_ok-replace.ensures.replaces c.requires.cpu.1

@@ -1,5 +1,6 @@
 -- Each call leaves the processor in its domain, and the cookie was given there.
 use Rattle.std.proofs.Common.{sym, ap, ◌∙◌}
+use Rattle.sections.specs.Views.{ReadingView}
 use Rattle.tour.proofs.updaters.replace_and_poll.Goals as goal
 
 pub poll-early-requires : goal.poll-early-requires
@@ -9,14 +10,14 @@ poll-early-requires g c =
 
 pub up_read-requires : goal.up_read-requires
 up_read-requires g c =
-    let here = c.poll-early.ensures.stays _ c.start_poll-cookie.ensures.here in
-    c.requires.held ∙ (c.requires.domain.domain ∙ sym here.domain)
+    let here = c.load_held-read.ensures.stays _ (c.poll-early.ensures.stays _ c.start_poll-cookie.ensures.here) in
+    ap (λ (z : ReadingView). z.domain) (c.into_held.ensures ∙ c.load_held-read.ensures.same.0) ∙ (c.requires.held ∙ sym here.domain)
 
 pub loop-init : goal.loop-init
 loop-init g c =
     let given = c.start_poll-cookie.ensures.starts.gives.cookie_is in record {
-      here = c.up_read.ensures.stays _ (c.poll-early.ensures.stays _ c.start_poll-cookie.ensures.here);
-      cookie = ap (λ k. k.domain) (c.poll-early.ensures.cookie ∙ given) ∙ c.requires.domain.domain;
+      here = c.up_read.ensures.stays _ (c.load_held-read.ensures.stays _ (c.poll-early.ensures.stays _ c.start_poll-cookie.ensures.here));
+      cookie = ap (λ k. k.domain) (c.poll-early.ensures.cookie ∙ given) ∙ c.replace-replaced.ensures.here.domain;
     }
 
 pub poll-requires : goal.poll-requires
