@@ -90,6 +90,16 @@ fn look_at(cpu: &mut Cpu<Job>, reading: &mut Reading, signs: &Signs) -> Sight
     }
 }
 
+/// Counts a version that was too old, and one of several pieces.
+fn judge(counts: &mut Counts, sight: Sight) {
+    if sight.age > 1 {
+        count(&mut counts.stale);
+    }
+    if sight.first != sight.version || sight.last != sight.version {
+        count(&mut counts.torn);
+    }
+}
+
 /// Opens a section, reads the version that is there, and closes it. A version that was replaced may be read until its
 /// next grace period has ended, and that can't end as long as the section is open.
 fn read(domain: &Domain<Job>, desk: &Desk<Held>, signs: &Signs, worker: &mut Worker)
@@ -104,12 +114,7 @@ fn read(domain: &Domain<Job>, desk: &Desk<Held>, signs: &Signs, worker: &mut Wor
     let sight = look_at(&mut worker.cpu, &mut reading, signs);
     worker.cpu.read_unlock(reading);
     count(&mut worker.counts.closed);
-    if sight.age > 1 {
-        count(&mut worker.counts.stale);
-    }
-    if sight.first != sight.version || sight.last != sight.version {
-        count(&mut worker.counts.torn);
-    }
+    judge(&mut worker.counts, sight);
 }
 
 /// Closes a section that lay on the desk, if one did.

@@ -3,4 +3,4 @@ use Rattle.soak.specs.Drivers.{IsDriving}
 use Rattle.soak.proofs.driver.age_all.Given as goal
 
 abbrev pub invariant-loop-place : goal.invariant-loop-place
-invariant-loop-place g l = IsDriving l.domain l.driver
+invariant-loop-place l = IsDriving l.domain l.driver
