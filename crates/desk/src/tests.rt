@@ -20,7 +20,11 @@ fn new_domain(alloc: Global) -> Result<(Cpu, Cpu, EngineSeat), MakeError>
         cells: 0,
         slots: 2,
     };
-    let Made { mut cpus, engine, .. } = make(alloc, 2, limits)?;
+    let Made {
+        mut cpus,
+        engine,
+        ..
+    } = make(alloc, 2, limits)?;
     let there = cpus.pop().unwrap();
     let here = cpus.pop().unwrap();
     Ok((here, there, engine))

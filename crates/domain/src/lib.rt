@@ -17,8 +17,8 @@ pub use domain::cleanup::{InUse, Totals};
 pub use refusals::{AdvanceRefusal, StartRefusal};
 pub use scan::{Exhausted as PeriodsExhausted, Progress};
 pub use sections::{
-    Cookie, DownPin, Exhausted, Found, Held, HeldPin, Home, Limits, Look, MOST_PROCESSORS, MakeError, NotACookie, Pin,
-    Reading, Slot, Standing,
+    Cookie, DownPin, Exhausted, Found, Held, HeldPin, Home, Limits, Look, MOST_PROCESSORS,
+    MakeError, NotACookie, Pin, Reading, Slot, Standing,
 };
 pub use sseq::{Index, Number};
 pub use tied::Tied;

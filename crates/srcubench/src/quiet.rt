@@ -20,7 +20,11 @@ pub fn run<R: Clock + AllocGlobal>(rt: &R, processors: usize, periods: u64) -> R
         cells: 0,
         slots: 2,
     };
-    let Made { mut cpus, engine, .. } = make(rt.alloc(), processors, limits)?;
+    let Made {
+        mut cpus,
+        engine,
+        ..
+    } = make(rt.alloc(), processors, limits)?;
     let cpu = cpus.pop().unwrap();
     let start = Instant::now(rt)?;
     let mut engine = Engine::new(engine, EveryPeriod { cpu });

@@ -106,7 +106,11 @@ fn stops_where_no_more_periods_may_start(rt: HostRuntime) -> Result<(), Fail> {
             cells: 0,
             slots: 2,
         };
-        let Made { mut cpus, engine, .. } = make(rt.alloc(), 2, limits)?;
+        let Made {
+            mut cpus,
+            engine,
+            ..
+        } = make(rt.alloc(), 2, limits)?;
         let cpu = cpus.pop().unwrap();
         let mut engine = Engine::new(engine, EveryPeriod { cpu });
         let made = make_periods(&mut engine, periods);
@@ -124,7 +128,11 @@ fn stops_at_an_open_section(rt: HostRuntime) -> Result<(), Fail> {
         cells: 0,
         slots: 2,
     };
-    let Made { mut cpus, engine, .. } = make(rt.alloc(), 2, limits)?;
+    let Made {
+        mut cpus,
+        engine,
+        ..
+    } = make(rt.alloc(), 2, limits)?;
     let cpu = cpus.pop().unwrap();
     let mut reader = cpus.pop().unwrap();
     let reading = reader.read_lock()?;

@@ -223,7 +223,9 @@ fn print_filed<R: Print + AllocGlobal>(
     let (count, last) = archive.told();
     println!(rt; "slept in {NAPS} sections, and read the same before and behind it: {same}")?;
     println!(rt; "callbacks that ran: {ran}")?;
-    println!(rt; "configuration 5 is there, {count} are filed, and the last one of them is number {last}")?;
+    println!(rt;
+        "configuration 5 is there, {count} are filed, and the last one of them is number {last}"
+    )?;
     Ok(())
 }
 

@@ -44,7 +44,11 @@ fn new_in_little_room(rt: HostRuntime) -> Result<(), Fail> {
 fn new_domain(alloc: Global) -> Result<(Cpu, EngineSeat), MakeError>
     ensures { IfOk result (λ r. (r.0.domain ≡ r.1.domain) × (r.0.processor ≡ 0) × (r.1.processors ≡ 1)) }
 {
-    let Made { mut cpus, engine, .. } = make(alloc, 1, LIMITS)?;
+    let Made {
+        mut cpus,
+        engine,
+        ..
+    } = make(alloc, 1, LIMITS)?;
     let cpu = cpus.pop().unwrap();
     Ok((cpu, engine))
 }

@@ -28,7 +28,11 @@ fn new_engine(alloc: Global) -> Result<EngineSeat, MakeError> {
         cells: 0,
         slots: 2,
     };
-    let Made { cpus: _, engine, .. } = make(alloc, 1, limits)?;
+    let Made {
+        cpus: _,
+        engine,
+        ..
+    } = make(alloc, 1, limits)?;
     Ok(engine)
 }
 

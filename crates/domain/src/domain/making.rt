@@ -73,11 +73,14 @@ fn build<J: Drop, A: Allocator + Copy>(
     ensures cells { IfOk result (λ m. cells_in m.0.domain ≡ limits.cells) }
     ensures writers { IfOk result (λ m. AreNewWriters m.0.domain limits.cells limits.slots m.2.items) }
 {
-    let Ok(Made {
-        cpus,
-        mut engine,
-        writers,
-    }) = sections::make(alloc, processors, limits) else {
+    let Ok(
+        Made {
+            cpus,
+            mut engine,
+            writers,
+        },
+    ) = sections::make(alloc, processors, limits)
+    else {
         return Err(AllocError);
     };
     let (needs, root) = funnel::make(alloc, processors)?;

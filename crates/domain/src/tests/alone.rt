@@ -223,11 +223,7 @@ type Refused = (
     (u64, bool, u64),
 );
 
-fn start_beyond_the_last<R: Wait + Abort>(
-    rt: &R,
-    domain: &Domain<()>,
-    cpu: &mut Cpu<()>,
-) -> Refused
+fn start_beyond_the_last<R: Wait + Abort>(rt: &R, domain: &Domain<()>, cpu: &mut Cpu<()>) -> Refused
     requires { IsOf domain.now cpu.old }
 {
     let idle = domain.advance(rt, cpu);
@@ -328,11 +324,7 @@ type Filled = (
     (Result<Number, StartRefusal>, Answer),
 );
 
-fn fill_both_indices<R: Wait>(
-    rt: &R,
-    domain: &Domain<()>,
-    cpu: &mut Cpu<()>,
-) -> Option<Filled>
+fn fill_both_indices<R: Wait>(rt: &R, domain: &Domain<()>, cpu: &mut Cpu<()>) -> Option<Filled>
     requires { IsOf domain.now cpu.old }
 {
     let Ok(section) = cpu.read_lock() else {
@@ -428,7 +420,10 @@ fn synchronizes_alone(rt: HostRuntime) -> Result<(), Fail> {
     let (waited, last) = wait_in_a_pair(&rt)?;
     let answers = [Ok(()), Ok(()), Err(PeriodsExhausted)];
     let numbers = [number(4), number(8), number(12)];
-    assert_eq!(rt; (waited, last), (Some((answers, numbers, [false, true])), 8));
+    assert_eq!(rt;
+        (waited, last),
+        (Some((answers, numbers, [false, true])), 8)
+    );
     Ok(())
 }
 

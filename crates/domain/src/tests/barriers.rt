@@ -61,11 +61,7 @@ type Stages = (bool, bool, Option<(Option<u64>, bool, bool)>);
 
 /// Starts a barrier, queues a job, and starts another barrier. Tells whether the first is done at once, whether the second
 /// is done behind a grace period, and then as above.
-fn poll_at_each_stage<R: Wait>(
-    rt: &R,
-    domain: &Domain<u64>,
-    cpu: &mut Cpu<u64>,
-) -> Option<Stages>
+fn poll_at_each_stage<R: Wait>(rt: &R, domain: &Domain<u64>, cpu: &mut Cpu<u64>) -> Option<Stages>
     requires here { IsOf domain.now cpu.old }
     requires some { 0 < domain.now.processors }
 {
