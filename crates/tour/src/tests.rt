@@ -179,8 +179,7 @@ fn run_round_a_section<R: Wait>(
 
 fn run_in_a_pair<R: Wait + AllocGlobal>(rt: &R) -> Result<Around> {
     let (domain, mut reader, mut updater, writer) = pair(rt.alloc())?;
-    let (mut shelf, configs) = Shelf::new(writer);
-    shelf.replace(&domain, &mut updater, &Config::new(1))?;
+    let (mut shelf, configs) = shelve(&domain, &mut updater, writer, 1)?;
     run_round_a_section(rt, &domain, &mut reader, &mut updater, &mut shelf, &configs)
 }
 
