@@ -1,7 +1,6 @@
 -- The section is of the processor's domain, and has found a version of this cell.
-use Rattle.std.proofs.Common.{ap, ◌∙◌, subst}
-use Rattle.sections.specs.Views.{ReadingView, FoundView}
-use Rattle.sections.specs.Reads.{IsPinned}
+use Rattle.std.proofs.Common.{ap, ◌∙◌}
+use Rattle.sections.specs.Views.{ReadingView}
 use Rattle.tour.proofs.Reading.{of_domain}
 use Rattle.tour.proofs.readers.open.Goals as goal
 
