@@ -39,7 +39,7 @@ function domain_name() {
     return chance(faults) ? bad_name() : padded("d" below(domains) "x")
 }
 
-# Looks and sections share their names, so that one kind is often found where the other should be.
+# Looks, sections and tickets share their names, so that one kind is often found where another should be.
 function token_name() {
     return chance(faults) ? bad_name() : padded("s" below(tokens) "x")
 }
@@ -67,11 +67,11 @@ function cookie() {
 function words_of(command) {
     if (command == "domain")
         return command " " domain_name() " " processors()
-    if (command == "state" || command == "unpark")
+    if (command == "state" || command == "unpark" || command == "cleanup")
         return command " " domain_name()
     if (command == "unlock" || command == "park")
         return command " " domain_name() " " token_name()
-    if (command == "look" || command == "enter" || command == "lock" || command == "down" || command == "up")
+    if (command == "look" || command == "enter" || command == "lock" || command == "down" || command == "up" || command == "call" || command ~ /^barrier/)
         return command " " domain_name() " " processor() " " token_name()
     if (command == "poll")
         return command " " domain_name() " " processor() " " cookie()
@@ -94,7 +94,7 @@ function spoilt(line,    words, count) {
     if (kind == 2)
         return repeated("x", 195 + below(400))
     if (kind == 3)
-        return one_of("Lock,locks,loc,advance1,help,exit,lookup,STATE,.,0,synchronize,barrier,downs,unpar") substr(line, length(words[1]) + 1)
+        return one_of("Lock,locks,loc,advance1,help,exit,lookup,STATE,.,0,synchronize,barriers,downs,unpar,runs,cal") substr(line, length(words[1]) + 1)
     if (kind == 4)
         return words[1]
     if (kind == 5)
@@ -138,7 +138,8 @@ BEGIN {
     random = (seed * 7919 + 104729) % 2147483647
     for (i = 0; i < 20; i++)
         below(2)
-    acting = "look,enter,lock,lock,unlock,unlock,down,down,up,up,park,park,unpark,unpark,get,ask,poll,poll,state,domain"
+    acting = "look,enter,lock,lock,unlock,unlock,down,down,up,up,park,park,unpark,unpark,get,ask,poll,poll,state,domain" \
+        ",call,call,call,call,run,run,run,batch,finish,segs,barrier,barrier-poll,barrier-poll,cleanup"
     driving = "start,advance,advance,step,step,step"
     faults = one_of("0,1,5,20")
     domains = one_of("1,2,3,12")
