@@ -6,8 +6,6 @@ mod queued;
 mod refusals;
 mod solo;
 mod taking;
-#[cfg(test)]
-mod tests;
 
 pub use domain::{InUse, Totals};
 pub use queued::Queued;
