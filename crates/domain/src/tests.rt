@@ -3,5 +3,4 @@ mod barriers;
 mod calling;
 mod cleanup;
 mod jobs;
-mod queues;
 mod threads;

@@ -27,8 +27,8 @@ pub none_refused : (w w' : WriterView) (c c' : CpuView) → FindsNone w c w' c' 
 none_refused w w' c c' h none = none_still c c' (same_reclaimed w w' c.cpu c'.cpu h.frees.reclaims) none
 
 -- reading leaves the processor the same, in one call or in two
-pub same_loaded : {T : Type 0} (value : List ℕ → T) (f : FoundView) (c c' : CpuView) (x : T) → Loads value f c c' x → IsSameCpu c.cpu c'.cpu
-same_loaded value f c c' x h = h.loads.same
+pub same_loaded : {T : Type 0} (value : List ℕ → T) (r : ReadingView) (f : FoundView) (c c' : CpuView) (x : T) → Loads value r f c c' x → IsSameCpu c.cpu c'.cpu
+same_loaded value r f c c' x h = h.loads.same
 
 pub same_read : {T : Type 0} (value : List ℕ → T) (cell : ℕ) (r : ReadingView) (c c' : CpuView) (x : T) → Reads value cell r c c' x → IsSameCpu c.cpu c'.cpu
 same_read value cell r c c' x h = let f = h.finds.adds.same in let l = h.loads.loads.same in (l.0 ∙ f.0, l.1 ∙ f.1, l.2 ∙ f.2, l.3 ∙ f.3)

@@ -1,6 +1,6 @@
 -- What replacing a value does.
 use Rattle.std.specs.Prelude.{◌≡◌, ◌≢◌, ℕ, ◌^◌, ◌<◌, ◌≤◌, ◌⊎◌, List, slice_set}
-use Rattle.onedom.specs.Histories.{IsBeginning}
+use Rattle.onedom.specs.Histories.{IsBeginning, IsClear}
 use Rattle.sections.specs.declared.writer.Standing.TheVariants.{Blank, Out}
 use Rattle.sections.specs.Shelves.{slot_words}
 use Rattle.sections.specs.WriterViews.{WriterView}
@@ -8,13 +8,14 @@ use Rattle.sections.specs.Writers.{standing_of, IsSameWriter, Reclaims, NoneBlan
 use Rattle.domain.specs.Views.{CpuView, with_cpu}
 use Rattle.domain.specs.Writers.{PutsAndAsks}
 
--- the slot has these words then, and nothing else has changed
+-- the slot has these words then, and nothing else has changed. Nobody can read it in what the writer has then seen
 pub record Fills (slot : ℕ) (text : List ℕ) (w w' : WriterView) : Type 0 where
   pub same : IsSameWriter w w'
   pub standings : w'.standings ≡ w.standings
   pub text_is : slot_words slot w'.words ≡ text
   pub others : (x : ℕ) → x ≢ slot → slot_words x w'.words ≡ slot_words x w.words
   pub since : IsBeginning w.seen w'.seen
+  pub clear : IsClear w'.seen w.cell slot
 
 -- what nobody can read any more became blank
 pub record Frees (w : WriterView) (c : CpuView) (w' : WriterView) (c' : CpuView) : Type 0 where

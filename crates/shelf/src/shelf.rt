@@ -14,7 +14,7 @@ use std::error::Error;
 use std::fmt;
 use std::marker::{Model, PhantomData};
 
-/// Every slot is read yet: neither is one blank, nor is the cookie of a retired one done. Or 2^54 values were put.
+/// No slot is free: none is blank, and of no retired one is the cookie done. Or 2^54 values were put.
 #[derive(Clone, Copy, Debug, PartialEq, Eq)]
 pub struct NoSlot;
 
@@ -75,6 +75,7 @@ impl<T: Versioned> Shelf<T> {
     ) -> Result<u64, NoSlot>
         requires domain { IsOf domain.now cpu.old }
         requires shelf { self.old.domain ≡ domain.now.domain }
+        requires fits { T.fits value.now }
         ensures here { IsOf domain.now cpu.new }
         ensures same { (self.new.domain ≡ self.old.domain) × (self.new.cell ≡ self.old.cell) }
         ensures replaces { MatchResult result

@@ -80,7 +80,7 @@ impl<T: Versioned> Values<T> {
         requires pinned { IsPinned pin.old.reading.now pin.old.found }
         requires cell { pin.old.found.cell ≡ self.now.cell }
         requires home { self.now.domain ≡ cpu.old.cpu.domain }
-        ensures loads { Loads T.value pin.old.found cpu.old cpu.new result }
+        ensures loads { Loads T.value pin.old.reading.now pin.old.found cpu.old cpu.new result }
         ensures same { (pin.new.reading.now ≡ pin.old.reading.now) × (pin.new.found ≡ pin.old.found) }
         ensures same_reference { pin.new.reading.ghost_name ≡ pin.old.reading.ghost_name }
         ensures stays { Stays cpu.old cpu.new }
@@ -107,7 +107,7 @@ impl<T: Versioned> Values<T> {
         requires pinned { IsPinned pin.old.held pin.old.found }
         requires cell { pin.old.found.cell ≡ self.now.cell }
         requires home { self.now.domain ≡ cpu.old.cpu.domain }
-        ensures loads { Loads T.value pin.old.found cpu.old cpu.new result }
+        ensures loads { Loads T.value pin.old.held pin.old.found cpu.old cpu.new result }
         ensures same { (pin.new.held ≡ pin.old.held) × (pin.new.found ≡ pin.old.found) }
         ensures stays { Stays cpu.old cpu.new }
     {
@@ -119,7 +119,7 @@ impl<T: Versioned> Values<T> {
 fn load_all<J, A: Allocator>(cpu: &mut Cpu<J, A>, pin: &mut Pin<'_>) -> [u64; 16]
     requires here { pin.old.reading.now.domain ≡ cpu.old.cpu.domain }
     requires pinned { IsPinned pin.old.reading.now pin.old.found }
-    ensures loads { LoadsAll pin.old.found result cpu.old cpu.new }
+    ensures loads { LoadsAll pin.old.reading.now pin.old.found result cpu.old cpu.new }
     ensures same { (pin.new.reading.now ≡ pin.old.reading.now) × (pin.new.found ≡ pin.old.found) }
     ensures same_reference { pin.new.reading.ghost_name ≡ pin.old.reading.ghost_name }
     ensures stays { Stays cpu.old cpu.new }
@@ -135,7 +135,7 @@ fn load_all<J, A: Allocator>(cpu: &mut Cpu<J, A>, pin: &mut Pin<'_>) -> [u64; 16
 fn load_all_held<J, A: Allocator>(cpu: &mut Cpu<J, A>, pin: &mut HeldPin) -> [u64; 16]
     requires here { pin.old.held.domain ≡ cpu.old.cpu.domain }
     requires pinned { IsPinned pin.old.held pin.old.found }
-    ensures loads { LoadsAll pin.old.found result cpu.old cpu.new }
+    ensures loads { LoadsAll pin.old.held pin.old.found result cpu.old cpu.new }
     ensures same { (pin.new.held ≡ pin.old.held) × (pin.new.found ≡ pin.old.found) }
     ensures stays { Stays cpu.old cpu.new }
 {

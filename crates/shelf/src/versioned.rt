@@ -4,7 +4,7 @@
 pub trait Versioned {
     ghost use Rattle.std.specs.Prelude.{ℕ, List, ◌≡◌};
 
-    /// Which values come back as they were.
+    /// Which values come back as they were: just these may be put.
     ghost fits: { Self → Type 0 };
 
     /// The sixteen words of a value.

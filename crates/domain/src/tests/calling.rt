@@ -4,11 +4,9 @@ ghost use Rattle.domain.specs.Views.{IsOf};
 
 use crate::{
     AdvanceRefusal, CallRefusal, Cpu, Domain, Index, Limits, MakeError, Memory, Number, Progress,
-    TakeRefusal,
 };
 use linked_list_allocator::LocalHeap;
 use std::alloc::{AllocError, Allocator, Global};
-use std::process::Abort;
 use std::sync::Wait;
 use std::test::Fail;
 
@@ -32,29 +30,6 @@ pub(super) fn single<A: Allocator + Copy>(
     let (domain, mut cpus, _) = Domain::<u64, A>::new(alloc, 1, LIMITS)?;
     let cpu = cpus.pop().unwrap();
     Ok((domain, cpu))
-}
-
-/// Takes what is ready on this processor, runs it, and finishes the batch. Tells how many jobs were in the batch, if there
-/// was one. To run a job is to put it behind those that ran before.
-pub(super) fn run_ready<R: Wait + Abort>(
-    rt: &R,
-    domain: &Domain<u64>,
-    cpu: &mut Cpu<u64>,
-    ran: &mut Vec<u64>,
-) -> Result<Option<usize>, TakeRefusal>
-    requires { IsOf domain.now cpu.old }
-    ensures { IsOf domain.now cpu.new }
-{
-    let processor = cpu.processor();
-    let Some(mut batch) = domain.take_ready(rt, cpu, processor, 20)? else {
-        return Ok(None); // nothing is ready here
-    };
-    let count = batch.count(); // from 1 to 8
-    while let Some(job) = batch.next() {
-        ran.push(job).expect(rt, "there is room"); // each job once, the first one first
-    }
-    domain.finish(rt, cpu, batch); // code that loses a batch, or finishes one with jobs left in it, is refused
-    Ok(Some(count))
 }
 
 /// What the engine answers to one call.
@@ -104,69 +79,6 @@ pub(super) fn held_up() -> HeldUp {
         Ok(Progress::Waiting(Index::Zero)),
     ];
     (period, Ok(Progress::Ended(number(4))), false, true)
-}
-
-/// What is told of a job that is queued: its processor, its number, its cookie's, and the need; what the engine answers;
-/// and how many jobs are ready before the period, behind it, and behind that.
-type Told = (
-    (u16, u64, u64, u64),
-    [Answer; 3],
-    [Result<Option<usize>, TakeRefusal>; 3],
-);
-
-/// Queues a job, and runs it behind a period.
-fn queue_and_run<R: Wait + Abort>(
-    rt: &R,
-    domain: &Domain<u64>,
-    cpu: &mut Cpu<u64>,
-    ran: &mut Vec<u64>,
-) -> Option<Told>
-    requires { IsOf domain.now cpu.old }
-    ensures { IsOf domain.now cpu.new }
-{
-    let receipt = domain.call(rt, cpu, 7).ok()?; // call_srcu
-    let need = domain.need(cpu);
-    let early = run_ready(rt, domain, cpu, ran);
-    let period = drive(rt, domain, cpu);
-    let given = run_ready(rt, domain, cpu, ran);
-    let again = run_ready(rt, domain, cpu, ran);
-    let queued = (
-        receipt.processor,
-        receipt.k,
-        receipt.cookie.number(),
-        need.get(),
-    );
-    Some((queued, period, [early, given, again]))
-}
-
-/// The list of a processor: its segments' lengths, and the numbers for which the middle two wait.
-pub(super) type Lens = Result<([usize; 4], [u64; 2]), Memory>;
-
-/// The same in a domain of one processor, and its list in the end.
-fn queue_and_run_alone<R: Wait + Abort + AllocGlobal>(
-    rt: &R,
-    ran: &mut Vec<u64>,
-) -> Result<(Option<Told>, Lens), MakeError> {
-    let (domain, mut cpu) = single(rt.alloc())?;
-    let told = queue_and_run(rt, &domain, &mut cpu, ran);
-    Ok((told, domain.lens(rt, 0)))
-}
-
-/// Would catch a job that is given out too early, twice or never, and one for which nobody asks.
-#[test]
-fn hands_a_job_out_once(rt: HostRuntime) -> Result<(), Fail> {
-    let mut ran = Vec::new(rt.alloc());
-    let (told, lens) = queue_and_run_alone(&rt, &mut ran)?;
-    let period = [
-        Ok(Progress::Started(number(1))),
-        Ok(Progress::Flipped(Index::One)),
-        Ok(Progress::Ended(number(4))),
-    ];
-    let ready = [Ok(None), Ok(Some(1)), Ok(None)];
-    assert_eq!(rt; told, Some(((0, 0, 4, 4), period, ready)));
-    assert_eq!(rt; ran.as_slice(), [7].as_slice());
-    assert_eq!(rt; lens, Ok(([0; 4], [0; 2])));
-    Ok(())
 }
 
 /// Takes what room there is in the heap.

@@ -56,7 +56,8 @@ impl Writer {
         None
     }
 
-    /// Stores a word of the slot. No open section has found this slot then. The writer has then seen all that there is.
+    /// Stores a word of the slot. In all that the writer has then seen, this slot isn't current and no open section has
+    /// found it.
     pub fn set<A: Allocator>(&mut self, cpu: &mut Cpu<A>, slot: &mut Slot, place: usize, value: u64)
         requires here { cpu.old.domain ≡ self.old.domain }
         requires own { IsOwn self.old slot.old }

@@ -1,5 +1,6 @@
 -- One more word is stored.
 use Rattle.std.proofs.Common.{rules, ◌≡◌, ℕ, ◌+◌, ◌<◌, List, length, refl, sym, ap, ◌∙◌, subst, arith}
+use Rattle.onedom.specs.Histories.{IsClear}
 use Rattle.onedom.proofs.CallerLemmas.{beginning_refl, beginning_trans}
 use Rattle.sections.specs.WriterViews.{SlotView}
 use Rattle.shelf.proofs.Filling.{FilledTo, filled_more, filled_all}
@@ -11,6 +12,7 @@ loop-place-init g c = record {
   same = record { domain = refl; cell = refl; slots = refl; version = refl; current = refl };
   standings = refl;
   since = beginning_refl _;
+  clear = λ lt. absurd (omega (arith, lt));
   cpu = refl;
   slot = refl;
 }
@@ -31,6 +33,7 @@ loop-place-preserved g c =
       };
       standings = s.standings ∙ v.standings;
       since = beginning_trans v.since s.since;
+      clear = λ _. subst (λ (z : ℕ × ℕ). IsClear c.set.new.self.seen z.0 z.1) (λ i. (v.same.cell i, ap of_slot v.slot i)) s.clear;
       cpu = c.set.ensures.cpu ∙ v.cpu;
       slot = c.set.ensures.slot ∙ v.slot;
     }
@@ -48,4 +51,5 @@ returns-clause-fills g c =
       text_is = filled_all c.args.slot.now.slot c.args.words.now c.args.writer.now.words c.loop-place.writer.words c.requires.long.1 long words;
       others = words.others;
       since = v.since;
+      clear = v.clear (subst (λ (n : ℕ). 0 < n) (sym (all)) (omega (arith)));
     }

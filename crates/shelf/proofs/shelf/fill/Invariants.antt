@@ -1,6 +1,6 @@
--- The words before this place are stored.
-use Rattle.std.proofs.Common.{◌≡◌}
-use Rattle.onedom.specs.Histories.{IsBeginning}
+-- The words before this place are stored, and the slot was clear at the last of these stores.
+use Rattle.std.proofs.Common.{◌≡◌, ◌<◌}
+use Rattle.onedom.specs.Histories.{IsBeginning, IsClear}
 use Rattle.sections.specs.Writers.{IsSameWriter}
 use Rattle.shelf.proofs.Filling.{FilledTo}
 use Rattle.shelf.proofs.shelf.fill.Given as goal
@@ -11,6 +11,7 @@ invariant-loop-place g l = record {
   same : IsSameWriter l.initial.writer l.writer;
   standings : l.writer.standings ≡ l.initial.writer.standings;
   since : IsBeginning l.initial.writer.seen l.writer.seen;
+  clear : 0 < l.place → IsClear l.writer.seen l.initial.writer.cell l.initial.slot.slot;
   cpu : l.cpu ≡ l.initial.cpu;
   slot : l.slot ≡ l.initial.slot;
 }

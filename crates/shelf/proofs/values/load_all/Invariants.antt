@@ -6,7 +6,7 @@ use Rattle.shelf.proofs.values.load_all.Given as goal
 
 abbrev pub invariant-loop-place : goal.invariant-loop-place
 invariant-loop-place g l = record {
-  words : LoadedTo l.place l.initial.pin.found l.words l.initial.cpu l.cpu;
+  words : LoadedTo l.place l.initial.pin.reading.now l.initial.pin.found l.words l.initial.cpu l.cpu;
   reading : l.pin.reading.now ≡ l.initial.pin.reading.now;
   found : l.pin.found ≡ l.initial.pin.found;
   name : l.pin.reading.ghost_name ≡ l.initial.pin.reading.ghost_name;

@@ -6,7 +6,7 @@ use Rattle.shelf.proofs.values.load_all_held.Given as goal
 
 abbrev pub invariant-loop-place : goal.invariant-loop-place
 invariant-loop-place g l = record {
-  words : LoadedTo l.place l.initial.pin.found l.words l.initial.cpu l.cpu;
+  words : LoadedTo l.place l.initial.pin.held l.initial.pin.found l.words l.initial.cpu l.cpu;
   held : l.pin.held ≡ l.initial.pin.held;
   found : l.pin.found ≡ l.initial.pin.found;
   stays : Stays l.initial.cpu l.cpu;

@@ -1,7 +1,7 @@
 -- What was freed, filled and put, one behind the other.
 use Rattle.std.proofs.Common.{ℕ, ◌<◌, List, ap, ◌∙◌, sym, subst}
 use Rattle.onedom.specs.declared.event.Event.{Event}
-use Rattle.onedom.specs.Histories.{IsBeginning}
+use Rattle.onedom.specs.Histories.{IsBeginning, IsClear}
 use Rattle.sections.specs.Shelves.{slot_words}
 use Rattle.sections.specs.WriterViews.{WriterView, SlotView}
 use Rattle.sections.specs.Writers.{Gives}
@@ -37,6 +37,7 @@ returns-clause-replaces g c =
         text_is = fills.text_is ∙ c.encode.ensures;
         others = λ x other. fills.others x other ∙ ap (slot_words x) gives.words;
         since = subst (λ (l : List Event). IsBeginning l filled.seen) gives.seen fills.since;
+        clear = subst (λ (cell : ℕ). IsClear filled.seen cell slot.slot) gives.same.cell fills.clear;
       };
       puts = subst (λ (z : ℕ × CpuView). PutsAndAsks z.0 c.put_and_ask.result filled z.1 c.put_and_ask.new.self c.put_and_ask.new.cpu) (λ i. ((ap (λ (z : SlotView). z.slot) c.fill.ensures.slot) i, c.fill.ensures.cpu i)) c.put_and_ask.ensures.puts;
     })
