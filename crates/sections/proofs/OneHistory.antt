@@ -46,6 +46,9 @@ one_history bounds s r = record {
   known = λ j k u v at there m is. let f = r.each_view j u at in
       let own : u.mine ≡ made_by m r.log = made r.log r.changes r.seat_of r.reached r.holder r.engine j u.role u.mine m is f.makes in
       let b = beginning_made_by m (r.each_view k v there).seen in record { rest = b.rest; whole = own ∙ b.whole };
+  texts = r.shelf.texts;
+  shelved = r.shelf.shelved;
+  told = λ j v at. (r.shelf.each j v at).has;
 }
   where
     made : (log : List Event) (changes : ℕ) (seat_of reached holder : ℕ → ℕ) (engine j : ℕ) (role : Role) (mine : List Event) (m : Maker) → IsMaker role m → Makes log changes seat_of reached holder engine j role mine → mine ≡ made_by m log

@@ -15,11 +15,12 @@ use Rattle.sections.specs.declared.view.Step.{Step}
 use Rattle.sections.specs.declared.view.View.{View}
 use Rattle.sections.specs.Words.{number_place, index_place, lock_place, unlock_place, locks, unlocks, all_locks, all_unlocks, opened_in, closed_in, number_word, index_word, Reaches, MayHave}
 use Rattle.onedom.specs.declared.event.Maker.TheVariants.{Processor}
-use Rattle.sections.specs.Shelves.{IsStart}
+use Rattle.sections.specs.declared.view.Text.{Text}
+use Rattle.sections.specs.Shelves.{IsStart, AreShelved, texts_at}
 use Rattle.sections.specs.Rule.{IsProcessor, HasItsMaker, steps_of, IsMaker, StandsFor, Kept}
 use Rattle.sections.specs.Calls.{HasSeenOf}
 
--- there is one legal history, with which the number, the index word and the counters agree, and of which every seat has seen a beginning. In what any seat has seen, each maker's events are a beginning of that maker's own
+-- there is one legal history, with which the number, the index word and the counters agree, and of which every seat has seen a beginning. In what any seat has seen, each maker's events are a beginning of that maker's own. There is one text for each Put, with which the cells and their slots agree, and each seat knows those of the Puts that it has seen
 pub record HasOneHistory (bounds : Bounds) (s : State (Option ℕ) View) : Type 0 where
   pub log : List Event
   pub legal : IsLegal log
@@ -28,6 +29,9 @@ pub record HasOneHistory (bounds : Bounds) (s : State (Option ℕ) View) : Type 
   pub unlock_counters : (q : ℕ) (i : Index) → q < bounds.processors → slice_index s.words (unlock_place q i) ≡ unlocks q i log
   pub seen : (j : ℕ) (v : View) → get_elem? s.views j ≡ some v → IsBeginning v.seen log
   pub known : (j k : ℕ) (u v : View) → get_elem? s.views j ≡ some u → get_elem? s.views k ≡ some v → (m : Maker) → IsMaker u.role m → HasSeenOf m u.mine v.seen
+  pub texts : List Text
+  pub shelved : AreShelved bounds s.words log texts
+  pub told : (j : ℕ) (v : View) → get_elem? s.views j ≡ some v → v.texts ≡ texts_at texts v.seen
 
 -- the rule, which holds between any two steps, says so
 abbrev pub OneHistory : Type 0

@@ -2,7 +2,9 @@
 ghost use Rattle.sections.specs.Laws.{OneHistory, ShownIsSeen, WordsAgree, NoStepIsForged, NoTextIsForged, EqualSumsAreEmpty, FewerEndsShowOne, CountersAddUp, CountersGrow};
 
 /// Between any two steps of any threads there is one legal history, the words of the domain agree with it, and what each
-/// seat has seen is a beginning of it. `changes` tell the number and the index word.
+/// seat has seen is a beginning of it. The words of the cells tell the last Put of each, the slots that somebody can read
+/// have the texts of their versions, and two seats that have seen a Put know one text of it. `changes` tell the number and
+/// the index word.
 pub fn words_of_a_domain()
     ensures history { OneHistory }
     ensures words { WordsAgree }
