@@ -1,6 +1,8 @@
 -- No seat can claim an event that it did not make, a load of the number among them.
-use Rattle.std.proofs.Common.{◌≡◌, ℕ, zero, suc, ◌<◌, ◌≤◌, ◌≢◌, Bool, true, false, cond, List, [], ◌∷◌, ◌++◌, All, Option, map, length, set, refl, sym, ap, ◌∙◌, subst, ⊎_elim, length-append, arith}
-use Rattle.std.proofs.lemmas.List.Elements.{All-nil}
+use Rattle.std.proofs.Common.{◌≡◌, ℕ, zero, suc, ◌<◌, ◌≤◌, ◌≢◌, Bool, true, false, cond, List, [], ◌∷◌, ◌++◌, All, Option, map, length, take, set, refl, sym, ap, ◌∙◌, subst, ⊎_elim, length-append, arith}
+use Rattle.std.proofs.lemmas.List.{take-map, take-append-le}
+use Rattle.std.proofs.lemmas.List.Elements.{All-nil, filter_map-append}
+use Rattle.std.proofs.Math.Seq.{take-length}
 use mathlib.Core.Option.{some}
 use lib.ListN.{get_elem?}
 use Rattle.atomic_table.specs.Table.{State, Splits, Joins}
@@ -19,14 +21,18 @@ use Rattle.sections.specs.declared.view.View.{View}
 use Rattle.sections.specs.Words.{locks, Agree}
 use Rattle.sections.specs.Rule.{HasItsMaker, IsProcessor, GoesOn, StandsFor, HasDone, Makes, Knows, Fits, Kept, spent}
 use Rattle.sections.specs.declared.view.Text.{Text}
-use Rattle.sections.specs.Shelves.{put_cells, IsStart, texts_at, AreShelved, FitsShelf}
+use Rattle.sections.specs.Shelves.{put_cell, put_cells, IsStart, AreTextsOf, texts_at, AreShelved, FitsShelf}
 use Rattle.sections.proofs.Shelving.{start_at, start_trans, start_between, same_shelf, shelved_on, fits_shelf_on, loaded_later}
-use Rattle.sections.specs.Laws.{NoTextIsForged, HasNoEventMore, NoStepIsForged}
+use Rattle.sections.specs.Laws.{HasNoTextMore, NoTextIsForged, HasNoEventMore, NoStepIsForged}
 use Rattle.sections.proofs.Agreement.{agrees_plain}
 use Rattle.sections.proofs.Counters.{All-push, locks_push}
 use Rattle.sections.proofs.Deeds.{done_later}
 use Rattle.sections.proofs.Knowing.{now, at_snoc, at_below, given, given_here, given_else, seat_at, has_as, fits_stay, false≠true}
 use Rattle.sections.proofs.Forging.{from_map, length_map, stands, not_standing, others, no_step_by_split, no_step_by_join}
+
+-- the texts of a beginning are those of the Puts there
+texts_seen : (texts : List Text) (seen log : List Event) → IsBeginning seen log → AreTextsOf texts log → AreTextsOf (texts_at texts seen) seen
+texts_seen texts seen log b h = sym (take-map (λ t. t.cell) (length (put_cells seen)) texts) ∙ (ap (take (length (put_cells seen))) (h ∙ (ap put_cells b.whole ∙ filter_map-append put_cell seen b.rest)) ∙ (take-append-le (length (put_cells seen)) (put_cells seen) (put_cells b.rest) (omega arith) ∙ take-length (put_cells seen)))
 
 -- Events of one maker
 
@@ -267,10 +273,13 @@ module _ (bounds : Bounds) (s : State (Option ℕ) View) (r : Kept bounds s) (q 
   begins_all : (after : State (Option ℕ) View) → (a : Kept bounds after) → get_elem? after.views last ≡ some (knowing r.shelf.texts all) → (j : ℕ) (w : View) → get_elem? after.views j ≡ some w → length w.seen ≤ k → IsBeginning w.seen all
   begins_all after a whole j w here short = let long = longer_long q k r.log in beginning_by_length (a.each_view j w here).seen (a.each_view last (knowing r.shelf.texts all) whole).seen (omega (arith, short, long))
 
-  -- so its texts are a beginning of those that the token has, which are all that there are
-  pub says_texts : (after : State (Option ℕ) View) → Kept bounds after → get_elem? after.views last ≡ some (knowing r.shelf.texts all) → (j : ℕ) (w : View) → get_elem? after.views j ≡ some w → length w.seen ≤ k → IsStart w.texts r.shelf.texts
-  says_texts after a whole j w here short = start_trans (subst (λ (z : List Text × List Text). IsStart z.0 z.1) (λ i. (sym (a.shelf.each j w here).has i, sym (a.shelf.each last (knowing r.shelf.texts all) whole).has i))
-      (start_between w.seen all a.shelf.texts (begins_all after a whole j w here short))) (start_at (length (put_cells all)) r.shelf.texts)
+  -- so its texts are those of the Puts there, and a beginning of those that the token has, which are all that there are
+  pub says_texts : (after : State (Option ℕ) View) → Kept bounds after → get_elem? after.views last ≡ some (knowing r.shelf.texts all) → (j : ℕ) (w : View) → get_elem? after.views j ≡ some w → length w.seen ≤ k → HasNoTextMore r.shelf.texts w
+  says_texts after a whole j w here short = record {
+    texts = start_trans (subst (λ (z : List Text × List Text). IsStart z.0 z.1) (λ i. (sym (a.shelf.each j w here).has i, sym (a.shelf.each last (knowing r.shelf.texts all) whole).has i))
+        (start_between w.seen all a.shelf.texts (begins_all after a whole j w here short))) (start_at (length (put_cells all)) r.shelf.texts);
+    seen = subst (λ (z : List Text). AreTextsOf z w.seen) (sym (a.shelf.each j w here).has) (texts_seen a.shelf.texts w.seen a.log (a.each_view j w here).seen a.shelf.shelved.cells);
+  }
 
   module _ (id : ℕ) (v : View) (at : get_elem? s.views id ≡ some v) (m : Maker) (is : StandsFor v.role m) (not : StandsFor v.role (Processor q) → ⊥) where
     other_maker : same_maker (Processor q) m ≡ false
@@ -312,9 +321,9 @@ never_forged bounds s r id v at m o is not = (
 pub texts_never_forged : NoTextIsForged
 texts_never_forged bounds s r id v at q lt not = (
   (λ left right splits. (
-    left_has bounds s r q lt (length left.seen) id v at not (λ u. IsStart u.texts r.shelf.texts) (says_texts bounds s r q lt (length left.seen)) left right (omega arith) splits,
-    right_has bounds s r q lt (length right.seen) id v at not (λ u. IsStart u.texts r.shelf.texts) (says_texts bounds s r q lt (length right.seen)) left right (omega arith) splits,
+    left_has bounds s r q lt (length left.seen) id v at not (HasNoTextMore r.shelf.texts) (says_texts bounds s r q lt (length left.seen)) left right (omega arith) splits,
+    right_has bounds s r q lt (length right.seen) id v at not (HasNoTextMore r.shelf.texts) (says_texts bounds s r q lt (length right.seen)) left right (omega arith) splits,
   )),
   (λ other w both gone apart there_too neither_one joins.
-      both_have bounds s r q lt (length both.seen) id v at not (λ u. IsStart u.texts r.shelf.texts) (says_texts bounds s r q lt (length both.seen)) other w both gone apart there_too neither_one (omega arith) joins),
+      both_have bounds s r q lt (length both.seen) id v at not (HasNoTextMore r.shelf.texts) (says_texts bounds s r q lt (length both.seen)) other w both gone apart there_too neither_one (omega arith) joins),
 )

@@ -9,12 +9,15 @@ mod Finding
 mod Writing
 mod Standings
 mod Reclaiming
+mod Asking
 mod EngineSteps
 mod Sharing
 mod Seating
 mod CpuViews
+mod Staying
 mod Meeting
 mod Pinning
+mod Entering
 mod Putting
 mod EngineViews
 mod Founding

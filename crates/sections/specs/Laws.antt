@@ -16,7 +16,7 @@ use Rattle.sections.specs.declared.view.View.{View}
 use Rattle.sections.specs.Words.{number_place, index_place, lock_place, unlock_place, locks, unlocks, all_locks, all_unlocks, opened_in, closed_in, number_word, index_word, Reaches, MayHave}
 use Rattle.onedom.specs.declared.event.Maker.TheVariants.{Processor}
 use Rattle.sections.specs.declared.view.Text.{Text}
-use Rattle.sections.specs.Shelves.{IsStart, AreShelved, texts_at}
+use Rattle.sections.specs.Shelves.{IsStart, AreTextsOf, AreShelved, texts_at}
 use Rattle.sections.specs.Rule.{IsProcessor, HasItsMaker, steps_of, IsMaker, StandsFor, Kept}
 use Rattle.sections.specs.Calls.{HasSeenOf}
 
@@ -89,8 +89,13 @@ NoStepIsForged = (bounds : Bounds) (s : State (Option ℕ) View) → Kept bounds
     → ((left right : View) → Splits (Kept bounds) id v left right → HasNoMore bounds m o v left × HasNoMore bounds m o v right)
     × ((other : ℕ) (w both spent : View) → ¬ (other ≡ id) → get_elem? s.views other ≡ some w → ¬ StandsFor w.role o → Joins (Kept bounds) id v other w both spent → HasNoMore bounds m o v both)
 
--- however a seat is cut in two or takes another in, the texts that it knows are those of versions that were put, as long as there is a processor that has a seat elsewhere: so only a step on the table tells what a version holds
+-- a seat knows a text for each Put that it has seen and no other, and these are texts of versions that were put
+pub record HasNoTextMore (put : List Text) (v : View) : Type 0 where
+  pub texts : IsStart v.texts put
+  pub seen : AreTextsOf v.texts v.seen
+
+-- however a seat is cut in two or takes another in, the texts that it knows are those of versions that were put, and it has seen their Puts, as long as there is a processor that has a seat elsewhere: so only a step on the table tells what a version holds
 abbrev pub NoTextIsForged : Type 0
 NoTextIsForged = (bounds : Bounds) (s : State (Option ℕ) View) (k : Kept bounds s) (id : ℕ) (v : View) → get_elem? s.views id ≡ some v → (q : ℕ) → q < bounds.processors → ¬ StandsFor v.role (Processor q)
-    → ((left right : View) → Splits (Kept bounds) id v left right → IsStart left.texts k.shelf.texts × IsStart right.texts k.shelf.texts)
-    × ((other : ℕ) (w both spent : View) → ¬ (other ≡ id) → get_elem? s.views other ≡ some w → ¬ StandsFor w.role (Processor q) → Joins (Kept bounds) id v other w both spent → IsStart both.texts k.shelf.texts)
+    → ((left right : View) → Splits (Kept bounds) id v left right → HasNoTextMore k.shelf.texts left × HasNoTextMore k.shelf.texts right)
+    × ((other : ℕ) (w both spent : View) → ¬ (other ≡ id) → get_elem? s.views other ≡ some w → ¬ StandsFor w.role (Processor q) → Joins (Kept bounds) id v other w both spent → HasNoTextMore k.shelf.texts both)

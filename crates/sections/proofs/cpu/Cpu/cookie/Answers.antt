@@ -1,14 +1,12 @@
-use Rattle.std.proofs.Common.{rules, ◌≡◌, ◌+◌, ◌%◌, ◌^◌, ◌≤◌, ℕ, [], ◌∷◌, ◌++◌, refl, sym, ap, ◌∙◌, subst}
-use Rattle.sseq.specs.Numbers.{cookie_at}
-use Rattle.onedom.specs.declared.event.Event.{Event}
+use Rattle.std.proofs.Common.{rules, ◌≡◌, ◌%◌, ◌^◌, ◌≤◌, ℕ, [], ◌∷◌, ◌++◌, refl, sym, ap, ◌∙◌, subst}
 use Rattle.onedom.specs.declared.event.Event.TheVariants.{Note}
 use Rattle.onedom.specs.declared.event.Maker.TheVariants.{Processor}
-use Rattle.sections.specs.declared.view.View.{View}
 use Rattle.sections.specs.Words.{word_count}
 use Rattle.sections.specs.Rule.{token}
 use Rattle.sections.proofs.Sharing.{gives_token}
 use Rattle.sections.proofs.Seating.{some_words}
-use Rattle.sections.proofs.CpuViews.{notes_from, locks_told, unclosed_told, rests_cut, whole_cookie, small_cookie}
+use Rattle.sections.proofs.CpuViews.{notes_from, rests_cut, whole_cookie, small_cookie}
+use Rattle.sections.proofs.Staying.{maker_of, stays_told}
 use Rattle.sections.proofs.cpu.Cpu.cookie.Goals as goal
 
 pub split_seat-seat-requires : goal.split_seat-seat-requires
@@ -20,26 +18,7 @@ invariant_of-self g c =
     let told = c.note_number-number.ensures in
     let s = c.split_seat-seat.ensures in
     let a = told.adds c.self.inside.processor c.self.invariant.role in
-    let p : ℕ = c.self.inside.processor in
-    let e : Event = Note (cookie_at c.note_number-number.result) (Processor p) in
-    let cut = ap (λ m. m.0) s.2 in
-    let mine = ap (λ (v : View). v.mine) cut ∙ a.mine in record {
-      placed = record {
-        seated = s.0 ∙ (told.same_table ∙ c.self.invariant.placed.seated);
-        wide = c.self.invariant.placed.wide;
-        cells = c.self.invariant.placed.cells;
-        bare = ap (λ m. m.1) s.2 ∙ (told.bare ∙ c.self.invariant.placed.bare);
-        sized = ap (λ (v : View). v.processors) cut ∙ (a.processors ∙ c.self.invariant.placed.sized);
-      };
-      rests = rests_cut _ _ _ _ cut a;
-      role = ap (λ (v : View). v.role) cut ∙ (a.role ∙ c.self.invariant.role);
-      there = c.self.invariant.there;
-      limit = c.self.invariant.limit;
-      begun = λ i. c.self.invariant.begun i ∙ sym (locks_told p i e c.self.inside.seat.me.0.mine _ refl mine);
-      limited = c.self.invariant.limited;
-      small = c.self.invariant.small;
-      settled = c.self.invariant.settled ∙ ap (λ n. n + c.self.inside.settled) (sym (unclosed_told e c.self.inside.seat.me.0.mine _ refl (λ _. refl) mine));
-    }
+    stays_told c.self.invariant (s.0 ∙ told.same_table) (ap (λ m. m.1) s.2 ∙ (told.bare ∙ c.self.invariant.placed.bare)) (rests_cut _ _ _ _ (ap (λ m. m.0) s.2) a) refl (ap (λ m. maker_of m.0) s.2) a refl (λ _. refl) (λ _. refl)
 
 pub invariant_of-result : goal.invariant_of-result
 invariant_of-result g c =

@@ -1,6 +1,5 @@
-use Rattle.std.proofs.Common.{rules, ◌≡◌, ◌+◌, ◌%◌, ◌^◌, ◌≤◌, ℕ, [], ◌∷◌, ◌++◌, refl, sym, ap, ◌∙◌, subst, arith}
+use Rattle.std.proofs.Common.{rules, ◌≡◌, ◌%◌, ◌^◌, ◌≤◌, ℕ, [], ◌∷◌, ◌++◌, refl, sym, ap, ◌∙◌, subst, arith}
 use Rattle.sseq.specs.Numbers.{cookie_at}
-use Rattle.onedom.specs.declared.event.Event.{Event}
 use Rattle.onedom.specs.declared.event.Event.TheVariants.{Note}
 use Rattle.onedom.specs.declared.event.Maker.TheVariants.{Processor}
 use Rattle.sections.specs.declared.view.View.{View}
@@ -8,7 +7,8 @@ use Rattle.sections.specs.Words.{word_count, number_word}
 use Rattle.sections.specs.Rule.{bearer, informed, lacking, token}
 use Rattle.sections.proofs.Sharing.{gives_token, takes_token}
 use Rattle.sections.proofs.Seating.{some_words}
-use Rattle.sections.proofs.CpuViews.{adds_cut, number_grows, locks_told, unclosed_told, rests_cut, whole_cookie, small_cookie}
+use Rattle.sections.proofs.CpuViews.{adds_cut, number_grows, rests_cut, whole_cookie, small_cookie}
+use Rattle.sections.proofs.Staying.{maker_of, stays_told}
 use Rattle.sections.proofs.cpu.Cpu.cookie_behind.Goals as goal
 
 pub split_seat-told-requires : goal.split_seat-told-requires
@@ -36,28 +36,10 @@ invariant_of-self g c =
     let s = c.split_seat-seat.ensures in
     let t = c.split_seat.ensures in
     let joined = c.join_seat.ensures.2 in
-    let p : ℕ = c.self.inside.processor in
-    let role = ap (λ m. m.0.role) joined ∙ c.self.invariant.role in
-    let a = told.adds p role in
-    let e : Event = Note (cookie_at c.note_number-number.result) (Processor p) in
+    let a = told.adds c.self.inside.processor (ap (λ m. m.0.role) joined ∙ c.self.invariant.role) in
     let cut : c.split_seat.new.seat.me.0 ≡ lacking c.note_number-number.new.seat.me.0 = ap (λ m. m.0) t.2 ∙ ap (λ m. lacking m.0) s.2 in
-    let mine = ap (λ (v : View). v.mine) cut ∙ (a.mine ∙ ap (λ m. m.0.mine ++ e ∷ []) joined) in record {
-      placed = record {
-        seated = t.0 ∙ (s.0 ∙ (told.same_table ∙ (c.join_seat.ensures.0 ∙ c.self.invariant.placed.seated)));
-        wide = c.self.invariant.placed.wide;
-        cells = c.self.invariant.placed.cells;
-        bare = ap (λ m. m.1) t.2 ∙ (ap (λ m. m.1) s.2 ∙ (told.bare ∙ (ap (λ m. m.1) joined ∙ c.self.invariant.placed.bare)));
-        sized = ap (λ (v : View). v.processors) cut ∙ (a.processors ∙ (ap (λ m. m.0.processors) joined ∙ c.self.invariant.placed.sized));
-      };
-      rests = rests_cut _ _ _ _ cut a;
-      role = ap (λ (v : View). v.role) cut ∙ (a.role ∙ role);
-      there = c.self.invariant.there;
-      limit = c.self.invariant.limit;
-      begun = λ i. c.self.invariant.begun i ∙ sym (locks_told p i e c.self.inside.seat.me.0.mine _ refl mine);
-      limited = c.self.invariant.limited;
-      small = c.self.invariant.small;
-      settled = c.self.invariant.settled ∙ ap (λ n. n + c.self.inside.settled) (sym (unclosed_told e c.self.inside.seat.me.0.mine _ refl (λ _. refl) mine));
-    }
+    stays_told c.self.invariant (t.0 ∙ (s.0 ∙ (told.same_table ∙ c.join_seat.ensures.0))) (ap (λ m. m.1) t.2 ∙ (ap (λ m. m.1) s.2 ∙ (told.bare ∙ (ap (λ m. m.1) joined ∙ c.self.invariant.placed.bare)))) (rests_cut _ _ _ _ cut a)
+    (ap (λ m. maker_of m.0) joined) (ap maker_of cut) a refl (λ _. refl) (λ _. refl)
 
 pub invariant_of-result : goal.invariant_of-result
 invariant_of-result g c =

@@ -1,15 +1,14 @@
-use Rattle.std.proofs.Common.{rules, ◌≡◌, ◌+◌, ◌*◌, ℕ, true, [], ◌∷◌, ◌++◌, refl, sym, ap, ◌∙◌, arith}
+use Rattle.std.proofs.Common.{rules, ◌≡◌, ◌*◌, ℕ, true, refl, sym, ap, ◌∙◌, arith}
 use Rattle.sseq.specs.Numbers.{periods_ended}
-use Rattle.onedom.specs.declared.event.Event.{Event}
 use Rattle.onedom.specs.declared.event.Event.TheVariants.{Ask}
 use Rattle.onedom.specs.declared.event.Maker.TheVariants.{Processor}
-use Rattle.sections.specs.declared.view.View.{View}
 use Rattle.sections.specs.Words.{word_count, number_word}
 use Rattle.sections.specs.Rule.{bearer, informed}
 use Rattle.sections.proofs.Sharing.{gives_token, takes_token}
 use Rattle.sections.proofs.Seating.{some_words, two_words}
-use Rattle.sections.proofs.CpuViews.{adds_cut, number_grows, locks_told, unclosed_told, rests_cut}
+use Rattle.sections.proofs.CpuViews.{adds_cut, number_grows, rests_cut}
 use Rattle.sections.proofs.Sighting.{asks_how_far}
+use Rattle.sections.proofs.Staying.{maker_of, stays_told}
 use Rattle.sections.proofs.cpu.Cpu.how_far.Goals as goal
 
 pub split_seat-told-requires : goal.split_seat-told-requires
@@ -33,27 +32,9 @@ invariant_of-self g c =
     let told = c.load-found.ensures in
     let s = c.split_seat.ensures in
     let joined = c.join_seat.ensures.2 in
-    let p : ℕ = c.self.inside.processor in
-    let a = told.2.3 p (ap (λ m. m.0.role) joined ∙ c.self.invariant.role) in
-    let e : Event = Ask (4 * periods_ended c.load-found.result) true (Processor p) in
-    let cut = ap (λ m. m.0) s.2 in
-    let mine = ap (λ (v : View). v.mine) cut ∙ (a.mine ∙ ap (λ m. m.0.mine ++ e ∷ []) joined) in record {
-      placed = record {
-        seated = s.0 ∙ (told.0 ∙ (c.join_seat.ensures.0 ∙ c.self.invariant.placed.seated));
-        wide = c.self.invariant.placed.wide;
-        cells = c.self.invariant.placed.cells;
-        bare = ap (λ m. m.1) s.2 ∙ (told.2.0 ∙ (ap (λ m. m.1) joined ∙ c.self.invariant.placed.bare));
-        sized = ap (λ (v : View). v.processors) cut ∙ (a.processors ∙ (ap (λ m. m.0.processors) joined ∙ c.self.invariant.placed.sized));
-      };
-      rests = rests_cut _ _ _ _ cut a;
-      role = ap (λ (v : View). v.role) cut ∙ (a.role ∙ (ap (λ m. m.0.role) joined ∙ c.self.invariant.role));
-      there = c.self.invariant.there;
-      limit = c.self.invariant.limit;
-      begun = λ i. c.self.invariant.begun i ∙ sym (locks_told p i e c.self.inside.seat.me.0.mine _ refl mine);
-      limited = c.self.invariant.limited;
-      small = c.self.invariant.small;
-      settled = c.self.invariant.settled ∙ ap (λ n. n + c.self.inside.settled) (sym (unclosed_told e c.self.inside.seat.me.0.mine _ refl (λ _. refl) mine));
-    }
+    let a = told.2.3 c.self.inside.processor (ap (λ m. m.0.role) joined ∙ c.self.invariant.role) in
+    stays_told c.self.invariant (s.0 ∙ (told.0 ∙ c.join_seat.ensures.0)) (ap (λ m. m.1) s.2 ∙ (told.2.0 ∙ (ap (λ m. m.1) joined ∙ c.self.invariant.placed.bare))) (rests_cut _ _ _ _ (ap (λ m. m.0) s.2) a)
+    (ap (λ m. maker_of m.0) joined) (ap (λ m. maker_of m.0) s.2) a refl (λ _. refl) (λ _. refl)
 
 pub returns : goal.returns
 returns g c =

@@ -1,12 +1,13 @@
-use Rattle.std.proofs.Common.{rules, ◌≡◌, ◌+◌, ◌^◌, ◌<◌, ◌≤◌, ℕ, length, sym, ap, ◌∙◌, subst}
+use Rattle.std.proofs.Common.{rules, ◌≡◌, ◌^◌, ◌<◌, ◌≤◌, ℕ, refl, sym, ◌∙◌, subst}
 use Rattle.onedom.specs.declared.event.Maker.TheVariants.{Processor}
 use Rattle.sections.specs.Views.{CpuView}
-use Rattle.sections.specs.Words.{open_readings, word_count, locks, all_locks}
+use Rattle.sections.specs.Words.{word_count, all_locks}
 use Rattle.sections.proofs.Agreement.{lock_there}
 use Rattle.sections.proofs.Deeds.{cpu_makes}
 use Rattle.sections.proofs.Seating.{rests_seen}
 use Rattle.sections.proofs.EngineSteps.{counts_locks}
 use Rattle.sections.proofs.CpuViews.{loads_from}
+use Rattle.sections.proofs.Staying.{stays_seen}
 use Rattle.sections.proofs.cpu.Cpu.locks.Goals as goal
 
 pub load-requires : goal.load-requires
@@ -17,20 +18,9 @@ load-requires g c =
 
 pub invariant_of-self : goal.invariant_of-self
 invariant_of-self g c =
-    let e = c.self.invariant in
     let told = c.load.ensures in
     let sees = (told.2.2 c.args.processor c.args.index c.place_of_lock.ensures).0 in
-    let mine = sees.mine in record {
-      placed = record { seated = told.0 ∙ e.placed.seated; wide = e.placed.wide; cells = e.placed.cells; bare = told.2.0 ∙ e.placed.bare; sized = sees.processors ∙ e.placed.sized };
-      rests = rests_seen _ _ _ e.rests.free sees;
-      role = sees.role ∙ e.role;
-      there = e.there;
-      limit = e.limit;
-      begun = λ i. e.begun i ∙ ap (locks c.self.inside.processor i) (sym mine);
-      limited = e.limited;
-      small = e.small;
-      settled = e.settled ∙ ap (λ l. length (open_readings l) + c.self.inside.settled) (sym mine);
-    }
+    stays_seen c.self.invariant told.0 (told.2.0 ∙ c.self.invariant.placed.bare) (rests_seen _ _ _ c.self.invariant.rests.free sees) refl refl sees
 
 pub returns : goal.returns
 returns g c =

@@ -1,34 +1,13 @@
-use Rattle.std.proofs.Common.{◌≡◌, ◌+◌, ℕ, List, [], ◌∷◌, ◌++◌, refl, sym, ap, ◌∙◌}
-use Rattle.sseq.specs.Numbers.{cookie_at}
-use Rattle.onedom.specs.declared.event.Event.{Event}
-use Rattle.onedom.specs.declared.event.Event.TheVariants.{Note}
-use Rattle.onedom.specs.declared.event.Maker.TheVariants.{Processor}
-use Rattle.sections.proofs.CpuViews.{notes_from, locks_told, unclosed_told, rests_told}
+use Rattle.std.proofs.Common.{refl, ◌∙◌}
+use Rattle.sections.proofs.CpuViews.{notes_from, rests_told}
+use Rattle.sections.proofs.Staying.{stays_told}
 use Rattle.sections.proofs.cpu.Cpu.number.Goals as goal
 
 pub invariant_of-self : goal.invariant_of-self
 invariant_of-self g c =
     let told = c.note_number.ensures in
     let a = told.adds c.self.inside.processor c.self.invariant.role in
-    let p : ℕ = c.self.inside.processor in
-    let joined : c.self.inside.seat.me.0.mine ≡ c.self.inside.seat.me.0.mine = refl in
-    let mine = a.mine ∙ ap (λ (l : List Event). l ++ Note (cookie_at c.note_number.result) (Processor p) ∷ []) joined in record {
-      placed = record {
-        seated = told.same_table ∙ c.self.invariant.placed.seated;
-        wide = c.self.invariant.placed.wide;
-        cells = c.self.invariant.placed.cells;
-        bare = told.bare ∙ c.self.invariant.placed.bare;
-        sized = a.processors ∙ c.self.invariant.placed.sized;
-      };
-      rests = rests_told _ _ _ c.self.invariant.rests.free told.right a;
-      role = a.role ∙ c.self.invariant.role;
-      there = c.self.invariant.there;
-      limit = c.self.invariant.limit;
-      begun = λ i. c.self.invariant.begun i ∙ sym (locks_told p i (Note (cookie_at c.note_number.result) (Processor p)) c.self.inside.seat.me.0.mine _ refl mine);
-      limited = c.self.invariant.limited;
-      small = c.self.invariant.small;
-      settled = c.self.invariant.settled ∙ ap (λ n. n + c.self.inside.settled) (sym (unclosed_told (Note (cookie_at c.note_number.result) (Processor p)) c.self.inside.seat.me.0.mine _ refl (λ _. refl) mine));
-    }
+    stays_told c.self.invariant told.same_table (told.bare ∙ c.self.invariant.placed.bare) (rests_told _ _ _ c.self.invariant.rests.free told.right a) refl refl a refl (λ _. refl) (λ _. refl)
 
 pub returns : goal.returns
 returns g c =

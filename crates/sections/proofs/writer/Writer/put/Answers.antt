@@ -19,7 +19,8 @@ use Rattle.sections.specs.WriterInsides.{words_with}
 use Rattle.sections.specs.WriterViews.{WriterView, SlotView}
 use Rattle.sections.specs.Writers.{IsOwn, IsRetired}
 use Rattle.sections.specs.Insides.{IsAtRest}
-use Rattle.sections.proofs.CpuViews.{seen_as, adds_cut, notes_from, whole_cookie, locks_told, unclosed_told}
+use Rattle.sections.proofs.CpuViews.{seen_as, adds_cut, notes_from, rests_cut, whole_cookie}
+use Rattle.sections.proofs.Staying.{maker_of, stays_told}
 use Rattle.sections.proofs.Writing.{slot_quiet}
 use Rattle.sections.specs.declared.writer.Standing.TheVariants.{Blank, Out, Current, Retired}
 use Rattle.sections.proofs.Standings.{HasHomes, homes_back, stands_over, retires, put_stands, put_count, out_clear}
@@ -137,34 +138,14 @@ invariant_of-self g c =
 
 pub invariant_of-cpu : goal.invariant_of-cpu
 invariant_of-cpu g c =
-    let p : ℕ = c.cpu.inside.processor in
     let P = c.put_in.ensures in
     let N = c.note_number.ensures in
     let S = c.refresh_in.ensures.seat in
-    let old : List Event = c.self.inside.seat.me.0.seen in
-    let e : Event = Put c.self.inside.cell c.slot.inside.slot (version_of c.self.inside.cell old + 1) (Processor p) in
-    let n : Event = Note (cookie_at c.note_number.result) (Processor p) in
-    let a = P.adds p (words_with c.self.inside.seat.me.0.right) old c.cpu.invariant.role c.self.invariant.right in
-    let role = ap (λ m. m.0.role) P.stays ∙ (a.0.role ∙ c.cpu.invariant.role) in
-    let b = N.adds p role in
-    let first = ap (λ m. m.0.mine) P.stays ∙ a.0.mine in
-    let second = ap (λ m. m.0.mine) S.1 ∙ b.mine in record {
-      placed = record {
-        seated = S.0 ∙ (N.same_table ∙ (P.same_table.0 ∙ c.cpu.invariant.placed.seated));
-        wide = c.cpu.invariant.placed.wide;
-        cells = c.cpu.invariant.placed.cells;
-        bare = ap (λ m. m.1) S.1 ∙ (N.bare ∙ ap (λ m. m.1) P.stays);
-        sized = ap (λ m. m.0.processors) S.1 ∙ (b.processors ∙ (ap (λ m. m.0.processors) P.stays ∙ (a.0.processors ∙ c.cpu.invariant.placed.sized)));
-      };
-      rests = subst (λ (z : View). IsAtRest z) (sym (ap (λ m. m.0) S.1)) record { free = N.right ∙ ap (λ m. m.0.right) P.stays; told = b.told; sound = b.sound };
-      role = ap (λ m. m.0.role) S.1 ∙ (b.role ∙ role);
-      there = c.cpu.invariant.there;
-      limit = c.cpu.invariant.limit;
-      begun = λ i. c.cpu.invariant.begun i ∙ sym (locks_told p i n c.put_in.new.seat.me.0.mine _ refl second ∙ locks_told p i e c.cpu.inside.seat.me.0.mine _ refl first);
-      limited = c.cpu.invariant.limited;
-      small = c.cpu.invariant.small;
-      settled = c.cpu.invariant.settled ∙ ap (λ m. m + c.cpu.inside.settled) (sym (unclosed_told n c.put_in.new.seat.me.0.mine _ refl (λ _. refl) second ∙ unclosed_told e c.cpu.inside.seat.me.0.mine _ refl (λ _. refl) first));
-    }
+    let a = P.adds c.cpu.inside.processor (words_with c.self.inside.seat.me.0.right) c.self.inside.seat.me.0.seen c.cpu.invariant.role c.self.invariant.right in
+    let b = N.adds c.cpu.inside.processor (ap (λ m. m.0.role) P.stays ∙ (a.0.role ∙ c.cpu.invariant.role)) in
+    let first = stays_told c.cpu.invariant {s = c.put_in.new.seat} P.same_table.0 (ap (λ m. m.1) P.stays) (rests_cut _ _ _ _ (ap (λ m. m.0) P.stays) a.0) refl (ap (λ m. maker_of m.0) P.stays) a.0 refl (λ _. refl) (λ _. refl) in
+    stays_told first (S.0 ∙ N.same_table) (ap (λ m. m.1) S.1 ∙ (N.bare ∙ ap (λ m. m.1) P.stays)) (subst (λ (z : View). IsAtRest z) (sym (ap (λ m. m.0) S.1)) record { free = N.right ∙ ap (λ m. m.0.right) P.stays; told = b.told; sound = b.sound })
+    refl (ap (λ m. maker_of m.0) S.1) b refl (λ _. refl) (λ _. refl)
 
 pub returns-clause-puts : goal.returns-clause-puts
 returns-clause-puts g c =
