@@ -48,6 +48,7 @@ loaded_more place r f words word c d e lp h reads rest = let l = reads.load in r
   where
     less : (i p : ℕ) → i < p + 1 → i ≢ p → i < p
     less i p lt n = omega (arith, lt, n)
+
     further : (a b d : ℕ) → a ≤ b → b ≤ d → a ≤ d
     further a b d ab bd = omega (arith, ab, bd)
 
