@@ -1,6 +1,5 @@
 //! The writer of a cell, for values of one type.
 ghost use Rattle.std.specs.Prelude.{◌≡◌, ◌<◌, length, IfOk, MatchResult};
-ghost use Rattle.sections.specs.Words.{cells_in};
 ghost use Rattle.sections.specs.Shelves.{words_of};
 ghost use Rattle.sections.specs.Writers.{IsOwn};
 ghost use Rattle.domain.specs.Views.{IsOf};
@@ -8,7 +7,7 @@ ghost use Rattle.shelf.specs.Replacing.{Fills, Replaces, FindsNone};
 
 use crate::values::Values;
 use crate::versioned::Versioned;
-use domain::{Cpu, Domain, Home, Slot, Writer};
+use domain::{Cpu, Domain, Slot, Writer};
 use std::alloc::Allocator;
 use std::error::Error;
 use std::fmt;
@@ -48,19 +47,16 @@ impl<T> Model for Shelf<T> {
 }
 
 impl<T: Versioned> Shelf<T> {
-    /// Takes a cell of the domain, and gives what reads its values. Nothing is put.
-    pub fn new(writer: Writer, home: Home) -> (Shelf<T>, Values<T>)
-        requires home { home ≡ writer.domain }
-        requires cell { writer.cell < cells_in writer.domain }
-        ensures shelf { result.0 ≡ writer }
-        ensures values { (result.1.domain ≡ writer.domain) × (result.1.cell ≡ writer.cell) }
+    /// Takes a cell, and gives what reads its values. Nothing is put.
+    pub fn new(writer: Writer) -> (Shelf<T>, Values<T>)
+        ensures { (result.0 ≡ writer) × (result.1 ≡ writer.cell) }
     {
         let cell = writer.cell();
         let shelf = Shelf {
             writer,
             marker: PhantomData,
         };
-        (shelf, Values::of_cell(home, cell))
+        (shelf, Values::of_cell(cell))
     }
 
     /// Replaces the value (`rcu_assign_pointer`), and asks for the grace period behind which nobody reads the one that

@@ -1,5 +1,6 @@
 //! Values that are replaced while others read them.
-ghost use Rattle.std.specs.Prelude.{◌≡◌, length, IfOk};
+ghost use Rattle.std.specs.Prelude.{◌≡◌, ◌<◌, length, IfOk};
+ghost use Rattle.sections.specs.Words.{cells_in};
 ghost use Rattle.sections.specs.Calls.{IsSameCpu};
 ghost use Rattle.domain.specs.Views.{IsOf};
 
@@ -51,9 +52,9 @@ fn domain_of_five(
     slots: u64,
 ) -> Result<(Domain<()>, Five, Shelf<Sixteen>, Values<Sixteen>), MakeError>
     ensures writer { IfOk result (λ r. IsOf r.0 r.1.writer × (r.2.domain ≡ r.0.domain)) }
-    ensures values { IfOk result (λ r. r.3.domain ≡ r.0.domain) }
-    ensures first { IfOk result (λ r. (r.3.domain ≡ r.1.first.cpu.domain) × (r.3.domain ≡ r.1.second.cpu.domain)) }
-    ensures last { IfOk result (λ r. (r.3.domain ≡ r.1.third.cpu.domain) × (r.3.domain ≡ r.1.fourth.cpu.domain)) }
+    ensures cell { IfOk result (λ r. r.3 < cells_in r.0.domain) }
+    ensures first { IfOk result (λ r. (r.3 < cells_in r.1.first.cpu.domain) × (r.3 < cells_in r.1.second.cpu.domain)) }
+    ensures last { IfOk result (λ r. (r.3 < cells_in r.1.third.cpu.domain) × (r.3 < cells_in r.1.fourth.cpu.domain)) }
 {
     let limits = Limits {
         sections: Limits::MOST_SECTIONS,
@@ -62,12 +63,12 @@ fn domain_of_five(
         slots,
     };
     let (domain, mut cpus, mut writers) = Domain::<()>::new(alloc, 5, limits)?;
+    let (shelf, values) = Shelf::new(writers.pop().unwrap());
     let fourth = cpus.pop().unwrap();
     let third = cpus.pop().unwrap();
     let second = cpus.pop().unwrap();
     let first = cpus.pop().unwrap();
-    let mut writer = cpus.pop().unwrap();
-    let (shelf, values) = Shelf::new(writers.pop().unwrap(), writer.home());
+    let writer = cpus.pop().unwrap();
     let cpus = Five {
         first,
         second,
@@ -108,7 +109,7 @@ fn read_over(
 ) -> Option<([u64; 2], Result<u64, NoSlot>)>
     requires cpu { IsOf domain.now cpu.old }
     requires shelf { shelf.old.domain ≡ domain.now.domain }
-    requires values { values.now.domain ≡ domain.now.domain }
+    requires cell { values.now < cells_in domain.now.domain }
     ensures { IsOf domain.now cpu.new × (shelf.new.domain ≡ domain.now.domain) }
 {
     let mut reading = cpu.read_lock().ok()?;
@@ -129,7 +130,7 @@ fn replace_thrice<R: Wait>(
 ) -> [Option<([u64; 2], Result<u64, NoSlot>)>; 3]
     requires cpu { IsOf domain.now cpu.old }
     requires shelf { shelf.old.domain ≡ domain.now.domain }
-    requires values { values.now.domain ≡ domain.now.domain }
+    requires cell { values.now < cells_in domain.now.domain }
 {
     let first = read_over(domain, cpu, shelf, values, 7);
     let second = read_over(domain, cpu, shelf, values, 8);
@@ -176,7 +177,7 @@ struct Found {
 
 /// Reads one value in a section of its own.
 fn read_once(cpu: &mut Cpu<()>, values: &Values<Sixteen>) -> Option<Sixteen>
-    requires { values.now.domain ≡ cpu.old.cpu.domain }
+    requires { values.now < cells_in cpu.old.cpu.domain }
     ensures { IsSameCpu cpu.old.cpu cpu.new.cpu }
 {
     let mut reading = cpu.read_lock().ok()?;
@@ -187,7 +188,7 @@ fn read_once(cpu: &mut Cpu<()>, values: &Values<Sixteen>) -> Option<Sixteen>
 
 /// Reads, each time in a section of its own, until no more is put.
 fn read_on<R: Wait>(rt: &R, mut cpu: Cpu<()>, values: &Values<Sixteen>, done: &AtomicBool) -> Found
-    requires { values.now.domain ≡ cpu.cpu.domain }
+    requires { values.now < cells_in cpu.cpu.domain }
 {
     let mut found = Found {
         sections: 0,
@@ -259,7 +260,7 @@ fn read_by_two<R: Wait + Threads + Sync>(
     values: &Values<Sixteen>,
     done: &AtomicBool,
 ) -> [Found; 2]
-    requires { (values.now.domain ≡ first.cpu.domain) × (values.now.domain ≡ second.cpu.domain) }
+    requires { (values.now < cells_in first.cpu.domain) × (values.now < cells_in second.cpu.domain) }
 {
     let (first, second) = join(
         rt,
@@ -279,16 +280,16 @@ fn read_by_four<R: Wait + Threads + Sync>(
     values: &Values<Sixteen>,
     done: &AtomicBool,
 ) -> ([Found; 2], [Found; 2])
-    requires two { (values.now.domain ≡ first.cpu.domain) × (values.now.domain ≡ second.cpu.domain) }
-    requires others { (values.now.domain ≡ third.cpu.domain) × (values.now.domain ≡ fourth.cpu.domain) }
+    requires two { (values.now < cells_in first.cpu.domain) × (values.now < cells_in second.cpu.domain) }
+    requires others { (values.now < cells_in third.cpu.domain) × (values.now < cells_in fourth.cpu.domain) }
 {
     join(
         rt,
         ||
-            requires { (values.now.domain ≡ first.cpu.domain) × (values.now.domain ≡ second.cpu.domain) }
+            requires { (values.now < cells_in first.cpu.domain) × (values.now < cells_in second.cpu.domain) }
         { read_by_two(rt, first, second, values, done) },
         ||
-            requires { (values.now.domain ≡ third.cpu.domain) × (values.now.domain ≡ fourth.cpu.domain) }
+            requires { (values.now < cells_in third.cpu.domain) × (values.now < cells_in fourth.cpu.domain) }
         { read_by_two(rt, third, fourth, values, done) },
     )
 }
@@ -303,8 +304,8 @@ fn read_beside<R: Wait + Threads + Sync>(
     done: &AtomicBool,
 ) -> ([Found; 2], [Found; 2])
     requires writer { IsOf domain.now cpus.writer × (shelf.domain ≡ domain.now.domain) }
-    requires first { (values.now.domain ≡ cpus.first.cpu.domain) × (values.now.domain ≡ cpus.second.cpu.domain) }
-    requires last { (values.now.domain ≡ cpus.third.cpu.domain) × (values.now.domain ≡ cpus.fourth.cpu.domain) }
+    requires first { (values.now < cells_in cpus.first.cpu.domain) × (values.now < cells_in cpus.second.cpu.domain) }
+    requires last { (values.now < cells_in cpus.third.cpu.domain) × (values.now < cells_in cpus.fourth.cpu.domain) }
 {
     let Five {
         first,
@@ -316,8 +317,8 @@ fn read_beside<R: Wait + Threads + Sync>(
     let (found, ()) = join(
         rt,
         ||
-            requires two { (values.now.domain ≡ first.cpu.domain) × (values.now.domain ≡ second.cpu.domain) }
-            requires others { (values.now.domain ≡ third.cpu.domain) × (values.now.domain ≡ fourth.cpu.domain) }
+            requires two { (values.now < cells_in first.cpu.domain) × (values.now < cells_in second.cpu.domain) }
+            requires others { (values.now < cells_in third.cpu.domain) × (values.now < cells_in fourth.cpu.domain) }
         { read_by_four(rt, first, second, third, fourth, values, done) },
         ||
             requires { IsOf domain.now writer × (shelf.domain ≡ domain.now.domain) }

@@ -6,38 +6,32 @@ ghost use Rattle.domain.specs.Views.{Stays, with_cpu};
 ghost use Rattle.shelf.specs.Reading.{Reads, Loads, LoadsAll};
 
 use crate::versioned::Versioned;
-use domain::{Cpu, Held, HeldPin, Home, Pin, Reading};
+use domain::{Cpu, Held, HeldPin, Pin, Reading};
 use std::alloc::Allocator;
 use std::marker::{Model, PhantomData};
 
-/// Reads the values of a cell, from any thread, in sections of that cell's domain. Contracts see the domain, and the
-/// number of the cell in it.
+/// Reads the values of a cell, from any thread. Contracts see the number of the cell.
 #[derive(Drop)]
 pub struct Values<T> {
-    home: Home,
     cell: usize,
     marker: PhantomData<T>,
 }
 
 impl<T> Model for Values<T> {
-    ghost use Rattle.shelf.specs.Views.{ValuesView};
+    ghost use Rattle.std.specs.Prelude.{ℕ};
 
-    ghost Value = { ValuesView };
+    ghost Value = { ℕ };
 
-    ghost use Rattle.shelf.specs.Insides.{view_of_values, IsThere};
+    ghost use Rattle.shelf.specs.Insides.{cell_of};
 
-    ghost view = { view_of_values };
-
-    ghost invariant = { IsThere };
+    ghost view = { cell_of };
 }
 
 impl<T: Versioned> Values<T> {
-    pub(crate) fn of_cell(home: Home, cell: usize) -> Values<T>
-        requires { cell < cells_in home }
-        ensures { (result.domain ≡ home) × (result.cell ≡ cell) }
+    pub(crate) fn of_cell(cell: usize) -> Values<T>
+        ensures { result ≡ cell }
     {
         Values {
-            home,
             cell,
             marker: PhantomData,
         }
@@ -47,8 +41,8 @@ impl<T: Versioned> Values<T> {
     /// processor has seen. It takes no memory and does not wait.
     pub fn read<J, A: Allocator>(&self, cpu: &mut Cpu<J, A>, reading: &mut Reading) -> T
         requires here { reading.old.domain ≡ cpu.old.cpu.domain }
-        requires home { self.now.domain ≡ cpu.old.cpu.domain }
-        ensures reads { Reads T.value self.now.cell reading.old cpu.old cpu.new result }
+        requires cell { self.now < cells_in cpu.old.cpu.domain }
+        ensures reads { Reads T.value self.now reading.old cpu.old cpu.new result }
         ensures reading { reading.new ≡ reading.old }
         ensures stays { Stays cpu.old cpu.new }
     {
@@ -63,8 +57,8 @@ impl<T: Versioned> Values<T> {
         reading: &'a mut Reading,
     ) -> Pin<'a>
         requires here { reading.old.domain ≡ cpu.old.cpu.domain }
-        requires home { self.now.domain ≡ cpu.old.cpu.domain }
-        ensures finds { Finds self.now.cell reading.old cpu.old.cpu cpu.new.cpu result.found }
+        requires cell { self.now < cells_in cpu.old.cpu.domain }
+        ensures finds { Finds self.now reading.old cpu.old.cpu cpu.new.cpu result.found }
         ensures pinned { IsPinned reading.old result.found }
         ensures reading { result.reading.now ≡ reading.old }
         ensures same_reference { result.reading.ghost_name ≡ reading.entry.ghost_name }
@@ -78,8 +72,7 @@ impl<T: Versioned> Values<T> {
     pub fn load<J, A: Allocator>(&self, cpu: &mut Cpu<J, A>, pin: &mut Pin<'_>) -> T
         requires here { pin.old.reading.now.domain ≡ cpu.old.cpu.domain }
         requires pinned { IsPinned pin.old.reading.now pin.old.found }
-        requires cell { pin.old.found.cell ≡ self.now.cell }
-        requires home { self.now.domain ≡ cpu.old.cpu.domain }
+        requires cell { pin.old.found.cell ≡ self.now }
         ensures loads { Loads T.value pin.old.reading.now pin.old.found cpu.old cpu.new result }
         ensures same { (pin.new.reading.now ≡ pin.old.reading.now) × (pin.new.found ≡ pin.old.found) }
         ensures same_reference { pin.new.reading.ghost_name ≡ pin.old.reading.ghost_name }
@@ -91,8 +84,8 @@ impl<T: Versioned> Values<T> {
     /// As [`Values::find`], in a held section, which the pin then owns. It may go to another thread.
     pub fn find_held<J, A: Allocator>(&self, cpu: &mut Cpu<J, A>, held: Held) -> HeldPin
         requires here { held.domain ≡ cpu.old.cpu.domain }
-        requires home { self.now.domain ≡ cpu.old.cpu.domain }
-        ensures finds { Finds self.now.cell held cpu.old.cpu cpu.new.cpu result.found }
+        requires cell { self.now < cells_in cpu.old.cpu.domain }
+        ensures finds { Finds self.now held cpu.old.cpu cpu.new.cpu result.found }
         ensures pinned { IsPinned held result.found }
         ensures held { result.held ≡ held }
         ensures rest { cpu.new ≡ with_cpu cpu.new.cpu cpu.old }
@@ -105,8 +98,7 @@ impl<T: Versioned> Values<T> {
     pub fn load_held<J, A: Allocator>(&self, cpu: &mut Cpu<J, A>, pin: &mut HeldPin) -> T
         requires here { pin.old.held.domain ≡ cpu.old.cpu.domain }
         requires pinned { IsPinned pin.old.held pin.old.found }
-        requires cell { pin.old.found.cell ≡ self.now.cell }
-        requires home { self.now.domain ≡ cpu.old.cpu.domain }
+        requires cell { pin.old.found.cell ≡ self.now }
         ensures loads { Loads T.value pin.old.held pin.old.found cpu.old cpu.new result }
         ensures same { (pin.new.held ≡ pin.old.held) × (pin.new.found ≡ pin.old.found) }
         ensures stays { Stays cpu.old cpu.new }

@@ -44,7 +44,7 @@ const LIMITS: Limits = Limits {
 /// it.
 fn pair(alloc: Global) -> Result<(Domain<Old>, Cpu<Old>, Cpu<Old>, Writer)>
     ensures cpus { IfOk result (λ r. IsReady r.0 r.1 × IsReady r.0 r.2) }
-    ensures writer { IfOk result (λ r. (r.3.domain ≡ r.0.domain) × (r.3.cell < cells_in r.3.domain)) }
+    ensures writer { IfOk result (λ r. (r.3.domain ≡ r.0.domain) × (r.3.cell < cells_in r.0.domain)) }
 {
     let (domain, mut cpus, mut writers) = Domain::new(alloc, 2, LIMITS)?; // init_srcu_struct
 
@@ -56,7 +56,7 @@ fn pair(alloc: Global) -> Result<(Domain<Old>, Cpu<Old>, Cpu<Old>, Writer)>
 /// A domain, its three processors, and the writer of its cell.
 fn trio(alloc: Global) -> Result<(Domain<Old>, Cpu<Old>, Cpu<Old>, Cpu<Old>, Writer)>
     ensures cpus { IfOk result (λ r. IsReady r.0 r.1 × IsReady r.0 r.2 × IsReady r.0 r.3) }
-    ensures writer { IfOk result (λ r. (r.4.domain ≡ r.0.domain) × (r.4.cell < cells_in r.4.domain)) }
+    ensures writer { IfOk result (λ r. (r.4.domain ≡ r.0.domain) × (r.4.cell < cells_in r.0.domain)) }
 {
     let (domain, mut cpus, mut writers) = Domain::new(alloc, 3, LIMITS)?;
     let third = cpus.pop().unwrap();
@@ -73,11 +73,11 @@ fn shelve(
     number: u64,
 ) -> Result<(Shelf<Config>, Values<Config>)>
     requires cpu { IsReady domain.now cpu.old }
-    requires writer { (writer.domain ≡ domain.now.domain) × (writer.cell < cells_in writer.domain) }
+    requires writer { writer.domain ≡ domain.now.domain }
     ensures cpu { IsReady domain.now cpu.new }
-    ensures shelf { IfOk result (λ r. (r.0.domain ≡ domain.now.domain) × (r.1.domain ≡ domain.now.domain)) }
+    ensures cell { IfOk result (λ r. (r.0.domain ≡ domain.now.domain) × (r.1 ≡ writer.cell)) }
 {
-    let (mut shelf, configs) = Shelf::new(writer, cpu.home());
+    let (mut shelf, configs) = Shelf::new(writer);
     shelf.replace(domain, cpu, &Config::new(number))?;
     Ok((shelf, configs))
 }
@@ -92,7 +92,7 @@ fn wait<R: Threads + Wait + Clock + Sync>(
     shelf: Shelf<Config>,
     configs: &Values<Config>,
 ) -> Result<bool>
-    requires reader { configs.now.domain ≡ reader.cpu.domain }
+    requires reader { configs.now < cells_in reader.cpu.domain }
     requires updater { IsReady domain.now updater × (shelf.domain ≡ domain.now.domain) }
 {
     let (same, replaced) = join(
@@ -153,13 +153,13 @@ fn hand_over<R: Threads + Wait + Sync>(
     requires opener { IsOf domain.now opener }
     requires reader { IsOf domain.now reader }
     requires updater { IsOf domain.now updater × (shelf.domain ≡ domain.now.domain) }
-    requires cell { configs.now.domain ≡ domain.now.domain }
+    requires cell { configs.now < cells_in domain.now.domain }
 {
     let (opened, found) = join(
         rt,
         || -> Result<HeldPin>
-            requires { configs.now.domain ≡ opener.cpu.domain }
-            ensures { IfOk result (λ pin. pin.held.domain ≡ opener.cpu.domain × (IsPinned pin.held pin.found × (pin.found.cell ≡ configs.entry.now.cell))) }
+            requires { configs.now < cells_in opener.cpu.domain }
+            ensures { IfOk result (λ pin. pin.held.domain ≡ opener.cpu.domain × (IsPinned pin.held pin.found × (pin.found.cell ≡ configs.entry.now))) }
         { open(opener, configs) },
         || read_quickly(reader, configs, READS),
     );
@@ -188,7 +188,7 @@ fn call_back<R: Threads + Wait + Clock + Sync>(
     configs: &Values<Config>,
     archive: &Archive,
 ) -> Result<(bool, usize)>
-    requires reader { configs.now.domain ≡ reader.cpu.domain }
+    requires reader { configs.now < cells_in reader.cpu.domain }
     requires updater { IsReady domain.now updater × (shelf.domain ≡ domain.now.domain) }
 {
     let (same, ran) = join(

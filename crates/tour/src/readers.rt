@@ -1,5 +1,6 @@
 //! Those who read the configuration, each on a processor of its own.
-ghost use Rattle.std.specs.Prelude.{◌≡◌, IfOk};
+ghost use Rattle.std.specs.Prelude.{◌≡◌, ◌<◌, IfOk};
+ghost use Rattle.sections.specs.Words.{cells_in};
 ghost use Rattle.sections.specs.Calls.{IsSameCpu};
 ghost use Rattle.sections.specs.Reads.{IsPinned};
 
@@ -15,7 +16,7 @@ const NAP: u64 = 2;
 
 /// Reads the configuration in a section, and sleeps there. Answers whether what it read was still the same behind that.
 fn read_and_sleep<R: Clock>(rt: &R, cpu: &mut Cpu<Old>, configs: &Values<Config>) -> Result<bool>
-    requires { configs.now.domain ≡ cpu.old.cpu.domain }
+    requires { configs.now < cells_in cpu.old.cpu.domain }
     ensures { IsSameCpu cpu.old.cpu cpu.new.cpu }
 {
     let mut section = cpu.read_lock()?; // srcu_read_lock
@@ -36,7 +37,7 @@ pub fn read_slowly<R: Clock>(
     configs: &Values<Config>,
     times: u32,
 ) -> Result<bool>
-    requires { configs.now.domain ≡ cpu.cpu.domain }
+    requires { configs.now < cells_in cpu.cpu.domain }
 {
     let mut same = true;
     for _ in 0..times {
@@ -47,7 +48,7 @@ pub fn read_slowly<R: Clock>(
 
 /// Reads the configuration in a section.
 pub fn read_once(cpu: &mut Cpu<Old>, configs: &Values<Config>) -> Result<Config>
-    requires { configs.now.domain ≡ cpu.old.cpu.domain }
+    requires { configs.now < cells_in cpu.old.cpu.domain }
     ensures { IsSameCpu cpu.old.cpu cpu.new.cpu }
 {
     let mut section = cpu.read_lock()?;
@@ -59,7 +60,7 @@ pub fn read_once(cpu: &mut Cpu<Old>, configs: &Values<Config>) -> Result<Config>
 
 /// Reads in so many sections. Answers whether a whole version was there in each of them.
 pub fn read_quickly(mut cpu: Cpu<Old>, configs: &Values<Config>, times: u32) -> Result<bool>
-    requires { configs.now.domain ≡ cpu.cpu.domain }
+    requires { configs.now < cells_in cpu.cpu.domain }
 {
     let mut whole = true;
     for _ in 0..times {
@@ -70,9 +71,9 @@ pub fn read_quickly(mut cpu: Cpu<Old>, configs: &Values<Config>, times: u32) -> 
 
 /// Opens a section, which another thread will close, and finds the configuration in it.
 pub fn open(mut cpu: Cpu<Old>, configs: &Values<Config>) -> Result<HeldPin>
-    requires { configs.now.domain ≡ cpu.cpu.domain }
+    requires { configs.now < cells_in cpu.cpu.domain }
     ensures domain { IfOk result (λ pin. pin.held.domain ≡ cpu.cpu.domain) }
-    ensures pinned { IfOk result (λ pin. IsPinned pin.held pin.found × (pin.found.cell ≡ configs.now.cell)) }
+    ensures pinned { IfOk result (λ pin. IsPinned pin.held pin.found × (pin.found.cell ≡ configs.now)) }
 {
     let held = cpu.down_read()?; // srcu_down_read
     Ok(configs.find_held(&mut cpu, held))

@@ -1,6 +1,7 @@
 //! What the guide shows. The calls stand where domain and processors are lent, and what they told is compared where these
 //! are gone: a step costs the prover a walk over all that is still to be dropped there.
 ghost use Rattle.std.specs.Prelude.{◌<◌, ◌≡◌};
+ghost use Rattle.sections.specs.Words.{cells_in};
 ghost use Rattle.domain.specs.Views.{IsOf, Stays};
 ghost use Rattle.tour.specs.Parts.{IsReady};
 
@@ -153,7 +154,7 @@ fn run_round_a_section<R: Wait>(
     shelf: &mut Shelf<Config>,
     configs: &Values<Config>,
 ) -> Result<Around>
-    requires reader { IsOf domain.now reader.old × (configs.now.domain ≡ domain.now.domain) }
+    requires reader { IsOf domain.now reader.old × (configs.now < cells_in domain.now.domain) }
     requires updater { IsReady domain.now updater.old × (shelf.old.domain ≡ domain.now.domain) }
 {
     let archive = Archive::new();

@@ -50,7 +50,7 @@ pub fn replace_and_poll<R: Wait>(
     requires domain { IsOf domain.now cpu }
     requires shelf { shelf.domain ≡ domain.now.domain }
     requires held { version.held.domain ≡ domain.now.domain }
-    requires pinned { IsPinned version.held version.found × (version.found.cell ≡ configs.now.cell) }
+    requires pinned { IsPinned version.held version.found × (version.found.cell ≡ configs.now) }
 {
     let replaced = shelf.replace(domain, &mut cpu, &Config::new(number));
     let mut cookie = domain.start_poll(&mut cpu); // start_poll_synchronize_srcu: asks for a period, and goes on

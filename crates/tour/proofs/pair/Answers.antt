@@ -1,8 +1,6 @@
 -- All are ready, and so each that was taken out.
-use Rattle.std.proofs.Common.{◌≡◌, ◌<◌, All, sym, subst, arith}
+use Rattle.std.proofs.Common.{◌≡◌, ◌<◌, All, arith}
 use Rattle.std.proofs.lemmas.List.Elements.{All-pop}
-use Rattle.atomic_table.specs.Seated.{TableId}
-use Rattle.sections.specs.Words.{cells_in}
 use Rattle.domain.specs.Views.{CpuView}
 use Rattle.tour.specs.Parts.{IsReady}
 use Rattle.tour.proofs.Starting.{new_ones_are_ready}
@@ -37,7 +35,7 @@ returns-clause-writer c =
     let cells = c.in_ok-domain.ensures.cells in
     let writer : P c.unwrap.result = rw c.unwrap.ensures at (All-pop P _ _ _ c.pop-3.ensures.items (writers_here _ _ _ _ c.in_ok-domain.ensures.writers)).1 in
     let low = writer.1 in
-    (writer.0, subst (λ (t : TableId). c.unwrap.result.cell < cells_in t) (sym writer.0) (omega (arith, low, cells)))
+    (writer.0, omega (arith, low, cells))
 
 pub unwrap-requires : goal.unwrap-requires
 unwrap-requires c =

@@ -1,6 +1,7 @@
 -- The cell is one of the processor's domain.
-use Rattle.std.proofs.Common.{◌≡◌}
+use Rattle.std.proofs.Common.{◌<◌}
+use Rattle.sections.specs.Words.{cells_in}
 use Rattle.tour.proofs.readers.read_quickly.Given as goal
 
 abbrev pub invariant-loop : goal.invariant-loop
-invariant-loop l = l.configs.domain ≡ l.cpu.cpu.domain
+invariant-loop l = l.configs < cells_in l.cpu.cpu.domain
