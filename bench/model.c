@@ -16,6 +16,12 @@ struct processor {
 	_Atomic uint64_t unlocks[2];
 };
 
+/* A cell whose versions have sixteen words: which slot is current, with the number of its version, and its slots. */
+struct cell {
+	_Alignas(STRIDE) _Atomic uint64_t current;
+	_Alignas(STRIDE) _Atomic uint64_t slots[2][VERSION_WORDS];
+};
+
 struct table {
 	struct processor *volatile processors;
 };
@@ -35,6 +41,7 @@ static struct word number;
 static struct word need;
 static struct processor processors[MOST_PROCESSORS];
 static struct processor holders[2];
+static struct cell cell;
 static struct table table = { processors };
 static struct cpu cpus[MOST_PROCESSORS];
 static const uint64_t most_sections = (uint64_t)1 << 54;
@@ -95,6 +102,33 @@ static void make_held_pairs(const struct worker *worker)
 	}
 }
 
+/* In a section of its own the cell is loaded, and then so many words of the slot that is current. */
+static void find_versions(const struct worker *worker, unsigned words)
+{
+	struct processor *own = &processors[worker->number % MOST_PROCESSORS];
+
+	for (uint64_t round = 0; round < worker->rounds; round++) {
+		unsigned index = atomic_load(&current_index.value) & 1;
+		unsigned slot;
+
+		atomic_fetch_add(&own->locks[index], 1);
+		slot = atomic_load(&cell.current) & 1;
+		for (unsigned i = 0; i < words; i++)
+			(void)atomic_load(&cell.slots[slot][i]);
+		atomic_fetch_add(&own->unlocks[index], 1);
+	}
+}
+
+static void find_one_word(const struct worker *worker)
+{
+	find_versions(worker, 1);
+}
+
+static void find_all_words(const struct worker *worker)
+{
+	find_versions(worker, VERSION_WORDS);
+}
+
 /*
  * Whether every section of the index is over. The unlocks are summed first: a section that ends between the two sums
  * is then missing from the smaller sum, and never from the larger one.
@@ -119,18 +153,43 @@ static void wait_until_drained(unsigned index)
 }
 
 /* The need is loaded, the number starts, one index is scanned, the index flips, the other is scanned, the number ends. */
+static void run_quiet_period(void)
+{
+	unsigned index = atomic_load(&current_index.value) & 1;
+
+	(void)atomic_load(&need.value);
+	atomic_fetch_add(&number.value, 1);
+	wait_until_drained(!index);
+	atomic_fetch_add(&current_index.value, 1);
+	atomic_fetch_add(&number.value, 1);
+	wait_until_drained(index);
+	atomic_fetch_add(&number.value, 2);
+}
+
 static void run_quiet_periods(const struct worker *worker)
 {
-	for (uint64_t round = 0; round < worker->rounds; round++) {
-		unsigned index = atomic_load(&current_index.value) & 1;
+	for (uint64_t round = 0; round < worker->rounds; round++)
+		run_quiet_period();
+}
 
-		(void)atomic_load(&need.value);
-		atomic_fetch_add(&number.value, 1);
-		wait_until_drained(!index);
-		atomic_fetch_add(&current_index.value, 1);
-		atomic_fetch_add(&number.value, 1);
-		wait_until_drained(index);
-		atomic_fetch_add(&number.value, 2);
+/* The number is loaded to see whether the other slot is free again. Its words are stored, and it is put into the cell. The
+ * number is loaded for the cookie of the slot that was current, which is asked for, and then a grace period is driven. */
+static void put_versions(const struct worker *worker)
+{
+	uint64_t cookie = 0;
+
+	for (uint64_t round = 0; round < worker->rounds; round++) {
+		unsigned slot = !(atomic_load(&cell.current) & 1);
+
+		while (atomic_load(&number.value) < cookie)
+			;
+		for (unsigned i = 0; i < VERSION_WORDS; i++)
+			atomic_store(&cell.slots[slot][i], round);
+		atomic_store(&cell.current, 16 * (round + 1) + slot);
+		cookie = atomic_load(&number.value) + 4;
+		if (atomic_load(&need.value) < cookie)
+			atomic_store(&need.value, cookie);
+		run_quiet_period();
 	}
 }
 
@@ -162,4 +221,26 @@ const struct thing model_quiet_period = {
 	.work = run_quiet_periods,
 	.less_often = 4,
 	.sizes = processor_sizes,
+};
+
+const struct thing model_find_one = {
+	.name = "model-find-1",
+	.prepare = prepare_processors,
+	.work = find_one_word,
+	.less_often = 1,
+};
+
+const struct thing model_find_all = {
+	.name = "model-find-16",
+	.prepare = prepare_processors,
+	.work = find_all_words,
+	.less_often = 1,
+};
+
+const struct thing model_put = {
+	.name = "model-put",
+	.prepare = prepare_processors,
+	.work = put_versions,
+	.less_often = 4,
+	.sizes = one_size,
 };

@@ -42,6 +42,14 @@ static const struct thing *const things[] = {
 	&model_quiet_period,
 	&max_of_new_numbers,
 	&max_of_one_number,
+	&model_find_one,
+	&pointer_one,
+	&rwlock_one,
+	&model_find_all,
+	&pointer_all,
+	&rwlock_all,
+	&model_put,
+	&rwlock_put,
 };
 
 static void fail(const char *what)

@@ -7,6 +7,9 @@
 /* Wider than a cache line of 64 bytes, wherever what it keeps apart begins. */
 #define STRIDE 128
 
+/* The words of a version. */
+#define VERSION_WORDS 16
+
 /* A thread of a measurement, from 0, and how often it does what is measured. */
 struct worker {
 	unsigned number;
@@ -36,10 +39,18 @@ extern const struct thing model_pair;
 extern const struct thing keeping_model_pair;
 extern const struct thing model_held_pair;
 extern const struct thing model_quiet_period;
+extern const struct thing model_find_one;
+extern const struct thing model_find_all;
+extern const struct thing model_put;
 extern const struct thing rwlock_pair;
 extern const struct thing counter_pair;
 extern const struct thing max_of_new_numbers;
 extern const struct thing max_of_one_number;
+extern const struct thing pointer_one;
+extern const struct thing pointer_all;
+extern const struct thing rwlock_one;
+extern const struct thing rwlock_all;
+extern const struct thing rwlock_put;
 #ifdef WITH_LIBURCU
 extern const struct thing urcu_mb_pair;
 extern const struct thing urcu_memb_pair;

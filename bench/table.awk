@@ -89,6 +89,20 @@ function job_rows(size) {
     row("liburcu memb, to the end, " threads(size), "urcu-memb-callbacks", size, "urcu-memb-callbacks")
 }
 
+function find_rows(words, size,    finds) {
+    finds = "find-" words
+    row("this domain, " threads(size), "srcubench-" finds, size, "model-" finds)
+    row("C11 model of it, " threads(size), "model-" finds, size, "model-" finds)
+    row("atomic pointer, no section, " threads(size), "pointer-" finds, size, "model-" finds)
+    row("pthread_rwlock, " threads(size), "rwlock-" finds, size, "model-" finds)
+}
+
+function put_rows() {
+    row("this domain", "srcubench-put", 1, "model-put")
+    row("C11 model of it", "model-put", 1, "model-put")
+    row("pthread_rwlock, no grace period", "rwlock-put", 1, "model-put")
+}
+
 function growth_row(label, name, size) {
     if ((1, name, size) in ns)
         printf "%-44s %s\n", label ", " threads(size), ratios(name, size, name, 1)
@@ -129,6 +143,17 @@ END {
     printf "%-44s %-28s %s\n", "one of 20000 callbacks", "      ns", "ratio to liburcu memb"
     for (size = 1; size <= 4; size *= 2)
         job_rows(size)
+    print ""
+    printf "%-44s %-28s %s\n", "a version found, and one word of it", "      ns", "ratio to the model"
+    for (size = 1; size <= 4; size *= 2)
+        find_rows(1, size)
+    print ""
+    printf "%-44s %-28s %s\n", "a version found, and its sixteen words", "      ns", "ratio to the model"
+    for (size = 1; size <= 4; size *= 2)
+        find_rows(16, size)
+    print ""
+    printf "%-44s %-28s %s\n", "a put of sixteen words and a grace period", "      ns", "ratio to the model"
+    put_rows()
     print ""
     printf "%-44s %s\n", "a pair at several threads against one at 1", "   ratio"
     for (size = 2; size <= most; size *= 2) {

@@ -29,15 +29,15 @@ one_wait n c between c' before one = subst (λ k. WaitsAll k c c') (sym (add-one
 -- New processors
 
 -- the last one was popped
-pub was_some : (cpus rest : List CpuView) (o : Option CpuView) (c : CpuView) → cpus ≡ rest ++ option_to_list o → o ≡ Some c → 0 < length cpus
+pub was_some : {X : Type 0} (cpus rest : List X) (o : Option X) (c : X) → cpus ≡ rest ++ option_to_list o → o ≡ Some c → 0 < length cpus
 was_some cpus rest o c whole is = let long = ap length (whole ∙ ap (λ x. rest ++ option_to_list x) is) in let more = length-append rest (c ∷ []) in omega (arith, long, more)
 
-pub was_last : (cpus rest : List CpuView) (o : Option CpuView) (c : CpuView) → cpus ≡ rest ++ option_to_list o → o ≡ Some c → c ≡ slice_index_or cpus (length cpus - 1) c
+pub was_last : {X : Type 0} (cpus rest : List X) (o : Option X) (c : X) → cpus ≡ rest ++ option_to_list o → o ≡ Some c → c ≡ slice_index_or cpus (length cpus - 1) c
 was_last cpus rest o c whole is =
     let same : cpus ≡ rest ++ c ∷ [] = whole ∙ ap (λ x. rest ++ option_to_list x) is in
     let long = ap length same in let more = length-append rest (c ∷ []) in
     let last : length rest ≡ length cpus - 1 = omega (arith, long, more) in
-    sym (get_or-append_seam rest c [] c) ∙ (sym (ap (λ (l : List CpuView). slice_index_or l (length rest) c) same) ∙ ap (λ k. slice_index_or cpus k c) last)
+    sym (get_or-append_seam rest c [] c) ∙ (sym (ap (λ l. slice_index_or l (length rest) c) same) ∙ ap (λ k. slice_index_or cpus k c) last)
 
 new_is_of : (d : DomainView) (bounds : Bounds) (tree : TableId) (shape : Shape) (k : ℕ) → d.processors ≡ bounds.processors → k < bounds.processors → IsOf d (new_cpu d bounds tree shape k)
 new_is_of d bounds tree shape k many there = record { domain = refl; bay = refl; home = refl; free = refl; asks = (k, refl); many = sym many; fits = record { domain = refl; tallies = refl; cpu = refl; there = subst (λ n. k < n) (sym many) there }; number = refl; seats = sym many; words = sym many }

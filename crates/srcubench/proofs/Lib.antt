@@ -1,8 +1,10 @@
 mod AllAsked
 mod Carrying
 mod Drives
+mod Finds
 mod Passes
 mod Passing
+mod Puts
 mod Rooms
 mod Sampling
 mod TwoCpus

@@ -12,7 +12,7 @@ use Rattle.sections.specs.Calls.{IsSameCpu, DownReads, Unlocks}
 use Rattle.srcubench.specs.Held.{AddsHeldPairs, MakesHeldPairs}
 use Rattle.srcubench.specs.Pairs.{AddsPairs, MakesPairs, AllMade, StopsEarly, HasRoom}
 
-bit_small : (b : Bool) → bit b ≤ 1
+pub bit_small : (b : Bool) → bit b ≤ 1
 bit_small true = omega arith
 bit_small false = omega arith
 

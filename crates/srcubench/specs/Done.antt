@@ -3,13 +3,15 @@ use Rattle.std.specs.Prelude.{◌≡◌, ℕ, ◌*◌, ◌^◌, ◌≤◌, List}
 use Rattle.srcubench.specs.declared.pairs.Reader.{Reader}
 use Rattle.srcubench.specs.declared.asking.Asker.{Asker}
 use Rattle.srcubench.specs.declared.work.Work.{Work}
-use Rattle.srcubench.specs.declared.work.Work.TheVariants.{Pairs, HeldPairs, QuietPeriods, DrivenPeriods, Waits, Asks, Entries, Queueing, Callbacks}
+use Rattle.srcubench.specs.declared.work.Work.TheVariants.{Pairs, HeldPairs, QuietPeriods, DrivenPeriods, Waits, Asks, Entries, Queueing, Callbacks, Finds, Puts}
 use Rattle.srcubench.specs.Readers.{AreReadersOfOne}
 use Rattle.srcubench.specs.Asking.{AreAskersOfOne}
 use Rattle.srcubench.specs.Calling.{HaveQueued, HavePassed}
 use Rattle.srcubench.specs.Driving.{HaveDriven, HaveWaited}
+use Rattle.srcubench.specs.Finding.{AreFindersOfOne}
 use Rattle.srcubench.specs.Held.{HaveMadeHeldPairs}
 use Rattle.srcubench.specs.Periods.{HaveEnded}
+use Rattle.srcubench.specs.Putting.{HavePut}
 
 -- there is something to do
 abbrev pub CanRun : Work → Type 0
@@ -22,6 +24,8 @@ CanRun (Asks threads asks new) = (1 ≤ asks) × (asks ≤ 2 ^ 54) × (threads �
 CanRun (Entries way batches) = (1 ≤ batches) × (batches ≤ 2 ^ 54)
 CanRun (Queueing threads jobs) = (1 ≤ threads * jobs) × (threads ≤ 2 ^ 16) × (jobs ≤ 2 ^ 40)
 CanRun (Callbacks threads jobs) = (1 ≤ threads * jobs) × (threads ≤ 2 ^ 16) × (jobs ≤ 2 ^ 40)
+CanRun (Finds threads words times) = (1 ≤ times) × (words ≤ 16)
+CanRun (Puts times) = 1 ≤ times
 
 -- a run has done so much of it
 abbrev pub IsDone : Work → ℕ → Type 0
@@ -34,3 +38,5 @@ IsDone (Asks threads asks new) done = (done ≡ asks) × (askers : List Asker) �
 IsDone (Entries way batches) done = done ≡ 8 * batches
 IsDone (Queueing threads jobs) done = (done ≡ threads * jobs) × HaveQueued threads jobs
 IsDone (Callbacks threads jobs) done = (done ≡ threads * jobs) × HavePassed threads jobs
+IsDone (Finds threads words times) done = (done ≡ times) × (readers : List Reader) × AreFindersOfOne threads words times readers
+IsDone (Puts times) done = (done ≡ times) × HavePut times

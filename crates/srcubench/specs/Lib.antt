@@ -3,12 +3,14 @@ pub mod Asking
 pub mod Calling
 pub mod Done
 pub mod Driving
+pub mod Finding
 pub mod Held
 pub mod Jobs
 pub mod Lists
 pub mod Pairs
 pub mod Needed
 pub mod Periods
+pub mod Putting
 pub mod Readers
 pub mod Samples
 pub mod Spreads

@@ -54,7 +54,7 @@ fn answer<R: Wait, A: Allocator>(
 }
 
 /// Starts a grace period, and has the engine carry it to its end: three turns of the engine.
-fn drive_period<R: Wait, A: Allocator>(
+pub fn drive_period<R: Wait, A: Allocator>(
     rt: &R,
     domain: &Domain<(), A>,
     cpu: &mut Cpu<(), A>,

@@ -1,7 +1,7 @@
 //! `srcubench` measures what a pair of `read_lock` and `read_unlock` costs, on one processor and on several at once, what
 //! a held section costs that begins on one processor and ends on another, what a grace period costs with nobody
-//! reading, what it costs to ask for one, what an entry of a callback list costs, and what a job costs that is queued and
-//! run behind a grace period.
+//! reading, what it costs to ask for one, what an entry of a callback list costs, what a job costs that is queued and run
+//! behind a grace period, and what a version costs that is found or put.
 #![tactic(auto)]
 
 ghost use Rattle.std.specs.Prelude.{◌*◌, ◌≤◌, ◌^◌};
@@ -11,15 +11,15 @@ mod callbacks;
 mod calling;
 mod command_line;
 mod driving;
+mod finding;
 mod held;
 mod lists;
 mod pairs;
 mod passage;
 mod periods;
+mod putting;
 mod quiet;
 mod spread;
-#[cfg(test)]
-mod tests;
 mod trial;
 mod work;
 
@@ -49,6 +49,12 @@ const COUNTED_PERIODS: u64 = 1_000;
 
 /// How often each thread asks where asks are only counted.
 const COUNTED_ASKS: u64 = 1_000;
+
+/// How many words of a version are read.
+const WORDS: [usize; 2] = [1, 16];
+
+/// How often a version is found, and how many are put, where they are only counted.
+const COUNTED_VERSIONS: u64 = 1_000;
 
 /// How many batches of entries go through a list where they are only counted.
 const COUNTED_BATCHES: u64 = 100;
@@ -98,7 +104,28 @@ fn count<R: Threads + Sync + Wait + Clock + Print + AllocGlobal>(rt: &R) -> Resu
         let timed = passage::run(rt, way, COUNTED_BATCHES)?;
         println!(rt; "{way}: {} entries", timed.done)?;
     }
-    count_jobs(rt)
+    count_jobs(rt)?;
+    count_versions(rt)
+}
+
+/// Prints how often a version was found, and how many were put.
+fn count_versions<R: Threads + Sync + Wait + Clock + Print + AllocGlobal>(rt: &R) -> Result<()> {
+    for threads in THREADS {
+        for words in WORDS {
+            let trial = finding::run(rt, threads, words, COUNTED_VERSIONS)?;
+            for (thread, reader) in trial.readers.iter().enumerate() {
+                println!(rt;
+                    "thread {thread} of {threads}: {} versions found, words: {words}",
+                    reader.made
+                )?;
+            }
+        }
+    }
+    println!(rt;
+        "put: {} versions",
+        putting::run(rt, COUNTED_VERSIONS)?.done
+    )?;
+    Ok(())
 }
 
 /// Prints how many jobs were queued, how many came out, and how many bytes the queued ones took.
@@ -177,7 +204,34 @@ fn time<R: Threads + Sync + Wait + Clock + Print + AllocGlobal>(
     }
     time_jobs(rt, 1, JOBS, repetitions)?;
     time_jobs(rt, 2, JOBS / 2, repetitions)?;
-    time_jobs(rt, 4, JOBS / 4, repetitions)
+    time_jobs(rt, 4, JOBS / 4, repetitions)?;
+    time_versions(rt, pairs, repetitions)
+}
+
+/// Prints what it took to find a version and read words of it, where each thread does so many, and what a put took.
+fn time_versions<R: Threads + Sync + Wait + Clock + Print + AllocGlobal>(
+    rt: &R,
+    times: u64,
+    repetitions: u64,
+) -> Result<()>
+    requires some { 1 ≤ times }
+    requires repetitions { 1 ≤ repetitions }
+{
+    for threads in THREADS {
+        for words in WORDS {
+            let work = Work::Finds {
+                threads,
+                words,
+                times,
+            };
+            let spread = measure(rt, work, repetitions)?;
+            println!(rt; "srcubench-find-{words} {threads} {spread}")?;
+        }
+    }
+    let times = times / LESS_OFTEN + 1;
+    let spread = measure(rt, Work::Puts { times }, repetitions)?;
+    println!(rt; "srcubench-put 1 {spread}")?;
+    Ok(())
 }
 
 /// Prints what queueing a job took, and what it took from there until it was run, where each of so many threads queues so

@@ -6,7 +6,7 @@ ghost use Rattle.srcubench.specs.Spreads.{IsSpreadOf};
 
 use crate::passage::Way;
 use crate::spread::{Spread, cost_of_one};
-use crate::{asking, callbacks, driving, held, passage, quiet, trial};
+use crate::{asking, callbacks, driving, finding, held, passage, putting, quiet, trial};
 use anyhow::Result;
 use std::sync::Wait;
 use std::thread::Threads;
@@ -61,6 +61,17 @@ pub enum Work {
         threads: usize,
         jobs: u64,
     },
+    /// Sections in which a version is found and so many words of it are read: so many in each of so many threads, which
+    /// are processors of one domain.
+    Finds {
+        threads: usize,
+        words: usize,
+        times: u64,
+    },
+    /// Values that are put, each with the grace period behind which the one before it can't be read, in one thread.
+    Puts {
+        times: u64,
+    },
 }
 
 /// What one run did.
@@ -106,6 +117,18 @@ pub fn run<R: Threads + Sync + Wait + Clock + AllocGlobal>(rt: &R, work: Work) -
         Work::Entries { way, batches } => passage::run(rt, way, batches),
         Work::Queueing { threads, jobs } => callbacks::run_queueing(rt, threads, jobs),
         Work::Callbacks { threads, jobs } => callbacks::run_passing(rt, threads, jobs),
+        Work::Finds {
+            threads,
+            words,
+            times,
+        } => {
+            let trial = finding::run(rt, threads, words, times)?;
+            Ok(Timed {
+                done: times,
+                elapsed: trial.elapsed,
+            })
+        }
+        Work::Puts { times } => putting::run(rt, times),
     }
 }
 
