@@ -14,7 +14,8 @@ pub fn words_of_a_domain()
 /// A load leaves no mark in the words, so what a processor or the engine says of its loads rests on the rule alone: as
 /// long as there is a maker that has a seat elsewhere, no seat gets a step that it did not make by being cut in two or by
 /// taking another in. Where that maker is a processor, no seat gets to see an event of its own that it did not make: a
-/// load of the number is an event. And no seat gets to know a text of a version that neither had.
+/// load of the number is an event. And where there is such a processor, a seat that comes out of a cut or has taken another
+/// in knows one text for each Put that it has seen and no other, each that of a version which was put.
 pub fn steps_of_a_domain()
     ensures steps { NoStepIsForged }
     ensures texts { NoTextIsForged }
