@@ -30,46 +30,48 @@ one_history plan s r = record {
 
 -- processor 0 has done nothing, and processor 1 has loaded a word
 
-abbrev first_load : Deed
-first_load = deed 1 (LoadQueued 0 0)
+module _ {J : Type 0} where
+  abbrev first_load : Deed J
+  first_load = deed 1 (LoadQueued 0 0)
 
-abbrev one_that_looked : View
-one_that_looked = record { who = Caller 1; list = NoList; batch = NoBatch; seen = first_load ∷ []; told = [] }
+  abbrev one_that_looked : View J
+  one_that_looked = record { who = Caller 1; list = NoList; batch = NoBatch; seen = first_load ∷ []; told = [] }
 
-abbrev three_seats : Plan → State (Option ℕ) View
-three_seats plan = record { words = replicate (word_count plan.processors) 0; homes = []; views = idle_seat ∷ one_that_looked ∷ note idle_seat ∷ [] }
+  abbrev three_seats : Plan → State (Option ℕ) (View J)
+  three_seats plan = record { words = replicate (word_count plan.processors) 0; homes = []; views = idle_seat ∷ one_that_looked ∷ note idle_seat ∷ [] }
 
 callers : ℕ → ℕ
 callers zero = 0
 callers (suc p) = 1
 
-abbrev books : Books
-books = record { log = first_load ∷ []; out_of = λ _. None; caller_at = callers; list_at = λ _. 3; batch_at = λ _. 3 }
+module _ {J : Type 0} where
+  abbrev books : Books J
+  books = record { log = first_load ∷ []; out_of = λ _. None; caller_at = callers; list_at = λ _. 3; batch_at = λ _. 3 }
 
-three_fit : (plan : Plan) (j : ℕ) (v : View) → get_elem? (three_seats plan).views j ≡ some v → Fits books j v
-unfolding callers
-three_fit plan zero v e = subst (λ (z : View). Fits books 0 z) (some-injective idle_seat v e) record {
-  seen = begins_empty (first_load ∷ []);
-  told = begins_empty (first_load ∷ []);
-  makes = (refl, refl);
-  list = tt;
-  batch = tt;
-}
-three_fit plan (suc zero) v e = subst (λ (z : View). Fits books 1 z) (some-injective one_that_looked v e) record {
-  seen = begins_itself (first_load ∷ []);
-  told = begins_empty (first_load ∷ []);
-  makes = (refl, refl);
-  list = tt;
-  batch = tt;
-}
-three_fit plan (suc (suc zero)) v e = subst (λ (z : View). Fits books 2 z) (some-injective (note idle_seat) v e) record {
-  seen = begins_empty (first_load ∷ []);
-  told = begins_empty (first_load ∷ []);
-  makes = tt;
-  list = tt;
-  batch = tt;
-}
-three_fit plan (suc (suc (suc j))) v e = absurd (some-ne-none v (sym e))
+  three_fit : (plan : Plan) (j : ℕ) (v : View J) → get_elem? (three_seats plan).views j ≡ some v → Fits books j v
+  unfolding callers
+  three_fit plan zero v e = subst (λ (z : View J). Fits books 0 z) (some-injective idle_seat v e) record {
+    seen = begins_empty (first_load ∷ []);
+    told = begins_empty (first_load ∷ []);
+    makes = (refl, refl);
+    list = tt;
+    batch = tt;
+  }
+  three_fit plan (suc zero) v e = subst (λ (z : View J). Fits books 1 z) (some-injective one_that_looked v e) record {
+    seen = begins_itself (first_load ∷ []);
+    told = begins_empty (first_load ∷ []);
+    makes = (refl, refl);
+    list = tt;
+    batch = tt;
+  }
+  three_fit plan (suc (suc zero)) v e = subst (λ (z : View J). Fits books 2 z) (some-injective (note idle_seat) v e) record {
+    seen = begins_empty (first_load ∷ []);
+    told = begins_empty (first_load ∷ []);
+    makes = tt;
+    list = tt;
+    batch = tt;
+  }
+  three_fit plan (suc (suc (suc j))) v e = absurd (some-ne-none v (sym e))
 
 none_queued : (p : ℕ) → queued_in p (first_load ∷ []) ≡ 0
 none_queued p = omega arith
@@ -89,15 +91,16 @@ three_kept plan = record {
   each_view = three_fit plan;
 }
 
-one_head : (d e : Deed) (log : List Deed) → IsBeginning (d ∷ []) log → IsBeginning (e ∷ []) log → d.by ≡ e.by
-one_head d e log a b = let same : d ∷ a.rest ≡ e ∷ b.rest = sym a.whole ∙ b.whole in let head : d ≡ e = cc in ap (λ x. x.by) head
+module _ {J : Type 0} where
+  one_head : (d e : Deed J) (log : List (Deed J)) → IsBeginning (d ∷ []) log → IsBeginning (e ∷ []) log → d.by ≡ e.by
+  one_head d e log a b = let same : d ∷ a.rest ≡ e ∷ b.rest = sym a.whole ∙ b.whole in let head : d ≡ e = cc in ap (λ x. x.by) head
 
--- nobody has a deed of processor 0's where processor 1 has done one
-not_claimed : (plan : Plan) (views : List View) (r : Kept plan record { words = (three_seats plan).words; homes = []; views = views }) (d : Deed) (j : ℕ) (v : View) → d.by ≡ 0 → v.seen ≡ d ∷ [] → get_elem? views 1 ≡ some one_that_looked → get_elem? views j ≡ some v → ⊥
-not_claimed plan views r d j v by claims other at =
-    let mine : IsBeginning (d ∷ []) r.books.log = subst (λ (l : List Deed). IsBeginning l r.books.log) claims (r.each_view j v at).seen in
-    let same : 0 ≡ 1 = sym by ∙ one_head d first_load r.books.log mine (r.each_view 1 one_that_looked other).seen in
-    absurd (omega (arith, same))
+  -- nobody has a deed of processor 0's where processor 1 has done one
+  not_claimed : (plan : Plan) (views : List (View J)) (r : Kept plan record { words = (three_seats plan).words; homes = []; views = views }) (d : Deed J) (j : ℕ) (v : View J) → d.by ≡ 0 → v.seen ≡ d ∷ [] → get_elem? views 1 ≡ some one_that_looked → get_elem? views j ≡ some v → ⊥
+  not_claimed plan views r d j v by claims other at =
+      let mine : IsBeginning (d ∷ []) r.books.log = subst (λ (l : List (Deed J)). IsBeginning l r.books.log) claims (r.each_view j v at).seen in
+      let same : 0 ≡ 1 = sym by ∙ one_head d first_load r.books.log mine (r.each_view 1 one_that_looked other).seen in
+      absurd (omega (arith, same))
 
 pub never_forged : NeverForged
 never_forged = record {

@@ -13,14 +13,15 @@ pub all_zero : (n : ℕ) (words : List ℕ) → words ≡ replicate n 0 → (k :
 all_zero n words e k = let z : get_or (replicate n 0) k 0 ≡ 0 = dite (dec_le (suc k) n) (λ l. get_or-replicate n k 0 0 (omega (arith, l))) (λ g. get_or_past (replicate n 0) k 0 (let long = length-replicate {A = ℕ} n 0 in omega (arith, long, g))) in
     ap (λ l. get_or l k 0) e ∙ z
 
--- the seats so far
-abbrev pub AreNewSoFar : TableId → ℕ → List CallSeatView → Type 0
-AreNewSoFar tallies processors seats = (p : ℕ) (d : CallSeatView) → p < length seats → get_or seats p d ≡ new_seat tallies processors p
+module _ {J : Type 0} where
+  -- the seats so far
+  abbrev pub AreNewSoFar : TableId → ℕ → List (CallSeatView J) → Type 0
+  AreNewSoFar tallies processors seats = (p : ℕ) (d : CallSeatView J) → p < length seats → get_or seats p d ≡ new_seat tallies processors p
 
-pub new_so_far : (tallies : TableId) (processors i : ℕ) (seats : List CallSeatView) (new : CallSeatView) → length seats ≡ i → new ≡ new_seat tallies processors i → AreNewSoFar tallies processors seats → AreNewSoFar tallies processors (seats ++ new ∷ [])
-new_so_far tallies processors i seats new count is all k d lt = dite (ℕ_discrete k i)
-    (λ e. get_or_push seats new d k (count ∙ sym e) ∙ (is ∙ ap (λ z. new_seat tallies processors z) (sym e)))
-    (λ ne. let long = length-append seats (new ∷ []) in let inside : k < length seats = omega (arith, long, lt, ne, count) in get_or_append_left seats (new ∷ []) d k inside ∙ all k d inside)
+  pub new_so_far : (tallies : TableId) (processors i : ℕ) (seats : List (CallSeatView J)) (new : CallSeatView J) → length seats ≡ i → new ≡ new_seat tallies processors i → AreNewSoFar tallies processors seats → AreNewSoFar tallies processors (seats ++ new ∷ [])
+  new_so_far tallies processors i seats new count is all k d lt = dite (ℕ_discrete k i)
+      (λ e. get_or_push seats new d k (count ∙ sym e) ∙ (is ∙ ap (λ z. new_seat tallies processors z) (sym e)))
+      (λ ne. let long = length-append seats (new ∷ []) in let inside : k < length seats = omega (arith, long, lt, ne, count) in get_or_append_left seats (new ∷ []) d k inside ∙ all k d inside)
 
 -- the locks so far
 pub locks_so_far : (domain tallies : TableId) (i : ℕ) (locks : List (KeepView ListKey)) (new : KeepView ListKey) → length locks ≡ i → new.key ≡ record { domain = domain; tallies = tallies; processor = i } → AreOfDomain domain tallies locks → AreOfDomain domain tallies (locks ++ new ∷ [])

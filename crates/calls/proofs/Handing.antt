@@ -28,17 +28,18 @@ same_key_taken max l c (Err e) l' c' h = ap key_of h.1
 pub still_same : (c d : CpuView) → d ≡ c → IsSameCpu c d
 still_same c d e = (ap (λ z. z.domain) e, ap (λ z. z.processors) e, ap (λ z. z.sections) e, ap (λ z. z.processor) e)
 
-pub still_seat : (s t : CallSeatView) → t ≡ s → IsSameSeat s t
-still_seat s t e = (ap (λ z. z.tallies) e, ap (λ z. z.processors) e, ap (λ z. z.processor) e)
+module _ {J : Type 0} where
+  pub still_seat : (s t : CallSeatView J) → t ≡ s → IsSameSeat s t
+  still_seat s t e = (ap (λ z. z.tallies) e, ap (λ z. z.processors) e, ap (λ z. z.processor) e)
 
-cause_same : {J : Type 0} (l : ListView J) (c : CpuView) (s : CallSeatView) (why : CallRefusal) (l' : ListView J) (c' : CpuView) → IsCause l c s why l' c' → IsSameCpu c c'
-cause_same l c s Exhausted l' c' h = still_same c c' h.2
-cause_same l c s Memory l' c' h = h.1.1.adds.same
+  cause_same : {J : Type 0} (l : ListView J) (c : CpuView) (s : CallSeatView J) (why : CallRefusal) (l' : ListView J) (c' : CpuView) → IsCause l c s why l' c' → IsSameCpu c c'
+  cause_same l c s Exhausted l' c' h = still_same c c' h.2
+  cause_same l c s Memory l' c' h = h.1.1.adds.same
 
-pub same_pushed : {J : Type 0} (l : ListView J) (c : CpuView) (s : CallSeatView) (job : J) (r : Result Receipt (J × CallRefusal)) (l' : ListView J) (c' : CpuView) (s' : CallSeatView)
-    → MatchResult r (λ receipt. Queues l c s job receipt l' c' s') (λ refused. Refuses l c s job refused l' c' s') → IsSameCpu c c' × IsSameSeat s s'
-same_pushed l c s job (Ok r) l' c' s' h = (h.note.adds.same, h.tally.same)
-same_pushed l c s job (Err e) l' c' s' h = (cause_same l c s e.1 l' c' h.cause, still_seat s s' h.seat)
+  pub same_pushed : {J : Type 0} (l : ListView J) (c : CpuView) (s : CallSeatView J) (job : J) (r : Result (Receipt J) (J × CallRefusal)) (l' : ListView J) (c' : CpuView) (s' : CallSeatView J)
+      → MatchResult r (λ receipt. Queues l c s job receipt l' c' s') (λ refused. Refuses l c s job refused l' c' s') → IsSameCpu c c' × IsSameSeat s s'
+  same_pushed l c s job (Ok r) l' c' s' h = (h.note.adds.same, h.tally.same)
+  same_pushed l c s job (Err e) l' c' s' h = (cause_same l c s e.1 l' c' h.cause, still_seat s s' h.seat)
 
 pub same_taken : {J E : Type 0} (max : ℕ) (l : ListView J) (c : CpuView) (r : Result (Option (BatchView J)) E) (l' : ListView J) (c' : CpuView) → MatchResult r (λ taken. Takes max l c taken l' c') (λ _. IsInvoking l × (l' ≡ l) × (c' ≡ c)) → IsSameCpu c c'
 same_taken max l c (Ok t) l' c' h = h.asks.adds.same

@@ -24,18 +24,19 @@ at_snoc [] a b (suc j) e = absurd (some-ne-none b (sym e))
 at_snoc (x ∷ xs) a b zero e = inl ((λ h. omega arith), e)
 at_snoc (x ∷ xs) a b (suc j) e = ⊎_elim (λ t. let n = t.0 in inl ((λ h. n (omega arith)), t.1)) (λ t. inr (ap suc t.0, t.1)) (at_snoc xs a b j e)
 
-pub views_set : (K : ℕ → View → Type 0) (vs : List View) (me : ℕ) (w : View) → K me w → ((j : ℕ) (d : View) → j ≢ me → get_elem? vs j ≡ some d → K j d) → (j : ℕ) (d : View) → get_elem? (set vs me w) j ≡ some d → K j d
-views_set K vs me w mine others j d e = ⊎_elim
-    (λ (t : (j ≡ me) × (w ≡ d)). subst (λ (x : ℕ × View). K x.0 x.1) (λ i. (sym t.0 i, t.1 i)) mine)
-    (λ (t : (j ≢ me) × (get_elem? vs j ≡ some d)). others j d t.0 t.1)
-    (at_set vs me j w d e)
+module _ {J : Type 0} where
+  pub views_set : (K : ℕ → View J → Type 0) (vs : List (View J)) (me : ℕ) (w : View J) → K me w → ((j : ℕ) (d : View J) → j ≢ me → get_elem? vs j ≡ some d → K j d) → (j : ℕ) (d : View J) → get_elem? (set vs me w) j ≡ some d → K j d
+  views_set K vs me w mine others j d e = ⊎_elim
+      (λ (t : (j ≡ me) × (w ≡ d)). subst (λ (x : ℕ × View J). K x.0 x.1) (λ i. (sym t.0 i, t.1 i)) mine)
+      (λ (t : (j ≢ me) × (get_elem? vs j ≡ some d)). others j d t.0 t.1)
+      (at_set vs me j w d e)
 
-pub views_split : (K : ℕ → View → Type 0) (vs : List View) (id : ℕ) (left right : View) → K id left → K (length vs) right → ((j : ℕ) (d : View) → j ≢ id → get_elem? vs j ≡ some d → K j d)
-    → (j : ℕ) (d : View) → get_elem? (set vs id left ++ right ∷ []) j ≡ some d → K j d
-views_split K vs id left right a b others j d e = ⊎_elim
-    (λ (t : (j ≢ length (set vs id left)) × (get_elem? (set vs id left) j ≡ some d)). views_set K vs id left a others j d t.1)
-    (λ (t : (j ≡ length (set vs id left)) × (right ≡ d)). subst (λ (x : ℕ × View). K x.0 x.1) (λ i. (sym (t.0 ∙ length-set vs id left) i, t.1 i)) b)
-    (at_snoc (set vs id left) right d j e)
+  pub views_split : (K : ℕ → View J → Type 0) (vs : List (View J)) (id : ℕ) (left right : View J) → K id left → K (length vs) right → ((j : ℕ) (d : View J) → j ≢ id → get_elem? vs j ≡ some d → K j d)
+      → (j : ℕ) (d : View J) → get_elem? (set vs id left ++ right ∷ []) j ≡ some d → K j d
+  views_split K vs id left right a b others j d e = ⊎_elim
+      (λ (t : (j ≢ length (set vs id left)) × (get_elem? (set vs id left) j ≡ some d)). views_set K vs id left a others j d t.1)
+      (λ (t : (j ≡ length (set vs id left)) × (right ≡ d)). subst (λ (x : ℕ × View J). K x.0 x.1) (λ i. (sym (t.0 ∙ length-set vs id left) i, t.1 i)) b)
+      (at_snoc (set vs id left) right d j e)
 
 -- A function that is changed at one place
 
@@ -50,17 +51,18 @@ given_else p a f q n = ap (λ b. cond b a (f q)) (ne_eqb q p n)
 
 -- One more deed
 
-abbrev pub moved : Books → Deed → (ℕ → Option ℕ) → Books
-moved b d out = record b { log = b.log ++ d ∷ []; out_of = out }
+module _ {J : Type 0} where
+  abbrev pub moved : Books J → Deed J → (ℕ → Option ℕ) → Books J
+  moved b d out = record b { log = b.log ++ d ∷ []; out_of = out }
 
--- of this processor nothing has changed
-pub record Untouched (b c : Books) (p : ℕ) : Type 0 where
-  pub queued : queued_in p c.log ≡ queued_in p b.log
-  pub finished : finished_in p c.log ≡ finished_in p b.log
-  pub out : c.out_of p ≡ b.out_of p
+  -- of this processor nothing has changed
+  pub record Untouched (b c : Books J) (p : ℕ) : Type 0 where
+    pub queued : queued_in p c.log ≡ queued_in p b.log
+    pub finished : finished_in p c.log ≡ finished_in p b.log
+    pub out : c.out_of p ≡ b.out_of p
 
-module _ (b : Books) (d : Deed) (out : ℕ → Option ℕ) (id j : ℕ) (here : b.caller_at d.by ≡ id) (ne : j ≢ id) (lists : (p : ℕ) → b.list_at p ≢ id → Untouched b (moved b d out) p) where
-  makes_else : (seen : List Deed) (who : Who) → Makes b j seen who → Makes (moved b d out) j seen who
+module _ {J : Type 0} (b : Books J) (d : Deed J) (out : ℕ → Option ℕ) (id j : ℕ) (here : b.caller_at d.by ≡ id) (ne : j ≢ id) (lists : (p : ℕ) → b.list_at p ≢ id → Untouched b (moved b d out) p) where
+  makes_else : (seen : List (Deed J)) (who : Who) → Makes b j seen who → Makes (moved b d out) j seen who
   makes_else seen Nobody h = tt
   makes_else seen (Caller p) h = (h.0, h.1 ∙ sym (deeds_else p b.log d (λ e. ne (sym h.0 ∙ (ap b.caller_at (sym e) ∙ here)))))
   makes_else seen (Dealer k) h = λ p le. let u : IsUndealt b j p = h p le in let t = lists p (λ e. ne (sym u.list ∙ e)) in record {
@@ -72,7 +74,7 @@ module _ (b : Books) (d : Deed) (out : ℕ → Option ℕ) (id j : ℕ) (here : 
     out = t.out ∙ u.out;
   }
 
-  list_else : (right : ListRight) → HasList b j right → HasList (moved b d out) j right
+  list_else : (right : ListRight J) → HasList b j right → HasList (moved b d out) j right
   list_else NoList h = tt
   list_else (OfList p q f o) h = let t = lists p (λ e. ne (sym h.0 ∙ e)) in (h.0, h.1 ∙ sym t.queued, h.2 ∙ sym t.finished, h.3 ∙ sym t.out)
 
@@ -81,5 +83,5 @@ module _ (b : Books) (d : Deed) (out : ℕ → Option ℕ) (id j : ℕ) (here : 
   batch_else batches (OfBatch p f n) h = let t = batches p (λ e. ne (sym h.0 ∙ e)) in (h.0, h.1 ∙ sym t.0, t.1 ∙ h.2)
 
   -- another seat knows what it knew
-  pub fits_else : ((p : ℕ) → b.batch_at p ≢ id → (finished_in p (moved b d out).log ≡ finished_in p b.log) × (out p ≡ b.out_of p)) → (v : View) → Fits b j v → Fits (moved b d out) j v
+  pub fits_else : ((p : ℕ) → b.batch_at p ≢ id → (finished_in p (moved b d out).log ≡ finished_in p b.log) × (out p ≡ b.out_of p)) → (v : View J) → Fits b j v → Fits (moved b d out) j v
   fits_else batches v h = record { seen = begins_pushed d h.seen; told = begins_pushed d h.told; makes = makes_else v.seen v.who h.makes; list = list_else v.list h.list; batch = batch_else batches v.batch h.batch }

@@ -19,8 +19,9 @@ use Rattle.calls.specs.Insides.{IsList}
 use Rattle.calls.proofs.Wrapping.{unwrap_wrap, wrapped_push, assigned_wrapped, advanced_wrapped, count_done_wrapped, split_wrapped, items_length}
 use Rattle.calls.proofs.Keeping.{moved_waiting, last_waiting, remarked_each, since_each}
 
-pub list_seat_is : (seat : Place) (p q f : ℕ) (o : Option ℕ) → seat.me ≡ (list_of p q f o, []) → IsListSeat seat.table_id p seat
-list_seat_is seat p q f o h = record { seated = refl; me = h ∙ ap (λ m. (list_of p (queued_known m.0.list) (finished_known m.0.list) (out_known m.0.list), [])) (sym h) }
+module _ {J : Type 0} where
+  pub list_seat_is : (seat : Place J) (p q f : ℕ) (o : Option ℕ) → seat.me ≡ (list_of p q f o, []) → IsListSeat seat.table_id p seat
+  list_seat_is seat p q f o h = record { seated = refl; me = h ∙ ap (λ m. (list_of p (queued_known m.0.list) (finished_known m.0.list) (out_known m.0.list), [])) (sym h) }
 
 module _ {J A : Type 0} where
   -- the list has these entries
@@ -52,8 +53,9 @@ module _ {J : Type 0} where
   pub length_pushed : (l : List (Entry J × Mark)) (e : Entry J × Mark) → length (l ++ e ∷ []) ≡ length l + 1
   length_pushed l e = length-append l (e ∷ [])
 
-pub batch_seat_is : (seat : Place) (p f n : ℕ) → seat.me ≡ (batch_seat (OfBatch p f n), []) → IsBatchSeat seat.table_id p n seat
-batch_seat_is seat p f n h = record { seated = refl; me = h ∙ ap (λ m. (batch_seat (OfBatch p (first_known m.0.batch) n), [])) (sym h) }
+module _ {J : Type 0} where
+  pub batch_seat_is : (seat : Place J) (p f n : ℕ) → seat.me ≡ (batch_seat (OfBatch p f n), []) → IsBatchSeat seat.table_id p n seat
+  batch_seat_is seat p f n h = record { seated = refl; me = h ∙ ap (λ m. (batch_seat (OfBatch p (first_known m.0.batch) n), [])) (sym h) }
 
 -- whether a batch is out
 pub none_out : (b : Bool) (o : Option ℕ) → (IsTrue b ↔ IsSome o) → b ≡ false → o ≡ None

@@ -24,15 +24,16 @@ use Rattle.calls.proofs.Knowing.{views_set, moved, fits_else}
 same_caller : (c b : ℕ) → Caller c ≡ Caller b → c ≡ b
 same_caller c b h = cc
 
--- what the seat then knows
-abbrev looked : Books → View → ℕ → Act → View
-looked b v c act = record v { seen = b.log ++ deed c act ∷ []; told = [] }
+module _ {J : Type 0} where
+  -- what the seat then knows
+  abbrev looked : Books J → View J → ℕ → Act J → View J
+  looked b v c act = record v { seen = b.log ++ deed c act ∷ []; told = [] }
 
-module _ (plan : Plan) (s : State (Option ℕ) View) (r : Kept plan s) (id c : ℕ) (v : View) (act : Act) (at : get_elem? s.views id ≡ some v) (who : v.who ≡ Caller c) (no_queue : is_queue act ≡ false) (no_finish : (p : ℕ) → finished_by p act ≡ 0) (true : IsTrueOf r.books.log act) (finisher : IsFinisher plan.processors c act) where
-  abbrev log' : List Deed
+module _ {J : Type 0} (plan : Plan) (s : State (Option ℕ) (View J)) (r : Kept plan s) (id c : ℕ) (v : View J) (act : Act J) (at : get_elem? s.views id ≡ some v) (who : v.who ≡ Caller c) (no_queue : is_queue act ≡ false) (no_finish : (p : ℕ) → finished_by p act ≡ 0) (true : IsTrueOf r.books.log act) (finisher : IsFinisher plan.processors c act) where
+  abbrev log' : List (Deed J)
   log' = r.books.log ++ deed c act ∷ []
 
-  abbrev books' : Books
+  abbrev books' : Books J
   books' = moved r.books (deed c act) r.books.out_of
 
   still_queued : (p : ℕ) → queued_in p log' ≡ queued_in p r.books.log
@@ -44,7 +45,7 @@ module _ (plan : Plan) (s : State (Option ℕ) View) (r : Kept plan s) (id c : �
   made : Makes r.books id v.seen (Caller c)
   made = subst (λ (z : Who). Makes r.books id v.seen z) who (r.each_view id v at).makes
 
-  list_stays : (right : ListRight) → HasList r.books id right → HasList books' id right
+  list_stays : (right : ListRight J) → HasList r.books id right → HasList books' id right
   list_stays NoList h = tt
   list_stays (OfList p q f o) h = (h.0, h.1 ∙ sym (still_queued p), h.2 ∙ sym (still_finished p), h.3)
 
@@ -56,7 +57,7 @@ module _ (plan : Plan) (s : State (Option ℕ) View) (r : Kept plan s) (id c : �
   pub load_keeps : (word : ℕ) (cs : List (ℕ × Option ℕ)) → Kept plan (stepped s word (get_or s.words word 0) id cs (looked r.books v c act) keeps)
   load_keeps word cs =
       let f = r.each_view id v at in
-      let b' : Books = books' in
+      let b' : Books J = books' in
       subst (λ (ws : List ℕ). Kept plan record { words = ws; homes = s.homes; views = set s.views id (looked r.books v c act) }) (sym (set-get_or s.words word 0)) record {
         books = b';
         loads = one_more_true r.books.log (deed c act) r.loads true;
@@ -84,14 +85,14 @@ module _ (plan : Plan) (s : State (Option ℕ) View) (r : Kept plan s) (id c : �
     batch = refl;
   }
 
-module _ (plan : Plan) where
-  pub counts_queued_here : (slots id c p word : ℕ) (me : Sat) → word ≡ queued_place p → me.0.who ≡ Caller c → p < plan.processors → Allows (Kept plan) slots id me word (λ x. x) (counts_queued (step slots word 0 0 none) me)
+module _ {J : Type 0} (plan : Plan) where
+  pub counts_queued_here : (slots id c p word : ℕ) (me : Sat J) → word ≡ queued_place p → me.0.who ≡ Caller c → p < plan.processors → Allows (Kept plan) slots id me word (λ x. x) (counts_queued (step slots word 0 0 none) me)
   counts_queued_here slots id c p word me place who lt s r _ at _ =
-      let v : View = me.0 in
+      let v : View J = me.0 in
       let x : ℕ = get_or s.words word 0 in
       let found : x ≡ queued_in p r.books.log = ap (λ z. get_or s.words z 0) place ∙ r.queued p lt in
       let few = (r.counted p).few in
-      let act : Act = LoadQueued p x in (
+      let act : Act J = LoadQueued p x in (
         looked r.books v c act,
         keeps,
         tt,
@@ -104,13 +105,13 @@ module _ (plan : Plan) where
         ),
       )
 
-  pub counts_finished_here : (slots id c p word many : ℕ) (me : Sat) → plan.processors ≡ many → word ≡ finished_place p → me.0.who ≡ Caller c → p < plan.processors → Allows (Kept plan) slots id me word (λ x. x) (counts_finished many (step slots word 0 0 none) me)
+  pub counts_finished_here : (slots id c p word many : ℕ) (me : Sat J) → plan.processors ≡ many → word ≡ finished_place p → me.0.who ≡ Caller c → p < plan.processors → Allows (Kept plan) slots id me word (λ x. x) (counts_finished many (step slots word 0 0 none) me)
   counts_finished_here slots id c p word many me all place who lt s r _ at _ =
-      let v : View = me.0 in
+      let v : View J = me.0 in
       let x : ℕ = get_or s.words word 0 in
       let found : x ≡ finished_in p r.books.log = ap (λ z. get_or s.words z 0) place ∙ r.finished p lt in
-      let act : Act = LoadFinished p x in
-      let log' : List Deed = r.books.log ++ deed c act ∷ [] in
+      let act : Act J = LoadFinished p x in
+      let log' : List (Deed J) = r.books.log ++ deed c act ∷ [] in
       let within = (r.counted p).within in
       let still = queued_still p r.books.log c act refl in
       let low : x ≤ queued_in p log' = omega (arith, found, within, still) in (

@@ -25,28 +25,29 @@ nobody_deals w is k e = let h : Nobody ≡ Dealer k = sym is ∙ e in cc
 pub caller_deals : (w : Who) (p : ℕ) → w ≡ Caller p → (k : ℕ) → w ≢ Dealer k
 caller_deals w p is k e = let h : Caller p ≡ Dealer k = sym is ∙ e in cc
 
--- the same, where the seat took a right over before the step and gave one away after it
-pub does_through : (p : ℕ) (act : Act) (v j w w' : View) → j.seen ≡ v.seen → j.who ≡ v.who → w'.seen ≡ w.seen → w'.who ≡ w.who → Does p act j w → Does p act v w'
-does_through p act v j w w' seen who seen' who' h = record {
-  before = h.before;
-  seen = seen' ∙ h.seen;
-  since = subst (λ (l : List Deed). IsBeginning l h.before) seen h.since;
-  own = h.own ∙ ap (deeds_of p) seen;
-  who = who' ∙ (h.who ∙ who);
-  loads = subst (λ (l : List Deed). AreTrue l) (sym seen') h.loads;
-}
+module _ {J : Type 0} where
+  -- the same, where the seat took a right over before the step and gave one away after it
+  pub does_through : (p : ℕ) (act : Act J) (v j w w' : View J) → j.seen ≡ v.seen → j.who ≡ v.who → w'.seen ≡ w.seen → w'.who ≡ w.who → Does p act j w → Does p act v w'
+  does_through p act v j w w' seen who seen' who' h = record {
+    before = h.before;
+    seen = seen' ∙ h.seen;
+    since = subst (λ (l : List (Deed J)). IsBeginning l h.before) seen h.since;
+    own = h.own ∙ ap (deeds_of p) seen;
+    who = who' ∙ (h.who ∙ who);
+    loads = subst (λ (l : List (Deed J)). AreTrue l) (sym seen') h.loads;
+  }
 
--- a load with a batch's right, between taking it over and giving it back
-pub load_through : (a j e t : Sat) (w : View) → j ≡ (with_batch a.0 w, a.1) → e ≡ (record j.0 { seen = e.0.seen; told = [] }, j.1) → t ≡ (without_batch e.0, e.1) → t ≡ (record a.0 { batch = NoBatch; seen = t.0.seen; told = [] }, a.1)
-load_through a j e t w taken loaded given =
-    let seen : t.0.seen ≡ e.0.seen = ap (λ m. m.0.seen) given in
-    given ∙ ((λ i. (without_batch (loaded i).0, (loaded i).1)) ∙ (λ i. (record (taken i).0 { batch = NoBatch; seen = sym seen i; told = [] }, (taken i).1)))
+  -- a load with a batch's right, between taking it over and giving it back
+  pub load_through : (a j e t : Sat J) (w : View J) → j ≡ (with_batch a.0 w, a.1) → e ≡ (record j.0 { seen = e.0.seen; told = [] }, j.1) → t ≡ (without_batch e.0, e.1) → t ≡ (record a.0 { batch = NoBatch; seen = t.0.seen; told = [] }, a.1)
+  load_through a j e t w taken loaded given =
+      let seen : t.0.seen ≡ e.0.seen = ap (λ m. m.0.seen) given in
+      given ∙ ((λ i. (without_batch (loaded i).0, (loaded i).1)) ∙ (λ i. (record (taken i).0 { batch = NoBatch; seen = sym seen i; told = [] }, (taken i).1)))
 
-pub finds_through : (n c : ℕ) (a j e t : View) → j.seen ≡ a.seen → j.told ≡ a.told → t.seen ≡ e.seen → FindsAll n c j e → FindsAll n c a t
-finds_through n c a j e t was told seen h = record {
-  since = subst (λ (z : List Deed × List Deed). IsBeginning z.0 z.1) (λ i. (was i, sym seen i)) h.since;
-  own = ap (deeds_of c) seen ∙ (h.own ∙ ap (deeds_of c) was);
-  covers = subst (λ (z : List Deed × List Deed). IsBeginning z.0 z.1) (λ i. (told i, sym seen i)) h.covers;
-  loads = subst (λ (l : List Deed). AreTrue l) (sym seen) h.loads;
-  finishers = subst (λ (l : List Deed). AreFinishers n l) (sym seen) h.finishers;
-}
+  pub finds_through : (n c : ℕ) (a j e t : View J) → j.seen ≡ a.seen → j.told ≡ a.told → t.seen ≡ e.seen → FindsAll n c j e → FindsAll n c a t
+  finds_through n c a j e t was told seen h = record {
+    since = subst (λ (z : List (Deed J) × List (Deed J)). IsBeginning z.0 z.1) (λ i. (was i, sym seen i)) h.since;
+    own = ap (deeds_of c) seen ∙ (h.own ∙ ap (deeds_of c) was);
+    covers = subst (λ (z : List (Deed J) × List (Deed J)). IsBeginning z.0 z.1) (λ i. (told i, sym seen i)) h.covers;
+    loads = subst (λ (l : List (Deed J)). AreTrue l) (sym seen) h.loads;
+    finishers = subst (λ (l : List (Deed J)). AreFinishers n l) (sym seen) h.finishers;
+  }

@@ -29,24 +29,24 @@ same_list p q f o p' q' f' o' h = ((cc), (cc), (cc), (cc))
 same_batch : (p f n p' f' n' : ℕ) → OfBatch p f n ≡ OfBatch p' f' n' → (p ≡ p') × (f ≡ f') × (n ≡ n')
 same_batch p f n p' f' n' h = ((cc), (cc), (cc))
 
-module _ (plan : Plan) where
-  pub queues_here : (slots id p q f word : ℕ) (o : Option ℕ) (me : Sat) → word ≡ queued_place p → me.0.who ≡ Caller p → me.0.list ≡ OfList p q f o → p < plan.processors → queued_in p me.0.seen < most_calls
+module _ {J : Type 0} (plan : Plan) where
+  pub queues_here : (slots id p q f word : ℕ) (o : Option ℕ) (me : Sat J) → word ≡ queued_place p → me.0.who ≡ Caller p → me.0.list ≡ OfList p q f o → p < plan.processors → queued_in p me.0.seen < most_calls
       → Allows (Kept plan) slots id me word (λ x. (x + 1) % 2 ^ 64) (queues (step slots word 1 0 none) me)
   queues_here slots id p q f word o me place who list lt room s r _ at _ =
-      let v : View = me.0 in
-      let b : Books = r.books in
+      let v : View J = me.0 in
+      let b : Books J = r.books in
       let fit = r.each_view id v at in
       let made : Makes b id v.seen (Caller p) = subst (λ (z : Who). Makes b id v.seen z) who fit.makes in
-      let has : HasList b id (OfList p q f o) = subst (λ (z : ListRight). HasList b id z) list fit.list in
-      let d : Deed = deed p Queue in
-      let log' : List Deed = b.log ++ d ∷ [] in
+      let has : HasList b id (OfList p q f o) = subst (λ (z : ListRight J). HasList b id z) list fit.list in
+      let d : Deed J = deed p Queue in
+      let log' : List (Deed J) = b.log ++ d ∷ [] in
       let same : queued_in p v.seen ≡ queued_in p b.log = same_queued p v.seen b.log made.1 in
       let x : ℕ = get_or s.words word 0 in
       let y : ℕ = (x + 1) % 2 ^ 64 in
       let found : x ≡ queued_in p b.log = ap (λ z. get_or s.words z 0) place ∙ r.queued p lt in
       let up : y ≡ x + 1 = omega (arith, found, same, room) in
-      let w : View = record { who = v.who; list = OfList p (q + 1) f o; batch = v.batch; seen = log'; told = [] } in
-      let b' : Books = moved b d b.out_of in
+      let w : View J = record { who = v.who; list = OfList p (q + 1) f o; batch = v.batch; seen = log'; told = [] } in
+      let b' : Books J = moved b d b.out_of in
       let one : queued_in p log' ≡ queued_in p b.log + 1 = queued_here p b.log in
       let inside : word < length s.words = let wide = r.wide in omega (arith, wide, lt, place) in
       let true' : AreTrue log' = one_more_true b.log d r.loads tt in
@@ -94,21 +94,21 @@ module _ (plan : Plan) where
         ),
       )
     where
-      same_batch_right : (right : BatchRight) (b b' : Books) (id : ℕ) → ((k : ℕ) → finished_in k b'.log ≡ finished_in k b.log) → ((k : ℕ) → b'.out_of k ≡ b.out_of k) → ((k : ℕ) → b'.batch_at k ≡ b.batch_at k) → HasBatch b id right → HasBatch b' id right
+      same_batch_right : (right : BatchRight) (b b' : Books J) (id : ℕ) → ((k : ℕ) → finished_in k b'.log ≡ finished_in k b.log) → ((k : ℕ) → b'.out_of k ≡ b.out_of k) → ((k : ℕ) → b'.batch_at k ≡ b.batch_at k) → HasBatch b id right → HasBatch b' id right
       same_batch_right NoBatch b b' id fin out places h = tt
       same_batch_right (OfBatch k g n) b b' id fin out places h = (places k ∙ h.0, h.1 ∙ sym (fin k), out k ∙ h.2)
 
-  pub finishes_here : (slots id c p q f g n word : ℕ) (o : Option ℕ) (me : Sat) → word ≡ finished_place p → me.0.who ≡ Caller c → me.0.list ≡ OfList p q f o → me.0.batch ≡ OfBatch p g n → p < plan.processors → c < plan.processors
+  pub finishes_here : (slots id c p q f g n word : ℕ) (o : Option ℕ) (me : Sat J) → word ≡ finished_place p → me.0.who ≡ Caller c → me.0.list ≡ OfList p q f o → me.0.batch ≡ OfBatch p g n → p < plan.processors → c < plan.processors
       → Allows (Kept plan) slots id me word (λ x. (x + n) % 2 ^ 64) (finishes (step slots word n 0 none) me)
   finishes_here slots id c p q f g n word o me place who list batch lt here s r _ at _ =
-      let v : View = me.0 in
-      let b : Books = r.books in
+      let v : View J = me.0 in
+      let b : Books J = r.books in
       let fit = r.each_view id v at in
       let made : Makes b id v.seen (Caller c) = subst (λ (z : Who). Makes b id v.seen z) who fit.makes in
-      let has : HasList b id (OfList p q f o) = subst (λ (z : ListRight). HasList b id z) list fit.list in
+      let has : HasList b id (OfList p q f o) = subst (λ (z : ListRight J). HasList b id z) list fit.list in
       let bat : HasBatch b id (OfBatch p g n) = subst (λ (z : BatchRight). HasBatch b id z) batch fit.batch in
-      let d : Deed = deed c (Finish p n) in
-      let log' : List Deed = b.log ++ d ∷ [] in
+      let d : Deed J = deed c (Finish p n) in
+      let log' : List (Deed J) = b.log ++ d ∷ [] in
       let x : ℕ = get_or s.words word 0 in
       let y : ℕ = (x + n) % 2 ^ 64 in
       let found : x ≡ finished_in p b.log = ap (λ z. get_or s.words z 0) place ∙ r.finished p lt in
@@ -117,9 +117,9 @@ module _ (plan : Plan) where
       let few = counts.few in
       let many : count_out (b.out_of p) ≡ n = ap count_out bat.2 in
       let up : y ≡ x + n = omega (arith, found, within, few, many) in
-      let w : View = record { who = v.who; list = OfList p q (f + n) None; batch = NoBatch; seen = log'; told = [] } in
+      let w : View J = record { who = v.who; list = OfList p q (f + n) None; batch = NoBatch; seen = log'; told = [] } in
       let out' : ℕ → Option ℕ = given p None b.out_of in
-      let b' : Books = moved b d out' in
+      let b' : Books J = moved b d out' in
       let more : finished_in p log' ≡ finished_in p b.log + n = finished_here p n b.log c in
       let still : (k : ℕ) → queued_in k log' ≡ queued_in k b.log = λ k. queued_still k b.log c (Finish p n) refl in
       let inside : word < length s.words = let wide = r.wide in omega (arith, wide, lt, place) in

@@ -17,32 +17,33 @@ use Rattle.calls.proofs.Meeting.{deeds_append, none_more, own_between}
 
 -- Deeds of one processor
 
-not_first : (x : Deed) (xs : List Deed) → deeds_of x.by (x ∷ xs) ≡ [] → ⊥
-not_first x xs is = let h : x ∷ deeds_of x.by xs ≡ [] = sym (ap (λ b. cond b (x ∷ deeds_of x.by xs) (deeds_of x.by xs)) (eq-eqb x.by x.by refl)) ∙ is in cc
+module _ {J : Type 0} where
+  not_first : (x : Deed J) (xs : List (Deed J)) → deeds_of x.by (x ∷ xs) ≡ [] → ⊥
+  not_first x xs is = let h : x ∷ deeds_of x.by xs ≡ [] = sym (ap (λ b. cond b (x ∷ deeds_of x.by xs) (deeds_of x.by xs)) (eq-eqb x.by x.by refl)) ∙ is in cc
 
-none_behind : (q : ℕ) (x : Deed) (xs : List Deed) → deeds_of q (x ∷ xs) ≡ [] → deeds_of q xs ≡ []
-none_behind q x xs is = dite (ℕ_discrete x.by q)
-    (λ e. let h : x ∷ deeds_of q xs ≡ [] = sym (ap (λ b. cond b (x ∷ deeds_of q xs) (deeds_of q xs)) (eq-eqb x.by q e)) ∙ is in absurd (some_first x (deeds_of q xs) h))
-    (λ n. sym (ap (λ b. cond b (x ∷ deeds_of q xs) (deeds_of q xs)) (ne_eqb x.by q n)) ∙ is)
-  where
-    some_first : (y : Deed) (ys : List Deed) → y ∷ ys ≡ [] → ⊥
-    some_first y ys h = cc
+  none_behind : (q : ℕ) (x : Deed J) (xs : List (Deed J)) → deeds_of q (x ∷ xs) ≡ [] → deeds_of q xs ≡ []
+  none_behind q x xs is = dite (ℕ_discrete x.by q)
+      (λ e. let h : x ∷ deeds_of q xs ≡ [] = sym (ap (λ b. cond b (x ∷ deeds_of q xs) (deeds_of q xs)) (eq-eqb x.by q e)) ∙ is in absurd (some_first x (deeds_of q xs) h))
+      (λ n. sym (ap (λ b. cond b (x ∷ deeds_of q xs) (deeds_of q xs)) (ne_eqb x.by q n)) ∙ is)
+    where
+      some_first : (y : Deed J) (ys : List (Deed J)) → y ∷ ys ≡ [] → ⊥
+      some_first y ys h = cc
 
-not_finished : (n p by : ℕ) (act : Act) → IsFinisher n by act → (by < n → ⊥) → finished_by p act ≡ 0
-not_finished n p by Queue h away = refl
-not_finished n p by (Finish q k) h away = absurd (away h)
-not_finished n p by (LoadQueued q k) h away = refl
-not_finished n p by (LoadFinished q k) h away = refl
+  not_finished : (n p by : ℕ) (act : Act J) → IsFinisher n by act → (by < n → ⊥) → finished_by p act ≡ 0
+  not_finished n p by Queue h away = refl
+  not_finished n p by (Finish q k) h away = absurd (away h)
+  not_finished n p by (LoadQueued q k) h away = refl
+  not_finished n p by (LoadFinished q k) h away = refl
 
--- where only one processor of those that are there did something, and finished nothing, nothing is finished
-none_finished : (n me p : ℕ) (l : List Deed) → AreFinishers n l → ((q : ℕ) → q < n → q ≢ me → deeds_of q l ≡ []) → finished_in p (deeds_of me l) ≡ 0 → finished_in p l ≡ 0
-none_finished n me p [] h others mine = refl
-none_finished n me p (x ∷ xs) h others mine = dite (ℕ_discrete x.by me)
-    (λ e. let kept : finished_in p (deeds_of me (x ∷ xs)) ≡ finished_by p x.act + finished_in p (deeds_of me xs) = ap (λ b. finished_in p (cond b (x ∷ deeds_of me xs) (deeds_of me xs))) (eq-eqb x.by me e) in
-    let rest = none_finished n me p xs h.1 (λ q lt ne. none_behind q x xs (others q lt ne)) (omega (arith, kept, mine)) in omega (arith, kept, mine, rest))
-    (λ ne. let kept : finished_in p (deeds_of me (x ∷ xs)) ≡ finished_in p (deeds_of me xs) = ap (λ b. finished_in p (cond b (x ∷ deeds_of me xs) (deeds_of me xs))) (ne_eqb x.by me ne) in
-    let first = not_finished n p x.by x.act h.0 (λ lt. not_first x xs (others x.by lt ne)) in
-    let rest = none_finished n me p xs h.1 (λ q lt away. none_behind q x xs (others q lt away)) (omega (arith, kept, mine)) in omega (arith, first, rest))
+  -- where only one processor of those that are there did something, and finished nothing, nothing is finished
+  none_finished : (n me p : ℕ) (l : List (Deed J)) → AreFinishers n l → ((q : ℕ) → q < n → q ≢ me → deeds_of q l ≡ []) → finished_in p (deeds_of me l) ≡ 0 → finished_in p l ≡ 0
+  none_finished n me p [] h others mine = refl
+  none_finished n me p (x ∷ xs) h others mine = dite (ℕ_discrete x.by me)
+      (λ e. let kept : finished_in p (deeds_of me (x ∷ xs)) ≡ finished_by p x.act + finished_in p (deeds_of me xs) = ap (λ b. finished_in p (cond b (x ∷ deeds_of me xs) (deeds_of me xs))) (eq-eqb x.by me e) in
+      let rest = none_finished n me p xs h.1 (λ q lt ne. none_behind q x xs (others q lt ne)) (omega (arith, kept, mine)) in omega (arith, kept, mine, rest))
+      (λ ne. let kept : finished_in p (deeds_of me (x ∷ xs)) ≡ finished_in p (deeds_of me xs) = ap (λ b. finished_in p (cond b (x ∷ deeds_of me xs) (deeds_of me xs))) (ne_eqb x.by me ne) in
+      let first = not_finished n p x.by x.act h.0 (λ lt. not_first x xs (others x.by lt ne)) in
+      let rest = none_finished n me p xs h.1 (λ q lt away. none_behind q x xs (others q lt away)) (omega (arith, kept, mine)) in omega (arith, first, rest))
 
 -- Loads
 
@@ -56,7 +57,7 @@ finished_by_loads by p k (n ∷ ns) = let r = finished_by_loads by p (k + 1) ns 
 
 -- No count changes
 
-module _ (n me : ℕ) (a l mine : List Deed) (since : IsBeginning a l) (own : deeds_of me l ≡ deeds_of me a ++ mine) (others : (q : ℕ) → q < n → q ≢ me → deeds_of q l ≡ deeds_of q a) where
+module _ {J : Type 0} (n me : ℕ) (a l mine : List (Deed J)) (since : IsBeginning a l) (own : deeds_of me l ≡ deeds_of me a ++ mine) (others : (q : ℕ) → q < n → q ≢ me → deeds_of q l ≡ deeds_of q a) where
   rest_of_others : (q : ℕ) → q < n → q ≢ me → deeds_of q since.rest ≡ []
   rest_of_others q lt ne =
       let whole = ap (λ z. length (deeds_of q z)) since.whole in
@@ -79,11 +80,12 @@ module _ (n me : ℕ) (a l mine : List Deed) (since : IsBeginning a l) (own : de
 
 -- What the loads found
 
-queued_exact : (p k : ℕ) {a b l : List Deed} → IsCountBetween (queued_in p) k a b → IsBeginning b l → queued_in p l ≡ queued_in p a → k ≡ queued_in p l
-queued_exact p k h on same = let low = queued_later p h.not_before in let up = queued_later p (begins_on h.not_after on) in let is = h.counted in omega (arith, low, up, is, same)
+module _ {J : Type 0} where
+  queued_exact : (p k : ℕ) {a b l : List (Deed J)} → IsCountBetween (queued_in p) k a b → IsBeginning b l → queued_in p l ≡ queued_in p a → k ≡ queued_in p l
+  queued_exact p k h on same = let low = queued_later p h.not_before in let up = queued_later p (begins_on h.not_after on) in let is = h.counted in omega (arith, low, up, is, same)
 
-finished_exact : (p k : ℕ) {a b l : List Deed} → IsCountBetween (finished_in p) k b l → IsBeginning a b → finished_in p l ≡ finished_in p a → k ≡ finished_in p l
-finished_exact p k h on same = let low = finished_later p (begins_on on h.not_before) in let up = finished_later p h.not_after in let is = h.counted in omega (arith, low, up, is, same)
+  finished_exact : (p k : ℕ) {a b l : List (Deed J)} → IsCountBetween (finished_in p) k b l → IsBeginning a b → finished_in p l ≡ finished_in p a → k ≡ finished_in p l
+  finished_exact p k h on same = let low = finished_later p (begins_on on h.not_before) in let up = finished_later p h.not_after in let is = h.counted in omega (arith, low, up, is, same)
 
 sum_is : (count : ℕ → ℕ) (p : ℕ) (ns : List ℕ) → ((k : ℕ) → k < length ns → get_or ns k 0 ≡ count (p + k)) → sum ns ≡ added count p (length ns)
 sum_is count p [] each = refl
@@ -93,28 +95,29 @@ sum_is count p (x ∷ xs) each =
     let cut = sum_by-cons (λ z. z) x xs in
     omega (arith, first, rest, cut)
 
-pub totals_exact : TotalsAreExact
-totals_exact s t all done h others =
-    let n : ℕ = s.processors in
-    let me : ℕ = s.processor in
-    let m : CallSeatView = h.between in
-    let one = h.queued in
-    let two = h.finished in
-    let many : m.processors ≡ n = one.loads.same.1 in
-    let first : List Deed = map (deed me) (queued_loads 0 one.found) in
-    let second : List Deed = map (deed me) (finished_loads 0 two.found) in
-    let mine : List Deed = first ++ second in
-    let since : IsBeginning s.seen t.seen = begins_on one.loads.since two.loads.since in
-    let later : deeds_of me t.seen ≡ deeds_of me m.seen ++ second = subst (λ (z : ℕ). deeds_of z t.seen ≡ deeds_of z m.seen ++ map (deed z) (finished_loads 0 two.found)) one.loads.same.2 two.loads.own in
-    let own : deeds_of me t.seen ≡ deeds_of me s.seen ++ mine = later ∙ (ap (λ l. l ++ second) one.loads.own ∙ append_assoc (deeds_of me s.seen) first second) in
-    let finishers : AreFinishers n t.seen = subst (λ (z : ℕ). AreFinishers z t.seen) many two.finishers in
-    let no_finish : (p : ℕ) → finished_in p mine ≡ 0 = λ p. let cut = finished_append p first second in let f = (queued_by_loads me p 0 one.found).1 in let g = (finished_by_loads me p 0 two.found).1 in omega (arith, cut, f, g) in
-    let no_queue : queued_in me mine ≡ 0 = let cut = queued_append me first second in let f = (queued_by_loads me me 0 one.found).0 in let g = (finished_by_loads me me 0 two.found).0 in omega (arith, cut, f, g) in
-    record {
-      queued = one.total_is ∙ (sum_is (λ p. queued_in p t.seen) 0 one.found (λ p lt. let below : p < n = (let long = one.one_each in omega (arith, lt, long)) in queued_exact p _ (one.each p below) two.loads.since (same_queued_there n me s.seen t.seen mine since own others p below no_queue) ∙ ap (λ k. queued_in k t.seen) (let e : p ≡ 0 + p = omega arith in e)) ∙ ap (λ k. added (λ p. queued_in p t.seen) 0 k) one.one_each);
-      finished = two.total_is ∙ (sum_is (λ p. finished_in p t.seen) 0 two.found (λ p lt. let below : p < m.processors = (let long = two.one_each in omega (arith, lt, long)) in finished_exact p _ (two.each p below) one.loads.since (same_finished n me s.seen t.seen mine since own others finishers p (no_finish p)) ∙ ap (λ k. finished_in k t.seen) (let e : p ≡ 0 + p = omega arith in e)) ∙ ap (λ k. added (λ p. finished_in p t.seen) 0 k) (two.one_each ∙ many));
-    }
+module _ {J : Type 0} where
+  pub totals_exact : TotalsAreExact
+  totals_exact s t all done h others =
+      let n : ℕ = s.processors in
+      let me : ℕ = s.processor in
+      let m : CallSeatView J = h.between in
+      let one = h.queued in
+      let two = h.finished in
+      let many : m.processors ≡ n = one.loads.same.1 in
+      let first : List (Deed J) = map (deed me) (queued_loads 0 one.found) in
+      let second : List (Deed J) = map (deed me) (finished_loads 0 two.found) in
+      let mine : List (Deed J) = first ++ second in
+      let since : IsBeginning s.seen t.seen = begins_on one.loads.since two.loads.since in
+      let later : deeds_of me t.seen ≡ deeds_of me m.seen ++ second = subst (λ (z : ℕ). deeds_of z t.seen ≡ deeds_of z m.seen ++ map (deed z) (finished_loads 0 two.found)) one.loads.same.2 two.loads.own in
+      let own : deeds_of me t.seen ≡ deeds_of me s.seen ++ mine = later ∙ (ap (λ l. l ++ second) one.loads.own ∙ append_assoc (deeds_of me s.seen) first second) in
+      let finishers : AreFinishers n t.seen = subst (λ (z : ℕ). AreFinishers z t.seen) many two.finishers in
+      let no_finish : (p : ℕ) → finished_in p mine ≡ 0 = λ p. let cut = finished_append p first second in let f = (queued_by_loads me p 0 one.found).1 in let g = (finished_by_loads me p 0 two.found).1 in omega (arith, cut, f, g) in
+      let no_queue : queued_in me mine ≡ 0 = let cut = queued_append me first second in let f = (queued_by_loads me me 0 one.found).0 in let g = (finished_by_loads me me 0 two.found).0 in omega (arith, cut, f, g) in
+      record {
+        queued = one.total_is ∙ (sum_is (λ p. queued_in p t.seen) 0 one.found (λ p lt. let below : p < n = (let long = one.one_each in omega (arith, lt, long)) in queued_exact p _ (one.each p below) two.loads.since (same_queued_there n me s.seen t.seen mine since own others p below no_queue) ∙ ap (λ k. queued_in k t.seen) (let e : p ≡ 0 + p = omega arith in e)) ∙ ap (λ k. added (λ p. queued_in p t.seen) 0 k) one.one_each);
+        finished = two.total_is ∙ (sum_is (λ p. finished_in p t.seen) 0 two.found (λ p lt. let below : p < m.processors = (let long = two.one_each in omega (arith, lt, long)) in finished_exact p _ (two.each p below) one.loads.since (same_finished n me s.seen t.seen mine since own others finishers p (no_finish p)) ∙ ap (λ k. finished_in k t.seen) (let e : p ≡ 0 + p = omega arith in e)) ∙ ap (λ k. added (λ p. finished_in p t.seen) 0 k) (two.one_each ∙ many));
+      }
 
--- who has the same deeds in a list as in one of which the first goes on, did nothing since any between
-pub rested : (q : ℕ) (o a l : List Deed) → IsBeginning o a → IsBeginning a l → deeds_of q l ≡ deeds_of q o → deeds_of q l ≡ deeds_of q a
-rested q o a l covered on same = same ∙ sym (own_between q o a l covered on same)
+  -- who has the same deeds in a list as in one of which the first goes on, did nothing since any between
+  pub rested : (q : ℕ) (o a l : List (Deed J)) → IsBeginning o a → IsBeginning a l → deeds_of q l ≡ deeds_of q o → deeds_of q l ≡ deeds_of q a
+  rested q o a l covered on same = same ∙ sym (own_between q o a l covered on same)

@@ -10,13 +10,14 @@ use Rattle.calls.specs.Calls.{IsSameSeat, Does}
 
 -- Receipts
 
--- the receipt's call was queued, for one who has seen this
-abbrev pub IsQueued : Receipt → List Deed → Type 0
-IsQueued r seen = r.k < queued_in r.processor seen
+module _ {J : Type 0} where
+  -- the receipt's call was queued, for one who has seen this
+  abbrev pub IsQueued : Receipt J → List (Deed J) → Type 0
+  IsQueued r seen = r.k < queued_in r.processor seen
 
--- its job was given out, and the batch in which it was is finished
-abbrev pub IsFinished : Receipt → List Deed → Type 0
-IsFinished r seen = r.k < finished_in r.processor seen
+  -- its job was given out, and the batch in which it was is finished
+  abbrev pub IsFinished : Receipt J → List (Deed J) → Type 0
+  IsFinished r seen = r.k < finished_in r.processor seen
 
 -- Tickets
 
@@ -24,75 +25,76 @@ IsFinished r seen = r.k < finished_in r.processor seen
 abbrev pub number_for : ℕ → TicketView → ℕ
 number_for p t = slice_index t.numbers p
 
--- the receipt's call is one of those
-abbrev pub Covers : TicketView → Receipt → Type 0
-Covers t r = r.k < number_for r.processor t
+module _ {J : Type 0} where
+  -- the receipt's call is one of those
+  abbrev pub Covers : TicketView → Receipt J → Type 0
+  Covers t r = r.k < number_for r.processor t
 
--- done, for one who has seen this: each finished count has reached its number
-abbrev pub IsDone : TicketView → List Deed → Type 0
-IsDone t seen = (p : ℕ) → number_for p t ≤ finished_in p seen
+  -- done, for one who has seen this: each finished count has reached its number
+  abbrev pub IsDone : TicketView → List (Deed J) → Type 0
+  IsDone t seen = (p : ℕ) → number_for p t ≤ finished_in p seen
 
--- Loads
+  -- Loads
 
--- so much was counted at a moment that was not before the first history, and not after the second
-pub record IsCountBetween (count : List Deed → ℕ) (n : ℕ) (seen seen' : List Deed) : Type 0 where
-  pub moment : List Deed
-  pub not_before : IsBeginning seen moment
-  pub not_after : IsBeginning moment seen'
-  pub counted : n ≡ count moment
+  -- so much was counted at a moment that was not before the first history, and not after the second
+  pub record IsCountBetween (count : List (Deed J) → ℕ) (n : ℕ) (seen seen' : List (Deed J)) : Type 0 where
+    pub moment : List (Deed J)
+    pub not_before : IsBeginning seen moment
+    pub not_after : IsBeginning moment seen'
+    pub counted : n ≡ count moment
 
--- the seat made these loads, in this order, and no other deed. Each load in what it has then seen found what was counted
-pub record Loads (acts : List Act) (s s' : CallSeatView) : Type 0 where
-  pub same : IsSameSeat s s'
-  pub since : IsBeginning s.seen s'.seen
-  pub own : deeds_of s.processor s'.seen ≡ deeds_of s.processor s.seen ++ map (deed s.processor) acts
-  pub loads : AreTrue s'.seen
+  -- the seat made these loads, in this order, and no other deed. Each load in what it has then seen found what was counted
+  pub record Loads (acts : List (Act J)) (s s' : CallSeatView J) : Type 0 where
+    pub same : IsSameSeat s s'
+    pub since : IsBeginning s.seen s'.seen
+    pub own : deeds_of s.processor s'.seen ≡ deeds_of s.processor s.seen ++ map (deed s.processor) acts
+    pub loads : AreTrue s'.seen
 
--- one load for each number, of the processors from p on
-abbrev pub queued_loads : ℕ → List ℕ → List Act
-queued_loads p [] = []
-queued_loads p (n ∷ ns) = LoadQueued p n ∷ queued_loads (p + 1) ns
+  -- one load for each number, of the processors from p on
+  abbrev pub queued_loads : ℕ → List ℕ → List (Act J)
+  queued_loads p [] = []
+  queued_loads p (n ∷ ns) = LoadQueued p n ∷ queued_loads (p + 1) ns
 
-abbrev pub finished_loads : ℕ → List ℕ → List Act
-finished_loads p [] = []
-finished_loads p (n ∷ ns) = LoadFinished p n ∷ finished_loads (p + 1) ns
+  abbrev pub finished_loads : ℕ → List ℕ → List (Act J)
+  finished_loads p [] = []
+  finished_loads p (n ∷ ns) = LoadFinished p n ∷ finished_loads (p + 1) ns
 
--- Calls
+  -- Calls
 
--- each queued word was loaded once, and the ticket has what was found: the queued count at a moment of the call
-pub record Starts (s : CallSeatView) (t : TicketView) (s' : CallSeatView) : Type 0 where
-  pub tallies : t.tallies ≡ s.tallies
-  pub whole : length t.numbers ≡ s.processors
-  pub loads : Loads (queued_loads 0 t.numbers) s s'
-  pub each : (p : ℕ) → p < s.processors → IsCountBetween (queued_in p) (number_for p t) s.seen s'.seen
-  pub not_below : (p : ℕ) → p < s.processors → queued_in p s.seen ≤ number_for p t
+  -- each queued word was loaded once, and the ticket has what was found: the queued count at a moment of the call
+  pub record Starts (s : CallSeatView J) (t : TicketView) (s' : CallSeatView J) : Type 0 where
+    pub tallies : t.tallies ≡ s.tallies
+    pub whole : length t.numbers ≡ s.processors
+    pub loads : Loads (queued_loads 0 t.numbers) s s'
+    pub each : (p : ℕ) → p < s.processors → IsCountBetween (queued_in p) (number_for p t) s.seen s'.seen
+    pub not_below : (p : ℕ) → p < s.processors → queued_in p s.seen ≤ number_for p t
 
--- the ticket covers each receipt, of a processor that is there, whose call was queued for one who has seen this
-abbrev pub CoversAll : TicketView → ℕ → List Deed → Type 0
-CoversAll t processors seen = (r : Receipt) → r.processor < processors → IsQueued r seen → Covers t r
+  -- the ticket covers each receipt, of a processor that is there, whose call was queued for one who has seen this
+  abbrev pub CoversAll : TicketView → ℕ → List (Deed J) → Type 0
+  CoversAll t processors seen = (r : Receipt J) → r.processor < processors → IsQueued r seen → Covers t r
 
--- at a moment of the call a finished count was below its number
-pub record IsBehind (t : TicketView) (s s' : CallSeatView) : Type 0 where
-  pub processor : ℕ
-  pub found : ℕ
-  pub counted : IsCountBetween (finished_in processor) found s.seen s'.seen
-  pub below : found < number_for processor t
+  -- at a moment of the call a finished count was below its number
+  pub record IsBehind (t : TicketView) (s s' : CallSeatView J) : Type 0 where
+    pub processor : ℕ
+    pub found : ℕ
+    pub counted : IsCountBetween (finished_in processor) found s.seen s'.seen
+    pub below : found < number_for processor t
 
--- the finished words were loaded in order, up to the first that was below its number: all of them where none was
-pub record Polls (t : TicketView) (s : CallSeatView) (done : Bool) (s' : CallSeatView) : Type 0 where
-  pub found : List ℕ
-  pub loads : Loads (finished_loads 0 found) s s'
-  pub answer : MatchBool done
-      ((length found ≡ s.processors) × ((p : ℕ) → p < length found → number_for p t ≤ slice_index found p))
-      ((front : List ℕ) × (n : ℕ) × (found ≡ front ++ n ∷ []) × (n < number_for (length front) t) × ((p : ℕ) → p < length front → number_for p t ≤ slice_index front p))
+  -- the finished words were loaded in order, up to the first that was below its number: all of them where none was
+  pub record Polls (t : TicketView) (s : CallSeatView J) (done : Bool) (s' : CallSeatView J) : Type 0 where
+    pub found : List ℕ
+    pub loads : Loads (finished_loads 0 found) s s'
+    pub answer : MatchBool done
+        ((length found ≡ s.processors) × ((p : ℕ) → p < length found → number_for p t ≤ slice_index found p))
+        ((front : List ℕ) × (n : ℕ) × (found ≡ front ++ n ∷ []) × (n < number_for (length front) t) × ((p : ℕ) → p < length front → number_for p t ≤ slice_index front p))
 
--- each receipt that the ticket covers is finished, for one who has seen this
-abbrev pub AreFinished : TicketView → List Deed → Type 0
-AreFinished t seen = (r : Receipt) → Covers t r → IsFinished r seen
+  -- each receipt that the ticket covers is finished, for one who has seen this
+  abbrev pub AreFinished : TicketView → List (Deed J) → Type 0
+  AreFinished t seen = (r : Receipt J) → Covers t r → IsFinished r seen
 
--- one load of the queued word of the receipt's processor. What the one who queued the job had seen is then seen, and the load was over all that had been queued there
-pub record Hears (r : Receipt) (s s' : CallSeatView) : Type 0 where
-  pub found : ℕ
-  pub does : Does (LoadQueued r.processor found) s s'
-  pub covers : IsBeginning r.note.seen s'.seen
-  pub not_below : queued_in r.processor r.note.seen ≤ found
+  -- one load of the queued word of the receipt's processor. What the one who queued the job had seen is then seen, and the load was over all that had been queued there
+  pub record Hears (r : Receipt J) (s s' : CallSeatView J) : Type 0 where
+    pub found : ℕ
+    pub does : Does (LoadQueued r.processor found) s s'
+    pub covers : IsBeginning r.note.seen s'.seen
+    pub not_below : queued_in r.processor r.note.seen ≤ found

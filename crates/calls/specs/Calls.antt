@@ -1,5 +1,5 @@
 -- What the calls of a list, of a batch and of all callbacks do.
-use Rattle.std.specs.Prelude.{◌≡◌, ℕ, ◌+◌, ◌<◌, ◌≤◌, ◌⊎◌, min, true, List, [], ◌∷◌, ◌++◌, All, Option, Some, None, IsSome, MatchOption, length, slice_index_or}
+use Rattle.std.specs.Prelude.{◌≡◌, ℕ, ◌+◌, ◌<◌, ◌≤◌, ◌⊎◌, min, true, List, [], ◌∷◌, ◌++◌, All, Option, Some, None, IsSome, MatchOption, length, slice_index_or, take, drop}
 use Rattle.atomic_table.specs.Seated.{TableId}
 use Rattle.onedom.specs.declared.event.Maker.{Maker}
 use Rattle.onedom.specs.declared.event.Event.{Event}
@@ -8,31 +8,34 @@ use Rattle.onedom.specs.Histories.{IsBeginning}
 use Rattle.sections.specs.Views.{CpuView, CookieView}
 use Rattle.sections.specs.Calls.{EndsWithNote}
 use Rattle.sections.specs.Sights.{GivesCookieBehind, AsksHowFar}
-use Rattle.segs.specs.MarkedList.{Mark, Done, Next, marked, assigned, advanced, count_done, count_next, EndsInNext}
+use Rattle.segs.specs.MarkedList.{Mark, Done, Next, marked, assigned, count_done, lens, numbers}
 use Rattle.calls.specs.declared.view.Act.{Act}
-use Rattle.calls.specs.declared.view.Act.TheVariants.{Queue, Finish}
+use Rattle.calls.specs.declared.view.Act.TheVariants.{Queue, Take, Finish}
 use Rattle.calls.specs.declared.view.Deed.{Deed}
 use Rattle.calls.specs.declared.entry.Entry.{Entry}
 use Rattle.calls.specs.declared.list.Receipt.{Receipt}
 use Rattle.calls.specs.declared.refusals.CallRefusal.{CallRefusal}
 use Rattle.calls.specs.declared.refusals.CallRefusal.TheVariants.{Exhausted, Memory}
+use Rattle.calls.specs.Lines.{line_in, readied, calls_in}
 use Rattle.calls.specs.Tallies.{deed, most_calls, queued_in, deeds_of, AreTrue, IsBeginning as IsBeginningOf}
-use Rattle.calls.specs.Views.{CallSeatView, ListView, BatchView, CallsView, key_of, next_of}
+use Rattle.calls.specs.Views.{CallSeatView, ListView, BatchView, CallsView, key_of, next_of, IsListIn}
+use Rattle.calls.specs.Meetings.{Covers}
 
 -- Tallies
 
--- the same processor's seat at the same tally words
-abbrev pub IsSameSeat : CallSeatView → CallSeatView → Type 0
-IsSameSeat s t = (t.tallies ≡ s.tallies) × (t.processors ≡ s.processors) × (t.processor ≡ s.processor)
+module _ {J : Type 0} where
+  -- the same processor's seat at the same tally words
+  abbrev pub IsSameSeat : CallSeatView J → CallSeatView J → Type 0
+  IsSameSeat s t = (t.tallies ≡ s.tallies) × (t.processors ≡ s.processors) × (t.processor ≡ s.processor)
 
--- the seat did this, behind all that it had seen. Of its own it knew all before, and each load in what it has then seen found what was counted
-pub record Does (act : Act) (s t : CallSeatView) : Type 0 where
-  pub same : IsSameSeat s t
-  pub before : List Deed
-  pub since : IsBeginningOf s.seen before
-  pub own : deeds_of s.processor before ≡ deeds_of s.processor s.seen
-  pub seen : t.seen ≡ before ++ deed s.processor act ∷ []
-  pub loads : AreTrue t.seen
+  -- the seat did this, behind all that it had seen. Of its own it knew all before, and each load in what it has then seen found what was counted
+  pub record Does (act : Act J) (s t : CallSeatView J) : Type 0 where
+    pub same : IsSameSeat s t
+    pub before : List (Deed J)
+    pub since : IsBeginningOf s.seen before
+    pub own : deeds_of s.processor before ≡ deeds_of s.processor s.seen
+    pub seen : t.seen ≡ before ++ deed s.processor act ∷ []
+    pub loads : AreTrue t.seen
 
 -- Grace periods
 
@@ -48,17 +51,18 @@ pub record IsHanded (cookie : ℕ) (seen now : List Event) : Type 0 where
 
 -- What a processor needs for the calls of a domain's callbacks
 
--- the processor and its seat, of the same domain
-pub record FitsIn (k : CallsView) (c : CpuView) (s : CallSeatView) : Type 0 where
-  pub domain : c.domain ≡ k.domain
-  pub tallies : s.tallies ≡ k.tallies
-  pub cpu : c.processor ≡ s.processor
-  pub there : s.processor < k.processors
+module _ {J : Type 0} where
+  -- the processor and its seat, of the same domain
+  pub record FitsIn (k : CallsView) (c : CpuView) (s : CallSeatView J) : Type 0 where
+    pub domain : c.domain ≡ k.domain
+    pub tallies : s.tallies ≡ k.tallies
+    pub cpu : c.processor ≡ s.processor
+    pub there : s.processor < k.processors
 
-pub record MayTakeIn (k : CallsView) (c : CpuView) (s : CallSeatView) (p : ℕ) : Type 0 where
-  pub domain : c.domain ≡ k.domain
-  pub tallies : s.tallies ≡ k.tallies
-  pub there : p < k.processors
+  pub record MayTakeIn (k : CallsView) (c : CpuView) (s : CallSeatView J) (p : ℕ) : Type 0 where
+    pub domain : c.domain ≡ k.domain
+    pub tallies : s.tallies ≡ k.tallies
+    pub there : p < k.processors
 
 -- Queueing
 
@@ -67,20 +71,22 @@ module _ {J : Type 0} where
   IsSameList l m = key_of m ≡ key_of l
 
   -- the processor, its seat and its list, of one domain and its tally words
-  pub record Fits (l : ListView J) (c : CpuView) (s : CallSeatView) : Type 0 where
+  pub record Fits (l : ListView J) (c : CpuView) (s : CallSeatView J) : Type 0 where
     pub domain : c.domain ≡ l.sight.domain
     pub tallies : s.tallies ≡ l.tallies
     pub cpu : c.processor ≡ l.processor
     pub seat : s.processor ≡ l.processor
 
   -- the cookie was given, the job came last with it, and what had no number was assigned this one; then 1 was added to the queued word. The receipt has the cookie, its number is that of the job in the list and what the word held, and what the seat has then seen is noted in it, by which its call was queued
-  pub record Queues (l : ListView J) (c : CpuView) (s : CallSeatView) (job : J) (r : Receipt) (l' : ListView J) (c' : CpuView) (s' : CallSeatView) : Type 0 where
+  pub record Queues (l : ListView J) (c : CpuView) (s : CallSeatView J) (job : J) (r : Receipt J) (l' : ListView J) (c' : CpuView) (s' : CallSeatView J) : Type 0 where
     pub note : GivesCookieBehind l.sight c c' r.cookie l'.sight
     pub same : IsSameList l l'
     pub entries : l'.entries ≡ assigned r.cookie.number (l.entries ++ (record { job = job; cookie = r.cookie }, Next) ∷ [])
     pub finished : l'.finished ≡ l.finished
     pub out : l'.out ≡ l.out
-    pub tally : Does Queue s s'
+    pub tally : Does (Queue (record { job = job; cookie = r.cookie })) s s'
+    pub was : IsListIn tally.before l
+    pub is : IsListIn s'.seen l'
     pub processor : r.processor ≡ s.processor
     pub counted : r.k ≡ queued_in s.processor s.seen
     pub numbered : r.k ≡ next_of l
@@ -88,12 +94,12 @@ module _ {J : Type 0} where
     pub known : r.k < queued_in r.processor r.note.seen
 
   -- why: as many were queued as may be, and no step was made; or fewer, and a cookie was noted
-  abbrev pub IsCause : ListView J → CpuView → CallSeatView → CallRefusal → ListView J → CpuView → Type 0
+  abbrev pub IsCause : ListView J → CpuView → CallSeatView J → CallRefusal → ListView J → CpuView → Type 0
   IsCause l c s Exhausted l' c' = (queued_in s.processor s.seen ≡ most_calls) × (l' ≡ l) × (c' ≡ c)
   IsCause l c s Memory l' c' = (queued_in s.processor s.seen < most_calls) × ((cookie : CookieView) × GivesCookieBehind l.sight c c' cookie l'.sight)
 
   -- the job comes back. The list but for its sight, and what the seat has seen, are as before
-  pub record Refuses (l : ListView J) (c : CpuView) (s : CallSeatView) (job : J) (refused : J × CallRefusal) (l' : ListView J) (c' : CpuView) (s' : CallSeatView) : Type 0 where
+  pub record Refuses (l : ListView J) (c : CpuView) (s : CallSeatView J) (job : J) (refused : J × CallRefusal) (l' : ListView J) (c' : CpuView) (s' : CallSeatView J) : Type 0 where
     pub job_is : refused.0 ≡ job
     pub list : l' ≡ record l { sight = l'.sight }
     pub seat : s' ≡ s
@@ -101,16 +107,16 @@ module _ {J : Type 0} where
 
   -- Taking
 
-  pub record MayTake (l : ListView J) (c : CpuView) (s : CallSeatView) : Type 0 where
+  pub record MayTake (l : ListView J) (c : CpuView) (s : CallSeatView J) : Type 0 where
     pub domain : c.domain ≡ l.sight.domain
     pub tallies : s.tallies ≡ l.tallies
 
+  -- the seat is at the list's tally words
+  abbrev pub MayLook : ListView J → CallSeatView J → Type 0
+  MayLook l s = s.tallies ≡ l.tallies
+
   abbrev pub IsInvoking : ListView J → Type 0
   IsInvoking l = IsSome l.out
-
-  -- what had no number was assigned the cookie of the last entry that had none
-  abbrev pub AssignsLast : List (Entry J × Mark) → List (Entry J × Mark) → Type 0
-  AssignsLast entries entries' = ((count_next entries ≡ 0) × (entries' ≡ entries)) ⊎ ((e : Entry J) × EndsInNext entries e × (entries' ≡ assigned e.cookie.number entries))
 
   -- these were taken: nothing, and no batch is out; or a batch of all of them, and it is out
   abbrev pub IsTaken : ListView J → List (Entry J) → Option (BatchView J) → ListView J → Type 0
@@ -119,19 +125,36 @@ module _ {J : Type 0} where
   IsTaken l (e ∷ es) None l' = ⊥
   IsTaken l (e ∷ es) (Some b) l' = (b ≡ record { tallies = l.tallies; processor = l.processor; first = l.finished; count = length (e ∷ es); entries = e ∷ es }) × (l'.out ≡ Some (length (e ∷ es)))
 
-  -- one load found the number. The entries advanced to it, and what had no number was assigned one; the first that are done were taken, `max` of them, but no more than eight and no more than there are
-  pub record Takes (max : ℕ) (l : ListView J) (c : CpuView) (taken : Option (BatchView J)) (l' : ListView J) (c' : CpuView) : Type 0 where
+  -- one load found the number. What waited for it is done, and what had no number got one; the first that are done were taken, `max` of them, but no more than eight and no more than there are. This was the list of its processor, and is so; and these are the very calls that were queued there, from the finished count on
+  pub record Takes (max : ℕ) (l : ListView J) (c : CpuView) (s : CallSeatView J) (taken : Option (BatchView J)) (l' : ListView J) (c' : CpuView) (s' : CallSeatView J) : Type 0 where
     pub none_out : l.out ≡ None
     pub number : ℕ
     pub asks : AsksHowFar number l.sight c c' l'.sight
     pub same : IsSameList l l'
     pub finished : l'.finished ≡ l.finished
-    pub moved : List (Entry J × Mark)
-    pub assigns : AssignsLast (advanced number l.entries) moved
+    pub tally : Does (Take l.processor number max) s s'
+    pub was : IsListIn tally.before l
+    pub is : IsListIn s'.seen l'
     pub gone : List (Entry J)
-    pub in_order : moved ≡ marked Done gone ++ l'.entries
-    pub many : length gone ≡ min (min max 8) (count_done moved)
+    pub in_order : readied number l.entries ≡ marked Done gone ++ l'.entries
+    pub many : length gone ≡ min (min max 8) (count_done (readied number l.entries))
     pub taken_is : IsTaken l gone taken l'
+    pub calls : gone ≡ take (length gone) (drop l.finished (calls_in l.processor s'.seen))
+
+  -- a batch is out: one load by the seat found it so
+  pub record FindsOut (l : ListView J) (c : CpuView) (s : CallSeatView J) (l' : ListView J) (c' : CpuView) (s' : CallSeatView J) : Type 0 where
+    pub invoking : IsInvoking l
+    pub list : l' ≡ l
+    pub cpu : c' ≡ c
+    pub covers : Covers s s.seen s'
+    pub is : IsListIn s'.seen l
+
+  -- one load by the seat found the list as it is
+  pub record FindsLens (l : ListView J) (s : CallSeatView J) (found : List ℕ × List ℕ) (l' : ListView J) (s' : CallSeatView J) : Type 0 where
+    pub list : l' ≡ l
+    pub covers : Covers s s.seen s'
+    pub is : IsListIn s'.seen l
+    pub found_is : found ≡ (lens l.entries, numbers l.entries)
 
   abbrev pub AreHanded : List (Entry J) → List Event → Type 0
   AreHanded entries now = All (λ e. IsHanded e.cookie.number e.cookie.seen now) entries
@@ -148,15 +171,17 @@ module _ {J : Type 0} where
   next_cookie (e ∷ es) = Some e.cookie.number
 
   -- the batch is empty, and is one of this list
-  pub record MayFinish (l : ListView J) (s : CallSeatView) (b : BatchView J) : Type 0 where
+  pub record MayFinish (l : ListView J) (s : CallSeatView J) (b : BatchView J) : Type 0 where
     pub empty : b.entries ≡ []
     pub tallies : s.tallies ≡ l.tallies
     pub of_tallies : b.tallies ≡ l.tallies
     pub processor : b.processor ≡ l.processor
 
   -- the batch was the one that was out, and its first number the finished count; that is larger by the batch's count now, and no batch is out
-  pub record Finishes (l : ListView J) (s : CallSeatView) (b : BatchView J) (l' : ListView J) (s' : CallSeatView) : Type 0 where
+  pub record Finishes (l : ListView J) (s : CallSeatView J) (b : BatchView J) (l' : ListView J) (s' : CallSeatView J) : Type 0 where
     pub tally : Does (Finish b.processor b.count) s s'
+    pub was : IsListIn tally.before l
+    pub is : IsListIn s'.seen l'
     pub was_out : l.out ≡ Some b.count
     pub first : b.first ≡ l.finished
     pub list : l' ≡ record l { finished = l.finished + b.count; out = None }
@@ -168,13 +193,13 @@ module _ {J : Type 0} where
   IsListOf k p l = key_of l ≡ record { domain = k.domain; tallies = k.tallies; processor = p }
 
   -- a list of the processor, as it was when the call had it, and as the call left it
-  pub record QueuesIn (k : CallsView) (c : CpuView) (s : CallSeatView) (job : J) (r : Receipt) (c' : CpuView) (s' : CallSeatView) : Type 0 where
+  pub record QueuesIn (k : CallsView) (c : CpuView) (s : CallSeatView J) (job : J) (r : Receipt J) (c' : CpuView) (s' : CallSeatView J) : Type 0 where
     pub list : ListView J
     pub of_calls : IsListOf k s.processor list
     pub list' : ListView J
     pub queues : Queues list c s job r list' c' s'
 
-  pub record RefusesIn (k : CallsView) (c : CpuView) (s : CallSeatView) (job : J) (refused : J × CallRefusal) (c' : CpuView) (s' : CallSeatView) : Type 0 where
+  pub record RefusesIn (k : CallsView) (c : CpuView) (s : CallSeatView J) (job : J) (refused : J × CallRefusal) (c' : CpuView) (s' : CallSeatView J) : Type 0 where
     pub list : ListView J
     pub of_calls : IsListOf k s.processor list
     pub list' : ListView J
@@ -184,43 +209,49 @@ module _ {J : Type 0} where
   abbrev pub IsOfProcessor : CallsView → ℕ → BatchView J → Type 0
   IsOfProcessor k p b = (b.tallies ≡ k.tallies) × (b.processor ≡ p)
 
-  pub record TakesIn (k : CallsView) (p max : ℕ) (c : CpuView) (taken : Option (BatchView J)) (c' : CpuView) : Type 0 where
+  pub record TakesIn (k : CallsView) (p max : ℕ) (c : CpuView) (s : CallSeatView J) (taken : Option (BatchView J)) (c' : CpuView) (s' : CallSeatView J) : Type 0 where
     pub list : ListView J
     pub of_calls : IsListOf k p list
     pub list' : ListView J
-    pub takes : Takes max list c taken list' c'
+    pub takes : Takes max list c s taken list' c' s'
 
-  pub record MayFinishIn (k : CallsView) (s : CallSeatView) (b : BatchView J) : Type 0 where
+  -- a batch of this processor is out: one load by the seat found it so
+  pub record InvokesIn (p : ℕ) (c : CpuView) (s : CallSeatView J) (c' : CpuView) (s' : CallSeatView J) : Type 0 where
+    pub cpu : c' ≡ c
+    pub covers : Covers s s.seen s'
+    pub out : IsSome (line_in p s'.seen).out
+
+  -- one load by the seat found this processor's list
+  pub record FindsLensIn (p : ℕ) (s : CallSeatView J) (found : List ℕ × List ℕ) (s' : CallSeatView J) : Type 0 where
+    pub covers : Covers s s.seen s'
+    pub found_is : found ≡ (lens (line_in p s'.seen).waiting, numbers (line_in p s'.seen).waiting)
+
+  pub record MayFinishIn (k : CallsView) (s : CallSeatView J) (b : BatchView J) : Type 0 where
     pub empty : b.entries ≡ []
     pub tallies : s.tallies ≡ k.tallies
     pub of_tallies : b.tallies ≡ k.tallies
     pub there : b.processor < k.processors
 
-  pub record FinishesIn (k : CallsView) (s : CallSeatView) (b : BatchView J) (s' : CallSeatView) : Type 0 where
+  pub record FinishesIn (k : CallsView) (s : CallSeatView J) (b : BatchView J) (s' : CallSeatView J) : Type 0 where
     pub list : ListView J
     pub of_calls : IsListOf k b.processor list
     pub list' : ListView J
     pub finishes : Finishes list s b list' s'
 
--- a batch of a list of this processor was out
-pub record InvokesIn (J : Type 0) (k : CallsView) (p : ℕ) : Type 0 where
-  pub list : ListView J
-  pub of_calls : IsListOf k p list
-  pub invoking : IsInvoking list
-
 -- New callbacks
 
--- a seat that has seen nothing
-abbrev pub new_seat : TableId → ℕ → ℕ → CallSeatView
-new_seat tallies processors p = record { tallies = tallies; processors = processors; processor = p; seen = [] }
+module _ {J : Type 0} where
+  -- a seat that has seen nothing
+  abbrev pub new_seat : TableId → ℕ → ℕ → CallSeatView J
+  new_seat tallies processors p = record { tallies = tallies; processors = processors; processor = p; seen = [] }
 
--- the seats of all processors in order, which have seen nothing
-pub record AreNewSeats (tallies : TableId) (processors : ℕ) (seats : List CallSeatView) : Type 0 where
-  pub count : length seats ≡ processors
-  pub each : (p : ℕ) (d : CallSeatView) → p < length seats → slice_index_or seats p d ≡ new_seat tallies processors p
+  -- the seats of all processors in order, which have seen nothing
+  pub record AreNewSeats (tallies : TableId) (processors : ℕ) (seats : List (CallSeatView J)) : Type 0 where
+    pub count : length seats ≡ processors
+    pub each : (p : ℕ) (d : CallSeatView J) → p < length seats → slice_index_or seats p d ≡ new_seat tallies processors p
 
--- callbacks of this domain, for all of its processors
-pub record AreMade (domain : TableId) (processors : ℕ) (k : CallsView) (seats : List CallSeatView) : Type 0 where
-  pub of_domain : k.domain ≡ domain
-  pub many : k.processors ≡ processors
-  pub seats_new : AreNewSeats k.tallies processors seats
+  -- callbacks of this domain, for all of its processors
+  pub record AreMade (domain : TableId) (processors : ℕ) (k : CallsView) (seats : List (CallSeatView J)) : Type 0 where
+    pub of_domain : k.domain ≡ domain
+    pub many : k.processors ≡ processors
+    pub seats_new : AreNewSeats k.tallies processors seats

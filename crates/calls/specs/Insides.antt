@@ -11,16 +11,16 @@ use Rattle.calls.specs.declared.calls.Calls.TheInside as calls
 use Rattle.calls.specs.declared.barrier.Ticket.TheInside as ticket
 use Rattle.calls.specs.declared.note.Note.TheInside as note
 use Rattle.calls.specs.Tallies.{finished_place, word_count, most_calls, queued_in, AreTrue}
-use Rattle.calls.specs.Rule.{count_out}
-use Rattle.calls.specs.Seats.{IsPlaced, IsAtRest, IsListSeat, IsBatchSeat, finished_known, queued_known, out_known, first_known}
-use Rattle.calls.specs.Waiting.{AreWaiting, wrapped, unwrapped, entries_of}
+use Rattle.calls.specs.Lines.{count_out}
+use Rattle.calls.specs.Seats.{IsPlaced, IsAtRest, IsListSeat, IsBatchSeat, finished_known, queued_known, out_known, waiting_known, first_known}
+use Rattle.calls.specs.Waiting.{AreWaiting, wrapped, entries_of}
 use Rattle.calls.specs.Views.{CallSeatView, ListKey, ListView, BatchView, NoteView, TicketView, CallsView}
 
-module _ {A : Type 0} where
-  abbrev pub view_of_seat : seat.Inside A → CallSeatView
+module _ {J A : Type 0} where
+  abbrev pub view_of_seat : seat.Inside J A → CallSeatView J
   view_of_seat s = record { tallies = s.seat.table_id; processors = (arc_value s.table).shared.key.processors; processor = s.processor; seen = s.seat.me.0.seen }
 
-  pub record IsCallSeat (s : seat.Inside A) : Type 0 where
+  pub record IsCallSeat (s : seat.Inside J A) : Type 0 where
     pub placed : IsPlaced (arc_value s.table).shared.key (arc_value s.table).shared.table_id s.seat
     pub rests : IsAtRest s.processor (arc_value s.table).shared.key s.seat.me.0
     pub loads : AreTrue s.seat.me.0.seen
@@ -29,13 +29,13 @@ module _ {A : Type 0} where
 
 module _ {J A : Type 0} where
   abbrev pub view_of_list : list.Inside J A → ListView J
-  view_of_list l = record { tallies = l.seat.table_id; processor = l.processor; finished = finished_known l.seat.me.0.list; out = out_known l.seat.me.0.list; entries = unwrapped l.waiting.entries; sight = l.sight }
+  view_of_list l = record { tallies = l.seat.table_id; processor = l.processor; finished = finished_known l.seat.me.0.list; out = out_known l.seat.me.0.list; entries = waiting_known l.seat.me.0.list; sight = l.sight }
 
   pub record IsList (l : list.Inside J A) : Type 0 where
     pub seated : IsListSeat l.seat.table_id l.processor l.seat
-    pub wrapping : l.waiting.entries ≡ wrapped (unwrapped l.waiting.entries)
-    pub waiting : AreWaiting l.sight (unwrapped l.waiting.entries)
-    pub numbered : queued_known l.seat.me.0.list ≡ finished_known l.seat.me.0.list + count_out (out_known l.seat.me.0.list) + length (unwrapped l.waiting.entries)
+    pub wrapping : l.waiting.entries ≡ wrapped (waiting_known l.seat.me.0.list)
+    pub waiting : AreWaiting l.sight (waiting_known l.seat.me.0.list)
+    pub numbered : queued_known l.seat.me.0.list ≡ finished_known l.seat.me.0.list + count_out (out_known l.seat.me.0.list) + length (waiting_known l.seat.me.0.list)
     pub out : IsTrue l.out ↔ IsSome (out_known l.seat.me.0.list)
     pub there : finished_place l.processor < l.seat.table_id.words
 
@@ -46,11 +46,12 @@ module _ {J A : Type 0} where
     pub seated : IsBatchSeat b.seat.table_id b.processor b.count b.seat
     pub wrapping : b.entries.items ≡ map Some (entries_of b.entries.items)
 
-abbrev pub key_of_spot : spot.Inside → ListKey
-key_of_spot s = record { domain = s.home; tallies = s.seat.table_id; processor = s.processor }
+module _ {J : Type 0} where
+  abbrev pub key_of_spot : spot.Inside J → ListKey
+  key_of_spot s = record { domain = s.home; tallies = s.seat.table_id; processor = s.processor }
 
-abbrev pub view_of_note : note.Inside → NoteView
-view_of_note n = record { tallies = n.seat.table_id; seen = n.seat.me.0.seen }
+  abbrev pub view_of_note : note.Inside J → NoteView J
+  view_of_note n = record { tallies = n.seat.table_id; seen = n.seat.me.0.seen }
 
 -- the locks in order, each of the list of its processor
 abbrev pub AreOfDomain : TableId → TableId → List (KeepView ListKey) → Type 0
@@ -77,9 +78,9 @@ module _ {J A : Type 0} where
     pub locks : AreOfDomain (domain_of c.lists.items) (tallies_of c.lists.items) c.lists.items
     pub wide : (tallies_of c.lists.items).words ≡ word_count (length c.lists.items)
 
-module _ {A : Type 0} where
-  abbrev pub view_of_ticket : ticket.Inside A → TicketView
+module _ {J A : Type 0} where
+  abbrev pub view_of_ticket : ticket.Inside J A → TicketView
   view_of_ticket t = record { tallies = t.note.tallies; numbers = t.numbers.items }
 
-  pub record IsTicket (t : ticket.Inside A) : Type 0 where
+  pub record IsTicket (t : ticket.Inside J A) : Type 0 where
     pub whole : t.note.tallies.words ≡ word_count (length t.numbers.items)

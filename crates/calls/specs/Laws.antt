@@ -1,5 +1,5 @@
 -- What holds of the tally words of all callbacks, of every barrier, and of totals.
-use Rattle.std.specs.Prelude.{◌≡◌, ◌≢◌, ℕ, ◌<◌, ◌≤◌, ◌⊎◌, List, [], ◌∷◌, Option, slice_index}
+use Rattle.std.specs.Prelude.{◌≡◌, ◌≢◌, ℕ, ◌+◌, ◌<◌, ◌≤◌, ◌⊎◌, List, [], ◌∷◌, Option, map, take, drop, slice_index}
 use mathlib.Core.Option.{some}
 use lib.ListN.{get_elem?}
 use Rattle.atomic_table.specs.Table.{State, Splits, Joins}
@@ -10,50 +10,71 @@ use Rattle.calls.specs.declared.view.ListRight.TheVariants.{NoList}
 use Rattle.calls.specs.declared.view.BatchRight.TheVariants.{NoBatch}
 use Rattle.calls.specs.declared.view.View.{View}
 use Rattle.calls.specs.declared.list.Receipt.{Receipt}
+use Rattle.calls.specs.Lines.{count_out, line_in, calls_in}
 use Rattle.calls.specs.Tallies.{queued_place, finished_place, queued_in, finished_in, deeds_of, IsBeginning, AreTrue}
 use Rattle.calls.specs.Rule.{Kept, note}
 use Rattle.calls.specs.Views.{CallSeatView, TicketView}
 use Rattle.calls.specs.Barriers.{IsQueued, IsFinished, IsDone, Starts}
 use Rattle.calls.specs.Totals.{AddsUp, AreTotals}
 
--- there is one list of what was done, and the words hold its counts. Each load found what was counted until then, no more calls are finished than were queued, and every seat has seen a beginning
-pub record HasOneHistory (plan : Plan) (s : State (Option ℕ) View) : Type 0 where
-  pub log : List Deed
-  pub loads : AreTrue log
-  pub queued : (p : ℕ) → p < plan.processors → slice_index s.words (queued_place p) ≡ queued_in p log
-  pub finished : (p : ℕ) → p < plan.processors → slice_index s.words (finished_place p) ≡ finished_in p log
-  pub within : (p : ℕ) → finished_in p log ≤ queued_in p log
-  pub seen : (j : ℕ) (v : View) → get_elem? s.views j ≡ some v → IsBeginning v.seen log
+module _ {J : Type 0} where
+  -- there is one list of what was done, and the words hold its counts. Each deed is one that could be done, by those before it, no more calls are finished than were queued, and every seat has seen a beginning
+  pub record HasOneHistory (plan : Plan) (s : State (Option ℕ) (View J)) : Type 0 where
+    pub log : List (Deed J)
+    pub loads : AreTrue log
+    pub queued : (p : ℕ) → p < plan.processors → slice_index s.words (queued_place p) ≡ queued_in p log
+    pub finished : (p : ℕ) → p < plan.processors → slice_index s.words (finished_place p) ≡ finished_in p log
+    pub within : (p : ℕ) → finished_in p log ≤ queued_in p log
+    pub seen : (j : ℕ) (v : View J) → get_elem? s.views j ≡ some v → IsBeginning v.seen log
 
--- the rule, which holds between any two steps, says so
-abbrev pub OneHistory : Type 0
-OneHistory = (plan : Plan) (s : State (Option ℕ) View) → Kept plan s → HasOneHistory plan s
+  -- the seat of processor 0 before any step
+  abbrev pub idle_seat : View J
+  idle_seat = record { who = Caller 0; list = NoList; batch = NoBatch; seen = []; told = [] }
 
--- the seat of processor 0 before any step
-abbrev pub idle_seat : View
-idle_seat = record { who = Caller 0; list = NoList; batch = NoBatch; seen = []; told = [] }
+module _ (J : Type 0) where
+  -- the rule, which holds between any two steps, says so
+  abbrev pub OneHistory : Type 0
+  OneHistory = (plan : Plan) (s : State (Option ℕ) (View J)) → Kept plan s → HasOneHistory plan s
 
--- no seat gets a deed of processor 0's that was not done, however that processor's seat is cut in two or joined with another
-pub record NeverForged : Type 0 where
-  pub splits : (plan : Plan) (d : Deed) (left right : View) → d.by ≡ 0 → (left.seen ≡ d ∷ []) ⊎ (right.seen ≡ d ∷ []) → ¬ Splits (Kept plan) 0 idle_seat left right
-  pub joins : (plan : Plan) (d : Deed) (both spent : View) → d.by ≡ 0 → (both.seen ≡ d ∷ []) ⊎ (spent.seen ≡ d ∷ []) → ¬ Joins (Kept plan) 0 idle_seat 2 (note idle_seat) both spent
+  -- no seat gets a deed of processor 0's that was not done, however that processor's seat is cut in two or joined with another
+  pub record NeverForged : Type 0 where
+    pub splits : (plan : Plan) (d : Deed J) (left right : View J) → d.by ≡ 0 → (left.seen ≡ d ∷ []) ⊎ (right.seen ≡ d ∷ []) → ¬ Splits (Kept plan) 0 idle_seat left right
+    pub joins : (plan : Plan) (d : Deed J) (both spent : View J) → d.by ≡ 0 → (both.seen ≡ d ∷ []) ⊎ (spent.seen ≡ d ∷ []) → ¬ Joins (Kept plan) 0 idle_seat 2 (note idle_seat) both spent
 
--- Barriers
+  -- Jobs
 
--- what was queued stays so
-abbrev pub StaysQueued : Type 0
-StaysQueued = (r : Receipt) (seen later : List Deed) → IsBeginning seen later → IsQueued r seen → IsQueued r later
+  -- so many of a processor were given out
+  abbrev given_out : ℕ → List (Deed J) → ℕ
+  given_out p seen = finished_in p seen + count_out (line_in p seen).out
 
--- and what is finished
-abbrev pub StaysFinished : Type 0
-StaysFinished = (r : Receipt) (seen later : List Deed) → IsBeginning seen later → IsFinished r seen → IsFinished r later
+  -- what waits on a processor is just what was queued there and not given out, in its order
+  abbrev pub WaitsInOrder : Type 0
+  WaitsInOrder = (p : ℕ) (seen : List (Deed J)) → AreTrue seen → map (λ e. e.0) (line_in p seen).waiting ≡ drop (given_out p seen) (calls_in p seen)
 
--- a barrier that is done, for one who has seen this, covers each receipt whose call its starter had seen queued
-abbrev pub BarriersCover : Type 0
-BarriersCover = (r : Receipt) (s : CallSeatView) (t : TicketView) (s' : CallSeatView) (seen : List Deed) → Starts s t s' → r.processor < s.processors → IsQueued r s.seen → IsDone t seen → IsFinished r seen
+  -- what was given out is never given out again: whoever goes on from there has no fewer given out
+  abbrev pub GivesOnce : Type 0
+  GivesOnce = (p : ℕ) (seen later : List (Deed J)) → AreTrue later → IsBeginning seen later → given_out p seen ≤ given_out p later
 
--- Totals
+  -- and the calls that were queued stay as they are
+  abbrev pub KeepsCalls : Type 0
+  KeepsCalls = (p : ℕ) (seen later : List (Deed J)) → IsBeginning seen later → calls_in p seen ≡ take (queued_in p seen) (calls_in p later)
 
--- where no other processor that is there did anything while a seat added the tally words up, the sums are those of what it has then seen
-abbrev pub TotalsAreExact : Type 0
-TotalsAreExact = (s t : CallSeatView) (all done : ℕ) → AddsUp s all done t → ((q : ℕ) → q < s.processors → q ≢ s.processor → deeds_of q t.seen ≡ deeds_of q s.seen) → AreTotals s all done t
+  -- Barriers
+
+  -- what was queued stays so
+  abbrev pub StaysQueued : Type 0
+  StaysQueued = (r : Receipt J) (seen later : List (Deed J)) → IsBeginning seen later → IsQueued r seen → IsQueued r later
+
+  -- and what is finished
+  abbrev pub StaysFinished : Type 0
+  StaysFinished = (r : Receipt J) (seen later : List (Deed J)) → IsBeginning seen later → IsFinished r seen → IsFinished r later
+
+  -- a barrier that is done, for one who has seen this, covers each receipt whose call its starter had seen queued
+  abbrev pub BarriersCover : Type 0
+  BarriersCover = (r : Receipt J) (s : CallSeatView J) (t : TicketView) (s' : CallSeatView J) (seen : List (Deed J)) → Starts s t s' → r.processor < s.processors → IsQueued r s.seen → IsDone t seen → IsFinished r seen
+
+  -- Totals
+
+  -- where no other processor that is there did anything while a seat added the tally words up, the sums are those of what it has then seen
+  abbrev pub TotalsAreExact : Type 0
+  TotalsAreExact = (s t : CallSeatView J) (all done : ℕ) → AddsUp s all done t → ((q : ℕ) → q < s.processors → q ≢ s.processor → deeds_of q t.seen ≡ deeds_of q s.seen) → AreTotals s all done t

@@ -12,75 +12,71 @@ use Rattle.calls.specs.declared.view.ListRight.TheVariants.{NoList, OfList}
 use Rattle.calls.specs.declared.view.BatchRight.{BatchRight}
 use Rattle.calls.specs.declared.view.BatchRight.TheVariants.{NoBatch, OfBatch}
 use Rattle.calls.specs.declared.view.View.{View}
+use Rattle.calls.specs.Lines.{count_out, line_in, no_calls}
 use Rattle.calls.specs.Tallies.{queued_place, finished_place, word_count, most_calls, queued_in, finished_in, deeds_of, AreFinishers, IsBeginning, AreTrue}
 
--- how many are out
-abbrev pub count_out : Option ℕ → ℕ
-count_out None = 0
-count_out (Some n) = n
-
--- what there is beside the words: all that was done, how many are out of each processor, and for each processor the seat that makes its steps, that of its list, and that of its batch
-pub record Books : Type 0 where
-  pub log : List Deed
-  pub out_of : ℕ → Option ℕ
+-- what there is beside the words: all that was done, and for each processor the seat that makes its steps, that of its list, and that of its batch
+pub record Books (J : Type 0) : Type 0 where
+  pub log : List (Deed J)
   pub caller_at : ℕ → ℕ
   pub list_at : ℕ → ℕ
   pub batch_at : ℕ → ℕ
 
 -- Seats
 
--- a processor that is still to be dealt has done nothing
-pub record IsUndealt (b : Books) (id p : ℕ) : Type 0 where
-  pub caller : b.caller_at p ≡ id
-  pub list : b.list_at p ≡ id
-  pub nothing : deeds_of p b.log ≡ []
-  pub queued : queued_in p b.log ≡ 0
-  pub finished : finished_in p b.log ≡ 0
-  pub out : b.out_of p ≡ None
+module _ {J : Type 0} where
+  -- a processor that is still to be dealt has done nothing
+  pub record IsUndealt (b : Books J) (id p : ℕ) : Type 0 where
+    pub caller : b.caller_at p ≡ id
+    pub list : b.list_at p ≡ id
+    pub nothing : deeds_of p b.log ≡ []
+    pub queued : queued_in p b.log ≡ 0
+    pub finished : finished_in p b.log ≡ 0
+    pub line : line_in p b.log ≡ no_calls
 
-abbrev pub Makes : Books → ℕ → List Deed → Who → Type 0
-Makes b id seen Nobody = Unit {0}
-Makes b id seen (Caller p) = (b.caller_at p ≡ id) × (deeds_of p seen ≡ deeds_of p b.log)
-Makes b id seen (Dealer k) = (p : ℕ) → k ≤ p → IsUndealt b id p
+  abbrev pub Makes : Books J → ℕ → List (Deed J) → Who → Type 0
+  Makes b id seen Nobody = Unit {0}
+  Makes b id seen (Caller p) = (b.caller_at p ≡ id) × (deeds_of p seen ≡ deeds_of p b.log)
+  Makes b id seen (Dealer k) = (p : ℕ) → k ≤ p → IsUndealt b id p
 
-abbrev pub HasList : Books → ℕ → ListRight → Type 0
-HasList b id NoList = Unit {0}
-HasList b id (OfList p queued finished out) = (b.list_at p ≡ id) × (queued ≡ queued_in p b.log) × (finished ≡ finished_in p b.log) × (out ≡ b.out_of p)
+  abbrev pub HasList : Books J → ℕ → ListRight J → Type 0
+  HasList b id NoList = Unit {0}
+  HasList b id (OfList p queued finished out waiting) = (b.list_at p ≡ id) × (queued ≡ queued_in p b.log) × (finished ≡ finished_in p b.log) × (out ≡ (line_in p b.log).out) × (waiting ≡ (line_in p b.log).waiting)
 
-abbrev pub HasBatch : Books → ℕ → BatchRight → Type 0
-HasBatch b id NoBatch = Unit {0}
-HasBatch b id (OfBatch p first count) = (b.batch_at p ≡ id) × (first ≡ finished_in p b.log) × (b.out_of p ≡ Some count)
+  abbrev pub HasBatch : Books J → ℕ → BatchRight → Type 0
+  HasBatch b id NoBatch = Unit {0}
+  HasBatch b id (OfBatch p first count) = (b.batch_at p ≡ id) × (first ≡ finished_in p b.log) × ((line_in p b.log).out ≡ Some count)
 
-pub record Fits (b : Books) (id : ℕ) (v : View) : Type 0 where
-  pub seen : IsBeginning v.seen b.log
-  pub told : IsBeginning v.told b.log
-  pub makes : Makes b id v.seen v.who
-  pub list : HasList b id v.list
-  pub batch : HasBatch b id v.batch
+  pub record Fits (b : Books J) (id : ℕ) (v : View J) : Type 0 where
+    pub seen : IsBeginning v.seen b.log
+    pub told : IsBeginning v.told b.log
+    pub makes : Makes b id v.seen v.who
+    pub list : HasList b id v.list
+    pub batch : HasBatch b id v.batch
 
--- of each processor no more are finished or out than were queued, and those are few
-pub record IsCounted (b : Books) (p : ℕ) : Type 0 where
-  pub within : finished_in p b.log + count_out (b.out_of p) ≤ queued_in p b.log
-  pub few : queued_in p b.log ≤ most_calls
+  -- of each processor all that were queued are finished, out, or waiting, and these are few
+  pub record IsCounted (b : Books J) (p : ℕ) : Type 0 where
+    pub all : queued_in p b.log ≡ finished_in p b.log + count_out (line_in p b.log).out + length (line_in p b.log).waiting
+    pub few : queued_in p b.log ≤ most_calls
 
-pub record Kept (plan : Plan) (s : State (Option ℕ) View) : Type 0 where
-  pub books : Books
-  pub loads : AreTrue books.log
-  pub finishers : AreFinishers plan.processors books.log
-  pub counted : (p : ℕ) → IsCounted books p
-  pub wide : length s.words ≡ word_count plan.processors
-  pub queued : (p : ℕ) → p < plan.processors → slice_index s.words (queued_place p) ≡ queued_in p books.log
-  pub finished : (p : ℕ) → p < plan.processors → slice_index s.words (finished_place p) ≡ finished_in p books.log
-  pub each_view : (id : ℕ) (v : View) → get_elem? s.views id ≡ some v → Fits books id v
+  pub record Kept (plan : Plan) (s : State (Option ℕ) (View J)) : Type 0 where
+    pub books : Books J
+    pub loads : AreTrue books.log
+    pub finishers : AreFinishers plan.processors books.log
+    pub counted : (p : ℕ) → IsCounted books p
+    pub wide : length s.words ≡ word_count plan.processors
+    pub queued : (p : ℕ) → p < plan.processors → slice_index s.words (queued_place p) ≡ queued_in p books.log
+    pub finished : (p : ℕ) → p < plan.processors → slice_index s.words (finished_place p) ≡ finished_in p books.log
+    pub each_view : (id : ℕ) (v : View J) → get_elem? s.views id ≡ some v → Fits books id v
 
--- Views that are made
+  -- Views that are made
 
-abbrev pub founder : Plan → View
-founder plan = record { who = Dealer 0; list = NoList; batch = NoBatch; seen = []; told = [] }
+  abbrev pub founder : Plan → View J
+  founder plan = record { who = Dealer 0; list = NoList; batch = NoBatch; seen = []; told = [] }
 
--- what is left of a seat that was taken in
-abbrev pub spent : View
-spent = record { who = Nobody; list = NoList; batch = NoBatch; seen = []; told = [] }
+  -- what is left of a seat that was taken in
+  abbrev pub spent : View J
+  spent = record { who = Nobody; list = NoList; batch = NoBatch; seen = []; told = [] }
 
 abbrev pub without_next : Who → Who
 without_next Nobody = Nobody
@@ -92,64 +88,50 @@ next_caller Nobody = Nobody
 next_caller (Caller p) = Nobody
 next_caller (Dealer k) = Caller k
 
-abbrev pub next_list : Who → ListRight
-next_list Nobody = NoList
-next_list (Caller p) = NoList
-next_list (Dealer k) = OfList k 0 0 None
+module _ {J : Type 0} where
+  abbrev pub next_list : Who → ListRight J
+  next_list Nobody = NoList
+  next_list (Caller p) = NoList
+  next_list (Dealer k) = OfList k 0 0 None []
 
--- the next processor is dealt, with the right of its list
-abbrev pub dealer : View → View
-dealer v = record v { who = without_next v.who }
+  -- the next processor is dealt, with the right of its list
+  abbrev pub dealer : View J → View J
+  dealer v = record v { who = without_next v.who }
 
-abbrev pub dealt : View → View
-dealt v = record { who = next_caller v.who; list = next_list v.who; batch = NoBatch; seen = v.seen; told = [] }
+  abbrev pub dealt : View J → View J
+  dealt v = record { who = next_caller v.who; list = next_list v.who; batch = NoBatch; seen = v.seen; told = [] }
 
--- a seat of its own gets the right of the list
-abbrev pub without_list : View → View
-without_list v = record v { list = NoList }
+  -- a seat of its own gets the right of the list
+  abbrev pub without_list : View J → View J
+  without_list v = record v { list = NoList }
 
-abbrev pub list_seat : ListRight → View
-list_seat right = record { who = Nobody; list = right; batch = NoBatch; seen = []; told = [] }
+  abbrev pub list_seat : ListRight J → View J
+  list_seat right = record { who = Nobody; list = right; batch = NoBatch; seen = []; told = [] }
 
-abbrev pub only_list : View → View
-only_list v = list_seat v.list
+  abbrev pub only_list : View J → View J
+  only_list v = list_seat v.list
 
--- a batch of so many is given out
-abbrev pub with_out : ℕ → ListRight → ListRight
-with_out n NoList = NoList
-with_out n (OfList p queued finished out) = OfList p queued finished (Some n)
+  abbrev pub batch_seat : BatchRight → View J
+  batch_seat right = record { who = Nobody; list = NoList; batch = right; seen = []; told = [] }
 
-abbrev pub batch_of : ℕ → ListRight → BatchRight
-batch_of n NoList = NoBatch
-batch_of n (OfList p queued finished out) = OfBatch p finished n
+  -- a seat of its own gets the right of the batch
+  abbrev pub without_batch : View J → View J
+  without_batch v = record v { batch = NoBatch }
 
-abbrev pub lending : ℕ → View → View
-lending n v = record v { list = with_out n v.list }
+  abbrev pub only_batch : View J → View J
+  only_batch v = batch_seat v.batch
 
-abbrev pub batch_seat : BatchRight → View
-batch_seat right = record { who = Nobody; list = NoList; batch = right; seen = []; told = [] }
+  -- the right of a list, or of a batch, is taken over
+  abbrev pub with_list : View J → View J → View J
+  with_list v w = record v { list = w.list }
 
-abbrev pub lent : ℕ → View → View
-lent n v = batch_seat (batch_of n v.list)
+  abbrev pub with_batch : View J → View J → View J
+  with_batch v w = record v { batch = w.batch }
 
--- a seat of its own gets the right of the batch
-abbrev pub without_batch : View → View
-without_batch v = record v { batch = NoBatch }
+  -- a new seat has seen as much, and makes no steps
+  abbrev pub note : View J → View J
+  note v = record { who = Nobody; list = NoList; batch = NoBatch; seen = v.seen; told = [] }
 
-abbrev pub only_batch : View → View
-only_batch v = batch_seat v.batch
-
--- the right of a list, or of a batch, is taken over
-abbrev pub with_list : View → View → View
-with_list v w = record v { list = w.list }
-
-abbrev pub with_batch : View → View → View
-with_batch v w = record v { batch = w.batch }
-
--- a new seat has seen as much, and makes no steps
-abbrev pub note : View → View
-note v = record { who = Nobody; list = NoList; batch = NoBatch; seen = v.seen; told = [] }
-
--- what another seat has seen is told
-abbrev pub informed : View → View → View
-informed v w = record v { told = w.seen }
+  -- what another seat has seen is told
+  abbrev pub informed : View J → View J → View J
+  informed v w = record v { told = w.seen }

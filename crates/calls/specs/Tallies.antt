@@ -1,9 +1,10 @@
 -- What was done on the tally words of a domain, and what the words then hold.
 -- Processor p has word 32 p as its queued word and word 32 p + 16 as its finished word, so that any two of them are 128 bytes apart.
-use Rattle.std.specs.Prelude.{◌≡◌, ℕ, ◌+◌, ◌*◌, ◌<◌, ◌==◌, Bool, true, false, List, [], ◌∷◌, ◌++◌, filter, if◌then◌else◌}
+use Rattle.std.specs.Prelude.{◌≡◌, ℕ, ◌+◌, ◌*◌, ◌<◌, ◌==◌, Bool, true, false, List, [], ◌∷◌, ◌++◌, Some, None, filter, if◌then◌else◌}
 use Rattle.calls.specs.declared.view.Act.{Act}
-use Rattle.calls.specs.declared.view.Act.TheVariants.{Queue, Finish, LoadQueued, LoadFinished}
+use Rattle.calls.specs.declared.view.Act.TheVariants.{Queue, Take, Finish, LoadQueued, LoadFinished}
 use Rattle.calls.specs.declared.view.Deed.{Deed}
+use Rattle.calls.specs.Lines.{line_in}
 
 abbrev pub queued_place : ℕ → ℕ
 queued_place p = 32 * p
@@ -18,73 +19,78 @@ word_count processors = 32 * processors
 abbrev pub most_calls : ℕ
 most_calls = 18014398509481984
 
-abbrev pub deed : ℕ → Act → Deed
-deed by act = record { by = by; act = act }
+module _ {J : Type 0} where
+  abbrev pub deed : ℕ → Act J → Deed J
+  deed by act = record { by = by; act = act }
 
--- Counts
+  -- Counts
 
-abbrev pub is_queue : Act → Bool
-is_queue Queue = true
-is_queue (Finish p n) = false
-is_queue (LoadQueued p n) = false
-is_queue (LoadFinished p n) = false
+  abbrev pub is_queue : Act J → Bool
+  is_queue (Queue e) = true
+  is_queue (Take p n max) = false
+  is_queue (Finish p n) = false
+  is_queue (LoadQueued p n) = false
+  is_queue (LoadFinished p n) = false
 
--- what the deed adds to the queued word of a processor
-abbrev pub queued_by : ℕ → Deed → ℕ
-queued_by p d = if is_queue d.act then (if d.by == p then 1 else 0) else 0
+  -- what the deed adds to the queued word of a processor
+  abbrev pub queued_by : ℕ → Deed J → ℕ
+  queued_by p d = if is_queue d.act then (if d.by == p then 1 else 0) else 0
 
--- how many calls a processor has queued
-abbrev pub queued_in : ℕ → List Deed → ℕ
-queued_in p [] = 0
-queued_in p (d ∷ ds) = queued_by p d + queued_in p ds
+  -- how many calls a processor has queued
+  abbrev pub queued_in : ℕ → List (Deed J) → ℕ
+  queued_in p [] = 0
+  queued_in p (d ∷ ds) = queued_by p d + queued_in p ds
 
--- what the act adds to the finished word of a processor
-abbrev pub finished_by : ℕ → Act → ℕ
-finished_by p Queue = 0
-finished_by p (Finish q n) = if q == p then n else 0
-finished_by p (LoadQueued q n) = 0
-finished_by p (LoadFinished q n) = 0
+  -- what the act adds to the finished word of a processor
+  abbrev pub finished_by : ℕ → Act J → ℕ
+  finished_by p (Queue e) = 0
+  finished_by p (Take q n max) = 0
+  finished_by p (Finish q n) = if q == p then n else 0
+  finished_by p (LoadQueued q n) = 0
+  finished_by p (LoadFinished q n) = 0
 
--- how many calls of a processor are finished
-abbrev pub finished_in : ℕ → List Deed → ℕ
-finished_in p [] = 0
-finished_in p (d ∷ ds) = finished_by p d.act + finished_in p ds
+  -- how many calls of a processor are finished
+  abbrev pub finished_in : ℕ → List (Deed J) → ℕ
+  finished_in p [] = 0
+  finished_in p (d ∷ ds) = finished_by p d.act + finished_in p ds
 
--- Whose deeds
+  -- Whose deeds
 
-abbrev pub deeds_of : ℕ → List Deed → List Deed
-deeds_of p deeds = filter (λ d. d.by == p) deeds
+  abbrev pub deeds_of : ℕ → List (Deed J) → List (Deed J)
+  deeds_of p deeds = filter (λ d. d.by == p) deeds
 
--- a batch is finished by one of so many processors
-abbrev pub IsFinisher : ℕ → ℕ → Act → Type 0
-IsFinisher processors by Queue = Unit {0}
-IsFinisher processors by (Finish p n) = by < processors
-IsFinisher processors by (LoadQueued p n) = Unit {0}
-IsFinisher processors by (LoadFinished p n) = Unit {0}
+  -- a batch is finished by one of so many processors
+  abbrev pub IsFinisher : ℕ → ℕ → Act J → Type 0
+  IsFinisher processors by (Queue e) = Unit {0}
+  IsFinisher processors by (Take p n max) = Unit {0}
+  IsFinisher processors by (Finish p n) = by < processors
+  IsFinisher processors by (LoadQueued p n) = Unit {0}
+  IsFinisher processors by (LoadFinished p n) = Unit {0}
 
--- each batch that was finished was finished by one of so many processors
-abbrev pub AreFinishers : ℕ → List Deed → Type 0
-AreFinishers processors [] = Unit {0}
-AreFinishers processors (d ∷ ds) = IsFinisher processors d.by d.act × AreFinishers processors ds
+  -- each batch that was finished was finished by one of so many processors
+  abbrev pub AreFinishers : ℕ → List (Deed J) → Type 0
+  AreFinishers processors [] = Unit {0}
+  AreFinishers processors (d ∷ ds) = IsFinisher processors d.by d.act × AreFinishers processors ds
 
--- a beginning of what was done
-pub record IsBeginning (seen deeds : List Deed) : Type 0 where
-  pub rest : List Deed
-  pub whole : deeds ≡ seen ++ rest
+  -- a beginning of what was done
+  pub record IsBeginning (seen deeds : List (Deed J)) : Type 0 where
+    pub rest : List (Deed J)
+    pub whole : deeds ≡ seen ++ rest
 
--- Loads
+  -- Deeds that could be done
 
--- a load found what the word held
-abbrev pub IsTrueOf : List Deed → Act → Type 0
-IsTrueOf before Queue = Unit {0}
-IsTrueOf before (Finish p n) = Unit {0}
-IsTrueOf before (LoadQueued p n) = n ≡ queued_in p before
-IsTrueOf before (LoadFinished p n) = n ≡ finished_in p before
+  -- a load found what the word held, something was taken only where no batch was out, and what was finished is the batch that was out
+  abbrev pub IsTrueOf : List (Deed J) → Act J → Type 0
+  IsTrueOf before (Queue e) = Unit {0}
+  IsTrueOf before (Take p n max) = (line_in p before).out ≡ None
+  IsTrueOf before (Finish p n) = (line_in p before).out ≡ Some n
+  IsTrueOf before (LoadQueued p n) = n ≡ queued_in p before
+  IsTrueOf before (LoadFinished p n) = n ≡ finished_in p before
 
-abbrev pub AreTrueAfter : List Deed → List Deed → Type 0
-AreTrueAfter before [] = Unit {0}
-AreTrueAfter before (d ∷ ds) = IsTrueOf before d.act × AreTrueAfter (before ++ d ∷ []) ds
+  abbrev pub AreTrueAfter : List (Deed J) → List (Deed J) → Type 0
+  AreTrueAfter before [] = Unit {0}
+  AreTrueAfter before (d ∷ ds) = IsTrueOf before d.act × AreTrueAfter (before ++ d ∷ []) ds
 
--- each load among the deeds found what was counted until then
-abbrev pub AreTrue : List Deed → Type 0
-AreTrue deeds = AreTrueAfter [] deeds
+  -- each deed is so, by those before it
+  abbrev pub AreTrue : List (Deed J) → Type 0
+  AreTrue deeds = AreTrueAfter [] deeds

@@ -1,23 +1,24 @@
 -- What a caller knows of the seats, lists and batches of a domain's callbacks.
-use Rattle.std.specs.Prelude.{ℕ, ◌+◌, List, Option, length}
+use Rattle.std.specs.Prelude.{◌≡◌, ℕ, ◌+◌, List, Option, length}
 use Rattle.atomic_table.specs.Seated.{TableId}
 use Rattle.segs.specs.MarkedList.{Mark}
 use Rattle.sections.specs.Sights.{SightView}
 use Rattle.calls.specs.declared.entry.Entry.{Entry}
 use Rattle.calls.specs.declared.view.Deed.{Deed}
-use Rattle.calls.specs.Rule.{count_out}
+use Rattle.calls.specs.Lines.{count_out, line_in}
+use Rattle.calls.specs.Tallies.{finished_in}
 
 -- `tallies` are the tally words, for so many processors. `seen` is what was done on them, as far as the seat of this processor has seen it
-pub record CallSeatView : Type 0 where
+pub record CallSeatView (J : Type 0) : Type 0 where
   pub tallies : TableId
   pub processors : ℕ
   pub processor : ℕ
-  pub seen : List Deed
+  pub seen : List (Deed J)
 
 -- what its giver had seen of what was done on these tally words
-pub record NoteView : Type 0 where
+pub record NoteView (J : Type 0) : Type 0 where
   pub tallies : TableId
-  pub seen : List Deed
+  pub seen : List (Deed J)
 
 -- what never changes in a list, and of which lock a list is known to be: the domain, the tally words, and the processor
 pub record ListKey : Type 0 where
@@ -64,3 +65,8 @@ module _ {J : Type 0} where
   -- and the number that the next one will have
   abbrev pub next_of : ListView J → ℕ
   next_of l = first_of l + length l.entries
+
+  -- for one who has seen this, the list is the one of its processor
+  pub record IsListIn (seen : List (Deed J)) (l : ListView J) : Type 0 where
+    pub finished : l.finished ≡ finished_in l.processor seen
+    pub line : line_in l.processor seen ≡ record { out = l.out; waiting = l.entries }

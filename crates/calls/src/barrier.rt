@@ -9,13 +9,13 @@ mod tickets;
 /// What a barrier waits for (`srcu_barrier`): of each processor, how many calls had been queued when the barrier was
 /// started. It is done once as many are finished of each. Contracts see the numbers, in the order of the processors.
 #[derive(Drop)]
-pub struct Ticket<A: Allocator = Global> {
+pub struct Ticket<J, A: Allocator = Global> {
     pub(crate) numbers: Vec<u64, A>,
     /// It tells contracts at which tally words the barrier was started.
-    pub(crate) note: Note,
+    pub(crate) note: Note<J>,
 }
 
-impl<A: Allocator> Model for Ticket<A> {
+impl<J, A: Allocator> Model for Ticket<J, A> {
     ghost use Rattle.calls.specs.Views.{TicketView};
 
     ghost Value = { TicketView };

@@ -16,7 +16,7 @@ pub struct Batch<J, A: Allocator = Global> {
     pub(crate) count: usize,
     pub(crate) processor: u16,
     /// It has the right to add the count to the finished word.
-    pub(crate) seat: Place,
+    pub(crate) seat: Place<J>,
 }
 
 impl<J, A: Allocator> Model for Batch<J, A> {

@@ -11,7 +11,7 @@ mod handing;
 /// Contracts see the domain, the tally words, and how many processors there are.
 #[derive(Drop)]
 pub struct Calls<J, A: Allocator = Global> {
-    pub(crate) lists: Vec<Keep<List<J, A>, Spot, A>, A>,
+    pub(crate) lists: Vec<Keep<List<J, A>, Spot<J>, A>, A>,
 }
 
 impl<J, A: Allocator> Model for Calls<J, A> {

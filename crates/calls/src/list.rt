@@ -23,7 +23,7 @@ pub struct List<J, A: Allocator = Global> {
     pub(crate) waiting: SegList<Option<Entry<J>>, A>,
     /// As far as all who had the list had seen then.
     pub(crate) sight: Sight,
-    pub(crate) seat: Place,
+    pub(crate) seat: Place<J>,
     pub(crate) processor: u16,
     /// Whether a batch is out.
     pub(crate) out: bool,
@@ -45,7 +45,7 @@ impl<J, A: Allocator> Token for List<J, A> {
     ghost domain = { λ l. l.sight.domain };
 }
 
-impl<J, A: Allocator> Keyed<Spot> for List<J, A> {
+impl<J, A: Allocator> Keyed<Spot<J>> for List<J, A> {
     ghost use Rattle.calls.specs.Views.{key_of};
 
     ghost key = { key_of };
@@ -53,7 +53,7 @@ impl<J, A: Allocator> Keyed<Spot> for List<J, A> {
 
 /// A job was queued.
 #[derive(Drop)]
-pub struct Receipt {
+pub struct Receipt<J> {
     /// The processor on which it was queued.
     pub processor: u16,
     /// Its number among all that were queued there, from 0.
@@ -61,5 +61,5 @@ pub struct Receipt {
     /// The job is given out once this cookie is done.
     pub cookie: Cookie,
     /// What the seat had seen with which it was queued: its call is among it.
-    pub note: Note,
+    pub note: Note<J>,
 }

@@ -19,7 +19,7 @@ use std::alloc::Allocator;
 use std::sync::Arc;
 
 /// The tally words, all 0, and the seat that stands for all processors and their lists.
-fn new_table<A: Allocator + Copy>(alloc: A, plan: Plan) -> Result<(Tallies<A>, Place), Memory>
+fn new_table<J, A: Allocator + Copy>(alloc: A, plan: Plan) -> Result<(Tallies<J, A>, Place<J>), Memory>
     requires { plan.processors < 2 ^ 16 }
     ensures { IfOk result (λ t. NewTable plan t.0.shared.key t.0.shared.table_id t.1) }
 {
@@ -30,11 +30,11 @@ fn new_table<A: Allocator + Copy>(alloc: A, plan: Plan) -> Result<(Tallies<A>, P
 /// The next processor's seat and list.
 fn deal<J, A: Allocator + Copy>(
     alloc: A,
-    table: &Arc<Tallies<A>, A>,
-    dealer: &mut Place,
+    table: &Arc<Tallies<J, A>, A>,
+    dealer: &mut Place<J>,
     processor: u16,
     sight: Sight,
-) -> Result<(CallSeat<A>, List<J, A>), Memory>
+) -> Result<(CallSeat<J, A>, List<J, A>), Memory>
     requires there { processor < (arc_value table.now).shared.key.processors }
     requires dealer { let shared = (arc_value table.now).shared in
         IsDealer shared.key shared.table_id processor dealer.old }
@@ -66,7 +66,7 @@ fn build<J: Drop, A: Allocator + Copy, B: Allocator>(
     alloc: A,
     engine: &mut EngineSeat<B>,
     processors: u16,
-) -> Result<(Calls<J, A>, Vec<CallSeat<A>, A>), Memory>
+) -> Result<(Calls<J, A>, Vec<CallSeat<J, A>, A>), Memory>
     requires { 1 ≤ processors }
     ensures made { IfOk result (λ m. AreMade engine.old.domain processors m.0 m.1.items) }
     ensures same { engine.new ≡ engine.old }
@@ -99,7 +99,7 @@ impl<J: Drop, A: Allocator + Copy> Calls<J, A> {
     pub fn make<B: Allocator>(
         alloc: A,
         engine: &mut EngineSeat<B>,
-    ) -> Result<(Calls<J, A>, Vec<CallSeat<A>, A>), Memory>
+    ) -> Result<(Calls<J, A>, Vec<CallSeat<J, A>, A>), Memory>
         ensures made { IfOk result (λ m. AreMade engine.old.domain engine.old.processors m.0 m.1.items) }
         ensures same { engine.new ≡ engine.old }
     {

@@ -4,14 +4,14 @@ use std::marker::Model;
 
 /// What its giver had seen of what was done on the tally words. It makes no steps, and has no bytes.
 #[derive(Drop)]
-pub struct Note {
-    pub(crate) seat: Place,
+pub struct Note<J> {
+    pub(crate) seat: Place<J>,
 }
 
-impl Model for Note {
+impl<J> Model for Note<J> {
     ghost use Rattle.calls.specs.Views.{NoteView};
 
-    ghost Value = { NoteView };
+    ghost Value = { NoteView J };
 
     ghost use Rattle.calls.specs.Insides.{view_of_note};
 

@@ -1,7 +1,8 @@
 //! The rule of the tally words, and what each step on them tells the one that makes it.
-ghost use Rattle.std.specs.Prelude.{ℕ};
-ghost use Rattle.calls.specs.Rule.{Kept, founder, dealer, dealt, without_list, only_list, lending, lent, with_list, without_batch, only_batch, with_batch, note, informed, spent};
-ghost use Rattle.calls.specs.Plays.{queues, finishes, counts_queued, counts_finished, found_all, admitted, found_out};
+ghost use Rattle.std.specs.Prelude.{ℕ, Option, None};
+ghost use Rattle.calls.specs.declared.entry.Entry.{Entry};
+ghost use Rattle.calls.specs.Rule.{Kept, founder, dealer, dealt, without_list, only_list, with_list, without_batch, only_batch, with_batch, note, informed, spent};
+ghost use Rattle.calls.specs.Plays.{queues, takes_out, finishes, counts_queued, counts_finished, found_all, admitted, found_out, found_list};
 
 use crate::view::{Plan, View};
 use atomic_table::{Join, Play, Seat, Shared, Split, Table, TableRule};
@@ -13,46 +14,73 @@ pub(crate) type NoSlot = Option<u64>;
 /// Each word counts what was done.
 pub struct Counted;
 
-impl TableRule<NoSlot, View, Plan> for Counted {
+impl<J> TableRule<NoSlot, View<J>, Plan> for Counted {
     ghost holds = { Kept };
 
     ghost first = { founder };
 }
 
 /// The tally words.
-pub(crate) type Tallies<A> = Table<NoSlot, View, Plan, Counted, A>;
+pub(crate) type Tallies<J, A> = Table<NoSlot, View<J>, Plan, Counted, A>;
 
 /// What the steps are made on.
-pub(crate) type Board = Shared<NoSlot, View, Plan, Counted>;
+pub(crate) type Board<J> = Shared<NoSlot, View<J>, Plan, Counted>;
 
 /// With what they are made.
-pub(crate) type Place = Seat<NoSlot, View>;
+pub(crate) type Place<J> = Seat<NoSlot, View<J>>;
 
-/// Addition of 1 to a queued word.
-pub(crate) struct AddQueued;
+/// What is queued. Each call says it.
+pub trait Calling<J> {
+    ghost call: { Option (Entry J) };
+}
 
-impl Play<NoSlot, View> for AddQueued {
-    ghost then = { queues };
+impl<J> Calling<J> for Brand {
+    ghost call = { None };
+}
+
+/// Addition of 1 to a queued word, for a call.
+pub(crate) struct AddQueued<N>(PhantomData<N>);
+
+impl<J, N: Calling<J>> Play<NoSlot, View<J>> for AddQueued<N> {
+    ghost then = { queues N.call };
+}
+
+/// For which number entries are ready, and how many are wanted. Each call says it.
+pub trait Taking {
+    ghost number: { ℕ };
+    ghost max: { ℕ };
+}
+
+impl Taking for Brand {
+    ghost number = { 0 };
+    ghost max = { 0 };
+}
+
+/// Load of a queued word with its list, out of which something is taken.
+pub(crate) struct TakeOut<N: Taking>(PhantomData<N>);
+
+impl<J, N: Taking> Play<NoSlot, View<J>> for TakeOut<N> {
+    ghost then = { takes_out N.number N.max };
 }
 
 /// Addition of a batch's count to a finished word.
 pub(crate) struct AddFinished;
 
-impl Play<NoSlot, View> for AddFinished {
+impl<J> Play<NoSlot, View<J>> for AddFinished {
     ghost then = { finishes };
 }
 
 /// Load of a queued word.
 pub(crate) struct CountQueued;
 
-impl Play<NoSlot, View> for CountQueued {
+impl<J> Play<NoSlot, View<J>> for CountQueued {
     ghost then = { counts_queued };
 }
 
 /// Load of a finished word, where the tally words are of so many processors.
 pub(crate) struct CountFinished<N: Counting>(PhantomData<N>);
 
-impl<N: Counting> Play<NoSlot, View> for CountFinished<N> {
+impl<J, N: Counting> Play<NoSlot, View<J>> for CountFinished<N> {
     ghost then = { counts_finished N.count };
 }
 
@@ -60,28 +88,35 @@ impl<N: Counting> Play<NoSlot, View> for CountFinished<N> {
 /// no deed.
 pub(crate) struct Cover<N: Counting>(PhantomData<N>);
 
-impl<N: Counting> Play<NoSlot, View> for Cover<N> {
+impl<J, N: Counting> Play<NoSlot, View<J>> for Cover<N> {
     ghost then = { found_all N.count };
 }
 
 /// Load of a word by a seat that has then seen just what it was told. It is no deed.
 pub(crate) struct Admit<N: Counting>(PhantomData<N>);
 
-impl<N: Counting> Play<NoSlot, View> for Admit<N> {
+impl<J, N: Counting> Play<NoSlot, View<J>> for Admit<N> {
     ghost then = { admitted N.count };
 }
 
 /// Load of a word with the right of a batch, which is out in all that is then seen. It is no deed.
 pub(crate) struct SeeOut<N: Counting>(PhantomData<N>);
 
-impl<N: Counting> Play<NoSlot, View> for SeeOut<N> {
+impl<J, N: Counting> Play<NoSlot, View<J>> for SeeOut<N> {
     ghost then = { found_out N.count };
+}
+
+/// Load of a word with a list's right: in all that is then seen, the list is as the right knows it. It is no deed.
+pub(crate) struct SeeList<N: Counting>(PhantomData<N>);
+
+impl<J, N: Counting> Play<NoSlot, View<J>> for SeeList<N> {
+    ghost then = { found_list N.count };
 }
 
 /// A new seat is the next processor's, with its list's right.
 pub(crate) struct Deal;
 
-impl Split<View> for Deal {
+impl<J> Split<View<J>> for Deal {
     ghost left = { dealer };
 
     ghost right = { dealt };
@@ -90,7 +125,7 @@ impl Split<View> for Deal {
 /// A new seat gets the list's right.
 pub(crate) struct GiveList;
 
-impl Split<View> for GiveList {
+impl<J> Split<View<J>> for GiveList {
     ghost left = { without_list };
 
     ghost right = { only_list };
@@ -99,7 +134,7 @@ impl Split<View> for GiveList {
 /// The list's right is taken over.
 pub(crate) struct TakeList;
 
-impl Join<View> for TakeList {
+impl<J> Join<View<J>> for TakeList {
     ghost both = { with_list };
 
     ghost spent = { spent };
@@ -108,7 +143,7 @@ impl Join<View> for TakeList {
 /// A new seat has seen as much.
 pub(crate) struct GiveNote;
 
-impl Split<View> for GiveNote {
+impl<J> Split<View<J>> for GiveNote {
     ghost left = { λ v. v };
 
     ghost right = { note };
@@ -117,13 +152,13 @@ impl Split<View> for GiveNote {
 /// What the other seat has seen is told.
 pub(crate) struct TakeNote;
 
-impl Join<View> for TakeNote {
+impl<J> Join<View<J>> for TakeNote {
     ghost both = { informed };
 
     ghost spent = { spent };
 }
 
-/// How many are in a batch, or how many processors there are. Each call says it.
+/// How many processors there are. Each call says it.
 pub trait Counting {
     ghost count: { ℕ };
 }
@@ -132,19 +167,10 @@ impl Counting for Brand {
     ghost count = { 0 };
 }
 
-/// A new seat gets the right of a batch of so many.
-pub(crate) struct GiveBatch<N: Counting>(PhantomData<N>);
-
-impl<N: Counting> Split<View> for GiveBatch<N> {
-    ghost left = { lending N.count };
-
-    ghost right = { lent N.count };
-}
-
 /// A new seat gets the right of a batch that is out.
 pub(crate) struct PassBatch;
 
-impl Split<View> for PassBatch {
+impl<J> Split<View<J>> for PassBatch {
     ghost left = { without_batch };
 
     ghost right = { only_batch };
@@ -153,7 +179,7 @@ impl Split<View> for PassBatch {
 /// The batch's right is taken over.
 pub(crate) struct TakeBatch;
 
-impl Join<View> for TakeBatch {
+impl<J> Join<View<J>> for TakeBatch {
     ghost both = { with_batch };
 
     ghost spent = { spent };

@@ -15,18 +15,18 @@ pub use totals::Totals;
 /// The seat of a processor at the tally words. It goes with the [`Cpu`](sections::Cpu) of the same number. Contracts see
 /// what was done on the tally words, as far as this seat has seen it: what it did itself is among it.
 #[derive(Drop)]
-pub struct CallSeat<A: Allocator = Global> {
-    pub(crate) table: Arc<Tallies<A>, A>,
-    pub(crate) seat: Place,
+pub struct CallSeat<J, A: Allocator = Global> {
+    pub(crate) table: Arc<Tallies<J, A>, A>,
+    pub(crate) seat: Place<J>,
     pub(crate) processor: u16,
     /// How many calls were queued here.
     pub(crate) queued: u64,
 }
 
-impl<A: Allocator> Model for CallSeat<A> {
+impl<J, A: Allocator> Model for CallSeat<J, A> {
     ghost use Rattle.calls.specs.Views.{CallSeatView};
 
-    ghost Value = { CallSeatView };
+    ghost Value = { CallSeatView J };
 
     ghost use Rattle.calls.specs.Insides.{view_of_seat, IsCallSeat};
 

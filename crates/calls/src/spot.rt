@@ -6,13 +6,13 @@ use std::marker::Model;
 /// What never changes in a processor's list of callbacks: its domain, its tally words and its processor. Contracts alone
 /// read it, as the key of the lock round that list.
 #[derive(Drop)]
-pub struct Spot {
+pub struct Spot<J> {
     pub(crate) home: Home,
-    pub(crate) seat: Place,
+    pub(crate) seat: Place<J>,
     pub(crate) processor: u16,
 }
 
-impl Model for Spot {
+impl<J> Model for Spot<J> {
     ghost use Rattle.calls.specs.Views.{ListKey};
 
     ghost Value = { ListKey };

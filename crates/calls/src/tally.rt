@@ -1,9 +1,9 @@
 //! The steps on the tally words.
-ghost use Rattle.std.specs.Prelude.{◌≡◌, ℕ, ◌<◌};
+ghost use Rattle.std.specs.Prelude.{◌≡◌, ℕ, ◌<◌, IfSome, IsSome, None};
 ghost use Rattle.calls.specs.Tallies.{queued_place, finished_place, most_calls, queued_in, IsBeginning};
-ghost use Rattle.calls.specs.Seats.{IsPlaced, IsAtRest, IsOfCaller, IsListSeat, IsBatchSeat, QueuesOne, FinishesBatch, CountsFinished, SeesAll, SeesTold, SeesBatchOut, MayLend, Lends};
+ghost use Rattle.calls.specs.Seats.{IsPlaced, IsAtRest, IsOfCaller, IsListSeat, IsBatchSeat, out_known, QueuesOne, TakesOne, FinishesBatch, CountsFinished, SeesAll, SeesTold, SeesBatchOut, SeesList};
 
-use crate::plays::{self, Board, Counting, Place};
+use crate::plays::{self, Board, Calling, Counting, Place, Taking};
 
 /// Where the queued word of a processor stands.
 pub(crate) fn place_of_queued(processor: u16) -> usize
@@ -19,25 +19,75 @@ pub(crate) fn place_of_finished(processor: u16) -> usize
     32 * processor as usize + 16
 }
 
-/// Adds 1 to the processor's queued word, with the right of its list, which gets it back. Answers what the word held.
-pub(crate) fn add_queued(top: &Board, seat: &mut Place, list: &mut Place, processor: u16) -> u64
+/// Adds 1 to the processor's queued word for a call, with the right of its list, which gets it back. Answers what the word
+/// held.
+pub(crate) fn add_queued<J, N: Calling<J>>(
+    top: &Board<J>,
+    seat: &mut Place<J>,
+    list: &mut Place<J>,
+    processor: u16,
+) -> u64
     requires placed { IsPlaced top.now.key top.now.table_id seat.old }
     requires rests { IsAtRest processor top.now.key seat.old.me.0 }
     requires list { IsListSeat top.now.table_id processor list.old }
     requires room { queued_in processor seat.old.me.0.seen < most_calls }
+    requires call { IsSome N.call }
     ensures placed { IsPlaced top.now.key top.now.table_id seat.new }
-    ensures queues { QueuesOne processor seat.old list.old result seat.new list.new }
+    ensures queues { IfSome N.call (λ entry. QueuesOne processor entry seat.old list.old result seat.new list.new) }
 {
     let right = top.split_seat::<plays::GiveList>(list);
     top.join_seat::<plays::TakeList>(seat, right);
-    let found = top.fetch_add::<plays::AddQueued>(seat, place_of_queued(processor), 1);
+    let found = top.fetch_add::<plays::AddQueued<N>>(seat, place_of_queued(processor), 1);
     *list = top.split_seat::<plays::GiveList>(seat);
     found
 }
 
+/// Loads the queued word of the list's processor, with the right of the list, out of which is taken what is ready. Gives the
+/// batch's right.
+pub(crate) fn take_out<J, N: Taking>(
+    top: &Board<J>,
+    seat: &mut Place<J>,
+    list: &mut Place<J>,
+    processor: u16,
+) -> Place<J>
+    requires placed { IsPlaced top.now.key top.now.table_id seat.old }
+    requires rests { IsOfCaller top.now.key seat.old.me.0 }
+    requires there { processor < top.now.key.processors }
+    requires list { IsListSeat top.now.table_id processor list.old }
+    requires none { out_known list.old.me.0.list ≡ None }
+    ensures placed { IsPlaced top.now.key top.now.table_id seat.new }
+    ensures takes { TakesOne processor N.number N.max seat.old list.old seat.new list.new result }
+{
+    let right = top.split_seat::<plays::GiveList>(list);
+    top.join_seat::<plays::TakeList>(seat, right);
+    top.load::<plays::TakeOut<N>>(seat, place_of_queued(processor));
+    *list = top.split_seat::<plays::GiveList>(seat);
+    top.split_seat::<plays::PassBatch>(seat)
+}
+
+/// Loads the queued word of the seat's processor, with the right of a list, which gets it back. The seat has then seen all
+/// that was done, and there the list is as its right knows it.
+pub(crate) fn see_list<J, N: Counting>(
+    top: &Board<J>,
+    seat: &mut Place<J>,
+    list: &mut Place<J>,
+    processor: u16,
+)
+    requires count { top.now.key.processors ≡ N.count }
+    requires placed { IsPlaced top.now.key top.now.table_id seat.old }
+    requires rests { IsAtRest processor top.now.key seat.old.me.0 }
+    requires list { list.old.table_id ≡ top.now.table_id }
+    ensures { (p : ℕ) → IsListSeat list.old.table_id p list.old → SeesList top.now.key p seat.old list.old seat.new list.new }
+{
+    let right = top.split_seat::<plays::GiveList>(list);
+    top.join_seat::<plays::TakeList>(seat, right);
+    top.load::<plays::SeeList<N>>(seat, place_of_queued(processor));
+    *list = top.split_seat::<plays::GiveList>(seat);
+}
+
 /// Loads the finished word at this place. Answers what it holds. Each call says of how many processors the tally words
 /// are, and learns that no other one has finished a batch.
-pub(crate) fn count_finished<N: Counting>(top: &Board, seat: &mut Place, place: usize) -> u64
+pub(crate) fn count_finished<J, N: Counting>(top: &Board<J>, seat: &mut Place<J>, place: usize) -> u64
     requires count { top.now.key.processors ≡ N.count }
     requires there { (p : ℕ) × (place ≡ finished_place p) × (p < top.now.key.processors) }
     requires placed { IsPlaced top.now.key top.now.table_id seat.old }
@@ -48,7 +98,7 @@ pub(crate) fn count_finished<N: Counting>(top: &Board, seat: &mut Place, place: 
 }
 
 /// Loads the queued word of the seat's processor. The seat has then seen all that was done.
-pub(crate) fn see_all<N: Counting>(top: &Board, seat: &mut Place, processor: u16)
+pub(crate) fn see_all<J, N: Counting>(top: &Board<J>, seat: &mut Place<J>, processor: u16)
     requires count { top.now.key.processors ≡ N.count }
     requires placed { IsPlaced top.now.key top.now.table_id seat.old }
     requires rests { IsAtRest processor top.now.key seat.old.me.0 }
@@ -58,7 +108,7 @@ pub(crate) fn see_all<N: Counting>(top: &Board, seat: &mut Place, processor: u16
 }
 
 /// Loads the queued word of the seat's processor. The seat has then seen just what it was told.
-pub(crate) fn see_told<N: Counting>(top: &Board, seat: &mut Place, processor: u16)
+pub(crate) fn see_told<J, N: Counting>(top: &Board<J>, seat: &mut Place<J>, processor: u16)
     requires count { top.now.key.processors ≡ N.count }
     requires placed { IsPlaced top.now.key top.now.table_id seat.old }
     requires rests { IsAtRest processor top.now.key seat.old.me.0 }
@@ -70,10 +120,10 @@ pub(crate) fn see_told<N: Counting>(top: &Board, seat: &mut Place, processor: u1
 
 /// Loads the queued word of the seat's processor, with the right of a batch of another one, perhaps, which gets it back.
 /// The seat has then seen all that was done, and there the batch is out: only with its right can it be finished.
-pub(crate) fn see_batch_out<N: Counting>(
-    top: &Board,
-    seat: &mut Place,
-    batch: &mut Place,
+pub(crate) fn see_batch_out<J, N: Counting>(
+    top: &Board<J>,
+    seat: &mut Place<J>,
+    batch: &mut Place<J>,
     processor: u16,
 )
     requires count { top.now.key.processors ≡ N.count }
@@ -88,23 +138,13 @@ pub(crate) fn see_batch_out<N: Counting>(
     *batch = top.split_seat::<plays::PassBatch>(seat);
 }
 
-/// Cuts the right of a batch of so many off the list's seat.
-pub(crate) fn give_batch<N: Counting>(top: &Board, list: &mut Place, count: usize) -> Place
-    requires count { count ≡ N.count }
-    requires words { 0 < top.now.table_id.words }
-    requires list { (p : ℕ) × MayLend top.now.table_id p count list.old }
-    ensures { (p : ℕ) → IsListSeat top.now.table_id p list.old → Lends p count list.old list.new result }
-{
-    top.split_seat::<plays::GiveBatch<N>>(list)
-}
-
 /// Adds the batch's count to its processor's finished word, with the rights of the batch, which is over, and of the
 /// list, which gets its own back.
-pub(crate) fn add_finished(
-    top: &Board,
-    seat: &mut Place,
-    list: &mut Place,
-    batch: Place,
+pub(crate) fn add_finished<J>(
+    top: &Board<J>,
+    seat: &mut Place<J>,
+    list: &mut Place<J>,
+    batch: Place<J>,
     processor: u16,
     count: usize,
 )

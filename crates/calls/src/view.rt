@@ -1,4 +1,6 @@
 //! What the proofs know of a seat at the tally words. But for `Plan`, no value of these types is ever made.
+use crate::entry::Entry;
+use std::marker::{Model, PhantomData};
 
 /// What the rule of the tally words is told when they are made.
 #[derive(Clone, Copy, Debug)]
@@ -8,9 +10,16 @@ pub struct Plan {
 }
 
 /// What was done on a tally word.
-pub enum Act {
-    /// 1 was added to the queued word of the processor whose seat did it.
-    Queue,
+pub enum Act<J> {
+    /// 1 was added to the queued word of the processor whose seat did it: this came last in its list.
+    Queue { entry: Entry<J> },
+    /// A load of the queued word of this processor, with its list in hand: what waited for this number was done, and at
+    /// most so many jobs were taken out.
+    Take {
+        processor: u16,
+        number: u64,
+        max: usize,
+    },
     /// So many were added to the finished word of this processor.
     Finish { processor: u16, count: u64 },
     /// A load of the queued word of this processor, with what it found.
@@ -20,9 +29,38 @@ pub enum Act {
 }
 
 /// A step on a tally word, and the processor whose seat made it.
-pub struct Deed {
+pub struct Deed<J> {
     pub by: u16,
-    pub act: Act,
+    pub act: Act<J>,
+}
+
+/// What was done, in order. Contracts see a list.
+pub struct Deeds<J> {
+    marker: PhantomData<J>,
+}
+
+impl<J> Model for Deeds<J> {
+    ghost use Rattle.std.specs.Prelude.{List, []};
+    ghost use Rattle.calls.specs.declared.view.Deed.{Deed};
+
+    ghost Value = { List (Deed J) };
+
+    ghost view = { λ _. [] };
+}
+
+/// What waits in a processor's list, with marks. Contracts see a list.
+pub struct Waiting<J> {
+    marker: PhantomData<J>,
+}
+
+impl<J> Model for Waiting<J> {
+    ghost use Rattle.std.specs.Prelude.{List, []};
+    ghost use Rattle.segs.specs.MarkedList.{Mark};
+    ghost use Rattle.calls.specs.declared.entry.Entry.{Entry};
+
+    ghost Value = { List (Entry J × Mark) };
+
+    ghost view = { λ _. [] };
 }
 
 /// Whose steps a seat makes.
@@ -34,9 +72,9 @@ pub enum Who {
     Dealer(u64),
 }
 
-/// What a processor's list knows, and a right: no call of this processor is queued, and no batch of it is finished,
-/// without the list.
-pub enum ListRight {
+/// What a processor's list knows, and a right: no call of this processor is queued, nothing is taken out, and no batch of it
+/// is finished, without the list.
+pub enum ListRight<J> {
     NoList,
     OfList {
         processor: u16,
@@ -46,6 +84,7 @@ pub enum ListRight {
         finished: u64,
         /// How many are in the batch that is out.
         out: Option<u64>,
+        waiting: Waiting<J>,
     },
 }
 
@@ -60,13 +99,13 @@ pub enum BatchRight {
     },
 }
 
-/// What one seat knows. A clause reads an array as a list of any length.
-pub struct View {
+/// What one seat knows.
+pub struct View<J> {
     pub who: Who,
-    pub list: ListRight,
+    pub list: ListRight<J>,
     pub batch: BatchRight,
     /// A beginning of all that was done on the tally words.
-    pub seen: [Deed; 0],
+    pub seen: Deeds<J>,
     /// What another seat had seen, which the next load covers.
-    pub told: [Deed; 0],
+    pub told: Deeds<J>,
 }

@@ -11,7 +11,7 @@ use crate::tally::count_finished;
 use std::alloc::Allocator;
 use std::marker::Brand;
 
-impl<A: Allocator> CallSeat<A> {
+impl<J, A: Allocator> CallSeat<J, A> {
     /// How many processors have tallies.
     pub(crate) fn processors(&self) -> usize
         ensures count { result ≡ self.now.processors }
@@ -35,7 +35,7 @@ impl<A: Allocator> CallSeat<A> {
     }
 
     /// The same, by a seat that has then seen all that is noted.
-    pub(super) fn load_behind(&mut self, processor: usize, note: &mut Note) -> u64
+    pub(super) fn load_behind(&mut self, processor: usize, note: &mut Note<J>) -> u64
         requires there { processor < self.old.processors }
         requires note { note.old.tallies ≡ self.old.tallies }
         ensures does { Does (LoadQueued processor result) self.old self.new }
@@ -65,11 +65,11 @@ impl<A: Allocator> CallSeat<A> {
         // For the proof, as above.
         let _words = self.table.word_count();
         let top = &self.table.shared;
-        count_finished::<Brand>(top, &mut self.seat, 32 * processor + 16)
+        count_finished::<J, Brand>(top, &mut self.seat, 32 * processor + 16)
     }
 
     /// Notes what this seat has seen.
-    pub(crate) fn note(&mut self) -> Note
+    pub(crate) fn note(&mut self) -> Note<J>
         ensures same { self.new ≡ self.old }
         ensures note { result ≡ record { tallies = self.old.tallies; seen = self.old.seen } }
     {

@@ -12,7 +12,7 @@ use std::alloc::Allocator;
 impl<J, A: Allocator + Copy> Calls<J, A> {
     /// Starts a barrier (`srcu_barrier`), which waits for the calls that were queued before: each queued word is loaded
     /// once. Where there is not enough memory, no step was made.
-    pub fn barrier_start<C: Allocator>(&self, seat: &mut CallSeat<C>) -> Result<Ticket<A>, Memory>
+    pub fn barrier_start<C: Allocator>(&self, seat: &mut CallSeat<J, C>) -> Result<Ticket<J, A>, Memory>
         requires { seat.old.tallies ≡ self.now.tallies }
         ensures starts { MatchResult result (λ ticket. Starts seat.old ticket seat.new) (λ _. seat.new ≡ seat.old) }
 
@@ -39,8 +39,8 @@ impl<J, A: Allocator> Calls<J, A> {
     /// often as it likes; nothing is waited for.
     pub fn barrier_poll<B: Allocator, C: Allocator>(
         &self,
-        seat: &mut CallSeat<C>,
-        ticket: &Ticket<B>,
+        seat: &mut CallSeat<J, C>,
+        ticket: &Ticket<J, B>,
     ) -> bool
         requires { (seat.old.tallies ≡ self.now.tallies) × (ticket.now.tallies ≡ self.now.tallies) }
         ensures polls { Polls ticket.now seat.old result seat.new }
@@ -60,7 +60,7 @@ impl<J, A: Allocator> Calls<J, A> {
 
     /// One load of the queued word of the receipt's processor, by a seat that has then seen all that the one who queued
     /// the job had. So a barrier that this seat starts later covers the receipt, wherever its job was queued.
-    pub fn hear<C: Allocator>(&self, seat: &mut CallSeat<C>, receipt: &mut Receipt)
+    pub fn hear<C: Allocator>(&self, seat: &mut CallSeat<J, C>, receipt: &mut Receipt<J>)
         requires tallies { (seat.old.tallies ≡ self.now.tallies) × (receipt.old.note.tallies ≡ self.now.tallies) }
         requires there { receipt.old.processor < self.now.processors }
         ensures hears { Hears receipt.old seat.old seat.new }

@@ -1,9 +1,7 @@
 //! The calls lock a processor's list, and hand on to it.
-ghost use Rattle.std.specs.Prelude.{◌≡◌, ◌<◌, All, IfOk, IfSome, MatchResult, Ok};
+ghost use Rattle.std.specs.Prelude.{◌≡◌, ◌<◌, All, IfOk, IsOk, IfSome, MatchResult};
 ghost use Rattle.sections.specs.Calls.{IsSameCpu, AllClosed};
-ghost use Rattle.segs.specs.MarkedList.{lens, numbers};
-ghost use Rattle.calls.specs.Views.{ListView};
-ghost use Rattle.calls.specs.Calls.{IsSameSeat, IsOfProcessor, FitsIn, QueuesIn, RefusesIn, MayTakeIn, TakesIn, AreHanded, InvokesIn, MayFinishIn, FinishesIn, IsListOf};
+ghost use Rattle.calls.specs.Calls.{IsSameSeat, IsOfProcessor, FitsIn, QueuesIn, RefusesIn, MayTakeIn, TakesIn, AreHanded, InvokesIn, MayFinishIn, FinishesIn, FindsLensIn};
 
 use super::Calls;
 use crate::batch::Batch;
@@ -21,9 +19,9 @@ impl<J: Drop, A: Allocator + Copy> Calls<J, A> {
         &self,
         rt: &R,
         cpu: &mut Cpu<B>,
-        seat: &mut CallSeat<C>,
+        seat: &mut CallSeat<J, C>,
         job: J,
-    ) -> Result<Receipt, (J, CallRefusal)>
+    ) -> Result<Receipt<J>, (J, CallRefusal)>
         requires { FitsIn self.now cpu.old seat.old }
         ensures queues { MatchResult result
             (λ receipt. QueuesIn self.now cpu.old seat.old job receipt cpu.new seat.new)
@@ -44,15 +42,15 @@ impl<J: Drop, A: Allocator + Copy> Calls<J, A> {
         &self,
         rt: &R,
         cpu: &mut Cpu<B>,
-        seat: &mut CallSeat<C>,
+        seat: &mut CallSeat<J, C>,
         processor: u16,
         max: usize,
     ) -> Result<Option<Batch<J, A>>, TakeRefusal>
         requires { MayTakeIn self.now cpu.old seat.old processor }
         ensures takes { MatchResult result
-            (λ taken. TakesIn self.now processor max cpu.old taken cpu.new)
-            (λ _. InvokesIn J self.now processor × (cpu.new ≡ cpu.old)) }
-        ensures same { IsSameCpu cpu.old cpu.new × (seat.new ≡ seat.old) }
+            (λ taken. TakesIn self.now processor max cpu.old seat.old taken cpu.new seat.new)
+            (λ _. InvokesIn processor cpu.old seat.old cpu.new seat.new) }
+        ensures same { IsSameCpu cpu.old cpu.new × IsSameSeat seat.old seat.new }
         ensures batch { IfOk result (λ taken. IfSome taken (λ batch. IsOfProcessor self.now processor batch)) }
 
         // Each job is given out after a full grace period that started behind its queueing.
@@ -70,7 +68,7 @@ impl<J: Drop, A: Allocator + Copy> Calls<J, A> {
 
     /// The batch is over, and empty: its count is added to the finished word of its processor. It waits while another
     /// thread has that processor's list.
-    pub fn finish<R: Wait, C: Allocator>(&self, rt: &R, seat: &mut CallSeat<C>, batch: Batch<J, A>)
+    pub fn finish<R: Wait, C: Allocator>(&self, rt: &R, seat: &mut CallSeat<J, C>, batch: Batch<J, A>)
         requires { MayFinishIn self.now seat.old batch }
         ensures finishes { FinishesIn self.now seat.old batch seat.new }
         ensures same { IsSameSeat seat.old seat.new }
@@ -82,15 +80,21 @@ impl<J: Drop, A: Allocator + Copy> Calls<J, A> {
     }
 
     /// How many entries of a processor are done, wait for the first and for the second number, and have none yet; and
-    /// the two numbers, 0 where there is none. What is out isn't counted. It takes no memory, so it always succeeds. It
-    /// waits while another thread has the list.
-    pub fn lens<R: Wait>(&self, rt: &R, processor: u16) -> Result<([usize; 4], [u64; 2]), Memory>
-        requires { processor < self.now.processors }
-        ensures { (l : ListView J) × IsListOf self.now processor l × (result ≡ Ok (lens l.entries, numbers l.entries)) }
+    /// the two numbers, 0 where there is none. What is out isn't counted. One load by the seat shows that this is the
+    /// processor's list. It takes no memory, so it always succeeds. It waits while another thread has the list.
+    pub fn lens<R: Wait, C: Allocator>(
+        &self,
+        rt: &R,
+        seat: &mut CallSeat<J, C>,
+        processor: u16,
+    ) -> Result<([usize; 4], [u64; 2]), Memory>
+        requires { (processor < self.now.processors) × (seat.old.tallies ≡ self.now.tallies) }
+        ensures found { IfOk result (λ found. FindsLensIn processor seat.old found seat.new) }
+        ensures ok { IsOk result }
     {
         let lock = &self.lists[processor as usize];
-        let (list, loan) = lock.take(rt);
-        let lens = list.lens();
+        let (mut list, loan) = lock.take(rt);
+        let lens = list.lens(seat);
         lock.put_back(list, loan);
         lens
     }

@@ -1,24 +1,24 @@
 //! How a job comes into the list.
-ghost use Rattle.std.specs.Prelude.{◌≡◌, MatchResult, Ok};
-ghost use Rattle.segs.specs.MarkedList.{lens, numbers};
-ghost use Rattle.calls.specs.Calls.{Fits, Queues, Refuses};
+ghost use Rattle.std.specs.Prelude.{◌≡◌, MatchResult, IfOk, IsOk};
+ghost use Rattle.calls.specs.Calls.{Fits, MayLook, Queues, Refuses, FindsLens};
 
 use super::{List, Receipt};
 use crate::entry::Entry;
 use crate::refusals::{CallRefusal, Memory};
 use crate::seat::{CallSeat, MOST_CALLS};
-use crate::tally::add_queued;
+use crate::tally::{add_queued, see_list};
 use sections::Cpu;
 use std::alloc::Allocator;
+use std::marker::Brand;
 
 impl<J, A: Allocator> List<J, A> {
     /// Queues a job (`call_srcu`), on the processor and with the seat of the list's processor.
     pub fn push<B: Allocator, C: Allocator>(
         &mut self,
         cpu: &mut Cpu<B>,
-        seat: &mut CallSeat<C>,
+        seat: &mut CallSeat<J, C>,
         job: J,
-    ) -> Result<Receipt, (J, CallRefusal)>
+    ) -> Result<Receipt<J>, (J, CallRefusal)>
         requires { Fits self.old cpu.old seat.old }
         ensures { MatchResult result
             (λ receipt. Queues self.old cpu.old seat.old job receipt self.new cpu.new seat.new)
@@ -41,7 +41,7 @@ impl<J, A: Allocator> List<J, A> {
         // Where there is a free segment, the job waits for its own cookie: for a smaller number it would be given out too
         // early.
         self.waiting.assign(number);
-        let k = add_queued(
+        let k = add_queued::<J, Brand>(
             &seat.table.shared,
             &mut seat.seat,
             &mut self.seat,
@@ -57,10 +57,18 @@ impl<J, A: Allocator> List<J, A> {
     }
 
     /// How many entries are done, wait for the first and for the second number, and have none yet; and the two numbers,
-    /// 0 where there is none. What is out isn't counted. It takes no memory, so it always succeeds.
-    pub fn lens(&self) -> Result<([usize; 4], [u64; 2]), Memory>
-        ensures { result ≡ Ok (lens self.now.entries, numbers self.now.entries) }
+    /// 0 where there is none. What is out isn't counted. The seat makes one load: so this is the list of its processor, as
+    /// it then is. It takes no memory, so it always succeeds.
+    pub fn lens<C: Allocator>(
+        &mut self,
+        seat: &mut CallSeat<J, C>,
+    ) -> Result<([usize; 4], [u64; 2]), Memory>
+        requires { MayLook self.old seat.old }
+        ensures found { IfOk result (λ found. FindsLens self.old seat.old found self.new seat.new) }
+        ensures ok { IsOk result }
     {
+        let top = &seat.table.shared;
+        see_list::<J, Brand>(top, &mut seat.seat, &mut self.seat, seat.processor);
         Ok((self.waiting.lens(), self.waiting.numbers()))
     }
 }

@@ -1,15 +1,18 @@
 //! How jobs go out of the list.
-ghost use Rattle.std.specs.Prelude.{◌≡◌, All, IfOk, IfSome, MatchResult, Some};
+ghost use Rattle.std.specs.Prelude.{◌≡◌, List, All, IfOk, IfSome, MatchResult, Some};
 ghost use Rattle.sections.specs.Calls.{AllClosed};
-ghost use Rattle.calls.specs.Waiting.{wrapped, unwrapped};
-ghost use Rattle.calls.specs.Calls.{AssignsLast, Takes, AreHanded, IsInvoking, Finishes, MayFinish, MayTake};
+ghost use Rattle.segs.specs.MarkedList.{Mark, assigned};
+ghost use Rattle.calls.specs.declared.entry.Entry.{Entry};
+ghost use Rattle.calls.specs.Lines.{last_number};
+ghost use Rattle.calls.specs.Waiting.{wrapped};
+ghost use Rattle.calls.specs.Calls.{Takes, AreHanded, FindsOut, Finishes, MayFinish, MayTake};
 
 use super::List;
 use crate::batch::Batch;
 use crate::entry::Entry;
 use crate::refusals::TakeRefusal;
 use crate::seat::CallSeat;
-use crate::tally::{add_finished, give_batch};
+use crate::tally::{add_finished, see_list, take_out};
 use sections::Cpu;
 use segs::SegList;
 use std::alloc::Allocator;
@@ -17,9 +20,8 @@ use std::marker::Brand;
 
 /// What has no number yet gets that of the cookie of the last entry: it is the greatest one.
 fn assign_last<J, A: Allocator>(waiting: &mut SegList<Option<Entry<J>>, A>)
-    requires { waiting.old.entries ≡ wrapped (unwrapped waiting.old.entries) }
-    ensures wrapping { waiting.new.entries ≡ wrapped (unwrapped waiting.new.entries) }
-    ensures assigns { AssignsLast (unwrapped waiting.old.entries) (unwrapped waiting.new.entries) }
+    requires { (es : List (Entry J × Mark)) × (waiting.old.entries ≡ wrapped es) }
+    ensures { (es : List (Entry J × Mark)) → waiting.old.entries ≡ wrapped es → waiting.new.entries ≡ wrapped (assigned (last_number es) es) }
 {
     let Some(last) = waiting.last_next() else {
         return;
@@ -31,18 +33,18 @@ fn assign_last<J, A: Allocator>(waiting: &mut SegList<Option<Entry<J>>, A>)
 
 impl<J: Drop, A: Allocator + Copy> List<J, A> {
     /// Takes out what is ready: at most `max` jobs and at most eight, the first ones first. `None` where nothing is.
-    /// Any processor of the domain may do it. It is refused, with no step, exactly where a batch is out.
+    /// Any processor of the domain may do it. It is refused exactly where a batch is out, as one load by the seat finds,
+    /// and nothing is moved.
     pub fn take<B: Allocator, C: Allocator>(
         &mut self,
         cpu: &mut Cpu<B>,
-        seat: &mut CallSeat<C>,
+        seat: &mut CallSeat<J, C>,
         max: usize,
     ) -> Result<Option<Batch<J, A>>, TakeRefusal>
         requires { MayTake self.old cpu.old seat.old }
         ensures takes { MatchResult result
-            (λ taken. Takes max self.old cpu.old taken self.new cpu.new)
-            (λ _. IsInvoking self.old × (self.new ≡ self.old) × (cpu.new ≡ cpu.old)) }
-        ensures seat { seat.new ≡ seat.old }
+            (λ taken. Takes max self.old cpu.old seat.old taken self.new cpu.new seat.new)
+            (λ _. FindsOut self.old cpu.old seat.old self.new cpu.new seat.new) }
 
         // Each job is given out after a full grace period: it was queued at the end of what its cookie has seen, and
         // the taker goes on from there and has been told that the cookie is done.
@@ -52,6 +54,8 @@ impl<J: Drop, A: Allocator + Copy> List<J, A> {
         ensures closed { IfOk result (λ taken. IfSome taken (λ batch. All (λ e. AllClosed e.cookie.seen cpu.new.seen) batch.entries)) }
     {
         if self.out {
+            let top = &seat.table.shared;
+            see_list::<J, Brand>(top, &mut seat.seat, &mut self.seat, seat.processor);
             return Err(TakeRefusal::Invoking);
         }
         // The number is loaded first: with an older one, entries would stay that are due. Then those that wait for it
@@ -61,11 +65,13 @@ impl<J: Drop, A: Allocator + Copy> List<J, A> {
         self.waiting.advance(number.get());
         assign_last(&mut self.waiting);
         let taken = self.waiting.take_done(max);
+        let top = &seat.table.shared;
+        let right =
+            take_out::<J, Brand>(top, &mut seat.seat, &mut self.seat, self.processor);
         let count = taken.len();
         if count == 0 {
             return Ok(None);
         }
-        let right = give_batch::<Brand>(&seat.table.shared, &mut self.seat, count);
         self.out = true;
         Ok(Some(Batch {
             entries: taken,
@@ -77,7 +83,7 @@ impl<J: Drop, A: Allocator + Copy> List<J, A> {
 
     /// The batch is over: its count is added to the finished word of its processor, by this seat. It is empty, and of
     /// this list.
-    pub fn finish<C: Allocator>(&mut self, seat: &mut CallSeat<C>, batch: Batch<J, A>)
+    pub fn finish<C: Allocator>(&mut self, seat: &mut CallSeat<J, C>, batch: Batch<J, A>)
         requires { MayFinish self.old seat.old batch }
         ensures { Finishes self.old seat.old batch self.new seat.new }
     {

@@ -11,10 +11,10 @@ use crate::tally::{see_all, see_batch_out, see_told};
 use std::alloc::Allocator;
 use std::marker::Brand;
 
-impl<A: Allocator> CallSeat<A> {
+impl<J, A: Allocator> CallSeat<J, A> {
     /// One load by this seat, of its own queued word. It has then seen what the other has. Only processors that are there
     /// have finished batches.
-    pub fn cover<B: Allocator>(&mut self, other: &mut CallSeat<B>)
+    pub fn cover<B: Allocator>(&mut self, other: &mut CallSeat<J, B>)
         requires { other.old.tallies ≡ self.old.tallies }
         ensures covers { Covers self.old other.old.seen self.new }
         ensures other { other.new ≡ other.old }
@@ -25,7 +25,7 @@ impl<A: Allocator> CallSeat<A> {
 
     /// One load by the other seat, of its own queued word. It has then seen just what this one has. What it had seen, this
     /// one had seen before. Only processors that are there have finished batches.
-    pub fn admit<B: Allocator>(&mut self, other: &mut CallSeat<B>)
+    pub fn admit<B: Allocator>(&mut self, other: &mut CallSeat<J, B>)
         requires tallies { other.old.tallies ≡ self.old.tallies }
         requires covered { IsBeginning other.old.seen self.old.seen }
         ensures stays { self.new ≡ self.old }
@@ -47,28 +47,28 @@ impl<A: Allocator> CallSeat<A> {
     /// One load by this seat, of its own queued word. It has then seen a moment at which the batch was out: all jobs of the
     /// batch were queued, and none of them was finished. The batch stays as it is. It takes no memory and waits for
     /// nothing.
-    pub fn see_out<J, B: Allocator>(&mut self, batch: &mut Batch<J, B>)
+    pub fn see_out<B: Allocator>(&mut self, batch: &mut Batch<J, B>)
         requires { batch.old.tallies ≡ self.old.tallies }
         ensures out { SeesOut batch.old self.old self.new }
         ensures batch { batch.new ≡ batch.old }
     {
         let top = &self.table.shared;
-        see_batch_out::<Brand>(top, &mut self.seat, &mut batch.seat, self.processor);
+        see_batch_out::<J, Brand>(top, &mut self.seat, &mut batch.seat, self.processor);
     }
 
     /// One load, by a seat that has then seen all that is noted.
-    fn see(&mut self, note: &mut Note)
+    fn see(&mut self, note: &mut Note<J>)
         requires { note.old.tallies ≡ self.old.tallies }
         ensures { Covers self.old note.old.seen self.new }
     {
         let top = &self.table.shared;
         let copy = top.split_seat::<plays::GiveNote>(&mut note.seat);
         top.join_seat::<plays::TakeNote>(&mut self.seat, copy);
-        see_all::<Brand>(top, &mut self.seat, self.processor);
+        see_all::<J, Brand>(top, &mut self.seat, self.processor);
     }
 
     /// One load, by a seat that has then seen just what is noted.
-    fn see_just(&mut self, note: &mut Note)
+    fn see_just(&mut self, note: &mut Note<J>)
         requires tallies { note.old.tallies ≡ self.old.tallies }
         requires since { IsBeginning self.old.seen note.old.seen }
         ensures { Accepts self.old note.old.seen self.new }
@@ -76,6 +76,6 @@ impl<A: Allocator> CallSeat<A> {
         let top = &self.table.shared;
         let copy = top.split_seat::<plays::GiveNote>(&mut note.seat);
         top.join_seat::<plays::TakeNote>(&mut self.seat, copy);
-        see_told::<Brand>(top, &mut self.seat, self.processor);
+        see_told::<J, Brand>(top, &mut self.seat, self.processor);
     }
 }

@@ -14,7 +14,7 @@ pub struct Totals {
     pub finished: u128,
 }
 
-impl<A: Allocator> CallSeat<A> {
+impl<J, A: Allocator> CallSeat<J, A> {
     /// Adds up the tally words: each queued word is loaded once, in the order of the processors, and then each finished
     /// word. While other processors queue or finish, the two sums may be of different moments. It takes no memory and
     /// waits for nothing.
