@@ -3,6 +3,7 @@ use Rattle.std.proofs.Common.{◌≡◌, ◌≢◌, ℕ, ◌+◌, ◌==◌, Bool
 use Rattle.std.proofs.lemmas.List.Elements.{filter-append}
 use mathlib.Core.Logic.{dite}
 use native.Mathlib.Decide.{ℕ_discrete}
+use Rattle.calls.specs.declared.entry.Entry.{Entry}
 use Rattle.calls.specs.declared.view.Act.{Act}
 use Rattle.calls.specs.declared.view.Act.TheVariants.{Queue, Finish}
 use Rattle.calls.specs.declared.view.Deed.{Deed}
@@ -17,19 +18,19 @@ many_if n b = if b then n else 0
 -- Counts
 
 module _ {J : Type 0} where
-  queued_push : (p : ℕ) (l : List (Deed J)) (d : Deed J) → queued_in p (l ++ d ∷ []) ≡ queued_in p l + queued_by p d
+  pub queued_push : (p : ℕ) (l : List (Deed J)) (d : Deed J) → queued_in p (l ++ d ∷ []) ≡ queued_in p l + queued_by p d
   queued_push p [] d = omega arith
   queued_push p (x ∷ xs) d = let r = queued_push p xs d in omega (arith, r)
 
-  finished_push : (p : ℕ) (l : List (Deed J)) (d : Deed J) → finished_in p (l ++ d ∷ []) ≡ finished_in p l + finished_by p d.act
+  pub finished_push : (p : ℕ) (l : List (Deed J)) (d : Deed J) → finished_in p (l ++ d ∷ []) ≡ finished_in p l + finished_by p d.act
   finished_push p [] d = omega arith
   finished_push p (x ∷ xs) d = let r = finished_push p xs d in omega (arith, r)
 
-  pub queued_here : (p : ℕ) (l : List (Deed J)) → queued_in p (l ++ deed p Queue ∷ []) ≡ queued_in p l + 1
-  queued_here p l = let e = queued_push p l (deed p Queue) in let b : one_if (eqb p p) ≡ 1 = ap one_if (eq-eqb p p refl) in omega (arith, e, b)
+  pub queued_here : (p : ℕ) (call : Entry J) (l : List (Deed J)) → queued_in p (l ++ deed p (Queue call) ∷ []) ≡ queued_in p l + 1
+  queued_here p call l = let e = queued_push p l (deed p (Queue call)) in let b : one_if (eqb p p) ≡ 1 = ap one_if (eq-eqb p p refl) in omega (arith, e, b)
 
-  pub queued_else : (p q : ℕ) (l : List (Deed J)) → q ≢ p → queued_in p (l ++ deed q Queue ∷ []) ≡ queued_in p l
-  queued_else p q l ne = let e = queued_push p l (deed q Queue) in let b : one_if (eqb q p) ≡ 0 = ap one_if (ne_eqb q p ne) in omega (arith, e, b)
+  pub queued_else : (p q : ℕ) (call : Entry J) (l : List (Deed J)) → q ≢ p → queued_in p (l ++ deed q (Queue call) ∷ []) ≡ queued_in p l
+  queued_else p q call l ne = let e = queued_push p l (deed q (Queue call)) in let b : one_if (eqb q p) ≡ 0 = ap one_if (ne_eqb q p ne) in omega (arith, e, b)
 
   -- no other act changes it
   pub queued_still : (p : ℕ) (l : List (Deed J)) (c : ℕ) (act : Act J) → is_queue act ≡ false → queued_in p (l ++ deed c act ∷ []) ≡ queued_in p l

@@ -18,15 +18,16 @@ use Rattle.calls.proofs.Counting.{begins_empty, begins_itself}
 use Rattle.calls.proofs.Founding.{all_zero}
 use Rattle.calls.proofs.Loading.{queued_later, finished_later}
 
-pub one_history : OneHistory
-one_history plan s r = record {
-  log = r.books.log;
-  loads = r.loads;
-  queued = r.queued;
-  finished = r.finished;
-  within = λ p. let within = (r.counted p).within in omega (arith, within);
-  seen = λ j v at. (r.each_view j v at).seen;
-}
+module _ {J : Type 0} where
+  pub one_history : OneHistory J
+  one_history plan s r = record {
+    log = r.books.log;
+    loads = r.loads;
+    queued = r.queued;
+    finished = r.finished;
+    within = λ p. let all = (r.counted p).all in omega (arith, all);
+    seen = λ j v at. (r.each_view j v at).seen;
+  }
 
 -- processor 0 has done nothing, and processor 1 has loaded a word
 
@@ -46,7 +47,7 @@ callers (suc p) = 1
 
 module _ {J : Type 0} where
   abbrev books : Books J
-  books = record { log = first_load ∷ []; out_of = λ _. None; caller_at = callers; list_at = λ _. 3; batch_at = λ _. 3 }
+  books = record { log = first_load ∷ []; caller_at = callers; list_at = λ _. 3; batch_at = λ _. 3 }
 
   three_fit : (plan : Plan) (j : ℕ) (v : View J) → get_elem? (three_seats plan).views j ≡ some v → Fits books j v
   unfolding callers
@@ -73,54 +74,57 @@ module _ {J : Type 0} where
   }
   three_fit plan (suc (suc (suc j))) v e = absurd (some-ne-none v (sym e))
 
-none_queued : (p : ℕ) → queued_in p (first_load ∷ []) ≡ 0
-none_queued p = omega arith
+module _ (J : Type 0) where
+  none_queued : (p : ℕ) → queued_in {J = J} p (first_load ∷ []) ≡ 0
+  none_queued p = omega arith
 
-none_finished : (p : ℕ) → finished_in p (first_load ∷ []) ≡ 0
-none_finished p = omega arith
+  none_finished : (p : ℕ) → finished_in {J = J} p (first_load ∷ []) ≡ 0
+  none_finished p = omega arith
 
-three_kept : (plan : Plan) → Kept plan (three_seats plan)
-three_kept plan = record {
-  books = books;
-  loads = (refl, tt);
-  finishers = (tt, tt);
-  counted = λ p. let q = none_queued p in let f = none_finished p in record { within = omega (arith, q, f); few = omega (arith, q) };
-  wide = length-replicate (word_count plan.processors) 0;
-  queued = λ p _. all_zero (word_count plan.processors) (replicate (word_count plan.processors) 0) refl (queued_place p) ∙ sym (none_queued p);
-  finished = λ p _. all_zero (word_count plan.processors) (replicate (word_count plan.processors) 0) refl (finished_place p) ∙ sym (none_finished p);
-  each_view = three_fit plan;
-}
+module _ {J : Type 0} where
+  three_kept : (plan : Plan) → Kept {J = J} plan (three_seats plan)
+  three_kept plan = record {
+    books = books;
+    loads = (refl, tt);
+    finishers = (tt, tt);
+    counted = λ p. let q = none_queued J p in let f = none_finished J p in record { all = omega (arith, q, f); few = omega (arith, q) };
+    wide = length-replicate (word_count plan.processors) 0;
+    queued = λ p _. all_zero (word_count plan.processors) (replicate (word_count plan.processors) 0) refl (queued_place p) ∙ sym (none_queued J p);
+    finished = λ p _. all_zero (word_count plan.processors) (replicate (word_count plan.processors) 0) refl (finished_place p) ∙ sym (none_finished J p);
+    each_view = three_fit plan;
+  }
 
 module _ {J : Type 0} where
   one_head : (d e : Deed J) (log : List (Deed J)) → IsBeginning (d ∷ []) log → IsBeginning (e ∷ []) log → d.by ≡ e.by
   one_head d e log a b = let same : d ∷ a.rest ≡ e ∷ b.rest = sym a.whole ∙ b.whole in let head : d ≡ e = cc in ap (λ x. x.by) head
 
   -- nobody has a deed of processor 0's where processor 1 has done one
-  not_claimed : (plan : Plan) (views : List (View J)) (r : Kept plan record { words = (three_seats plan).words; homes = []; views = views }) (d : Deed J) (j : ℕ) (v : View J) → d.by ≡ 0 → v.seen ≡ d ∷ [] → get_elem? views 1 ≡ some one_that_looked → get_elem? views j ≡ some v → ⊥
+  not_claimed : (plan : Plan) (views : List (View J)) (r : Kept plan record { words = (three_seats {J = J} plan).words; homes = []; views = views }) (d : Deed J) (j : ℕ) (v : View J) → d.by ≡ 0 → v.seen ≡ d ∷ [] → get_elem? views 1 ≡ some one_that_looked → get_elem? views j ≡ some v → ⊥
   not_claimed plan views r d j v by claims other at =
       let mine : IsBeginning (d ∷ []) r.books.log = subst (λ (l : List (Deed J)). IsBeginning l r.books.log) claims (r.each_view j v at).seen in
       let same : 0 ≡ 1 = sym by ∙ one_head d first_load r.books.log mine (r.each_view 1 one_that_looked other).seen in
       absurd (omega (arith, same))
 
-pub never_forged : NeverForged
-never_forged = record {
-  splits = λ plan d left right by claims splits. let r = splits (three_seats plan) (three_kept plan) refl in ⊎_elim
-      (λ c. not_claimed plan _ r d 0 left by c refl refl)
-      (λ c. not_claimed plan _ r d 3 right by c refl refl)
-      claims;
-  joins = λ plan d both spent by claims joins. let r = joins (three_seats plan) (three_kept plan) refl (λ e. omega (arith, e)) refl in ⊎_elim
-      (λ c. not_claimed plan _ r d 0 both by c refl refl)
-      (λ c. not_claimed plan _ r d 2 spent by c refl refl)
-      claims;
-}
+module _ {J : Type 0} where
+  pub never_forged : NeverForged J
+  never_forged = record {
+    splits = λ plan d left right by claims splits. let r = splits (three_seats plan) (three_kept plan) refl in ⊎_elim
+        (λ c. not_claimed plan _ r d 0 left by c refl refl)
+        (λ c. not_claimed plan _ r d 3 right by c refl refl)
+        claims;
+    joins = λ plan d both spent by claims joins. let r = joins (three_seats plan) (three_kept plan) refl (λ e. omega (arith, e)) refl in ⊎_elim
+        (λ c. not_claimed plan _ r d 0 both by c refl refl)
+        (λ c. not_claimed plan _ r d 2 spent by c refl refl)
+        claims;
+  }
 
--- Barriers
+  -- Barriers
 
-pub stays_queued : StaysQueued
-stays_queued r seen later on is = let more = queued_later r.processor on in omega (arith, more, is)
+  pub stays_queued : StaysQueued J
+  stays_queued r seen later on is = let more = queued_later r.processor on in omega (arith, more, is)
 
-pub stays_finished : StaysFinished
-stays_finished r seen later on is = let more = finished_later r.processor on in omega (arith, more, is)
+  pub stays_finished : StaysFinished J
+  stays_finished r seen later on is = let more = finished_later r.processor on in omega (arith, more, is)
 
-pub barriers_cover : BarriersCover
-barriers_cover r s t s' seen starts there queued done = let number = starts.not_below r.processor there in let reached = done r.processor in omega (arith, number, reached, queued)
+  pub barriers_cover : BarriersCover J
+  barriers_cover r s t s' seen starts there queued done = let number = starts.not_below r.processor there in let reached = done r.processor in omega (arith, number, reached, queued)

@@ -16,8 +16,9 @@ use Rattle.sections.specs.Views.{CpuView, CookieView}
 use Rattle.sections.specs.Calls.{AllClosed}
 use Rattle.sections.specs.Sights.{SightView, GivesCookieBehind, AsksHowFar}
 use Rattle.sections.proofs.CallerLemmas.{closed_behind}
-use Rattle.segs.specs.MarkedList.{Mark, Done, At, Next, number_of, marked, remarked, awaited, number_given, next_becomes, assigned, reached, advanced, EndsInNext}
+use Rattle.segs.specs.MarkedList.{Mark, Done, At, Next, number_of, marked, remarked, awaited, number_given, next_becomes, assigned, reached, advanced}
 use Rattle.calls.specs.declared.entry.Entry.{Entry}
+use Rattle.calls.specs.Lines.{last_number}
 use Rattle.calls.specs.Waiting.{IsReached, IsDue, IsWaiting, AreRising, AreWaiting}
 use Rattle.calls.specs.Calls.{IsHanded}
 
@@ -133,13 +134,19 @@ module _ {J : Type 0} where
   rising_push (x ∷ xs) e h all = (All-push (λ (f : Entry J × Mark). x.0.cookie.number ≤ f.0.cookie.number) xs e h.0 (All-head (λ (f : Entry J × Mark). f.0.cookie.number ≤ e.0.cookie.number) x xs all), rising_push xs e h.1 (All-tail (λ (f : Entry J × Mark). f.0.cookie.number ≤ e.0.cookie.number) x xs all))
 
   -- no cookie is greater than the last one
-  rising_last : (l : List (Entry J × Mark)) (e : Entry J × Mark) → AreRising (l ++ e ∷ []) → All (λ (f : Entry J × Mark). f.0.cookie.number ≤ e.0.cookie.number) (l ++ e ∷ [])
-  rising_last [] e h = All-cons (λ (f : Entry J × Mark). f.0.cookie.number ≤ e.0.cookie.number) e [] (omega arith) (All-nil (λ (f : Entry J × Mark). f.0.cookie.number ≤ e.0.cookie.number))
-  rising_last (x ∷ xs) e h = All-cons (λ (f : Entry J × Mark). f.0.cookie.number ≤ e.0.cookie.number) x (xs ++ e ∷ []) (last_of xs h.0) (rising_last xs e h.1)
+  last_greatest : (l : List (Entry J × Mark)) → AreRising l → All (λ (f : Entry J × Mark). f.0.cookie.number ≤ last_number l) l
+  last_greatest [] h = All-nil (λ (f : Entry J × Mark). f.0.cookie.number ≤ 0)
+  last_greatest (e ∷ []) h = All-cons (λ (f : Entry J × Mark). f.0.cookie.number ≤ e.0.cookie.number) e [] (omega arith) (All-nil (λ (f : Entry J × Mark). f.0.cookie.number ≤ e.0.cookie.number))
+  last_greatest (e ∷ f ∷ es) h = All-cons (λ (g : Entry J × Mark). g.0.cookie.number ≤ last_number (f ∷ es)) e (f ∷ es) (last_over f es h.0) (last_greatest (f ∷ es) h.1)
     where
-      last_of : (ys : List (Entry J × Mark)) → All (λ (f : Entry J × Mark). x.0.cookie.number ≤ f.0.cookie.number) (ys ++ e ∷ []) → x.0.cookie.number ≤ e.0.cookie.number
-      last_of [] all = All-head (λ (f : Entry J × Mark). x.0.cookie.number ≤ f.0.cookie.number) e [] all
-      last_of (y ∷ ys) all = last_of ys (All-tail (λ (f : Entry J × Mark). x.0.cookie.number ≤ f.0.cookie.number) y (ys ++ e ∷ []) all)
+      last_over : (f : Entry J × Mark) (es : List (Entry J × Mark)) → All (λ (g : Entry J × Mark). e.0.cookie.number ≤ g.0.cookie.number) (f ∷ es) → e.0.cookie.number ≤ last_number (f ∷ es)
+      last_over f [] all = All-head (λ (g : Entry J × Mark). e.0.cookie.number ≤ g.0.cookie.number) f [] all
+      last_over f (g ∷ gs) all = last_over g gs (All-tail (λ (x : Entry J × Mark). e.0.cookie.number ≤ x.0.cookie.number) f (g ∷ gs) all)
+
+  last_whole : (s : SightView) (l : List (Entry J × Mark)) → All (IsWaiting s) l → last_number l % 4 ≡ 0
+  last_whole s [] all = refl
+  last_whole s (e ∷ []) all = (All-head (IsWaiting s) e [] all).whole
+  last_whole s (e ∷ f ∷ es) all = last_whole s (f ∷ es) (All-tail (IsWaiting s) e (f ∷ es) all)
 
   rising_remarked : (change : Mark → Mark) (l : List (Entry J × Mark)) → AreRising l → AreRising (remarked change l)
   rising_remarked change [] h = tt
@@ -179,15 +186,8 @@ module _ {J : Type 0} where
       (λ e w le. due_becomes s.seen e.0.cookie.number (number_given n (awaited l)) e.1 (given_due s.seen e.0.cookie.number n (awaited l) le whole (All-dedup (λ a b. eqb a b) (λ k. k % 4 ≡ 0) (filter_map (λ (x : Entry J × Mark). number_of x.1) l) (numbers_whole s l h.each))) w.due) l h low
 
   -- by the cookie of the last entry
-  pub last_waiting : (s : SightView) (l : List (Entry J × Mark)) (e : Entry J) → EndsInNext l e → AreWaiting s l → AreWaiting s (assigned e.cookie.number l)
-  last_waiting s l e ends h = assigned_waiting s e.cookie.number l
-      (All-head (λ (f : Entry J × Mark). f.0.cookie.number % 4 ≡ 0) (e, Next) [] (back ends.0 (subst (λ (z : List (Entry J × Mark)). All (λ (f : Entry J × Mark). f.0.cookie.number % 4 ≡ 0) z) ends.1 (All-weaker (IsWaiting s) (λ (f : Entry J × Mark). f.0.cookie.number % 4 ≡ 0) (λ f w. w.whole) l h.each))))
-      (subst (λ (z : List (Entry J × Mark)). All (λ (f : Entry J × Mark). f.0.cookie.number ≤ e.cookie.number) z) (sym ends.1) (rising_last ends.0 (e, Next) (subst (λ (z : List (Entry J × Mark)). AreRising z) ends.1 h.rising)))
-      h
-    where
-      back : (front : List (Entry J × Mark)) → All (λ (f : Entry J × Mark). f.0.cookie.number % 4 ≡ 0) (front ++ (e, Next) ∷ []) → All (λ (f : Entry J × Mark). f.0.cookie.number % 4 ≡ 0) ((e, Next) ∷ [])
-      back [] all = all
-      back (x ∷ xs) all = back xs (All-tail (λ (f : Entry J × Mark). f.0.cookie.number % 4 ≡ 0) x (xs ++ (e, Next) ∷ []) all)
+  pub last_waiting : (s : SightView) (l : List (Entry J × Mark)) → AreWaiting s l → AreWaiting s (assigned (last_number l) l)
+  last_waiting s l h = assigned_waiting s (last_number l) l (last_whole s l h.each) (last_greatest l h.rising) h
 
   -- Queueing
 

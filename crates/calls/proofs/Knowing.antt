@@ -1,5 +1,5 @@
 -- What seats know of the tally words, while more is done there and seats change.
-use Rattle.std.proofs.Common.{◌≡◌, ◌≢◌, ℕ, zero, suc, ◌⊎◌, cond, eqb, List, [], ◌∷◌, ◌++◌, Option, set, length, inl, inr, ⊎_elim, sym, ap, ◌∙◌, subst, eq-eqb, ne_eqb, refl, length-set, arith}
+use Rattle.std.proofs.Common.{◌≡◌, ◌≢◌, ℕ, zero, suc, ◌⊎◌, cond, eqb, List, [], ◌∷◌, ◌++◌, Option, Some, set, length, inl, inr, ⊎_elim, sym, ap, ◌∙◌, subst, eq-eqb, ne_eqb, refl, length-set, arith}
 use mathlib.Core.Option.{some, some-injective, some-ne-none}
 use lib.ListN.{get_elem?}
 use Rattle.atomic_table.proofs.Lists.{at_set}
@@ -11,6 +11,7 @@ use Rattle.calls.specs.declared.view.ListRight.TheVariants.{NoList, OfList}
 use Rattle.calls.specs.declared.view.BatchRight.{BatchRight}
 use Rattle.calls.specs.declared.view.BatchRight.TheVariants.{NoBatch, OfBatch}
 use Rattle.calls.specs.declared.view.View.{View}
+use Rattle.calls.specs.Lines.{Line, line_in}
 use Rattle.calls.specs.Tallies.{queued_in, finished_in}
 use Rattle.calls.specs.Rule.{Books, IsUndealt, Makes, HasList, HasBatch, Fits}
 use Rattle.calls.proofs.Counting.{deeds_else, begins_pushed}
@@ -52,17 +53,17 @@ given_else p a f q n = ap (λ b. cond b a (f q)) (ne_eqb q p n)
 -- One more deed
 
 module _ {J : Type 0} where
-  abbrev pub moved : Books J → Deed J → (ℕ → Option ℕ) → Books J
-  moved b d out = record b { log = b.log ++ d ∷ []; out_of = out }
+  abbrev pub moved : Books J → Deed J → (ℕ → ℕ) → Books J
+  moved b d batch = record b { log = b.log ++ d ∷ []; batch_at = batch }
 
   -- of this processor nothing has changed
   pub record Untouched (b c : Books J) (p : ℕ) : Type 0 where
     pub queued : queued_in p c.log ≡ queued_in p b.log
     pub finished : finished_in p c.log ≡ finished_in p b.log
-    pub out : c.out_of p ≡ b.out_of p
+    pub line : line_in p c.log ≡ line_in p b.log
 
-module _ {J : Type 0} (b : Books J) (d : Deed J) (out : ℕ → Option ℕ) (id j : ℕ) (here : b.caller_at d.by ≡ id) (ne : j ≢ id) (lists : (p : ℕ) → b.list_at p ≢ id → Untouched b (moved b d out) p) where
-  makes_else : (seen : List (Deed J)) (who : Who) → Makes b j seen who → Makes (moved b d out) j seen who
+module _ {J : Type 0} (b : Books J) (d : Deed J) (batch : ℕ → ℕ) (id j : ℕ) (here : b.caller_at d.by ≡ id) (ne : j ≢ id) (lists : (p : ℕ) → b.list_at p ≢ id → Untouched b (moved b d batch) p) where
+  makes_else : (seen : List (Deed J)) (who : Who) → Makes b j seen who → Makes (moved b d batch) j seen who
   makes_else seen Nobody h = tt
   makes_else seen (Caller p) h = (h.0, h.1 ∙ sym (deeds_else p b.log d (λ e. ne (sym h.0 ∙ (ap b.caller_at (sym e) ∙ here)))))
   makes_else seen (Dealer k) h = λ p le. let u : IsUndealt b j p = h p le in let t = lists p (λ e. ne (sym u.list ∙ e)) in record {
@@ -71,17 +72,19 @@ module _ {J : Type 0} (b : Books J) (d : Deed J) (out : ℕ → Option ℕ) (id 
     nothing = deeds_else p b.log d (λ e. ne (sym u.caller ∙ (ap b.caller_at (sym e) ∙ here))) ∙ u.nothing;
     queued = t.queued ∙ u.queued;
     finished = t.finished ∙ u.finished;
-    out = t.out ∙ u.out;
+    line = t.line ∙ u.line;
   }
 
-  list_else : (right : ListRight J) → HasList b j right → HasList (moved b d out) j right
+  list_else : (right : ListRight J) → HasList b j right → HasList (moved b d batch) j right
   list_else NoList h = tt
-  list_else (OfList p q f o) h = let t = lists p (λ e. ne (sym h.0 ∙ e)) in (h.0, h.1 ∙ sym t.queued, h.2 ∙ sym t.finished, h.3 ∙ sym t.out)
+  list_else (OfList p q f o w) h = let t = lists p (λ e. ne (sym h.0 ∙ e)) in (h.0, h.1 ∙ sym t.queued, h.2 ∙ sym t.finished, h.3 ∙ ap (λ (z : Line J). z.out) (sym t.line), h.4 ∙ ap (λ (z : Line J). z.waiting) (sym t.line))
 
-  batch_else : ((p : ℕ) → b.batch_at p ≢ id → (finished_in p (moved b d out).log ≡ finished_in p b.log) × (out p ≡ b.out_of p)) → (right : BatchRight) → HasBatch b j right → HasBatch (moved b d out) j right
+  batch_else : ((p n : ℕ) → b.batch_at p ≡ j → (line_in p b.log).out ≡ Some n → (batch p ≡ j) × (finished_in p (moved b d batch).log ≡ finished_in p b.log) × ((line_in p (moved b d batch).log).out ≡ Some n))
+      → (right : BatchRight) → HasBatch b j right → HasBatch (moved b d batch) j right
   batch_else batches NoBatch h = tt
-  batch_else batches (OfBatch p f n) h = let t = batches p (λ e. ne (sym h.0 ∙ e)) in (h.0, h.1 ∙ sym t.0, t.1 ∙ h.2)
+  batch_else batches (OfBatch p f n) h = let t = batches p n h.0 h.2 in (t.0, h.1 ∙ sym t.1, t.2)
 
   -- another seat knows what it knew
-  pub fits_else : ((p : ℕ) → b.batch_at p ≢ id → (finished_in p (moved b d out).log ≡ finished_in p b.log) × (out p ≡ b.out_of p)) → (v : View J) → Fits b j v → Fits (moved b d out) j v
+  pub fits_else : ((p n : ℕ) → b.batch_at p ≡ j → (line_in p b.log).out ≡ Some n → (batch p ≡ j) × (finished_in p (moved b d batch).log ≡ finished_in p b.log) × ((line_in p (moved b d batch).log).out ≡ Some n))
+      → (v : View J) → Fits b j v → Fits (moved b d batch) j v
   fits_else batches v h = record { seen = begins_pushed d h.seen; told = begins_pushed d h.told; makes = makes_else v.seen v.who h.makes; list = list_else v.list h.list; batch = batch_else batches v.batch h.batch }

@@ -1,4 +1,5 @@
 mod Counting
+mod Lining
 mod Knowing
 mod Steps
 mod Looking
@@ -7,6 +8,7 @@ mod Meeting
 mod Totalling
 pub mod CallerLemmas
 mod Forging
+mod Once
 mod Sharing
 mod Seating
 mod Wrapping

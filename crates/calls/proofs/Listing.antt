@@ -1,40 +1,28 @@
 -- The list's type keeps what it says of its fields.
-use Rattle.std.proofs.Common.{◌≡◌, ℕ, suc, ◌+◌, ◌<◌, ◌↔◌, min, IsTrue, Bool, true, false, List, [], ◌∷◌, ◌++◌, All, Option, Some, None, map, length, ⊎_elim, refl, sym, ap, ◌∙◌, subst, arith}
+use Rattle.std.proofs.Common.{◌≡◌, ℕ, suc, ◌+◌, ◌↔◌, IsTrue, Bool, true, false, List, [], ◌∷◌, ◌++◌, All, Option, Some, None, map, length, drop, refl, sym, ap, ◌∙◌, subst}
 use Rattle.std.specs.Prelude.{IsSome}
+use Rattle.std.proofs.Math.Seq.{drop-append_seam}
 use Rattle.std.proofs.lemmas.List.{length-append}
 use Rattle.onedom.specs.Histories.{IsBeginning}
 use Rattle.sections.specs.Views.{CpuView}
 use Rattle.sections.specs.Sights.{SightView, AsksHowFar}
-use Rattle.segs.specs.MarkedList.{Mark, Done, Next, marked, remarked, awaited, number_given, next_becomes, assigned, reached, advanced, count_done, count_next, EndsInNext}
+use Rattle.segs.specs.MarkedList.{Mark, Done, Next, marked, remarked, awaited, number_given, next_becomes, assigned, reached, advanced, count_done}
 use Rattle.calls.specs.declared.entry.Entry.{Entry}
 use Rattle.calls.specs.declared.view.BatchRight.TheVariants.{OfBatch}
-use Rattle.calls.specs.declared.list.List.TheInside as list
-use Rattle.calls.specs.Tallies.{finished_place}
-use Rattle.calls.specs.Rule.{count_out, batch_seat}
-use Rattle.calls.specs.Seats.{Place, IsListSeat, IsBatchSeat, list_of, queued_known, finished_known, out_known, first_known}
-use Rattle.calls.specs.Waiting.{AreWaiting, wrapped, unwrapped, entries_of}
+use Rattle.calls.specs.Lines.{some_out, with_taken, last_number, readied, many_ready}
+use Rattle.calls.specs.Rule.{batch_seat}
+use Rattle.calls.specs.Plays.{line_of}
+use Rattle.calls.specs.Seats.{Place, IsListSeat, IsBatchSeat, list_of, queued_known, finished_known, out_known, waiting_known, first_known}
+use Rattle.calls.specs.Waiting.{AreWaiting, wrapped, GoesOut}
 use Rattle.calls.specs.Views.{ListView, BatchView}
-use Rattle.calls.specs.Calls.{AssignsLast, IsTaken}
-use Rattle.calls.specs.Insides.{IsList}
-use Rattle.calls.proofs.Wrapping.{unwrap_wrap, wrapped_push, assigned_wrapped, advanced_wrapped, count_done_wrapped, split_wrapped, items_length}
+use Rattle.calls.specs.Calls.{IsTaken}
+use Rattle.calls.proofs.Wrapping.{wrapped_push, assigned_wrapped, advanced_wrapped, count_done_wrapped, split_wrapped, items_length}
 use Rattle.calls.proofs.Keeping.{moved_waiting, last_waiting, remarked_each, since_each}
+use Rattle.calls.proofs.Lining.{length_readied}
 
 module _ {J : Type 0} where
-  pub list_seat_is : (seat : Place J) (p q f : ℕ) (o : Option ℕ) → seat.me ≡ (list_of p q f o, []) → IsListSeat seat.table_id p seat
-  list_seat_is seat p q f o h = record { seated = refl; me = h ∙ ap (λ m. (list_of p (queued_known m.0.list) (finished_known m.0.list) (out_known m.0.list), [])) (sym h) }
-
-module _ {J A : Type 0} where
-  -- the list has these entries
-  pub list_from : (l : list.Inside J A) (u : List (Entry J × Mark)) → l.waiting.entries ≡ wrapped u → IsListSeat l.seat.table_id l.processor l.seat → AreWaiting l.sight u
-      → queued_known l.seat.me.0.list ≡ finished_known l.seat.me.0.list + count_out (out_known l.seat.me.0.list) + length u → (IsTrue l.out ↔ IsSome (out_known l.seat.me.0.list)) → finished_place l.processor < l.seat.table_id.words → IsList l
-  list_from l u is seated waiting numbered out there = let same : unwrapped l.waiting.entries ≡ u = ap unwrapped is ∙ unwrap_wrap u in record {
-    seated = seated;
-    wrapping = is ∙ ap wrapped (sym same);
-    waiting = subst (AreWaiting l.sight) (sym same) waiting;
-    numbered = subst (λ (z : List (Entry J × Mark)). queued_known l.seat.me.0.list ≡ finished_known l.seat.me.0.list + count_out (out_known l.seat.me.0.list) + length z) (sym same) numbered;
-    out = out;
-    there = there;
-  }
+  pub list_seat_is : (seat : Place J) (p q f : ℕ) (o : Option ℕ) (w : List (Entry J × Mark)) → seat.me ≡ (list_of p q f o w, []) → IsListSeat seat.table_id p seat
+  list_seat_is seat p q f o w h = record { seated = refl; me = h ∙ ap (λ m. (list_of p (queued_known m.0.list) (finished_known m.0.list) (out_known m.0.list) (waiting_known m.0.list), [])) (sym h) }
 
 module _ {J : Type 0} where
   pub entries_queued : (old new : List (Option (Entry J) × Mark)) (u : List (Entry J × Mark)) (e : Entry J) (n : ℕ) → old ≡ wrapped u → new ≡ assigned n (old ++ (Some e, Next) ∷ []) → new ≡ wrapped (assigned n (u ++ (e, Next) ∷ []))
@@ -45,13 +33,6 @@ module _ {J : Type 0} where
 
   pub entries_assigned : (old new : List (Option (Entry J) × Mark)) (u : List (Entry J × Mark)) (n : ℕ) → old ≡ wrapped u → new ≡ assigned n old → new ≡ wrapped (assigned n u)
   entries_assigned old new u n was is = is ∙ (ap (assigned n) was ∙ assigned_wrapped n u)
-
-  pub length_remarked : (change : Mark → Mark) (l : List (Entry J × Mark)) → length (remarked change l) ≡ length l
-  length_remarked change [] = refl
-  length_remarked change (x ∷ xs) = ap suc (length_remarked change xs)
-
-  pub length_pushed : (l : List (Entry J × Mark)) (e : Entry J × Mark) → length (l ++ e ∷ []) ≡ length l + 1
-  length_pushed l e = length-append l (e ∷ [])
 
 module _ {J : Type 0} where
   pub batch_seat_is : (seat : Place J) (p f n : ℕ) → seat.me ≡ (batch_seat (OfBatch p f n), []) → IsBatchSeat seat.table_id p n seat
@@ -73,63 +54,52 @@ not_out o e = subst (λ (z : Option ℕ). IsTrue false ↔ IsSome z) (sym e) ((�
 
 module _ {J : Type 0} where
   -- what a take did to the entries of a list
-  pub record IsMoved (u : List (Entry J × Mark)) (s s' : SightView) (n max : ℕ) (items : List (Option (Entry J))) (rest : List (Option (Entry J) × Mark)) : Type 0 where
-    pub moved : List (Entry J × Mark)
-    pub assigns : AssignsLast (advanced n u) moved
-    pub in_order : moved ≡ marked Done (entries_of items) ++ unwrapped rest
-    pub many : length (entries_of items) ≡ min (min max 8) (count_done moved)
-    pub items_are : items ≡ map Some (entries_of items)
-    pub rest_is : rest ≡ wrapped (unwrapped rest)
-    pub waiting : AreWaiting s' (marked Done (entries_of items) ++ unwrapped rest)
-    pub since : All (λ (e : Entry J × Mark). IsBeginning e.0.cookie.seen s.seen) (marked Done (entries_of items) ++ unwrapped rest)
-    pub long : length (entries_of items) + length (unwrapped rest) ≡ length u
+  pub record IsMoved (u : List (Entry J × Mark)) (s s' : SightView) (gone : List (Entry J)) (rest : List (Entry J × Mark)) : Type 0 where
+    pub waiting : AreWaiting s' (marked Done gone ++ rest)
+    pub since : All (λ (e : Entry J × Mark). IsBeginning e.0.cookie.seen s.seen) (marked Done gone ++ rest)
+    pub long : length gone + length rest ≡ length u
 
-  -- what a step of it keeps
-  record IsKept (u : List (Entry J × Mark)) (s s' : SightView) (v : List (Entry J × Mark)) : Type 0 where
-    waiting : AreWaiting s' v
-    since : All (λ (e : Entry J × Mark). IsBeginning e.0.cookie.seen s.seen) v
-    long : length v ≡ length u
+  length_marked : (l : List (Entry J)) → length (marked Done l) ≡ length l
+  length_marked [] = refl
+  length_marked (x ∷ xs) = ap suc (length_marked xs)
 
-  kept_assigned : (u : List (Entry J × Mark)) (s s' : SightView) (v w : List (Entry J × Mark)) → AssignsLast v w → IsKept u s s' v → IsKept u s s' w
-  kept_assigned u s s' v w a h = ⊎_elim
-      (λ (t : (count_next v ≡ 0) × (w ≡ v)). subst (λ (z : List (Entry J × Mark)). IsKept u s s' z) (sym t.1) h)
-      (λ (t : (e : Entry J) × EndsInNext v e × (w ≡ assigned e.cookie.number v)). subst (λ (z : List (Entry J × Mark)). IsKept u s s' z) (sym t.2) record {
-        waiting = last_waiting s' v t.0 t.1 h.waiting;
-        since = remarked_each (λ (e : Entry J). IsBeginning e.cookie.seen s.seen) (next_becomes (number_given t.0.cookie.number (awaited v))) v h.since;
-        long = length_remarked (next_becomes (number_given t.0.cookie.number (awaited v))) v ∙ h.long;
-      })
-      a
+  -- the last one is the same
+  pub last_remarked : (change : Mark → Mark) (l : List (Entry J × Mark)) → last_number (remarked change l) ≡ last_number l
+  last_remarked change [] = refl
+  last_remarked change (e ∷ []) = refl
+  last_remarked change (e ∷ f ∷ es) = last_remarked change (f ∷ es)
 
-  pub moves : (old adv ass rest : List (Option (Entry J) × Mark)) (items : List (Option (Entry J))) (s s' : SightView) (c d : CpuView) (n m max : ℕ) → old ≡ wrapped (unwrapped old) → AreWaiting s (unwrapped old) → c.domain ≡ s.domain → AsksHowFar n s c d s' → m ≡ n
-      → adv ≡ advanced m old → ass ≡ wrapped (unwrapped ass) → AssignsLast (unwrapped adv) (unwrapped ass) → ass ≡ marked Done items ++ rest → length items ≡ min (min max 8) (count_done ass) → IsMoved (unwrapped old) s s' n max items rest
-  moves old adv ass rest items s s' c d n m max wrapping h domain asks same is wrapped' assigns order many =
-      let u : List (Entry J × Mark) = unwrapped old in
-      let v : List (Entry J × Mark) = unwrapped ass in
-      let advanced_is : unwrapped adv ≡ advanced n u = ap unwrapped (entries_advanced old adv u n wrapping (is ∙ ap (λ (z : ℕ). advanced z old) same)) ∙ unwrap_wrap (advanced n u) in
-      let a : AssignsLast (advanced n u) v = subst (λ (z : List (Entry J × Mark)). AssignsLast z v) advanced_is assigns in
-      let k : IsKept u s s' (advanced n u) = record {
-        waiting = moved_waiting n s s' c d u domain asks h;
-        since = remarked_each (λ (e : Entry J). IsBeginning e.cookie.seen s.seen) (reached n) u (since_each s u h);
-        long = length_remarked (reached n) u;
-      } in
-      let kept : IsKept u s s' v = kept_assigned u s s' (advanced n u) v a k in
-      let cut = split_wrapped items rest v (sym wrapped' ∙ order) in
-      let whole : length v ≡ length (entries_of items) + length (unwrapped rest) = ap length cut.whole ∙ (length-append (marked Done (entries_of items)) (unwrapped rest) ∙ ap (λ (z : ℕ). z + length (unwrapped rest)) (length_marked (entries_of items))) in
+  pub moves : (u : List (Entry J × Mark)) (s s' : SightView) (c d : CpuView) (n : ℕ) (gone : List (Entry J)) (rest : List (Entry J × Mark)) → AreWaiting s u → c.domain ≡ s.domain → AsksHowFar n s c d s' → readied n u ≡ marked Done gone ++ rest → IsMoved u s s' gone rest
+  moves u s s' c d n gone rest h domain asks order =
+      let adv : List (Entry J × Mark) = advanced n u in
+      let waiting : AreWaiting s' (readied n u) = subst (λ (k : ℕ). AreWaiting s' (assigned k adv)) (last_remarked (reached n) u) (last_waiting s' adv (moved_waiting n s s' c d u domain asks h)) in
+      let since : All (λ (e : Entry J × Mark). IsBeginning e.0.cookie.seen s.seen) (readied n u) = remarked_each (λ (e : Entry J). IsBeginning e.cookie.seen s.seen) (next_becomes (number_given (last_number u) (awaited adv))) adv (remarked_each (λ (e : Entry J). IsBeginning e.cookie.seen s.seen) (reached n) u (since_each s u h)) in
       record {
-        moved = v;
-        assigns = a;
-        in_order = cut.whole;
-        many = sym (items_length items cut.items_are) ∙ (many ∙ ap (λ (z : ℕ). min (min max 8) z) (ap count_done wrapped' ∙ count_done_wrapped v));
-        items_are = cut.items_are;
-        rest_is = cut.rest_is;
-        waiting = subst (AreWaiting s') cut.whole kept.waiting;
-        since = subst (λ (z : List (Entry J × Mark)). All (λ (e : Entry J × Mark). IsBeginning e.0.cookie.seen s.seen) z) cut.whole kept.since;
-        long = sym whole ∙ kept.long;
+        waiting = subst (AreWaiting s') order waiting;
+        since = subst (λ (z : List (Entry J × Mark)). All (λ (e : Entry J × Mark). IsBeginning e.0.cookie.seen s.seen) z) order since;
+        long = ap (λ (k : ℕ). k + length rest) (sym (length_marked gone)) ∙ (sym (length-append (marked Done gone) rest) ∙ (ap length (sym order) ∙ length_readied n u));
       }
-    where
-      length_marked : (l : List (Entry J)) → length (marked Done l) ≡ length l
-      length_marked [] = refl
-      length_marked (x ∷ xs) = ap suc (length_marked xs)
+
+  -- what went out of a list in options
+  pub goes_out : (number max : ℕ) (u : List (Entry J × Mark)) (ready : List (Option (Entry J) × Mark)) (items : List (Option (Entry J))) (left : List (Option (Entry J) × Mark)) → ready ≡ wrapped (readied number u) → ready ≡ marked Done items ++ left → length items ≡ many_ready max (readied number u)
+      → GoesOut number max u items left
+  goes_out number max u ready items left is order many = let s = split_wrapped items left (readied number u) (sym is ∙ order) in record {
+    gone = s.gone;
+    items_are = s.items_are;
+    rest = s.rest;
+    left_is = s.left_is;
+    in_order = s.whole;
+    many = sym (items_length items s.gone s.items_are) ∙ many;
+  }
+
+  -- what is left is what is behind those that went out
+  pub rest_behind : (gone : List (Entry J)) (rest ready : List (Entry J × Mark)) → ready ≡ marked Done gone ++ rest → rest ≡ drop (length gone) ready
+  rest_behind gone rest ready order = sym (drop-append_seam (marked Done gone) rest) ∙ (ap (λ (k : ℕ). drop k (marked Done gone ++ rest)) (length_marked gone) ∙ ap (drop (length gone)) (sym order))
+
+  -- the list after the take
+  pub taken_is_line : (number max : ℕ) (u : List (Entry J × Mark)) (gone : List (Entry J)) (rest : List (Entry J × Mark)) → readied number u ≡ marked Done gone ++ rest → length gone ≡ many_ready max (readied number u)
+      → with_taken number max (line_of None u) ≡ line_of (some_out (length gone)) rest
+  taken_is_line number max u gone rest order many = λ i. record { out = some_out (sym many i); waiting = (ap (λ (k : ℕ). drop k (readied number u)) (sym many) ∙ sym (rest_behind gone rest (readied number u) order)) i }
 
   pub taken_none : (l l' : ListView J) (gone : List (Entry J)) → length gone ≡ 0 → l'.out ≡ None → IsTaken l gone None l'
   taken_none l l' [] long h = h

@@ -105,19 +105,20 @@ module _ {J : Type 0} where
 
 -- Numbers in order
 
-queued_loads_from : (p : ℕ) (ns : List ℕ) (n : ℕ) → queued_loads p (ns ++ n ∷ []) ≡ queued_loads p ns ++ LoadQueued (p + length ns) n ∷ []
-queued_loads_from p [] n = ap (λ k. LoadQueued k n ∷ []) (let e : p ≡ p + 0 = omega arith in e)
-queued_loads_from p (x ∷ xs) n = ap (λ l. LoadQueued p x ∷ l) (queued_loads_from (p + 1) xs n ∙ ap (λ k. queued_loads (p + 1) xs ++ LoadQueued k n ∷ []) (let e : p + 1 + length xs ≡ p + length (x ∷ xs) = omega arith in e))
+module _ {J : Type 0} where
+  queued_loads_from : (p : ℕ) (ns : List ℕ) (n : ℕ) → queued_loads {J = J} p (ns ++ n ∷ []) ≡ queued_loads p ns ++ LoadQueued (p + length ns) n ∷ []
+  queued_loads_from p [] n = ap (λ k. LoadQueued k n ∷ []) (let e : p ≡ p + 0 = omega arith in e)
+  queued_loads_from p (x ∷ xs) n = ap (λ l. LoadQueued p x ∷ l) (queued_loads_from (p + 1) xs n ∙ ap (λ k. queued_loads (p + 1) xs ++ LoadQueued k n ∷ []) (let e : p + 1 + length xs ≡ p + length (x ∷ xs) = omega arith in e))
 
-pub queued_loads_push : (i : ℕ) (ns : List ℕ) (n : ℕ) → length ns ≡ i → queued_loads 0 (ns ++ n ∷ []) ≡ queued_loads 0 ns ++ LoadQueued i n ∷ []
-queued_loads_push i ns n count = queued_loads_from 0 ns n ∙ ap (λ k. queued_loads 0 ns ++ LoadQueued k n ∷ []) (let e : 0 + length ns ≡ i = omega (arith, count) in e)
+  pub queued_loads_push : (i : ℕ) (ns : List ℕ) (n : ℕ) → length ns ≡ i → queued_loads {J = J} 0 (ns ++ n ∷ []) ≡ queued_loads 0 ns ++ LoadQueued i n ∷ []
+  queued_loads_push i ns n count = queued_loads_from 0 ns n ∙ ap (λ k. queued_loads 0 ns ++ LoadQueued k n ∷ []) (let e : 0 + length ns ≡ i = omega (arith, count) in e)
 
-finished_loads_from : (p : ℕ) (ns : List ℕ) (n : ℕ) → finished_loads p (ns ++ n ∷ []) ≡ finished_loads p ns ++ LoadFinished (p + length ns) n ∷ []
-finished_loads_from p [] n = ap (λ k. LoadFinished k n ∷ []) (let e : p ≡ p + 0 = omega arith in e)
-finished_loads_from p (x ∷ xs) n = ap (λ l. LoadFinished p x ∷ l) (finished_loads_from (p + 1) xs n ∙ ap (λ k. finished_loads (p + 1) xs ++ LoadFinished k n ∷ []) (let e : p + 1 + length xs ≡ p + length (x ∷ xs) = omega arith in e))
+  finished_loads_from : (p : ℕ) (ns : List ℕ) (n : ℕ) → finished_loads {J = J} p (ns ++ n ∷ []) ≡ finished_loads p ns ++ LoadFinished (p + length ns) n ∷ []
+  finished_loads_from p [] n = ap (λ k. LoadFinished k n ∷ []) (let e : p ≡ p + 0 = omega arith in e)
+  finished_loads_from p (x ∷ xs) n = ap (λ l. LoadFinished p x ∷ l) (finished_loads_from (p + 1) xs n ∙ ap (λ k. finished_loads (p + 1) xs ++ LoadFinished k n ∷ []) (let e : p + 1 + length xs ≡ p + length (x ∷ xs) = omega arith in e))
 
-pub finished_loads_push : (i : ℕ) (ns : List ℕ) (n : ℕ) → length ns ≡ i → finished_loads 0 (ns ++ n ∷ []) ≡ finished_loads 0 ns ++ LoadFinished i n ∷ []
-finished_loads_push i ns n count = finished_loads_from 0 ns n ∙ ap (λ k. finished_loads 0 ns ++ LoadFinished k n ∷ []) (let e : 0 + length ns ≡ i = omega (arith, count) in e)
+  pub finished_loads_push : (i : ℕ) (ns : List ℕ) (n : ℕ) → length ns ≡ i → finished_loads {J = J} 0 (ns ++ n ∷ []) ≡ finished_loads 0 ns ++ LoadFinished i n ∷ []
+  finished_loads_push i ns n count = finished_loads_from 0 ns n ∙ ap (λ k. finished_loads 0 ns ++ LoadFinished k n ∷ []) (let e : 0 + length ns ≡ i = omega (arith, count) in e)
 
 -- what holds of each number so far, and of the next one, holds of each
 pub each_push : (K : ℕ → ℕ → Type 0) (i : ℕ) (ns : List ℕ) (n : ℕ) → length ns ≡ i → ((p : ℕ) → p < i → K p (get_or ns p 0)) → K i n → (p : ℕ) → p < i + 1 → K p (get_or (ns ++ n ∷ []) p 0)

@@ -1,5 +1,5 @@
 -- A load of a tally word keeps their rule, and is one more deed of its maker.
-use Rattle.std.proofs.Common.{◌≡◌, ℕ, ◌<◌, ◌≤◌, false, List, [], ◌∷◌, ◌++◌, Option, get_or, set, refl, sym, ap, ◌∙◌, subst, arith}
+use Rattle.std.proofs.Common.{◌≡◌, ℕ, ◌<◌, ◌≤◌, false, List, [], ◌∷◌, ◌++◌, Option, length, get_or, set, refl, sym, ap, ◌∙◌, subst, arith}
 use lib.Seq.{set-get_or}
 use lib.ListN.{get_elem?}
 use mathlib.Core.Option.{none, some}
@@ -15,10 +15,12 @@ use Rattle.calls.specs.declared.view.ListRight.TheVariants.{NoList, OfList}
 use Rattle.calls.specs.declared.view.BatchRight.{BatchRight}
 use Rattle.calls.specs.declared.view.BatchRight.TheVariants.{NoBatch, OfBatch}
 use Rattle.calls.specs.declared.view.View.{View}
+use Rattle.calls.specs.Lines.{Line, count_out, next_line, line_in}
 use Rattle.calls.specs.Tallies.{queued_place, finished_place, deed, is_queue, queued_in, finished_by, finished_in, IsFinisher, AreFinishers, IsTrueOf}
 use Rattle.calls.specs.Rule.{Books, Makes, HasList, HasBatch, Fits, Kept}
 use Rattle.calls.specs.Plays.{Sat, Looks, counts_queued, counts_finished}
 use Rattle.calls.proofs.Counting.{queued_still, finished_still, begins_itself, begins_empty, begins_pushed, one_more_true, one_more_finisher}
+use Rattle.calls.proofs.Lining.{line_push}
 use Rattle.calls.proofs.Knowing.{views_set, moved, fits_else}
 
 same_caller : (c b : ℕ) → Caller c ≡ Caller b → c ≡ b
@@ -29,12 +31,12 @@ module _ {J : Type 0} where
   abbrev looked : Books J → View J → ℕ → Act J → View J
   looked b v c act = record v { seen = b.log ++ deed c act ∷ []; told = [] }
 
-module _ {J : Type 0} (plan : Plan) (s : State (Option ℕ) (View J)) (r : Kept plan s) (id c : ℕ) (v : View J) (act : Act J) (at : get_elem? s.views id ≡ some v) (who : v.who ≡ Caller c) (no_queue : is_queue act ≡ false) (no_finish : (p : ℕ) → finished_by p act ≡ 0) (true : IsTrueOf r.books.log act) (finisher : IsFinisher plan.processors c act) where
+module _ {J : Type 0} (plan : Plan) (s : State (Option ℕ) (View J)) (r : Kept plan s) (id c : ℕ) (v : View J) (act : Act J) (at : get_elem? s.views id ≡ some v) (who : v.who ≡ Caller c) (no_queue : is_queue act ≡ false) (no_finish : (p : ℕ) → finished_by p act ≡ 0) (no_turn : (p : ℕ) (l : Line J) → next_line p c act l ≡ l) (true : IsTrueOf r.books.log act) (finisher : IsFinisher plan.processors c act) where
   abbrev log' : List (Deed J)
   log' = r.books.log ++ deed c act ∷ []
 
   abbrev books' : Books J
-  books' = moved r.books (deed c act) r.books.out_of
+  books' = moved r.books (deed c act) r.books.batch_at
 
   still_queued : (p : ℕ) → queued_in p log' ≡ queued_in p r.books.log
   still_queued p = queued_still p r.books.log c act no_queue
@@ -42,16 +44,19 @@ module _ {J : Type 0} (plan : Plan) (s : State (Option ℕ) (View J)) (r : Kept 
   still_finished : (p : ℕ) → finished_in p log' ≡ finished_in p r.books.log
   still_finished p = finished_still p r.books.log c act (no_finish p)
 
+  still_line : (p : ℕ) → line_in p log' ≡ line_in p r.books.log
+  still_line p = line_push p r.books.log c act ∙ no_turn p (line_in p r.books.log)
+
   made : Makes r.books id v.seen (Caller c)
   made = subst (λ (z : Who). Makes r.books id v.seen z) who (r.each_view id v at).makes
 
   list_stays : (right : ListRight J) → HasList r.books id right → HasList books' id right
   list_stays NoList h = tt
-  list_stays (OfList p q f o) h = (h.0, h.1 ∙ sym (still_queued p), h.2 ∙ sym (still_finished p), h.3)
+  list_stays (OfList p q f o w) h = (h.0, h.1 ∙ sym (still_queued p), h.2 ∙ sym (still_finished p), h.3 ∙ ap (λ (z : Line J). z.out) (sym (still_line p)), h.4 ∙ ap (λ (z : Line J). z.waiting) (sym (still_line p)))
 
   batch_stays : (right : BatchRight) → HasBatch r.books id right → HasBatch books' id right
   batch_stays NoBatch h = tt
-  batch_stays (OfBatch p f n) h = (h.0, h.1 ∙ sym (still_finished p), h.2)
+  batch_stays (OfBatch p f n) h = (h.0, h.1 ∙ sym (still_finished p), ap (λ (z : Line J). z.out) (still_line p) ∙ h.2)
 
   -- a load changes no word
   pub load_keeps : (word : ℕ) (cs : List (ℕ × Option ℕ)) → Kept plan (stepped s word (get_or s.words word 0) id cs (looked r.books v c act) keeps)
@@ -62,7 +67,7 @@ module _ {J : Type 0} (plan : Plan) (s : State (Option ℕ) (View J)) (r : Kept 
         books = b';
         loads = one_more_true r.books.log (deed c act) r.loads true;
         finishers = one_more_finisher plan.processors r.books.log (deed c act) r.finishers finisher;
-        counted = λ p. let was = r.counted p in let within = was.within in let few = was.few in let q = still_queued p in let d = still_finished p in record { within = omega (arith, q, d, within); few = omega (arith, q, few) };
+        counted = λ p. let was = r.counted p in let all = was.all in let few = was.few in let q = still_queued p in let d = still_finished p in let out = ap (λ (z : Line J). count_out z.out) (still_line p) in let long = ap (λ (z : Line J). length z.waiting) (still_line p) in record { all = omega (arith, q, d, all, out, long); few = omega (arith, q, few) };
         wide = r.wide;
         queued = λ p below. r.queued p below ∙ sym (still_queued p);
         finished = λ p below. r.finished p below ∙ sym (still_finished p);
@@ -74,7 +79,7 @@ module _ {J : Type 0} (plan : Plan) (s : State (Option ℕ) (View J)) (r : Kept 
               list = list_stays v.list f.list;
               batch = batch_stays v.batch f.batch;
             }
-            (λ j u ne there. fits_else r.books (deed c act) r.books.out_of id j made.0 ne (λ p _. record { queued = still_queued p; finished = still_finished p; out = refl }) (λ p _. (still_finished p, refl)) u (r.each_view j u there));
+            (λ j u ne there. fits_else r.books (deed c act) r.books.batch_at id j made.0 ne (λ p _. record { queued = still_queued p; finished = still_finished p; line = still_line p }) (λ p n at out. (at, still_finished p, ap (λ (z : Line J). z.out) (still_line p) ∙ out)) u (r.each_view j u there));
       }
 
   pub load_looks : Looks c act v (looked r.books v c act)
@@ -96,11 +101,11 @@ module _ {J : Type 0} (plan : Plan) where
         looked r.books v c act,
         keeps,
         tt,
-        load_keeps plan s r id c v act at who refl (λ _. refl) found tt word me.1,
+        load_keeps plan s r id c v act at who refl (λ _. refl) (λ _ _. refl) found tt word me.1,
         (
           refl,
           λ b q is word_is. let one : p ≡ q = omega (arith, place, word_is) in
-              subst (λ (z : ℕ × ℕ). Looks z.0 (LoadQueued z.1 x) v (looked r.books v c act)) (λ i. (same_caller c b (sym who ∙ is) i, one i)) (load_looks plan s r id c v act at who refl (λ _. refl) found tt),
+              subst (λ (z : ℕ × ℕ). Looks z.0 (LoadQueued z.1 x) v (looked r.books v c act)) (λ i. (same_caller c b (sym who ∙ is) i, one i)) (load_looks plan s r id c v act at who refl (λ _. refl) (λ _ _. refl) found tt),
           omega (arith, found, few),
         ),
       )
@@ -112,17 +117,17 @@ module _ {J : Type 0} (plan : Plan) where
       let found : x ≡ finished_in p r.books.log = ap (λ z. get_or s.words z 0) place ∙ r.finished p lt in
       let act : Act J = LoadFinished p x in
       let log' : List (Deed J) = r.books.log ++ deed c act ∷ [] in
-      let within = (r.counted p).within in
+      let all = (r.counted p).all in
       let still = queued_still p r.books.log c act refl in
-      let low : x ≤ queued_in p log' = omega (arith, found, within, still) in (
+      let low : x ≤ queued_in p log' = omega (arith, found, all, still) in (
         looked r.books v c act,
         keeps,
         tt,
-        load_keeps plan s r id c v act at who refl (λ _. refl) found tt word me.1,
+        load_keeps plan s r id c v act at who refl (λ _. refl) (λ _ _. refl) found tt word me.1,
         (
           refl,
           λ b q is word_is. let one : p ≡ q = omega (arith, place, word_is) in
-              subst (λ (z : ℕ × ℕ). Looks z.0 (LoadFinished z.1 x) v (looked r.books v c act)) (λ i. (same_caller c b (sym who ∙ is) i, one i)) (load_looks plan s r id c v act at who refl (λ _. refl) found tt),
+              subst (λ (z : ℕ × ℕ). Looks z.0 (LoadFinished z.1 x) v (looked r.books v c act)) (λ i. (same_caller c b (sym who ∙ is) i, one i)) (load_looks plan s r id c v act at who refl (λ _. refl) (λ _ _. refl) found tt),
           λ q word_is. let one : p ≡ q = omega (arith, place, word_is) in subst (λ (z : ℕ). x ≤ queued_in z log') one low,
           subst (λ (z : ℕ). AreFinishers z log') all (one_more_finisher plan.processors r.books.log (deed c act) r.finishers tt),
         ),

@@ -5,18 +5,24 @@ use lib.Seq.{set-get_or}
 use lib.ListN.{get_elem?}
 use mathlib.Core.Option.{none, some}
 use Rattle.atomic_table.specs.Table.{State, step, stepped, keeps, Allows}
+use Rattle.segs.specs.MarkedList.{Mark}
+use Rattle.calls.specs.declared.entry.Entry.{Entry}
 use Rattle.calls.specs.declared.view.Plan.{Plan}
 use Rattle.calls.specs.declared.view.Deed.{Deed}
 use Rattle.calls.specs.declared.view.Who.{Who}
 use Rattle.calls.specs.declared.view.Who.TheVariants.{Caller}
+use Rattle.calls.specs.declared.view.ListRight.{ListRight}
+use Rattle.calls.specs.declared.view.ListRight.TheVariants.{OfList}
 use Rattle.calls.specs.declared.view.BatchRight.{BatchRight}
 use Rattle.calls.specs.declared.view.BatchRight.TheVariants.{OfBatch}
 use Rattle.calls.specs.declared.view.View.{View}
 use Rattle.calls.specs.Tallies.{deeds_of, AreFinishers, IsBeginning, AreTrueAfter, AreTrue}
-use Rattle.calls.specs.Rule.{count_out, Books, Makes, HasBatch, Fits, Kept}
-use Rattle.calls.specs.Plays.{Sat, FindsAll, found_all, IsAdmitted, admitted, IsOut, found_out}
+use Rattle.calls.specs.Lines.{count_out, line_in}
+use Rattle.calls.specs.Rule.{Books, Makes, HasList, HasBatch, Fits, Kept}
+use Rattle.calls.specs.Plays.{Sat, FindsAll, found_all, IsAdmitted, admitted, IsOut, found_out, IsThere, found_list}
 use Rattle.calls.proofs.Counting.{begins_itself, begins_empty, earlier_finishers}
 use Rattle.calls.proofs.Knowing.{views_set}
+use Rattle.calls.proofs.Steps.{has_there}
 
 -- Own deeds
 
@@ -101,9 +107,9 @@ module _ {J : Type 0} (plan : Plan) where
   batch_is_out s r id p first count v at is =
       let b : Books J = r.books in
       let has : HasBatch b id (OfBatch p first count) = subst (λ (z : BatchRight). HasBatch b id z) is (r.each_view id v at).batch in
-      let within = (r.counted p).within in
-      let out : count_out (b.out_of p) ≡ count = ap count_out has.2 in
-      record { first_is = has.1; queued = omega (arith, within, out) }
+      let all = (r.counted p).all in
+      let out : count_out (line_in p b.log).out ≡ count = ap count_out has.2 in
+      record { first_is = has.1; queued = omega (arith, all, out) }
 
   pub finds_out_here : (slots id c word many : ℕ) (me : Sat J) → plan.processors ≡ many → me.0.who ≡ Caller c → Allows (Kept plan) slots id me word (λ x. x) (found_out many (step slots word 0 0 none) me)
   finds_out_here slots id c word many me all who s r _ at _ =
@@ -114,6 +120,21 @@ module _ {J : Type 0} (plan : Plan) where
         tt,
         unmoved s r id word me.1 w (full_fits s r id c v at who),
         ((refl, λ p is. full_finds s r id p many v all at is), λ p first count is. batch_is_out s r id p first count v at is),
+      )
+
+  -- a list whose right the seat has is there as the right knows it
+  list_is_there : (s : State (Option ℕ) (View J)) (r : Kept plan s) (id p q f : ℕ) (o : Option ℕ) (w : List (Entry J × Mark)) (v : View J) → get_elem? s.views id ≡ some v → v.list ≡ OfList p q f o w → IsThere p q f o w r.books.log
+  list_is_there s r id p q f o w v at is = has_there r.books id p q f o w (subst (λ (z : ListRight J). HasList r.books id z) is (r.each_view id v at).list)
+
+  pub finds_list_here : (slots id c word many : ℕ) (me : Sat J) → plan.processors ≡ many → me.0.who ≡ Caller c → Allows (Kept plan) slots id me word (λ x. x) (found_list many (step slots word 0 0 none) me)
+  finds_list_here slots id c word many me all who s r _ at _ =
+      let v : View J = me.0 in
+      let w : View J = full r.books v in (
+        w,
+        keeps,
+        tt,
+        unmoved s r id word me.1 w (full_fits s r id c v at who),
+        ((refl, λ p is. full_finds s r id p many v all at is), λ p q f o ws is. list_is_there s r id p q f o ws v at is),
       )
 
   -- just what was told is seen

@@ -18,12 +18,10 @@ use Rattle.calls.specs.declared.view.BatchRight.{BatchRight}
 use Rattle.calls.specs.declared.view.BatchRight.TheVariants.{NoBatch, OfBatch}
 use Rattle.calls.specs.declared.view.View.{View}
 use Rattle.calls.specs.Tallies.{queued_place, finished_place, word_count, queued_in, finished_in, deeds_of, IsBeginning}
-use Rattle.calls.specs.Rule.{count_out, Books, IsUndealt, Makes, HasList, HasBatch, Fits, Kept, founder, spent, without_next, next_caller, next_list, dealer, dealt, without_list, list_seat, only_list, lending, lent, with_list, without_batch, only_batch, with_batch, note, informed}
+use Rattle.calls.specs.Lines.{Line}
+use Rattle.calls.specs.Rule.{Books, IsUndealt, Makes, HasList, HasBatch, Fits, Kept, founder, spent, without_next, next_caller, next_list, dealer, dealt, without_list, list_seat, only_list, with_list, without_batch, only_batch, with_batch, note, informed}
 use Rattle.calls.proofs.Counting.{begins_empty}
 use Rattle.calls.proofs.Knowing.{views_set, views_split, given, given_here, given_else}
-
-no_some : (n : ℕ) (o : Option ℕ) → o ≡ None → o ≡ Some n → ⊥
-no_some n o a b = cc
 
 module _ {J : Type 0} where
   front_empty : (xs ys : List (Deed J)) → xs ++ ys ≡ [] → xs ≡ []
@@ -33,25 +31,25 @@ module _ {J : Type 0} where
   none_seen : (p : ℕ) (seen log : List (Deed J)) → IsBeginning seen log → deeds_of p log ≡ [] → deeds_of p seen ≡ []
   none_seen p seen log h none = front_empty (deeds_of p seen) (deeds_of p h.rest) (sym (ap (deeds_of p) h.whole ∙ filter-append (λ d. d.by == p) seen h.rest) ∙ none)
 
-  abbrev rebooked : Books J → (ℕ → Option ℕ) → (ℕ → ℕ) → (ℕ → ℕ) → (ℕ → ℕ) → Books J
-  rebooked b out caller list batch = record { log = b.log; out_of = out; caller_at = caller; list_at = list; batch_at = batch }
+  abbrev rebooked : Books J → (ℕ → ℕ) → (ℕ → ℕ) → (ℕ → ℕ) → Books J
+  rebooked b caller list batch = record { log = b.log; caller_at = caller; list_at = list; batch_at = batch }
 
-module _ {J : Type 0} (b : Books J) (out : ℕ → Option ℕ) (caller list batch : ℕ → ℕ) (j : ℕ) (callers : (p : ℕ) → b.caller_at p ≡ j → caller p ≡ j) (lists : (p : ℕ) → b.list_at p ≡ j → (list p ≡ j) × (out p ≡ b.out_of p)) where
-  makes_apart : (seen : List (Deed J)) (who : Who) → Makes b j seen who → Makes (rebooked b out caller list batch) j seen who
+module _ {J : Type 0} (b : Books J) (caller list batch : ℕ → ℕ) (j : ℕ) (callers : (p : ℕ) → b.caller_at p ≡ j → caller p ≡ j) (lists : (p : ℕ) → b.list_at p ≡ j → list p ≡ j) where
+  makes_apart : (seen : List (Deed J)) (who : Who) → Makes b j seen who → Makes (rebooked b caller list batch) j seen who
   makes_apart seen Nobody h = tt
   makes_apart seen (Caller p) h = (callers p h.0, h.1)
-  makes_apart seen (Dealer k) h = λ p le. let u : IsUndealt b j p = h p le in let t = lists p u.list in record { caller = callers p u.caller; list = t.0; nothing = u.nothing; queued = u.queued; finished = u.finished; out = t.1 ∙ u.out }
+  makes_apart seen (Dealer k) h = λ p le. let u : IsUndealt b j p = h p le in record { caller = callers p u.caller; list = lists p u.list; nothing = u.nothing; queued = u.queued; finished = u.finished; line = u.line }
 
-  list_apart : (right : ListRight J) → HasList b j right → HasList (rebooked b out caller list batch) j right
+  list_apart : (right : ListRight J) → HasList b j right → HasList (rebooked b caller list batch) j right
   list_apart NoList h = tt
-  list_apart (OfList p q f o) h = let t = lists p h.0 in (t.0, h.1, h.2, h.3 ∙ sym t.1)
+  list_apart (OfList p q f o w) h = (lists p h.0, h.1, h.2, h.3, h.4)
 
-  batch_apart : ((p n : ℕ) → b.batch_at p ≡ j → b.out_of p ≡ Some n → (batch p ≡ j) × (out p ≡ Some n)) → (right : BatchRight) → HasBatch b j right → HasBatch (rebooked b out caller list batch) j right
+  batch_apart : ((p : ℕ) → b.batch_at p ≡ j → batch p ≡ j) → (right : BatchRight) → HasBatch b j right → HasBatch (rebooked b caller list batch) j right
   batch_apart batches NoBatch h = tt
-  batch_apart batches (OfBatch p f n) h = let t = batches p n h.0 h.2 in (t.0, h.1, t.1)
+  batch_apart batches (OfBatch p f n) h = (batches p h.0, h.1, h.2)
 
   -- a seat fits in other books, where these say of it what they said
-  fits_apart : ((p n : ℕ) → b.batch_at p ≡ j → b.out_of p ≡ Some n → (batch p ≡ j) × (out p ≡ Some n)) → (v : View J) → Fits b j v → Fits (rebooked b out caller list batch) j v
+  fits_apart : ((p : ℕ) → b.batch_at p ≡ j → batch p ≡ j) → (v : View J) → Fits b j v → Fits (rebooked b caller list batch) j v
   fits_apart batches v h = record { seen = h.seen; told = h.told; makes = makes_apart v.seen v.who h.makes; list = list_apart v.list h.list; batch = batch_apart batches v.batch h.batch }
 
 module _ {J : Type 0} where
@@ -61,7 +59,7 @@ module _ {J : Type 0} where
   -- the seat of a right's list, or batch, is another now
   abbrev relisted : ListRight J → ℕ → (ℕ → ℕ) → ℕ → ℕ
   relisted NoList m f = f
-  relisted (OfList p q g o) m f = given p m f
+  relisted (OfList p q g o w) m f = given p m f
 
 abbrev rebatched : BatchRight → ℕ → (ℕ → ℕ) → ℕ → ℕ
 rebatched NoBatch m f = f
@@ -70,34 +68,33 @@ rebatched (OfBatch p g n) m f = given p m f
 module _ {J : Type 0} where
   relisted_else : (b : Books J) (right : ListRight J) (id m j p : ℕ) → HasList b id right → j ≢ id → b.list_at p ≡ j → relisted right m b.list_at p ≡ j
   relisted_else b NoList id m j p h ne at = at
-  relisted_else b (OfList k q f o) id m j p h ne at = given_else k m b.list_at p (λ e. ne (sym at ∙ (ap b.list_at e ∙ h.0))) ∙ at
+  relisted_else b (OfList k q f o w) id m j p h ne at = given_else k m b.list_at p (λ e. ne (sym at ∙ (ap b.list_at e ∙ h.0))) ∙ at
 
   -- of its own seat it is so or not
   relisted_mine : (b : Books J) (right : ListRight J) (id p : ℕ) → b.list_at p ≡ id → relisted right id b.list_at p ≡ id
   relisted_mine b NoList id p at = at
-  relisted_mine b (OfList k q f o) id p at = dite (ℕ_discrete p k) (λ e. ap (given k id b.list_at) e ∙ given_here k id b.list_at) (λ ne. given_else k id b.list_at p ne ∙ at)
+  relisted_mine b (OfList k q f o w) id p at = dite (ℕ_discrete p k) (λ e. ap (given k id b.list_at) e ∙ given_here k id b.list_at) (λ ne. given_else k id b.list_at p ne ∙ at)
 
   rebatched_else : (b : Books J) (right : BatchRight) (id m j p : ℕ) → HasBatch b id right → j ≢ id → b.batch_at p ≡ j → rebatched right m b.batch_at p ≡ j
   rebatched_else b NoBatch id m j p h ne at = at
   rebatched_else b (OfBatch k f n) id m j p h ne at = given_else k m b.batch_at p (λ e. ne (sym at ∙ (ap b.batch_at e ∙ h.0))) ∙ at
 
-  list_given : (b : Books J) (right : ListRight J) (id m : ℕ) → HasList b id right → HasList (rebooked b b.out_of b.caller_at (relisted right m b.list_at) b.batch_at) m right
+  list_given : (b : Books J) (right : ListRight J) (id m : ℕ) → HasList b id right → HasList (rebooked b b.caller_at (relisted right m b.list_at) b.batch_at) m right
   list_given b NoList id m h = tt
-  list_given b (OfList p q f o) id m h = (given_here p m b.list_at, h.1, h.2, h.3)
+  list_given b (OfList p q f o w) id m h = (given_here p m b.list_at, h.1, h.2, h.3, h.4)
 
-  batch_given : (b : Books J) (right : BatchRight) (id m : ℕ) → HasBatch b id right → HasBatch (rebooked b b.out_of b.caller_at b.list_at (rebatched right m b.batch_at)) m right
+  batch_given : (b : Books J) (right : BatchRight) (id m : ℕ) → HasBatch b id right → HasBatch (rebooked b b.caller_at b.list_at (rebatched right m b.batch_at)) m right
   batch_given b NoBatch id m h = tt
   batch_given b (OfBatch p f n) id m h = (given_here p m b.batch_at, h.1, h.2)
 
 module _ {J : Type 0} (plan : Plan) where
   -- the same words and deeds, and other views
-  reviewed : (s : State (Option ℕ) (View J)) (r : Kept plan s) (out : ℕ → Option ℕ) (caller list batch : ℕ → ℕ) (views : List (View J)) → ((p : ℕ) → finished_in p r.books.log + count_out (out p) ≤ queued_in p r.books.log)
-      → ((j : ℕ) (d : View J) → get_elem? views j ≡ some d → Fits (rebooked r.books out caller list batch) j d) → Kept plan record { words = s.words; homes = s.homes; views = views }
-  reviewed s r out caller list batch views within each = record {
-    books = rebooked r.books out caller list batch;
+  reviewed : (s : State (Option ℕ) (View J)) (r : Kept plan s) (caller list batch : ℕ → ℕ) (views : List (View J)) → ((j : ℕ) (d : View J) → get_elem? views j ≡ some d → Fits (rebooked r.books caller list batch) j d) → Kept plan record { words = s.words; homes = s.homes; views = views }
+  reviewed s r caller list batch views each = record {
+    books = rebooked r.books caller list batch;
     loads = r.loads;
     finishers = r.finishers;
-    counted = λ p. record { within = within p; few = (r.counted p).few };
+    counted = λ p. record { all = (r.counted p).all; few = (r.counted p).few };
     wide = r.wide;
     queued = r.queued;
     finished = r.finished;
@@ -111,13 +108,13 @@ module _ {J : Type 0} (plan : Plan) where
       let f = r.each_view id v at in
       let m : ℕ = length s.views in
       let list : ℕ → ℕ = relisted v.list m b.list_at in
-      let b' : Books J = rebooked b b.out_of b.caller_at list b.batch_at in
-      reviewed s r b.out_of b.caller_at list b.batch_at (set s.views id (without_list v) ++ only_list v ∷ []) (λ p. (r.counted p).within) (views_split (Fits b') s.views id (without_list v) (only_list v)
-      record { seen = f.seen; told = f.told; makes = not_dealer v.seen v.who other b list id f.makes; list = tt; batch = batch_apart b b.out_of b.caller_at b.list_at b.batch_at id (λ p e. e) (λ p e. (e, refl)) (λ p n e o. (e, o)) v.batch f.batch }
+      let b' : Books J = rebooked b b.caller_at list b.batch_at in
+      reviewed s r b.caller_at list b.batch_at (set s.views id (without_list v) ++ only_list v ∷ []) (views_split (Fits b') s.views id (without_list v) (only_list v)
+      record { seen = f.seen; told = f.told; makes = not_dealer v.seen v.who other b list id f.makes; list = tt; batch = batch_apart b b.caller_at b.list_at b.batch_at id (λ p e. e) (λ p e. e) (λ p e. e) v.batch f.batch }
       record { seen = begins_empty b.log; told = begins_empty b.log; makes = tt; list = list_given b v.list id m f.list; batch = tt }
-      (λ j d ne e. fits_apart b b.out_of b.caller_at list b.batch_at j (λ p h. h) (λ p h. (relisted_else b v.list id m j p f.list ne h, refl)) (λ p n h o. (h, o)) d (r.each_view j d e)))
+      (λ j d ne e. fits_apart b b.caller_at list b.batch_at j (λ p h. h) (λ p h. relisted_else b v.list id m j p f.list ne h) (λ p h. h) d (r.each_view j d e)))
     where
-      not_dealer : (seen : List (Deed J)) (who : Who) → ((k : ℕ) → who ≢ Dealer k) → (b : Books J) (list : ℕ → ℕ) (id : ℕ) → Makes b id seen who → Makes (rebooked b b.out_of b.caller_at list b.batch_at) id seen who
+      not_dealer : (seen : List (Deed J)) (who : Who) → ((k : ℕ) → who ≢ Dealer k) → (b : Books J) (list : ℕ → ℕ) (id : ℕ) → Makes b id seen who → Makes (rebooked b b.caller_at list b.batch_at) id seen who
       not_dealer seen Nobody other b list id h = tt
       not_dealer seen (Caller p) other b list id h = h
       not_dealer seen (Dealer k) other b list id h = absurd (other k refl)
@@ -127,7 +124,7 @@ module _ {J : Type 0} (plan : Plan) where
   gives_no_list id v none s r at =
       let b : Books J = r.books in
       let f = r.each_view id v at in
-      reviewed s r b.out_of b.caller_at b.list_at b.batch_at (set s.views id (without_list v) ++ only_list v ∷ []) (λ p. (r.counted p).within) (views_split (Fits b) s.views id (without_list v) (only_list v)
+      reviewed s r b.caller_at b.list_at b.batch_at (set s.views id (without_list v) ++ only_list v ∷ []) (views_split (Fits b) s.views id (without_list v) (only_list v)
       record { seen = f.seen; told = f.told; makes = f.makes; list = tt; batch = f.batch }
       record { seen = begins_empty b.log; told = begins_empty b.log; makes = tt; list = subst (λ (z : ListRight J). HasList b (length s.views) z) (sym none) tt; batch = tt }
       (λ j d ne e. r.each_view j d e))
@@ -141,11 +138,11 @@ module _ {J : Type 0} (plan : Plan) where
       let f = r.each_view id v at in
       let g = r.each_view other w (was_there s id other (with_list v w) w apart there) in
       let list : ℕ → ℕ = relisted w.list id b.list_at in
-      let b' : Books J = rebooked b b.out_of b.caller_at list b.batch_at in
-      reviewed s r b.out_of b.caller_at list b.batch_at (set (set s.views id (with_list v w)) other spent) (λ p. (r.counted p).within) (views_set (Fits b') (set s.views id (with_list v w)) other spent (spent_fits b' other)
+      let b' : Books J = rebooked b b.caller_at list b.batch_at in
+      reviewed s r b.caller_at list b.batch_at (set (set s.views id (with_list v w)) other spent) (views_set (Fits b') (set s.views id (with_list v w)) other spent (spent_fits b' other)
       (λ j d away e. views_set (λ k x. k ≢ other → Fits b' k x) s.views id (with_list v w)
-      (λ _. record { seen = f.seen; told = f.told; makes = makes_apart b b.out_of b.caller_at list b.batch_at id (λ p h. h) (λ p h. (relisted_mine b w.list id p h, refl)) v.seen v.who f.makes; list = list_given b w.list other id g.list; batch = batch_apart b b.out_of b.caller_at b.list_at b.batch_at id (λ p h. h) (λ p h. (h, refl)) (λ p n h o. (h, o)) v.batch f.batch })
-      (λ k x ne h far. fits_apart b b.out_of b.caller_at list b.batch_at k (λ p i. i) (λ p i. (relisted_else b w.list other id k p g.list far i, refl)) (λ p n i o. (i, o)) x (r.each_view k x h)) j d e away))
+      (λ _. record { seen = f.seen; told = f.told; makes = makes_apart b b.caller_at list b.batch_at id (λ p h. h) (λ p h. relisted_mine b w.list id p h) v.seen v.who f.makes; list = list_given b w.list other id g.list; batch = batch_apart b b.caller_at b.list_at b.batch_at id (λ p h. h) (λ p h. h) (λ p h. h) v.batch f.batch })
+      (λ k x ne h far. fits_apart b b.caller_at list b.batch_at k (λ p i. i) (λ p i. relisted_else b w.list other id k p g.list far i) (λ p i. i) x (r.each_view k x h)) j d e away))
 
   pub takes_batch : (id : ℕ) (v : View J) (other : ℕ) (w : View J) → Joins (Kept plan) id v other w (with_batch v w) spent
   takes_batch id v other w s r at apart there =
@@ -153,11 +150,11 @@ module _ {J : Type 0} (plan : Plan) where
       let f = r.each_view id v at in
       let g = r.each_view other w (was_there s id other (with_batch v w) w apart there) in
       let batch : ℕ → ℕ = rebatched w.batch id b.batch_at in
-      let b' : Books J = rebooked b b.out_of b.caller_at b.list_at batch in
-      reviewed s r b.out_of b.caller_at b.list_at batch (set (set s.views id (with_batch v w)) other spent) (λ p. (r.counted p).within) (views_set (Fits b') (set s.views id (with_batch v w)) other spent (spent_fits b' other)
+      let b' : Books J = rebooked b b.caller_at b.list_at batch in
+      reviewed s r b.caller_at b.list_at batch (set (set s.views id (with_batch v w)) other spent) (views_set (Fits b') (set s.views id (with_batch v w)) other spent (spent_fits b' other)
       (λ j d away e. views_set (λ k x. k ≢ other → Fits b' k x) s.views id (with_batch v w)
-      (λ _. record { seen = f.seen; told = f.told; makes = makes_apart b b.out_of b.caller_at b.list_at batch id (λ p h. h) (λ p h. (h, refl)) v.seen v.who f.makes; list = list_apart b b.out_of b.caller_at b.list_at batch id (λ p h. h) (λ p h. (h, refl)) v.list f.list; batch = batch_given b w.batch other id g.batch })
-      (λ k x ne h far. fits_apart b b.out_of b.caller_at b.list_at batch k (λ p i. i) (λ p i. (i, refl)) (λ p n i o. (rebatched_else b w.batch other id k p g.batch far i, o)) x (r.each_view k x h)) j d e away))
+      (λ _. record { seen = f.seen; told = f.told; makes = makes_apart b b.caller_at b.list_at batch id (λ p h. h) (λ p h. h) v.seen v.who f.makes; list = list_apart b b.caller_at b.list_at batch id (λ p h. h) (λ p h. h) v.list f.list; batch = batch_given b w.batch other id g.batch })
+      (λ k x ne h far. fits_apart b b.caller_at b.list_at batch k (λ p i. i) (λ p i. i) (λ p i. rebatched_else b w.batch other id k p g.batch far i) x (r.each_view k x h)) j d e away))
 
   -- a seat gives its batch's right away
   pub passes_batch : (id : ℕ) (v : View J) → Splits (Kept plan) id v (without_batch v) (only_batch v)
@@ -166,35 +163,11 @@ module _ {J : Type 0} (plan : Plan) where
       let f = r.each_view id v at in
       let m : ℕ = length s.views in
       let batch : ℕ → ℕ = rebatched v.batch m b.batch_at in
-      let b' : Books J = rebooked b b.out_of b.caller_at b.list_at batch in
-      reviewed s r b.out_of b.caller_at b.list_at batch (set s.views id (without_batch v) ++ only_batch v ∷ []) (λ p. (r.counted p).within) (views_split (Fits b') s.views id (without_batch v) (only_batch v)
-      record { seen = f.seen; told = f.told; makes = makes_apart b b.out_of b.caller_at b.list_at batch id (λ p h. h) (λ p h. (h, refl)) v.seen v.who f.makes; list = list_apart b b.out_of b.caller_at b.list_at batch id (λ p h. h) (λ p h. (h, refl)) v.list f.list; batch = tt }
+      let b' : Books J = rebooked b b.caller_at b.list_at batch in
+      reviewed s r b.caller_at b.list_at batch (set s.views id (without_batch v) ++ only_batch v ∷ []) (views_split (Fits b') s.views id (without_batch v) (only_batch v)
+      record { seen = f.seen; told = f.told; makes = makes_apart b b.caller_at b.list_at batch id (λ p h. h) (λ p h. h) v.seen v.who f.makes; list = list_apart b b.caller_at b.list_at batch id (λ p h. h) (λ p h. h) v.list f.list; batch = tt }
       record { seen = begins_empty b.log; told = begins_empty b.log; makes = tt; list = tt; batch = batch_given b v.batch id m f.batch }
-      (λ j d ne e. fits_apart b b.out_of b.caller_at b.list_at batch j (λ p h. h) (λ p h. (h, refl)) (λ p n h o. (rebatched_else b v.batch id m j p f.batch ne h, o)) d (r.each_view j d e)))
-
-  -- a list of which nothing is out lends the right of a batch
-  pub gives_batch : (n id p q f : ℕ) (v : View J) → v ≡ list_seat (OfList p q f None) → f + n ≤ q → Splits (Kept plan) id v (lending n v) (lent n v)
-  gives_batch n id p q f v is enough s r at =
-      let b : Books J = r.books in
-      let l : View J = list_seat (OfList p q f None) in
-      let fit : Fits b id l = subst (λ (z : View J). Fits b id z) is (r.each_view id v at) in
-      let h = fit.list in
-      let m : ℕ = length s.views in
-      let out : ℕ → Option ℕ = given p (Some n) b.out_of in
-      let batch : ℕ → ℕ = given p m b.batch_at in
-      let b' : Books J = rebooked b out b.caller_at b.list_at batch in
-      subst (λ (z : View J). Kept plan record { words = s.words; homes = s.homes; views = set s.views id (lending n z) ++ lent n z ∷ [] }) (sym is)
-      (reviewed s r out b.caller_at b.list_at batch (set s.views id (lending n l) ++ lent n l ∷ [])
-      (λ k. let within = (r.counted k).within in dite (ℕ_discrete k p)
-      (λ e. let o : count_out (out k) ≡ n = ap (λ z. count_out (out z)) e ∙ ap count_out (given_here p (Some n) b.out_of) in let few : f + n ≤ q = enough in let qs : queued_in k b.log ≡ q = ap (λ z. queued_in z b.log) e ∙ sym h.1 in let fs : finished_in k b.log ≡ f = ap (λ z. finished_in z b.log) e ∙ sym h.2 in omega (arith, o, few, qs, fs))
-      (λ ne. let o : count_out (out k) ≡ count_out (b.out_of k) = ap count_out (given_else p (Some n) b.out_of k ne) in omega (arith, o, within)))
-      (views_split (Fits b') s.views id (lending n l) (lent n l)
-      record { seen = begins_empty b.log; told = begins_empty b.log; makes = tt; list = (h.0, h.1, h.2, sym (given_here p (Some n) b.out_of)); batch = tt }
-      record { seen = begins_empty b.log; told = begins_empty b.log; makes = tt; list = tt; batch = (given_here p m b.batch_at, h.2, given_here p (Some n) b.out_of) }
-      (λ j d ne e. fits_apart b out b.caller_at b.list_at batch j (λ k i. i)
-      (λ k i. (i, given_else p (Some n) b.out_of k (λ z. ne (sym i ∙ (ap b.list_at z ∙ h.0)))))
-      (λ k c i o. let apart : k ≢ p = λ z. no_some c (b.out_of p) (sym h.3) (ap b.out_of (sym z) ∙ o) in (given_else p m b.batch_at k apart ∙ i, given_else p (Some n) b.out_of k apart ∙ o))
-      d (r.each_view j d e))))
+      (λ j d ne e. fits_apart b b.caller_at b.list_at batch j (λ p h. h) (λ p h. h) (λ p h. rebatched_else b v.batch id m j p f.batch ne h) d (r.each_view j d e)))
 
   -- Notes
 
@@ -202,7 +175,7 @@ module _ {J : Type 0} (plan : Plan) where
   gives_note id v s r at =
       let b : Books J = r.books in
       let f = r.each_view id v at in
-      reviewed s r b.out_of b.caller_at b.list_at b.batch_at (set s.views id v ++ note v ∷ []) (λ p. (r.counted p).within) (views_split (Fits b) s.views id v (note v) f
+      reviewed s r b.caller_at b.list_at b.batch_at (set s.views id v ++ note v ∷ []) (views_split (Fits b) s.views id v (note v) f
       record { seen = f.seen; told = begins_empty b.log; makes = tt; list = tt; batch = tt }
       (λ j d ne e. r.each_view j d e))
 
@@ -211,7 +184,7 @@ module _ {J : Type 0} (plan : Plan) where
       let b : Books J = r.books in
       let f = r.each_view id v at in
       let g = r.each_view other w (was_there s id other (informed v w) w apart there) in
-      reviewed s r b.out_of b.caller_at b.list_at b.batch_at (set (set s.views id (informed v w)) other spent) (λ p. (r.counted p).within) (views_set (Fits b) (set s.views id (informed v w)) other spent (spent_fits b other)
+      reviewed s r b.caller_at b.list_at b.batch_at (set (set s.views id (informed v w)) other spent) (views_set (Fits b) (set s.views id (informed v w)) other spent (spent_fits b other)
       (λ j d away e. views_set (Fits b) s.views id (informed v w)
       record { seen = f.seen; told = g.seen; makes = f.makes; list = f.list; batch = f.batch }
       (λ k x ne h. r.each_view k x h) j d e))
@@ -227,12 +200,12 @@ module _ {J : Type 0} (plan : Plan) where
       let u : IsUndealt b id k = made k (omega arith) in
       let caller : ℕ → ℕ = given k m b.caller_at in
       let list : ℕ → ℕ = given k m b.list_at in
-      let b' : Books J = rebooked b b.out_of caller list b.batch_at in
-      reviewed s r b.out_of caller list b.batch_at (set s.views id (dealer v) ++ dealt v ∷ []) (λ p. (r.counted p).within) (views_split (Fits b') s.views id (dealer v) (dealt v)
+      let b' : Books J = rebooked b caller list b.batch_at in
+      reviewed s r caller list b.batch_at (set s.views id (dealer v) ++ dealt v ∷ []) (views_split (Fits b') s.views id (dealer v) (dealt v)
       record {
         seen = f.seen;
         told = f.told;
-        makes = subst (λ (z : Who). Makes b' id v.seen (without_next z)) (sym is) (λ p le. let w : IsUndealt b id p = made p (omega (arith, le)) in let ne : p ≢ k = λ e. absurd (omega (arith, le, e)) in record { caller = given_else k m b.caller_at p ne ∙ w.caller; list = given_else k m b.list_at p ne ∙ w.list; nothing = w.nothing; queued = w.queued; finished = w.finished; out = w.out });
+        makes = subst (λ (z : Who). Makes b' id v.seen (without_next z)) (sym is) (λ p le. let w : IsUndealt b id p = made p (omega (arith, le)) in let ne : p ≢ k = λ e. absurd (omega (arith, le, e)) in record { caller = given_else k m b.caller_at p ne ∙ w.caller; list = given_else k m b.list_at p ne ∙ w.list; nothing = w.nothing; queued = w.queued; finished = w.finished; line = w.line });
         list = subst (λ (z : ListRight J). HasList b' id z) (sym no_list) tt;
         batch = subst (λ (z : BatchRight). HasBatch b' id z) (sym no_batch) tt;
       }
@@ -240,21 +213,21 @@ module _ {J : Type 0} (plan : Plan) where
         seen = f.seen;
         told = begins_empty b.log;
         makes = subst (λ (z : Who). Makes b' m v.seen (next_caller z)) (sym is) (given_here k m b.caller_at, none_seen k v.seen b.log f.seen u.nothing ∙ sym u.nothing);
-        list = subst (λ (z : Who). HasList b' m (next_list z)) (sym is) (given_here k m b.list_at, sym u.queued, sym u.finished, sym u.out);
+        list = subst (λ (z : Who). HasList b' m (next_list z)) (sym is) (given_here k m b.list_at, sym u.queued, sym u.finished, ap (λ (z : Line J). z.out) (sym u.line), ap (λ (z : Line J). z.waiting) (sym u.line));
         batch = tt;
       }
-      (λ j d ne e. fits_apart b b.out_of caller list b.batch_at j (λ p h. given_else k m b.caller_at p (λ z. ne (sym h ∙ (ap b.caller_at z ∙ u.caller))) ∙ h) (λ p h. (given_else k m b.list_at p (λ z. ne (sym h ∙ (ap b.list_at z ∙ u.list))) ∙ h, refl)) (λ p n h o. (h, o)) d (r.each_view j d e)))
+      (λ j d ne e. fits_apart b caller list b.batch_at j (λ p h. given_else k m b.caller_at p (λ z. ne (sym h ∙ (ap b.caller_at z ∙ u.caller))) ∙ h) (λ p h. given_else k m b.list_at p (λ z. ne (sym h ∙ (ap b.list_at z ∙ u.list))) ∙ h) (λ p h. h) d (r.each_view j d e)))
 
   -- New tally words
 
   abbrev opening_books : Books J
-  opening_books = record { log = []; out_of = λ _. None; caller_at = λ _. 0; list_at = λ _. 0; batch_at = λ _. 0 }
+  opening_books = record { log = []; caller_at = λ _. 0; list_at = λ _. 0; batch_at = λ _. 0 }
 
   first_view : (j : ℕ) (d : View J) → get_elem? (founder plan ∷ []) j ≡ some d → Fits opening_books j d
   first_view zero d e = subst (λ (v : View J). Fits opening_books 0 v) (some-injective (founder plan) d e) record {
     seen = begins_empty [];
     told = begins_empty [];
-    makes = λ p _. record { caller = refl; list = refl; nothing = refl; queued = refl; finished = refl; out = refl };
+    makes = λ p _. record { caller = refl; list = refl; nothing = refl; queued = refl; finished = refl; line = refl };
     list = tt;
     batch = tt;
   }
@@ -265,7 +238,7 @@ module _ {J : Type 0} (plan : Plan) where
     books = opening_books;
     loads = tt;
     finishers = tt;
-    counted = λ p. record { within = omega arith; few = omega arith };
+    counted = λ p. record { all = omega arith; few = omega arith };
     wide = wide;
     queued = λ p _. zeros (queued_place p);
     finished = λ p _. zeros (finished_place p);

@@ -4,7 +4,7 @@ use Rattle.std.proofs.lemmas.List.Sums.{sum_by-cons}
 use mathlib.Core.Logic.{dite}
 use native.Mathlib.Decide.{ℕ_discrete}
 use Rattle.calls.specs.declared.view.Act.{Act}
-use Rattle.calls.specs.declared.view.Act.TheVariants.{Queue, Finish, LoadQueued, LoadFinished}
+use Rattle.calls.specs.declared.view.Act.TheVariants.{Queue, Take, Finish, LoadQueued, LoadFinished}
 use Rattle.calls.specs.declared.view.Deed.{Deed}
 use Rattle.calls.specs.Tallies.{deed, queued_in, finished_by, finished_in, deeds_of, IsFinisher, AreFinishers, IsBeginning}
 use Rattle.calls.specs.Views.{CallSeatView}
@@ -30,7 +30,8 @@ module _ {J : Type 0} where
       some_first y ys h = cc
 
   not_finished : (n p by : ℕ) (act : Act J) → IsFinisher n by act → (by < n → ⊥) → finished_by p act ≡ 0
-  not_finished n p by Queue h away = refl
+  not_finished n p by (Queue e) h away = refl
+  not_finished n p by (Take q number max) h away = refl
   not_finished n p by (Finish q k) h away = absurd (away h)
   not_finished n p by (LoadQueued q k) h away = refl
   not_finished n p by (LoadFinished q k) h away = refl
@@ -47,13 +48,14 @@ module _ {J : Type 0} where
 
 -- Loads
 
-queued_by_loads : (by p k : ℕ) (ns : List ℕ) → (queued_in p (map (deed by) (queued_loads k ns)) ≡ 0) × (finished_in p (map (deed by) (queued_loads k ns)) ≡ 0)
-queued_by_loads by p k [] = (refl, refl)
-queued_by_loads by p k (n ∷ ns) = let r = queued_by_loads by p (k + 1) ns in let q = r.0 in let f = r.1 in (omega (arith, q), omega (arith, f))
+module _ (J : Type 0) where
+  queued_by_loads : (by p k : ℕ) (ns : List ℕ) → (queued_in p (map (deed by) (queued_loads {J = J} k ns)) ≡ 0) × (finished_in p (map (deed by) (queued_loads {J = J} k ns)) ≡ 0)
+  queued_by_loads by p k [] = (refl, refl)
+  queued_by_loads by p k (n ∷ ns) = let r = queued_by_loads by p (k + 1) ns in let q = r.0 in let f = r.1 in (omega (arith, q), omega (arith, f))
 
-finished_by_loads : (by p k : ℕ) (ns : List ℕ) → (queued_in p (map (deed by) (finished_loads k ns)) ≡ 0) × (finished_in p (map (deed by) (finished_loads k ns)) ≡ 0)
-finished_by_loads by p k [] = (refl, refl)
-finished_by_loads by p k (n ∷ ns) = let r = finished_by_loads by p (k + 1) ns in let q = r.0 in let f = r.1 in (omega (arith, q), omega (arith, f))
+  finished_by_loads : (by p k : ℕ) (ns : List ℕ) → (queued_in p (map (deed by) (finished_loads {J = J} k ns)) ≡ 0) × (finished_in p (map (deed by) (finished_loads {J = J} k ns)) ≡ 0)
+  finished_by_loads by p k [] = (refl, refl)
+  finished_by_loads by p k (n ∷ ns) = let r = finished_by_loads by p (k + 1) ns in let q = r.0 in let f = r.1 in (omega (arith, q), omega (arith, f))
 
 -- No count changes
 
@@ -96,7 +98,7 @@ sum_is count p (x ∷ xs) each =
     omega (arith, first, rest, cut)
 
 module _ {J : Type 0} where
-  pub totals_exact : TotalsAreExact
+  pub totals_exact : TotalsAreExact J
   totals_exact s t all done h others =
       let n : ℕ = s.processors in
       let me : ℕ = s.processor in
@@ -111,8 +113,8 @@ module _ {J : Type 0} where
       let later : deeds_of me t.seen ≡ deeds_of me m.seen ++ second = subst (λ (z : ℕ). deeds_of z t.seen ≡ deeds_of z m.seen ++ map (deed z) (finished_loads 0 two.found)) one.loads.same.2 two.loads.own in
       let own : deeds_of me t.seen ≡ deeds_of me s.seen ++ mine = later ∙ (ap (λ l. l ++ second) one.loads.own ∙ append_assoc (deeds_of me s.seen) first second) in
       let finishers : AreFinishers n t.seen = subst (λ (z : ℕ). AreFinishers z t.seen) many two.finishers in
-      let no_finish : (p : ℕ) → finished_in p mine ≡ 0 = λ p. let cut = finished_append p first second in let f = (queued_by_loads me p 0 one.found).1 in let g = (finished_by_loads me p 0 two.found).1 in omega (arith, cut, f, g) in
-      let no_queue : queued_in me mine ≡ 0 = let cut = queued_append me first second in let f = (queued_by_loads me me 0 one.found).0 in let g = (finished_by_loads me me 0 two.found).0 in omega (arith, cut, f, g) in
+      let no_finish : (p : ℕ) → finished_in p mine ≡ 0 = λ p. let cut = finished_append p first second in let f = (queued_by_loads J me p 0 one.found).1 in let g = (finished_by_loads J me p 0 two.found).1 in omega (arith, cut, f, g) in
+      let no_queue : queued_in me mine ≡ 0 = let cut = queued_append me first second in let f = (queued_by_loads J me me 0 one.found).0 in let g = (finished_by_loads J me me 0 two.found).0 in omega (arith, cut, f, g) in
       record {
         queued = one.total_is ∙ (sum_is (λ p. queued_in p t.seen) 0 one.found (λ p lt. let below : p < n = (let long = one.one_each in omega (arith, lt, long)) in queued_exact p _ (one.each p below) two.loads.since (same_queued_there n me s.seen t.seen mine since own others p below no_queue) ∙ ap (λ k. queued_in k t.seen) (let e : p ≡ 0 + p = omega arith in e)) ∙ ap (λ k. added (λ p. queued_in p t.seen) 0 k) one.one_each);
         finished = two.total_is ∙ (sum_is (λ p. finished_in p t.seen) 0 two.found (λ p lt. let below : p < m.processors = (let long = two.one_each in omega (arith, lt, long)) in finished_exact p _ (two.each p below) one.loads.since (same_finished n me s.seen t.seen mine since own others finishers p (no_finish p)) ∙ ap (λ k. finished_in k t.seen) (let e : p ≡ 0 + p = omega arith in e)) ∙ ap (λ k. added (λ p. finished_in p t.seen) 0 k) (two.one_each ∙ many));

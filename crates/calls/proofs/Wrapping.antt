@@ -1,17 +1,14 @@
 -- A list keeps its entries in options. What the definitions say of those holds of the entries.
-use Rattle.std.proofs.Common.{◌≡◌, ℕ, suc, ◌+◌, Bool, true, false, cond, nat_eq, get_or, drop, List, [], ◌∷◌, ◌++◌, Option, Some, None, map, length, refl, sym, ap, ◌∙◌, subst}
+use Rattle.std.proofs.Common.{◌≡◌, ℕ, suc, ◌+◌, Bool, true, false, cond, nat_eq, get_or, drop, List, [], ◌∷◌, ◌++◌, Option, Some, None, map, length, refl, sym, ap, ◌∙◌, arith}
 use Rattle.std.specs.Prelude.{count_by, slice_index}
 use Rattle.std.specs.List.{filter_map, dedup, slice_get}
 use Rattle.std.proofs.lemmas.List.Sums.{sum_by-cons}
-use Rattle.segs.specs.MarkedList.{Mark, Done, Next, number_of, is_done, is_at, is_next, marked, remarked, awaited, number_given, next_becomes, assigned, reached, advanced, count_done, count_at, count_next, lens, numbers, EndsInNext}
+use Rattle.segs.specs.MarkedList.{Mark, Done, At, Next, number_of, is_done, is_at, is_next, marked, remarked, awaited, number_given, next_becomes, assigned, reached, advanced, count_done, count_at, count_next, lens, numbers, EndsInNext}
 use Rattle.calls.specs.declared.entry.Entry.{Entry}
-use Rattle.calls.specs.Waiting.{wrapped, with_one, unwrapped, entries_of}
+use Rattle.calls.specs.Lines.{last_number}
+use Rattle.calls.specs.Waiting.{wrapped, entries_of}
 
 module _ {J : Type 0} where
-  pub unwrap_wrap : (l : List (Entry J × Mark)) → unwrapped (wrapped l) ≡ l
-  unwrap_wrap [] = refl
-  unwrap_wrap (e ∷ es) = ap (λ z. e ∷ z) (unwrap_wrap es)
-
   pub entries_wrap : (l : List (Entry J)) → entries_of (map Some l) ≡ l
   entries_wrap [] = refl
   entries_wrap (e ∷ es) = ap (λ z. e ∷ z) (entries_wrap es)
@@ -75,20 +72,13 @@ module _ {J : Type 0} where
 
   -- The last entry
 
-  unwrapped_append : (a b : List (Option (Entry J) × Mark)) → unwrapped (a ++ b) ≡ unwrapped a ++ unwrapped b
-  unwrapped_append [] b = refl
-  unwrapped_append (x ∷ xs) b = ap (with_one x.0 x.1) (unwrapped_append xs b) ∙ one x.0 x.1 (unwrapped xs) (unwrapped b)
-    where
-      one : (o : Option (Entry J)) (m : Mark) (u v : List (Entry J × Mark)) → with_one o m (u ++ v) ≡ with_one o m u ++ v
-      one None m u v = refl
-      one (Some e) m u v = refl
-
-  pub last_unwrapped : (l : List (Entry J × Mark)) (e : Entry J) → EndsInNext (wrapped l) (Some e) → EndsInNext l e
-  last_unwrapped l e h = (unwrapped h.0, sym (unwrap_wrap l) ∙ (ap unwrapped h.1 ∙ unwrapped_append h.0 ((Some e, Next) ∷ [])))
-
   item_of : List (Option (Entry J) × Mark) → Option (Entry J)
   item_of [] = None
   item_of (z ∷ zs) = z.0
+
+  mark_of : List (Option (Entry J) × Mark) → Mark
+  mark_of [] = Next
+  mark_of (z ∷ zs) = z.1
 
   behind : List (Option (Entry J) × Mark) → List (Option (Entry J) × Mark)
   behind [] = []
@@ -101,47 +91,58 @@ module _ {J : Type 0} where
   no_none (y ∷ ys) [] h = cc
   no_none (y ∷ ys) (x ∷ xs) h = no_none ys xs (ap (λ (z : List (Option (Entry J) × Mark)). behind z) h)
 
-  pub none_unwrapped : (l : List (Entry J × Mark)) → EndsInNext (wrapped l) None → ⊥
-  none_unwrapped l h = no_none h.0 l h.1
+  pub none_wrapped : (l : List (Entry J × Mark)) → EndsInNext (wrapped l) None → ⊥
+  none_wrapped l h = no_none h.0 l h.1
+
+  -- what comes last has the last number
+  last_is : (front : List (Option (Entry J) × Mark)) (l : List (Entry J × Mark)) (e : Entry J) → wrapped l ≡ front ++ (Some e, Next) ∷ [] → last_number l ≡ e.cookie.number
+  unfolding item_of behind
+  last_is [] [] e h = cc
+  last_is [] (x ∷ []) e h = let s : Some x.0 ≡ Some e = ap (λ (z : List (Option (Entry J) × Mark)). item_of z) h in ap (λ (z : Entry J). z.cookie.number) (same_some x.0 e s)
+    where
+      same_some : (a b : Entry J) → Some a ≡ Some b → a ≡ b
+      same_some a b h = cc
+  last_is [] (x ∷ y ∷ ys) e h = let n : wrapped (y ∷ ys) ≡ [] = ap (λ (z : List (Option (Entry J) × Mark)). behind z) h in cc
+  last_is (z ∷ zs) [] e h = cc
+  last_is (z ∷ []) (x ∷ []) e h = let n : [] ≡ (Some e, Next) ∷ [] = ap (λ (z : List (Option (Entry J) × Mark)). behind z) h in cc
+  last_is (z ∷ w ∷ ws) (x ∷ []) e h = let n : [] ≡ (w ∷ ws) ++ (Some e, Next) ∷ [] = ap (λ (z : List (Option (Entry J) × Mark)). behind z) h in cc
+  last_is (z ∷ zs) (x ∷ y ∷ ys) e h = last_is zs (y ∷ ys) e (ap (λ (z : List (Option (Entry J) × Mark)). behind z) h)
+
+  pub last_wrapped : (l : List (Entry J × Mark)) (e : Entry J) → EndsInNext (wrapped l) (Some e) → last_number l ≡ e.cookie.number
+  last_wrapped l e h = last_is h.0 l e h.1
+
+  -- where all have a number, none gets another
+  pub none_next : (given : Mark) (l : List (Entry J × Mark)) → count_next l ≡ 0 → remarked (next_becomes given) l ≡ l
+  none_next given [] none = refl
+  none_next given ((e, Done) ∷ xs) none = ap (λ z. (e, Done) ∷ z) (none_next given xs (sym (sum_by-cons (λ (x : Entry J × Mark). cond (is_next x.1) 1 0) (e, Done) xs) ∙ none))
+  none_next given ((e, At n) ∷ xs) none = ap (λ z. (e, At n) ∷ z) (none_next given xs (sym (sum_by-cons (λ (x : Entry J × Mark). cond (is_next x.1) 1 0) (e, At n) xs) ∙ none))
+  none_next given ((e, Next) ∷ xs) none = let one = sum_by-cons (λ (x : Entry J × Mark). cond (is_next x.1) 1 0) (e, Next) xs in absurd (omega (arith, one, none))
 
   -- What is taken out
 
-  pub record IsSplit (items : List (Option (Entry J))) (rest : List (Option (Entry J) × Mark)) (l : List (Entry J × Mark)) : Type 0 where
-    pub items_are : items ≡ map Some (entries_of items)
-    pub rest_is : rest ≡ wrapped (unwrapped rest)
-    pub whole : l ≡ marked Done (entries_of items) ++ unwrapped rest
+  pub record IsSplit (items : List (Option (Entry J))) (left : List (Option (Entry J) × Mark)) (l : List (Entry J × Mark)) : Type 0 where
+    pub gone : List (Entry J)
+    pub items_are : items ≡ map Some gone
+    pub rest : List (Entry J × Mark)
+    pub left_is : left ≡ wrapped rest
+    pub whole : l ≡ marked Done gone ++ rest
 
-  pub split_wrapped : (items : List (Option (Entry J))) (rest : List (Option (Entry J) × Mark)) (l : List (Entry J × Mark)) → wrapped l ≡ marked Done items ++ rest → IsSplit items rest l
-  split_wrapped [] rest l h = record { items_are = refl; rest_is = sym h ∙ ap wrapped (sym (unwrap_wrap l) ∙ ap unwrapped h); whole = sym (unwrap_wrap l) ∙ ap unwrapped h }
-  split_wrapped (i ∷ is) rest [] h = cc
-  split_wrapped (i ∷ is) rest (e ∷ es) h =
-      let first : Some e.0 ≡ i = ap (λ (z : List (Option (Entry J) × Mark)). item_or i z) h in
-      let mark : e.1 ≡ Done = ap (λ (z : List (Option (Entry J) × Mark)). mark_or Done z) h in
-      let s = split_wrapped is rest es (ap (λ (z : List (Option (Entry J) × Mark)). rest_of z) h) in
-      subst (λ (z : Option (Entry J)). IsSplit (z ∷ is) rest (e ∷ es)) first record {
-        items_are = ap (λ z. Some e.0 ∷ z) s.items_are;
-        rest_is = s.rest_is;
-        whole = λ k. (e.0, mark k) ∷ s.whole k;
-      }
-    where
-      item_or : Option (Entry J) → List (Option (Entry J) × Mark) → Option (Entry J)
-      item_or d [] = d
-      item_or d (z ∷ zs) = z.0
-
-      mark_or : Mark → List (Option (Entry J) × Mark) → Mark
-      mark_or d [] = d
-      mark_or d (z ∷ zs) = z.1
-
-      rest_of : List (Option (Entry J) × Mark) → List (Option (Entry J) × Mark)
-      rest_of [] = []
-      rest_of (z ∷ zs) = zs
+  pub split_wrapped : (items : List (Option (Entry J))) (left : List (Option (Entry J) × Mark)) (l : List (Entry J × Mark)) → wrapped l ≡ marked Done items ++ left → IsSplit items left l
+  unfolding item_of mark_of behind
+  split_wrapped [] left l h = record { gone = []; items_are = refl; rest = l; left_is = sym h; whole = refl }
+  split_wrapped (i ∷ is) left [] h = cc
+  split_wrapped (i ∷ is) left (e ∷ es) h =
+      let first : Some e.0 ≡ i = ap (λ (z : List (Option (Entry J) × Mark)). item_of z) h in
+      let mark : e.1 ≡ Done = ap (λ (z : List (Option (Entry J) × Mark)). mark_of z) h in
+      let s = split_wrapped is left es (ap (λ (z : List (Option (Entry J) × Mark)). behind z) h) in
+      record { gone = e.0 ∷ s.gone; items_are = λ k. sym first k ∷ s.items_are k; rest = s.rest; left_is = s.left_is; whole = λ k. (e.0, mark k) ∷ s.whole k }
 
   some_length : (l : List (Entry J)) → length (map Some l) ≡ length l
   some_length [] = refl
   some_length (x ∷ xs) = ap suc (some_length xs)
 
-  pub items_length : (items : List (Option (Entry J))) → items ≡ map Some (entries_of items) → length items ≡ length (entries_of items)
-  items_length items h = ap length h ∙ some_length (entries_of items)
+  pub items_length : (items : List (Option (Entry J))) (l : List (Entry J)) → items ≡ map Some l → length items ≡ length l
+  items_length items l h = ap length h ∙ some_length l
 
   -- the first of a batch
   pub record IsFirst (items : List (Option (Entry J))) (r : Option (Entry J)) (rest : List (Option (Entry J))) : Type 0 where

@@ -31,6 +31,10 @@ module _ {J : Type 0} where
   abbrev pub idle_seat : View J
   idle_seat = record { who = Caller 0; list = NoList; batch = NoBatch; seen = []; told = [] }
 
+  -- so many of a processor were given out
+  abbrev pub given_out : ℕ → List (Deed J) → ℕ
+  given_out p seen = finished_in p seen + count_out (line_in p seen).out
+
 module _ (J : Type 0) where
   -- the rule, which holds between any two steps, says so
   abbrev pub OneHistory : Type 0
@@ -42,10 +46,6 @@ module _ (J : Type 0) where
     pub joins : (plan : Plan) (d : Deed J) (both spent : View J) → d.by ≡ 0 → (both.seen ≡ d ∷ []) ⊎ (spent.seen ≡ d ∷ []) → ¬ Joins (Kept plan) 0 idle_seat 2 (note idle_seat) both spent
 
   -- Jobs
-
-  -- so many of a processor were given out
-  abbrev given_out : ℕ → List (Deed J) → ℕ
-  given_out p seen = finished_in p seen + count_out (line_in p seen).out
 
   -- what waits on a processor is just what was queued there and not given out, in its order
   abbrev pub WaitsInOrder : Type 0

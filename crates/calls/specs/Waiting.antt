@@ -1,13 +1,14 @@
 -- The callbacks of a processor that wait: what is always true of them.
-use Rattle.std.specs.Prelude.{◌≡◌, ℕ, ◌*◌, ◌%◌, ◌≤◌, List, [], ◌∷◌, All, Option, Some, None, map}
+use Rattle.std.specs.Prelude.{◌≡◌, ℕ, ◌*◌, ◌%◌, ◌≤◌, List, [], ◌∷◌, All, ◌++◌, Option, Some, None, length, map}
 use Rattle.sseq.specs.Numbers.{cookie_at}
 use Rattle.onedom.specs.declared.event.Event.{Event}
 use Rattle.onedom.specs.Histories.{ended_in, IsBeginning}
 use Rattle.sections.specs.Words.{number_word}
 use Rattle.sections.specs.Calls.{EndsWithNote}
 use Rattle.sections.specs.Sights.{SightView}
-use Rattle.segs.specs.MarkedList.{Mark, Done, At, Next}
+use Rattle.segs.specs.MarkedList.{Mark, Done, At, Next, marked}
 use Rattle.calls.specs.declared.entry.Entry.{Entry}
+use Rattle.calls.specs.Lines.{readied, many_ready}
 
 -- the cookie is done, for one who has seen this
 abbrev pub IsReached : ℕ → List Event → Type 0
@@ -44,14 +45,6 @@ module _ {J : Type 0} where
   abbrev pub wrapped : List (Entry J × Mark) → List (Option (Entry J) × Mark)
   wrapped entries = map (λ e. (Some e.0, e.1)) entries
 
-  abbrev pub with_one : Option (Entry J) → Mark → List (Entry J × Mark) → List (Entry J × Mark)
-  with_one None mark entries = entries
-  with_one (Some e) mark entries = (e, mark) ∷ entries
-
-  abbrev pub unwrapped : List (Option (Entry J) × Mark) → List (Entry J × Mark)
-  unwrapped [] = []
-  unwrapped (e ∷ es) = with_one e.0 e.1 (unwrapped es)
-
   -- the same without marks
   abbrev pub with_entry : Option (Entry J) → List (Entry J) → List (Entry J)
   with_entry None entries = entries
@@ -60,3 +53,12 @@ module _ {J : Type 0} where
   abbrev pub entries_of : List (Option (Entry J)) → List (Entry J)
   entries_of [] = []
   entries_of (e ∷ es) = with_entry e (entries_of es)
+
+  -- of these, what is ready went out, and so much is left
+  pub record GoesOut (number max : ℕ) (waiting : List (Entry J × Mark)) (items : List (Option (Entry J))) (left : List (Option (Entry J) × Mark)) : Type 0 where
+    pub gone : List (Entry J)
+    pub items_are : items ≡ map Some gone
+    pub rest : List (Entry J × Mark)
+    pub left_is : left ≡ wrapped rest
+    pub in_order : readied number waiting ≡ marked Done gone ++ rest
+    pub many : length gone ≡ many_ready max (readied number waiting)

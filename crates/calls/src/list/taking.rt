@@ -4,7 +4,7 @@ ghost use Rattle.sections.specs.Calls.{AllClosed};
 ghost use Rattle.segs.specs.MarkedList.{Mark, assigned};
 ghost use Rattle.calls.specs.declared.entry.Entry.{Entry};
 ghost use Rattle.calls.specs.Lines.{last_number};
-ghost use Rattle.calls.specs.Waiting.{wrapped};
+ghost use Rattle.calls.specs.Waiting.{wrapped, GoesOut};
 ghost use Rattle.calls.specs.Calls.{Takes, AreHanded, FindsOut, Finishes, MayFinish, MayTake};
 
 use super::List;
@@ -15,6 +15,7 @@ use crate::seat::CallSeat;
 use crate::tally::{add_finished, see_list, take_out};
 use sections::Cpu;
 use segs::SegList;
+use smallvec::SmallVec;
 use std::alloc::Allocator;
 use std::marker::Brand;
 
@@ -29,6 +30,22 @@ fn assign_last<J, A: Allocator>(waiting: &mut SegList<Option<Entry<J>>, A>)
     let Some(last) = last else { unreachable!() };
     let number = last.cookie.number();
     waiting.assign(number);
+}
+
+/// What waited for this number or a smaller one is done, what had none gets one, and the first ones that are done go out.
+fn take_first<J: Drop, A: Allocator + Copy>(
+    waiting: &mut SegList<Option<Entry<J>>, A>,
+    number: u64,
+    max: usize,
+) -> SmallVec<Option<Entry<J>>, 8, A>
+    requires { (es : List (Entry J × Mark)) × (waiting.old.entries ≡ wrapped es) }
+    ensures { (es : List (Entry J × Mark)) → waiting.old.entries ≡ wrapped es → GoesOut number max es result.items waiting.new.entries }
+{
+    // First those that wait for it are done, which may free a segment, and only then can what has no number yet get one:
+    // before, it might find none free, and wait for one more period.
+    waiting.advance(number);
+    assign_last(waiting);
+    waiting.take_done(max)
 }
 
 impl<J: Drop, A: Allocator + Copy> List<J, A> {
@@ -58,13 +75,9 @@ impl<J: Drop, A: Allocator + Copy> List<J, A> {
             see_list::<J, Brand>(top, &mut seat.seat, &mut self.seat, seat.processor);
             return Err(TakeRefusal::Invoking);
         }
-        // The number is loaded first: with an older one, entries would stay that are due. Then those that wait for it
-        // or less are done, which may free a segment, and only then can what has no number yet get one: before, it
-        // might find none free, and wait for one more period.
+        // The number is loaded first: with an older one, entries would stay that are due.
         let number = cpu.how_far(&mut self.sight);
-        self.waiting.advance(number.get());
-        assign_last(&mut self.waiting);
-        let taken = self.waiting.take_done(max);
+        let taken = take_first(&mut self.waiting, number.get(), max);
         let top = &seat.table.shared;
         let right =
             take_out::<J, Brand>(top, &mut seat.seat, &mut self.seat, self.processor);

@@ -1,0 +1,216 @@
+-- Each call is given out once, in its order: what waits on a processor is what was queued there and not given out.
+use Rattle.std.proofs.Common.{◌≡◌, ◌≢◌, ℕ, zero, suc, ◌+◌, ◌-◌, ◌≤◌, ◌==◌, Bool, true, false, if◌then◌else◌, List, [], ◌∷◌, ◌++◌, Some, None, map, length, take, drop, refl, sym, ap, ◌∙◌, subst, eq-eqb, ne_eqb, append_assoc, append-nil, arith}
+use Rattle.std.proofs.Math.Seq.{drop-append_seam, take-append_seam, drop-length}
+use Rattle.std.proofs.lemmas.List.{length-append, length-drop, drop-append-le}
+use mathlib.Core.Logic.{dite}
+use native.Mathlib.Decide.{ℕ_discrete}
+use Rattle.segs.specs.MarkedList.{Mark, Next, remarked, advanced, assigned, reached, next_becomes, number_given, awaited}
+use Rattle.calls.specs.declared.entry.Entry.{Entry}
+use Rattle.calls.specs.declared.view.Act.{Act}
+use Rattle.calls.specs.declared.view.Act.TheVariants.{Queue, Take, Finish, LoadQueued, LoadFinished}
+use Rattle.calls.specs.declared.view.Deed.{Deed}
+use Rattle.calls.specs.Lines.{Line, count_out, some_out, no_calls, with_call, with_taken, with_none_out, last_number, readied, many_ready, next_line, line_in, call_of, calls_in}
+use Rattle.calls.specs.Tallies.{is_queue, queued_by, queued_in, finished_by, finished_in, IsBeginning, IsTrueOf, AreTrueAfter, AreTrue}
+use Rattle.calls.specs.Laws.{given_out, WaitsInOrder, GivesOnce, KeepsCalls}
+use Rattle.calls.proofs.Counting.{queued_push, finished_push}
+use Rattle.calls.proofs.Lining.{count_some_out, line_push, few_ready, length_readied}
+
+module _ {J : Type 0} where
+  -- the entries, without marks
+  abbrev plain : List (Entry J × Mark) → List (Entry J)
+  plain l = map (λ e. e.0) l
+
+  plain_remarked : (change : Mark → Mark) (l : List (Entry J × Mark)) → plain (remarked change l) ≡ plain l
+  plain_remarked change [] = refl
+  plain_remarked change (x ∷ xs) = ap (λ z. x.0 ∷ z) (plain_remarked change xs)
+
+  plain_long : (l : List (Entry J × Mark)) → length (plain l) ≡ length l
+  plain_long [] = refl
+  plain_long (x ∷ xs) = ap suc (plain_long xs)
+
+  plain_push : (l : List (Entry J × Mark)) (e : Entry J × Mark) → plain (l ++ e ∷ []) ≡ plain l ++ e.0 ∷ []
+  plain_push [] e = refl
+  plain_push (x ∷ xs) e = ap (λ z. x.0 ∷ z) (plain_push xs e)
+
+  plain_drop : (n : ℕ) (l : List (Entry J × Mark)) → plain (drop n l) ≡ drop n (plain l)
+  plain_drop zero l = refl
+  plain_drop (suc n) [] = refl
+  plain_drop (suc n) (x ∷ xs) = plain_drop n xs
+
+  plain_readied : (number : ℕ) (l : List (Entry J × Mark)) → plain (readied number l) ≡ plain l
+  plain_readied number l = plain_remarked (next_becomes (number_given (last_number l) (awaited (advanced number l)))) (advanced number l) ∙ plain_remarked (reached number) l
+
+  drop_drop : (m n : ℕ) (l : List (Entry J)) → drop n (drop m l) ≡ drop (m + n) l
+  drop_drop zero n l = ap (λ k. drop k l) (let e : n ≡ 0 + n = omega arith in e)
+  drop_drop (suc m) zero [] = ap (λ k. drop k []) (let e : suc m ≡ suc m + 0 = omega arith in e)
+  drop_drop (suc m) (suc n) [] = ap (λ k. drop k []) (let e : suc (m + suc n) ≡ suc m + suc n = omega arith in e)
+  drop_drop (suc m) n (x ∷ xs) = drop_drop m n xs ∙ ap (λ k. drop k (x ∷ xs)) (let e : suc (m + n) ≡ suc m + n = omega arith in e)
+
+  -- Calls
+
+  calls_push : (p : ℕ) (l : List (Deed J)) (d : Deed J) → calls_in p (l ++ d ∷ []) ≡ calls_in p l ++ (if d.by == p then call_of d.act else [])
+  calls_push p [] d = append-nil (if d.by == p then call_of d.act else [])
+  calls_push p (x ∷ xs) d = ap (λ z. (if x.by == p then call_of x.act else []) ++ z) (calls_push p xs d) ∙ sym (append_assoc (if x.by == p then call_of x.act else []) (calls_in p xs) (if d.by == p then call_of d.act else []))
+
+  calls_append : (p : ℕ) (a b : List (Deed J)) → calls_in p (a ++ b) ≡ calls_in p a ++ calls_in p b
+  calls_append p [] b = refl
+  calls_append p (x ∷ xs) b = ap (λ z. (if x.by == p then call_of x.act else []) ++ z) (calls_append p xs b) ∙ sym (append_assoc (if x.by == p then call_of x.act else []) (calls_in p xs) (calls_in p b))
+
+  one_call : (act : Act J) (here : Bool) → length (if here then call_of act else []) ≡ (if is_queue act then (if here then 1 else 0) else 0)
+  one_call (Queue e) true = refl
+  one_call (Queue e) false = refl
+  one_call (Take q number max) true = refl
+  one_call (Take q number max) false = refl
+  one_call (Finish q n) true = refl
+  one_call (Finish q n) false = refl
+  one_call (LoadQueued q n) true = refl
+  one_call (LoadQueued q n) false = refl
+  one_call (LoadFinished q n) true = refl
+  one_call (LoadFinished q n) false = refl
+
+  -- there are as many as the count says
+  pub calls_counted : (p : ℕ) (l : List (Deed J)) → length (calls_in p l) ≡ queued_in p l
+  calls_counted p [] = refl
+  calls_counted p (x ∷ xs) = let both = length-append (if x.by == p then call_of x.act else []) (calls_in p xs) in let one = one_call x.act (x.by == p) in let rest = calls_counted p xs in omega (arith, both, one, rest)
+
+  -- What one more deed leaves
+
+  -- a list with what is finished and all calls: what waits is what was not given out
+  record IsGood (k : Line J) (f : ℕ) (cs : List (Entry J)) : Type 0 where
+    order : plain k.waiting ≡ drop (f + count_out k.out) cs
+    enough : f + count_out k.out ≤ length cs
+
+  -- the same list, as another one says it
+  good_as : (k k' : Line J) (f f' : ℕ) (cs cs' : List (Entry J)) → k' ≡ k → f' ≡ f → cs' ≡ cs → IsGood k f cs → IsGood k' f' cs'
+  good_as k k' f f' cs cs' line finished calls good = subst (λ (z : Line J × ℕ × List (Entry J)). IsGood z.0 z.1 z.2) (λ i. (sym line i, sym finished i, sym calls i)) good
+
+  -- what a deed has to be, by the list before it
+  abbrev Could : ℕ → Act J → Line J → Type 0
+  Could p (Queue e) k = Unit {0}
+  Could p (Take q number max) k = q ≡ p → k.out ≡ None
+  Could p (Finish q n) k = q ≡ p → k.out ≡ Some n
+  Could p (LoadQueued q n) k = Unit {0}
+  Could p (LoadFinished q n) k = Unit {0}
+
+  with_call_good : (e : Entry J) (k : Line J) (f : ℕ) (cs : List (Entry J)) → IsGood k f cs → IsGood (with_call e k) (f + 0) (cs ++ e ∷ [])
+  with_call_good e k f cs good =
+      let m : ℕ = f + count_out k.out in
+      let same : m ≡ f + 0 + count_out k.out = omega arith in
+      let waiting : plain (with_call e k).waiting ≡ plain k.waiting ++ e ∷ [] = plain_remarked (next_becomes (number_given e.cookie.number (awaited (k.waiting ++ (e, Next) ∷ [])))) (k.waiting ++ (e, Next) ∷ []) ∙ plain_push k.waiting (e, Next) in
+      let long = length-append cs (e ∷ []) in
+      let enough = good.enough in
+      record {
+        order = waiting ∙ (ap (λ z. z ++ e ∷ []) good.order ∙ (sym (drop-append-le m cs (e ∷ []) enough) ∙ ap (λ z. drop z (cs ++ e ∷ [])) same));
+        enough = omega (arith, enough, long);
+      }
+
+  with_taken_good : (number max : ℕ) (k : Line J) (f : ℕ) (cs : List (Entry J)) → k.out ≡ None → IsGood k f cs → IsGood (with_taken number max k) (f + 0) (cs ++ [])
+  with_taken_good number max k f cs none good =
+      let ready : List (Entry J × Mark) = readied number k.waiting in
+      let n : ℕ = many_ready max ready in
+      let m : ℕ = f + count_out k.out in
+      let out : count_out (some_out n) ≡ n = count_some_out n in
+      let was : count_out k.out ≡ 0 = ap count_out none in
+      let same : m + n ≡ f + 0 + count_out (some_out n) = omega (arith, out, was) in
+      let few = few_ready max ready in
+      let long = length_readied number k.waiting in
+      let there : length k.waiting ≡ length (drop m cs) = sym (plain_long k.waiting) ∙ ap length good.order in
+      let left = length-drop m cs in
+      let enough = good.enough in
+      good_as (with_taken number max k) (with_taken number max k) (f + 0) (f + 0) cs (cs ++ []) refl refl (append-nil cs) record {
+        order = plain_drop n ready ∙ (ap (drop n) (plain_readied number k.waiting ∙ good.order) ∙ (drop_drop m n cs ∙ ap (λ z. drop z cs) same));
+        enough = omega (arith, same, few, long, there, left, enough);
+      }
+
+  with_none_out_good : (n : ℕ) (k : Line J) (f : ℕ) (cs : List (Entry J)) → k.out ≡ Some n → IsGood k f cs → IsGood (with_none_out k) (f + n) (cs ++ [])
+  with_none_out_good n k f cs is good =
+      let out : count_out k.out ≡ n = ap count_out is in
+      let same : f + count_out k.out ≡ f + n + 0 = omega (arith, out) in
+      let enough = good.enough in
+      good_as (with_none_out k) (with_none_out k) (f + n) (f + n) cs (cs ++ []) refl refl (append-nil cs) record { order = good.order ∙ ap (λ z. drop z cs) same; enough = omega (arith, same, enough) }
+
+  still_good : (k : Line J) (f : ℕ) (cs : List (Entry J)) → IsGood k f cs → IsGood k (f + 0) (cs ++ [])
+  still_good k f cs good = good_as k k f (f + 0) cs (cs ++ []) refl (let e : f + 0 ≡ f = omega arith in e) (append-nil cs) good
+
+  none_of : (act : Act J) (here : Bool) → call_of act ≡ [] → (if here then call_of act else []) ≡ []
+  none_of act true none = none
+  none_of act false none = refl
+
+  next_good : (p by : ℕ) (act : Act J) (k : Line J) (f : ℕ) (cs : List (Entry J)) → Could p act k → IsGood k f cs → IsGood (next_line p by act k) (f + finished_by p act) (cs ++ (if by == p then call_of act else []))
+  next_good p by (Queue e) k f cs could good = either (by == p)
+    where
+      either : (b : Bool) → IsGood (if b then with_call e k else k) (f + 0) (cs ++ (if b then e ∷ [] else []))
+      either true = with_call_good e k f cs good
+      either false = still_good k f cs good
+  next_good p by (Take q number max) k f cs could good = good_as (next_line p by (Take q number max) k) (next_line p by (Take q number max) k) (f + 0) (f + 0) (cs ++ []) (cs ++ (if by == p then [] else [])) refl refl (ap (λ z. cs ++ z) (none_of (Take q number max) (by == p) refl))
+      (dite (ℕ_discrete q p)
+          (λ e. good_as (with_taken number max k) (next_line p by (Take q number max) k) (f + 0) (f + 0) (cs ++ []) (cs ++ []) (ap (λ (b : Bool). if b then with_taken number max k else k) (eq-eqb q p e)) refl refl (with_taken_good number max k f cs (could e) good))
+          (λ ne. good_as k (next_line p by (Take q number max) k) (f + 0) (f + 0) (cs ++ []) (cs ++ []) (ap (λ (b : Bool). if b then with_taken number max k else k) (ne_eqb q p ne)) refl refl (still_good k f cs good)))
+  next_good p by (Finish q n) k f cs could good = good_as (next_line p by (Finish q n) k) (next_line p by (Finish q n) k) (f + finished_by {J = J} p (Finish q n)) (f + finished_by {J = J} p (Finish q n)) (cs ++ []) (cs ++ (if by == p then [] else [])) refl refl (ap (λ z. cs ++ z) (none_of (Finish q n) (by == p) refl))
+      (dite (ℕ_discrete q p)
+          (λ e. good_as (with_none_out k) (next_line p by (Finish q n) k) (f + n) (f + finished_by {J = J} p (Finish q n)) (cs ++ []) (cs ++ []) (ap (λ (b : Bool). if b then with_none_out k else k) (eq-eqb q p e)) (ap (λ (b : Bool). f + (if b then n else 0)) (eq-eqb q p e)) refl (with_none_out_good n k f cs (could e) good))
+          (λ ne. good_as k (next_line p by (Finish q n) k) (f + 0) (f + finished_by {J = J} p (Finish q n)) (cs ++ []) (cs ++ []) (ap (λ (b : Bool). if b then with_none_out k else k) (ne_eqb q p ne)) (ap (λ (b : Bool). f + (if b then n else 0)) (ne_eqb q p ne)) refl (still_good k f cs good)))
+  next_good p by (LoadQueued q n) k f cs could good = good_as k k (f + 0) (f + 0) (cs ++ []) (cs ++ (if by == p then [] else [])) refl refl (ap (λ z. cs ++ z) (none_of (LoadQueued q n) (by == p) refl)) (still_good k f cs good)
+  next_good p by (LoadFinished q n) k f cs could good = good_as k k (f + 0) (f + 0) (cs ++ []) (cs ++ (if by == p then [] else [])) refl refl (ap (λ z. cs ++ z) (none_of (LoadFinished q n) (by == p) refl)) (still_good k f cs good)
+
+  -- All deeds
+
+  could_be : (p : ℕ) (l : List (Deed J)) (act : Act J) → IsTrueOf l act → Could p act (line_in p l)
+  could_be p l (Queue e) h = tt
+  could_be p l (Take q number max) h = λ e. subst (λ z. (line_in z l).out ≡ None) e h
+  could_be p l (Finish q n) h = λ e. subst (λ z. (line_in z l).out ≡ Some n) e h
+  could_be p l (LoadQueued q n) h = tt
+  could_be p l (LoadFinished q n) h = tt
+
+  abbrev GoodIn : ℕ → List (Deed J) → Type 0
+  GoodIn p l = IsGood (line_in p l) (finished_in p l) (calls_in p l)
+
+  good_push : (p : ℕ) (l : List (Deed J)) (d : Deed J) → IsTrueOf l d.act → GoodIn p l → GoodIn p (l ++ d ∷ [])
+  good_push p l d so good = good_as (next_line p d.by d.act (line_in p l)) (line_in p (l ++ d ∷ [])) (finished_in p l + finished_by p d.act) (finished_in p (l ++ d ∷ [])) (calls_in p l ++ (if d.by == p then call_of d.act else [])) (calls_in p (l ++ d ∷ []))
+      (line_push p l d.by d.act) (finished_push p l d) (calls_push p l d) (next_good p d.by d.act (line_in p l) (finished_in p l) (calls_in p l) (could_be p l d.act so) good)
+
+  good_after : (p : ℕ) (before l : List (Deed J)) → AreTrueAfter before l → GoodIn p before → GoodIn p (before ++ l)
+  good_after p before [] so good = subst (λ z. GoodIn p z) (sym (append-nil before)) good
+  good_after p before (d ∷ ds) so good = subst (λ z. GoodIn p z) (append_assoc before (d ∷ []) ds) (good_after p (before ++ d ∷ []) ds so.1 (good_push p before d so.0 good))
+
+  good_in : (p : ℕ) (l : List (Deed J)) → AreTrue l → GoodIn p l
+  good_in p l so = good_after p [] l so record { order = refl; enough = omega arith }
+
+  pub waits_in_order : WaitsInOrder J
+  waits_in_order p seen so = (good_in p seen so).order
+
+  -- no fewer are given out
+  next_grows : (p by : ℕ) (act : Act J) (k : Line J) (f : ℕ) → Could p act k → f + count_out k.out ≤ f + finished_by p act + count_out (next_line p by act k).out
+  next_grows p by (Queue e) k f could = either (by == p)
+    where
+      either : (b : Bool) → f + count_out k.out ≤ f + 0 + count_out (if b then with_call e k else k).out
+      either true = omega arith
+      either false = omega arith
+  next_grows p by (Take q number max) k f could = dite (ℕ_discrete q p)
+      (λ e. let none : count_out k.out ≡ 0 = ap count_out (could e) in omega (arith, none))
+      (λ ne. let same : count_out (next_line p by (Take q number max) k).out ≡ count_out k.out = ap (λ (b : Bool). count_out (if b then with_taken number max k else k).out) (ne_eqb q p ne) in omega (arith, same))
+  next_grows p by (Finish q n) k f could = dite (ℕ_discrete q p)
+      (λ e. let out : count_out k.out ≡ n = ap count_out (could e) in let more : finished_by {J = J} p (Finish q n) ≡ n = ap (λ (b : Bool). if b then n else 0) (eq-eqb q p e) in omega (arith, out, more))
+      (λ ne. let same : count_out (next_line p by (Finish q n) k).out ≡ count_out k.out = ap (λ (b : Bool). count_out (if b then with_none_out k else k).out) (ne_eqb q p ne) in omega (arith, same))
+  next_grows p by (LoadQueued q n) k f could = omega arith
+  next_grows p by (LoadFinished q n) k f could = omega arith
+
+  grows_after : (p : ℕ) (before l : List (Deed J)) → AreTrueAfter before l → given_out p before ≤ given_out p (before ++ l)
+  grows_after p before [] so = let same = ap (given_out p) (append-nil before) in omega (arith, same)
+  grows_after p before (d ∷ ds) so =
+      let one = next_grows p d.by d.act (line_in p before) (finished_in p before) (could_be p before d.act so.0) in
+      let line = ap (λ (z : Line J). count_out z.out) (line_push p before d.by d.act) in
+      let finished = finished_push p before d in
+      let rest = grows_after p (before ++ d ∷ []) ds so.1 in
+      let same = ap (given_out p) (append_assoc before (d ∷ []) ds) in
+      omega (arith, one, line, finished, rest, same)
+
+  true_rest : (before a b : List (Deed J)) → AreTrueAfter before (a ++ b) → AreTrueAfter (before ++ a) b
+  true_rest before [] b h = subst (λ z. AreTrueAfter z b) (sym (append-nil before)) h
+  true_rest before (x ∷ xs) b h = subst (λ z. AreTrueAfter z b) (append_assoc before (x ∷ []) xs) (true_rest (before ++ x ∷ []) xs b h.1)
+
+  pub gives_once : GivesOnce J
+  gives_once p seen later so on = let more = grows_after p seen on.rest (true_rest [] seen on.rest (subst (λ z. AreTrue z) on.whole so)) in let same = ap (given_out p) on.whole in omega (arith, more, same)
+
+  pub keeps_calls : KeepsCalls J
+  keeps_calls p seen later on = sym (ap (λ z. take (queued_in p seen) (calls_in p z)) on.whole ∙ (ap (take (queued_in p seen)) (calls_append p seen on.rest) ∙ (ap (λ z. take z (calls_in p seen ++ calls_in p on.rest)) (sym (calls_counted p seen)) ∙ take-append_seam (calls_in p seen) (calls_in p on.rest))))
