@@ -14,5 +14,6 @@ mod Seating
 mod Wrapping
 mod Keeping
 mod Listing
+mod Turning
 mod Handing
 mod Founding

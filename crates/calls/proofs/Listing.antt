@@ -1,5 +1,5 @@
 -- The list's type keeps what it says of its fields.
-use Rattle.std.proofs.Common.{◌≡◌, ℕ, suc, ◌+◌, ◌↔◌, IsTrue, Bool, true, false, List, [], ◌∷◌, ◌++◌, All, Option, Some, None, map, length, drop, refl, sym, ap, ◌∙◌, subst}
+use Rattle.std.proofs.Common.{◌≡◌, ℕ, suc, ◌+◌, ◌<◌, ◌↔◌, IsTrue, Bool, true, false, List, [], ◌∷◌, ◌++◌, All, Option, Some, None, map, length, drop, refl, sym, ap, ◌∙◌, subst, arith}
 use Rattle.std.specs.Prelude.{IsSome}
 use Rattle.std.proofs.Math.Seq.{drop-append_seam}
 use Rattle.std.proofs.lemmas.List.{length-append}
@@ -8,13 +8,18 @@ use Rattle.sections.specs.Views.{CpuView}
 use Rattle.sections.specs.Sights.{SightView, AsksHowFar}
 use Rattle.segs.specs.MarkedList.{Mark, Done, Next, marked, remarked, awaited, number_given, next_becomes, assigned, reached, advanced, count_done}
 use Rattle.calls.specs.declared.entry.Entry.{Entry}
+use Rattle.calls.specs.declared.view.ListRight.{ListRight}
+use Rattle.calls.specs.declared.view.ListRight.TheVariants.{OfList}
 use Rattle.calls.specs.declared.view.BatchRight.TheVariants.{OfBatch}
-use Rattle.calls.specs.Lines.{some_out, with_taken, last_number, readied, many_ready}
+use Rattle.calls.specs.declared.list.List.TheInside as list
+use Rattle.calls.specs.Tallies.{finished_place}
+use Rattle.calls.specs.Lines.{count_out, some_out, with_taken, last_number, readied, many_ready}
 use Rattle.calls.specs.Rule.{batch_seat}
 use Rattle.calls.specs.Plays.{line_of}
 use Rattle.calls.specs.Seats.{Place, IsListSeat, IsBatchSeat, list_of, queued_known, finished_known, out_known, waiting_known, first_known}
 use Rattle.calls.specs.Waiting.{AreWaiting, wrapped, GoesOut}
 use Rattle.calls.specs.Views.{ListView, BatchView}
+use Rattle.calls.specs.Insides.{IsList}
 use Rattle.calls.specs.Calls.{IsTaken}
 use Rattle.calls.proofs.Wrapping.{wrapped_push, assigned_wrapped, advanced_wrapped, count_done_wrapped, split_wrapped, items_length}
 use Rattle.calls.proofs.Keeping.{moved_waiting, last_waiting, remarked_each, since_each}
@@ -23,6 +28,19 @@ use Rattle.calls.proofs.Lining.{length_readied}
 module _ {J : Type 0} where
   pub list_seat_is : (seat : Place J) (p q f : ℕ) (o : Option ℕ) (w : List (Entry J × Mark)) → seat.me ≡ (list_of p q f o w, []) → IsListSeat seat.table_id p seat
   list_seat_is seat p q f o w h = record { seated = refl; me = h ∙ ap (λ m. (list_of p (queued_known m.0.list) (finished_known m.0.list) (out_known m.0.list) (waiting_known m.0.list), [])) (sym h) }
+
+module _ {J A : Type 0} where
+  -- the list's right says this
+  pub list_from : (l : list.Inside J A) (q f : ℕ) (o : Option ℕ) (w : List (Entry J × Mark)) → l.seat.me ≡ (list_of l.processor q f o w, []) → l.waiting.entries ≡ wrapped w → AreWaiting l.sight w
+      → q ≡ f + count_out o + length w → (IsTrue l.out ↔ IsSome o) → finished_place l.processor < l.seat.table_id.words → IsList l
+  list_from l q f o w me is waiting numbered out there = let right : l.seat.me.0.list ≡ OfList l.processor q f o w = ap (λ m. m.0.list) me in record {
+    seated = list_seat_is l.seat l.processor q f o w me;
+    wrapping = is ∙ ap (λ (r : ListRight J). wrapped (waiting_known r)) (sym right);
+    waiting = subst (λ (r : ListRight J). AreWaiting l.sight (waiting_known r)) (sym right) waiting;
+    numbered = subst (λ (r : ListRight J). queued_known r ≡ finished_known r + count_out (out_known r) + length (waiting_known r)) (sym right) numbered;
+    out = subst (λ (r : ListRight J). IsTrue l.out ↔ IsSome (out_known r)) (sym right) out;
+    there = there;
+  }
 
 module _ {J : Type 0} where
   pub entries_queued : (old new : List (Option (Entry J) × Mark)) (u : List (Entry J × Mark)) (e : Entry J) (n : ℕ) → old ≡ wrapped u → new ≡ assigned n (old ++ (Some e, Next) ∷ []) → new ≡ wrapped (assigned n (u ++ (e, Next) ∷ []))
@@ -46,8 +64,8 @@ none_out b (Some n) h is = let t : b ≡ true = h.1 refl in let wrong : false �
 pub one_out : (o : Option ℕ) (n : ℕ) → o ≡ Some n → (IsTrue true ↔ IsSome o)
 one_out o n e = subst (λ (z : Option ℕ). IsTrue true ↔ IsSome z) (sym e) ((λ _. refl), (λ _. refl))
 
-pub some_out : (b : Bool) (o : Option ℕ) → (IsTrue b ↔ IsSome o) → b ≡ true → IsSome o
-some_out b o h is = h.0 is
+pub is_out : (b : Bool) (o : Option ℕ) → (IsTrue b ↔ IsSome o) → b ≡ true → IsSome o
+is_out b o h is = h.0 is
 
 pub not_out : (o : Option ℕ) → o ≡ None → (IsTrue false ↔ IsSome o)
 not_out o e = subst (λ (z : Option ℕ). IsTrue false ↔ IsSome z) (sym e) ((λ t. t), (λ t. t))

@@ -117,9 +117,9 @@ module _ {J : Type 0} (plan : Plan) where
       let found : x ≡ finished_in p r.books.log = ap (λ z. get_or s.words z 0) place ∙ r.finished p lt in
       let act : Act J = LoadFinished p x in
       let log' : List (Deed J) = r.books.log ++ deed c act ∷ [] in
-      let all = (r.counted p).all in
+      let counted = (r.counted p).all in
       let still = queued_still p r.books.log c act refl in
-      let low : x ≤ queued_in p log' = omega (arith, found, all, still) in (
+      let low : x ≤ queued_in p log' = omega (arith, found, counted, still) in (
         looked r.books v c act,
         keeps,
         tt,

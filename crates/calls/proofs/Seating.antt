@@ -1,5 +1,6 @@
 -- From what a step on the tally words tells a seat to what the steps of a call do to it.
-use Rattle.std.proofs.Common.{◌≡◌, ◌≢◌, ℕ, ◌+◌, ◌*◌, ◌<◌, List, [], sym, ap, ◌∙◌, subst, arith}
+use Rattle.std.proofs.Common.{false, true, ◌≡◌, ◌≢◌, ℕ, ◌+◌, ◌*◌, ◌<◌, List, [], Option, Some, None, refl, sym, ap, ◌∙◌, subst, arith}
+use Rattle.std.specs.Prelude.{IsSome, IfSome}
 use Rattle.calls.specs.declared.view.Who.{Who}
 use Rattle.calls.specs.declared.view.Who.TheVariants.{Nobody, Caller, Dealer}
 use Rattle.calls.specs.declared.view.View.{View}
@@ -7,7 +8,8 @@ use Rattle.calls.specs.declared.view.Act.{Act}
 use Rattle.calls.specs.declared.view.Deed.{Deed}
 use Rattle.calls.specs.declared.view.BatchRight.TheVariants.{NoBatch}
 use Rattle.calls.specs.Tallies.{word_count, deeds_of, AreFinishers, IsBeginning, AreTrue}
-use Rattle.calls.specs.Rule.{with_batch, without_batch}
+use Rattle.calls.specs.declared.view.ListRight.TheVariants.{NoList}
+use Rattle.calls.specs.Rule.{with_list, without_list, with_batch, without_batch}
 use Rattle.calls.specs.Plays.{Sat, Does, FindsAll}
 
 pub some_words : (words n p : ℕ) → words ≡ word_count n → p < n → 0 < words
@@ -19,6 +21,15 @@ queued_there words n p wide lt = omega (arith, wide, lt)
 pub finished_there : (words n p : ℕ) → words ≡ word_count n → p < n → 32 * p + 16 < words
 finished_there words n p wide lt = omega (arith, wide, lt)
 
+-- what there is
+pub some_is : {X : Type 0} (o : Option X) → IsSome o → (x : X) × (o ≡ Some x)
+some_is None h = let wrong : false ≡ true = h in cc
+some_is (Some x) h = (x, refl)
+
+pub of_some : {X : Type 0} {K : X → Type 0} (o : Option X) → ((x : X) → o ≡ Some x → K x) → IfSome o K
+of_some None each = tt
+of_some (Some x) each = each x refl
+
 pub nobody_deals : (w : Who) → w ≡ Nobody → (k : ℕ) → w ≢ Dealer k
 nobody_deals w is k e = let h : Nobody ≡ Dealer k = sym is ∙ e in cc
 
@@ -27,7 +38,7 @@ caller_deals w p is k e = let h : Caller p ≡ Dealer k = sym is ∙ e in cc
 
 module _ {J : Type 0} where
   -- the same, where the seat took a right over before the step and gave one away after it
-  pub does_through : (p : ℕ) (act : Act J) (v j w w' : View J) → j.seen ≡ v.seen → j.who ≡ v.who → w'.seen ≡ w.seen → w'.who ≡ w.who → Does p act j w → Does p act v w'
+  unfoldable pub does_through : (p : ℕ) (act : Act J) (v j w w' : View J) → j.seen ≡ v.seen → j.who ≡ v.who → w'.seen ≡ w.seen → w'.who ≡ w.who → Does p act j w → Does p act v w'
   does_through p act v j w w' seen who seen' who' h = record {
     before = h.before;
     seen = seen' ∙ h.seen;
@@ -36,6 +47,12 @@ module _ {J : Type 0} where
     who = who' ∙ (h.who ∙ who);
     loads = subst (λ (l : List (Deed J)). AreTrue l) (sym seen') h.loads;
   }
+
+  -- the seat, where a list's right was taken over before the load and given away after it
+  pub list_through : (a j e t : Sat J) (w : View J) → j ≡ (with_list a.0 w, a.1) → e ≡ (record j.0 { seen = e.0.seen; told = [] }, j.1) → t ≡ (without_list e.0, e.1) → t ≡ (record a.0 { list = NoList; seen = t.0.seen; told = [] }, a.1)
+  list_through a j e t w taken loaded given =
+      let seen : t.0.seen ≡ e.0.seen = ap (λ m. m.0.seen) given in
+      given ∙ ((λ i. (without_list (loaded i).0, (loaded i).1)) ∙ (λ i. (record (taken i).0 { list = NoList; seen = sym seen i; told = [] }, (taken i).1)))
 
   -- a load with a batch's right, between taking it over and giving it back
   pub load_through : (a j e t : Sat J) (w : View J) → j ≡ (with_batch a.0 w, a.1) → e ≡ (record j.0 { seen = e.0.seen; told = [] }, j.1) → t ≡ (without_batch e.0, e.1) → t ≡ (record a.0 { batch = NoBatch; seen = t.0.seen; told = [] }, a.1)

@@ -233,7 +233,7 @@ module _ {J : Type 0} (plan : Plan) where
   }
   first_view (suc j) d e = absurd (some-ne-none d (sym e))
 
-  pub opens : (words : List ℕ) → length words ≡ word_count plan.processors → ((k : ℕ) → get_or words k 0 ≡ 0) → Kept plan (opening words [] (founder plan))
+  pub opens : (words : List ℕ) → length words ≡ word_count plan.processors → ((k : ℕ) → get_or words k 0 ≡ 0) → Kept {J = J} plan (opening words [] (founder plan))
   opens words wide zeros = record {
     books = opening_books;
     loads = tt;

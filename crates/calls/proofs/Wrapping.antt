@@ -1,12 +1,16 @@
 -- A list keeps its entries in options. What the definitions say of those holds of the entries.
-use Rattle.std.proofs.Common.{◌≡◌, ℕ, suc, ◌+◌, Bool, true, false, cond, nat_eq, get_or, drop, List, [], ◌∷◌, ◌++◌, Option, Some, None, map, length, refl, sym, ap, ◌∙◌, arith}
+use Rattle.std.proofs.Common.{◌≡◌, ℕ, zero, suc, ◌+◌, ◌<◌, Bool, true, false, cond, nat_eq, get_or, drop, List, [], ◌∷◌, ◌++◌, Option, Some, None, map, length, refl, sym, ap, ◌∙◌, arith}
 use Rattle.std.specs.Prelude.{count_by, slice_index}
 use Rattle.std.specs.List.{filter_map, dedup, slice_get}
 use Rattle.std.proofs.lemmas.List.Sums.{sum_by-cons}
 use Rattle.segs.specs.MarkedList.{Mark, Done, At, Next, number_of, is_done, is_at, is_next, marked, remarked, awaited, number_given, next_becomes, assigned, reached, advanced, count_done, count_at, count_next, lens, numbers, EndsInNext}
 use Rattle.calls.specs.declared.entry.Entry.{Entry}
 use Rattle.calls.specs.Lines.{last_number}
-use Rattle.calls.specs.Waiting.{wrapped, entries_of}
+use Rattle.calls.specs.Waiting.{wrapped, last_entry, entries_of}
+
+pub zero_unless : (n : ℕ) → (0 < n → false ≡ true) → n ≡ 0
+zero_unless zero h = refl
+zero_unless (suc n) h = let wrong : false ≡ true = h (omega arith) in cc
 
 module _ {J : Type 0} where
   pub entries_wrap : (l : List (Entry J)) → entries_of (map Some l) ≡ l
@@ -94,6 +98,9 @@ module _ {J : Type 0} where
   pub none_wrapped : (l : List (Entry J × Mark)) → EndsInNext (wrapped l) None → ⊥
   none_wrapped l h = no_none h.0 l h.1
 
+  abbrev nothing : List (Option (Entry J) × Mark)
+  nothing = []
+
   -- what comes last has the last number
   last_is : (front : List (Option (Entry J) × Mark)) (l : List (Entry J × Mark)) (e : Entry J) → wrapped l ≡ front ++ (Some e, Next) ∷ [] → last_number l ≡ e.cookie.number
   unfolding item_of behind
@@ -104,18 +111,24 @@ module _ {J : Type 0} where
       same_some a b h = cc
   last_is [] (x ∷ y ∷ ys) e h = let n : wrapped (y ∷ ys) ≡ [] = ap (λ (z : List (Option (Entry J) × Mark)). behind z) h in cc
   last_is (z ∷ zs) [] e h = cc
-  last_is (z ∷ []) (x ∷ []) e h = let n : [] ≡ (Some e, Next) ∷ [] = ap (λ (z : List (Option (Entry J) × Mark)). behind z) h in cc
-  last_is (z ∷ w ∷ ws) (x ∷ []) e h = let n : [] ≡ (w ∷ ws) ++ (Some e, Next) ∷ [] = ap (λ (z : List (Option (Entry J) × Mark)). behind z) h in cc
+  last_is (z ∷ []) (x ∷ []) e h = let n : nothing ≡ (Some e, Next) ∷ [] = ap (λ (z : List (Option (Entry J) × Mark)). behind z) h in cc
+  last_is (z ∷ w ∷ ws) (x ∷ []) e h = let n : nothing ≡ (w ∷ ws) ++ (Some e, Next) ∷ [] = ap (λ (z : List (Option (Entry J) × Mark)). behind z) h in cc
   last_is (z ∷ zs) (x ∷ y ∷ ys) e h = last_is zs (y ∷ ys) e (ap (λ (z : List (Option (Entry J) × Mark)). behind z) h)
 
   pub last_wrapped : (l : List (Entry J × Mark)) (e : Entry J) → EndsInNext (wrapped l) (Some e) → last_number l ≡ e.cookie.number
   last_wrapped l e h = last_is h.0 l e h.1
 
+  -- the one that was queued
+  pub queued_last : (change : Mark → Mark) (l : List (Option (Entry J) × Mark)) (e : Option (Entry J)) (m : Mark) → last_entry (remarked change (l ++ (e, m) ∷ [])) ≡ e
+  queued_last change [] e m = refl
+  queued_last change (x ∷ []) e m = refl
+  queued_last change (x ∷ y ∷ ys) e m = queued_last change (y ∷ ys) e m
+
   -- where all have a number, none gets another
   pub none_next : (given : Mark) (l : List (Entry J × Mark)) → count_next l ≡ 0 → remarked (next_becomes given) l ≡ l
   none_next given [] none = refl
-  none_next given ((e, Done) ∷ xs) none = ap (λ z. (e, Done) ∷ z) (none_next given xs (sym (sum_by-cons (λ (x : Entry J × Mark). cond (is_next x.1) 1 0) (e, Done) xs) ∙ none))
-  none_next given ((e, At n) ∷ xs) none = ap (λ z. (e, At n) ∷ z) (none_next given xs (sym (sum_by-cons (λ (x : Entry J × Mark). cond (is_next x.1) 1 0) (e, At n) xs) ∙ none))
+  none_next given ((e, Done) ∷ xs) none = let one = sum_by-cons (λ (x : Entry J × Mark). cond (is_next x.1) 1 0) (e, Done) xs in let rest : count_next xs ≡ 0 = omega (arith, one, none) in ap (λ z. (e, Done) ∷ z) (none_next given xs rest)
+  none_next given ((e, At n) ∷ xs) none = let one = sum_by-cons (λ (x : Entry J × Mark). cond (is_next x.1) 1 0) (e, At n) xs in let rest : count_next xs ≡ 0 = omega (arith, one, none) in ap (λ z. (e, At n) ∷ z) (none_next given xs rest)
   none_next given ((e, Next) ∷ xs) none = let one = sum_by-cons (λ (x : Entry J × Mark). cond (is_next x.1) 1 0) (e, Next) xs in absurd (omega (arith, one, none))
 
   -- What is taken out

@@ -16,6 +16,10 @@ abbrev pub some_out : ℕ → Option ℕ
 some_out zero = None
 some_out (suc n) = Some (suc n)
 
+-- calls with their marks
+abbrev pub Marked : Type 0 → Type 0
+Marked J = List (Entry J × Mark)
+
 pub record Line (J : Type 0) : Type 0 where
   pub out : Option ℕ
   pub waiting : List (Entry J × Mark)

@@ -1,9 +1,13 @@
 //! The steps on the tally words.
 ghost use Rattle.std.specs.Prelude.{◌≡◌, ℕ, ◌<◌, IfSome, IsSome, None};
 ghost use Rattle.calls.specs.Tallies.{queued_place, finished_place, most_calls, queued_in, IsBeginning};
+ghost use Rattle.calls.specs.Waiting.{last_entry};
 ghost use Rattle.calls.specs.Seats.{IsPlaced, IsAtRest, IsOfCaller, IsListSeat, IsBatchSeat, out_known, QueuesOne, TakesOne, FinishesBatch, CountsFinished, SeesAll, SeesTold, SeesBatchOut, SeesList};
 
+use crate::entry::Entry;
 use crate::plays::{self, Board, Calling, Counting, Place, Taking};
+use segs::SegList;
+use std::alloc::Allocator;
 
 /// Where the queued word of a processor stands.
 pub(crate) fn place_of_queued(processor: u16) -> usize
@@ -19,22 +23,25 @@ pub(crate) fn place_of_finished(processor: u16) -> usize
     32 * processor as usize + 16
 }
 
-/// Adds 1 to the processor's queued word for a call, with the right of its list, which gets it back. Answers what the word
-/// held.
-pub(crate) fn add_queued<J, N: Calling<J>>(
+/// Adds 1 to the processor's queued word for the call that came last among those that wait, with the right of its list, which
+/// gets it back. Answers what the word held.
+pub(crate) fn add_queued<J, A: Allocator, N: Calling<J>>(
     top: &Board<J>,
     seat: &mut Place<J>,
     list: &mut Place<J>,
     processor: u16,
+    waiting: &SegList<Option<Entry<J>>, A>,
 ) -> u64
     requires placed { IsPlaced top.now.key top.now.table_id seat.old }
     requires rests { IsAtRest processor top.now.key seat.old.me.0 }
     requires list { IsListSeat top.now.table_id processor list.old }
     requires room { queued_in processor seat.old.me.0.seen < most_calls }
-    requires call { IsSome N.call }
+    requires call { (N.call ≡ last_entry waiting.now.entries) × IsSome N.call }
     ensures placed { IsPlaced top.now.key top.now.table_id seat.new }
     ensures queues { IfSome N.call (λ entry. QueuesOne processor entry seat.old list.old result seat.new list.new) }
 {
+    // For the proof, which reads of it what was queued.
+    let _ = waiting;
     let right = top.split_seat::<plays::GiveList>(list);
     top.join_seat::<plays::TakeList>(seat, right);
     let found = top.fetch_add::<plays::AddQueued<N>>(seat, place_of_queued(processor), 1);
@@ -76,8 +83,8 @@ pub(crate) fn see_list<J, N: Counting>(
     requires count { top.now.key.processors ≡ N.count }
     requires placed { IsPlaced top.now.key top.now.table_id seat.old }
     requires rests { IsAtRest processor top.now.key seat.old.me.0 }
-    requires list { list.old.table_id ≡ top.now.table_id }
-    ensures { (p : ℕ) → IsListSeat list.old.table_id p list.old → SeesList top.now.key p seat.old list.old seat.new list.new }
+    requires list { (p : ℕ) × IsListSeat top.now.table_id p list.old }
+    ensures { (p : ℕ) → IsListSeat top.now.table_id p list.old → SeesList top.now.key p seat.old list.old seat.new list.new }
 {
     let right = top.split_seat::<plays::GiveList>(list);
     top.join_seat::<plays::TakeList>(seat, right);

@@ -41,11 +41,12 @@ impl<J, A: Allocator> List<J, A> {
         // Where there is a free segment, the job waits for its own cookie: for a smaller number it would be given out too
         // early.
         self.waiting.assign(number);
-        let k = add_queued::<J, Brand>(
+        let k = add_queued::<J, A, Brand>(
             &seat.table.shared,
             &mut seat.seat,
             &mut self.seat,
             self.processor,
+            &self.waiting,
         );
         seat.queued += 1;
         Ok(Receipt {

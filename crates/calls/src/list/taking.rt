@@ -1,9 +1,8 @@
 //! How jobs go out of the list.
-ghost use Rattle.std.specs.Prelude.{◌≡◌, List, All, IfOk, IfSome, MatchResult, Some};
+ghost use Rattle.std.specs.Prelude.{◌≡◌, All, IfOk, IfSome, MatchResult, Some};
 ghost use Rattle.sections.specs.Calls.{AllClosed};
-ghost use Rattle.segs.specs.MarkedList.{Mark, assigned};
-ghost use Rattle.calls.specs.declared.entry.Entry.{Entry};
-ghost use Rattle.calls.specs.Lines.{last_number};
+ghost use Rattle.segs.specs.MarkedList.{assigned};
+ghost use Rattle.calls.specs.Lines.{Marked, last_number};
 ghost use Rattle.calls.specs.Waiting.{wrapped, GoesOut};
 ghost use Rattle.calls.specs.Calls.{Takes, AreHanded, FindsOut, Finishes, MayFinish, MayTake};
 
@@ -21,8 +20,8 @@ use std::marker::Brand;
 
 /// What has no number yet gets that of the cookie of the last entry: it is the greatest one.
 fn assign_last<J, A: Allocator>(waiting: &mut SegList<Option<Entry<J>>, A>)
-    requires { (es : List (Entry J × Mark)) × (waiting.old.entries ≡ wrapped es) }
-    ensures { (es : List (Entry J × Mark)) → waiting.old.entries ≡ wrapped es → waiting.new.entries ≡ wrapped (assigned (last_number es) es) }
+    requires { (es : Marked J) × (waiting.old.entries ≡ wrapped es) }
+    ensures { (es : Marked J) → waiting.old.entries ≡ wrapped es → waiting.new.entries ≡ wrapped (assigned (last_number es) es) }
 {
     let Some(last) = waiting.last_next() else {
         return;
@@ -38,8 +37,8 @@ fn take_first<J: Drop, A: Allocator + Copy>(
     number: u64,
     max: usize,
 ) -> SmallVec<Option<Entry<J>>, 8, A>
-    requires { (es : List (Entry J × Mark)) × (waiting.old.entries ≡ wrapped es) }
-    ensures { (es : List (Entry J × Mark)) → waiting.old.entries ≡ wrapped es → GoesOut number max es result.items waiting.new.entries }
+    requires { (es : Marked J) × (waiting.old.entries ≡ wrapped es) }
+    ensures { (es : Marked J) → waiting.old.entries ≡ wrapped es → GoesOut number max es result.items waiting.new.entries }
 {
     // First those that wait for it are done, which may free a segment, and only then can what has no number yet get one:
     // before, it might find none free, and wait for one more period.

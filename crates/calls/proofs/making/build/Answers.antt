@@ -70,7 +70,7 @@ loop-processor-preserved g c =
       spot = (home, words);
       engine = c.sight-sight.ensures.same ∙ v.engine;
       seats_count = omega (arith, a, one, e);
-      seats_new = subst (λ (z : List CallSeatView). AreNewSoFar table c.args.processors z) (sym seats) (new_so_far table c.args.processors c.loop-processor.processor c.loop-processor.seats.items c.in_ok-seat.seat e new v.seats_new);
+      seats_new = subst (λ (z : List (CallSeatView _)). AreNewSoFar table c.args.processors z) (sym seats) (new_so_far table c.args.processors c.loop-processor.processor c.loop-processor.seats.items c.in_ok-seat.seat e new v.seats_new);
       locks_count = omega (arith, b, two, f);
       locks = subst (λ (z : List (KeepView ListKey)). AreOfDomain c.args.engine.now.domain table z) (sym lists) (locks_so_far c.args.engine.now.domain table c.loop-processor.processor c.loop-processor.lists.items c.in_ok-new.field-0 f key v.locks);
     }

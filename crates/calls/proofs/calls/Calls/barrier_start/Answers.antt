@@ -13,7 +13,7 @@ use Rattle.calls.proofs.calls.Calls.barrier_start.Goals as goal
 pub loop-processor-init : goal.loop-processor-init
 loop-processor-init g c =
     let h = c.in_ok-numbers.ensures in
-    let s : CallSeatView = c.args.seat.now in record {
+    let s : CallSeatView _ = c.args.seat.now in record {
       loads = subst (λ (ns : List ℕ). Loads (queued_loads 0 ns) s s) (sym h.items) (no_loads s c.processors-processors.ensures.loads);
       count = ap length h.items;
       len = h.len;
@@ -42,9 +42,9 @@ loop-processor-preserved g c =
     let v = c.loop-processor.invariant in
     let i : ℕ = c.loop-processor.processor in
     let n : ℕ = c.load_queued.result in
-    let s : CallSeatView = c.args.seat.now in
-    let m : CallSeatView = c.loop-processor.seat in
-    let t : CallSeatView = c.load_queued.new.self in
+    let s : CallSeatView _ = c.args.seat.now in
+    let m : CallSeatView _ = c.loop-processor.seat in
+    let t : CallSeatView _ = c.load_queued.new.self in
     let d : Does (LoadQueued i n) m t = c.load_queued.ensures.does in
     let ns : List ℕ = c.loop-processor.numbers.items in
     let pushed = c.push_reserved.ensures.items in
@@ -55,7 +55,7 @@ loop-processor-preserved g c =
     let more = c.push_reserved.ensures.len in
     let cap = c.push_reserved.ensures.capacity in
     let room = v.room in record {
-      loads = subst (λ (acts : List Act). Loads acts s t) (sym (ap (queued_loads 0) pushed ∙ queued_loads_push i ns n count)) (one_more_load (queued_loads 0 ns) (LoadQueued i n) s m t v.loads d);
+      loads = subst (λ (acts : List (Act _)). Loads acts s t) (sym (ap (queued_loads 0) pushed ∙ queued_loads_push i ns n count)) (one_more_load (queued_loads 0 ns) (LoadQueued i n) s m t v.loads d);
       count = omega (arith, long, one, count);
       len = omega (arith, len, more);
       room = cap ∙ room;
@@ -71,7 +71,7 @@ invariant_of-result g c =
     let count = v.count in
     let many = c.processors-processors.ensures.count in
     let wide = c.processors-processors.ensures.wide in
-    let same = ap (λ (t : TableId). t.words) (ap (λ (n : NoteView). n.tallies) c.note.ensures.note ∙ v.loads.same.0) in
+    let same = ap (λ (t : TableId). t.words) (ap (λ (n : NoteView _). n.tallies) c.note.ensures.note ∙ v.loads.same.0) in
     record { whole = omega (arith, le, ge, count, many, wide, same) }
 
 pub returns-clause-starts : goal.returns-clause-starts
@@ -81,11 +81,11 @@ returns-clause-starts g c =
     let ge = c.loop-processor-test.false in
     let count = v.count in
     let many = c.processors-processors.ensures.count in
-    let s : CallSeatView = c.args.seat.now in
+    let s : CallSeatView _ = c.args.seat.now in
     let ns : List ℕ = c.loop-processor.numbers.items in
     let each : (p : ℕ) → p < s.processors → IsCountBetween (queued_in p) (get_or ns p 0) s.seen c.loop-processor.seat.seen = λ p lt. v.each p (omega (arith, le, ge, count, many, lt)) in
     rw (c.note.ensures.same) (record {
-      tallies = ap (λ (n : NoteView). n.tallies) c.note.ensures.note ∙ v.loads.same.0;
+      tallies = ap (λ (n : NoteView _). n.tallies) c.note.ensures.note ∙ v.loads.same.0;
       whole = omega (arith, le, ge, count, many);
       loads = v.loads;
       each = each;

@@ -4,7 +4,7 @@ use Rattle.calls.specs.Meetings.{Covers}
 use Rattle.calls.proofs.seat.CallSeat.cover.Goals as goal
 
 pub see-requires : goal.see-requires
-see-requires g c = ap (λ (n : NoteView). n.tallies) c.note-note.ensures.note ∙ c.requires
+see-requires g c = ap (λ (n : NoteView _). n.tallies) c.note-note.ensures.note ∙ c.requires
 
 pub returns-clause-covers : goal.returns-clause-covers
-returns-clause-covers g c = subst (λ (n : NoteView). Covers c.args.self.now n.seen c.see.new.self) c.note-note.ensures.note c.see.ensures
+returns-clause-covers g c = subst (λ (n : NoteView _). Covers c.args.self.now n.seen c.see.new.self) c.note-note.ensures.note c.see.ensures

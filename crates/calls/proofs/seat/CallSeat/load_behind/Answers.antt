@@ -16,7 +16,7 @@ split_seat-copy-requires g c =
     let t = c.deref-2.ensures in
     let placed = subst (λ z. IsPlaced z.shared.key z.shared.table_id c.self.inside.seat) (sym t) v.placed in
     let there = subst (λ z. c.self.inside.processor < z.shared.key.processors) (sym t) v.rests.there in
-    let same : c.note.inside.seat.table_id ≡ c.self.inside.seat.table_id = ap (λ (n : NoteView). n.tallies) c.note.view_is ∙ (c.requires.note ∙ ap (λ (s : CallSeatView). s.tallies) (sym c.self.view_is)) in
+    let same : c.note.inside.seat.table_id ≡ c.self.inside.seat.table_id = ap (λ (n : NoteView _). n.tallies) c.note.view_is ∙ (c.requires.note ∙ ap (λ (s : CallSeatView _). s.tallies) (sym c.self.view_is)) in
     (same ∙ placed.seated, some_words _ _ _ placed.wide there, gives_note _ _ _)
 
 pub join_seat-requires : goal.join_seat-requires
@@ -25,7 +25,7 @@ join_seat-requires g c =
     let t = c.deref-2.ensures in
     let placed = subst (λ z. IsPlaced z.shared.key z.shared.table_id c.self.inside.seat) (sym t) v.placed in
     let there = subst (λ z. c.self.inside.processor < z.shared.key.processors) (sym t) v.rests.there in
-    let same : c.note.inside.seat.table_id ≡ c.self.inside.seat.table_id = ap (λ (n : NoteView). n.tallies) c.note.view_is ∙ (c.requires.note ∙ ap (λ (s : CallSeatView). s.tallies) (sym c.self.view_is)) in
+    let same : c.note.inside.seat.table_id ≡ c.self.inside.seat.table_id = ap (λ (n : NoteView _). n.tallies) c.note.view_is ∙ (c.requires.note ∙ ap (λ (s : CallSeatView _). s.tallies) (sym c.self.view_is)) in
     (placed.seated, c.split_seat-copy.ensures.3 ∙ (same ∙ placed.seated), ap (λ m. m.1) c.split_seat-copy.ensures.4, some_words _ _ _ placed.wide there, takes_note _ _ _ _ _)
 
 pub load-requires : goal.load-requires
@@ -35,7 +35,7 @@ load-requires g c =
     let t = c.deref-2.ensures in
     let j = c.join_seat.ensures in
     let placed = subst (λ z. IsPlaced z.shared.key z.shared.table_id c.self.inside.seat) (sym t) v.placed in
-    let there : p < c.deref-2.result.now.shared.key.processors = subst (λ z. p < z.shared.key.processors) (sym t) (subst (λ (z : CallSeatView). p < z.processors) (sym c.self.view_is) c.requires.there) in
+    let there : p < c.deref-2.result.now.shared.key.processors = subst (λ z. p < z.shared.key.processors) (sym t) (subst (λ (z : CallSeatView _). p < z.processors) (sym c.self.view_is) c.requires.there) in
     (j.0 ∙ placed.seated, queued_there _ _ _ placed.wide there, counts_queued_here _ _ _ c.self.inside.processor p _ c.join_seat.new.seat.me refl (ap (λ m. m.0.who) j.2 ∙ v.rests.who) there)
 
 pub invariant_of-self : goal.invariant_of-self
@@ -67,14 +67,14 @@ returns-clause-covers g c =
     let who = ap (λ m. m.0.who) c.join_seat.ensures.2 ∙ c.self.invariant.rests.who in
     let q = c.load.ensures.2.1 c.self.inside.processor c.args.processor who refl in
     let told = ap (λ m. m.0.told) c.join_seat.ensures.2 ∙ ap (λ m. m.0.seen) c.split_seat-copy.ensures.4 in
-    rw (← c.note.view_is) (subst (λ (l : List Deed). IsBeginning l c.load.new.seat.me.0.seen) told q.covers)
+    rw (← c.note.view_is) (subst (λ (l : List (Deed _)). IsBeginning l c.load.new.seat.me.0.seen) told q.covers)
 
 pub returns-clause-not_below : goal.returns-clause-not_below
 returns-clause-not_below g c =
     let who = ap (λ m. m.0.who) c.join_seat.ensures.2 ∙ c.self.invariant.rests.who in
     let q = c.load.ensures.2.1 c.self.inside.processor c.args.processor who refl in
     let told = ap (λ m. m.0.told) c.join_seat.ensures.2 ∙ ap (λ m. m.0.seen) c.split_seat-copy.ensures.4 in
-    rw (← c.note.view_is) (load_not_below c.self.inside.processor c.args.processor c.load.result c.note.inside.seat.me.0.seen c.join_seat.new.seat.me.0 c.load.new.seat.me.0 q.does (subst (λ (l : List Deed). IsBeginning l c.load.new.seat.me.0.seen) told q.covers))
+    rw (← c.note.view_is) (load_not_below c.self.inside.processor c.args.processor c.load.result c.note.inside.seat.me.0.seen c.join_seat.new.seat.me.0 c.load.new.seat.me.0 q.does (subst (λ (l : List (Deed _)). IsBeginning l c.load.new.seat.me.0.seen) told q.covers))
 
 pub returns-clause-same : goal.returns-clause-same
 returns-clause-same g c =

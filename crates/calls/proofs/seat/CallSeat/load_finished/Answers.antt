@@ -9,7 +9,7 @@ pub count_finished-requires-clause-there : goal.count_finished-requires-clause-t
 count_finished-requires-clause-there g c =
     let p : ℕ = c.args.processor in
     let t = c.deref-2.ensures in
-    let there : p < c.deref-2.result.now.shared.key.processors = subst (λ z. p < z.shared.key.processors) (sym t) (subst (λ (z : CallSeatView). p < z.processors) (sym c.self.view_is) c.requires) in
+    let there : p < c.deref-2.result.now.shared.key.processors = subst (λ z. p < z.shared.key.processors) (sym t) (subst (λ (z : CallSeatView _). p < z.processors) (sym c.self.view_is) c.requires) in
     (p, refl, there)
 
 pub count_finished-requires-clause-placed : goal.count_finished-requires-clause-placed

@@ -12,7 +12,7 @@ load-requires g c =
     let p : ℕ = c.args.processor in
     let t = c.deref-2.ensures in
     let placed = subst (λ z. IsPlaced z.shared.key z.shared.table_id c.self.inside.seat) (sym t) v.placed in
-    let there : p < c.deref-2.result.now.shared.key.processors = subst (λ z. p < z.shared.key.processors) (sym t) (subst (λ (z : CallSeatView). p < z.processors) (sym c.self.view_is) c.requires) in
+    let there : p < c.deref-2.result.now.shared.key.processors = subst (λ z. p < z.shared.key.processors) (sym t) (subst (λ (z : CallSeatView _). p < z.processors) (sym c.self.view_is) c.requires) in
     (placed.seated, queued_there _ _ _ placed.wide there, counts_queued_here _ _ _ c.self.inside.processor p _ c.self.inside.seat.me refl v.rests.who there)
 
 pub invariant_of-self : goal.invariant_of-self

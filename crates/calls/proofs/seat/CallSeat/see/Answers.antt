@@ -15,7 +15,7 @@ split_seat-copy-requires g c =
     let t = c.deref.ensures in
     let placed = subst (λ z. IsPlaced z.shared.key z.shared.table_id c.self.inside.seat) (sym t) v.placed in
     let there = subst (λ z. c.self.inside.processor < z.shared.key.processors) (sym t) v.rests.there in
-    let same : c.note.inside.seat.table_id ≡ c.self.inside.seat.table_id = ap (λ (n : NoteView). n.tallies) c.note.view_is ∙ (c.requires ∙ ap (λ (s : CallSeatView). s.tallies) (sym c.self.view_is)) in
+    let same : c.note.inside.seat.table_id ≡ c.self.inside.seat.table_id = ap (λ (n : NoteView _). n.tallies) c.note.view_is ∙ (c.requires ∙ ap (λ (s : CallSeatView _). s.tallies) (sym c.self.view_is)) in
     (same ∙ placed.seated, some_words _ _ _ placed.wide there, gives_note _ _ _)
 
 pub join_seat-requires : goal.join_seat-requires
@@ -24,7 +24,7 @@ join_seat-requires g c =
     let t = c.deref.ensures in
     let placed = subst (λ z. IsPlaced z.shared.key z.shared.table_id c.self.inside.seat) (sym t) v.placed in
     let there = subst (λ z. c.self.inside.processor < z.shared.key.processors) (sym t) v.rests.there in
-    let same : c.note.inside.seat.table_id ≡ c.self.inside.seat.table_id = ap (λ (n : NoteView). n.tallies) c.note.view_is ∙ (c.requires ∙ ap (λ (s : CallSeatView). s.tallies) (sym c.self.view_is)) in
+    let same : c.note.inside.seat.table_id ≡ c.self.inside.seat.table_id = ap (λ (n : NoteView _). n.tallies) c.note.view_is ∙ (c.requires ∙ ap (λ (s : CallSeatView _). s.tallies) (sym c.self.view_is)) in
     (placed.seated, c.split_seat-copy.ensures.3 ∙ (same ∙ placed.seated), ap (λ m. m.1) c.split_seat-copy.ensures.4, some_words _ _ _ placed.wide there, takes_note _ _ _ _ _)
 
 pub see_all-requires-clause-placed : goal.see_all-requires-clause-placed
@@ -64,9 +64,9 @@ returns g c =
     let was = ap (λ m. m.0.seen) j.2 in
     rw (← c.self.view_is, ← c.note.view_is) (record {
       same = λ i. record { tallies = (e.table ∙ j.0) i; processors = (arc_value c.self.inside.table).shared.key.processors; processor = c.self.inside.processor; seen = c.see_all.new.seat.me.0.seen };
-      since = subst (λ (l : List Deed). IsBeginning l c.see_all.new.seat.me.0.seen) was f.since;
+      since = subst (λ (l : List (Deed _)). IsBeginning l c.see_all.new.seat.me.0.seen) was f.since;
       own = f.own ∙ ap (deeds_of c.self.inside.processor) was;
-      covers = subst (λ (l : List Deed). IsBeginning l c.see_all.new.seat.me.0.seen) told f.covers;
+      covers = subst (λ (l : List (Deed _)). IsBeginning l c.see_all.new.seat.me.0.seen) told f.covers;
       loads = f.loads;
       finishers = subst (λ z. AreFinishers z.shared.key.processors c.see_all.new.seat.me.0.seen) c.deref.ensures f.finishers;
     })

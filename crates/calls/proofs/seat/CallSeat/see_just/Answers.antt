@@ -15,7 +15,7 @@ split_seat-copy-requires g c =
     let t = c.deref.ensures in
     let placed = subst (λ z. IsPlaced z.shared.key z.shared.table_id c.self.inside.seat) (sym t) v.placed in
     let there = subst (λ z. c.self.inside.processor < z.shared.key.processors) (sym t) v.rests.there in
-    let same : c.note.inside.seat.table_id ≡ c.self.inside.seat.table_id = ap (λ (n : NoteView). n.tallies) c.note.view_is ∙ (c.requires.tallies ∙ ap (λ (s : CallSeatView). s.tallies) (sym c.self.view_is)) in
+    let same : c.note.inside.seat.table_id ≡ c.self.inside.seat.table_id = ap (λ (n : NoteView _). n.tallies) c.note.view_is ∙ (c.requires.tallies ∙ ap (λ (s : CallSeatView _). s.tallies) (sym c.self.view_is)) in
     (same ∙ placed.seated, some_words _ _ _ placed.wide there, gives_note _ _ _)
 
 pub join_seat-requires : goal.join_seat-requires
@@ -24,7 +24,7 @@ join_seat-requires g c =
     let t = c.deref.ensures in
     let placed = subst (λ z. IsPlaced z.shared.key z.shared.table_id c.self.inside.seat) (sym t) v.placed in
     let there = subst (λ z. c.self.inside.processor < z.shared.key.processors) (sym t) v.rests.there in
-    let same : c.note.inside.seat.table_id ≡ c.self.inside.seat.table_id = ap (λ (n : NoteView). n.tallies) c.note.view_is ∙ (c.requires.tallies ∙ ap (λ (s : CallSeatView). s.tallies) (sym c.self.view_is)) in
+    let same : c.note.inside.seat.table_id ≡ c.self.inside.seat.table_id = ap (λ (n : NoteView _). n.tallies) c.note.view_is ∙ (c.requires.tallies ∙ ap (λ (s : CallSeatView _). s.tallies) (sym c.self.view_is)) in
     (placed.seated, c.split_seat-copy.ensures.3 ∙ (same ∙ placed.seated), ap (λ m. m.1) c.split_seat-copy.ensures.4, some_words _ _ _ placed.wide there, takes_note _ _ _ _ _)
 
 pub see_told-requires-clause-placed : goal.see_told-requires-clause-placed
@@ -45,7 +45,7 @@ see_told-requires-clause-since g c =
     let j = c.join_seat.ensures.2 in
     let told = ap (λ m. m.0.told) j ∙ ap (λ m. m.0.seen) c.split_seat-copy.ensures.4 in
     let was = ap (λ m. m.0.seen) j in
-    subst (λ (z : List Deed × List Deed). IsBeginning z.0 z.1) (λ i. (sym was i, sym told i)) (rw (← c.self.view_is, ← c.note.view_is) at c.requires.since)
+    subst (λ (z : List (Deed _) × List (Deed _)). IsBeginning z.0 z.1) (λ i. (sym was i, sym told i)) (rw (← c.self.view_is, ← c.note.view_is) at c.requires.since)
 
 pub invariant_of-self : goal.invariant_of-self
 invariant_of-self g c =
@@ -58,7 +58,7 @@ invariant_of-self g c =
     let seen = ap (λ m. m.0.seen) me in record {
       placed = record { seated = e.table ∙ (j.0 ∙ v.placed.seated); wide = v.placed.wide; bare = ap (λ m. m.1) me ∙ (ap (λ m. m.1) j.2 ∙ v.placed.bare) };
       rests = record { who = ap (λ m. m.0.who) me ∙ who; there = v.rests.there; no_list = ap (λ m. m.0.list) me ∙ (ap (λ m. m.0.list) j.2 ∙ v.rests.no_list); no_batch = ap (λ m. m.0.batch) me ∙ (ap (λ m. m.0.batch) j.2 ∙ v.rests.no_batch) };
-      loads = subst (λ (l : List Deed). AreTrue l) (sym seen) f.loads;
+      loads = subst (λ (l : List (Deed _)). AreTrue l) (sym seen) f.loads;
       queued = v.queued ∙ sym (ap (queued_in c.self.inside.processor) seen ∙ (same_queued c.self.inside.processor c.join_seat.new.seat.me.0.told c.join_seat.new.seat.me.0.seen f.own ∙ ap (λ m. queued_in c.self.inside.processor m.0.seen) j.2));
       few = v.few;
     }
@@ -75,6 +75,6 @@ returns g c =
       is = λ i. record { tallies = (e.table ∙ j.0) i; processors = (arc_value c.self.inside.table).shared.key.processors; processor = c.self.inside.processor; seen = seen i };
       since = rw (← c.self.view_is, ← c.note.view_is) at c.requires.since;
       own = ap (deeds_of c.self.inside.processor) (sym told) ∙ (f.own ∙ ap (deeds_of c.self.inside.processor) was);
-      loads = subst (λ (l : List Deed). AreTrue l) told f.loads;
-      finishers = subst (λ (l : List Deed). AreFinishers (arc_value c.self.inside.table).shared.key.processors l) told (subst (λ z. AreFinishers z.shared.key.processors c.join_seat.new.seat.me.0.told) c.deref.ensures f.finishers);
+      loads = subst (λ (l : List (Deed _)). AreTrue l) told f.loads;
+      finishers = subst (λ (l : List (Deed _)). AreFinishers (arc_value c.self.inside.table).shared.key.processors l) told (subst (λ z. AreFinishers z.shared.key.processors c.join_seat.new.seat.me.0.told) c.deref.ensures f.finishers);
     })

@@ -18,7 +18,7 @@ see_batch_out-requires-clause-rests g c = subst (λ z. IsAtRest c.self.inside.pr
 
 pub see_batch_out-requires-clause-batch : goal.see_batch_out-requires-clause-batch
 see_batch_out-requires-clause-batch g c =
-    let same : c.batch.inside.seat.table_id ≡ c.self.inside.seat.table_id = ap (λ b. b.tallies) c.batch.view_is ∙ (c.requires ∙ ap (λ (s : CallSeatView). s.tallies) (sym c.self.view_is)) in
+    let same : c.batch.inside.seat.table_id ≡ c.self.inside.seat.table_id = ap (λ b. b.tallies) c.batch.view_is ∙ (c.requires ∙ ap (λ (s : CallSeatView _). s.tallies) (sym c.self.view_is)) in
     same ∙ (c.self.invariant.placed.seated ∙ ap (λ z. z.shared.table_id) (sym c.deref.ensures))
 
 pub invariant_of-self : goal.invariant_of-self
@@ -26,8 +26,8 @@ invariant_of-self g c =
     let v = c.self.invariant in
     let e = c.see_batch_out.ensures c.batch.inside.processor c.batch.inside.count c.batch.invariant.seated in
     let f = e.finds c.self.inside.processor v.rests.who in record {
-      placed = record { seated = e.table ∙ v.placed.seated; wide = v.placed.wide; bare = ap (λ (m : Sat). m.1) e.me ∙ v.placed.bare };
-      rests = record { who = ap (λ (m : Sat). m.0.who) e.me ∙ v.rests.who; there = v.rests.there; no_list = ap (λ (m : Sat). m.0.list) e.me ∙ v.rests.no_list; no_batch = ap (λ (m : Sat). m.0.batch) e.me };
+      placed = record { seated = e.table ∙ v.placed.seated; wide = v.placed.wide; bare = ap (λ (m : Sat _). m.1) e.me ∙ v.placed.bare };
+      rests = record { who = ap (λ (m : Sat _). m.0.who) e.me ∙ v.rests.who; there = v.rests.there; no_list = ap (λ (m : Sat _). m.0.list) e.me ∙ v.rests.no_list; no_batch = ap (λ (m : Sat _). m.0.batch) e.me };
       loads = f.loads;
       queued = v.queued ∙ sym (same_queued c.self.inside.processor c.see_batch_out.new.seat.me.0.seen c.self.inside.seat.me.0.seen f.own);
       few = v.few;
@@ -37,7 +37,7 @@ pub invariant_of-batch : goal.invariant_of-batch
 invariant_of-batch g c =
     let v = c.batch.invariant in
     let e = c.see_batch_out.ensures c.batch.inside.processor c.batch.inside.count c.batch.invariant.seated in record {
-      seated = record { seated = refl; me = e.batch_is ∙ (v.seated.me ∙ ap (λ (m : Sat). (batch_seat (OfBatch c.batch.inside.processor (first_known m.0.batch) c.batch.inside.count), [])) (sym e.batch_is)) };
+      seated = record { seated = refl; me = e.batch_is ∙ (v.seated.me ∙ ap (λ (m : Sat _). (batch_seat (OfBatch c.batch.inside.processor (first_known m.0.batch) c.batch.inside.count), [])) (sym e.batch_is)) };
       wrapping = v.wrapping;
     }
 

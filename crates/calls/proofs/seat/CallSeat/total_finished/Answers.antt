@@ -1,4 +1,4 @@
-use Rattle.std.proofs.Common.{ℕ, ◌≤◌, List, [], ◌∷◌, ◌++◌, sym, subst, arith}
+use Rattle.std.proofs.Common.{ℕ, ◌≤◌, List, [], ◌∷◌, ◌++◌, refl, sym, subst, arith}
 use Rattle.std.proofs.lemmas.List.{length-append}
 use Rattle.std.proofs.lemmas.List.Sums.{sum_by-append}
 use Rattle.calls.specs.declared.view.Act.{Act}
@@ -7,17 +7,29 @@ use Rattle.calls.specs.Tallies.{queued_in, finished_in, AreFinishers}
 use Rattle.calls.specs.Views.{CallSeatView}
 use Rattle.calls.specs.Calls.{Does}
 use Rattle.calls.specs.Barriers.{IsCountBetween, Loads, finished_loads}
-use Rattle.calls.proofs.Loading.{queued_later, one_more_load, later_count, goes_on, finished_found, finished_loads_push, each_push}
+use Rattle.calls.proofs.Loading.{queued_later, no_loads, one_more_load, later_count, goes_on, finished_found, finished_loads_push, each_push}
 use Rattle.calls.proofs.seat.CallSeat.total_finished.Goals as goal
+
+pub loop-processor-init : goal.loop-processor-init
+loop-processor-init g c = record {
+  found = [];
+  loads = no_loads _ c.processors-processors.ensures.loads;
+  count = refl;
+  each = λ p lt. absurd (omega (arith, lt));
+  within = λ p lt. absurd (omega (arith, lt));
+  finishers = λ lt. absurd (omega (arith, lt));
+  total_is = refl;
+  small = omega arith;
+}
 
 pub loop-processor-preserved : goal.loop-processor-preserved
 loop-processor-preserved g c =
     let v = c.loop-processor.invariant in
     let i : ℕ = c.loop-processor.processor in
     let n : ℕ = c.load_finished.result in
-    let s : CallSeatView = c.args.self.now in
-    let m : CallSeatView = c.loop-processor.self in
-    let t : CallSeatView = c.load_finished.new.self in
+    let s : CallSeatView _ = c.args.self.now in
+    let m : CallSeatView _ = c.loop-processor.self in
+    let t : CallSeatView _ = c.load_finished.new.self in
     let d : Does (LoadFinished i n) m t = c.load_finished.ensures.does in
     let ns : List ℕ = v.found in
     let count = v.count in
@@ -28,7 +40,7 @@ loop-processor-preserved g c =
     let small = v.small in
     let word = c.load_finished.type_inv in record {
       found = ns ++ n ∷ [];
-      loads = subst (λ (acts : List Act). Loads acts s t) (sym (finished_loads_push i ns n count)) (one_more_load (finished_loads 0 ns) (LoadFinished i n) s m t v.loads d);
+      loads = subst (λ (acts : List (Act _)). Loads acts s t) (sym (finished_loads_push i ns n count)) (one_more_load (finished_loads 0 ns) (LoadFinished i n) s m t v.loads d);
       count = omega (arith, one, count);
       each = each_push (λ p k. IsCountBetween (finished_in p) k s.seen t.seen) i ns n count (λ p lt. later_count _ _ (v.each p lt) (goes_on _ m t d)) (finished_found i n s.seen m t v.loads.since d);
       within = each_push (λ p k. k ≤ queued_in p t.seen) i ns n count (λ p lt. let low = v.within p lt in let more = queued_later p (goes_on _ m t d) in omega (arith, low, more)) c.load_finished.ensures.within;

@@ -9,7 +9,7 @@ cover-requires c = c.requires.1 ∙ sym c.requires.0
 pub admit-requires-clause-tallies : goal.admit-requires-clause-tallies
 admit-requires-clause-tallies c =
     let h = c.totals-totals.ensures in
-    ap (λ (s : CallSeatView). s.tallies) c.cover.ensures.other ∙ (c.requires.1 ∙ (sym c.requires.0 ∙ sym (h.finished.loads.same.0 ∙ (h.queued.loads.same.0 ∙ ap (λ (s : CallSeatView). s.tallies) c.cover.ensures.covers.same))))
+    ap (λ (s : CallSeatView _). s.tallies) c.cover.ensures.other ∙ (c.requires.1 ∙ (sym c.requires.0 ∙ sym (h.finished.loads.same.0 ∙ (h.queued.loads.same.0 ∙ ap (λ (s : CallSeatView _). s.tallies) c.cover.ensures.covers.same))))
 
 pub admit-requires-clause-covered : goal.admit-requires-clause-covered
 admit-requires-clause-covered c =
@@ -24,13 +24,13 @@ returns c =
     let two = c.admit.ensures.accepts.is in
     let all = c.admit.ensures.stays in (
       (
-        ap (λ (s : CallSeatView). s.tallies) all ∙ (h.finished.loads.same.0 ∙ (h.queued.loads.same.0 ∙ ap (λ (s : CallSeatView). s.tallies) one)),
-        ap (λ (s : CallSeatView). s.processors) all ∙ (h.finished.loads.same.1 ∙ (h.queued.loads.same.1 ∙ ap (λ (s : CallSeatView). s.processors) one)),
-        ap (λ (s : CallSeatView). s.processor) all ∙ (h.finished.loads.same.2 ∙ (h.queued.loads.same.2 ∙ ap (λ (s : CallSeatView). s.processor) one)),
+        ap (λ (s : CallSeatView _). s.tallies) all ∙ (h.finished.loads.same.0 ∙ (h.queued.loads.same.0 ∙ ap (λ (s : CallSeatView _). s.tallies) one)),
+        ap (λ (s : CallSeatView _). s.processors) all ∙ (h.finished.loads.same.1 ∙ (h.queued.loads.same.1 ∙ ap (λ (s : CallSeatView _). s.processors) one)),
+        ap (λ (s : CallSeatView _). s.processor) all ∙ (h.finished.loads.same.2 ∙ (h.queued.loads.same.2 ∙ ap (λ (s : CallSeatView _). s.processor) one)),
       ),
       (
-        ap (λ (s : CallSeatView). s.tallies) two ∙ ap (λ (s : CallSeatView). s.tallies) other,
-        ap (λ (s : CallSeatView). s.processors) two ∙ ap (λ (s : CallSeatView). s.processors) other,
-        ap (λ (s : CallSeatView). s.processor) two ∙ ap (λ (s : CallSeatView). s.processor) other,
+        ap (λ (s : CallSeatView _). s.tallies) two ∙ ap (λ (s : CallSeatView _). s.tallies) other,
+        ap (λ (s : CallSeatView _). s.processors) two ∙ ap (λ (s : CallSeatView _). s.processors) other,
+        ap (λ (s : CallSeatView _). s.processor) two ∙ ap (λ (s : CallSeatView _). s.processor) other,
       ),
     )

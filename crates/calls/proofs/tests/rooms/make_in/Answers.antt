@@ -11,8 +11,8 @@ pub returns : goal.returns
 returns c =
     let s = c.in_ok-calls.ensures.made in
     let one = c.requires.engine.0 in
-    let Q : CallSeatView → Type 0 = λ z. (z.tallies ≡ c.in_ok-calls.calls.tallies) × (z.processor ≡ 0) in
-    let seats : All Q c.in_ok-calls.seats.items = λ k d lt. (ap (λ (z : CallSeatView). z.tallies) (s.seats_new.each k d lt), ap (λ (z : CallSeatView). z.processor) (s.seats_new.each k d lt) ∙ first k _ (s.seats_new.count ∙ one) lt) in
+    let Q : CallSeatView _ → Type 0 = λ z. (z.tallies ≡ c.in_ok-calls.calls.tallies) × (z.processor ≡ 0) in
+    let seats : All Q c.in_ok-calls.seats.items = λ k d lt. (ap (λ (z : CallSeatView _). z.tallies) (s.seats_new.each k d lt), ap (λ (z : CallSeatView _). z.processor) (s.seats_new.each k d lt) ∙ first k _ (s.seats_new.count ∙ one) lt) in
     let seat = rw c.unwrap-seat.ensures at (All-pop Q _ _ _ c.pop.ensures.items seats).1 in
     let zero = seat.1 in
     let many = s.many in
