@@ -4,15 +4,16 @@ use Rattle.std.proofs.Math.Seq.{drop-append_seam, take-append_seam, drop-length}
 use Rattle.std.proofs.lemmas.List.{length-append, length-drop, drop-append-le}
 use mathlib.Core.Logic.{dite}
 use native.Mathlib.Decide.{ℕ_discrete}
-use Rattle.segs.specs.MarkedList.{Mark, Next, remarked, advanced, assigned, reached, next_becomes, number_given, awaited}
+use Rattle.segs.specs.MarkedList.{Mark, Done, Next, marked, remarked, advanced, assigned, reached, next_becomes, number_given, awaited}
 use Rattle.calls.specs.declared.entry.Entry.{Entry}
 use Rattle.calls.specs.declared.view.Act.{Act}
 use Rattle.calls.specs.declared.view.Act.TheVariants.{Queue, Take, Finish, LoadQueued, LoadFinished}
 use Rattle.calls.specs.declared.view.Deed.{Deed}
 use Rattle.calls.specs.Lines.{Line, count_out, some_out, no_calls, with_call, with_taken, with_none_out, last_number, readied, many_ready, next_line, line_in, call_of, calls_in}
-use Rattle.calls.specs.Tallies.{is_queue, queued_by, queued_in, finished_by, finished_in, IsBeginning, IsTrueOf, AreTrueAfter, AreTrue}
+use Rattle.calls.specs.Tallies.{deed, is_queue, queued_by, queued_in, finished_by, finished_in, IsBeginning, IsTrueOf, AreTrueAfter, AreTrue}
 use Rattle.calls.specs.Laws.{given_out, WaitsInOrder, GivesOnce, KeepsCalls}
 use Rattle.calls.proofs.Counting.{queued_push, finished_push}
+use Rattle.calls.proofs.Meeting.{true_beginning}
 use Rattle.calls.proofs.Lining.{count_some_out, line_push, few_ready, length_readied}
 
 module _ {J : Type 0} where
@@ -214,3 +215,27 @@ module _ {J : Type 0} where
 
   pub keeps_calls : KeepsCalls J
   keeps_calls p seen later on = sym (ap (λ z. take (queued_in p seen) (calls_in p z)) on.whole ∙ (ap (take (queued_in p seen)) (calls_append p seen on.rest) ∙ (ap (λ z. take z (calls_in p seen ++ calls_in p on.rest)) (sym (calls_counted p seen)) ∙ take-append_seam (calls_in p seen) (calls_in p on.rest))))
+
+  -- A take gives out the very next calls
+
+  plain_marked : (m : Mark) (l : List (Entry J)) → plain (marked m l) ≡ l
+  plain_marked m [] = refl
+  plain_marked m (x ∷ xs) = ap (λ z. x ∷ z) (plain_marked m xs)
+
+  plain_append : (a b : List (Entry J × Mark)) → plain (a ++ b) ≡ plain a ++ plain b
+  plain_append [] b = refl
+  plain_append (x ∷ xs) b = ap (λ z. x.0 ∷ z) (plain_append xs b)
+
+  pub next_calls : (p number by max : ℕ) (before seen : List (Deed J)) (finished : ℕ) (waiting : List (Entry J × Mark)) (gone : List (Entry J)) (rest : List (Entry J × Mark)) → seen ≡ before ++ deed by (Take p number max) ∷ [] → AreTrue seen → finished ≡ finished_in p before → line_in p before ≡ record { out = None; waiting = waiting }
+      → readied number waiting ≡ marked Done gone ++ rest → gone ≡ take (length gone) (drop finished (calls_in p seen))
+  next_calls p number by max before seen finished waiting gone rest is so counted line order =
+      let good = good_in p before (front_true before (deed by (Take p number max) ∷ []) (subst (λ z. AreTrue z) is so)) in
+      let none : count_out (line_in p before).out ≡ 0 = ap (λ (z : Line J). count_out z.out) line in
+      let same : finished_in p before + count_out (line_in p before).out ≡ finished = omega (arith, none, counted) in
+      let calls : calls_in p seen ≡ calls_in p before = ap (calls_in p) is ∙ (calls_push p before (deed by (Take p number max)) ∙ (ap (λ z. calls_in p before ++ z) (none_of (Take p number max) (by == p) refl) ∙ append-nil (calls_in p before))) in
+      let all : gone ++ plain rest ≡ drop finished (calls_in p seen) =
+          ap (λ z. z ++ plain rest) (sym (plain_marked Done gone)) ∙ (sym (plain_append (marked Done gone) rest) ∙ (ap plain (sym order) ∙ (plain_readied number waiting ∙ (ap (λ (z : Line J). plain z.waiting) (sym line) ∙ (good.order ∙ (ap (λ z. drop z (calls_in p before)) same ∙ ap (drop finished) (sym calls))))))) in
+      sym (take-append_seam gone (plain rest)) ∙ ap (take (length gone)) all
+    where
+      front_true : (a b : List (Deed J)) → AreTrue (a ++ b) → AreTrue a
+      front_true a b h = true_beginning record { rest = b; whole = refl } h

@@ -16,7 +16,7 @@ use Rattle.calls.specs.declared.entry.Entry.{Entry}
 use Rattle.calls.specs.declared.list.Receipt.{Receipt}
 use Rattle.calls.specs.declared.refusals.CallRefusal.{CallRefusal}
 use Rattle.calls.specs.declared.refusals.CallRefusal.TheVariants.{Exhausted, Memory}
-use Rattle.calls.specs.Lines.{line_in, readied, calls_in}
+use Rattle.calls.specs.Lines.{some_out, line_in, readied, many_ready, calls_in}
 use Rattle.calls.specs.Tallies.{deed, most_calls, queued_in, deeds_of, AreTrue, IsBeginning as IsBeginningOf}
 use Rattle.calls.specs.Views.{CallSeatView, ListView, BatchView, CallsView, key_of, next_of, IsListIn}
 use Rattle.calls.specs.Meetings.{Covers}
@@ -125,21 +125,26 @@ module _ {J : Type 0} where
   IsTaken l (e ∷ es) None l' = ⊥
   IsTaken l (e ∷ es) (Some b) l' = (b ≡ record { tallies = l.tallies; processor = l.processor; first = l.finished; count = length (e ∷ es); entries = e ∷ es }) × (l'.out ≡ Some (length (e ∷ es)))
 
-  -- one load found the number. What waited for it is done, and what had no number got one; the first that are done were taken, `max` of them, but no more than eight and no more than there are. This was the list of its processor, and is so; and these are the very calls that were queued there, from the finished count on
-  pub record Takes (max : ℕ) (l : ListView J) (c : CpuView) (s : CallSeatView J) (taken : Option (BatchView J)) (l' : ListView J) (c' : CpuView) (s' : CallSeatView J) : Type 0 where
-    pub none_out : l.out ≡ None
+  -- one load found the number. What waited for it is done, and what had no number got one; the first that are done go out, `max` of them, but no more than eight and no more than there are. This was the list of its processor, and is so; and these are the very calls that were queued there, from the finished count on
+  pub record GivesOut (max : ℕ) (l : ListView J) (c : CpuView) (s : CallSeatView J) (gone : List (Entry J)) (l' : ListView J) (c' : CpuView) (s' : CallSeatView J) : Type 0 where
     pub number : ℕ
     pub asks : AsksHowFar number l.sight c c' l'.sight
     pub same : IsSameList l l'
     pub finished : l'.finished ≡ l.finished
+    pub out : l'.out ≡ some_out (length gone)
     pub tally : Does (Take l.processor number max) s s'
     pub was : IsListIn tally.before l
     pub is : IsListIn s'.seen l'
-    pub gone : List (Entry J)
     pub in_order : readied number l.entries ≡ marked Done gone ++ l'.entries
-    pub many : length gone ≡ min (min max 8) (count_done (readied number l.entries))
-    pub taken_is : IsTaken l gone taken l'
+    pub many : length gone ≡ many_ready max (readied number l.entries)
     pub calls : gone ≡ take (length gone) (drop l.finished (calls_in l.processor s'.seen))
+
+  -- no batch was out, and these were given out
+  pub record Takes (max : ℕ) (l : ListView J) (c : CpuView) (s : CallSeatView J) (taken : Option (BatchView J)) (l' : ListView J) (c' : CpuView) (s' : CallSeatView J) : Type 0 where
+    pub none_out : l.out ≡ None
+    pub gone : List (Entry J)
+    pub gives : GivesOut max l c s gone l' c' s'
+    pub taken_is : IsTaken l gone taken l'
 
   -- a batch is out: one load by the seat found it so
   pub record FindsOut (l : ListView J) (c : CpuView) (s : CallSeatView J) (l' : ListView J) (c' : CpuView) (s' : CallSeatView J) : Type 0 where

@@ -56,15 +56,20 @@ pub(crate) fn take_out<J, N: Taking>(
     seat: &mut Place<J>,
     list: &mut Place<J>,
     processor: u16,
+    number: u64,
+    max: usize,
 ) -> Place<J>
+    requires taking { (N.number ≡ number) × (N.max ≡ max) }
     requires placed { IsPlaced top.now.key top.now.table_id seat.old }
     requires rests { IsOfCaller top.now.key seat.old.me.0 }
     requires there { processor < top.now.key.processors }
     requires list { IsListSeat top.now.table_id processor list.old }
     requires none { out_known list.old.me.0.list ≡ None }
     ensures placed { IsPlaced top.now.key top.now.table_id seat.new }
-    ensures takes { TakesOne processor N.number N.max seat.old list.old seat.new list.new result }
+    ensures takes { TakesOne processor number max seat.old list.old seat.new list.new result }
 {
+    // For the proof, which notes for which number jobs were taken, and how many were wanted.
+    let _ = (number, max);
     let right = top.split_seat::<plays::GiveList>(list);
     top.join_seat::<plays::TakeList>(seat, right);
     top.load::<plays::TakeOut<N>>(seat, place_of_queued(processor));

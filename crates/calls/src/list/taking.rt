@@ -1,5 +1,5 @@
 //! How jobs go out of the list.
-ghost use Rattle.std.specs.Prelude.{◌≡◌, All, IfOk, IfSome, MatchResult, Some};
+ghost use Rattle.std.specs.Prelude.{◌≡◌, All, IfOk, IfSome, MatchResult};
 ghost use Rattle.sections.specs.Calls.{AllClosed};
 ghost use Rattle.segs.specs.MarkedList.{assigned};
 ghost use Rattle.calls.specs.Lines.{Marked, last_number};
@@ -75,18 +75,24 @@ impl<J: Drop, A: Allocator + Copy> List<J, A> {
             return Err(TakeRefusal::Invoking);
         }
         // The number is loaded first: with an older one, entries would stay that are due.
-        let number = cpu.how_far(&mut self.sight);
-        let taken = take_first(&mut self.waiting, number.get(), max);
+        let number = cpu.how_far(&mut self.sight).get();
+        let entries = take_first(&mut self.waiting, number, max);
         let top = &seat.table.shared;
-        let right =
-            take_out::<J, Brand>(top, &mut seat.seat, &mut self.seat, self.processor);
-        let count = taken.len();
+        let right = take_out::<J, Brand>(
+            top,
+            &mut seat.seat,
+            &mut self.seat,
+            self.processor,
+            number,
+            max,
+        );
+        let count = entries.len();
         if count == 0 {
             return Ok(None);
         }
         self.out = true;
         Ok(Some(Batch {
-            entries: taken,
+            entries,
             count,
             processor: self.processor,
             seat: right,

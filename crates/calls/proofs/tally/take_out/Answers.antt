@@ -3,7 +3,7 @@ use Rattle.calls.specs.declared.view.Act.TheVariants.{Take}
 use Rattle.calls.specs.declared.view.ListRight.{ListRight}
 use Rattle.calls.specs.declared.view.BatchRight.{BatchRight}
 use Rattle.calls.specs.Rule.{list_seat, batch_seat}
-use Rattle.calls.specs.Plays.{IsThere}
+use Rattle.calls.specs.Plays.{IsThere, TakesOut}
 use Rattle.calls.specs.Seats.{list_of, queued_known, finished_known, waiting_known}
 use Rattle.calls.proofs.Steps.{takes_here}
 use Rattle.calls.proofs.Sharing.{gives_list, takes_list, passes_batch}
@@ -53,10 +53,10 @@ returns-clause-takes g c =
     let me = c.requires.list.me ∙ ap (λ o. (list_of p (queued_known c.args.list.now.me.0.list) (finished_known c.args.list.now.me.0.list) o (waiting_known c.args.list.now.me.0.list), [])) c.requires.none in
     let list = ap (λ m. m.0.list) j ∙ (ap (λ m. m.0.list) c.split_seat-right.ensures.4 ∙ ap (λ m. m.0.list) me) in
     let who = ap (λ m. m.0.who) j ∙ c.requires.rests.1 in
-    let q = f.2.1 b p _ _ _ who list in record {
+    let q = subst (λ (z : ℕ × ℕ). TakesOut b p (queued_known c.args.list.now.me.0.list) (finished_known c.args.list.now.me.0.list) (waiting_known c.args.list.now.me.0.list) z.0 z.1 c.join_seat.new.seat.me.0 c.load.new.seat.me.0) (λ i. (c.requires.taking.0 i, c.requires.taking.1 i)) (f.2.1 b p _ _ _ who list) in record {
       by = b;
       who = c.requires.rests.1;
-      does = does_through b (Take p g.N.Taking.number g.N.Taking.max) c.args.seat.now.me.0 c.join_seat.new.seat.me.0 c.load.new.seat.me.0 c.split_seat-2.new.seat.me.0 (ap (λ m. m.0.seen) j) (ap (λ m. m.0.who) j) (ap (λ m. m.0.seen) u.2 ∙ ap (λ m. m.0.seen) t.2) (ap (λ m. m.0.who) u.2 ∙ ap (λ m. m.0.who) t.2) q.does;
+      does = does_through b (Take p c.args.number c.args.max) c.args.seat.now.me.0 c.join_seat.new.seat.me.0 c.load.new.seat.me.0 c.split_seat-2.new.seat.me.0 (ap (λ m. m.0.seen) j) (ap (λ m. m.0.who) j) (ap (λ m. m.0.seen) u.2 ∙ ap (λ m. m.0.seen) t.2) (ap (λ m. m.0.who) u.2 ∙ ap (λ m. m.0.who) t.2) q.does;
       there = subst (λ (o : Option ℕ). IsThere p (queued_known c.args.list.now.me.0.list) (finished_known c.args.list.now.me.0.list) o (waiting_known c.args.list.now.me.0.list) q.does.before) (sym c.requires.none) q.there;
       no_list = ap (λ m. m.0.list) u.2 ∙ ap (λ m. m.0.list) t.2;
       no_batch = ap (λ m. m.0.batch) u.2;

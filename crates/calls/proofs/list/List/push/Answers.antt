@@ -107,7 +107,7 @@ returns g c =
     let h = q.list_is in
     let after = called_known p x _ _ _ _ _ q in
     let more = ap (queued_in p) q.does.seen ∙ queued_here p x q.does.before in
-    let own = same_queued p _ _ q.does.own in
+    let own = same_queued p q.does.before c.seat.inside.seat.me.0.seen q.does.own in
     let held = q.own in
     let over : c.add_queued-k.result < queued_in p c.add_queued-k.new.seat.me.0.seen = omega (arith, more, own, held) in
     rw (c.note.ensures.same, ← c.self.view_is, ← c.seat.view_is) (record {
