@@ -155,8 +155,7 @@ module _ {J : Type 0} where
     pub is : IsListIn s'.seen l
 
   -- one load by the seat found the list as it is
-  pub record FindsLens (l : ListView J) (s : CallSeatView J) (found : List ℕ × List ℕ) (l' : ListView J) (s' : CallSeatView J) : Type 0 where
-    pub list : l' ≡ l
+  pub record FindsLens (l : ListView J) (s : CallSeatView J) (found : List ℕ × List ℕ) (s' : CallSeatView J) : Type 0 where
     pub covers : Covers s s.seen s'
     pub is : IsListIn s'.seen l
     pub found_is : found ≡ (lens l.entries, numbers l.entries)

@@ -65,7 +65,8 @@ impl<J, A: Allocator> List<J, A> {
         seat: &mut CallSeat<J, C>,
     ) -> Result<([usize; 4], [u64; 2]), Memory>
         requires { MayLook self.old seat.old }
-        ensures found { IfOk result (λ found. FindsLens self.old seat.old found self.new seat.new) }
+        ensures found { IfOk result (λ found. FindsLens self.old seat.old found seat.new) }
+        ensures same { self.new ≡ self.old }
         ensures ok { IsOk result }
     {
         let top = &seat.table.shared;

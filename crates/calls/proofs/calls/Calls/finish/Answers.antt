@@ -21,7 +21,7 @@ returns-clause-finishes g c =
       list = c.take-list.result.0;
       of_calls = of ∙ (λ i. record { domain = c.args.self.now.domain; tallies = c.args.self.now.tallies; processor = p i });
       list' = c.finish.new.self;
-      finishes = record { tally = c.finish.ensures.tally; was_out = c.finish.ensures.was_out; first = c.finish.ensures.first; list = c.finish.ensures.list };
+      finishes = record { was = c.finish.ensures.was; is = c.finish.ensures.is; tally = c.finish.ensures.tally; was_out = c.finish.ensures.was_out; first = c.finish.ensures.first; list = c.finish.ensures.list };
     }
 
 pub returns-clause-same : goal.returns-clause-same
