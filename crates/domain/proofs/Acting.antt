@@ -1,6 +1,6 @@
 -- Calls of a processor act: from what a call says of its seats to its act.
 use Rattle.std.proofs.Common.{◌≡◌, ◌≢◌, ℕ, suc, ◌+◌, ◌*◌, ◌≤◌, cond, if◌then◌else◌, map, inl, inr, Bool, true, false, List, [], ◌∷◌, ◌++◌, refl, sym, ap, ◌∙◌, subst, append-nil, append_assoc, arith, eq-eqb, ne_eqb}
-use Rattle.std.specs.Prelude.{Option, Result, Ok, Err, MatchResult}
+use Rattle.std.specs.Prelude.{Option, Result, Ok, Err, MatchResult, IsOk, IfOk}
 use Rattle.std.proofs.lemmas.List.{map-append}
 use mathlib.Core.Logic.{dite}
 use native.Mathlib.Decide.{ℕ_discrete}
@@ -36,11 +36,12 @@ use Rattle.calls.specs.declared.refusals.CallRefusal.{CallRefusal}
 use Rattle.calls.specs.declared.refusals.CallRefusal.TheVariants as calling
 use Rattle.calls.specs.declared.refusals.TakeRefusal.{TakeRefusal}
 use Rattle.calls.specs.declared.view.Act as does
-use Rattle.calls.specs.declared.view.Act.TheVariants.{Queue, Finish, LoadQueued}
+use Rattle.calls.specs.declared.entry.Entry.{Entry}
+use Rattle.calls.specs.declared.view.Act.TheVariants.{Queue, Take, Finish, LoadQueued}
 use Rattle.calls.specs.declared.view.Deed.{Deed}
 use Rattle.calls.specs.Tallies.{deed, queued_in, finished_in, deeds_of}
 use Rattle.calls.specs.Views.{CallSeatView, CallsView, BatchView, TicketView}
-use Rattle.calls.specs.Calls.{Does, IsCause, QueuesIn, RefusesIn, TakesIn, InvokesIn, FinishesIn}
+use Rattle.calls.specs.Calls.{Does, IsCause, QueuesIn, RefusesIn, TakesIn, InvokesIn, FinishesIn, FindsLensIn}
 use Rattle.calls.specs.Barriers as barriers
 use Rattle.calls.specs.Barriers.{queued_loads, finished_loads, Hears}
 use Rattle.calls.specs.Meetings.{Covers, SeesOut}
@@ -128,91 +129,97 @@ module _ (n : ℕ) (v w : FunnelView) (level : Level) (h : tree.Asks n v level w
 
 -- At the tally words
 
--- nothing was done there
-pub adds_none : (s t : CallSeatView) → t ≡ s → Adds [] s t
-adds_none s t is = subst (λ (z : CallSeatView). Adds [] s z) (sym is) (record { same = (refl, refl, refl); since = begins_itself s.seen; own = sym (append-nil (deeds_of s.processor s.seen)) })
+module _ {J : Type 0} where
+  -- nothing was done there
+  pub adds_none : (s t : CallSeatView J) → t ≡ s → Adds [] s t
+  adds_none s t is = subst (λ (z : CallSeatView J). Adds [] s z) (sym is) (record { same = (refl, refl, refl); since = begins_itself s.seen; own = sym (append-nil (deeds_of s.processor s.seen)) })
 
-adds_deed : (act : does.Act) (s t : CallSeatView) → Does act s t → Adds (deed s.processor act ∷ []) s t
-adds_deed act s t h =
-    let p : ℕ = s.processor in
-    let d : Deed = deed s.processor act in record {
-      same = h.same;
-      since = begins_on h.since (record { rest = d ∷ []; whole = h.seen });
-      own = ap (deeds_of p) h.seen ∙ (deeds_append p h.before (d ∷ []) ∙ (ap (λ l. l ++ deeds_of p (d ∷ [])) h.own ∙ ap (λ b. deeds_of p s.seen ++ cond b (d ∷ []) []) (eq-eqb p p refl)));
-    }
+  adds_deed : (act : does.Act J) (s t : CallSeatView J) → Does act s t → Adds (deed s.processor act ∷ []) s t
+  adds_deed act s t h =
+      let p : ℕ = s.processor in
+      let d : Deed J = deed s.processor act in record {
+        same = h.same;
+        since = begins_on h.since (record { rest = d ∷ []; whole = h.seen });
+        own = ap (deeds_of p) h.seen ∙ (deeds_append p h.before (d ∷ []) ∙ (ap (λ l. l ++ deeds_of p (d ∷ [])) h.own ∙ ap (λ b. deeds_of p s.seen ++ cond b (d ∷ []) []) (eq-eqb p p refl)));
+      }
 
-pub adds_loads : (acts : List does.Act) (s t : CallSeatView) → barriers.Loads acts s t → Adds (map (deed s.processor) acts) s t
-adds_loads acts s t h = record { same = h.same; since = h.since; own = h.own }
+  pub adds_loads : (acts : List (does.Act J)) (s t : CallSeatView J) → barriers.Loads acts s t → Adds (map (deed s.processor) acts) s t
+  adds_loads acts s t h = record { same = h.same; since = h.since; own = h.own }
 
--- a load that is no deed
-pub adds_seen : (other : List Deed) (s t : CallSeatView) → Covers s other t → Adds [] s t
-adds_seen other s t h = record {
-  same = (ap (λ (z : CallSeatView). z.tallies) h.same, ap (λ (z : CallSeatView). z.processors) h.same, ap (λ (z : CallSeatView). z.processor) h.same);
-  since = h.since;
-  own = h.own ∙ sym (append-nil (deeds_of s.processor s.seen));
-}
+  -- a load that is no deed
+  pub adds_seen : (other : List (Deed J)) (s t : CallSeatView J) → Covers s other t → Adds [] s t
+  adds_seen other s t h = record {
+    same = (ap (λ (z : CallSeatView J). z.tallies) h.same, ap (λ (z : CallSeatView J). z.processors) h.same, ap (λ (z : CallSeatView J). z.processor) h.same);
+    since = h.since;
+    own = h.own ∙ sym (append-nil (deeds_of s.processor s.seen));
+  }
 
--- no call was queued, and none finished
-pub record CountsNothing (act : List Deed) : Type 0 where
-  pub queued : (q : ℕ) → queued_in q act ≡ 0
-  pub finished : (q : ℕ) → finished_in q act ≡ 0
+  -- no call was queued, and none finished
+  pub record CountsNothing (act : List (Deed J)) : Type 0 where
+    pub queued : (q : ℕ) → queued_in q act ≡ 0
+    pub finished : (q : ℕ) → finished_in q act ≡ 0
 
-pub nothing_done : CountsNothing []
-nothing_done = record { queued = λ q. refl; finished = λ q. refl }
+module _ {J : Type 0} where
+  pub nothing_done : CountsNothing {J = J} []
+  nothing_done = record { queued = λ q. refl; finished = λ q. refl }
 
-pub queued_loads_count : (by k : ℕ) (ns : List ℕ) → CountsNothing (map (deed by) (queued_loads k ns))
-queued_loads_count by k [] = nothing_done
-queued_loads_count by k (n ∷ ns) = let rest = queued_loads_count by (k + 1) ns in record { queued = λ q. let none = rest.queued q in omega (arith, none); finished = λ q. let none = rest.finished q in omega (arith, none) }
+  pub queued_loads_count : (by k : ℕ) (ns : List ℕ) → CountsNothing {J = J} (map (deed by) (queued_loads k ns))
+  queued_loads_count by k [] = nothing_done
+  queued_loads_count by k (n ∷ ns) = let rest = queued_loads_count by (k + 1) ns in record { queued = λ q. let none = rest.queued q in omega (arith, none); finished = λ q. let none = rest.finished q in omega (arith, none) }
 
-pub finished_loads_count : (by k : ℕ) (ns : List ℕ) → CountsNothing (map (deed by) (finished_loads k ns))
-finished_loads_count by k [] = nothing_done
-finished_loads_count by k (n ∷ ns) = let rest = finished_loads_count by (k + 1) ns in record { queued = λ q. let none = rest.queued q in omega (arith, none); finished = λ q. let none = rest.finished q in omega (arith, none) }
+  pub finished_loads_count : (by k : ℕ) (ns : List ℕ) → CountsNothing {J = J} (map (deed by) (finished_loads k ns))
+  finished_loads_count by k [] = nothing_done
+  finished_loads_count by k (n ∷ ns) = let rest = finished_loads_count by (k + 1) ns in record { queued = λ q. let none = rest.queued q in omega (arith, none); finished = λ q. let none = rest.finished q in omega (arith, none) }
 
-pub queued_append : (p : ℕ) (a b : List Deed) → queued_in p (a ++ b) ≡ queued_in p a + queued_in p b
-queued_append p [] b = omega arith
-queued_append p (x ∷ xs) b = let r = queued_append p xs b in omega (arith, r)
+module _ {J : Type 0} where
+  pub queued_append : (p : ℕ) (a b : List (Deed J)) → queued_in p (a ++ b) ≡ queued_in p a + queued_in p b
+  queued_append p [] b = omega arith
+  queued_append p (x ∷ xs) b = let r = queued_append p xs b in omega (arith, r)
 
-pub finished_append : (p : ℕ) (a b : List Deed) → finished_in p (a ++ b) ≡ finished_in p a + finished_in p b
-finished_append p [] b = omega arith
-finished_append p (x ∷ xs) b = let r = finished_append p xs b in omega (arith, r)
+  pub finished_append : (p : ℕ) (a b : List (Deed J)) → finished_in p (a ++ b) ≡ finished_in p a + finished_in p b
+  finished_append p [] b = omega arith
+  finished_append p (x ∷ xs) b = let r = finished_append p xs b in omega (arith, r)
 
-pub both_count : (a b : List Deed) → CountsNothing a → CountsNothing b → CountsNothing (a ++ b)
-both_count a b first second = record {
-  queued = λ q. let cut = queued_append q a b in let f = first.queued q in let s = second.queued q in omega (arith, cut, f, s);
-  finished = λ q. let cut = finished_append q a b in let f = first.finished q in let s = second.finished q in omega (arith, cut, f, s);
-}
+  pub both_count : (a b : List (Deed J)) → CountsNothing a → CountsNothing b → CountsNothing (a ++ b)
+  both_count a b first second = record {
+    queued = λ q. let cut = queued_append q a b in let f = first.queued q in let s = second.queued q in omega (arith, cut, f, s);
+    finished = λ q. let cut = finished_append q a b in let f = first.finished q in let s = second.finished q in omega (arith, cut, f, s);
+  }
 
-rows_count : (by : ℕ) (found : List (List ℕ)) → CountsNothing (map (deed by) (rows_of_loads found))
-rows_count by [] = nothing_done
-rows_count by (ns ∷ more) = subst (λ l. CountsNothing l) (sym (map-append (deed by) (finished_loads 0 ns) (rows_of_loads more)))
-    (both_count (map (deed by) (finished_loads 0 ns)) (map (deed by) (rows_of_loads more)) (finished_loads_count by 0 ns) (rows_count by more))
+module _ {J : Type 0} where
+  rows_count : (by : ℕ) (found : List (List ℕ)) → CountsNothing {J = J} (map (deed by) (rows_of_loads found))
+  rows_count by [] = nothing_done
+  rows_count by (ns ∷ more) = subst (λ l. CountsNothing l) (sym (map-append (deed by) (finished_loads 0 ns) (rows_of_loads more)))
+      (both_count (map (deed by) (finished_loads 0 ns)) (map (deed by) (rows_of_loads more)) (finished_loads_count by 0 ns) (rows_count by more))
 
-counts_nothing : (p : ℕ) (events : List Event) (asked : ℕ) (deeds : List Deed) → CountsNothing deeds → Count p (record { events = events; asked = asked; queued = 0; finished = 0; owner = 0 }) deeds
-counts_nothing p events asked deeds none = record { queued = none.queued p; finished = none.finished 0; others = λ q other. none.finished q }
+module _ {J : Type 0} where
+  counts_nothing : (p : ℕ) (events : List Event) (asked : ℕ) (deeds : List (Deed J)) → CountsNothing deeds → Count p (record { events = events; asked = asked; queued = 0; finished = 0; owner = 0 }) deeds
+  counts_nothing p events asked deeds none = record { queued = none.queued p; finished = none.finished 0; others = λ q other. none.finished q }
 
-queued_one : (p : ℕ) → queued_in p (deed p Queue ∷ []) ≡ 1
-queued_one p = ap (λ b. (if b then 1 else 0) + 0) (eq-eqb p p refl)
+module _ (J : Type 0) where
+  queued_one : (p : ℕ) (e : Entry J) → queued_in p (deed p (Queue e) ∷ []) ≡ 1
+  queued_one p e = ap (λ b. (if b then 1 else 0) + 0) (eq-eqb p p refl)
 
-finished_here : (by p n : ℕ) → finished_in p (deed by (Finish p n) ∷ []) ≡ n
-finished_here by p n = let one : finished_in p (deed by (Finish p n) ∷ []) ≡ n + 0 = ap (λ b. (if b then n else 0) + 0) (eq-eqb p p refl) in omega (arith, one)
+  finished_here : (by p n : ℕ) → finished_in {J = J} p (deed by (Finish p n) ∷ []) ≡ n
+  finished_here by p n = let one : finished_in {J = J} p (deed by (Finish p n) ∷ []) ≡ n + 0 = ap (λ b. (if b then n else 0) + 0) (eq-eqb p p refl) in omega (arith, one)
 
-finished_else : (by p n q : ℕ) → q ≢ p → finished_in q (deed by (Finish p n) ∷ []) ≡ 0
-finished_else by p n q other = ap (λ b. (if b then n else 0) + 0) (ne_eqb p q (λ e. other (sym e)))
+  finished_else : (by p n q : ℕ) → q ≢ p → finished_in {J = J} q (deed by (Finish p n) ∷ []) ≡ 0
+  finished_else by p n q other = ap (λ b. (if b then n else 0) + 0) (ne_eqb p q (λ e. other (sym e)))
 
 -- A call at the domain's words
 
-module _ (c c' : CpuView) (rest : c' ≡ with_cpu c'.cpu c) where
+module _ {J : Type 0} (c c' : CpuView J) (rest : c' ≡ with_cpu c'.cpu c) where
   quietly : (p : ℕ) (events : List Event) → MakesEvents events c.cpu c'.cpu → AreOf p events → Acts p (record { events = events; asked = 0; queued = 0; finished = 0; owner = 0 }) c c'
   quietly p events made of = record {
     events = made;
     are_of = of;
     raised = [];
-    needs = stays c.needs c'.needs (ap (λ (x : CpuView). x.needs) rest);
+    needs = stays c.needs c'.needs (ap (λ (x : CpuView J). x.needs) rest);
     ask_for = asks_nothing p c.needs.holder events 0 0 0;
     deeds = [];
-    adds = adds_none c.calls c'.calls (ap (λ (x : CpuView). x.calls) rest);
+    adds = adds_none c.calls c'.calls (ap (λ (x : CpuView J). x.calls) rest);
     count = counts_nothing p events 0 [] nothing_done;
-    turn = ap (λ (x : CpuView). x.turn) rest;
+    turn = ap (λ (x : CpuView J). x.turn) rest;
   }
 
   pub does_nothing : MakesEvents [] c.cpu c'.cpu → ActsAs loads c c'
@@ -275,42 +282,45 @@ module _ (c c' : CpuView) (rest : c' ≡ with_cpu c'.cpu c) where
   pub find_acts : {cell : ℕ} {r : ReadingView} {f : FoundView} → Finds cell r c.cpu c'.cpu f → ActsAs (finds r.section cell f) c c'
   find_acts {cell} {r} {f} h = makes_one (Find r.section cell f.slot f.version (Processor c.cpu.processor)) (one_made c.cpu c'.cpu h.adds) refl refl refl
 
-  -- Jobs are taken
-
-  pub take_acts : {J : Type 0} (k : CallsView) (processor most : ℕ) (r : Result (Option (BatchView J)) TakeRefusal) → MatchResult r (λ taken. TakesIn k processor most c.cpu taken c'.cpu) (λ _. InvokesIn J k processor × (c'.cpu ≡ c.cpu))
-      → MatchResult r (λ _. ActsAs (asks_how_far c'.cpu.changes) c c') (λ _. ActsAs loads c c')
-  take_acts k processor most (Ok taken) h = subst (λ n. ActsAs (asks_whether (4 * periods_ended n) true) c c') h.takes.asks.current (ask_acts h.takes.asks.adds)
-  take_acts k processor most (Err x) h = still h.1
-
 -- A call at the tally words
 
-module _ (c c' : CpuView) (rest : c' ≡ with_calls c'.calls c) where
-  does_deeds : (p finished owner : ℕ) (deeds : List Deed) → Adds deeds c.calls c'.calls → Count p (finishes owner finished p) deeds → Acts p (finishes owner finished p) c c'
+module _ {J : Type 0} (c c' : CpuView J) (rest : c' ≡ with_calls c'.calls c) where
+  does_deeds : (p finished owner : ℕ) (deeds : List (Deed J)) → Adds deeds c.calls c'.calls → Count p (finishes owner finished p) deeds → Acts p (finishes owner finished p) c c'
   does_deeds p finished owner deeds adds count = record {
-    events = none_made c.cpu c'.cpu (ap (λ (x : CpuView). x.cpu) rest);
+    events = none_made c.cpu c'.cpu (ap (λ (x : CpuView J). x.cpu) rest);
     are_of = none_of p;
     raised = [];
-    needs = stays c.needs c'.needs (ap (λ (x : CpuView). x.needs) rest);
+    needs = stays c.needs c'.needs (ap (λ (x : CpuView J). x.needs) rest);
     ask_for = asks_nothing p c.needs.holder [] 0 finished owner;
     deeds = deeds;
     adds = adds;
     count = count;
-    turn = ap (λ (x : CpuView). x.turn) rest;
+    turn = ap (λ (x : CpuView J). x.turn) rest;
   }
 
-  loads_deeds : (deeds : List Deed) → Adds deeds c.calls c'.calls → CountsNothing deeds → ActsAs loads c c'
+  loads_deeds : (deeds : List (Deed J)) → Adds deeds c.calls c'.calls → CountsNothing deeds → ActsAs loads c c'
   loads_deeds deeds adds none = does_deeds c.cpu.processor 0 0 deeds adds (counts_nothing c.cpu.processor [] 0 deeds none)
 
-  pub finish_acts : {J : Type 0} (k : CallsView) (b : BatchView J) → FinishesIn k c.calls b c'.calls → ActsAs (finishes b.processor b.count) c c'
+  pub finish_acts : (k : CallsView) (b : BatchView J) → FinishesIn k c.calls b c'.calls → ActsAs (finishes b.processor b.count) c c'
   finish_acts k b h =
       let by = c.calls.processor in
       does_deeds c.cpu.processor b.count b.processor (deed by (Finish b.processor b.count) ∷ []) (adds_deed (Finish b.processor b.count) c.calls c'.calls h.finishes.tally)
-      (record { queued = refl; finished = finished_here by b.processor b.count; others = λ q other. finished_else by b.processor b.count q other })
+      (record { queued = refl; finished = finished_here J by b.processor b.count; others = λ q other. finished_else J by b.processor b.count q other })
 
-  pub out_acts : {J : Type 0} {b : BatchView J} → SeesOut b c.calls c'.calls → ActsAs loads c c'
+  pub out_acts : {b : BatchView J} → SeesOut b c.calls c'.calls → ActsAs loads c c'
   out_acts h = loads_deeds [] (adds_seen h.moment c.calls c'.calls h.covers) nothing_done
 
-  pub hear_acts : {r : Receipt} → Hears r c.calls c'.calls → ActsAs loads c c'
+  pub lens_acts : {E : Type 0} (p : ℕ) (r : Result (List ℕ × List ℕ) E) → IsOk r → IfOk r (λ found. FindsLensIn p c.calls found c'.calls) → ActsAs loads c c'
+  lens_acts p (Ok found) ok h = loads_deeds [] (adds_seen c.calls.seen c.calls c'.calls h.covers) nothing_done
+  lens_acts p (Err e) ok h = let wrong : false ≡ true = ok in absurd (no_truth wrong)
+    where
+      no_truth : false ≡ true → ⊥
+      no_truth e = cc
+
+  pub invokes_acts : (p : ℕ) → InvokesIn p c.cpu c.calls c'.cpu c'.calls → ActsAs loads c c'
+  invokes_acts p h = loads_deeds [] (adds_seen c.calls.seen c.calls c'.calls h.covers) nothing_done
+
+  pub hear_acts : {r : Receipt J} → Hears r c.calls c'.calls → ActsAs loads c c'
   hear_acts {r} h = loads_deeds _ (adds_deed (LoadQueued r.processor h.found) c.calls c'.calls h.does) (record { queued = λ q. refl; finished = λ q. refl })
 
   pub barrier_acts : {E : Type 0} (r : Result TicketView E) → MatchResult r (λ ticket. barriers.Starts c.calls ticket c'.calls) (λ _. c'.calls ≡ c.calls) → ActsAs loads c c'
@@ -323,25 +333,52 @@ module _ (c c' : CpuView) (rest : c' ≡ with_calls c'.calls c) where
   pub barrier_waits : {t : TicketView} → PollsUntilDone t c.calls c'.calls → ActsAs loads c c'
   barrier_waits h = loads_deeds _ (adds_loads (rows_of_loads h.found) c.calls c'.calls h.loads) (rows_count c.calls.processor h.found)
 
+-- Jobs are taken
+
+module _ {J : Type 0} (c c' : CpuView J) (rest : c' ≡ with_calls c'.calls (with_cpu c'.cpu c)) where
+  takes_out : (k : CallsView) (processor most : ℕ) (taken : Option (BatchView J)) → TakesIn k processor most c.cpu c.calls taken c'.cpu c'.calls → ActsAs (asks_how_far c'.cpu.changes) c c'
+  takes_out k processor most taken h =
+      let g = h.takes.gives in
+      let p : ℕ = c.cpu.processor in
+      let act : does.Act J = Take h.list.processor g.number most in
+      let e : Event = Ask (4 * periods_ended g.number) true (Processor p) in
+      subst (λ n. ActsAs (asks_whether (4 * periods_ended n) true) c c') g.asks.current record {
+        events = one_made c.cpu c'.cpu g.asks.adds;
+        are_of = one_of p e refl refl refl;
+        raised = [];
+        needs = stays c.needs c'.needs (ap (λ (x : CpuView J). x.needs) rest);
+        ask_for = asks_nothing p c.needs.holder (e ∷ []) 0 0 0;
+        deeds = deed c.calls.processor act ∷ [];
+        adds = adds_deed act c.calls c'.calls g.tally;
+        count = counts_nothing p (e ∷ []) 0 (deed c.calls.processor act ∷ []) (record { queued = λ q. refl; finished = λ q. refl });
+        turn = ap (λ (x : CpuView J). x.turn) rest;
+      }
+
+  pub take_acts : (k : CallsView) (processor most : ℕ) (r : Result (Option (BatchView J)) TakeRefusal) → MatchResult r (λ taken. TakesIn k processor most c.cpu c.calls taken c'.cpu c'.calls) (λ _. InvokesIn processor c.cpu c.calls c'.cpu c'.calls)
+      → MatchResult r (λ _. ActsAs (asks_how_far c'.cpu.changes) c c') (λ _. ActsAs loads c c')
+  take_acts k processor most (Ok taken) h = takes_out k processor most taken h
+  take_acts k processor most (Err x) h = invokes_acts c c' (rest ∙ ap (λ (z : sections.CpuView). with_calls c'.calls (with_cpu z c)) h.cpu) processor h
+
 -- The root is loaded
 
-pub need_acts : {need : ℕ} (c c' : CpuView) → LoadsRoot c.needs need c'.needs → c' ≡ record c { needs = c'.needs } → ActsAs loads c c'
-need_acts c c' h rest = record {
-  events = none_made c.cpu c'.cpu (ap (λ (x : CpuView). x.cpu) rest);
-  are_of = none_of c.cpu.processor;
-  raised = [];
-  needs = record { same = h.same; since = h.since; mine = h.mine ∙ sym (append-nil c.needs.mine) };
-  ask_for = asks_nothing c.cpu.processor c.needs.holder [] 0 0 0;
-  deeds = [];
-  adds = adds_none c.calls c'.calls (ap (λ (x : CpuView). x.calls) rest);
-  count = counts_nothing c.cpu.processor [] 0 [] nothing_done;
-  turn = ap (λ (x : CpuView). x.turn) rest;
-}
+module _ {J : Type 0} where
+  pub need_acts : {need : ℕ} (c c' : CpuView J) → LoadsRoot c.needs need c'.needs → c' ≡ record c { needs = c'.needs } → ActsAs loads c c'
+  need_acts c c' h rest = record {
+    events = none_made c.cpu c'.cpu (ap (λ (x : CpuView J). x.cpu) rest);
+    are_of = none_of c.cpu.processor;
+    raised = [];
+    needs = record { same = h.same; since = h.since; mine = h.mine ∙ sym (append-nil c.needs.mine) };
+    ask_for = asks_nothing c.cpu.processor c.needs.holder [] 0 0 0;
+    deeds = [];
+    adds = adds_none c.calls c'.calls (ap (λ (x : CpuView J). x.calls) rest);
+    count = counts_nothing c.cpu.processor [] 0 [] nothing_done;
+    turn = ap (λ (x : CpuView J). x.turn) rest;
+  }
 
 -- A cookie is given and asked for, and perhaps a job is queued
 
-module _ (c c' : CpuView) (cookie : ℕ) (level : Level) (h : tree.Asks cookie c.needs level c'.needs) (turn : c'.turn ≡ c.turn) (made : MakesEvents (Note cookie (Processor c.cpu.processor) ∷ []) c.cpu c'.cpu) where
-  asked_for : (queued : ℕ) (deeds : List Deed) → Adds deeds c.calls c'.calls → Count c.cpu.processor (asks_for cookie queued c.cpu.processor) deeds → ActsAs (asks_for cookie queued) c c'
+module _ {J : Type 0} (c c' : CpuView J) (cookie : ℕ) (level : Level) (h : tree.Asks cookie c.needs level c'.needs) (turn : c'.turn ≡ c.turn) (made : MakesEvents (Note cookie (Processor c.cpu.processor) ∷ []) c.cpu c'.cpu) where
+  asked_for : (queued : ℕ) (deeds : List (Deed J)) → Adds deeds c.calls c'.calls → Count c.cpu.processor (asks_for cookie queued c.cpu.processor) deeds → ActsAs (asks_for cookie queued) c c'
   asked_for queued deeds adds count = record {
     events = made;
     are_of = one_of c.cpu.processor (Note cookie (Processor c.cpu.processor)) refl refl refl;
@@ -359,12 +396,13 @@ noted : (c c' : sections.CpuView) (cookie : CookieView) (number : ℕ) (other : 
     → AddsEvent other reached (Note (cookie_at number) (Processor c.processor)) c c' → MakesEvents (Note cookie.number (Processor c.processor) ∷ []) c c'
 noted c c' cookie number other reached is adds = subst (λ n. MakesEvents (Note n (Processor c.processor) ∷ []) c c') (ap (λ (x : CookieView). x.number) (sym is)) (one_made c c' adds)
 
-pub start_acts : (c c' : CpuView) (cookie : CookieView) → GivesCookie c.cpu c'.cpu cookie → (n : ℕ) → n ≡ cookie.number → (level : Level) → tree.Asks n c.needs level c'.needs → c'.turn ≡ c.turn → c'.calls ≡ c.calls → ActsAs (asks_for cookie.number 0) c c'
-start_acts c c' cookie gives n is level asks turn calls = asked_for c c' cookie.number level (subst (λ m. tree.Asks m c.needs level c'.needs) is asks) turn (noted c.cpu c'.cpu cookie gives.number _ _ gives.cookie_is gives.notes.adds) 0 [] (adds_none c.calls c'.calls calls) (record { queued = refl; finished = refl; others = λ q other. refl })
+module _ {J : Type 0} where
+  pub start_acts : (c c' : CpuView J) (cookie : CookieView) → GivesCookie c.cpu c'.cpu cookie → (n : ℕ) → n ≡ cookie.number → (level : Level) → tree.Asks n c.needs level c'.needs → c'.turn ≡ c.turn → c'.calls ≡ c.calls → ActsAs (asks_for cookie.number 0) c c'
+  start_acts c c' cookie gives n is level asks turn calls = asked_for c c' cookie.number level (subst (λ m. tree.Asks m c.needs level c'.needs) is asks) turn (noted c.cpu c'.cpu cookie gives.number _ _ gives.cookie_is gives.notes.adds) 0 [] (adds_none c.calls c'.calls calls) (record { queued = refl; finished = refl; others = λ q other. refl })
 
 -- A version is put, and then a cookie is given, and perhaps asked for
 
-module _ (c c' : CpuView) (slot cookie : ℕ) (w w' : WriterView) (h : PutsSlot slot cookie w c.cpu w' c'.cpu) where
+module _ {J : Type 0} (c c' : CpuView J) (slot cookie : ℕ) (w w' : WriterView) (h : PutsSlot slot cookie w c.cpu w' c'.cpu) where
   put_first : ActsAs (puts w.cell slot w'.version) c (with_cpu h.between c)
   put_first = subst (λ v. ActsAs (puts w.cell slot v) c (with_cpu h.between c)) (sym h.version) (makes_one c (with_cpu h.between c) refl (Put w.cell slot (w.version + 1) (Processor c.cpu.processor)) (one_made c.cpu h.between h.puts) refl refl refl)
 
@@ -373,20 +411,21 @@ module _ (c c' : CpuView) (slot cookie : ℕ) (w w' : WriterView) (h : PutsSlot 
 
   pub put_asks : (n : ℕ) → n ≡ cookie → (level : Level) → tree.Asks n c.needs level c'.needs → c'.turn ≡ c.turn → c'.calls ≡ c.calls → PutsAndThen (asks_for cookie 0) w.cell slot w'.version c c'
   put_asks n is level asks turn calls =
-      let m : CpuView = with_cpu h.between c in
+      let m : CpuView J = with_cpu h.between c in
       let made : MakesEvents (Note cookie (Processor m.cpu.processor) ∷ []) m.cpu c'.cpu = subst (λ n. MakesEvents (Note n (Processor m.cpu.processor) ∷ []) m.cpu c'.cpu) (sym h.cookie_is) (one_made m.cpu c'.cpu h.notes.adds) in record {
         between = m;
         put = put_first;
         next = asked_for m c' cookie level (subst (λ k. tree.Asks k c.needs level c'.needs) is asks) turn made 0 [] (adds_none c.calls c'.calls calls) (record { queued = refl; finished = refl; others = λ q other. refl });
       }
 
-module _ {J : Type 0} (k : CallsView) (c c' : CpuView) (job : J) where
-  pub queue_acts : c.cpu.processor ≡ c.calls.processor → (r : Receipt) → QueuesIn k c.cpu c.calls job r c'.cpu c'.calls → (n : ℕ) → n ≡ r.cookie.number → (level : Level) → tree.Asks n c.needs level c'.needs → c'.turn ≡ c.turn → ActsAs (asks_for r.cookie.number 1) c c'
+module _ {J : Type 0} (k : CallsView) (c c' : CpuView J) (job : J) where
+  pub queue_acts : c.cpu.processor ≡ c.calls.processor → (r : Receipt J) → QueuesIn k c.cpu c.calls job r c'.cpu c'.calls → (n : ℕ) → n ≡ r.cookie.number → (level : Level) → tree.Asks n c.needs level c'.needs → c'.turn ≡ c.turn → ActsAs (asks_for r.cookie.number 1) c c'
   queue_acts same r h n is level asks turn =
       let q = h.queues in
-      let deeds : List Deed = deed c.calls.processor Queue ∷ [] in
-      let one : queued_in c.cpu.processor deeds ≡ 1 = ap (λ p. queued_in p deeds) same ∙ queued_one c.calls.processor in
-      asked_for c c' r.cookie.number level (subst (λ m. tree.Asks m c.needs level c'.needs) is asks) turn (noted c.cpu c'.cpu r.cookie q.note.number _ _ q.note.cookie_is q.note.adds) 1 deeds (adds_deed Queue c.calls c'.calls q.tally) (record { queued = one; finished = refl; others = λ q other. refl })
+      let e : Entry J = record { job = job; cookie = r.cookie } in
+      let deeds : List (Deed J) = deed c.calls.processor (Queue e) ∷ [] in
+      let one : queued_in c.cpu.processor deeds ≡ 1 = ap (λ p. queued_in p deeds) same ∙ queued_one J c.calls.processor e in
+      asked_for c c' r.cookie.number level (subst (λ m. tree.Asks m c.needs level c'.needs) is asks) turn (noted c.cpu c'.cpu r.cookie q.note.number _ _ q.note.cookie_is q.note.adds) 1 deeds (adds_deed (Queue e) c.calls c'.calls q.tally) (record { queued = one; finished = refl; others = λ q other. refl })
 
   pub refusal_acts : c' ≡ with_cpu c'.cpu c → (refused : J × CallRefusal) → RefusesIn k c.cpu c.calls job refused c'.cpu c'.calls → QueuesNone refused.1 c c'
   refusal_acts rest refused h = by_cause refused.1 h.refuses.cause
@@ -400,7 +439,7 @@ module _ {J : Type 0} (k : CallsView) (c c' : CpuView) (job : J) where
 -- One call and then another
 
 -- behind an act that finishes no job, one that makes no event and asks for nothing: it only loads, or it finishes jobs
-module _ {p : ℕ} {a : Act} {owner count : ℕ} {was mid now : CpuView} (none : a.finished ≡ 0) (first : Acts p a was mid) (second : Acts p (finishes owner count p) mid now) where
+module _ {J : Type 0} {p : ℕ} {a : Act} {owner count : ℕ} {was mid now : CpuView J} (none : a.finished ≡ 0) (first : Acts p a was mid) (second : Acts p (finishes owner count p) mid now) where
   none_before : (q : ℕ) → finished_in q first.deeds ≡ 0
   none_before q = dite (ℕ_discrete q a.owner)
       (λ same. subst (λ k. finished_in k first.deeds ≡ 0) (sym same) (first.count.finished ∙ none))

@@ -37,17 +37,18 @@ use Rattle.domain.proofs.Lending.{turn_same}
 use Rattle.domain.proofs.Staying.{still_fits, still_with_cpu, still_with_calls}
 use Rattle.domain.proofs.Rows.{each_next}
 
--- the engine stays as it was first, and admits one more processor
-pub joined_here : (e e0 : views.Engine) (c : CpuView) (cpu' : sections.CpuView) → e ≡ e0 → IsBeginning c.cpu.seen e0.seat.seen × (c.cpu.changes ≤ e0.seat.changes)
-    → calls.Accepts c.cpu e.seat.seen e.seat.changes e.seat.texts cpu' → calls.IsSeenBy c.cpu → c.cpu.processors ≡ e.seat.processors → ((m : ℕ) → e.seat.shown ≡ To c.cpu.processor m → m ≤ c.cpu.changes)
-    → IsJoined e0.seat c (record { cpu = cpu'; needs = c.needs; turn = c.turn; calls = c.calls })
-joined_here e e0 c cpu' same covered accepts was sized heard = record {
-  cpu = record { accepts = subst (λ (z : views.Engine). calls.Accepts c.cpu z.seat.seen z.seat.changes z.seat.texts cpu') same accepts; since = covered.0; later = covered.1 };
-  was = was;
-  sized = sized ∙ ap (λ (z : views.Engine). z.seat.processors) same;
-  heard = subst (λ (z : views.Engine). (m : ℕ) → z.seat.shown ≡ To c.cpu.processor m → m ≤ c.cpu.changes) same heard;
-  rest = refl;
-}
+module _ {J : Type 0} where
+  -- the engine stays as it was first, and admits one more processor
+  pub joined_here : (e e0 : views.Engine) (c : CpuView J) (cpu' : sections.CpuView) → e ≡ e0 → IsBeginning c.cpu.seen e0.seat.seen × (c.cpu.changes ≤ e0.seat.changes)
+      → calls.Accepts c.cpu e.seat.seen e.seat.changes e.seat.texts cpu' → calls.IsSeenBy c.cpu → c.cpu.processors ≡ e.seat.processors → ((m : ℕ) → e.seat.shown ≡ To c.cpu.processor m → m ≤ c.cpu.changes)
+      → IsJoined e0.seat c (record { cpu = cpu'; needs = c.needs; turn = c.turn; calls = c.calls })
+  joined_here e e0 c cpu' same covered accepts was sized heard = record {
+    cpu = record { accepts = subst (λ (z : views.Engine). calls.Accepts c.cpu z.seat.seen z.seat.changes z.seat.texts cpu') same accepts; since = covered.0; later = covered.1 };
+    was = was;
+    sized = sized ∙ ap (λ (z : views.Engine). z.seat.processors) same;
+    heard = subst (λ (z : views.Engine). (m : ℕ) → z.seat.shown ≡ To c.cpu.processor m → m ≤ c.cpu.changes) same heard;
+    rest = refl;
+  }
 
 -- A history in which each maker has no more events
 
@@ -102,11 +103,11 @@ as_many m seen between history a b same =
 -- Who is there
 
 -- all seats at the place where the engine lies are there
-module _ (d : DomainView) (c : CpuView) (cs : List CpuView) (here : Each (IsOf d) (c ∷ cs)) where
+module _ {J : Type 0} (d : DomainView) (c : CpuView J) (cs : List (CpuView J)) (here : Each (IsOf d) (c ∷ cs)) where
   first : IsOf d c
   first = here 0 c (omega arith)
 
-  other : (k : ℕ) (x : CpuView) → k < length cs → IsOf d (get_or cs k x)
+  other : (k : ℕ) (x : CpuView J) → k < length cs → IsOf d (get_or cs k x)
   other k x lt = here (suc k) x (omega (arith, lt))
 
   pub all_turns : AreAllThere d (c ∷ cs) → AreAllTurns c.turn cs
@@ -116,7 +117,7 @@ module _ (d : DomainView) (c : CpuView) (cs : List CpuView) (here : Each (IsOf d
     each = λ n lt ne. let seats = first.seats in let one = there n (omega (arith, lt, seats)) in place n ne one.0 one.1 one.2;
   }
     where
-      place : (n : ℕ) → n ≢ c.turn.number → (k : ℕ) → k < length (c ∷ cs) → ((x : CpuView) → (get_or (c ∷ cs) k x).cpu.processor ≡ n) → (k : ℕ) × (k < length cs) × ((x : CpuView) → (get_or cs k x).turn.number ≡ n)
+      place : (n : ℕ) → n ≢ c.turn.number → (k : ℕ) → k < length (c ∷ cs) → ((x : CpuView J) → (get_or (c ∷ cs) k x).cpu.processor ≡ n) → (k : ℕ) × (k < length cs) × ((x : CpuView J) → (get_or cs k x).turn.number ≡ n)
       place n ne zero lt is = absurd (ne (sym (first.number ∙ is c)))
       place n ne (suc k) lt is = (k, omega (arith, lt), λ x. (other k x (omega (arith, lt))).number ∙ is x)
 
@@ -136,17 +137,17 @@ module _ (d : DomainView) (c : CpuView) (cs : List CpuView) (here : Each (IsOf d
 
 -- Counting
 
-module _ (d : DomainView) (c : CpuView) (cs cs' : List CpuView) (here : Each (IsOf d) (c ∷ cs)) (there : AreAllThere d (c ∷ cs)) (e0 e1 e2 e3 : views.Engine) (took t' : BaySeatView views.Engine) (cpu1 cpu2 cpu3 : sections.CpuView) (opened closed number : ℕ)
+module _ {J : Type 0} (d : DomainView) (c : CpuView J) (cs cs' : List (CpuView J)) (here : Each (IsOf d) (c ∷ cs)) (there : AreAllThere d (c ∷ cs)) (e0 e1 e2 e3 : views.Engine) (took t' : BaySeatView views.Engine) (cpu1 cpu2 cpu3 : sections.CpuView) (opened closed number : ℕ)
     (takes : Takes c.turn e0 took) (tied : IsTied e0.seat)
     (covers : Covers e0.seat c.cpu.seen c.cpu.changes e1.seat) (covers_all : EngineCovers e1.seat cs e2.seat)
     (accepts : calls.Accepts c.cpu e2.seat.seen e2.seat.changes e2.seat.texts cpu1) (was : calls.IsSeenBy c.cpu) (sized : c.cpu.processors ≡ e2.seat.processors) (heard : (n : ℕ) → e2.seat.shown ≡ To c.cpu.processor n → n ≤ c.cpu.changes)
     (counts : CountsSections opened closed cpu1 cpu2) (number_is : number ≡ number_word e2.seat.changes)
     (again : Covers e2.seat cpu2.seen cpu2.changes e3.seat) (accepts_too : calls.Accepts cpu2 e3.seat.seen e3.seat.changes e3.seat.texts cpu3)
     (joined : EachBecomes (IsJoined e3.seat) cs cs') (puts : MakesSwap took (Some e3) None t') (free : holds t' ≡ false) where
-  abbrev all : List CpuView
+  abbrev all : List (CpuView J)
   all = c ∷ cs
 
-  abbrev pub after : List CpuView
+  abbrev pub after : List (CpuView J)
   after = record { cpu = cpu3; needs = c.needs; turn = t'; calls = c.calls } ∷ cs'
 
   -- all that was done
@@ -170,18 +171,18 @@ module _ (d : DomainView) (c : CpuView) (cs cs' : List CpuView) (here : Each (Is
   first_same : calls.IsSameCpu c.cpu cpu3
   first_same = (accepts_too.same.0 ∙ (counts.loads.same.0 ∙ accepts.same.0), accepts_too.same.1 ∙ (counts.loads.same.1 ∙ accepts.same.1), accepts_too.same.2 ∙ (counts.loads.same.2 ∙ accepts.same.2), accepts_too.same.3 ∙ (counts.loads.same.3 ∙ accepts.same.3))
 
-  pub own : (k : ℕ) (x : CpuView) → k < length all → made_by (Processor (get_or all k x).cpu.processor) history ≡ (get_or all k x).cpu.mine
+  pub own : (k : ℕ) (x : CpuView J) → k < length all → made_by (Processor (get_or all k x).cpu.processor) history ≡ (get_or all k x).cpu.mine
   own zero x lt = sym (accepts_too.history.own ∙ (λ i. made_by (Processor (first_same.3 i)) (accepts_too.seen i))) ∙ first_mine
   own (suc k) x lt = let a = (joined.each k x (inside k lt)).cpu.accepts in sym (a.history.own ∙ (λ i. made_by (Processor (a.same.3 i)) (a.seen i))) ∙ a.mine
 
   engine_own : made_by Engine history ≡ e0.seat.mine
   engine_own = sym again.step.history.own ∙ (again.step.mine ∙ (covers_all.mine ∙ covers.step.mine))
 
-  pub since : (k : ℕ) (x : CpuView) → k < length all → IsBeginning (get_or all k x).cpu.seen e2.seat.seen
+  pub since : (k : ℕ) (x : CpuView J) → k < length all → IsBeginning (get_or all k x).cpu.seen e2.seat.seen
   since zero x lt = beginning_trans covers.covers covers_all.since
   since (suc k) x lt = (covers_all.covers k x (inside k lt)).0
 
-  was_seen : (k : ℕ) (x : CpuView) → k < length all → calls.IsSeenBy (get_or all k x).cpu
+  was_seen : (k : ℕ) (x : CpuView J) → k < length all → calls.IsSeenBy (get_or all k x).cpu
   was_seen zero x lt = was
   was_seen (suc k) x lt = (joined.each k x (inside k lt)).was
 
@@ -226,18 +227,18 @@ module _ (d : DomainView) (c : CpuView) (cs cs' : List CpuView) (here : Each (Is
   changes : e3.seat.changes ≡ e0.seat.changes
   changes = again.step.changes_are ∙ (covers_all.changes ∙ covers.step.changes_are)
 
-  was_told : (k : ℕ) (x : CpuView) → k < length all → (n : ℕ) → e3.seat.shown ≡ To (get_or all k x).cpu.processor n → n ≤ (get_or all k x).cpu.changes
+  was_told : (k : ℕ) (x : CpuView J) → k < length all → (n : ℕ) → e3.seat.shown ≡ To (get_or all k x).cpu.processor n → n ≤ (get_or all k x).cpu.changes
   was_told zero x lt n is = heard n (sym again.step.shown ∙ is)
   was_told (suc k) x lt n is = (joined.each k x (inside k lt)).heard n is
 
-  no_later : (k : ℕ) (x : CpuView) → k < length all → (get_or all k x).cpu.changes ≤ e3.seat.changes
+  no_later : (k : ℕ) (x : CpuView J) → k < length all → (get_or all k x).cpu.changes ≤ e3.seat.changes
   no_later zero x lt = let low = covers.not_before in let a = covers_all.changes in let b = again.step.changes_are in omega (arith, low, a, b)
   no_later (suc k) x lt = (joined.each k x (inside k lt)).cpu.later
 
-  knower : (k : ℕ) × (k < length all) × ((x : CpuView) → (get_or all k x).cpu.processor ≡ tied.processor)
+  knower : (k : ℕ) × (k < length all) × ((x : CpuView J) → (get_or all k x).cpu.processor ≡ tied.processor)
   knower = let lt = tied.there in let a = covers.step.same.1 in let b = covers_all.same.1 in let e = again.step.same.1 in let n = many in there tied.processor (omega (arith, lt, a, b, e, n))
 
-  knew : (x : CpuView) → made_by Engine history ≡ made_by Engine (get_or all knower.0 x).cpu.seen
+  knew : (x : CpuView J) → made_by Engine history ≡ made_by Engine (get_or all knower.0 x).cpu.seen
   knew x =
       let k : ℕ = knower.0 in
       let lt = knower.1 in
@@ -267,7 +268,7 @@ module _ (d : DomainView) (c : CpuView) (cs cs' : List CpuView) (here : Each (Is
   turn_is : t' ≡ record c.turn { seen = t'.seen }
   turn_is = turn_same c.turn e0 e3 took t' takes puts
 
-  each_back : (k : ℕ) (x : CpuView) → k < length all → HasMet d history (get_or all k x) (get_or after k x)
+  each_back : (k : ℕ) (x : CpuView J) → k < length all → HasMet d history (get_or all k x) (get_or after k x)
   each_back zero x lt = record {
     here = record {
       domain = first_same.0 ∙ first_is.domain;
@@ -295,13 +296,13 @@ module _ (d : DomainView) (c : CpuView) (cs cs' : List CpuView) (here : Each (Is
         same = a.same;
         mine = a.mine;
         seen = a.seen;
-        needs = ap (λ (z : CpuView). z.needs) j.rest;
-        calls = ap (λ (z : CpuView). z.calls) j.rest;
+        needs = ap (λ (z : CpuView J). z.needs) j.rest;
+        calls = ap (λ (z : CpuView J). z.calls) j.rest;
       }
 
-  other_turns : (k : ℕ) (x : CpuView) → 0 < k → k < length all → (get_or after k x).turn ≡ (get_or all k x).turn
+  other_turns : (k : ℕ) (x : CpuView J) → 0 < k → k < length all → (get_or after k x).turn ≡ (get_or all k x).turn
   other_turns zero x some lt = absurd (omega (arith, some))
-  other_turns (suc k) x some lt = ap (λ (z : CpuView). z.turn) (joined.each k x (inside k lt)).rest
+  other_turns (suc k) x some lt = ap (λ (z : CpuView J). z.turn) (joined.each k x (inside k lt)).rest
 
   pub are_back : e3 ≡ with_seat e3.seat e0 → HaveMet d history all after
   are_back rest = record {
@@ -327,52 +328,53 @@ still_tied e e' many shown changes t = record { processor = t.processor; there =
 
 -- Callbacks
 
-pub record CallsSoFar (m : ℕ) (s : CallSeatView) (cpus : List CpuView) (t : CallSeatView) : Type 0 where
-  pub same : t ≡ record s { seen = t.seen }
-  pub since : deeds.IsBeginning s.seen t.seen
-  pub own : deeds_of s.processor t.seen ≡ deeds_of s.processor s.seen
-  pub covers : (k : ℕ) (c : CpuView) → k < m → deeds.IsBeginning (get_or cpus k c).calls.seen t.seen
+module _ {J : Type 0} where
+  pub record CallsSoFar (m : ℕ) (s : CallSeatView J) (cpus : List (CpuView J)) (t : CallSeatView J) : Type 0 where
+    pub same : t ≡ record s { seen = t.seen }
+    pub since : deeds.IsBeginning s.seen t.seen
+    pub own : deeds_of s.processor t.seen ≡ deeds_of s.processor s.seen
+    pub covers : (k : ℕ) (c : CpuView J) → k < m → deeds.IsBeginning (get_or cpus k c).calls.seen t.seen
 
-pub calls_none : (s : CallSeatView) (cpus : List CpuView) → CallsSoFar 0 s cpus s
-calls_none s cpus = record { same = refl; since = begins_itself s.seen; own = refl; covers = λ k c lt. absurd (omega (arith, lt)) }
+  pub calls_none : (s : CallSeatView J) (cpus : List (CpuView J)) → CallsSoFar 0 s cpus s
+  calls_none s cpus = record { same = refl; since = begins_itself s.seen; own = refl; covers = λ k c lt. absurd (omega (arith, lt)) }
 
-pub calls_next : (m : ℕ) (s : CallSeatView) (cpus : List CpuView) (between t : CallSeatView) (item d : CpuView) → m < length cpus → item ≡ get_or cpus m d
-    → CallsSoFar m s cpus between → tallies.Covers between item.calls.seen t → CallsSoFar (m + 1) s cpus t
-calls_next m s cpus between t item d inside is h c =
-    let number : between.processor ≡ s.processor = ap (λ (z : CallSeatView). z.processor) h.same in record {
-      same = c.same ∙ ap (λ (z : CallSeatView). record z { seen = t.seen }) h.same;
-      since = begins_on h.since c.since;
-      own = ap (λ n. deeds_of n t.seen) (sym number) ∙ (c.own ∙ (ap (λ n. deeds_of n between.seen) number ∙ h.own));
-      covers = each_next (λ (x : CpuView). deeds.IsBeginning x.calls.seen between.seen) (λ (x : CpuView). deeds.IsBeginning x.calls.seen t.seen) m cpus item d inside is (λ x q. begins_on q c.since) c.covers h.covers;
-    }
+  pub calls_next : (m : ℕ) (s : CallSeatView J) (cpus : List (CpuView J)) (between t : CallSeatView J) (item d : CpuView J) → m < length cpus → item ≡ get_or cpus m d
+      → CallsSoFar m s cpus between → tallies.Covers between item.calls.seen t → CallsSoFar (m + 1) s cpus t
+  calls_next m s cpus between t item d inside is h c =
+      let number : between.processor ≡ s.processor = ap (λ (z : CallSeatView J). z.processor) h.same in record {
+        same = c.same ∙ ap (λ (z : CallSeatView J). record z { seen = t.seen }) h.same;
+        since = begins_on h.since c.since;
+        own = ap (λ n. deeds_of n t.seen) (sym number) ∙ (c.own ∙ (ap (λ n. deeds_of n between.seen) number ∙ h.own));
+        covers = each_next (λ (x : CpuView J). deeds.IsBeginning x.calls.seen between.seen) (λ (x : CpuView J). deeds.IsBeginning x.calls.seen t.seen) m cpus item d inside is (λ x q. begins_on q c.since) c.covers h.covers;
+      }
 
-pub calls_all : (m : ℕ) (s : CallSeatView) (cpus : List CpuView) (t : CallSeatView) → m ≡ length cpus → CallsSoFar m s cpus t → CallsCover s cpus t
-calls_all m s cpus t all h = record { same = h.same; since = h.since; own = h.own; covers = λ k c lt. h.covers k c (omega (arith, lt, all)) }
+  pub calls_all : (m : ℕ) (s : CallSeatView J) (cpus : List (CpuView J)) (t : CallSeatView J) → m ≡ length cpus → CallsSoFar m s cpus t → CallsCover s cpus t
+  calls_all m s cpus t all h = record { same = h.same; since = h.since; own = h.own; covers = λ k c lt. h.covers k c (omega (arith, lt, all)) }
 
--- what the seat has seen in the end, behind a load of its own
-pub accepts_own : (s between t : CallSeatView) (cpus : List CpuView) → CallsCover s cpus between → tallies.Covers between between.seen t → tallies.Accepts s t.seen t
-accepts_own s between t cpus h c =
-    let number : between.processor ≡ s.processor = ap (λ (z : CallSeatView). z.processor) h.same in record {
-      is = c.same ∙ ap (λ (z : CallSeatView). record z { seen = t.seen }) h.same;
-      since = begins_on h.since c.since;
-      own = ap (λ n. deeds_of n t.seen) (sym number) ∙ (c.own ∙ (ap (λ n. deeds_of n between.seen) number ∙ h.own));
-      loads = c.loads;
-      finishers = subst (λ n. AreFinishers n t.seen) (ap (λ (z : CallSeatView). z.processors) h.same) c.finishers;
-    }
+  -- what the seat has seen in the end, behind a load of its own
+  pub accepts_own : (s between t : CallSeatView J) (cpus : List (CpuView J)) → CallsCover s cpus between → tallies.Covers between between.seen t → tallies.Accepts s t.seen t
+  accepts_own s between t cpus h c =
+      let number : between.processor ≡ s.processor = ap (λ (z : CallSeatView J). z.processor) h.same in record {
+        is = c.same ∙ ap (λ (z : CallSeatView J). record z { seen = t.seen }) h.same;
+        since = begins_on h.since c.since;
+        own = ap (λ n. deeds_of n t.seen) (sym number) ∙ (c.own ∙ (ap (λ n. deeds_of n between.seen) number ∙ h.own));
+        loads = c.loads;
+        finishers = subst (λ n. AreFinishers n t.seen) (ap (λ (z : CallSeatView J). z.processors) h.same) c.finishers;
+      }
 
-pub heard_here : (s s0 : CallSeatView) (c : CpuView) (calls' : CallSeatView) → s ≡ s0 → tallies.Accepts c.calls s.seen calls' → IsHeard s0 c (record { cpu = c.cpu; needs = c.needs; turn = c.turn; calls = calls' })
-heard_here s s0 c calls' same h = record { calls = subst (λ (z : CallSeatView). tallies.Accepts c.calls z.seen calls') same h; rest = refl }
+  pub heard_here : (s s0 : CallSeatView J) (c : CpuView J) (calls' : CallSeatView J) → s ≡ s0 → tallies.Accepts c.calls s.seen calls' → IsHeard s0 c (record { cpu = c.cpu; needs = c.needs; turn = c.turn; calls = calls' })
+  heard_here s s0 c calls' same h = record { calls = subst (λ (z : CallSeatView J). tallies.Accepts c.calls z.seen calls') same h; rest = refl }
 
--- loads change nothing of the seat but what it has seen
-pub seat_of_loads : (s t : CallSeatView) {all done : ℕ} → AddsUp s all done t → t ≡ record s { seen = t.seen }
-seat_of_loads s t h =
-    let a = h.queued.loads.same in
-    let b = h.finished.loads.same in
-    λ i. record { tallies = (b.0 ∙ a.0) i; processors = (b.1 ∙ a.1) i; processor = (b.2 ∙ a.2) i; seen = t.seen }
+  -- loads change nothing of the seat but what it has seen
+  pub seat_of_loads : (s t : CallSeatView J) {all done : ℕ} → AddsUp s all done t → t ≡ record s { seen = t.seen }
+  seat_of_loads s t h =
+      let a = h.queued.loads.same in
+      let b = h.finished.loads.same in
+      λ i. record { tallies = (b.0 ∙ a.0) i; processors = (b.1 ∙ a.1) i; processor = (b.2 ∙ a.2) i; seen = t.seen }
 
--- the seats at the tally words are of one domain
-pub calls_of_domain : (d : DomainView) (c : CpuView) (cs : List CpuView) → Each (IsOf d) (c ∷ cs) → Each (λ x. x.calls.tallies ≡ c.calls.tallies) cs
-calls_of_domain d c cs here k x lt = (here (suc k) x (omega (arith, lt))).fits.tallies ∙ sym (here 0 c (omega arith)).fits.tallies
+  -- the seats at the tally words are of one domain
+  pub calls_of_domain : (d : DomainView) (c : CpuView J) (cs : List (CpuView J)) → Each (IsOf d) (c ∷ cs) → Each (λ x. x.calls.tallies ≡ c.calls.tallies) cs
+  calls_of_domain d c cs here k x lt = (here (suc k) x (omega (arith, lt))).fits.tallies ∙ sym (here 0 c (omega arith)).fits.tallies
 
 -- what was found is no more than was queued
 found_within : (count : ℕ → ℕ) (p : ℕ) (ns : List ℕ) → ((k : ℕ) → k < length ns → get_or ns k 0 ≤ count (p + k)) → sum ns ≤ added count p (length ns)
@@ -384,19 +386,19 @@ found_within count p (x ∷ xs) each =
     let cut = sum_by-cons (λ z. z) x xs in
     omega (arith, first, here, rest, cut)
 
-module _ (d : DomainView) (c : CpuView) (cs cs' : List CpuView) (here : Each (IsOf d) (c ∷ cs)) (there : AreAllThere d (c ∷ cs)) (s t : CallSeatView) (queued finished : ℕ)
+module _ {J : Type 0} (d : DomainView) (c : CpuView J) (cs cs' : List (CpuView J)) (here : Each (IsOf d) (c ∷ cs)) (there : AreAllThere d (c ∷ cs)) (s t : CallSeatView J) (queued finished : ℕ)
     (covers : CallsCover c.calls cs s) (adds : AddsUp s queued finished t) (heard : EachBecomes (IsHeard t) cs cs') where
-  abbrev everyone : List CpuView
+  abbrev everyone : List (CpuView J)
   everyone = c ∷ cs
 
   first_here_too : IsOf d c
   first_here_too = here 0 c (omega arith)
 
   many_seats : s.processors ≡ d.processors
-  many_seats = ap (λ (z : CallSeatView). z.processors) covers.same ∙ first_here_too.words
+  many_seats = ap (λ (z : CallSeatView J). z.processors) covers.same ∙ first_here_too.words
 
   number_is : s.processor ≡ c.calls.processor
-  number_is = ap (λ (z : CallSeatView). z.processor) covers.same
+  number_is = ap (λ (z : CallSeatView J). z.processor) covers.same
 
   since_all : deeds.IsBeginning s.seen t.seen
   since_all = begins_on adds.queued.loads.since adds.finished.loads.since
@@ -436,11 +438,11 @@ module _ (d : DomainView) (c : CpuView) (cs cs' : List CpuView) (here : Each (Is
       omega (arith, part, as_many, total, all)
 
   -- all seats have then seen this
-  seen_since : (k : ℕ) (x : CpuView) → k < length everyone → deeds.IsBeginning (get_or everyone k x).calls.seen t.seen
+  seen_since : (k : ℕ) (x : CpuView J) → k < length everyone → deeds.IsBeginning (get_or everyone k x).calls.seen t.seen
   seen_since zero x lt = begins_on covers.since since_all
   seen_since (suc k) x lt = (heard.each k x (omega (arith, lt))).calls.since
 
-  others_own : (k : ℕ) (x : CpuView) → 0 < k → k < length everyone → deeds_of (get_or everyone k x).calls.processor t.seen ≡ deeds_of (get_or everyone k x).calls.processor (get_or everyone k x).calls.seen
+  others_own : (k : ℕ) (x : CpuView J) → 0 < k → k < length everyone → deeds_of (get_or everyone k x).calls.processor t.seen ≡ deeds_of (get_or everyone k x).calls.processor (get_or everyone k x).calls.seen
   others_own zero x some lt = absurd (omega (arith, some))
   others_own (suc k) x some lt = (heard.each k x (omega (arith, lt))).calls.own
 
@@ -450,8 +452,8 @@ module _ (d : DomainView) (c : CpuView) (cs cs' : List CpuView) (here : Each (Is
       let m = adds.between in
       let one = adds.queued in
       let two = adds.finished in
-      let first : List Deed = map (deed me) (queued_loads 0 one.found) in
-      let second : List Deed = map (deed me) (finished_loads 0 two.found) in
+      let first : List (Deed J) = map (deed me) (queued_loads 0 one.found) in
+      let second : List (Deed J) = map (deed me) (finished_loads 0 two.found) in
       let later : deeds_of me t.seen ≡ deeds_of me m.seen ++ second = subst (λ (z : ℕ). deeds_of z t.seen ≡ deeds_of z m.seen ++ map (deed z) (finished_loads 0 two.found)) one.loads.same.2 two.loads.own in
       let own : deeds_of me t.seen ≡ deeds_of me s.seen ++ (first ++ second) = later ∙ (ap (λ l. l ++ second) one.loads.own ∙ append_assoc (deeds_of me s.seen) first second) in
       let both : first ++ second ≡ map (deed me) (queued_loads 0 one.found ++ finished_loads 0 two.found) = sym (map-append (deed me) (queued_loads 0 one.found) (finished_loads 0 two.found)) in
@@ -463,18 +465,18 @@ module _ (d : DomainView) (c : CpuView) (cs cs' : List CpuView) (here : Each (Is
 
   -- and are as they were
   seat_is : t ≡ record c.calls { seen = t.seen }
-  seat_is = seat_of_loads s t adds ∙ ap (λ (z : CallSeatView). record z { seen = t.seen }) covers.same
+  seat_is = seat_of_loads s t adds ∙ ap (λ (z : CallSeatView J). record z { seen = t.seen }) covers.same
 
-  each_heard : (k : ℕ) (x : CpuView) → k < length everyone → HasHeard d t.seen (get_or everyone k x) (get_or (record { cpu = c.cpu; needs = c.needs; turn = c.turn; calls = t } ∷ cs') k x)
+  each_heard : (k : ℕ) (x : CpuView J) → k < length everyone → HasHeard d t.seen (get_or everyone k x) (get_or (record { cpu = c.cpu; needs = c.needs; turn = c.turn; calls = t } ∷ cs') k x)
   each_heard zero x lt = record {
-    here = still_with_calls d c (record { cpu = c.cpu; needs = c.needs; turn = c.turn; calls = t }) first_here_too (ap (λ (z : CallSeatView). z.tallies) seat_is, ap (λ (z : CallSeatView). z.processors) seat_is, ap (λ (z : CallSeatView). z.processor) seat_is) refl;
+    here = still_with_calls d c (record { cpu = c.cpu; needs = c.needs; turn = c.turn; calls = t }) first_here_too (ap (λ (z : CallSeatView J). z.tallies) seat_is, ap (λ (z : CallSeatView J). z.processors) seat_is, ap (λ (z : CallSeatView J). z.processor) seat_is) refl;
     calls = seat_is;
     rest = refl;
   }
   each_heard (suc k) x lt =
       let h = heard.each k x (omega (arith, lt)) in
       record {
-        here = still_with_calls d (get_or cs k x) (get_or cs' k x) (here (suc k) x lt) (ap (λ (z : CallSeatView). z.tallies) h.calls.is, ap (λ (z : CallSeatView). z.processors) h.calls.is, ap (λ (z : CallSeatView). z.processor) h.calls.is) h.rest;
+        here = still_with_calls d (get_or cs k x) (get_or cs' k x) (here (suc k) x lt) (ap (λ (z : CallSeatView J). z.tallies) h.calls.is, ap (λ (z : CallSeatView J). z.processors) h.calls.is, ap (λ (z : CallSeatView J). z.processor) h.calls.is) h.rest;
         calls = h.calls.is;
         rest = h.rest;
       }

@@ -28,41 +28,42 @@ use Rattle.domain.proofs.Turning.{swaps_beginning_refl, swaps_beginning_trans}
 
 -- The engine
 
-pub record EngineSoFar (m : ℕ) (e : sections.EngineView) (cpus : List CpuView) (e' : sections.EngineView) : Type 0 where
-  pub found : List ℕ
-  pub one_each : length found ≡ m
-  pub steps : e'.steps ≡ e.steps ++ map LoadIndex found
-  pub same : IsSameEngine e e'
-  pub mine : e'.mine ≡ e.mine
-  pub changes : e'.changes ≡ e.changes
-  pub shown : e'.shown ≡ e.shown
-  pub since : events.IsBeginning e.seen e'.seen
-  pub texts : IsStart e.texts e'.texts
-  pub history : IsSeenByEngine e'
-  pub covers : (k : ℕ) (c : CpuView) → k < m → events.IsBeginning (get_or cpus k c).cpu.seen e'.seen × ((get_or cpus k c).cpu.changes ≤ e'.changes)
+module _ {J : Type 0} where
+  pub record EngineSoFar (m : ℕ) (e : sections.EngineView) (cpus : List (CpuView J)) (e' : sections.EngineView) : Type 0 where
+    pub found : List ℕ
+    pub one_each : length found ≡ m
+    pub steps : e'.steps ≡ e.steps ++ map LoadIndex found
+    pub same : IsSameEngine e e'
+    pub mine : e'.mine ≡ e.mine
+    pub changes : e'.changes ≡ e.changes
+    pub shown : e'.shown ≡ e.shown
+    pub since : events.IsBeginning e.seen e'.seen
+    pub texts : IsStart e.texts e'.texts
+    pub history : IsSeenByEngine e'
+    pub covers : (k : ℕ) (c : CpuView J) → k < m → events.IsBeginning (get_or cpus k c).cpu.seen e'.seen × ((get_or cpus k c).cpu.changes ≤ e'.changes)
 
-pub engine_none : (e : sections.EngineView) (cpus : List CpuView) → IsSeenByEngine e → EngineSoFar 0 e cpus e
-engine_none e cpus h = record { found = []; one_each = refl; steps = sym (append-nil e.steps); same = (refl, refl, refl); mine = refl; changes = refl; shown = refl; since = beginning_refl e.seen; texts = start_refl e.texts; history = h; covers = λ k c lt. absurd (omega (arith, lt)) }
+  pub engine_none : (e : sections.EngineView) (cpus : List (CpuView J)) → IsSeenByEngine e → EngineSoFar 0 e cpus e
+  engine_none e cpus h = record { found = []; one_each = refl; steps = sym (append-nil e.steps); same = (refl, refl, refl); mine = refl; changes = refl; shown = refl; since = beginning_refl e.seen; texts = start_refl e.texts; history = h; covers = λ k c lt. absurd (omega (arith, lt)) }
 
-pub engine_next : (m : ℕ) (e : sections.EngineView) (cpus : List CpuView) (between e' : sections.EngineView) (item d : CpuView) → m < length cpus → item ≡ get_or cpus m d
-    → EngineSoFar m e cpus between → calls.Covers between item.cpu.seen item.cpu.changes e' → EngineSoFar (m + 1) e cpus e'
-engine_next m e cpus between e' item d inside is h c = record {
-  found = h.found ++ c.value ∷ [];
-  one_each = (let more = length-append h.found (c.value ∷ []) in let so_far = h.one_each in omega (arith, more, so_far));
-  steps = c.step.steps ∙ (ap (λ l. l ++ LoadIndex c.value ∷ []) h.steps ∙ (append_assoc e.steps (map LoadIndex h.found) (LoadIndex c.value ∷ []) ∙ ap (λ l. e.steps ++ l) (sym (map-append LoadIndex h.found (c.value ∷ [])))));
-  same = (c.step.same.0 ∙ h.same.0, c.step.same.1 ∙ h.same.1, c.step.same.2 ∙ h.same.2);
-  mine = c.step.mine ∙ h.mine;
-  changes = c.step.changes_are ∙ h.changes;
-  shown = c.step.shown ∙ h.shown;
-  since = beginning_trans h.since c.step.since;
-  texts = start_trans h.texts c.step.texts;
-  history = c.step.history;
-  covers = each_next (λ (x : CpuView). events.IsBeginning x.cpu.seen between.seen × (x.cpu.changes ≤ between.changes)) (λ (x : CpuView). events.IsBeginning x.cpu.seen e'.seen × (x.cpu.changes ≤ e'.changes)) m cpus item d inside is
-      (λ x q. (beginning_trans q.0 c.step.since, (let same = c.step.changes_are in let low = q.1 in omega (arith, same, low)))) (c.covers, c.not_before) h.covers;
-}
+  pub engine_next : (m : ℕ) (e : sections.EngineView) (cpus : List (CpuView J)) (between e' : sections.EngineView) (item d : CpuView J) → m < length cpus → item ≡ get_or cpus m d
+      → EngineSoFar m e cpus between → calls.Covers between item.cpu.seen item.cpu.changes e' → EngineSoFar (m + 1) e cpus e'
+  engine_next m e cpus between e' item d inside is h c = record {
+    found = h.found ++ c.value ∷ [];
+    one_each = (let more = length-append h.found (c.value ∷ []) in let so_far = h.one_each in omega (arith, more, so_far));
+    steps = c.step.steps ∙ (ap (λ l. l ++ LoadIndex c.value ∷ []) h.steps ∙ (append_assoc e.steps (map LoadIndex h.found) (LoadIndex c.value ∷ []) ∙ ap (λ l. e.steps ++ l) (sym (map-append LoadIndex h.found (c.value ∷ [])))));
+    same = (c.step.same.0 ∙ h.same.0, c.step.same.1 ∙ h.same.1, c.step.same.2 ∙ h.same.2);
+    mine = c.step.mine ∙ h.mine;
+    changes = c.step.changes_are ∙ h.changes;
+    shown = c.step.shown ∙ h.shown;
+    since = beginning_trans h.since c.step.since;
+    texts = start_trans h.texts c.step.texts;
+    history = c.step.history;
+    covers = each_next (λ (x : CpuView J). events.IsBeginning x.cpu.seen between.seen × (x.cpu.changes ≤ between.changes)) (λ (x : CpuView J). events.IsBeginning x.cpu.seen e'.seen × (x.cpu.changes ≤ e'.changes)) m cpus item d inside is
+        (λ x q. (beginning_trans q.0 c.step.since, (let same = c.step.changes_are in let low = q.1 in omega (arith, same, low)))) (c.covers, c.not_before) h.covers;
+  }
 
-pub engine_all : (m : ℕ) (e : sections.EngineView) (cpus : List CpuView) (e' : sections.EngineView) → m ≡ length cpus → EngineSoFar m e cpus e' → EngineCovers e cpus e'
-engine_all m e cpus e' all h = record { found = h.found; one_each = h.one_each ∙ all; steps = h.steps; same = h.same; mine = h.mine; changes = h.changes; shown = h.shown; since = h.since; texts = h.texts; history = h.history; covers = λ k c lt. h.covers k c (omega (arith, lt, all)) }
+  pub engine_all : (m : ℕ) (e : sections.EngineView) (cpus : List (CpuView J)) (e' : sections.EngineView) → m ≡ length cpus → EngineSoFar m e cpus e' → EngineCovers e cpus e'
+  engine_all m e cpus e' all h = record { found = h.found; one_each = h.one_each ∙ all; steps = h.steps; same = h.same; mine = h.mine; changes = h.changes; shown = h.shown; since = h.since; texts = h.texts; history = h.history; covers = λ k c lt. h.covers k c (omega (arith, lt, all)) }
 
 -- The tree
 
@@ -72,76 +73,77 @@ raises_beginning_refl s = record { rest = []; whole = sym (append-nil s) }
 pub raises_beginning_trans : (a b c : List Raise) → tree.IsBeginning a b → tree.IsBeginning b c → tree.IsBeginning a c
 raises_beginning_trans a b c ab bc = record { rest = ab.rest ++ bc.rest; whole = bc.whole ∙ (ap (λ l. l ++ bc.rest) ab.whole ∙ append_assoc a ab.rest bc.rest) }
 
-pub record NeedsSoFar (m : ℕ) (n : FunnelView) (cpus : List CpuView) (n' : FunnelView) : Type 0 where
-  pub same : IsSameSeat n n'
-  pub mine : n'.mine ≡ n.mine
-  pub found : List ℕ
-  pub one_each : length found ≡ m
-  pub loads : n'.loads ≡ n.loads ++ found
-  pub since : tree.IsBeginning n.seen n'.seen
-  pub history : IsSeenBy n'
-  pub covers : (k : ℕ) (c : CpuView) → k < m → tree.IsBeginning (get_or cpus k c).needs.seen n'.seen
+module _ {J : Type 0} where
+  pub record NeedsSoFar (m : ℕ) (n : FunnelView) (cpus : List (CpuView J)) (n' : FunnelView) : Type 0 where
+    pub same : IsSameSeat n n'
+    pub mine : n'.mine ≡ n.mine
+    pub found : List ℕ
+    pub one_each : length found ≡ m
+    pub loads : n'.loads ≡ n.loads ++ found
+    pub since : tree.IsBeginning n.seen n'.seen
+    pub history : IsSeenBy n'
+    pub covers : (k : ℕ) (c : CpuView J) → k < m → tree.IsBeginning (get_or cpus k c).needs.seen n'.seen
 
-pub needs_none : (n : FunnelView) (cpus : List CpuView) → IsSeenBy n → NeedsSoFar 0 n cpus n
-needs_none n cpus h = record { same = record { domain = refl; shape = refl; holder = refl }; mine = refl; found = []; one_each = refl; loads = sym (append-nil n.loads); since = raises_beginning_refl n.seen; history = h; covers = λ k c lt. absurd (omega (arith, lt)) }
+  pub needs_none : (n : FunnelView) (cpus : List (CpuView J)) → IsSeenBy n → NeedsSoFar 0 n cpus n
+  needs_none n cpus h = record { same = record { domain = refl; shape = refl; holder = refl }; mine = refl; found = []; one_each = refl; loads = sym (append-nil n.loads); since = raises_beginning_refl n.seen; history = h; covers = λ k c lt. absurd (omega (arith, lt)) }
 
-pub needs_next : (m : ℕ) (n : FunnelView) (cpus : List CpuView) (between n' : FunnelView) (item d : CpuView) → m < length cpus → item ≡ get_or cpus m d
-    → NeedsSoFar m n cpus between → funnel.Covers between item.needs.seen n' → NeedsSoFar (m + 1) n cpus n'
-needs_next m n cpus between n' item d inside is h c = record {
-  same = record { domain = c.load.same.domain ∙ h.same.domain; shape = c.load.same.shape ∙ h.same.shape; holder = c.load.same.holder ∙ h.same.holder };
-  mine = c.load.mine ∙ h.mine;
-  found = h.found ++ c.found ∷ [];
-  one_each = (let more = length-append h.found (c.found ∷ []) in let so_far = h.one_each in omega (arith, more, so_far));
-  loads = c.load.loads ∙ (ap (λ l. l ++ c.found ∷ []) h.loads ∙ append_assoc n.loads h.found (c.found ∷ []));
-  since = raises_beginning_trans _ _ _ h.since c.load.since;
-  history = c.load.history;
-  covers = each_next (λ (x : CpuView). tree.IsBeginning x.needs.seen between.seen) (λ (x : CpuView). tree.IsBeginning x.needs.seen n'.seen) m cpus item d inside is (λ x q. raises_beginning_trans _ _ _ q c.load.since) c.covers h.covers;
-}
+  pub needs_next : (m : ℕ) (n : FunnelView) (cpus : List (CpuView J)) (between n' : FunnelView) (item d : CpuView J) → m < length cpus → item ≡ get_or cpus m d
+      → NeedsSoFar m n cpus between → funnel.Covers between item.needs.seen n' → NeedsSoFar (m + 1) n cpus n'
+  needs_next m n cpus between n' item d inside is h c = record {
+    same = record { domain = c.load.same.domain ∙ h.same.domain; shape = c.load.same.shape ∙ h.same.shape; holder = c.load.same.holder ∙ h.same.holder };
+    mine = c.load.mine ∙ h.mine;
+    found = h.found ++ c.found ∷ [];
+    one_each = (let more = length-append h.found (c.found ∷ []) in let so_far = h.one_each in omega (arith, more, so_far));
+    loads = c.load.loads ∙ (ap (λ l. l ++ c.found ∷ []) h.loads ∙ append_assoc n.loads h.found (c.found ∷ []));
+    since = raises_beginning_trans _ _ _ h.since c.load.since;
+    history = c.load.history;
+    covers = each_next (λ (x : CpuView J). tree.IsBeginning x.needs.seen between.seen) (λ (x : CpuView J). tree.IsBeginning x.needs.seen n'.seen) m cpus item d inside is (λ x q. raises_beginning_trans _ _ _ q c.load.since) c.covers h.covers;
+  }
 
-pub needs_all : (m : ℕ) (n : FunnelView) (cpus : List CpuView) (n' : FunnelView) → m ≡ length cpus → NeedsSoFar m n cpus n' → NeedsCover n cpus n'
-needs_all m n cpus n' all h = record { same = h.same; mine = h.mine; found = h.found; one_each = h.one_each ∙ all; loads = h.loads; since = h.since; history = h.history; covers = λ k c lt. h.covers k c (omega (arith, lt, all)) }
+  pub needs_all : (m : ℕ) (n : FunnelView) (cpus : List (CpuView J)) (n' : FunnelView) → m ≡ length cpus → NeedsSoFar m n cpus n' → NeedsCover n cpus n'
+  needs_all m n cpus n' all h = record { same = h.same; mine = h.mine; found = h.found; one_each = h.one_each ∙ all; loads = h.loads; since = h.since; history = h.history; covers = λ k c lt. h.covers k c (omega (arith, lt, all)) }
 
--- The turns
+  -- The turns
 
-pub record TurnSoFar (m : ℕ) (t : BaySeatView Engine) (cpus : List CpuView) (t' : BaySeatView Engine) : Type 0 where
-  pub same : t' ≡ record t { seen = t'.seen }
-  pub since : swaps.IsBeginning t.seen t'.seen
-  pub own : swaps_of t.number t'.seen ≡ swaps_of t.number t.seen
-  pub holding : holds t' ≡ holds t
-  pub covers : (k : ℕ) (c : CpuView) → k < m → swaps.IsBeginning (get_or cpus k c).turn.seen t'.seen
+  pub record TurnSoFar (m : ℕ) (t : BaySeatView Engine) (cpus : List (CpuView J)) (t' : BaySeatView Engine) : Type 0 where
+    pub same : t' ≡ record t { seen = t'.seen }
+    pub since : swaps.IsBeginning t.seen t'.seen
+    pub own : swaps_of t.number t'.seen ≡ swaps_of t.number t.seen
+    pub holding : holds t' ≡ holds t
+    pub covers : (k : ℕ) (c : CpuView J) → k < m → swaps.IsBeginning (get_or cpus k c).turn.seen t'.seen
 
-pub turn_none : (t : BaySeatView Engine) (cpus : List CpuView) → TurnSoFar 0 t cpus t
-turn_none t cpus = record { same = refl; since = swaps_beginning_refl t.seen; own = refl; holding = refl; covers = λ k c lt. absurd (omega (arith, lt)) }
+  pub turn_none : (t : BaySeatView Engine) (cpus : List (CpuView J)) → TurnSoFar 0 t cpus t
+  turn_none t cpus = record { same = refl; since = swaps_beginning_refl t.seen; own = refl; holding = refl; covers = λ k c lt. absurd (omega (arith, lt)) }
 
-pub turn_next : (m : ℕ) (t : BaySeatView Engine) (cpus : List CpuView) (between t' : BaySeatView Engine) (item d : CpuView) → m < length cpus → item ≡ get_or cpus m d
-    → TurnSoFar m t cpus between → desk.Covers between item.turn.seen t' → TurnSoFar (m + 1) t cpus t'
-turn_next m t cpus between t' item d inside is h c =
-    let number : between.number ≡ t.number = ap (λ (z : BaySeatView Engine). z.number) h.same in record {
-      same = c.same ∙ ap (λ (z : BaySeatView Engine). record z { seen = t'.seen }) h.same;
-      since = swaps_beginning_trans _ _ _ h.since c.since;
-      own = ap (λ n. swaps_of n t'.seen) (sym number) ∙ (c.own ∙ (ap (λ n. swaps_of n between.seen) number ∙ h.own));
-      holding = c.holding ∙ h.holding;
-      covers = each_next (λ (x : CpuView). swaps.IsBeginning x.turn.seen between.seen) (λ (x : CpuView). swaps.IsBeginning x.turn.seen t'.seen) m cpus item d inside is (λ x q. swaps_beginning_trans _ _ _ q c.since) c.covers h.covers;
-    }
+  pub turn_next : (m : ℕ) (t : BaySeatView Engine) (cpus : List (CpuView J)) (between t' : BaySeatView Engine) (item d : CpuView J) → m < length cpus → item ≡ get_or cpus m d
+      → TurnSoFar m t cpus between → desk.Covers between item.turn.seen t' → TurnSoFar (m + 1) t cpus t'
+  turn_next m t cpus between t' item d inside is h c =
+      let number : between.number ≡ t.number = ap (λ (z : BaySeatView Engine). z.number) h.same in record {
+        same = c.same ∙ ap (λ (z : BaySeatView Engine). record z { seen = t'.seen }) h.same;
+        since = swaps_beginning_trans _ _ _ h.since c.since;
+        own = ap (λ n. swaps_of n t'.seen) (sym number) ∙ (c.own ∙ (ap (λ n. swaps_of n between.seen) number ∙ h.own));
+        holding = c.holding ∙ h.holding;
+        covers = each_next (λ (x : CpuView J). swaps.IsBeginning x.turn.seen between.seen) (λ (x : CpuView J). swaps.IsBeginning x.turn.seen t'.seen) m cpus item d inside is (λ x q. swaps_beginning_trans _ _ _ q c.since) c.covers h.covers;
+      }
 
-pub turn_all : (m : ℕ) (t : BaySeatView Engine) (cpus : List CpuView) (t' : BaySeatView Engine) → m ≡ length cpus → TurnSoFar m t cpus t' → TurnCovers t cpus t'
-turn_all m t cpus t' all h = record { same = h.same; since = h.since; own = h.own; holding = h.holding; covers = λ k c lt. h.covers k c (omega (arith, lt, all)) }
+  pub turn_all : (m : ℕ) (t : BaySeatView Engine) (cpus : List (CpuView J)) (t' : BaySeatView Engine) → m ≡ length cpus → TurnSoFar m t cpus t' → TurnCovers t cpus t'
+  turn_all m t cpus t' all h = record { same = h.same; since = h.since; own = h.own; holding = h.holding; covers = λ k c lt. h.covers k c (omega (arith, lt, all)) }
 
--- Admitting
+  -- Admitting
 
--- the engine and the seat stay as they were first, and admit one more processor
-pub admitted_here : (e e0 : Engine) (n n0 : FunnelView) (c : CpuView) (cpu' : sections.CpuView) (needs' : FunnelView) → e ≡ e0 → n ≡ n0
-    → events.IsBeginning c.cpu.seen e0.seat.seen × (c.cpu.changes ≤ e0.seat.changes) → tree.IsBeginning c.needs.seen n0.seen
-    → cpu_calls.Accepts c.cpu e.seat.seen e.seat.changes e.seat.texts cpu' → cpu_calls.IsSeenBy c.cpu → c.cpu.processors ≡ e.seat.processors → ((m : ℕ) → e.seat.shown ≡ To c.cpu.processor m → m ≤ c.cpu.changes)
-    → funnel.Accepts c.needs n.seen needs'
-    → IsAdmitted e0.seat n0 c (record { cpu = cpu'; needs = needs'; turn = c.turn; calls = c.calls })
-admitted_here e e0 n n0 c cpu' needs' same_engine same_needs since raises accepts was sized heard a = record {
-  cpu = record { accepts = subst (λ (z : Engine). cpu_calls.Accepts c.cpu z.seat.seen z.seat.changes z.seat.texts cpu') same_engine accepts; since = since.0; later = since.1 };
-  was = was;
-  sized = sized ∙ ap (λ (z : Engine). z.seat.processors) same_engine;
-  heard = subst (λ (z : Engine). (m : ℕ) → z.seat.shown ≡ To c.cpu.processor m → m ≤ c.cpu.changes) same_engine heard;
-  needs = record { same = a.same; mine = a.mine; found = a.found ∷ []; loads = a.loads; since = raises; seen = a.seen ∙ ap (λ (z : FunnelView). z.seen) same_needs; history = a.history };
-  one_load = refl;
-  turn = refl;
-  calls = refl;
-}
+  -- the engine and the seat stay as they were first, and admit one more processor
+  pub admitted_here : (e e0 : Engine) (n n0 : FunnelView) (c : CpuView J) (cpu' : sections.CpuView) (needs' : FunnelView) → e ≡ e0 → n ≡ n0
+      → events.IsBeginning c.cpu.seen e0.seat.seen × (c.cpu.changes ≤ e0.seat.changes) → tree.IsBeginning c.needs.seen n0.seen
+      → cpu_calls.Accepts c.cpu e.seat.seen e.seat.changes e.seat.texts cpu' → cpu_calls.IsSeenBy c.cpu → c.cpu.processors ≡ e.seat.processors → ((m : ℕ) → e.seat.shown ≡ To c.cpu.processor m → m ≤ c.cpu.changes)
+      → funnel.Accepts c.needs n.seen needs'
+      → IsAdmitted e0.seat n0 c (record { cpu = cpu'; needs = needs'; turn = c.turn; calls = c.calls })
+  admitted_here e e0 n n0 c cpu' needs' same_engine same_needs since raises accepts was sized heard a = record {
+    cpu = record { accepts = subst (λ (z : Engine). cpu_calls.Accepts c.cpu z.seat.seen z.seat.changes z.seat.texts cpu') same_engine accepts; since = since.0; later = since.1 };
+    was = was;
+    sized = sized ∙ ap (λ (z : Engine). z.seat.processors) same_engine;
+    heard = subst (λ (z : Engine). (m : ℕ) → z.seat.shown ≡ To c.cpu.processor m → m ≤ c.cpu.changes) same_engine heard;
+    needs = record { same = a.same; mine = a.mine; found = a.found ∷ []; loads = a.loads; since = raises; seen = a.seen ∙ ap (λ (z : FunnelView). z.seen) same_needs; history = a.history };
+    one_load = refl;
+    turn = refl;
+    calls = refl;
+  }

@@ -21,7 +21,7 @@ use Rattle.domain.specs.Making.{IsMade, joined, idle_engine, new_bay}
 use Rattle.domain.specs.Meetings.{IsAllOf}
 use Rattle.domain.proofs.Joining.{joined_at, joined_length}
 
-module _ (bounds : Bounds) (d : DomainView) (cs : List sections.CpuView) (e e1 : sections.EngineView) (ns : List FunnelView) (root : FunnelView) (v : Engine) (home : TableId) (b : BayView Engine) (ts : List (BaySeatView Engine)) (kept : CallsView) (ss : List CallSeatView) (all : List CpuView) where
+module _ {J : Type 0} (bounds : Bounds) (d : DomainView) (cs : List sections.CpuView) (e e1 : sections.EngineView) (ns : List FunnelView) (root : FunnelView) (v : Engine) (home : TableId) (b : BayView Engine) (ts : List (BaySeatView Engine)) (kept : CallsView) (ss : List (CallSeatView J)) (all : List (CpuView J)) where
   pub founded : sections_making.IsMade bounds cs e → e1 ≡ e → home ≡ e.domain → tree_making.IsMade bounds.processors ns root → v ≡ new_engine e1 root
       → IsNewBay home bounds.processors v b → AreNewBaySeats b ts → AreMade e.domain e.processors kept ss → all ≡ joined cs ns ts ss → d ≡ record { domain = kept.domain; bay = b.bay; tallies = kept.tallies; processors = kept.processors } → IsMade bounds d all
   founded made same at tree engine bay seats callbacks all_are d_is =
@@ -46,21 +46,22 @@ module _ (bounds : Bounds) (d : DomainView) (cs : List sections.CpuView) (e e1 :
             ∙ (λ i. record { cpu = (made.cpus_new k c.cpu lt_cs ∙ ap (λ t. sections_calls.new_cpu t bounds.processors bounds.sections k) (sym domain)) i; needs = tree.made.seats_new k c.needs lt_ns i; turn = (seats.each k c.turn lt_ts ∙ ap (λ (z : BayView Engine). new_bay_seat z k) b_is) i; calls = (callbacks.seats_new.each k c.calls lt_ss ∙ (λ j. new_seat (sym (ap (λ (z : DomainView). z.tallies) d_is) j) (sized j) k)) i }));
       }
 
--- all processors of a new domain are all of it
-pub all_of_new : (bounds : Bounds) (d : DomainView) (cpus : List CpuView) → 0 < bounds.processors → IsMade bounds d cpus → IsAllOf d cpus
-all_of_new bounds d cpus some made =
-    let shape : Shape = record { processors = bounds.processors; nodes = made.nodes } in
-    let count = made.count in
-    record {
-      some = omega (arith, some, count);
-      here = λ k c lt. rw (made.each k c lt) (record { domain = refl; bay = refl; home = refl; free = refl; asks = (k, refl); many = sym made.many; fits = record { domain = refl; tallies = refl; cpu = refl; there = subst (λ n. k < n) (count ∙ sym made.many) lt }; number = refl; seats = sym made.many; words = sym made.many });
-      count = λ k c lt. ap (λ (z : CpuView). z.cpu.processors) (made.each k c lt) ∙ sym count;
-      order = λ k c lt. ap (λ (z : CpuView). z.cpu.processor) (made.each k c lt);
-      tree = made.tree;
-      shape = shape;
-      asks = λ k c lt. let e = made.each k c lt in (ap (λ (z : CpuView). z.needs.domain) e, ap (λ (z : CpuView). z.needs.shape) e, ap (λ (z : CpuView). z.needs.holder) e);
-      leaves = sym count;
-    }
+module _ {J : Type 0} where
+  -- all processors of a new domain are all of it
+  pub all_of_new : (bounds : Bounds) (d : DomainView) (cpus : List (CpuView J)) → 0 < bounds.processors → IsMade bounds d cpus → IsAllOf d cpus
+  all_of_new bounds d cpus some made =
+      let shape : Shape = record { processors = bounds.processors; nodes = made.nodes } in
+      let count = made.count in
+      record {
+        some = omega (arith, some, count);
+        here = λ k c lt. rw (made.each k c lt) (record { domain = refl; bay = refl; home = refl; free = refl; asks = (k, refl); many = sym made.many; fits = record { domain = refl; tallies = refl; cpu = refl; there = subst (λ n. k < n) (count ∙ sym made.many) lt }; number = refl; seats = sym made.many; words = sym made.many });
+        count = λ k c lt. ap (λ (z : CpuView J). z.cpu.processors) (made.each k c lt) ∙ sym count;
+        order = λ k c lt. ap (λ (z : CpuView J). z.cpu.processor) (made.each k c lt);
+        tree = made.tree;
+        shape = shape;
+        asks = λ k c lt. let e = made.each k c lt in (ap (λ (z : CpuView J). z.needs.domain) e, ap (λ (z : CpuView J). z.needs.shape) e, ap (λ (z : CpuView J). z.needs.holder) e);
+        leaves = sym count;
+      }
 
 -- the writers of a new domain are of it, each of one of its cells
 pub writers_here : (domain : TableId) (cells slots : ℕ) (writers : List WriterView) → AreNewWriters domain cells slots writers → All (λ w. (w.domain ≡ domain) × (w.cell < cells)) writers

@@ -11,28 +11,29 @@ use Rattle.domain.specs.Turns.{Takes}
 use Rattle.domain.specs.Parts.{Each, TurnCovers, AreAllTurns, EachBecomes, IsTurned}
 use Rattle.domain.proofs.Turning.{swaps_beginning_refl, swaps_beginning_trans, no_wait}
 
--- a swap behind loads is a swap behind what was there before them
-pub swap_after_loads : (v t w : BaySeatView Engine) (cpus : List CpuView) (left found : Option Engine) → TurnCovers v cpus t → MakesSwap t left found w → MakesSwap v left found w
-swap_after_loads v t w cpus left found h m =
-    let number : t.number ≡ v.number = ap (λ (z : BaySeatView Engine). z.number) h.same in
-    record {
-      same = m.same ∙ ap (λ (z : BaySeatView Engine). record z { seen = w.seen }) h.same;
-      before = m.before;
-      since = swaps_beginning_trans _ _ _ h.since m.since;
-      own = ap (λ n. swaps_of n m.before) (sym number) ∙ (m.own ∙ (ap (λ n. swaps_of n t.seen) number ∙ h.own));
-      finds = m.finds ∙ ap (λ (z : BaySeatView Engine). lies_after z.first m.before) h.same;
-      seen = m.seen ∙ ap (λ n. m.before ++ record { by = n; left = left; found = found } ∷ []) number;
-      history = m.history;
-    }
+module _ {J : Type 0} where
+  -- a swap behind loads is a swap behind what was there before them
+  pub swap_after_loads : (v t w : BaySeatView Engine) (cpus : List (CpuView J)) (left found : Option Engine) → TurnCovers v cpus t → MakesSwap t left found w → MakesSwap v left found w
+  swap_after_loads v t w cpus left found h m =
+      let number : t.number ≡ v.number = ap (λ (z : BaySeatView Engine). z.number) h.same in
+      record {
+        same = m.same ∙ ap (λ (z : BaySeatView Engine). record z { seen = w.seen }) h.same;
+        before = m.before;
+        since = swaps_beginning_trans _ _ _ h.since m.since;
+        own = ap (λ n. swaps_of n m.before) (sym number) ∙ (m.own ∙ (ap (λ n. swaps_of n t.seen) number ∙ h.own));
+        finds = m.finds ∙ ap (λ (z : BaySeatView Engine). lies_after z.first m.before) h.same;
+        seen = m.seen ∙ ap (λ n. m.before ++ record { by = n; left = left; found = found } ∷ []) number;
+        history = m.history;
+      }
 
--- taken with no wait
-pub taken_at_once : (v t w : BaySeatView Engine) (cpus : List CpuView) (found : Engine) → TurnCovers v cpus t → MakesSwap t None (Some found) w → holds w ≡ true → Takes v found w
-taken_at_once v t w cpus found h m held = record { vain = 0; waited = v; waits = no_wait v; swap = swap_after_loads v t w cpus None (Some found) h m; holds_now = held }
+  -- taken with no wait
+  pub taken_at_once : (v t w : BaySeatView Engine) (cpus : List (CpuView J)) (found : Engine) → TurnCovers v cpus t → MakesSwap t None (Some found) w → holds w ≡ true → Takes v found w
+  taken_at_once v t w cpus found h m held = record { vain = 0; waited = v; waits = no_wait v; swap = swap_after_loads v t w cpus None (Some found) h m; holds_now = held }
 
 -- the seat covered the others and took in vain, covered them again and admitted them: so one of them would have the engine, and none has it
-module _ (v t u w : BaySeatView Engine) (cs cs' : List CpuView) (all : AreAllTurns v cs) (first : TurnCovers v cs t) (vain : MakesSwap t None None u) (elsewhere : IsHeldElsewhere u) (again : TurnCovers u cs w) (admitted : EachBecomes (IsTurned w) cs cs') where
+module _ {J : Type 0} (v t u w : BaySeatView Engine) (cs cs' : List (CpuView J)) (all : AreAllTurns v cs) (first : TurnCovers v cs t) (vain : MakesSwap t None None u) (elsewhere : IsHeldElsewhere u) (again : TurnCovers u cs w) (admitted : EachBecomes (IsTurned w) cs cs') where
   -- for places where nothing stands
-  abbrev nobody : CpuView
+  abbrev nobody : CpuView J
   nobody = new_cpu (record { domain = v.bay; bay = v.bay; tallies = v.bay; processors = 0 }) (record { processors = 0; sections = 0; periods = 0; cells = 0 }) v.bay (record { processors = 0; nodes = 0 }) 0
 
   same_seat : u ≡ record v { seen = u.seen }
@@ -41,7 +42,7 @@ module _ (v t u w : BaySeatView Engine) (cs cs' : List CpuView) (all : AreAllTur
   abbrev n : ℕ
   n = elsewhere.holder
 
-  holder : (k : ℕ) × (k < length cs) × ((c : CpuView) → (get_or cs k c).turn.number ≡ n)
+  holder : (k : ℕ) × (k < length cs) × ((c : CpuView J) → (get_or cs k c).turn.number ≡ n)
   holder = all.each n (subst (λ (z : BaySeatView Engine). n < z.seats) same_seat elsewhere.there) (subst (λ (z : BaySeatView Engine). n ≢ z.number) same_seat elsewhere.other)
 
   abbrev o : BaySeatView Engine

@@ -58,15 +58,16 @@ one_of test (x ∷ xs) h = by_first (test x) refl (λ rest. one_of test xs rest)
         let lt = found.1 in
         (suc found.0, omega (arith, lt), found.2)
 
-pub all_there : (d : DomainView) (cpus : List CpuView) → missing_of d.processors cpus ≡ 0 → AreAllThere d cpus
-all_there d cpus none p lt =
-    let is : is_there p cpus ≡ true = is_true (is_there p cpus) (none_of_sum (λ q. missed (is_there q cpus)) d.processors p none lt) in
-    let found = one_of (λ (c : CpuView). c.cpu.processor == p) cpus is in
-    (found.0, found.1, λ c. eqb-true (get_or cpus found.0 c).cpu.processor p (found.2 c))
+module _ {J : Type 0} where
+  pub all_there : (d : DomainView) (cpus : List (CpuView J)) → missing_of d.processors cpus ≡ 0 → AreAllThere d cpus
+  all_there d cpus none p lt =
+      let is : is_there p cpus ≡ true = is_true (is_there p cpus) (none_of_sum (λ q. missed (is_there q cpus)) d.processors p none lt) in
+      let found = one_of (λ (c : CpuView J). c.cpu.processor == p) cpus is in
+      (found.0, found.1, λ c. eqb-true (get_or cpus found.0 c).cpu.processor p (found.2 c))
 
 -- What the counts say
 
-module _ (d : DomainView) (cpus : List CpuView) (history : List Event) (all : List Deed) (t : Totals) (number : ℕ) (of_all : IsHistoryOf d cpus history) (counts : CountsHistory history t.opened t.closed number) (queued : t.queued ≡ all_queued d.processors all) (finished : t.finished ≡ all_finished d.processors all) where
+module _ {J : Type 0} (d : DomainView) (cpus : List (CpuView J)) (history : List Event) (all : List (Deed J)) (t : Totals) (number : ℕ) (of_all : IsHistoryOf d cpus history) (counts : CountsHistory history t.opened t.closed number) (queued : t.queued ≡ all_queued d.processors all) (finished : t.finished ≡ all_finished d.processors all) where
   open_is : t.closed + open_count history ≡ t.opened
   open_is =
       let law = (counters_add_up d.processors history of_all.legal of_all.makers).still_open in
@@ -102,17 +103,18 @@ module _ (d : DomainView) (cpus : List CpuView) (history : List Event) (all : Li
       )
   says periods (Err cause) h = causes cause h
 
--- no more sections have ended than were begun
-pub no_more_closed : (d : DomainView) (cpus cpus' : List CpuView) (opened closed number : ℕ) → CountsInAll d cpus opened closed number cpus' → closed ≤ opened
-no_more_closed d cpus cpus' opened closed number h =
-    let law = (counters_add_up d.processors h.history h.of_all.legal h.of_all.makers).still_open in
-    let o = h.counts.opened_are in
-    let k = h.counts.closed_are in
-    omega (arith, law, o, k)
+module _ {J : Type 0} where
+  -- no more sections have ended than were begun
+  pub no_more_closed : (d : DomainView) (cpus cpus' : List (CpuView J)) (opened closed number : ℕ) → CountsInAll d cpus opened closed number cpus' → closed ≤ opened
+  no_more_closed d cpus cpus' opened closed number h =
+      let law = (counters_add_up d.processors h.history h.of_all.legal h.of_all.makers).still_open in
+      let o = h.counts.opened_are in
+      let k = h.counts.closed_are in
+      omega (arith, law, o, k)
 
 -- One count and then the other
 
-module _ (d : DomainView) (cpus between : List CpuView) (opened closed number : ℕ) (h : CountsInAll d cpus opened closed number between) where
+module _ {J : Type 0} (d : DomainView) (cpus between : List (CpuView J)) (opened closed number : ℕ) (h : CountsInAll d cpus opened closed number between) where
   pub still_here : Each (IsOf d) between
   still_here k x lt = let count = h.back.count in (h.back.each k x (omega (arith, lt, count))).here
 
@@ -123,7 +125,7 @@ module _ (d : DomainView) (cpus between : List CpuView) (opened closed number : 
       let count = h.back.count in
       (one.0, omega (arith, inside, count), λ x. (h.back.each one.0 x inside).same.3 ∙ one.2 x)
 
-  module _ (cpus' : List CpuView) (queued finished : ℕ) (k : CountsCalls d between queued finished cpus') (some : 0 < length cpus) where
+  module _ (cpus' : List (CpuView J)) (queued finished : ℕ) (k : CountsCalls d between queued finished cpus') (some : 0 < length cpus) where
     as_long : length cpus' ≡ length cpus
     as_long = k.back.count ∙ h.back.count
 
@@ -132,32 +134,32 @@ module _ (d : DomainView) (cpus between : List CpuView) (opened closed number : 
 
     deeds_of_all : AreDeedsOf d cpus k.all
     deeds_of_all = record {
-      since = λ n x lt. subst (λ (z : CallSeatView). deeds.IsBeginning z.seen k.all) (h.back.each n x lt).calls (k.of_all.since n x (in_between n lt));
+      since = λ n x lt. subst (λ (z : CallSeatView J). deeds.IsBeginning z.seen k.all) (h.back.each n x lt).calls (k.of_all.since n x (in_between n lt));
       true = k.of_all.true;
       finishers = k.of_all.finishers;
       one_each = k.of_all.one_each;
       queued = k.of_all.queued;
       finished = k.of_all.finished;
-      first = λ x. subst (λ (z : CallSeatView). deeds_of z.processor k.all ≡ deeds_of z.processor z.seen ++ map (deed z.processor) (queued_loads 0 k.of_all.queued ++ finished_loads 0 k.of_all.finished)) (h.back.each 0 x some).calls (k.of_all.first x);
-      others = λ n x positive lt. subst (λ (z : CallSeatView). deeds_of z.processor k.all ≡ deeds_of z.processor z.seen) (h.back.each n x lt).calls (k.of_all.others n x positive (in_between n lt));
+      first = λ x. subst (λ (z : CallSeatView J). deeds_of z.processor k.all ≡ deeds_of z.processor z.seen ++ map (deed z.processor) (queued_loads 0 k.of_all.queued ++ finished_loads 0 k.of_all.finished)) (h.back.each 0 x some).calls (k.of_all.first x);
+      others = λ n x positive lt. subst (λ (z : CallSeatView J). deeds_of z.processor k.all ≡ deeds_of z.processor z.seen) (h.back.each n x lt).calls (k.of_all.others n x positive (in_between n lt));
     }
 
-    each_back : (n : ℕ) (x : CpuView) → n < length cpus → IsBack d h.history k.all (get_or cpus n x) (get_or cpus' n x)
+    each_back : (n : ℕ) (x : CpuView J) → n < length cpus → IsBack d h.history k.all (get_or cpus n x) (get_or cpus' n x)
     each_back n x lt =
         let a = h.back.each n x lt in
         let b = k.back.each n x (in_between n lt) in
-        let cpu = ap (λ (z : CpuView). z.cpu) b.rest in
+        let cpu = ap (λ (z : CpuView J). z.cpu) b.rest in
         record {
           here = b.here;
           same = subst (λ (z : sections.CpuView). IsSameCpu (get_or cpus n x).cpu z) (sym cpu) a.same;
           mine = ap (λ (z : sections.CpuView). z.mine) cpu ∙ a.mine;
           seen = ap (λ (z : sections.CpuView). z.seen) cpu ∙ a.seen;
-          needs = ap (λ (z : CpuView). z.needs) b.rest ∙ a.needs;
-          calls = b.calls ∙ ap (λ (z : CallSeatView). record z { seen = k.all }) a.calls;
+          needs = ap (λ (z : CpuView J). z.needs) b.rest ∙ a.needs;
+          calls = b.calls ∙ ap (λ (z : CallSeatView J). record z { seen = k.all }) a.calls;
         }
 
-    turn_still : (n : ℕ) (x : CpuView) → n < length cpus → (get_or cpus' n x).turn ≡ (get_or between n x).turn
-    turn_still n x lt = ap (λ (z : CpuView). z.turn) (k.back.each n x (in_between n lt)).rest
+    turn_still : (n : ℕ) (x : CpuView J) → n < length cpus → (get_or cpus' n x).turn ≡ (get_or between n x).turn
+    turn_still n x lt = ap (λ (z : CpuView J). z.turn) (k.back.each n x (in_between n lt)).rest
 
     are_back : AreBack d h.history k.all cpus cpus'
     are_back = record {
@@ -188,14 +190,15 @@ module _ (d : DomainView) (cpus between : List CpuView) (opened closed number : 
 
 -- The answer, where nobody is missing
 
-pub taken_down : (d : DomainView) (cpus cpus' : List CpuView) (t : Totals) → missing_of d.processors cpus ≡ 0 → IsJudged d cpus (Ok t) cpus' → IsTakenDown d cpus t
-taken_down d cpus cpus' t none h = record { none_missing = none; history = h.history; of_all = h.of_all; all = h.all; deeds_of_all = h.deeds_of_all; unused = h.says.0; totals = h.says.1 }
+module _ {J : Type 0} where
+  pub taken_down : (d : DomainView) (cpus cpus' : List (CpuView J)) (t : Totals) → missing_of d.processors cpus ≡ 0 → IsJudged d cpus (Ok t) cpus' → IsTakenDown d cpus t
+  taken_down d cpus cpus' t none h = record { none_missing = none; history = h.history; of_all = h.of_all; all = h.all; deeds_of_all = h.deeds_of_all; unused = h.says.0; totals = h.says.1 }
 
-pub in_use : (d : DomainView) (cpus cpus' : List CpuView) (cause : InUse) → missing_of d.processors cpus ≡ 0 → IsJudged d cpus (Err cause) cpus' → IsRefused d cpus cause d cpus'
-in_use d cpus cpus' (Missing n) none h = absurd h.says
-in_use d cpus cpus' (Sections n) none h = record { none_missing = none; history = h.history; of_all = h.of_all; all = h.all; deeds_of_all = h.deeds_of_all; is = h.says; domain = refl; back = h.back }
-in_use d cpus cpus' Period none h = record { none_missing = none; history = h.history; of_all = h.of_all; all = h.all; deeds_of_all = h.deeds_of_all; is = h.says; domain = refl; back = h.back }
-in_use d cpus cpus' (Callbacks n) none h = record { none_missing = none; history = h.history; of_all = h.of_all; all = h.all; deeds_of_all = h.deeds_of_all; is = h.says; domain = refl; back = h.back }
+  pub in_use : (d : DomainView) (cpus cpus' : List (CpuView J)) (cause : InUse) → missing_of d.processors cpus ≡ 0 → IsJudged d cpus (Err cause) cpus' → IsRefused d cpus cause d cpus'
+  in_use d cpus cpus' (Missing n) none h = absurd h.says
+  in_use d cpus cpus' (Sections n) none h = record { none_missing = none; history = h.history; of_all = h.of_all; all = h.all; deeds_of_all = h.deeds_of_all; is = h.says; domain = refl; back = h.back }
+  in_use d cpus cpus' Period none h = record { none_missing = none; history = h.history; of_all = h.of_all; all = h.all; deeds_of_all = h.deeds_of_all; is = h.says; domain = refl; back = h.back }
+  in_use d cpus cpus' (Callbacks n) none h = record { none_missing = none; history = h.history; of_all = h.of_all; all = h.all; deeds_of_all = h.deeds_of_all; is = h.says; domain = refl; back = h.back }
 
 -- All is handed back
 
@@ -203,11 +206,12 @@ in_use d cpus cpus' (Callbacks n) none h = record { none_missing = none; history
 pub all_kept : {X : Type 0} (n : ℕ) (items rest : List X) → n ≡ length items → take n (items ++ rest) ≡ items
 all_kept n items rest same = ap (λ k. take k (items ++ rest)) same ∙ take-append_seam items rest
 
-pub nothing_changed : (d : DomainView) (cpus : List CpuView) → Each (IsOf d) cpus → IsHandedBack d cpus d cpus
-nothing_changed d cpus here = record { domain = refl; count = refl; here = here; same = λ k c lt. record { cpu = (refl, refl, refl, refl); needs = record { domain = refl; shape = refl; holder = refl }; turn = refl; calls = (refl, refl, refl) } }
+module _ {J : Type 0} where
+  pub nothing_changed : (d : DomainView) (cpus : List (CpuView J)) → Each (IsOf d) cpus → IsHandedBack d cpus d cpus
+  nothing_changed d cpus here = record { domain = refl; count = refl; here = here; same = λ k c lt. record { cpu = (refl, refl, refl, refl); needs = record { domain = refl; shape = refl; holder = refl }; turn = refl; calls = (refl, refl, refl) } }
 
-module _ (d : DomainView) (history : List Event) (all : List Deed) (cpus cpus' : List CpuView) (h : AreBack d history all cpus cpus') where
-  turn_same_seat : (k : ℕ) (c : CpuView) → k < length cpus → (get_or cpus' k c).turn ≡ record (get_or cpus k c).turn { seen = (get_or cpus' k c).turn.seen }
+module _ {J : Type 0} (d : DomainView) (history : List Event) (all : List (Deed J)) (cpus cpus' : List (CpuView J)) (h : AreBack d history all cpus cpus') where
+  turn_same_seat : (k : ℕ) (c : CpuView J) → k < length cpus → (get_or cpus' k c).turn ≡ record (get_or cpus k c).turn { seen = (get_or cpus' k c).turn.seen }
   turn_same_seat zero c lt = let t = h.first c in turn_same _ h.found h.left t.took _ t.takes t.puts
   turn_same_seat (suc k) c lt = let same = h.others (suc k) c (omega arith) lt in same ∙ (λ i. record (get_or cpus (suc k) c).turn { seen = (sym same i).seen })
 
@@ -220,6 +224,6 @@ module _ (d : DomainView) (history : List Event) (all : List Deed) (cpus cpus' :
       cpu = e.same;
       needs = record { domain = ap (λ (z : FunnelView). z.domain) e.needs; shape = ap (λ (z : FunnelView). z.shape) e.needs; holder = ap (λ (z : FunnelView). z.holder) e.needs };
       turn = turn_same_seat k c lt;
-      calls = (ap (λ (z : CallSeatView). z.tallies) e.calls, ap (λ (z : CallSeatView). z.processors) e.calls, ap (λ (z : CallSeatView). z.processor) e.calls);
+      calls = (ap (λ (z : CallSeatView J). z.tallies) e.calls, ap (λ (z : CallSeatView J). z.processors) e.calls, ap (λ (z : CallSeatView J). z.processor) e.calls);
     };
   }

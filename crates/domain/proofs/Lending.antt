@@ -29,49 +29,50 @@ pub turn_same : (v : BaySeatView Engine) (found left : Engine) (took w : BaySeat
 turn_same v found left took w t m =
     m.same ∙ ap (λ (z : BaySeatView Engine). record z { seen = w.seen }) (took_same v found took t)
 
--- the engine was lent, worked and was given back
-pub lends : (work : Engine → Engine → Type 0) (d : DomainView) (c c1 c' : CpuView) (lent worked : Engine) → IsOf d c → IsLent c lent c1 → work lent worked → GivesBack c1 worked c' → Lends work c c'
-lends work d c c1 c' lent worked is l works b = record {
-  found = l.found;
-  worked = worked;
-  left = b.left;
-  domain = l.domain ∙ (is.home ∙ sym is.domain);
-  works = subst (λ (z : Engine). work z worked) l.in_place works;
-  needs = b.needs;
-  ties = subst (λ (z : sections.CpuView). TiesEngine worked.seat z b.left.seat c'.cpu) l.cpu b.ties;
-  rest = b.rest ∙ ap (λ (z : FunnelView). with_seat b.left.seat (with_needs z worked)) l.own;
-  turn = record { took = c1.turn; takes = l.takes; puts = b.puts };
-  calls = b.calls ∙ l.calls;
-}
+module _ {J : Type 0} where
+  -- the engine was lent, worked and was given back
+  pub lends : (work : Engine → Engine → Type 0) (d : DomainView) (c c1 c' : CpuView J) (lent worked : Engine) → IsOf d c → IsLent c lent c1 → work lent worked → GivesBack c1 worked c' → Lends work c c'
+  lends work d c c1 c' lent worked is l works b = record {
+    found = l.found;
+    worked = worked;
+    left = b.left;
+    domain = l.domain ∙ (is.home ∙ sym is.domain);
+    works = subst (λ (z : Engine). work z worked) l.in_place works;
+    needs = b.needs;
+    ties = subst (λ (z : sections.CpuView). TiesEngine worked.seat z b.left.seat c'.cpu) l.cpu b.ties;
+    rest = b.rest ∙ ap (λ (z : FunnelView). with_seat b.left.seat (with_needs z worked)) l.own;
+    turn = record { took = c1.turn; takes = l.takes; puts = b.puts };
+    calls = b.calls ∙ l.calls;
+  }
 
--- the processor stays one of its domain
-pub still_of : (d : DomainView) (c c1 c' : CpuView) (lent worked : Engine) → IsOf d c → IsLent c lent c1 → GivesBack c1 worked c' → IsSameSeat lent.needs worked.needs → IsOf d c'
-still_of d c c1 c' lent worked is l b same =
-    let turn = turn_same c.turn l.found b.left c1.turn c'.turn l.takes b.puts in
-    let cpu : IsSameCpu c.cpu c'.cpu = subst (λ (z : sections.CpuView). IsSameCpu z c'.cpu) l.cpu b.ties.accepts.same in
-    record {
-      domain = cpu.0 ∙ is.domain;
-      bay = ap (λ (z : BaySeatView Engine). z.bay) turn ∙ is.bay;
-      home = ap (λ (z : BaySeatView Engine). z.domain) turn ∙ is.home;
-      free = b.free;
-      asks = (is.asks.0, ap (λ (z : FunnelView). z.holder) b.needs ∙ (same.holder ∙ (ap (λ (z : Engine). z.needs.holder) l.in_place ∙ is.asks.1)));
-      many = cpu.1 ∙ is.many;
-      fits = still_fits d c c' cpu (seat_the_same _ _ (b.calls ∙ l.calls)) is.fits;
-      number = ap (λ (z : BaySeatView Engine). z.number) turn ∙ (is.number ∙ sym cpu.3);
-      seats = ap (λ (z : BaySeatView Engine). z.seats) turn ∙ is.seats;
-      words = ap (λ (z : CallSeatView). z.processors) (b.calls ∙ l.calls) ∙ is.words;
-    }
+  -- the processor stays one of its domain
+  pub still_of : (d : DomainView) (c c1 c' : CpuView J) (lent worked : Engine) → IsOf d c → IsLent c lent c1 → GivesBack c1 worked c' → IsSameSeat lent.needs worked.needs → IsOf d c'
+  still_of d c c1 c' lent worked is l b same =
+      let turn = turn_same c.turn l.found b.left c1.turn c'.turn l.takes b.puts in
+      let cpu : IsSameCpu c.cpu c'.cpu = subst (λ (z : sections.CpuView). IsSameCpu z c'.cpu) l.cpu b.ties.accepts.same in
+      record {
+        domain = cpu.0 ∙ is.domain;
+        bay = ap (λ (z : BaySeatView Engine). z.bay) turn ∙ is.bay;
+        home = ap (λ (z : BaySeatView Engine). z.domain) turn ∙ is.home;
+        free = b.free;
+        asks = (is.asks.0, ap (λ (z : FunnelView). z.holder) b.needs ∙ (same.holder ∙ (ap (λ (z : Engine). z.needs.holder) l.in_place ∙ is.asks.1)));
+        many = cpu.1 ∙ is.many;
+        fits = still_fits d c c' cpu (seat_the_same _ _ (b.calls ∙ l.calls)) is.fits;
+        number = ap (λ (z : BaySeatView Engine). z.number) turn ∙ (is.number ∙ sym cpu.3);
+        seats = ap (λ (z : BaySeatView Engine). z.seats) turn ∙ is.seats;
+        words = ap (λ (z : CallSeatView J). z.processors) (b.calls ∙ l.calls) ∙ is.words;
+      }
 
--- where it may be given back
-pub back_here : (d : DomainView) (c c1 : CpuView) (lent : Engine) → IsOf d c → IsLent c lent c1 → (c1.turn.bay ≡ d.bay) × (holds c1.turn ≡ true) × (lent.seat.domain ≡ c1.cpu.domain) × (lent.seat.domain ≡ c1.turn.domain)
-back_here d c c1 lent is l =
-    let took = took_same c.turn l.found c1.turn l.takes in
-    let at : lent.seat.domain ≡ c.turn.domain = ap (λ (z : Engine). z.seat.domain) l.in_place ∙ l.domain in (
-      ap (λ (z : BaySeatView Engine). z.bay) took ∙ is.bay,
-      l.takes.holds_now,
-      at ∙ (is.home ∙ (sym is.domain ∙ sym (ap (λ (z : sections.CpuView). z.domain) l.cpu))),
-      at ∙ sym (ap (λ (z : BaySeatView Engine). z.domain) took),
-    )
+  -- where it may be given back
+  pub back_here : (d : DomainView) (c c1 : CpuView J) (lent : Engine) → IsOf d c → IsLent c lent c1 → (c1.turn.bay ≡ d.bay) × (holds c1.turn ≡ true) × (lent.seat.domain ≡ c1.cpu.domain) × (lent.seat.domain ≡ c1.turn.domain)
+  back_here d c c1 lent is l =
+      let took = took_same c.turn l.found c1.turn l.takes in
+      let at : lent.seat.domain ≡ c.turn.domain = ap (λ (z : Engine). z.seat.domain) l.in_place ∙ l.domain in (
+        ap (λ (z : BaySeatView Engine). z.bay) took ∙ is.bay,
+        l.takes.holds_now,
+        at ∙ (is.home ∙ (sym is.domain ∙ sym (ap (λ (z : sections.CpuView). z.domain) l.cpu))),
+        at ∙ sym (ap (λ (z : BaySeatView Engine). z.domain) took),
+      )
 
 -- The engine's work is done with one seat at the tree
 
@@ -114,7 +115,7 @@ mine_exhausted v w h = h.load.mine
 
 -- The processor is the same behind a turn
 
-module _ (work : Engine → Engine → Type 0) (c c' : CpuView) where
+module _ {J : Type 0} (work : Engine → Engine → Type 0) (c c' : CpuView J) where
   pub same_lent : ((v w : Engine) → work v w → IsSameSeat v.needs w.needs) → Lends work c c' → IsSameProcessor c c'
   same_lent keeps h = record {
     cpu = h.ties.accepts.same;
@@ -126,7 +127,8 @@ module _ (work : Engine → Engine → Type 0) (c c' : CpuView) where
   pub mine_lent : ((v w : Engine) → work v w → w.needs.mine ≡ v.needs.mine) → Lends work c c' → c'.needs.mine ≡ c.needs.mine
   mine_lent keeps h = ap (λ (z : FunnelView). z.mine) h.needs ∙ keeps _ _ h.works
 
--- where the engine started none, the domain says so
-pub not_started : (c c' : CpuView) (refusal : scan.StartRefusal) → StartsNone c refusal c' → IsNotStarted c (refusal_of refusal) c'
-not_started c c' refused.Running h = h
-not_started c c' refused.Exhausted h = h
+module _ {J : Type 0} where
+  -- where the engine started none, the domain says so
+  pub not_started : (c c' : CpuView J) (refusal : scan.StartRefusal) → StartsNone c refusal c' → IsNotStarted c (refusal_of refusal) c'
+  not_started c c' refused.Running h = h
+  not_started c c' refused.Exhausted h = h

@@ -34,28 +34,29 @@ use Rattle.domain.proofs.Lending.{turn_same}
 use Rattle.domain.proofs.Staying.{still_fits}
 use Rattle.domain.proofs.Covering.{raises_beginning_trans}
 
--- a swap behind loads is a swap behind what was there before them
-pub swap_behind : (v t w : BaySeatView Engine) (cpus : List CpuView) (left : Engine) → TurnCovers v cpus t → MakesSwap t (Some left) None w → MakesSwap v (Some left) None w
-swap_behind v t w cpus left h m =
-    let number : t.number ≡ v.number = ap (λ (z : BaySeatView Engine). z.number) h.same in
-    record {
-      same = m.same ∙ ap (λ (z : BaySeatView Engine). record z { seen = w.seen }) h.same;
-      before = m.before;
-      since = swaps_beginning_trans _ _ _ h.since m.since;
-      own = ap (λ n. swaps_of n m.before) (sym number) ∙ (m.own ∙ (ap (λ n. swaps_of n t.seen) number ∙ h.own));
-      finds = m.finds ∙ ap (λ (z : BaySeatView Engine). lies_after z.first m.before) h.same;
-      seen = m.seen ∙ ap (λ n. m.before ++ record { by = n; left = Some left; found = None } ∷ []) number;
-      history = m.history;
-    }
+module _ {J : Type 0} where
+  -- a swap behind loads is a swap behind what was there before them
+  pub swap_behind : (v t w : BaySeatView Engine) (cpus : List (CpuView J)) (left : Engine) → TurnCovers v cpus t → MakesSwap t (Some left) None w → MakesSwap v (Some left) None w
+  swap_behind v t w cpus left h m =
+      let number : t.number ≡ v.number = ap (λ (z : BaySeatView Engine). z.number) h.same in
+      record {
+        same = m.same ∙ ap (λ (z : BaySeatView Engine). record z { seen = w.seen }) h.same;
+        before = m.before;
+        since = swaps_beginning_trans _ _ _ h.since m.since;
+        own = ap (λ n. swaps_of n m.before) (sym number) ∙ (m.own ∙ (ap (λ n. swaps_of n t.seen) number ∙ h.own));
+        finds = m.finds ∙ ap (λ (z : BaySeatView Engine). lies_after z.first m.before) h.same;
+        seen = m.seen ∙ ap (λ n. m.before ++ record { by = n; left = Some left; found = None } ∷ []) number;
+        history = m.history;
+      }
 
 -- the first processor and the others; the engine that was found, and as it was left
-module _ (d : DomainView) (c : CpuView) (cs cs1 cs2 cs3 : List CpuView) (e0 e1 e2 : Engine) (cpu' : sections.CpuView) (found : ℕ) (n1 n2 : FunnelView) (took t2 t3 : BaySeatView Engine) (s : CallSeatView)
+module _ {J : Type 0} (d : DomainView) (c : CpuView J) (cs cs1 cs2 cs3 : List (CpuView J)) (e0 e1 e2 : Engine) (cpu' : sections.CpuView) (found : ℕ) (n1 n2 : FunnelView) (took t2 t3 : BaySeatView Engine) (s : CallSeatView J)
     (takes : Takes c.turn e0 took) (covers : Covers e0.seat c.cpu.seen c.cpu.changes e1.seat) (load : LoadsRoot c.needs found n1)
     (engine : EngineCovers e1.seat cs e2.seat) (needs : NeedsCover n1 cs n2) (turn : TurnCovers took cs t2)
     (accepts : calls.Accepts c.cpu e2.seat.seen e2.seat.changes e2.seat.texts cpu') (was : calls.IsSeenBy c.cpu) (sized : c.cpu.processors ≡ e2.seat.processors) (heard : (n : ℕ) → e2.seat.shown ≡ To c.cpu.processor n → n ≤ c.cpu.changes)
     (admitted : EachBecomes (IsAdmitted e2.seat n2) cs cs1) (puts : MakesSwap t2 (Some e2) None t3) (turned : EachBecomes (IsTurned t3) cs1 cs2)
     (met : tallies.Accepts c.calls s.seen s) (heard_all : EachBecomes (IsHeard s) cs2 cs3) where
-  abbrev pub after : List CpuView
+  abbrev pub after : List (CpuView J)
   after = record { cpu = cpu'; needs = n2; turn = t3; calls = s } ∷ cs3
 
   same_count : length after ≡ length (c ∷ cs)
@@ -71,27 +72,27 @@ module _ (d : DomainView) (c : CpuView) (cs cs1 cs2 cs3 : List CpuView) (e0 e1 e
   in_turned k lt = let n = admitted.count in let m = turned.count in omega (arith, lt, n, m)
 
   -- at the tally words one has changed nothing else
-  cpu_is : (k : ℕ) (x : CpuView) → suc k < length (c ∷ cs) → (get_or cs3 k x).cpu ≡ (get_or cs1 k x).cpu
-  cpu_is k x lt = ap (λ (z : CpuView). z.cpu) (heard_all.each k x (in_turned k lt)).rest ∙ (turned.each k x (in_admitted k lt)).cpu
+  cpu_is : (k : ℕ) (x : CpuView J) → suc k < length (c ∷ cs) → (get_or cs3 k x).cpu ≡ (get_or cs1 k x).cpu
+  cpu_is k x lt = ap (λ (z : CpuView J). z.cpu) (heard_all.each k x (in_turned k lt)).rest ∙ (turned.each k x (in_admitted k lt)).cpu
 
-  needs_are : (k : ℕ) (x : CpuView) → suc k < length (c ∷ cs) → (get_or cs3 k x).needs ≡ (get_or cs1 k x).needs
-  needs_are k x lt = ap (λ (z : CpuView). z.needs) (heard_all.each k x (in_turned k lt)).rest ∙ (turned.each k x (in_admitted k lt)).needs
+  needs_are : (k : ℕ) (x : CpuView J) → suc k < length (c ∷ cs) → (get_or cs3 k x).needs ≡ (get_or cs1 k x).needs
+  needs_are k x lt = ap (λ (z : CpuView J). z.needs) (heard_all.each k x (in_turned k lt)).rest ∙ (turned.each k x (in_admitted k lt)).needs
 
   -- the domain's words
-  pub each_joins : (k : ℕ) (x : CpuView) → k < length (c ∷ cs) → Joins (get_or (c ∷ cs) k x).cpu e2.seat.seen e2.seat.changes e2.seat.texts (get_or after k x).cpu
+  pub each_joins : (k : ℕ) (x : CpuView J) → k < length (c ∷ cs) → Joins (get_or (c ∷ cs) k x).cpu e2.seat.seen e2.seat.changes e2.seat.texts (get_or after k x).cpu
   each_joins zero x lt = record { accepts = accepts; since = beginning_trans covers.covers engine.since; later = (let low = covers.not_before in let same = engine.changes in omega (arith, low, same)) }
   each_joins (suc k) x lt = subst (λ (z : sections.CpuView). Joins (get_or cs k x).cpu e2.seat.seen e2.seat.changes e2.seat.texts z) (sym (cpu_is k x lt)) (admitted.each k x (in_others k lt)).cpu
 
-  each_was : (k : ℕ) (x : CpuView) → k < length (c ∷ cs) → calls.IsSeenBy (get_or (c ∷ cs) k x).cpu
+  each_was : (k : ℕ) (x : CpuView J) → k < length (c ∷ cs) → calls.IsSeenBy (get_or (c ∷ cs) k x).cpu
   each_was zero x lt = was
   each_was (suc k) x lt = (admitted.each k x (in_others k lt)).was
 
-  each_heard : (k : ℕ) (x : CpuView) → k < length (c ∷ cs) → (n : ℕ) → e2.seat.shown ≡ To (get_or (c ∷ cs) k x).cpu.processor n → n ≤ (get_or (c ∷ cs) k x).cpu.changes
+  each_heard : (k : ℕ) (x : CpuView J) → k < length (c ∷ cs) → (n : ℕ) → e2.seat.shown ≡ To (get_or (c ∷ cs) k x).cpu.processor n → n ≤ (get_or (c ∷ cs) k x).cpu.changes
   each_heard zero x lt = heard
   each_heard (suc k) x lt = (admitted.each k x (in_others k lt)).heard
 
   -- the tree
-  pub each_joins_tree : (k : ℕ) (x : CpuView) → k < length (c ∷ cs) → JoinsTree (get_or (c ∷ cs) k x).needs n2.seen (get_or after k x).needs
+  pub each_joins_tree : (k : ℕ) (x : CpuView J) → k < length (c ∷ cs) → JoinsTree (get_or (c ∷ cs) k x).needs n2.seen (get_or after k x).needs
   each_joins_tree zero x lt = record {
     same = record { domain = needs.same.domain ∙ load.same.domain; shape = needs.same.shape ∙ load.same.shape; holder = needs.same.holder ∙ load.same.holder };
     mine = needs.mine ∙ load.mine;
@@ -114,11 +115,11 @@ module _ (d : DomainView) (c : CpuView) (cs cs1 cs2 cs3 : List CpuView) (e0 e1 e
         history = subst (λ (z : FunnelView). IsSeenBy z) (sym e) h.history;
       }
 
-  pub first_loads : (x : CpuView) (lt : 0 < length (c ∷ cs)) → length (each_joins_tree 0 x lt).found ≡ length (c ∷ cs)
+  pub first_loads : (x : CpuView J) (lt : 0 < length (c ∷ cs)) → length (each_joins_tree 0 x lt).found ≡ length (c ∷ cs)
   unfolding each_joins_tree
   first_loads x lt = ap suc needs.one_each
 
-  pub other_loads : (k : ℕ) (x : CpuView) (lt : k < length (c ∷ cs)) → 0 < k → length (each_joins_tree k x lt).found ≡ 1
+  pub other_loads : (k : ℕ) (x : CpuView J) (lt : k < length (c ∷ cs)) → 0 < k → length (each_joins_tree k x lt).found ≡ 1
   unfolding each_joins_tree
   other_loads zero x lt some = absurd (omega (arith, some))
   other_loads (suc k) x lt some = (admitted.each k x (in_others k lt)).one_load
@@ -127,33 +128,33 @@ module _ (d : DomainView) (c : CpuView) (cs cs1 cs2 cs3 : List CpuView) (e0 e1 e
   pub first_turn : TakesTurn c.turn e0 e2 t3
   first_turn = record { took = took; takes = takes; puts = swap_behind took t2 t3 cs e2 turn puts }
 
-  other_turn : (k : ℕ) (x : CpuView) → suc k < length (c ∷ cs) → Accepts (get_or cs k x).turn t3.seen (get_or cs3 k x).turn
+  other_turn : (k : ℕ) (x : CpuView J) → suc k < length (c ∷ cs) → Accepts (get_or cs k x).turn t3.seen (get_or cs3 k x).turn
   other_turn k x lt =
-      let now : (get_or cs3 k x).turn ≡ (get_or cs2 k x).turn = ap (λ (z : CpuView). z.turn) (heard_all.each k x (in_turned k lt)).rest in
+      let now : (get_or cs3 k x).turn ≡ (get_or cs2 k x).turn = ap (λ (z : CpuView J). z.turn) (heard_all.each k x (in_turned k lt)).rest in
       let was = (admitted.each k x (in_others k lt)).turn in
       subst (λ (z : BaySeatView Engine × BaySeatView Engine). Accepts z.0 t3.seen z.1) (λ i. (was i, sym now i)) (turned.each k x (in_admitted k lt)).turn
 
-  each_turned : (k : ℕ) (x : CpuView) → k < length (c ∷ cs) → (get_or after k x).turn.seen ≡ t3.seen
+  each_turned : (k : ℕ) (x : CpuView J) → k < length (c ∷ cs) → (get_or after k x).turn.seen ≡ t3.seen
   each_turned zero x lt = refl
   each_turned (suc k) x lt = ap (λ (z : BaySeatView Engine). z.seen) (other_turn k x lt).is
 
-  accepted_turns : (k : ℕ) (x : CpuView) → 0 < k → k < length (c ∷ cs) → Accepts (get_or (c ∷ cs) k x).turn t3.seen (get_or after k x).turn
+  accepted_turns : (k : ℕ) (x : CpuView J) → 0 < k → k < length (c ∷ cs) → Accepts (get_or (c ∷ cs) k x).turn t3.seen (get_or after k x).turn
   accepted_turns zero x some lt = absurd (omega (arith, some))
   accepted_turns (suc k) x some lt = other_turn k x lt
 
   -- a turn's seat stays that of the domain, and does not have the engine
-  pub turn_stays : (k : ℕ) (x : CpuView) → k < length (c ∷ cs) → holds t3 ≡ false → holds (get_or (c ∷ cs) k x).turn ≡ false
+  pub turn_stays : (k : ℕ) (x : CpuView J) → k < length (c ∷ cs) → holds t3 ≡ false → holds (get_or (c ∷ cs) k x).turn ≡ false
       → ((get_or after k x).turn.bay ≡ (get_or (c ∷ cs) k x).turn.bay) × ((get_or after k x).turn.domain ≡ (get_or (c ∷ cs) k x).turn.domain) × (holds (get_or after k x).turn ≡ false) × ((get_or after k x).turn.number ≡ (get_or (c ∷ cs) k x).turn.number) × ((get_or after k x).turn.seats ≡ (get_or (c ∷ cs) k x).turn.seats)
   turn_stays zero x lt free _ = let same = turn_same c.turn e0 e2 took t3 takes (swap_behind took t2 t3 cs e2 turn puts) in (ap (λ (z : BaySeatView Engine). z.bay) same, ap (λ (z : BaySeatView Engine). z.domain) same, free, ap (λ (z : BaySeatView Engine). z.number) same, ap (λ (z : BaySeatView Engine). z.seats) same)
   turn_stays (suc k) x lt _ free = let h = other_turn k x lt in (ap (λ (z : BaySeatView Engine). z.bay) h.is, ap (λ (z : BaySeatView Engine). z.domain) h.is, h.holding ∙ free, ap (λ (z : BaySeatView Engine). z.number) h.is, ap (λ (z : BaySeatView Engine). z.seats) h.is)
 
   -- the seats at the tally words
-  pub each_accepts : (k : ℕ) (x : CpuView) → k < length (c ∷ cs) → tallies.Accepts (get_or (c ∷ cs) k x).calls s.seen (get_or after k x).calls
+  pub each_accepts : (k : ℕ) (x : CpuView J) → k < length (c ∷ cs) → tallies.Accepts (get_or (c ∷ cs) k x).calls s.seen (get_or after k x).calls
   each_accepts zero x lt = met
-  each_accepts (suc k) x lt = subst (λ (z : CallSeatView). tallies.Accepts z s.seen (get_or cs3 k x).calls) ((turned.each k x (in_admitted k lt)).calls ∙ (admitted.each k x (in_others k lt)).calls) (heard_all.each k x (in_turned k lt)).calls
+  each_accepts (suc k) x lt = subst (λ (z : CallSeatView J). tallies.Accepts z s.seen (get_or cs3 k x).calls) ((turned.each k x (in_admitted k lt)).calls ∙ (admitted.each k x (in_others k lt)).calls) (heard_all.each k x (in_turned k lt)).calls
 
-  same_seat : (k : ℕ) (x : CpuView) → k < length (c ∷ cs) → IsSameSeat (get_or (c ∷ cs) k x).calls (get_or after k x).calls
-  same_seat k x lt = let is = (each_accepts k x lt).is in (ap (λ (z : CallSeatView). z.tallies) is, ap (λ (z : CallSeatView). z.processors) is, ap (λ (z : CallSeatView). z.processor) is)
+  same_seat : (k : ℕ) (x : CpuView J) → k < length (c ∷ cs) → IsSameSeat (get_or (c ∷ cs) k x).calls (get_or after k x).calls
+  same_seat k x lt = let is = (each_accepts k x lt).is in (ap (λ (z : CallSeatView J). z.tallies) is, ap (λ (z : CallSeatView J). z.processors) is, ap (λ (z : CallSeatView J). z.processor) is)
 
   pub tallies_meet : IsAllOf d (c ∷ cs) → TalliesMeet (c ∷ cs) after
   tallies_meet all =

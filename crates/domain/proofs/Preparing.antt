@@ -14,11 +14,11 @@ use Rattle.domain.specs.Parts.{Each, IsBeside, EngineCovers, NeedsCover, TurnCov
 use Rattle.domain.proofs.Turning.{swaps_beginning_trans}
 use Rattle.domain.proofs.Lending.{took_same}
 
-module _ (d : DomainView) (c : CpuView) (cs : List CpuView) (all : IsAllOf d (c ∷ cs)) (e0 : Engine) (took : BaySeatView Engine) (takes : Takes c.turn e0 took) (at : e0.seat.domain ≡ c.turn.domain) where
+module _ {J : Type 0} (d : DomainView) (c : CpuView J) (cs : List (CpuView J)) (all : IsAllOf d (c ∷ cs)) (e0 : Engine) (took : BaySeatView Engine) (takes : Takes c.turn e0 took) (at : e0.seat.domain ≡ c.turn.domain) where
   first : IsOf d c
   first = all.here 0 c all.some
 
-  other : (k : ℕ) (x : CpuView) → k < length cs → IsOf d (get_or cs k x)
+  other : (k : ℕ) (x : CpuView J) → k < length cs → IsOf d (get_or cs k x)
   other k x lt = all.here (suc k) x (omega (arith, lt))
 
   pub engine_here : e0.seat.domain ≡ d.domain
@@ -48,7 +48,7 @@ module _ (d : DomainView) (c : CpuView) (cs : List CpuView) (all : IsAllOf d (c 
       pub turn_here : t2.bay ≡ d.bay
       turn_here = ap (λ (z : BaySeatView Engine). z.bay) turn.same ∙ took_here
 
-      module _ (t3 : BaySeatView Engine) (left : Engine) (puts : MakesSwap t2 (Some left) None t3) (cs1 : List CpuView) (admitted : EachBecomes (IsAdmitted e2.seat n2) cs cs1) where
+      module _ (t3 : BaySeatView Engine) (left : Engine) (puts : MakesSwap t2 (Some left) None t3) (cs1 : List (CpuView J)) (admitted : EachBecomes (IsAdmitted e2.seat n2) cs cs1) where
         pub put_here : t3.bay ≡ d.bay
         put_here = ap (λ (z : BaySeatView Engine). z.bay) puts.same ∙ turn_here
 
@@ -63,8 +63,8 @@ module _ (d : DomainView) (c : CpuView) (cs : List CpuView) (all : IsAllOf d (c 
             (swaps_beginning_trans _ _ _ (turn.covers k x (before k lt)) (swaps_beginning_trans _ _ _ puts.since record { rest = _; whole = puts.seen }))
 
         -- the seats at the tally words are still of one domain
-        pub calls_beside : (cs2 : List CpuView) → EachBecomes (IsTurned t3) cs1 cs2 → Each (λ x. x.calls.tallies ≡ c.calls.tallies) cs2
+        pub calls_beside : (cs2 : List (CpuView J)) → EachBecomes (IsTurned t3) cs1 cs2 → Each (λ x. x.calls.tallies ≡ c.calls.tallies) cs2
         calls_beside cs2 turned k x lt =
             let there : k < length cs1 = (let n = turned.count in omega (arith, lt, n)) in
             let l = before k there in
-            ap (λ (z : CallSeatView). z.tallies) ((turned.each k x there).calls ∙ (admitted.each k x l).calls) ∙ ((other k x l).fits.tallies ∙ sym first.fits.tallies)
+            ap (λ (z : CallSeatView J). z.tallies) ((turned.each k x there).calls ∙ (admitted.each k x l).calls) ∙ ((other k x l).fits.tallies ∙ sym first.fits.tallies)

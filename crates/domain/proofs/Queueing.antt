@@ -19,23 +19,24 @@ use Rattle.domain.specs.Calling.{CallsIn, RefusesCall}
 use Rattle.domain.specs.Barriers.{IsReceiptOf}
 use Rattle.domain.proofs.Synchronizing.{none_open}
 
--- a cookie opens none
-none_noted : (s s' : SightView) (c c' : CpuView) (cookie : CookieView) → HasNoneOpen c → GivesCookieBehind s c.cpu c'.cpu cookie s' → HasNoneOpen c'
-none_noted s s' c c' cookie none h = none_open c c' none (ap open_sections h.adds.mine ∙ open_sections_plain c.cpu.mine _ refl (λ t. refl))
+module _ {J : Type 0} where
+  -- a cookie opens none
+  none_noted : (s s' : SightView) (c c' : CpuView J) (cookie : CookieView) → HasNoneOpen c → GivesCookieBehind s c.cpu c'.cpu cookie s' → HasNoneOpen c'
+  none_noted s s' c c' cookie none h = none_open c c' none (ap open_sections h.adds.mine ∙ open_sections_plain c.cpu.mine _ refl (λ t. refl))
 
 module _ {J : Type 0} where
-  none_refused : (l l' : ListView J) (s : CallSeatView) (c c' : CpuView) (r : CallRefusal) → HasNoneOpen c → IsCause l c.cpu s r l' c'.cpu → HasNoneOpen c'
+  none_refused : (l l' : ListView J) (s : CallSeatView J) (c c' : CpuView J) (r : CallRefusal) → HasNoneOpen c → IsCause l c.cpu s r l' c'.cpu → HasNoneOpen c'
   none_refused l l' s c c' Exhausted none h = none_open c c' none (ap (λ z. open_sections z.mine) h.2)
   none_refused l l' s c c' Memory none h = none_noted _ _ c c' h.1.0 none h.1.1
 
   -- the receipt is one of the domain's
-  pub queued_here : (d : DomainView) (c c' : CpuView) (job : J) (r : Receipt) → IsOf d c → CallsIn d c job r c' → IsReceiptOf d r
+  pub queued_here : (d : DomainView) (c c' : CpuView J) (job : J) (r : Receipt J) → IsOf d c → CallsIn d c job r c' → IsReceiptOf d r
   queued_here d c c' job r here h = let q = h.queues.queues in record {
     tallies = ap (λ n. n.tallies) q.noted ∙ (q.tally.same.0 ∙ here.fits.tallies);
     there = subst (λ p. p < d.processors) (sym q.processor) here.fits.there;
   }
 
   -- no reading is opened by a call, nor by one that is refused
-  pub none_queued : (d : DomainView) (c c' : CpuView) (job : J) (result : Result Receipt (J × CallRefusal)) → HasNoneOpen c → MatchResult result (λ receipt. CallsIn d c job receipt c') (λ refused. RefusesCall d c job refused c') → HasNoneOpen c'
+  pub none_queued : (d : DomainView) (c c' : CpuView J) (job : J) (result : Result (Receipt J) (J × CallRefusal)) → HasNoneOpen c → MatchResult result (λ receipt. CallsIn d c job receipt c') (λ refused. RefusesCall d c job refused c') → HasNoneOpen c'
   none_queued d c c' job (Ok r) none h = none_noted _ _ c c' _ none h.queues.queues.note
   none_queued d c c' job (Err e) none h = none_refused _ _ c.calls c c' e.1 none h.refuses.refuses.cause

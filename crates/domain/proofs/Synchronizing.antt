@@ -22,110 +22,111 @@ use Rattle.domain.proofs.Sameness.{same_trans, same_polled, same_asked}
 
 -- Turns
 
--- a turn adds no event of the processor's, and asks for nothing
-pub record Turned (x y : CpuView) : Type 0 where
-  pub same : IsSameProcessor x y
-  pub mine : y.cpu.mine ≡ x.cpu.mine
-  pub asked : y.needs.mine ≡ x.needs.mine
-  pub calls : y.calls ≡ x.calls
-  pub since : IsBeginning x.cpu.seen y.cpu.seen
+module _ {J : Type 0} where
+  -- a turn adds no event of the processor's, and asks for nothing
+  pub record Turned (x y : CpuView J) : Type 0 where
+    pub same : IsSameProcessor x y
+    pub mine : y.cpu.mine ≡ x.cpu.mine
+    pub asked : y.needs.mine ≡ x.needs.mine
+    pub calls : y.calls ≡ x.calls
+    pub since : IsBeginning x.cpu.seen y.cpu.seen
 
-pub turned_advanced : (x y : CpuView) (a : Progress) → AdvancesIn x a y → Turned x y
-turned_advanced x y a h = record { same = same_lent _ x y (λ v w. same_advanced v w a) h; mine = h.ties.accepts.mine; asked = mine_lent _ x y (λ v w. mine_advanced v w a) h; calls = h.calls; since = h.ties.since }
+  pub turned_advanced : (x y : CpuView J) (a : Progress) → AdvancesIn x a y → Turned x y
+  turned_advanced x y a h = record { same = same_lent _ x y (λ v w. same_advanced v w a) h; mine = h.ties.accepts.mine; asked = mine_lent _ x y (λ v w. mine_advanced v w a) h; calls = h.calls; since = h.ties.since }
 
-pub turned_exhausted : (x y : CpuView) → FindsExhaustedIn x y → Turned x y
-turned_exhausted x y h = record { same = same_lent _ x y same_exhausted h; mine = h.ties.accepts.mine; asked = mine_lent _ x y mine_exhausted h; calls = h.calls; since = h.ties.since }
+  pub turned_exhausted : (x y : CpuView J) → FindsExhaustedIn x y → Turned x y
+  turned_exhausted x y h = record { same = same_lent _ x y same_exhausted h; mine = h.ties.accepts.mine; asked = mine_lent _ x y mine_exhausted h; calls = h.calls; since = h.ties.since }
 
--- while it waits for the engine there is just this refusal
-pub only_exhausted : (x y : CpuView) (r : AdvanceRefusal) → IsRefused x r y → FindsExhaustedIn x y
-only_exhausted x y advance.Busy h = absurd h
-only_exhausted x y advance.Exhausted h = h
+  -- while it waits for the engine there is just this refusal
+  pub only_exhausted : (x y : CpuView J) (r : AdvanceRefusal) → IsRefused x r y → FindsExhaustedIn x y
+  only_exhausted x y advance.Busy h = absurd h
+  only_exhausted x y advance.Exhausted h = h
 
--- Rounds
+  -- Rounds
 
--- a row of rounds so far
-abbrev pub Rounds : sections.CookieView → List CpuView → CpuView → CpuView → Type 0
-Rounds = RoundsThrough (λ x y. y ≡ x)
+  -- a row of rounds so far
+  abbrev pub Rounds : sections.CookieView → List (CpuView J) → CpuView J → CpuView J → Type 0
+  Rounds = RoundsThrough (λ x y. y ≡ x)
 
-one_more_round : (k : sections.CookieView) (ds : List CpuView) (x y z : CpuView) → Rounds k ds x y → TurnsAndPolls false k y z → Rounds k (ds ++ z ∷ []) x z
-one_more_round k [] x y z same t = (subst (λ (u : CpuView). TurnsAndPolls false k u z) same t, refl)
-one_more_round k (d ∷ ds) x y z h t = (h.0, one_more_round k ds d y z h.1 t)
+  one_more_round : (k : sections.CookieView) (ds : List (CpuView J)) (x y z : CpuView J) → Rounds k ds x y → TurnsAndPolls false k y z → Rounds k (ds ++ z ∷ []) x z
+  one_more_round k [] x y z same t = (subst (λ (u : CpuView J). TurnsAndPolls false k u z) same t, refl)
+  one_more_round k (d ∷ ds) x y z h t = (h.0, one_more_round k ds d y z h.1 t)
 
-and_the_last : (ends : CpuView → CpuView → Type 0) (k : sections.CookieView) (ds : List CpuView) (x y z : CpuView) → Rounds k ds x y → ends y z → RoundsThrough ends k ds x z
-and_the_last ends k [] x y z same last = subst (λ (u : CpuView). ends u z) same last
-and_the_last ends k (d ∷ ds) x y z h last = (h.0, and_the_last ends k ds d y z h.1 last)
+  and_the_last : (ends : CpuView J → CpuView J → Type 0) (k : sections.CookieView) (ds : List (CpuView J)) (x y z : CpuView J) → Rounds k ds x y → ends y z → RoundsThrough ends k ds x z
+  and_the_last ends k [] x y z same last = subst (λ (u : CpuView J). ends u z) same last
+  and_the_last ends k (d ∷ ds) x y z h last = (h.0, and_the_last ends k ds d y z h.1 last)
 
--- Waiting
+  -- Waiting
 
--- the processor has its cookie, and has asked after it in vain until now. The last round ended at this view
-pub record HasWaited (d : DomainView) (c : CpuView) (k : sections.CookieView) (at x : CpuView) : Type 0 where
-  pub here : IsOf d x
-  pub same : IsSameProcessor c x
-  pub of_domain : k.domain ≡ c.cpu.domain
-  pub gives : HasNoted c k.number k.seen
-  pub asked : CpuView
-  pub starts : StartsPoll c k asked
-  pub rounds : List CpuView
-  pub through : Rounds k rounds asked at
-  pub no_more : x.needs.mine ≡ asked.needs.mine
-  pub calls : x.calls ≡ c.calls
-  pub vain : List Event
-  pub all_vain : All (λ e. e ≡ Ask k.number false (Processor c.cpu.processor)) vain
-  pub one_each : length vain ≡ length rounds
-  pub mine : x.cpu.mine ≡ c.cpu.mine ++ Note k.number (Processor c.cpu.processor) ∷ vain
-  pub since : IsBeginning c.cpu.seen x.cpu.seen
+  -- the processor has its cookie, and has asked after it in vain until now. The last round ended at this view
+  pub record HasWaited (d : DomainView) (c : CpuView J) (k : sections.CookieView) (at x : CpuView J) : Type 0 where
+    pub here : IsOf d x
+    pub same : IsSameProcessor c x
+    pub of_domain : k.domain ≡ c.cpu.domain
+    pub gives : HasNoted c k.number k.seen
+    pub asked : CpuView J
+    pub starts : StartsPoll c k asked
+    pub rounds : List (CpuView J)
+    pub through : Rounds k rounds asked at
+    pub no_more : x.needs.mine ≡ asked.needs.mine
+    pub calls : x.calls ≡ c.calls
+    pub vain : List Event
+    pub all_vain : All (λ e. e ≡ Ask k.number false (Processor c.cpu.processor)) vain
+    pub one_each : length vain ≡ length rounds
+    pub mine : x.cpu.mine ≡ c.cpu.mine ++ Note k.number (Processor c.cpu.processor) ∷ vain
+    pub since : IsBeginning c.cpu.seen x.cpu.seen
 
--- the cookie, as it was given
-pub begins : (d : DomainView) (c x : CpuView) (k : sections.CookieView) → IsOf d x → StartsPoll c k x → HasWaited d c k x x
-begins d c x k here h =
-    let adds = h.gives.notes.adds in
-    let number = ap (λ (z : sections.CookieView). z.number) h.gives.cookie_is in
-    record {
-      here = here;
-      same = same_asked c x k h;
-      of_domain = ap (λ (z : sections.CookieView). z.domain) h.gives.cookie_is;
-      gives = subst (λ (z : sections.CookieView). HasNoted c z.number z.seen) (sym h.gives.cookie_is) record { before = adds.before; since = adds.since; whole = adds.seen };
-      asked = x;
-      starts = h;
-      rounds = [];
-      through = refl;
-      no_more = refl;
-      calls = h.calls;
-      vain = [];
-      all_vain = All-nil _;
-      one_each = refl;
-      mine = adds.mine ∙ ap (λ n. c.cpu.mine ++ Note n (Processor c.cpu.processor) ∷ []) (sym number);
-      since = beginning_trans adds.since record { rest = _; whole = adds.seen };
-    }
+  -- the cookie, as it was given
+  pub begins : (d : DomainView) (c x : CpuView J) (k : sections.CookieView) → IsOf d x → StartsPoll c k x → HasWaited d c k x x
+  begins d c x k here h =
+      let adds = h.gives.notes.adds in
+      let number = ap (λ (z : sections.CookieView). z.number) h.gives.cookie_is in
+      record {
+        here = here;
+        same = same_asked c x k h;
+        of_domain = ap (λ (z : sections.CookieView). z.domain) h.gives.cookie_is;
+        gives = subst (λ (z : sections.CookieView). HasNoted c z.number z.seen) (sym h.gives.cookie_is) record { before = adds.before; since = adds.since; whole = adds.seen };
+        asked = x;
+        starts = h;
+        rounds = [];
+        through = refl;
+        no_more = refl;
+        calls = h.calls;
+        vain = [];
+        all_vain = All-nil _;
+        one_each = refl;
+        mine = adds.mine ∙ ap (λ n. c.cpu.mine ++ Note n (Processor c.cpu.processor) ∷ []) (sym number);
+        since = beginning_trans adds.since record { rest = _; whole = adds.seen };
+      }
 
-pub turns : (d : DomainView) (c x y : CpuView) (k : sections.CookieView) → HasWaited d c k x x → IsOf d y → Turned x y → HasWaited d c k x y
-turns d c x y k h here t = record {
-  here = here;
-  same = same_trans c x y h.same t.same;
-  of_domain = h.of_domain;
-  gives = h.gives;
-  asked = h.asked;
-  starts = h.starts;
-  rounds = h.rounds;
-  through = h.through;
-  no_more = t.asked ∙ h.no_more;
-  calls = t.calls ∙ h.calls;
-  vain = h.vain;
-  all_vain = h.all_vain;
-  one_each = h.one_each;
-  mine = t.mine ∙ h.mine;
-  since = beginning_trans h.since t.since;
-}
+  pub turns : (d : DomainView) (c x y : CpuView J) (k : sections.CookieView) → HasWaited d c k x x → IsOf d y → Turned x y → HasWaited d c k x y
+  turns d c x y k h here t = record {
+    here = here;
+    same = same_trans c x y h.same t.same;
+    of_domain = h.of_domain;
+    gives = h.gives;
+    asked = h.asked;
+    starts = h.starts;
+    rounds = h.rounds;
+    through = h.through;
+    no_more = t.asked ∙ h.no_more;
+    calls = t.calls ∙ h.calls;
+    vain = h.vain;
+    all_vain = h.all_vain;
+    one_each = h.one_each;
+    mine = t.mine ∙ h.mine;
+    since = beginning_trans h.since t.since;
+  }
 
--- a poll leaves the seat at the tally words as it was
-polled_calls : (x y : CpuView) → y ≡ with_cpu y.cpu x → y.calls ≡ x.calls
-polled_calls x y rest = ap (λ (z : CpuView). z.calls) rest
+  -- a poll leaves the seat at the tally words as it was
+  polled_calls : (x y : CpuView J) → y ≡ with_cpu y.cpu x → y.calls ≡ x.calls
+  polled_calls x y rest = ap (λ (z : CpuView J). z.calls) rest
 
 -- one more own event behind those that were made
 one_more : (before : List Event) (e : Event) (es : List Event) (last : Event) → (before ++ e ∷ es) ++ last ∷ [] ≡ before ++ e ∷ (es ++ last ∷ [])
 one_more before e es last = append_assoc before (e ∷ es) (last ∷ [])
 
-module _ (d : DomainView) (c at x y : CpuView) (k : sections.CookieView) (answer : Bool) where
+module _ {J : Type 0} (d : DomainView) (c at x y : CpuView J) (k : sections.CookieView) (answer : Bool) where
   abbrev the_ask : Event
   the_ask = Ask k.number answer (Processor c.cpu.processor)
 
@@ -140,70 +141,71 @@ module _ (d : DomainView) (c at x y : CpuView) (k : sections.CookieView) (answer
 
   -- the poll asked for nothing
   pub asks_no_more : (h : HasWaited d c k at x) → y ≡ with_cpu y.cpu x → y.needs.mine ≡ h.asked.needs.mine
-  asks_no_more h rest = ap (λ (z : CpuView). z.needs.mine) rest ∙ h.no_more
+  asks_no_more h rest = ap (λ (z : CpuView J). z.needs.mine) rest ∙ h.no_more
 
--- the round is at its end, in vain
-pub asks_in_vain : (d : DomainView) (c at x y : CpuView) (k : sections.CookieView) (a : Progress) → HasWaited d c k at x → AdvancesIn at a x → Asks k.seen k.changes k.number false x.cpu y.cpu → y ≡ with_cpu y.cpu x → HasWaited d c k y y
-asks_in_vain d c at x y k p h turn a rest = record {
-  here = still_with_cpu d x y h.here a.adds.same rest;
-  same = same_trans c x y h.same (same_polled x y a.adds.same rest);
-  of_domain = h.of_domain;
-  gives = h.gives;
-  asked = h.asked;
-  starts = h.starts;
-  rounds = h.rounds ++ y ∷ [];
-  through = one_more_round k h.rounds h.asked at y h.through record { progress = p; turned = x; turns = turn; polls = record { asks = a; rest = rest } };
-  no_more = asks_no_more d c at x y k false h rest;
-  calls = polled_calls x y rest ∙ h.calls;
-  vain = h.vain ++ Ask k.number false (Processor c.cpu.processor) ∷ [];
-  all_vain = All-append (λ e. e ≡ Ask k.number false (Processor c.cpu.processor)) h.vain _ h.all_vain (All-cons (λ e. e ≡ Ask k.number false (Processor c.cpu.processor)) (Ask k.number false (Processor c.cpu.processor)) [] refl (All-nil _));
-  one_each = length-append h.vain (Ask k.number false (Processor c.cpu.processor) ∷ []) ∙ (ap (λ n. n + 1) h.one_each ∙ sym (length-append h.rounds (y ∷ [])));
-  mine = asks_mine d c at x y k false h a;
-  since = beginning_trans h.since (beginning_trans a.adds.since record { rest = _; whole = a.adds.seen });
-}
-
--- The two answers
-
-pub synchronizes : (d : DomainView) (c at x y : CpuView) (k : sections.CookieView) (p : Progress) → HasWaited d c k at x → AdvancesIn at p x → Asks k.seen k.changes k.number true x.cpu y.cpu → y ≡ with_cpu y.cpu x → AllClosed k.seen y.cpu.seen → Synchronizes c y
-synchronizes d c at x y k p h turn a rest closed = record {
-  cookie = k;
-  waits = record {
+module _ {J : Type 0} where
+  -- the round is at its end, in vain
+  pub asks_in_vain : (d : DomainView) (c at x y : CpuView J) (k : sections.CookieView) (a : Progress) → HasWaited d c k at x → AdvancesIn at a x → Asks k.seen k.changes k.number false x.cpu y.cpu → y ≡ with_cpu y.cpu x → HasWaited d c k y y
+  asks_in_vain d c at x y k p h turn a rest = record {
+    here = still_with_cpu d x y h.here a.adds.same rest;
+    same = same_trans c x y h.same (same_polled x y a.adds.same rest);
+    of_domain = h.of_domain;
+    gives = h.gives;
     asked = h.asked;
     starts = h.starts;
-    rounds = h.rounds;
-    through = and_the_last (TurnsAndPolls true k) k h.rounds h.asked at y h.through record { progress = p; turned = x; turns = turn; polls = record { asks = a; rest = rest } };
-    no_more = asks_no_more d c at x y k true h rest;
+    rounds = h.rounds ++ y ∷ [];
+    through = one_more_round k h.rounds h.asked at y h.through record { progress = p; turned = x; turns = turn; polls = record { asks = a; rest = rest } };
+    no_more = asks_no_more d c at x y k false h rest;
     calls = polled_calls x y rest ∙ h.calls;
-  };
-  gives = h.gives;
-  last = a.adds.before;
-  behind = a.adds.covers;
-  asks = asks_seen d c at x y k true h a;
-  vain = h.vain;
-  all_vain = h.all_vain;
-  one_each = h.one_each;
-  mine = asks_mine d c at x y k true h a;
-  closed = closed;
-}
+    vain = h.vain ++ Ask k.number false (Processor c.cpu.processor) ∷ [];
+    all_vain = All-append (λ e. e ≡ Ask k.number false (Processor c.cpu.processor)) h.vain _ h.all_vain (All-cons (λ e. e ≡ Ask k.number false (Processor c.cpu.processor)) (Ask k.number false (Processor c.cpu.processor)) [] refl (All-nil _));
+    one_each = length-append h.vain (Ask k.number false (Processor c.cpu.processor) ∷ []) ∙ (ap (λ n. n + 1) h.one_each ∙ sym (length-append h.rounds (y ∷ [])));
+    mine = asks_mine d c at x y k false h a;
+    since = beginning_trans h.since (beginning_trans a.adds.since record { rest = _; whole = a.adds.seen });
+  }
 
-pub waits_in_vain : (d : DomainView) (c x y : CpuView) (k : sections.CookieView) → HasWaited d c k x x → FindsExhaustedIn x y → WaitsInVain c y
-waits_in_vain d c x y k h refused =
-    let t = turned_exhausted x y refused in record {
-      cookie = k;
-      waits = record {
-        asked = h.asked;
-        starts = h.starts;
-        rounds = h.rounds;
-        through = and_the_last FindsExhaustedIn k h.rounds h.asked x y h.through refused;
-        no_more = t.asked ∙ h.no_more;
-        calls = t.calls ∙ h.calls;
-      };
-      gives = h.gives;
-      vain = h.vain;
-      all_vain = h.all_vain;
-      one_each = h.one_each;
-      mine = t.mine ∙ h.mine;
-    }
+  -- The two answers
+
+  pub synchronizes : (d : DomainView) (c at x y : CpuView J) (k : sections.CookieView) (p : Progress) → HasWaited d c k at x → AdvancesIn at p x → Asks k.seen k.changes k.number true x.cpu y.cpu → y ≡ with_cpu y.cpu x → AllClosed k.seen y.cpu.seen → Synchronizes c y
+  synchronizes d c at x y k p h turn a rest closed = record {
+    cookie = k;
+    waits = record {
+      asked = h.asked;
+      starts = h.starts;
+      rounds = h.rounds;
+      through = and_the_last (TurnsAndPolls true k) k h.rounds h.asked at y h.through record { progress = p; turned = x; turns = turn; polls = record { asks = a; rest = rest } };
+      no_more = asks_no_more d c at x y k true h rest;
+      calls = polled_calls x y rest ∙ h.calls;
+    };
+    gives = h.gives;
+    last = a.adds.before;
+    behind = a.adds.covers;
+    asks = asks_seen d c at x y k true h a;
+    vain = h.vain;
+    all_vain = h.all_vain;
+    one_each = h.one_each;
+    mine = asks_mine d c at x y k true h a;
+    closed = closed;
+  }
+
+  pub waits_in_vain : (d : DomainView) (c x y : CpuView J) (k : sections.CookieView) → HasWaited d c k x x → FindsExhaustedIn x y → WaitsInVain c y
+  waits_in_vain d c x y k h refused =
+      let t = turned_exhausted x y refused in record {
+        cookie = k;
+        waits = record {
+          asked = h.asked;
+          starts = h.starts;
+          rounds = h.rounds;
+          through = and_the_last FindsExhaustedIn k h.rounds h.asked x y h.through refused;
+          no_more = t.asked ∙ h.no_more;
+          calls = t.calls ∙ h.calls;
+        };
+        gives = h.gives;
+        vain = h.vain;
+        all_vain = h.all_vain;
+        one_each = h.one_each;
+        mine = t.mine ∙ h.mine;
+      }
 
 -- Nothing is opened by waiting
 
@@ -224,15 +226,16 @@ waiting_opens_none number by history vain all =
     ap open_sections (sym (append_assoc history (Note number by ∷ vain) (Ask number true by ∷ [])))
     ∙ (open_sections_plain (history ++ Note number by ∷ vain) (Ask number true by) refl (λ s. refl) ∙ noted_opens_none number by history vain all)
 
-pub none_open : (c c' : CpuView) → HasNoneOpen c → open_sections c'.cpu.mine ≡ open_sections c.cpu.mine → HasNoneOpen c'
-none_open c c' none same = ap (λ l. length (filter (λ t. not (is_held t)) l)) same ∙ none
+module _ {J : Type 0} where
+  pub none_open : (c c' : CpuView J) → HasNoneOpen c → open_sections c'.cpu.mine ≡ open_sections c.cpu.mine → HasNoneOpen c'
+  none_open c c' none same = ap (λ l. length (filter (λ t. not (is_held t)) l)) same ∙ none
 
-pub still_none : (c c' : CpuView) → HasNoneOpen c → Synchronizes c c' → HasNoneOpen c'
-still_none c c' none s = none_open c c' none (ap open_sections s.mine ∙ waiting_opens_none s.cookie.number (Processor c.cpu.processor) c.cpu.mine s.vain s.all_vain)
+  pub still_none : (c c' : CpuView J) → HasNoneOpen c → Synchronizes c c' → HasNoneOpen c'
+  still_none c c' none s = none_open c c' none (ap open_sections s.mine ∙ waiting_opens_none s.cookie.number (Processor c.cpu.processor) c.cpu.mine s.vain s.all_vain)
 
-pub none_in_vain : (c c' : CpuView) → HasNoneOpen c → WaitsInVain c c' → HasNoneOpen c'
-none_in_vain c c' none s = none_open c c' none (ap open_sections s.mine ∙ noted_opens_none s.cookie.number (Processor c.cpu.processor) c.cpu.mine s.vain s.all_vain)
+  pub none_in_vain : (c c' : CpuView J) → HasNoneOpen c → WaitsInVain c c' → HasNoneOpen c'
+  none_in_vain c c' none s = none_open c c' none (ap open_sections s.mine ∙ noted_opens_none s.cookie.number (Processor c.cpu.processor) c.cpu.mine s.vain s.all_vain)
 
--- what a user wants to know
-pub waited_for : (c c' : CpuView) → Synchronizes c c' → WaitedFor c c'
-waited_for c c' h = record { number = h.cookie.number; moment = h.cookie.seen; noted = h.gives; closed = h.closed }
+  -- what a user wants to know
+  pub waited_for : (c c' : CpuView J) → Synchronizes c c' → WaitedFor c c'
+  waited_for c c' h = record { number = h.cookie.number; moment = h.cookie.seen; noted = h.gives; closed = h.closed }

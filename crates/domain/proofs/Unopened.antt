@@ -48,6 +48,7 @@ asked_all p done w (suc x) mine =
 pub same_reclaimed : (w w' : WriterView) (c c' : sections.CpuView) → Reclaims w c w' c' → SameOpen c c'
 same_reclaimed w w' c c' h = ap open_sections h.mine ∙ asked_all c.processor h.done w w.slots c.mine
 
--- where none was open, none is
-pub none_still : (c c' : CpuView) → SameOpen c.cpu c'.cpu → HasNoneOpen c → HasNoneOpen c'
-none_still c c' same none = none_open c c' none same
+module _ {J : Type 0} where
+  -- where none was open, none is
+  pub none_still : (c c' : CpuView J) → SameOpen c.cpu c'.cpu → HasNoneOpen c → HasNoneOpen c'
+  none_still c c' same none = none_open c c' none same

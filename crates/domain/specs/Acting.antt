@@ -99,11 +99,12 @@ pub record GoesOn (raised : List Raise) (e f : FunnelView) : Type 0 where
   pub since : tree.IsBeginning e.seen f.seen
   pub mine : f.mine ≡ e.mine ++ raised
 
--- the seat at the tally words has seen as much, or more, and did these itself
-pub record Adds (act : List Deed) (s t : CallSeatView) : Type 0 where
-  pub same : calls.IsSameSeat s t
-  pub since : tallies.IsBeginning s.seen t.seen
-  pub own : deeds_of s.processor t.seen ≡ deeds_of s.processor s.seen ++ act
+module _ {J : Type 0} where
+  -- the seat at the tally words has seen as much, or more, and did these itself
+  pub record Adds (act : List (Deed J)) (s t : CallSeatView J) : Type 0 where
+    pub same : calls.IsSameSeat s t
+    pub since : tallies.IsBeginning s.seen t.seen
+    pub own : deeds_of s.processor t.seen ≡ deeds_of s.processor s.seen ++ act
 
 -- these events are the processor's, and no period starts or ends with them
 pub record AreOf (p : ℕ) (act : List Event) : Type 0 where
@@ -119,35 +120,36 @@ pub record AskFor (p : ℕ) (by : Holder) (a : Act) (raised : List Raise) : Type
   pub greatest_is : (before : List Raise) → greatest (before ++ raised) ≡ max (greatest before) a.asked
   pub cookie : (a.asked ≡ 0) ⊎ (a.events ≡ Note a.asked (Processor p) ∷ [])
 
--- these deeds queue so many jobs on the processor, and finish so many, all of one owner
-pub record Count (p : ℕ) (a : Act) (deeds : List Deed) : Type 0 where
-  pub queued : queued_in p deeds ≡ a.queued
-  pub finished : finished_in a.owner deeds ≡ a.finished
-  pub others : (q : ℕ) → q ≢ a.owner → finished_in q deeds ≡ 0
+module _ {J : Type 0} where
+  -- these deeds queue so many jobs on the processor, and finish so many, all of one owner
+  pub record Count (p : ℕ) (a : Act) (deeds : List (Deed J)) : Type 0 where
+    pub queued : queued_in p deeds ≡ a.queued
+    pub finished : finished_in a.owner deeds ≡ a.finished
+    pub others : (q : ℕ) → q ≢ a.owner → finished_in q deeds ≡ 0
 
--- a call of processor p acts so, whatever others did meanwhile; the engine stayed where it lay
-pub record Acts (p : ℕ) (a : Act) (c c' : CpuView) : Type 0 where
-  pub events : MakesEvents a.events c.cpu c'.cpu
-  pub are_of : AreOf p a.events
-  pub raised : List Raise
-  pub needs : GoesOn raised c.needs c'.needs
-  pub ask_for : AskFor p c.needs.holder a raised
-  pub deeds : List Deed
-  pub adds : Adds deeds c.calls c'.calls
-  pub count : Count p a deeds
-  pub turn : c'.turn ≡ c.turn
+  -- a call of processor p acts so, whatever others did meanwhile; the engine stayed where it lay
+  pub record Acts (p : ℕ) (a : Act) (c c' : CpuView J) : Type 0 where
+    pub events : MakesEvents a.events c.cpu c'.cpu
+    pub are_of : AreOf p a.events
+    pub raised : List Raise
+    pub needs : GoesOn raised c.needs c'.needs
+    pub ask_for : AskFor p c.needs.holder a raised
+    pub deeds : List (Deed J)
+    pub adds : Adds deeds c.calls c'.calls
+    pub count : Count p a deeds
+    pub turn : c'.turn ≡ c.turn
 
--- what is said so of the processor's own number
-abbrev pub ActsAs : (ℕ → Act) → CpuView → CpuView → Type 0
-ActsAs what c c' = Acts c.cpu.processor (what c.cpu.processor) c c'
+  -- what is said so of the processor's own number
+  abbrev pub ActsAs : (ℕ → Act) → CpuView J → CpuView J → Type 0
+  ActsAs what c c' = Acts c.cpu.processor (what c.cpu.processor) c c'
 
--- a call that queues no job: nothing is done, or the processor was given a cookie
-abbrev pub QueuesNone : CallRefusal → CpuView → CpuView → Type 0
-QueuesNone calling.Exhausted c c' = ActsAs loads c c'
-QueuesNone calling.Memory c c' = (cookie : ℕ) × ActsAs (notes cookie) c c'
+  -- a call that queues no job: nothing is done, or the processor was given a cookie
+  abbrev pub QueuesNone : CallRefusal → CpuView J → CpuView J → Type 0
+  QueuesNone calling.Exhausted c c' = ActsAs loads c c'
+  QueuesNone calling.Memory c c' = (cookie : ℕ) × ActsAs (notes cookie) c c'
 
--- a call that puts a version and then acts so
-pub record PutsAndThen (what : ℕ → Act) (cell slot version : ℕ) (c c' : CpuView) : Type 0 where
-  pub between : CpuView
-  pub put : ActsAs (puts cell slot version) c between
-  pub next : ActsAs what between c'
+  -- a call that puts a version and then acts so
+  pub record PutsAndThen (what : ℕ → Act) (cell slot version : ℕ) (c c' : CpuView J) : Type 0 where
+    pub between : CpuView J
+    pub put : ActsAs (puts cell slot version) c between
+    pub next : ActsAs what between c'

@@ -10,25 +10,26 @@ use Rattle.domain.specs.Views.{DomainView}
 abbrev pub IsTicketOf : DomainView → TicketView → Type 0
 IsTicketOf d t = t.tallies ≡ d.tallies
 
--- a receipt of a job that was queued at this domain
-pub record IsReceiptOf (d : DomainView) (r : Receipt) : Type 0 where
-  pub tallies : r.note.tallies ≡ d.tallies
-  pub there : r.processor < d.processors
+module _ {J : Type 0} where
+  -- a receipt of a job that was queued at this domain
+  pub record IsReceiptOf (d : DomainView) (r : Receipt J) : Type 0 where
+    pub tallies : r.note.tallies ≡ d.tallies
+    pub there : r.processor < d.processors
 
--- the loads of one poll after another, each of which found these counts
-abbrev pub rows_of_loads : List (List ℕ) → List Act
-rows_of_loads [] = []
-rows_of_loads (found ∷ more) = finished_loads 0 found ++ rows_of_loads more
+  -- the loads of one poll after another, each of which found these counts
+  abbrev pub rows_of_loads : List (List ℕ) → List (Act J)
+  rows_of_loads [] = []
+  rows_of_loads (found ∷ more) = finished_loads 0 found ++ rows_of_loads more
 
--- polls in vain, to one of these after another, and then what ends the row
-abbrev pub PollsThrough : (CallSeatView → CallSeatView → Type 0) → TicketView → List CallSeatView → CallSeatView → CallSeatView → Type 0
-PollsThrough ends t [] s s' = ends s s'
-PollsThrough ends t (m ∷ ms) s s' = Polls t s false m × PollsThrough ends t ms m s'
+  -- polls in vain, to one of these after another, and then what ends the row
+  abbrev pub PollsThrough : (CallSeatView J → CallSeatView J → Type 0) → TicketView → List (CallSeatView J) → CallSeatView J → CallSeatView J → Type 0
+  PollsThrough ends t [] s s' = ends s s'
+  PollsThrough ends t (m ∷ ms) s s' = Polls t s false m × PollsThrough ends t ms m s'
 
--- one poll after another was in vain, until one found the ticket done. The seat made the loads of these polls, and no other deed
-pub record PollsUntilDone (t : TicketView) (s s' : CallSeatView) : Type 0 where
-  pub vain : List CallSeatView
-  pub through : PollsThrough (λ m n. Polls t m true n) t vain s s'
-  pub found : List (List ℕ)
-  pub one_each : length found ≡ length vain + 1
-  pub loads : Loads (rows_of_loads found) s s'
+  -- one poll after another was in vain, until one found the ticket done. The seat made the loads of these polls, and no other deed
+  pub record PollsUntilDone (t : TicketView) (s s' : CallSeatView J) : Type 0 where
+    pub vain : List (CallSeatView J)
+    pub through : PollsThrough (λ m n. Polls t m true n) t vain s s'
+    pub found : List (List ℕ)
+    pub one_each : length found ≡ length vain + 1
+    pub loads : Loads (rows_of_loads found) s s'

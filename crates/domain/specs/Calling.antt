@@ -10,7 +10,7 @@ use Rattle.domain.specs.Views.{DomainView, CpuView, callbacks_of, with_cpu}
 
 module _ {J : Type 0} where
   -- the job was queued, and then just the number of its cookie asked for
-  pub record CallsIn (d : DomainView) (c : CpuView) (job : J) (r : Receipt) (c' : CpuView) : Type 0 where
+  pub record CallsIn (d : DomainView) (c : CpuView J) (job : J) (r : Receipt J) (c' : CpuView J) : Type 0 where
     pub queues : QueuesIn (callbacks_of d) c.cpu c.calls job r c'.cpu c'.calls
     pub level : Level
     pub asks : tree.Asks r.cookie.number c.needs level c'.needs
@@ -18,7 +18,7 @@ module _ {J : Type 0} where
     pub turn : c'.turn ≡ c.turn
 
   -- the job comes back, and nothing was asked for. Nothing but the seat at the domain's words may have changed
-  pub record RefusesCall (d : DomainView) (c : CpuView) (job : J) (refused : J × CallRefusal) (c' : CpuView) : Type 0 where
+  pub record RefusesCall (d : DomainView) (c : CpuView J) (job : J) (refused : J × CallRefusal) (c' : CpuView J) : Type 0 where
     pub refuses : RefusesIn (callbacks_of d) c.cpu c.calls job refused c'.cpu c'.calls
     pub rest : c' ≡ with_cpu c'.cpu c
 

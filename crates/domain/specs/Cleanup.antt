@@ -15,13 +15,14 @@ use Rattle.domain.specs.Counts.{IsHistoryOf, AreDeedsOf, AreBack}
 
 -- Who is there
 
--- whether the processor of this number is among these
-abbrev pub is_there : ℕ → List CpuView → Bool
-is_there p cpus = list_any (λ c. c.cpu.processor == p) cpus
+module _ {J : Type 0} where
+  -- whether the processor of this number is among these
+  abbrev pub is_there : ℕ → List (CpuView J) → Bool
+  is_there p cpus = list_any (λ c. c.cpu.processor == p) cpus
 
--- how many of so many processors are not
-abbrev pub missing_of : ℕ → List CpuView → ℕ
-missing_of processors cpus = sum_below (λ p. if is_there p cpus then 0 else 1) processors
+  -- how many of so many processors are not
+  abbrev pub missing_of : ℕ → List (CpuView J) → ℕ
+  missing_of processors cpus = sum_below (λ p. if is_there p cpus then 0 else 1) processors
 
 -- What was done
 
@@ -35,9 +36,10 @@ pub record Whole : Type 0 where
   pub queued : ℕ
   pub finished : ℕ
 
--- on so many processors
-abbrev pub whole_of : ℕ → List Event → List Deed → Whole
-whole_of processors history all = record { history = history; queued = all_queued processors all; finished = all_finished processors all }
+module _ {J : Type 0} where
+  -- on so many processors
+  abbrev pub whole_of : ℕ → List Event → List (Deed J) → Whole
+  whole_of processors history all = record { history = history; queued = all_queued processors all; finished = all_finished processors all }
 
 -- no section is open, no grace period runs, and each call that was queued is finished
 pub record IsUnused (w : Whole) : Type 0 where
@@ -62,49 +64,50 @@ IsCause w (Callbacks n) = (open_count w.history ≡ 0) × (¬ IsRunning w.histor
 
 -- Answers
 
--- of all that was done it is said that the domain is not in use, and its totals are told; or it is said why it is in use. All processors have then seen it, and are as they were
-pub record IsJudged (d : DomainView) (cpus : List CpuView) (answer : Result Totals InUse) (cpus' : List CpuView) : Type 0 where
-  pub history : List Event
-  pub of_all : IsHistoryOf d cpus history
-  pub all : List Deed
-  pub deeds_of_all : AreDeedsOf d cpus all
-  pub says : MatchResult answer (λ t. IsUnused (whole_of d.processors history all) × AreTotals (whole_of d.processors history all) t) (IsCause (whole_of d.processors history all))
-  pub back : AreBack d history all cpus cpus'
+module _ {J : Type 0} where
+  -- of all that was done it is said that the domain is not in use, and its totals are told; or it is said why it is in use. All processors have then seen it, and are as they were
+  pub record IsJudged (d : DomainView) (cpus : List (CpuView J)) (answer : Result Totals InUse) (cpus' : List (CpuView J)) : Type 0 where
+    pub history : List Event
+    pub of_all : IsHistoryOf d cpus history
+    pub all : List (Deed J)
+    pub deeds_of_all : AreDeedsOf d cpus all
+    pub says : MatchResult answer (λ t. IsUnused (whole_of d.processors history all) × AreTotals (whole_of d.processors history all) t) (IsCause (whole_of d.processors history all))
+    pub back : AreBack d history all cpus cpus'
 
--- the domain was taken down: no processor is missing, and it is not in use
-pub record IsTakenDown (d : DomainView) (cpus : List CpuView) (t : Totals) : Type 0 where
-  pub none_missing : missing_of d.processors cpus ≡ 0
-  pub history : List Event
-  pub of_all : IsHistoryOf d cpus history
-  pub all : List Deed
-  pub deeds_of_all : AreDeedsOf d cpus all
-  pub unused : IsUnused (whole_of d.processors history all)
-  pub totals : AreTotals (whole_of d.processors history all) t
+  -- the domain was taken down: no processor is missing, and it is not in use
+  pub record IsTakenDown (d : DomainView) (cpus : List (CpuView J)) (t : Totals) : Type 0 where
+    pub none_missing : missing_of d.processors cpus ≡ 0
+    pub history : List Event
+    pub of_all : IsHistoryOf d cpus history
+    pub all : List (Deed J)
+    pub deeds_of_all : AreDeedsOf d cpus all
+    pub unused : IsUnused (whole_of d.processors history all)
+    pub totals : AreTotals (whole_of d.processors history all) t
 
--- no processor is missing, and the domain is in use for this cause. It is handed back with its processors
-pub record IsInUse (d : DomainView) (cpus : List CpuView) (cause : InUse) (d' : DomainView) (cpus' : List CpuView) : Type 0 where
-  pub none_missing : missing_of d.processors cpus ≡ 0
-  pub history : List Event
-  pub of_all : IsHistoryOf d cpus history
-  pub all : List Deed
-  pub deeds_of_all : AreDeedsOf d cpus all
-  pub is : IsCause (whole_of d.processors history all) cause
-  pub domain : d' ≡ d
-  pub back : AreBack d history all cpus cpus'
+  -- no processor is missing, and the domain is in use for this cause. It is handed back with its processors
+  pub record IsInUse (d : DomainView) (cpus : List (CpuView J)) (cause : InUse) (d' : DomainView) (cpus' : List (CpuView J)) : Type 0 where
+    pub none_missing : missing_of d.processors cpus ≡ 0
+    pub history : List Event
+    pub of_all : IsHistoryOf d cpus history
+    pub all : List (Deed J)
+    pub deeds_of_all : AreDeedsOf d cpus all
+    pub is : IsCause (whole_of d.processors history all) cause
+    pub domain : d' ≡ d
+    pub back : AreBack d history all cpus cpus'
 
--- so many processors are missing, and all is handed back as it was; or the domain is in use
-abbrev pub IsRefused : DomainView → List CpuView → InUse → DomainView → List CpuView → Type 0
-IsRefused d cpus (Missing n) d' cpus' = (n ≡ missing_of d.processors cpus) × (0 < n) × (d' ≡ d) × (cpus' ≡ cpus)
-IsRefused d cpus (Sections n) d' cpus' = IsInUse d cpus (Sections n) d' cpus'
-IsRefused d cpus Period d' cpus' = IsInUse d cpus Period d' cpus'
-IsRefused d cpus (Callbacks n) d' cpus' = IsInUse d cpus (Callbacks n) d' cpus'
+  -- so many processors are missing, and all is handed back as it was; or the domain is in use
+  abbrev pub IsRefused : DomainView → List (CpuView J) → InUse → DomainView → List (CpuView J) → Type 0
+  IsRefused d cpus (Missing n) d' cpus' = (n ≡ missing_of d.processors cpus) × (0 < n) × (d' ≡ d) × (cpus' ≡ cpus)
+  IsRefused d cpus (Sections n) d' cpus' = IsInUse d cpus (Sections n) d' cpus'
+  IsRefused d cpus Period d' cpus' = IsInUse d cpus Period d' cpus'
+  IsRefused d cpus (Callbacks n) d' cpus' = IsInUse d cpus (Callbacks n) d' cpus'
 
--- the domain and the processors, each the same as before and still of the domain
-pub record IsHandedBack (d : DomainView) (cpus : List CpuView) (d' : DomainView) (cpus' : List CpuView) : Type 0 where
-  pub domain : d' ≡ d
-  pub count : length cpus' ≡ length cpus
-  pub here : Each (IsOf d') cpus'
-  pub same : (k : ℕ) (c : CpuView) → k < length cpus → IsSameProcessor (slice_index_or cpus k c) (slice_index_or cpus' k c)
+  -- the domain and the processors, each the same as before and still of the domain
+  pub record IsHandedBack (d : DomainView) (cpus : List (CpuView J)) (d' : DomainView) (cpus' : List (CpuView J)) : Type 0 where
+    pub domain : d' ≡ d
+    pub count : length cpus' ≡ length cpus
+    pub here : Each (IsOf d') cpus'
+    pub same : (k : ℕ) (c : CpuView J) → k < length cpus → IsSameProcessor (slice_index_or cpus k c) (slice_index_or cpus' k c)
 
 -- From the counts alone
 

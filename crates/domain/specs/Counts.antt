@@ -56,46 +56,47 @@ pub record CountsSections (opened closed : ℕ) (c d : sections.CpuView) : Type 
 
 -- Meeting for it
 
--- the processor has then seen just what the engine has
-pub record IsJoined (e : sections.EngineView) (c c' : CpuView) : Type 0 where
-  pub cpu : Joins c.cpu e.seen e.changes e.texts c'.cpu
-  pub was : IsSeenBy c.cpu
-  pub sized : c.cpu.processors ≡ e.processors
-  pub heard : (changes : ℕ) → e.shown ≡ To c.cpu.processor changes → changes ≤ c.cpu.changes
-  pub rest : c' ≡ with_cpu c'.cpu c
+module _ {J : Type 0} where
+  -- the processor has then seen just what the engine has
+  pub record IsJoined (e : sections.EngineView) (c c' : CpuView J) : Type 0 where
+    pub cpu : Joins c.cpu e.seen e.changes e.texts c'.cpu
+    pub was : IsSeenBy c.cpu
+    pub sized : c.cpu.processors ≡ e.processors
+    pub heard : (changes : ℕ) → e.shown ≡ To c.cpu.processor changes → changes ≤ c.cpu.changes
+    pub rest : c' ≡ with_cpu c'.cpu c
 
--- The history of the domain: it is legal, goes on from what each of these processors had seen, and has just its own events of each of them. Of the engine's events it has those that one of them had seen
-pub record IsHistoryOf (d : DomainView) (cpus : List CpuView) (history : List Event) : Type 0 where
-  pub legal : IsLegal history
-  pub makers : All (HasItsMaker d.processors) history
-  pub since : Each (λ c. IsBeginning c.cpu.seen history) cpus
-  pub own : Each (λ c. made_by (maker.Processor c.cpu.processor) history ≡ c.cpu.mine) cpus
-  pub one : ℕ
-  pub there : one < length cpus
-  pub engine : (c : CpuView) → made_by maker.Engine history ≡ made_by maker.Engine (slice_index_or cpus one c).cpu.seen
+  -- The history of the domain: it is legal, goes on from what each of these processors had seen, and has just its own events of each of them. Of the engine's events it has those that one of them had seen
+  pub record IsHistoryOf (d : DomainView) (cpus : List (CpuView J)) (history : List Event) : Type 0 where
+    pub legal : IsLegal history
+    pub makers : All (HasItsMaker d.processors) history
+    pub since : Each (λ c. IsBeginning c.cpu.seen history) cpus
+    pub own : Each (λ c. made_by (maker.Processor c.cpu.processor) history ≡ c.cpu.mine) cpus
+    pub one : ℕ
+    pub there : one < length cpus
+    pub engine : (c : CpuView J) → made_by maker.Engine history ≡ made_by maker.Engine (slice_index_or cpus one c).cpu.seen
 
--- the processor has then seen this history, and did nothing
-pub record HasMet (d : DomainView) (history : List Event) (c c' : CpuView) : Type 0 where
-  pub here : IsOf d c'
-  pub same : IsSameCpu c.cpu c'.cpu
-  pub mine : c'.cpu.mine ≡ c.cpu.mine
-  pub seen : c'.cpu.seen ≡ history
-  pub needs : c'.needs ≡ c.needs
-  pub calls : c'.calls ≡ c.calls
+  -- the processor has then seen this history, and did nothing
+  pub record HasMet (d : DomainView) (history : List Event) (c c' : CpuView J) : Type 0 where
+    pub here : IsOf d c'
+    pub same : IsSameCpu c.cpu c'.cpu
+    pub mine : c'.cpu.mine ≡ c.cpu.mine
+    pub seen : c'.cpu.seen ≡ history
+    pub needs : c'.needs ≡ c.needs
+    pub calls : c'.calls ≡ c.calls
 
--- all of them have. The first one took the engine, which did nothing either, and put it back
-pub record HaveMet (d : DomainView) (history : List Event) (cpus cpus' : List CpuView) : Type 0 where
-  pub count : length cpus' ≡ length cpus
-  pub each : (k : ℕ) (c : CpuView) → k < length cpus → HasMet d history (slice_index_or cpus k c) (slice_index_or cpus' k c)
-  pub found : Engine
-  pub left : Engine
-  pub rest : left ≡ with_seat left.seat found
-  pub same : IsSameEngine found.seat left.seat
-  pub mine : left.seat.mine ≡ found.seat.mine
-  pub changes : left.seat.changes ≡ found.seat.changes
-  pub seen : left.seat.seen ≡ history
-  pub first : (c : CpuView) → TakesTurn (slice_index_or cpus 0 c).turn found left (slice_index_or cpus' 0 c).turn
-  pub others : (k : ℕ) (c : CpuView) → 0 < k → k < length cpus → (slice_index_or cpus' k c).turn ≡ (slice_index_or cpus k c).turn
+  -- all of them have. The first one took the engine, which did nothing either, and put it back
+  pub record HaveMet (d : DomainView) (history : List Event) (cpus cpus' : List (CpuView J)) : Type 0 where
+    pub count : length cpus' ≡ length cpus
+    pub each : (k : ℕ) (c : CpuView J) → k < length cpus → HasMet d history (slice_index_or cpus k c) (slice_index_or cpus' k c)
+    pub found : Engine
+    pub left : Engine
+    pub rest : left ≡ with_seat left.seat found
+    pub same : IsSameEngine found.seat left.seat
+    pub mine : left.seat.mine ≡ found.seat.mine
+    pub changes : left.seat.changes ≡ found.seat.changes
+    pub seen : left.seat.seen ≡ history
+    pub first : (c : CpuView J) → TakesTurn (slice_index_or cpus 0 c).turn found left (slice_index_or cpus' 0 c).turn
+    pub others : (k : ℕ) (c : CpuView J) → 0 < k → k < length cpus → (slice_index_or cpus' k c).turn ≡ (slice_index_or cpus k c).turn
 
 -- the sections of this history were counted, and this is its number
 pub record CountsHistory (history : List Event) (opened closed number : ℕ) : Type 0 where
@@ -105,67 +106,68 @@ pub record CountsHistory (history : List Event) (opened closed number : ℕ) : T
   pub reaches : Reaches changes history
   pub number_is : number ≡ number_word changes
 
--- no processor is missing
-abbrev pub AreAllThere : DomainView → List CpuView → Type 0
-AreAllThere d cpus = (p : ℕ) → p < d.processors → (k : ℕ) × (k < length cpus) × ((c : CpuView) → (slice_index_or cpus k c).cpu.processor ≡ p)
+module _ {J : Type 0} where
+  -- no processor is missing
+  abbrev pub AreAllThere : DomainView → List (CpuView J) → Type 0
+  AreAllThere d cpus = (p : ℕ) → p < d.processors → (k : ℕ) × (k < length cpus) × ((c : CpuView J) → (slice_index_or cpus k c).cpu.processor ≡ p)
 
--- there is one history of all that was done, whose sections were counted
-pub record CountsInAll (d : DomainView) (cpus : List CpuView) (opened closed number : ℕ) (cpus' : List CpuView) : Type 0 where
-  pub history : List Event
-  pub of_all : IsHistoryOf d cpus history
-  pub counts : CountsHistory history opened closed number
-  pub back : HaveMet d history cpus cpus'
+  -- there is one history of all that was done, whose sections were counted
+  pub record CountsInAll (d : DomainView) (cpus : List (CpuView J)) (opened closed number : ℕ) (cpus' : List (CpuView J)) : Type 0 where
+    pub history : List Event
+    pub of_all : IsHistoryOf d cpus history
+    pub counts : CountsHistory history opened closed number
+    pub back : HaveMet d history cpus cpus'
 
--- Callbacks
+  -- Callbacks
 
--- What was done at the tally words of the domain: it goes on from what each of these processors had seen, has just its own deeds of each of them, and no batch was finished by anybody else. Only the first one has loaded the words, each once, to count
-pub record AreDeedsOf (d : DomainView) (cpus : List CpuView) (all : List Deed) : Type 0 where
-  pub since : Each (λ c. deeds.IsBeginning c.calls.seen all) cpus
-  pub true : AreTrue all
-  pub finishers : AreFinishers d.processors all
-  pub queued : List ℕ
-  pub finished : List ℕ
-  pub one_each : (length queued ≡ d.processors) × (length finished ≡ d.processors)
-  pub first : (c : CpuView) → deeds_of (slice_index_or cpus 0 c).calls.processor all
-      ≡ deeds_of (slice_index_or cpus 0 c).calls.processor (slice_index_or cpus 0 c).calls.seen ++ map (deed (slice_index_or cpus 0 c).calls.processor) (queued_loads 0 queued ++ finished_loads 0 finished)
-  pub others : (k : ℕ) (c : CpuView) → 0 < k → k < length cpus → deeds_of (slice_index_or cpus k c).calls.processor all ≡ deeds_of (slice_index_or cpus k c).calls.processor (slice_index_or cpus k c).calls.seen
+  -- What was done at the tally words of the domain: it goes on from what each of these processors had seen, has just its own deeds of each of them, and no batch was finished by anybody else. Only the first one has loaded the words, each once, to count
+  pub record AreDeedsOf (d : DomainView) (cpus : List (CpuView J)) (all : List (Deed J)) : Type 0 where
+    pub since : Each (λ c. deeds.IsBeginning c.calls.seen all) cpus
+    pub true : AreTrue all
+    pub finishers : AreFinishers d.processors all
+    pub queued : List ℕ
+    pub finished : List ℕ
+    pub one_each : (length queued ≡ d.processors) × (length finished ≡ d.processors)
+    pub first : (c : CpuView J) → deeds_of (slice_index_or cpus 0 c).calls.processor all
+        ≡ deeds_of (slice_index_or cpus 0 c).calls.processor (slice_index_or cpus 0 c).calls.seen ++ map (deed (slice_index_or cpus 0 c).calls.processor) (queued_loads 0 queued ++ finished_loads 0 finished)
+    pub others : (k : ℕ) (c : CpuView J) → 0 < k → k < length cpus → deeds_of (slice_index_or cpus k c).calls.processor all ≡ deeds_of (slice_index_or cpus k c).calls.processor (slice_index_or cpus k c).calls.seen
 
--- the processor's seat at the tally words has then seen just this
-pub record HasHeard (d : DomainView) (all : List Deed) (c c' : CpuView) : Type 0 where
-  pub here : IsOf d c'
-  pub calls : c'.calls ≡ record c.calls { seen = all }
-  pub rest : c' ≡ with_calls c'.calls c
+  -- the processor's seat at the tally words has then seen just this
+  pub record HasHeard (d : DomainView) (all : List (Deed J)) (c c' : CpuView J) : Type 0 where
+    pub here : IsOf d c'
+    pub calls : c'.calls ≡ record c.calls { seen = all }
+    pub rest : c' ≡ with_calls c'.calls c
 
--- the calls of all processors were counted
-pub record CountsCalls (d : DomainView) (cpus : List CpuView) (queued finished : ℕ) (cpus' : List CpuView) : Type 0 where
-  pub all : List Deed
-  pub of_all : AreDeedsOf d cpus all
-  pub queued_are : queued ≡ all_queued d.processors all
-  pub finished_are : finished ≡ all_finished d.processors all
-  pub within : finished ≤ queued
-  pub back : EachBecomes (HasHeard d all) cpus cpus'
+  -- the calls of all processors were counted
+  pub record CountsCalls (d : DomainView) (cpus : List (CpuView J)) (queued finished : ℕ) (cpus' : List (CpuView J)) : Type 0 where
+    pub all : List (Deed J)
+    pub of_all : AreDeedsOf d cpus all
+    pub queued_are : queued ≡ all_queued d.processors all
+    pub finished_are : finished ≡ all_finished d.processors all
+    pub within : finished ≤ queued
+    pub back : EachBecomes (HasHeard d all) cpus cpus'
 
--- All of it
+  -- All of it
 
--- the processor has seen this history, and what was done at the tally words, and it did nothing but to load these
-pub record IsBack (d : DomainView) (history : List Event) (all : List Deed) (c c' : CpuView) : Type 0 where
-  pub here : IsOf d c'
-  pub same : IsSameCpu c.cpu c'.cpu
-  pub mine : c'.cpu.mine ≡ c.cpu.mine
-  pub seen : c'.cpu.seen ≡ history
-  pub needs : c'.needs ≡ c.needs
-  pub calls : c'.calls ≡ record c.calls { seen = all }
+  -- the processor has seen this history, and what was done at the tally words, and it did nothing but to load these
+  pub record IsBack (d : DomainView) (history : List Event) (all : List (Deed J)) (c c' : CpuView J) : Type 0 where
+    pub here : IsOf d c'
+    pub same : IsSameCpu c.cpu c'.cpu
+    pub mine : c'.cpu.mine ≡ c.cpu.mine
+    pub seen : c'.cpu.seen ≡ history
+    pub needs : c'.needs ≡ c.needs
+    pub calls : c'.calls ≡ record c.calls { seen = all }
 
--- all of them have. The first one took the engine, which did nothing, and put it back
-pub record AreBack (d : DomainView) (history : List Event) (all : List Deed) (cpus cpus' : List CpuView) : Type 0 where
-  pub count : length cpus' ≡ length cpus
-  pub each : (k : ℕ) (c : CpuView) → k < length cpus → IsBack d history all (slice_index_or cpus k c) (slice_index_or cpus' k c)
-  pub found : Engine
-  pub left : Engine
-  pub rest : left ≡ with_seat left.seat found
-  pub same : IsSameEngine found.seat left.seat
-  pub mine : left.seat.mine ≡ found.seat.mine
-  pub changes : left.seat.changes ≡ found.seat.changes
-  pub seen : left.seat.seen ≡ history
-  pub first : (c : CpuView) → TakesTurn (slice_index_or cpus 0 c).turn found left (slice_index_or cpus' 0 c).turn
-  pub others : (k : ℕ) (c : CpuView) → 0 < k → k < length cpus → (slice_index_or cpus' k c).turn ≡ (slice_index_or cpus k c).turn
+  -- all of them have. The first one took the engine, which did nothing, and put it back
+  pub record AreBack (d : DomainView) (history : List Event) (all : List (Deed J)) (cpus cpus' : List (CpuView J)) : Type 0 where
+    pub count : length cpus' ≡ length cpus
+    pub each : (k : ℕ) (c : CpuView J) → k < length cpus → IsBack d history all (slice_index_or cpus k c) (slice_index_or cpus' k c)
+    pub found : Engine
+    pub left : Engine
+    pub rest : left ≡ with_seat left.seat found
+    pub same : IsSameEngine found.seat left.seat
+    pub mine : left.seat.mine ≡ found.seat.mine
+    pub changes : left.seat.changes ≡ found.seat.changes
+    pub seen : left.seat.seen ≡ history
+    pub first : (c : CpuView J) → TakesTurn (slice_index_or cpus 0 c).turn found left (slice_index_or cpus' 0 c).turn
+    pub others : (k : ℕ) (c : CpuView J) → 0 < k → k < length cpus → (slice_index_or cpus' k c).turn ≡ (slice_index_or cpus k c).turn

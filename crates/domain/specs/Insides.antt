@@ -17,7 +17,7 @@ module _ {A : Type 0} where
   IsTiedInside t = IsTied t.engine.seat
 
 module _ {J A : Type 0} where
-  abbrev pub view_of_cpu : cpu.Inside J A → CpuView
+  abbrev pub view_of_cpu : cpu.Inside J A → CpuView J
   view_of_cpu c = record { cpu = c.cpu; needs = c.needs; turn = c.turn; calls = c.calls }
 
   abbrev pub view_of_domain : domain.Inside J A → DomainView

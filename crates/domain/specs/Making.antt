@@ -26,23 +26,24 @@ idle_engine domain bounds tree shape = new_engine (sections_engine.new_engine do
 abbrev pub new_bay : DomainView → Bounds → TableId → Shape → BayView views.Engine
 new_bay d bounds tree shape = record { bay = d.bay; domain = d.domain; seats = bounds.processors; first = idle_engine d.domain bounds tree shape }
 
--- processor k, whose seats know of nothing yet: no call is queued
-abbrev pub new_cpu : DomainView → Bounds → TableId → Shape → ℕ → CpuView
-new_cpu d bounds tree shape k = record { cpu = sections.new_cpu d.domain bounds.processors bounds.sections k; needs = funnel.new_seat tree shape (Processor k); turn = new_bay_seat (new_bay d bounds tree shape) k; calls = new_seat d.tallies bounds.processors k }
+module _ {J : Type 0} where
+  -- processor k, whose seats know of nothing yet: no call is queued
+  abbrev pub new_cpu : DomainView → Bounds → TableId → Shape → ℕ → CpuView J
+  new_cpu d bounds tree shape k = record { cpu = sections.new_cpu d.domain bounds.processors bounds.sections k; needs = funnel.new_seat tree shape (Processor k); turn = new_bay_seat (new_bay d bounds tree shape) k; calls = new_seat d.tallies bounds.processors k }
 
--- the processors in order, none of which has made a step
-pub record IsMade (bounds : Bounds) (d : DomainView) (cpus : List CpuView) : Type 0 where
-  pub count : length cpus ≡ bounds.processors
-  pub many : d.processors ≡ bounds.processors
-  pub tree : TableId
-  pub nodes : ℕ
-  pub least : IsLeast bounds.processors nodes
-  pub each : (k : ℕ) (c : CpuView) → k < length cpus → slice_index_or cpus k c ≡ new_cpu d bounds tree (record { processors = bounds.processors; nodes = nodes }) k
+  -- the processors in order, none of which has made a step
+  pub record IsMade (bounds : Bounds) (d : DomainView) (cpus : List (CpuView J)) : Type 0 where
+    pub count : length cpus ≡ bounds.processors
+    pub many : d.processors ≡ bounds.processors
+    pub tree : TableId
+    pub nodes : ℕ
+    pub least : IsLeast bounds.processors nodes
+    pub each : (k : ℕ) (c : CpuView J) → k < length cpus → slice_index_or cpus k c ≡ new_cpu d bounds tree (record { processors = bounds.processors; nodes = nodes }) k
 
--- the first seats of each kind are those of the first processor, and so on
-abbrev pub joined : List sections_views.CpuView → List FunnelView → List (BaySeatView views.Engine) → List CallSeatView → List CpuView
-joined [] needs turns calls = []
-joined (c ∷ cs) [] turns calls = []
-joined (c ∷ cs) (n ∷ ns) [] calls = []
-joined (c ∷ cs) (n ∷ ns) (t ∷ ts) [] = []
-joined (c ∷ cs) (n ∷ ns) (t ∷ ts) (s ∷ ss) = record { cpu = c; needs = n; turn = t; calls = s } ∷ joined cs ns ts ss
+  -- the first seats of each kind are those of the first processor, and so on
+  abbrev pub joined : List sections_views.CpuView → List FunnelView → List (BaySeatView views.Engine) → List (CallSeatView J) → List (CpuView J)
+  joined [] needs turns calls = []
+  joined (c ∷ cs) [] turns calls = []
+  joined (c ∷ cs) (n ∷ ns) [] calls = []
+  joined (c ∷ cs) (n ∷ ns) (t ∷ ts) [] = []
+  joined (c ∷ cs) (n ∷ ns) (t ∷ ts) (s ∷ ss) = record { cpu = c; needs = n; turn = t; calls = s } ∷ joined cs ns ts ss

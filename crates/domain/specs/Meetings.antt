@@ -22,35 +22,36 @@ use Rattle.calls.specs.Meetings as tallies
 use Rattle.domain.specs.Views.{Engine, DomainView, CpuView, IsOf}
 use Rattle.domain.specs.Turns.{TakesTurn}
 
--- all processors of this domain, in order, each with its seat at one tree
-pub record IsAllOf (d : DomainView) (cpus : List CpuView) : Type 0 where
-  pub some : 0 < length cpus
-  pub here : (k : ℕ) (c : CpuView) → k < length cpus → IsOf d (slice_index_or cpus k c)
-  pub count : (k : ℕ) (c : CpuView) → k < length cpus → (slice_index_or cpus k c).cpu.processors ≡ length cpus
-  pub order : (k : ℕ) (c : CpuView) → k < length cpus → (slice_index_or cpus k c).cpu.processor ≡ k
-  pub tree : TableId
-  pub shape : Shape
-  pub asks : (k : ℕ) (c : CpuView) → k < length cpus → ((slice_index_or cpus k c).needs.domain ≡ tree) × ((slice_index_or cpus k c).needs.shape ≡ shape) × ((slice_index_or cpus k c).needs.holder ≡ Processor k)
-  pub leaves : shape.processors ≡ length cpus
+module _ {J : Type 0} where
+  -- all processors of this domain, in order, each with its seat at one tree
+  pub record IsAllOf (d : DomainView) (cpus : List (CpuView J)) : Type 0 where
+    pub some : 0 < length cpus
+    pub here : (k : ℕ) (c : CpuView J) → k < length cpus → IsOf d (slice_index_or cpus k c)
+    pub count : (k : ℕ) (c : CpuView J) → k < length cpus → (slice_index_or cpus k c).cpu.processors ≡ length cpus
+    pub order : (k : ℕ) (c : CpuView J) → k < length cpus → (slice_index_or cpus k c).cpu.processor ≡ k
+    pub tree : TableId
+    pub shape : Shape
+    pub asks : (k : ℕ) (c : CpuView J) → k < length cpus → ((slice_index_or cpus k c).needs.domain ≡ tree) × ((slice_index_or cpus k c).needs.shape ≡ shape) × ((slice_index_or cpus k c).needs.holder ≡ Processor k)
+    pub leaves : shape.processors ≡ length cpus
 
--- The engine and the processors
+  -- The engine and the processors
 
--- they have seen one history, in which each has just its own events. The engine loaded the index word once for each processor, and each processor once. One of the processors had seen all that the engine made
-pub record EngineMeets (e : sections.EngineView) (cpus : List CpuView) (e' : sections.EngineView) (cpus' : List CpuView) : Type 0 where
-  pub found : List ℕ
-  pub one_each : length found ≡ length cpus
-  pub steps : e'.steps ≡ e.steps ++ map LoadIndex found
-  pub same : IsSameEngine e e'
-  pub mine : e'.mine ≡ e.mine
-  pub changes : e'.changes ≡ e.changes
-  pub shown : e'.shown ≡ e.shown
-  pub since : events.IsBeginning e.seen e'.seen
-  pub texts : IsStart e.texts e'.texts
-  pub history : IsSeenByEngine e'
-  pub each : (k : ℕ) (c : CpuView) → k < length cpus → Joins (slice_index_or cpus k c).cpu e'.seen e'.changes e'.texts (slice_index_or cpus' k c).cpu
-  pub one : ℕ
-  pub there : one < length cpus
-  pub knew : (c : CpuView) → HasSeenAll e (slice_index_or cpus one c).cpu
+  -- they have seen one history, in which each has just its own events. The engine loaded the index word once for each processor, and each processor once. One of the processors had seen all that the engine made
+  pub record EngineMeets (e : sections.EngineView) (cpus : List (CpuView J)) (e' : sections.EngineView) (cpus' : List (CpuView J)) : Type 0 where
+    pub found : List ℕ
+    pub one_each : length found ≡ length cpus
+    pub steps : e'.steps ≡ e.steps ++ map LoadIndex found
+    pub same : IsSameEngine e e'
+    pub mine : e'.mine ≡ e.mine
+    pub changes : e'.changes ≡ e.changes
+    pub shown : e'.shown ≡ e.shown
+    pub since : events.IsBeginning e.seen e'.seen
+    pub texts : IsStart e.texts e'.texts
+    pub history : IsSeenByEngine e'
+    pub each : (k : ℕ) (c : CpuView J) → k < length cpus → Joins (slice_index_or cpus k c).cpu e'.seen e'.changes e'.texts (slice_index_or cpus' k c).cpu
+    pub one : ℕ
+    pub there : one < length cpus
+    pub knew : (c : CpuView J) → HasSeenAll e (slice_index_or cpus one c).cpu
 
 -- The tree
 
@@ -64,40 +65,41 @@ pub record JoinsTree (v : FunnelView) (raises : List Raise) (w : FunnelView) : T
   pub seen : w.seen ≡ raises
   pub history : IsSeenBy w
 
--- all have seen one list of raises, in which each has just its own. The first loaded the root as often as there are processors, and each other once. The root then holds the greatest number that was raised, 0 if none was
-pub record TreeMeets (cpus cpus' : List CpuView) : Type 0 where
-  pub raises : List Raise
-  pub each : (k : ℕ) (c : CpuView) → k < length cpus → JoinsTree (slice_index_or cpus k c).needs raises (slice_index_or cpus' k c).needs
-  pub first_loads : (c : CpuView) (some : 0 < length cpus) → length (each 0 c some).found ≡ length cpus
-  pub others_load : (k : ℕ) (c : CpuView) (there : k < length cpus) → 0 < k → length (each k c there).found ≡ 1
-  pub root : value 0 raises ≡ greatest raises
+module _ {J : Type 0} where
+  -- all have seen one list of raises, in which each has just its own. The first loaded the root as often as there are processors, and each other once. The root then holds the greatest number that was raised, 0 if none was
+  pub record TreeMeets (cpus cpus' : List (CpuView J)) : Type 0 where
+    pub raises : List Raise
+    pub each : (k : ℕ) (c : CpuView J) → k < length cpus → JoinsTree (slice_index_or cpus k c).needs raises (slice_index_or cpus' k c).needs
+    pub first_loads : (c : CpuView J) (some : 0 < length cpus) → length (each 0 c some).found ≡ length cpus
+    pub others_load : (k : ℕ) (c : CpuView J) (there : k < length cpus) → 0 < k → length (each k c there).found ≡ 1
+    pub root : value 0 raises ≡ greatest raises
 
--- The turns
+  -- The turns
 
--- all have seen one list of swaps, in which each has just its own. The first processor had the engine in between
-pub record TurnsMeet (cpus : List CpuView) (found left : Engine) (cpus' : List CpuView) : Type 0 where
-  pub swaps : List (Swap Engine)
-  pub seen : (k : ℕ) (c : CpuView) → k < length cpus → (slice_index_or cpus' k c).turn.seen ≡ swaps
-  pub first : (c : CpuView) → TakesTurn (slice_index_or cpus 0 c).turn found left (slice_index_or cpus' 0 c).turn
-  pub others : (k : ℕ) (c : CpuView) → 0 < k → k < length cpus → Accepts (slice_index_or cpus k c).turn swaps (slice_index_or cpus' k c).turn
+  -- all have seen one list of swaps, in which each has just its own. The first processor had the engine in between
+  pub record TurnsMeet (cpus : List (CpuView J)) (found left : Engine) (cpus' : List (CpuView J)) : Type 0 where
+    pub swaps : List (Swap Engine)
+    pub seen : (k : ℕ) (c : CpuView J) → k < length cpus → (slice_index_or cpus' k c).turn.seen ≡ swaps
+    pub first : (c : CpuView J) → TakesTurn (slice_index_or cpus 0 c).turn found left (slice_index_or cpus' 0 c).turn
+    pub others : (k : ℕ) (c : CpuView J) → 0 < k → k < length cpus → Accepts (slice_index_or cpus k c).turn swaps (slice_index_or cpus' k c).turn
 
--- The tally words
+  -- The tally words
 
--- all have seen one list of what was done there, in which each has just its own deeds; none of them did anything. All batches in it were finished by these processors
-pub record TalliesMeet (cpus cpus' : List CpuView) : Type 0 where
-  pub deeds : List Deed
-  pub each : (k : ℕ) (c : CpuView) → k < length cpus → tallies.Accepts (slice_index_or cpus k c).calls deeds (slice_index_or cpus' k c).calls
-  pub finishers : AreFinishers (length cpus) deeds
+  -- all have seen one list of what was done there, in which each has just its own deeds; none of them did anything. All batches in it were finished by these processors
+  pub record TalliesMeet (cpus cpus' : List (CpuView J)) : Type 0 where
+    pub deeds : List (Deed J)
+    pub each : (k : ℕ) (c : CpuView J) → k < length cpus → tallies.Accepts (slice_index_or cpus k c).calls deeds (slice_index_or cpus' k c).calls
+    pub finishers : AreFinishers (length cpus) deeds
 
--- All of it
+  -- All of it
 
--- the engine, which was found and left, and all processors have seen one history, one list of raises, one of swaps, and one of deeds at the tally words
-pub record MeetsHere (cpus cpus' : List CpuView) : Type 0 where
-  pub found : Engine
-  pub left : Engine
-  pub count : length cpus' ≡ length cpus
-  pub engine : EngineMeets found.seat cpus left.seat cpus'
-  pub rest : left ≡ with_seat left.seat found
-  pub needs : TreeMeets cpus cpus'
-  pub turns : TurnsMeet cpus found left cpus'
-  pub calls : TalliesMeet cpus cpus'
+  -- the engine, which was found and left, and all processors have seen one history, one list of raises, one of swaps, and one of deeds at the tally words
+  pub record MeetsHere (cpus cpus' : List (CpuView J)) : Type 0 where
+    pub found : Engine
+    pub left : Engine
+    pub count : length cpus' ≡ length cpus
+    pub engine : EngineMeets found.seat cpus left.seat cpus'
+    pub rest : left ≡ with_seat left.seat found
+    pub needs : TreeMeets cpus cpus'
+    pub turns : TurnsMeet cpus found left cpus'
+    pub calls : TalliesMeet cpus cpus'

@@ -45,65 +45,66 @@ pub record TakesTurn (v : BaySeatView Engine) (found left : Engine) (w : BaySeat
 
 -- Lending a processor
 
--- the engine was taken, and has the processor's seat at the tree in place of its own, which the processor keeps
-pub record IsLent (c : CpuView) (lent : Engine) (c' : CpuView) : Type 0 where
-  pub found : Engine
-  pub takes : Takes c.turn found c'.turn
-  pub domain : found.seat.domain ≡ c.turn.domain
-  pub in_place : lent ≡ with_needs c.needs found
-  pub own : c'.needs ≡ found.needs
-  pub cpu : c'.cpu ≡ c.cpu
-  pub calls : c'.calls ≡ c.calls
+module _ {J : Type 0} where
+  -- the engine was taken, and has the processor's seat at the tree in place of its own, which the processor keeps
+  pub record IsLent (c : CpuView J) (lent : Engine) (c' : CpuView J) : Type 0 where
+    pub found : Engine
+    pub takes : Takes c.turn found c'.turn
+    pub domain : found.seat.domain ≡ c.turn.domain
+    pub in_place : lent ≡ with_needs c.needs found
+    pub own : c'.needs ≡ found.needs
+    pub cpu : c'.cpu ≡ c.cpu
+    pub calls : c'.calls ≡ c.calls
 
--- each has its own seat again, the two came to see one history, and the engine was put back
-pub record GivesBack (c : CpuView) (worked : Engine) (c' : CpuView) : Type 0 where
-  pub left : Engine
-  pub needs : c'.needs ≡ worked.needs
-  pub ties : TiesEngine worked.seat c.cpu left.seat c'.cpu
-  pub rest : left ≡ with_seat left.seat (with_needs c.needs worked)
-  pub puts : MakesSwap c.turn (Some left) None c'.turn
-  pub free : holds c'.turn ≡ false
-  pub calls : c'.calls ≡ c.calls
+  -- each has its own seat again, the two came to see one history, and the engine was put back
+  pub record GivesBack (c : CpuView J) (worked : Engine) (c' : CpuView J) : Type 0 where
+    pub left : Engine
+    pub needs : c'.needs ≡ worked.needs
+    pub ties : TiesEngine worked.seat c.cpu left.seat c'.cpu
+    pub rest : left ≡ with_seat left.seat (with_needs c.needs worked)
+    pub puts : MakesSwap c.turn (Some left) None c'.turn
+    pub free : holds c'.turn ≡ false
+    pub calls : c'.calls ≡ c.calls
 
--- the engine was found as `found`, worked with the processor's seat at the tree, came to see one history with the processor, and was left as `left`. It has its own seat at the tree again, which made no step. The processor's seat at the tally words stayed as it was
-pub record Lends (work : Engine → Engine → Type 0) (c c' : CpuView) : Type 0 where
-  pub found : Engine
-  pub worked : Engine
-  pub left : Engine
-  pub domain : found.seat.domain ≡ c.cpu.domain
-  pub works : work (with_needs c.needs found) worked
-  pub needs : c'.needs ≡ worked.needs
-  pub ties : TiesEngine worked.seat c.cpu left.seat c'.cpu
-  pub rest : left ≡ with_seat left.seat (with_needs found.needs worked)
-  pub turn : TakesTurn c.turn found left c'.turn
-  pub calls : c'.calls ≡ c.calls
+  -- the engine was found as `found`, worked with the processor's seat at the tree, came to see one history with the processor, and was left as `left`. It has its own seat at the tree again, which made no step. The processor's seat at the tally words stayed as it was
+  pub record Lends (work : Engine → Engine → Type 0) (c c' : CpuView J) : Type 0 where
+    pub found : Engine
+    pub worked : Engine
+    pub left : Engine
+    pub domain : found.seat.domain ≡ c.cpu.domain
+    pub works : work (with_needs c.needs found) worked
+    pub needs : c'.needs ≡ worked.needs
+    pub ties : TiesEngine worked.seat c.cpu left.seat c'.cpu
+    pub rest : left ≡ with_seat left.seat (with_needs found.needs worked)
+    pub turn : TakesTurn c.turn found left c'.turn
+    pub calls : c'.calls ≡ c.calls
 
--- the engine made one step
-abbrev pub StepsIn : CpuView → Progress → CpuView → Type 0
-StepsIn c a c' = Lends (λ v w. StepsTo LoadsRoot v a w) c c'
+  -- the engine made one step
+  abbrev pub StepsIn : CpuView J → Progress → CpuView J → Type 0
+  StepsIn c a c' = Lends (λ v w. StepsTo LoadsRoot v a w) c c'
 
--- it made steps until there was an answer
-abbrev pub AdvancesIn : CpuView → Progress → CpuView → Type 0
-AdvancesIn c a c' = Lends (λ v w. AdvancesTo LoadsRoot v a w) c c'
+  -- it made steps until there was an answer
+  abbrev pub AdvancesIn : CpuView J → Progress → CpuView J → Type 0
+  AdvancesIn c a c' = Lends (λ v w. AdvancesTo LoadsRoot v a w) c c'
 
--- it found that a period is asked for, and that as many have ended as there may be
-abbrev pub FindsExhaustedIn : CpuView → CpuView → Type 0
-FindsExhaustedIn c c' = Lends (λ v w. FindsExhausted LoadsRoot v w) c c'
+  -- it found that a period is asked for, and that as many have ended as there may be
+  abbrev pub FindsExhaustedIn : CpuView J → CpuView J → Type 0
+  FindsExhaustedIn c c' = Lends (λ v w. FindsExhausted LoadsRoot v w) c c'
 
--- as long as a call waits for the engine, it never answers that somebody else has it
-abbrev pub IsRefused : CpuView → AdvanceRefusal → CpuView → Type 0
-IsRefused c advance.Busy c' = ⊥
-IsRefused c advance.Exhausted c' = FindsExhaustedIn c c'
+  -- as long as a call waits for the engine, it never answers that somebody else has it
+  abbrev pub IsRefused : CpuView J → AdvanceRefusal → CpuView J → Type 0
+  IsRefused c advance.Busy c' = ⊥
+  IsRefused c advance.Exhausted c' = FindsExhaustedIn c c'
 
--- a period started, asked for or not
-abbrev pub StartsIn : CpuView → ℕ → CpuView → Type 0
-StartsIn c n c' = Lends (λ v w. StartsTo v n w) c c'
+  -- a period started, asked for or not
+  abbrev pub StartsIn : CpuView J → ℕ → CpuView J → Type 0
+  StartsIn c n c' = Lends (λ v w. StartsTo v n w) c c'
 
--- the engine started none, and did nothing
-abbrev pub StartsNone : CpuView → scan.StartRefusal → CpuView → Type 0
-StartsNone c refusal c' = Lends (λ v w. IsNoStart v refusal × (w ≡ v)) c c'
+  -- the engine started none, and did nothing
+  abbrev pub StartsNone : CpuView J → scan.StartRefusal → CpuView J → Type 0
+  StartsNone c refusal c' = Lends (λ v w. IsNoStart v refusal × (w ≡ v)) c c'
 
-abbrev pub IsNotStarted : CpuView → StartRefusal → CpuView → Type 0
-IsNotStarted c start.Busy c' = ⊥
-IsNotStarted c start.Running c' = StartsNone c refused.Running c'
-IsNotStarted c start.Exhausted c' = StartsNone c refused.Exhausted c'
+  abbrev pub IsNotStarted : CpuView J → StartRefusal → CpuView J → Type 0
+  IsNotStarted c start.Busy c' = ⊥
+  IsNotStarted c start.Running c' = StartsNone c refused.Running c'
+  IsNotStarted c start.Exhausted c' = StartsNone c refused.Exhausted c'

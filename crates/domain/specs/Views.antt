@@ -24,47 +24,48 @@ pub record DomainView : Type 0 where
   pub processors : ℕ
 
 -- `cpu` is the processor's seat at the domain's words, `needs` at the tree of needs, `turn` at the place where the engine lies, and `calls` at the tally words of the callbacks
-pub record CpuView : Type 0 where
+pub record CpuView (J : Type 0) : Type 0 where
   pub cpu : sections.CpuView
   pub needs : FunnelView
   pub turn : BaySeatView Engine
-  pub calls : CallSeatView
+  pub calls : CallSeatView J
 
 -- the domain's callbacks
 abbrev pub callbacks_of : DomainView → CallsView
 callbacks_of d = record { domain = d.domain; tallies = d.tallies; processors = d.processors }
 
--- the processor is of this domain, each of its seats is the one of its number there, and it does not have the engine
-pub record IsOf (d : DomainView) (c : CpuView) : Type 0 where
-  pub domain : c.cpu.domain ≡ d.domain
-  pub bay : c.turn.bay ≡ d.bay
-  pub home : c.turn.domain ≡ d.domain
-  pub free : holds c.turn ≡ false
-  pub asks : IsOfProcessor c.needs
-  pub many : c.cpu.processors ≡ d.processors
-  pub fits : FitsIn (callbacks_of d) c.cpu c.calls
-  pub number : c.turn.number ≡ c.cpu.processor
-  pub seats : c.turn.seats ≡ d.processors
-  pub words : c.calls.processors ≡ d.processors
+module _ {J : Type 0} where
+  -- the processor is of this domain, each of its seats is the one of its number there, and it does not have the engine
+  pub record IsOf (d : DomainView) (c : CpuView J) : Type 0 where
+    pub domain : c.cpu.domain ≡ d.domain
+    pub bay : c.turn.bay ≡ d.bay
+    pub home : c.turn.domain ≡ d.domain
+    pub free : holds c.turn ≡ false
+    pub asks : IsOfProcessor c.needs
+    pub many : c.cpu.processors ≡ d.processors
+    pub fits : FitsIn (callbacks_of d) c.cpu c.calls
+    pub number : c.turn.number ≡ c.cpu.processor
+    pub seats : c.turn.seats ≡ d.processors
+    pub words : c.calls.processors ≡ d.processors
 
--- and of whichever domain it was, it still is
-abbrev pub Stays : CpuView → CpuView → Type 0
-Stays c c' = (d : DomainView) → IsOf d c → IsOf d c'
+  -- and of whichever domain it was, it still is
+  abbrev pub Stays : CpuView J → CpuView J → Type 0
+  Stays c c' = (d : DomainView) → IsOf d c → IsOf d c'
 
--- the same processor, with its seats at the same tables
-pub record IsSameProcessor (c c' : CpuView) : Type 0 where
-  pub cpu : IsSameCpu c.cpu c'.cpu
-  pub needs : IsSameSeat c.needs c'.needs
-  pub turn : c'.turn ≡ record c.turn { seen = c'.turn.seen }
-  pub calls : calls.IsSameSeat c.calls c'.calls
+  -- the same processor, with its seats at the same tables
+  pub record IsSameProcessor (c c' : CpuView J) : Type 0 where
+    pub cpu : IsSameCpu c.cpu c'.cpu
+    pub needs : IsSameSeat c.needs c'.needs
+    pub turn : c'.turn ≡ record c.turn { seen = c'.turn.seen }
+    pub calls : calls.IsSameSeat c.calls c'.calls
 
--- nothing but its seat at the domain's words may have changed
-abbrev pub with_cpu : sections.CpuView → CpuView → CpuView
-with_cpu cpu c = record c { cpu = cpu }
+  -- nothing but its seat at the domain's words may have changed
+  abbrev pub with_cpu : sections.CpuView → CpuView J → CpuView J
+  with_cpu cpu c = record c { cpu = cpu }
 
--- nothing but its seat at the tally words may have changed
-abbrev pub with_calls : CallSeatView → CpuView → CpuView
-with_calls calls c = record c { calls = calls }
+  -- nothing but its seat at the tally words may have changed
+  abbrev pub with_calls : CallSeatView J → CpuView J → CpuView J
+  with_calls calls c = record c { calls = calls }
 
 -- the engine, with this seat at the tree in place of its own
 abbrev pub with_needs : FunnelView → Engine → Engine

@@ -4,7 +4,7 @@ use calls::CallSeat;
 use desk::BaySeat;
 use funnel::FunnelSeat;
 use std::alloc::{Allocator, Global};
-use std::marker::{Model, PhantomData};
+use std::marker::Model;
 
 mod cookies;
 mod home;
@@ -20,14 +20,13 @@ pub struct Cpu<J, A: Allocator = Global> {
     pub(crate) cpu: sections::Cpu<A>,
     pub(crate) needs: FunnelSeat<A>,
     pub(crate) turn: BaySeat<Tied<A>>,
-    pub(crate) calls: CallSeat<A>,
-    pub(crate) marker: PhantomData<J>,
+    pub(crate) calls: CallSeat<J, A>,
 }
 
 impl<J, A: Allocator> Model for Cpu<J, A> {
     ghost use Rattle.domain.specs.Views.{CpuView};
 
-    ghost Value = { CpuView };
+    ghost Value = { CpuView J };
 
     ghost use Rattle.domain.specs.Insides.{view_of_cpu};
 

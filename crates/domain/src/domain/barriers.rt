@@ -17,7 +17,7 @@ use std::thread::yield_now;
 impl<J, A: Allocator + Copy> Domain<J, A> {
     /// Starts a barrier (the first half of `srcu_barrier`): it waits for the calls that were queued before, on every
     /// processor. Each queued word is loaded once. Where there is not enough memory, no step was made.
-    pub fn barrier_start(&self, cpu: &mut Cpu<J, A>) -> Result<Ticket<A>, Memory>
+    pub fn barrier_start(&self, cpu: &mut Cpu<J, A>) -> Result<Ticket<J, A>, Memory>
         requires { IsOf self.now cpu.old }
         ensures here { IsOf self.now cpu.new }
         ensures starts { MatchResult result (λ ticket. Starts cpu.old.calls ticket cpu.new.calls) (λ _. cpu.new ≡ cpu.old) }
@@ -38,7 +38,7 @@ impl<J, A: Allocator> Domain<J, A> {
     /// Whether a barrier is done: as many calls are finished of each processor as it waits for. A batch that was only
     /// taken out does not count. The finished words are loaded in the order of the processors, up to the first that has
     /// not got there. Any processor may ask, and as often as it likes; nothing is waited for.
-    pub fn barrier_poll(&self, cpu: &mut Cpu<J, A>, ticket: &Ticket<A>) -> bool
+    pub fn barrier_poll(&self, cpu: &mut Cpu<J, A>, ticket: &Ticket<J, A>) -> bool
         requires domain { IsOf self.now cpu.old }
         requires ticket { IsTicketOf self.now ticket.now }
         ensures here { IsOf self.now cpu.new }
@@ -57,7 +57,7 @@ impl<J, A: Allocator> Domain<J, A> {
     /// One load of the queued word of the receipt's processor, which is over the number of a receipt that
     /// [`Domain::call`] gave: the processor has then seen all that the one who queued the job had. So a barrier that it
     /// starts later covers the receipt, wherever its job was queued.
-    pub fn hear(&self, cpu: &mut Cpu<J, A>, receipt: &mut Receipt)
+    pub fn hear(&self, cpu: &mut Cpu<J, A>, receipt: &mut Receipt<J>)
         requires domain { IsOf self.now cpu.old }
         requires receipt { IsReceiptOf self.now receipt.old }
         ensures here { IsOf self.now cpu.new }
@@ -78,7 +78,7 @@ impl<J, A: Allocator> Domain<J, A> {
     /// that call `advance`, `take_ready` and `finish` until no batch of these jobs is left. On the processor itself no
     /// reading may be open: the grace periods that the barrier's jobs wait for would wait for it, and so the call for
     /// itself.
-    pub fn barrier<R: Wait>(&self, rt: &R, cpu: &mut Cpu<J, A>, ticket: &Ticket<A>)
+    pub fn barrier<R: Wait>(&self, rt: &R, cpu: &mut Cpu<J, A>, ticket: &Ticket<J, A>)
         requires domain { IsOf self.now cpu.old }
         requires ticket { IsTicketOf self.now ticket.now }
         requires none { HasNoneOpen cpu.old }

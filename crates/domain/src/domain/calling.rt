@@ -1,10 +1,8 @@
 //! Callbacks: a job is queued on a processor, and given out after a full grace period.
-ghost use Rattle.std.specs.Prelude.{◌≡◌, ◌<◌, All, IfOk, IfSome, MatchResult, Ok};
+ghost use Rattle.std.specs.Prelude.{◌≡◌, ◌<◌, All, IfOk, IsOk, IfSome, MatchResult};
 ghost use Rattle.sections.specs.Calls.{IsSameCpu, AllClosed};
-ghost use Rattle.segs.specs.MarkedList.{lens, numbers};
-ghost use Rattle.calls.specs.Views.{ListView};
 ghost use Rattle.calls.specs.Meetings.{SeesOut};
-ghost use Rattle.calls.specs.Calls.{IsSameSeat, IsOfProcessor, TakesIn, InvokesIn, AreHanded, FinishesIn, IsListOf};
+ghost use Rattle.calls.specs.Calls.{IsSameSeat, IsOfProcessor, TakesIn, InvokesIn, AreHanded, FinishesIn, FindsLensIn};
 ghost use Rattle.domain.specs.Views.{IsOf, IsSameProcessor, callbacks_of, with_cpu, with_calls};
 ghost use Rattle.domain.specs.Calling.{CallsIn, RefusesCall, MayFinish};
 ghost use Rattle.domain.specs.Acting.{loads, asks_how_far, asks_for, finishes, ActsAs, QueuesNone};
@@ -25,7 +23,7 @@ impl<J: Drop, A: Allocator + Copy> Domain<J, A> {
         rt: &R,
         cpu: &mut Cpu<J, A>,
         job: J,
-    ) -> Result<Receipt, (J, CallRefusal)>
+    ) -> Result<Receipt<J>, (J, CallRefusal)>
         requires { IsOf self.now cpu.old }
         ensures here { IsOf self.now cpu.new }
         ensures same { IsSameProcessor cpu.old cpu.new }
@@ -57,11 +55,11 @@ impl<J: Drop, A: Allocator + Copy> Domain<J, A> {
         requires processor { processor < self.now.processors }
         ensures here { IsOf self.now cpu.new }
         ensures takes { MatchResult result
-            (λ taken. TakesIn (callbacks_of self.now) processor max cpu.old.cpu taken cpu.new.cpu)
-            (λ _. InvokesIn J (callbacks_of self.now) processor × (cpu.new.cpu ≡ cpu.old.cpu)) }
+            (λ taken. TakesIn (callbacks_of self.now) processor max cpu.old.cpu cpu.old.calls taken cpu.new.cpu cpu.new.calls)
+            (λ _. InvokesIn processor cpu.old.cpu cpu.old.calls cpu.new.cpu cpu.new.calls) }
         ensures acts { MatchResult result (λ _. ActsAs (asks_how_far cpu.new.cpu.changes) cpu.old cpu.new) (λ _. ActsAs loads cpu.old cpu.new) }
-        ensures same { IsSameCpu cpu.old.cpu cpu.new.cpu }
-        ensures rest { cpu.new ≡ with_cpu cpu.new.cpu cpu.old }
+        ensures same { IsSameCpu cpu.old.cpu cpu.new.cpu × IsSameSeat cpu.old.calls cpu.new.calls }
+        ensures rest { cpu.new ≡ with_calls cpu.new.calls (with_cpu cpu.new.cpu cpu.old) }
         ensures batch { IfOk result (λ taken. IfSome taken (λ batch. IsOfProcessor (callbacks_of self.now) processor batch)) }
 
         // Each job is given out after a full grace period that started behind its queueing.
@@ -104,12 +102,23 @@ impl<J: Drop, A: Allocator + Copy> Domain<J, A> {
     }
 
     /// How many calls of a processor are done, wait for the first and for the second number, and have none yet; and the two
-    /// numbers, 0 where there is none. What is out isn't counted. It takes no memory, so it always succeeds. It waits
-    /// while another thread has the processor's list.
-    pub fn lens<R: Wait>(&self, rt: &R, processor: u16) -> Result<([usize; 4], [u64; 2]), Memory>
-        requires { processor < self.now.processors }
-        ensures { (l : ListView J) × IsListOf (callbacks_of self.now) processor l × (result ≡ Ok (lens l.entries, numbers l.entries)) }
+    /// numbers, 0 where there is none. What is out isn't counted. The processor that is lent makes one load: so this is the
+    /// list as it then is. It takes no memory, so it always succeeds. It waits while another thread has the processor's list.
+    pub fn lens<R: Wait>(
+        &self,
+        rt: &R,
+        cpu: &mut Cpu<J, A>,
+        processor: u16,
+    ) -> Result<([usize; 4], [u64; 2]), Memory>
+        requires domain { IsOf self.now cpu.old }
+        requires processor { processor < self.now.processors }
+        ensures here { IsOf self.now cpu.new }
+        ensures found { IfOk result (λ found. FindsLensIn processor cpu.old.calls found cpu.new.calls) }
+        ensures ok { IsOk result }
+        ensures acts { ActsAs loads cpu.old cpu.new }
+        ensures same { IsSameSeat cpu.old.calls cpu.new.calls }
+        ensures rest { cpu.new ≡ with_calls cpu.new.calls cpu.old }
     {
-        self.calls.lens(rt, processor)
+        self.calls.lens(rt, &mut cpu.calls, processor)
     }
 }

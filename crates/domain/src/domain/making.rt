@@ -17,7 +17,6 @@ use funnel::FunnelSeat;
 use scan::Engine;
 use sections::{Limits, MOST_PROCESSORS, Made, MakeError};
 use std::alloc::{AllocError, Allocator};
-use std::marker::PhantomData;
 
 /// Processors of four seats each, in order.
 fn join_seats<J, A: Allocator>(
@@ -25,7 +24,7 @@ fn join_seats<J, A: Allocator>(
     mut cpus: Vec<sections::Cpu<A>, A>,
     mut needs: Vec<FunnelSeat<A>, A>,
     mut turns: Vec<BaySeat<Tied<A>>, A>,
-    mut calls: Vec<CallSeat<A>, A>,
+    mut calls: Vec<CallSeat<J, A>, A>,
 ) -> Result<Vec<Cpu<J, A>, A>, AllocError>
     requires needs { length needs.items ≡ length cpus.items }
     requires turns { length turns.items ≡ length cpus.items }
@@ -39,7 +38,6 @@ fn join_seats<J, A: Allocator>(
             needs: needs.pop().unwrap(),
             turn: turns.pop().unwrap(),
             calls: calls.pop().unwrap(),
-            marker: PhantomData,
         });
     }
     all.reverse();

@@ -9,7 +9,7 @@ use calls::CallSeat;
 use std::alloc::Allocator;
 
 /// The seat has then seen what each of these processors has at the tally words.
-pub(super) fn cover_calls<J, A: Allocator>(seat: &mut CallSeat<A>, others: &mut [Cpu<J, A>])
+pub(super) fn cover_calls<J, A: Allocator>(seat: &mut CallSeat<J, A>, others: &mut [Cpu<J, A>])
     requires { Each (λ c. c.calls.tallies ≡ seat.old.tallies) others.old }
     ensures seat { CallsCover seat.old others.old seat.new }
     ensures others { others.new ≡ others.old }
@@ -20,7 +20,7 @@ pub(super) fn cover_calls<J, A: Allocator>(seat: &mut CallSeat<A>, others: &mut 
 }
 
 /// Each of these processors has then seen just what the seat has at the tally words.
-pub(super) fn admit_calls<J, A: Allocator>(seat: &mut CallSeat<A>, others: &mut [Cpu<J, A>])
+pub(super) fn admit_calls<J, A: Allocator>(seat: &mut CallSeat<J, A>, others: &mut [Cpu<J, A>])
     requires tallies { Each (λ c. c.calls.tallies ≡ seat.old.tallies) others.old }
     requires covered { Each (λ c. deeds.IsBeginning c.calls.seen seat.old.seen) others.old }
     ensures seat { seat.new ≡ seat.old }
@@ -32,7 +32,7 @@ pub(super) fn admit_calls<J, A: Allocator>(seat: &mut CallSeat<A>, others: &mut 
 }
 
 /// The seat and those of these processors have then seen one list of what was done at the tally words.
-pub(super) fn meet_calls<J, A: Allocator>(seat: &mut CallSeat<A>, others: &mut [Cpu<J, A>])
+pub(super) fn meet_calls<J, A: Allocator>(seat: &mut CallSeat<J, A>, others: &mut [Cpu<J, A>])
     requires { Each (λ c. c.calls.tallies ≡ seat.old.tallies) others.old }
     ensures seat { Accepts seat.old seat.new.seen seat.new }
     ensures others { EachBecomes (IsHeard seat.new) others.old others.new }

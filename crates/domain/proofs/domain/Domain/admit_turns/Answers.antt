@@ -16,11 +16,11 @@ admit-requires-clause-other g c =
     let v = c.loop-other.invariant in
     let inside = c.loop-other-test.true in
     let long = c.loop-other.auto.others in
-    item_has _ (λ (z : CpuView). z.turn.bay ≡ c.args.self.now.bay) _ _ _ _ _ v.goes (omega (arith, inside, long)) c.other.view_is c.requires.beside ∙ sym (ap (λ (z : DomainView). z.bay) c.self.view_is)
+    item_has _ (λ (z : CpuView _). z.turn.bay ≡ c.args.self.now.bay) _ _ _ _ _ v.goes (omega (arith, inside, long)) c.other.view_is c.requires.beside ∙ sym (ap (λ (z : DomainView). z.bay) c.self.view_is)
 
 pub admit-requires-clause-covered : goal.admit-requires-clause-covered
 admit-requires-clause-covered g c =
     let v = c.loop-other.invariant in
     let inside = c.loop-other-test.true in
     let long = c.loop-other.auto.others in
-    rw (v.turn) (item_has _ (λ (z : CpuView). swaps.IsBeginning z.turn.seen c.args.turn.now.seen) _ _ _ _ _ v.goes (omega (arith, inside, long)) c.other.view_is c.requires.covered)
+    rw (v.turn) (item_has _ (λ (z : CpuView _). swaps.IsBeginning z.turn.seen c.args.turn.now.seen) _ _ _ _ _ v.goes (omega (arith, inside, long)) c.other.view_is c.requires.covered)

@@ -1,4 +1,5 @@
-use Rattle.std.proofs.Common.{rules, ◌≡◌, refl}
+use Rattle.std.proofs.Common.{rules, ◌≡◌, ℕ, refl, subst}
+use Rattle.funnel.specs.Calls.{Asks, IsAskedFor}
 use Rattle.std.proofs.lemmas.Result.{err_from_is_err_and}
 use Rattle.domain.proofs.Acting.{queue_acts, refusal_acts}
 use Rattle.domain.proofs.domain.Domain.call.Goals as goal
@@ -15,3 +16,14 @@ returns-in_err-receipt-clause-acts g c =
     let given = err_from_is_err_and c.from_residual.result c.from_residual.ensures.1 in
     let same : given.0 ≡ c.in_err-receipt.field-0.0 = search rules in
     rw (given.1, same, ← c.cpu.view_is) (refusal_acts c.self.inside.calls _ _ c.args.job (λ i. record { cpu = c.call.new.cpu; needs = c.cpu.inside.needs; turn = c.cpu.inside.turn; calls = seat i }) c.in_err-receipt.field-0.0 c.in_err-receipt.ensures.queues)
+
+pub returns-clause-calls : goal.returns-clause-calls
+returns-clause-calls g c =
+    let n : c.unwrap.result ≡ c.in_ok-receipt.receipt.cookie.number = search rules in
+    rw (← c.cpu.view_is, ← c.self.view_is) (record {
+      queues = c.in_ok-receipt.ensures.queues;
+      level = c.ask.result;
+      asks = subst (λ (k : ℕ). Asks k c.cpu.inside.needs c.ask.result c.ask.new.self) n c.ask.ensures.asks;
+      root = subst (λ (k : ℕ). IsAskedFor k c.ask.result c.ask.new.self) n c.ask.ensures.root;
+      turn = refl;
+    })

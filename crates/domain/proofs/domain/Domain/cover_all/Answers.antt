@@ -18,7 +18,7 @@ pub loop-other-preserved : goal.loop-other-preserved
 loop-other-preserved g c =
     let v = c.loop-other.invariant in
     let inside : c.loop-other.other-index < length c.args.others.now = c.loop-other-test.true in
-    let at = c.other.view_is ∙ ap (λ (xs : List CpuView). get_or xs c.loop-other.other-index c.other-item.result) v.others in
+    let at = c.other.view_is ∙ ap (λ (xs : List (CpuView _)). get_or xs c.loop-other.other-index c.other-item.result) v.others in
     let first = c.cover.ensures in
     let second = c.cover-in-loop-other.ensures in
     let third = c.cover-in-loop-other-2.ensures in

@@ -6,7 +6,7 @@ use Rattle.domain.proofs.domain.Domain.finish.Goals as goal
 
 pub returns-clause-here : goal.returns-clause-here
 returns-clause-here g c =
-    let at = subst (λ (z : CpuView). IsOf c.args.self.now z) (sym c.cpu.view_is) c.requires.domain in
+    let at = subst (λ (z : CpuView _). IsOf c.args.self.now z) (sym c.cpu.view_is) c.requires.domain in
     still_with_calls _ _ _ at c.finish.ensures.same refl
 
 pub returns-clause-acts : goal.returns-clause-acts

@@ -15,75 +15,75 @@ use Rattle.domain.proofs.domain.Domain.meet_others.Goals as goal
 
 pub cover-requires : goal.cover-requires
 cover-requires g c =
-    let all = subst (λ (z : CpuView). IsAllOf c.args.self.now (z ∷ c.args.others.now)) (sym c.first.view_is) c.requires in
+    let all = subst (λ (z : CpuView _). IsAllOf c.args.self.now (z ∷ c.args.others.now)) (sym c.first.view_is) c.requires in
     first_here _ _ _ all _ _ c.take-engine.ensures.takes c.take-engine.ensures.domain
 
 pub cover_all-requires-clause-beside : goal.cover_all-requires-clause-beside
 cover_all-requires-clause-beside g c =
-    let all = subst (λ (z : CpuView). IsAllOf c.args.self.now (z ∷ c.args.others.now)) (sym c.first.view_is) c.requires in
+    let all = subst (λ (z : CpuView _). IsAllOf c.args.self.now (z ∷ c.args.others.now)) (sym c.first.view_is) c.requires in
     others_beside _ _ _ all _ _ c.take-engine.ensures.takes c.take-engine.ensures.domain c.cover.new.self _ _ c.cover.ensures.engine c.root_need.ensures
 
 pub cover_all-requires-clause-bay : goal.cover_all-requires-clause-bay
 cover_all-requires-clause-bay g c =
-    let all = subst (λ (z : CpuView). IsAllOf c.args.self.now (z ∷ c.args.others.now)) (sym c.first.view_is) c.requires in
+    let all = subst (λ (z : CpuView _). IsAllOf c.args.self.now (z ∷ c.args.others.now)) (sym c.first.view_is) c.requires in
     took_here _ _ _ all _ _ c.take-engine.ensures.takes c.take-engine.ensures.domain
 
 pub admit-requires-clause-domain : goal.admit-requires-clause-domain
 admit-requires-clause-domain g c =
-    let all = subst (λ (z : CpuView). IsAllOf c.args.self.now (z ∷ c.args.others.now)) (sym c.first.view_is) c.requires in
+    let all = subst (λ (z : CpuView _). IsAllOf c.args.self.now (z ∷ c.args.others.now)) (sym c.first.view_is) c.requires in
     let h = c.cover_all.ensures in
     ap (λ (z : sections.CpuView). z.domain) c.cover.ensures.cpu ∙ still_here _ _ _ all _ _ c.take-engine.ensures.takes c.take-engine.ensures.domain c.cover.new.self _ _ c.cover.ensures.engine c.root_need.ensures c.cover_all.new.engine _ _ h.engine h.needs h.turn
 
 pub admit_all-requires-clause-domain : goal.admit_all-requires-clause-domain
 admit_all-requires-clause-domain g c =
-    let all = subst (λ (z : CpuView). IsAllOf c.args.self.now (z ∷ c.args.others.now)) (sym c.first.view_is) c.requires in
+    let all = subst (λ (z : CpuView _). IsAllOf c.args.self.now (z ∷ c.args.others.now)) (sym c.first.view_is) c.requires in
     let h = c.cover_all.ensures in
-    subst (λ (z : Engine × List CpuView). Each (λ x. (x.cpu.domain ≡ z.0.seat.domain) × (x.needs.domain ≡ c.cover_all.new.needs.domain)) z.1) (λ i. (sym c.admit.ensures.engine i, sym h.others i))
+    subst (λ (z : Engine × List (CpuView _)). Each (λ x. (x.cpu.domain ≡ z.0.seat.domain) × (x.needs.domain ≡ c.cover_all.new.needs.domain)) z.1) (λ i. (sym c.admit.ensures.engine i, sym h.others i))
     (others_here _ _ _ all _ _ c.take-engine.ensures.takes c.take-engine.ensures.domain c.cover.new.self _ _ c.cover.ensures.engine c.root_need.ensures c.cover_all.new.engine _ _ h.engine h.needs h.turn)
 
 pub put-requires-clause-bay : goal.put-requires-clause-bay
 put-requires-clause-bay g c =
-    let all = subst (λ (z : CpuView). IsAllOf c.args.self.now (z ∷ c.args.others.now)) (sym c.first.view_is) c.requires in
+    let all = subst (λ (z : CpuView _). IsAllOf c.args.self.now (z ∷ c.args.others.now)) (sym c.first.view_is) c.requires in
     let h = c.cover_all.ensures in
     turn_here _ _ _ all _ _ c.take-engine.ensures.takes c.take-engine.ensures.domain c.cover.new.self _ _ c.cover.ensures.engine c.root_need.ensures c.cover_all.new.engine _ _ h.engine h.needs h.turn
 
 pub admit_turns-requires-clause-bay : goal.admit_turns-requires-clause-bay
 admit_turns-requires-clause-bay g c =
-    let all = subst (λ (z : CpuView). IsAllOf c.args.self.now (z ∷ c.args.others.now)) (sym c.first.view_is) c.requires in
+    let all = subst (λ (z : CpuView _). IsAllOf c.args.self.now (z ∷ c.args.others.now)) (sym c.first.view_is) c.requires in
     let h = c.cover_all.ensures in
-    let admitted = subst (λ (z : Engine × List CpuView). EachBecomes (IsAdmitted z.0.seat c.cover_all.new.needs) z.1 c.admit_all.new.others) (λ i. (c.admit.ensures.engine i, h.others i)) c.admit_all.ensures.others in
+    let admitted = subst (λ (z : Engine × List (CpuView _)). EachBecomes (IsAdmitted z.0.seat c.cover_all.new.needs) z.1 c.admit_all.new.others) (λ i. (c.admit.ensures.engine i, h.others i)) c.admit_all.ensures.others in
     let puts = subst (λ (z : Engine). MakesSwap c.cover_all.new.turn (Some z) None c.put.new.turn) (c.admit_all.ensures.engine ∙ c.admit.ensures.engine) c.put.ensures.swap in
     put_here _ _ _ all _ _ c.take-engine.ensures.takes c.take-engine.ensures.domain c.cover.new.self _ _ c.cover.ensures.engine c.root_need.ensures c.cover_all.new.engine _ _ h.engine h.needs h.turn _ c.cover_all.new.engine puts _ admitted
 
 pub admit_turns-requires-clause-beside : goal.admit_turns-requires-clause-beside
 admit_turns-requires-clause-beside g c =
-    let all = subst (λ (z : CpuView). IsAllOf c.args.self.now (z ∷ c.args.others.now)) (sym c.first.view_is) c.requires in
+    let all = subst (λ (z : CpuView _). IsAllOf c.args.self.now (z ∷ c.args.others.now)) (sym c.first.view_is) c.requires in
     let h = c.cover_all.ensures in
-    let admitted = subst (λ (z : Engine × List CpuView). EachBecomes (IsAdmitted z.0.seat c.cover_all.new.needs) z.1 c.admit_all.new.others) (λ i. (c.admit.ensures.engine i, h.others i)) c.admit_all.ensures.others in
+    let admitted = subst (λ (z : Engine × List (CpuView _)). EachBecomes (IsAdmitted z.0.seat c.cover_all.new.needs) z.1 c.admit_all.new.others) (λ i. (c.admit.ensures.engine i, h.others i)) c.admit_all.ensures.others in
     let puts = subst (λ (z : Engine). MakesSwap c.cover_all.new.turn (Some z) None c.put.new.turn) (c.admit_all.ensures.engine ∙ c.admit.ensures.engine) c.put.ensures.swap in
     turns_beside _ _ _ all _ _ c.take-engine.ensures.takes c.take-engine.ensures.domain c.cover.new.self _ _ c.cover.ensures.engine c.root_need.ensures c.cover_all.new.engine _ _ h.engine h.needs h.turn _ c.cover_all.new.engine puts _ admitted
 
 pub admit_turns-requires-clause-covered : goal.admit_turns-requires-clause-covered
 admit_turns-requires-clause-covered g c =
-    let all = subst (λ (z : CpuView). IsAllOf c.args.self.now (z ∷ c.args.others.now)) (sym c.first.view_is) c.requires in
+    let all = subst (λ (z : CpuView _). IsAllOf c.args.self.now (z ∷ c.args.others.now)) (sym c.first.view_is) c.requires in
     let h = c.cover_all.ensures in
-    let admitted = subst (λ (z : Engine × List CpuView). EachBecomes (IsAdmitted z.0.seat c.cover_all.new.needs) z.1 c.admit_all.new.others) (λ i. (c.admit.ensures.engine i, h.others i)) c.admit_all.ensures.others in
+    let admitted = subst (λ (z : Engine × List (CpuView _)). EachBecomes (IsAdmitted z.0.seat c.cover_all.new.needs) z.1 c.admit_all.new.others) (λ i. (c.admit.ensures.engine i, h.others i)) c.admit_all.ensures.others in
     let puts = subst (λ (z : Engine). MakesSwap c.cover_all.new.turn (Some z) None c.put.new.turn) (c.admit_all.ensures.engine ∙ c.admit.ensures.engine) c.put.ensures.swap in
     turns_covered _ _ _ all _ _ c.take-engine.ensures.takes c.take-engine.ensures.domain c.cover.new.self _ _ c.cover.ensures.engine c.root_need.ensures c.cover_all.new.engine _ _ h.engine h.needs h.turn _ c.cover_all.new.engine puts _ admitted
 
 pub meet_calls-requires : goal.meet_calls-requires
 meet_calls-requires g c =
-    let all = subst (λ (z : CpuView). IsAllOf c.args.self.now (z ∷ c.args.others.now)) (sym c.first.view_is) c.requires in
+    let all = subst (λ (z : CpuView _). IsAllOf c.args.self.now (z ∷ c.args.others.now)) (sym c.first.view_is) c.requires in
     let h = c.cover_all.ensures in
-    let admitted = subst (λ (z : Engine × List CpuView). EachBecomes (IsAdmitted z.0.seat c.cover_all.new.needs) z.1 c.admit_all.new.others) (λ i. (c.admit.ensures.engine i, h.others i)) c.admit_all.ensures.others in
+    let admitted = subst (λ (z : Engine × List (CpuView _)). EachBecomes (IsAdmitted z.0.seat c.cover_all.new.needs) z.1 c.admit_all.new.others) (λ i. (c.admit.ensures.engine i, h.others i)) c.admit_all.ensures.others in
     let puts = subst (λ (z : Engine). MakesSwap c.cover_all.new.turn (Some z) None c.put.new.turn) (c.admit_all.ensures.engine ∙ c.admit.ensures.engine) c.put.ensures.swap in
     calls_beside _ _ _ all _ _ c.take-engine.ensures.takes c.take-engine.ensures.domain c.cover.new.self _ _ c.cover.ensures.engine c.root_need.ensures c.cover_all.new.engine _ _ h.engine h.needs h.turn _ c.cover_all.new.engine puts _ admitted _ c.admit_turns.ensures.others
 
 pub returns-clause-all : goal.returns-clause-all
 returns-clause-all g c =
-    let all = subst (λ (z : CpuView). IsAllOf c.args.self.now (z ∷ c.args.others.now)) (sym c.first.view_is) c.requires in
+    let all = subst (λ (z : CpuView _). IsAllOf c.args.self.now (z ∷ c.args.others.now)) (sym c.first.view_is) c.requires in
     let h = c.cover_all.ensures in
-    let admitted = subst (λ (z : Engine × List CpuView). EachBecomes (IsAdmitted z.0.seat c.cover_all.new.needs) z.1 c.admit_all.new.others) (λ i. (c.admit.ensures.engine i, h.others i)) c.admit_all.ensures.others in
+    let admitted = subst (λ (z : Engine × List (CpuView _)). EachBecomes (IsAdmitted z.0.seat c.cover_all.new.needs) z.1 c.admit_all.new.others) (λ i. (c.admit.ensures.engine i, h.others i)) c.admit_all.ensures.others in
     let puts = subst (λ (z : Engine). MakesSwap c.cover_all.new.turn (Some z) None c.put.new.turn) (c.admit_all.ensures.engine ∙ c.admit.ensures.engine) c.put.ensures.swap in
     let accepts = subst (λ (z : sections.CpuView). calls.Accepts z c.cover_all.new.engine.seat.seen c.cover_all.new.engine.seat.changes c.cover_all.new.engine.seat.texts c.admit.new.cpu) c.cover.ensures.cpu c.admit.ensures.cpu in
     let was = subst (λ (z : sections.CpuView). calls.IsSeenBy z) c.cover.ensures.cpu c.admit.ensures.was in
@@ -96,9 +96,9 @@ returns-clause-all g c =
 
 pub returns-clause-meets : goal.returns-clause-meets
 returns-clause-meets g c =
-    let all = subst (λ (z : CpuView). IsAllOf c.args.self.now (z ∷ c.args.others.now)) (sym c.first.view_is) c.requires in
+    let all = subst (λ (z : CpuView _). IsAllOf c.args.self.now (z ∷ c.args.others.now)) (sym c.first.view_is) c.requires in
     let h = c.cover_all.ensures in
-    let admitted = subst (λ (z : Engine × List CpuView). EachBecomes (IsAdmitted z.0.seat c.cover_all.new.needs) z.1 c.admit_all.new.others) (λ i. (c.admit.ensures.engine i, h.others i)) c.admit_all.ensures.others in
+    let admitted = subst (λ (z : Engine × List (CpuView _)). EachBecomes (IsAdmitted z.0.seat c.cover_all.new.needs) z.1 c.admit_all.new.others) (λ i. (c.admit.ensures.engine i, h.others i)) c.admit_all.ensures.others in
     let puts = subst (λ (z : Engine). MakesSwap c.cover_all.new.turn (Some z) None c.put.new.turn) (c.admit_all.ensures.engine ∙ c.admit.ensures.engine) c.put.ensures.swap in
     let accepts = subst (λ (z : sections.CpuView). calls.Accepts z c.cover_all.new.engine.seat.seen c.cover_all.new.engine.seat.changes c.cover_all.new.engine.seat.texts c.admit.new.cpu) c.cover.ensures.cpu c.admit.ensures.cpu in
     let was = subst (λ (z : sections.CpuView). calls.IsSeenBy z) c.cover.ensures.cpu c.admit.ensures.was in
@@ -106,6 +106,6 @@ returns-clause-meets g c =
     let heard = subst (λ (z : sections.CpuView). (n : ℕ) → c.cover_all.new.engine.seat.shown ≡ To z.processor n → n ≤ z.changes) c.cover.ensures.cpu c.admit.ensures.heard in
     let turned = c.admit_turns.ensures.others in
     let met = c.meet_calls.ensures in
-    subst (λ (z : CpuView). MeetsHere (z ∷ c.args.others.now) (record { cpu = c.admit.new.cpu; needs = c.admit_all.new.needs; turn = c.admit_turns.new.turn; calls = c.meet_calls.new.seat } ∷ c.meet_calls.new.others)) c.first.view_is
+    subst (λ (z : CpuView _). MeetsHere (z ∷ c.args.others.now) (record { cpu = c.admit.new.cpu; needs = c.admit_all.new.needs; turn = c.admit_turns.new.turn; calls = c.meet_calls.new.seat } ∷ c.meet_calls.new.others)) c.first.view_is
     (subst (λ (z : FunnelView × BaySeatView Engine). MeetsHere (record { cpu = c.first.inside.cpu; needs = c.first.inside.needs; turn = c.first.inside.turn; calls = c.first.inside.calls } ∷ c.args.others.now) (record { cpu = c.admit.new.cpu; needs = z.0; turn = z.1; calls = c.meet_calls.new.seat } ∷ c.meet_calls.new.others)) (λ i. (sym c.admit_all.ensures.needs i, sym c.admit_turns.ensures.turn i))
     (meets_here c.args.self.now _ _ _ _ _ _ c.cover.new.self c.cover_all.new.engine _ _ _ _ _ _ _ _ c.take-engine.ensures.takes c.cover.ensures.engine c.root_need.ensures h.engine h.needs h.turn accepts was sized heard admitted puts turned met.seat met.others c.needs_of_a_tree.ensures.root c.take-engine.ensures.tied (h.rest ∙ ap (λ (z : Engine). with_seat c.cover_all.new.engine.seat z) c.cover.ensures.rest) all))

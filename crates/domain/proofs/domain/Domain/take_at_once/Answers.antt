@@ -19,6 +19,6 @@ unreachable-requires g c =
     let none = c.in_default.is in
     let swap = subst (λ (x : Option Engine). MakesSwap c.cover_turns.new.turn None x c.take.new.self) none c.take.ensures.swap in
     let same = c.cover_turns.ensures.others in
-    let again = subst (λ (l : List CpuView). TurnCovers c.take.new.self l c.cover_turns-2.new.turn) same c.cover_turns-2.ensures.turn in
-    let admitted = subst (λ (l : List CpuView). EachBecomes (IsTurned c.cover_turns-2.new.turn) l c.admit_turns.new.others) (c.cover_turns-2.ensures.others ∙ same) c.admit_turns.ensures.others in
+    let again = subst (λ (l : List (CpuView _)). TurnCovers c.take.new.self l c.cover_turns-2.new.turn) same c.cover_turns-2.ensures.turn in
+    let admitted = subst (λ (l : List (CpuView _)). EachBecomes (IsTurned c.cover_turns-2.new.turn) l c.admit_turns.new.others) (c.cover_turns-2.ensures.others ∙ same) c.admit_turns.ensures.others in
     nobody_has_it c.args.turn.now _ _ _ c.args.others.now _ c.requires.all c.cover_turns.ensures.turn swap (c.take.ensures.elsewhere none) again admitted

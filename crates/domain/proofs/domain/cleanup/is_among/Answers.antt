@@ -7,4 +7,4 @@ use Rattle.domain.specs.Views.{CpuView}
 use Rattle.domain.proofs.domain.cleanup.is_among.Goals as goal
 
 pub returns : goal.returns
-returns g c = any_from_yields_List (λ (x : CpuView). x.cpu.processor == c.args.processor) _ _ c.any.result c.any.ensures.ran (YieldsList-from_slice c.args.cpus.now cc) (λ x b q k. search (rules, tests))
+returns g c = any_from_yields_List (λ (x : CpuView _). x.cpu.processor == c.args.processor) _ _ c.any.result c.any.ensures.ran (YieldsList-from_slice c.args.cpus.now cc) (λ x b q k. search (rules, tests))

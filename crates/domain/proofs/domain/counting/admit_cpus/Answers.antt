@@ -13,7 +13,7 @@ admit-requires-clause-domain g c =
     let v = c.loop-other.invariant in
     let inside = c.loop-other-test.true in
     let long = c.loop-other.auto.others in
-    item_has _ (λ (z : CpuView). z.cpu.domain ≡ c.args.engine.now.seat.domain) _ _ _ _ _ v.goes (omega (arith, inside, long)) c.other.view_is c.requires.domain
+    item_has _ (λ (z : CpuView _). z.cpu.domain ≡ c.args.engine.now.seat.domain) _ _ _ _ _ v.goes (omega (arith, inside, long)) c.other.view_is c.requires.domain
     ∙ sym (ap (λ (z : Engine). z.seat.domain) v.engine)
 
 pub admit-requires-clause-covered : goal.admit-requires-clause-covered
@@ -21,7 +21,7 @@ admit-requires-clause-covered g c =
     let v = c.loop-other.invariant in
     let inside = c.loop-other-test.true in
     let long = c.loop-other.auto.others in
-    rw (v.engine) (item_has _ (λ (z : CpuView). events.IsBeginning z.cpu.seen c.args.engine.now.seat.seen × (z.cpu.changes ≤ c.args.engine.now.seat.changes)) _ _ _ _ _ v.goes (omega (arith, inside, long)) c.other.view_is c.requires.covered)
+    rw (v.engine) (item_has _ (λ (z : CpuView _). events.IsBeginning z.cpu.seen c.args.engine.now.seat.seen × (z.cpu.changes ≤ c.args.engine.now.seat.changes)) _ _ _ _ _ v.goes (omega (arith, inside, long)) c.other.view_is c.requires.covered)
 
 pub loop-other-preserved : goal.loop-other-preserved
 loop-other-preserved g c =
@@ -29,7 +29,7 @@ loop-other-preserved g c =
     let at = c.loop-other-test.true in
     let long = c.loop-other.auto.others in
     let inside : c.loop-other.other-index < length c.loop-other.others = omega (arith, at, long) in
-    let covered = item_has _ (λ (z : CpuView). events.IsBeginning z.cpu.seen c.args.engine.now.seat.seen × (z.cpu.changes ≤ c.args.engine.now.seat.changes)) _ _ _ _ _ v.goes inside c.other.view_is c.requires.covered in
+    let covered = item_has _ (λ (z : CpuView _). events.IsBeginning z.cpu.seen c.args.engine.now.seat.seen × (z.cpu.changes ≤ c.args.engine.now.seat.changes)) _ _ _ _ _ v.goes inside c.other.view_is c.requires.covered in
     let h = c.admit.ensures in
     record {
       engine = h.engine ∙ v.engine;

@@ -14,15 +14,15 @@ admit-requires-clause-tallies g c =
     let v = c.loop-other.invariant in
     let inside = c.loop-other-test.true in
     let long = c.loop-other.auto.others in
-    item_has _ (λ (z : CpuView). z.calls.tallies ≡ c.args.seat.now.tallies) _ _ _ _ _ v.goes (omega (arith, inside, long)) c.other.view_is c.requires.tallies
-    ∙ sym (ap (λ (z : CallSeatView). z.tallies) v.seat)
+    item_has _ (λ (z : CpuView _). z.calls.tallies ≡ c.args.seat.now.tallies) _ _ _ _ _ v.goes (omega (arith, inside, long)) c.other.view_is c.requires.tallies
+    ∙ sym (ap (λ (z : CallSeatView _). z.tallies) v.seat)
 
 pub admit-requires-clause-covered : goal.admit-requires-clause-covered
 admit-requires-clause-covered g c =
     let v = c.loop-other.invariant in
     let inside = c.loop-other-test.true in
     let long = c.loop-other.auto.others in
-    rw (v.seat) (item_has _ (λ (z : CpuView). deeds.IsBeginning z.calls.seen c.args.seat.now.seen) _ _ _ _ _ v.goes (omega (arith, inside, long)) c.other.view_is c.requires.covered)
+    rw (v.seat) (item_has _ (λ (z : CpuView _). deeds.IsBeginning z.calls.seen c.args.seat.now.seen) _ _ _ _ _ v.goes (omega (arith, inside, long)) c.other.view_is c.requires.covered)
 
 pub loop-other-preserved : goal.loop-other-preserved
 loop-other-preserved g c =

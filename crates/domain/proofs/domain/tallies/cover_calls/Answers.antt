@@ -13,14 +13,14 @@ pub cover-requires : goal.cover-requires
 cover-requires g c =
     let v = c.loop-other.invariant in
     let inside : c.loop-other.other-index < length c.args.others.now = c.loop-other-test.true in
-    let at = c.other.view_is ∙ ap (λ (xs : List CpuView). get_or xs c.loop-other.other-index c.other-item.result) v.others in
-    ap (λ (z : CpuView). z.calls.tallies) at ∙ (c.requires c.loop-other.other-index c.other-item.result inside ∙ sym (ap (λ (z : CallSeatView). z.tallies) v.seat.same))
+    let at = c.other.view_is ∙ ap (λ (xs : List (CpuView _)). get_or xs c.loop-other.other-index c.other-item.result) v.others in
+    ap (λ (z : CpuView _). z.calls.tallies) at ∙ (c.requires c.loop-other.other-index c.other-item.result inside ∙ sym (ap (λ (z : CallSeatView _). z.tallies) v.seat.same))
 
 pub loop-other-preserved : goal.loop-other-preserved
 loop-other-preserved g c =
     let v = c.loop-other.invariant in
     let inside : c.loop-other.other-index < length c.args.others.now = c.loop-other-test.true in
-    let at = c.other.view_is ∙ ap (λ (xs : List CpuView). get_or xs c.loop-other.other-index c.other-item.result) v.others in
+    let at = c.other.view_is ∙ ap (λ (xs : List (CpuView _)). get_or xs c.loop-other.other-index c.other-item.result) v.others in
     record {
       others = still _ _ _ (record { cpu = c.other.inside.cpu; needs = c.other.inside.needs; turn = c.other.inside.turn; calls = c.other.inside.calls }) _ _ v.others (λ i. record { cpu = c.other.inside.cpu; needs = c.other.inside.needs; turn = c.other.inside.turn; calls = c.cover.ensures.other i }) c.other.view_is;
       seat = calls_next _ _ _ _ _ _ _ inside at v.seat c.cover.ensures.covers;

@@ -12,7 +12,7 @@ pub ask_and_start-requires : goal.ask_and_start-requires
 ask_and_start-requires g c =
     let at = c.loop-cpu-test.true in
     let long = c.loop-cpu.auto.cpus in
-    item_has _ (λ (z : CpuView). IsOf c.args.domain.now z) _ _ _ _ c.cpu-item.result c.loop-cpu.invariant.goes (omega (arith, at, long)) refl c.requires.here
+    item_has _ (λ (z : CpuView _). IsOf c.args.domain.now z) _ _ _ _ c.cpu-item.result c.loop-cpu.invariant.goes (omega (arith, at, long)) refl c.requires.here
 
 pub loop-cpu-preserved : goal.loop-cpu-preserved
 loop-cpu-preserved g c =

@@ -5,4 +5,4 @@ use Rattle.domain.specs.Meetings.{IsAllOf}
 use Rattle.domain.proofs.tests.alone.meets.Goals as goal
 
 pub need_behind_a_meeting-need-requires : goal.need_behind_a_meeting-need-requires
-need_behind_a_meeting-need-requires g c = subst (λ (l : List CpuView). IsAllOf c.in_ok-domain.domain l) (sym c.deref_mut.ensures.value) c.in_ok-domain.ensures.all
+need_behind_a_meeting-need-requires g c = subst (λ (l : List (CpuView _)). IsAllOf c.in_ok-domain.domain l) (sym c.deref_mut.ensures.value) c.in_ok-domain.ensures.all

@@ -7,7 +7,7 @@ use Rattle.domain.proofs.tests.cleanup.last_two.Goals as goal
 
 pub returns : goal.returns
 returns c =
-    let P : CpuView → Type 0 = IsReady c.in_ok-domain.domain in
+    let P : CpuView _ → Type 0 = IsReady c.in_ok-domain.domain in
     let all : All P c.in_ok-domain.cpus.items = new_ones_are_ready _ _ c.in_ok-domain.ensures.made in
     let last = All-pop P _ _ _ c.pop.ensures.items all in
     let other = All-pop P _ _ _ c.pop-2.ensures.items last.0 in

@@ -9,8 +9,8 @@ pub cleanup-requires : goal.cleanup-requires
 cleanup-requires g c =
     let empty : c.expect-cpus.result.items ≡ [] = rw c.expect-cpus.ensures at c.with_capacity.ensures.items in
     let items : c.push_reserved-2.new.self.items ≡ c.args.first ∷ c.args.second ∷ [] =
-    c.push_reserved-2.ensures.items ∙ ap (λ (l : List CpuView). l ++ c.args.second ∷ []) (c.push_reserved.ensures.items ∙ ap (λ (l : List CpuView). l ++ c.args.first ∷ []) empty) in
-    subst (λ (l : List CpuView). Each (IsOf c.args.domain) l) (sym items) (All-cons (IsOf c.args.domain) c.args.first (c.args.second ∷ []) c.requires.0 (All-cons (IsOf c.args.domain) c.args.second [] c.requires.1 (All-nil (IsOf c.args.domain))))
+    c.push_reserved-2.ensures.items ∙ ap (λ (l : List (CpuView _)). l ++ c.args.second ∷ []) (c.push_reserved.ensures.items ∙ ap (λ (l : List (CpuView _)). l ++ c.args.first ∷ []) empty) in
+    subst (λ (l : List (CpuView _)). Each (IsOf c.args.domain) l) (sym items) (All-cons (IsOf c.args.domain) c.args.first (c.args.second ∷ []) c.requires.0 (All-cons (IsOf c.args.domain) c.args.second [] c.requires.1 (All-nil (IsOf c.args.domain))))
 
 pub returns-clause-here : goal.returns-clause-here
 returns-clause-here g c =

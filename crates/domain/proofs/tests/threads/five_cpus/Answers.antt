@@ -7,7 +7,7 @@ use Rattle.domain.proofs.tests.threads.five_cpus.Goals as goal
 
 pub returns-clause-first : goal.returns-clause-first
 returns-clause-first c =
-    let P : CpuView → Type 0 = IsReady c.in_ok-domain.domain in
+    let P : CpuView _ → Type 0 = IsReady c.in_ok-domain.domain in
     let all : All P c.in_ok-domain.cpus.items = new_ones_are_ready _ _ c.in_ok-domain.ensures.made in
     let fifth = All-pop P _ _ _ c.pop.ensures.items all in
     let fourth = All-pop P _ _ _ c.pop-2.ensures.items fifth.0 in
@@ -20,7 +20,7 @@ returns-clause-first c =
 
 pub returns-clause-last : goal.returns-clause-last
 returns-clause-last c =
-    let P : CpuView → Type 0 = IsReady c.in_ok-domain.domain in
+    let P : CpuView _ → Type 0 = IsReady c.in_ok-domain.domain in
     let all : All P c.in_ok-domain.cpus.items = new_ones_are_ready _ _ c.in_ok-domain.ensures.made in
     let fifth = All-pop P _ _ _ c.pop.ensures.items all in
     let fourth = All-pop P _ _ _ c.pop-2.ensures.items fifth.0 in
@@ -31,7 +31,7 @@ returns-clause-last c =
 
 pub returns-clause-fifth : goal.returns-clause-fifth
 returns-clause-fifth c =
-    let P : CpuView → Type 0 = IsReady c.in_ok-domain.domain in
+    let P : CpuView _ → Type 0 = IsReady c.in_ok-domain.domain in
     let all : All P c.in_ok-domain.cpus.items = new_ones_are_ready _ _ c.in_ok-domain.ensures.made in
     let fifth = All-pop P _ _ _ c.pop.ensures.items all in
     let at_fifth : IsReady c.in_ok-domain.domain c.unwrap-fifth.result = rw c.unwrap-fifth.ensures at fifth.1 in

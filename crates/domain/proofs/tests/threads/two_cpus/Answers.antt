@@ -7,7 +7,7 @@ use Rattle.domain.proofs.tests.threads.two_cpus.Goals as goal
 
 pub returns-clause-of : goal.returns-clause-of
 returns-clause-of c =
-    let P : CpuView → Type 0 = IsReady c.in_ok-domain.domain in
+    let P : CpuView _ → Type 0 = IsReady c.in_ok-domain.domain in
     let all : All P c.in_ok-domain.cpus.items = new_ones_are_ready _ _ c.in_ok-domain.ensures.made in
     let second = All-pop P _ _ _ c.pop.ensures.items all in
     let first = All-pop P _ _ _ c.pop-2.ensures.items second.0 in
@@ -17,7 +17,7 @@ returns-clause-of c =
 
 pub returns-clause-none : goal.returns-clause-none
 returns-clause-none c =
-    let P : CpuView → Type 0 = IsReady c.in_ok-domain.domain in
+    let P : CpuView _ → Type 0 = IsReady c.in_ok-domain.domain in
     let all : All P c.in_ok-domain.cpus.items = new_ones_are_ready _ _ c.in_ok-domain.ensures.made in
     let second = All-pop P _ _ _ c.pop.ensures.items all in
     let first = All-pop P _ _ _ c.pop-2.ensures.items second.0 in
