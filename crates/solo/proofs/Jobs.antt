@@ -70,7 +70,7 @@ batch_ready max done far now l l' (e ∷ es) b is many all handed =
       record { some = omega (arith, counted); few = omega (arith, counted, many); most = omega (arith, counted, many); done = all; handed = handed },
     )
 
-module _ (t : Hand) where
+module _ {J : Type 0} (t : Hand) where
   -- the root was loaded
   pub need_says : (need : ℕ) → LoadsNeed t.was need t.now → ActsAs loads t.was t.now → Says t ((s' t ≡ t.s) × (need ≡ t.s.course.asked))
   need_says need h did = says t loads did _ (still t did, root_is t loads did need h.load)
@@ -79,20 +79,20 @@ module _ (t : Hand) where
 
   -- what the seat knew of its own jobs
   counted : queued_in t.was.calls.processor t.was.calls.seen ≡ get_or t.s.course.queued t.p 0
-  counted = ap (λ (s : CallSeatView). queued_in s.processor s.seen) (deeds_were t) ∙ sym (queued_were t t.p t.inside)
+  counted = ap (λ (s : CallSeatView J). queued_in s.processor s.seen) (deeds_were t) ∙ sym (queued_were t t.p t.inside)
 
   module _ {J : Type 0} (job : J) where
     abbrev IsAnswered : Result Queued CallRefusal → Type 0
     IsAnswered told = MatchResult told (λ q. Queues t.p q t.s.course (s' t).course) (λ why. QueuesNone t.p why t.s.course (s' t).course)
 
-    queued_says : (r : Receipt) → CallsIn t.d t.was job r t.now → ActsAs (asks_for r.cookie.number 1) t.was t.now → Says t (Queues t.p (record { k = r.k; cookie = r.cookie.number }) t.s.course (s' t).course)
+    queued_says : (r : Receipt J) → CallsIn t.d t.was job r t.now → ActsAs (asks_for r.cookie.number 1) t.was t.now → Says t (Queues t.p (record { k = r.k; cookie = r.cookie.number }) t.s.course (s' t).course)
     queued_says r h did = says t (asks_for r.cookie.number 1) did _ (record { number = queued_found t t.p t.inside ∙ ap Some (sym (h.queues.queues.counted ∙ counted)); queues = does t (asks_for r.cookie.number 1) did })
 
     refused_says : (refusal : CallRefusal) (j : J) → RefusesCall t.d t.was job (j, refusal) t.now → domain.QueuesNone refusal t.was t.now → Says t (QueuesNone t.p refusal t.s.course (s' t).course)
     refused_says calling.Exhausted j h did = says t loads did _ (queued_found t t.p t.inside ∙ ap Some (sym counted ∙ h.refuses.refuses.cause.0), (does t loads did).come)
     refused_says calling.Memory j h did = says t (notes did.0) did.1 _ (did.0, does t (notes did.0) did.1)
 
-    pub call_says : (r : Result Receipt (J × CallRefusal)) → MatchResult r (λ r. CallsIn t.d t.was job r t.now) (λ refused. RefusesCall t.d t.was job refused t.now)
+    pub call_says : (r : Result (Receipt J) (J × CallRefusal)) → MatchResult r (λ r. CallsIn t.d t.was job r t.now) (λ refused. RefusesCall t.d t.was job refused t.now)
         → MatchResult r (λ r. ActsAs (asks_for r.cookie.number 1) t.was t.now) (λ refused. domain.QueuesNone refused.1 t.was t.now) → (told : Result Queued CallRefusal) → IsQueuedAs r told → Says t (IsAnswered told)
     call_says (Ok r) h did told same = subst (λ x. Says t (IsAnswered x)) (sym same) (queued_says r h did)
     call_says (Err refused) h did told same = subst (λ x. Says t (IsAnswered x)) (sym same) (refused_says refused.1 refused.0 h did)
@@ -124,7 +124,7 @@ module _ (t : Hand) where
     are_out : (what t.p).queued ≡ 0 → AreOut t.p b.count t.s.course
     are_out none =
         let low = finished_later t.p h.not_before in
-        let old = ap (λ (s : CallSeatView). finished_in t.p s.seen) (deeds_were t) in
+        let old = ap (λ (s : CallSeatView J). finished_in t.p s.seen) (deeds_were t) in
         let was = finished_were t t.p t.inside in
         let later = queued_later t.p h.not_after in
         let met = queued_later t.p (seen_by_all t what did) in
@@ -181,7 +181,8 @@ module _ (t : Hand) where
     finishes_are = subst (λ q. Does q (finishes owner count) t.s.course (s' t).course) (sym at) (does t (finishes owner count) did);
   })
 
--- what a list of the processor tells
-pub lens_says : {E : Type 0} {d : DomainView} {limits : Limits} {cpus : List CpuView} {v : View} {s : SoloView} (met : HaveMet d limits cpus v) → seen_first d limits cpus ≡ s → (p : ℕ) (told : Result (List ℕ × List ℕ) E)
-    → ((l : ListView (Unit {0})) × IsListOf (callbacks_of d) p l × (told ≡ Ok (lens l.entries, numbers l.entries))) → TellsLens s p told
-lens_says {E} {d} {limits} {cpus} {v} {s} met seen p told h = (h.0, h.1 ∙ (λ i. record { domain = sym (own_table met seen) i; tallies = sym (ap (λ (x : SoloView). x.tallies) (now_is d limits cpus v met s seen)) i; processor = p }), h.2)
+module _ {J : Type 0} where
+  -- what a list of the processor tells
+  pub lens_says : {E : Type 0} {d : DomainView} {limits : Limits} {cpus : List (CpuView J)} {v : View} {s : SoloView} (met : HaveMet d limits cpus v) → seen_first d limits cpus ≡ s → (p : ℕ) (told : Result (List ℕ × List ℕ) E)
+      → ((l : ListView (Unit {0})) × IsListOf (callbacks_of d) p l × (told ≡ Ok (lens l.entries, numbers l.entries))) → TellsLens s p told
+  lens_says {E} {d} {limits} {cpus} {v} {s} met seen p told h = (h.0, h.1 ∙ (λ i. record { domain = sym (own_table met seen) i; tallies = sym (ap (λ (x : SoloView). x.tallies) (now_is d limits cpus v met s seen)) i; processor = p }), h.2)

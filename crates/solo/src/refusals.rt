@@ -34,7 +34,7 @@ pub(crate) fn started(answer: Result<Number, domain::StartRefusal>) -> Result<Nu
 }
 
 /// The answer of a call: nothing else is told of a job, which comes back where it is refused.
-pub(crate) fn queued(answer: Result<Receipt, ((), CallRefusal)>) -> Result<Queued, CallRefusal>
+pub(crate) fn queued(answer: Result<Receipt<()>, ((), CallRefusal)>) -> Result<Queued, CallRefusal>
     ensures told { IsQueuedAs answer result }
     ensures small { IfOk result (λ job. job.cookie ≤ 2 ^ 61) }
 {

@@ -7,7 +7,7 @@ pub returns-clause-acts : goal.returns-clause-acts
 returns-clause-acts g c =
     let taken = rw c.in-Some.is at c.in_ok-batch.ensures.taken in
     let finishes = rw c.drain-reached.ensures.batch at c.finish.ensures.acts in
-    rw c.count-count.ensures (asks_then_finishes c.in_ok-batch.ensures.acts (ap (λ (x : CpuView). x.cpu.changes) c.finish.ensures.rest) c.in-Some.batch.processor c.in-Some.batch.count finishes (taken.of_processor.1 ∙ c.requires.own))
+    rw c.count-count.ensures (asks_then_finishes c.in_ok-batch.ensures.acts (ap (λ (x : CpuView _). x.cpu.changes) c.finish.ensures.rest) c.in-Some.batch.processor c.in-Some.batch.count finishes (taken.of_processor.1 ∙ c.requires.own))
 
 pub returns-clause-ran : goal.returns-clause-ran
 returns-clause-ran g c =

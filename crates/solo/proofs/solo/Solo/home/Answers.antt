@@ -15,12 +15,12 @@ unchanged : (g : Over) (c : goal.After-self-1 g) → set c.self.inside.members.c
 unchanged g c = ap (λ z. set c.self.inside.members.cpus.items 0 z) (c.home.ensures.same ∙ c.index_mut.ensures.value) ∙ set-get_or c.self.inside.members.cpus.items 0 c.index_mut.result.now
 
 pub invariant_of-self : goal.invariant_of-self
-invariant_of-self g c = record { engine = c.self.invariant.engine; met = subst (λ (l : List CpuView). HaveMet c.self.inside.members.domain c.self.inside.limits l c.self.invariant.engine) (sym (unchanged g c)) c.self.invariant.met }
+invariant_of-self g c = record { engine = c.self.invariant.engine; met = subst (λ (l : List (CpuView _)). HaveMet c.self.inside.members.domain c.self.inside.limits l c.self.invariant.engine) (sym (unchanged g c)) c.self.invariant.met }
 
 pub returns-clause-home : goal.returns-clause-home
 returns-clause-home g c = c.home.ensures.home
-    ∙ ((ap (λ (z : CpuView). z.cpu.domain) c.index_mut.ensures.value ∙ (c.self.invariant.met.together.hold.each 0 c.index_mut.result.now (first_inside _ _ _ _ c.self.invariant.met)).domain)
+    ∙ ((ap (λ (z : CpuView _). z.cpu.domain) c.index_mut.ensures.value ∙ (c.self.invariant.met.together.hold.each 0 c.index_mut.result.now (first_inside _ _ _ _ c.self.invariant.met)).domain)
     ∙ sym (ap (λ (x : SoloView). x.table) (now_is _ _ _ _ c.self.invariant.met _ c.self.view_is)))
 
 pub returns-clause-same : goal.returns-clause-same
-returns-clause-same g c = ap (λ (l : List CpuView). seen_first c.self.inside.members.domain c.self.inside.limits l) (unchanged g c) ∙ c.self.view_is
+returns-clause-same g c = ap (λ (l : List (CpuView _)). seen_first c.self.inside.members.domain c.self.inside.limits l) (unchanged g c) ∙ c.self.view_is
