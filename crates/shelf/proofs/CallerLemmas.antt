@@ -18,17 +18,18 @@ same_words f a b first second = ext_get_or 0 a b (first.long ∙ sym second.long
 pub words_put : (f : FoundView) (text words : List ℕ) → length text ≡ 16 → words_of f.cell f.version f.texts ≡ text → AreWords f words → words ≡ text
 words_put f text words long has are = ext_get_or 0 words text (are.long ∙ sym long) (λ i lt. let li : i < 16 = (let n = are.long in omega (arith, lt, n)) in are.each i li ∙ ap (λ l. get_or l i 0) has)
 
--- replacing opens no section, whether a slot was free or not
-pub none_replaced : (text : List ℕ) (cookie : ℕ) (w w' : WriterView) (c c' : CpuView) → Replaces text cookie w c w' c' → HasNoneOpen c → HasNoneOpen c'
-none_replaced text cookie w w' c c' h none =
-    none_still h.at c' (same_put h.slot cookie h.filled w' h.at.cpu c'.cpu h.puts.puts) (none_still c h.at (same_reclaimed w h.freed c.cpu h.at.cpu h.frees.reclaims) none)
+module _ {J : Type 0} where
+  -- replacing opens no section, whether a slot was free or not
+  pub none_replaced : (text : List ℕ) (cookie : ℕ) (w w' : WriterView) (c c' : CpuView J) → Replaces text cookie w c w' c' → HasNoneOpen c → HasNoneOpen c'
+  none_replaced text cookie w w' c c' h none =
+      none_still h.at c' (same_put h.slot cookie h.filled w' h.at.cpu c'.cpu h.puts.puts) (none_still c h.at (same_reclaimed w h.freed c.cpu h.at.cpu h.frees.reclaims) none)
 
-pub none_refused : (w w' : WriterView) (c c' : CpuView) → FindsNone w c w' c' → HasNoneOpen c → HasNoneOpen c'
-none_refused w w' c c' h none = none_still c c' (same_reclaimed w w' c.cpu c'.cpu h.frees.reclaims) none
+  pub none_refused : (w w' : WriterView) (c c' : CpuView J) → FindsNone w c w' c' → HasNoneOpen c → HasNoneOpen c'
+  none_refused w w' c c' h none = none_still c c' (same_reclaimed w w' c.cpu c'.cpu h.frees.reclaims) none
 
--- reading leaves the processor the same, in one call or in two
-pub same_loaded : {T : Type 0} (value : List ℕ → T) (r : ReadingView) (f : FoundView) (c c' : CpuView) (x : T) → Loads value r f c c' x → IsSameCpu c.cpu c'.cpu
-same_loaded value r f c c' x h = h.loads.same
+  -- reading leaves the processor the same, in one call or in two
+  pub same_loaded : {T : Type 0} (value : List ℕ → T) (r : ReadingView) (f : FoundView) (c c' : CpuView J) (x : T) → Loads value r f c c' x → IsSameCpu c.cpu c'.cpu
+  same_loaded value r f c c' x h = h.loads.same
 
-pub same_read : {T : Type 0} (value : List ℕ → T) (cell : ℕ) (r : ReadingView) (c c' : CpuView) (x : T) → Reads value cell r c c' x → IsSameCpu c.cpu c'.cpu
-same_read value cell r c c' x h = let f = h.finds.adds.same in let l = h.loads.loads.same in (l.0 ∙ f.0, l.1 ∙ f.1, l.2 ∙ f.2, l.3 ∙ f.3)
+  pub same_read : {T : Type 0} (value : List ℕ → T) (cell : ℕ) (r : ReadingView) (c c' : CpuView J) (x : T) → Reads value cell r c c' x → IsSameCpu c.cpu c'.cpu
+  same_read value cell r c c' x h = let f = h.finds.adds.same in let l = h.loads.loads.same in (l.0 ∙ f.0, l.1 ∙ f.1, l.2 ∙ f.2, l.3 ∙ f.3)

@@ -17,24 +17,25 @@ pub record Fills (slot : ℕ) (text : List ℕ) (w w' : WriterView) : Type 0 whe
   pub since : IsBeginning w.seen w'.seen
   pub clear : IsClear w'.seen w.cell slot
 
--- what nobody can read any more became blank
-pub record Frees (w : WriterView) (c : CpuView) (w' : WriterView) (c' : CpuView) : Type 0 where
-  pub reclaims : Reclaims w c.cpu w' c'.cpu
-  pub rest : c' ≡ with_cpu c'.cpu c
+module _ {J : Type 0} where
+  -- what nobody can read any more became blank
+  pub record Frees (w : WriterView) (c : CpuView J) (w' : WriterView) (c' : CpuView J) : Type 0 where
+    pub reclaims : Reclaims w c.cpu w' c'.cpu
+    pub rest : c' ≡ with_cpu c'.cpu c
 
--- then a blank slot was filled with these words and put, and just the cookie was asked for with which the slot that was current is retired
-pub record Replaces (text : List ℕ) (cookie : ℕ) (w : WriterView) (c : CpuView) (w' : WriterView) (c' : CpuView) : Type 0 where
-  pub freed : WriterView
-  pub at : CpuView
-  pub frees : Frees w c freed at
-  pub slot : ℕ
-  pub there : slot < w.slots
-  pub blank : standing_of freed slot ≡ Blank
-  pub filled : WriterView
-  pub fills : Fills slot text (record freed { standings = slice_set freed.standings slot Out }) filled
-  pub puts : PutsAndAsks slot cookie filled at w' c'
+  -- then a blank slot was filled with these words and put, and just the cookie was asked for with which the slot that was current is retired
+  pub record Replaces (text : List ℕ) (cookie : ℕ) (w : WriterView) (c : CpuView J) (w' : WriterView) (c' : CpuView J) : Type 0 where
+    pub freed : WriterView
+    pub at : CpuView J
+    pub frees : Frees w c freed at
+    pub slot : ℕ
+    pub there : slot < w.slots
+    pub blank : standing_of freed slot ≡ Blank
+    pub filled : WriterView
+    pub fills : Fills slot text (record freed { standings = slice_set freed.standings slot Out }) filled
+    pub puts : PutsAndAsks slot cookie filled at w' c'
 
--- no slot was blank then, or as many versions were put as there may be; nothing was put
-pub record FindsNone (w : WriterView) (c : CpuView) (w' : WriterView) (c' : CpuView) : Type 0 where
-  pub frees : Frees w c w' c'
-  pub none : (2 ^ 54 ≤ w'.version) ⊎ NoneBlank w'
+  -- no slot was blank then, or as many versions were put as there may be; nothing was put
+  pub record FindsNone (w : WriterView) (c : CpuView J) (w' : WriterView) (c' : CpuView J) : Type 0 where
+    pub frees : Frees w c w' c'
+    pub none : (2 ^ 54 ≤ w'.version) ⊎ NoneBlank w'

@@ -13,7 +13,7 @@ use Rattle.solo.specs.Barriers.{ticket_of, IsTicketOf, AreReached}
 use Rattle.solo.proofs.Meeting.{Hand, s', deeds_were, queued_were, finished_were, queued_long, tallies_are, many_are, seen_by_all, queued_now, finished_now}
 use Rattle.solo.proofs.Called.{Says, says, still}
 
-module _ {J : Type 0} (t : Hand) (did : ActsAs loads t.was t.now) where
+module _ (t : Hand) (did : ActsAs loads t.was t.now) where
   -- nothing has changed, and this
   abbrev pub Stays : Type 0 → Type 0
   Stays what = Says t ((s' t ≡ t.s) × what)
@@ -22,7 +22,7 @@ module _ {J : Type 0} (t : Hand) (did : ActsAs loads t.was t.now) where
   stays what it = says t loads did _ (still t did, it)
 
   seen_before : t.was.calls.seen ≡ t.met.deeds
-  seen_before = ap (λ (s : CallSeatView J). s.seen) (deeds_were t)
+  seen_before = ap (λ (s : CallSeatView (Unit {0})). s.seen) (deeds_were t)
 
   -- no count has changed since
 
@@ -38,8 +38,8 @@ module _ {J : Type 0} (t : Hand) (did : ActsAs loads t.was t.now) where
     pub start_says : (r : Result TicketView E) → MatchResult r (λ ticket. Starts t.was.calls ticket t.now.calls) (λ _. t.now ≡ t.was) → Stays (IfOk r (λ ticket. (ticket ≡ ticket_of t.s) × IsTicketOf t.s ticket))
     start_says (Err e) h = stays _ tt
     start_says (Ok ticket) h =
-        let words_are : t.was.calls.processors ≡ length t.cpus = ap (λ (s : CallSeatView J). s.processors) (deeds_were t) in
-        let tallies = h.tallies ∙ (ap (λ (s : CallSeatView J). s.tallies) (deeds_were t) ∙ tallies_are t) in
+        let words_are : t.was.calls.processors ≡ length t.cpus = ap (λ (s : CallSeatView (Unit {0})). s.processors) (deeds_were t) in
+        let tallies = h.tallies ∙ (ap (λ (s : CallSeatView (Unit {0})). s.tallies) (deeds_were t) ∙ tallies_are t) in
         let each : length ticket.numbers ≡ length t.cpus = h.whole ∙ words_are in
         let numbers : ticket.numbers ≡ t.s.course.queued = ext_get_or 0 ticket.numbers t.s.course.queued (each ∙ sym (queued_long t)) (λ k lt.
         let there : k < length t.cpus = omega (arith, each, lt) in

@@ -50,7 +50,7 @@ all_left {before} {left} {last} h none = subst (IsLastCookie last) (sym (h.whole
 
 -- One call and then another
 
-module _ {J : Type 0} {was mid now : CpuView J} (first : ActsAs (asks_how_far mid.cpu.changes) was mid) (same : now.cpu.changes ≡ mid.cpu.changes) where
+module _ {was mid now : CpuView (Unit {0})} (first : ActsAs (asks_how_far mid.cpu.changes) was mid) (same : now.cpu.changes ≡ mid.cpu.changes) where
   -- it is told how far the grace periods have come, and then only loads
   pub asks_then_loads : ActsAs loads mid now → ActsAs (asks_how_far now.cpu.changes) was now
   asks_then_loads second =
@@ -63,30 +63,32 @@ module _ {J : Type 0} {was mid now : CpuView J} (first : ActsAs (asks_how_far mi
       let behind : Acts was.cpu.processor (finishes was.cpu.processor count was.cpu.processor) mid now = subst (λ o. Acts was.cpu.processor (finishes o count was.cpu.processor) mid now) own (subst (λ q. Acts q (finishes owner count q) mid now) first.events.same.3 second) in
       subst (λ n. ActsAs (asks_how_far_and_finishes n count) was now) (sym same) (then_finishes {p = was.cpu.processor} {a = asks_how_far mid.cpu.changes was.cpu.processor} {owner = was.cpu.processor} {count = count} refl first behind)
 
-module _ {J : Type 0} where
-  -- a batch was taken, and seen to be out
-  pub takes_out : {d : DomainView} {p max : ℕ} {b : BatchView (Unit {0})} {was mid now : CpuView J} → IsOfProcessor (callbacks_of d) p b → TakesIn (callbacks_of d) p max was.cpu (Some b) mid.cpu → AreHanded b.entries mid.cpu.seen → mid ≡ with_cpu mid.cpu was
-      → SeesOut b mid.calls now.calls → now ≡ with_calls now.calls mid → TakesBatch d p max b was now
-  takes_out {d} {p} {max} {b} {was} {mid} {now} of takes handed rest out rest' =
-      let cpu : now.cpu ≡ mid.cpu = ap (λ (x : CpuView J). x.cpu) rest' in record {
-        of_processor = of;
-        takes = subst (TakesIn (callbacks_of d) p max was.cpu (Some b)) (sym cpu) takes;
-        handed = subst (λ c. AreHanded b.entries c.seen) (sym cpu) handed;
-        moment = out.moment;
-        not_before = subst (λ (s : CallSeatView J). IsBeginning s.seen out.moment) (ap (λ (x : CpuView J). x.calls) rest) out.not_before;
-        not_after = out.covers.covers;
-        queued = subst (λ q. finished_in q out.moment + b.count ≤ queued_in q out.moment) of.1 out.queued;
-      }
+-- a batch was taken, and seen to be out
+pub takes_out : {d : DomainView} {p max : ℕ} {b : BatchView (Unit {0})} {was mid now : CpuView (Unit {0})} → IsOfProcessor (callbacks_of d) p b → TakesIn (callbacks_of d) p max was.cpu was.calls (Some b) mid.cpu mid.calls → AreHanded b.entries mid.cpu.seen
+    → SeesOut b mid.calls now.calls → now ≡ with_calls now.calls mid → TakesBatch d p max b was now
+takes_out {d} {p} {max} {b} {was} {mid} {now} of takes handed out rest' =
+    let cpu : now.cpu ≡ mid.cpu = ap (λ (x : CpuView (Unit {0})). x.cpu) rest' in
+    let tally = takes.takes.gives.tally in record {
+      of_processor = of;
+      behind = mid.calls;
+      takes = subst (λ z. TakesIn (callbacks_of d) p max was.cpu was.calls (Some b) z mid.calls) (sym cpu) takes;
+      handed = subst (λ c. AreHanded b.entries c.seen) (sym cpu) handed;
+      moment = out.moment;
+      not_before = begins_on (begins_on tally.since record { rest = _; whole = tally.seen }) out.not_before;
+      not_after = out.covers.covers;
+      queued = subst (λ q. finished_in q out.moment + b.count ≤ queued_in q out.moment) of.1 out.queued;
+    }
 
-  -- and then something was done at the tally words
-  pub takes_out_on : {d : DomainView} {p max : ℕ} {b : BatchView (Unit {0})} {was mid now : CpuView J} → TakesBatch d p max b was mid → now ≡ with_calls now.calls mid → IsBeginning mid.calls.seen now.calls.seen → TakesBatch d p max b was now
-  takes_out_on {d} {p} {max} {b} {was} {mid} {now} h rest since =
-      let cpu : now.cpu ≡ mid.cpu = ap (λ (x : CpuView J). x.cpu) rest in record {
-        of_processor = h.of_processor;
-        takes = subst (TakesIn (callbacks_of d) p max was.cpu (Some b)) (sym cpu) h.takes;
-        handed = subst (λ c. AreHanded b.entries c.seen) (sym cpu) h.handed;
-        moment = h.moment;
-        not_before = h.not_before;
-        not_after = begins_on h.not_after since;
-        queued = h.queued;
-      }
+-- and then something was done at the tally words
+pub takes_out_on : {d : DomainView} {p max : ℕ} {b : BatchView (Unit {0})} {was mid now : CpuView (Unit {0})} → TakesBatch d p max b was mid → now ≡ with_calls now.calls mid → IsBeginning mid.calls.seen now.calls.seen → TakesBatch d p max b was now
+takes_out_on {d} {p} {max} {b} {was} {mid} {now} h rest since =
+    let cpu : now.cpu ≡ mid.cpu = ap (λ (x : CpuView (Unit {0})). x.cpu) rest in record {
+      of_processor = h.of_processor;
+      behind = h.behind;
+      takes = subst (λ z. TakesIn (callbacks_of d) p max was.cpu was.calls (Some b) z h.behind) (sym cpu) h.takes;
+      handed = subst (λ c. AreHanded b.entries c.seen) (sym cpu) h.handed;
+      moment = h.moment;
+      not_before = h.not_before;
+      not_after = begins_on h.not_after since;
+      queued = h.queued;
+    }

@@ -59,23 +59,22 @@ sum_is count p (x ∷ xs) each =
 abbrev missed : Bool → ℕ
 missed b = if b then 0 else 1
 
-module _ {J : Type 0} where
-  -- a processor that is there is not missing
-  none_missed : (cpus : List (DomainCpu J)) (nobody : DomainCpu J) → ((k : ℕ) → k < length cpus → (get_or cpus k nobody).cpu.processor ≡ k) → (m : ℕ) → m ≤ length cpus → sum_below (λ p. if is_there p cpus then 0 else 1) m ≡ 0
-  none_missed cpus nobody order zero le = refl
-  none_missed cpus nobody order (suc m) le =
-      let before = none_missed cpus nobody order m (omega (arith, le)) in
-      let there : is_there m cpus ≡ true = list_any_at (λ c. c.cpu.processor == m) cpus m nobody (omega (arith, le)) (eq-eqb (get_or cpus m nobody).cpu.processor m (order m (omega (arith, le)))) in
-      let none : missed (is_there m cpus) ≡ 0 = ap missed there in
-      omega (arith, before, none)
+-- a processor that is there is not missing
+none_missed : (cpus : List (DomainCpu (Unit {0}))) (nobody : DomainCpu (Unit {0})) → ((k : ℕ) → k < length cpus → (get_or cpus k nobody).cpu.processor ≡ k) → (m : ℕ) → m ≤ length cpus → sum_below (λ p. if is_there p cpus then 0 else 1) m ≡ 0
+none_missed cpus nobody order zero le = refl
+none_missed cpus nobody order (suc m) le =
+    let before = none_missed cpus nobody order m (omega (arith, le)) in
+    let there : is_there m cpus ≡ true = list_any_at (λ c. c.cpu.processor == m) cpus m nobody (omega (arith, le)) (eq-eqb (get_or cpus m nobody).cpu.processor m (order m (omega (arith, le)))) in
+    let none : missed (is_there m cpus) ≡ 0 = ap missed there in
+    omega (arith, before, none)
 
-  -- the domain has as many processors as are in hand
-  processors_are : (d : DomainView) (limits : Limits) (cpus : List (DomainCpu J)) (v : View) → HaveMet d limits cpus v → d.processors ≡ length cpus
-  processors_are d limits [] v met = let some = met.all.some in absurd (omega (arith, some))
-  processors_are d limits (c ∷ cpus) v met = sym (met.all.here 0 c met.all.some).many ∙ met.all.count 0 c met.all.some
+-- the domain has as many processors as are in hand
+processors_are : (d : DomainView) (limits : Limits) (cpus : List (DomainCpu (Unit {0}))) (v : View) → HaveMet d limits cpus v → d.processors ≡ length cpus
+processors_are d limits [] v met = let some = met.all.some in absurd (omega (arith, some))
+processors_are d limits (c ∷ cpus) v met = sym (met.all.here 0 c met.all.some).many ∙ met.all.count 0 c met.all.some
 
-module _ {J : Type 0} (d : DomainView) (limits : Limits) (cpus : List (DomainCpu J)) (lay : View) (met : HaveMet d limits cpus lay) (seen : SoloView) (seen_is : seen_first d limits cpus ≡ seen) where
-  abbrev nobody : DomainCpu J
+module _ (d : DomainView) (limits : Limits) (cpus : List (DomainCpu (Unit {0}))) (lay : View) (met : HaveMet d limits cpus lay) (seen : SoloView) (seen_is : seen_first d limits cpus ≡ seen) where
+  abbrev nobody : DomainCpu (Unit {0})
   nobody = new_cpu d (bounds_of 0 limits) d.domain (record { processors = 0; nodes = 0 }) 0
 
   some : 0 < length cpus
@@ -108,8 +107,8 @@ module _ {J : Type 0} (d : DomainView) (limits : Limits) (cpus : List (DomainCpu
     seen_history : history ≡ seen.course.standing.history
     seen_history = history_is ∙ sym (ap (λ (x : SoloView). x.course.standing.history) view_is)
 
-  module _ (deeds : List (Deed J)) (of_all : AreDeedsOf d cpus deeds) where
-    abbrev counting : List (Deed J)
+  module _ (deeds : List (Deed (Unit {0}))) (of_all : AreDeedsOf d cpus deeds) where
+    abbrev counting : List (Deed (Unit {0}))
     counting = map (deed 0) (queued_loads 0 of_all.queued ++ finished_loads 0 of_all.finished)
 
     counts_nothing : CountsNothing counting
@@ -118,9 +117,9 @@ module _ {J : Type 0} (d : DomainView) (limits : Limits) (cpus : List (DomainCpu
 
     goes_by_first : GoesOnBy (length cpus) 0 met.deeds counting deeds
     goes_by_first = record {
-      since = subst (λ (s : CallSeatView J). tallies.IsBeginning s.seen deeds) (met.tally_together.seats 0 nobody some) (of_all.since 0 nobody some);
-      own = subst (λ (s : CallSeatView J). deeds_of s.processor deeds ≡ deeds_of s.processor s.seen ++ map (deed s.processor) (queued_loads 0 of_all.queued ++ finished_loads 0 of_all.finished)) (met.tally_together.seats 0 nobody some) (of_all.first nobody);
-      others = λ q lt other. subst (λ (s : CallSeatView J). deeds_of s.processor deeds ≡ deeds_of s.processor s.seen) (met.tally_together.seats q nobody lt) (of_all.others q nobody (omega (arith, other)) lt);
+      since = subst (λ (s : CallSeatView (Unit {0})). tallies.IsBeginning s.seen deeds) (met.tally_together.seats 0 nobody some) (of_all.since 0 nobody some);
+      own = subst (λ (s : CallSeatView (Unit {0})). deeds_of s.processor deeds ≡ deeds_of s.processor s.seen ++ map (deed s.processor) (queued_loads 0 of_all.queued ++ finished_loads 0 of_all.finished)) (met.tally_together.seats 0 nobody some) (of_all.first nobody);
+      others = λ q lt other. subst (λ (s : CallSeatView (Unit {0})). deeds_of s.processor deeds ≡ deeds_of s.processor s.seen) (met.tally_together.seats q nobody lt) (of_all.others q nobody (omega (arith, other)) lt);
       finishers = subst (λ n. AreFinishers n deeds) many of_all.finishers;
     }
 
@@ -142,7 +141,7 @@ module _ {J : Type 0} (d : DomainView) (limits : Limits) (cpus : List (DomainCpu
 
   -- Totals, and why it is in use
 
-  whole_is : (history : List Event) (deeds : List (Deed J)) → IsHistoryOf d cpus history → AreDeedsOf d cpus deeds → cleanup.whole_of d.processors history deeds ≡ whole_of seen.course
+  whole_is : (history : List Event) (deeds : List (Deed (Unit {0}))) → IsHistoryOf d cpus history → AreDeedsOf d cpus deeds → cleanup.whole_of d.processors history deeds ≡ whole_of seen.course
   whole_is history deeds of_all deeds_of_all = λ i. record { history = seen_history history of_all i; queued = queued_sum deeds deeds_of_all i; finished = finished_sum deeds deeds_of_all i }
 
   pub taken_down : (t : Totals) → cleanup.IsTakenDown d cpus t → IsTakenDown seen.course t
@@ -150,22 +149,22 @@ module _ {J : Type 0} (d : DomainView) (limits : Limits) (cpus : List (DomainCpu
       let same = whole_is h.history h.all h.of_all h.deeds_of_all in
       record { unused = subst IsUnused same h.unused; totals = subst (λ w. AreTotals w t) same h.totals }
 
-  pub refused_is : (cause : InUse) (dm : DomainView) (mid : List (DomainCpu J)) → cleanup.IsRefused d cpus cause dm mid → cleanup.IsInUse d cpus cause dm mid
+  pub refused_is : (cause : InUse) (dm : DomainView) (mid : List (DomainCpu (Unit {0}))) → cleanup.IsRefused d cpus cause dm mid → cleanup.IsInUse d cpus cause dm mid
   refused_is (Missing n) dm mid h = let none = all_there in let is = h.0 in let some = h.1 in absurd (omega (arith, none, is, some))
   refused_is (Sections n) dm mid h = h
   refused_is Period dm mid h = h
   refused_is (Callbacks n) dm mid h = h
 
-  pub in_use : (cause : InUse) (dm : DomainView) (mid : List (DomainCpu J)) → cleanup.IsRefused d cpus cause dm mid → IsInUse seen.course cause
+  pub in_use : (cause : InUse) (dm : DomainView) (mid : List (DomainCpu (Unit {0}))) → cleanup.IsRefused d cpus cause dm mid → IsInUse seen.course cause
   in_use cause dm mid h = let r = refused_is cause dm mid h in subst (λ w. IsCause w cause) (whole_is r.history r.all r.of_all r.deeds_of_all) r.is
 
   -- all come back
-  pub handed_back : (dm : DomainView) (mid : List (DomainCpu J)) → dm ≡ d → IsHandedBack d cpus dm mid → IsAllOf dm mid
-  handed_back dm mid same h = subst (λ (z : DomainView). IsAllOf z mid) (sym same) (all_the_same d cpus mid h.count h.same (subst (λ (z : DomainView). (k : ℕ) (c : DomainCpu J) → k < length cpus → IsOf z (get_or mid k c)) same (λ k c lt. h.here k c (let long = h.count in omega (arith, long, lt)))) met.all)
+  pub handed_back : (dm : DomainView) (mid : List (DomainCpu (Unit {0}))) → dm ≡ d → IsHandedBack d cpus dm mid → IsAllOf dm mid
+  handed_back dm mid same h = subst (λ (z : DomainView). IsAllOf z mid) (sym same) (all_the_same d cpus mid h.count h.same (subst (λ (z : DomainView). (k : ℕ) (c : DomainCpu (Unit {0})) → k < length cpus → IsOf z (get_or mid k c)) same (λ k c lt. h.here k c (let long = h.count in omega (arith, long, lt)))) met.all)
 
   -- Then they meet
 
-  module _ (history : List Event) (of_all : IsHistoryOf d cpus history) (deeds : List (Deed J)) (deeds_of_all : AreDeedsOf d cpus deeds) (mid : List (DomainCpu J)) (h : AreBack d history deeds cpus mid) (engine : IsSameEngine h.found.seat h.left.seat) (d' : DomainView) (cpus' : List (DomainCpu J)) (all : IsAllOf d' cpus') (meets : MeetsHere mid cpus') where
+  module _ (history : List Event) (of_all : IsHistoryOf d cpus history) (deeds : List (Deed (Unit {0}))) (deeds_of_all : AreDeedsOf d cpus deeds) (mid : List (DomainCpu (Unit {0}))) (h : AreBack d history deeds cpus mid) (engine : IsSameEngine h.found.seat h.left.seat) (d' : DomainView) (cpus' : List (DomainCpu (Unit {0}))) (all : IsAllOf d' cpus') (meets : MeetsHere mid cpus') where
     within : (k : ℕ) → k < length mid → k < length cpus
     within k lt = let long = h.count in omega (arith, long, lt)
 
@@ -240,11 +239,11 @@ module _ {J : Type 0} (d : DomainView) (limits : Limits) (cpus : List (DomainCpu
     mid_tally = record {
       seats = λ k c lt.
           let was = met.tally_together.seats k c (within k lt) in
-          (h.each k c (within k lt)).calls ∙ (ap (λ (s : CallSeatView J). record s { seen = deeds }) was ∙ ap (λ n. record { tallies = d.tallies; processors = n; processor = k; seen = deeds }) (sym h.count));
+          (h.each k c (within k lt)).calls ∙ (ap (λ (s : CallSeatView (Unit {0})). record s { seen = deeds }) was ∙ ap (λ n. record { tallies = d.tallies; processors = n; processor = k; seen = deeds }) (sym h.count));
       finishers = subst (λ n. AreFinishers n deeds) (many ∙ sym h.count) deeds_of_all.finishers;
     }
 
-    abbrev first : DomainCpu J
+    abbrev first : DomainCpu (Unit {0})
     first = get_or mid 0 nobody
 
     unmoved : set mid 0 first ≡ mid
@@ -263,8 +262,8 @@ module _ {J : Type 0} (d : DomainView) (limits : Limits) (cpus : List (DomainCpu
     same_tallies =
         let there : 0 < length mid = within_mid 0 some in
         let left = (all.here 0 nobody all.some).fits.tallies in
-        let is = ap (λ (s : CallSeatView J). s.tallies) ((meets.calls.each 0 nobody there).is) in
-        let was = ap (λ (s : CallSeatView J). s.tallies) (mid_tally.seats 0 nobody there) in
+        let is = ap (λ (s : CallSeatView (Unit {0})). s.tallies) ((meets.calls.each 0 nobody there).is) in
+        let was = ap (λ (s : CallSeatView (Unit {0})). s.tallies) (mid_tally.seats 0 nobody there) in
         sym left ∙ (is ∙ was)
 
     all_tally : TallyTogether d' tallies_meet.deeds cpus'

@@ -198,27 +198,26 @@ module _ (raises : List Raise) (root : value 0 raises ≡ greatest raises) where
         through_alone us u w a s' h.1 (record { seen = there; wanted = wanted_after raises root v u knows there answer.Step s }) still (seen ∙ ap (λ l. l ++ events_of a) (sym unmoved)) same,
       )
 
-module _ {J : Type 0} where
-  -- the engine of the domain was found and worked with the first processor, was left tied to it, and then all have met
-  pub record Turn : Type 1 where
-    pub d : DomainView
-    pub limits : Limits
-    pub cpus : List (DomainCpu J)
-    pub v : View
-    pub was : DomainCpu J
-    pub now : DomainCpu J
-    pub d' : DomainView
-    pub cpus' : List (DomainCpu J)
-    pub met : HaveMet d limits cpus v
-    pub is : was ≡ get_or cpus 0 was
-    pub all : IsAllOf d' cpus'
-    pub meets : MeetsHere (set cpus 0 now) cpus'
-    pub work : View → View → Type 0
-    pub lends : Lends work was now
-    pub loaded : GoesOn [] was.needs lends.worked.needs
+-- the engine of the domain was found and worked with the first processor, was left tied to it, and then all have met
+pub record Turn : Type 1 where
+  pub d : DomainView
+  pub limits : Limits
+  pub cpus : List (DomainCpu (Unit {0}))
+  pub v : View
+  pub was : DomainCpu (Unit {0})
+  pub now : DomainCpu (Unit {0})
+  pub d' : DomainView
+  pub cpus' : List (DomainCpu (Unit {0}))
+  pub met : HaveMet d limits cpus v
+  pub is : was ≡ get_or cpus 0 was
+  pub all : IsAllOf d' cpus'
+  pub meets : MeetsHere (set cpus 0 now) cpus'
+  pub work : View → View → Type 0
+  pub lends : Lends work was now
+  pub loaded : GoesOn [] was.needs lends.worked.needs
 
-module _ {J : Type 0} (t : Turn) where
-  abbrev nobody : DomainCpu J
+module _ (t : Turn) where
+  abbrev nobody : DomainCpu (Unit {0})
   nobody = t.was
 
   -- the engine as it worked, with the processor's seat at the tree
@@ -237,28 +236,28 @@ module _ {J : Type 0} (t : Turn) where
   within : 0 < length (set t.cpus 0 t.now)
   within = let inside = some in omega (arith, long, inside)
 
-  here : (d : DomainCpu J) → get_or (set t.cpus 0 t.now) 0 d ≡ t.now
+  here : (d : DomainCpu (Unit {0})) → get_or (set t.cpus 0 t.now) 0 d ≡ t.now
   here d = get_or-set_same t.cpus 0 t.now d some
 
-  first : (d : DomainCpu J) → get_or t.cpus 0 d ≡ t.was
+  first : (d : DomainCpu (Unit {0})) → get_or t.cpus 0 d ≡ t.was
   first d = get_or_default t.cpus 0 d t.was some ∙ sym t.is
 
-  other : (k : ℕ) (d : DomainCpu J) → 0 < k → get_or (set t.cpus 0 t.now) k d ≡ get_or t.cpus k d
+  other : (k : ℕ) (d : DomainCpu (Unit {0})) → 0 < k → get_or (set t.cpus 0 t.now) k d ≡ get_or t.cpus k d
   other k d positive = get_or-set_other t.cpus 0 k t.now d (λ e. omega (arith, e, positive))
 
   -- The turns
 
   turn : TakesTurn (get_or t.cpus 0 nobody).turn t.lends.found t.lends.left (get_or (set t.cpus 0 t.now) 0 nobody).turn
-  turn = subst (λ (z : DomainCpu J × DomainCpu J). TakesTurn z.0.turn t.lends.found t.lends.left z.1.turn) (λ i. (sym (first nobody) i, sym (here nobody) i)) t.lends.turn
+  turn = subst (λ (z : DomainCpu (Unit {0}) × DomainCpu (Unit {0})). TakesTurn z.0.turn t.lends.found t.lends.left z.1.turn) (λ i. (sym (first nobody) i, sym (here nobody) i)) t.lends.turn
 
   found_is : t.lends.found ≡ t.v
-  found_is = turn_found t.met.swaps t.cpus (set t.cpus 0 t.now) t.v t.met.turn_together some long (λ k d positive lt. ap (λ (z : DomainCpu J). z.turn) (other k d positive)) t.cpus' t.meets.found t.meets.left t.meets.turns t.meets.count nobody t.lends.found t.lends.left turn
+  found_is = turn_found t.met.swaps t.cpus (set t.cpus 0 t.now) t.v t.met.turn_together some long (λ k d positive lt. ap (λ (z : DomainCpu (Unit {0})). z.turn) (other k d positive)) t.cpus' t.meets.found t.meets.left t.meets.turns t.meets.count nobody t.lends.found t.lends.left turn
 
   meeting_is : t.meets.found ≡ t.lends.left
-  meeting_is = meeting_found t.met.swaps t.cpus (set t.cpus 0 t.now) t.v t.met.turn_together some long (λ k d positive lt. ap (λ (z : DomainCpu J). z.turn) (other k d positive)) t.cpus' t.meets.found t.meets.left t.meets.turns t.meets.count nobody t.lends.found t.lends.left turn
+  meeting_is = meeting_found t.met.swaps t.cpus (set t.cpus 0 t.now) t.v t.met.turn_together some long (λ k d positive lt. ap (λ (z : DomainCpu (Unit {0})). z.turn) (other k d positive)) t.cpus' t.meets.found t.meets.left t.meets.turns t.meets.count nobody t.lends.found t.lends.left turn
 
   turned : TurnTogether t.meets.turns.swaps t.cpus' t.meets.left
-  turned = turn_turned t.met.swaps t.cpus (set t.cpus 0 t.now) t.v t.met.turn_together some long (λ k d positive lt. ap (λ (z : DomainCpu J). z.turn) (other k d positive)) t.cpus' t.meets.found t.meets.left t.meets.turns t.meets.count nobody t.lends.found t.lends.left turn
+  turned = turn_turned t.met.swaps t.cpus (set t.cpus 0 t.now) t.v t.met.turn_together some long (λ k d positive lt. ap (λ (z : DomainCpu (Unit {0})). z.turn) (other k d positive)) t.cpus' t.meets.found t.meets.left t.meets.turns t.meets.count nobody t.lends.found t.lends.left turn
 
   pub works : t.work v w
   works = subst (λ (z : View). t.work (with_needs t.was.needs z) w) found_is t.lends.works
@@ -319,14 +318,14 @@ module _ {J : Type 0} (t : Turn) where
   root = t.met.ask_together.root
 
   was_seen : t.was.needs.seen ≡ raises
-  was_seen = ap (λ (z : DomainCpu J). z.needs.seen) t.is ∙ t.met.ask_together.seen 0 nobody some
+  was_seen = ap (λ (z : DomainCpu (Unit {0})). z.needs.seen) t.is ∙ t.met.ask_together.seen 0 nobody some
 
   known : Knows raises v
   known = record { seen = was_seen; wanted = λ resting half. let wanted = t.met.wanted resting half in record { need = wanted.need; above = wanted.above } }
 
   still : w.needs.seen ≡ raises
   still =
-      let into : IsBeginningAtTree w.needs.seen t.meets.needs.raises = subst (λ (l : List Raise). IsBeginningAtTree l t.meets.needs.raises) (ap (λ (z : DomainCpu J). z.needs.seen) (here nobody) ∙ ap (λ (z : FunnelView). z.seen) t.lends.needs) (t.meets.needs.each 0 nobody within).since in
+      let into : IsBeginningAtTree w.needs.seen t.meets.needs.raises = subst (λ (l : List Raise). IsBeginningAtTree l t.meets.needs.raises) (ap (λ (z : DomainCpu (Unit {0})). z.needs.seen) (here nobody) ∙ ap (λ (z : FunnelView). z.seen) t.lends.needs) (t.meets.needs.each 0 nobody within).since in
       squeezed raises w.needs.seen t.meets.needs.raises (subst (λ l. IsBeginningAtTree l w.needs.seen) was_seen t.loaded.since) into raises_are
 
   abbrev pub asked_before : ℕ
@@ -346,8 +345,8 @@ module _ {J : Type 0} (t : Turn) where
   same_tallies : t.d'.tallies ≡ t.d.tallies
   same_tallies =
       let left = (t.all.here 0 nobody t.all.some).fits.tallies in
-      let met = ap (λ s. s.tallies) (t.meets.calls.each 0 nobody within).is ∙ ap (λ (z : DomainCpu J). z.calls.tallies) (here nobody) in
-      let was = ap (λ (z : DomainCpu J). z.calls.tallies) t.is ∙ (t.met.all.here 0 t.was some).fits.tallies in
+      let met = ap (λ s. s.tallies) (t.meets.calls.each 0 nobody within).is ∙ ap (λ (z : DomainCpu (Unit {0})). z.calls.tallies) (here nobody) in
+      let was = ap (λ (z : DomainCpu (Unit {0})). z.calls.tallies) t.is ∙ (t.met.all.here 0 t.was some).fits.tallies in
       sym left ∙ (met ∙ (calls_stay.same.0 ∙ was))
 
   all_tally : TallyTogether t.d' t.meets.calls.deeds t.cpus'
@@ -388,12 +387,12 @@ module _ {J : Type 0} (t : Turn) where
         own_mine : (k : ℕ) → made_by (Processor k) t.v.seat.seen ≡ made_by (Processor k) (t.v.seat.seen ++ act)
         own_mine k = sym (made_by_append (Processor k) t.v.seat.seen act ∙ (ap (λ l. made_by (Processor k) t.v.seat.seen ++ l) (own.no_processors k) ∙ append-nil (made_by (Processor k) t.v.seat.seen)))
 
-        by : (k : ℕ) (d : DomainCpu J) → k < length t.cpus → Holds t.limits t.lends.left.seat.domain t.lends.left.seat.processors (t.v.seat.seen ++ act) k (get_or (set t.cpus 0 t.now) k d).cpu
+        by : (k : ℕ) (d : DomainCpu (Unit {0})) → k < length t.cpus → Holds t.limits t.lends.left.seat.domain t.lends.left.seat.processors (t.v.seat.seen ++ act) k (get_or (set t.cpus 0 t.now) k d).cpu
         by zero d lt =
             let held = t.met.together.hold.each 0 d lt in
             let accepts = ties.accepts in
-            let was = ap (λ (z : DomainCpu J). z.cpu) (sym (first d)) in
-            subst (λ (z : DomainCpu J). Holds t.limits t.lends.left.seat.domain t.lends.left.seat.processors (t.v.seat.seen ++ act) 0 z.cpu) (sym (here d)) (record {
+            let was = ap (λ (z : DomainCpu (Unit {0})). z.cpu) (sym (first d)) in
+            subst (λ (z : DomainCpu (Unit {0})). Holds t.limits t.lends.left.seat.domain t.lends.left.seat.processors (t.v.seat.seen ++ act) 0 z.cpu) (sym (here d)) (record {
               domain = accepts.same.0 ∙ (ap (λ c. c.domain) was ∙ (held.domain ∙ sym table));
               processors_are = accepts.same.1 ∙ (ap (λ c. c.processors) was ∙ (held.processors_are ∙ sym processors));
               sections = accepts.same.2 ∙ (ap (λ c. c.sections) was ∙ held.sections);
@@ -402,7 +401,7 @@ module _ {J : Type 0} (t : Turn) where
             })
         by (suc k) d lt =
             let held = t.met.together.hold.each (suc k) d lt in
-            subst (λ (z : DomainCpu J). Holds t.limits t.lends.left.seat.domain t.lends.left.seat.processors (t.v.seat.seen ++ act) (suc k) z.cpu) (sym (get_or-set_other t.cpus 0 (suc k) t.now d (λ e. omega (arith, e)))) (record {
+            subst (λ (z : DomainCpu (Unit {0})). Holds t.limits t.lends.left.seat.domain t.lends.left.seat.processors (t.v.seat.seen ++ act) (suc k) z.cpu) (sym (get_or-set_other t.cpus 0 (suc k) t.now d (λ e. omega (arith, e)))) (record {
               domain = held.domain ∙ sym table;
               processors_are = held.processors_are ∙ sym processors;
               sections = held.sections;
@@ -544,39 +543,37 @@ unchanged d d' same = subst (IsSameDomain d) (sym same) (refl, refl, refl, refl,
 
 -- Each call that drives the engine leaves the processor what it was
 
-module _ {J : Type 0} where
-  pub lent_still : (work : View → View → Type 0) (d : DomainView) (was now : DomainCpu J) (h : Lends work was now) → GoesOn [] was.needs h.worked.needs → IsOf d now → IsStill d was now
-  lent_still work d was now h on is_of = record {
-    is_of = is_of;
-    cpu = h.ties.accepts.same;
-    needs = subst (λ (z : FunnelView). IsSameSeat was.needs z) (sym h.needs) on.same;
-  }
+pub lent_still : (work : View → View → Type 0) (d : DomainView) (was now : DomainCpu (Unit {0})) (h : Lends work was now) → GoesOn [] was.needs h.worked.needs → IsOf d now → IsStill d was now
+lent_still work d was now h on is_of = record {
+  is_of = is_of;
+  cpu = h.ties.accepts.same;
+  needs = subst (λ (z : FunnelView). IsSameSeat was.needs z) (sym h.needs) on.same;
+}
 
-  pub stepped_still : (d : DomainView) (was now : DomainCpu J) (r : Result Progress AdvanceRefusal) → MatchResult r (λ a. StepsIn was a now) (λ refusal. IsRefused was refusal now) → IsOf d now → IsStill d was now
-  stepped_still d was now (Ok a) h is_of = lent_still _ d was now h (loaded_goes_on (with_needs was.needs h.found) h.worked h.works.needs) is_of
-  stepped_still d was now (Err advance.Busy) h is_of = absurd h
-  stepped_still d was now (Err advance.Exhausted) h is_of = lent_still _ d was now h (exhausted_goes_on (with_needs was.needs h.found) h.worked h.works) is_of
+pub stepped_still : (d : DomainView) (was now : DomainCpu (Unit {0})) (r : Result Progress AdvanceRefusal) → MatchResult r (λ a. StepsIn was a now) (λ refusal. IsRefused was refusal now) → IsOf d now → IsStill d was now
+stepped_still d was now (Ok a) h is_of = lent_still _ d was now h (loaded_goes_on (with_needs was.needs h.found) h.worked h.works.needs) is_of
+stepped_still d was now (Err advance.Busy) h is_of = absurd h
+stepped_still d was now (Err advance.Exhausted) h is_of = lent_still _ d was now h (exhausted_goes_on (with_needs was.needs h.found) h.worked h.works) is_of
 
-  pub advanced_still : (d : DomainView) (was now : DomainCpu J) (r : Result Progress AdvanceRefusal) → MatchResult r (λ a. AdvancesIn was a now) (λ refusal. IsRefused was refusal now) → IsOf d now → IsStill d was now
-  advanced_still d was now (Ok a) h is_of = lent_still _ d was now h (loaded_goes_on (with_needs was.needs h.found) h.worked h.works.needs) is_of
-  advanced_still d was now (Err advance.Busy) h is_of = absurd h
-  advanced_still d was now (Err advance.Exhausted) h is_of = lent_still _ d was now h (exhausted_goes_on (with_needs was.needs h.found) h.worked h.works) is_of
+pub advanced_still : (d : DomainView) (was now : DomainCpu (Unit {0})) (r : Result Progress AdvanceRefusal) → MatchResult r (λ a. AdvancesIn was a now) (λ refusal. IsRefused was refusal now) → IsOf d now → IsStill d was now
+advanced_still d was now (Ok a) h is_of = lent_still _ d was now h (loaded_goes_on (with_needs was.needs h.found) h.worked h.works.needs) is_of
+advanced_still d was now (Err advance.Busy) h is_of = absurd h
+advanced_still d was now (Err advance.Exhausted) h is_of = lent_still _ d was now h (exhausted_goes_on (with_needs was.needs h.found) h.worked h.works) is_of
 
 pub no_start_goes_on : (v w : View) → w ≡ v → GoesOn [] v.needs w.needs
 no_start_goes_on v w same = stays v.needs w.needs (ap (λ (x : View). x.needs) same)
 
-module _ {J : Type 0} where
-  pub started_still : (d : DomainView) (was now : DomainCpu J) (r : Result ℕ StartRefusal) → MatchResult r (λ n. StartsIn was n now) (λ refusal. IsNotStarted was refusal now) → IsOf d now → IsStill d was now
-  started_still d was now (Ok n) h is_of = lent_still _ d was now h (stays was.needs h.worked.needs h.works.needs) is_of
-  started_still d was now (Err start.Busy) h is_of = absurd h
-  started_still d was now (Err start.Running) h is_of = lent_still _ d was now h (no_start_goes_on (with_needs was.needs h.found) h.worked h.works.1) is_of
-  started_still d was now (Err start.Exhausted) h is_of = lent_still _ d was now h (no_start_goes_on (with_needs was.needs h.found) h.worked h.works.1) is_of
+pub started_still : (d : DomainView) (was now : DomainCpu (Unit {0})) (r : Result ℕ StartRefusal) → MatchResult r (λ n. StartsIn was n now) (λ refusal. IsNotStarted was refusal now) → IsOf d now → IsStill d was now
+started_still d was now (Ok n) h is_of = lent_still _ d was now h (stays was.needs h.worked.needs h.works.needs) is_of
+started_still d was now (Err start.Busy) h is_of = absurd h
+started_still d was now (Err start.Running) h is_of = lent_still _ d was now h (no_start_goes_on (with_needs was.needs h.found) h.worked h.works.1) is_of
+started_still d was now (Err start.Exhausted) h is_of = lent_still _ d was now h (no_start_goes_on (with_needs was.needs h.found) h.worked h.works.1) is_of
 
-  pub load_still : (d : DomainView) (was now : DomainCpu J) (need : ℕ) → LoadsNeed was need now → IsOf d now → IsStill d was now
-  load_still d was now need h is_of = record { is_of = is_of; cpu = subst (λ (z : CpuView). IsSameCpu was.cpu z) (sym (ap (λ (x : DomainCpu J). x.cpu) h.rest)) (refl, refl, refl, refl); needs = h.load.same }
+pub load_still : (d : DomainView) (was now : DomainCpu (Unit {0})) (need : ℕ) → LoadsNeed was need now → IsOf d now → IsStill d was now
+load_still d was now need h is_of = record { is_of = is_of; cpu = subst (λ (z : CpuView). IsSameCpu was.cpu z) (sym (ap (λ (x : DomainCpu (Unit {0})). x.cpu) h.rest)) (refl, refl, refl, refl); needs = h.load.same }
 
-  pub poll_still : (d : DomainView) (was now : DomainCpu J) (cookie : CookieView) → StartsPoll was cookie now → IsOf d now → IsStill d was now
-  poll_still d was now cookie h is_of = record { is_of = is_of; cpu = h.gives.notes.adds.same; needs = h.asks.same }
+pub poll_still : (d : DomainView) (was now : DomainCpu (Unit {0})) (cookie : CookieView) → StartsPoll was cookie now → IsOf d now → IsStill d was now
+poll_still d was now cookie h is_of = record { is_of = is_of; cpu = h.gives.notes.adds.same; needs = h.asks.same }
 
 -- What the calls say: each is a turn
 
@@ -584,25 +581,24 @@ not_started : (v : View) (c : Course) (refusal : scan.StartRefusal) → c.standi
 not_started v c refusal_of.Running same h = subst (λ (z : Standing). IsRunning z.history) (sym same) h
 not_started v c refusal_of.Exhausted same h = subst engine.IsOutOfPeriods (sym same) h
 
-module _ {J : Type 0} where
-  pub not_busy : (was now : DomainCpu J) (P : Progress → Type 0) (r : Result Progress AdvanceRefusal) → MatchResult r P (λ refusal. IsRefused was refusal now) → IsNotBusy r
-  not_busy was now P (Ok a) h = tt
-  not_busy was now P (Err advance.Busy) h = absurd h
-  not_busy was now P (Err advance.Exhausted) h = tt
+pub not_busy : (was now : DomainCpu (Unit {0})) (P : Progress → Type 0) (r : Result Progress AdvanceRefusal) → MatchResult r P (λ refusal. IsRefused was refusal now) → IsNotBusy r
+not_busy was now P (Ok a) h = tt
+not_busy was now P (Err advance.Busy) h = absurd h
+not_busy was now P (Err advance.Exhausted) h = tt
 
-  pub none_busy : (was now : DomainCpu J) (P : ℕ → Type 0) (r : Result ℕ StartRefusal) → MatchResult r P (λ refusal. IsNotStarted was refusal now) → NoneIsBusy r
-  none_busy was now P (Ok n) h = tt
-  none_busy was now P (Err start.Busy) h = absurd h
-  none_busy was now P (Err start.Running) h = tt
-  none_busy was now P (Err start.Exhausted) h = tt
+pub none_busy : (was now : DomainCpu (Unit {0})) (P : ℕ → Type 0) (r : Result ℕ StartRefusal) → MatchResult r P (λ refusal. IsNotStarted was refusal now) → NoneIsBusy r
+none_busy was now P (Ok n) h = tt
+none_busy was now P (Err start.Busy) h = absurd h
+none_busy was now P (Err start.Running) h = tt
+none_busy was now P (Err start.Exhausted) h = tt
 
-  -- all that a call says: the domain is in one hand again, it is the same, and this
-  pub record Says (d' : DomainView) (limits : Limits) (cpus' : List (DomainCpu J)) (left : View) (seen seen' : SoloView) (it : Type 0) : Type 0 where
-    pub met : HaveMet d' limits cpus' left
-    pub same : IsSameDomain seen seen'
-    pub what : it
+-- all that a call says: the domain is in one hand again, it is the same, and this
+pub record Says (d' : DomainView) (limits : Limits) (cpus' : List (DomainCpu (Unit {0}))) (left : View) (seen seen' : SoloView) (it : Type 0) : Type 0 where
+  pub met : HaveMet d' limits cpus' left
+  pub same : IsSameDomain seen seen'
+  pub what : it
 
-module _ {J : Type 0} (d : DomainView) (limits : Limits) (cpus : List (DomainCpu J)) (lay : View) (was now : DomainCpu J) (d' : DomainView) (cpus' : List (DomainCpu J)) (met : HaveMet d limits cpus lay) (is : was ≡ get_or cpus 0 was) (all : IsAllOf d' cpus') (meets : MeetsHere (set cpus 0 now) cpus')
+module _ (d : DomainView) (limits : Limits) (cpus : List (DomainCpu (Unit {0}))) (lay : View) (was now : DomainCpu (Unit {0})) (d' : DomainView) (cpus' : List (DomainCpu (Unit {0}))) (met : HaveMet d limits cpus lay) (is : was ≡ get_or cpus 0 was) (all : IsAllOf d' cpus') (meets : MeetsHere (set cpus 0 now) cpus')
     (seen : SoloView) (seen_is : seen_first d limits cpus ≡ seen) where
   abbrev a_turn : (work : View → View → Type 0) (h : Lends work was now) → GoesOn [] was.needs h.worked.needs → Turn
   a_turn work h on = record { d = d; limits = limits; cpus = cpus; v = lay; was = was; now = now; d' = d'; cpus' = cpus'; met = met; is = is; all = all; meets = meets; work = work; lends = h; loaded = on }

@@ -17,9 +17,10 @@ use Rattle.calls.specs.declared.refusals.CallRefusal.TheVariants as calling
 use Rattle.calls.specs.declared.refusals.TakeRefusal.{TakeRefusal}
 use Rattle.calls.specs.Tallies.{queued_in, finished_in}
 use Rattle.calls.specs.Views.{CallSeatView, ListView, BatchView}
-use Rattle.calls.specs.Calls.{IsHanded, AreHanded, IsTaken, IsListOf}
+use Rattle.calls.specs.Calls.{IsHanded, AreHanded, IsTaken, FindsLensIn}
 use Rattle.calls.proofs.CallerLemmas.{queued_later, finished_later}
-use Rattle.segs.specs.MarkedList.{count_done, lens, numbers}
+use Rattle.segs.specs.MarkedList.{count_done}
+use Rattle.calls.specs.Lines.{readied}
 use Rattle.domain.specs.Views.{DomainView, CpuView, callbacks_of}
 use Rattle.domain.specs.Waiting.{LoadsNeed}
 use Rattle.domain.specs.Calling.{CallsIn, RefusesCall}
@@ -36,7 +37,7 @@ use Rattle.solo.specs.Taking.{TakesBatch, RunsBatch, asks_how_far_and_finishes}
 use Rattle.solo.specs.Settling.{View, HaveMet}
 use Rattle.solo.specs.Insides.{seen_first}
 use Rattle.solo.proofs.Hand.{now_is, own_table}
-use Rattle.solo.proofs.Meeting.{Hand, s', deeds_were, queued_were, queued_found, finished_were, finished_found, queued_now, seen_by_all, seen_now, tallies_are, reaches_were, changes_are, root_is, does}
+use Rattle.solo.proofs.Meeting.{Hand, s', deeds_were, queued_were, queued_found, finished_were, finished_found, queued_now, finished_now, seen_by_all, seen_now, tallies_are, reaches_were, changes_are, root_is, does}
 use Rattle.solo.proofs.Called.{Says, says, still}
 
 -- How far the grace periods have come
@@ -70,7 +71,7 @@ batch_ready max done far now l l' (e ∷ es) b is many all handed =
       record { some = omega (arith, counted); few = omega (arith, counted, many); most = omega (arith, counted, many); done = all; handed = handed },
     )
 
-module _ {J : Type 0} (t : Hand) where
+module _ (t : Hand) where
   -- the root was loaded
   pub need_says : (need : ℕ) → LoadsNeed t.was need t.now → ActsAs loads t.was t.now → Says t ((s' t ≡ t.s) × (need ≡ t.s.course.asked))
   need_says need h did = says t loads did _ (still t did, root_is t loads did need h.load)
@@ -79,20 +80,20 @@ module _ {J : Type 0} (t : Hand) where
 
   -- what the seat knew of its own jobs
   counted : queued_in t.was.calls.processor t.was.calls.seen ≡ get_or t.s.course.queued t.p 0
-  counted = ap (λ (s : CallSeatView J). queued_in s.processor s.seen) (deeds_were t) ∙ sym (queued_were t t.p t.inside)
+  counted = ap (λ (s : CallSeatView (Unit {0})). queued_in s.processor s.seen) (deeds_were t) ∙ sym (queued_were t t.p t.inside)
 
-  module _ {J : Type 0} (job : J) where
+  module _ (job : Unit {0}) where
     abbrev IsAnswered : Result Queued CallRefusal → Type 0
     IsAnswered told = MatchResult told (λ q. Queues t.p q t.s.course (s' t).course) (λ why. QueuesNone t.p why t.s.course (s' t).course)
 
-    queued_says : (r : Receipt J) → CallsIn t.d t.was job r t.now → ActsAs (asks_for r.cookie.number 1) t.was t.now → Says t (Queues t.p (record { k = r.k; cookie = r.cookie.number }) t.s.course (s' t).course)
+    queued_says : (r : Receipt (Unit {0})) → CallsIn t.d t.was job r t.now → ActsAs (asks_for r.cookie.number 1) t.was t.now → Says t (Queues t.p (record { k = r.k; cookie = r.cookie.number }) t.s.course (s' t).course)
     queued_says r h did = says t (asks_for r.cookie.number 1) did _ (record { number = queued_found t t.p t.inside ∙ ap Some (sym (h.queues.queues.counted ∙ counted)); queues = does t (asks_for r.cookie.number 1) did })
 
-    refused_says : (refusal : CallRefusal) (j : J) → RefusesCall t.d t.was job (j, refusal) t.now → domain.QueuesNone refusal t.was t.now → Says t (QueuesNone t.p refusal t.s.course (s' t).course)
+    refused_says : (refusal : CallRefusal) (j : Unit {0}) → RefusesCall t.d t.was job (j, refusal) t.now → domain.QueuesNone refusal t.was t.now → Says t (QueuesNone t.p refusal t.s.course (s' t).course)
     refused_says calling.Exhausted j h did = says t loads did _ (queued_found t t.p t.inside ∙ ap Some (sym counted ∙ h.refuses.refuses.cause.0), (does t loads did).come)
     refused_says calling.Memory j h did = says t (notes did.0) did.1 _ (did.0, does t (notes did.0) did.1)
 
-    pub call_says : (r : Result (Receipt J) (J × CallRefusal)) → MatchResult r (λ r. CallsIn t.d t.was job r t.now) (λ refused. RefusesCall t.d t.was job refused t.now)
+    pub call_says : (r : Result (Receipt (Unit {0})) (Unit {0} × CallRefusal)) → MatchResult r (λ r. CallsIn t.d t.was job r t.now) (λ refused. RefusesCall t.d t.was job refused t.now)
         → MatchResult r (λ r. ActsAs (asks_for r.cookie.number 1) t.was t.now) (λ refused. domain.QueuesNone refused.1 t.was t.now) → (told : Result Queued CallRefusal) → IsQueuedAs r told → Says t (IsAnswered told)
     call_says (Ok r) h did told same = subst (λ x. Says t (IsAnswered x)) (sym same) (queued_says r h did)
     call_says (Err refused) h did told same = subst (λ x. Says t (IsAnswered x)) (sym same) (refused_says refused.1 refused.0 h did)
@@ -111,20 +112,20 @@ module _ {J : Type 0} (t : Hand) where
 
     all_done : All (λ (e : Entry (Unit {0})). e.cookie.number ≤ far) b.entries
     all_done =
-        let asks = h.takes.takes.asks in
-        let number : 4 * periods_ended h.takes.takes.number ≡ far = ap (λ n. 4 * periods_ended n) asks.current ∙ reached_is t.now.cpu.changes (changes_are t what did) in
+        let asks = h.takes.takes.gives.asks in
+        let number : 4 * periods_ended h.takes.takes.gives.number ≡ far = ap (λ n. 4 * periods_ended n) asks.current ∙ reached_is t.now.cpu.changes (changes_are t what did) in
         All-weaker (λ (e : Entry (Unit {0})). IsHanded e.cookie.number e.cookie.seen t.now.cpu.seen) (λ (e : Entry (Unit {0})). e.cookie.number ≤ far)
-        (λ e it. subst (λ n. e.cookie.number ≤ n) number (far_enough (4 * periods_ended h.takes.takes.number) t.now.cpu.seen asks.adds.before (Processor t.was.cpu.processor) asks.adds.seen e it)) b.entries h.handed
+        (λ e it. subst (λ n. e.cookie.number ≤ n) number (far_enough (4 * periods_ended h.takes.takes.gives.number) t.now.cpu.seen asks.adds.before (Processor t.was.cpu.processor) asks.adds.seen e it)) b.entries h.handed
 
     are_ready : (b.count ≡ length b.entries) × AreReady most far (s' t).course.standing.history b.entries
     are_ready =
         let x = h.takes in
-        batch_ready most (count_done x.takes.moved) far (s' t).course.standing.history x.list x.list' x.takes.gone b x.takes.taken_is x.takes.many all_done (subst (AreHanded b.entries) (seen_now t what did) h.handed)
+        batch_ready most (count_done (readied x.takes.gives.number x.list.entries)) far (s' t).course.standing.history x.list x.list' x.takes.gone b x.takes.taken_is x.takes.gives.many all_done (subst (AreHanded b.entries) (seen_now t what did) h.handed)
 
     are_out : (what t.p).queued ≡ 0 → AreOut t.p b.count t.s.course
     are_out none =
         let low = finished_later t.p h.not_before in
-        let old = ap (λ (s : CallSeatView J). finished_in t.p s.seen) (deeds_were t) in
+        let old = ap (λ (s : CallSeatView (Unit {0})). finished_in t.p s.seen) (deeds_were t) in
         let was = finished_were t t.p t.inside in
         let later = queued_later t.p h.not_after in
         let met = queued_later t.p (seen_by_all t what did) in
@@ -181,8 +182,28 @@ module _ {J : Type 0} (t : Hand) where
     finishes_are = subst (λ q. Does q (finishes owner count) t.s.course (s' t).course) (sym at) (does t (finishes owner count) did);
   })
 
-module _ {J : Type 0} where
-  -- what a list of the processor tells
-  pub lens_says : {E : Type 0} {d : DomainView} {limits : Limits} {cpus : List (CpuView J)} {v : View} {s : SoloView} (met : HaveMet d limits cpus v) → seen_first d limits cpus ≡ s → (p : ℕ) (told : Result (List ℕ × List ℕ) E)
-      → ((l : ListView (Unit {0})) × IsListOf (callbacks_of d) p l × (told ≡ Ok (lens l.entries, numbers l.entries))) → TellsLens s p told
-  lens_says {E} {d} {limits} {cpus} {v} {s} met seen p told h = (h.0, h.1 ∙ (λ i. record { domain = sym (own_table met seen) i; tallies = sym (ap (λ (x : SoloView). x.tallies) (now_is d limits cpus v met s seen)) i; processor = p }), h.2)
+module _ (t : Hand) (did : ActsAs loads t.was t.now) where
+  -- what was found is of just what was done
+  found_lens : (found : List ℕ × List ℕ) → FindsLensIn t.p t.was.calls found t.now.calls → TellsLens t.s t.p found
+  found_lens found h =
+      let seen : t.was.calls.seen ≡ t.met.deeds = ap (λ (s : CallSeatView (Unit {0})). s.seen) (deeds_were t) in
+      let queued_low = queued_later t.p h.covers.since in
+      let queued_up = queued_later t.p (seen_by_all t loads did) in
+      let queued_end = queued_now t loads did t.p t.inside in
+      let queued_old = ap (queued_in t.p) seen in
+      let queued_was = queued_were t t.p t.inside in
+      let finished_low = finished_later t.p h.covers.since in
+      let finished_up = finished_later t.p (seen_by_all t loads did) in
+      let finished_end = finished_now t loads did t.p t.inside in
+      let finished_old = ap (finished_in t.p) seen in
+      let finished_was = finished_were t t.p t.inside in record {
+        all = t.now.calls.seen;
+        could = h.covers.loads;
+        queued = omega (arith, queued_low, queued_up, queued_end, queued_old, queued_was);
+        finished = omega (arith, finished_low, finished_up, finished_end, finished_old, finished_was);
+        told_is = h.found_is;
+      }
+
+  pub lens_says : {E : Type 0} (r : Result (List ℕ × List ℕ) E) → IfOk r (λ found. FindsLensIn t.p t.was.calls found t.now.calls) → Says t ((s' t ≡ t.s) × IfOk r (TellsLens t.s t.p))
+  lens_says (Ok found) h = says t loads did _ (still t did, found_lens found h)
+  lens_says (Err e) h = says t loads did _ (still t did, tt)

@@ -73,31 +73,30 @@ abbrev number_of : Holder → ℕ
 number_of (holder.Processor q) = q
 number_of holder.Engine = 0
 
-module _ {J : Type 0} where
-  -- the domain had come so far, and all had met; processor p was called, and all have met again
-  pub record Hand : Type 0 where
-    pub d : DomainView
-    pub limits : Limits
-    pub cpus : List (CpuView J)
-    pub v : View
-    pub s : SoloView
-    pub p : ℕ
-    pub was : CpuView J
-    pub now : CpuView J
-    pub d' : DomainView
-    pub cpus' : List (CpuView J)
-    pub met : HaveMet d limits cpus v
-    pub seen : seen_first d limits cpus ≡ s
-    pub inside : p < length cpus
-    pub is : was ≡ get_or cpus p was
-    pub all : IsAllOf d' cpus'
-    pub meets : MeetsHere (set cpus p now) cpus'
+-- the domain had come so far, and all had met; processor p was called, and all have met again
+pub record Hand : Type 0 where
+  pub d : DomainView
+  pub limits : Limits
+  pub cpus : List (CpuView (Unit {0}))
+  pub v : View
+  pub s : SoloView
+  pub p : ℕ
+  pub was : CpuView (Unit {0})
+  pub now : CpuView (Unit {0})
+  pub d' : DomainView
+  pub cpus' : List (CpuView (Unit {0}))
+  pub met : HaveMet d limits cpus v
+  pub seen : seen_first d limits cpus ≡ s
+  pub inside : p < length cpus
+  pub is : was ≡ get_or cpus p was
+  pub all : IsAllOf d' cpus'
+  pub meets : MeetsHere (set cpus p now) cpus'
 
-  abbrev pub hand_of : {d : DomainView} {limits : Limits} {cpus : List (CpuView J)} {v : View} {s : SoloView} {was : CpuView J} {d' : DomainView} {cpus' : List (CpuView J)} (p : ℕ) (now : CpuView J)
-      → HaveMet d limits cpus v → seen_first d limits cpus ≡ s → p < s.course.standing.processors → was ≡ get_or cpus p was → IsAllOf d' cpus' → MeetsHere (set cpus p now) cpus' → Hand
-  hand_of {d} {limits} {cpus} {v} {s} {was} {d'} {cpus'} p now met seen small is all meets = record { d = d; limits = limits; cpus = cpus; v = v; s = s; p = p; was = was; now = now; d' = d'; cpus' = cpus'; met = met; seen = seen; inside = is_inside d limits cpus v met s seen p small; is = is; all = all; meets = meets }
+abbrev pub hand_of : {d : DomainView} {limits : Limits} {cpus : List (CpuView (Unit {0}))} {v : View} {s : SoloView} {was : CpuView (Unit {0})} {d' : DomainView} {cpus' : List (CpuView (Unit {0}))} (p : ℕ) (now : CpuView (Unit {0}))
+    → HaveMet d limits cpus v → seen_first d limits cpus ≡ s → p < s.course.standing.processors → was ≡ get_or cpus p was → IsAllOf d' cpus' → MeetsHere (set cpus p now) cpus' → Hand
+hand_of {d} {limits} {cpus} {v} {s} {was} {d'} {cpus'} p now met seen small is all meets = record { d = d; limits = limits; cpus = cpus; v = v; s = s; p = p; was = was; now = now; d' = d'; cpus' = cpus'; met = met; seen = seen; inside = is_inside d limits cpus v met s seen p small; is = is; all = all; meets = meets }
 
-module _ {J : Type 0} (t : Hand) where
+module _ (t : Hand) where
   abbrev pub s' : SoloView
   s' = seen_first t.d' t.limits t.cpus'
 
@@ -116,13 +115,13 @@ module _ {J : Type 0} (t : Hand) where
   tallies_are = sym (ap (λ (x : SoloView). x.tallies) view_is)
 
   pub held : Holds t.s.limits t.s.table t.s.course.standing.processors t.s.course.standing.history t.p t.was.cpu
-  held = subst (λ (x : SoloView). Holds x.limits x.table x.course.standing.processors x.course.standing.history t.p t.was.cpu) (sym view_is) (subst (λ (z : CpuView J). Holds t.limits t.v.seat.domain t.v.seat.processors t.v.seat.seen t.p z.cpu) (sym t.is) (t.met.together.hold.each t.p t.was t.inside))
+  held = subst (λ (x : SoloView). Holds x.limits x.table x.course.standing.processors x.course.standing.history t.p t.was.cpu) (sym view_is) (subst (λ (z : CpuView (Unit {0})). Holds t.limits t.v.seat.domain t.v.seat.processors t.v.seat.seen t.p z.cpu) (sym t.is) (t.met.together.hold.each t.p t.was t.inside))
 
   pub changes_were : t.was.cpu.changes ≡ t.s.course.standing.changes
-  changes_were = ap (λ (x : CpuView J). x.cpu.changes) t.is ∙ (t.met.together.changes t.p t.was t.inside ∙ sym (ap (λ (x : SoloView). x.course.standing.changes) view_is))
+  changes_were = ap (λ (x : CpuView (Unit {0})). x.cpu.changes) t.is ∙ (t.met.together.changes t.p t.was t.inside ∙ sym (ap (λ (x : SoloView). x.course.standing.changes) view_is))
 
   pub deeds_were : t.was.calls ≡ record { tallies = t.d.tallies; processors = length t.cpus; processor = t.p; seen = t.met.deeds }
-  deeds_were = ap (λ (x : CpuView J). x.calls) t.is ∙ t.met.tally_together.seats t.p t.was t.inside
+  deeds_were = ap (λ (x : CpuView (Unit {0})). x.calls) t.is ∙ t.met.tally_together.seats t.p t.was t.inside
 
   pub queued_were : (k : ℕ) → k < length t.cpus → get_or t.s.course.queued k 0 ≡ queued_in k t.met.deeds
   queued_were k lt = ap (λ (x : SoloView). get_or x.course.queued k 0) view_is ∙ count_at queued_in t.d t.met.deeds t.cpus t.met.tally_together k lt
@@ -147,7 +146,7 @@ module _ {J : Type 0} (t : Hand) where
   makers_were = subst (λ (x : SoloView). All (HasItsMaker x.course.standing.processors) x.course.standing.history) (sym view_is) t.met.together.history.makers
 
   holder_is : t.was.needs.holder ≡ holder.Processor t.p
-  holder_is = ap (λ (x : CpuView J). x.needs.holder) t.is ∙ (t.met.all.asks t.p t.was t.inside).2
+  holder_is = ap (λ (x : CpuView (Unit {0})). x.needs.holder) t.is ∙ (t.met.all.asks t.p t.was t.inside).2
 
   -- It acted
 
@@ -158,7 +157,7 @@ module _ {J : Type 0} (t : Hand) where
     acts : Acts t.p a t.was t.now
     acts = subst (λ q. Acts q (what q) t.was t.now) held.processor did
 
-    abbrev acted_cpus : List (CpuView J)
+    abbrev acted_cpus : List (CpuView (Unit {0}))
     acted_cpus = set t.cpus t.p t.now
 
     count : length t.cpus' ≡ length acted_cpus
@@ -170,17 +169,17 @@ module _ {J : Type 0} (t : Hand) where
     long : length acted_cpus ≡ length t.cpus
     long = length-set t.cpus t.p t.now
 
-    here : (c : CpuView J) → get_or acted_cpus t.p c ≡ t.now
+    here : (c : CpuView (Unit {0})) → get_or acted_cpus t.p c ≡ t.now
     here c = get_or-set_same t.cpus t.p t.now c t.inside
 
     within : t.p < length acted_cpus
     within = omega (arith, length-set t.cpus t.p t.now, t.inside)
 
     -- no turn was made but in the meeting, which found the engine that lay there
-    same_turns : (k : ℕ) (c : CpuView J) → (get_or acted_cpus k c).turn ≡ (get_or t.cpus k c).turn
+    same_turns : (k : ℕ) (c : CpuView (Unit {0})) → (get_or acted_cpus k c).turn ≡ (get_or t.cpus k c).turn
     same_turns k c = dite (ℕ_discrete k t.p)
-        (λ same. subst (λ q. (get_or acted_cpus q c).turn ≡ (get_or t.cpus q c).turn) (sym same) (ap (λ (z : CpuView J). z.turn) (here c) ∙ (acts.turn ∙ ap (λ (z : CpuView J). z.turn) (t.is ∙ get_or_default t.cpus t.p t.was c t.inside))))
-        (λ other. ap (λ (z : CpuView J). z.turn) (get_or-set_other t.cpus t.p k t.now c other))
+        (λ same. subst (λ q. (get_or acted_cpus q c).turn ≡ (get_or t.cpus q c).turn) (sym same) (ap (λ (z : CpuView (Unit {0})). z.turn) (here c) ∙ (acts.turn ∙ ap (λ (z : CpuView (Unit {0})). z.turn) (t.is ∙ get_or_default t.cpus t.p t.was c t.inside))))
+        (λ other. ap (λ (z : CpuView (Unit {0})). z.turn) (get_or-set_other t.cpus t.p k t.now c other))
 
     found_is : t.meets.found ≡ t.v
     found_is = idle_found t.met.swaps t.cpus acted_cpus t.v t.met.turn_together some long (λ k c _ lt. same_turns k c) t.cpus' t.meets.found t.meets.left t.meets.turns count t.was (same_turns 0 t.was)
@@ -216,11 +215,11 @@ module _ {J : Type 0} (t : Hand) where
     same_tallies : t.d'.tallies ≡ t.d.tallies
     same_tallies =
         let left = (t.all.here t.p t.was (omega (arith, count, within))).fits.tallies in
-        let met = ap (λ s. s.tallies) (t.meets.calls.each t.p t.was within).is ∙ ap (λ (z : CpuView J). z.calls.tallies) (here t.was) in
-        let was = ap (λ (z : CpuView J). z.calls.tallies) t.is ∙ (t.met.all.here t.p t.was t.inside).fits.tallies in
+        let met = ap (λ s. s.tallies) (t.meets.calls.each t.p t.was within).is ∙ ap (λ (z : CpuView (Unit {0})). z.calls.tallies) (here t.was) in
+        let was = ap (λ (z : CpuView (Unit {0})). z.calls.tallies) t.is ∙ (t.met.all.here t.p t.was t.inside).fits.tallies in
         sym left ∙ (met ∙ (acts.adds.same.0 ∙ was))
 
-    abbrev deeds_after : List (Deed J)
+    abbrev deeds_after : List (Deed (Unit {0}))
     deeds_after = t.meets.calls.deeds
 
     all_tally : TallyTogether t.d' deeds_after t.cpus'
@@ -249,13 +248,13 @@ module _ {J : Type 0} (t : Hand) where
     -- The history
 
     was_held : Holds t.limits t.v.seat.domain t.v.seat.processors t.v.seat.seen t.p t.was.cpu
-    was_held = subst (λ (z : CpuView J). Holds t.limits t.v.seat.domain t.v.seat.processors t.v.seat.seen t.p z.cpu) (sym t.is) (t.met.together.hold.each t.p t.was t.inside)
+    was_held = subst (λ (z : CpuView (Unit {0})). Holds t.limits t.v.seat.domain t.v.seat.processors t.v.seat.seen t.p z.cpu) (sym t.is) (t.met.together.hold.each t.p t.was t.inside)
 
     -- what the processor has seen of the engine's changes is all of them
     all_changes : t.now.cpu.changes ≡ t.v.seat.changes
     all_changes =
-        let before : t.was.cpu.changes ≡ t.v.seat.changes = ap (λ (x : CpuView J). x.cpu.changes) t.is ∙ t.met.together.changes t.p t.was t.inside in
-        let joins : t.now.cpu.changes ≤ t.meets.left.seat.changes = subst (λ (x : CpuView J). x.cpu.changes ≤ t.meets.left.seat.changes) (here t.was) (engine_meets.each t.p t.was within).later in
+        let before : t.was.cpu.changes ≡ t.v.seat.changes = ap (λ (x : CpuView (Unit {0})). x.cpu.changes) t.is ∙ t.met.together.changes t.p t.was t.inside in
+        let joins : t.now.cpu.changes ≤ t.meets.left.seat.changes = subst (λ (x : CpuView (Unit {0})). x.cpu.changes ≤ t.meets.left.seat.changes) (here t.was) (engine_meets.each t.p t.was within).later in
         let most = engine_meets.changes in
         let later = acts.events.later in
         omega (arith, later, before, joins, most)
@@ -275,20 +274,20 @@ module _ {J : Type 0} (t : Hand) where
       all = long ∙ t.met.together.hold.all;
       engine = t.met.together.hold.engine ∙ sym (made_by_append Engine t.v.seat.seen a.events ∙ (ap (λ l. made_by Engine t.v.seat.seen ++ l) acts.are_of.engine ∙ append-nil (made_by Engine t.v.seat.seen)));
       each = λ k c lt. dite (ℕ_discrete k t.p)
-          (λ same. subst (λ (q : ℕ). Holds t.limits t.v.seat.domain t.v.seat.processors history q (get_or acted_cpus q c).cpu) (sym same) (subst (λ (z : CpuView J). Holds t.limits t.v.seat.domain t.v.seat.processors history t.p z.cpu) (sym (here c)) (record {
+          (λ same. subst (λ (q : ℕ). Holds t.limits t.v.seat.domain t.v.seat.processors history q (get_or acted_cpus q c).cpu) (sym same) (subst (λ (z : CpuView (Unit {0})). Holds t.limits t.v.seat.domain t.v.seat.processors history t.p z.cpu) (sym (here c)) (record {
             domain = acts.events.same.0 ∙ was_held.domain;
             processors_are = acts.events.same.1 ∙ was_held.processors_are;
             sections = acts.events.same.2 ∙ was_held.sections;
             processor = acts.events.same.3 ∙ was_held.processor;
             mine = acts.events.mine ∙ (ap (λ l. l ++ a.events) was_held.mine ∙ (ap (λ l. made_by (Processor t.p) t.v.seat.seen ++ l) (sym acts.are_of.own) ∙ sym (made_by_append (Processor t.p) t.v.seat.seen a.events)));
           })))
-          (λ other. let old = t.met.together.hold.each k c (omega (arith, length-set t.cpus t.p t.now, lt)) in subst (λ (z : CpuView J). Holds t.limits t.v.seat.domain t.v.seat.processors history k z.cpu) (sym (get_or-set_other t.cpus t.p k t.now c other))
+          (λ other. let old = t.met.together.hold.each k c (omega (arith, length-set t.cpus t.p t.now, lt)) in subst (λ (z : CpuView (Unit {0})). Holds t.limits t.v.seat.domain t.v.seat.processors history k z.cpu) (sym (get_or-set_other t.cpus t.p k t.now c other))
           (record { domain = old.domain; processors_are = old.processors_are; sections = old.sections; processor = old.processor; mine = old.mine ∙ none_own k (acts.are_of.others k other) }));
     }
 
     seen_here : IsBeginning (t.v.seat.seen ++ (acts.events.others ++ a.events)) (get_or acted_cpus t.p t.was).cpu.seen
-    seen_here = subst (λ (x : CpuView J). IsBeginning (t.v.seat.seen ++ (acts.events.others ++ a.events)) x.cpu.seen) (sym (here t.was))
-        (subst (λ l. IsBeginning (l ++ (acts.events.others ++ a.events)) t.now.cpu.seen) (ap (λ (x : CpuView J). x.cpu.seen) t.is ∙ t.met.together.seen t.p t.was t.inside) acts.events.since)
+    seen_here = subst (λ (x : CpuView (Unit {0})). IsBeginning (t.v.seat.seen ++ (acts.events.others ++ a.events)) x.cpu.seen) (sym (here t.was))
+        (subst (λ l. IsBeginning (l ++ (acts.events.others ++ a.events)) t.now.cpu.seen) (ap (λ (x : CpuView (Unit {0})). x.cpu.seen) t.is ∙ t.met.together.seen t.p t.was t.inside) acts.events.since)
 
     acted : IsSettled t.limits t.v.seat.seen acts.events.others a.events t.cpus' t.meets.left.seat
     acted = settled acted_cpus t.cpus' t.v.seat t.meets.left.seat count engine_meets t.was t.limits t.v.seat.seen acts.events.others a.events
@@ -380,8 +379,8 @@ module _ {J : Type 0} (t : Hand) where
     pub seen_now : t.now.cpu.seen ≡ s'.course.standing.history
     seen_now =
         let alone : t.v.seat.seen ++ (acts.events.others ++ a.events) ≡ t.meets.left.seat.seen = ap (λ l. t.v.seat.seen ++ (l ++ a.events)) acted.alone ∙ sym acted.seen in
-        let low = subst (λ (x : CpuView J). IsBeginning t.meets.left.seat.seen x.cpu.seen) (here t.was) (subst (λ l. IsBeginning l (get_or acted_cpus t.p t.was).cpu.seen) alone seen_here) in
-        let high = subst (λ (x : CpuView J). IsBeginning x.cpu.seen t.meets.left.seat.seen) (here t.was) (engine_meets.each t.p t.was within).since in
+        let low = subst (λ (x : CpuView (Unit {0})). IsBeginning t.meets.left.seat.seen x.cpu.seen) (here t.was) (subst (λ l. IsBeginning l (get_or acted_cpus t.p t.was).cpu.seen) alone seen_here) in
+        let high = subst (λ (x : CpuView (Unit {0})). IsBeginning x.cpu.seen t.meets.left.seat.seen) (here t.was) (engine_meets.each t.p t.was within).since in
         let history = ap (λ (x : SoloView). x.course.standing.history) come ∙ ap (λ (x : SoloView). with_events a.events x.course.standing.history) view_is in
         same_beginning t.now.cpu.seen t.meets.left.seat.seen high low ∙ (acted.seen ∙ (with_events_is a.events t.v.seat.seen ∙ sym history))
 
@@ -389,14 +388,14 @@ module _ {J : Type 0} (t : Hand) where
     pub root_is : (found : ℕ) → LoadsRoot t.was.needs found t.now.needs → found ≡ t.s.course.asked
     root_is found h =
         let none : acts.raised ≡ [] = append_cancel_left t.was.needs.mine acts.raised [] (sym acts.needs.mine ∙ (h.mine ∙ sym (append-nil t.was.needs.mine))) in
-        let seen : t.was.needs.seen ≡ t.met.raises = ap (λ (z : CpuView J). z.needs.seen) t.is ∙ t.met.ask_together.seen t.p t.was t.inside in
-        let into : IsBeginningAtTree t.now.needs.seen t.meets.needs.raises = subst (λ (z : CpuView J). IsBeginningAtTree z.needs.seen t.meets.needs.raises) (here t.was) (t.meets.needs.each t.p t.was within).since in
+        let seen : t.was.needs.seen ≡ t.met.raises = ap (λ (z : CpuView (Unit {0})). z.needs.seen) t.is ∙ t.met.ask_together.seen t.p t.was t.inside in
+        let into : IsBeginningAtTree t.now.needs.seen t.meets.needs.raises = subst (λ (z : CpuView (Unit {0})). IsBeginningAtTree z.needs.seen t.meets.needs.raises) (here t.was) (t.meets.needs.each t.p t.was within).since in
         let same : t.now.needs.seen ≡ t.met.raises = squeezed t.met.raises t.now.needs.seen t.meets.needs.raises (subst (λ l. IsBeginningAtTree l t.now.needs.seen) seen h.since) into (raises_are ∙ (ap (λ l. t.met.raises ++ l) none ∙ append-nil t.met.raises)) in
         h.current ∙ (ap (value 0) same ∙ (t.met.ask_together.root ∙ sym (ap (λ (x : SoloView). x.course.asked) view_is)))
 
     -- what it has seen of the tally words, all have
     pub seen_by_all : tallies.IsBeginning t.now.calls.seen deeds_after
-    seen_by_all = subst (λ (z : CpuView J). tallies.IsBeginning z.calls.seen deeds_after) (here t.was) (t.meets.calls.each t.p t.was within).since
+    seen_by_all = subst (λ (z : CpuView (Unit {0})). tallies.IsBeginning z.calls.seen deeds_after) (here t.was) (t.meets.calls.each t.p t.was within).since
 
     pub queued_now : (k : ℕ) → k < length t.cpus → queued_in k deeds_after ≡ get_or (more_at t.p a.queued t.s.course.queued) k 0
     queued_now k lt = sym (count_at queued_in t.d' deeds_after t.cpus' all_tally k (omega (arith, count, length-set t.cpus t.p t.now, lt))) ∙ (ap (λ l. get_or l k 0) queued_after ∙ sym (ap (λ (x : SoloView). get_or (more_at t.p a.queued x.course.queued) k 0) view_is))

@@ -26,23 +26,22 @@ use Rattle.solo.proofs.NothingBetween.{IsMaker, nothing_between}
 pub all_kept : {X : Type 0} (n : ℕ) (items rest : List X) → n ≡ length items → take n (items ++ rest) ≡ items
 all_kept n items rest same = ap (λ k. take k (items ++ rest)) same ∙ take-append_seam items rest
 
-module _ {J : Type 0} where
-  -- the engine or a processor has seen this history
-  abbrev pub IsSeenByOne : List Event → List (CpuView J) → EngineView → Type 0
-  IsSeenByOne history cpus e = IsBeginning history e.seen ⊎ ((k : ℕ) × (d : CpuView J) × (k < length cpus) × IsBeginning history (get_or cpus k d).cpu.seen)
+-- the engine or a processor has seen this history
+abbrev pub IsSeenByOne : List Event → List (CpuView (Unit {0})) → EngineView → Type 0
+IsSeenByOne history cpus e = IsBeginning history e.seen ⊎ ((k : ℕ) × (d : CpuView (Unit {0})) × (k < length cpus) × IsBeginning history (get_or cpus k d).cpu.seen)
 
-  -- one of those in hand acted: each has just its own events of what was before and of the act, and one has seen the act
-  pub record IsActed (limits : Limits) (before others act : List Event) (cpus : List (CpuView J)) (e : EngineView) : Type 0 where
-    pub hold : AllHold limits (before ++ act) cpus e
-    pub seen : IsSeenByOne (before ++ (others ++ act)) cpus e
+-- one of those in hand acted: each has just its own events of what was before and of the act, and one has seen the act
+pub record IsActed (limits : Limits) (before others act : List Event) (cpus : List (CpuView (Unit {0}))) (e : EngineView) : Type 0 where
+  pub hold : AllHold limits (before ++ act) cpus e
+  pub seen : IsSeenByOne (before ++ (others ++ act)) cpus e
 
-  -- nothing came before the act, and all have seen it and nothing else
-  pub record IsSettled (limits : Limits) (before others act : List Event) (cpus : List (CpuView J)) (e : EngineView) : Type 0 where
-    pub alone : others ≡ []
-    pub seen : e.seen ≡ before ++ act
-    pub together : AreTogether limits cpus e
+-- nothing came before the act, and all have seen it and nothing else
+pub record IsSettled (limits : Limits) (before others act : List Event) (cpus : List (CpuView (Unit {0}))) (e : EngineView) : Type 0 where
+  pub alone : others ≡ []
+  pub seen : e.seen ≡ before ++ act
+  pub together : AreTogether limits cpus e
 
-module _ {J : Type 0} (cpus cpus' : List (CpuView J)) (e e' : EngineView) (count : length cpus' ≡ length cpus) (meets : EngineMeets e cpus e' cpus') (nobody : CpuView J) where
+module _ (cpus cpus' : List (CpuView (Unit {0}))) (e e' : EngineView) (count : length cpus' ≡ length cpus) (meets : EngineMeets e cpus e' cpus') (nobody : CpuView (Unit {0})) where
   -- what one of them had seen, all have
   seen_by_all : (history : List Event) → IsSeenByOne history cpus e → IsBeginning history e'.seen
   seen_by_all history (inl is) = beginning_trans is meets.since
@@ -94,16 +93,15 @@ module _ {J : Type 0} (cpus cpus' : List (CpuView J)) (e e' : EngineView) (count
 
 -- The tree
 
-module _ {J : Type 0} where
-  -- processor p raised these, and nobody anything else: each has just its own raises of what was before and of these
-  pub record HaveAsked (p : ℕ) (before act : List Raise) (cpus : List (CpuView J)) : Type 0 where
-    pub mine : (k : ℕ) (d : CpuView J) → k < length cpus → (get_or cpus k d).needs.mine ≡ raised_by k (before ++ act)
-    pub inside : p < length cpus
-    pub own : raised_by p act ≡ act
-    pub others : (q : ℕ) → q ≢ p → raised_by q act ≡ []
-    pub since : (d : CpuView J) → tree.IsBeginning before (get_or cpus p d).needs.seen
+-- processor p raised these, and nobody anything else: each has just its own raises of what was before and of these
+pub record HaveAsked (p : ℕ) (before act : List Raise) (cpus : List (CpuView (Unit {0}))) : Type 0 where
+  pub mine : (k : ℕ) (d : CpuView (Unit {0})) → k < length cpus → (get_or cpus k d).needs.mine ≡ raised_by k (before ++ act)
+  pub inside : p < length cpus
+  pub own : raised_by p act ≡ act
+  pub others : (q : ℕ) → q ≢ p → raised_by q act ≡ []
+  pub since : (d : CpuView (Unit {0})) → tree.IsBeginning before (get_or cpus p d).needs.seen
 
-module _ {J : Type 0} (d : DomainView) (cpus cpus' : List (CpuView J)) (all : IsAllOf d cpus') (count : length cpus' ≡ length cpus) (meets : TreeMeets cpus cpus') (nobody : CpuView J) (p : ℕ) (before act : List Raise) (h : HaveAsked p before act cpus) where
+module _ (d : DomainView) (cpus cpus' : List (CpuView (Unit {0}))) (all : IsAllOf d cpus') (count : length cpus' ≡ length cpus) (meets : TreeMeets cpus cpus') (nobody : CpuView (Unit {0})) (p : ℕ) (before act : List Raise) (h : HaveAsked p before act cpus) where
   raised_there : (k : ℕ) → k < length cpus → raised_by k meets.raises ≡ raised_by k (before ++ act)
   raised_there k there =
       let joins = meets.each k nobody there in

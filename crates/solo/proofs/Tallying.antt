@@ -6,7 +6,7 @@ use Rattle.std.proofs.lemmas.Option.{slice_get-get_or}
 use mathlib.Core.Logic.{dite}
 use native.Mathlib.Decide.{ℕ_discrete}
 use Rattle.calls.specs.declared.view.Act.{Act}
-use Rattle.calls.specs.declared.view.Act.TheVariants.{Queue, Finish, LoadQueued, LoadFinished}
+use Rattle.calls.specs.declared.view.Act.TheVariants.{Queue, Take, Finish, LoadQueued, LoadFinished}
 use Rattle.calls.specs.declared.view.Deed.{Deed}
 use Rattle.calls.specs.Tallies.{queued_in, finished_by, finished_in, deeds_of, IsFinisher, AreFinishers, IsBeginning}
 use Rattle.calls.specs.Views.{CallSeatView}
@@ -20,54 +20,54 @@ use Rattle.domain.proofs.CallerLemmas.{CountsNothing, queued_append, finished_ap
 
 -- Among all
 
-module _ {J : Type 0} where
-  -- the list goes on from one that all had seen. In what came behind it are these deeds of processor p, and none of the others; and all batches were finished by processors that are there
-  pub record GoesOnBy (n p : ℕ) (before act all : List (Deed J)) : Type 0 where
-    pub since : IsBeginning before all
-    pub own : deeds_of p all ≡ deeds_of p before ++ act
-    pub others : (q : ℕ) → q < n → q ≢ p → deeds_of q all ≡ deeds_of q before
-    pub finishers : AreFinishers n all
+-- the list goes on from one that all had seen. In what came behind it are these deeds of processor p, and none of the others; and all batches were finished by processors that are there
+pub record GoesOnBy (n p : ℕ) (before act all : List (Deed (Unit {0}))) : Type 0 where
+  pub since : IsBeginning before all
+  pub own : deeds_of p all ≡ deeds_of p before ++ act
+  pub others : (q : ℕ) → q < n → q ≢ p → deeds_of q all ≡ deeds_of q before
+  pub finishers : AreFinishers n all
 
-  later_finishers : (n : ℕ) (a b : List (Deed J)) → AreFinishers n (a ++ b) → AreFinishers n b
-  later_finishers n [] b h = h
-  later_finishers n (x ∷ xs) b h = later_finishers n xs b h.1
+later_finishers : (n : ℕ) (a b : List (Deed (Unit {0}))) → AreFinishers n (a ++ b) → AreFinishers n b
+later_finishers n [] b h = h
+later_finishers n (x ∷ xs) b h = later_finishers n xs b h.1
 
-  none_left : (l : List (Deed J)) → length l ≡ 0 → l ≡ []
-  none_left [] none = refl
-  none_left (x ∷ l) none = absurd (omega (arith, none))
+none_left : (l : List (Deed (Unit {0}))) → length l ≡ 0 → l ≡ []
+none_left [] none = refl
+none_left (x ∷ l) none = absurd (omega (arith, none))
 
-  not_first : (x : Deed J) (xs : List (Deed J)) → deeds_of x.by (x ∷ xs) ≡ [] → ⊥
-  not_first x xs is = let h : x ∷ deeds_of x.by xs ≡ [] = sym (ap (λ b. cond b (x ∷ deeds_of x.by xs) (deeds_of x.by xs)) (eq-eqb x.by x.by refl)) ∙ is in cc
+not_first : (x : Deed (Unit {0})) (xs : List (Deed (Unit {0}))) → deeds_of x.by (x ∷ xs) ≡ [] → ⊥
+not_first x xs is = let h : x ∷ deeds_of x.by xs ≡ [] = sym (ap (λ b. cond b (x ∷ deeds_of x.by xs) (deeds_of x.by xs)) (eq-eqb x.by x.by refl)) ∙ is in cc
 
-  none_behind : (q : ℕ) (x : Deed J) (xs : List (Deed J)) → deeds_of q (x ∷ xs) ≡ [] → deeds_of q xs ≡ []
-  none_behind q x xs is = dite (ℕ_discrete x.by q)
-      (λ e. absurd (not_first x xs (subst (λ k. deeds_of k (x ∷ xs) ≡ []) (sym e) is)))
-      (λ other. sym (ap (λ b. cond b (x ∷ deeds_of q xs) (deeds_of q xs)) (ne_eqb x.by q other)) ∙ is)
+none_behind : (q : ℕ) (x : Deed (Unit {0})) (xs : List (Deed (Unit {0}))) → deeds_of q (x ∷ xs) ≡ [] → deeds_of q xs ≡ []
+none_behind q x xs is = dite (ℕ_discrete x.by q)
+    (λ e. absurd (not_first x xs (subst (λ k. deeds_of k (x ∷ xs) ≡ []) (sym e) is)))
+    (λ other. sym (ap (λ b. cond b (x ∷ deeds_of q xs) (deeds_of q xs)) (ne_eqb x.by q other)) ∙ is)
 
-  deeds_twice : (p : ℕ) (l : List (Deed J)) → deeds_of p (deeds_of p l) ≡ deeds_of p l
-  deeds_twice p [] = refl
-  deeds_twice p (x ∷ xs) = dite (ℕ_discrete x.by p)
-      (λ e. let kept : deeds_of p (x ∷ xs) ≡ x ∷ deeds_of p xs = ap (λ b. cond b (x ∷ deeds_of p xs) (deeds_of p xs)) (eq-eqb x.by p e) in
-      ap (deeds_of p) kept ∙ (ap (λ b. cond b (x ∷ deeds_of p (deeds_of p xs)) (deeds_of p (deeds_of p xs))) (eq-eqb x.by p e) ∙ (ap (λ l. x ∷ l) (deeds_twice p xs) ∙ sym kept)))
-      (λ other. let kept : deeds_of p (x ∷ xs) ≡ deeds_of p xs = ap (λ b. cond b (x ∷ deeds_of p xs) (deeds_of p xs)) (ne_eqb x.by p other) in ap (deeds_of p) kept ∙ (deeds_twice p xs ∙ sym kept))
+deeds_twice : (p : ℕ) (l : List (Deed (Unit {0}))) → deeds_of p (deeds_of p l) ≡ deeds_of p l
+deeds_twice p [] = refl
+deeds_twice p (x ∷ xs) = dite (ℕ_discrete x.by p)
+    (λ e. let kept : deeds_of p (x ∷ xs) ≡ x ∷ deeds_of p xs = ap (λ b. cond b (x ∷ deeds_of p xs) (deeds_of p xs)) (eq-eqb x.by p e) in
+    ap (deeds_of p) kept ∙ (ap (λ b. cond b (x ∷ deeds_of p (deeds_of p xs)) (deeds_of p (deeds_of p xs))) (eq-eqb x.by p e) ∙ (ap (λ l. x ∷ l) (deeds_twice p xs) ∙ sym kept)))
+    (λ other. let kept : deeds_of p (x ∷ xs) ≡ deeds_of p xs = ap (λ b. cond b (x ∷ deeds_of p xs) (deeds_of p xs)) (ne_eqb x.by p other) in ap (deeds_of p) kept ∙ (deeds_twice p xs ∙ sym kept))
 
-  finishes_none : (n q by : ℕ) (act : Act J) → IsFinisher n by act → (by < n → ⊥) → finished_by q act ≡ 0
-  finishes_none n q by Queue h away = refl
-  finishes_none n q by (Finish p k) h away = absurd (away h)
-  finishes_none n q by (LoadQueued p k) h away = refl
-  finishes_none n q by (LoadFinished p k) h away = refl
+finishes_none : (n q by : ℕ) (act : Act (Unit {0})) → IsFinisher n by act → (by < n → ⊥) → finished_by q act ≡ 0
+finishes_none n q by (Queue e) h away = refl
+finishes_none n q by (Take p number max) h away = refl
+finishes_none n q by (Finish p k) h away = absurd (away h)
+finishes_none n q by (LoadQueued p k) h away = refl
+finishes_none n q by (LoadFinished p k) h away = refl
 
-  -- where no other processor that is there did anything, the deeds of one tell what is finished
-  finished_by_one : (n p q : ℕ) (l : List (Deed J)) → AreFinishers n l → ((k : ℕ) → k < n → k ≢ p → deeds_of k l ≡ []) → finished_in q l ≡ finished_in q (deeds_of p l)
-  finished_by_one n p q [] h others = refl
-  finished_by_one n p q (x ∷ xs) h others =
-      let rest = finished_by_one n p q xs h.1 (λ k lt ne. none_behind k x xs (others k lt ne)) in
-      dite (ℕ_discrete x.by p)
-      (λ e. let kept : finished_in q (deeds_of p (x ∷ xs)) ≡ finished_by q x.act + finished_in q (deeds_of p xs) = ap (λ b. finished_in q (cond b (x ∷ deeds_of p xs) (deeds_of p xs))) (eq-eqb x.by p e) in omega (arith, kept, rest))
-      (λ other. let kept : finished_in q (deeds_of p (x ∷ xs)) ≡ finished_in q (deeds_of p xs) = ap (λ b. finished_in q (cond b (x ∷ deeds_of p xs) (deeds_of p xs))) (ne_eqb x.by p other) in
-      let none = finishes_none n q x.by x.act h.0 (λ lt. not_first x xs (others x.by lt other)) in omega (arith, kept, none, rest))
+-- where no other processor that is there did anything, the deeds of one tell what is finished
+finished_by_one : (n p q : ℕ) (l : List (Deed (Unit {0}))) → AreFinishers n l → ((k : ℕ) → k < n → k ≢ p → deeds_of k l ≡ []) → finished_in q l ≡ finished_in q (deeds_of p l)
+finished_by_one n p q [] h others = refl
+finished_by_one n p q (x ∷ xs) h others =
+    let rest = finished_by_one n p q xs h.1 (λ k lt ne. none_behind k x xs (others k lt ne)) in
+    dite (ℕ_discrete x.by p)
+    (λ e. let kept : finished_in q (deeds_of p (x ∷ xs)) ≡ finished_by q x.act + finished_in q (deeds_of p xs) = ap (λ b. finished_in q (cond b (x ∷ deeds_of p xs) (deeds_of p xs))) (eq-eqb x.by p e) in omega (arith, kept, rest))
+    (λ other. let kept : finished_in q (deeds_of p (x ∷ xs)) ≡ finished_in q (deeds_of p xs) = ap (λ b. finished_in q (cond b (x ∷ deeds_of p xs) (deeds_of p xs))) (ne_eqb x.by p other) in
+    let none = finishes_none n q x.by x.act h.0 (λ lt. not_first x xs (others x.by lt other)) in omega (arith, kept, none, rest))
 
-module _ {J : Type 0} (n p : ℕ) (before act all : List (Deed J)) (h : GoesOnBy n p before act all) where
+module _ (n p : ℕ) (before act all : List (Deed (Unit {0}))) (h : GoesOnBy n p before act all) where
   rest_of_others : (q : ℕ) → q < n → q ≢ p → deeds_of q h.since.rest ≡ []
   rest_of_others q lt other =
       let whole = ap (λ l. length (deeds_of q l)) h.since.whole in
@@ -107,24 +107,23 @@ module _ {J : Type 0} (n p : ℕ) (before act all : List (Deed J)) (h : GoesOnBy
 
 -- All processors
 
-module _ {J : Type 0} where
-  -- a count of each processor, as it knows it
-  abbrev pub counts_on : (ℕ → List (Deed J) → ℕ) → List (CpuView J) → List ℕ
-  counts_on count cpus = map (λ c. count c.calls.processor c.calls.seen) cpus
+-- a count of each processor, as it knows it
+abbrev pub counts_on : (ℕ → List (Deed (Unit {0})) → ℕ) → List (CpuView (Unit {0})) → List ℕ
+counts_on count cpus = map (λ c. count c.calls.processor c.calls.seen) cpus
 
-module _ {J : Type 0} (count : ℕ → List (Deed J) → ℕ) where
-  abbrev count_for : CpuView J → ℕ
+module _ (count : ℕ → List (Deed (Unit {0})) → ℕ) where
+  abbrev count_for : CpuView (Unit {0}) → ℕ
   count_for c = count c.calls.processor c.calls.seen
 
   -- where all have seen one list, these are its counts
-  pub count_at : (d : DomainView) (deeds : List (Deed J)) (cpus : List (CpuView J)) → TallyTogether d deeds cpus → (k : ℕ) → k < length cpus → get_or (counts_on count cpus) k 0 ≡ count k deeds
+  pub count_at : (d : DomainView) (deeds : List (Deed (Unit {0}))) (cpus : List (CpuView (Unit {0}))) → TallyTogether d deeds cpus → (k : ℕ) → k < length cpus → get_or (counts_on count cpus) k 0 ≡ count k deeds
   count_at d deeds [] together k lt = absurd (omega (arith, lt))
-  count_at d deeds (c ∷ cpus) together k lt = get_or-map count_for (c ∷ cpus) k c 0 lt ∙ ap (λ (s : CallSeatView J). count s.processor s.seen) (together.seats k c lt)
+  count_at d deeds (c ∷ cpus) together k lt = get_or-map count_for (c ∷ cpus) k c 0 lt ∙ ap (λ (s : CallSeatView (Unit {0})). count s.processor s.seen) (together.seats k c lt)
 
-  pub found_at : (d : DomainView) (deeds : List (Deed J)) (cpus : List (CpuView J)) → TallyTogether d deeds cpus → (k : ℕ) → k < length cpus → slice_get (counts_on count cpus) k ≡ Some (count k deeds)
+  pub found_at : (d : DomainView) (deeds : List (Deed (Unit {0}))) (cpus : List (CpuView (Unit {0}))) → TallyTogether d deeds cpus → (k : ℕ) → k < length cpus → slice_get (counts_on count cpus) k ≡ Some (count k deeds)
   found_at d deeds cpus together k lt = slice_get-get_or (counts_on count cpus) k 0 (let long = length-map cpus count_for in omega (arith, long, lt)) ∙ ap Some (count_at d deeds cpus together k lt)
 
-  module _ (d d' : DomainView) (deeds deeds' : List (Deed J)) (cpus cpus' : List (CpuView J)) (together : TallyTogether d deeds cpus) (together' : TallyTogether d' deeds' cpus') (long : length cpus' ≡ length cpus) where
+  module _ (d d' : DomainView) (deeds deeds' : List (Deed (Unit {0}))) (cpus cpus' : List (CpuView (Unit {0}))) (together : TallyTogether d deeds cpus) (together' : TallyTogether d' deeds' cpus') (long : length cpus' ≡ length cpus) where
     many : length (counts_on count cpus') ≡ length cpus
     many = length-map cpus' count_for ∙ long
 
@@ -146,32 +145,32 @@ module _ {J : Type 0} (count : ℕ → List (Deed J) → ℕ) where
         (λ other. others k inside other ∙ (sym (count_at d deeds cpus together k inside) ∙ sym (get_or-set_other (counts_on count cpus) p k m 0 other))))
 
   -- where nothing is counted of any
-  pub none_counted : (cpus : List (CpuView J)) → ((k : ℕ) (c : CpuView J) → k < length cpus → count_for (get_or cpus k c) ≡ 0) → counts_on count cpus ≡ replicate (length cpus) 0
+  pub none_counted : (cpus : List (CpuView (Unit {0}))) → ((k : ℕ) (c : CpuView (Unit {0})) → k < length cpus → count_for (get_or cpus k c) ≡ 0) → counts_on count cpus ≡ replicate (length cpus) 0
   none_counted [] none = refl
   none_counted (x ∷ cpus) none = λ i. none 0 x (omega arith) i ∷ none_counted cpus (λ k c lt. none (suc k) c (omega (arith, lt))) i
 
 -- one of them acted, and then all met
-module _ {J : Type 0} (d d' : DomainView) (before : List (Deed J)) (cpus cpus' : List (CpuView J)) (p : ℕ) (was now : CpuView J) (inside : p < length cpus) (is : was ≡ get_or cpus p was) (together : TallyTogether d before cpus) (act : List (Deed J)) (adds : Adds act was.calls now.calls)
+module _ (d d' : DomainView) (before : List (Deed (Unit {0}))) (cpus cpus' : List (CpuView (Unit {0}))) (p : ℕ) (was now : CpuView (Unit {0})) (inside : p < length cpus) (is : was ≡ get_or cpus p was) (together : TallyTogether d before cpus) (act : List (Deed (Unit {0}))) (adds : Adds act was.calls now.calls)
     (count : length cpus' ≡ length (set cpus p now)) (meets : TalliesMeet (set cpus p now) cpus') (same : d'.tallies ≡ d.tallies) where
   was_is : was.calls ≡ record { tallies = d.tallies; processors = length cpus; processor = p; seen = before }
-  was_is = ap (λ (z : CpuView J). z.calls) is ∙ together.seats p was inside
+  was_is = ap (λ (z : CpuView (Unit {0})). z.calls) is ∙ together.seats p was inside
 
   within : (k : ℕ) → k < length cpus → k < length (set cpus p now)
   within k lt = omega (arith, length-set cpus p now, lt)
 
-  accepts_here : (c : CpuView J) → Accepts now.calls meets.deeds (get_or cpus' p c).calls
-  accepts_here c = subst (λ (z : CpuView J). Accepts z.calls meets.deeds (get_or cpus' p c).calls) (get_or-set_same cpus p now c inside) (meets.each p c (within p inside))
+  accepts_here : (c : CpuView (Unit {0})) → Accepts now.calls meets.deeds (get_or cpus' p c).calls
+  accepts_here c = subst (λ (z : CpuView (Unit {0})). Accepts z.calls meets.deeds (get_or cpus' p c).calls) (get_or-set_same cpus p now c inside) (meets.each p c (within p inside))
 
-  accepts_else : (k : ℕ) (c : CpuView J) → k < length cpus → k ≢ p → Accepts (record { tallies = d.tallies; processors = length cpus; processor = k; seen = before }) meets.deeds (get_or cpus' k c).calls
-  accepts_else k c lt other = subst (λ (s : CallSeatView J). Accepts s meets.deeds (get_or cpus' k c).calls) (ap (λ (z : CpuView J). z.calls) (get_or-set_other cpus p k now c other) ∙ together.seats k c lt) (meets.each k c (within k lt))
+  accepts_else : (k : ℕ) (c : CpuView (Unit {0})) → k < length cpus → k ≢ p → Accepts (record { tallies = d.tallies; processors = length cpus; processor = k; seen = before }) meets.deeds (get_or cpus' k c).calls
+  accepts_else k c lt other = subst (λ (s : CallSeatView (Unit {0})). Accepts s meets.deeds (get_or cpus' k c).calls) (ap (λ (z : CpuView (Unit {0})). z.calls) (get_or-set_other cpus p k now c other) ∙ together.seats k c lt) (meets.each k c (within k lt))
 
   pub goes_on : GoesOnBy (length cpus) p before act meets.deeds
   goes_on = record {
-    since = begins_on (subst (λ l. IsBeginning l now.calls.seen) (ap (λ (s : CallSeatView J). s.seen) was_is) adds.since) (accepts_here was).since;
+    since = begins_on (subst (λ l. IsBeginning l now.calls.seen) (ap (λ (s : CallSeatView (Unit {0})). s.seen) was_is) adds.since) (accepts_here was).since;
     own =
-        let here : now.calls.processor ≡ p = adds.same.2 ∙ ap (λ (s : CallSeatView J). s.processor) was_is in
+        let here : now.calls.processor ≡ p = adds.same.2 ∙ ap (λ (s : CallSeatView (Unit {0})). s.processor) was_is in
         let kept : deeds_of p meets.deeds ≡ deeds_of p now.calls.seen = subst (λ k. deeds_of k meets.deeds ≡ deeds_of k now.calls.seen) here (accepts_here was).own in
-        let more : deeds_of p now.calls.seen ≡ deeds_of p before ++ act = subst (λ (s : CallSeatView J). deeds_of s.processor now.calls.seen ≡ deeds_of s.processor s.seen ++ act) was_is adds.own in
+        let more : deeds_of p now.calls.seen ≡ deeds_of p before ++ act = subst (λ (s : CallSeatView (Unit {0})). deeds_of s.processor now.calls.seen ≡ deeds_of s.processor s.seen ++ act) was_is adds.own in
         kept ∙ more;
     others = λ q lt other. (accepts_else q was lt other).own;
     finishers = subst (λ k. AreFinishers k meets.deeds) (length-set cpus p now) meets.finishers;
@@ -185,9 +184,9 @@ module _ {J : Type 0} (d d' : DomainView) (before : List (Deed J)) (cpus cpus' :
         dite (ℕ_discrete k p)
         (λ at. subst (λ q. (get_or cpus' q c).calls ≡ record { tallies = d'.tallies; processors = length cpus'; processor = q; seen = meets.deeds }) (sym at)
         ((accepts_here c).is ∙ (λ i. record {
-          tallies = (adds.same.0 ∙ (ap (λ (s : CallSeatView J). s.tallies) was_is ∙ sym same)) i;
-          processors = (adds.same.1 ∙ (ap (λ (s : CallSeatView J). s.processors) was_is ∙ long)) i;
-          processor = (adds.same.2 ∙ ap (λ (s : CallSeatView J). s.processor) was_is) i;
+          tallies = (adds.same.0 ∙ (ap (λ (s : CallSeatView (Unit {0})). s.tallies) was_is ∙ sym same)) i;
+          processors = (adds.same.1 ∙ (ap (λ (s : CallSeatView (Unit {0})). s.processors) was_is ∙ long)) i;
+          processor = (adds.same.2 ∙ ap (λ (s : CallSeatView (Unit {0})). s.processor) was_is) i;
           seen = meets.deeds;
         })))
         (λ other. (accepts_else k c there other).is ∙ (λ i. record { tallies = sym same i; processors = long i; processor = k; seen = meets.deeds }));

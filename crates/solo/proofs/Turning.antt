@@ -100,9 +100,9 @@ module _ (t u : BaySeatView Engine) (lay found left : Engine) (all : List (Swap 
   }
 
 -- a meeting, behind an act of one of those in hand: of the turns it may have changed the first one's alone
-module _ {J : Type 0} (swaps : List (Swap Engine)) (cpus acted : List (CpuView J)) (v : Engine) (before : TurnTogether swaps cpus v) (some : 0 < length cpus) (count : length acted ≡ length cpus)
-    (others : (k : ℕ) (d : CpuView J) → 0 < k → k < length cpus → (get_or acted k d).turn ≡ (get_or cpus k d).turn)
-    (cpus' : List (CpuView J)) (found left : Engine) (meets : TurnsMeet acted found left cpus') (count' : length cpus' ≡ length acted) (nobody : CpuView J) where
+module _ (swaps : List (Swap Engine)) (cpus acted : List (CpuView (Unit {0}))) (v : Engine) (before : TurnTogether swaps cpus v) (some : 0 < length cpus) (count : length acted ≡ length cpus)
+    (others : (k : ℕ) (d : CpuView (Unit {0})) → 0 < k → k < length cpus → (get_or acted k d).turn ≡ (get_or cpus k d).turn)
+    (cpus' : List (CpuView (Unit {0}))) (found left : Engine) (meets : TurnsMeet acted found left cpus') (count' : length cpus' ≡ length acted) (nobody : CpuView (Unit {0})) where
   abbrev first : BaySeatView Engine
   first = (get_or cpus 0 nobody).turn
 
@@ -112,7 +112,7 @@ module _ {J : Type 0} (swaps : List (Swap Engine)) (cpus acted : List (CpuView J
   last_seen : last.seen ≡ meets.swaps
   last_seen = meets.seen 0 nobody (omega (arith, some, count))
 
-  accepts : (k : ℕ) (d : CpuView J) → 0 < k → k < length cpus → Accepts (get_or cpus k d).turn meets.swaps (get_or cpus' k d).turn
+  accepts : (k : ℕ) (d : CpuView (Unit {0})) → 0 < k → k < length cpus → Accepts (get_or cpus k d).turn meets.swaps (get_or cpus' k d).turn
   accepts k d positive lt = subst (λ (z : BaySeatView Engine). Accepts z meets.swaps (get_or cpus' k d).turn) (others k d positive lt) (meets.others k d positive (omega (arith, lt, count)))
 
   first_alone : IsAlone first v meets.swaps
@@ -139,22 +139,22 @@ module _ {J : Type 0} (swaps : List (Swap Engine)) (cpus acted : List (CpuView J
       number = λ k d lt. number_of k d (omega (arith, lt, count, count'));
       seats = λ k d lt. seats_of k d (omega (arith, lt, count, count')) ∙ sym (count' ∙ count);
       seen = λ k d lt. meets.seen k d (omega (arith, lt, count'));
-      lying = λ d. ap (λ (z : CpuView J). lies z.turn) (first_of d) ∙ lying;
-      history = λ d. subst (λ (z : CpuView J). HasSeenLegal z.turn) (sym (first_of d)) legal;
+      lying = λ d. ap (λ (z : CpuView (Unit {0})). lies z.turn) (first_of d) ∙ lying;
+      history = λ d. subst (λ (z : CpuView (Unit {0})). HasSeenLegal z.turn) (sym (first_of d)) legal;
     }
       where
         inside : 0 < length cpus'
         inside = omega (arith, some, count, count')
 
-        first_of : (d : CpuView J) → get_or cpus' 0 d ≡ get_or cpus' 0 nobody
+        first_of : (d : CpuView (Unit {0})) → get_or cpus' 0 d ≡ get_or cpus' 0 nobody
         first_of d = get_or_default cpus' 0 d nobody inside
 
-        number_of : (k : ℕ) (d : CpuView J) → k < length cpus → (get_or cpus' k d).turn.number ≡ k
-        number_of zero d lt = ap (λ (z : CpuView J). z.turn.number) (first_of d) ∙ (ap (λ (z : BaySeatView Engine). z.number) same ∙ before.number 0 nobody some)
+        number_of : (k : ℕ) (d : CpuView (Unit {0})) → k < length cpus → (get_or cpus' k d).turn.number ≡ k
+        number_of zero d lt = ap (λ (z : CpuView (Unit {0})). z.turn.number) (first_of d) ∙ (ap (λ (z : BaySeatView Engine). z.number) same ∙ before.number 0 nobody some)
         number_of (suc k) d lt = ap (λ (z : BaySeatView Engine). z.number) (accepts (suc k) d (omega arith) lt).is ∙ before.number (suc k) d lt
 
-        seats_of : (k : ℕ) (d : CpuView J) → k < length cpus → (get_or cpus' k d).turn.seats ≡ length cpus
-        seats_of zero d lt = ap (λ (z : CpuView J). z.turn.seats) (first_of d) ∙ (ap (λ (z : BaySeatView Engine). z.seats) same ∙ before.seats 0 nobody some)
+        seats_of : (k : ℕ) (d : CpuView (Unit {0})) → k < length cpus → (get_or cpus' k d).turn.seats ≡ length cpus
+        seats_of zero d lt = ap (λ (z : CpuView (Unit {0})). z.turn.seats) (first_of d) ∙ (ap (λ (z : BaySeatView Engine). z.seats) same ∙ before.seats 0 nobody some)
         seats_of (suc k) d lt = ap (λ (z : BaySeatView Engine). z.seats) (accepts (suc k) d (omega arith) lt).is ∙ before.seats (suc k) d lt
 
   -- the act was no turn: the engine that lay there was found

@@ -1,5 +1,5 @@
 -- What the calls of a domain in one hand do: each is said of how far the domain has come before and behind it.
-use Rattle.std.specs.Prelude.{◌≡◌, ℕ, ◌+◌, ◌*◌, ◌<◌, ◌≤◌, Bool, true, List, [], Option, Some, IfSome, Result, Ok, length, replicate, slice_get, slice_index}
+use Rattle.std.specs.Prelude.{◌≡◌, ℕ, ◌+◌, ◌*◌, ◌<◌, ◌≤◌, Bool, true, List, [], Option, Some, IfSome, length, replicate, slice_get, slice_index}
 use Rattle.sseq.specs.declared.index.Index.{Index}
 use Rattle.atomic_table.specs.Seated.{TableId}
 use Rattle.onedom.specs.Histories.{IsRunning, ended_in, cookie_after}
@@ -12,8 +12,10 @@ use Rattle.sections.specs.Making.{IsCount}
 use Rattle.segs.specs.MarkedList.{lens, numbers}
 use Rattle.calls.specs.declared.refusals.CallRefusal.{CallRefusal}
 use Rattle.calls.specs.declared.refusals.CallRefusal.TheVariants as calling
-use Rattle.calls.specs.Tallies.{most_calls}
-use Rattle.calls.specs.Views.{ListView, BatchView, key_of}
+use Rattle.calls.specs.declared.view.Deed.{Deed}
+use Rattle.calls.specs.Lines.{line_in}
+use Rattle.calls.specs.Tallies.{most_calls, queued_in, finished_in, AreTrue}
+use Rattle.calls.specs.Views.{BatchView}
 use Rattle.scan.specs.declared.progress.Progress.{Progress}
 use Rattle.scan.specs.declared.progress.StartRefusal.{StartRefusal}
 use Rattle.scan.specs.declared.progress.StartRefusal.TheVariants as refusal
@@ -154,13 +156,13 @@ pub record Runs (p max : ℕ) (ran : Option Ran) (c c' : Course) : Type 0 where
   pub happens : Does p (runs (4 * ended_in c.standing.history) (count_run ran)) c c'
   pub jobs : IfSome ran (λ r. WereReady max (4 * ended_in c.standing.history) c'.standing.history r × AreOut p r.count c)
 
--- a list of this processor's jobs, whatever they are
-abbrev pub IsListOf : SoloView → ℕ → ListView (Unit {0}) → Type 0
-IsListOf d p l = key_of l ≡ record { domain = d.table; tallies = d.tallies; processor = p }
-
--- so long are the segments of a list of this processor, and these are their numbers
-abbrev pub TellsLens : {E : Type 0} → SoloView → ℕ → Result (List ℕ × List ℕ) E → Type 0
-TellsLens d p told = (l : ListView (Unit {0})) × IsListOf d p l × (told ≡ Ok (lens l.entries, numbers l.entries))
+-- so long are the segments of the list of this processor, and these are their numbers, by all that was done with callbacks: what it counts is what the course counts, and each of it could be done
+pub record TellsLens (d : SoloView) (p : ℕ) (told : List ℕ × List ℕ) : Type 0 where
+  pub all : List (Deed (Unit {0}))
+  pub could : AreTrue all
+  pub queued : slice_index d.course.queued p ≡ queued_in p all
+  pub finished : slice_index d.course.finished p ≡ finished_in p all
+  pub told_is : told ≡ (lens (line_in p all).waiting, numbers (line_in p all).waiting)
 
 -- Grace periods: nobody comes between, and just what was asked for is found
 

@@ -11,14 +11,13 @@ use Rattle.solo.specs.declared.solo.Solo.TheInside as solo
 use Rattle.solo.specs.Calls.{SoloView, new_standing}
 use Rattle.solo.specs.Settling.{View, HaveMet}
 
-module _ {J : Type 0} where
-  -- how many jobs each of these processors ever queued
-  abbrev pub queued_on : List (CpuView J) → List ℕ
-  queued_on cpus = map (λ c. queued_in c.calls.processor c.calls.seen) cpus
+-- how many jobs each of these processors ever queued
+abbrev pub queued_on : List (CpuView (Unit {0})) → List ℕ
+queued_on cpus = map (λ c. queued_in c.calls.processor c.calls.seen) cpus
 
-  -- and how many of these are finished
-  abbrev pub finished_on : List (CpuView J) → List ℕ
-  finished_on cpus = map (λ c. finished_in c.calls.processor c.calls.seen) cpus
+-- and how many of these are finished
+abbrev pub finished_on : List (CpuView (Unit {0})) → List ℕ
+finished_on cpus = map (λ c. finished_in c.calls.processor c.calls.seen) cpus
 
 -- with these tally words, this asked for, these calls, and this engine
 abbrev pub seen_as : TableId → Limits → ℕ → List ℕ → List ℕ → View → SoloView
@@ -32,11 +31,10 @@ abbrev pub seen_with : DomainView → Limits → ℕ → List ℕ → List ℕ �
 seen_with d limits asked queued finished None = nobody d limits
 seen_with d limits asked queued finished (Some v) = seen_as d.tallies limits asked queued finished v
 
-module _ {J : Type 0} where
-  -- as the first processor knows it: what lies there, and what was asked for; and as each knows its own calls
-  abbrev pub seen_first : DomainView → Limits → List (CpuView J) → SoloView
-  seen_first d limits [] = nobody d limits
-  seen_first d limits (c ∷ cpus) = seen_with d limits (greatest c.needs.seen) (queued_on (c ∷ cpus)) (finished_on (c ∷ cpus)) (lies c.turn)
+-- as the first processor knows it: what lies there, and what was asked for; and as each knows its own calls
+abbrev pub seen_first : DomainView → Limits → List (CpuView (Unit {0})) → SoloView
+seen_first d limits [] = nobody d limits
+seen_first d limits (c ∷ cpus) = seen_with d limits (greatest c.needs.seen) (queued_on (c ∷ cpus)) (finished_on (c ∷ cpus)) (lies c.turn)
 
 module _ {A : Type 0} where
   abbrev pub view_of_solo : solo.Inside A → SoloView

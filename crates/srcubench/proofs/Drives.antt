@@ -20,11 +20,12 @@ use Rattle.srcubench.specs.Driving.{DrivesPeriod, DrivesPeriods, WaitsAll, IsNew
 
 -- One more
 
-pub one_period : (n : ℕ) (c between c' : CpuView) → DrivesPeriods n c between → DrivesPeriod between c' → DrivesPeriods (n + 1) c c'
-one_period n c between c' before one = subst (λ k. DrivesPeriods k c c') (sym (add-one n)) (between, before, one)
+module _ {J : Type 0} where
+  pub one_period : (n : ℕ) (c between c' : CpuView J) → DrivesPeriods n c between → DrivesPeriod between c' → DrivesPeriods (n + 1) c c'
+  one_period n c between c' before one = subst (λ k. DrivesPeriods k c c') (sym (add-one n)) (between, before, one)
 
-pub one_wait : (n : ℕ) (c between c' : CpuView) → WaitsAll n c between → Synchronizes between c' → WaitsAll (n + 1) c c'
-one_wait n c between c' before one = subst (λ k. WaitsAll k c c') (sym (add-one n)) (between, before, one)
+  pub one_wait : (n : ℕ) (c between c' : CpuView J) → WaitsAll n c between → Synchronizes between c' → WaitsAll (n + 1) c c'
+  one_wait n c between c' before one = subst (λ k. WaitsAll k c c') (sym (add-one n)) (between, before, one)
 
 -- New processors
 
@@ -42,7 +43,7 @@ was_last cpus rest o c whole is =
 new_is_of : (d : DomainView) (bounds : Bounds) (tree : TableId) (shape : Shape) (k : ℕ) → d.processors ≡ bounds.processors → k < bounds.processors → IsOf d (new_cpu d bounds tree shape k)
 new_is_of d bounds tree shape k many there = record { domain = refl; bay = refl; home = refl; free = refl; asks = (k, refl); many = sym many; fits = record { domain = refl; tallies = refl; cpu = refl; there = subst (λ n. k < n) (sym many) there }; number = refl; seats = sym many; words = sym many }
 
-module _ (processors periods : ℕ) (d : DomainView) (cpus : List CpuView) (c : CpuView) (made : IsMade (record { processors = processors; sections = 1; periods = periods; cells = 0 }) d cpus) (some : 0 < length cpus) (is : c ≡ slice_index_or cpus (length cpus - 1) c) where
+module _ {J : Type 0} (processors periods : ℕ) (d : DomainView) (cpus : List (CpuView J)) (c : CpuView J) (made : IsMade (record { processors = processors; sections = 1; periods = periods; cells = 0 }) d cpus) (some : 0 < length cpus) (is : c ≡ slice_index_or cpus (length cpus - 1) c) where
   is_new : c ≡ new_cpu d (record { processors = processors; sections = 1; periods = periods; cells = 0 }) made.tree (record { processors = processors; nodes = made.nodes }) (length cpus - 1)
   is_new = is ∙ made.each (length cpus - 1) c (omega (arith, some))
 

@@ -11,7 +11,7 @@ use Rattle.sections.specs.Words.{is_held}
 use Rattle.sections.specs.Views as sections
 use Rattle.calls.specs.declared.entry.Entry.{Entry}
 use Rattle.calls.specs.declared.list.Receipt.{Receipt}
-use Rattle.calls.specs.Views.{ListView, BatchView, CallsView}
+use Rattle.calls.specs.Views.{CallSeatView, ListView, BatchView, CallsView}
 use Rattle.calls.specs.Calls.{IsTaken, TakesIn}
 use Rattle.domain.specs.Views.{DomainView, CpuView, IsOf}
 use Rattle.domain.specs.Waiting.{HasNoneOpen}
@@ -24,15 +24,15 @@ use Rattle.srcubench.specs.Calling.{QueuesAll, RunsBatch, RunsAll, AreOutcomes, 
 -- Queueing
 
 -- a job that is queued opens no reading
-call_none : (d : DomainView) (c c' : CpuView) (job : ℕ) (r : Receipt) → CallsIn d c job r c' → HasNoneOpen c → HasNoneOpen c'
+call_none : (d : DomainView) (c c' : CpuView ℕ) (job : ℕ) (r : Receipt ℕ) → CallsIn d c job r c' → HasNoneOpen c → HasNoneOpen c'
 call_none d c c' job r calls none = ap (λ l. length (filter (λ t. not (is_held t)) l)) (ap open_sections calls.queues.queues.note.adds.mine ∙ open_sections_plain c.cpu.mine (Note _ (Processor c.cpu.processor)) refl (λ s. refl)) ∙ none
 
-pub queues_none : (d : DomainView) (jobs : ℕ) (c c' : CpuView) → QueuesAll d jobs c c' → HasNoneOpen c → HasNoneOpen c'
+pub queues_none : (d : DomainView) (jobs : ℕ) (c c' : CpuView ℕ) → QueuesAll d jobs c c' → HasNoneOpen c → HasNoneOpen c'
 queues_none d zero c c' same none = subst HasNoneOpen (sym same) none
 queues_none d (suc n) c c' (between, r, before, calls) none = call_none d between c' n r calls (queues_none d n c between before none)
 
 -- one more
-pub one_job : (d : DomainView) (n : ℕ) (c between c' : CpuView) (r : Receipt) → QueuesAll d n c between → CallsIn d between n r c' → QueuesAll d (n + 1) c c'
+pub one_job : (d : DomainView) (n : ℕ) (c between c' : CpuView ℕ) (r : Receipt ℕ) → QueuesAll d n c between → CallsIn d between n r c' → QueuesAll d (n + 1) c c'
 one_job d n c between c' r before calls = subst (λ k. QueuesAll d k c c') (sym (add-one n)) (between, r, before, calls)
 
 -- Batches
@@ -45,28 +45,28 @@ few_of l l' (e ∷ es) b n is many =
     omega (arith, same, many, least)
 
 -- a batch has eight jobs at most
-pub few_taken : {J : Type 0} (k : CallsView) (p : ℕ) (c c' : sections.CpuView) (b : BatchView J) → TakesIn k p 8 c (Some b) c' → length b.entries ≤ 8
-few_taken k p c c' b t = few_of t.list t.list' t.takes.gone b _ t.takes.taken_is t.takes.many
+pub few_taken : {J : Type 0} (k : CallsView) (p : ℕ) (c : sections.CpuView) (s : CallSeatView J) (c' : sections.CpuView) (s' : CallSeatView J) (b : BatchView J) → TakesIn k p 8 c s (Some b) c' s' → length b.entries ≤ 8
+few_taken k p c s c' s' b t = few_of t.list t.list' t.takes.gone b _ t.takes.taken_is t.takes.gives.many
 
 -- one more
-pub one_batch : (d : DomainView) (came more : ℕ) (c b c' : CpuView) → RunsAll d came c b → RunsBatch d more b c' → RunsAll d (came + more) c c'
+pub one_batch : (d : DomainView) (came more : ℕ) (c b c' : CpuView ℕ) → RunsAll d came c b → RunsBatch d more b c' → RunsAll d (came + more) c c'
 one_batch d came more c b c' before one = record { batches = more ∷ before.batches; runs = (b, before.runs, one); came = ap (λ n. n + more) before.came }
 
-pub no_batch : (d : DomainView) (c : CpuView) → RunsAll d 0 c c
+pub no_batch : (d : DomainView) (c : CpuView ℕ) → RunsAll d 0 c c
 no_batch d c = record { batches = []; runs = refl; came = refl }
 
 -- New processors
 
 -- no reading is open there
-pub all_ready : {bounds : _} (d : DomainView) (cpus : List CpuView) → IsMade bounds d cpus → IsAllOf d cpus → All (λ c. IsOf d c × HasNoneOpen c) cpus
+pub all_ready : {bounds : _} (d : DomainView) (cpus : List (CpuView ℕ)) → IsMade bounds d cpus → IsAllOf d cpus → All (λ c. IsOf d c × HasNoneOpen c) cpus
 all_ready d cpus made all = λ k c lt. (all.here k c lt, subst HasNoneOpen (sym (made.each k c lt)) refl)
 
 -- where there was no error, it became another one
-became : (Becomes : CpuView → Type 0) (r : Result CpuView JobError) → IsOk r → IfOk r Becomes → (last : CpuView) × Becomes last
+became : (Becomes : CpuView ℕ → Type 0) (r : Result (CpuView ℕ) JobError) → IsOk r → IfOk r Becomes → (last : CpuView ℕ) × Becomes last
 became Becomes (Ok last) ok is = (last, is)
 became Becomes (Err e) ok is = absurd cc
 
-pub on_each : (Becomes : DomainView → CpuView → CpuView → Type 0) (bounds : Bounds) (d : DomainView) (cpus : List CpuView) (outcomes : List (Result CpuView JobError)) → IsMade bounds d cpus → AreOutcomes (Becomes d) cpus outcomes → All IsOk outcomes → OnEachOfNew bounds.processors Becomes
+pub on_each : (Becomes : DomainView → CpuView ℕ → CpuView ℕ → Type 0) (bounds : Bounds) (d : DomainView) (cpus : List (CpuView ℕ)) (outcomes : List (Result (CpuView ℕ) JobError)) → IsMade bounds d cpus → AreOutcomes (Becomes d) cpus outcomes → All IsOk outcomes → OnEachOfNew bounds.processors Becomes
 on_each Becomes bounds d cpus outcomes made are all = record {
   domain = d;
   bounds = bounds;
@@ -74,10 +74,10 @@ on_each Becomes bounds d cpus outcomes made are all = record {
   tree = made.tree;
   shape = record { processors = bounds.processors; nodes = made.nodes };
   each = λ k lt.
-      let c : CpuView = new_cpu d bounds made.tree (record { processors = bounds.processors; nodes = made.nodes }) k in
-      let r : Result CpuView JobError = Ok c in
+      let c : CpuView ℕ = new_cpu d bounds made.tree (record { processors = bounds.processors; nodes = made.nodes }) k in
+      let r : Result (CpuView ℕ) JobError = Ok c in
       let count = made.count in
       let many = are.count in
       let there : k < length cpus = omega (arith, lt, count) in
-      became (Becomes d c) (slice_index_or outcomes k r) (all k r (omega (arith, there, many))) (subst (λ (z : CpuView). IfOk (slice_index_or outcomes k r) (Becomes d z)) (made.each k c there) (are.each k c r there));
+      became (Becomes d c) (slice_index_or outcomes k r) (all k r (omega (arith, there, many))) (subst (λ (z : CpuView ℕ). IfOk (slice_index_or outcomes k r) (Becomes d z)) (made.each k c there) (are.each k c r there));
 }

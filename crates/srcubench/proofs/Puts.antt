@@ -9,9 +9,10 @@ use Rattle.domain.specs.Making.{new_cpu, IsMade}
 use Rattle.domain.specs.Meetings.{IsAllOf}
 use Rattle.srcubench.specs.Putting.{PutsOnce, PutsOften, HavePut}
 
--- one more
-pub one_put : (n : ℕ) (w : WriterView) (c : CpuView) (x : WriterView) (d : CpuView) (w' : WriterView) (c' : CpuView) → PutsOften n w c x d → PutsOnce n x d w' c' → PutsOften (n + 1) w c w' c'
-one_put n w c x d w' c' before once = subst (λ k. PutsOften k w c w' c') (sym (add-one n)) (x, d, before, once)
+module _ {J : Type 0} where
+  -- one more
+  pub one_put : (n : ℕ) (w : WriterView) (c : CpuView J) (x : WriterView) (d : CpuView J) (w' : WriterView) (c' : CpuView J) → PutsOften n w c x d → PutsOnce n x d w' c' → PutsOften (n + 1) w c w' c'
+  one_put n w c x d w' c' before once = subst (λ k. PutsOften k w c w' c') (sym (add-one n)) (x, d, before, once)
 
 abbrev of_one : ℕ → Bounds
 of_one times = record { processors = 1; sections = 1; periods = times; cells = 1 }
@@ -24,7 +25,7 @@ new_pen d writers w new at =
     at ∙ (ap (λ k. slice_index_or writers k w) last ∙ new.each 0 w (omega arith))
 
 -- the processor of a new domain of one
-module _ (times : ℕ) (d : DomainView) (cpus : List CpuView) (c : CpuView) (made : IsMade (of_one times) d cpus) (some : 0 < length cpus) (is : c ≡ slice_index_or cpus (length cpus - 1) c) where
+module _ (times : ℕ) (d : DomainView) (cpus : List (CpuView (Unit {0}))) (c : CpuView (Unit {0})) (made : IsMade (of_one times) d cpus) (some : 0 < length cpus) (is : c ≡ slice_index_or cpus (length cpus - 1) c) where
   new_one : c ≡ new_cpu d (of_one times) made.tree (record { processors = 1; nodes = made.nodes }) 0
   new_one =
       let count = made.count in
@@ -32,14 +33,14 @@ module _ (times : ℕ) (d : DomainView) (cpus : List CpuView) (c : CpuView) (mad
       is ∙ (ap (λ k. slice_index_or cpus k c) last ∙ made.each 0 c some)
 
   pub of_this : IsAllOf d cpus → IsOf d c
-  of_this all = subst (λ (z : CpuView). IsOf d z) (sym is) (all.here (length cpus - 1) c (omega (arith, some)))
+  of_this all = subst (λ (z : CpuView (Unit {0})). IsOf d z) (sym is) (all.here (length cpus - 1) c (omega (arith, some)))
 
-  pub have_put : (w w' : WriterView) (c' : CpuView) → w ≡ new_writer d.domain 0 2 → PutsOften times w c w' c' → HavePut times
+  pub have_put : (w w' : WriterView) (c' : CpuView (Unit {0})) → w ≡ new_writer d.domain 0 2 → PutsOften times w c w' c' → HavePut times
   have_put w w' c' new puts = record {
     domain = d;
     tree = made.tree;
     shape = record { processors = 1; nodes = made.nodes };
     last_writer = w';
     last = c';
-    puts = subst (λ (z : WriterView × CpuView). PutsOften times z.0 z.1 w' c') (λ k. (new k, new_one k)) puts;
+    puts = subst (λ (z : WriterView × CpuView (Unit {0})). PutsOften times z.0 z.1 w' c') (λ k. (new k, new_one k)) puts;
   }

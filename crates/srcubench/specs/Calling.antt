@@ -13,25 +13,25 @@ use Rattle.domain.specs.Making.{new_cpu}
 use Rattle.srcubench.specs.declared.calling.JobError.{JobError}
 
 -- so many jobs were queued, one behind the other, each the number of its place
-abbrev pub QueuesAll : DomainView → ℕ → CpuView → CpuView → Type 0
+abbrev pub QueuesAll : DomainView → ℕ → CpuView ℕ → CpuView ℕ → Type 0
 QueuesAll d zero c c' = c' ≡ c
-QueuesAll d (suc n) c c' = (between : CpuView) × (receipt : Receipt) × QueuesAll d n c between × CallsIn d between n receipt c'
+QueuesAll d (suc n) c c' = (between : CpuView ℕ) × (receipt : Receipt ℕ) × QueuesAll d n c between × CallsIn d between n receipt c'
 
 -- a batch of so many jobs was taken on this processor, each after a full grace period, and was finished once all had come out
-pub record RunsBatch (d : DomainView) (many : ℕ) (c c' : CpuView) : Type 0 where
-  pub taken : CpuView
+pub record RunsBatch (d : DomainView) (many : ℕ) (c c' : CpuView ℕ) : Type 0 where
+  pub taken : CpuView ℕ
   pub batch : BatchView ℕ
-  pub takes : TakesIn (callbacks_of d) c.cpu.processor 8 c.cpu (Some batch) taken.cpu
-  pub no_other : taken ≡ with_cpu taken.cpu c
+  pub takes : TakesIn (callbacks_of d) c.cpu.processor 8 c.cpu c.calls (Some batch) taken.cpu taken.calls
+  pub no_other : taken ≡ with_calls taken.calls (with_cpu taken.cpu c)
   pub handed : AreHanded batch.entries taken.cpu.seen
   pub came : length batch.entries ≡ many
   pub finishes : FinishesIn (callbacks_of d) taken.calls (record batch { entries = [] }) c'.calls
   pub no_more : c' ≡ with_calls c'.calls taken
 
 -- batches of so many jobs each were run, the last one's number first
-abbrev pub RunsBatches : DomainView → List ℕ → CpuView → CpuView → Type 0
+abbrev pub RunsBatches : DomainView → List ℕ → CpuView ℕ → CpuView ℕ → Type 0
 RunsBatches d [] c c' = c' ≡ c
-RunsBatches d (many ∷ others) c c' = (between : CpuView) × RunsBatches d others c between × RunsBatch d many between c'
+RunsBatches d (many ∷ others) c c' = (between : CpuView ℕ) × RunsBatches d others c between × RunsBatch d many between c'
 
 -- how many jobs came out of such batches
 abbrev pub jobs_of : List ℕ → ℕ
@@ -39,32 +39,32 @@ jobs_of [] = 0
 jobs_of (many ∷ others) = jobs_of others + many
 
 -- so many jobs came out
-pub record RunsAll (d : DomainView) (jobs : ℕ) (c c' : CpuView) : Type 0 where
+pub record RunsAll (d : DomainView) (jobs : ℕ) (c c' : CpuView ℕ) : Type 0 where
   pub batches : List ℕ
   pub runs : RunsBatches d batches c c'
   pub came : jobs_of batches ≡ jobs
 
 -- so many jobs were queued on a processor, it waited for a grace period, and as many came out there
-pub record PassesAll (d : DomainView) (jobs : ℕ) (c c' : CpuView) : Type 0 where
-  pub queued : CpuView
-  pub waited : CpuView
+pub record PassesAll (d : DomainView) (jobs : ℕ) (c c' : CpuView ℕ) : Type 0 where
+  pub queued : CpuView ℕ
+  pub waited : CpuView ℕ
   pub queues : QueuesAll d jobs c queued
   pub waits : Synchronizes queued waited
   pub runs : RunsAll d jobs waited c'
 
 -- each of these processors, where there was no error, became another one in this way
-pub record AreOutcomes (Becomes : CpuView → CpuView → Type 0) (cpus : List CpuView) (outcomes : List (Result CpuView JobError)) : Type 0 where
+pub record AreOutcomes (Becomes : CpuView ℕ → CpuView ℕ → Type 0) (cpus : List (CpuView ℕ)) (outcomes : List (Result (CpuView ℕ) JobError)) : Type 0 where
   pub count : length outcomes ≡ length cpus
-  pub each : (k : ℕ) (c : CpuView) (r : Result CpuView JobError) → k < length cpus → IfOk (slice_index_or outcomes k r) (Becomes (slice_index_or cpus k c))
+  pub each : (k : ℕ) (c : CpuView ℕ) (r : Result (CpuView ℕ) JobError) → k < length cpus → IfOk (slice_index_or outcomes k r) (Becomes (slice_index_or cpus k c))
 
 -- each processor of a new domain of so many became another one in this way
-pub record OnEachOfNew (threads : ℕ) (Becomes : DomainView → CpuView → CpuView → Type 0) : Type 0 where
+pub record OnEachOfNew (threads : ℕ) (Becomes : DomainView → CpuView ℕ → CpuView ℕ → Type 0) : Type 0 where
   pub domain : DomainView
   pub bounds : Bounds
   pub many : bounds.processors ≡ threads
   pub tree : TableId
   pub shape : Shape
-  pub each : (k : ℕ) → k < threads → (last : CpuView) × Becomes domain (new_cpu domain bounds tree shape k) last
+  pub each : (k : ℕ) → k < threads → (last : CpuView ℕ) × Becomes domain (new_cpu domain bounds tree shape k) last
 
 abbrev pub HaveQueued : ℕ → ℕ → Type 0
 HaveQueued threads jobs = OnEachOfNew threads (λ d. QueuesAll d jobs)

@@ -9,43 +9,44 @@ use Rattle.domain.specs.Turns.{StartsIn, AdvancesIn}
 use Rattle.domain.specs.Waiting.{Synchronizes}
 use Rattle.domain.specs.Making.{new_cpu}
 
--- in three turns of the engine a period started, flipped and ended
-pub record DrivesPeriod (c c' : CpuView) : Type 0 where
-  pub started : CpuView
-  pub flipped : CpuView
-  pub at_start : ℕ
-  pub index : Index
-  pub at_end : ℕ
-  pub starts : StartsIn c at_start started
-  pub flips : AdvancesIn started (Flipped index) flipped
-  pub ends : AdvancesIn flipped (Ended at_end) c'
+module _ {J : Type 0} where
+  -- in three turns of the engine a period started, flipped and ended
+  pub record DrivesPeriod (c c' : CpuView J) : Type 0 where
+    pub started : CpuView J
+    pub flipped : CpuView J
+    pub at_start : ℕ
+    pub index : Index
+    pub at_end : ℕ
+    pub starts : StartsIn c at_start started
+    pub flips : AdvancesIn started (Flipped index) flipped
+    pub ends : AdvancesIn flipped (Ended at_end) c'
 
-abbrev pub DrivesPeriods : ℕ → CpuView → CpuView → Type 0
-DrivesPeriods zero c c' = c' ≡ c
-DrivesPeriods (suc n) c c' = (between : CpuView) × DrivesPeriods n c between × DrivesPeriod between c'
+  abbrev pub DrivesPeriods : ℕ → CpuView J → CpuView J → Type 0
+  DrivesPeriods zero c c' = c' ≡ c
+  DrivesPeriods (suc n) c c' = (between : CpuView J) × DrivesPeriods n c between × DrivesPeriod between c'
 
--- so many calls of `synchronize` came back
-abbrev pub WaitsAll : ℕ → CpuView → CpuView → Type 0
-WaitsAll zero c c' = c' ≡ c
-WaitsAll (suc n) c c' = (between : CpuView) × WaitsAll n c between × Synchronizes between c'
+  -- so many calls of `synchronize` came back
+  abbrev pub WaitsAll : ℕ → CpuView J → CpuView J → Type 0
+  WaitsAll zero c c' = c' ≡ c
+  WaitsAll (suc n) c c' = (between : CpuView J) × WaitsAll n c between × Synchronizes between c'
 
--- a processor of a new domain of so many
-pub record IsNewOf (processors periods : ℕ) (c : CpuView) : Type 0 where
-  pub domain : DomainView
-  pub tree : TableId
-  pub shape : Shape
-  pub number : ℕ
-  pub there : number < processors
-  pub new : c ≡ new_cpu domain (record { processors = processors; sections = 1; periods = periods; cells = 0 }) tree shape number
+  -- a processor of a new domain of so many
+  pub record IsNewOf (processors periods : ℕ) (c : CpuView J) : Type 0 where
+    pub domain : DomainView
+    pub tree : TableId
+    pub shape : Shape
+    pub number : ℕ
+    pub there : number < processors
+    pub new : c ≡ new_cpu domain (record { processors = processors; sections = 1; periods = periods; cells = 0 }) tree shape number
 
 pub record HaveDriven (processors periods : ℕ) : Type 0 where
-  pub first : CpuView
-  pub last : CpuView
+  pub first : CpuView (Unit {0})
+  pub last : CpuView (Unit {0})
   pub new : IsNewOf processors periods first
   pub drives : DrivesPeriods periods first last
 
 pub record HaveWaited (processors times : ℕ) : Type 0 where
-  pub first : CpuView
-  pub last : CpuView
+  pub first : CpuView (Unit {0})
+  pub last : CpuView (Unit {0})
   pub new : IsNewOf processors times first
   pub waits : WaitsAll times first last

@@ -2,6 +2,7 @@
 use Rattle.domain.specs.Views.{DomainView, CpuView, IsOf}
 use Rattle.domain.specs.Waiting.{HasNoneOpen}
 
--- a processor of this domain with no section open
-abbrev pub IsReady : DomainView → CpuView → Type 0
-IsReady d c = IsOf d c × HasNoneOpen c
+module _ {J : Type 0} where
+  -- a processor of this domain with no section open
+  abbrev pub IsReady : DomainView → CpuView J → Type 0
+  IsReady d c = IsOf d c × HasNoneOpen c

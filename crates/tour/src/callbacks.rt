@@ -74,7 +74,7 @@ fn serve<R: Wait>(
     for _ in rt.forever() {
         domain.advance(rt, &mut cpu)?;
         ran = ran.saturating_add(run_ready(rt, domain, &mut cpu, processor, archive)?);
-        let (queued, _) = domain.lens(rt, processor)?;
+        let (queued, _) = domain.lens(rt, &mut cpu, processor)?;
         if queued == [0; 4] {
             break;
         }

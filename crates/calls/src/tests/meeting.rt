@@ -10,7 +10,7 @@ use std::sync::Wait;
 use std::test::Fail;
 
 /// The callbacks of a new domain of two processors, and what these need for them.
-fn pair(alloc: Global) -> Result<(Calls<u64>, (Cpu, CallSeat), (Cpu, CallSeat)), Fail>
+fn pair(alloc: Global) -> Result<(Calls<u64>, (Cpu, CallSeat<u64>), (Cpu, CallSeat<u64>)), Fail>
     ensures { IfOk result (λ r. MayTakeIn r.0 r.1.0 r.1.1 r.1.1.processor × MayTakeIn r.0 r.2.0 r.2.1 r.2.1.processor) }
 {
     let Made {
@@ -25,7 +25,7 @@ fn pair(alloc: Global) -> Result<(Calls<u64>, (Cpu, CallSeat), (Cpu, CallSeat)),
 }
 
 /// Whether the two are of one processor.
-fn fits(calls: &Calls<u64>, cpu: &Cpu, seat: &CallSeat) -> bool
+fn fits(calls: &Calls<u64>, cpu: &Cpu, seat: &CallSeat<u64>) -> bool
     requires { MayTakeIn calls.now cpu.now seat.now seat.now.processor }
     ensures { IsTrue result → FitsIn calls.now cpu.now seat.now }
 {
@@ -38,7 +38,7 @@ fn queue_many<R: Wait>(
     rt: &R,
     calls: &Calls<u64>,
     cpu: &mut Cpu,
-    seat: &mut CallSeat,
+    seat: &mut CallSeat<u64>,
     jobs: u64,
 ) -> bool
     requires { FitsIn calls.now cpu.old seat.old }
@@ -55,7 +55,7 @@ fn queue_many<R: Wait>(
 }
 
 /// The totals that the first seat finds once it has covered the other, which is then admitted to what it has seen.
-fn meet(calls: &Calls<u64>, seat: &mut CallSeat, other: &mut CallSeat) -> Totals
+fn meet(calls: &Calls<u64>, seat: &mut CallSeat<u64>, other: &mut CallSeat<u64>) -> Totals
     requires { (seat.old.tallies ≡ calls.now.tallies) × (other.old.tallies ≡ calls.now.tallies) }
     ensures { IsSameSeat seat.old seat.new × IsSameSeat other.old other.new }
 {

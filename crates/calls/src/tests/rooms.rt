@@ -58,7 +58,7 @@ fn make_in<'a>(
     heap: &'a LocalHeap,
     engine: &mut EngineSeat,
     cpu: &Cpu,
-) -> Result<(Calls<u64, &'a LocalHeap>, CallSeat<&'a LocalHeap>), AllocError>
+) -> Result<(Calls<u64, &'a LocalHeap>, CallSeat<u64, &'a LocalHeap>), AllocError>
     requires engine { (engine.old.processors ≡ 1) × (cpu.now.domain ≡ engine.old.domain) }
     requires cpu { cpu.now.processor ≡ 0 }
     ensures { IfOk result (λ r. FitsIn r.0 cpu.now r.1) }
@@ -88,7 +88,7 @@ fn fill<R: Wait + Abort>(
     rt: &R,
     calls: &Calls<u64, &LocalHeap>,
     cpu: &mut Cpu,
-    seat: &mut CallSeat<&LocalHeap>,
+    seat: &mut CallSeat<u64, &LocalHeap>,
     first: u64,
     end: u64,
 ) -> u64
@@ -96,12 +96,12 @@ fn fill<R: Wait + Abort>(
     ensures { FitsIn calls.now cpu.new seat.new }
 {
     for job in first..end {
-        let before = calls.lens(rt, 0);
+        let before = calls.lens(rt, seat, 0);
         match calls.call(rt, cpu, seat, job) {
             Ok(receipt) => assert_eq!(rt; receipt.k, job),
             Err(refused) => {
                 let wanted = ((job, CallRefusal::Memory), before);
-                assert_eq!(rt; (refused, calls.lens(rt, 0)), wanted);
+                assert_eq!(rt; (refused, calls.lens(rt, seat, 0)), wanted);
                 return job;
             }
         }
@@ -115,7 +115,7 @@ fn fill_without_room<R: Wait + Abort + AllocGlobal>(
     heap: &LocalHeap,
     calls: &Calls<u64, &LocalHeap>,
     cpu: &mut Cpu,
-    seat: &mut CallSeat<&LocalHeap>,
+    seat: &mut CallSeat<u64, &LocalHeap>,
     first: u64,
     end: u64,
 ) -> Result<u64, AllocError>
@@ -138,17 +138,17 @@ fn fill_by_turns<R: Wait + Abort + AllocGlobal>(
     heap: &LocalHeap,
     calls: &Calls<u64, &LocalHeap>,
     cpu: &mut Cpu,
-    seat: &mut CallSeat<&LocalHeap>,
+    seat: &mut CallSeat<u64, &LocalHeap>,
 ) -> Result<([u64; 4], [Lens; 2]), AllocError>
     requires { FitsIn calls.now cpu.old seat.old }
 {
     let none = fill_without_room(rt, heap, calls, cpu, seat, 0, 20)?;
-    let empty = calls.lens(rt, 0);
+    let empty = calls.lens(rt, seat, 0);
     let one = fill(rt, calls, cpu, seat, 0, 1);
     // There is room for some more before the list has to grow.
     let some = fill_without_room(rt, heap, calls, cpu, seat, 1, 20)?;
     let all = fill(rt, calls, cpu, seat, some, 20);
-    Ok(([none, one, some, all], [empty, calls.lens(rt, 0)]))
+    Ok(([none, one, some, all], [empty, calls.lens(rt, seat, 0)]))
 }
 
 /// Would catch a refused job that stays, or that is counted, and a list that takes no more jobs once one was refused.

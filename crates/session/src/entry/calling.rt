@@ -125,9 +125,11 @@ impl<'a, A: Allocator> Entry<&'a A> {
     }
 
     /// How the jobs of a processor wait; refused where the domain has no memory.
-    pub(super) fn segs(&self, rt: &impl Wait, processor: u64) -> Reply
-        requires { processor < self.now.state.course.standing.processors }
-        ensures { Does self.now.limits (Act.Segs processor) self.now.state result self.now.state }
+    pub(super) fn segs(&mut self, rt: &impl Wait, processor: u64) -> Reply
+        requires { processor < self.old.state.course.standing.processors }
+        ensures limits { self.new.limits ≡ self.old.limits }
+        ensures name { self.new.state.name ≡ self.old.state.name }
+        ensures does { Does self.old.limits (Act.Segs processor) self.old.state result self.new.state }
     {
         let Ok(lens) = self.domain.lens(rt, processor) else {
             return Reply::Refused(Command::Segs, Cause::Memory);

@@ -1,6 +1,6 @@
 //! Callbacks: a job is queued on a processor, and given out after a full grace period. Who queues a job keeps what it
 //! is; the domain has only that there is one.
-ghost use Rattle.std.specs.Prelude.{◌≡◌, ◌^◌, ◌<◌, ◌≤◌, [], IfOk, MatchResult};
+ghost use Rattle.std.specs.Prelude.{◌≡◌, ◌^◌, ◌<◌, ◌≤◌, [], IfOk, IsOk, MatchResult};
 ghost use Rattle.solo.specs.Calls.{IsSameDomain, IsBatchOf, Queues, QueuesNone, Takes, Runs, Finishes, TellsLens};
 
 use crate::members::Members;
@@ -62,11 +62,20 @@ impl<A: Allocator + Copy> Solo<A> {
 
     /// How many jobs of a processor are done, wait for the first and for the second number, and have none yet; and the two
     /// numbers, 0 where there is none. What is out isn't counted. It takes no memory, so it always succeeds.
-    pub fn lens(&self, rt: &impl Wait, processor: u64) -> Result<([usize; 4], [u64; 2]), Memory>
-        requires { processor < self.now.course.standing.processors }
-        ensures { TellsLens self.now processor result }
+    pub fn lens(
+        &mut self,
+        rt: &impl Wait,
+        processor: u64,
+    ) -> Result<([usize; 4], [u64; 2]), Memory>
+        requires { processor < self.old.course.standing.processors }
+        ensures after { self.new ≡ self.old }
+        ensures told { IfOk result (TellsLens self.old processor) }
+        ensures ok { IsOk result }
     {
-        self.members.domain.lens(rt, processor as u16)
+        let cpu = &mut self.members.cpus[processor as usize];
+        let lens = self.members.domain.lens(rt, cpu, processor as u16);
+        self.members.settle(rt);
+        lens
     }
 }
 

@@ -10,7 +10,7 @@ use Rattle.tour.proofs.trio.Goals as goal
 
 pub returns-clause-cpus : goal.returns-clause-cpus
 returns-clause-cpus c =
-    let P : CpuView → Type 0 = IsReady c.in_ok-domain.domain in
+    let P : CpuView _ → Type 0 = IsReady c.in_ok-domain.domain in
     let all : All P c.in_ok-domain.cpus.items = new_ones_are_ready _ _ c.in_ok-domain.ensures.made in
     let third = All-pop P _ _ _ c.pop.ensures.items all in
     let second = All-pop P _ _ _ c.pop-2.ensures.items third.0 in

@@ -10,7 +10,7 @@ use Rattle.shelf.proofs.tests.domain_of_five.Goals as goal
 
 pub returns-clause-writer : goal.returns-clause-writer
 returns-clause-writer c =
-    let P : CpuView → Type 0 = IsOf c.in_ok-domain.domain in
+    let P : CpuView _ → Type 0 = IsOf c.in_ok-domain.domain in
     let fourth = All-pop P _ _ _ c.pop-2.ensures.items c.in_ok-domain.ensures.all.here in
     let third = All-pop P _ _ _ c.pop-3.ensures.items fourth.0 in
     let second = All-pop P _ _ _ c.pop-4.ensures.items third.0 in
@@ -31,7 +31,7 @@ returns-clause-cell c =
 
 pub returns-clause-first : goal.returns-clause-first
 returns-clause-first c =
-    let P : CpuView → Type 0 = IsOf c.in_ok-domain.domain in
+    let P : CpuView _ → Type 0 = IsOf c.in_ok-domain.domain in
     let fourth = All-pop P _ _ _ c.pop-2.ensures.items c.in_ok-domain.ensures.all.here in
     let third = All-pop P _ _ _ c.pop-3.ensures.items fourth.0 in
     let second = All-pop P _ _ _ c.pop-4.ensures.items third.0 in
@@ -43,7 +43,7 @@ returns-clause-first c =
 
 pub returns-clause-last : goal.returns-clause-last
 returns-clause-last c =
-    let P : CpuView → Type 0 = IsOf c.in_ok-domain.domain in
+    let P : CpuView _ → Type 0 = IsOf c.in_ok-domain.domain in
     let fourth = All-pop P _ _ _ c.pop-2.ensures.items c.in_ok-domain.ensures.all.here in
     let third = All-pop P _ _ _ c.pop-3.ensures.items fourth.0 in
     let at_third : P c.unwrap-third.result = rw c.unwrap-third.ensures at third.1 in

@@ -8,7 +8,7 @@ use Rattle.soak.proofs.run.end.Goals.{in-Some, in_default}
 
 pub cleanup-requires : goal.cleanup-requires
 cleanup-requires c =
-    let Here : CpuView → Type 0 = IsOf c.args.domain in
+    let Here : CpuView _ → Type 0 = IsOf c.args.domain in
     let driving : Here c.match-close.driver.cpu =
     elim c.match-close.branch [
       | in-Some w ↦ subst (λ (v : Driver). Here v.cpu) (sym w.driver-is) (w.up_read.ensures.stays _ c.requires.driver.here)

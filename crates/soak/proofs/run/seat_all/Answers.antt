@@ -29,7 +29,7 @@ pub loop-seat-preserved : goal.loop-seat-preserved
 loop-seat-preserved c =
     let before = c.loop-seat.invariant in
     let seat : SeatView ReadingView = c.in-Some.seat in
-    let Here : CpuView → Type 0 = IsOf c.args.domain.now in
+    let Here : CpuView _ → Type 0 = IsOf c.args.domain.now in
     let OfDesk : SeatView ReadingView → Type 0 = λ v. v.desk ≡ c.args.desk.now.desk in
     let Home : SeatView ReadingView → Type 0 = λ v. v.domain ≡ c.args.domain.now.domain in
     let cpus = All-pop Here _ _ _ c.pop-in-Some.ensures.items before.cpus in

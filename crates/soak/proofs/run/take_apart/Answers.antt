@@ -30,7 +30,7 @@ pub loop-worker-preserved : goal.loop-worker-preserved
 loop-worker-preserved c =
     let before = c.loop-worker.invariant in
     let worker : Worker = c.in-Some.worker in
-    let Here : CpuView → Type 0 = IsOf c.args.domain.now in
+    let Here : CpuView _ → Type 0 = IsOf c.args.domain.now in
     let OfDesk : SeatView ReadingView → Type 0 = λ v. v.desk ≡ c.args.desk.now.desk in
     let AtWork : Worker → Type 0 = IsAtWork c.args.domain.now c.args.desk.now in
     let each = All-pop AtWork _ _ (Some worker) c.in-Some.ensures.items before.each in record {

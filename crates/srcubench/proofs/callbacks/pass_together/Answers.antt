@@ -1,5 +1,5 @@
 -- Each processor is the domain's, and no reading is open there.
-use Rattle.std.proofs.Common.{◌≡◌, sym, subst}
+use Rattle.std.proofs.Common.{◌≡◌, ℕ, sym, subst}
 use Rattle.std.proofs.lemmas.List.Elements.{All-get_or}
 use Rattle.domain.specs.Views.{CpuView, IsOf}
 use Rattle.domain.specs.Waiting.{HasNoneOpen}
@@ -7,5 +7,5 @@ use Rattle.srcubench.proofs.callbacks.pass_together.Goals as goal
 
 pub map_vec-requires-after_bounds : goal.map_vec-requires-after_bounds
 map_vec-requires-after_bounds g c κs within i x lt e =
-    let ready : IsOf c.args.domain.now x × HasNoneOpen x = subst (λ (z : CpuView). IsOf c.args.domain.now z × HasNoneOpen z) (sym e) (All-get_or (λ (z : CpuView). IsOf c.args.domain.now z × HasNoneOpen z) c.args.cpus.items i x lt c.requires.cpus) in
+    let ready : IsOf c.args.domain.now x × HasNoneOpen x = subst (λ (z : CpuView ℕ). IsOf c.args.domain.now z × HasNoneOpen z) (sym e) (All-get_or (λ (z : CpuView ℕ). IsOf c.args.domain.now z × HasNoneOpen z) c.args.cpus.items i x lt c.requires.cpus) in
     λ κs' pointer borrowed fits κs'' lives. (ready.0, (ready.1, c.requires.few))

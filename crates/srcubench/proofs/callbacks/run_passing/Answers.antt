@@ -1,5 +1,5 @@
 -- Each processor was a new one.
-use Rattle.std.proofs.Common.{List, All, Result, IsOk, subst}
+use Rattle.std.proofs.Common.{ℕ, List, All, Result, IsOk, subst}
 use Rattle.domain.specs.Views.{CpuView}
 use Rattle.srcubench.specs.declared.calling.JobError.{JobError}
 use Rattle.srcubench.specs.Calling.{PassesAll}
@@ -11,5 +11,5 @@ pass_together-requires-clause-cpus g c κs within = all_ready _ _ c.in_ok-domain
 
 pub returns-clause-passed : goal.returns-clause-passed
 returns-clause-passed g c =
-    let none = subst (λ (l : List (Result CpuView JobError)). All IsOk l) c.as_slice.ensures.value c.in_ok-first_error.ensures in
+    let none = subst (λ (l : List (Result (CpuView ℕ) JobError)). All IsOk l) c.as_slice.ensures.value c.in_ok-first_error.ensures in
     on_each (λ d. PassesAll d c.args.jobs) _ _ _ _ c.in_ok-domain.ensures.made c.in_ok-outcomes.ensures none

@@ -8,6 +8,6 @@ use Rattle.srcubench.proofs.calling.run_batch.Goals as goal
 
 pub run_jobs-came-requires : goal.run_jobs-came-requires
 run_jobs-came-requires g c =
-    let takes = subst (λ (t : Option (BatchView ℕ)). TakesIn (callbacks_of c.args.domain.now) c.processor-processor.result 8 c.args.cpu.now.cpu t c.take_ready.new.cpu.cpu) c.in-Ok-Some.field-0-is c.in-Ok-Some.ensures.takes in
-    let few = few_taken _ _ _ _ _ takes in
+    let takes = subst (λ (t : Option (BatchView ℕ)). TakesIn (callbacks_of c.args.domain.now) c.processor-processor.result 8 c.args.cpu.now.cpu c.args.cpu.now.calls t c.take_ready.new.cpu.cpu c.take_ready.new.cpu.calls) c.in-Ok-Some.field-0-is c.in-Ok-Some.ensures.takes in
+    let few = few_taken _ _ _ _ _ _ _ takes in
     search rules

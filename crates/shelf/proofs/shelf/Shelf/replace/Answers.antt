@@ -39,5 +39,5 @@ returns-clause-replaces g c =
         since = subst (λ (l : List Event). IsBeginning l filled.seen) gives.seen fills.since;
         clear = subst (λ (cell : ℕ). IsClear filled.seen cell slot.slot) gives.same.cell fills.clear;
       };
-      puts = subst (λ (z : ℕ × CpuView). PutsAndAsks z.0 c.put_and_ask.result filled z.1 c.put_and_ask.new.self c.put_and_ask.new.cpu) (λ i. ((ap (λ (z : SlotView). z.slot) c.fill.ensures.slot) i, c.fill.ensures.cpu i)) c.put_and_ask.ensures.puts;
+      puts = subst (λ (z : ℕ × CpuView _). PutsAndAsks z.0 c.put_and_ask.result filled z.1 c.put_and_ask.new.self c.put_and_ask.new.cpu) (λ i. ((ap (λ (z : SlotView). z.slot) c.fill.ensures.slot) i, c.fill.ensures.cpu i)) c.put_and_ask.ensures.puts;
     })
