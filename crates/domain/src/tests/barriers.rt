@@ -37,7 +37,7 @@ fn poll_round_a_batch<R: Wait>(
     rt: &R,
     domain: &Domain<u64>,
     cpu: &mut Cpu<u64>,
-    ticket: &Ticket,
+    ticket: &Ticket<u64>,
 ) -> Option<(Option<u64>, bool, bool)>
     requires here { IsOf domain.now cpu.old }
     requires some { 0 < domain.now.processors }
@@ -119,7 +119,7 @@ fn poll_both(
     domain: &Domain<u64>,
     first: &mut Cpu<u64>,
     second: &mut Cpu<u64>,
-    ticket: &Ticket,
+    ticket: &Ticket<u64>,
 ) -> (bool, bool)
     requires cpus { IsOf domain.now first.old × IsOf domain.now second.old }
     requires ticket { IsTicketOf domain.now ticket.now }
