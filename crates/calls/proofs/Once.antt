@@ -145,12 +145,12 @@ module _ {J : Type 0} where
       either false = still_good k f cs good
   next_good p by (Take q number max) k f cs could good = good_as (next_line p by (Take q number max) k) (next_line p by (Take q number max) k) (f + 0) (f + 0) (cs ++ []) (cs ++ (if by == p then [] else [])) refl refl (ap (λ z. cs ++ z) (none_of (Take q number max) (by == p) refl))
       (dite (ℕ_discrete q p)
-          (λ e. good_as (with_taken number max k) (next_line p by (Take q number max) k) (f + 0) (f + 0) (cs ++ []) (cs ++ []) (ap (λ (b : Bool). if b then with_taken number max k else k) (eq-eqb q p e)) refl refl (with_taken_good number max k f cs (could e) good))
-          (λ ne. good_as k (next_line p by (Take q number max) k) (f + 0) (f + 0) (cs ++ []) (cs ++ []) (ap (λ (b : Bool). if b then with_taken number max k else k) (ne_eqb q p ne)) refl refl (still_good k f cs good)))
+      (λ e. good_as (with_taken number max k) (next_line p by (Take q number max) k) (f + 0) (f + 0) (cs ++ []) (cs ++ []) (ap (λ (b : Bool). if b then with_taken number max k else k) (eq-eqb q p e)) refl refl (with_taken_good number max k f cs (could e) good))
+      (λ ne. good_as k (next_line p by (Take q number max) k) (f + 0) (f + 0) (cs ++ []) (cs ++ []) (ap (λ (b : Bool). if b then with_taken number max k else k) (ne_eqb q p ne)) refl refl (still_good k f cs good)))
   next_good p by (Finish q n) k f cs could good = good_as (next_line p by (Finish q n) k) (next_line p by (Finish q n) k) (f + finished_by {J = J} p (Finish q n)) (f + finished_by {J = J} p (Finish q n)) (cs ++ []) (cs ++ (if by == p then [] else [])) refl refl (ap (λ z. cs ++ z) (none_of (Finish q n) (by == p) refl))
       (dite (ℕ_discrete q p)
-          (λ e. good_as (with_none_out k) (next_line p by (Finish q n) k) (f + n) (f + finished_by {J = J} p (Finish q n)) (cs ++ []) (cs ++ []) (ap (λ (b : Bool). if b then with_none_out k else k) (eq-eqb q p e)) (ap (λ (b : Bool). f + (if b then n else 0)) (eq-eqb q p e)) refl (with_none_out_good n k f cs (could e) good))
-          (λ ne. good_as k (next_line p by (Finish q n) k) (f + 0) (f + finished_by {J = J} p (Finish q n)) (cs ++ []) (cs ++ []) (ap (λ (b : Bool). if b then with_none_out k else k) (ne_eqb q p ne)) (ap (λ (b : Bool). f + (if b then n else 0)) (ne_eqb q p ne)) refl (still_good k f cs good)))
+      (λ e. good_as (with_none_out k) (next_line p by (Finish q n) k) (f + n) (f + finished_by {J = J} p (Finish q n)) (cs ++ []) (cs ++ []) (ap (λ (b : Bool). if b then with_none_out k else k) (eq-eqb q p e)) (ap (λ (b : Bool). f + (if b then n else 0)) (eq-eqb q p e)) refl (with_none_out_good n k f cs (could e) good))
+      (λ ne. good_as k (next_line p by (Finish q n) k) (f + 0) (f + finished_by {J = J} p (Finish q n)) (cs ++ []) (cs ++ []) (ap (λ (b : Bool). if b then with_none_out k else k) (ne_eqb q p ne)) (ap (λ (b : Bool). f + (if b then n else 0)) (ne_eqb q p ne)) refl (still_good k f cs good)))
   next_good p by (LoadQueued q n) k f cs could good = good_as k k (f + 0) (f + 0) (cs ++ []) (cs ++ (if by == p then [] else [])) refl refl (ap (λ z. cs ++ z) (none_of (LoadQueued q n) (by == p) refl)) (still_good k f cs good)
   next_good p by (LoadFinished q n) k f cs could good = good_as k k (f + 0) (f + 0) (cs ++ []) (cs ++ (if by == p then [] else [])) refl refl (ap (λ z. cs ++ z) (none_of (LoadFinished q n) (by == p) refl)) (still_good k f cs good)
 
@@ -234,7 +234,7 @@ module _ {J : Type 0} where
       let same : finished_in p before + count_out (line_in p before).out ≡ finished = omega (arith, none, counted) in
       let calls : calls_in p seen ≡ calls_in p before = ap (calls_in p) is ∙ (calls_push p before (deed by (Take p number max)) ∙ (ap (λ z. calls_in p before ++ z) (none_of (Take p number max) (by == p) refl) ∙ append-nil (calls_in p before))) in
       let all : gone ++ plain rest ≡ drop finished (calls_in p seen) =
-          ap (λ z. z ++ plain rest) (sym (plain_marked Done gone)) ∙ (sym (plain_append (marked Done gone) rest) ∙ (ap plain (sym order) ∙ (plain_readied number waiting ∙ (ap (λ (z : Line J). plain z.waiting) (sym line) ∙ (good.order ∙ (ap (λ z. drop z (calls_in p before)) same ∙ ap (drop finished) (sym calls))))))) in
+      ap (λ z. z ++ plain rest) (sym (plain_marked Done gone)) ∙ (sym (plain_append (marked Done gone) rest) ∙ (ap plain (sym order) ∙ (plain_readied number waiting ∙ (ap (λ (z : Line J). plain z.waiting) (sym line) ∙ (good.order ∙ (ap (λ z. drop z (calls_in p before)) same ∙ ap (drop finished) (sym calls))))))) in
       sym (take-append_seam gone (plain rest)) ∙ ap (take (length gone)) all
     where
       front_true : (a b : List (Deed J)) → AreTrue (a ++ b) → AreTrue a

@@ -70,8 +70,8 @@ module _ {J : Type 0} (plan : Plan) where
       let one : queued_in p log' ≡ queued_in p b.log + 1 = queued_here p e b.log in
       let line : line_in p log' ≡ with_call e (line_in p b.log) = called_here p e b.log in
       let same_out : (k : ℕ) → (line_in k log').out ≡ (line_in k b.log).out = λ k. dite (ℕ_discrete p k)
-          (λ at. subst (λ z. (line_in z log').out ≡ (line_in z b.log).out) at (ap (λ (z : Line J). z.out) line))
-          (λ ne. ap (λ (z : Line J). z.out) (called_else k p e b.log ne)) in
+      (λ at. subst (λ z. (line_in z log').out ≡ (line_in z b.log).out) at (ap (λ (z : Line J). z.out) line))
+      (λ ne. ap (λ (z : Line J). z.out) (called_else k p e b.log ne)) in
       let inside : word < length s.words = let wide = r.wide in omega (arith, wide, lt, place) in
       let true' : AreTrue log' = one_more_true b.log d r.loads tt in
       let lists : (k : ℕ) → b.list_at k ≢ id → Untouched b b' k = λ k away. record {
@@ -224,7 +224,7 @@ module _ {J : Type 0} (plan : Plan) where
           finishers = one_more_finisher plan.processors b.log d r.finishers tt;
           counted = λ k. let t = r.counted k in let all = t.all in let few = t.few in let qs = queued k in let fs = finished k in dite (ℕ_discrete k p)
               (λ e. let long : count_out (line_in k log').out + length (line_in k log').waiting ≡ length (line_in k b.log).waiting =
-                  ap (λ z. count_out (line_in z log').out + length (line_in z log').waiting) e ∙ (ap (λ (z : Line J). count_out z.out + length z.waiting) line ∙ (taken_long number max was ∙ (ap length has.4 ∙ ap (λ z. length (line_in z b.log).waiting) (sym e)))) in
+              ap (λ z. count_out (line_in z log').out + length (line_in z log').waiting) e ∙ (ap (λ (z : Line J). count_out z.out + length z.waiting) line ∙ (taken_long number max was ∙ (ap length has.4 ∙ ap (λ z. length (line_in z b.log).waiting) (sym e)))) in
               let none : count_out (line_in k b.log).out ≡ 0 = ap (λ z. count_out (line_in z b.log).out) e ∙ ap count_out (sym has.3) in
               record { all = omega (arith, long, none, all, qs, fs); few = omega (arith, qs, few) })
               (λ ne. let u = else_ k ne in let out = ap (λ (z : Line J). count_out z.out) u.line in let long = ap (λ (z : Line J). length z.waiting) u.line in record { all = omega (arith, out, long, all, qs, fs); few = omega (arith, qs, few) });
@@ -240,7 +240,7 @@ module _ {J : Type 0} (plan : Plan) where
                 batch = has_batch b' id p f is.out (given_here p id b.batch_at) (has.2 ∙ sym (finished p)) (ap (λ (z : Line J). z.out) line);
               }
               (λ j u ne at'. fits_else b d (given p id b.batch_at) id j made.0 ne (λ k away. else_ k (λ e. away (ap b.list_at e ∙ has.0)))
-                  (λ k m here out. let apart : k ≢ p = λ e. some_or_none m (line_in p b.log).out (sym has.3) (ap (λ z. (line_in z b.log).out) (sym e) ∙ out) in let t = else_ k apart in (given_else p id b.batch_at k apart ∙ here, t.finished, ap (λ (z : Line J). z.out) t.line ∙ out)) u (r.each_view j u at'));
+              (λ k m here out. let apart : k ≢ p = λ e. some_or_none m (line_in p b.log).out (sym has.3) (ap (λ z. (line_in z b.log).out) (sym e) ∙ out) in let t = else_ k apart in (given_else p id b.batch_at k apart ∙ here, t.finished, ap (λ (z : Line J). z.out) t.line ∙ out)) u (r.each_view j u at'));
         },
         (
           refl,

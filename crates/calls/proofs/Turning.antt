@@ -159,7 +159,7 @@ module _ {J A C : Type 0} (l : list.Inside J A) (c d : CpuView) (s : seat.Inside
       let there = h.old.there in
       let words = ap (λ (t : TableId). t.words) h.takes.table in
       list_from _ (queued_known l.seat.me.0.list) (finished_known l.seat.me.0.list) (some_out (length h.goes.gone)) h.goes.rest (h.takes.list_is ∙ ap (λ (z : Line J). (list_of l.processor (queued_known l.seat.me.0.list) (finished_known l.seat.me.0.list) z.out z.waiting, [])) took_line)
-          h.goes.left_is (rest_waiting sight' h.goes.gone h.goes.rest took_moved.waiting) (omega (arith, long, were, none, some)) flag (omega (arith, there, words))
+      h.goes.left_is (rest_waiting sight' h.goes.gone h.goes.rest took_moved.waiting) (omega (arith, long, were, none, some)) flag (omega (arith, there, words))
 
   pub took_seat : IsCallSeat record { table = s.table; seat = seat'; processor = s.processor; queued = s.queued }
   took_seat = seat_after s seat' h.caller h.takes.by (Take l.processor number max) h.takes.who refl h.takes.does h.placed h.takes.no_list h.takes.no_batch

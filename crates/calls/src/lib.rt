@@ -23,7 +23,9 @@ pub use barrier::Ticket;
 pub use batch::Batch;
 pub use calls::Calls;
 pub use entry::Entry;
-pub use laws::{barriers_of_callbacks, jobs_of_callbacks, tallies_of_callbacks, totals_of_callbacks};
+pub use laws::{
+    barriers_of_callbacks, jobs_of_callbacks, tallies_of_callbacks, totals_of_callbacks,
+};
 pub use list::{List, Receipt};
 pub use note::Note;
 pub use refusals::{CallRefusal, Memory, TakeRefusal};

@@ -19,7 +19,10 @@ use std::alloc::Allocator;
 use std::sync::Arc;
 
 /// The tally words, all 0, and the seat that stands for all processors and their lists.
-fn new_table<J, A: Allocator + Copy>(alloc: A, plan: Plan) -> Result<(Tallies<J, A>, Place<J>), Memory>
+fn new_table<J, A: Allocator + Copy>(
+    alloc: A,
+    plan: Plan,
+) -> Result<(Tallies<J, A>, Place<J>), Memory>
     requires { plan.processors < 2 ^ 16 }
     ensures { IfOk result (λ t. NewTable plan t.0.shared.key t.0.shared.table_id t.1) }
 {

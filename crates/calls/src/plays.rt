@@ -48,11 +48,13 @@ impl<J, N: Calling<J>> Play<NoSlot, View<J>> for AddQueued<N> {
 /// For which number entries are ready, and how many are wanted. Each call says it.
 pub trait Taking {
     ghost number: { ℕ };
+
     ghost max: { ℕ };
 }
 
 impl Taking for Brand {
     ghost number = { 0 };
+
     ghost max = { 0 };
 }
 

@@ -99,7 +99,11 @@ pub(crate) fn see_list<J, N: Counting>(
 
 /// Loads the finished word at this place. Answers what it holds. Each call says of how many processors the tally words
 /// are, and learns that no other one has finished a batch.
-pub(crate) fn count_finished<J, N: Counting>(top: &Board<J>, seat: &mut Place<J>, place: usize) -> u64
+pub(crate) fn count_finished<J, N: Counting>(
+    top: &Board<J>,
+    seat: &mut Place<J>,
+    place: usize,
+) -> u64
     requires count { top.now.key.processors ≡ N.count }
     requires there { (p : ℕ) × (place ≡ finished_place p) × (p < top.now.key.processors) }
     requires placed { IsPlaced top.now.key top.now.table_id seat.old }

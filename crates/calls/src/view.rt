@@ -12,7 +12,9 @@ pub struct Plan {
 /// What was done on a tally word.
 pub enum Act<J> {
     /// 1 was added to the queued word of the processor whose seat did it: this came last in its list.
-    Queue { entry: Entry<J> },
+    Queue {
+        entry: Entry<J>,
+    },
     /// A load of the queued word of this processor, with its list in hand: what waited for this number was done, and at
     /// most so many jobs were taken out.
     Take {
@@ -21,11 +23,20 @@ pub enum Act<J> {
         max: usize,
     },
     /// So many were added to the finished word of this processor.
-    Finish { processor: u16, count: u64 },
+    Finish {
+        processor: u16,
+        count: u64,
+    },
     /// A load of the queued word of this processor, with what it found.
-    LoadQueued { processor: u16, found: u64 },
+    LoadQueued {
+        processor: u16,
+        found: u64,
+    },
     /// A load of the finished word of this processor, with what it found.
-    LoadFinished { processor: u16, found: u64 },
+    LoadFinished {
+        processor: u16,
+        found: u64,
+    },
 }
 
 /// A step on a tally word, and the processor whose seat made it.

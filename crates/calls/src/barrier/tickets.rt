@@ -12,7 +12,10 @@ use std::alloc::Allocator;
 impl<J, A: Allocator + Copy> Calls<J, A> {
     /// Starts a barrier (`srcu_barrier`), which waits for the calls that were queued before: each queued word is loaded
     /// once. Where there is not enough memory, no step was made.
-    pub fn barrier_start<C: Allocator>(&self, seat: &mut CallSeat<J, C>) -> Result<Ticket<J, A>, Memory>
+    pub fn barrier_start<C: Allocator>(
+        &self,
+        seat: &mut CallSeat<J, C>,
+    ) -> Result<Ticket<J, A>, Memory>
         requires { seat.old.tallies ≡ self.now.tallies }
         ensures starts { MatchResult result (λ ticket. Starts seat.old ticket seat.new) (λ _. seat.new ≡ seat.old) }
 

@@ -68,7 +68,12 @@ impl<J: Drop, A: Allocator + Copy> Calls<J, A> {
 
     /// The batch is over, and empty: its count is added to the finished word of its processor. It waits while another
     /// thread has that processor's list.
-    pub fn finish<R: Wait, C: Allocator>(&self, rt: &R, seat: &mut CallSeat<J, C>, batch: Batch<J, A>)
+    pub fn finish<R: Wait, C: Allocator>(
+        &self,
+        rt: &R,
+        seat: &mut CallSeat<J, C>,
+        batch: Batch<J, A>,
+    )
         requires { MayFinishIn self.now seat.old batch }
         ensures finishes { FinishesIn self.now seat.old batch seat.new }
         ensures same { IsSameSeat seat.old seat.new }

@@ -62,11 +62,7 @@ impl<A: Allocator + Copy> Solo<A> {
 
     /// How many jobs of a processor are done, wait for the first and for the second number, and have none yet; and the two
     /// numbers, 0 where there is none. What is out isn't counted. It takes no memory, so it always succeeds.
-    pub fn lens(
-        &mut self,
-        rt: &impl Wait,
-        processor: u64,
-    ) -> Result<([usize; 4], [u64; 2]), Memory>
+    pub fn lens(&mut self, rt: &impl Wait, processor: u64) -> Result<([usize; 4], [u64; 2]), Memory>
         requires { processor < self.old.course.standing.processors }
         ensures after { self.new ≡ self.old }
         ensures told { IfOk result (TellsLens self.old processor) }

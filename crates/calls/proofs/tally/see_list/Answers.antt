@@ -23,8 +23,11 @@ load-requires g c =
     (j.0 ∙ c.requires.placed.seated, omega (arith, low, at), finds_list_here _ _ _ c.args.processor _ g.N.Counting.count c.join_seat.new.seat.me c.requires.count (ap (λ m. m.0.who) j.2 ∙ c.requires.rests.who))
 
 pub split_seat-requires : goal.split_seat-requires
-split_seat-requires g c = (c.load.ensures.0 ∙ (c.join_seat.ensures.0 ∙ c.requires.placed.seated), some_words _ _ _ c.requires.placed.wide c.requires.rests.there,
-    gives_list _ _ _ (caller_deals _ c.args.processor (ap (λ m. m.0.who) c.load.ensures.2.0.0 ∙ (ap (λ m. m.0.who) c.join_seat.ensures.2 ∙ c.requires.rests.who))))
+split_seat-requires g c = (
+  c.load.ensures.0 ∙ (c.join_seat.ensures.0 ∙ c.requires.placed.seated),
+  some_words _ _ _ c.requires.placed.wide c.requires.rests.there,
+  gives_list _ _ _ (caller_deals _ c.args.processor (ap (λ m. m.0.who) c.load.ensures.2.0.0 ∙ (ap (λ m. m.0.who) c.join_seat.ensures.2 ∙ c.requires.rests.who))),
+)
 
 pub returns : goal.returns
 returns g c p is =

@@ -56,8 +56,8 @@ invariant_of-self-2 g c =
     let there = v.there in
     let words = ap (λ (t : TableId). t.words) q.table in
     list_from _ _ _ _ (with_call e (line_of (out_known c.self.inside.seat.me.0.list) u)).waiting q.list_is
-        (entries_queued old c.assign.new.self.entries u e n v.wrapping is ∙ ap (λ (z : ℕ). wrapped (assigned z (u ++ (e, Next) ∷ []))) number)
-        (queued_waiting _ _ _ _ k c.args.job u domain note v.waiting) (omega (arith, long, were)) v.out (omega (arith, there, words))
+    (entries_queued old c.assign.new.self.entries u e n v.wrapping is ∙ ap (λ (z : ℕ). wrapped (assigned z (u ++ (e, Next) ∷ []))) number)
+    (queued_waiting _ _ _ _ k c.args.job u domain note v.waiting) (omega (arith, long, were)) v.out (omega (arith, there, words))
 
 pub invariant_of-seat : goal.invariant_of-seat
 invariant_of-seat g c =

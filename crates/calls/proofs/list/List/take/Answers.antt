@@ -200,5 +200,5 @@ returns-clause-closed g c =
     let moved = took_moved _ _ _ _ _ _ _ _ _ _ _ _ took in
     let entries : entries_of c.take_first-entries.result.items ≡ took.goes.gone = ap entries_of took.goes.items_are ∙ entries_wrap took.goes.gone in
     subst (λ (z : List (Entry g.row.J.Denot)). All (λ e. AllClosed e.cookie.seen c.how_far.new.self.seen) z) (sym entries)
-        (closed_all c.get-number.result c.self.inside.sight c.how_far.new.sight c.args.cpu.now c.how_far.new.self took.asks took.goes.gone
-            (handed_all c.get-number.result c.self.inside.sight c.how_far.new.sight c.args.cpu.now c.how_far.new.self took.asks took.goes.gone took.goes.rest moved.waiting moved.since))
+    (closed_all c.get-number.result c.self.inside.sight c.how_far.new.sight c.args.cpu.now c.how_far.new.self took.asks took.goes.gone
+    (handed_all c.get-number.result c.self.inside.sight c.how_far.new.sight c.args.cpu.now c.how_far.new.self took.asks took.goes.gone took.goes.rest moved.waiting moved.since))
