@@ -210,11 +210,25 @@ module _ {J : Type 0} where
   true_rest before [] b h = subst (λ z. AreTrueAfter z b) (sym (append-nil before)) h
   true_rest before (x ∷ xs) b h = subst (λ z. AreTrueAfter z b) (append_assoc before (x ∷ []) xs) (true_rest (before ++ x ∷ []) xs b h.1)
 
+  never_falls : (p : ℕ) (seen later : List (Deed J)) → AreTrue later → IsBeginning seen later → given_out p seen ≤ given_out p later
+  never_falls p seen later so on = let more = grows_after p seen on.rest (true_rest [] seen on.rest (subst (λ z. AreTrue z) on.whole so)) in let same = ap (given_out p) on.whole in omega (arith, more, same)
+
+  -- where something is taken, no batch is out
+  none_at_take : (p by number max : ℕ) (later : List (Deed J)) → AreTrue (later ++ deed by (Take p number max) ∷ []) → (line_in p later).out ≡ None
+  none_at_take p by number max later so = (true_rest [] later (deed by (Take p number max) ∷ []) so).0
+
   pub gives_once : GivesOnce J
-  gives_once p seen later so on = let more = grows_after p seen on.rest (true_rest [] seen on.rest (subst (λ z. AreTrue z) on.whole so)) in let same = ap (given_out p) on.whole in omega (arith, more, same)
+  gives_once p by number max by' number' max' before later on so =
+      let more = never_falls p (before ++ deed by (Take p number max) ∷ []) later (true_beginning record { rest = deed by' (Take p number' max') ∷ []; whole = refl } so) on in
+      let same = finished_push p before (deed by (Take p number max)) in
+      let none : count_out (line_in p later).out ≡ 0 = ap count_out (none_at_take p by' number' max' later so) in
+      omega (arith, more, same, none)
+
+  calls_stay : (p : ℕ) (seen later : List (Deed J)) → IsBeginning seen later → calls_in p seen ≡ take (queued_in p seen) (calls_in p later)
+  calls_stay p seen later on = sym (ap (λ z. take (queued_in p seen) (calls_in p z)) on.whole ∙ (ap (take (queued_in p seen)) (calls_append p seen on.rest) ∙ (ap (λ z. take z (calls_in p seen ++ calls_in p on.rest)) (sym (calls_counted p seen)) ∙ take-append_seam (calls_in p seen) (calls_in p on.rest))))
 
   pub keeps_calls : KeepsCalls J
-  keeps_calls p seen later on = sym (ap (λ z. take (queued_in p seen) (calls_in p z)) on.whole ∙ (ap (take (queued_in p seen)) (calls_append p seen on.rest) ∙ (ap (λ z. take z (calls_in p seen ++ calls_in p on.rest)) (sym (calls_counted p seen)) ∙ take-append_seam (calls_in p seen) (calls_in p on.rest))))
+  keeps_calls = record { counted = calls_counted; stay = calls_stay }
 
   -- A take gives out the very next calls
 

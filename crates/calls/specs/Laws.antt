@@ -1,9 +1,10 @@
 -- What holds of the tally words of all callbacks, of every barrier, and of totals.
-use Rattle.std.specs.Prelude.{◌≡◌, ◌≢◌, ℕ, ◌+◌, ◌<◌, ◌≤◌, ◌⊎◌, List, [], ◌∷◌, Option, map, take, drop, slice_index}
+use Rattle.std.specs.Prelude.{◌≡◌, ◌≢◌, ℕ, ◌+◌, ◌<◌, ◌≤◌, ◌⊎◌, List, [], ◌∷◌, ◌++◌, Option, length, map, take, drop, slice_index}
 use mathlib.Core.Option.{some}
 use lib.ListN.{get_elem?}
 use Rattle.atomic_table.specs.Table.{State, Splits, Joins}
 use Rattle.calls.specs.declared.view.Plan.{Plan}
+use Rattle.calls.specs.declared.view.Act.TheVariants.{Take}
 use Rattle.calls.specs.declared.view.Deed.{Deed}
 use Rattle.calls.specs.declared.view.Who.TheVariants.{Caller}
 use Rattle.calls.specs.declared.view.ListRight.TheVariants.{NoList}
@@ -11,7 +12,7 @@ use Rattle.calls.specs.declared.view.BatchRight.TheVariants.{NoBatch}
 use Rattle.calls.specs.declared.view.View.{View}
 use Rattle.calls.specs.declared.list.Receipt.{Receipt}
 use Rattle.calls.specs.Lines.{count_out, line_in, calls_in}
-use Rattle.calls.specs.Tallies.{queued_place, finished_place, queued_in, finished_in, deeds_of, IsBeginning, AreTrue}
+use Rattle.calls.specs.Tallies.{deed, queued_place, finished_place, queued_in, finished_in, deeds_of, IsBeginning, AreTrue}
 use Rattle.calls.specs.Rule.{Kept, note}
 use Rattle.calls.specs.Views.{CallSeatView, TicketView}
 use Rattle.calls.specs.Barriers.{IsQueued, IsFinished, IsDone, Starts}
@@ -51,13 +52,15 @@ module _ (J : Type 0) where
   abbrev pub WaitsInOrder : Type 0
   WaitsInOrder = (p : ℕ) (seen : List (Deed J)) → AreTrue seen → map (λ e. e.0) (line_in p seen).waiting ≡ drop (given_out p seen) (calls_in p seen)
 
-  -- what was given out is never given out again: whoever goes on from there has no fewer given out
+  -- a batch begins with the number of those that are finished. It ends before any batch begins that is taken behind it
   abbrev pub GivesOnce : Type 0
-  GivesOnce = (p : ℕ) (seen later : List (Deed J)) → AreTrue later → IsBeginning seen later → given_out p seen ≤ given_out p later
+  GivesOnce = (p : ℕ) (by number max by' number' max' : ℕ) (before later : List (Deed J)) → IsBeginning (before ++ deed by (Take p number max) ∷ []) later → AreTrue (later ++ deed by' (Take p number' max') ∷ [])
+      → finished_in p before + count_out (line_in p (before ++ deed by (Take p number max) ∷ [])).out ≤ finished_in p later
 
-  -- and the calls that were queued stay as they are
-  abbrev pub KeepsCalls : Type 0
-  KeepsCalls = (p : ℕ) (seen later : List (Deed J)) → IsBeginning seen later → calls_in p seen ≡ take (queued_in p seen) (calls_in p later)
+  -- the calls that were queued are as many as are counted, and stay as they are
+  pub record KeepsCalls : Type 0 where
+    pub counted : (p : ℕ) (seen : List (Deed J)) → length (calls_in p seen) ≡ queued_in p seen
+    pub stay : (p : ℕ) (seen later : List (Deed J)) → IsBeginning seen later → calls_in p seen ≡ take (queued_in p seen) (calls_in p later)
 
   -- Barriers
 

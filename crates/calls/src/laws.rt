@@ -11,8 +11,9 @@ pub fn tallies_of_callbacks<J>()
 {}
 
 /// What waits on a processor is just what was queued there and not given out, in its order: the calls from a number on.
-/// That number never falls, and no call that was queued is ever another one. So a batch, which begins there, has the very
-/// jobs that were queued with its numbers, and no number is in two batches.
+/// A batch begins with the number of those that are finished, and ends before the next batch begins. No call that was
+/// queued is ever another one. So a batch has the very jobs that were queued with its numbers, and no number is in two
+/// batches.
 pub fn jobs_of_callbacks<J>()
     ensures order { WaitsInOrder J }
     ensures once { GivesOnce J }

@@ -31,7 +31,7 @@ impl fmt::Display for CallRefusal {
 
 impl Error for CallRefusal {}
 
-/// Why nothing was taken. Nothing has changed, and no step was made.
+/// Why nothing was taken. Nothing has changed: the seat that was lent has made a load at most.
 #[derive(Clone, Copy, Debug, PartialEq, Eq)]
 pub enum TakeRefusal {
     /// A batch of this processor is out.
