@@ -26,7 +26,7 @@ fn new_table<J, A: Allocator + Copy>(
     requires { plan.processors < 2 ^ 16 }
     ensures { IfOk result (λ t. NewTable plan t.0.shared.key t.0.shared.table_id t.1) }
 {
-    let words = vec![in alloc; 0u64; 32 * plan.processors]?;
+    let words = vec![in alloc; 0u64; 32 * plan.processors + 16]?;
     Table::of_words(alloc, words.as_slice(), &plan)
 }
 

@@ -13,14 +13,14 @@ use std::alloc::Allocator;
 pub(crate) fn place_of_queued(processor: u16) -> usize
     ensures { result ≡ queued_place processor }
 {
-    32 * processor as usize
+    32 * processor as usize + 16
 }
 
 /// Where the finished word of a processor stands.
 pub(crate) fn place_of_finished(processor: u16) -> usize
     ensures { result ≡ finished_place processor }
 {
-    32 * processor as usize + 16
+    32 * processor as usize + 32
 }
 
 /// Adds 1 to the processor's queued word for the call that came last among those that wait, with the right of its list, which

@@ -1,13 +1,19 @@
--- The rule of a lock with one word and one slot.
-use Rattle.std.specs.Prelude.{◌≡◌, ◌∷◌, [], Option, Some, slice_index, length}
+-- The rule of a lock with one word that counts and one slot. The word stands 128 bytes from either end of its table's words, so that locks which lie side by side share no line.
+use Rattle.std.specs.Prelude.{◌≡◌, ℕ, ◌∷◌, [], Option, Some, slice_index, length}
 use mathlib.Core.Option.{some}
 use lib.ListN.{get_elem?}
 use Rattle.atomic_table.specs.Table.{State, Me}
 
+abbrev pub lock_place : ℕ
+lock_place = 16
+
+abbrev pub word_count : ℕ
+word_count = 32
+
 module _ {T V : Type 0} where
   -- where the word is 0, the value is at home and fits
   abbrev pub Guarded : (T → Type 0) → State (Option T) V → Type 0
-  Guarded fits s = (length s.words ≡ 1) × (slice_index s.words 0 ≡ 0 → (value : T) × (get_elem? s.homes 0 ≡ some (some (Some value))) × fits value)
+  Guarded fits s = (length s.words ≡ word_count) × (slice_index s.words lock_place ≡ 0 → (value : T) × (get_elem? s.homes 0 ≡ some (some (Some value))) × fits value)
 
   -- the seat has the slot, with a value in it that fits
   abbrev pub Seized : (T → Type 0) → Me (Option T) V → Type 0

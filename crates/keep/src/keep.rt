@@ -1,4 +1,5 @@
-//! One word and one slot of a table: where the word is 0, the value is at home.
+//! One word and one slot of a table: where the word is 0, the value is at home. The word stands amid others that nobody
+//! writes: locks that lie side by side on the heap would slow each other down if they shared a line.
 ghost use Rattle.std.specs.Prelude.{◌≡◌, IfOk};
 ghost use Rattle.keep.specs.Guarding.{Guarded, Seized};
 
@@ -7,6 +8,12 @@ use std::alloc::{AllocError, Allocator, Global};
 use std::marker::{Model, PhantomData};
 use std::sync::Wait;
 use std::thread::yield_now;
+
+/// How many words the table has: 256 bytes.
+const WORDS: usize = 32;
+
+/// Where the word stands: 128 bytes from the first and from behind the last one.
+const LOCK: usize = 16;
 
 /// A value that has a key. Which one, contracts alone see.
 pub trait Keyed<K> {
@@ -86,7 +93,7 @@ impl<T: Keyed<K> + Drop, K, A: Allocator> Keep<T, K, A> {
     {
         let mut slots = Vec::with_capacity(other, 1)?;
         slots.push_reserved(Some(value));
-        match Table::new(alloc, &[0], slots, key) {
+        match Table::new(alloc, &[0; WORDS], slots, key) {
             Ok((table, _seat)) => Ok(Keep { table }),
             Err(Refused { slots: _ }) => Err(AllocError),
         }
@@ -99,7 +106,7 @@ impl<T: Keyed<K> + Drop, K, A: Allocator> Keep<T, K, A> {
     {
         let shared = &self.table.shared;
         for _ in rt.forever() {
-            let (found, mut seat) = shared.swap_new_seat::<Guard<T, K>>(0, 1);
+            let (found, mut seat) = shared.swap_new_seat::<Guard<T, K>>(LOCK, 1);
             if found == 0 {
                 let value = shared.exchange(&mut seat, 0, None).unwrap();
                 return (value, Loan { seat });
@@ -117,6 +124,6 @@ impl<T: Keyed<K> + Drop, K, A: Allocator> Keep<T, K, A> {
         let Loan { mut seat } = loan;
         let shared = &self.table.shared;
         drop(shared.exchange(&mut seat, 0, Some(value)));
-        shared.store::<Release>(&mut seat, 0, 0);
+        shared.store::<Release>(&mut seat, LOCK, 0);
     }
 }
