@@ -6,10 +6,9 @@ use Rattle.sections.specs.Views.{CpuView}
 use Rattle.sections.specs.Calls.{IsSameCpu}
 use Rattle.keep.specs.Views.{KeepView}
 use Rattle.calls.specs.declared.entry.Entry.{Entry}
-use Rattle.calls.specs.declared.list.Receipt.{Receipt}
 use Rattle.calls.specs.declared.refusals.CallRefusal.{CallRefusal}
 use Rattle.calls.specs.declared.refusals.CallRefusal.TheVariants.{Exhausted, Memory}
-use Rattle.calls.specs.Views.{CallSeatView, ListKey, ListView, BatchView, CallsView, key_of}
+use Rattle.calls.specs.Views.{CallSeatView, ListKey, ListView, BatchView, CallsView, key_of, ReceiptView}
 use Rattle.segs.specs.MarkedList.{lens, numbers}
 use Rattle.calls.specs.declared.view.Deed.{Deed}
 use Rattle.calls.specs.Lines.{Line, line_in}
@@ -44,7 +43,7 @@ module _ {J : Type 0} where
   cause_same l c s Exhausted l' c' h = still_same c c' h.2
   cause_same l c s Memory l' c' h = h.1.1.adds.same
 
-  pub same_pushed : (l : ListView J) (c : CpuView) (s : CallSeatView J) (job : J) (r : Result (Receipt J) (J × CallRefusal)) (l' : ListView J) (c' : CpuView) (s' : CallSeatView J)
+  pub same_pushed : (l : ListView J) (c : CpuView) (s : CallSeatView J) (job : J) (r : Result (ReceiptView J) (J × CallRefusal)) (l' : ListView J) (c' : CpuView) (s' : CallSeatView J)
       → MatchResult r (λ receipt. Queues l c s job receipt l' c' s') (λ refused. Refuses l c s job refused l' c' s') → IsSameCpu c c' × IsSameSeat s s'
   same_pushed l c s job (Ok r) l' c' s' h = (h.note.adds.same, h.tally.same)
   same_pushed l c s job (Err e) l' c' s' h = (cause_same l c s e.1 l' c' h.cause, still_seat s s' h.seat)

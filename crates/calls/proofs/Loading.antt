@@ -8,7 +8,7 @@ use Rattle.calls.specs.declared.view.Act.{Act}
 use Rattle.calls.specs.declared.view.Act.TheVariants.{LoadQueued, LoadFinished}
 use Rattle.calls.specs.declared.view.Deed.{Deed}
 use Rattle.calls.specs.declared.view.View.{View}
-use Rattle.calls.specs.Tallies.{word_count, deed, is_queue, queued_in, finished_in, deeds_of, IsBeginning, IsTrueOf, AreTrueAfter, AreTrue}
+use Rattle.calls.specs.Tallies.{finished_place, word_count, deed, is_queue, queued_in, finished_in, deeds_of, IsBeginning, IsTrueOf, AreTrueAfter, AreTrue}
 use Rattle.calls.specs.Views.{CallSeatView, TicketView}
 use Rattle.calls.specs.Plays.{Does as DoesThere}
 use Rattle.calls.specs.Calls.{Does}
@@ -158,5 +158,9 @@ module _ {J : Type 0} where
       omega (arith, low, found, still)
 
 -- of the same tally words there are as many processors
+-- the finished word of the processor is one of the table's, so it is one of those that are there
+pub receipt_inside : (tallies other : TableId) (p n : ℕ) → tallies.words ≡ word_count n → other ≡ tallies → finished_place p < other.words → p < n
+receipt_inside tallies other p n wide same there = let words = ap (λ (t : TableId). t.words) same in omega (arith, wide, words, there)
+
 pub same_many : (tallies other : TableId) (m n : ℕ) → tallies.words ≡ word_count m → other.words ≡ word_count n → tallies ≡ other → m ≡ n
 same_many tallies other m n one two same = let words = ap (λ (t : TableId). t.words) same in omega (arith, one, two, words)

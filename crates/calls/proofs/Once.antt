@@ -1,7 +1,9 @@
 -- Each call is given out once, in its order: what waits on a processor is what was queued there and not given out.
-use Rattle.std.proofs.Common.{◌≡◌, ◌≢◌, ℕ, zero, suc, ◌+◌, ◌-◌, ◌≤◌, ◌==◌, Bool, true, false, if◌then◌else◌, List, [], ◌∷◌, ◌++◌, Some, None, map, length, take, drop, refl, sym, ap, ◌∙◌, subst, eq-eqb, ne_eqb, append_assoc, append-nil, arith}
-use Rattle.std.proofs.Math.Seq.{drop-append_seam, take-append_seam, drop-length}
-use Rattle.std.proofs.lemmas.List.{length-append, length-drop, drop-append-le}
+use Rattle.std.proofs.Common.{◌≡◌, ◌≢◌, ℕ, zero, suc, ◌+◌, ◌-◌, ◌<◌, ◌≤◌, ◌==◌, Bool, true, false, if◌then◌else◌, List, [], ◌∷◌, ◌++◌, Some, None, map, length, take, drop, refl, sym, ap, ◌∙◌, subst, eq-eqb, ne_eqb, append_assoc, append-nil, arith}
+use Rattle.std.proofs.Math.Seq.{drop-append_seam, take-append_seam, drop-length, get_or-append_seam}
+use Rattle.std.specs.Prelude.{slice_get}
+use Rattle.std.proofs.lemmas.Option.{slice_get-get_or, slice_get_within, get_or_from_slice_get}
+use Rattle.std.proofs.lemmas.List.{length-append, length-drop, drop-append-le, get_or_append_left}
 use mathlib.Core.Logic.{dite}
 use native.Mathlib.Decide.{ℕ_discrete}
 use Rattle.segs.specs.MarkedList.{Mark, Done, Next, marked, remarked, advanced, assigned, reached, next_becomes, number_given, awaited}
@@ -229,6 +231,22 @@ module _ {J : Type 0} where
 
   pub keeps_calls : KeepsCalls J
   keeps_calls = record { counted = calls_counted; stay = calls_stay }
+
+  -- a call that was queued is found at its number, and stays there
+  pub call_found : (p k : ℕ) (e : Entry J) (before : List (Deed J)) → k ≡ queued_in p before → slice_get (calls_in p (before ++ deed p (Queue e) ∷ [])) k ≡ Some e
+  call_found p k e before is =
+      let cs : List (Entry J) = calls_in p before in
+      let calls : calls_in p (before ++ deed p (Queue e) ∷ []) ≡ cs ++ e ∷ [] = calls_push p before (deed p (Queue e)) ∙ ap (λ (b : Bool). cs ++ (if b then e ∷ [] else [])) (eq-eqb p p refl) in
+      let long = length-append cs (e ∷ []) in
+      ap (λ l. slice_get l k) calls ∙ (ap (slice_get (cs ++ e ∷ [])) (is ∙ sym (calls_counted p before)) ∙ (slice_get-get_or (cs ++ e ∷ []) (length cs) e (omega (arith, long)) ∙ ap Some (get_or-append_seam cs e [] e)))
+
+  pub call_stays : (p k : ℕ) (e : Entry J) (seen later : List (Deed J)) → IsBeginning seen later → slice_get (calls_in p seen) k ≡ Some e → slice_get (calls_in p later) k ≡ Some e
+  call_stays p k e seen later on at =
+      let cs : List (Entry J) = calls_in p seen in
+      let more : List (Entry J) = calls_in p on.rest in
+      let inside : k < length cs = slice_get_within cs k e at in
+      let long = length-append cs more in
+      ap (λ z. slice_get (calls_in p z) k) on.whole ∙ (ap (λ l. slice_get l k) (calls_append p seen on.rest) ∙ (slice_get-get_or (cs ++ more) k e (omega (arith, inside, long)) ∙ ap Some (get_or_append_left cs more e k inside ∙ get_or_from_slice_get cs k e e at)))
 
   -- A take gives out the very next calls
 

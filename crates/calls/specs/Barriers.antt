@@ -1,22 +1,26 @@
 -- Barriers: what a ticket says, when it is done, and which receipts it covers.
-use Rattle.std.specs.Prelude.{◌≡◌, ℕ, ◌+◌, ◌<◌, ◌≤◌, Bool, MatchBool, List, [], ◌∷◌, ◌++◌, length, map, slice_index}
+use Rattle.std.specs.Prelude.{◌≡◌, ℕ, ◌+◌, ◌<◌, ◌≤◌, Bool, MatchBool, List, [], ◌∷◌, ◌++◌, length, map, slice_index, Some, slice_get}
 use Rattle.calls.specs.declared.view.Act.{Act}
 use Rattle.calls.specs.declared.view.Act.TheVariants.{LoadQueued, LoadFinished}
 use Rattle.calls.specs.declared.view.Deed.{Deed}
-use Rattle.calls.specs.declared.list.Receipt.{Receipt}
+use Rattle.calls.specs.Lines.{calls_in}
 use Rattle.calls.specs.Tallies.{deed, queued_in, finished_in, deeds_of, AreTrue, IsBeginning}
-use Rattle.calls.specs.Views.{CallSeatView, TicketView}
+use Rattle.calls.specs.Views.{CallSeatView, TicketView, ReceiptView}
 use Rattle.calls.specs.Calls.{IsSameSeat, Does}
 
 -- Receipts
 
 module _ {J : Type 0} where
   -- the receipt's call was queued, for one who has seen this
-  abbrev pub IsQueued : Receipt J → List (Deed J) → Type 0
+  abbrev pub IsQueued : ReceiptView J → List (Deed J) → Type 0
   IsQueued r seen = r.k < queued_in r.processor seen
 
+  -- and it is the one of its number that was queued there, with its cookie
+  abbrev pub IsCallOf : ReceiptView J → List (Deed J) → Type 0
+  IsCallOf r seen = (job : J) × (slice_get (calls_in r.processor seen) r.k ≡ Some (record { job = job; cookie = r.cookie }))
+
   -- its job was given out, and the batch in which it was is finished
-  abbrev pub IsFinished : Receipt J → List (Deed J) → Type 0
+  abbrev pub IsFinished : ReceiptView J → List (Deed J) → Type 0
   IsFinished r seen = r.k < finished_in r.processor seen
 
 -- Tickets
@@ -27,7 +31,7 @@ number_for p t = slice_index t.numbers p
 
 module _ {J : Type 0} where
   -- the receipt's call is one of those
-  abbrev pub Covers : TicketView → Receipt J → Type 0
+  abbrev pub Covers : TicketView → ReceiptView J → Type 0
   Covers t r = r.k < number_for r.processor t
 
   -- done, for one who has seen this: each finished count has reached its number
@@ -71,7 +75,7 @@ module _ {J : Type 0} where
 
   -- the ticket covers each receipt, of a processor that is there, whose call was queued for one who has seen this
   abbrev pub CoversAll : TicketView → ℕ → List (Deed J) → Type 0
-  CoversAll t processors seen = (r : Receipt J) → r.processor < processors → IsQueued r seen → Covers t r
+  CoversAll t processors seen = (r : ReceiptView J) → r.processor < processors → IsQueued r seen → Covers t r
 
   -- at a moment of the call a finished count was below its number
   pub record IsBehind (t : TicketView) (s s' : CallSeatView J) : Type 0 where
@@ -90,11 +94,11 @@ module _ {J : Type 0} where
 
   -- each receipt that the ticket covers is finished, for one who has seen this
   abbrev pub AreFinished : TicketView → List (Deed J) → Type 0
-  AreFinished t seen = (r : Receipt J) → Covers t r → IsFinished r seen
+  AreFinished t seen = (r : ReceiptView J) → Covers t r → IsFinished r seen
 
   -- one load of the queued word of the receipt's processor. What the one who queued the job had seen is then seen, and the load was over all that had been queued there
-  pub record Hears (r : Receipt J) (s s' : CallSeatView J) : Type 0 where
+  pub record Hears (r : ReceiptView J) (s s' : CallSeatView J) : Type 0 where
     pub found : ℕ
     pub does : Does (LoadQueued r.processor found) s s'
-    pub covers : IsBeginning r.note.seen s'.seen
-    pub not_below : queued_in r.processor r.note.seen ≤ found
+    pub covers : IsBeginning r.seen s'.seen
+    pub not_below : queued_in r.processor r.seen ≤ found

@@ -13,12 +13,11 @@ use Rattle.calls.specs.declared.view.Act.{Act}
 use Rattle.calls.specs.declared.view.Act.TheVariants.{Queue, Take, Finish}
 use Rattle.calls.specs.declared.view.Deed.{Deed}
 use Rattle.calls.specs.declared.entry.Entry.{Entry}
-use Rattle.calls.specs.declared.list.Receipt.{Receipt}
 use Rattle.calls.specs.declared.refusals.CallRefusal.{CallRefusal}
 use Rattle.calls.specs.declared.refusals.CallRefusal.TheVariants.{Exhausted, Memory}
 use Rattle.calls.specs.Lines.{some_out, line_in, readied, many_ready, calls_in}
 use Rattle.calls.specs.Tallies.{deed, most_calls, queued_in, deeds_of, AreTrue, IsBeginning as IsBeginningOf}
-use Rattle.calls.specs.Views.{CallSeatView, ListView, BatchView, CallsView, key_of, next_of, IsListIn}
+use Rattle.calls.specs.Views.{CallSeatView, ListView, BatchView, CallsView, key_of, next_of, IsListIn, ReceiptView}
 use Rattle.calls.specs.Meetings.{Covers}
 
 -- Tallies
@@ -78,7 +77,7 @@ module _ {J : Type 0} where
     pub seat : s.processor ≡ l.processor
 
   -- the cookie was given, the job came last with it, and what had no number was assigned this one; then 1 was added to the queued word. The receipt has the cookie, its number is that of the job in the list and what the word held, and what the seat has then seen is noted in it, by which its call was queued
-  pub record Queues (l : ListView J) (c : CpuView) (s : CallSeatView J) (job : J) (r : Receipt J) (l' : ListView J) (c' : CpuView) (s' : CallSeatView J) : Type 0 where
+  pub record Queues (l : ListView J) (c : CpuView) (s : CallSeatView J) (job : J) (r : ReceiptView J) (l' : ListView J) (c' : CpuView) (s' : CallSeatView J) : Type 0 where
     pub note : GivesCookieBehind l.sight c c' r.cookie l'.sight
     pub same : IsSameList l l'
     pub entries : l'.entries ≡ assigned r.cookie.number (l.entries ++ (record { job = job; cookie = r.cookie }, Next) ∷ [])
@@ -90,8 +89,8 @@ module _ {J : Type 0} where
     pub processor : r.processor ≡ s.processor
     pub counted : r.k ≡ queued_in s.processor s.seen
     pub numbered : r.k ≡ next_of l
-    pub noted : r.note ≡ record { tallies = s'.tallies; seen = s'.seen }
-    pub known : r.k < queued_in r.processor r.note.seen
+    pub noted : (r.tallies ≡ s'.tallies) × (r.seen ≡ s'.seen)
+    pub known : r.k < queued_in r.processor r.seen
 
   -- why: as many were queued as may be, and no step was made; or fewer, and a cookie was noted
   abbrev pub IsCause : ListView J → CpuView → CallSeatView J → CallRefusal → ListView J → CpuView → Type 0
@@ -197,7 +196,7 @@ module _ {J : Type 0} where
   IsListOf k p l = key_of l ≡ record { domain = k.domain; tallies = k.tallies; processor = p }
 
   -- a list of the processor, as it was when the call had it, and as the call left it
-  pub record QueuesIn (k : CallsView) (c : CpuView) (s : CallSeatView J) (job : J) (r : Receipt J) (c' : CpuView) (s' : CallSeatView J) : Type 0 where
+  pub record QueuesIn (k : CallsView) (c : CpuView) (s : CallSeatView J) (job : J) (r : ReceiptView J) (c' : CpuView) (s' : CallSeatView J) : Type 0 where
     pub list : ListView J
     pub of_calls : IsListOf k s.processor list
     pub list' : ListView J

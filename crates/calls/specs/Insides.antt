@@ -10,11 +10,13 @@ use Rattle.calls.specs.declared.spot.Spot.TheInside as spot
 use Rattle.calls.specs.declared.calls.Calls.TheInside as calls
 use Rattle.calls.specs.declared.barrier.Ticket.TheInside as ticket
 use Rattle.calls.specs.declared.note.Note.TheInside as note
+use Rattle.calls.specs.declared.receipt.Receipt.TheInside as receipt
 use Rattle.calls.specs.Tallies.{finished_place, word_count, most_calls, queued_in, AreTrue}
 use Rattle.calls.specs.Lines.{count_out}
 use Rattle.calls.specs.Seats.{IsPlaced, IsAtRest, IsListSeat, IsBatchSeat, finished_known, queued_known, out_known, waiting_known, first_known}
 use Rattle.calls.specs.Waiting.{AreWaiting, wrapped, entries_of}
-use Rattle.calls.specs.Views.{CallSeatView, ListKey, ListView, BatchView, NoteView, TicketView, CallsView}
+use Rattle.calls.specs.Views.{CallSeatView, ListKey, ListView, BatchView, NoteView, ReceiptView, TicketView, CallsView}
+use Rattle.calls.specs.Barriers.{IsQueued, IsCallOf}
 
 module _ {J A : Type 0} where
   abbrev pub view_of_seat : seat.Inside J A → CallSeatView J
@@ -52,6 +54,15 @@ module _ {J : Type 0} where
 
   abbrev pub view_of_note : note.Inside J → NoteView J
   view_of_note n = record { tallies = n.seat.table_id; seen = n.seat.me.0.seen }
+
+module _ {J : Type 0} where
+  abbrev pub view_of_receipt : receipt.Inside J → ReceiptView J
+  view_of_receipt r = record { tallies = r.note.tallies; processor = r.processor; k = r.k; cookie = r.cookie; seen = r.note.seen }
+
+  pub record IsReceipt (r : receipt.Inside J) : Type 0 where
+    pub there : finished_place r.processor < r.note.tallies.words
+    pub queued : IsQueued (view_of_receipt r) r.note.seen
+    pub call : IsCallOf (view_of_receipt r) r.note.seen
 
 -- the locks in order, each of the list of its processor
 abbrev pub AreOfDomain : TableId → TableId → List (KeepView ListKey) → Type 0

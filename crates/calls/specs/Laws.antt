@@ -10,11 +10,10 @@ use Rattle.calls.specs.declared.view.Who.TheVariants.{Caller}
 use Rattle.calls.specs.declared.view.ListRight.TheVariants.{NoList}
 use Rattle.calls.specs.declared.view.BatchRight.TheVariants.{NoBatch}
 use Rattle.calls.specs.declared.view.View.{View}
-use Rattle.calls.specs.declared.list.Receipt.{Receipt}
 use Rattle.calls.specs.Lines.{count_out, line_in, calls_in}
 use Rattle.calls.specs.Tallies.{deed, queued_place, finished_place, queued_in, finished_in, deeds_of, IsBeginning, AreTrue}
 use Rattle.calls.specs.Rule.{Kept, note}
-use Rattle.calls.specs.Views.{CallSeatView, TicketView}
+use Rattle.calls.specs.Views.{CallSeatView, TicketView, ReceiptView}
 use Rattle.calls.specs.Barriers.{IsQueued, IsFinished, IsDone, Starts}
 use Rattle.calls.specs.Totals.{AddsUp, AreTotals}
 
@@ -66,15 +65,15 @@ module _ (J : Type 0) where
 
   -- what was queued stays so
   abbrev pub StaysQueued : Type 0
-  StaysQueued = (r : Receipt J) (seen later : List (Deed J)) → IsBeginning seen later → IsQueued r seen → IsQueued r later
+  StaysQueued = (r : ReceiptView J) (seen later : List (Deed J)) → IsBeginning seen later → IsQueued r seen → IsQueued r later
 
   -- and what is finished
   abbrev pub StaysFinished : Type 0
-  StaysFinished = (r : Receipt J) (seen later : List (Deed J)) → IsBeginning seen later → IsFinished r seen → IsFinished r later
+  StaysFinished = (r : ReceiptView J) (seen later : List (Deed J)) → IsBeginning seen later → IsFinished r seen → IsFinished r later
 
   -- a barrier that is done, for one who has seen this, covers each receipt whose call its starter had seen queued
   abbrev pub BarriersCover : Type 0
-  BarriersCover = (r : Receipt J) (s : CallSeatView J) (t : TicketView) (s' : CallSeatView J) (seen : List (Deed J)) → Starts s t s' → r.processor < s.processors → IsQueued r s.seen → IsDone t seen → IsFinished r seen
+  BarriersCover = (r : ReceiptView J) (s : CallSeatView J) (t : TicketView) (s' : CallSeatView J) (seen : List (Deed J)) → Starts s t s' → r.processor < s.processors → IsQueued r s.seen → IsDone t seen → IsFinished r seen
 
   -- Totals
 

@@ -3,6 +3,7 @@ use Rattle.std.specs.Prelude.{◌≡◌, ℕ, ◌+◌, List, Option, length}
 use Rattle.atomic_table.specs.Seated.{TableId}
 use Rattle.segs.specs.MarkedList.{Mark}
 use Rattle.sections.specs.Sights.{SightView}
+use Rattle.sections.specs.Views.{CookieView}
 use Rattle.calls.specs.declared.entry.Entry.{Entry}
 use Rattle.calls.specs.declared.view.Deed.{Deed}
 use Rattle.calls.specs.Lines.{count_out, line_in}
@@ -18,6 +19,14 @@ pub record CallSeatView (J : Type 0) : Type 0 where
 -- what its giver had seen of what was done on these tally words
 pub record NoteView (J : Type 0) : Type 0 where
   pub tallies : TableId
+  pub seen : List (Deed J)
+
+-- the job of this number, among all that were ever queued on the processor, and the cookie it waits for. `seen` is what its giver had seen of what was done on these tally words
+pub record ReceiptView (J : Type 0) : Type 0 where
+  pub tallies : TableId
+  pub processor : ℕ
+  pub k : ℕ
+  pub cookie : CookieView
   pub seen : List (Deed J)
 
 -- what never changes in a list, and of which lock a list is known to be: the domain, the tally words, and the processor

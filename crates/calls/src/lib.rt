@@ -11,6 +11,7 @@ mod list;
 mod making;
 mod note;
 mod plays;
+mod receipt;
 mod refusals;
 mod seat;
 mod spot;
@@ -26,8 +27,9 @@ pub use entry::Entry;
 pub use laws::{
     barriers_of_callbacks, jobs_of_callbacks, tallies_of_callbacks, totals_of_callbacks,
 };
-pub use list::{List, Receipt};
+pub use list::List;
 pub use note::Note;
+pub use receipt::Receipt;
 pub use refusals::{CallRefusal, Memory, TakeRefusal};
 pub use seat::{CallSeat, Totals};
 pub use spot::Spot;

@@ -1,10 +1,9 @@
 //! The list of a processor's callbacks.
 use crate::entry::Entry;
-use crate::note::Note;
 use crate::plays::Place;
 use crate::spot::Spot;
 use keep::Keyed;
-use sections::{Cookie, Sight, Token};
+use sections::{Sight, Token};
 use segs::SegList;
 use std::alloc::{Allocator, Global};
 use std::marker::Model;
@@ -49,17 +48,4 @@ impl<J, A: Allocator> Keyed<Spot<J>> for List<J, A> {
     ghost use Rattle.calls.specs.Views.{key_of};
 
     ghost key = { key_of };
-}
-
-/// A job was queued.
-#[derive(Drop)]
-pub struct Receipt<J> {
-    /// The processor on which it was queued.
-    pub processor: u16,
-    /// Its number among all that were queued there, from 0.
-    pub k: u64,
-    /// The job is given out once this cookie is done.
-    pub cookie: Cookie,
-    /// What the seat had seen with which it was queued: its call is among it.
-    pub note: Note<J>,
 }

@@ -31,7 +31,6 @@ use Rattle.funnel.specs.Views.{FunnelView}
 use Rattle.funnel.specs.Calls as tree
 use Rattle.funnel.specs.Calls.{LoadsRoot}
 use Rattle.funnel.proofs.CallerLemmas as climbs
-use Rattle.calls.specs.declared.list.Receipt.{Receipt}
 use Rattle.calls.specs.declared.refusals.CallRefusal.{CallRefusal}
 use Rattle.calls.specs.declared.refusals.CallRefusal.TheVariants as calling
 use Rattle.calls.specs.declared.refusals.TakeRefusal.{TakeRefusal}
@@ -40,7 +39,7 @@ use Rattle.calls.specs.declared.entry.Entry.{Entry}
 use Rattle.calls.specs.declared.view.Act.TheVariants.{Queue, Take, Finish, LoadQueued}
 use Rattle.calls.specs.declared.view.Deed.{Deed}
 use Rattle.calls.specs.Tallies.{deed, queued_in, finished_in, deeds_of}
-use Rattle.calls.specs.Views.{CallSeatView, CallsView, BatchView, TicketView}
+use Rattle.calls.specs.Views.{CallSeatView, CallsView, BatchView, TicketView, ReceiptView}
 use Rattle.calls.specs.Calls.{Does, IsCause, QueuesIn, RefusesIn, TakesIn, InvokesIn, FinishesIn, FindsLensIn}
 use Rattle.calls.specs.Barriers as barriers
 use Rattle.calls.specs.Barriers.{queued_loads, finished_loads, Hears}
@@ -320,7 +319,7 @@ module _ {J : Type 0} (c c' : CpuView J) (rest : c' ≡ with_calls c'.calls c) w
   pub invokes_acts : (p : ℕ) → InvokesIn p c.cpu c.calls c'.cpu c'.calls → ActsAs loads c c'
   invokes_acts p h = loads_deeds [] (adds_seen c.calls.seen c.calls c'.calls h.covers) nothing_done
 
-  pub hear_acts : {r : Receipt J} → Hears r c.calls c'.calls → ActsAs loads c c'
+  pub hear_acts : {r : ReceiptView J} → Hears r c.calls c'.calls → ActsAs loads c c'
   hear_acts {r} h = loads_deeds _ (adds_deed (LoadQueued r.processor h.found) c.calls c'.calls h.does) (record { queued = λ q. refl; finished = λ q. refl })
 
   pub barrier_acts : {E : Type 0} (r : Result TicketView E) → MatchResult r (λ ticket. barriers.Starts c.calls ticket c'.calls) (λ _. c'.calls ≡ c.calls) → ActsAs loads c c'
@@ -419,7 +418,7 @@ module _ {J : Type 0} (c c' : CpuView J) (slot cookie : ℕ) (w w' : WriterView)
       }
 
 module _ {J : Type 0} (k : CallsView) (c c' : CpuView J) (job : J) where
-  pub queue_acts : c.cpu.processor ≡ c.calls.processor → (r : Receipt J) → QueuesIn k c.cpu c.calls job r c'.cpu c'.calls → (n : ℕ) → n ≡ r.cookie.number → (level : Level) → tree.Asks n c.needs level c'.needs → c'.turn ≡ c.turn → ActsAs (asks_for r.cookie.number 1) c c'
+  pub queue_acts : c.cpu.processor ≡ c.calls.processor → (r : ReceiptView J) → QueuesIn k c.cpu c.calls job r c'.cpu c'.calls → (n : ℕ) → n ≡ r.cookie.number → (level : Level) → tree.Asks n c.needs level c'.needs → c'.turn ≡ c.turn → ActsAs (asks_for r.cookie.number 1) c c'
   queue_acts same r h n is level asks turn =
       let q = h.queues in
       let e : Entry J = record { job = job; cookie = r.cookie } in

@@ -8,10 +8,9 @@ use Rattle.onedom.specs.Histories.{open_sections}
 use Rattle.onedom.proofs.CallerLemmas.{open_sections_plain}
 use Rattle.sections.specs.Sights.{SightView, GivesCookieBehind}
 use Rattle.sections.specs.Views.{CookieView}
-use Rattle.calls.specs.declared.list.Receipt.{Receipt}
 use Rattle.calls.specs.declared.refusals.CallRefusal.{CallRefusal}
 use Rattle.calls.specs.declared.refusals.CallRefusal.TheVariants.{Exhausted, Memory}
-use Rattle.calls.specs.Views.{ListView, CallSeatView}
+use Rattle.calls.specs.Views.{ListView, CallSeatView, ReceiptView}
 use Rattle.calls.specs.Calls.{IsCause}
 use Rattle.domain.specs.Views.{DomainView, CpuView, IsOf}
 use Rattle.domain.specs.Waiting.{HasNoneOpen}
@@ -30,13 +29,13 @@ module _ {J : Type 0} where
   none_refused l l' s c c' Memory none h = none_noted _ _ c c' h.1.0 none h.1.1
 
   -- the receipt is one of the domain's
-  pub queued_here : (d : DomainView) (c c' : CpuView J) (job : J) (r : Receipt J) → IsOf d c → CallsIn d c job r c' → IsReceiptOf d r
+  pub queued_here : (d : DomainView) (c c' : CpuView J) (job : J) (r : ReceiptView J) → IsOf d c → CallsIn d c job r c' → IsReceiptOf d r
   queued_here d c c' job r here h = let q = h.queues.queues in record {
     tallies = ap (λ n. n.tallies) q.noted ∙ (q.tally.same.0 ∙ here.fits.tallies);
     there = subst (λ p. p < d.processors) (sym q.processor) here.fits.there;
   }
 
   -- no reading is opened by a call, nor by one that is refused
-  pub none_queued : (d : DomainView) (c c' : CpuView J) (job : J) (result : Result (Receipt J) (J × CallRefusal)) → HasNoneOpen c → MatchResult result (λ receipt. CallsIn d c job receipt c') (λ refused. RefusesCall d c job refused c') → HasNoneOpen c'
+  pub none_queued : (d : DomainView) (c c' : CpuView J) (job : J) (result : Result (ReceiptView J) (J × CallRefusal)) → HasNoneOpen c → MatchResult result (λ receipt. CallsIn d c job receipt c') (λ refused. RefusesCall d c job refused c') → HasNoneOpen c'
   none_queued d c c' job (Ok r) none h = none_noted _ _ c c' _ none h.queues.queues.note
   none_queued d c c' job (Err e) none h = none_refused _ _ c.calls c c' e.1 none h.refuses.refuses.cause

@@ -1,8 +1,7 @@
 -- What waiting for a barrier is.
 use Rattle.std.specs.Prelude.{◌≡◌, ℕ, ◌+◌, ◌<◌, List, [], ◌∷◌, ◌++◌, true, false, length}
 use Rattle.calls.specs.declared.view.Act.{Act}
-use Rattle.calls.specs.declared.list.Receipt.{Receipt}
-use Rattle.calls.specs.Views.{CallSeatView, TicketView}
+use Rattle.calls.specs.Views.{CallSeatView, TicketView, ReceiptView}
 use Rattle.calls.specs.Barriers.{Loads, Polls, finished_loads}
 use Rattle.domain.specs.Views.{DomainView}
 
@@ -12,9 +11,8 @@ IsTicketOf d t = t.tallies ≡ d.tallies
 
 module _ {J : Type 0} where
   -- a receipt of a job that was queued at this domain
-  pub record IsReceiptOf (d : DomainView) (r : Receipt J) : Type 0 where
-    pub tallies : r.note.tallies ≡ d.tallies
-    pub there : r.processor < d.processors
+  abbrev pub IsReceiptOf : DomainView → ReceiptView J → Type 0
+  IsReceiptOf d r = r.tallies ≡ d.tallies
 
   -- the loads of one poll after another, each of which found these counts
   abbrev pub rows_of_loads : List (List ℕ) → List (Act J)

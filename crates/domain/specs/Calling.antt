@@ -2,15 +2,14 @@
 use Rattle.std.specs.Prelude.{◌≡◌, ◌<◌, []}
 use Rattle.funnel.specs.declared.seat.Level.{Level}
 use Rattle.funnel.specs.Calls as tree
-use Rattle.calls.specs.declared.list.Receipt.{Receipt}
 use Rattle.calls.specs.declared.refusals.CallRefusal.{CallRefusal}
-use Rattle.calls.specs.Views.{BatchView}
+use Rattle.calls.specs.Views.{BatchView, ReceiptView}
 use Rattle.calls.specs.Calls.{QueuesIn, RefusesIn}
 use Rattle.domain.specs.Views.{DomainView, CpuView, callbacks_of, with_cpu}
 
 module _ {J : Type 0} where
   -- the job was queued, and then just the number of its cookie asked for
-  pub record CallsIn (d : DomainView) (c : CpuView J) (job : J) (r : Receipt J) (c' : CpuView J) : Type 0 where
+  pub record CallsIn (d : DomainView) (c : CpuView J) (job : J) (r : ReceiptView J) (c' : CpuView J) : Type 0 where
     pub queues : QueuesIn (callbacks_of d) c.cpu c.calls job r c'.cpu c'.calls
     pub level : Level
     pub asks : tree.Asks r.cookie.number c.needs level c'.needs

@@ -11,12 +11,11 @@ use Rattle.onedom.specs.Histories.{ended_in}
 use Rattle.sections.specs.declared.limits.Limits.{Limits}
 use Rattle.sections.specs.Words.{number_word}
 use Rattle.calls.specs.declared.entry.Entry.{Entry}
-use Rattle.calls.specs.declared.list.Receipt.{Receipt}
 use Rattle.calls.specs.declared.refusals.CallRefusal.{CallRefusal}
 use Rattle.calls.specs.declared.refusals.CallRefusal.TheVariants as calling
 use Rattle.calls.specs.declared.refusals.TakeRefusal.{TakeRefusal}
 use Rattle.calls.specs.Tallies.{queued_in, finished_in}
-use Rattle.calls.specs.Views.{CallSeatView, ListView, BatchView}
+use Rattle.calls.specs.Views.{CallSeatView, ListView, BatchView, ReceiptView}
 use Rattle.calls.specs.Calls.{IsHanded, AreHanded, IsTaken, FindsLensIn}
 use Rattle.calls.proofs.CallerLemmas.{queued_later, finished_later}
 use Rattle.segs.specs.MarkedList.{count_done}
@@ -86,14 +85,14 @@ module _ (t : Hand) where
     abbrev IsAnswered : Result Queued CallRefusal → Type 0
     IsAnswered told = MatchResult told (λ q. Queues t.p q t.s.course (s' t).course) (λ why. QueuesNone t.p why t.s.course (s' t).course)
 
-    queued_says : (r : Receipt (Unit {0})) → CallsIn t.d t.was job r t.now → ActsAs (asks_for r.cookie.number 1) t.was t.now → Says t (Queues t.p (record { k = r.k; cookie = r.cookie.number }) t.s.course (s' t).course)
+    queued_says : (r : ReceiptView (Unit {0})) → CallsIn t.d t.was job r t.now → ActsAs (asks_for r.cookie.number 1) t.was t.now → Says t (Queues t.p (record { k = r.k; cookie = r.cookie.number }) t.s.course (s' t).course)
     queued_says r h did = says t (asks_for r.cookie.number 1) did _ (record { number = queued_found t t.p t.inside ∙ ap Some (sym (h.queues.queues.counted ∙ counted)); queues = does t (asks_for r.cookie.number 1) did })
 
     refused_says : (refusal : CallRefusal) (j : Unit {0}) → RefusesCall t.d t.was job (j, refusal) t.now → domain.QueuesNone refusal t.was t.now → Says t (QueuesNone t.p refusal t.s.course (s' t).course)
     refused_says calling.Exhausted j h did = says t loads did _ (queued_found t t.p t.inside ∙ ap Some (sym counted ∙ h.refuses.refuses.cause.0), (does t loads did).come)
     refused_says calling.Memory j h did = says t (notes did.0) did.1 _ (did.0, does t (notes did.0) did.1)
 
-    pub call_says : (r : Result (Receipt (Unit {0})) (Unit {0} × CallRefusal)) → MatchResult r (λ r. CallsIn t.d t.was job r t.now) (λ refused. RefusesCall t.d t.was job refused t.now)
+    pub call_says : (r : Result (ReceiptView (Unit {0})) (Unit {0} × CallRefusal)) → MatchResult r (λ r. CallsIn t.d t.was job r t.now) (λ refused. RefusesCall t.d t.was job refused t.now)
         → MatchResult r (λ r. ActsAs (asks_for r.cookie.number 1) t.was t.now) (λ refused. domain.QueuesNone refused.1 t.was t.now) → (told : Result Queued CallRefusal) → IsQueuedAs r told → Says t (IsAnswered told)
     call_says (Ok r) h did told same = subst (λ x. Says t (IsAnswered x)) (sym same) (queued_says r h did)
     call_says (Err refused) h did told same = subst (λ x. Says t (IsAnswered x)) (sym same) (refused_says refused.1 refused.0 h did)

@@ -1,6 +1,5 @@
 -- What a domain answers, and what is told of it in one hand.
 use Rattle.std.specs.Prelude.{◌≡◌, ℕ, Result, Ok, Err, IsErr}
-use Rattle.calls.specs.declared.list.Receipt.{Receipt}
 use Rattle.calls.specs.declared.refusals.CallRefusal.{CallRefusal}
 use Rattle.scan.specs.declared.progress.Progress.{Progress}
 use Rattle.scan.specs.declared.progress.Exhausted.{Exhausted}
@@ -34,6 +33,6 @@ IsStartedAs (Err start.Running) told = told ≡ Err scan.Running
 IsStartedAs (Err start.Exhausted) told = told ≡ Err scan.Exhausted
 
 -- the job's number and that of its cookie, or why it was refused
-abbrev pub IsQueuedAs : {J : Type 0} → Result (Receipt (Unit {0})) (J × CallRefusal) → Result Queued CallRefusal → Type 0
+abbrev pub IsQueuedAs : {J : Type 0} → Result (ReceiptView (Unit {0})) (J × CallRefusal) → Result Queued CallRefusal → Type 0
 IsQueuedAs (Ok r) told = told ≡ Ok (record { k = r.k; cookie = r.cookie.number })
 IsQueuedAs (Err refused) told = told ≡ Err refused.1

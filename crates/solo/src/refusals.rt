@@ -40,8 +40,8 @@ pub(crate) fn queued(answer: Result<Receipt<()>, ((), CallRefusal)>) -> Result<Q
 {
     match answer {
         Ok(receipt) => Ok(Queued {
-            k: receipt.k,
-            cookie: receipt.cookie.number(),
+            k: receipt.k(),
+            cookie: receipt.cookie(),
         }),
         Err((_, refusal)) => Err(refusal),
     }

@@ -10,8 +10,7 @@ use Rattle.sections.specs.declared.view.Bounds.{Bounds}
 use Rattle.sections.specs.Words.{is_held}
 use Rattle.sections.specs.Views as sections
 use Rattle.calls.specs.declared.entry.Entry.{Entry}
-use Rattle.calls.specs.declared.list.Receipt.{Receipt}
-use Rattle.calls.specs.Views.{CallSeatView, ListView, BatchView, CallsView}
+use Rattle.calls.specs.Views.{CallSeatView, ListView, BatchView, CallsView, ReceiptView}
 use Rattle.calls.specs.Calls.{IsTaken, TakesIn}
 use Rattle.domain.specs.Views.{DomainView, CpuView, IsOf}
 use Rattle.domain.specs.Waiting.{HasNoneOpen}
@@ -24,7 +23,7 @@ use Rattle.srcubench.specs.Calling.{QueuesAll, RunsBatch, RunsAll, AreOutcomes, 
 -- Queueing
 
 -- a job that is queued opens no reading
-call_none : (d : DomainView) (c c' : CpuView ℕ) (job : ℕ) (r : Receipt ℕ) → CallsIn d c job r c' → HasNoneOpen c → HasNoneOpen c'
+call_none : (d : DomainView) (c c' : CpuView ℕ) (job : ℕ) (r : ReceiptView ℕ) → CallsIn d c job r c' → HasNoneOpen c → HasNoneOpen c'
 call_none d c c' job r calls none = ap (λ l. length (filter (λ t. not (is_held t)) l)) (ap open_sections calls.queues.queues.note.adds.mine ∙ open_sections_plain c.cpu.mine (Note _ (Processor c.cpu.processor)) refl (λ s. refl)) ∙ none
 
 pub queues_none : (d : DomainView) (jobs : ℕ) (c c' : CpuView ℕ) → QueuesAll d jobs c c' → HasNoneOpen c → HasNoneOpen c'
@@ -32,7 +31,7 @@ queues_none d zero c c' same none = subst HasNoneOpen (sym same) none
 queues_none d (suc n) c c' (between, r, before, calls) none = call_none d between c' n r calls (queues_none d n c between before none)
 
 -- one more
-pub one_job : (d : DomainView) (n : ℕ) (c between c' : CpuView ℕ) (r : Receipt ℕ) → QueuesAll d n c between → CallsIn d between n r c' → QueuesAll d (n + 1) c c'
+pub one_job : (d : DomainView) (n : ℕ) (c between c' : CpuView ℕ) (r : ReceiptView ℕ) → QueuesAll d n c between → CallsIn d between n r c' → QueuesAll d (n + 1) c c'
 one_job d n c between c' r before calls = subst (λ k. QueuesAll d k c c') (sym (add-one n)) (between, r, before, calls)
 
 -- Batches

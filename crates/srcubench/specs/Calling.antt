@@ -3,8 +3,7 @@ use Rattle.std.specs.Prelude.{◌≡◌, ℕ, zero, suc, ◌+◌, ◌<◌, List,
 use Rattle.atomic_table.specs.Seated.{TableId}
 use Rattle.sections.specs.declared.view.Bounds.{Bounds}
 use Rattle.funnel.specs.declared.view.Shape.{Shape}
-use Rattle.calls.specs.declared.list.Receipt.{Receipt}
-use Rattle.calls.specs.Views.{BatchView}
+use Rattle.calls.specs.Views.{BatchView, ReceiptView}
 use Rattle.calls.specs.Calls.{TakesIn, AreHanded, FinishesIn}
 use Rattle.domain.specs.Views.{DomainView, CpuView, callbacks_of, with_cpu, with_calls}
 use Rattle.domain.specs.Calling.{CallsIn}
@@ -15,7 +14,7 @@ use Rattle.srcubench.specs.declared.calling.JobError.{JobError}
 -- so many jobs were queued, one behind the other, each the number of its place
 abbrev pub QueuesAll : DomainView → ℕ → CpuView ℕ → CpuView ℕ → Type 0
 QueuesAll d zero c c' = c' ≡ c
-QueuesAll d (suc n) c c' = (between : CpuView ℕ) × (receipt : Receipt ℕ) × QueuesAll d n c between × CallsIn d between n receipt c'
+QueuesAll d (suc n) c c' = (between : CpuView ℕ) × (receipt : ReceiptView ℕ) × QueuesAll d n c between × CallsIn d between n receipt c'
 
 -- a batch of so many jobs was taken on this processor, each after a full grace period, and was finished once all had come out
 pub record RunsBatch (d : DomainView) (many : ℕ) (c c' : CpuView ℕ) : Type 0 where

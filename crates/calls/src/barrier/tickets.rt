@@ -1,10 +1,10 @@
 //! How a barrier is started, and how one learns that it is done.
 ghost use Rattle.std.specs.Prelude.{◌≡◌, ◌<◌, IfOk, IsTrue, MatchBool, MatchResult};
-ghost use Rattle.calls.specs.Barriers.{IsQueued, IsDone, Starts, CoversAll, IsBehind, Polls, AreFinished, Hears};
+ghost use Rattle.calls.specs.Barriers.{IsQueued, IsCallOf, IsDone, Starts, CoversAll, IsBehind, Polls, AreFinished, Hears};
 
 use super::Ticket;
 use crate::calls::Calls;
-use crate::list::Receipt;
+use crate::receipt::Receipt;
 use crate::refusals::Memory;
 use crate::seat::CallSeat;
 use std::alloc::Allocator;
@@ -64,13 +64,12 @@ impl<J, A: Allocator> Calls<J, A> {
     /// One load of the queued word of the receipt's processor, by a seat that has then seen all that the one who queued
     /// the job had. So a barrier that this seat starts later covers the receipt, wherever its job was queued.
     pub fn hear<C: Allocator>(&self, seat: &mut CallSeat<J, C>, receipt: &mut Receipt<J>)
-        requires tallies { (seat.old.tallies ≡ self.now.tallies) × (receipt.old.note.tallies ≡ self.now.tallies) }
-        requires there { receipt.old.processor < self.now.processors }
+        requires { (seat.old.tallies ≡ self.now.tallies) × (receipt.old.tallies ≡ self.now.tallies) }
         ensures hears { Hears receipt.old seat.old seat.new }
         ensures same { receipt.new ≡ receipt.old }
 
-        // Its job was queued, as its note tells: the load was over its number, and a barrier covers it from now on.
-        ensures queued { IsQueued receipt.old receipt.old.note.seen → IsQueued receipt.old seat.new.seen }
+        // Its job was queued: the load was over its number, and a barrier covers it from now on.
+        ensures queued { IsQueued receipt.old seat.new.seen × IsCallOf receipt.old seat.new.seen }
     {
         // For the proof: each list has its words, so the processor is one of those that the seat knows.
         let _ = &self.lists;

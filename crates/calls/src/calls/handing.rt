@@ -5,7 +5,7 @@ ghost use Rattle.calls.specs.Calls.{IsSameSeat, IsOfProcessor, FitsIn, QueuesIn,
 
 use super::Calls;
 use crate::batch::Batch;
-use crate::list::Receipt;
+use crate::receipt::Receipt;
 use crate::refusals::{CallRefusal, Memory, TakeRefusal};
 use crate::seat::CallSeat;
 use sections::Cpu;

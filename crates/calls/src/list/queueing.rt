@@ -2,8 +2,9 @@
 ghost use Rattle.std.specs.Prelude.{◌≡◌, MatchResult, IfOk, IsOk};
 ghost use Rattle.calls.specs.Calls.{Fits, MayLook, Queues, Refuses, FindsLens};
 
-use super::{List, Receipt};
+use super::List;
 use crate::entry::Entry;
+use crate::receipt::Receipt;
 use crate::refusals::{CallRefusal, Memory};
 use crate::seat::{CallSeat, MOST_CALLS};
 use crate::tally::{add_queued, see_list};

@@ -47,7 +47,7 @@ fn queue_many<R: Wait>(
     let mut in_order = true;
     for job in 0..jobs {
         match calls.call(rt, cpu, seat, job) {
-            Ok(receipt) => in_order &= receipt.k == job && receipt.cookie.number() == 4,
+            Ok(receipt) => in_order &= receipt.k() == job && receipt.cookie() == 4,
             Err(_) => in_order = false,
         }
     }

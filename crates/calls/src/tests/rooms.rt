@@ -98,7 +98,7 @@ fn fill<R: Wait + Abort>(
     for job in first..end {
         let before = calls.lens(rt, seat, 0);
         match calls.call(rt, cpu, seat, job) {
-            Ok(receipt) => assert_eq!(rt; receipt.k, job),
+            Ok(receipt) => assert_eq!(rt; receipt.k(), job),
             Err(refused) => {
                 let wanted = ((job, CallRefusal::Memory), before);
                 assert_eq!(rt; (refused, calls.lens(rt, seat, 0)), wanted);

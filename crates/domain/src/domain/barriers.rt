@@ -1,7 +1,7 @@
 //! Barriers: waiting until all callbacks that were queued before are run.
 ghost use Rattle.std.specs.Prelude.{◌≡◌, IfOk, IsTrue, MatchBool, MatchResult};
 ghost use Rattle.calls.specs.Calls.{IsSameSeat};
-ghost use Rattle.calls.specs.Barriers.{IsQueued, IsDone, Starts, CoversAll, IsBehind, Polls, AreFinished, Hears};
+ghost use Rattle.calls.specs.Barriers.{IsQueued, IsCallOf, IsDone, Starts, CoversAll, IsBehind, Polls, AreFinished, Hears};
 ghost use Rattle.domain.specs.Views.{IsOf, with_calls};
 ghost use Rattle.domain.specs.Waiting.{HasNoneOpen};
 ghost use Rattle.domain.specs.Barriers.{IsTicketOf, IsReceiptOf, PollsUntilDone};
@@ -54,9 +54,9 @@ impl<J, A: Allocator> Domain<J, A> {
         self.calls.barrier_poll(&mut cpu.calls, ticket)
     }
 
-    /// One load of the queued word of the receipt's processor, which is over the number of a receipt that
-    /// [`Domain::call`] gave: the processor has then seen all that the one who queued the job had. So a barrier that it
-    /// starts later covers the receipt, wherever its job was queued.
+    /// One load of the queued word of the receipt's processor, which is over its number: the processor has then seen all
+    /// that the one who queued the job had. So a barrier that it starts later covers the receipt, wherever its job was
+    /// queued.
     pub fn hear(&self, cpu: &mut Cpu<J, A>, receipt: &mut Receipt<J>)
         requires domain { IsOf self.now cpu.old }
         requires receipt { IsReceiptOf self.now receipt.old }
@@ -67,8 +67,8 @@ impl<J, A: Allocator> Domain<J, A> {
         ensures rest { cpu.new ≡ with_calls cpu.new.calls cpu.old }
         ensures receipt { receipt.new ≡ receipt.old }
 
-        // Its job was queued, as its note tells, and a barrier covers it from now on.
-        ensures queued { IsQueued receipt.old receipt.old.note.seen → IsQueued receipt.old cpu.new.calls.seen }
+        // Its job was queued, and a barrier covers it from now on.
+        ensures queued { IsQueued receipt.old cpu.new.calls.seen × IsCallOf receipt.old cpu.new.calls.seen }
     {
         self.calls.hear(&mut cpu.calls, receipt);
     }

@@ -37,7 +37,7 @@ impl<J: Drop, A: Allocator + Copy> Domain<J, A> {
         let receipt = self.calls.call(rt, &mut cpu.cpu, &mut cpu.calls, job)?;
         // It is asked for behind the queueing, and by the number of the job's own cookie: for a smaller one the engine
         // might rest while the job waits.
-        cpu.needs.ask(Number::new(receipt.cookie.number()).unwrap());
+        cpu.needs.ask(Number::new(receipt.cookie()).unwrap());
         Ok(receipt)
     }
 

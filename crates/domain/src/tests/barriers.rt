@@ -111,7 +111,7 @@ fn queue_and_hear<R: Wait>(
         return None;
     };
     domain.hear(other, &mut receipt); // a barrier that it starts behind this covers the job
-    Some((receipt.processor, receipt.k))
+    Some((receipt.processor(), receipt.k()))
 }
 
 /// Polls a barrier with one processor and with another.

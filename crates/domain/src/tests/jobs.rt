@@ -127,7 +127,7 @@ fn queue_in_section<R: Wait + Clock>(
     let mut in_order = true;
     for number in first..first + GROUP {
         match domain.call(rt, cpu, Job { processor, number }) {
-            Ok(receipt) => in_order &= receipt.processor == processor && receipt.k == number,
+            Ok(receipt) => in_order &= receipt.processor() == processor && receipt.k() == number,
             Err(_) => in_order = false,
         }
     }

@@ -1,5 +1,5 @@
 use Rattle.std.proofs.Common.{◌≡◌, ℕ, ◌+◌, ◌<◌, ◌↔◌, IsTrue, List, [], ◌∷◌, ◌++◌, Option, Some, refl, ap, sym, ◌∙◌, subst, arith}
-use Rattle.std.specs.Prelude.{IsSome}
+use Rattle.std.specs.Prelude.{IsSome, slice_get}
 use Rattle.atomic_table.specs.Seated.{TableId}
 use Rattle.segs.specs.MarkedList.{Mark, Next, assigned, awaited, number_given, next_becomes}
 use Rattle.sections.specs.Views.{CookieView}
@@ -7,7 +7,9 @@ use Rattle.sections.specs.Sights.{GivesCookieBehind}
 use Rattle.calls.specs.declared.entry.Entry.{Entry}
 use Rattle.calls.specs.declared.view.Act.TheVariants.{Queue}
 use Rattle.calls.specs.Tallies.{deed, deeds_of, queued_in}
-use Rattle.calls.specs.Lines.{count_out, with_call}
+use Rattle.calls.specs.declared.view.Deed.{Deed}
+use Rattle.calls.specs.Lines.{count_out, with_call, calls_in}
+use Rattle.calls.specs.Insides.{IsReceipt}
 use Rattle.calls.specs.Views.{NoteView}
 use Rattle.calls.specs.Plays.{line_of}
 use Rattle.calls.specs.Seats.{IsPlaced, queued_known, finished_known, out_known, waiting_known, QueuesOne}
@@ -18,6 +20,7 @@ use Rattle.calls.proofs.Wrapping.{queued_last}
 use Rattle.calls.proofs.Lining.{called_long}
 use Rattle.calls.proofs.Listing.{list_from, entries_queued}
 use Rattle.calls.proofs.Turning.{some_in, called_known}
+use Rattle.calls.proofs.Once.{call_found}
 use Rattle.calls.proofs.list.List.push.Goals as goal
 
 pub invariant_of-self : goal.invariant_of-self
@@ -85,6 +88,33 @@ invariant_of-seat g c =
       few = omega (arith, few, full);
     }
 
+pub invariant_of-result : goal.invariant_of-result
+invariant_of-result g c =
+    let v = c.self.invariant in
+    let p : ℕ = c.self.inside.processor in
+    let k : CookieView = c.copy_cookie-copy.new.cookie in
+    let n : ℕ = c.number-number.result in
+    let e : Entry g.row.J.Denot = record { job = c.args.job; cookie = k } in
+    let old : List (Option (Entry g.row.J.Denot) × Mark) = c.self.inside.waiting.entries in
+    let is = c.assign.ensures.entries ∙ ap (assigned n) c.in_default.ensures.added in
+    let call = ap last_entry is ∙ queued_last (next_becomes (number_given n (awaited (old ++ (Some e, Next) ∷ [])))) old (Some e) Next in
+    let q' = some_in (λ (x : Entry g.row.J.Denot). QueuesOne p x c.seat.inside.seat c.self.inside.seat c.add_queued-k.result c.add_queued-k.new.seat c.add_queued-k.new.list) _ e call c.add_queued-k.ensures.queues in
+    let r : CookieView = c.copy_cookie-copy.result in
+    let one : k ≡ r = c.copy_cookie-copy.ensures.same ∙ sym c.copy_cookie-copy.ensures.copy in
+    let x : Entry g.row.J.Denot = record { job = c.args.job; cookie = r } in
+    let q = subst (λ (z : CookieView). QueuesOne p (record { job = c.args.job; cookie = z }) c.seat.inside.seat c.self.inside.seat c.add_queued-k.result c.add_queued-k.new.seat c.add_queued-k.new.list) one q' in
+    let own = same_queued p q.does.before c.seat.inside.seat.me.0.seen q.does.own in
+    let held = q.own in
+    let more = ap (queued_in p) q.does.seen ∙ queued_here p x q.does.before in
+    let table = c.add_queued-k.ensures.placed.seated ∙ (ap (λ t. t.shared.table_id) c.deref.ensures ∙ (sym c.seat.invariant.placed.seated ∙ (ap (λ s. s.tallies) c.seat.view_is ∙ (c.requires.tallies ∙ sym (ap (λ l. l.tallies) c.self.view_is))))) in
+    let there = v.there in
+    let words = ap (λ (t : TableId). t.words) table in
+    subst (λ (z : NoteView g.row.J.Denot). IsReceipt (record { processor = p; k = c.add_queued-k.result; cookie = r; note = z })) (sym c.note.ensures.note) record {
+      there = omega (arith, there, words);
+      queued = omega (arith, more, own, held);
+      call = (c.args.job, ap (λ (l : List (Deed g.row.J.Denot)). slice_get (calls_in p l) c.add_queued-k.result) q.does.seen ∙ call_found p c.add_queued-k.result x q.does.before (held ∙ sym own));
+    }
+
 pub returns : goal.returns
 returns g c =
     let v = c.self.invariant in
@@ -129,6 +159,6 @@ returns g c =
       processor = sym same;
       counted = q.own ∙ ap (λ (z : ℕ). queued_in z c.seat.inside.seat.me.0.seen) (sym same);
       numbered = q.found_is ∙ v.numbered;
-      noted = c.note.ensures.note;
+      noted = (ap (λ (n : NoteView g.row.J.Denot). n.tallies) c.note.ensures.note, ap (λ (n : NoteView g.row.J.Denot). n.seen) c.note.ensures.note);
       known = subst (λ (n : NoteView g.row.J.Denot). c.add_queued-k.result < queued_in p n.seen) (sym c.note.ensures.note) over;
     })
