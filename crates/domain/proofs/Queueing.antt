@@ -30,10 +30,7 @@ module _ {J : Type 0} where
 
   -- the receipt is one of the domain's
   pub queued_here : (d : DomainView) (c c' : CpuView J) (job : J) (r : ReceiptView J) → IsOf d c → CallsIn d c job r c' → IsReceiptOf d r
-  queued_here d c c' job r here h = let q = h.queues.queues in record {
-    tallies = ap (λ n. n.tallies) q.noted ∙ (q.tally.same.0 ∙ here.fits.tallies);
-    there = subst (λ p. p < d.processors) (sym q.processor) here.fits.there;
-  }
+  queued_here d c c' job r here h = let q = h.queues.queues in q.noted.0 ∙ (q.tally.same.0 ∙ here.fits.tallies)
 
   -- no reading is opened by a call, nor by one that is refused
   pub none_queued : (d : DomainView) (c c' : CpuView J) (job : J) (result : Result (ReceiptView J) (J × CallRefusal)) → HasNoneOpen c → MatchResult result (λ receipt. CallsIn d c job receipt c') (λ refused. RefusesCall d c job refused c') → HasNoneOpen c'
