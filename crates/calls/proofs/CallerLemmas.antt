@@ -16,7 +16,7 @@ pub use Rattle.calls.proofs.Meeting.{own_between}
 -- so one whose seat was covered, and then admitted to a later list, did nothing in between
 pub use Rattle.calls.proofs.Totalling.{rested}
 -- who finished batches is there in each beginning too
-pub use Rattle.calls.proofs.Counting.{earlier_finishers}
+pub use Rattle.calls.proofs.Counting.{earlier_takers}
 -- each beginning of true loads is true
 pub use Rattle.calls.proofs.Meeting.{true_beginning}
 -- Totals

@@ -7,7 +7,7 @@ use Rattle.calls.specs.declared.entry.Entry.{Entry}
 use Rattle.calls.specs.declared.view.Act.{Act}
 use Rattle.calls.specs.declared.view.Act.TheVariants.{Queue, Finish}
 use Rattle.calls.specs.declared.view.Deed.{Deed}
-use Rattle.calls.specs.Tallies.{deed, is_queue, queued_by, queued_in, finished_by, finished_in, deeds_of, IsFinisher, AreFinishers, IsBeginning, IsTrueOf, AreTrueAfter, AreTrue}
+use Rattle.calls.specs.Tallies.{deed, is_queue, queued_by, queued_in, finished_by, finished_in, deeds_of, IsTaker, AreTakers, IsBeginning, IsTrueOf, AreTrueAfter, AreTrue}
 
 abbrev one_if : Bool → ℕ
 one_if b = if b then 1 else 0
@@ -96,17 +96,17 @@ module _ {J : Type 0} where
 
   -- Who finished batches
 
-  pub one_more_finisher : (n : ℕ) (l : List (Deed J)) (d : Deed J) → AreFinishers n l → IsFinisher n d.by d.act → AreFinishers n (l ++ d ∷ [])
-  one_more_finisher n [] d h t = (t, tt)
-  one_more_finisher n (x ∷ xs) d h t = (h.0, one_more_finisher n xs d h.1 t)
+  pub one_more_taker : (n : ℕ) (l : List (Deed J)) (d : Deed J) → AreTakers n l → IsTaker n d.by d.act → AreTakers n (l ++ d ∷ [])
+  one_more_taker n [] d h t = (t, tt)
+  one_more_taker n (x ∷ xs) d h t = (h.0, one_more_taker n xs d h.1 t)
 
-  pub earlier_finishers : (n : ℕ) {a b : List (Deed J)} → IsBeginning a b → AreFinishers n b → AreFinishers n a
-  earlier_finishers n {a} {b} h all = front a (subst (λ (l : List (Deed J)). AreFinishers n l) h.whole all)
+  pub earlier_takers : (n : ℕ) {a b : List (Deed J)} → IsBeginning a b → AreTakers n b → AreTakers n a
+  earlier_takers n {a} {b} h all = front a (subst (λ (l : List (Deed J)). AreTakers n l) h.whole all)
     where
-      front : (l : List (Deed J)) → AreFinishers n (l ++ h.rest) → AreFinishers n l
+      front : (l : List (Deed J)) → AreTakers n (l ++ h.rest) → AreTakers n l
       front [] k = tt
       front (x ∷ xs) k = (k.0, front xs k.1)
 
-  pub later_finishers : (n : ℕ) (a b : List (Deed J)) → AreFinishers n (a ++ b) → AreFinishers n b
-  later_finishers n [] b h = h
-  later_finishers n (x ∷ xs) b h = later_finishers n xs b h.1
+  pub later_takers : (n : ℕ) (a b : List (Deed J)) → AreTakers n (a ++ b) → AreTakers n b
+  later_takers n [] b h = h
+  later_takers n (x ∷ xs) b h = later_takers n xs b h.1

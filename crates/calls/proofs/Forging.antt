@@ -86,7 +86,7 @@ module _ {J : Type 0} where
   three_kept plan = record {
     books = books;
     loads = (refl, tt);
-    finishers = (tt, tt);
+    takers = (tt, tt);
     counted = λ p. let q = none_queued J p in let f = none_finished J p in record { all = omega (arith, q, f); few = omega (arith, q) };
     wide = length-replicate (word_count plan.processors) 0;
     queued = λ p _. all_zero (word_count plan.processors) (replicate (word_count plan.processors) 0) refl (queued_place p) ∙ sym (none_queued J p);

@@ -16,10 +16,10 @@ use Rattle.calls.specs.declared.view.BatchRight.{BatchRight}
 use Rattle.calls.specs.declared.view.BatchRight.TheVariants.{NoBatch, OfBatch}
 use Rattle.calls.specs.declared.view.View.{View}
 use Rattle.calls.specs.Lines.{Line, count_out, next_line, line_in}
-use Rattle.calls.specs.Tallies.{queued_place, finished_place, deed, is_queue, queued_in, finished_by, finished_in, IsFinisher, AreFinishers, IsTrueOf}
+use Rattle.calls.specs.Tallies.{queued_place, finished_place, deed, is_queue, queued_in, finished_by, finished_in, IsTaker, AreTakers, IsTrueOf}
 use Rattle.calls.specs.Rule.{Books, Makes, HasList, HasBatch, Fits, Kept}
 use Rattle.calls.specs.Plays.{Sat, Looks, counts_queued, counts_finished}
-use Rattle.calls.proofs.Counting.{queued_still, finished_still, begins_itself, begins_empty, begins_pushed, one_more_true, one_more_finisher}
+use Rattle.calls.proofs.Counting.{queued_still, finished_still, begins_itself, begins_empty, begins_pushed, one_more_true, one_more_taker}
 use Rattle.calls.proofs.Lining.{line_push}
 use Rattle.calls.proofs.Knowing.{views_set, moved, fits_else}
 
@@ -31,7 +31,7 @@ module _ {J : Type 0} where
   abbrev looked : Books J → View J → ℕ → Act J → View J
   looked b v c act = record v { seen = b.log ++ deed c act ∷ []; told = [] }
 
-module _ {J : Type 0} (plan : Plan) (s : State (Option ℕ) (View J)) (r : Kept plan s) (id c : ℕ) (v : View J) (act : Act J) (at : get_elem? s.views id ≡ some v) (who : v.who ≡ Caller c) (no_queue : is_queue act ≡ false) (no_finish : (p : ℕ) → finished_by p act ≡ 0) (no_turn : (p : ℕ) (l : Line J) → next_line p c act l ≡ l) (true : IsTrueOf r.books.log act) (finisher : IsFinisher plan.processors c act) where
+module _ {J : Type 0} (plan : Plan) (s : State (Option ℕ) (View J)) (r : Kept plan s) (id c : ℕ) (v : View J) (act : Act J) (at : get_elem? s.views id ≡ some v) (who : v.who ≡ Caller c) (no_queue : is_queue act ≡ false) (no_finish : (p : ℕ) → finished_by p act ≡ 0) (no_turn : (p : ℕ) (l : Line J) → next_line p c act l ≡ l) (true : IsTrueOf r.books.log act) (taker : IsTaker plan.processors c act) where
   abbrev log' : List (Deed J)
   log' = r.books.log ++ deed c act ∷ []
 
@@ -66,7 +66,7 @@ module _ {J : Type 0} (plan : Plan) (s : State (Option ℕ) (View J)) (r : Kept 
       subst (λ (ws : List ℕ). Kept plan record { words = ws; homes = s.homes; views = set s.views id (looked r.books v c act) }) (sym (set-get_or s.words word 0)) record {
         books = b';
         loads = one_more_true r.books.log (deed c act) r.loads true;
-        finishers = one_more_finisher plan.processors r.books.log (deed c act) r.finishers finisher;
+        takers = one_more_taker plan.processors r.books.log (deed c act) r.takers taker;
         counted = λ p. let was = r.counted p in let all = was.all in let few = was.few in let q = still_queued p in let d = still_finished p in let out = ap (λ (z : Line J). count_out z.out) (still_line p) in let long = ap (λ (z : Line J). length z.waiting) (still_line p) in record { all = omega (arith, q, d, all, out, long); few = omega (arith, q, few) };
         wide = r.wide;
         queued = λ p below. r.queued p below ∙ sym (still_queued p);
@@ -129,6 +129,6 @@ module _ {J : Type 0} (plan : Plan) where
           λ b q is word_is. let one : p ≡ q = omega (arith, place, word_is) in
               subst (λ (z : ℕ × ℕ). Looks z.0 (LoadFinished z.1 x) v (looked r.books v c act)) (λ i. (same_caller c b (sym who ∙ is) i, one i)) (load_looks plan s r id c v act at who refl (λ _. refl) (λ _ _. refl) found tt),
           λ q word_is. let one : p ≡ q = omega (arith, place, word_is) in subst (λ (z : ℕ). x ≤ queued_in z log') one low,
-          subst (λ (z : ℕ). AreFinishers z log') all (one_more_finisher plan.processors r.books.log (deed c act) r.finishers tt),
+          subst (λ (z : ℕ). AreTakers z log') all (one_more_taker plan.processors r.books.log (deed c act) r.takers tt),
         ),
       )

@@ -16,11 +16,11 @@ use Rattle.calls.specs.declared.view.ListRight.TheVariants.{OfList}
 use Rattle.calls.specs.declared.view.BatchRight.{BatchRight}
 use Rattle.calls.specs.declared.view.BatchRight.TheVariants.{OfBatch}
 use Rattle.calls.specs.declared.view.View.{View}
-use Rattle.calls.specs.Tallies.{deeds_of, AreFinishers, IsBeginning, AreTrueAfter, AreTrue}
+use Rattle.calls.specs.Tallies.{deeds_of, AreTakers, IsBeginning, AreTrueAfter, AreTrue}
 use Rattle.calls.specs.Lines.{count_out, line_in}
 use Rattle.calls.specs.Rule.{Books, Makes, HasList, HasBatch, Fits, Kept}
 use Rattle.calls.specs.Plays.{Sat, FindsAll, found_all, IsAdmitted, admitted, IsOut, found_out, IsThere, found_list}
-use Rattle.calls.proofs.Counting.{begins_itself, begins_empty, earlier_finishers}
+use Rattle.calls.proofs.Counting.{begins_itself, begins_empty, earlier_takers}
 use Rattle.calls.proofs.Knowing.{views_set}
 use Rattle.calls.proofs.Steps.{has_there}
 
@@ -64,7 +64,7 @@ module _ {J : Type 0} (plan : Plan) where
   unmoved s r id word cs w fits = subst (λ (ws : List ℕ). Kept plan record { words = ws; homes = s.homes; views = set s.views id w }) (sym (set-get_or s.words word 0)) record {
     books = r.books;
     loads = r.loads;
-    finishers = r.finishers;
+    takers = r.takers;
     counted = r.counted;
     wide = r.wide;
     queued = r.queued;
@@ -89,7 +89,7 @@ module _ {J : Type 0} (plan : Plan) where
       let b : Books J = r.books in
       let f = r.each_view id v at in
       let made : Makes b id v.seen (Caller c) = subst (λ (z : Who). Makes b id v.seen z) who f.makes in
-      record { since = f.seen; own = sym made.1; covers = f.told; loads = r.loads; finishers = subst (λ (n : ℕ). AreFinishers n b.log) all r.finishers }
+      record { since = f.seen; own = sym made.1; covers = f.told; loads = r.loads; takers = subst (λ (n : ℕ). AreTakers n b.log) all r.takers }
 
   pub finds_all_here : (slots id c word many : ℕ) (me : Sat J) → plan.processors ≡ many → me.0.who ≡ Caller c → Allows (Kept plan) slots id me word (λ x. x) (found_all many (step slots word 0 0 none) me)
   finds_all_here slots id c word many me all who s r _ at _ =
@@ -145,11 +145,11 @@ module _ {J : Type 0} (plan : Plan) where
       let f = r.each_view id v at in
       let made : Makes b id v.seen (Caller c) = subst (λ (z : Who). Makes b id v.seen z) who f.makes in
       let own : deeds_of c v.told ≡ deeds_of c v.seen = own_between c v.seen v.told b.log since f.told (sym made.1) in
-      let finishers : AreFinishers many v.told = earlier_finishers many f.told (subst (λ (n : ℕ). AreFinishers n b.log) all r.finishers) in
+      let takers : AreTakers many v.told = earlier_takers many f.told (subst (λ (n : ℕ). AreTakers n b.log) all r.takers) in
       let w : View J = record v { seen = v.told; told = [] } in (
         w,
         keeps,
         tt,
         unmoved s r id word me.1 w record { seen = f.told; told = begins_empty b.log; makes = subst (λ (z : Who). Makes b id v.told z) (sym who) (made.0, own ∙ made.1); list = f.list; batch = f.batch },
-        (refl, λ p is. subst (λ (z : ℕ). IsAdmitted many z v) (same_caller c p (sym who ∙ is)) record { own = own; loads = true_beginning f.told r.loads; finishers = finishers }),
+        (refl, λ p is. subst (λ (z : ℕ). IsAdmitted many z v) (same_caller c p (sym who ∙ is)) record { own = own; loads = true_beginning f.told r.loads; takers = takers }),
       )

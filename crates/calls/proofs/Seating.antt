@@ -7,7 +7,7 @@ use Rattle.calls.specs.declared.view.View.{View}
 use Rattle.calls.specs.declared.view.Act.{Act}
 use Rattle.calls.specs.declared.view.Deed.{Deed}
 use Rattle.calls.specs.declared.view.BatchRight.TheVariants.{NoBatch}
-use Rattle.calls.specs.Tallies.{word_count, deeds_of, AreFinishers, IsBeginning, AreTrue}
+use Rattle.calls.specs.Tallies.{word_count, deeds_of, AreTakers, IsBeginning, AreTrue}
 use Rattle.calls.specs.declared.view.ListRight.TheVariants.{NoList}
 use Rattle.calls.specs.Rule.{with_list, without_list, with_batch, without_batch}
 use Rattle.calls.specs.Plays.{Sat, Does, FindsAll}
@@ -66,5 +66,5 @@ module _ {J : Type 0} where
     own = ap (deeds_of c) seen ∙ (h.own ∙ ap (deeds_of c) was);
     covers = subst (λ (z : List (Deed J) × List (Deed J)). IsBeginning z.0 z.1) (λ i. (told i, sym seen i)) h.covers;
     loads = subst (λ (l : List (Deed J)). AreTrue l) (sym seen) h.loads;
-    finishers = subst (λ (l : List (Deed J)). AreFinishers n l) (sym seen) h.finishers;
+    takers = subst (λ (l : List (Deed J)). AreTakers n l) (sym seen) h.takers;
   }

@@ -93,7 +93,7 @@ module _ {J : Type 0} (plan : Plan) where
   reviewed s r caller list batch views each = record {
     books = rebooked r.books caller list batch;
     loads = r.loads;
-    finishers = r.finishers;
+    takers = r.takers;
     counted = λ p. record { all = (r.counted p).all; few = (r.counted p).few };
     wide = r.wide;
     queued = r.queued;
@@ -237,7 +237,7 @@ module _ {J : Type 0} (plan : Plan) where
   opens words wide zeros = record {
     books = opening_books;
     loads = tt;
-    finishers = tt;
+    takers = tt;
     counted = λ p. record { all = omega arith; few = omega arith };
     wide = wide;
     queued = λ p _. zeros (queued_place p);

@@ -21,7 +21,7 @@ use Rattle.calls.specs.Lines.{Line, count_out, line_in, with_call, with_taken, w
 use Rattle.calls.specs.Tallies.{queued_place, finished_place, most_calls, deed, queued_in, finished_in, AreTrue}
 use Rattle.calls.specs.Rule.{Books, Makes, HasList, HasBatch, Fits, Kept}
 use Rattle.calls.specs.Plays.{Sat, Queues, queues, TakesOut, takes_out, Finishes, finishes, IsThere, line_of, batch_of}
-use Rattle.calls.proofs.Counting.{queued_here, queued_else, queued_still, finished_here, finished_else, finished_still, same_queued, begins_itself, begins_empty, one_more_true, one_more_finisher}
+use Rattle.calls.proofs.Counting.{queued_here, queued_else, queued_still, finished_here, finished_else, finished_still, same_queued, begins_itself, begins_empty, one_more_true, one_more_taker}
 use Rattle.calls.proofs.Lining.{called_here, called_else, called_long, taken_here, taken_else, taken_long, finish_here, finish_else}
 use Rattle.calls.proofs.Knowing.{views_set, given, given_here, given_else, moved, Untouched, fits_else}
 
@@ -85,7 +85,7 @@ module _ {J : Type 0} (plan : Plan) where
         record {
           books = b';
           loads = true';
-          finishers = one_more_finisher plan.processors b.log d r.finishers tt;
+          takers = one_more_taker plan.processors b.log d r.takers tt;
           counted = λ k. let was = r.counted k in let fin = finished_still k b.log p (Queue e) refl in let all = was.all in let few = was.few in let out = ap count_out (same_out k) in dite (ℕ_discrete p k)
               (λ at. let now : queued_in k log' ≡ queued_in k b.log + 1 = subst (λ z. queued_in z log' ≡ queued_in z b.log + 1) at one in let here : queued_in k v.seen ≡ queued_in k b.log = subst (λ z. queued_in z v.seen ≡ queued_in z b.log) at same in let small : queued_in k v.seen < most_calls = subst (λ z. queued_in z v.seen < most_calls) at room in
               let long : length (line_in k log').waiting ≡ length (line_in k b.log).waiting + 1 = subst (λ z. length (line_in z log').waiting ≡ length (line_in z b.log).waiting + 1) at (ap (λ (z : Line J). length z.waiting) line ∙ called_long e (line_in p b.log)) in
@@ -160,7 +160,7 @@ module _ {J : Type 0} (plan : Plan) where
         record {
           books = b';
           loads = true';
-          finishers = one_more_finisher plan.processors b.log d r.finishers here;
+          takers = one_more_taker plan.processors b.log d r.takers here;
           counted = λ k. let was = r.counted k in let qs = still k in let sum = was.all in let low = was.few in dite (ℕ_discrete k p)
               (λ e. let none : count_out (line_in k log').out ≡ 0 = ap (λ z. count_out (line_in z log').out) e ∙ ap (λ (z : Line J). count_out z.out) line in let fin : finished_in k log' ≡ finished_in k b.log + n = subst (λ z. finished_in z log' ≡ finished_in z b.log + n) (sym e) more in let were : count_out (line_in k b.log).out ≡ n = ap (λ z. count_out (line_in z b.log).out) e ∙ many in
               let long : length (line_in k log').waiting ≡ length (line_in k b.log).waiting = ap (λ z. length (line_in z log').waiting) e ∙ (ap (λ (z : Line J). length z.waiting) line ∙ ap (λ z. length (line_in z b.log).waiting) (sym e)) in
@@ -196,8 +196,8 @@ module _ {J : Type 0} (plan : Plan) where
         ),
       )
 
-  pub takes_here : (slots id c p q f number max word : ℕ) (ws : List (Entry J × Mark)) (me : Sat J) → me.0.who ≡ Caller c → me.0.list ≡ OfList p q f None ws → Allows (Kept plan) slots id me word (λ x. x) (takes_out number max (step slots word 0 0 none) me)
-  takes_here slots id c p q f number max word ws me who list s r _ at _ =
+  pub takes_here : (slots id c p q f number max word : ℕ) (ws : List (Entry J × Mark)) (me : Sat J) → me.0.who ≡ Caller c → me.0.list ≡ OfList p q f None ws → c < plan.processors → Allows (Kept plan) slots id me word (λ x. x) (takes_out number max (step slots word 0 0 none) me)
+  takes_here slots id c p q f number max word ws me who list here s r _ at _ =
       let v : View J = me.0 in
       let b : Books J = r.books in
       let fit = r.each_view id v at in
@@ -221,7 +221,7 @@ module _ {J : Type 0} (plan : Plan) where
         subst (λ (ns : List ℕ). Kept plan record { words = ns; homes = s.homes; views = set s.views id w }) (sym (set-get_or s.words word 0)) record {
           books = b';
           loads = true';
-          finishers = one_more_finisher plan.processors b.log d r.finishers tt;
+          takers = one_more_taker plan.processors b.log d r.takers here;
           counted = λ k. let t = r.counted k in let all = t.all in let few = t.few in let qs = queued k in let fs = finished k in dite (ℕ_discrete k p)
               (λ e. let long : count_out (line_in k log').out + length (line_in k log').waiting ≡ length (line_in k b.log).waiting =
               ap (λ z. count_out (line_in z log').out + length (line_in z log').waiting) e ∙ (ap (λ (z : Line J). count_out z.out + length z.waiting) line ∙ (taken_long number max was ∙ (ap length has.4 ∙ ap (λ z. length (line_in z b.log).waiting) (sym e)))) in

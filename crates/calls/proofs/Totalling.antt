@@ -6,12 +6,12 @@ use native.Mathlib.Decide.{ℕ_discrete}
 use Rattle.calls.specs.declared.view.Act.{Act}
 use Rattle.calls.specs.declared.view.Act.TheVariants.{Queue, Take, Finish, LoadQueued, LoadFinished}
 use Rattle.calls.specs.declared.view.Deed.{Deed}
-use Rattle.calls.specs.Tallies.{deed, queued_in, finished_by, finished_in, deeds_of, IsFinisher, AreFinishers, IsBeginning}
+use Rattle.calls.specs.Tallies.{deed, queued_in, finished_by, finished_in, deeds_of, IsTaker, AreTakers, IsBeginning}
 use Rattle.calls.specs.Views.{CallSeatView}
 use Rattle.calls.specs.Barriers.{IsCountBetween, queued_loads, finished_loads}
 use Rattle.calls.specs.Totals.{added}
 use Rattle.calls.specs.Laws.{TotalsAreExact}
-use Rattle.calls.proofs.Counting.{same_queued, queued_deeds, later_finishers}
+use Rattle.calls.proofs.Counting.{same_queued, queued_deeds, later_takers}
 use Rattle.calls.proofs.Loading.{begins_on, queued_append, finished_append, queued_later, finished_later}
 use Rattle.calls.proofs.Meeting.{deeds_append, none_more, own_between}
 
@@ -29,7 +29,7 @@ module _ {J : Type 0} where
       some_first : (y : Deed J) (ys : List (Deed J)) → y ∷ ys ≡ [] → ⊥
       some_first y ys h = cc
 
-  not_finished : (n p by : ℕ) (act : Act J) → IsFinisher n by act → (by < n → ⊥) → finished_by p act ≡ 0
+  not_finished : (n p by : ℕ) (act : Act J) → IsTaker n by act → (by < n → ⊥) → finished_by p act ≡ 0
   not_finished n p by (Queue e) h away = refl
   not_finished n p by (Take q number max) h away = refl
   not_finished n p by (Finish q k) h away = absurd (away h)
@@ -37,7 +37,7 @@ module _ {J : Type 0} where
   not_finished n p by (LoadFinished q k) h away = refl
 
   -- where only one processor of those that are there did something, and finished nothing, nothing is finished
-  none_finished : (n me p : ℕ) (l : List (Deed J)) → AreFinishers n l → ((q : ℕ) → q < n → q ≢ me → deeds_of q l ≡ []) → finished_in p (deeds_of me l) ≡ 0 → finished_in p l ≡ 0
+  none_finished : (n me p : ℕ) (l : List (Deed J)) → AreTakers n l → ((q : ℕ) → q < n → q ≢ me → deeds_of q l ≡ []) → finished_in p (deeds_of me l) ≡ 0 → finished_in p l ≡ 0
   none_finished n me p [] h others mine = refl
   none_finished n me p (x ∷ xs) h others mine = dite (ℕ_discrete x.by me)
       (λ e. let kept : finished_in p (deeds_of me (x ∷ xs)) ≡ finished_by p x.act + finished_in p (deeds_of me xs) = ap (λ b. finished_in p (cond b (x ∷ deeds_of me xs) (deeds_of me xs))) (eq-eqb x.by me e) in
@@ -67,12 +67,12 @@ module _ {J : Type 0} (n me : ℕ) (a l mine : List (Deed J)) (since : IsBeginni
       let same = ap length (others q lt ne) in
       none_more (deeds_of q since.rest) (omega (arith, whole, parts, same))
 
-  pub same_finished : AreFinishers n l → (p : ℕ) → finished_in p mine ≡ 0 → finished_in p l ≡ finished_in p a
-  same_finished finishers p none =
+  pub same_finished : AreTakers n l → (p : ℕ) → finished_in p mine ≡ 0 → finished_in p l ≡ finished_in p a
+  same_finished takers p none =
       let whole = ap (finished_in p) since.whole ∙ finished_append p a since.rest in
       let both : finished_in p (deeds_of me a) + finished_in p (deeds_of me since.rest) ≡ finished_in p (deeds_of me a) + finished_in p mine =
       sym (ap (λ z. finished_in p (deeds_of me z)) since.whole ∙ (ap (finished_in p) (deeds_append me a since.rest) ∙ finished_append p (deeds_of me a) (deeds_of me since.rest))) ∙ (ap (finished_in p) own ∙ finished_append p (deeds_of me a) mine) in
-      let rest = none_finished n me p since.rest (later_finishers n a since.rest (subst (λ z. AreFinishers n z) since.whole finishers)) rest_of_others (omega (arith, both, none)) in
+      let rest = none_finished n me p since.rest (later_takers n a since.rest (subst (λ z. AreTakers n z) since.whole takers)) rest_of_others (omega (arith, both, none)) in
       omega (arith, whole, rest)
 
   pub same_queued_there : (p : ℕ) → p < n → queued_in me mine ≡ 0 → queued_in p l ≡ queued_in p a
@@ -112,12 +112,12 @@ module _ {J : Type 0} where
       let since : IsBeginning s.seen t.seen = begins_on one.loads.since two.loads.since in
       let later : deeds_of me t.seen ≡ deeds_of me m.seen ++ second = subst (λ (z : ℕ). deeds_of z t.seen ≡ deeds_of z m.seen ++ map (deed z) (finished_loads 0 two.found)) one.loads.same.2 two.loads.own in
       let own : deeds_of me t.seen ≡ deeds_of me s.seen ++ mine = later ∙ (ap (λ l. l ++ second) one.loads.own ∙ append_assoc (deeds_of me s.seen) first second) in
-      let finishers : AreFinishers n t.seen = subst (λ (z : ℕ). AreFinishers z t.seen) many two.finishers in
+      let takers : AreTakers n t.seen = subst (λ (z : ℕ). AreTakers z t.seen) many two.takers in
       let no_finish : (p : ℕ) → finished_in p mine ≡ 0 = λ p. let cut = finished_append p first second in let f = (queued_by_loads J me p 0 one.found).1 in let g = (finished_by_loads J me p 0 two.found).1 in omega (arith, cut, f, g) in
       let no_queue : queued_in me mine ≡ 0 = let cut = queued_append me first second in let f = (queued_by_loads J me me 0 one.found).0 in let g = (finished_by_loads J me me 0 two.found).0 in omega (arith, cut, f, g) in
       record {
         queued = one.total_is ∙ (sum_is (λ p. queued_in p t.seen) 0 one.found (λ p lt. let below : p < n = (let long = one.one_each in omega (arith, lt, long)) in queued_exact p _ (one.each p below) two.loads.since (same_queued_there n me s.seen t.seen mine since own others p below no_queue) ∙ ap (λ k. queued_in k t.seen) (let e : p ≡ 0 + p = omega arith in e)) ∙ ap (λ k. added (λ p. queued_in p t.seen) 0 k) one.one_each);
-        finished = two.total_is ∙ (sum_is (λ p. finished_in p t.seen) 0 two.found (λ p lt. let below : p < m.processors = (let long = two.one_each in omega (arith, lt, long)) in finished_exact p _ (two.each p below) one.loads.since (same_finished n me s.seen t.seen mine since own others finishers p (no_finish p)) ∙ ap (λ k. finished_in k t.seen) (let e : p ≡ 0 + p = omega arith in e)) ∙ ap (λ k. added (λ p. finished_in p t.seen) 0 k) (two.one_each ∙ many));
+        finished = two.total_is ∙ (sum_is (λ p. finished_in p t.seen) 0 two.found (λ p lt. let below : p < m.processors = (let long = two.one_each in omega (arith, lt, long)) in finished_exact p _ (two.each p below) one.loads.since (same_finished n me s.seen t.seen mine since own others takers p (no_finish p)) ∙ ap (λ k. finished_in k t.seen) (let e : p ≡ 0 + p = omega arith in e)) ∙ ap (λ k. added (λ p. finished_in p t.seen) 0 k) (two.one_each ∙ many));
       }
 
   -- who has the same deeds in a list as in one of which the first goes on, did nothing since any between

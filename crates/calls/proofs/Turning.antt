@@ -20,7 +20,7 @@ use Rattle.calls.specs.declared.list.List.TheInside as list
 use Rattle.calls.specs.declared.seat.CallSeat.TheInside as seat
 use Rattle.atomic_table.specs.Seated.{TableId}
 use Rattle.calls.specs.Lines.{Line, count_out, some_out, line_in, with_call, with_taken, with_none_out, readied, many_ready, calls_in}
-use Rattle.calls.specs.Tallies.{is_queue, deed, deeds_of, queued_in, finished_in, AreFinishers, IsBeginning, AreTrue}
+use Rattle.calls.specs.Tallies.{is_queue, deed, deeds_of, queued_in, finished_in, AreTakers, IsBeginning, AreTrue}
 use Rattle.calls.specs.Rule.{batch_seat}
 use Rattle.calls.specs.Plays.{Does as DoesThere, line_of, batch_of}
 use Rattle.calls.specs.Seats.{Place, IsPlaced, IsKnown, QueuesOne, TakesOne, FinishesBatch, SeesList, IsBatchSeat, list_of, first_known, queued_known, finished_known, out_known, waiting_known, taken_line}
@@ -114,7 +114,7 @@ module _ {J A : Type 0} (s : seat.Inside J A) (seat' : Place J) (was : IsCallSea
     own = f.own;
     covers = f.since;
     loads = f.loads;
-    finishers = subst (λ (z : Plan). AreFinishers z.processors seat'.me.0.seen) same f.finishers;
+    takers = subst (λ (z : Plan). AreTakers z.processors seat'.me.0.seen) same f.takers;
   }
 
 -- A take

@@ -1,7 +1,7 @@
 -- How seats come to see one list of what was done.
 use Rattle.std.specs.Prelude.{◌≡◌, ◌+◌, ◌≤◌, List}
 use Rattle.calls.specs.declared.view.Deed.{Deed}
-use Rattle.calls.specs.Tallies.{queued_in, finished_in, deeds_of, AreFinishers, IsBeginning, AreTrue}
+use Rattle.calls.specs.Tallies.{queued_in, finished_in, deeds_of, AreTakers, IsBeginning, AreTrue}
 use Rattle.calls.specs.Views.{CallSeatView, BatchView}
 
 module _ {J : Type 0} where
@@ -12,7 +12,7 @@ module _ {J : Type 0} where
     pub own : deeds_of s.processor t.seen ≡ deeds_of s.processor s.seen
     pub covers : IsBeginning other t.seen
     pub loads : AreTrue t.seen
-    pub finishers : AreFinishers s.processors t.seen
+    pub takers : AreTakers s.processors t.seen
 
   -- one load by the seat, which is no deed. It has then seen just this, where all batches were finished by processors that are there
   pub record Accepts (s : CallSeatView J) (all : List (Deed J)) (t : CallSeatView J) : Type 0 where
@@ -20,7 +20,7 @@ module _ {J : Type 0} where
     pub since : IsBeginning s.seen all
     pub own : deeds_of s.processor all ≡ deeds_of s.processor s.seen
     pub loads : AreTrue all
-    pub finishers : AreFinishers s.processors all
+    pub takers : AreTakers s.processors all
 
 module _ {J : Type 0} where
   -- at a moment of the call the batch was out: its first number was the finished count of its processor, and its jobs were queued and not finished. The seat made no deed, and has then seen that moment

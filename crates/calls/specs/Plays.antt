@@ -12,7 +12,7 @@ use Rattle.calls.specs.declared.view.BatchRight.{BatchRight}
 use Rattle.calls.specs.declared.view.BatchRight.TheVariants.{NoBatch, OfBatch}
 use Rattle.calls.specs.declared.view.View.{View}
 use Rattle.calls.specs.Lines.{Line, line_in, with_call, with_taken}
-use Rattle.calls.specs.Tallies.{queued_place, finished_place, most_calls, deed, queued_in, finished_in, deeds_of, AreFinishers, IsBeginning, AreTrue}
+use Rattle.calls.specs.Tallies.{queued_place, finished_place, most_calls, deed, queued_in, finished_in, deeds_of, AreTakers, IsBeginning, AreTrue}
 
 -- the right of the batch that is out, where there is one
 abbrev pub batch_of : ℕ → ℕ → Option ℕ → BatchRight
@@ -92,7 +92,7 @@ module _ {J : Type 0} where
 
   -- no more are found than were queued, and all batches were finished by processors that are there
   abbrev pub counts_finished : ℕ → Step (Option ℕ) → Sat J → ℕ → Sat J → Type 0
-  counts_finished processors st m n m' = (m'.1 ≡ m.1) × ((c p : ℕ) → m.0.who ≡ Caller c → st.word ≡ finished_place p → Looks c (LoadFinished p n) m.0 m'.0) × ((p : ℕ) → st.word ≡ finished_place p → n ≤ queued_in p m'.0.seen) × AreFinishers processors m'.0.seen
+  counts_finished processors st m n m' = (m'.1 ≡ m.1) × ((c p : ℕ) → m.0.who ≡ Caller c → st.word ≡ finished_place p → Looks c (LoadFinished p n) m.0 m'.0) × ((p : ℕ) → st.word ≡ finished_place p → n ≤ queued_in p m'.0.seen) × AreTakers processors m'.0.seen
 
   -- a word was loaded, and the load is no deed: all that was done until then is seen, with what was told, and of the seat's own just what it knew. All batches there were finished by processors that are there
   pub record FindsAll (processors c : ℕ) (v w : View J) : Type 0 where
@@ -100,7 +100,7 @@ module _ {J : Type 0} where
     pub own : deeds_of c w.seen ≡ deeds_of c v.seen
     pub covers : IsBeginning v.told w.seen
     pub loads : AreTrue w.seen
-    pub finishers : AreFinishers processors w.seen
+    pub takers : AreTakers processors w.seen
 
   abbrev pub found_all : ℕ → Step (Option ℕ) → Sat J → ℕ → Sat J → Type 0
   found_all processors st m n m' = (m' ≡ (record m.0 { seen = m'.0.seen; told = [] }, m.1)) × ((c : ℕ) → m.0.who ≡ Caller c → FindsAll processors c m.0 m'.0)
@@ -109,7 +109,7 @@ module _ {J : Type 0} where
   pub record IsAdmitted (processors c : ℕ) (v : View J) : Type 0 where
     pub own : deeds_of c v.told ≡ deeds_of c v.seen
     pub loads : AreTrue v.told
-    pub finishers : AreFinishers processors v.told
+    pub takers : AreTakers processors v.told
 
   -- a word was loaded, and the load is no deed: just what was told is seen
   abbrev pub admitted : ℕ → Step (Option ℕ) → Sat J → ℕ → Sat J → Type 0

@@ -13,7 +13,7 @@ use Rattle.calls.specs.declared.view.BatchRight.{BatchRight}
 use Rattle.calls.specs.declared.view.BatchRight.TheVariants.{NoBatch, OfBatch}
 use Rattle.calls.specs.declared.view.View.{View}
 use Rattle.calls.specs.Lines.{count_out, line_in, no_calls}
-use Rattle.calls.specs.Tallies.{queued_place, finished_place, word_count, most_calls, queued_in, finished_in, deeds_of, AreFinishers, IsBeginning, AreTrue}
+use Rattle.calls.specs.Tallies.{queued_place, finished_place, word_count, most_calls, queued_in, finished_in, deeds_of, AreTakers, IsBeginning, AreTrue}
 
 -- what there is beside the words: all that was done, and for each processor the seat that makes its steps, that of its list, and that of its batch
 pub record Books (J : Type 0) : Type 0 where
@@ -62,7 +62,7 @@ module _ {J : Type 0} where
   pub record Kept (plan : Plan) (s : State (Option ℕ) (View J)) : Type 0 where
     pub books : Books J
     pub loads : AreTrue books.log
-    pub finishers : AreFinishers plan.processors books.log
+    pub takers : AreTakers plan.processors books.log
     pub counted : (p : ℕ) → IsCounted books p
     pub wide : length s.words ≡ word_count plan.processors
     pub queued : (p : ℕ) → p < plan.processors → slice_index s.words (queued_place p) ≡ queued_in p books.log

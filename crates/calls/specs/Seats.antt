@@ -14,7 +14,7 @@ use Rattle.calls.specs.declared.view.BatchRight.{BatchRight}
 use Rattle.calls.specs.declared.view.BatchRight.TheVariants.{NoBatch, OfBatch}
 use Rattle.calls.specs.declared.view.View.{View}
 use Rattle.calls.specs.Lines.{Line, with_call, with_taken}
-use Rattle.calls.specs.Tallies.{finished_place, word_count, queued_in, AreFinishers}
+use Rattle.calls.specs.Tallies.{finished_place, word_count, queued_in, AreTakers}
 use Rattle.calls.specs.Rule.{list_seat, batch_seat}
 use Rattle.calls.specs.Plays.{Does, Looks, FindsAll, IsAdmitted, IsOut, IsThere, line_of, batch_of}
 
@@ -126,7 +126,7 @@ module _ {J : Type 0} where
     pub bare : seat'.me.1 ≡ seat.me.1
     pub looks : (c p : ℕ) → seat.me.0.who ≡ Caller c → place ≡ finished_place p → Looks c (LoadFinished p found) seat.me.0 seat'.me.0
     pub within : (p : ℕ) → place ≡ finished_place p → found ≤ queued_in p seat'.me.0.seen
-    pub finishers : AreFinishers plan.processors seat'.me.0.seen
+    pub takers : AreTakers plan.processors seat'.me.0.seen
 
   -- a word was loaded, and the load is no deed: all that was done until then is seen
   pub record SeesAll (plan : Plan) (seat seat' : Place J) : Type 0 where

@@ -59,18 +59,18 @@ module _ {J : Type 0} where
   abbrev pub deeds_of : ℕ → List (Deed J) → List (Deed J)
   deeds_of p deeds = filter (λ d. d.by == p) deeds
 
-  -- a batch is finished by one of so many processors
-  abbrev pub IsFinisher : ℕ → ℕ → Act J → Type 0
-  IsFinisher processors by (Queue e) = Unit {0}
-  IsFinisher processors by (Take p n max) = Unit {0}
-  IsFinisher processors by (Finish p n) = by < processors
-  IsFinisher processors by (LoadQueued p n) = Unit {0}
-  IsFinisher processors by (LoadFinished p n) = Unit {0}
+  -- a batch is taken, and finished, by one of so many processors
+  abbrev pub IsTaker : ℕ → ℕ → Act J → Type 0
+  IsTaker processors by (Queue e) = Unit {0}
+  IsTaker processors by (Take p n max) = by < processors
+  IsTaker processors by (Finish p n) = by < processors
+  IsTaker processors by (LoadQueued p n) = Unit {0}
+  IsTaker processors by (LoadFinished p n) = Unit {0}
 
-  -- each batch that was finished was finished by one of so many processors
-  abbrev pub AreFinishers : ℕ → List (Deed J) → Type 0
-  AreFinishers processors [] = Unit {0}
-  AreFinishers processors (d ∷ ds) = IsFinisher processors d.by d.act × AreFinishers processors ds
+  -- each batch was taken and finished by one of so many processors
+  abbrev pub AreTakers : ℕ → List (Deed J) → Type 0
+  AreTakers processors [] = Unit {0}
+  AreTakers processors (d ∷ ds) = IsTaker processors d.by d.act × AreTakers processors ds
 
   -- a beginning of what was done
   pub record IsBeginning (seen deeds : List (Deed J)) : Type 0 where

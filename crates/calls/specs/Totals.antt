@@ -1,7 +1,7 @@
 -- How many calls were queued on all processors together, and how many of these are finished.
 use Rattle.std.specs.Prelude.{◌≡◌, ℕ, zero, suc, ◌+◌, ◌<◌, ◌≤◌, List, length, sum, slice_index}
 use Rattle.calls.specs.declared.view.Deed.{Deed}
-use Rattle.calls.specs.Tallies.{most_calls, queued_in, finished_in, AreFinishers}
+use Rattle.calls.specs.Tallies.{most_calls, queued_in, finished_in, AreTakers}
 use Rattle.calls.specs.Views.{CallSeatView}
 use Rattle.calls.specs.Barriers.{IsCountBetween, Loads, queued_loads, finished_loads}
 
@@ -22,7 +22,7 @@ module _ {J : Type 0} where
     pub loads : Loads (finished_loads 0 found) s t
     pub each : (p : ℕ) → p < s.processors → IsCountBetween (finished_in p) (slice_index found p) s.seen t.seen
     pub within : (p : ℕ) → p < s.processors → slice_index found p ≤ queued_in p t.seen
-    pub finishers : AreFinishers s.processors t.seen
+    pub takers : AreTakers s.processors t.seen
     pub total_is : total ≡ sum found
 
   -- first the queued words, and then the finished ones

@@ -1,6 +1,6 @@
 -- Calls of a processor act: from what a call says of its seats to its act.
 use Rattle.std.proofs.Common.{◌≡◌, ◌≢◌, ℕ, suc, ◌+◌, ◌*◌, ◌≤◌, cond, if◌then◌else◌, map, inl, inr, Bool, true, false, List, [], ◌∷◌, ◌++◌, refl, sym, ap, ◌∙◌, subst, append-nil, append_assoc, arith, eq-eqb, ne_eqb}
-use Rattle.std.specs.Prelude.{Option, Result, Ok, Err, MatchResult, IsOk, IfOk}
+use Rattle.std.specs.Prelude.{Option, Some, None, Result, Ok, Err, MatchResult, IsOk, IfOk}
 use Rattle.std.proofs.lemmas.List.{map-append}
 use mathlib.Core.Logic.{dite}
 use native.Mathlib.Decide.{ℕ_discrete}
@@ -38,8 +38,9 @@ use Rattle.calls.specs.declared.view.Act as does
 use Rattle.calls.specs.declared.entry.Entry.{Entry}
 use Rattle.calls.specs.declared.view.Act.TheVariants.{Queue, Take, Finish, LoadQueued}
 use Rattle.calls.specs.declared.view.Deed.{Deed}
+use Rattle.calls.specs.Lines.{Line, with_call, with_taken, with_none_out, next_line, line_from}
 use Rattle.calls.specs.Tallies.{deed, queued_in, finished_in, deeds_of}
-use Rattle.calls.specs.Views.{CallSeatView, CallsView, BatchView, TicketView, ReceiptView}
+use Rattle.calls.specs.Views.{CallSeatView, ListKey, CallsView, BatchView, TicketView, ReceiptView}
 use Rattle.calls.specs.Calls.{Does, IsCause, QueuesIn, RefusesIn, TakesIn, InvokesIn, FinishesIn, FindsLensIn}
 use Rattle.calls.specs.Barriers as barriers
 use Rattle.calls.specs.Barriers.{queued_loads, finished_loads, Hears}
@@ -47,7 +48,7 @@ use Rattle.calls.specs.Meetings.{Covers, SeesOut}
 use Rattle.calls.proofs.CallerLemmas.{begins_itself, begins_on, deeds_append}
 use Rattle.domain.specs.Views.{CpuView, with_cpu, with_calls}
 use Rattle.domain.specs.Barriers.{rows_of_loads, PollsUntilDone}
-use Rattle.domain.specs.Acting.{Act, makes, loads, begins, ends, notes, asks_whether, asks_how_far, asks_for, finishes, finds, puts, PutsAndThen, MakesEvents, GoesOn, Adds, AreOf, AskFor, Count, Acts, ActsAs, QueuesNone}
+use Rattle.domain.specs.Acting.{Act, makes, loads, begins, ends, notes, asks_whether, takes, asks_for, finishes, finds, puts, PutsAndThen, MakesEvents, GoesOn, Adds, AreOf, AskFor, Count, Acts, ActsAs, QueuesNone}
 
 -- At the domain's words
 
@@ -101,8 +102,8 @@ goes_further e f h a b = record {
   mine = b.mine ∙ (append-nil f.mine ∙ a.mine);
 }
 
-asks_nothing : (p : ℕ) (by : Holder) (events : List Event) (queued finished owner : ℕ) → AskFor p by (record { events = events; asked = 0; queued = queued; finished = finished; owner = owner }) []
-asks_nothing p by events queued finished owner = record { own = λ q is. refl; others = λ q other. refl; greatest_is = λ before. let none = ap greatest (append-nil before) in omega (arith, none); cookie = inl refl }
+asks_nothing : (p : ℕ) (by : Holder) (events : List Event) (queued finished owner : ℕ) (list : Option ℕ) → AskFor p by (record { events = events; asked = 0; queued = queued; finished = finished; owner = owner; list = list }) []
+asks_nothing p by events queued finished owner list = record { own = λ q is. refl; others = λ q other. refl; greatest_is = λ before. let none = ap greatest (append-nil before) in omega (arith, none); cookie = inl refl }
 
 abbrev number_of : Holder → ℕ
 number_of (holder.Processor q) = q
@@ -153,22 +154,23 @@ module _ {J : Type 0} where
     own = h.own ∙ sym (append-nil (deeds_of s.processor s.seen));
   }
 
-  -- no call was queued, and none finished
+  -- no call was queued, none finished, and no list changed
   pub record CountsNothing (act : List (Deed J)) : Type 0 where
     pub queued : (q : ℕ) → queued_in q act ≡ 0
     pub finished : (q : ℕ) → finished_in q act ≡ 0
+    pub lists : (q : ℕ) (l : Line J) → line_from q l act ≡ l
 
 module _ {J : Type 0} where
   pub nothing_done : CountsNothing {J = J} []
-  nothing_done = record { queued = λ q. refl; finished = λ q. refl }
+  nothing_done = record { queued = λ q. refl; finished = λ q. refl; lists = λ q l. refl }
 
   pub queued_loads_count : (by k : ℕ) (ns : List ℕ) → CountsNothing {J = J} (map (deed by) (queued_loads k ns))
   queued_loads_count by k [] = nothing_done
-  queued_loads_count by k (n ∷ ns) = let rest = queued_loads_count by (k + 1) ns in record { queued = λ q. let none = rest.queued q in omega (arith, none); finished = λ q. let none = rest.finished q in omega (arith, none) }
+  queued_loads_count by k (n ∷ ns) = let rest = queued_loads_count by (k + 1) ns in record { queued = λ q. let none = rest.queued q in omega (arith, none); finished = λ q. let none = rest.finished q in omega (arith, none); lists = λ q l. rest.lists q l }
 
   pub finished_loads_count : (by k : ℕ) (ns : List ℕ) → CountsNothing {J = J} (map (deed by) (finished_loads k ns))
   finished_loads_count by k [] = nothing_done
-  finished_loads_count by k (n ∷ ns) = let rest = finished_loads_count by (k + 1) ns in record { queued = λ q. let none = rest.queued q in omega (arith, none); finished = λ q. let none = rest.finished q in omega (arith, none) }
+  finished_loads_count by k (n ∷ ns) = let rest = finished_loads_count by (k + 1) ns in record { queued = λ q. let none = rest.queued q in omega (arith, none); finished = λ q. let none = rest.finished q in omega (arith, none); lists = λ q l. rest.lists q l }
 
 module _ {J : Type 0} where
   pub queued_append : (p : ℕ) (a b : List (Deed J)) → queued_in p (a ++ b) ≡ queued_in p a + queued_in p b
@@ -179,10 +181,15 @@ module _ {J : Type 0} where
   finished_append p [] b = omega arith
   finished_append p (x ∷ xs) b = let r = finished_append p xs b in omega (arith, r)
 
+  pub lists_append : (q : ℕ) (l : Line J) (a b : List (Deed J)) → line_from q l (a ++ b) ≡ line_from q (line_from q l a) b
+  lists_append q l [] b = refl
+  lists_append q l (x ∷ xs) b = lists_append q (next_line q x.by x.act l) xs b
+
   pub both_count : (a b : List (Deed J)) → CountsNothing a → CountsNothing b → CountsNothing (a ++ b)
   both_count a b first second = record {
     queued = λ q. let cut = queued_append q a b in let f = first.queued q in let s = second.queued q in omega (arith, cut, f, s);
     finished = λ q. let cut = finished_append q a b in let f = first.finished q in let s = second.finished q in omega (arith, cut, f, s);
+    lists = λ q l. lists_append q l a b ∙ (ap (λ z. line_from q z b) (first.lists q l) ∙ second.lists q l);
   }
 
 module _ {J : Type 0} where
@@ -192,8 +199,8 @@ module _ {J : Type 0} where
       (both_count (map (deed by) (finished_loads 0 ns)) (map (deed by) (rows_of_loads more)) (finished_loads_count by 0 ns) (rows_count by more))
 
 module _ {J : Type 0} where
-  counts_nothing : (p : ℕ) (events : List Event) (asked : ℕ) (deeds : List (Deed J)) → CountsNothing deeds → Count p (record { events = events; asked = asked; queued = 0; finished = 0; owner = 0 }) deeds
-  counts_nothing p events asked deeds none = record { queued = none.queued p; finished = none.finished 0; others = λ q other. none.finished q }
+  counts_nothing : (p : ℕ) (events : List Event) (asked : ℕ) (deeds : List (Deed J)) → CountsNothing deeds → Count p (record { events = events; asked = asked; queued = 0; finished = 0; owner = 0; list = None }) deeds
+  counts_nothing p events asked deeds none = record { queued = none.queued p; finished = none.finished 0; others = λ q other. none.finished q; lists = λ q other l. none.lists q l }
 
 module _ (J : Type 0) where
   queued_one : (p : ℕ) (e : Entry J) → queued_in p (deed p (Queue e) ∷ []) ≡ 1
@@ -205,16 +212,26 @@ module _ (J : Type 0) where
   finished_else : (by p n q : ℕ) → q ≢ p → finished_in {J = J} q (deed by (Finish p n) ∷ []) ≡ 0
   finished_else by p n q other = ap (λ b. (if b then n else 0) + 0) (ne_eqb p q (λ e. other (sym e)))
 
+  -- another processor's list stays as it is
+  queued_off : (p q : ℕ) (e : Entry J) (l : Line J) → q ≢ p → line_from q l (deed p (Queue e) ∷ []) ≡ l
+  queued_off p q e l other = ap (λ (b : Bool). if b then with_call e l else l) (ne_eqb p q (λ same. other (sym same)))
+
+  taken_off : (by p number most q : ℕ) (l : Line J) → q ≢ p → line_from q l (deed by (Take p number most) ∷ []) ≡ l
+  taken_off by p number most q l other = ap (λ (b : Bool). if b then with_taken number most l else l) (ne_eqb p q (λ same. other (sym same)))
+
+  finished_off : (by p n q : ℕ) (l : Line J) → q ≢ p → line_from q l (deed by (Finish p n) ∷ []) ≡ l
+  finished_off by p n q l other = ap (λ (b : Bool). if b then with_none_out l else l) (ne_eqb p q (λ same. other (sym same)))
+
 -- A call at the domain's words
 
 module _ {J : Type 0} (c c' : CpuView J) (rest : c' ≡ with_cpu c'.cpu c) where
-  quietly : (p : ℕ) (events : List Event) → MakesEvents events c.cpu c'.cpu → AreOf p events → Acts p (record { events = events; asked = 0; queued = 0; finished = 0; owner = 0 }) c c'
+  quietly : (p : ℕ) (events : List Event) → MakesEvents events c.cpu c'.cpu → AreOf p events → Acts p (record { events = events; asked = 0; queued = 0; finished = 0; owner = 0; list = None }) c c'
   quietly p events made of = record {
     events = made;
     are_of = of;
     raised = [];
     needs = stays c.needs c'.needs (ap (λ (x : CpuView J). x.needs) rest);
-    ask_for = asks_nothing p c.needs.holder events 0 0 0;
+    ask_for = asks_nothing p c.needs.holder events 0 0 0 None;
     deeds = [];
     adds = adds_none c.calls c'.calls (ap (λ (x : CpuView J). x.calls) rest);
     count = counts_nothing p events 0 [] nothing_done;
@@ -284,13 +301,13 @@ module _ {J : Type 0} (c c' : CpuView J) (rest : c' ≡ with_cpu c'.cpu c) where
 -- A call at the tally words
 
 module _ {J : Type 0} (c c' : CpuView J) (rest : c' ≡ with_calls c'.calls c) where
-  does_deeds : (p finished owner : ℕ) (deeds : List (Deed J)) → Adds deeds c.calls c'.calls → Count p (finishes owner finished p) deeds → Acts p (finishes owner finished p) c c'
-  does_deeds p finished owner deeds adds count = record {
+  does_deeds : (p finished owner : ℕ) (list : Option ℕ) (deeds : List (Deed J)) → Adds deeds c.calls c'.calls → Count p (record (finishes owner finished p) { list = list }) deeds → Acts p (record (finishes owner finished p) { list = list }) c c'
+  does_deeds p finished owner list deeds adds count = record {
     events = none_made c.cpu c'.cpu (ap (λ (x : CpuView J). x.cpu) rest);
     are_of = none_of p;
     raised = [];
     needs = stays c.needs c'.needs (ap (λ (x : CpuView J). x.needs) rest);
-    ask_for = asks_nothing p c.needs.holder [] 0 finished owner;
+    ask_for = asks_nothing p c.needs.holder [] 0 finished owner list;
     deeds = deeds;
     adds = adds;
     count = count;
@@ -298,13 +315,13 @@ module _ {J : Type 0} (c c' : CpuView J) (rest : c' ≡ with_calls c'.calls c) w
   }
 
   loads_deeds : (deeds : List (Deed J)) → Adds deeds c.calls c'.calls → CountsNothing deeds → ActsAs loads c c'
-  loads_deeds deeds adds none = does_deeds c.cpu.processor 0 0 deeds adds (counts_nothing c.cpu.processor [] 0 deeds none)
+  loads_deeds deeds adds none = does_deeds c.cpu.processor 0 0 None deeds adds (counts_nothing c.cpu.processor [] 0 deeds none)
 
   pub finish_acts : (k : CallsView) (b : BatchView J) → FinishesIn k c.calls b c'.calls → ActsAs (finishes b.processor b.count) c c'
   finish_acts k b h =
       let by = c.calls.processor in
-      does_deeds c.cpu.processor b.count b.processor (deed by (Finish b.processor b.count) ∷ []) (adds_deed (Finish b.processor b.count) c.calls c'.calls h.finishes.tally)
-      (record { queued = refl; finished = finished_here J by b.processor b.count; others = λ q other. finished_else J by b.processor b.count q other })
+      does_deeds c.cpu.processor b.count b.processor (Some b.processor) (deed by (Finish b.processor b.count) ∷ []) (adds_deed (Finish b.processor b.count) c.calls c'.calls h.finishes.tally)
+      (record { queued = refl; finished = finished_here J by b.processor b.count; others = λ q other. finished_else J by b.processor b.count q other; lists = λ q away l. finished_off J by b.processor b.count q l (λ same. away (ap Some (sym same))) })
 
   pub out_acts : {b : BatchView J} → SeesOut b c.calls c'.calls → ActsAs loads c c'
   out_acts h = loads_deeds [] (adds_seen h.moment c.calls c'.calls h.covers) nothing_done
@@ -320,7 +337,7 @@ module _ {J : Type 0} (c c' : CpuView J) (rest : c' ≡ with_calls c'.calls c) w
   invokes_acts p h = loads_deeds [] (adds_seen c.calls.seen c.calls c'.calls h.covers) nothing_done
 
   pub hear_acts : {r : ReceiptView J} → Hears r c.calls c'.calls → ActsAs loads c c'
-  hear_acts {r} h = loads_deeds _ (adds_deed (LoadQueued r.processor h.found) c.calls c'.calls h.does) (record { queued = λ q. refl; finished = λ q. refl })
+  hear_acts {r} h = loads_deeds _ (adds_deed (LoadQueued r.processor h.found) c.calls c'.calls h.does) (record { queued = λ q. refl; finished = λ q. refl; lists = λ q l. refl })
 
   pub barrier_acts : {E : Type 0} (r : Result TicketView E) → MatchResult r (λ ticket. barriers.Starts c.calls ticket c'.calls) (λ _. c'.calls ≡ c.calls) → ActsAs loads c c'
   barrier_acts (Ok t) h = loads_deeds _ (adds_loads (queued_loads 0 t.numbers) c.calls c'.calls h.loads) (queued_loads_count c.calls.processor 0 t.numbers)
@@ -335,26 +352,27 @@ module _ {J : Type 0} (c c' : CpuView J) (rest : c' ≡ with_calls c'.calls c) w
 -- Jobs are taken
 
 module _ {J : Type 0} (c c' : CpuView J) (rest : c' ≡ with_calls c'.calls (with_cpu c'.cpu c)) where
-  takes_out : (k : CallsView) (processor most : ℕ) (taken : Option (BatchView J)) → TakesIn k processor most c.cpu c.calls taken c'.cpu c'.calls → ActsAs (asks_how_far c'.cpu.changes) c c'
+  takes_out : (k : CallsView) (processor most : ℕ) (taken : Option (BatchView J)) → TakesIn k processor most c.cpu c.calls taken c'.cpu c'.calls → ActsAs (takes c'.cpu.changes processor) c c'
   takes_out k processor most taken h =
       let g = h.takes.gives in
       let p : ℕ = c.cpu.processor in
       let act : does.Act J = Take h.list.processor g.number most in
       let e : Event = Ask (4 * periods_ended g.number) true (Processor p) in
-      subst (λ n. ActsAs (asks_whether (4 * periods_ended n) true) c c') g.asks.current record {
+      let own : h.list.processor ≡ processor = ap (λ (z : ListKey). z.processor) h.of_calls in
+      subst (λ n. ActsAs (λ q. record (asks_whether (4 * periods_ended n) true q) { list = Some processor }) c c') g.asks.current record {
         events = one_made c.cpu c'.cpu g.asks.adds;
         are_of = one_of p e refl refl refl;
         raised = [];
         needs = stays c.needs c'.needs (ap (λ (x : CpuView J). x.needs) rest);
-        ask_for = asks_nothing p c.needs.holder (e ∷ []) 0 0 0;
+        ask_for = asks_nothing p c.needs.holder (e ∷ []) 0 0 0 (Some processor);
         deeds = deed c.calls.processor act ∷ [];
         adds = adds_deed act c.calls c'.calls g.tally;
-        count = counts_nothing p (e ∷ []) 0 (deed c.calls.processor act ∷ []) (record { queued = λ q. refl; finished = λ q. refl });
+        count = record { queued = refl; finished = refl; others = λ q other. refl; lists = λ q away l. taken_off J c.calls.processor h.list.processor g.number most q l (λ same. away (ap Some (sym (same ∙ own)))) };
         turn = ap (λ (x : CpuView J). x.turn) rest;
       }
 
   pub take_acts : (k : CallsView) (processor most : ℕ) (r : Result (Option (BatchView J)) TakeRefusal) → MatchResult r (λ taken. TakesIn k processor most c.cpu c.calls taken c'.cpu c'.calls) (λ _. InvokesIn processor c.cpu c.calls c'.cpu c'.calls)
-      → MatchResult r (λ _. ActsAs (asks_how_far c'.cpu.changes) c c') (λ _. ActsAs loads c c')
+      → MatchResult r (λ _. ActsAs (takes c'.cpu.changes processor) c c') (λ _. ActsAs loads c c')
   take_acts k processor most (Ok taken) h = takes_out k processor most taken h
   take_acts k processor most (Err x) h = invokes_acts c c' (rest ∙ ap (λ (z : sections.CpuView). with_calls c'.calls (with_cpu z c)) h.cpu) processor h
 
@@ -367,7 +385,7 @@ module _ {J : Type 0} where
     are_of = none_of c.cpu.processor;
     raised = [];
     needs = record { same = h.same; since = h.since; mine = h.mine ∙ sym (append-nil c.needs.mine) };
-    ask_for = asks_nothing c.cpu.processor c.needs.holder [] 0 0 0;
+    ask_for = asks_nothing c.cpu.processor c.needs.holder [] 0 0 0 None;
     deeds = [];
     adds = adds_none c.calls c'.calls (ap (λ (x : CpuView J). x.calls) rest);
     count = counts_nothing c.cpu.processor [] 0 [] nothing_done;
@@ -397,7 +415,7 @@ noted c c' cookie number other reached is adds = subst (λ n. MakesEvents (Note 
 
 module _ {J : Type 0} where
   pub start_acts : (c c' : CpuView J) (cookie : CookieView) → GivesCookie c.cpu c'.cpu cookie → (n : ℕ) → n ≡ cookie.number → (level : Level) → tree.Asks n c.needs level c'.needs → c'.turn ≡ c.turn → c'.calls ≡ c.calls → ActsAs (asks_for cookie.number 0) c c'
-  start_acts c c' cookie gives n is level asks turn calls = asked_for c c' cookie.number level (subst (λ m. tree.Asks m c.needs level c'.needs) is asks) turn (noted c.cpu c'.cpu cookie gives.number _ _ gives.cookie_is gives.notes.adds) 0 [] (adds_none c.calls c'.calls calls) (record { queued = refl; finished = refl; others = λ q other. refl })
+  start_acts c c' cookie gives n is level asks turn calls = asked_for c c' cookie.number level (subst (λ m. tree.Asks m c.needs level c'.needs) is asks) turn (noted c.cpu c'.cpu cookie gives.number _ _ gives.cookie_is gives.notes.adds) 0 [] (adds_none c.calls c'.calls calls) (record { queued = refl; finished = refl; others = λ q other. refl; lists = λ q away l. refl })
 
 -- A version is put, and then a cookie is given, and perhaps asked for
 
@@ -414,7 +432,7 @@ module _ {J : Type 0} (c c' : CpuView J) (slot cookie : ℕ) (w w' : WriterView)
       let made : MakesEvents (Note cookie (Processor m.cpu.processor) ∷ []) m.cpu c'.cpu = subst (λ n. MakesEvents (Note n (Processor m.cpu.processor) ∷ []) m.cpu c'.cpu) (sym h.cookie_is) (one_made m.cpu c'.cpu h.notes.adds) in record {
         between = m;
         put = put_first;
-        next = asked_for m c' cookie level (subst (λ k. tree.Asks k c.needs level c'.needs) is asks) turn made 0 [] (adds_none c.calls c'.calls calls) (record { queued = refl; finished = refl; others = λ q other. refl });
+        next = asked_for m c' cookie level (subst (λ k. tree.Asks k c.needs level c'.needs) is asks) turn made 0 [] (adds_none c.calls c'.calls calls) (record { queued = refl; finished = refl; others = λ q other. refl; lists = λ q away l. refl });
       }
 
 module _ {J : Type 0} (k : CallsView) (c c' : CpuView J) (job : J) where
@@ -424,7 +442,7 @@ module _ {J : Type 0} (k : CallsView) (c c' : CpuView J) (job : J) where
       let e : Entry J = record { job = job; cookie = r.cookie } in
       let deeds : List (Deed J) = deed c.calls.processor (Queue e) ∷ [] in
       let one : queued_in c.cpu.processor deeds ≡ 1 = ap (λ p. queued_in p deeds) same ∙ queued_one J c.calls.processor e in
-      asked_for c c' r.cookie.number level (subst (λ m. tree.Asks m c.needs level c'.needs) is asks) turn (noted c.cpu c'.cpu r.cookie q.note.number _ _ q.note.cookie_is q.note.adds) 1 deeds (adds_deed (Queue e) c.calls c'.calls q.tally) (record { queued = one; finished = refl; others = λ q other. refl })
+      asked_for c c' r.cookie.number level (subst (λ m. tree.Asks m c.needs level c'.needs) is asks) turn (noted c.cpu c'.cpu r.cookie q.note.number _ _ q.note.cookie_is q.note.adds) 1 deeds (adds_deed (Queue e) c.calls c'.calls q.tally) (record { queued = one; finished = refl; others = λ q other. refl; lists = λ q away l. queued_off J c.calls.processor q e l (λ is. away (ap Some (same ∙ sym is))) })
 
   pub refusal_acts : c' ≡ with_cpu c'.cpu c → (refused : J × CallRefusal) → RefusesIn k c.cpu c.calls job refused c'.cpu c'.calls → QueuesNone refused.1 c c'
   refusal_acts rest refused h = by_cause refused.1 h.refuses.cause
@@ -438,7 +456,7 @@ module _ {J : Type 0} (k : CallsView) (c c' : CpuView J) (job : J) where
 -- One call and then another
 
 -- behind an act that finishes no job, one that makes no event and asks for nothing: it only loads, or it finishes jobs
-module _ {J : Type 0} {p : ℕ} {a : Act} {owner count : ℕ} {was mid now : CpuView J} (none : a.finished ≡ 0) (first : Acts p a was mid) (second : Acts p (finishes owner count p) mid now) where
+module _ {J : Type 0} {p : ℕ} {a : Act} {owner count : ℕ} {list : Option ℕ} {was mid now : CpuView J} (none : a.finished ≡ 0) (within : (q : ℕ) → a.list ≢ Some q → list ≢ Some q) (first : Acts p a was mid) (second : Acts p (record (finishes owner count p) { list = list }) mid now) where
   none_before : (q : ℕ) → finished_in q first.deeds ≡ 0
   none_before q = dite (ℕ_discrete q a.owner)
       (λ same. subst (λ k. finished_in k first.deeds ≡ 0) (sym same) (first.count.finished ∙ none))
@@ -493,6 +511,7 @@ module _ {J : Type 0} {p : ℕ} {a : Act} {owner count : ℕ} {was mid now : Cpu
       queued = (let cut = queued_append p first.deeds second.deeds in let one = first.count.queued in let two = second.count.queued in omega (arith, cut, one, two));
       finished = (let cut = finished_append owner first.deeds second.deeds in let one = none_before owner in let two = second.count.finished in omega (arith, cut, one, two));
       others = λ q other. let cut = finished_append q first.deeds second.deeds in let one = none_before q in let two = second.count.others q other in omega (arith, cut, one, two);
+      lists = λ q away l. lists_append q l first.deeds second.deeds ∙ (ap (λ z. line_from q z second.deeds) (first.count.lists q away l) ∙ second.count.lists q (within q away) l);
     };
     turn = second.turn ∙ first.turn;
   }

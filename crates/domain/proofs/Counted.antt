@@ -12,7 +12,7 @@ use Rattle.onedom.specs.Histories.{maker_of, same_maker, made_by, IsBeginning}
 use Rattle.onedom.proofs.CallerLemmas.{same_maker_refl, beginning_trans, count_grows}
 use Rattle.calls.specs.declared.view.Deed.{Deed}
 use Rattle.calls.specs.Tallies as deeds
-use Rattle.calls.specs.Tallies.{deed, queued_in, deeds_of, AreFinishers}
+use Rattle.calls.specs.Tallies.{deed, queued_in, deeds_of, AreTakers}
 use Rattle.calls.specs.Views.{CallSeatView}
 use Rattle.calls.specs.Barriers.{queued_loads, finished_loads}
 use Rattle.calls.specs.Meetings as tallies
@@ -359,7 +359,7 @@ module _ {J : Type 0} where
         since = begins_on h.since c.since;
         own = ap (λ n. deeds_of n t.seen) (sym number) ∙ (c.own ∙ (ap (λ n. deeds_of n between.seen) number ∙ h.own));
         loads = c.loads;
-        finishers = subst (λ n. AreFinishers n t.seen) (ap (λ (z : CallSeatView J). z.processors) h.same) c.finishers;
+        takers = subst (λ n. AreTakers n t.seen) (ap (λ (z : CallSeatView J). z.processors) h.same) c.takers;
       }
 
   pub heard_here : (s s0 : CallSeatView J) (c : CpuView J) (calls' : CallSeatView J) → s ≡ s0 → tallies.Accepts c.calls s.seen calls' → IsHeard s0 c (record { cpu = c.cpu; needs = c.needs; turn = c.turn; calls = calls' })
@@ -461,7 +461,7 @@ module _ {J : Type 0} (d : DomainView) (c : CpuView J) (cs cs' : List (CpuView J
       subst (λ n. deeds_of n t.seen ≡ deeds_of n c.calls.seen ++ map (deed n) (queued_loads 0 one.found ++ finished_loads 0 two.found)) number_is (own ∙ (λ i. here_own i ++ both i))
 
   pub deeds_of_everyone : AreDeedsOf d everyone t.seen
-  deeds_of_everyone = record { since = seen_since; true = adds.finished.loads.loads; finishers = subst (λ n. AreFinishers n t.seen) (adds.queued.loads.same.1 ∙ many_seats) adds.finished.finishers; one_each = (adds.queued.one_each ∙ many_seats, adds.finished.one_each ∙ (adds.queued.loads.same.1 ∙ many_seats)); queued = adds.queued.found; finished = adds.finished.found; first = λ x. first_own; others = others_own }
+  deeds_of_everyone = record { since = seen_since; true = adds.finished.loads.loads; takers = subst (λ n. AreTakers n t.seen) (adds.queued.loads.same.1 ∙ many_seats) adds.finished.takers; one_each = (adds.queued.one_each ∙ many_seats, adds.finished.one_each ∙ (adds.queued.loads.same.1 ∙ many_seats)); queued = adds.queued.found; finished = adds.finished.found; first = λ x. first_own; others = others_own }
 
   -- and are as they were
   seat_is : t ≡ record c.calls { seen = t.seen }

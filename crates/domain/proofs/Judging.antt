@@ -136,7 +136,7 @@ module _ {J : Type 0} (d : DomainView) (cpus between : List (CpuView J)) (opened
     deeds_of_all = record {
       since = λ n x lt. subst (λ (z : CallSeatView J). deeds.IsBeginning z.seen k.all) (h.back.each n x lt).calls (k.of_all.since n x (in_between n lt));
       true = k.of_all.true;
-      finishers = k.of_all.finishers;
+      takers = k.of_all.takers;
       one_each = k.of_all.one_each;
       queued = k.of_all.queued;
       finished = k.of_all.finished;

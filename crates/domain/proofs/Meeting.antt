@@ -21,7 +21,7 @@ use Rattle.funnel.specs.Laws.{RootHasGreatest}
 use Rattle.desk.specs.Swaps.{lies_after, swaps_of}
 use Rattle.desk.specs.BayViews.{BaySeatView}
 use Rattle.desk.specs.BayCalls.{holds, MakesSwap, Accepts}
-use Rattle.calls.specs.Tallies.{AreFinishers}
+use Rattle.calls.specs.Tallies.{AreTakers}
 use Rattle.calls.specs.Views.{CallSeatView}
 use Rattle.calls.specs.Calls.{IsSameSeat}
 use Rattle.calls.specs.Meetings as tallies
@@ -162,7 +162,7 @@ module _ {J : Type 0} (d : DomainView) (c : CpuView J) (cs cs1 cs2 cs3 : List (C
       record {
         deeds = s.seen;
         each = each_accepts;
-        finishers = subst (λ n. AreFinishers n s.seen) (h.words ∙ (sym h.many ∙ all.count 0 c (omega arith))) met.finishers;
+        takers = subst (λ n. AreTakers n s.seen) (h.words ∙ (sym h.many ∙ all.count 0 c (omega arith))) met.takers;
       }
 
   pub all_still : holds t3 ≡ false → IsAllOf d (c ∷ cs) → IsAllOf d after

@@ -1,5 +1,5 @@
 -- The one shape of what a processor's calls do: what each adds at the processor's four seats, whatever others did meanwhile.
-use Rattle.std.specs.Prelude.{◌≡◌, ◌≢◌, ℕ, ◌*◌, ◌≤◌, ◌⊎◌, max, Bool, true, List, [], ◌∷◌, ◌++◌}
+use Rattle.std.specs.Prelude.{◌≡◌, ◌≢◌, ℕ, zero, suc, ◌*◌, ◌≤◌, ◌⊎◌, max, Option, Some, None, Bool, true, List, [], ◌∷◌, ◌++◌}
 use Rattle.sseq.specs.declared.index.Index.{Index}
 use Rattle.sseq.specs.Numbers.{periods_ended}
 use Rattle.onedom.specs.declared.event.Maker.TheVariants.{Processor, Engine}
@@ -20,6 +20,7 @@ use Rattle.funnel.specs.Calls.{IsSameSeat}
 use Rattle.calls.specs.declared.view.Deed.{Deed}
 use Rattle.calls.specs.declared.refusals.CallRefusal.{CallRefusal}
 use Rattle.calls.specs.declared.refusals.CallRefusal.TheVariants as calling
+use Rattle.calls.specs.Lines.{Line, line_from}
 use Rattle.calls.specs.Tallies as tallies
 use Rattle.calls.specs.Tallies.{queued_in, finished_in, deeds_of}
 use Rattle.calls.specs.Views.{CallSeatView}
@@ -28,21 +29,22 @@ use Rattle.domain.specs.Views.{CpuView}
 
 -- Acts
 
--- what a call of a processor adds: its events in the history, the number that it asked for (0 if none), how many jobs it queued on the processor, and how many it finished, of the processor `owner`
+-- what a call of a processor adds: its events in the history, the number that it asked for (0 if none), how many jobs it queued on the processor, and how many it finished, of the processor `owner`. The list of `list` may be another one then, and no other processor's is
 pub record Act : Type 0 where
   pub events : List Event
   pub asked : ℕ
   pub queued : ℕ
   pub finished : ℕ
   pub owner : ℕ
+  pub list : Option ℕ
 
 -- nothing: it loads at most
 abbrev pub nothing : Act
-nothing = record { events = []; asked = 0; queued = 0; finished = 0; owner = 0 }
+nothing = record { events = []; asked = 0; queued = 0; finished = 0; owner = 0; list = None }
 
 -- one event, and nothing else
 abbrev pub makes : Event → Act
-makes e = record { events = e ∷ []; asked = 0; queued = 0; finished = 0; owner = 0 }
+makes e = record { events = e ∷ []; asked = 0; queued = 0; finished = 0; owner = 0; list = None }
 
 -- What each call adds, on processor p
 
@@ -75,13 +77,22 @@ asks_whether cookie done p = makes (Ask cookie done (Processor p))
 abbrev pub asks_how_far : ℕ → ℕ → Act
 asks_how_far changes p = asks_whether (4 * periods_ended (number_word changes)) true p
 
+-- the same, and perhaps something is taken out of the list of a processor
+abbrev pub takes : ℕ → ℕ → ℕ → Act
+takes changes owner p = record (asks_how_far changes p) { list = Some owner }
+
+-- whose list is another where so many jobs are queued on the processor
+abbrev pub list_of : ℕ → ℕ → Option ℕ
+list_of zero p = None
+list_of (suc n) p = Some p
+
 -- it is given the cookie of this number, a grace period up to it is asked for, and so many jobs are queued with it
 abbrev pub asks_for : ℕ → ℕ → ℕ → Act
-asks_for cookie queued p = record { events = Note cookie (Processor p) ∷ []; asked = cookie; queued = queued; finished = 0; owner = 0 }
+asks_for cookie queued p = record { events = Note cookie (Processor p) ∷ []; asked = cookie; queued = queued; finished = 0; owner = 0; list = list_of queued p }
 
 -- so many jobs are finished, of this processor
 abbrev pub finishes : ℕ → ℕ → ℕ → Act
-finishes owner count p = record { events = []; asked = 0; queued = 0; finished = count; owner = owner }
+finishes owner count p = record { events = []; asked = 0; queued = 0; finished = count; owner = owner; list = Some owner }
 
 -- A call that acts
 
@@ -121,11 +132,12 @@ pub record AskFor (p : ℕ) (by : Holder) (a : Act) (raised : List Raise) : Type
   pub cookie : (a.asked ≡ 0) ⊎ (a.events ≡ Note a.asked (Processor p) ∷ [])
 
 module _ {J : Type 0} where
-  -- these deeds queue so many jobs on the processor, and finish so many, all of one owner
+  -- these deeds queue so many jobs on the processor, finish so many, all of one owner, and change no other list
   pub record Count (p : ℕ) (a : Act) (deeds : List (Deed J)) : Type 0 where
     pub queued : queued_in p deeds ≡ a.queued
     pub finished : finished_in a.owner deeds ≡ a.finished
     pub others : (q : ℕ) → q ≢ a.owner → finished_in q deeds ≡ 0
+    pub lists : (q : ℕ) → a.list ≢ Some q → (l : Line J) → line_from q l deeds ≡ l
 
   -- a call of processor p acts so, whatever others did meanwhile; the engine stayed where it lay
   pub record Acts (p : ℕ) (a : Act) (c c' : CpuView J) : Type 0 where

@@ -15,7 +15,7 @@ use Rattle.sections.specs.EngineCalls.{IsSameEngine, Joins}
 use Rattle.scan.specs.Progress.{with_seat}
 use Rattle.calls.specs.declared.view.Deed.{Deed}
 use Rattle.calls.specs.Tallies as deeds
-use Rattle.calls.specs.Tallies.{deed, deeds_of, AreTrue, AreFinishers}
+use Rattle.calls.specs.Tallies.{deed, deeds_of, AreTrue, AreTakers}
 use Rattle.calls.specs.Barriers.{queued_loads, finished_loads}
 use Rattle.calls.specs.Totals.{all_queued, all_finished}
 use Rattle.domain.specs.Views.{Engine, DomainView, CpuView, IsOf, with_cpu, with_calls}
@@ -124,7 +124,7 @@ module _ {J : Type 0} where
   pub record AreDeedsOf (d : DomainView) (cpus : List (CpuView J)) (all : List (Deed J)) : Type 0 where
     pub since : Each (λ c. deeds.IsBeginning c.calls.seen all) cpus
     pub true : AreTrue all
-    pub finishers : AreFinishers d.processors all
+    pub takers : AreTakers d.processors all
     pub queued : List ℕ
     pub finished : List ℕ
     pub one_each : (length queued ≡ d.processors) × (length finished ≡ d.processors)

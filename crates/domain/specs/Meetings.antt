@@ -17,7 +17,7 @@ use Rattle.funnel.specs.Calls.{IsSeenBy, IsSameSeat}
 use Rattle.desk.specs.Swaps.{Swap}
 use Rattle.desk.specs.BayCalls.{Accepts}
 use Rattle.calls.specs.declared.view.Deed.{Deed}
-use Rattle.calls.specs.Tallies.{AreFinishers}
+use Rattle.calls.specs.Tallies.{AreTakers}
 use Rattle.calls.specs.Meetings as tallies
 use Rattle.domain.specs.Views.{Engine, DomainView, CpuView, IsOf}
 use Rattle.domain.specs.Turns.{TakesTurn}
@@ -89,7 +89,7 @@ module _ {J : Type 0} where
   pub record TalliesMeet (cpus cpus' : List (CpuView J)) : Type 0 where
     pub deeds : List (Deed J)
     pub each : (k : ℕ) (c : CpuView J) → k < length cpus → tallies.Accepts (slice_index_or cpus k c).calls deeds (slice_index_or cpus' k c).calls
-    pub finishers : AreFinishers (length cpus) deeds
+    pub takers : AreTakers (length cpus) deeds
 
   -- All of it
 

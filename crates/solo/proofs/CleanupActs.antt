@@ -21,7 +21,7 @@ use Rattle.scan.specs.Standings.{number_at_rest}
 use Rattle.scan.specs.Progress.{with_seat}
 use Rattle.calls.specs.declared.view.Deed.{Deed}
 use Rattle.calls.specs.Tallies as tallies
-use Rattle.calls.specs.Tallies.{deed, queued_in, finished_in, deeds_of, AreFinishers}
+use Rattle.calls.specs.Tallies.{deed, queued_in, finished_in, deeds_of, AreTakers}
 use Rattle.calls.specs.Views.{CallSeatView}
 use Rattle.calls.specs.Barriers.{queued_loads, finished_loads}
 use Rattle.calls.specs.Totals.{added, all_queued, all_finished}
@@ -120,7 +120,7 @@ module _ (d : DomainView) (limits : Limits) (cpus : List (DomainCpu (Unit {0})))
       since = subst (λ (s : CallSeatView (Unit {0})). tallies.IsBeginning s.seen deeds) (met.tally_together.seats 0 nobody some) (of_all.since 0 nobody some);
       own = subst (λ (s : CallSeatView (Unit {0})). deeds_of s.processor deeds ≡ deeds_of s.processor s.seen ++ map (deed s.processor) (queued_loads 0 of_all.queued ++ finished_loads 0 of_all.finished)) (met.tally_together.seats 0 nobody some) (of_all.first nobody);
       others = λ q lt other. subst (λ (s : CallSeatView (Unit {0})). deeds_of s.processor deeds ≡ deeds_of s.processor s.seen) (met.tally_together.seats q nobody lt) (of_all.others q nobody (omega (arith, other)) lt);
-      finishers = subst (λ n. AreFinishers n deeds) many of_all.finishers;
+      takers = subst (λ n. AreTakers n deeds) many of_all.takers;
     }
 
     pub same_queued : (k : ℕ) → k < length cpus → queued_in k deeds ≡ queued_in k met.deeds
@@ -240,7 +240,7 @@ module _ (d : DomainView) (limits : Limits) (cpus : List (DomainCpu (Unit {0})))
       seats = λ k c lt.
           let was = met.tally_together.seats k c (within k lt) in
           (h.each k c (within k lt)).calls ∙ (ap (λ (s : CallSeatView (Unit {0})). record s { seen = deeds }) was ∙ ap (λ n. record { tallies = d.tallies; processors = n; processor = k; seen = deeds }) (sym h.count));
-      finishers = subst (λ n. AreFinishers n deeds) (many ∙ sym h.count) deeds_of_all.finishers;
+      takers = subst (λ n. AreTakers n deeds) (many ∙ sym h.count) deeds_of_all.takers;
     }
 
     abbrev first : DomainCpu (Unit {0})

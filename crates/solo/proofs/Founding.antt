@@ -80,7 +80,7 @@ module _ (limits : Limits) (processors : ℕ) (d : DomainView) (cpus : List (Cpu
   tally_together : TallyTogether d [] cpus
   tally_together = record {
     seats = λ k c lt. ap (λ (z : CpuView (Unit {0})). z.calls) (is_new k c lt) ∙ ap (λ n. record { tallies = d.tallies; processors = n; processor = k; seen = [] }) (sym made.count);
-    finishers = tt;
+    takers = tt;
   }
 
   pub met : HaveMet d limits cpus engine

@@ -8,7 +8,7 @@ use native.Mathlib.Decide.{ℕ_discrete}
 use Rattle.calls.specs.declared.view.Act.{Act}
 use Rattle.calls.specs.declared.view.Act.TheVariants.{Queue, Take, Finish, LoadQueued, LoadFinished}
 use Rattle.calls.specs.declared.view.Deed.{Deed}
-use Rattle.calls.specs.Tallies.{queued_in, finished_by, finished_in, deeds_of, IsFinisher, AreFinishers, IsBeginning}
+use Rattle.calls.specs.Tallies.{queued_in, finished_by, finished_in, deeds_of, IsTaker, AreTakers, IsBeginning}
 use Rattle.calls.specs.Views.{CallSeatView}
 use Rattle.calls.specs.Meetings.{Accepts}
 use Rattle.calls.proofs.CallerLemmas.{begins_on, deeds_append, same_queued}
@@ -25,11 +25,11 @@ pub record GoesOnBy (n p : ℕ) (before act all : List (Deed (Unit {0}))) : Type
   pub since : IsBeginning before all
   pub own : deeds_of p all ≡ deeds_of p before ++ act
   pub others : (q : ℕ) → q < n → q ≢ p → deeds_of q all ≡ deeds_of q before
-  pub finishers : AreFinishers n all
+  pub takers : AreTakers n all
 
-later_finishers : (n : ℕ) (a b : List (Deed (Unit {0}))) → AreFinishers n (a ++ b) → AreFinishers n b
-later_finishers n [] b h = h
-later_finishers n (x ∷ xs) b h = later_finishers n xs b h.1
+later_takers : (n : ℕ) (a b : List (Deed (Unit {0}))) → AreTakers n (a ++ b) → AreTakers n b
+later_takers n [] b h = h
+later_takers n (x ∷ xs) b h = later_takers n xs b h.1
 
 none_left : (l : List (Deed (Unit {0}))) → length l ≡ 0 → l ≡ []
 none_left [] none = refl
@@ -50,7 +50,7 @@ deeds_twice p (x ∷ xs) = dite (ℕ_discrete x.by p)
     ap (deeds_of p) kept ∙ (ap (λ b. cond b (x ∷ deeds_of p (deeds_of p xs)) (deeds_of p (deeds_of p xs))) (eq-eqb x.by p e) ∙ (ap (λ l. x ∷ l) (deeds_twice p xs) ∙ sym kept)))
     (λ other. let kept : deeds_of p (x ∷ xs) ≡ deeds_of p xs = ap (λ b. cond b (x ∷ deeds_of p xs) (deeds_of p xs)) (ne_eqb x.by p other) in ap (deeds_of p) kept ∙ (deeds_twice p xs ∙ sym kept))
 
-finishes_none : (n q by : ℕ) (act : Act (Unit {0})) → IsFinisher n by act → (by < n → ⊥) → finished_by q act ≡ 0
+finishes_none : (n q by : ℕ) (act : Act (Unit {0})) → IsTaker n by act → (by < n → ⊥) → finished_by q act ≡ 0
 finishes_none n q by (Queue e) h away = refl
 finishes_none n q by (Take p number max) h away = refl
 finishes_none n q by (Finish p k) h away = absurd (away h)
@@ -58,7 +58,7 @@ finishes_none n q by (LoadQueued p k) h away = refl
 finishes_none n q by (LoadFinished p k) h away = refl
 
 -- where no other processor that is there did anything, the deeds of one tell what is finished
-finished_by_one : (n p q : ℕ) (l : List (Deed (Unit {0}))) → AreFinishers n l → ((k : ℕ) → k < n → k ≢ p → deeds_of k l ≡ []) → finished_in q l ≡ finished_in q (deeds_of p l)
+finished_by_one : (n p q : ℕ) (l : List (Deed (Unit {0}))) → AreTakers n l → ((k : ℕ) → k < n → k ≢ p → deeds_of k l ≡ []) → finished_in q l ≡ finished_in q (deeds_of p l)
 finished_by_one n p q [] h others = refl
 finished_by_one n p q (x ∷ xs) h others =
     let rest = finished_by_one n p q xs h.1 (λ k lt ne. none_behind k x xs (others k lt ne)) in
@@ -81,7 +81,7 @@ module _ (n p : ℕ) (before act all : List (Deed (Unit {0}))) (h : GoesOnBy n p
   pub finished_are : (q : ℕ) → finished_in q all ≡ finished_in q before + finished_in q act
   finished_are q =
       let whole = ap (finished_in q) h.since.whole ∙ finished_append q before h.since.rest in
-      let one = finished_by_one n p q h.since.rest (later_finishers n before h.since.rest (subst (λ l. AreFinishers n l) h.since.whole h.finishers)) rest_of_others ∙ ap (finished_in q) rest_of_one in
+      let one = finished_by_one n p q h.since.rest (later_takers n before h.since.rest (subst (λ l. AreTakers n l) h.since.whole h.takers)) rest_of_others ∙ ap (finished_in q) rest_of_one in
       omega (arith, whole, one)
 
   pub queued_here : queued_in p all ≡ queued_in p before + queued_in p act
@@ -173,7 +173,7 @@ module _ (d d' : DomainView) (before : List (Deed (Unit {0}))) (cpus cpus' : Lis
         let more : deeds_of p now.calls.seen ≡ deeds_of p before ++ act = subst (λ (s : CallSeatView (Unit {0})). deeds_of s.processor now.calls.seen ≡ deeds_of s.processor s.seen ++ act) was_is adds.own in
         kept ∙ more;
     others = λ q lt other. (accepts_else q was lt other).own;
-    finishers = subst (λ k. AreFinishers k meets.deeds) (length-set cpus p now) meets.finishers;
+    takers = subst (λ k. AreTakers k meets.deeds) (length-set cpus p now) meets.takers;
   }
 
   pub tally_together : TallyTogether d' meets.deeds cpus'
@@ -190,5 +190,5 @@ module _ (d d' : DomainView) (before : List (Deed (Unit {0}))) (cpus cpus' : Lis
           seen = meets.deeds;
         })))
         (λ other. (accepts_else k c there other).is ∙ (λ i. record { tallies = sym same i; processors = long i; processor = k; seen = meets.deeds }));
-    finishers = subst (λ k. AreFinishers k meets.deeds) (sym count) meets.finishers;
+    takers = subst (λ k. AreTakers k meets.deeds) (sym count) meets.takers;
   }

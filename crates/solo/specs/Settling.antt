@@ -17,7 +17,7 @@ use Rattle.desk.specs.Swaps.{Swap}
 use Rattle.desk.specs.BayCalls.{lies, HasSeenLegal}
 use Rattle.scan.specs.Standings.{number_at_rest}
 use Rattle.calls.specs.declared.view.Deed.{Deed}
-use Rattle.calls.specs.Tallies.{AreFinishers}
+use Rattle.calls.specs.Tallies.{AreTakers}
 use Rattle.domain.specs.Views as domain
 use Rattle.domain.specs.Views.{DomainView, CpuView}
 use Rattle.domain.specs.Meetings.{IsAllOf}
@@ -76,7 +76,7 @@ pub record TurnTogether (swaps : List (Swap View)) (cpus : List (CpuView (Unit {
 -- all processors have seen just these deeds at the domain's tally words, each at its own seat, and all batches were finished by these processors
 pub record TallyTogether (d : DomainView) (deeds : List (Deed (Unit {0}))) (cpus : List (CpuView (Unit {0}))) : Type 0 where
   pub seats : (k : ℕ) (c : CpuView (Unit {0})) → k < length cpus → (slice_index_or cpus k c).calls ≡ record { tallies = d.tallies; processors = length cpus; processor = k; seen = deeds }
-  pub finishers : AreFinishers (length cpus) deeds
+  pub takers : AreTakers (length cpus) deeds
 
 -- All of it
 

@@ -1,7 +1,7 @@
 //! Loads of the tally words.
 ghost use Rattle.std.specs.Prelude.{◌≡◌, ◌<◌, ◌≤◌};
 ghost use Rattle.calls.specs.declared.view.Act.TheVariants.{LoadQueued, LoadFinished};
-ghost use Rattle.calls.specs.Tallies.{word_count, most_calls, queued_in, AreFinishers, IsBeginning, AreTrue};
+ghost use Rattle.calls.specs.Tallies.{word_count, most_calls, queued_in, AreTakers, IsBeginning, AreTrue};
 ghost use Rattle.calls.specs.Calls.{Does};
 
 use crate::note::Note;
@@ -60,7 +60,7 @@ impl<J, A: Allocator> CallSeat<J, A> {
         ensures within { result ≤ queued_in processor self.new.seen }
 
         // Only processors that are there have finished batches.
-        ensures finishers { AreFinishers self.old.processors self.new.seen }
+        ensures takers { AreTakers self.old.processors self.new.seen }
     {
         // For the proof, as above.
         let _words = self.table.word_count();

@@ -5,7 +5,7 @@ ghost use Rattle.calls.specs.Meetings.{SeesOut};
 ghost use Rattle.calls.specs.Calls.{IsSameSeat, IsOfProcessor, TakesIn, InvokesIn, AreHanded, FinishesIn, FindsLensIn};
 ghost use Rattle.domain.specs.Views.{IsOf, IsSameProcessor, callbacks_of, with_cpu, with_calls};
 ghost use Rattle.domain.specs.Calling.{CallsIn, RefusesCall, MayFinish};
-ghost use Rattle.domain.specs.Acting.{loads, asks_how_far, asks_for, finishes, ActsAs, QueuesNone};
+ghost use Rattle.domain.specs.Acting.{loads, takes, asks_for, finishes, ActsAs, QueuesNone};
 
 use crate::cpu::Cpu;
 use crate::domain::Domain;
@@ -57,7 +57,7 @@ impl<J: Drop, A: Allocator + Copy> Domain<J, A> {
         ensures takes { MatchResult result
             (λ taken. TakesIn (callbacks_of self.now) processor max cpu.old.cpu cpu.old.calls taken cpu.new.cpu cpu.new.calls)
             (λ _. InvokesIn processor cpu.old.cpu cpu.old.calls cpu.new.cpu cpu.new.calls) }
-        ensures acts { MatchResult result (λ _. ActsAs (asks_how_far cpu.new.cpu.changes) cpu.old cpu.new) (λ _. ActsAs loads cpu.old cpu.new) }
+        ensures acts { MatchResult result (λ _. ActsAs (takes cpu.new.cpu.changes processor) cpu.old cpu.new) (λ _. ActsAs loads cpu.old cpu.new) }
         ensures same { IsSameCpu cpu.old.cpu cpu.new.cpu × IsSameSeat cpu.old.calls cpu.new.calls }
         ensures rest { cpu.new ≡ with_calls cpu.new.calls (with_cpu cpu.new.cpu cpu.old) }
         ensures batch { IfOk result (λ taken. IfSome taken (λ batch. IsOfProcessor (callbacks_of self.now) processor batch)) }

@@ -1,5 +1,5 @@
 use Rattle.std.proofs.Common.{ℕ, sym, subst, arith}
-use Rattle.calls.specs.Tallies.{AreFinishers}
+use Rattle.calls.specs.Tallies.{AreTakers}
 use Rattle.calls.proofs.Seating.{finished_there}
 use Rattle.calls.proofs.Looking.{counts_finished_here}
 use Rattle.calls.proofs.tally.count_finished.Goals as goal
@@ -17,5 +17,5 @@ returns g c = let e = c.load.ensures in record {
   bare = e.2.0;
   looks = e.2.1;
   within = e.2.2;
-  finishers = subst (λ (n : ℕ). AreFinishers n c.load.new.seat.me.0.seen) (sym c.requires.count) e.2.3;
+  takers = subst (λ (n : ℕ). AreTakers n c.load.new.seat.me.0.seen) (sym c.requires.count) e.2.3;
 }

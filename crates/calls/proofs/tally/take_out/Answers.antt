@@ -25,7 +25,7 @@ load-requires g c =
     let there = queued_there _ _ _ c.requires.placed.wide c.requires.there in (
       c.join_seat.ensures.0 ∙ c.requires.placed.seated,
       omega (arith, place, there),
-      takes_here _ _ _ c.requires.rests.0 c.args.processor _ _ g.N.Taking.number g.N.Taking.max _ _ c.join_seat.new.seat.me (ap (λ m. m.0.who) j ∙ c.requires.rests.1) list,
+      takes_here _ _ _ c.requires.rests.0 c.args.processor _ _ g.N.Taking.number g.N.Taking.max _ _ c.join_seat.new.seat.me (ap (λ m. m.0.who) j ∙ c.requires.rests.1) list c.requires.rests.2,
     )
 
 pub split_seat-requires : goal.split_seat-requires

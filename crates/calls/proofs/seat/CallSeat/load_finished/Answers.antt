@@ -1,5 +1,5 @@
 use Rattle.std.proofs.Common.{ℕ, ◌<◌, refl, sym, ◌∙◌, subst}
-use Rattle.calls.specs.Tallies.{AreFinishers}
+use Rattle.calls.specs.Tallies.{AreTakers}
 use Rattle.calls.specs.Views.{CallSeatView}
 use Rattle.calls.specs.Seats.{IsPlaced, IsOfCaller}
 use Rattle.calls.proofs.Loading.{same_count}
@@ -42,5 +42,5 @@ returns-clause-does g c =
 pub returns-clause-within : goal.returns-clause-within
 returns-clause-within g c = c.count_finished.ensures.within c.args.processor refl
 
-pub returns-clause-finishers : goal.returns-clause-finishers
-returns-clause-finishers g c = rw (← c.self.view_is) (subst (λ z. AreFinishers z.shared.key.processors c.count_finished.new.seat.me.0.seen) c.deref-2.ensures c.count_finished.ensures.finishers)
+pub returns-clause-takers : goal.returns-clause-takers
+returns-clause-takers g c = rw (← c.self.view_is) (subst (λ z. AreTakers z.shared.key.processors c.count_finished.new.seat.me.0.seen) c.deref-2.ensures c.count_finished.ensures.takers)

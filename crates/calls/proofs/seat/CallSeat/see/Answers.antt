@@ -1,7 +1,7 @@
 use Rattle.std.proofs.Common.{◌≡◌, ◌<◌, List, ap, sym, ◌∙◌, subst}
 use Rattle.std.specs.Arc.{arc_value}
 use Rattle.calls.specs.declared.view.Deed.{Deed}
-use Rattle.calls.specs.Tallies.{queued_in, deeds_of, AreFinishers, IsBeginning}
+use Rattle.calls.specs.Tallies.{queued_in, deeds_of, AreTakers, IsBeginning}
 use Rattle.calls.specs.Views.{CallSeatView, NoteView}
 use Rattle.calls.specs.Seats.{IsPlaced, IsAtRest}
 use Rattle.calls.proofs.Seating.{some_words}
@@ -68,5 +68,5 @@ returns g c =
       own = f.own ∙ ap (deeds_of c.self.inside.processor) was;
       covers = subst (λ (l : List (Deed _)). IsBeginning l c.see_all.new.seat.me.0.seen) told f.covers;
       loads = f.loads;
-      finishers = subst (λ z. AreFinishers z.shared.key.processors c.see_all.new.seat.me.0.seen) c.deref.ensures f.finishers;
+      takers = subst (λ z. AreTakers z.shared.key.processors c.see_all.new.seat.me.0.seen) c.deref.ensures f.takers;
     })

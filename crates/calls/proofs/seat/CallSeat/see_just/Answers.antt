@@ -1,7 +1,7 @@
 use Rattle.std.proofs.Common.{◌≡◌, ◌<◌, List, ap, sym, ◌∙◌, subst}
 use Rattle.std.specs.Arc.{arc_value}
 use Rattle.calls.specs.declared.view.Deed.{Deed}
-use Rattle.calls.specs.Tallies.{queued_in, deeds_of, AreFinishers, IsBeginning, AreTrue}
+use Rattle.calls.specs.Tallies.{queued_in, deeds_of, AreTakers, IsBeginning, AreTrue}
 use Rattle.calls.specs.Views.{CallSeatView, NoteView}
 use Rattle.calls.specs.Seats.{IsPlaced, IsAtRest}
 use Rattle.calls.proofs.Seating.{some_words}
@@ -76,5 +76,5 @@ returns g c =
       since = rw (← c.self.view_is, ← c.note.view_is) at c.requires.since;
       own = ap (deeds_of c.self.inside.processor) (sym told) ∙ (f.own ∙ ap (deeds_of c.self.inside.processor) was);
       loads = subst (λ (l : List (Deed _)). AreTrue l) told f.loads;
-      finishers = subst (λ (l : List (Deed _)). AreFinishers (arc_value c.self.inside.table).shared.key.processors l) told (subst (λ z. AreFinishers z.shared.key.processors c.join_seat.new.seat.me.0.told) c.deref.ensures f.finishers);
+      takers = subst (λ (l : List (Deed _)). AreTakers (arc_value c.self.inside.table).shared.key.processors l) told (subst (λ z. AreTakers z.shared.key.processors c.join_seat.new.seat.me.0.told) c.deref.ensures f.takers);
     })

@@ -1,7 +1,7 @@
 use Rattle.std.proofs.Common.{◌≡◌, [], refl, ap, sym, ◌∙◌, subst}
 use Rattle.std.specs.Arc.{arc_value}
 use Rattle.calls.specs.declared.view.BatchRight.TheVariants.{OfBatch}
-use Rattle.calls.specs.Tallies.{AreFinishers}
+use Rattle.calls.specs.Tallies.{AreTakers}
 use Rattle.calls.specs.Rule.{batch_seat}
 use Rattle.calls.specs.Plays.{Sat}
 use Rattle.calls.specs.Seats.{IsPlaced, IsAtRest, first_known}
@@ -55,7 +55,7 @@ returns-clause-out g c =
         own = f.own;
         covers = begins_itself c.see_batch_out.new.seat.me.0.seen;
         loads = f.loads;
-        finishers = subst (λ z. AreFinishers z.shared.key.processors c.see_batch_out.new.seat.me.0.seen) c.deref.ensures f.finishers;
+        takers = subst (λ z. AreTakers z.shared.key.processors c.see_batch_out.new.seat.me.0.seen) c.deref.ensures f.takers;
       };
       first = e.out.first_is;
       queued = e.out.queued;

@@ -3,7 +3,7 @@ use Rattle.std.proofs.lemmas.List.{length-append}
 use Rattle.std.proofs.lemmas.List.Sums.{sum_by-append}
 use Rattle.calls.specs.declared.view.Act.{Act}
 use Rattle.calls.specs.declared.view.Act.TheVariants.{LoadFinished}
-use Rattle.calls.specs.Tallies.{queued_in, finished_in, AreFinishers}
+use Rattle.calls.specs.Tallies.{queued_in, finished_in, AreTakers}
 use Rattle.calls.specs.Views.{CallSeatView}
 use Rattle.calls.specs.Calls.{Does}
 use Rattle.calls.specs.Barriers.{IsCountBetween, Loads, finished_loads}
@@ -17,7 +17,7 @@ loop-processor-init g c = record {
   count = refl;
   each = λ p lt. absurd (omega (arith, lt));
   within = λ p lt. absurd (omega (arith, lt));
-  finishers = λ lt. absurd (omega (arith, lt));
+  takers = λ lt. absurd (omega (arith, lt));
   total_is = refl;
   small = omega arith;
 }
@@ -44,7 +44,7 @@ loop-processor-preserved g c =
       count = omega (arith, one, count);
       each = each_push (λ p k. IsCountBetween (finished_in p) k s.seen t.seen) i ns n count (λ p lt. later_count _ _ (v.each p lt) (goes_on _ m t d)) (finished_found i n s.seen m t v.loads.since d);
       within = each_push (λ p k. k ≤ queued_in p t.seen) i ns n count (λ p lt. let low = v.within p lt in let more = queued_later p (goes_on _ m t d) in omega (arith, low, more)) c.load_finished.ensures.within;
-      finishers = λ _. subst (λ (k : ℕ). AreFinishers k t.seen) v.loads.same.1 c.load_finished.ensures.finishers;
+      takers = λ _. subst (λ (k : ℕ). AreTakers k t.seen) v.loads.same.1 c.load_finished.ensures.takers;
       total_is = omega (arith, more, same, was);
       small = omega (arith, same, small, word);
     }
