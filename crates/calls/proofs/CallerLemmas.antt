@@ -11,6 +11,8 @@ pub use Rattle.calls.proofs.Loading.{queued_later, finished_later}
 
 -- a processor's deeds in two lists, one behind the other
 pub use Rattle.calls.proofs.Meeting.{deeds_append}
+-- what a list is behind a job that was queued there, and behind a batch that was finished
+pub use Rattle.calls.proofs.Lining.{called_here, finish_here}
 -- a processor whose deeds are the same in two lists has just these in all that lie between
 pub use Rattle.calls.proofs.Meeting.{own_between}
 -- so one whose seat was covered, and then admitted to a later list, did nothing in between

@@ -134,7 +134,7 @@ module _ {J : Type 0} where
   pub adds_none : (s t : CallSeatView J) → t ≡ s → Adds [] s t
   adds_none s t is = subst (λ (z : CallSeatView J). Adds [] s z) (sym is) (record { same = (refl, refl, refl); since = begins_itself s.seen; own = sym (append-nil (deeds_of s.processor s.seen)) })
 
-  adds_deed : (act : does.Act J) (s t : CallSeatView J) → Does act s t → Adds (deed s.processor act ∷ []) s t
+  pub adds_deed : (act : does.Act J) (s t : CallSeatView J) → Does act s t → Adds (deed s.processor act ∷ []) s t
   adds_deed act s t h =
       let p : ℕ = s.processor in
       let d : Deed J = deed s.processor act in record {

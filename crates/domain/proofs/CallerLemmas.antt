@@ -42,11 +42,11 @@ pub use Rattle.domain.proofs.Unopened.{none_still}
 
 -- a seat at the tree that is as it was, and one that loaded twice
 pub use Rattle.domain.proofs.Acting.{stays, goes_further}
--- a seat at the tally words that is as it was
-pub use Rattle.domain.proofs.Acting.{adds_none}
+-- a seat at the tally words that is as it was, and one that did something
+pub use Rattle.domain.proofs.Acting.{adds_none, adds_deed}
 -- deeds that queue and finish nothing, as loads of the words
 pub use Rattle.domain.proofs.Acting.{CountsNothing, nothing_done, queued_loads_count, finished_loads_count, both_count}
 -- what two lists of deeds count, one behind the other
-pub use Rattle.domain.proofs.Acting.{queued_append, finished_append}
+pub use Rattle.domain.proofs.Acting.{queued_append, finished_append, lists_append}
 -- a call, and then one that finishes jobs or only loads, put together
 pub use Rattle.domain.proofs.Acting.{then_finishes}

@@ -17,7 +17,7 @@ use Rattle.solo.specs.declared.taking.Ran.{Ran}
 use Rattle.solo.specs.Courses.{Course, more_at, Does as Acts}
 use Rattle.solo.specs.Batches.{IsLastCookie}
 use Rattle.solo.specs.Calls as solo
-use Rattle.solo.specs.Calls.{SoloView, IsNew, new_course, IsGiven, IsSameDomain, Queues, QueuesNone, Takes, Finishes, AreOut}
+use Rattle.solo.specs.Calls.{SoloView, IsNew, new_course, IsGiven, HasSameTables, Queues, QueuesNone, Takes, Finishes, AreOut}
 use Rattle.requests.specs.declared.command.Command.TheVariants as command
 use Rattle.requests.specs.declared.cause.Cause.TheVariants as cause
 use Rattle.requests.specs.declared.request.Act.TheVariants as act
@@ -195,7 +195,7 @@ pub emptied_out : (d : SoloView) (j : JobsView) (o : Out) → j.out ≡ Some o �
 emptied_out d j o out is = subst (λ x. IfSome x (λ (y : Out). IsEmptied d y.0)) out is
 
 -- calls are finished
-pub out_finished : (d d' : SoloView) (jobs : List JobsView) → IsSameDomain d d' → All (IsOut d) jobs → All (IsOut d') jobs
+pub out_finished : (d d' : SoloView) (jobs : List JobsView) → HasSameTables d d' → All (IsOut d) jobs → All (IsOut d') jobs
 out_finished d d' jobs same h = All-weaker (IsOut d) (IsOut d') (λ j is. out_on d d' j.out same.4 same.2 is) jobs h
 
 -- new jobs
@@ -239,7 +239,7 @@ no_jobs_yet jobs n count none = each jobs none ∙ ap (λ m. replicate m no_jobs
     each (j ∷ js) h = λ i. All-head (λ (x : JobsView). jobs_of x ≡ no_jobs) j js h i ∷ each js (All-tail (λ (x : JobsView). jobs_of x ≡ no_jobs) j js h) i
 
 -- a batch that was taken, emptied
-pub emptied_taken : (d d' : SoloView) (p max : ℕ) (b b' : BatchView (Unit {0})) → IsSameDomain d d' → IsGiven p max d d' b → b' ≡ record b { entries = [] } → IsEmptied d' b'
+pub emptied_taken : (d d' : SoloView) (p max : ℕ) (b b' : BatchView (Unit {0})) → HasSameTables d d' → IsGiven p max d d' b → b' ≡ record b { entries = [] } → IsEmptied d' b'
 emptied_taken d d' p max b b' same given is =
     let there : b.processor < d'.course.standing.processors = subst (λ n. b.processor < n) (sym same.2) (subst (λ n. n < d.course.standing.processors) (sym given.is_of.processor) given.is_of.there) in
     let counted = given.counted in
@@ -268,7 +268,7 @@ on_err (Err e) P h = h
 -- An entry goes on
 
 -- an act that begins and ends no section, and finishes no job, keeps what is always true of an entry
-pub entry_on : {A : Type 0} {d d' : SoloView} {tokens : List (List ℕ × Token A)} {q : ParkingView} {jobs : List JobsView} → AreTogether d tokens q × AreJobsOf d jobs → IsSameDomain d d' → KeepsOn d.course d'.course → AreTogether d' tokens q × AreJobsOf d' jobs
+pub entry_on : {A : Type 0} {d d' : SoloView} {tokens : List (List ℕ × Token A)} {q : ParkingView} {jobs : List JobsView} → AreTogether d tokens q × AreJobsOf d jobs → HasSameTables d d' → KeepsOn d.course d'.course → AreTogether d' tokens q × AreJobsOf d' jobs
 entry_on {A} {d} {d'} {tokens} {q} {jobs} h same on = (together_on d tokens q h.0 d' same on.on, jobs_on d jobs h.1 d' same on.jobs)
 
 -- jobs are finished, and no section begins or ends

@@ -14,7 +14,7 @@ use Rattle.sections.specs.declared.limits.Limits.{Limits}
 use Rattle.sections.specs.Views.{ReadingView}
 use Rattle.domain.specs.Acting.{Act, makes}
 use Rattle.solo.specs.Courses.{Course, Does, with_events}
-use Rattle.solo.specs.Calls.{SoloView, IsSameDomain, Begins, Ends, IsReadingAt}
+use Rattle.solo.specs.Calls.{SoloView, HasSameTables, Begins, Ends, IsReadingAt}
 use Rattle.solo.specs.Barriers.{IsTicketOf}
 use Rattle.calls.specs.Views.{TicketView}
 use Rattle.session.specs.declared.names.Token.{Token}
@@ -30,7 +30,7 @@ use Rattle.session.proofs.Quiet.{GoesOnQuietly}
 
 -- the same domain, which may have gone on
 abbrev pub IsThere : SoloView → SoloView → Type 0
-IsThere = IsSameDomain
+IsThere = HasSameTables
 
 pub record IsLater (d d' : SoloView) : Type 0 where
   pub there : IsThere d d'

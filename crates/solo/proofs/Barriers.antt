@@ -19,7 +19,7 @@ module _ (t : Hand) (did : ActsAs loads t.was t.now) where
   Stays what = Says t ((s' t ≡ t.s) × what)
 
   stays : (what : Type 0) → what → Stays what
-  stays what it = says t loads did _ (still t did, it)
+  stays what it = says t loads did refl _ (still t did, it)
 
   seen_before : t.was.calls.seen ≡ t.met.deeds
   seen_before = ap (λ (s : CallSeatView (Unit {0})). s.seen) (deeds_were t)

@@ -1,10 +1,11 @@
 -- What a call of a processor says of the domain, from its act.
-use Rattle.std.proofs.Common.{◌≡◌, ℕ}
+use Rattle.std.proofs.Common.{◌≡◌, ℕ, refl}
+use Rattle.std.specs.Prelude.{None}
 use Rattle.domain.specs.Acting.{Act, loads, ActsAs}
-use Rattle.solo.specs.Calls.{IsSameDomain}
+use Rattle.solo.specs.Calls.{HasSameTables, IsSameDomain}
 use Rattle.solo.specs.Courses.{Does}
 use Rattle.solo.specs.Settling.{HaveMet}
-use Rattle.solo.proofs.Meeting.{Hand, s', come, does, same_domain, have_met}
+use Rattle.solo.proofs.Meeting.{Hand, s', come_quietly, does, same_tables, same_domain, have_met}
 
 -- all have met again, the domain is the same, and this
 pub record Says (t : Hand) (it : Type 0) : Type 0 where
@@ -12,14 +13,23 @@ pub record Says (t : Hand) (it : Type 0) : Type 0 where
   pub same : IsSameDomain t.s (s' t)
   pub what : it
 
+-- the same, but for the lists
+pub record SaysOnList (t : Hand) (it : Type 0) : Type 0 where
+  pub met : HaveMet t.d' t.limits t.cpus' t.meets.left
+  pub same : HasSameTables t.s (s' t)
+  pub what : it
+
 module _ (t : Hand) (what : ℕ → Act) (did : ActsAs what t.was t.now) where
-  pub says : (it : Type 0) → it → Says t it
-  says it h = record { met = have_met t what did; same = same_domain t what did; what = h }
+  pub says : (what t.p).list ≡ None → (it : Type 0) → it → Says t it
+  says quiet it h = record { met = have_met t what did; same = same_domain t what did quiet; what = h }
+
+  pub says_on_list : (it : Type 0) → it → SaysOnList t it
+  says_on_list it h = record { met = have_met t what did; same = same_tables t what did; what = h }
 
   -- it does what it did
-  pub says_does : Says t (Does t.p what t.s.course (s' t).course)
-  says_does = says _ (does t what did)
+  pub says_does : (what t.p).list ≡ None → Says t (Does t.p what t.s.course (s' t).course)
+  says_does quiet = says quiet _ (does t what did)
 
 -- nothing was done
 pub still : (t : Hand) → ActsAs loads t.was t.now → s' t ≡ t.s
-still t did = come t loads did
+still t did = come_quietly t loads did refl

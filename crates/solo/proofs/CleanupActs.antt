@@ -39,11 +39,12 @@ use Rattle.domain.proofs.CallerLemmas.{all_the_same, CountsNothing, nothing_done
 use Rattle.solo.specs.Calls.{SoloView}
 use Rattle.solo.specs.Cleanup.{whole_of, IsTakenDown, IsInUse}
 use Rattle.solo.specs.Settling.{View, AllHold, AskTogether, TurnTogether, TallyTogether, HaveMet}
-use Rattle.solo.specs.Insides.{queued_on, finished_on, seen_first}
+use Rattle.calls.specs.Lines.{no_calls, line_in}
+use Rattle.solo.specs.Insides.{queued_on, finished_on, lines_on, seen_first}
 use Rattle.solo.proofs.NothingBetween.{IsMaker, nothing_between}
 use Rattle.solo.proofs.Turning.{turn_found, meeting_found, turn_turned}
 use Rattle.solo.proofs.Settled.{HaveAsked, IsSettled, settled, all_raised, asked_together}
-use Rattle.solo.proofs.Tallying.{GoesOnBy, still_queued, still_finished, count_at, same_counts, goes_on, tally_together}
+use Rattle.solo.proofs.Tallying.{GoesOnBy, still_queued, still_finished, still_line, count_at, same_counts, goes_on, tally_together}
 use Rattle.solo.proofs.Hand.{first_seen, view, now_is}
 
 -- Counts of all processors together
@@ -129,15 +130,18 @@ module _ (d : DomainView) (limits : Limits) (cpus : List (DomainCpu (Unit {0})))
     pub same_finished : (k : ℕ) → finished_in k deeds ≡ finished_in k met.deeds
     same_finished = still_finished (length cpus) 0 met.deeds counting deeds goes_by_first counts_nothing
 
+    pub same_line : (k : ℕ) → k < length cpus → line_in k deeds ≡ line_in k met.deeds
+    same_line = still_line (length cpus) 0 met.deeds counting deeds goes_by_first counts_nothing
+
     queued_sum : all_queued d.processors deeds ≡ sum seen.course.queued
     queued_sum =
         let long : length (queued_on cpus) ≡ length cpus = length-map cpus (λ c. queued_in c.calls.processor c.calls.seen) in
-        ap (λ n. all_queued n deeds) (many ∙ sym long) ∙ (sym (sum_is (λ p. queued_in p deeds) 0 (queued_on cpus) (λ k lt. let there : k < length cpus = omega (arith, lt, long) in count_at queued_in d met.deeds cpus met.tally_together k there ∙ (sym (same_queued k there) ∙ ap (λ q. queued_in q deeds) (let e : k ≡ 0 + k = omega arith in e)))) ∙ sym (ap (λ (x : SoloView). sum x.course.queued) view_is))
+        ap (λ n. all_queued n deeds) (many ∙ sym long) ∙ (sym (sum_is (λ p. queued_in p deeds) 0 (queued_on cpus) (λ k lt. let there : k < length cpus = omega (arith, lt, long) in count_at 0 queued_in d met.deeds cpus met.tally_together k there ∙ (sym (same_queued k there) ∙ ap (λ q. queued_in q deeds) (let e : k ≡ 0 + k = omega arith in e)))) ∙ sym (ap (λ (x : SoloView). sum x.course.queued) view_is))
 
     finished_sum : all_finished d.processors deeds ≡ sum seen.course.finished
     finished_sum =
         let long : length (finished_on cpus) ≡ length cpus = length-map cpus (λ c. finished_in c.calls.processor c.calls.seen) in
-        ap (λ n. all_finished n deeds) (many ∙ sym long) ∙ (sym (sum_is (λ p. finished_in p deeds) 0 (finished_on cpus) (λ k lt. let there : k < length cpus = omega (arith, lt, long) in count_at finished_in d met.deeds cpus met.tally_together k there ∙ (sym (same_finished k) ∙ ap (λ q. finished_in q deeds) (let e : k ≡ 0 + k = omega arith in e)))) ∙ sym (ap (λ (x : SoloView). sum x.course.finished) view_is))
+        ap (λ n. all_finished n deeds) (many ∙ sym long) ∙ (sym (sum_is (λ p. finished_in p deeds) 0 (finished_on cpus) (λ k lt. let there : k < length cpus = omega (arith, lt, long) in count_at 0 finished_in d met.deeds cpus met.tally_together k there ∙ (sym (same_finished k) ∙ ap (λ q. finished_in q deeds) (let e : k ≡ 0 + k = omega arith in e)))) ∙ sym (ap (λ (x : SoloView). sum x.course.finished) view_is))
 
   -- Totals, and why it is in use
 
@@ -276,10 +280,13 @@ module _ (d : DomainView) (limits : Limits) (cpus : List (DomainCpu (Unit {0})))
     long = meets.count ∙ h.count
 
     queued_are : queued_on cpus' ≡ queued_on cpus
-    queued_are = same_counts queued_in d d' met.deeds tallies_meet.deeds cpus cpus' met.tally_together all_tally long (λ k lt. still_queued (length mid) 0 deeds [] tallies_meet.deeds all_on nothing_done k (within_mid k lt) ∙ same_queued deeds deeds_of_all k lt)
+    queued_are = same_counts 0 queued_in d d' met.deeds tallies_meet.deeds cpus cpus' met.tally_together all_tally long (λ k lt. still_queued (length mid) 0 deeds [] tallies_meet.deeds all_on nothing_done k (within_mid k lt) ∙ same_queued deeds deeds_of_all k lt)
 
     finished_are : finished_on cpus' ≡ finished_on cpus
-    finished_are = same_counts finished_in d d' met.deeds tallies_meet.deeds cpus cpus' met.tally_together all_tally long (λ k lt. still_finished (length mid) 0 deeds [] tallies_meet.deeds all_on nothing_done k ∙ same_finished deeds deeds_of_all k)
+    finished_are = same_counts 0 finished_in d d' met.deeds tallies_meet.deeds cpus cpus' met.tally_together all_tally long (λ k lt. still_finished (length mid) 0 deeds [] tallies_meet.deeds all_on nothing_done k ∙ same_finished deeds deeds_of_all k)
+
+    lines_are : lines_on cpus' ≡ lines_on cpus
+    lines_are = same_counts no_calls line_in d d' met.deeds tallies_meet.deeds cpus cpus' met.tally_together all_tally long (λ k lt. still_line (length mid) 0 deeds [] tallies_meet.deeds all_on nothing_done k (within_mid k lt) ∙ same_line deeds deeds_of_all k lt)
 
     -- All of it
 
@@ -335,4 +342,5 @@ module _ (d : DomainView) (limits : Limits) (cpus : List (DomainCpu (Unit {0})))
             queued = queued_are i;
             finished = finished_are i;
           };
+          lines = lines_are i;
         }) ∙ sym view_is)

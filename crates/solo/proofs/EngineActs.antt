@@ -39,12 +39,13 @@ use Rattle.domain.specs.Meetings.{IsAllOf, EngineMeets, MeetsHere}
 use Rattle.solo.specs.Calls.{SoloView, IsSameDomain, Starts, StartsNone, StepsOf, Steps, Advances, IsAskedTooMuch}
 use Rattle.solo.specs.Courses.{Course, Works}
 use Rattle.solo.specs.Settling.{View, Holds, AllHold, AskTogether, TurnTogether, TallyTogether, IsWanted, HaveMet}
-use Rattle.solo.specs.Insides.{queued_on, finished_on, seen_as, seen_first}
+use Rattle.calls.specs.Lines.{no_calls, line_in}
+use Rattle.solo.specs.Insides.{queued_on, finished_on, lines_on, seen_as, seen_first}
 use Rattle.solo.proofs.NothingBetween.{made_by_append}
 use Rattle.domain.specs.Acting.{GoesOn, Adds}
 use Rattle.domain.proofs.CallerLemmas.{stays, goes_further, adds_none, nothing_done}
 use Rattle.solo.proofs.Needing.{squeezed, raised_here}
-use Rattle.solo.proofs.Tallying.{GoesOnBy, still_queued, still_finished, same_counts, goes_on, tally_together}
+use Rattle.solo.proofs.Tallying.{GoesOnBy, still_queued, still_finished, still_line, same_counts, goes_on, tally_together}
 use Rattle.solo.proofs.Settled.{HaveAsked, IsSettled, settled, all_raised, asked_together}
 use Rattle.solo.proofs.Turning.{turn_found, meeting_found, turn_turned}
 use Rattle.solo.proofs.Hand.{IsStill, first_seen, is_seen}
@@ -356,16 +357,19 @@ module _ (t : Turn) where
   deeds_go_on = goes_on t.d t.d' t.met.deeds t.cpus t.cpus' 0 t.was t.now some t.is t.met.tally_together [] calls_stay t.meets.count t.meets.calls same_tallies
 
   same_queued : queued_on t.cpus' ≡ queued_on t.cpus
-  same_queued = same_counts queued_in t.d t.d' t.met.deeds t.meets.calls.deeds t.cpus t.cpus' t.met.tally_together all_tally (t.meets.count ∙ long) (still_queued (length t.cpus) 0 t.met.deeds [] t.meets.calls.deeds deeds_go_on nothing_done)
+  same_queued = same_counts 0 queued_in t.d t.d' t.met.deeds t.meets.calls.deeds t.cpus t.cpus' t.met.tally_together all_tally (t.meets.count ∙ long) (still_queued (length t.cpus) 0 t.met.deeds [] t.meets.calls.deeds deeds_go_on nothing_done)
 
   same_finished : finished_on t.cpus' ≡ finished_on t.cpus
-  same_finished = same_counts finished_in t.d t.d' t.met.deeds t.meets.calls.deeds t.cpus t.cpus' t.met.tally_together all_tally (t.meets.count ∙ long) (λ k lt. still_finished (length t.cpus) 0 t.met.deeds [] t.meets.calls.deeds deeds_go_on nothing_done k)
+  same_finished = same_counts 0 finished_in t.d t.d' t.met.deeds t.meets.calls.deeds t.cpus t.cpus' t.met.tally_together all_tally (t.meets.count ∙ long) (λ k lt. still_finished (length t.cpus) 0 t.met.deeds [] t.meets.calls.deeds deeds_go_on nothing_done k)
+
+  same_lines : lines_on t.cpus' ≡ lines_on t.cpus
+  same_lines = same_counts no_calls line_in t.d t.d' t.met.deeds t.meets.calls.deeds t.cpus t.cpus' t.met.tally_together all_tally (t.meets.count ∙ long) (still_line (length t.cpus) 0 t.met.deeds [] t.meets.calls.deeds deeds_go_on nothing_done)
 
   abbrev pub before : SoloView
-  before = seen_as t.d.tallies t.limits asked_before (queued_on t.cpus) (finished_on t.cpus) t.v
+  before = seen_as t.d.tallies t.limits asked_before (queued_on t.cpus) (finished_on t.cpus) (lines_on t.cpus) t.v
 
   abbrev pub after : SoloView
-  after = seen_as t.d'.tallies t.limits asked_after (queued_on t.cpus') (finished_on t.cpus') t.meets.left
+  after = seen_as t.d'.tallies t.limits asked_after (queued_on t.cpus') (finished_on t.cpus') (lines_on t.cpus') t.meets.left
 
   module _ (act others : List Event) (own : MakesOwn act v w) (seen : w.seat.seen ≡ t.v.seat.seen ++ (others ++ act)) where
     table : t.lends.left.seat.domain ≡ t.v.seat.domain
@@ -427,7 +431,7 @@ module _ (t : Turn) where
     }
 
     same_as : IsSameDomain before after
-    same_as = (same_engine.0 ∙ own.same.0, refl, same_engine.1 ∙ own.same.1, same_engine.2 ∙ own.same.2, same_tallies)
+    same_as = ((same_engine.0 ∙ own.same.0, refl, same_engine.1 ∙ own.same.1, same_engine.2 ∙ own.same.2, same_tallies), same_lines)
 
     worked : (work : Standing → Standing → Type 0) → work (standing_of t.v) (standing_of t.meets.left) → Works work before.course after.course
     worked work it = record { work_is = it; rest = λ i. record { standing = standing_of t.meets.left; asked = same_asked i; queued = same_queued i; finished = same_finished i } }
@@ -539,7 +543,7 @@ module _ (t : Turn) where
 
 -- where nothing has changed
 pub unchanged : (d d' : SoloView) → d' ≡ d → IsSameDomain d d'
-unchanged d d' same = subst (IsSameDomain d) (sym same) (refl, refl, refl, refl, refl)
+unchanged d d' same = subst (IsSameDomain d) (sym same) ((refl, refl, refl, refl, refl), refl)
 
 -- Each call that drives the engine leaves the processor what it was
 

@@ -16,7 +16,8 @@ use Rattle.domain.specs.Making.{IsMade, idle_engine, new_cpu}
 use Rattle.domain.specs.Meetings.{IsAllOf}
 use Rattle.solo.specs.Calls.{IsNew, new_standing}
 use Rattle.solo.specs.Settling.{View, Holds, AreTogether, AskTogether, TurnTogether, TallyTogether, HaveMet}
-use Rattle.solo.specs.Insides.{queued_on, finished_on, seen_first}
+use Rattle.calls.specs.Lines.{no_calls, line_in}
+use Rattle.solo.specs.Insides.{queued_on, finished_on, lines_on, seen_first}
 use Rattle.solo.proofs.Tallying.{none_counted}
 use Rattle.solo.proofs.Hand.{first_seen}
 
@@ -87,10 +88,13 @@ module _ (limits : Limits) (processors : ℕ) (d : DomainView) (cpus : List (Cpu
   met = record { all = all; together = together; raises = []; ask_together = ask_together; swaps = []; turn_together = turn_together; deeds = []; tally_together = tally_together; cookies = refl; wanted = λ _ half. absurd (omega (arith, half)) }
 
   queued : queued_on cpus ≡ replicate processors 0
-  queued = none_counted queued_in cpus (λ k c lt. ap (λ (z : CpuView (Unit {0})). queued_in z.calls.processor z.calls.seen) (is_new k c lt)) ∙ ap (λ n. replicate n 0) made.count
+  queued = none_counted 0 queued_in cpus (λ k c lt. ap (λ (z : CpuView (Unit {0})). queued_in z.calls.processor z.calls.seen) (is_new k c lt)) ∙ ap (λ n. replicate n 0) made.count
 
   finished : finished_on cpus ≡ replicate processors 0
-  finished = none_counted finished_in cpus (λ k c lt. ap (λ (z : CpuView (Unit {0})). finished_in z.calls.processor z.calls.seen) (is_new k c lt)) ∙ ap (λ n. replicate n 0) made.count
+  finished = none_counted 0 finished_in cpus (λ k c lt. ap (λ (z : CpuView (Unit {0})). finished_in z.calls.processor z.calls.seen) (is_new k c lt)) ∙ ap (λ n. replicate n 0) made.count
+
+  lines : lines_on cpus ≡ replicate processors no_calls
+  lines = none_counted no_calls line_in cpus (λ k c lt. ap (λ (z : CpuView (Unit {0})). line_in z.calls.processor z.calls.seen) (is_new k c lt)) ∙ ap (λ n. replicate n no_calls) made.count
 
   pub is_new_domain : IsNew limits processors (seen_first d limits cpus)
-  is_new_domain = subst (IsNew limits processors) (sym (first_seen d limits cpus engine 0 all.some turn_together.lying (λ c. ap (λ (z : CpuView (Unit {0})). greatest z.needs.seen) (is_new 0 c all.some)))) (record { limits_are = refl; nothing_yet = λ i. record { standing = new_standing limits processors; asked = 0; queued = queued i; finished = finished i }; count = count })
+  is_new_domain = subst (IsNew limits processors) (sym (first_seen d limits cpus engine 0 all.some turn_together.lying (λ c. ap (λ (z : CpuView (Unit {0})). greatest z.needs.seen) (is_new 0 c all.some)))) (record { limits_are = refl; nothing_yet = λ i. record { standing = new_standing limits processors; asked = 0; queued = queued i; finished = finished i }; none_waits = lines; count = count })

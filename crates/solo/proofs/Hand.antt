@@ -15,21 +15,22 @@ use Rattle.domain.specs.Acting.{Act, Acts}
 use Rattle.domain.specs.Meetings.{IsAllOf}
 use Rattle.solo.specs.Calls.{SoloView}
 use Rattle.solo.specs.Settling.{View, HaveMet}
-use Rattle.solo.specs.Insides.{queued_on, finished_on, seen_as, seen_with, seen_first}
+use Rattle.calls.specs.Lines.{Line}
+use Rattle.solo.specs.Insides.{queued_on, finished_on, lines_on, seen_as, seen_with, seen_first}
 
 -- how it is seen
 
-with_lying : (d : DomainView) (limits : Limits) (asked : ℕ) (queued finished : List ℕ) (lay : Option View) (v : View) → lay ≡ Some v → seen_with d limits asked queued finished lay ≡ seen_as d.tallies limits asked queued finished v
-with_lying d limits asked queued finished lay v is = ap (seen_with d limits asked queued finished) is
+with_lying : (d : DomainView) (limits : Limits) (asked : ℕ) (queued finished : List ℕ) (lines : List (Line (Unit {0}))) (lay : Option View) (v : View) → lay ≡ Some v → seen_with d limits asked queued finished lines lay ≡ seen_as d.tallies limits asked queued finished lines v
+with_lying d limits asked queued finished lines lay v is = ap (seen_with d limits asked queued finished lines) is
 
-pub first_seen : (d : DomainView) (limits : Limits) (cpus : List (CpuView (Unit {0}))) (v : View) (asked : ℕ) → 0 < length cpus → ((c : CpuView (Unit {0})) → lies (get_or cpus 0 c).turn ≡ Some v) → ((c : CpuView (Unit {0})) → greatest (get_or cpus 0 c).needs.seen ≡ asked) → seen_first d limits cpus ≡ seen_as d.tallies limits asked (queued_on cpus) (finished_on cpus) v
+pub first_seen : (d : DomainView) (limits : Limits) (cpus : List (CpuView (Unit {0}))) (v : View) (asked : ℕ) → 0 < length cpus → ((c : CpuView (Unit {0})) → lies (get_or cpus 0 c).turn ≡ Some v) → ((c : CpuView (Unit {0})) → greatest (get_or cpus 0 c).needs.seen ≡ asked) → seen_first d limits cpus ≡ seen_as d.tallies limits asked (queued_on cpus) (finished_on cpus) (lines_on cpus) v
 first_seen d limits [] v asked some lying needs = absurd (omega (arith, some))
-first_seen d limits (c ∷ cpus) v asked some lying needs = with_lying d limits (greatest c.needs.seen) (queued_on (c ∷ cpus)) (finished_on (c ∷ cpus)) (lies c.turn) v (lying c) ∙ ap (λ n. seen_as d.tallies limits n (queued_on (c ∷ cpus)) (finished_on (c ∷ cpus)) v) (needs c)
+first_seen d limits (c ∷ cpus) v asked some lying needs = with_lying d limits (greatest c.needs.seen) (queued_on (c ∷ cpus)) (finished_on (c ∷ cpus)) (lines_on (c ∷ cpus)) (lies c.turn) v (lying c) ∙ ap (λ n. seen_as d.tallies limits n (queued_on (c ∷ cpus)) (finished_on (c ∷ cpus)) (lines_on (c ∷ cpus)) v) (needs c)
 
 module _ (d : DomainView) (limits : Limits) (cpus : List (CpuView (Unit {0}))) (v : View) (met : HaveMet d limits cpus v) where
   -- as it is said: with the engine that lies there, what was asked for, and all calls
   abbrev pub view : SoloView
-  view = seen_as d.tallies limits (greatest met.raises) (queued_on cpus) (finished_on cpus) v
+  view = seen_as d.tallies limits (greatest met.raises) (queued_on cpus) (finished_on cpus) (lines_on cpus) v
 
   pub is_seen : seen_first d limits cpus ≡ view
   is_seen = first_seen d limits cpus v (greatest met.raises) met.all.some met.turn_together.lying (λ c. ap greatest (met.ask_together.seen 0 c met.all.some))

@@ -1,6 +1,6 @@
 -- A processor of the domain in one hand acted, and then all have met: the domain has come just so far as the act says.
 use Rattle.std.proofs.Common.{◌≡◌, ℕ, zero, suc, ◌+◌, ◌*◌, ◌%◌, ◌<◌, ◌≤◌, ◌⊎◌, cond, max, inl, inr, List, [], ◌∷◌, ◌++◌, length, get_or, set, refl, sym, ap, ◌∙◌, subst, append-nil, arith, length-append, length-set, get_or-set_other, get_or-set_same, le-ltb}
-use Rattle.std.specs.Prelude.{All, Some, slice_get}
+use Rattle.std.specs.Prelude.{◌≢◌, All, Some, None, slice_get}
 use Rattle.std.proofs.lemmas.List.{get_or_default, set-get_or, length-map, append_cancel_left}
 use mathlib.Core.Logic.{dite}
 use native.Mathlib.Decide.{ℕ_discrete}
@@ -22,17 +22,20 @@ use Rattle.funnel.specs.Histories.{IsBeginning as IsBeginningAtTree, value, grea
 use Rattle.funnel.specs.Calls.{LoadsRoot}
 use Rattle.calls.specs.declared.view.Deed.{Deed}
 use Rattle.calls.specs.Tallies as tallies
-use Rattle.calls.specs.Tallies.{queued_in, finished_in}
+use Rattle.calls.specs.Lines.{Line, no_calls, line_in}
+use Rattle.calls.specs.Tallies.{queued_in, finished_in, deeds_of}
+use Rattle.calls.specs.Views.{CallSeatView}
+use Rattle.calls.proofs.CallerLemmas.{begins_on}
 use Rattle.domain.specs.Views.{DomainView, CpuView}
 use Rattle.domain.specs.Meetings.{IsAllOf, EngineMeets, MeetsHere}
-use Rattle.solo.specs.Calls.{SoloView, IsSameDomain}
+use Rattle.solo.specs.Calls.{SoloView, HasSameTables, IsSameDomain, OnList}
 use Rattle.domain.specs.Acting.{Act, Acts, ActsAs}
 use Rattle.solo.specs.Courses.{after, with_asked, more_at, with_events, Does}
 use Rattle.solo.specs.Settling.{View, Holds, AllHold, AskTogether, TurnTogether, TallyTogether, HaveMet}
-use Rattle.solo.specs.Insides.{queued_on, finished_on, seen_as, seen_first}
+use Rattle.solo.specs.Insides.{queued_on, finished_on, lines_on, seen_as, seen_first}
 use Rattle.solo.proofs.Hand.{first_seen, now_is, is_inside}
 use Rattle.solo.proofs.Needing.{squeezed, raised_here}
-use Rattle.solo.proofs.Tallying.{GoesOnBy, finished_are, queued_here, queued_else, count_at, found_at, one_count, goes_on, tally_together}
+use Rattle.solo.proofs.Tallying.{GoesOnBy, finished_are, queued_here, queued_else, lines_are, at_moment, count_at, found_at, one_count, same_counts, goes_on, tally_together}
 use Rattle.solo.proofs.Settled.{HaveAsked, IsSettled, settled, all_raised, asked_together}
 use Rattle.solo.proofs.Turning.{idle_found, idle_turned}
 use Rattle.solo.proofs.NothingBetween.{made_by_append}
@@ -102,7 +105,7 @@ module _ (t : Hand) where
 
   -- The processor that was called has seen just what all have
 
-  view_is : t.s ≡ seen_as t.d.tallies t.limits (greatest t.met.raises) (queued_on t.cpus) (finished_on t.cpus) t.v
+  view_is : t.s ≡ seen_as t.d.tallies t.limits (greatest t.met.raises) (queued_on t.cpus) (finished_on t.cpus) (lines_on t.cpus) t.v
   view_is = now_is t.d t.limits t.cpus t.v t.met t.s t.seen
 
   pub limits_are : t.limits ≡ t.s.limits
@@ -124,16 +127,19 @@ module _ (t : Hand) where
   deeds_were = ap (λ (x : CpuView (Unit {0})). x.calls) t.is ∙ t.met.tally_together.seats t.p t.was t.inside
 
   pub queued_were : (k : ℕ) → k < length t.cpus → get_or t.s.course.queued k 0 ≡ queued_in k t.met.deeds
-  queued_were k lt = ap (λ (x : SoloView). get_or x.course.queued k 0) view_is ∙ count_at queued_in t.d t.met.deeds t.cpus t.met.tally_together k lt
+  queued_were k lt = ap (λ (x : SoloView). get_or x.course.queued k 0) view_is ∙ count_at 0 queued_in t.d t.met.deeds t.cpus t.met.tally_together k lt
 
   pub finished_were : (k : ℕ) → k < length t.cpus → get_or t.s.course.finished k 0 ≡ finished_in k t.met.deeds
-  finished_were k lt = ap (λ (x : SoloView). get_or x.course.finished k 0) view_is ∙ count_at finished_in t.d t.met.deeds t.cpus t.met.tally_together k lt
+  finished_were k lt = ap (λ (x : SoloView). get_or x.course.finished k 0) view_is ∙ count_at 0 finished_in t.d t.met.deeds t.cpus t.met.tally_together k lt
 
   pub queued_found : (k : ℕ) → k < length t.cpus → slice_get t.s.course.queued k ≡ Some (get_or t.s.course.queued k 0)
-  queued_found k lt = ap (λ (x : SoloView). slice_get x.course.queued k) view_is ∙ (found_at queued_in t.d t.met.deeds t.cpus t.met.tally_together k lt ∙ ap Some (sym (queued_were k lt)))
+  queued_found k lt = ap (λ (x : SoloView). slice_get x.course.queued k) view_is ∙ (found_at 0 queued_in t.d t.met.deeds t.cpus t.met.tally_together k lt ∙ ap Some (sym (queued_were k lt)))
 
   pub finished_found : (k : ℕ) → k < length t.cpus → slice_get t.s.course.finished k ≡ Some (get_or t.s.course.finished k 0)
-  finished_found k lt = ap (λ (x : SoloView). slice_get x.course.finished k) view_is ∙ (found_at finished_in t.d t.met.deeds t.cpus t.met.tally_together k lt ∙ ap Some (sym (finished_were k lt)))
+  finished_found k lt = ap (λ (x : SoloView). slice_get x.course.finished k) view_is ∙ (found_at 0 finished_in t.d t.met.deeds t.cpus t.met.tally_together k lt ∙ ap Some (sym (finished_were k lt)))
+
+  pub line_found : (k : ℕ) → k < length t.cpus → slice_get t.s.lines k ≡ Some (line_in k t.met.deeds)
+  line_found k lt = ap (λ (x : SoloView). slice_get x.lines k) view_is ∙ found_at no_calls line_in t.d t.met.deeds t.cpus t.met.tally_together k lt
 
   pub queued_long : length t.s.course.queued ≡ length t.cpus
   queued_long = ap (λ (x : SoloView). length x.course.queued) view_is ∙ length-map t.cpus (λ c. queued_in c.calls.processor c.calls.seen)
@@ -230,20 +236,24 @@ module _ (t : Hand) where
 
     queued_after : queued_on t.cpus' ≡ more_at t.p a.queued (queued_on t.cpus)
     queued_after =
-        let was = count_at queued_in t.d t.met.deeds t.cpus t.met.tally_together t.p t.inside in
+        let was = count_at 0 queued_in t.d t.met.deeds t.cpus t.met.tally_together t.p t.inside in
         let now = queued_here (length t.cpus) t.p t.met.deeds acts.deeds deeds_after on in
         let more = acts.count.queued in
-        one_count queued_in t.d t.d' t.met.deeds deeds_after t.cpus t.cpus' t.met.tally_together all_tally (count ∙ long) t.p (get_or (queued_on t.cpus) t.p 0 + a.queued) (λ there. omega (arith, was, now, more)) (queued_else (length t.cpus) t.p t.met.deeds acts.deeds deeds_after on)
+        one_count 0 queued_in t.d t.d' t.met.deeds deeds_after t.cpus t.cpus' t.met.tally_together all_tally (count ∙ long) t.p (get_or (queued_on t.cpus) t.p 0 + a.queued) (λ there. omega (arith, was, now, more)) (queued_else (length t.cpus) t.p t.met.deeds acts.deeds deeds_after on)
         ∙ more_is t.p a.queued (queued_on t.cpus)
 
     finished_after : finished_on t.cpus' ≡ more_at a.owner a.finished (finished_on t.cpus)
     finished_after =
         let now = finished_are (length t.cpus) t.p t.met.deeds acts.deeds deeds_after on a.owner in
         let more = acts.count.finished in
-        one_count finished_in t.d t.d' t.met.deeds deeds_after t.cpus t.cpus' t.met.tally_together all_tally (count ∙ long) a.owner (get_or (finished_on t.cpus) a.owner 0 + a.finished)
-        (λ there. let was = count_at finished_in t.d t.met.deeds t.cpus t.met.tally_together a.owner there in omega (arith, was, now, more))
+        one_count 0 finished_in t.d t.d' t.met.deeds deeds_after t.cpus t.cpus' t.met.tally_together all_tally (count ∙ long) a.owner (get_or (finished_on t.cpus) a.owner 0 + a.finished)
+        (λ there. let was = count_at 0 finished_in t.d t.met.deeds t.cpus t.met.tally_together a.owner there in omega (arith, was, now, more))
         (λ k lt other. let are = finished_are (length t.cpus) t.p t.met.deeds acts.deeds deeds_after on k in let none = acts.count.others k other in omega (arith, are, none))
         ∙ more_is a.owner a.finished (finished_on t.cpus)
+
+    -- the lists of all but one
+    line_else : (k : ℕ) → k < length t.cpus → a.list ≢ Some k → line_in k deeds_after ≡ line_in k t.met.deeds
+    line_else k lt away = lines_are (length t.cpus) t.p t.met.deeds acts.deeds deeds_after on k lt ∙ acts.count.lists k away (line_in k t.met.deeds)
 
     -- The history
 
@@ -295,6 +305,15 @@ module _ (t : Hand) where
 
     -- The theorem
 
+    seen_after : s' ≡ seen_as t.d'.tallies t.limits (greatest t.meets.needs.raises) (queued_on t.cpus') (finished_on t.cpus') (lines_on t.cpus') t.meets.left
+    seen_after = first_seen t.d' t.limits t.cpus' t.meets.left (greatest t.meets.needs.raises) t.all.some turned.lying (λ c. ap greatest (ask_together.seen 0 c t.all.some))
+
+    all_lines : s'.lines ≡ lines_on t.cpus'
+    all_lines = ap (λ (x : SoloView). x.lines) seen_after
+
+    old_lines : t.s.lines ≡ lines_on t.cpus
+    old_lines = ap (λ (x : SoloView). x.lines) view_is
+
     -- what was asked for are cookies, and where a period is wanted already, it is the next one
     still_wanted : (¬ IsRunning t.v.seat.seen → 0 < t.v.so_far → greatest t.meets.needs.raises ≡ greatest t.met.raises) × (greatest t.meets.needs.raises % 4 ≡ 0)
     still_wanted = by_case acts.ask_for.cookie
@@ -340,8 +359,8 @@ module _ (t : Hand) where
     }
 
     -- the domain has come just so far
-    pub come : s' ≡ record t.s { course = after t.p a t.s.course }
-    come = first_seen t.d' t.limits t.cpus' t.meets.left (greatest t.meets.needs.raises) t.all.some turned.lying (λ c. ap greatest (ask_together.seen 0 c t.all.some))
+    pub come : s' ≡ record t.s { course = after t.p a t.s.course; lines = lines_on t.cpus' }
+    come = seen_after
         ∙ ((λ z. record {
           table = same_engine.0 z;
           limits = t.limits;
@@ -359,7 +378,8 @@ module _ (t : Hand) where
             queued = queued_after z;
             finished = finished_after z;
           };
-        }) ∙ sym (ap (λ (x : SoloView). record x { course = after t.p a x.course }) view_is))
+          lines = lines_on t.cpus';
+        }) ∙ sym (ap (λ (x : SoloView). record x { course = after t.p a x.course; lines = lines_on t.cpus' }) view_is))
 
     pub does : Does t.p what t.s.course s'.course
     does = record {
@@ -367,8 +387,77 @@ module _ (t : Hand) where
       come = ap (λ (x : SoloView). x.course) come;
     }
 
-    pub same_domain : IsSameDomain t.s s'
-    same_domain = subst (IsSameDomain t.s) (sym come) (refl, refl, refl, refl, refl)
+    pub same_tables : HasSameTables t.s s'
+    same_tables = subst (HasSameTables t.s) (sym come) (refl, refl, refl, refl, refl)
+
+    -- The lists
+
+    -- what it has seen of the tally words, all have
+    pub seen_by_all : tallies.IsBeginning t.now.calls.seen deeds_after
+    seen_by_all = subst (λ (z : CpuView (Unit {0})). tallies.IsBeginning z.calls.seen deeds_after) (here t.was) (t.meets.calls.each t.p t.was within).since
+
+    -- a moment of the call, at which these were done
+    moment : (x : List (Deed (Unit {0}))) → tallies.IsBeginning t.was.calls.seen x → tallies.IsBeginning x deeds_after → (some : List (Deed (Unit {0}))) → deeds_of t.was.calls.processor x ≡ deeds_of t.was.calls.processor t.was.calls.seen ++ some → GoesOnBy (length t.cpus) t.p t.met.deeds some x
+    moment x low high some own = at_moment (length t.cpus) t.p t.met.deeds acts.deeds deeds_after on x (subst (λ l. tallies.IsBeginning l x) seen_is low) high some (subst (λ (s : CallSeatView (Unit {0})). deeds_of s.processor x ≡ deeds_of s.processor s.seen ++ some) (deeds_were t) own)
+      where
+        seen_is : t.was.calls.seen ≡ t.met.deeds
+        seen_is = ap (λ (s : CallSeatView (Unit {0})). s.seen) (deeds_were t)
+
+    -- what a processor has seen of each list, all have
+    pub line_now : (k : ℕ) → k < length t.cpus → line_in k deeds_after ≡ line_in k t.now.calls.seen
+    line_now k lt = lines_are (length t.cpus) t.p t.met.deeds acts.deeds deeds_after on k lt ∙ sym (lines_are (length t.cpus) t.p t.met.deeds acts.deeds t.now.calls.seen (moment t.now.calls.seen acts.adds.since seen_by_all acts.deeds acts.adds.own) k lt)
+
+    -- at a moment of the call at which it had done nothing yet, a list was as before
+    pub line_before : (x : List (Deed (Unit {0}))) → tallies.IsBeginning t.was.calls.seen x → tallies.IsBeginning x t.now.calls.seen → deeds_of t.was.calls.processor x ≡ deeds_of t.was.calls.processor t.was.calls.seen → (k : ℕ) → k < length t.cpus → line_in k x ≡ line_in k t.met.deeds
+    line_before x low high own k lt = lines_are (length t.cpus) t.p t.met.deeds [] x (moment x low (begins_on high seen_by_all) [] (own ∙ sym (append-nil (deeds_of t.was.calls.processor t.was.calls.seen)))) k lt
+
+    -- and at one behind which it did nothing more, it is as behind
+    pub line_behind : (x : List (Deed (Unit {0}))) → tallies.IsBeginning t.was.calls.seen x → tallies.IsBeginning x t.now.calls.seen → deeds_of t.was.calls.processor t.now.calls.seen ≡ deeds_of t.was.calls.processor x → (k : ℕ) → k < length t.cpus → line_in k deeds_after ≡ line_in k x
+    line_behind x low high own k lt =
+        lines_are (length t.cpus) t.p t.met.deeds acts.deeds deeds_after on k lt
+        ∙ sym (lines_are (length t.cpus) t.p t.met.deeds acts.deeds x (moment x low (begins_on high seen_by_all) acts.deeds (sym own ∙ acts.adds.own)) k lt)
+
+    -- at two moments by which it had done the same, they are the same
+    pub line_between : (x y : List (Deed (Unit {0}))) → tallies.IsBeginning t.was.calls.seen x → tallies.IsBeginning x t.now.calls.seen → tallies.IsBeginning t.was.calls.seen y → tallies.IsBeginning y t.now.calls.seen
+        → (some : List (Deed (Unit {0}))) → deeds_of t.was.calls.processor x ≡ deeds_of t.was.calls.processor t.was.calls.seen ++ some → deeds_of t.was.calls.processor y ≡ deeds_of t.was.calls.processor x → (k : ℕ) → k < length t.cpus → line_in k y ≡ line_in k x
+    line_between x y low_x high_x low_y high_y some own same k lt =
+        lines_are (length t.cpus) t.p t.met.deeds some y (moment y low_y (begins_on high_y seen_by_all) some (same ∙ own)) k lt
+        ∙ sym (lines_are (length t.cpus) t.p t.met.deeds some x (moment x low_x (begins_on high_x seen_by_all) some own) k lt)
+
+    -- one list is another, and no other one
+    pub on_list : a.list ≡ Some t.p → (becomes : Line (Unit {0}) → Line (Unit {0}) → Type 0) → (is : Line (Unit {0})) → line_in t.p deeds_after ≡ is → becomes (line_in t.p t.met.deeds) is → OnList t.p becomes t.s s'
+    on_list mine becomes is here so = record {
+      was = line_in t.p t.met.deeds;
+      is = is;
+      there = line_found t t.p t.inside;
+      becomes_so = so;
+      rest = all_lines ∙ (one_count no_calls line_in t.d t.d' t.met.deeds deeds_after t.cpus t.cpus' t.met.tally_together all_tally (count ∙ long) t.p is (λ there. here) (λ k lt other. line_else k lt (λ same. other (same_some k (sym (sym mine ∙ same))))) ∙ ap (λ l. set l t.p is) (sym old_lines));
+    }
+      where
+        same_some : (k : ℕ) → Some k ≡ Some t.p → k ≡ t.p
+        same_some k e = cc
+
+    module _ (quiet : a.list ≡ None) where
+      lines_stay : lines_on t.cpus' ≡ lines_on t.cpus
+      lines_stay = same_counts no_calls line_in t.d t.d' t.met.deeds deeds_after t.cpus t.cpus' t.met.tally_together all_tally (count ∙ long) (λ k lt. line_else k lt (λ some. nothing k (sym quiet ∙ some)))
+        where
+          nothing : (k : ℕ) → None ≡ Some k → ⊥
+          nothing k e = cc
+
+      pub line_quiet : (k : ℕ) → k < length t.cpus → line_in k deeds_after ≡ line_in k t.met.deeds
+      line_quiet k lt = line_else k lt (λ some. nothing_some k (sym quiet ∙ some))
+        where
+          nothing_some : (k : ℕ) → None ≡ Some k → ⊥
+          nothing_some k e = cc
+
+      pub same_lines : s'.lines ≡ t.s.lines
+      same_lines = all_lines ∙ (lines_stay ∙ sym old_lines)
+
+      pub same_domain : IsSameDomain t.s s'
+      same_domain = (same_tables, same_lines)
+
+      pub come_quietly : s' ≡ record t.s { course = after t.p a t.s.course }
+      come_quietly = come ∙ ap (λ l. record t.s { course = after t.p a t.s.course; lines = l }) (lines_stay ∙ sym old_lines)
 
     -- What the call found
 
@@ -393,12 +482,8 @@ module _ (t : Hand) where
         let same : t.now.needs.seen ≡ t.met.raises = squeezed t.met.raises t.now.needs.seen t.meets.needs.raises (subst (λ l. IsBeginningAtTree l t.now.needs.seen) seen h.since) into (raises_are ∙ (ap (λ l. t.met.raises ++ l) none ∙ append-nil t.met.raises)) in
         h.current ∙ (ap (value 0) same ∙ (t.met.ask_together.root ∙ sym (ap (λ (x : SoloView). x.course.asked) view_is)))
 
-    -- what it has seen of the tally words, all have
-    pub seen_by_all : tallies.IsBeginning t.now.calls.seen deeds_after
-    seen_by_all = subst (λ (z : CpuView (Unit {0})). tallies.IsBeginning z.calls.seen deeds_after) (here t.was) (t.meets.calls.each t.p t.was within).since
-
     pub queued_now : (k : ℕ) → k < length t.cpus → queued_in k deeds_after ≡ get_or (more_at t.p a.queued t.s.course.queued) k 0
-    queued_now k lt = sym (count_at queued_in t.d' deeds_after t.cpus' all_tally k (omega (arith, count, length-set t.cpus t.p t.now, lt))) ∙ (ap (λ l. get_or l k 0) queued_after ∙ sym (ap (λ (x : SoloView). get_or (more_at t.p a.queued x.course.queued) k 0) view_is))
+    queued_now k lt = sym (count_at 0 queued_in t.d' deeds_after t.cpus' all_tally k (omega (arith, count, length-set t.cpus t.p t.now, lt))) ∙ (ap (λ l. get_or l k 0) queued_after ∙ sym (ap (λ (x : SoloView). get_or (more_at t.p a.queued x.course.queued) k 0) view_is))
 
     pub finished_now : (k : ℕ) → k < length t.cpus → finished_in k deeds_after ≡ get_or (more_at a.owner a.finished t.s.course.finished) k 0
-    finished_now k lt = sym (count_at finished_in t.d' deeds_after t.cpus' all_tally k (omega (arith, count, length-set t.cpus t.p t.now, lt))) ∙ (ap (λ l. get_or l k 0) finished_after ∙ sym (ap (λ (x : SoloView). get_or (more_at a.owner a.finished x.course.finished) k 0) view_is))
+    finished_now k lt = sym (count_at 0 finished_in t.d' deeds_after t.cpus' all_tally k (omega (arith, count, length-set t.cpus t.p t.now, lt))) ∙ (ap (λ l. get_or l k 0) finished_after ∙ sym (ap (λ (x : SoloView). get_or (more_at a.owner a.finished x.course.finished) k 0) view_is))

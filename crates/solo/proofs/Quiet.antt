@@ -42,7 +42,7 @@ module _ (t : Hand) where
   -- Looks
 
   pub look_says : (l : LookView) → Looks was now l → Loaded → Says t (IsLookNow t.s l × (s' t ≡ t.s))
-  look_says l h did = says t loads did _ (
+  look_says l h did = says t loads did refl _ (
     record { table = ap (λ (x : LookView). x.domain) h.look_is ∙ (held t).domain; index = index_is was now l h (changes_are t loads did) },
     still t did,
   )
@@ -69,7 +69,7 @@ module _ (t : Hand) where
         let begun = counted look.index in
         let sections = most in
         let room : locks c.processor look.index c.mine < c.sections = h.room in
-        says t (begins r.section r.index) did _ (
+        says t (begins r.section r.index) did refl _ (
           record {
             room = omega (arith, begun, sections, room);
             happens = subst (λ i. Does t.p (begins r.section i) t.s.course (s' t).course) index (does t (begins r.section r.index) did);
@@ -83,7 +83,7 @@ module _ (t : Hand) where
 
     -- none may begin
     out_says : (i : Index) → IsExhausted c i → Loaded → Says t (IsOut i)
-    out_says i full did = says t loads did _ (sym (counted i) ∙ (full ∙ most), still t did)
+    out_says i full did = says t loads did refl _ (sym (counted i) ∙ (full ∙ most), still t did)
 
   abbrev DoesTake : Result ReadingView Exhausted → Type 0
   DoesTake taken = MatchResult taken (λ r. ActsAs (begins r.section r.index) t.was t.now) (λ _. Loaded)
@@ -105,9 +105,9 @@ module _ (t : Hand) where
   pub number_says : (number : ℕ) → Notes number was now → ActsAs (notes (cookie_at number)) t.was t.now → Says t ((number ≡ number_now t.s.course.standing) × call.GivesCookie t.p (cookie_after t.s.course.standing.history) t.s.course (s' t).course)
   number_says number h did =
       let gives = does t (notes (cookie_at number)) did in
-      says t (notes (cookie_at number)) did _ (h.current ∙ ap number_word (changes_are t (notes (cookie_at number)) did), subst (λ n. call.GivesCookie t.p n t.s.course (s' t).course) gives.follows.0 gives)
+      says t (notes (cookie_at number)) did refl _ (h.current ∙ ap number_word (changes_are t (notes (cookie_at number)) did), subst (λ n. call.GivesCookie t.p n t.s.course (s' t).course) gives.follows.0 gives)
 
   pub poll_says : (cookie : ℕ) (taken : Result Bool NotACookie) → MatchResult taken (λ done. Asks was.seen was.changes cookie done was now) (λ _. IsNoCookie cookie × (now ≡ was)) → MatchResult taken (λ done. ActsAs (asks_whether cookie done) t.was t.now) (λ _. Loaded)
       → Says t (MatchResult taken (λ done. call.Asks t.p cookie done t.s.course (s' t).course) (λ _. IsNoCookie cookie × (s' t ≡ t.s)))
-  poll_says cookie (Ok done) h did = says_does t (asks_whether cookie done) did
-  poll_says cookie (Err x) h did = says t loads did _ (h.0, still t did)
+  poll_says cookie (Ok done) h did = says_does t (asks_whether cookie done) did refl
+  poll_says cookie (Err x) h did = says t loads did refl _ (h.0, still t did)

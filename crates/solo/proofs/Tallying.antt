@@ -1,5 +1,5 @@
 -- What was done at the tally words, where all processors are in one hand: each has just its own deeds, so the counts are those of before and of the act.
-use Rattle.std.proofs.Common.{◌≡◌, ◌≢◌, ℕ, suc, ◌+◌, ◌<◌, cond, map, List, [], ◌∷◌, ◌++◌, length, get_or, set, refl, sym, ap, ◌∙◌, subst, arith, length-append, length-set, get_or-set_other, get_or-set_same, eq-eqb, ne_eqb}
+use Rattle.std.proofs.Common.{◌≡◌, ◌≢◌, ℕ, suc, ◌+◌, ◌<◌, Bool, cond, if◌then◌else◌, map, List, [], ◌∷◌, ◌++◌, length, get_or, set, refl, sym, ap, ◌∙◌, subst, append-nil, arith, length-append, length-set, get_or-set_other, get_or-set_same, eq-eqb, ne_eqb}
 use Rattle.std.specs.Prelude.{Some, replicate, slice_get}
 use Rattle.std.proofs.lemmas.List.{length-map, get_or-map, ext_get_or, append_cancel_left}
 use Rattle.std.proofs.lemmas.Option.{slice_get-get_or}
@@ -8,15 +8,16 @@ use native.Mathlib.Decide.{ℕ_discrete}
 use Rattle.calls.specs.declared.view.Act.{Act}
 use Rattle.calls.specs.declared.view.Act.TheVariants.{Queue, Take, Finish, LoadQueued, LoadFinished}
 use Rattle.calls.specs.declared.view.Deed.{Deed}
+use Rattle.calls.specs.Lines.{Line, no_calls, with_call, next_line, line_from, line_in}
 use Rattle.calls.specs.Tallies.{queued_in, finished_by, finished_in, deeds_of, IsTaker, AreTakers, IsBeginning}
 use Rattle.calls.specs.Views.{CallSeatView}
 use Rattle.calls.specs.Meetings.{Accepts}
-use Rattle.calls.proofs.CallerLemmas.{begins_on, deeds_append, same_queued}
+use Rattle.calls.proofs.CallerLemmas.{begins_on, deeds_append, same_queued, earlier_takers}
 use Rattle.domain.specs.Views.{DomainView, CpuView}
 use Rattle.domain.specs.Meetings.{TalliesMeet}
 use Rattle.solo.specs.Settling.{TallyTogether}
 use Rattle.domain.specs.Acting.{Adds}
-use Rattle.domain.proofs.CallerLemmas.{CountsNothing, queued_append, finished_append}
+use Rattle.domain.proofs.CallerLemmas.{CountsNothing, queued_append, finished_append, lists_append}
 
 -- Among all
 
@@ -67,6 +68,24 @@ finished_by_one n p q (x ∷ xs) h others =
     (λ other. let kept : finished_in q (deeds_of p (x ∷ xs)) ≡ finished_in q (deeds_of p xs) = ap (λ b. finished_in q (cond b (x ∷ deeds_of p xs) (deeds_of p xs))) (ne_eqb x.by p other) in
     let none = finishes_none n q x.by x.act h.0 (λ lt. not_first x xs (others x.by lt other)) in omega (arith, kept, none, rest))
 
+-- one that isn't there leaves each list of those that are
+away_none : (n q by : ℕ) (act : Act (Unit {0})) (l : Line (Unit {0})) → q < n → IsTaker n by act → (by < n → ⊥) → next_line q by act l ≡ l
+away_none n q by (Queue e) l lt h away = ap (λ (b : Bool). if b then with_call e l else l) (ne_eqb by q (λ same. away (omega (arith, same, lt))))
+away_none n q by (Take p number max) l lt h away = absurd (away h)
+away_none n q by (Finish p k) l lt h away = absurd (away h)
+away_none n q by (LoadQueued p k) l lt h away = refl
+away_none n q by (LoadFinished p k) l lt h away = refl
+
+-- so the deeds of one tell each list too
+line_by_one : (n p q : ℕ) (l : List (Deed (Unit {0}))) (k : Line (Unit {0})) → q < n → AreTakers n l → ((m : ℕ) → m < n → m ≢ p → deeds_of m l ≡ []) → line_from q k l ≡ line_from q k (deeds_of p l)
+line_by_one n p q [] k lt h others = refl
+line_by_one n p q (x ∷ xs) k lt h others =
+    let rest = λ (z : Line (Unit {0})). line_by_one n p q xs z lt h.1 (λ m small ne. none_behind m x xs (others m small ne)) in
+    dite (ℕ_discrete x.by p)
+    (λ e. let kept : deeds_of p (x ∷ xs) ≡ x ∷ deeds_of p xs = ap (λ b. cond b (x ∷ deeds_of p xs) (deeds_of p xs)) (eq-eqb x.by p e) in rest (next_line q x.by x.act k) ∙ sym (ap (line_from q k) kept))
+    (λ other. let kept : deeds_of p (x ∷ xs) ≡ deeds_of p xs = ap (λ b. cond b (x ∷ deeds_of p xs) (deeds_of p xs)) (ne_eqb x.by p other) in
+    ap (λ z. line_from q z xs) (away_none n q x.by x.act k lt h.0 (λ small. not_first x xs (others x.by small other))) ∙ (rest k ∙ sym (ap (line_from q k) kept)))
+
 module _ (n p : ℕ) (before act all : List (Deed (Unit {0}))) (h : GoesOnBy n p before act all) where
   rest_of_others : (q : ℕ) → q < n → q ≢ p → deeds_of q h.since.rest ≡ []
   rest_of_others q lt other =
@@ -96,7 +115,30 @@ module _ (n p : ℕ) (before act all : List (Deed (Unit {0}))) (h : GoesOnBy n p
   pub queued_else : (q : ℕ) → q < n → q ≢ p → queued_in q all ≡ queued_in q before
   queued_else q lt other = same_queued q all before (h.others q lt other)
 
+  pub lines_are : (q : ℕ) → q < n → line_in q all ≡ line_from q (line_in q before) act
+  lines_are q lt =
+      ap (line_in q) h.since.whole ∙ (lists_append q no_calls before h.since.rest ∙ (line_by_one n p q h.since.rest (line_in q before) lt (later_takers n before h.since.rest (subst (λ l. AreTakers n l) h.since.whole h.takers)) rest_of_others
+      ∙ ap (line_from q (line_in q before)) rest_of_one))
+
+  -- a moment in between, at which these were done
+  pub at_moment : (x : List (Deed (Unit {0}))) → IsBeginning before x → IsBeginning x all → (some : List (Deed (Unit {0}))) → deeds_of p x ≡ deeds_of p before ++ some → GoesOnBy n p before some x
+  at_moment x low high some own = record {
+    since = low;
+    own = own;
+    others = λ q lt other.
+        let one = ap (λ l. length (deeds_of q l)) low.whole in
+        let first = ap length (deeds_append q before low.rest) ∙ length-append (deeds_of q before) (deeds_of q low.rest) in
+        let two = ap (λ l. length (deeds_of q l)) high.whole in
+        let second = ap length (deeds_append q x high.rest) ∙ length-append (deeds_of q x) (deeds_of q high.rest) in
+        let same = ap length (h.others q lt other) in
+        ap (deeds_of q) low.whole ∙ (deeds_append q before low.rest ∙ (ap (λ l. deeds_of q before ++ l) (none_left (deeds_of q low.rest) (omega (arith, one, first, two, second, same))) ∙ append-nil (deeds_of q before)));
+    takers = earlier_takers n high h.takers;
+  }
+
   module _ (none : CountsNothing act) where
+    pub still_line : (q : ℕ) → q < n → line_in q all ≡ line_in q before
+    still_line q lt = lines_are q lt ∙ none.lists q (line_in q before)
+
     pub still_finished : (q : ℕ) → finished_in q all ≡ finished_in q before
     still_finished q = let are = finished_are q in let no = none.finished q in omega (arith, are, no)
 
@@ -107,47 +149,47 @@ module _ (n p : ℕ) (before act all : List (Deed (Unit {0}))) (h : GoesOnBy n p
 
 -- All processors
 
--- a count of each processor, as it knows it
-abbrev pub counts_on : (ℕ → List (Deed (Unit {0})) → ℕ) → List (CpuView (Unit {0})) → List ℕ
+-- a count, or another value, of each processor, as it knows it
+abbrev pub counts_on : {V : Type 0} → (ℕ → List (Deed (Unit {0})) → V) → List (CpuView (Unit {0})) → List V
 counts_on count cpus = map (λ c. count c.calls.processor c.calls.seen) cpus
 
-module _ (count : ℕ → List (Deed (Unit {0})) → ℕ) where
-  abbrev count_for : CpuView (Unit {0}) → ℕ
+module _ {V : Type 0} (none : V) (count : ℕ → List (Deed (Unit {0})) → V) where
+  abbrev count_for : CpuView (Unit {0}) → V
   count_for c = count c.calls.processor c.calls.seen
 
   -- where all have seen one list, these are its counts
-  pub count_at : (d : DomainView) (deeds : List (Deed (Unit {0}))) (cpus : List (CpuView (Unit {0}))) → TallyTogether d deeds cpus → (k : ℕ) → k < length cpus → get_or (counts_on count cpus) k 0 ≡ count k deeds
+  pub count_at : (d : DomainView) (deeds : List (Deed (Unit {0}))) (cpus : List (CpuView (Unit {0}))) → TallyTogether d deeds cpus → (k : ℕ) → k < length cpus → get_or (counts_on count cpus) k none ≡ count k deeds
   count_at d deeds [] together k lt = absurd (omega (arith, lt))
-  count_at d deeds (c ∷ cpus) together k lt = get_or-map count_for (c ∷ cpus) k c 0 lt ∙ ap (λ (s : CallSeatView (Unit {0})). count s.processor s.seen) (together.seats k c lt)
+  count_at d deeds (c ∷ cpus) together k lt = get_or-map count_for (c ∷ cpus) k c none lt ∙ ap (λ (s : CallSeatView (Unit {0})). count s.processor s.seen) (together.seats k c lt)
 
   pub found_at : (d : DomainView) (deeds : List (Deed (Unit {0}))) (cpus : List (CpuView (Unit {0}))) → TallyTogether d deeds cpus → (k : ℕ) → k < length cpus → slice_get (counts_on count cpus) k ≡ Some (count k deeds)
-  found_at d deeds cpus together k lt = slice_get-get_or (counts_on count cpus) k 0 (let long = length-map cpus count_for in omega (arith, long, lt)) ∙ ap Some (count_at d deeds cpus together k lt)
+  found_at d deeds cpus together k lt = slice_get-get_or (counts_on count cpus) k none (let long = length-map cpus count_for in omega (arith, long, lt)) ∙ ap Some (count_at d deeds cpus together k lt)
 
   module _ (d d' : DomainView) (deeds deeds' : List (Deed (Unit {0}))) (cpus cpus' : List (CpuView (Unit {0}))) (together : TallyTogether d deeds cpus) (together' : TallyTogether d' deeds' cpus') (long : length cpus' ≡ length cpus) where
     many : length (counts_on count cpus') ≡ length cpus
     many = length-map cpus' count_for ∙ long
 
     pub same_counts : ((k : ℕ) → k < length cpus → count k deeds' ≡ count k deeds) → counts_on count cpus' ≡ counts_on count cpus
-    same_counts same = ext_get_or 0 (counts_on count cpus') (counts_on count cpus) (many ∙ sym (length-map cpus count_for)) (λ k lt.
+    same_counts same = ext_get_or none (counts_on count cpus') (counts_on count cpus) (many ∙ sym (length-map cpus count_for)) (λ k lt.
         let inside : k < length cpus = (let all = many in omega (arith, all, lt)) in
         count_at d' deeds' cpus' together' k (omega (arith, inside, long)) ∙ (same k inside ∙ sym (count_at d deeds cpus together k inside)))
 
     -- but for one
-    pub one_count : (p m : ℕ) → (p < length cpus → count p deeds' ≡ m) → ((k : ℕ) → k < length cpus → k ≢ p → count k deeds' ≡ count k deeds) → counts_on count cpus' ≡ set (counts_on count cpus) p m
+    pub one_count : (p : ℕ) (m : V) → (p < length cpus → count p deeds' ≡ m) → ((k : ℕ) → k < length cpus → k ≢ p → count k deeds' ≡ count k deeds) → counts_on count cpus' ≡ set (counts_on count cpus) p m
     one_count p m here others =
         let old : length (counts_on count cpus) ≡ length cpus = length-map cpus count_for in
-        ext_get_or 0 (counts_on count cpus') (set (counts_on count cpus) p m) (many ∙ sym (length-set (counts_on count cpus) p m ∙ old)) (λ k lt.
+        ext_get_or none (counts_on count cpus') (set (counts_on count cpus) p m) (many ∙ sym (length-set (counts_on count cpus) p m ∙ old)) (λ k lt.
         let inside : k < length cpus = (let all = many in omega (arith, all, lt)) in
-        let found : get_or (counts_on count cpus') k 0 ≡ count k deeds' = count_at d' deeds' cpus' together' k (omega (arith, inside, long)) in
+        let found : get_or (counts_on count cpus') k none ≡ count k deeds' = count_at d' deeds' cpus' together' k (omega (arith, inside, long)) in
         found ∙ dite (ℕ_discrete k p)
         (λ same. let there : p < length cpus = omega (arith, inside, same) in
-        subst (λ q. count q deeds' ≡ get_or (set (counts_on count cpus) p m) q 0) (sym same) (here there ∙ sym (get_or-set_same (counts_on count cpus) p m 0 (omega (arith, there, old)))))
-        (λ other. others k inside other ∙ (sym (count_at d deeds cpus together k inside) ∙ sym (get_or-set_other (counts_on count cpus) p k m 0 other))))
+        subst (λ q. count q deeds' ≡ get_or (set (counts_on count cpus) p m) q none) (sym same) (here there ∙ sym (get_or-set_same (counts_on count cpus) p m none (omega (arith, there, old)))))
+        (λ other. others k inside other ∙ (sym (count_at d deeds cpus together k inside) ∙ sym (get_or-set_other (counts_on count cpus) p k m none other))))
 
   -- where nothing is counted of any
-  pub none_counted : (cpus : List (CpuView (Unit {0}))) → ((k : ℕ) (c : CpuView (Unit {0})) → k < length cpus → count_for (get_or cpus k c) ≡ 0) → counts_on count cpus ≡ replicate (length cpus) 0
-  none_counted [] none = refl
-  none_counted (x ∷ cpus) none = λ i. none 0 x (omega arith) i ∷ none_counted cpus (λ k c lt. none (suc k) c (omega (arith, lt))) i
+  pub none_counted : (cpus : List (CpuView (Unit {0}))) → ((k : ℕ) (c : CpuView (Unit {0})) → k < length cpus → count_for (get_or cpus k c) ≡ none) → counts_on count cpus ≡ replicate (length cpus) none
+  none_counted [] are = refl
+  none_counted (x ∷ cpus) are = λ i. are 0 x (omega arith) i ∷ none_counted cpus (λ k c lt. are (suc k) c (omega (arith, lt))) i
 
 -- one of them acted, and then all met
 module _ (d d' : DomainView) (before : List (Deed (Unit {0}))) (cpus cpus' : List (CpuView (Unit {0}))) (p : ℕ) (was now : CpuView (Unit {0})) (inside : p < length cpus) (is : was ≡ get_or cpus p was) (together : TallyTogether d before cpus) (act : List (Deed (Unit {0}))) (adds : Adds act was.calls now.calls)

@@ -1,5 +1,5 @@
 -- What the calls of a domain in one hand do: each is said of how far the domain has come before and behind it.
-use Rattle.std.specs.Prelude.{◌≡◌, ℕ, ◌+◌, ◌*◌, ◌<◌, ◌≤◌, Bool, true, List, [], Option, Some, IfSome, length, replicate, slice_get, slice_index}
+use Rattle.std.specs.Prelude.{◌≡◌, ℕ, ◌+◌, ◌*◌, ◌<◌, ◌≤◌, Bool, true, List, [], ◌++◌, Option, Some, None, IfSome, IsSome, length, replicate, slice_get, slice_index, slice_set}
 use Rattle.sseq.specs.declared.index.Index.{Index}
 use Rattle.atomic_table.specs.Seated.{TableId}
 use Rattle.onedom.specs.Histories.{IsRunning, ended_in, cookie_after}
@@ -9,12 +9,12 @@ use Rattle.sections.specs.declared.limits.MakeError.TheVariants as make
 use Rattle.sections.specs.Words.{locks}
 use Rattle.sections.specs.Views.{LookView, ReadingView}
 use Rattle.sections.specs.Making.{IsCount}
-use Rattle.segs.specs.MarkedList.{lens, numbers}
+use Rattle.segs.specs.MarkedList.{Done, marked, lens, numbers}
+use Rattle.calls.specs.declared.entry.Entry.{Entry}
 use Rattle.calls.specs.declared.refusals.CallRefusal.{CallRefusal}
 use Rattle.calls.specs.declared.refusals.CallRefusal.TheVariants as calling
-use Rattle.calls.specs.declared.view.Deed.{Deed}
-use Rattle.calls.specs.Lines.{line_in}
-use Rattle.calls.specs.Tallies.{most_calls, queued_in, finished_in, AreTrue}
+use Rattle.calls.specs.Lines.{Line, no_calls, some_out, with_call, with_none_out, readied, many_ready}
+use Rattle.calls.specs.Tallies.{most_calls}
 use Rattle.calls.specs.Views.{BatchView}
 use Rattle.scan.specs.declared.progress.Progress.{Progress}
 use Rattle.scan.specs.declared.progress.StartRefusal.{StartRefusal}
@@ -27,16 +27,29 @@ use Rattle.domain.specs.Acting.{begins, ends, notes, asks_whether, asks_for, fin
 use Rattle.solo.specs.Courses.{Course, Does, Works, runs}
 use Rattle.solo.specs.Batches.{AreReady, WereReady, count_run}
 
--- `table` tells which looks and readings are of this domain, and `tallies` which batches; `course` is how far it has come
+-- `table` tells which looks and readings are of this domain, and `tallies` which batches; `course` is how far it has come. `lines` is the list of each processor in order: the jobs that wait there, with their marks, and how many are out
 pub record SoloView : Type 0 where
   pub table : TableId
   pub limits : Limits
   pub tallies : TableId
   pub course : Course
+  pub lines : List (Line (Unit {0}))
 
 -- the same domain, with the same limits and processors, which may have gone on
+abbrev pub HasSameTables : SoloView → SoloView → Type 0
+HasSameTables d d' = (d'.table ≡ d.table) × (d'.limits ≡ d.limits) × (d'.course.standing.processors ≡ d.course.standing.processors) × (d'.course.standing.periods ≡ d.course.standing.periods) × (d'.tallies ≡ d.tallies)
+
+-- and its lists are as they were
 abbrev pub IsSameDomain : SoloView → SoloView → Type 0
-IsSameDomain d d' = (d'.table ≡ d.table) × (d'.limits ≡ d.limits) × (d'.course.standing.processors ≡ d.course.standing.processors) × (d'.course.standing.periods ≡ d.course.standing.periods) × (d'.tallies ≡ d.tallies)
+IsSameDomain d d' = HasSameTables d d' × (d'.lines ≡ d.lines)
+
+-- the list of this processor becomes so, and every other one is as it was
+pub record OnList (p : ℕ) (becomes : Line (Unit {0}) → Line (Unit {0}) → Type 0) (d d' : SoloView) : Type 0 where
+  pub was : Line (Unit {0})
+  pub is : Line (Unit {0})
+  pub there : slice_get d.lines p ≡ Some was
+  pub becomes_so : becomes was is
+  pub rest : d'.lines ≡ slice_set d.lines p is
 
 -- Making
 
@@ -50,6 +63,7 @@ new_course limits processors = record { standing = new_standing limits processor
 pub record IsNew (limits : Limits) (processors : ℕ) (d : SoloView) : Type 0 where
   pub limits_are : d.limits ≡ limits
   pub nothing_yet : d.course ≡ new_course limits processors
+  pub none_waits : d.lines ≡ replicate processors no_calls
   pub count : IsCount processors
 
 abbrev pub IsNotMade : ℕ → MakeError → Type 0
@@ -116,6 +130,10 @@ pub record Queues (p : ℕ) (job : Queued) (c c' : Course) : Type 0 where
   pub number : slice_get c.queued p ≡ Some job.k
   pub queues : Does p (asks_for job.cookie 1) c c'
 
+-- a job with a cookie of this number comes last
+abbrev pub QueuesLast : ℕ → Line (Unit {0}) → Line (Unit {0}) → Type 0
+QueuesLast cookie was is = (e : Entry (Unit {0})) × (e.cookie.number ≡ cookie) × (is ≡ with_call e was)
+
 -- why: as many were queued there as may be; or the processor was given a cookie, and nothing else happened
 abbrev pub QueuesNone : ℕ → CallRefusal → Course → Course → Type 0
 QueuesNone p calling.Exhausted c c' = (slice_get c.queued p ≡ Some most_calls) × (c' ≡ c)
@@ -138,10 +156,26 @@ pub record IsGiven (p max : ℕ) (d d' : SoloView) (b : BatchView (Unit {0})) : 
   pub ready : AreReady max (4 * ended_in d.course.standing.history) d'.course.standing.history b.entries
   pub out : AreOut p b.count d.course
 
--- the processor asks how far the grace periods have come and is told, and jobs that are ready then are taken, or none
+-- the jobs that are taken: those of the batch, or none
+abbrev pub jobs_taken : Option (BatchView (Unit {0})) → List (Entry (Unit {0}))
+jobs_taken None = []
+jobs_taken (Some b) = b.entries
+
+-- no batch was out. The first that are ready where this is the number go out, `max` of them, but no more than eight and no more than there are; the others wait on, with their marks
+pub record GivesFirst (number max : ℕ) (gone : List (Entry (Unit {0}))) (was is : Line (Unit {0})) : Type 0 where
+  pub none_out : was.out ≡ None
+  pub many : length gone ≡ many_ready max (readied number was.waiting)
+  pub in_order : readied number was.waiting ≡ marked Done gone ++ is.waiting
+
+-- the processor asks how far the grace periods have come and is told, and the jobs that are ready then are taken, or none where none is
 pub record Takes (p max : ℕ) (taken : Option (BatchView (Unit {0}))) (d d' : SoloView) : Type 0 where
   pub asks : Asks p (4 * ended_in d.course.standing.history) true d.course d'.course
   pub batch : IfSome taken (IsGiven p max d d')
+  pub list : OnList p (λ was is. GivesFirst (number_now d.course.standing) max (jobs_taken taken) was is × (is.out ≡ some_out (length (jobs_taken taken)))) d d'
+
+-- a batch of the processor is out
+abbrev pub HasOut : ℕ → SoloView → Type 0
+HasOut p d = (list : Line (Unit {0})) × (slice_get d.lines p ≡ Some list) × IsSome list.out
 
 -- so many calls of the processor are finished more, those of the batch
 pub record Finishes (p count : ℕ) (c c' : Course) : Type 0 where
@@ -156,13 +190,17 @@ pub record Runs (p max : ℕ) (ran : Option Ran) (c c' : Course) : Type 0 where
   pub happens : Does p (runs (4 * ended_in c.standing.history) (count_run ran)) c c'
   pub jobs : IfSome ran (λ r. WereReady max (4 * ended_in c.standing.history) c'.standing.history r × AreOut p r.count c)
 
--- so long are the segments of the list of this processor, and these are their numbers, by all that was done with callbacks: what it counts is what the course counts, and each of it could be done
-pub record TellsLens (d : SoloView) (p : ℕ) (told : List ℕ × List ℕ) : Type 0 where
-  pub all : List (Deed (Unit {0}))
-  pub could : AreTrue all
-  pub queued : slice_index d.course.queued p ≡ queued_in p all
-  pub finished : slice_index d.course.finished p ≡ finished_in p all
-  pub told_is : told ≡ (lens (line_in p all).waiting, numbers (line_in p all).waiting)
+-- the jobs that were taken are finished at once
+abbrev pub RunsFirst : ℕ → ℕ → Option Ran → Line (Unit {0}) → Line (Unit {0}) → Type 0
+RunsFirst number max ran was is = (gone : List (Entry (Unit {0}))) × GivesFirst number max gone was is × (is.out ≡ None) × (length gone ≡ count_run ran)
+
+-- the batch was the one that is out, and none is then
+abbrev pub FinishesOut : ℕ → Line (Unit {0}) → Line (Unit {0}) → Type 0
+FinishesOut count was is = (was.out ≡ Some count) × (is ≡ with_none_out was)
+
+-- so long are the segments of the list of this processor, and these are their numbers
+abbrev pub TellsLens : SoloView → ℕ → List ℕ × List ℕ → Type 0
+TellsLens d p told = (list : Line (Unit {0})) × (slice_get d.lines p ≡ Some list) × (told ≡ (lens list.waiting, numbers list.waiting))
 
 -- Grace periods: nobody comes between, and just what was asked for is found
 

@@ -1,5 +1,5 @@
 -- How far a domain in one hand has come, and what an act of one of its processors adds.
-use Rattle.std.specs.Prelude.{◌≡◌, ℕ, zero, suc, ◌+◌, max, true, List, [], ◌∷◌, ◌++◌, slice_index, slice_set}
+use Rattle.std.specs.Prelude.{◌≡◌, ℕ, zero, suc, ◌+◌, max, Some, true, List, [], ◌∷◌, ◌++◌, slice_index, slice_set}
 use Rattle.onedom.specs.declared.event.Event.{Event}
 use Rattle.onedom.specs.Histories.{IsLegalAfter}
 use Rattle.scan.specs.Standings.{Standing}
@@ -16,7 +16,7 @@ pub record Course : Type 0 where
 
 -- it is told that the cookie of the number `far` is done, and so many of its own jobs are finished
 abbrev pub runs : ℕ → ℕ → ℕ → Act
-runs far count p = record (asks_whether far true p) { finished = count; owner = p }
+runs far count p = record (asks_whether far true p) { finished = count; owner = p; list = Some p }
 
 -- the greatest number that was asked for, with this one
 abbrev pub with_asked : ℕ → ℕ → ℕ

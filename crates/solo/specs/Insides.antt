@@ -5,6 +5,7 @@ use Rattle.sections.specs.declared.limits.Limits.{Limits}
 use Rattle.funnel.specs.Histories.{greatest}
 use Rattle.desk.specs.BayCalls.{lies}
 use Rattle.scan.specs.Progress.{standing_of}
+use Rattle.calls.specs.Lines.{Line, line_in}
 use Rattle.calls.specs.Tallies.{queued_in, finished_in}
 use Rattle.domain.specs.Views.{DomainView, CpuView}
 use Rattle.solo.specs.declared.solo.Solo.TheInside as solo
@@ -19,22 +20,26 @@ queued_on cpus = map (λ c. queued_in c.calls.processor c.calls.seen) cpus
 abbrev pub finished_on : List (CpuView (Unit {0})) → List ℕ
 finished_on cpus = map (λ c. finished_in c.calls.processor c.calls.seen) cpus
 
+-- the list of each
+abbrev pub lines_on : List (CpuView (Unit {0})) → List (Line (Unit {0}))
+lines_on cpus = map (λ c. line_in c.calls.processor c.calls.seen) cpus
+
 -- with these tally words, this asked for, these calls, and this engine
-abbrev pub seen_as : TableId → Limits → ℕ → List ℕ → List ℕ → View → SoloView
-seen_as tallies limits asked queued finished v = record { table = v.seat.domain; limits = limits; tallies = tallies; course = record { standing = standing_of v; asked = asked; queued = queued; finished = finished } }
+abbrev pub seen_as : TableId → Limits → ℕ → List ℕ → List ℕ → List (Line (Unit {0})) → View → SoloView
+seen_as tallies limits asked queued finished lines v = record { table = v.seat.domain; limits = limits; tallies = tallies; course = record { standing = standing_of v; asked = asked; queued = queued; finished = finished }; lines = lines }
 
 -- a domain without processors or engine, which there is none of
 abbrev pub nobody : DomainView → Limits → SoloView
-nobody d limits = record { table = d.domain; limits = limits; tallies = d.tallies; course = record { standing = new_standing limits 0; asked = 0; queued = []; finished = [] } }
+nobody d limits = record { table = d.domain; limits = limits; tallies = d.tallies; course = record { standing = new_standing limits 0; asked = 0; queued = []; finished = [] }; lines = [] }
 
-abbrev pub seen_with : DomainView → Limits → ℕ → List ℕ → List ℕ → Option View → SoloView
-seen_with d limits asked queued finished None = nobody d limits
-seen_with d limits asked queued finished (Some v) = seen_as d.tallies limits asked queued finished v
+abbrev pub seen_with : DomainView → Limits → ℕ → List ℕ → List ℕ → List (Line (Unit {0})) → Option View → SoloView
+seen_with d limits asked queued finished lines None = nobody d limits
+seen_with d limits asked queued finished lines (Some v) = seen_as d.tallies limits asked queued finished lines v
 
--- as the first processor knows it: what lies there, and what was asked for; and as each knows its own calls
+-- as the first processor knows it: what lies there, and what was asked for; and as each knows its own calls and list
 abbrev pub seen_first : DomainView → Limits → List (CpuView (Unit {0})) → SoloView
 seen_first d limits [] = nobody d limits
-seen_first d limits (c ∷ cpus) = seen_with d limits (greatest c.needs.seen) (queued_on (c ∷ cpus)) (finished_on (c ∷ cpus)) (lies c.turn)
+seen_first d limits (c ∷ cpus) = seen_with d limits (greatest c.needs.seen) (queued_on (c ∷ cpus)) (finished_on (c ∷ cpus)) (lines_on (c ∷ cpus)) (lies c.turn)
 
 module _ {A : Type 0} where
   abbrev pub view_of_solo : solo.Inside A → SoloView

@@ -1,10 +1,11 @@
 //! Batches of a domain in one hand. Of a job the domain knows that it is there, and its cookie; so when a batch is emptied
 //! nothing is lost but the cookies.
-ghost use Rattle.std.specs.Prelude.{◌≡◌, ◌<◌, [], IfOk, IfSome, MatchResult};
+ghost use Rattle.std.specs.Prelude.{◌≡◌, ◌<◌, [], MatchResult};
+ghost use Rattle.calls.specs.Calls.{InvokesIn};
 ghost use Rattle.domain.specs.Views.{IsOf};
-ghost use Rattle.domain.specs.Acting.{loads, asks_how_far, ActsAs};
+ghost use Rattle.domain.specs.Acting.{loads, takes, ActsAs};
 ghost use Rattle.solo.specs.Batches.{IsLastCookie, count_run};
-ghost use Rattle.solo.specs.Taking.{TakesBatch, RunsBatch, asks_how_far_and_finishes};
+ghost use Rattle.solo.specs.Taking.{TakesUp, RunsUp, asks_how_far_and_finishes};
 
 use calls::{Batch, TakeRefusal};
 use domain::{Cpu, Domain};
@@ -44,8 +45,8 @@ pub(crate) fn take_out<A: Allocator + Copy>(
     requires domain { IsOf domain.now cpu.old }
     requires processor { processor < domain.now.processors }
     ensures here { IsOf domain.now cpu.new }
-    ensures acts { MatchResult result (λ _. ActsAs (asks_how_far cpu.new.cpu.changes) cpu.old cpu.new) (λ _. ActsAs loads cpu.old cpu.new) }
-    ensures taken { IfOk result (λ taken. IfSome taken (λ batch. TakesBatch domain.now processor max batch cpu.old cpu.new)) }
+    ensures acts { MatchResult result (λ _. ActsAs (takes cpu.new.cpu.changes processor) cpu.old cpu.new) (λ _. ActsAs loads cpu.old cpu.new) }
+    ensures taken { MatchResult result (λ taken. TakesUp domain.now processor max taken cpu.old cpu.new) (λ _. InvokesIn processor cpu.old.cpu cpu.old.calls cpu.new.cpu cpu.new.calls) }
 {
     let Some(mut batch) = domain.take_ready(rt, cpu, processor, max)? else {
         return Ok(None);
@@ -67,7 +68,7 @@ pub(crate) fn run_out<'a, A: Allocator>(
     requires own { processor ≡ cpu.old.cpu.processor }
     ensures here { IsOf domain.now cpu.new }
     ensures acts { MatchResult result (λ ran. ActsAs (asks_how_far_and_finishes cpu.new.cpu.changes (count_run ran)) cpu.old cpu.new) (λ _. ActsAs loads cpu.old cpu.new) }
-    ensures ran { IfOk result (λ ran. IfSome ran (λ r. RunsBatch domain.now processor max r cpu.old cpu.new)) }
+    ensures ran { MatchResult result (λ ran. RunsUp domain.now processor max ran cpu.old cpu.new) (λ _. InvokesIn processor cpu.old.cpu cpu.old.calls cpu.new.cpu cpu.new.calls) }
 {
     let Some(mut batch) = take_out(domain, rt, cpu, processor, max)? else {
         return Ok(None);

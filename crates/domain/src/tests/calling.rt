@@ -105,7 +105,10 @@ fn gives_the_job_back(rt: HostRuntime) -> Result<(), Fail> {
     let refused = domain.call(&rt, &mut cpu, 7).err();
     let empty = (domain.need(&mut cpu).get(), domain.lens(&rt, &mut cpu, 0));
     drop(full);
-    let queued = domain.call(&rt, &mut cpu, 7).ok().map(|receipt| receipt.k());
+    let queued = domain
+        .call(&rt, &mut cpu, 7)
+        .ok()
+        .map(|receipt| receipt.k());
     let then = (domain.need(&mut cpu).get(), domain.lens(&rt, &mut cpu, 0));
     drop(domain);
     drop(cpu);

@@ -1,6 +1,6 @@
 //! Callbacks: jobs are queued under their names, and run once a grace period is over.
 ghost use Rattle.std.specs.Prelude.{◌≡◌, ◌<◌, IfOk, OnErr};
-ghost use Rattle.solo.specs.Calls.{IsSameDomain};
+ghost use Rattle.solo.specs.Calls.{HasSameTables};
 ghost use Rattle.session.specs.JobLists.{AreJobsOf};
 ghost use Rattle.session.specs.Scripts.{Does};
 
@@ -23,7 +23,7 @@ pub(super) fn finish_all<'a, A: Allocator>(
     mut jobs: Vec<Jobs<&'a A>, &'a A>,
 )
     requires { AreJobsOf domain.old jobs.items }
-    ensures { IsSameDomain domain.old domain.new × (domain.new.course.standing ≡ domain.old.course.standing) }
+    ensures { HasSameTables domain.old domain.new × (domain.new.course.standing ≡ domain.old.course.standing) }
 {
     while let Some(last) = jobs.pop() {
         if let Some(batch) = last.close() {

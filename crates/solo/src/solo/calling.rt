@@ -1,7 +1,8 @@
 //! Callbacks: a job is queued on a processor, and given out after a full grace period. Who queues a job keeps what it
 //! is; the domain has only that there is one.
 ghost use Rattle.std.specs.Prelude.{◌≡◌, ◌^◌, ◌<◌, ◌≤◌, [], IfOk, IsOk, MatchResult};
-ghost use Rattle.solo.specs.Calls.{IsSameDomain, IsBatchOf, Queues, QueuesNone, Takes, Runs, Finishes, TellsLens};
+ghost use Rattle.scan.specs.Standings.{number_now};
+ghost use Rattle.solo.specs.Calls.{HasSameTables, OnList, HasOut, IsBatchOf, Queues, QueuesNone, QueuesLast, Takes, Runs, RunsFirst, Finishes, FinishesOut, TellsLens};
 
 use crate::members::Members;
 use crate::queued::Queued;
@@ -18,7 +19,8 @@ impl<A: Allocator + Copy> Solo<A> {
     /// was given a cookie that nobody waits for.
     pub fn call(&mut self, rt: &impl Wait, processor: u64) -> Result<Queued, CallRefusal>
         requires { processor < self.old.course.standing.processors }
-        ensures domain { IsSameDomain self.old self.new }
+        ensures domain { HasSameTables self.old self.new }
+        ensures list { MatchResult result (λ job. OnList processor (QueuesLast job.cookie) self.old self.new) (λ _. self.new.lines ≡ self.old.lines) }
         ensures answer { MatchResult result (λ job. Queues processor job self.old.course self.new.course) (λ why. QueuesNone processor why self.old.course self.new.course) }
         ensures small { IfOk result (λ job. job.cookie ≤ 2 ^ 61) }
     {
@@ -38,8 +40,8 @@ impl<A: Allocator + Copy> Solo<A> {
         max: usize,
     ) -> Result<Option<Batch<(), A>>, TakeRefusal>
         requires { processor < self.old.course.standing.processors }
-        ensures same { IsSameDomain self.old self.new }
-        ensures answer { MatchResult result (λ taken. Takes processor max taken self.old self.new) (λ _. self.new ≡ self.old) }
+        ensures same { HasSameTables self.old self.new }
+        ensures answer { MatchResult result (λ taken. Takes processor max taken self.old self.new) (λ _. HasOut processor self.old × (self.new ≡ self.old)) }
     {
         let taker = &mut self.members.cpus[processor as usize];
         let taken = take_out(&self.members.domain, rt, taker, processor as u16, max);
@@ -51,7 +53,8 @@ impl<A: Allocator + Copy> Solo<A> {
     pub fn finish(&mut self, rt: &impl Wait, batch: Batch<(), A>)
         requires batch { IsBatchOf self.old batch.processor batch }
         requires empty { batch.entries ≡ [] }
-        ensures same { IsSameDomain self.old self.new }
+        ensures same { HasSameTables self.old self.new }
+        ensures list { OnList batch.processor (FinishesOut batch.count) self.old self.new }
         ensures finishes { Finishes batch.processor batch.count self.old.course self.new.course }
     {
         let processor = usize::from(batch.processor());
@@ -86,8 +89,9 @@ impl<'a, A: Allocator> Solo<&'a A> {
         max: usize,
     ) -> Result<Option<Ran>, TakeRefusal>
         requires { processor < self.old.course.standing.processors }
-        ensures same { IsSameDomain self.old self.new }
-        ensures answer { MatchResult result (λ ran. Runs processor max ran self.old.course self.new.course) (λ _. self.new ≡ self.old) }
+        ensures same { HasSameTables self.old self.new }
+        ensures list { IfOk result (λ ran. OnList processor (RunsFirst (number_now self.old.course.standing) max ran) self.old self.new) }
+        ensures answer { MatchResult result (λ ran. Runs processor max ran self.old.course self.new.course) (λ _. HasOut processor self.old × (self.new ≡ self.old)) }
     {
         let Members { domain, cpus } = &mut self.members;
         let cpu = &mut cpus[processor as usize];

@@ -19,7 +19,7 @@ up_read-requires-clause-held g c =
 
 pub loop-token-init : goal.loop-token-init
 loop-token-init g c = rw c.into_tokens-tokens.ensures (elim c.match-close.branch [
-  | in-Some w ↦ rw w.domain-is (held_without_parked c.args.domain c.args.names.tokens c.args.parking c.requires w.in-Some.held (sym c.close.ensures ∙ w.in-Some.is) w.up_read.new.self w.from-processor.result w.up_read.ensures.same w.up_read.ensures.section)
+  | in-Some w ↦ rw w.domain-is (held_without_parked c.args.domain c.args.names.tokens c.args.parking c.requires w.in-Some.held (sym c.close.ensures ∙ w.in-Some.is) w.up_read.new.self w.from-processor.result w.up_read.ensures.same.0 w.up_read.ensures.section)
   | in_default w ↦ let none : c.close.result ≡ None = search rules in rw w.domain-is (held_without_desk c.args.domain c.args.names.tokens c.args.parking c.requires (sym c.close.ensures ∙ none))
 ])
 
@@ -42,7 +42,7 @@ read_unlock-requires g c =
 pub loop-token-preserved-in-Reading : goal.loop-token-preserved-in-Reading
 loop-token-preserved-in-Reading g c =
     let d = c.loop-token.domain in
-    (held_ended d c.loop-token.tokens.entries c.take_last.new.tokens.entries c.in-Some-take_last.ensures.last.0 c.loop-token.invariant Own c.in-Reading.reading.processor c.in-Reading.reading c.read_unlock.new.self (taken_last c.loop-token.tokens.entries c.take_last.new.tokens.entries (c.in-Some-take_last.ensures.last.0, c.in-Some-take_last.token) (token.Reading c.in-Reading.reading) c.in-Some-take_last.ensures.last.1 c.in-Reading.is) c.read_unlock.ensures.same c.read_unlock.ensures.section)
+    (held_ended d c.loop-token.tokens.entries c.take_last.new.tokens.entries c.in-Some-take_last.ensures.last.0 c.loop-token.invariant Own c.in-Reading.reading.processor c.in-Reading.reading c.read_unlock.new.self (taken_last c.loop-token.tokens.entries c.take_last.new.tokens.entries (c.in-Some-take_last.ensures.last.0, c.in-Some-take_last.token) (token.Reading c.in-Reading.reading) c.in-Some-take_last.ensures.last.1 c.in-Reading.is) c.read_unlock.ensures.same.0 c.read_unlock.ensures.section)
 
 pub up_read-requires-in-Held-clause-processor : goal.up_read-requires-in-Held-clause-processor
 up_read-requires-in-Held-clause-processor g c =
@@ -59,4 +59,4 @@ up_read-requires-in-Held-clause-held g c =
 pub loop-token-preserved : goal.loop-token-preserved
 loop-token-preserved g c =
     let d = c.loop-token.domain in
-    (held_ended d c.loop-token.tokens.entries c.take_last.new.tokens.entries c.in-Some-take_last.ensures.last.0 c.loop-token.invariant Any c.from-processor-in-Held.result c.in-Held.held c.up_read-in-Held.new.self (taken_last c.loop-token.tokens.entries c.take_last.new.tokens.entries (c.in-Some-take_last.ensures.last.0, c.in-Some-take_last.token) (token.Held c.in-Held.held) c.in-Some-take_last.ensures.last.1 c.in-Held.is) c.up_read-in-Held.ensures.same c.up_read-in-Held.ensures.section)
+    (held_ended d c.loop-token.tokens.entries c.take_last.new.tokens.entries c.in-Some-take_last.ensures.last.0 c.loop-token.invariant Any c.from-processor-in-Held.result c.in-Held.held c.up_read-in-Held.new.self (taken_last c.loop-token.tokens.entries c.take_last.new.tokens.entries (c.in-Some-take_last.ensures.last.0, c.in-Some-take_last.token) (token.Held c.in-Held.held) c.in-Some-take_last.ensures.last.1 c.in-Held.is) c.up_read-in-Held.ensures.same.0 c.up_read-in-Held.ensures.section)

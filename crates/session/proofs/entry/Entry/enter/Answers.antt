@@ -27,8 +27,8 @@ invariant_of-self-in-Ok g c =
     let free = is_plain c.self.inside.name c.args.name c.self.inside.names.tokens c.self.inside.parking.parked c.self.inside.jobs.items d kind.Look refl asked.1 in
     rw c.insert.ensures (
       together_begun d c.take_look-look.new.self.tokens c.self.inside.parking left c.args.name free Own c.enter.new.self c.args.processor c.take_look-look.result.index c.in-Ok.reading
-          c.enter.ensures.same asked.0 c.in-Ok.ensures.section.0 c.in-Ok.ensures.section.1,
-      jobs_on c.self.inside.domain c.self.inside.jobs.items c.self.invariant.1 c.enter.new.self c.enter.ensures.same (keeps_jobs refl c.in-Ok.ensures.section.0.happens),
+          c.enter.ensures.same.0 asked.0 c.in-Ok.ensures.section.0 c.in-Ok.ensures.section.1,
+      jobs_on c.self.inside.domain c.self.inside.jobs.items c.self.invariant.1 c.enter.new.self c.enter.ensures.same.0 (keeps_jobs refl c.in-Ok.ensures.section.0.happens),
     )
 
 pub invariant_of-self-in-Err : goal.invariant_of-self-in-Err

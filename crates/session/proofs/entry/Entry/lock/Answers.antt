@@ -23,8 +23,8 @@ invariant_of-self-in-Ok g c =
     let free = is_not_parked c.self.inside.name c.args.name c.self.inside.names.tokens c.self.inside.parking.parked c.self.inside.jobs.items d asked.1 in
     rw c.insert.ensures (
       together_begun d c.reserve.new.self.tokens c.self.inside.parking held c.args.name free Own c.read_lock.new.self c.args.processor (index_now d.course.standing) c.in-Ok.reading
-          c.read_lock.ensures.same asked.0 c.in-Ok.ensures.section.0 c.in-Ok.ensures.section.1,
-      jobs_on c.self.inside.domain c.self.inside.jobs.items c.self.invariant.1 c.read_lock.new.self c.read_lock.ensures.same (keeps_jobs refl c.in-Ok.ensures.section.0.happens),
+          c.read_lock.ensures.same.0 asked.0 c.in-Ok.ensures.section.0 c.in-Ok.ensures.section.1,
+      jobs_on c.self.inside.domain c.self.inside.jobs.items c.self.invariant.1 c.read_lock.new.self c.read_lock.ensures.same.0 (keeps_jobs refl c.in-Ok.ensures.section.0.happens),
     )
 
 pub returns-in-Ok-clause-does : goal.returns-in-Ok-clause-does

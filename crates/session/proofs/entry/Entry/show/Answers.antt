@@ -8,7 +8,7 @@ use Rattle.session.proofs.Acting.{shown}
 use Rattle.session.proofs.entry.Entry.show.Goals as goal
 
 pub invariant_of-self : goal.invariant_of-self
-invariant_of-self g c = rw (c.need.ensures.after, c.index.ensures.after) (entry_on c.self.invariant c.number-number.ensures.same (does_keeps c.self.invariant.0.all.legal tt refl c.number-number.ensures.number.notes))
+invariant_of-self g c = rw (c.need.ensures.after, c.index.ensures.after) (entry_on c.self.invariant c.number-number.ensures.same.0 (does_keeps c.self.invariant.0.all.legal tt refl c.number-number.ensures.number.notes))
 
 pub returns-clause-does : goal.returns-clause-does
 returns-clause-does g c =

@@ -17,8 +17,8 @@ read_unlock-requires g c = (it_is_of c.self.inside.domain c.self.inside.names.to
 
 pub invariant_of-self : goal.invariant_of-self
 invariant_of-self g c = (
-  together_ended c.self.inside.domain c.self.inside.names.tokens c.self.inside.parking c.self.invariant.0 Own c.take_reading-reading.result c.take_reading-reading.ensures c.read_unlock.new.self c.take_reading-reading.result.processor c.read_unlock.ensures.same c.read_unlock.ensures.section,
-  jobs_on c.self.inside.domain c.self.inside.jobs.items c.self.invariant.1 c.read_unlock.new.self c.read_unlock.ensures.same (keeps_jobs refl c.read_unlock.ensures.section),
+  together_ended c.self.inside.domain c.self.inside.names.tokens c.self.inside.parking c.self.invariant.0 Own c.take_reading-reading.result c.take_reading-reading.ensures c.read_unlock.new.self c.take_reading-reading.result.processor c.read_unlock.ensures.same.0 c.read_unlock.ensures.section,
+  jobs_on c.self.inside.domain c.self.inside.jobs.items c.self.invariant.1 c.read_unlock.new.self c.read_unlock.ensures.same.0 (keeps_jobs refl c.read_unlock.ensures.section),
 )
 
 pub returns-clause-does : goal.returns-clause-does

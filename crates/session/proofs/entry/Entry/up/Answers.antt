@@ -17,8 +17,8 @@ up_read-requires-clause-held g c = (it_is_of c.self.inside.domain c.self.inside.
 
 pub invariant_of-self : goal.invariant_of-self
 invariant_of-self g c = (
-  together_ended c.self.inside.domain c.self.inside.names.tokens c.self.inside.parking c.self.invariant.0 Any c.take_held-held.result c.take_held-held.ensures c.up_read.new.self c.args.processor c.up_read.ensures.same c.up_read.ensures.section,
-  jobs_on c.self.inside.domain c.self.inside.jobs.items c.self.invariant.1 c.up_read.new.self c.up_read.ensures.same (keeps_jobs refl c.up_read.ensures.section),
+  together_ended c.self.inside.domain c.self.inside.names.tokens c.self.inside.parking c.self.invariant.0 Any c.take_held-held.result c.take_held-held.ensures c.up_read.new.self c.args.processor c.up_read.ensures.same.0 c.up_read.ensures.section,
+  jobs_on c.self.inside.domain c.self.inside.jobs.items c.self.invariant.1 c.up_read.new.self c.up_read.ensures.same.0 (keeps_jobs refl c.up_read.ensures.section),
 )
 
 pub returns-clause-does : goal.returns-clause-does

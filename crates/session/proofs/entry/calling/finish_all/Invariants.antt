@@ -1,13 +1,13 @@
 use Rattle.std.proofs.Common.{◌≡◌, length}
 use Rattle.std.specs.Prelude.{All, IfSome}
-use Rattle.solo.specs.Calls.{IsSameDomain}
+use Rattle.solo.specs.Calls.{HasSameTables}
 use Rattle.session.specs.JobLists.{IsEmptied}
 use Rattle.session.proofs.entry.calling.finish_all.Given as goal
 
 abbrev pub invariant-loop-last : goal.invariant-loop-last
 invariant-loop-last g l = record {
   out : All (λ j. IfSome j.out (λ o. IsEmptied l.domain o.0)) l.jobs.items;
-  same : IsSameDomain l.fn.domain l.domain;
+  same : HasSameTables l.fn.domain l.domain;
   standing : l.domain.course.standing ≡ l.fn.domain.course.standing;
 }
 

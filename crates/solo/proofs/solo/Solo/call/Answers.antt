@@ -23,4 +23,7 @@ pub returns-clause-domain : goal.returns-clause-domain
 returns-clause-domain g c = (call_says (hand g c) _ c.call-answer.result c.call-answer.ensures.calls c.call-answer.ensures.acts c.queued.result c.queued.ensures.told).same
 
 pub returns-clause-answer : goal.returns-clause-answer
-returns-clause-answer g c = (call_says (hand g c) _ c.call-answer.result c.call-answer.ensures.calls c.call-answer.ensures.acts c.queued.result c.queued.ensures.told).what
+returns-clause-answer g c = (call_says (hand g c) _ c.call-answer.result c.call-answer.ensures.calls c.call-answer.ensures.acts c.queued.result c.queued.ensures.told).what.0
+
+pub returns-clause-list : goal.returns-clause-list
+returns-clause-list g c = (call_says (hand g c) _ c.call-answer.result c.call-answer.ensures.calls c.call-answer.ensures.acts c.queued.result c.queued.ensures.told).what.1

@@ -28,10 +28,13 @@ settle-requires g c =
     all_there c.self.invariant.met c.self.view_is (subst (λ p. p < c.args.self.now.course.standing.processors) same c.requires.batch.there) c.index_mut-cpu.ensures.value c.finish.ensures.acts c.finish.ensures.here
 
 pub invariant_of-self : goal.invariant_of-self
-invariant_of-self g c = record { engine = c.settle.ensures.meets.left; met = (finish_says (hand g c) c.args.batch.processor c.args.batch.count c.finish.ensures.acts (at g c)).met }
+invariant_of-self g c = record { engine = c.settle.ensures.meets.left; met = (finish_says (hand g c) c.args.batch c.finish.ensures.finishes c.finish.ensures.acts (at g c)).met }
 
 pub returns-clause-same : goal.returns-clause-same
-returns-clause-same g c = (finish_says (hand g c) c.args.batch.processor c.args.batch.count c.finish.ensures.acts (at g c)).same
+returns-clause-same g c = (finish_says (hand g c) c.args.batch c.finish.ensures.finishes c.finish.ensures.acts (at g c)).same
 
 pub returns-clause-finishes : goal.returns-clause-finishes
-returns-clause-finishes g c = (finish_says (hand g c) c.args.batch.processor c.args.batch.count c.finish.ensures.acts (at g c)).what
+returns-clause-finishes g c = (finish_says (hand g c) c.args.batch c.finish.ensures.finishes c.finish.ensures.acts (at g c)).what.0
+
+pub returns-clause-list : goal.returns-clause-list
+returns-clause-list g c = (finish_says (hand g c) c.args.batch c.finish.ensures.finishes c.finish.ensures.acts (at g c)).what.1

@@ -31,7 +31,7 @@ invariant_of-self-2 g c =
         jobs_finished d c.self.inside.jobs.items c.self.invariant.1 c.args.processor c.index_mut-jobs.result.now small c.index_mut-jobs.ensures.value d' w.take.new.self w.in-Ok-Some.ran.count what (w.take.ensures.out ∙ none) answer.jobs.1 same answer.happens (refl, refl, refl),
       )
       | in-Ok-None w ↦ let answer = rw w.in-Ok-None.field-0-is at w.in-Ok-None.ensures.answer in rw w.self-inside-is (together_on d c.self.inside.names.tokens c.self.inside.parking c.self.invariant.0 d' same (does_quietly c.self.invariant.0.all.legal tt answer.happens), jobs_on d _ kept d' same (keeps_jobs refl answer.happens))
-      | in-Err-Invoking w ↦ let still = rw w.in-Err-Invoking.is at c.run.ensures.answer in rw (w.self-inside-is, still) (c.self.invariant.0, kept)
+      | in-Err-Invoking w ↦ let still = (rw w.in-Err-Invoking.is at c.run.ensures.answer).1 in rw (w.self-inside-is, still) (c.self.invariant.0, kept)
     ]
 
 pub returns-clause-does : goal.returns-clause-does
@@ -43,5 +43,5 @@ returns-clause-does g c =
     elim c.match-run.branch [
       | in-Ok-Some w ↦ let answer = rw w.in-Ok-Some.field-0-is at w.in-Ok-Some.ensures.answer in rw (← c.self.view_is, w.self-inside-is, w.result-is) (ran c.self.inside.name c.self.inside.names.tokens c.self.inside.parking.parked c.self.inside.jobs.items d d' c.self.invariant.1 c.args.processor c.index_mut-jobs.result.now small c.index_mut-jobs.ensures.value d.limits 8 none w.in-Ok-Some.ran answer w.take.result w.take.new.self w.take.ensures.taken w.take.ensures.out)
       | in-Ok-None w ↦ let answer = rw w.in-Ok-None.field-0-is at w.in-Ok-None.ensures.answer in rw (← c.self.view_is, w.self-inside-is, w.result-is, w.new.ensures) (ran_none c.self.inside.name c.self.inside.names.tokens c.self.inside.parking.parked c.self.inside.jobs.items d d' c.self.invariant.1 c.args.processor c.index_mut-jobs.result.now small c.index_mut-jobs.ensures.value d.limits 8 none answer)
-      | in-Err-Invoking w ↦ let still = rw w.in-Err-Invoking.is at c.run.ensures.answer in rw (← c.self.view_is, w.self-inside-is, w.result-is) (invoking_run c.self.inside.name c.self.inside.names.tokens c.self.inside.parking.parked c.self.inside.jobs.items d d' c.self.invariant.1 c.args.processor c.index_mut-jobs.result.now small c.index_mut-jobs.ensures.value d.limits still)
+      | in-Err-Invoking w ↦ let still = (rw w.in-Err-Invoking.is at c.run.ensures.answer).1 in rw (← c.self.view_is, w.self-inside-is, w.result-is) (invoking_run c.self.inside.name c.self.inside.names.tokens c.self.inside.parking.parked c.self.inside.jobs.items d d' c.self.invariant.1 c.args.processor c.index_mut-jobs.result.now small c.index_mut-jobs.ensures.value d.limits still)
     ]

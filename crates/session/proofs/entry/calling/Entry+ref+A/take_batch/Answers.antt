@@ -39,7 +39,7 @@ invariant_of-self-2 g c =
             jobs_out d' c.self.inside.jobs.items jobs c.args.processor c.index_mut-jobs.result.now (subst (λ n. c.args.processor < n) (sym same.2) small) c.index_mut-jobs.ensures.value w.put_out.new.self left (ap (λ (x : JobsView). x.out) w.put_out.ensures) (emptied_taken d d' c.args.processor 8 w.in-Ok-Some.batch w.drain-reached.new.batch same given w.drain-reached.ensures.batch) at many,
           )
       | in-Ok-None w ↦ let takes = rw w.in-Ok-None.field-0-is at w.in-Ok-None.ensures.answer in rw w.self-inside-is (together_on d c.self.inside.names.tokens c.self.inside.parking c.self.invariant.0 d' same (does_quietly c.self.invariant.0.all.legal tt takes.asks), jobs_on d _ kept d' same (keeps_jobs refl takes.asks))
-      | in-Err-Invoking w ↦ let still = rw w.in-Err-Invoking.is at c.take_ready.ensures.answer in rw (w.self-inside-is, still) (c.self.invariant.0, kept)
+      | in-Err-Invoking w ↦ let still = (rw w.in-Err-Invoking.is at c.take_ready.ensures.answer).1 in rw (w.self-inside-is, still) (c.self.invariant.0, kept)
     ]
 
 pub returns-clause-does : goal.returns-clause-does
@@ -57,5 +57,5 @@ returns-clause-does g c =
           let are = subst (AreTakenWith w.drain-reached.result w.in-Ok-Some.batch.count w.take-names.result c.index_mut-jobs.result.now.waiting) (sym waiting) taken in
           rw (← c.self.view_is, w.self-inside-is, w.result-is) (took c.self.inside.name c.self.inside.names.tokens c.self.inside.parking.parked c.self.inside.jobs.items d d' c.self.invariant.1 c.args.processor c.index_mut-jobs.result.now small c.index_mut-jobs.ensures.value d.limits 8 none w.in-Ok-Some.batch w.drain-reached.new.batch takes w.drain-reached.result w.drain-reached.ensures.last w.take-names.result w.put_out.new.self are counted (ap (λ (x : JobsView). x.out) w.put_out.ensures))
       | in-Ok-None w ↦ let takes = rw w.in-Ok-None.field-0-is at w.in-Ok-None.ensures.answer in rw (← c.self.view_is, w.self-inside-is, w.result-is, w.new.ensures) (took_none c.self.inside.name c.self.inside.names.tokens c.self.inside.parking.parked c.self.inside.jobs.items d d' c.self.invariant.1 c.args.processor c.index_mut-jobs.result.now small c.index_mut-jobs.ensures.value d.limits 8 none takes)
-      | in-Err-Invoking w ↦ let still = rw w.in-Err-Invoking.is at c.take_ready.ensures.answer in rw (← c.self.view_is, w.self-inside-is, w.result-is) (invoking_take_batch c.self.inside.name c.self.inside.names.tokens c.self.inside.parking.parked c.self.inside.jobs.items d d' c.self.invariant.1 c.args.processor c.index_mut-jobs.result.now small c.index_mut-jobs.ensures.value d.limits still)
+      | in-Err-Invoking w ↦ let still = (rw w.in-Err-Invoking.is at c.take_ready.ensures.answer).1 in rw (← c.self.view_is, w.self-inside-is, w.result-is) (invoking_take_batch c.self.inside.name c.self.inside.names.tokens c.self.inside.parking.parked c.self.inside.jobs.items d d' c.self.invariant.1 c.args.processor c.index_mut-jobs.result.now small c.index_mut-jobs.ensures.value d.limits still)
     ]

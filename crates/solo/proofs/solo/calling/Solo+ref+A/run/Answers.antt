@@ -31,4 +31,7 @@ pub returns-clause-same : goal.returns-clause-same
 returns-clause-same g c = (run_says (hand g c) c.args.max c.run_out-ran.result c.run_out-ran.ensures.ran c.run_out-ran.ensures.acts).same
 
 pub returns-clause-answer : goal.returns-clause-answer
-returns-clause-answer g c = (run_says (hand g c) c.args.max c.run_out-ran.result c.run_out-ran.ensures.ran c.run_out-ran.ensures.acts).what
+returns-clause-answer g c = (run_says (hand g c) c.args.max c.run_out-ran.result c.run_out-ran.ensures.ran c.run_out-ran.ensures.acts).what.0
+
+pub returns-clause-list : goal.returns-clause-list
+returns-clause-list g c = (run_says (hand g c) c.args.max c.run_out-ran.result c.run_out-ran.ensures.ran c.run_out-ran.ensures.acts).what.1
