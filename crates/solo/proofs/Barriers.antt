@@ -1,5 +1,5 @@
 -- What barriers, and a look at a batch that is out, say of the domain in one hand: they only load, and find the counts.
-use Rattle.std.proofs.Common.{◌≡◌, ℕ, ◌<◌, ◌≤◌, length, get_or, sym, ap, ◌∙◌, subst, arith}
+use Rattle.std.proofs.Common.{◌≡◌, ℕ, ◌<◌, ◌≤◌, length, get_or, refl, sym, ap, ◌∙◌, subst, arith}
 use Rattle.std.specs.Prelude.{Bool, true, false, MatchBool, Result, Ok, Err, MatchResult, IfOk}
 use Rattle.std.proofs.lemmas.List.{get_or_past, ext_get_or}
 use mathlib.Core.Logic.{dite}

@@ -61,10 +61,10 @@ module _ {was mid now : CpuView (Unit {0})} {owner : ℕ} (first : ActsAs (takes
       not_some q e = cc
 
   -- and then finishes jobs of its own
-  pub takes_then_finishes : (count : ℕ) → ActsAs (finishes owner count) mid now → owner ≡ was.cpu.processor → ActsAs (asks_how_far_and_finishes now.cpu.changes count) was now
-  takes_then_finishes count second own =
+  pub takes_then_finishes : (of count : ℕ) → ActsAs (finishes of count) mid now → of ≡ owner → owner ≡ was.cpu.processor → ActsAs (asks_how_far_and_finishes now.cpu.changes count) was now
+  takes_then_finishes of count second same_owner own =
       let p : ℕ = was.cpu.processor in
-      let behind : Acts p (finishes p count p) mid now = subst (λ o. Acts p (finishes o count p) mid now) own (subst (λ q. Acts q (finishes owner count q) mid now) first.events.same.3 second) in
+      let behind : Acts p (finishes p count p) mid now = subst (λ o. Acts p (finishes o count p) mid now) (same_owner ∙ own) (subst (λ q. Acts q (finishes of count q) mid now) first.events.same.3 second) in
       let before : Acts p (takes mid.cpu.changes p p) was mid = subst (λ o. Acts p (takes mid.cpu.changes o p) was mid) own first in
       subst (λ n. ActsAs (asks_how_far_and_finishes n count) was now) (sym same) (then_finishes {p = p} {a = takes mid.cpu.changes p p} {owner = p} {count = count} {list = Some p} refl (λ q away. away) before behind)
 

@@ -516,6 +516,7 @@ module _ (t : Turn) where
       limits = t.limits;
       tallies = same_tallies i;
       course = record { standing = (as_before [] [] (own_none v w seat_kept) seen_kept ∙ ap standing_of rest) i; asked = same_asked i; queued = same_queued i; finished = same_finished i };
+      lines = same_lines i;
     }
 
   module _ (x : FindsExhausted LoadsRoot v w) where

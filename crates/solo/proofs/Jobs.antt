@@ -217,7 +217,8 @@ module _ (t : Hand) where
   taken_says : (most : ℕ) (taken : Option (BatchView (Unit {0}))) → TakesUp t.d t.p most taken t.was t.now → ActsAs (takes t.now.cpu.changes t.p) t.was t.now → t.p < t.s.course.standing.processors → SaysOnList t (Takes t.p most taken t.s (s' t))
   taken_says most taken h did small =
       let far_is = takes t.now.cpu.changes t.p in
-      says_on_list t far_is did _ (record { asks = subst (λ n. call.Asks t.p n true t.s.course (s' t).course) (reached_is t.now.cpu.changes (changes_are t far_is did)) (does t far_is did); batch = each taken h; list = lists taken h })
+      let done = does t far_is did in
+      says_on_list t far_is did _ (record { asks = subst (λ n. call.Asks t.p n true t.s.course (s' t).course) (reached_is t.now.cpu.changes (changes_are t far_is did)) (record { follows = done.follows; come = done.come }); batch = each taken h; list = lists taken h })
     where
       each : (taken : Option (BatchView (Unit {0}))) → TakesUp t.d t.p most taken t.was t.now → IfSome taken (IsGiven t.p most t.s (s' t))
       each None h = tt
@@ -258,7 +259,7 @@ module _ (t : Hand) where
       let left = is_left most (Some h.batch) taken.behind takes' up what did in
       let first = gives_first most (Some h.batch) taken.behind takes' up what did in
       let at : h.batch.processor ≡ t.p = taken.of_processor.1 in
-      on_list t what did same (RunsFirst far_now most (Some r)) (record { out = None; waiting = taken.takes.list'.entries })
+      on_list t what did same (RunsFirst far_now most (Some r)) (record { out = None; waiting = takes'.list'.entries })
       (line_now t what did t.p t.inside ∙ (ap (line_in t.p) f.seen ∙ (ap (λ q. line_in t.p (f.before ++ deed h.between.calls.processor (Finish q h.batch.count) ∷ [])) at ∙ (finish_here t.p h.batch.count f.before h.between.calls.processor ∙ ap (λ k. with_none_out k) (one ∙ left)))))
       (h.batch.entries, record { none_out = first.none_out; many = first.many; in_order = first.in_order }, refl, sym (h.counted ∙ (are_ready most h.batch (takes_out_on taken h.rest (begins_on f.since record { rest = _ ∷ []; whole = f.seen })) what did).0))
     where

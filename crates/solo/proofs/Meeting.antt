@@ -397,11 +397,11 @@ module _ (t : Hand) where
     seen_by_all = subst (λ (z : CpuView (Unit {0})). tallies.IsBeginning z.calls.seen deeds_after) (here t.was) (t.meets.calls.each t.p t.was within).since
 
     -- a moment of the call, at which these were done
-    moment : (x : List (Deed (Unit {0}))) → tallies.IsBeginning t.was.calls.seen x → tallies.IsBeginning x deeds_after → (some : List (Deed (Unit {0}))) → deeds_of t.was.calls.processor x ≡ deeds_of t.was.calls.processor t.was.calls.seen ++ some → GoesOnBy (length t.cpus) t.p t.met.deeds some x
-    moment x low high some own = at_moment (length t.cpus) t.p t.met.deeds acts.deeds deeds_after on x (subst (λ l. tallies.IsBeginning l x) seen_is low) high some (subst (λ (s : CallSeatView (Unit {0})). deeds_of s.processor x ≡ deeds_of s.processor s.seen ++ some) (deeds_were t) own)
+    moment : (x : List (Deed (Unit {0}))) → tallies.IsBeginning t.was.calls.seen x → tallies.IsBeginning x deeds_after → (made : List (Deed (Unit {0}))) → deeds_of t.was.calls.processor x ≡ deeds_of t.was.calls.processor t.was.calls.seen ++ made → GoesOnBy (length t.cpus) t.p t.met.deeds made x
+    moment x low high made own = at_moment (length t.cpus) t.p t.met.deeds acts.deeds deeds_after on x (subst (λ l. tallies.IsBeginning l x) seen_is low) high made (subst (λ (s : CallSeatView (Unit {0})). deeds_of s.processor x ≡ deeds_of s.processor s.seen ++ made) deeds_were own)
       where
         seen_is : t.was.calls.seen ≡ t.met.deeds
-        seen_is = ap (λ (s : CallSeatView (Unit {0})). s.seen) (deeds_were t)
+        seen_is = ap (λ (s : CallSeatView (Unit {0})). s.seen) deeds_were
 
     -- what a processor has seen of each list, all have
     pub line_now : (k : ℕ) → k < length t.cpus → line_in k deeds_after ≡ line_in k t.now.calls.seen
@@ -419,19 +419,19 @@ module _ (t : Hand) where
 
     -- at two moments by which it had done the same, they are the same
     pub line_between : (x y : List (Deed (Unit {0}))) → tallies.IsBeginning t.was.calls.seen x → tallies.IsBeginning x t.now.calls.seen → tallies.IsBeginning t.was.calls.seen y → tallies.IsBeginning y t.now.calls.seen
-        → (some : List (Deed (Unit {0}))) → deeds_of t.was.calls.processor x ≡ deeds_of t.was.calls.processor t.was.calls.seen ++ some → deeds_of t.was.calls.processor y ≡ deeds_of t.was.calls.processor x → (k : ℕ) → k < length t.cpus → line_in k y ≡ line_in k x
-    line_between x y low_x high_x low_y high_y some own same k lt =
-        lines_are (length t.cpus) t.p t.met.deeds some y (moment y low_y (begins_on high_y seen_by_all) some (same ∙ own)) k lt
-        ∙ sym (lines_are (length t.cpus) t.p t.met.deeds some x (moment x low_x (begins_on high_x seen_by_all) some own) k lt)
+        → (made : List (Deed (Unit {0}))) → deeds_of t.was.calls.processor x ≡ deeds_of t.was.calls.processor t.was.calls.seen ++ made → deeds_of t.was.calls.processor y ≡ deeds_of t.was.calls.processor x → (k : ℕ) → k < length t.cpus → line_in k y ≡ line_in k x
+    line_between x y low_x high_x low_y high_y made own same k lt =
+        lines_are (length t.cpus) t.p t.met.deeds made y (moment y low_y (begins_on high_y seen_by_all) made (same ∙ own)) k lt
+        ∙ sym (lines_are (length t.cpus) t.p t.met.deeds made x (moment x low_x (begins_on high_x seen_by_all) made own) k lt)
 
     -- one list is another, and no other one
     pub on_list : a.list ≡ Some t.p → (becomes : Line (Unit {0}) → Line (Unit {0}) → Type 0) → (is : Line (Unit {0})) → line_in t.p deeds_after ≡ is → becomes (line_in t.p t.met.deeds) is → OnList t.p becomes t.s s'
-    on_list mine becomes is here so = record {
+    on_list mine becomes is found so = record {
       was = line_in t.p t.met.deeds;
       is = is;
-      there = line_found t t.p t.inside;
+      there = line_found t.p t.inside;
       becomes_so = so;
-      rest = all_lines ∙ (one_count no_calls line_in t.d t.d' t.met.deeds deeds_after t.cpus t.cpus' t.met.tally_together all_tally (count ∙ long) t.p is (λ there. here) (λ k lt other. line_else k lt (λ same. other (same_some k (sym (sym mine ∙ same))))) ∙ ap (λ l. set l t.p is) (sym old_lines));
+      rest = all_lines ∙ (one_count no_calls line_in t.d t.d' t.met.deeds deeds_after t.cpus t.cpus' t.met.tally_together all_tally (count ∙ long) t.p is (λ there. found) (λ k lt other. line_else k lt (λ same. other (same_some k (sym (sym mine ∙ same))))) ∙ ap (λ l. set l t.p is) (sym old_lines));
     }
       where
         same_some : (k : ℕ) → Some k ≡ Some t.p → k ≡ t.p
