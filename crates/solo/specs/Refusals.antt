@@ -1,6 +1,7 @@
 -- What a domain answers, and what is told of it in one hand.
 use Rattle.std.specs.Prelude.{◌≡◌, ℕ, Result, Ok, Err, IsErr}
 use Rattle.calls.specs.declared.refusals.CallRefusal.{CallRefusal}
+use Rattle.calls.specs.Views.{ReceiptView}
 use Rattle.scan.specs.declared.progress.Progress.{Progress}
 use Rattle.scan.specs.declared.progress.Exhausted.{Exhausted}
 use Rattle.scan.specs.declared.progress.StartRefusal.{StartRefusal}
