@@ -60,7 +60,7 @@ impl Ending {
 
 impl Termination for Ending {
     fn report<R: Eprint>(self, _rt: &R) -> ExitCode
-        ensures { exit_status result ≡ status_of self.entry }
+        ensures { exit_status result ≡ status_of self }
     {
         ExitCode::from(self.status())
     }
