@@ -1,5 +1,4 @@
 use super::*;
-use clap::error::ErrorKind;
 use std::test::Fail;
 
 /// The limits that these words set, or `None` where the command line refuses them.
@@ -96,9 +95,9 @@ of scripts
 /// The text of the help or the version, where these words ask for it.
 fn text_asked_for(alloc: Global, words: &[&str]) -> Result<Option<String>, Error> {
     match command(alloc, "of scripts")?.try_get_matches_from(words) {
+        Ok(_matches) => Ok(None),
         Err(error) if error.exit_code() == 0 => Ok(Some(format!(in alloc; "{error}")?)),
-        Err(error) if error.kind() == ErrorKind::OutOfMemory => Err(error),
-        _ => Ok(None),
+        Err(error) => Err(error),
     }
 }
 
