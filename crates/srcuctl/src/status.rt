@@ -23,7 +23,8 @@ pub enum Ending {
     Ran(Outcome),
     /// The run ended early.
     Stopped(RunError),
-    /// Nothing was run: the help or the version was asked for, or the command line is wrong, or there was no memory to read it.
+    /// Nothing was run: the help or the version was asked for, or the command line is wrong, or there was no memory to
+    /// read it.
     Answered(Error),
     /// The words of the command line can't be read.
     Unread(io::Error),
