@@ -10,15 +10,15 @@ mod replies;
 mod script;
 mod status;
 
+use clap::error::ErrorKind;
 use sections::Limits;
-use status::{STOPPED, status_after};
-use std::process::ExitCode;
+use status::Ending;
 use std::rt::Env;
 use std::sync::Wait;
 use std::{env, io};
 
-/// Runs the script of standard input, and gives the status to end with.
-fn run_script(rt: &(impl Wait + Input + Print + Eprint + AllocGlobal), limits: Limits) -> u8
+/// Runs the script of standard input.
+fn run_script(rt: &(impl Wait + Input + Print + AllocGlobal), limits: Limits) -> Ending
     requires { AreInRange limits }
 {
     let ended = script::run(
@@ -28,32 +28,29 @@ fn run_script(rt: &(impl Wait + Input + Print + Eprint + AllocGlobal), limits: L
         &mut io::writer(rt),
         limits,
     );
-    if let Err(error) = &ended {
-        // Where standard error can't be written either, the status is all that is left to tell.
-        let _ = eprintln!(rt; "srcuctl: {error}");
+    match ended {
+        Ok(outcome) => Ending::Ran(outcome),
+        Err(error) => Ending::Stopped(error),
     }
-    status_after(ended)
 }
 
 /// Does what the words of the command line ask for.
-fn act(
-    rt: &(impl Wait + Input + Print + Eprint + AllocGlobal),
+fn obey(
+    rt: &(impl Wait + Input + Print + AllocGlobal),
     words: &[String],
-) -> Result<u8, clap::Error> {
+) -> Result<Ending, clap::Error> {
     let of_scripts = help::of_scripts(rt.alloc())?;
-    let command = command_line::command(rt.alloc(), &of_scripts)?;
-    let matches = command.try_get_matches_from(words)?;
-    Ok(match matches.subcommand() {
-        Some(("run", options)) => {
-            let limits = command_line::limits_of(options);
-            // The command line takes numbers of the ranges alone. No clause of `clap` says so of a subcommand's options.
-            if !limits.are_in_range() {
-                return Ok(STOPPED);
-            }
-            run_script(rt, limits)
-        }
-        _ => STOPPED,
-    })
+    let mut command = command_line::command(rt.alloc(), &of_scripts)?;
+    let matches = command.try_get_matches_from_mut(words)?;
+    let Some(("run", options)) = matches.subcommand() else {
+        return Err(command.error(ErrorKind::MissingSubcommand, "a subcommand is wanted")?);
+    };
+    let limits = command_line::limits_of(options);
+    // The command line takes numbers of the ranges alone. No clause of `clap` says so of a subcommand's options.
+    if !limits.are_in_range() {
+        return Err(command.error(ErrorKind::ValueValidation, "an option is out of its range")?);
+    }
+    Ok(run_script(rt, limits))
 }
 
 /// The words of the command line.
@@ -61,19 +58,11 @@ fn words_of(rt: &(impl Env + AllocGlobal)) -> io::Result<Vec<String>> {
     Ok(env::args(rt)?.collect(rt.alloc())?)
 }
 
-fn main(rt: HostRuntime) -> ExitCode {
-    let status = match words_of(&rt) {
-        Ok(words) => match act(&rt, &words) {
-            Ok(status) => status,
-            Err(error) => {
-                let _ = error.print(&rt);
-                error.exit_code() as u8
-            }
-        },
-        Err(error) => {
-            let _ = eprintln!(rt; "srcuctl: {error}");
-            STOPPED
-        }
+fn main(rt: HostRuntime) -> Ending {
+    let ending = match words_of(&rt) {
+        Ok(words) => obey(&rt, &words).unwrap_or_else(Ending::Answered),
+        Err(error) => Ending::Unread(error),
     };
-    ExitCode::from(status)
+    ending.tell(&rt);
+    ending
 }

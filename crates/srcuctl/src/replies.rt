@@ -13,6 +13,7 @@ mod calling;
 mod cleanup;
 mod holding;
 mod needs;
+mod wide;
 
 /// The replies to these lines, one after another. A line of `None` is no text.
 fn replies<R: Wait + AllocGlobal>(

@@ -1,42 +1,68 @@
-//! The statuses that the program ends with.
+//! How the program ends: what it says then, and its status.
 ghost use Rattle.std.specs.Prelude.{◌≡◌};
-ghost use Rattle.srcuctl.specs.Statuses.{status_after};
+ghost use Rattle.std.specs.Process.{exit_status};
+ghost use Rattle.srcuctl.specs.Statuses.{status_of};
 
+use clap::Error;
+use clap::error::ErrorKind;
 use lines::{Outcome, RunError};
+use std::io;
+use std::process::{ExitCode, Termination};
 
-/// The status of a run in which no line was faulty.
+/// The status where all went well: no line of the script was faulty, or the help or the version was asked for.
 const ALL_WELL: u8 = 0;
 /// The status of a run in which one or more lines were faulty.
 const FAULTY: u8 = 1;
-/// The status of a run that ended early, and of a command line that can't be read.
-pub const STOPPED: u8 = 2;
+/// The status of a run that ended early, and of a command line that is wrong or can't be read.
+const STOPPED: u8 = 2;
 
-/// The status after a run.
-pub fn status_after(ended: Result<Outcome, RunError>) -> u8
-    ensures { result ≡ status_after ended }
-{
-    match ended {
-        Ok(outcome) if outcome.faulty => FAULTY,
-        Ok(_) => ALL_WELL,
-        Err(_) => STOPPED,
+/// How the program ends. It is what `main` returns, so there is no status but that of an ending.
+#[derive(Drop)]
+pub enum Ending {
+    /// The whole script was run.
+    Ran(Outcome),
+    /// The run ended early.
+    Stopped(RunError),
+    /// Nothing was run: the help or the version was asked for, or the command line is wrong, or there was no memory to
+    /// read it.
+    Answered(Error),
+    /// The words of the command line can't be read.
+    Unread(io::Error),
+}
+
+impl Ending {
+    /// The status of this ending.
+    fn status(&self) -> u8
+        ensures { result ≡ status_of self.now }
+    {
+        match self {
+            Ending::Ran(outcome) if outcome.faulty => FAULTY,
+            Ending::Ran(_) => ALL_WELL,
+            Ending::Answered(error) => match error.kind() {
+                ErrorKind::DisplayHelp | ErrorKind::DisplayVersion => ALL_WELL,
+                _ => STOPPED,
+            },
+            Ending::Stopped(_) | Ending::Unread(_) => STOPPED,
+        }
+    }
+
+    /// Writes what a user has to know of this ending: the text that was asked for to standard output, and what went wrong
+    /// to standard error.
+    pub fn tell(&self, rt: &(impl Print + Eprint)) {
+        // Where it can't be written, the status is all that is left to tell.
+        let _ = match self {
+            Ending::Ran(_) => Ok(()),
+            Ending::Stopped(error) => eprintln!(rt; "srcuctl: {error}"),
+            Ending::Answered(error) => error.print(rt),
+            Ending::Unread(error) => eprintln!(rt; "srcuctl: {error}"),
+        };
     }
 }
 
-#[cfg(test)]
-mod tests {
-    use super::*;
-
-    #[test]
-    fn statuses(rt: HostRuntime) {
-        let rows = [
-            (Ok(Outcome { faulty: false }), 0),
-            (Ok(Outcome { faulty: true }), 1),
-            (Err(RunError::Read), 2),
-            (Err(RunError::Write), 2),
-            (Err(RunError::Memory), 2),
-        ];
-        for (ended, status) in rows {
-            assert_eq!(rt; status_after(ended), status);
-        }
+impl Termination for Ending {
+    fn report<R: Eprint>(self, _rt: &R) -> ExitCode
+        ensures { exit_status result ≡ status_of self }
+    {
+        ExitCode::from(self.status())
     }
 }

@@ -61,6 +61,64 @@ fn options_set_limits(rt: HostRuntime) -> Result<(), Fail> {
     Ok(())
 }
 
+const HELP: &str = "\
+Drives sleepable RCU domains by a script
+
+Usage: srcuctl <COMMAND>
+
+Commands:
+  run   Reads a script from standard input, and writes a reply to each line
+  help  Print this message or the help of the given subcommand(s)
+
+Options:
+  -h, --help     Print help
+  -V, --version  Print version
+
+of scripts
+";
+
+const HELP_OF_RUN: &str = "\
+Reads a script from standard input, and writes a reply to each line
+
+Usage: srcuctl run [OPTIONS]
+
+Options:
+      --sections <N>  How many sections of one index a processor may begin:
+                      1 to 18014398509481984 (2^54); if left out, the most
+      --periods <N>   How many grace periods a domain may have:
+                      1 to 576460752303423487 (2^59 - 1); if left out, the most
+  -h, --help          Print help
+
+of scripts
+";
+
+/// The text of the help or the version, where these words ask for it.
+fn text_asked_for(alloc: Global, words: &[&str]) -> Result<Option<String>, Error> {
+    match command(alloc, "of scripts")?.try_get_matches_from(words) {
+        Ok(_matches) => Ok(None),
+        Err(error) if error.exit_code() == 0 => Ok(Some(format!(in alloc; "{error}")?)),
+        Err(error) => Err(error),
+    }
+}
+
+/// Would catch a text of another option or command, and one that is left out.
+#[test]
+fn shows_help_and_version(rt: HostRuntime) -> Result<(), Fail> {
+    let rows: [(&[&str], &str); 5] = [
+        (&["srcuctl", "--help"], HELP),
+        (&["srcuctl", "help"], HELP),
+        (&["srcuctl", "run", "--help"], HELP_OF_RUN),
+        (&["srcuctl", "help", "run"], HELP_OF_RUN),
+        (&["srcuctl", "--version"], "srcuctl 0.1.0\n"),
+    ];
+    for (words, text) in rows {
+        let shown = text_asked_for(rt.alloc(), words)?;
+        let shown = shown.ok_or("a text for what is asked")?;
+        assert_eq!(rt; shown.as_str(), text, "{words:?}");
+    }
+    Ok(())
+}
+
 #[test]
 fn help_fits_80_columns(rt: HostRuntime) -> Result<(), Fail> {
     for text in [OF_SECTIONS, OF_PERIODS] {
