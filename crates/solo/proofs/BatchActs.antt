@@ -3,11 +3,11 @@ use Rattle.std.proofs.Common.{◌≡◌, ℕ, ◌+◌, ◌≤◌, inr, List, [],
 use Rattle.std.specs.Prelude.{Option, Some, None}
 use Rattle.calls.specs.declared.entry.Entry.{Entry}
 use Rattle.calls.specs.Tallies.{queued_in, finished_in, deeds_of, IsBeginning}
-use Rattle.calls.specs.Views.{CallSeatView, BatchView}
+use Rattle.calls.specs.Views.{BatchView}
 use Rattle.calls.specs.Calls.{GivesNext, next_cookie, IsOfProcessor, TakesIn, AreHanded}
 use Rattle.calls.specs.Meetings.{SeesOut}
 use Rattle.calls.proofs.CallerLemmas.{begins_on}
-use Rattle.domain.specs.Views.{DomainView, CpuView, callbacks_of, with_cpu, with_calls}
+use Rattle.domain.specs.Views.{DomainView, CpuView, callbacks_of, with_calls}
 use Rattle.domain.specs.Acting.{Acts, ActsAs, loads, takes, finishes}
 use Rattle.domain.proofs.CallerLemmas.{then_finishes}
 use Rattle.solo.specs.Batches.{IsLastCookie}

@@ -8,7 +8,6 @@ use Rattle.onedom.specs.declared.event.Maker.TheVariants.{Processor}
 use Rattle.onedom.specs.declared.event.Event.{Event}
 use Rattle.onedom.specs.declared.event.Event.TheVariants.{Ask}
 use Rattle.onedom.specs.Histories.{ended_in}
-use Rattle.sections.specs.declared.limits.Limits.{Limits}
 use Rattle.sections.specs.Words.{number_word}
 use Rattle.calls.specs.declared.entry.Entry.{Entry}
 use Rattle.calls.specs.declared.refusals.CallRefusal.{CallRefusal}
@@ -24,7 +23,7 @@ use Rattle.domain.proofs.CallerLemmas.{adds_deed}
 use Rattle.scan.specs.Standings.{number_now}
 use Rattle.segs.specs.MarkedList.{count_done, lens, numbers}
 use Rattle.calls.specs.Lines.{Line, line_in, some_out, with_call, with_none_out, readied}
-use Rattle.domain.specs.Views.{DomainView, CpuView, callbacks_of}
+use Rattle.domain.specs.Views.{CpuView, callbacks_of}
 use Rattle.domain.specs.Waiting.{LoadsNeed}
 use Rattle.domain.specs.Calling.{CallsIn, RefusesCall}
 use Rattle.domain.specs.Acting as domain
@@ -38,9 +37,6 @@ use Rattle.solo.specs.Courses.{Does as CourseDoes, more_at, runs}
 use Rattle.solo.specs.Batches.{AreReady, WereReady, count_run}
 use Rattle.solo.specs.Taking.{TakesBatch, RunsBatch, TakesUp, RunsUp, asks_how_far_and_finishes}
 use Rattle.solo.proofs.BatchActs.{takes_out_on}
-use Rattle.solo.specs.Settling.{View, HaveMet}
-use Rattle.solo.specs.Insides.{seen_first}
-use Rattle.solo.proofs.Hand.{now_is, own_table}
 use Rattle.solo.proofs.Meeting.{Hand, s', deeds_were, queued_were, queued_found, finished_were, finished_found, line_found, queued_now, line_now, line_before, line_behind, line_between, line_quiet, on_list, same_lines, seen_by_all, seen_now, tallies_are, reaches_were, changes_are, root_is, does}
 use Rattle.solo.proofs.Called.{Says, SaysOnList, says, says_on_list, still}
 
@@ -261,7 +257,7 @@ module _ (t : Hand) where
       let at : h.batch.processor ≡ t.p = taken.of_processor.1 in
       on_list t what did same (RunsFirst far_now most (Some r)) (record { out = None; waiting = takes'.list'.entries })
       (line_now t what did t.p t.inside ∙ (ap (line_in t.p) f.seen ∙ (ap (λ q. line_in t.p (f.before ++ deed h.between.calls.processor (Finish q h.batch.count) ∷ [])) at ∙ (finish_here t.p h.batch.count f.before h.between.calls.processor ∙ ap (λ k. with_none_out k) (one ∙ left)))))
-      (h.batch.entries, record { none_out = first.none_out; many = first.many; in_order = first.in_order }, refl, sym (h.counted ∙ (are_ready most h.batch (takes_out_on taken h.rest (begins_on f.since record { rest = _ ∷ []; whole = f.seen })) what did).0))
+      (h.batch.entries, record { none_out = first.none_out; many = first.many; in_order = first.in_order }, refl, sym (h.counted ∙ (are_ready most h.batch (takes_out_on taken h.rest (begins_on f.since record { rest = _ ∷ []; whole = f.seen })) what did).0), h.last)
     where
       same_number : (h : RunsBatch t.d t.p most r t.was t.now) → h.between.calls.processor ≡ t.was.calls.processor
       same_number h = sym h.finishes.finishes.tally.same.2 ∙ did.adds.same.2
@@ -286,7 +282,7 @@ module _ (t : Hand) where
       lists None h did =
           let what = asks_how_far_and_finishes t.now.cpu.changes 0 in
           let none = left_then most None t.now.calls h (begins_itself t.now.calls.seen) what did refl refl in
-          record { was = none.was; is = none.is; there = none.there; becomes_so = ([], none.becomes_so.0, none.becomes_so.1, refl); rest = none.rest }
+          record { was = none.was; is = none.is; there = none.there; becomes_so = ([], none.becomes_so.0, none.becomes_so.1, refl, tt); rest = none.rest }
       lists (Some r) h did = ran_first most r h (asks_how_far_and_finishes t.now.cpu.changes r.count) did refl
 
   pub run_says : (most : ℕ) (r : Result (Option Ran) TakeRefusal) → MatchResult r (λ ran. RunsUp t.d t.p most ran t.was t.now) (λ _. InvokesIn t.p t.was.cpu t.was.calls t.now.cpu t.now.calls) → MatchResult r (λ ran. ActsAs (asks_how_far_and_finishes t.now.cpu.changes (count_run ran)) t.was t.now) (λ _. ActsAs loads t.was t.now)

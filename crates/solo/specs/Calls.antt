@@ -25,7 +25,7 @@ use Rattle.solo.specs.declared.queued.Queued.{Queued}
 use Rattle.solo.specs.declared.taking.Ran.{Ran}
 use Rattle.domain.specs.Acting.{begins, ends, notes, asks_whether, asks_for, finishes}
 use Rattle.solo.specs.Courses.{Course, Does, Works, runs}
-use Rattle.solo.specs.Batches.{AreReady, WereReady, count_run}
+use Rattle.solo.specs.Batches.{AreReady, WereReady, IsLastCookie, count_run}
 
 -- `table` tells which looks and readings are of this domain, and `tallies` which batches; `course` is how far it has come. `lines` is the list of each processor in order: the jobs that wait there, with their marks, and how many are out
 pub record SoloView : Type 0 where
@@ -190,9 +190,9 @@ pub record Runs (p max : ℕ) (ran : Option Ran) (c c' : Course) : Type 0 where
   pub happens : Does p (runs (4 * ended_in c.standing.history) (count_run ran)) c c'
   pub jobs : IfSome ran (λ r. WereReady max (4 * ended_in c.standing.history) c'.standing.history r × AreOut p r.count c)
 
--- the jobs that were taken are finished at once
+-- the jobs that were taken are finished at once. It tells how many these were, and the number of the last one's cookie
 abbrev pub RunsFirst : ℕ → ℕ → Option Ran → Line (Unit {0}) → Line (Unit {0}) → Type 0
-RunsFirst number max ran was is = (gone : List (Entry (Unit {0}))) × GivesFirst number max gone was is × (is.out ≡ None) × (length gone ≡ count_run ran)
+RunsFirst number max ran was is = (gone : List (Entry (Unit {0}))) × GivesFirst number max gone was is × (is.out ≡ None) × (length gone ≡ count_run ran) × IfSome ran (λ r. IsLastCookie r.reached gone)
 
 -- the batch was the one that is out, and none is then
 abbrev pub FinishesOut : ℕ → Line (Unit {0}) → Line (Unit {0}) → Type 0

@@ -21,8 +21,8 @@ mod cleanup;
 
 /// A domain that one thread drives. After each call that made a step its processors and its engine meet, so that all
 /// have seen one history, in which nothing stands but what the calls have done. Contracts see how far the domain has
-/// come: its history, what is half done of a grace period, and of each processor how many jobs were queued there and how
-/// many of these are finished.
+/// come: its history, what is half done of a grace period, the greatest number that was asked for, and of each processor
+/// how many jobs were queued there and how many of these are finished; and the list of each processor.
 #[derive(Drop)]
 pub struct Solo<A: Allocator> {
     members: Members<A>,

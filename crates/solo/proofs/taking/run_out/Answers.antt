@@ -1,4 +1,4 @@
-use Rattle.std.proofs.Common.{◌∙◌, ap}
+use Rattle.std.proofs.Common.{ap}
 use Rattle.domain.specs.Views.{CpuView}
 use Rattle.solo.proofs.BatchActs.{takes_then_finishes}
 use Rattle.solo.proofs.taking.run_out.Goals as goal

@@ -1,4 +1,4 @@
-use Rattle.std.proofs.Common.{arith, rules}
+use Rattle.std.proofs.Common.{arith}
 use Rattle.solo.proofs.Hand.{in_items, in_domain, in_room, lent, all_there}
 use Rattle.solo.proofs.Meeting.{Hand, hand_of}
 use Rattle.solo.proofs.Jobs.{lens_says}
