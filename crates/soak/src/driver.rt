@@ -2,6 +2,8 @@
 //! and for no job.
 ghost use Rattle.std.specs.Prelude.{◌≡◌, ◌<◌, ◌≤◌, [], length};
 ghost use Rattle.domain.specs.Views.{IsOf};
+ghost use Rattle.soak.specs.Counts.{plus};
+ghost use Rattle.soak.specs.Checks.{misplaced_in};
 ghost use Rattle.soak.specs.Drivers.{IsDriving};
 
 use crate::counts::{Counts, count};
@@ -41,6 +43,8 @@ impl Replaced {
 pub struct Driver {
     pub cpu: Cpu<Job>,
     pub writer: Writer,
+    /// How many jobs of each processor were run, which is the number of the one whose turn it is there.
+    pub turns: [u64; PROCESSORS as usize],
     /// The last versions that were replaced, each at its number modulo [`AGES`].
     pub replaced: [Replaced; AGES],
     pub counts: Counts,
@@ -68,19 +72,21 @@ impl Deadline {
 
 /// Runs all jobs of a batch, and answers how many there were. To run a job is to count it: it must be the one whose turn
 /// it is on its processor.
-fn run_jobs(batch: &mut Batch<Job>, signs: &Signs, misplaced: &mut u64) -> u64
+fn run_jobs(batch: &mut Batch<Job>, turn: &mut u64, misplaced: &mut u64) -> u64
     requires { length batch.old.entries ≤ 8 }
     ensures all { result ≡ length batch.old.entries }
     ensures empty { batch.new ≡ record batch.old { entries = [] } }
+    ensures turn { turn.new ≡ plus turn.old (length batch.old.entries) }
+    ensures misplaced { misplaced.new ≡ plus misplaced.old (misplaced_in batch.old.processor turn.old batch.old.entries) }
 {
     let processor = batch.processor();
     let mut came = 0;
     while let Some(job) = batch.next() {
         came += 1;
-        let before = signs.count_run(processor);
-        if job.processor != processor || job.number != before {
+        if job.processor != processor || job.number != *turn {
             count(misplaced);
         }
+        count(turn);
     }
     came
 }
@@ -99,7 +105,10 @@ fn take_of<R: Wait>(
 {
     match domain.take_ready(rt, &mut driver.cpu, processor, 8) {
         Ok(Some(mut batch)) => {
-            let came = run_jobs(&mut batch, signs, &mut driver.counts.misplaced);
+            let mut turn = driver.turns[usize::from(processor)];
+            let came = run_jobs(&mut batch, &mut turn, &mut driver.counts.misplaced);
+            driver.turns[usize::from(processor)] = turn;
+            signs.set_run(processor, turn);
             driver.counts.run = driver.counts.run.saturating_add(came);
             domain.finish(rt, &mut driver.cpu, batch);
         }
@@ -109,7 +118,7 @@ fn take_of<R: Wait>(
 }
 
 /// The same for each processor.
-fn take_all<R: Wait>(rt: &R, domain: &Domain<Job>, driver: &mut Driver, signs: &Signs)
+pub fn take_all<R: Wait>(rt: &R, domain: &Domain<Job>, driver: &mut Driver, signs: &Signs)
     requires { IsDriving domain.now driver.old }
     ensures { IsDriving domain.now driver.new }
 {
