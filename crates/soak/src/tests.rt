@@ -8,7 +8,7 @@ use crate::outcome::Outcome;
 use crate::run::{Start, end, prepare, run, take_apart};
 use crate::signs::Signs;
 use crate::worker::{
-    Job, Length, Worker, check_done, hand_on, queue, read, wait_for_jobs, wait_for_period,
+    Job, Length, Worker, check_done, hand_on, meet, queue, read, wait_for_jobs, wait_for_period,
 };
 use anyhow::Result;
 use desk::Desk;
@@ -123,6 +123,17 @@ fn run_wrongly<R: Wait + AllocGlobal>(rt: &R) -> Result<Outcome> {
     workers.push_reserved(worker);
     let parts = take_apart(workers, parts, &domain, &desk);
     Ok(end(domain, desk, parts, driver))
+}
+
+/// Would catch a worker that waits for nobody, or never finds the others.
+#[test]
+fn workers_meet(rt: HostRuntime) {
+    let signs = Signs::new();
+    for met in [0, 0, 0, 0, 0, 0, 1] {
+        let mut counts = Counts::new();
+        meet(&rt, &signs, 1, &mut counts);
+        assert_eq!(rt; counts.met, met);
+    }
 }
 
 /// Would catch a check that is not made, or whose count is lost.

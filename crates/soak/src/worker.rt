@@ -255,11 +255,11 @@ pub fn wait_for_jobs<R: Wait>(
     check_run(&mut worker.counts, run);
 }
 
-/// Waits until all workers have come, so that they are at it at once, and counts that. Where one has waited in vain, none
-/// waits any more.
-fn meet<R: Clock>(rt: &R, signs: &Signs, counts: &mut Counts) {
+/// Waits until all workers have come, so that they are at it at once, and counts that. It looks so many times. Where one
+/// has looked in vain, none waits any more.
+pub fn meet<R: Clock>(rt: &R, signs: &Signs, looks: u32, counts: &mut Counts) {
     signs.come();
-    for _ in 0..LOOKS {
+    for _ in 0..looks {
         if signs.are_all_here() {
             count(&mut counts.met);
             return;
@@ -308,7 +308,7 @@ pub fn work<R: Wait + Clock>(
     requires { IsAtWork domain.now desk.now worker.old }
     ensures { StaysAtWork domain.now desk.now worker.old worker.new }
 {
-    meet(rt, signs, &mut worker.counts);
+    meet(rt, signs, LOOKS, &mut worker.counts);
     for round in 0..length.rounds() {
         if signs.is_ending() {
             break;

@@ -1,4 +1,6 @@
 //! A configuration that is replaced while it is read, and what is done once nobody reads the old one.
+ghost use Rattle.std.specs.Prelude.{◌≡◌};
+
 use shelf::Versioned;
 use std::sync::atomic::Ordering::SeqCst;
 use std::sync::atomic::{AtomicBool, AtomicU64};
@@ -13,7 +15,9 @@ pub struct Config {
 }
 
 impl Config {
-    pub fn new(number: u64) -> Config {
+    pub fn new(number: u64) -> Config
+        ensures { result ≡ record { number = number; again = number } }
+    {
         Config {
             number,
             again: number,

@@ -89,6 +89,7 @@ pub fn read_and_sleep<R: Clock>(
     archive: &Archive,
 ) -> Result<Slept>
     requires { configs.now < cells_in cpu.cpu.domain }
+    ensures { IfOk result (λ s. s.behind ≡ s.before) }
 {
     let mut section = cpu.read_lock()?; // srcu_read_lock
     let mut version = configs.find(&mut cpu, &mut section); // srcu_dereference

@@ -1,9 +1,9 @@
 //! Those who replace the configuration, one after the other, each on a processor of its own.
-ghost use Rattle.std.specs.Prelude.{◌≡◌, ◌<◌};
+ghost use Rattle.std.specs.Prelude.{◌≡◌, ◌<◌, IfOk};
 ghost use Rattle.sections.specs.Words.{cells_in};
 ghost use Rattle.sections.specs.Reads.{IsPinned};
 ghost use Rattle.domain.specs.Views.{IsOf};
-ghost use Rattle.tour.specs.Parts.{IsReady};
+ghost use Rattle.tour.specs.Parts.{IsReady, ReplacesAndWaits, text_of};
 
 use crate::config::{Archive, Config, Old};
 use crate::readers::read_once;
@@ -12,7 +12,7 @@ use domain::{Cpu, Domain, HeldPin};
 use shelf::{Shelf, Values};
 use std::sync::Wait;
 
-/// Replaces the configuration, waits until nobody reads the old one, and files that.
+/// Replaces the configuration, waits until nobody reads the old one, and files that. Gives the processor back.
 pub fn replace<R: Wait>(
     rt: &R,
     domain: &Domain<Old>,
@@ -21,15 +21,16 @@ pub fn replace<R: Wait>(
     archive: &Archive,
     old: Old,
     number: u64,
-) -> Result<()>
+) -> Result<Cpu<Old>>
     requires cpu { IsReady domain.now cpu }
     requires shelf { shelf.domain ≡ domain.now.domain }
+    ensures { IfOk result (λ c. ReplacesAndWaits (text_of number) shelf cpu c) }
 {
     shelf.replace(domain, &mut cpu, &Config::new(number))?; // rcu_assign_pointer
     domain.synchronize(rt, &mut cpu)?; // synchronize_srcu: each section that was open before is closed
     archive.file(old); // so nobody reads it any more
 
-    Ok(())
+    Ok(cpu)
 }
 
 /// What an updater found that doesn't wait.

@@ -1,4 +1,4 @@
--- Replacing opens no section.
+-- Replacing opens no section, and then the processor waits.
 use Rattle.shelf.proofs.CallerLemmas.{none_replaced}
 use Rattle.tour.proofs.updaters.replace.Goals as goal
 
