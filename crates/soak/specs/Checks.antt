@@ -1,5 +1,5 @@
 -- What a thread counts of what it found.
-use Rattle.std.specs.Prelude.{◌≡◌, ℕ, ◌+◌, ◌==◌, ◌&&◌, ◌||◌, nat_lt, not, Bool, List, [], ◌∷◌, if◌then◌else◌}
+use Rattle.std.specs.Prelude.{◌≡◌, ℕ, ◌+◌, ◌==◌, ◌&&◌, nat_lt, not, Bool, List, [], ◌∷◌, if◌then◌else◌}
 use Rattle.sections.specs.Views.{CookieView}
 use Rattle.sections.specs.Calls.{GivesCookie}
 use Rattle.domain.specs.Views.{CpuView}
@@ -11,14 +11,14 @@ use Rattle.soak.specs.declared.worker.Sight.{Sight}
 use Rattle.soak.specs.declared.worker.Worker.{Worker}
 use Rattle.soak.specs.Counts.{one_more, more_if}
 
--- a job is the one whose turn it is on this processor
-abbrev pub has_its_turn : ℕ → ℕ → Job → Bool
-has_its_turn processor turn job = (job.processor == processor) && (job.number == turn)
+-- 0 where the job is the one whose turn it is on this processor, else 1
+abbrev pub misplaced : ℕ → ℕ → Job → ℕ
+misplaced processor turn job = if (job.processor == processor) && (job.number == turn) then 0 else 1
 
 -- how many of these jobs are not the ones whose turn it is, one after another from this turn on
 abbrev pub misplaced_in : ℕ → ℕ → List (Entry Job) → ℕ
 misplaced_in processor turn [] = 0
-misplaced_in processor turn (e ∷ es) = (if has_its_turn processor turn e.job then 0 else 1) + misplaced_in processor (one_more turn) es
+misplaced_in processor turn (e ∷ es) = misplaced processor turn e.job + misplaced_in processor (one_more turn) es
 
 -- one version more was too old where its age was two or more, and of several pieces where one of its words is not its number
 abbrev pub judged : Sight → Counts → Counts

@@ -212,10 +212,14 @@ pub fn wait_for_period<R: Wait>(
 {
     let mut cookie = worker.cpu.cookie();
     // It would wait for itself.
-    if worker.cpu.open_here() > 0 || domain.synchronize(rt, &mut worker.cpu).is_err() {
+    if worker.cpu.open_here() > 0 {
         count(&mut worker.counts.refused);
         return;
     }
+    let Ok(()) = domain.synchronize(rt, &mut worker.cpu) else {
+        count(&mut worker.counts.refused);
+        return;
+    };
     count(&mut worker.counts.waited);
     check_done(domain, desk, worker, &mut cookie);
 }
