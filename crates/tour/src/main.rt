@@ -97,7 +97,9 @@ fn wait<R: Threads + Wait + Clock + Sync>(
     let (slept, replaced) = join(
         rt,
         || read_and_sleep(rt, reader, configs, &sign, archive),
-        || {
+        || -> Result<Cpu<Old>>
+            requires { IsReady domain.now updater × (shelf.domain ≡ domain.now.domain) }
+        {
             sign.wait(rt);
             replace(rt, domain, updater, shelf, archive, old, 2)
         },
@@ -204,7 +206,9 @@ fn call_back<R: Threads + Wait + Clock + Sync>(
     let (slept, served) = join(
         rt,
         || read_and_sleep(rt, reader, configs, &sign, archive),
-        || {
+        || -> Result<(usize, Config)>
+            requires { IsReady domain.now updater × (shelf.domain ≡ domain.now.domain) × (configs.now < cells_in domain.now.domain) }
+        {
             sign.wait(rt);
             replace_and_serve(rt, domain, updater, shelf, configs, archive)
         },
@@ -229,7 +233,7 @@ fn print_slept<R: Print + AllocGlobal>(
     Ok(())
 }
 
-/// Readers sleep while an updater waits, in a domain of their own.
+/// A reader sleeps while an updater waits, in a domain of their own.
 fn show_wait<R: Threads + Wait + Clock + Print + AllocGlobal + Sync>(rt: &R) -> Result<()> {
     let (domain, reader, mut updater, writer) = pair(rt.alloc())?;
     let (shelf, configs) = shelve(&domain, &mut updater, writer, 1)?;
