@@ -15,7 +15,7 @@ pub returns : goal.returns
 returns g c = record {
   between = c.replace.new.cpu;
   writer = c.replace.new.self;
-  cookie = _;
-  replaces = subst (λ (v : Config). Replaces (v.number ∷ v.again ∷ replicate 14 0) _ c.args.shelf c.args.cpu c.replace.new.self c.replace.new.cpu) c.new.ensures c.in_ok-replace.ensures.replaces;
+  cookie = c.in_ok-replace.field-0;
+  replaces = subst (λ (v : Config). Replaces (v.number ∷ v.again ∷ replicate 14 0) c.in_ok-replace.field-0 c.args.shelf c.args.cpu c.replace.new.self c.replace.new.cpu) c.new.ensures c.in_ok-replace.ensures.replaces;
   waits = c.in_ok-synchronize.ensures.closed;
 }
