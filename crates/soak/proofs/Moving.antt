@@ -35,3 +35,12 @@ module _ {A B : Type 0} (f : A → ℕ) (g : B → ℕ) where
       let same = length-map xs f in
       absurd (omega (arith, lt, same, none))
   none_left xs zs n none (inr there) = there
+
+module _ {A : Type 0} (f : A → ℕ) where
+  with_last : (ys : List A) (x z : A) (n : ℕ) → f z ≡ f x → Contains (map f ys) n ⊎ (f x ≡ n) → Contains (map f (ys ++ z ∷ [])) n
+  with_last ys x z n same (inl there) = more f f ys z n there
+  with_last ys x z n same (inr is) = new f f ys z n (same ∙ is)
+
+  -- the last one was taken out, and comes back in another form with the same number
+  pub put_back : (xs ys : List A) (x : A) (zs : List A) (z : A) → xs ≡ ys ++ x ∷ [] → zs ≡ ys ++ z ∷ [] → f z ≡ f x → (n : ℕ) → Contains (map f xs) n → Contains (map f zs) n
+  put_back xs ys x zs z popped pushed same n there = subst (λ (l : List A). Contains (map f l) n) (sym pushed) (with_last ys x z n same (last f f ys x n (subst (λ (l : List A). Contains (map f l) n) popped there)))

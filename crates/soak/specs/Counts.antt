@@ -1,5 +1,5 @@
 -- Adding up what threads did.
-use Rattle.std.specs.Prelude.{ℕ, ◌+◌, ◌-◌, ◌^◌, min}
+use Rattle.std.specs.Prelude.{ℕ, ◌+◌, ◌-◌, ◌^◌, min, Bool, if◌then◌else◌}
 use Rattle.soak.specs.declared.counts.Counts.{Counts}
 
 -- both, or the largest number
@@ -9,9 +9,14 @@ plus a b = min (a + b) (2 ^ 64 - 1)
 abbrev pub one_more : ℕ → ℕ
 one_more a = plus a 1
 
+-- one more where this is so
+abbrev pub more_if : Bool → ℕ → ℕ
+more_if so a = if so then one_more a else a
+
 -- each count is that of both
 abbrev pub sum_of : Counts → Counts → Counts
 sum_of c d = record {
+  met = plus c.met d.met;
   opened = plus c.opened d.opened;
   closed = plus c.closed d.closed;
   handed = plus c.handed d.handed;

@@ -4,8 +4,9 @@ use Rattle.domain.specs.declared.domain.cleanup.Totals.{Totals}
 use Rattle.soak.specs.declared.counts.Counts.{Counts}
 use Rattle.soak.specs.declared.outcome.Outcome.{Outcome}
 
--- what was counted is what the domain tells, all of it came to its end, and nothing went wrong
+-- what was counted is what the domain tells, seven workers were at it at once, all of it came to its end, and nothing went wrong
 pub record Agree (t : Totals) (c : Counts) : Type 0 where
+  pub all_met : c.met ≡ 7
   pub opened : t.opened ≡ c.opened
   pub closed : t.closed ≡ c.closed
   pub queued : t.queued ≡ c.queued

@@ -4,8 +4,9 @@ use Rattle.soak.specs.declared.run.Start.{Start}
 use Rattle.soak.specs.Workers.{AreAllAtWork}
 use Rattle.soak.specs.Drivers.{IsDriving}
 
--- the workers and the driver are at one domain and its desk, and there is room for what is taken from the workers in the end
+-- seven workers and the driver are at one domain and its desk, and there is room for what is taken from the workers in the end
 pub record IsPrepared (s : Start) : Type 0 where
+  pub many : vec_len s.workers ≡ 7
   pub all : AreAllAtWork s.domain s.desk s.workers.items
   pub driver : IsDriving s.domain s.driver
   pub home : s.desk.domain ≡ s.domain.domain

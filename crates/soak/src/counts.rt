@@ -7,6 +7,8 @@ use std::fmt;
 /// How often a thread did what, and what it found that must not be.
 #[derive(Clone, Copy, Debug, PartialEq, Eq)]
 pub struct Counts {
+    /// 1 where it found all workers there in the beginning.
+    pub met: u64,
     /// Sections that it opened.
     pub opened: u64,
     /// Sections that it closed, wherever they were opened.
@@ -41,6 +43,7 @@ impl Counts {
     /// A thread that did nothing.
     pub fn new() -> Counts {
         Counts {
+            met: 0,
             opened: 0,
             closed: 0,
             handed: 0,
@@ -63,6 +66,7 @@ impl Counts {
         ensures { result ≡ sum_of self other }
     {
         Counts {
+            met: self.met.saturating_add(other.met),
             opened: self.opened.saturating_add(other.opened),
             closed: self.closed.saturating_add(other.closed),
             handed: self.handed.saturating_add(other.handed),
@@ -90,6 +94,7 @@ pub fn count(of: &mut u64)
 
 impl fmt::Display for Counts {
     fn fmt<W: fmt::Write>(&self, f: &mut fmt::Formatter<W>) -> fmt::Result {
+        writeln!(f, "workers that met all others: {}", self.met)?;
         writeln!(f, "sections opened: {}", self.opened)?;
         writeln!(f, "sections closed: {}", self.closed)?;
         writeln!(f, "jobs queued: {}", self.queued)?;

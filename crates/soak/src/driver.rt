@@ -2,6 +2,7 @@
 //! and for no job.
 ghost use Rattle.std.specs.Prelude.{◌≡◌, ◌<◌, ◌≤◌, [], length};
 ghost use Rattle.domain.specs.Views.{IsOf};
+ghost use Rattle.soak.specs.Checks.{misplaced, misplaced_in};
 ghost use Rattle.soak.specs.Drivers.{IsDriving};
 
 use crate::counts::{Counts, count};
@@ -41,6 +42,8 @@ impl Replaced {
 pub struct Driver {
     pub cpu: Cpu<Job>,
     pub writer: Writer,
+    /// How many jobs of each processor were run, which is the number of the one whose turn it is there.
+    pub turns: [u64; PROCESSORS as usize],
     /// The last versions that were replaced, each at its number modulo [`AGES`].
     pub replaced: [Replaced; AGES],
     pub counts: Counts,
@@ -66,23 +69,35 @@ impl Deadline {
     }
 }
 
-/// Runs all jobs of a batch, and answers how many there were. To run a job is to count it: it must be the one whose turn
-/// it is on its processor.
-fn run_jobs(batch: &mut Batch<Job>, signs: &Signs, misplaced: &mut u64) -> u64
+/// 0 where the job is the one whose turn it is on this processor, else 1.
+fn is_misplaced(job: &Job, processor: u16, turn: u64) -> u64
+    ensures { result ≡ misplaced processor turn job.now }
+{
+    if job.processor == processor && job.number == turn {
+        0
+    } else {
+        1
+    }
+}
+
+/// Runs all jobs of a batch, the first of which should have this turn on its processor. To run a job is to count it.
+/// Answers how many there were, and how many of these were not the ones whose turn it was.
+fn run_jobs(batch: &mut Batch<Job>, turn: u64) -> (u64, u64)
     requires { length batch.old.entries ≤ 8 }
-    ensures all { result ≡ length batch.old.entries }
+    ensures all { result.0 ≡ length batch.old.entries }
+    ensures misplaced { result.1 ≡ misplaced_in batch.old.processor turn batch.old.entries }
     ensures empty { batch.new ≡ record batch.old { entries = [] } }
 {
     let processor = batch.processor();
+    let mut due = turn;
     let mut came = 0;
+    let mut wrong = 0;
     while let Some(job) = batch.next() {
         came += 1;
-        let before = signs.count_run(processor);
-        if job.processor != processor || job.number != before {
-            count(misplaced);
-        }
+        wrong += is_misplaced(&job, processor, due);
+        due = due.saturating_add(1);
     }
-    came
+    (came, wrong)
 }
 
 /// Takes a batch of what is ready on a processor, runs it and finishes it.
@@ -99,8 +114,13 @@ fn take_of<R: Wait>(
 {
     match domain.take_ready(rt, &mut driver.cpu, processor, 8) {
         Ok(Some(mut batch)) => {
-            let came = run_jobs(&mut batch, signs, &mut driver.counts.misplaced);
+            let turn = driver.turns[usize::from(processor)];
+            let (came, misplaced) = run_jobs(&mut batch, turn);
             driver.counts.run = driver.counts.run.saturating_add(came);
+            driver.counts.misplaced = driver.counts.misplaced.saturating_add(misplaced);
+            let next = turn.saturating_add(came);
+            driver.turns[usize::from(processor)] = next;
+            signs.set_run(processor, next);
             domain.finish(rt, &mut driver.cpu, batch);
         }
         Ok(None) => {}
@@ -109,7 +129,7 @@ fn take_of<R: Wait>(
 }
 
 /// The same for each processor.
-fn take_all<R: Wait>(rt: &R, domain: &Domain<Job>, driver: &mut Driver, signs: &Signs)
+pub fn take_all<R: Wait>(rt: &R, domain: &Domain<Job>, driver: &mut Driver, signs: &Signs)
     requires { IsDriving domain.now driver.old }
     ensures { IsDriving domain.now driver.new }
 {

@@ -3,6 +3,10 @@
 //! domain is taken down, and what it then tells is compared with what the threads counted.
 #![tactic(auto)]
 
+ghost use Rattle.std.specs.Prelude.{◌≡◌, IfOk};
+ghost use Rattle.std.specs.Process.{exit_status};
+ghost use Rattle.soak.specs.Outcomes.{IsExact};
+
 mod command_line;
 mod counts;
 mod driver;
@@ -25,15 +29,14 @@ use std::thread::Threads;
 use std::time::Clock;
 use worker::Length;
 
-/// The status of a run that did not come out as it should.
-const WRONG: u8 = 1;
-
 /// The status of a run whose command line can't be read.
 const MISUSED: u8 = 2;
 
-/// Prints what a run came to. Some of it depends on the threads: that is left out where each does a fixed number of
-/// rounds, so that each such run prints the same.
-fn print<R: Print + AllocGlobal>(rt: &R, length: Length, outcome: &Outcome) -> Result<()> {
+/// Prints what a run came to, and answers the status for it. Some of it depends on the threads: that is left out where
+/// each does a fixed number of rounds, so that each such run prints the same.
+fn tell<R: Print + AllocGlobal>(rt: &R, length: Length, outcome: &Outcome) -> Result<ExitCode>
+    ensures { IfOk result (λ s. exit_status s ≡ 0 → IsExact outcome.now) }
+{
     if let Length::Seconds(seconds) = length {
         println!(rt; "seconds: {seconds}")?;
         println!(rt; "sections handed over: {}", outcome.counts.handed)?;
@@ -42,7 +45,7 @@ fn print<R: Print + AllocGlobal>(rt: &R, length: Length, outcome: &Outcome) -> R
         }
     }
     println!(rt; "{outcome}")?;
-    Ok(())
+    Ok(outcome.status())
 }
 
 /// Does what the words of the command line ask for.
@@ -54,13 +57,7 @@ fn act<R: Threads + Sync + Wait + Clock + Env + Print + Eprint + AllocGlobal>(
         eprintln!(rt; "usage: soak [SECONDS]")?;
         return Ok(ExitCode::from(MISUSED));
     };
-    let outcome = run(rt, length)?;
-    print(rt, length, &outcome)?;
-    if outcome.is_exact() {
-        Ok(ExitCode::SUCCESS)
-    } else {
-        Ok(ExitCode::from(WRONG))
-    }
+    tell(rt, length, &run(rt, length)?)
 }
 
 fn main(rt: HostRuntime) -> Result<ExitCode> {

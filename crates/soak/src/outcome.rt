@@ -1,10 +1,19 @@
 //! What a run came to.
-ghost use Rattle.std.specs.Prelude.{IsTrue};
+ghost use Rattle.std.specs.Prelude.{◌≡◌, IsTrue};
+ghost use Rattle.std.specs.Process.{exit_status};
 ghost use Rattle.soak.specs.Outcomes.{IsExact};
 
 use crate::counts::Counts;
+use crate::signs::WORKERS;
 use domain::{InUse, Totals};
 use std::fmt;
+use std::process::ExitCode;
+
+/// The status of a run that came out as it should.
+const RIGHT: u8 = 0;
+
+/// The status of one that did not.
+const WRONG: u8 = 1;
 
 /// What the threads counted, and what the domain told when it was taken down.
 #[derive(Clone, Copy, Debug)]
@@ -16,8 +25,8 @@ pub struct Outcome {
 }
 
 impl Outcome {
-    /// Whether the threads counted just what the domain tells, all that was opened was closed, all that was queued was
-    /// run, and nothing went wrong.
+    /// Whether the threads counted just what the domain tells, all workers were at it at once, all that was opened was
+    /// closed, all that was queued was run, and nothing went wrong.
     pub fn is_exact(&self) -> bool
         ensures { IsTrue result → IsExact self.now }
     {
@@ -25,7 +34,8 @@ impl Outcome {
             return false;
         };
         let counts = self.counts;
-        totals.opened == counts.opened
+        counts.met == WORKERS as u64
+            && totals.opened == counts.opened
             && totals.closed == counts.closed
             && totals.queued == u128::from(counts.queued)
             && totals.finished == u128::from(counts.run)
@@ -37,6 +47,13 @@ impl Outcome {
             && counts.early == 0
             && counts.stale == 0
             && counts.torn == 0
+    }
+
+    /// The status that the program ends with.
+    pub fn status(&self) -> ExitCode
+        ensures { exit_status result ≡ 0 → IsExact self.now }
+    {
+        ExitCode::from(if self.is_exact() { RIGHT } else { WRONG })
     }
 }
 

@@ -58,7 +58,7 @@ fn seat_all(
 }
 
 /// Has each worker do its part in a thread of its own, and tells then that none is left.
-fn work_all<R: Threads + Sync + Wait>(
+fn work_all<R: Threads + Sync + Wait + Clock>(
     rt: &R,
     domain: &Domain<Job>,
     desk: &Desk<Held>,
@@ -81,14 +81,14 @@ fn work_all<R: Threads + Sync + Wait>(
 
 /// What the workers have, apart.
 #[derive(Drop)]
-struct Parts {
+pub struct Parts {
     cpus: Vec<Cpu<Job>>,
     seats: Vec<DeskSeat<Held>>,
     counts: Counts,
 }
 
 /// Takes the workers' processors and seats from them, and adds up what they counted.
-fn take_apart(
+pub fn take_apart(
     mut workers: Vec<Worker>,
     mut parts: Parts,
     domain: &Domain<Job>,
@@ -110,7 +110,7 @@ fn take_apart(
 }
 
 /// Closes the desk, and takes the domain down.
-fn end(domain: Domain<Job>, desk: Desk<Held>, parts: Parts, mut driver: Driver) -> Outcome
+pub fn end(domain: Domain<Job>, desk: Desk<Held>, parts: Parts, mut driver: Driver) -> Outcome
     requires cpus { Each (IsOf domain) parts.cpus.items }
     requires room { vec_len parts.cpus < vec_capacity parts.cpus }
     requires seats { AreAllSeats desk parts.seats.items }
@@ -137,17 +137,17 @@ fn end(domain: Domain<Job>, desk: Desk<Held>, parts: Parts, mut driver: Driver) 
 }
 
 /// What a run begins with.
-struct Start {
-    domain: Domain<Job>,
-    desk: Desk<Held>,
-    workers: Vec<Worker>,
-    driver: Driver,
-    parts: Parts,
+pub struct Start {
+    pub domain: Domain<Job>,
+    pub desk: Desk<Held>,
+    pub workers: Vec<Worker>,
+    pub driver: Driver,
+    pub parts: Parts,
 }
 
 /// Makes a domain, a desk and the workers. Memory is taken before the desk is made, for all that comes: a desk must be
 /// closed with its seats.
-fn prepare(alloc: Global) -> Result<Start>
+pub fn prepare(alloc: Global) -> Result<Start>
     ensures { IfOk result IsPrepared }
 {
     let processors = usize::from(PROCESSORS);
@@ -165,6 +165,7 @@ fn prepare(alloc: Global) -> Result<Start>
     let driver = Driver {
         cpu,
         writer,
+        turns: [0; PROCESSORS as usize],
         replaced: [Replaced::NONE; AGES],
         counts: Counts::new(),
     };

@@ -1,6 +1,6 @@
 //! What the threads tell each other beside the domain.
-use std::sync::atomic::AtomicU64;
 use std::sync::atomic::Ordering::SeqCst;
+use std::sync::atomic::{AtomicBool, AtomicU64};
 
 /// How many threads read, queue and wait. Each has a processor; one more thread has the last processor, and drives.
 pub const WORKERS: usize = 7;
@@ -11,6 +11,10 @@ pub const AGES: usize = 16;
 /// Words that all threads share.
 #[derive(Drop)]
 pub struct Signs {
+    /// How many workers have come.
+    here: AtomicU64,
+    /// Whether one of them has waited in vain for the others.
+    alone: AtomicBool,
     /// How many jobs of each worker's processor were run.
     run: [AtomicU64; WORKERS],
     /// 1 from when the workers are to come to an end.
@@ -25,6 +29,8 @@ pub struct Signs {
 impl Signs {
     pub fn new() -> Signs {
         Signs {
+            here: AtomicU64::new(0),
+            alone: AtomicBool::new(false),
             run: [
                 AtomicU64::new(0),
                 AtomicU64::new(0),
@@ -57,6 +63,26 @@ impl Signs {
         }
     }
 
+    /// One more worker has come.
+    pub fn come(&self) {
+        self.here.fetch_add(1, SeqCst);
+    }
+
+    /// Whether all workers have come.
+    pub fn are_all_here(&self) -> bool {
+        self.here.load(SeqCst) == WORKERS as u64
+    }
+
+    /// Tells that a worker has waited in vain for the others.
+    pub fn set_alone(&self) {
+        self.alone.store(true, SeqCst);
+    }
+
+    /// Whether a worker has waited in vain for the others.
+    pub fn is_alone(&self) -> bool {
+        self.alone.load(SeqCst)
+    }
+
     /// Has the workers come to an end.
     pub fn end(&self) {
         self.ending.store(1, SeqCst);
@@ -77,9 +103,9 @@ impl Signs {
         self.over.load(SeqCst) != 0
     }
 
-    /// Counts a job of this processor, and tells how many of its jobs were run before.
-    pub fn count_run(&self, processor: u16) -> u64 {
-        self.run[processor as usize % WORKERS].fetch_add(1, SeqCst)
+    /// So many jobs of this processor were run.
+    pub fn set_run(&self, processor: u16, run: u64) {
+        self.run[processor as usize % WORKERS].store(run, SeqCst);
     }
 
     /// How many jobs of this processor were run.

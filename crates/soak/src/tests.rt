@@ -1,17 +1,27 @@
+ghost use Rattle.soak.specs.Workers.{IsAtWork, StaysAtWork};
+ghost use Rattle.soak.specs.Drivers.{IsDriving};
+
 use crate::command_line::length_of;
 use crate::counts::{Counts, count};
-use crate::driver::Deadline;
+use crate::driver::{Deadline, Driver, take_all};
 use crate::outcome::Outcome;
-use crate::run::run;
-use crate::worker::Length;
-use domain::{InUse, Totals};
-use std::process::Abort;
+use crate::run::{Start, end, prepare, run, take_apart};
+use crate::signs::Signs;
+use crate::worker::{
+    Job, Length, Worker, check_done, hand_on, meet, queue, read, wait_for_jobs, wait_for_period,
+};
+use anyhow::Result;
+use desk::Desk;
+use domain::{Domain, Held, InUse, Totals};
+use std::process::{Abort, ExitCode};
+use std::sync::Wait;
 use std::test::Fail;
 use std::time::Instant;
 
-/// What a thread did that opened and closed two sections, and queued a job that was run.
+/// What seven workers did that opened and closed two sections, and queued a job that was run.
 fn some_counts() -> Counts {
     let mut counts = Counts::new();
+    counts.met = 7;
     counts.opened = 2;
     counts.closed = 2;
     counts.queued = 1;
@@ -30,8 +40,9 @@ fn some_totals() -> Totals {
     }
 }
 
-/// Would catch a section that is lost or closed twice on its way to another thread, a job that is lost, doubled or out
-/// of its order, a wait that is too short or never ends, and totals that are not what was done.
+/// Would catch workers that are not all at it at once, a section that is lost or closed twice on its way to another
+/// thread, a job that is lost, doubled or out of its order, a wait that is too short or never ends, and totals that are
+/// not what was done.
 #[test]
 fn eight_threads_make_rounds(rt: HostRuntime) -> Result<(), Fail> {
     for (rounds, opened, queued, waited, barriers) in [(48, 672, 336, 21, 28), (0, 0, 0, 0, 7)] {
@@ -39,6 +50,7 @@ fn eight_threads_make_rounds(rt: HostRuntime) -> Result<(), Fail> {
         let Ok(totals) = totals else {
             panic!(rt; "nothing is in use any more");
         };
+        assert_eq!(rt; counts.met, 7);
         assert_eq!(rt; (counts.opened, counts.closed), (opened, opened));
         assert_eq!(rt; (totals.opened, totals.closed), (opened, opened));
         assert_eq!(rt; (counts.queued, counts.run), (queued, queued));
@@ -54,6 +66,85 @@ fn eight_threads_make_rounds(rt: HostRuntime) -> Result<(), Fail> {
         assert_eq!(rt; (counts.misplaced, counts.early), (0, 0));
         assert_eq!(rt; (counts.stale, counts.torn), (0, 0));
     }
+    Ok(())
+}
+
+/// Puts a version of several pieces, and says that it is too old.
+fn put_torn(domain: &Domain<Job>, driver: &mut Driver, signs: &Signs)
+    requires { IsDriving domain.now driver.old }
+    ensures { IsDriving domain.now driver.new }
+{
+    let Some(mut slot) = driver.writer.blank() else {
+        return;
+    };
+    driver.writer.set(&mut driver.cpu, &mut slot, 0, 7);
+    driver.writer.put_and_ask(domain, &mut driver.cpu, slot);
+    signs.set_age(driver.writer.version(), 2);
+}
+
+/// All that the checks look for, each once, but for a wait that is too short: one where not all jobs were run, and one
+/// where a cookie isn't done.
+fn go_wrong<R: Wait>(
+    rt: &R,
+    domain: &Domain<Job>,
+    desk: &Desk<Held>,
+    signs: &Signs,
+    worker: &mut Worker,
+    driver: &mut Driver,
+)
+    requires worker { IsAtWork domain.now desk.now worker.old }
+    requires driver { IsDriving domain.now driver.old }
+    ensures worker { StaysAtWork domain.now desk.now worker.old worker.new }
+    ensures driver { IsDriving domain.now driver.new }
+{
+    put_torn(domain, driver, signs);
+    read(domain, desk, signs, worker);
+    worker.counts.queued = 1; // as if a job had been lost
+    queue(rt, domain, desk, worker);
+    wait_for_period(rt, domain, desk, worker);
+    take_all(rt, domain, driver, signs);
+    wait_for_jobs(rt, domain, desk, signs, worker);
+    let mut cookie = worker.cpu.cookie();
+    check_done(domain, desk, worker, &mut cookie);
+    hand_on(domain, desk, worker); // nobody comes to the desk
+}
+
+fn run_wrongly<R: Wait + AllocGlobal>(rt: &R) -> Result<Outcome> {
+    let Start {
+        domain,
+        desk,
+        mut workers,
+        mut driver,
+        parts,
+    } = prepare(rt.alloc())?;
+    let signs = Signs::new();
+    let mut worker = workers.pop().unwrap();
+    go_wrong(rt, &domain, &desk, &signs, &mut worker, &mut driver);
+    workers.push_reserved(worker);
+    let parts = take_apart(workers, parts, &domain, &desk);
+    Ok(end(domain, desk, parts, driver))
+}
+
+/// Would catch a worker that waits for nobody, or never finds the others.
+#[test]
+fn workers_meet(rt: HostRuntime) {
+    let signs = Signs::new();
+    for met in [0, 0, 0, 0, 0, 0, 1] {
+        let mut counts = Counts::new();
+        meet(&rt, &signs, 1, &mut counts);
+        assert_eq!(rt; counts.met, met);
+    }
+}
+
+/// Would catch a check that is not made, or whose count is lost.
+#[test]
+fn checks_notice_a_wrong_run(rt: HostRuntime) -> Result<(), Fail> {
+    let outcome = run_wrongly(&rt)?;
+    let counts = outcome.counts;
+    assert_eq!(rt; (counts.stale, counts.torn), (1, 1));
+    assert_eq!(rt; (counts.misplaced, counts.early), (1, 2));
+    assert_eq!(rt; (counts.met, counts.left, counts.refused), (0, 1, 0));
+    assert_eq!(rt; outcome.status(), ExitCode::FAILURE);
     Ok(())
 }
 
@@ -80,6 +171,11 @@ fn is_exact(counts: Counts, totals: Result<Totals, InUse>) -> bool {
 fn exact_totals(rt: HostRuntime) {
     assert!(rt; is_exact(some_counts(), Ok(some_totals())));
     assert!(rt; !is_exact(some_counts(), Err(InUse::Period)));
+    let outcome = Outcome {
+        counts: some_counts(),
+        totals: Ok(some_totals()),
+    };
+    assert_eq!(rt; outcome.status(), ExitCode::SUCCESS);
 }
 
 /// Would catch one reading of the words for another.
@@ -107,7 +203,7 @@ fn prints_an_outcome(rt: HostRuntime) -> Result<(), Fail> {
     let mut counts = some_counts();
     count(&mut counts.early);
     let text =
-        "sections opened: 2\nsections closed: 2\njobs queued: 1\njobs run: 1\ncookies polled: 0\n\
+        "workers that met all others: 7\nsections opened: 2\nsections closed: 2\njobs queued: 1\njobs run: 1\ncookies polled: 0\n\
         waits for a grace period: 0\nbarriers: 0\nsections left on the desk: 0\ncalls refused: 0\n\
         jobs misplaced: 0\nwaits that were too short: 1\nversions that were too old: 0\n\
         versions of several pieces: 0";

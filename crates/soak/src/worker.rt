@@ -8,18 +8,21 @@
 //! another thread has taken it. Hence each section is closed by a thread that doesn't wait. So each grace period ends,
 //! and whoever waits for one drives it. A barrier waits for jobs besides, which the driver runs; the driver waits for no
 //! section and no job, and goes on until no worker is left.
-ghost use Rattle.std.specs.Prelude.{◌≡◌, ◌<◌, IfSome};
+ghost use Rattle.std.specs.Prelude.{◌≡◌, ◌<◌, ◌==◌, ◌⊎◌, IfSome, not};
 ghost use Rattle.sections.specs.Words.{cells_in};
 ghost use Rattle.sections.specs.Calls.{IsSameCpu};
 ghost use Rattle.domain.specs.Views.{IsOf, Stays};
 ghost use Rattle.soak.specs.Workers.{IsAtWork, StaysAtWork};
+ghost use Rattle.soak.specs.Counts.{more_if};
+ghost use Rattle.soak.specs.Checks.{judged, Checks, IsRefused, WaitsAndChecks};
 
 use crate::counts::{Counts, count};
 use crate::signs::Signs;
 use desk::{Desk, DeskSeat};
-use domain::{Cpu, Domain, Held, Reading};
+use domain::{Cookie, Cpu, Domain, Held, Reading};
 use std::sync::Wait;
-use std::thread::yield_now;
+use std::thread::{sleep, yield_now};
+use std::time::{Clock, Duration};
 
 /// A job tells where it was queued.
 #[derive(Drop)]
@@ -51,6 +54,9 @@ impl Length {
 /// In so many rounds a worker waits once for a grace period, and once for its jobs: so there are never more than these
 /// jobs of it, however long it goes on.
 const ROUNDS_TO_A_WAIT: u64 = 16;
+
+/// How often a worker looks for the others in the beginning, a millisecond apart, before it gives up.
+const LOOKS: u32 = 10_000;
 
 /// What one thread has.
 #[derive(Drop)]
@@ -91,7 +97,9 @@ fn look_at(cpu: &mut Cpu<Job>, reading: &mut Reading, signs: &Signs) -> Sight
 }
 
 /// Counts a version that was too old, and one of several pieces.
-fn judge(counts: &mut Counts, sight: Sight) {
+fn judge(counts: &mut Counts, sight: Sight)
+    ensures { counts.new ≡ judged sight counts.old }
+{
     if sight.age > 1 {
         count(&mut counts.stale);
     }
@@ -102,7 +110,7 @@ fn judge(counts: &mut Counts, sight: Sight) {
 
 /// Opens a section, reads the version that is there, and closes it. A version that was replaced may be read until its
 /// next grace period has ended, and that can't end as long as the section is open.
-fn read(domain: &Domain<Job>, desk: &Desk<Held>, signs: &Signs, worker: &mut Worker)
+pub fn read(domain: &Domain<Job>, desk: &Desk<Held>, signs: &Signs, worker: &mut Worker)
     requires { IsAtWork domain.now desk.now worker.old }
     ensures { StaysAtWork domain.now desk.now worker.old worker.new }
 {
@@ -132,7 +140,7 @@ fn close(domain: &Domain<Job>, desk: &Desk<Held>, worker: &mut Worker, found: Op
 }
 
 /// Opens a section for whoever comes to the desk next, and closes what lay there.
-fn hand_on(domain: &Domain<Job>, desk: &Desk<Held>, worker: &mut Worker)
+pub fn hand_on(domain: &Domain<Job>, desk: &Desk<Held>, worker: &mut Worker)
     requires { IsAtWork domain.now desk.now worker.old }
     ensures { StaysAtWork domain.now desk.now worker.old worker.new }
 {
@@ -155,7 +163,7 @@ fn take_back(domain: &Domain<Job>, desk: &Desk<Held>, worker: &mut Worker)
 }
 
 /// Queues a job.
-fn queue<R: Wait>(rt: &R, domain: &Domain<Job>, desk: &Desk<Held>, worker: &mut Worker)
+pub fn queue<R: Wait>(rt: &R, domain: &Domain<Job>, desk: &Desk<Held>, worker: &mut Worker)
     requires { IsAtWork domain.now desk.now worker.old }
     ensures { StaysAtWork domain.now desk.now worker.old worker.new }
 {
@@ -179,25 +187,54 @@ fn poll(domain: &Domain<Job>, desk: &Desk<Held>, worker: &mut Worker)
     count(&mut worker.counts.polled);
 }
 
-/// Waits for a grace period. A cookie of before must be done then.
-fn wait_for_period<R: Wait>(rt: &R, domain: &Domain<Job>, desk: &Desk<Held>, worker: &mut Worker)
-    requires { IsAtWork domain.now desk.now worker.old }
-    ensures { StaysAtWork domain.now desk.now worker.old worker.new }
+/// Polls a cookie that must be done, and counts a wait that was too short where it isn't.
+pub fn check_done(domain: &Domain<Job>, desk: &Desk<Held>, worker: &mut Worker, cookie: &mut Cookie)
+    requires worker { IsAtWork domain.now desk.now worker.old }
+    requires cookie { cookie.old.domain ≡ domain.now.domain }
+    ensures stays { StaysAtWork domain.now desk.now worker.old worker.new }
+    ensures checks { Checks cookie.old worker.old worker.new }
 {
-    let mut cookie = worker.cpu.cookie();
-    // It would wait for itself.
-    if worker.cpu.open_here() > 0 || domain.synchronize(rt, &mut worker.cpu).is_err() {
-        count(&mut worker.counts.refused);
-        return;
-    }
-    count(&mut worker.counts.waited);
-    if !worker.cpu.poll(&mut cookie) {
+    if !worker.cpu.poll(cookie) {
         count(&mut worker.counts.early);
     }
 }
 
+/// Waits for a grace period. A cookie of before must be done then.
+pub fn wait_for_period<R: Wait>(
+    rt: &R,
+    domain: &Domain<Job>,
+    desk: &Desk<Held>,
+    worker: &mut Worker,
+)
+    requires { IsAtWork domain.now desk.now worker.old }
+    ensures stays { StaysAtWork domain.now desk.now worker.old worker.new }
+    ensures waits { IsRefused worker.old.counts worker.new.counts ⊎ WaitsAndChecks worker.old worker.new }
+{
+    let mut cookie = worker.cpu.cookie();
+    // It would wait for itself.
+    if worker.cpu.open_here() > 0 {
+        count(&mut worker.counts.refused);
+        return;
+    }
+    let Ok(()) = domain.synchronize(rt, &mut worker.cpu) else {
+        count(&mut worker.counts.refused);
+        return;
+    };
+    count(&mut worker.counts.waited);
+    check_done(domain, desk, worker, &mut cookie);
+}
+
+/// Counts a wait that was too short where not all jobs were run that a worker has queued.
+fn check_run(counts: &mut Counts, run: u64)
+    ensures { counts.new ≡ record counts.old { early = more_if (not (run == counts.old.queued)) counts.old.early } }
+{
+    if run != counts.queued {
+        count(&mut counts.early);
+    }
+}
+
 /// Waits until all jobs are run that this thread queued.
-fn wait_for_jobs<R: Wait>(
+pub fn wait_for_jobs<R: Wait>(
     rt: &R,
     domain: &Domain<Job>,
     desk: &Desk<Held>,
@@ -218,9 +255,25 @@ fn wait_for_jobs<R: Wait>(
     }
     domain.barrier(rt, &mut worker.cpu, &ticket);
     count(&mut worker.counts.barriers);
-    if signs.run_of(worker.cpu.processor()) != worker.counts.queued {
-        count(&mut worker.counts.early);
+    let run = signs.run_of(worker.cpu.processor());
+    check_run(&mut worker.counts, run);
+}
+
+/// Waits until all workers have come, so that they are at it at once, and counts that. It looks so many times. Where one
+/// has looked in vain, none waits any more.
+pub fn meet<R: Clock>(rt: &R, signs: &Signs, looks: u32, counts: &mut Counts) {
+    signs.come();
+    for _ in 0..looks {
+        if signs.are_all_here() {
+            count(&mut counts.met);
+            return;
+        }
+        if signs.is_alone() {
+            return;
+        }
+        sleep(rt, Duration::from_millis(1));
     }
+    signs.set_alone();
 }
 
 /// All that a thread does, once. It waits in some rounds alone, and at their end.
@@ -247,8 +300,8 @@ fn make_round<R: Wait>(
     }
 }
 
-/// Makes rounds until that is enough, and waits for the last jobs.
-pub fn work<R: Wait>(
+/// Makes rounds until that is enough, once all workers have come, and waits for the last jobs.
+pub fn work<R: Wait + Clock>(
     rt: &R,
     domain: &Domain<Job>,
     desk: &Desk<Held>,
@@ -259,6 +312,7 @@ pub fn work<R: Wait>(
     requires { IsAtWork domain.now desk.now worker.old }
     ensures { StaysAtWork domain.now desk.now worker.old worker.new }
 {
+    meet(rt, signs, LOOKS, &mut worker.counts);
     for round in 0..length.rounds() {
         if signs.is_ending() {
             break;

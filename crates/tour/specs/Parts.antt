@@ -1,8 +1,23 @@
--- What each part of the tour begins with.
+-- What each part of the tour begins with, and what it does.
+use Rattle.std.specs.Prelude.{ℕ, List, ◌∷◌, replicate}
+use Rattle.sections.specs.WriterViews.{WriterView}
 use Rattle.domain.specs.Views.{DomainView, CpuView, IsOf}
-use Rattle.domain.specs.Waiting.{HasNoneOpen}
+use Rattle.domain.specs.Waiting.{HasNoneOpen, WaitedFor}
+use Rattle.shelf.specs.Replacing.{Replaces}
+
+-- the sixteen words of the configuration of this number
+abbrev pub text_of : ℕ → List ℕ
+text_of number = number ∷ number ∷ replicate 14 0
 
 module _ {J : Type 0} where
   -- a processor of this domain with no section open
   abbrev pub IsReady : DomainView → CpuView J → Type 0
   IsReady d c = IsOf d c × HasNoneOpen c
+
+  -- a version with these words was put, and behind that a moment was noted: no section that was open then is open now
+  pub record ReplacesAndWaits (text : List ℕ) (w : WriterView) (c c' : CpuView J) : Type 0 where
+    pub between : CpuView J
+    pub writer : WriterView
+    pub cookie : ℕ
+    pub replaces : Replaces text cookie w c writer between
+    pub waits : WaitedFor between c'

@@ -1,12 +1,14 @@
 //! An updater that doesn't wait, and the callbacks of what it replaced.
 ghost use Rattle.std.specs.Prelude.{◌≡◌, ◌<◌};
+ghost use Rattle.sections.specs.Words.{cells_in};
 ghost use Rattle.domain.specs.Views.{IsOf};
 ghost use Rattle.tour.specs.Parts.{IsReady};
 
 use crate::config::{Archive, Config, Old};
+use crate::readers::read_once;
 use anyhow::Result;
 use domain::{Cpu, Domain};
-use shelf::Shelf;
+use shelf::{Shelf, Values};
 use std::sync::Wait;
 use std::thread::yield_now;
 
@@ -63,18 +65,19 @@ pub fn run_ready<R: Wait>(
 fn serve<R: Wait>(
     rt: &R,
     domain: &Domain<Old>,
-    mut cpu: Cpu<Old>,
+    cpu: &mut Cpu<Old>,
     processor: u16,
     archive: &Archive,
 ) -> Result<usize>
-    requires domain { IsOf domain.now cpu }
+    requires domain { IsOf domain.now cpu.old }
     requires processor { processor < domain.now.processors }
+    ensures { IsOf domain.now cpu.new }
 {
     let mut ran: usize = 0;
     for _ in rt.forever() {
-        domain.advance(rt, &mut cpu)?;
-        ran = ran.saturating_add(run_ready(rt, domain, &mut cpu, processor, archive)?);
-        let (queued, _) = domain.lens(rt, &mut cpu, processor)?;
+        domain.advance(rt, cpu)?;
+        ran = ran.saturating_add(run_ready(rt, domain, cpu, processor, archive)?);
+        let (queued, _) = domain.lens(rt, cpu, processor)?;
         if queued == [0; 4] {
             break;
         }
@@ -84,21 +87,24 @@ fn serve<R: Wait>(
 }
 
 /// Replaces the configuration with number 4 and then with number 5, and doesn't wait in between. Runs the callbacks
-/// behind that, and answers how many there were.
+/// behind that, and answers how many there were, and what a section reads in the end.
 pub fn replace_and_serve<R: Wait>(
     rt: &R,
     domain: &Domain<Old>,
     mut cpu: Cpu<Old>,
     mut shelf: Shelf<Config>,
+    configs: &Values<Config>,
     archive: &Archive,
-) -> Result<usize>
+) -> Result<(usize, Config)>
     requires cpu { IsReady domain.now cpu }
     requires shelf { shelf.domain ≡ domain.now.domain }
+    requires cell { configs.now < cells_in domain.now.domain }
 {
     let processor = cpu.processor();
     let third = Old { number: 3 };
     let fourth = Old { number: 4 };
     replace_and_call(rt, domain, &mut cpu, &mut shelf, archive, third, 4)?;
     replace_and_call(rt, domain, &mut cpu, &mut shelf, archive, fourth, 5)?;
-    serve(rt, domain, cpu, processor, archive)
+    let ran = serve(rt, domain, &mut cpu, processor, archive)?;
+    Ok((ran, read_once(&mut cpu, configs)?))
 }

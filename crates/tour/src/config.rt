@@ -1,7 +1,11 @@
 //! A configuration that is replaced while it is read, and what is done once nobody reads the old one.
+ghost use Rattle.std.specs.Prelude.{◌≡◌};
+
 use shelf::Versioned;
-use std::sync::atomic::AtomicU64;
 use std::sync::atomic::Ordering::SeqCst;
+use std::sync::atomic::{AtomicBool, AtomicU64};
+use std::thread::sleep;
+use std::time::{Clock, Duration};
 
 /// The configuration: its number, twice. A reader that saw half of a change would find two numbers.
 #[derive(Clone, Copy, Debug, PartialEq, Eq)]
@@ -11,7 +15,9 @@ pub struct Config {
 }
 
 impl Config {
-    pub fn new(number: u64) -> Config {
+    pub fn new(number: u64) -> Config
+        ensures { result ≡ record { number = number; again = number } }
+    {
         Config {
             number,
             again: number,
@@ -78,8 +84,44 @@ impl Archive {
         self.count.fetch_add(1, SeqCst);
     }
 
+    /// How many lie there.
+    pub fn count(&self) -> u64 {
+        self.count.load(SeqCst)
+    }
+
     /// How many lie there, and the number of the last one.
     pub fn told(&self) -> (u64, u64) {
-        (self.count.load(SeqCst), self.last.load(SeqCst))
+        (self.count(), self.last.load(SeqCst))
+    }
+}
+
+/// How often a thread looks, a millisecond apart, before it gives up.
+pub const LOOKS: u32 = 10_000;
+
+/// By which a reader tells that it has found its version, so that an updater replaces just that one.
+#[derive(Drop)]
+pub struct Sign {
+    given: AtomicBool,
+}
+
+impl Sign {
+    pub fn new() -> Sign {
+        Sign {
+            given: AtomicBool::new(false),
+        }
+    }
+
+    pub fn give(&self) {
+        self.given.store(true, SeqCst);
+    }
+
+    /// Waits until it is given, or has been looked for often enough.
+    pub fn wait<R: Clock>(&self, rt: &R) {
+        for _ in 0..LOOKS {
+            if self.given.load(SeqCst) {
+                break;
+            }
+            sleep(rt, Duration::from_millis(1));
+        }
     }
 }

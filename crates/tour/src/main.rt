@@ -16,9 +16,9 @@ mod updaters;
 
 use anyhow::Result;
 use callbacks::replace_and_serve;
-use config::{Archive, Config, Old};
+use config::{Archive, Config, Old, Sign};
 use domain::{Cpu, Domain, HeldPin, Limits, Writer};
-use readers::{open, read_quickly, read_slowly};
+use readers::{Slept, open, read_and_sleep, read_quickly};
 use shelf::{Shelf, Values};
 use std::alloc::Global;
 use std::fmt;
@@ -27,10 +27,7 @@ use std::thread::{Threads, join};
 use std::time::Clock;
 use updaters::{Polled, replace, replace_and_poll};
 
-/// In how many sections a reader sleeps.
-const NAPS: u32 = 5;
-
-/// In how many sections another one only reads.
+/// In how many sections a reader only reads.
 const READS: u32 = 1_000;
 
 const LIMITS: Limits = Limits {
@@ -82,8 +79,7 @@ fn shelve(
     Ok((shelf, configs))
 }
 
-/// A reader sleeps in its sections, while an updater replaces the configuration and waits. Answers whether the reader
-/// found in each section the same before and behind its sleep.
+/// A reader sleeps in a section, while an updater replaces what it has found there, and waits.
 fn wait<R: Threads + Wait + Clock + Sync>(
     rt: &R,
     domain: &Domain<Old>,
@@ -91,17 +87,25 @@ fn wait<R: Threads + Wait + Clock + Sync>(
     updater: Cpu<Old>,
     shelf: Shelf<Config>,
     configs: &Values<Config>,
-) -> Result<bool>
+    archive: &Archive,
+) -> Result<Slept>
     requires reader { configs.now < cells_in reader.cpu.domain }
     requires updater { IsReady domain.now updater × (shelf.domain ≡ domain.now.domain) }
 {
-    let (same, replaced) = join(
+    let sign = Sign::new();
+    let old = Old { number: 1 };
+    let (slept, replaced) = join(
         rt,
-        || read_slowly(rt, reader, configs, NAPS),
-        || replace(rt, domain, updater, shelf, 2),
+        || read_and_sleep(rt, reader, configs, &sign, archive),
+        || -> Result<Cpu<Old>>
+            requires { IsReady domain.now updater × (shelf.domain ≡ domain.now.domain) }
+        {
+            sign.wait(rt);
+            replace(rt, domain, updater, shelf, archive, old, 2)
+        },
     );
     replaced?;
-    same
+    slept
 }
 
 /// A section that was opened by one thread and closed by another.
@@ -119,7 +123,12 @@ struct Handed {
 
 impl fmt::Display for Handed {
     fn fmt<W: fmt::Write>(&self, f: &mut fmt::Formatter<W>) -> fmt::Result {
-        let Polled { early, read } = &self.polled;
+        let Polled {
+            early,
+            late,
+            read,
+            new,
+        } = &self.polled;
         writeln!(
             f,
             "read in {READS} sections, and found a whole configuration in each: {}",
@@ -130,12 +139,14 @@ impl fmt::Display for Handed {
             "opened on processor {}, and found version {}",
             self.opened_on, self.version
         )?;
-        writeln!(f, "polled: {early}")?;
-        write!(
+        writeln!(f, "polled while it was open: {early}")?;
+        writeln!(
             f,
             "closed on processor {}, and read configuration {} just before",
             self.closed_on, read.number
-        )
+        )?;
+        writeln!(f, "polled in the end: {late}")?;
+        write!(f, "configuration {} is there", new.number)
     }
 }
 
@@ -176,9 +187,8 @@ fn hand_over<R: Threads + Wait + Sync>(
     })
 }
 
-/// A reader sleeps in its sections, while an updater replaces the configuration twice and doesn't wait: callbacks run
-/// once nobody reads what it replaced. Answers whether the reader found in each section the same before and behind its sleep, and how many
-/// callbacks ran.
+/// A reader sleeps in a section, while an updater replaces the configuration twice and doesn't wait: callbacks run once
+/// nobody reads what it replaced. Answers how many ran, and what was read in the end.
 fn call_back<R: Threads + Wait + Clock + Sync>(
     rt: &R,
     domain: &Domain<Old>,
@@ -187,54 +197,49 @@ fn call_back<R: Threads + Wait + Clock + Sync>(
     shelf: Shelf<Config>,
     configs: &Values<Config>,
     archive: &Archive,
-) -> Result<(bool, usize)>
+) -> Result<(Slept, usize, Config)>
     requires reader { configs.now < cells_in reader.cpu.domain }
     requires updater { IsReady domain.now updater × (shelf.domain ≡ domain.now.domain) }
+    requires cell { configs.now < cells_in domain.now.domain }
 {
-    let (same, ran) = join(
+    let sign = Sign::new();
+    let (slept, served) = join(
         rt,
-        || read_slowly(rt, reader, configs, NAPS),
-        || replace_and_serve(rt, domain, updater, shelf, archive),
+        || read_and_sleep(rt, reader, configs, &sign, archive),
+        || -> Result<(usize, Config)>
+            requires { IsReady domain.now updater × (shelf.domain ≡ domain.now.domain) × (configs.now < cells_in domain.now.domain) }
+        {
+            sign.wait(rt);
+            replace_and_serve(rt, domain, updater, shelf, configs, archive)
+        },
     );
-    Ok((same?, ran?))
+    let (ran, read) = served?;
+    Ok((slept?, ran, read))
 }
 
-/// Prints what the first two did, which is the same each time.
-fn print_wait<R: Print + AllocGlobal>(rt: &R, same: bool) -> Result<()> {
-    println!(rt; "slept in {NAPS} sections, and read the same before and behind it: {same}")?;
-    println!(rt; "configuration 2 is there, and nobody reads number 1")?;
-    Ok(())
-}
-
-/// Prints what the next three did, which is the same each time.
-fn print_handed<R: Print + AllocGlobal>(rt: &R, handed: &Handed) -> Result<()> {
-    println!(rt; "{handed}")?;
-    println!(rt; "configuration 3 is there, and nobody reads number 2")?;
-    Ok(())
-}
-
-/// Prints what the last two did, which is the same each time.
-fn print_filed<R: Print + AllocGlobal>(
+/// Prints what a reader found that slept, and what is there in the end, which is the same each time.
+fn print_slept<R: Print + AllocGlobal>(
     rt: &R,
-    same: bool,
-    ran: usize,
+    slept: &Slept,
+    read: Config,
     archive: &Archive,
 ) -> Result<()> {
     let (count, last) = archive.told();
-    println!(rt; "slept in {NAPS} sections, and read the same before and behind it: {same}")?;
-    println!(rt; "callbacks that ran: {ran}")?;
+    println!(rt; "{slept}")?;
     println!(rt;
-        "configuration 5 is there, {count} are filed, and the last one of them is number {last}"
+        "configuration {} is there, {count} filed, the last one of them number {last}",
+        read.number
     )?;
     Ok(())
 }
 
-/// Readers sleep while an updater waits, in a domain of their own.
+/// A reader sleeps while an updater waits, in a domain of their own.
 fn show_wait<R: Threads + Wait + Clock + Print + AllocGlobal + Sync>(rt: &R) -> Result<()> {
     let (domain, reader, mut updater, writer) = pair(rt.alloc())?;
     let (shelf, configs) = shelve(&domain, &mut updater, writer, 1)?;
-    let same = wait(rt, &domain, reader, updater, shelf, &configs)?;
-    print_wait(rt, same)
+    let archive = Archive::new();
+    let slept = wait(rt, &domain, reader, updater, shelf, &configs, &archive)?;
+    print_slept(rt, &slept, slept.another, &archive)
 }
 
 /// A section goes from a thread to another, in a domain of their own.
@@ -242,7 +247,8 @@ fn show_handed<R: Threads + Wait + Print + AllocGlobal + Sync>(rt: &R) -> Result
     let (domain, opener, reader, mut updater, writer) = trio(rt.alloc())?;
     let (shelf, configs) = shelve(&domain, &mut updater, writer, 2)?;
     let handed = hand_over(rt, &domain, opener, reader, updater, shelf, &configs)?;
-    print_handed(rt, &handed)
+    println!(rt; "{handed}")?;
+    Ok(())
 }
 
 /// Callbacks run behind what an updater replaced, in a domain of their own.
@@ -250,8 +256,9 @@ fn show_filed<R: Threads + Wait + Clock + Print + AllocGlobal + Sync>(rt: &R) ->
     let (domain, reader, mut updater, writer) = pair(rt.alloc())?;
     let (shelf, configs) = shelve(&domain, &mut updater, writer, 3)?;
     let archive = Archive::new();
-    let (same, ran) = call_back(rt, &domain, reader, updater, shelf, &configs, &archive)?;
-    print_filed(rt, same, ran, &archive)
+    let (slept, ran, read) = call_back(rt, &domain, reader, updater, shelf, &configs, &archive)?;
+    println!(rt; "callbacks that ran: {ran}")?;
+    print_slept(rt, &slept, read, &archive)
 }
 
 /// The threads' processors go with them, and are gone when they end.

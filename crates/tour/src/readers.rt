@@ -4,47 +4,16 @@ ghost use Rattle.sections.specs.Words.{cells_in};
 ghost use Rattle.sections.specs.Calls.{IsSameCpu};
 ghost use Rattle.sections.specs.Reads.{IsPinned};
 
-use crate::config::{Config, Old};
+use crate::config::{Archive, Config, LOOKS, Old, Sign};
 use anyhow::Result;
 use domain::{Cpu, HeldPin};
 use shelf::Values;
+use std::fmt;
 use std::thread::sleep;
 use std::time::{Clock, Duration};
 
-/// How long a reader sleeps in its section, in milliseconds.
-const NAP: u64 = 2;
-
-/// Reads the configuration in a section, and sleeps there. Answers whether what it read was still the same behind that.
-fn read_and_sleep<R: Clock>(rt: &R, cpu: &mut Cpu<Old>, configs: &Values<Config>) -> Result<bool>
-    requires { configs.now < cells_in cpu.old.cpu.domain }
-    ensures { IsSameCpu cpu.old.cpu cpu.new.cpu }
-{
-    let mut section = cpu.read_lock()?; // srcu_read_lock
-    let mut version = configs.find(cpu, &mut section); // srcu_dereference
-    let before = configs.load(cpu, &mut version);
-    sleep(rt, Duration::from_millis(NAP)); // a reader may sleep in its section
-    let behind = configs.load(cpu, &mut version); // word for word the same, whatever was put meanwhile
-    drop(version);
-    cpu.read_unlock(section); // srcu_read_unlock: code that leaves a section open is refused
-
-    Ok(before.is_whole() && before == behind)
-}
-
-/// Sleeps in so many sections. Answers whether nothing changed in any of them.
-pub fn read_slowly<R: Clock>(
-    rt: &R,
-    mut cpu: Cpu<Old>,
-    configs: &Values<Config>,
-    times: u32,
-) -> Result<bool>
-    requires { configs.now < cells_in cpu.cpu.domain }
-{
-    let mut same = true;
-    for _ in 0..times {
-        same &= read_and_sleep(rt, &mut cpu, configs)?;
-    }
-    Ok(same)
-}
+/// How long a reader sleeps in its section, in milliseconds, once its version is replaced.
+const NAP: u64 = 50;
 
 /// Reads the configuration in a section.
 pub fn read_once(cpu: &mut Cpu<Old>, configs: &Values<Config>) -> Result<Config>
@@ -56,6 +25,89 @@ pub fn read_once(cpu: &mut Cpu<Old>, configs: &Values<Config>) -> Result<Config>
     cpu.read_unlock(section);
 
     Ok(config)
+}
+
+/// Reads in sections of its own until another configuration is there than this one, or it has looked often enough.
+fn wait_for_another<R: Clock>(
+    rt: &R,
+    cpu: &mut Cpu<Old>,
+    configs: &Values<Config>,
+    this: Config,
+) -> Result<Config>
+    requires { configs.now < cells_in cpu.old.cpu.domain }
+    ensures { IsSameCpu cpu.old.cpu cpu.new.cpu }
+{
+    let mut seen = this;
+    for _ in 0..LOOKS {
+        seen = read_once(cpu, configs)?;
+        if seen != this {
+            break;
+        }
+        sleep(rt, Duration::from_millis(1));
+    }
+    Ok(seen)
+}
+
+/// What a reader found in a section in which it slept.
+#[derive(Drop)]
+pub struct Slept {
+    /// What its version held before its sleep.
+    pub before: Config,
+    /// What its version held behind it.
+    pub behind: Config,
+    /// What another section read meanwhile.
+    pub another: Config,
+    /// How many old versions were filed when the section was still open.
+    pub filed: u64,
+}
+
+impl fmt::Display for Slept {
+    fn fmt<W: fmt::Write>(&self, f: &mut fmt::Formatter<W>) -> fmt::Result {
+        let Slept {
+            before,
+            behind,
+            another,
+            filed,
+        } = self;
+        let (replaced, same) = (another != before, before.is_whole() && behind == before);
+        writeln!(
+            f,
+            "read configuration {}, and slept until another one was there: {replaced}",
+            before.number
+        )?;
+        writeln!(f, "read the same behind the sleep: {same}")?;
+        write!(f, "filed before the section was closed: {filed}")
+    }
+}
+
+/// Reads the configuration in a section, and sleeps there until it is replaced, and longer.
+pub fn read_and_sleep<R: Clock>(
+    rt: &R,
+    mut cpu: Cpu<Old>,
+    configs: &Values<Config>,
+    sign: &Sign,
+    archive: &Archive,
+) -> Result<Slept>
+    requires { configs.now < cells_in cpu.cpu.domain }
+    ensures { IfOk result (λ s. s.behind ≡ s.before) }
+{
+    let mut section = cpu.read_lock()?; // srcu_read_lock
+    let mut version = configs.find(&mut cpu, &mut section); // srcu_dereference
+    let before = configs.load(&mut cpu, &mut version);
+    sign.give(); // an updater waits for that
+    let another = wait_for_another(rt, &mut cpu, configs, before); // by then it has replaced the version
+    sleep(rt, Duration::from_millis(NAP)); // a reader may sleep in its section
+    let behind = configs.load(&mut cpu, &mut version); // word for word the same, whatever was put meanwhile
+    let filed = archive.count(); // 0: nobody takes it for one that is read no more
+    drop(version);
+    cpu.read_unlock(section); // srcu_read_unlock: code that leaves a section open is refused
+
+    Ok(Slept {
+        before,
+        behind,
+        another: another?,
+        filed,
+    })
 }
 
 /// Reads in so many sections. Answers whether a whole version was there in each of them.

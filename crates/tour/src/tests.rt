@@ -143,8 +143,9 @@ fn by_hand(rt: HostRuntime) -> Result<(), Fail> {
 }
 
 /// What is told of a replacement while a section is open: what the period's last steps answer, how many callbacks run
-/// while it is open and behind that, and what the section reads before the replacement and behind it.
-type Around = ([Advanced; 2], [usize; 2], [Config; 2]);
+/// while it is open and behind that, how many old versions are filed then, and what the section reads before the
+/// replacement and behind it.
+type Around = ([Advanced; 2], [usize; 2], [u64; 2], [Config; 2]);
 
 fn run_round_a_section<R: Wait>(
     rt: &R,
@@ -168,13 +169,15 @@ fn run_round_a_section<R: Wait>(
     let _flipped = domain.advance(rt, updater);
     let waiting = domain.advance(rt, updater);
     let early = run_ready(rt, domain, updater, processor, &archive);
+    let filed = archive.count();
     let behind = configs.load(reader, &mut version);
     drop(version);
     reader.read_unlock(section);
     let ended = domain.advance(rt, updater);
     let late = run_ready(rt, domain, updater, processor, &archive);
     replaced?;
-    Ok(([waiting, ended], [early?, late?], [before, behind]))
+    let filed = [filed, archive.count()];
+    Ok(([waiting, ended], [early?, late?], filed, [before, behind]))
 }
 
 fn run_in_a_pair<R: Wait + AllocGlobal>(rt: &R) -> Result<Around> {
@@ -183,17 +186,18 @@ fn run_in_a_pair<R: Wait + AllocGlobal>(rt: &R) -> Result<Around> {
     run_round_a_section(rt, &domain, &mut reader, &mut updater, &mut shelf, &configs)
 }
 
-/// Would catch a callback that runs while a section is open in which the version was found, one that never does, and a
-/// version that changes.
+/// Would catch a callback that runs while a section is open in which the version was found, one that never does, one
+/// that files a version twice, and a version that changes.
 #[test]
 fn callbacks(rt: HostRuntime) -> Result<(), Fail> {
-    let (steps, ran, read) = run_in_a_pair(&rt)?;
+    let (steps, ran, filed, read) = run_in_a_pair(&rt)?;
     let wanted = [
         Ok(Progress::Waiting(Index::Zero)),
         Ok(Progress::Ended(number(4))),
     ];
     assert_eq!(rt; steps, wanted);
-    assert_eq!(rt; (ran, read), ([0, 1], [Config::new(1), Config::new(1)]));
+    assert_eq!(rt; (ran, filed), ([0, 1], [0, 1]));
+    assert_eq!(rt; read, [Config::new(1), Config::new(1)]);
     Ok(())
 }
 

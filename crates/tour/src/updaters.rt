@@ -1,30 +1,36 @@
 //! Those who replace the configuration, one after the other, each on a processor of its own.
-ghost use Rattle.std.specs.Prelude.{◌≡◌};
+ghost use Rattle.std.specs.Prelude.{◌≡◌, ◌<◌, IfOk};
+ghost use Rattle.sections.specs.Words.{cells_in};
 ghost use Rattle.sections.specs.Reads.{IsPinned};
 ghost use Rattle.domain.specs.Views.{IsOf};
-ghost use Rattle.tour.specs.Parts.{IsReady};
+ghost use Rattle.tour.specs.Parts.{IsReady, ReplacesAndWaits, text_of};
 
-use crate::config::{Config, Old};
+use crate::config::{Archive, Config, Old};
+use crate::readers::read_once;
 use anyhow::Result;
 use domain::{Cpu, Domain, HeldPin};
 use shelf::{Shelf, Values};
 use std::sync::Wait;
 
-/// Replaces the configuration, and waits until nobody reads the old one.
+/// Replaces the configuration, waits until nobody reads the old one, and files that. Gives the processor back.
 pub fn replace<R: Wait>(
     rt: &R,
     domain: &Domain<Old>,
     mut cpu: Cpu<Old>,
     mut shelf: Shelf<Config>,
+    archive: &Archive,
+    old: Old,
     number: u64,
-) -> Result<()>
+) -> Result<Cpu<Old>>
     requires cpu { IsReady domain.now cpu }
     requires shelf { shelf.domain ≡ domain.now.domain }
+    ensures { IfOk result (λ c. ReplacesAndWaits (text_of number) shelf cpu c) }
 {
     shelf.replace(domain, &mut cpu, &Config::new(number))?; // rcu_assign_pointer
     domain.synchronize(rt, &mut cpu)?; // synchronize_srcu: each section that was open before is closed
+    archive.file(old); // so nobody reads it any more
 
-    Ok(())
+    Ok(cpu)
 }
 
 /// What an updater found that doesn't wait.
@@ -34,6 +40,10 @@ pub struct Polled {
     pub read: Config,
     /// Whether the first poll said that nobody reads it.
     pub early: bool,
+    /// Whether the last one did, behind all others.
+    pub late: bool,
+    /// What a section reads in the end.
+    pub new: Config,
 }
 
 /// Replaces the configuration while somebody reads it in a section that another thread opened. Closes that section, and
@@ -51,6 +61,7 @@ pub fn replace_and_poll<R: Wait>(
     requires shelf { shelf.domain ≡ domain.now.domain }
     requires held { version.held.domain ≡ domain.now.domain }
     requires pinned { IsPinned version.held version.found × (version.found.cell ≡ configs.now) }
+    requires cell { configs.now < cells_in domain.now.domain }
 {
     let replaced = shelf.replace(domain, &mut cpu, &Config::new(number));
     let mut cookie = domain.start_poll(&mut cpu); // start_poll_synchronize_srcu: asks for a period, and goes on
@@ -64,6 +75,13 @@ pub fn replace_and_poll<R: Wait>(
         }
         domain.advance(rt, &mut cpu)?; // there is no kthread: any thread drives the period on
     }
+    let late = cpu.poll(&mut cookie); // true: the period is over, and nobody reads the old one
     replaced?;
-    Ok(Polled { read, early })
+    let new = read_once(&mut cpu, configs)?;
+    Ok(Polled {
+        read,
+        early,
+        late,
+        new,
+    })
 }

@@ -39,6 +39,7 @@ returns c =
     let P : WriterView → Type 0 = λ w. (w.domain ≡ c.in_ok-domain.domain.domain) × (w.cell < 1) in
     let writer = (All-pop P _ _ _ c.pop-2.ensures.items (writers_here _ _ _ _ c.in_ok-domain.ensures.writers)).1 in
     let writes = (rw c.unwrap-writer.ensures at writer).0 in record {
+      many = omega (arith, workers, long, new, seven);
       all = c.seat_all-workers.ensures.all;
       driver = record {
         here = subst (IsOf c.in_ok-domain.domain) (sym c.home.ensures.same) here;
