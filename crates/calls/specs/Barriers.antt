@@ -96,7 +96,7 @@ module _ {J : Type 0} where
   abbrev pub AreFinished : TicketView → List (Deed J) → Type 0
   AreFinished t seen = (r : ReceiptView J) → Covers t r → IsFinished r seen
 
-  -- one load of the queued word of the receipt's processor. What the one who queued the job had seen is then seen, and the load was over all that had been queued there
+  -- one load of the queued word of the receipt's processor. What the one who queued the job had seen is then seen, and the load found no less than had been queued there by then
   pub record Hears (r : ReceiptView J) (s s' : CallSeatView J) : Type 0 where
     pub found : ℕ
     pub does : Does (LoadQueued r.processor found) s s'

@@ -20,6 +20,7 @@ some_out (suc n) = Some (suc n)
 abbrev pub Marked : Type 0 → Type 0
 Marked J = List (Entry J × Mark)
 
+-- a processor's list: how many are in the batch that is out, and the calls that wait, in order
 pub record Line (J : Type 0) : Type 0 where
   pub out : Option ℕ
   pub waiting : List (Entry J × Mark)

@@ -29,7 +29,7 @@ pub record ReceiptView (J : Type 0) : Type 0 where
   pub cookie : CookieView
   pub seen : List (Deed J)
 
--- what never changes in a list, and of which lock a list is known to be: the domain, the tally words, and the processor
+-- what never changes in a list, and what its lock knows of it: the domain, the tally words, and the processor
 pub record ListKey : Type 0 where
   pub domain : TableId
   pub tallies : TableId

@@ -29,7 +29,7 @@ pub(crate) type Board<J> = Shared<NoSlot, View<J>, Plan, Counted>;
 /// With what they are made.
 pub(crate) type Place<J> = Seat<NoSlot, View<J>>;
 
-/// What is queued. Each call says it.
+/// What is queued. Each call of `call` names it anew.
 pub trait Calling<J> {
     ghost call: { Option (Entry J) };
 }
@@ -45,7 +45,7 @@ impl<J, N: Calling<J>> Play<NoSlot, View<J>> for AddQueued<N> {
     ghost then = { queues N.call };
 }
 
-/// For which number entries are ready, and how many are wanted. Each call says it.
+/// For which number entries are ready, and how many are wanted. Each `take_ready` names them anew.
 pub trait Taking {
     ghost number: { ℕ };
 
@@ -160,7 +160,7 @@ impl<J> Join<View<J>> for TakeNote {
     ghost spent = { spent };
 }
 
-/// How many processors there are. Each call says it.
+/// How many processors there are. Each call that looks names it anew.
 pub trait Counting {
     ghost count: { ℕ };
 }

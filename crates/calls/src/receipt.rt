@@ -5,14 +5,14 @@ use crate::note::Note;
 use sections::Cookie;
 use std::marker::Model;
 
-/// A job was queued. Its type keeps that the job is the one of this number among all that were queued on the processor,
-/// with this cookie, as the seat had seen with which it was queued.
+/// A job was queued. Its type keeps that a job was queued on the processor with this number and this cookie, as the seat
+/// had seen by which it was queued.
 #[derive(Drop)]
 pub struct Receipt<J> {
     pub(crate) processor: u16,
     pub(crate) k: u64,
     pub(crate) cookie: Cookie,
-    /// What the seat had seen with which it was queued.
+    /// What the seat had seen by which it was queued.
     pub(crate) note: Note<J>,
 }
 

@@ -29,7 +29,7 @@ use Rattle.domain.specs.Views.{CpuView}
 
 -- Acts
 
--- what a call of a processor adds: its events in the history, the number that it asked for (0 if none), how many jobs it queued on the processor, and how many it finished, of the processor `owner`. The list of `list` may be another one then, and no other processor's is
+-- what a call of a processor adds: its events in the history, the number that it asked for (0 if none), how many jobs it queued on the processor, and how many it finished, of the processor `owner`. `list` is the processor whose list may have changed, if one's may: no other list has
 pub record Act : Type 0 where
   pub events : List Event
   pub asked : ℕ

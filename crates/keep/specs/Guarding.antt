@@ -1,4 +1,4 @@
--- The rule of a lock with one word that counts and one slot. The word stands 128 bytes from either end of its table's words, so that locks which lie side by side share no line.
+-- The rule of a lock with one word in use and one slot. The word stands 128 bytes from either end of its table's words, so that locks which lie side by side share no line.
 use Rattle.std.specs.Prelude.{◌≡◌, ℕ, ◌∷◌, [], Option, Some, slice_index, length}
 use mathlib.Core.Option.{some}
 use lib.ListN.{get_elem?}

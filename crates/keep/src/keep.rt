@@ -81,7 +81,7 @@ impl<T, K> Model for Loan<T, K> {
 }
 
 impl<T: Keyed<K> + Drop, K, A: Allocator> Keep<T, K, A> {
-    /// A lock with this value in it, whose key is this one. `slots` gives the memory for a moment, `alloc` for good.
+    /// A lock with this value in it, whose key is this one. `other` gives the memory for a moment, `alloc` for good.
     pub fn new<B: Allocator>(
         alloc: A,
         other: B,

@@ -175,7 +175,7 @@ abbrev pub Calls : ℕ → List ℕ → DomainState → Reply → DomainState �
 Calls p name d r d' = Queues p name d r d'
     ⊎ (why : CallRefusal) × QueuesNone p why d.course d'.course × Replies (reply.Refused command.Call (cause_of_none why)) d r d'
 
--- no batch of the processor was out, and so many jobs that are queued and not finished leave, for which the grace periods have come far enough, these among them; `out` is out then. A list stands behind a lock, so it isn't said which of those that are due leave
+-- no batch of the processor was out, and so many jobs that are queued and not finished leave, for which the grace periods have come far enough, these among them; `out` is out then. A script's state has no lists, so it isn't said which of those that are due leave
 pub record Takes (p count : ℕ) (taken : List Job) (out : Option Batch) (d d' : DomainState) : Type 0 where
   pub jobs : Jobs
   pub waiting : List Job
@@ -217,7 +217,7 @@ abbrev pub Finishes : ℕ → DomainState → Reply → DomainState → Type 0
 Finishes p d r d' = IsOver p d r d'
     ⊎ (jobs : Jobs) × (slice_get d.jobs p ≡ Some jobs) × (jobs.out ≡ None) × IsRefused command.Finish NoBatch d r d'
 
--- how the jobs of the processor wait. A list stands behind a lock, so it isn't said which counts those are
+-- how the jobs of the processor wait. A script's state has no lists, so it isn't said which counts those are
 abbrev pub ShowsSegments : DomainState → Reply → DomainState → Type 0
 ShowsSegments d r d' = (d' ≡ d) × ((segments : Segments) × (r ≡ reply.Segs segments)) ⊎ IsRefused command.Segs Memory d r d'
 

@@ -139,7 +139,7 @@ abbrev pub QueuesNone : ℕ → CallRefusal → Course → Course → Type 0
 QueuesNone p calling.Exhausted c c' = (slice_get c.queued p ≡ Some most_calls) × (c' ≡ c)
 QueuesNone p calling.Memory c c' = (cookie : ℕ) × GivesCookie p cookie c c'
 
--- so many calls of the processor are out: they are queued, and not finished
+-- so many calls of the processor, which are queued, are not finished
 abbrev pub AreOut : ℕ → ℕ → Course → Type 0
 AreOut p count c = slice_index c.finished p + count ≤ slice_index c.queued p
 
@@ -149,7 +149,7 @@ pub record IsBatchOf {J : Type 0} (d : SoloView) (p : ℕ) (b : BatchView J) : T
   pub processor : b.processor ≡ p
   pub there : p < d.course.standing.processors
 
--- a batch of the processor, whose jobs were ready, as it asked, and are out
+-- a batch of the processor, whose jobs were ready when it asked, and were queued and not finished
 pub record IsGiven (p max : ℕ) (d d' : SoloView) (b : BatchView (Unit {0})) : Type 0 where
   pub is_of : IsBatchOf d p b
   pub counted : b.count ≡ length b.entries
@@ -183,7 +183,7 @@ pub record Finishes (p count : ℕ) (c c' : Course) : Type 0 where
   pub there : slice_get c.finished p ≡ Some n
   pub finishes_are : Does p (finishes p count) c c'
 
--- the same, and the jobs are finished too
+-- as where they are only taken, and the jobs are finished too
 pub record Runs (p max : ℕ) (ran : Option Ran) (c c' : Course) : Type 0 where
   pub n : ℕ
   pub there : slice_get c.finished p ≡ Some n

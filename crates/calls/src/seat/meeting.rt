@@ -35,8 +35,8 @@ impl<J, A: Allocator> CallSeat<J, A> {
         other.see_just(&mut note);
     }
 
-    /// One load by this seat, of its own queued word. It has then seen all that was done until then. Only processors that
-    /// are there have finished batches, which a seat with no other one to cover learns by this call.
+    /// One load by this seat, of its own queued word. It may then have seen more of what was done. Only processors that are
+    /// there have taken and finished batches, which a seat with no other one to cover learns by this call.
     pub fn catch_up(&mut self)
         ensures { Covers self.old self.old.seen self.new }
     {

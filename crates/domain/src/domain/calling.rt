@@ -102,8 +102,9 @@ impl<J: Drop, A: Allocator + Copy> Domain<J, A> {
     }
 
     /// How many calls of a processor are done, wait for the first and for the second number, and have none yet; and the two
-    /// numbers, 0 where there is none. What is out isn't counted. The processor that is lent makes one load: so this is the
-    /// list as it then is. It takes no memory, so it always succeeds. It waits while another thread has the processor's list.
+    /// numbers, 0 where there is none. What is out isn't counted. The processor that is lent makes one load, and has then
+    /// seen the moment of which this is told. It takes no memory, so it always succeeds. It waits while another thread has
+    /// the processor's list.
     pub fn lens<R: Wait>(
         &self,
         rt: &R,
