@@ -29,17 +29,17 @@ use Rattle.session.proofs.Quiet.{GoesOnQuietly}
 -- A domain that has gone on
 
 -- the same domain, which may have gone on
-abbrev pub IsThere : SoloView → SoloView → Type 0
+abbrev pub IsThere : SoloView (List ℕ) → SoloView (List ℕ) → Type 0
 IsThere = HasSameTables
 
-pub record IsLater (d d' : SoloView) : Type 0 where
+pub record IsLater (d d' : SoloView (List ℕ)) : Type 0 where
   pub there : IsThere d d'
   pub processors : d'.course.standing.processors ≡ d.course.standing.processors
   pub legal : IsLegal d'.course.standing.history
   pub begun : (t : ℕ) → 0 < begins_of t d.course.standing.history → 0 < begins_of t d'.course.standing.history
   pub indexes : (t : ℕ) → 0 < begins_of t d.course.standing.history → index_of t d'.course.standing.history ≡ index_of t d.course.standing.history
 
-pub later_quietly : (d d' : SoloView) → IsThere d d' → GoesOnQuietly d.course.standing d'.course.standing → IsLater d d'
+pub later_quietly : (d d' : SoloView (List ℕ)) → IsThere d d' → GoesOnQuietly d.course.standing d'.course.standing → IsLater d d'
 later_quietly d d' there h = record {
   there = there;
   processors = h.processors;
@@ -49,7 +49,7 @@ later_quietly d d' there h = record {
 }
 
 -- one event happened
-pub later_happened : {p : ℕ} {what : ℕ → Act} (e : Event) (d d' : SoloView) → IsThere d d' → IsLegal d.course.standing.history → what p ≡ makes e → Does p what d.course d'.course → IsLater d d'
+pub later_happened : {p : ℕ} {what : ℕ → Act} (e : Event) (d d' : SoloView (List ℕ)) → IsThere d d' → IsLegal d.course.standing.history → what p ≡ makes e → Does p what d.course d'.course → IsLater d d'
 later_happened {p} {what} e d d' there legal one h =
     let before = d.course.standing.history in
     let same : d'.course.standing.history ≡ before ++ e ∷ [] = ap (λ (x : Course). x.standing.history) h.come ∙ ap (λ (a : Act). with_events a.events before) one in
@@ -62,7 +62,7 @@ later_happened {p} {what} e d d' there legal one h =
       indexes = λ t some. ap (index_of t) same ∙ index_of_kept t before e (begun_once t before e follows.0 some);
     }
 
-module _ (d d' : SoloView) (later : IsLater d d') where
+module _ (d d' : SoloView (List ℕ)) (later : IsLater d d') where
   reading_later : (r : ReadingView) → IsReadingOf d.table d.course.standing r → IsReadingOf d'.table d'.course.standing r
   reading_later r h = record {
     of_domain = record { table_is = h.of_domain.table_is ∙ sym later.there.0; processor = subst (λ n. r.processor < n) (sym later.processors) h.of_domain.processor };
@@ -82,7 +82,7 @@ module _ (d d' : SoloView) (later : IsLater d d') where
   pub tokens_later : {A : Type 0} (tokens : List (List ℕ × Token A)) → All (λ (t : List ℕ × Token A). IsTokenOf d t.1) tokens → All (λ (t : List ℕ × Token A). IsTokenOf d' t.1) tokens
   tokens_later tokens h = All-weaker (λ (t : List ℕ × Token _). IsTokenOf d t.1) (λ (t : List ℕ × Token _). IsTokenOf d' t.1) (λ t is. token_later t.1 is) tokens h
 
-module _ {A : Type 0} (d d' : SoloView) (tokens : List (List ℕ × Token A)) (h : AreOf d tokens) where
+module _ {A : Type 0} (d d' : SoloView (List ℕ)) (tokens : List (List ℕ × Token A)) (h : AreOf d tokens) where
   -- no section begins or ends
   pub held_on : IsThere d d' → GoesOnQuietly d.course.standing d'.course.standing → AreOf d' tokens
   held_on there on = record {
@@ -92,10 +92,10 @@ module _ {A : Type 0} (d d' : SoloView) (tokens : List (List ℕ × Token A)) (h
   }
 
   pub held_same : d' ≡ d → AreOf d' tokens
-  held_same same = subst (λ (x : SoloView). AreOf x tokens) (sym same) h
+  held_same same = subst (λ (x : SoloView (List ℕ)). AreOf x tokens) (sym same) h
 
 -- a token comes that is no open section
-pub held_more_unopened : {A : Type 0} (d : SoloView) (tokens : List (List ℕ × Token A)) (name : List ℕ) (t : Token A) → AreOf d tokens → IsTokenOf d t → open_index t ≡ None → AreOf d (tokens ++ (name, t) ∷ [])
+pub held_more_unopened : {A : Type 0} (d : SoloView (List ℕ)) (tokens : List (List ℕ × Token A)) (name : List ℕ) (t : Token A) → AreOf d tokens → IsTokenOf d t → open_index t ≡ None → AreOf d (tokens ++ (name, t) ∷ [])
 held_more_unopened d tokens name t h is none = record {
   legal = h.legal;
   each = All-push (λ (x : List ℕ × Token _). IsTokenOf d x.1) tokens (name, t) h.each is;
@@ -118,17 +118,17 @@ open_as : (A : Type 0) (sort : Sort) (r : ReadingView) → open_index (as_token 
 open_as A Own r = refl
 open_as A Any r = refl
 
-is_as : (A : Type 0) (sort : Sort) (d : SoloView) (r : ReadingView) → IsReadingOf d.table d.course.standing r → IsTokenOf d (as_token {A = A} sort r)
+is_as : (A : Type 0) (sort : Sort) (d : SoloView (List ℕ)) (r : ReadingView) → IsReadingOf d.table d.course.standing r → IsTokenOf d (as_token {A = A} sort r)
 is_as A Own d r h = h
 is_as A Any d r h = h
 
-pub reading_as : (A : Type 0) (sort : Sort) (d : SoloView) (r : ReadingView) → IsTokenOf d (as_token {A = A} sort r) → IsReadingOf d.table d.course.standing r
+pub reading_as : (A : Type 0) (sort : Sort) (d : SoloView (List ℕ)) (r : ReadingView) → IsTokenOf d (as_token {A = A} sort r) → IsReadingOf d.table d.course.standing r
 reading_as A Own d r h = h
 reading_as A Any d r h = h
 
 module _ {A : Type 0} where
   -- a section begins, and its token comes
-  pub held_begun : (sort : Sort) (limits : Limits) (p : ℕ) (i : Index) (d d' : SoloView) (tokens : List (List ℕ × Token A)) (name : List ℕ) (r : ReadingView)
+  pub held_begun : (sort : Sort) (limits : Limits) (p : ℕ) (i : Index) (d d' : SoloView (List ℕ)) (tokens : List (List ℕ × Token A)) (name : List ℕ) (r : ReadingView)
       → AreOf d tokens → IsThere d d' → p < d.course.standing.processors → Begins limits p i r.section d.course d'.course → IsReadingAt d.table p i r → AreOf d' (tokens ++ (name, as_token sort r) ∷ [])
   held_begun sort limits p i d d' tokens name r h there small begins is =
       let before = d.course.standing.history in
@@ -154,7 +154,7 @@ pub taken_last : {A : Type 0} (tokens rest : List (List ℕ × Token A)) (p : Li
 taken_last tokens rest p t whole is =
     subst (λ (x : Token _). IsPermutation tokens ((p.0, x) ∷ rest)) is (subst (λ l. IsPermutation l (p ∷ rest)) (sym whole) (IsPermutation-to_front rest p))
 
-module _ {A : Type 0} (d : SoloView) (tokens rest : List (List ℕ × Token A)) (stored : List ℕ) (h : AreOf d tokens) where
+module _ {A : Type 0} (d : SoloView (List ℕ)) (tokens rest : List (List ℕ × Token A)) (stored : List ℕ) (h : AreOf d tokens) where
   module _ (t : Token A) (moves : IsPermutation tokens ((stored, t) ∷ rest)) where
     all_moved : All (λ (x : List ℕ × Token A). IsTokenOf d x.1) ((stored, t) ∷ rest)
     all_moved = All-permutation (λ (x : List ℕ × Token A). IsTokenOf d x.1) tokens ((stored, t) ∷ rest) moves h.each
@@ -177,7 +177,7 @@ module _ {A : Type 0} (d : SoloView) (tokens rest : List (List ℕ × Token A)) 
     }
 
   -- the token of a section that then ends
-  pub held_ended : (sort : Sort) (p : ℕ) (r : ReadingView) (d' : SoloView) → IsPermutation tokens ((stored, as_token sort r) ∷ rest) → IsThere d d' → Ends r.section p d.course d'.course → AreOf d' rest
+  pub held_ended : (sort : Sort) (p : ℕ) (r : ReadingView) (d' : SoloView (List ℕ)) → IsPermutation tokens ((stored, as_token sort r) ∷ rest) → IsThere d d' → Ends r.section p d.course d'.course → AreOf d' rest
   held_ended sort p r d' moves there ends =
       let before = d.course.standing.history in
       let e : Event = End r.section p (Processor p) in
@@ -198,7 +198,7 @@ module _ {A : Type 0} (d : SoloView) (tokens rest : List (List ℕ × Token A)) 
 
 module _ {A : Type 0} where
   -- tokens in another order, one of them under another name
-  held_as : (d : SoloView) (tokens tokens' : List (List ℕ × Token A)) (stored name : List ℕ) (t : Token A) (rest : List (List ℕ × Token A)) → AreOf d tokens
+  held_as : (d : SoloView (List ℕ)) (tokens tokens' : List (List ℕ × Token A)) (stored name : List ℕ) (t : Token A) (rest : List (List ℕ × Token A)) → AreOf d tokens
       → IsPermutation tokens ((stored, t) ∷ rest) → IsPermutation tokens' ((name, t) ∷ rest) → AreOf d tokens'
   held_as d tokens tokens' stored name t rest h moves moves' =
       let P : List ℕ × Token A → Type 0 = λ x. IsTokenOf d x.1 in
@@ -215,9 +215,9 @@ module _ {A : Type 0} where
       }
 
 -- a token goes to the front, under this name
-pub held_moved : {A : Type 0} (d : SoloView) (tokens rest : List (List ℕ × Token A)) (stored name : List ℕ) (t : Token A) → AreOf d tokens → IsPermutation tokens ((stored, t) ∷ rest) → AreOf d ((name, t) ∷ rest)
+pub held_moved : {A : Type 0} (d : SoloView (List ℕ)) (tokens rest : List (List ℕ × Token A)) (stored name : List ℕ) (t : Token A) → AreOf d tokens → IsPermutation tokens ((stored, t) ∷ rest) → AreOf d ((name, t) ∷ rest)
 held_moved d tokens rest stored name t h moves = held_as d tokens ((name, t) ∷ rest) stored name t rest h moves (IsPermutation-refl ((name, t) ∷ rest))
 
 -- the first token goes behind the others
-pub held_moved_back : {A : Type 0} (d : SoloView) (tokens : List (List ℕ × Token A)) (x : List ℕ × Token A) → AreOf d (x ∷ tokens) → AreOf d (tokens ++ x ∷ [])
+pub held_moved_back : {A : Type 0} (d : SoloView (List ℕ)) (tokens : List (List ℕ × Token A)) (x : List ℕ × Token A) → AreOf d (x ∷ tokens) → AreOf d (tokens ++ x ∷ [])
 held_moved_back d tokens x h = held_as d (x ∷ tokens) (tokens ++ x ∷ []) x.0 x.0 x.1 tokens h (IsPermutation-refl (x ∷ tokens)) (IsPermutation-to_front tokens x)

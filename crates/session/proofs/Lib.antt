@@ -1,5 +1,6 @@
 mod Acting
 mod Answering
+mod Batches
 mod Callbacks
 mod Held
 mod Holding
@@ -11,5 +12,4 @@ mod Places
 mod Quiet
 mod Spent
 mod Taken
-mod Taking
 mod Together

@@ -1,7 +1,6 @@
 -- Nothing is left of a domain that has to be spent.
 use Rattle.std.proofs.Common.{◌≡◌, ℕ, ◌+◌, ◌≤◌, zero, suc, true, List, [], ◌∷◌, ◌++◌, get_or, refl, sym, ap, ◌∙◌, subst, arith}
-use Rattle.std.specs.Prelude.{Option, Some, None, All, IfSome, IsPermutation, sum, slice_index, if◌then◌else◌}
-use Rattle.std.specs.Option.{option_map_or}
+use Rattle.std.specs.Prelude.{Option, Some, None, All, IsPermutation, sum, slice_index, if◌then◌else◌}
 use Rattle.std.proofs.lemmas.List.{get_or-map}
 use Rattle.std.proofs.lemmas.List.Elements.{All-nil, All-cons, All-head, All-tail, All-get_or}
 use Rattle.std.proofs.lemmas.List.Sorted.{All-permutation, IsPermutation-refl, IsPermutation-to_front}
@@ -18,9 +17,9 @@ use Rattle.session.specs.declared.names.Token.TheVariants as token
 use Rattle.session.specs.OpenSections.{open_of, is_index}
 use Rattle.session.specs.Tokens.{open_index, held_of}
 use Rattle.session.specs.Parkings.{ParkingView}
-use Rattle.session.specs.JobLists.{JobsView, count_in, count_out, IsEmptied, AreJobsOf}
+use Rattle.session.specs.Batches.{Batch, count_in, count_out, AreBatchesOf}
 use Rattle.session.specs.Entries.{AreTogether, AreClosed, AreSpent, tokens_with}
-use Rattle.session.proofs.Callbacks.{Out, IsOut}
+use Rattle.session.proofs.Batches.{IsKept}
 use Rattle.session.proofs.Held.{held_less}
 use Rattle.session.proofs.Parked.{Named}
 
@@ -84,24 +83,24 @@ more_together (x ∷ xs) (y ∷ ys) (suc p) n each here =
     let rest = more_together xs ys p n (λ q. each (suc q)) here in let first = each zero in
     let all = sum_by-cons (λ z. z) x xs in let whole = sum_by-cons (λ z. z) y ys in omega (arith, all, whole, rest, first)
 
-none_out_case : (d : SoloView) (o : Option Out) → IfSome o (λ (x : Out). IsEmptied d x.0) → option_map_or (λ (x : Out). x.0.count) o 0 ≡ 0 → o ≡ None
+none_out_case : (d : SoloView (List ℕ)) (o : Option Batch) → IsKept d o → count_in o ≡ 0 → o ≡ None
 none_out_case d None is none = refl
-none_out_case d (Some o) is none = let some = is.some in absurd (omega (arith, some, none))
+none_out_case d (Some b) is none = let some = is.some in absurd (omega (arith, some, none))
 
-module _ (d : SoloView) (jobs : List JobsView) (h : AreJobsOf d jobs) (run : sum d.course.queued ≡ sum d.course.finished) where
-  none_counted : (p : ℕ) → count_out jobs p ≡ 0
+module _ (d : SoloView (List ℕ)) (kept : List (Option Batch)) (h : AreBatchesOf d kept) (run : sum d.course.queued ≡ sum d.course.finished) where
+  none_counted : (p : ℕ) → count_out kept p ≡ 0
   none_counted p =
-      let more = more_together d.course.finished d.course.queued p (count_out jobs p) (λ q. let e = h.unfinished q in omega (arith, e)) (h.unfinished p) in
+      let more = more_together d.course.finished d.course.queued p (count_out kept p) (λ q. let e = h.unfinished q in omega (arith, e)) (h.unfinished p) in
       omega (arith, more, run)
 
-  pub none_out : All (λ (j : JobsView). j.out ≡ None) jobs
-  none_out k j within =
-      let counted : count_out jobs k ≡ count_in (get_or jobs k j) = get_or-map count_in jobs k j 0 within in
-      none_out_case d (get_or jobs k j).out (All-get_or (IsOut d) jobs k j within h.out) (sym counted ∙ none_counted k)
+  pub none_out : All (λ (o : Option Batch). o ≡ None) kept
+  none_out k o within =
+      let counted : count_out kept k ≡ count_in (get_or kept k o) = get_or-map count_in kept k o 0 within in
+      none_out_case d (get_or kept k o) (All-get_or (IsKept d) kept k o within h.emptied) (sym counted ∙ none_counted k)
 
 -- The domain was taken down
 
-pub are_spent : {A : Type 0} (d : SoloView) (tokens : List (List ℕ × Token A)) (q : ParkingView) (jobs : List JobsView) → AreTogether d tokens q → AreJobsOf d jobs → open_count d.course.standing.history ≡ 0 → sum d.course.queued ≡ sum d.course.finished → AreSpent tokens q jobs
-are_spent d tokens q jobs together of_jobs closed run =
+pub are_spent : {A : Type 0} (d : SoloView (List ℕ)) (tokens : List (List ℕ × Token A)) (q : ParkingView) (kept : List (Option Batch)) → AreTogether d tokens q → AreBatchesOf d kept → open_count d.course.standing.history ≡ 0 → sum d.course.queued ≡ sum d.course.finished → AreSpent tokens q kept
+are_spent d tokens q kept together of_batches closed run =
     let (none, empty) = none_with q.parked tokens (λ i. together.all.counted i ∙ none_open i d.course.standing.history closed) in
-    record { closed = none; empty = empty; finished = none_out d jobs of_jobs run }
+    record { closed = none; empty = empty; finished = none_out d kept of_batches run }

@@ -25,10 +25,10 @@ none_case : (parked : Option Named) → option_map (λ (q : Named). q.1) parked 
 none_case None none = refl
 none_case (Some q) none = absurd cc
 
-module _ {A : Type 0} (d : SoloView) (tokens : List (List ℕ × Token A)) (p : ParkingView) (h : AreTogether d tokens p) where
+module _ {A : Type 0} (d : SoloView (List ℕ)) (tokens : List (List ℕ × Token A)) (p : ParkingView) (h : AreTogether d tokens p) where
   -- tokens that stay
 
-  module _ (d' : SoloView) where
+  module _ (d' : SoloView (List ℕ)) where
     stays : d'.table ≡ d.table → AreOf d' (tokens_with p.parked tokens) → AreTogether d' tokens p
     stays table held = record { all = held; desk = h.desk ∙ sym table; apart = h.apart }
 
@@ -52,7 +52,7 @@ module _ {A : Type 0} (d : SoloView) (tokens : List (List ℕ × Token A)) (p : 
       apart = apart_push p.parked tokens name t free h.apart;
     }
 
-    pub together_begun : (sort : Sort) (d' : SoloView) (q : ℕ) (i : Index) (r : ReadingView) → IsThere d d' → q < d.course.standing.processors → Begins d.limits q i r.section d.course d'.course → IsReadingAt d.table q i r
+    pub together_begun : (sort : Sort) (d' : SoloView (List ℕ)) (q : ℕ) (i : Index) (r : ReadingView) → IsThere d d' → q < d.course.standing.processors → Begins d.limits q i r.section d.course d'.course → IsReadingAt d.table q i r
         → AreTogether d' (tokens ++ (name, as_token sort r) ∷ []) p
     together_begun sort d' q i r there small begins is = record {
       all = subst (AreOf d') (sym (with_push p.parked tokens (name, as_token sort r))) (held_begun sort d.limits q i d d' (tokens_with p.parked tokens) name r h.all there small begins is);
@@ -77,7 +77,7 @@ module _ {A : Type 0} (d : SoloView) (tokens : List (List ℕ × Token A)) (p : 
       apart = apart_gone p.parked tokens rest name out.frees h.apart;
     }
 
-  pub together_ended : (sort : Sort) (r : ReadingView) {name : List ℕ} {rest : List (List ℕ × Token A)} → TakesOut name (as_token sort r) tokens rest → (d' : SoloView) (q : ℕ) → IsThere d d' → Ends r.section q d.course d'.course → AreTogether d' rest p
+  pub together_ended : (sort : Sort) (r : ReadingView) {name : List ℕ} {rest : List (List ℕ × Token A)} → TakesOut name (as_token sort r) tokens rest → (d' : SoloView (List ℕ)) (q : ℕ) → IsThere d d' → Ends r.section q d.course d'.course → AreTogether d' rest p
   together_ended sort r {name} {rest} out d' q there ends = record {
     all = held_ended d (tokens_with p.parked tokens) (tokens_with p.parked rest) out.stored h.all sort q r d' (all_move out) there ends;
     desk = h.desk ∙ sym there.0;
@@ -115,7 +115,7 @@ module _ {A : Type 0} (d : SoloView) (tokens : List (List ℕ × Token A)) (p : 
         token_of d ((stored, token.Held r) ∷ tokens) tokens stored all_are (token.Held r) (IsPermutation-refl ((stored, token.Held r) ∷ tokens))
 
     -- the section that lay there then ends
-    pub held_without_parked : (d' : SoloView) (q : ℕ) → IsThere d d' → Ends r.section q d.course d'.course → AreOf d' tokens
+    pub held_without_parked : (d' : SoloView (List ℕ)) (q : ℕ) → IsThere d d' → Ends r.section q d.course d'.course → AreOf d' tokens
     held_without_parked d' q there ends =
         let stored = (some_case p.parked r lay).0 in
         held_ended d ((stored, token.Held r) ∷ tokens) tokens stored all_are Any q r d' (IsPermutation-refl ((stored, token.Held r) ∷ tokens)) there ends
@@ -130,7 +130,7 @@ each_named P None tokens h = h
 each_named P (Some q) tokens h = All-tail P (q.0, token.Held q.1) tokens h
 
 -- what has a name is of this domain
-pub named_is_of : {A : Type 0} (d : SoloView) (tokens : List (List ℕ × Token A)) (p : ParkingView) → AreTogether d tokens p → (name : List ℕ) (t : Token A) → token_at name tokens ≡ Some t → IsTokenOf d t
+pub named_is_of : {A : Type 0} (d : SoloView (List ℕ)) (tokens : List (List ℕ × Token A)) (p : ParkingView) → AreTogether d tokens p → (name : List ℕ) (t : Token A) → token_at name tokens ≡ Some t → IsTokenOf d t
 named_is_of d tokens p h name t there =
     let each = each_named (λ (x : List ℕ × Token _). IsTokenOf d x.1) p.parked tokens h.all.each in
     subst (λ o. IfSome o (IsTokenOf d)) there (All-lookup (IsTokenOf d) (bytes_eq name) tokens each)

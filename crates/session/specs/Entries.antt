@@ -13,7 +13,7 @@ use Rattle.session.specs.declared.entry.Entry.TheInside as entry
 use Rattle.session.specs.OpenSections.{open_of}
 use Rattle.session.specs.Tokens.{token_at, bearer_of, open_index, held_of}
 use Rattle.session.specs.Parkings.{ParkingView}
-use Rattle.session.specs.JobLists.{JobsView, jobs_of, AreJobsOf}
+use Rattle.session.specs.Batches.{Batch, AreBatchesOf}
 use Rattle.session.specs.States.{Parked, Names, DomainState, EntryView}
 
 -- what lies on the desk
@@ -30,17 +30,17 @@ module _ {A : Type 0} where
   abbrev pub names_of : List (List ℕ × Token A) → Names
   names_of tokens = map (λ t. (t.0, bearer_of t.1)) tokens
 
-  abbrev pub state_with : List ℕ → List (List ℕ × Token A) → Option (List ℕ × ReadingView) → List JobsView → SoloView → DomainState
-  state_with name tokens parked jobs d = record {
+  abbrev pub state_with : List ℕ → List (List ℕ × Token A) → Option (List ℕ × ReadingView) → SoloView (List ℕ) → DomainState
+  state_with name tokens parked d = record {
     name = name;
     names = names_of tokens;
     desk = desk_of parked;
-    jobs = map jobs_of jobs;
+    lines = d.lines;
     course = d.course;
   }
 
-  abbrev pub entry_with : List ℕ → List (List ℕ × Token A) → Option (List ℕ × ReadingView) → List JobsView → SoloView → EntryView
-  entry_with name tokens parked jobs d = record { limits = d.limits; state = state_with name tokens parked jobs d }
+  abbrev pub entry_with : List ℕ → List (List ℕ × Token A) → Option (List ℕ × ReadingView) → SoloView (List ℕ) → EntryView
+  entry_with name tokens parked d = record { limits = d.limits; state = state_with name tokens parked d }
 
   -- all tokens: those under names, and the section that is parked
   abbrev pub tokens_with : Option (List ℕ × ReadingView) → List (List ℕ × Token A) → List (List ℕ × Token A)
@@ -48,20 +48,20 @@ module _ {A : Type 0} where
   tokens_with (Some p) tokens = (p.0, token.Held p.1) ∷ tokens
 
   -- the token is of this domain
-  abbrev pub IsTokenOf : SoloView → Token A → Type 0
+  abbrev pub IsTokenOf : SoloView (List ℕ) → Token A → Type 0
   IsTokenOf d (token.Look l) = l.domain ≡ d.table
   IsTokenOf d (token.Reading r) = IsReadingOf d.table d.course.standing r
   IsTokenOf d (token.Held h) = IsReadingOf d.table d.course.standing h
   IsTokenOf d (token.Ticket t) = IsTicketOf d t
 
   -- all tokens are of the domain, and as many of them are open sections of an index as sections of it are open
-  pub record AreOf (d : SoloView) (tokens : List (List ℕ × Token A)) : Type 0 where
+  pub record AreOf (d : SoloView (List ℕ)) (tokens : List (List ℕ × Token A)) : Type 0 where
     pub legal : IsLegal d.course.standing.history
     pub each : All (λ (t : List ℕ × Token A). IsTokenOf d t.1) tokens
     pub counted : (i : Index) → held_of i tokens ≡ open_of i d.course.standing.history
 
   -- a domain, the tokens under names there, and its desk: that is of this domain, and the name of what lies there is no other token's
-  pub record AreTogether (d : SoloView) (tokens : List (List ℕ × Token A)) (p : ParkingView) : Type 0 where
+  pub record AreTogether (d : SoloView (List ℕ)) (tokens : List (List ℕ × Token A)) (p : ParkingView) : Type 0 where
     pub all : AreOf d (tokens_with p.parked tokens)
     pub desk : p.domain ≡ d.table
     pub apart : IfSome p.parked (λ named. token_at named.0 tokens ≡ None)
@@ -71,13 +71,13 @@ module _ {A : Type 0} where
   AreClosed tokens = All (λ (t : List ℕ × Token A). open_index t.1 ≡ None) tokens
 
   -- nothing is left that has to be spent: no token is an open section, nothing is parked, and no batch is out
-  pub record AreSpent (tokens : List (List ℕ × Token A)) (p : ParkingView) (jobs : List JobsView) : Type 0 where
+  pub record AreSpent (tokens : List (List ℕ × Token A)) (p : ParkingView) (kept : List (Option Batch)) : Type 0 where
     pub closed : AreClosed tokens
     pub empty : p.parked ≡ None
-    pub finished : All (λ j. j.out ≡ None) jobs
+    pub finished : All (λ o. o ≡ None) kept
 
   abbrev pub view_of_entry : entry.Inside A → EntryView
-  view_of_entry e = entry_with e.name e.names.tokens e.parking.parked e.jobs.items e.domain
+  view_of_entry e = entry_with e.name e.names.tokens e.parking.parked e.domain
 
   abbrev pub IsEntry : entry.Inside A → Type 0
-  IsEntry e = AreTogether e.domain e.names.tokens e.parking × AreJobsOf e.domain e.jobs.items
+  IsEntry e = AreTogether e.domain e.names.tokens e.parking × AreBatchesOf e.domain e.outs.items

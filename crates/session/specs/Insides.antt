@@ -1,7 +1,6 @@
--- How the names in use are kept, what is parked, and the jobs of a processor.
-use Rattle.std.specs.Prelude.{◌≡◌, ℕ, ◌-◌, List, [], ◌∷◌, Option, Some, None}
+-- How the names in use are kept, what is parked, and the batch of a processor that is out.
+use Rattle.std.specs.Prelude.{◌≡◌, ℕ, List, [], ◌∷◌, Option, Some, None}
 use Rattle.sseq.specs.declared.index.Index.{Index}
-use Rattle.std.specs.VecDeque.{deque_len, deque_capacity}
 use Rattle.indexmap.specs.IndexMap.{spare}
 use Rattle.sections.specs.Views.{ReadingView}
 use Rattle.desk.specs.Swaps.{lies_behind}
@@ -9,11 +8,11 @@ use Rattle.desk.specs.Views.{SeatView}
 use Rattle.session.specs.declared.names.Names.TheInside as names
 use Rattle.session.specs.declared.parking.Label.{Label}
 use Rattle.session.specs.declared.parking.Parking.TheInside as parking
-use Rattle.session.specs.declared.jobs.Jobs.TheInside as jobs
+use Rattle.session.specs.declared.out.Out.TheInside as out
 use Rattle.session.specs.OpenSections.{count_of}
 use Rattle.session.specs.Tokens.{NamesView, held_of}
 use Rattle.session.specs.Parkings.{ParkingView}
-use Rattle.session.specs.JobLists.{JobsView}
+use Rattle.session.specs.Batches.{Batch}
 
 module _ {A : Type 0} where
   abbrev pub view_of_names : names.Inside A → NamesView A
@@ -52,6 +51,7 @@ module _ {A : Type 0} where
     pub of_domain : seat.domain ≡ p.desk.domain
     pub labelled : IsLabelled p.label (lies_behind seat.seen)
 
+-- the batch of a processor that is out
 module _ {A : Type 0} where
-  abbrev pub view_of_jobs : jobs.Inside A → JobsView
-  view_of_jobs j = record { waiting = j.waiting.items; room = deque_capacity j.waiting - deque_len j.waiting; out = j.out }
+  abbrev pub view_of_out : out.Inside A → Option Batch
+  view_of_out o = o.batch

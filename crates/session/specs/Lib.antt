@@ -1,6 +1,6 @@
 pub mod Tokens
 pub mod Parkings
-pub mod JobLists
+pub mod Batches
 pub mod Insides
 pub mod OpenSections
 pub mod States

@@ -1,5 +1,5 @@
 -- What a line of a script means: which reply it gets, and what it changes.
-use Rattle.std.specs.Prelude.{◌≡◌, ℕ, ◌*◌, ◌%◌, ◌<◌, ◌≤◌, Bool, true, false, MatchBool, List, [], ◌∷◌, ◌++◌, length, replicate, Option, Some, None, slice_get, slice_set, remove, if◌then◌else◌, ◌⊎◌}
+use Rattle.std.specs.Prelude.{◌≡◌, ℕ, ◌*◌, ◌%◌, ◌<◌, ◌≤◌, Bool, true, false, MatchBool, List, [], ◌∷◌, ◌++◌, length, replicate, Option, Some, None, slice_get, slice_index, remove, slice_set, if◌then◌else◌, ◌⊎◌}
 use Rattle.sseq.specs.declared.index.Index.{Index}
 use Rattle.sseq.specs.declared.index.Index.TheVariants.{Zero, One}
 use Rattle.sseq.specs.declared.number.Phase.{Phase}
@@ -12,16 +12,22 @@ use Rattle.scan.specs.declared.progress.Progress.{Progress}
 use Rattle.scan.specs.declared.progress.Progress.TheVariants as progress
 use Rattle.scan.specs.declared.progress.StartRefusal.{StartRefusal}
 use Rattle.scan.specs.declared.progress.StartRefusal.TheVariants as refusal
-use Rattle.scan.specs.Standings.{index_now}
+use Rattle.scan.specs.Standings.{index_now, number_now}
+use Rattle.segs.specs.MarkedList.{lens, numbers}
+use Rattle.calls.specs.declared.entry.Entry.{Entry}
 use Rattle.domain.specs.declared.domain.cleanup.Totals.{Totals}
 use Rattle.domain.specs.declared.domain.cleanup.InUse.TheVariants as busy
 use Rattle.calls.specs.declared.refusals.CallRefusal.{CallRefusal}
 use Rattle.calls.specs.declared.refusals.CallRefusal.TheVariants as calling
+use Rattle.calls.specs.declared.refusals.TakeRefusal.{TakeRefusal}
+use Rattle.calls.specs.declared.refusals.TakeRefusal.TheVariants as taking
+use Rattle.calls.specs.Lines.{no_calls}
 use Rattle.solo.specs.declared.queued.Queued.{Queued}
-use Rattle.domain.specs.Acting.{finishes}
-use Rattle.solo.specs.Courses.{Course, Does as DoesAct, runs}
+use Rattle.domain.specs.Acting.{Act as Doing, asks_whether, finishes}
+use Rattle.solo.specs.Batches.{AreReady, jobs_of}
+use Rattle.solo.specs.Courses.{Course, Does as DoesAct}
 use Rattle.solo.specs.Calls as solo
-use Rattle.solo.specs.Calls.{new_course, Begins, IsOutOfSections, Ends, GivesCookie, Asks as AsksIfDone, AsksFor, ReadsNumber, QueuesNone, Starts, StartsNone, Steps, Advances, IsAskedTooMuch}
+use Rattle.solo.specs.Calls.{new_course, Begins, IsOutOfSections, Ends, GivesCookie, Asks as AsksIfDone, AsksFor, ReadsNumber, OnList, QueuesLast, QueuesNone, GivesFirst, PutsOut, TakesNone, FinishesOut, Starts, StartsNone, Steps, Advances, IsAskedTooMuch}
 use Rattle.solo.specs.Cleanup.{IsTakenDown, IsInUse as IsInUseFor}
 use Rattle.solo.specs.Barriers.{AreReached}
 use Rattle.lines.specs.Lines.{words_of}
@@ -42,8 +48,11 @@ use Rattle.requests.specs.Faults.{fault_of, is_skipped}
 use Rattle.requests.specs.Requests.{Asks}
 use Rattle.requests.specs.Replies.{reply_text}
 use Rattle.session.specs.OpenSections.{open_of}
-use Rattle.session.specs.declared.jobs.Job.{Job}
-use Rattle.session.specs.States.{State, DomainState, Bearer, Look, Reading, Held, Ticket, Parked, Batch, Jobs, Becomes, AreTaken, bearer_at, names_of_jobs, scene_of}
+use Rattle.session.specs.States.{State, DomainState, Bearer, Look, Reading, Held, Ticket, Parked, JobList, Becomes, bearer_at, scene_of}
+
+-- a job that was queued, with its name and its cookie
+abbrev pub Job : Type 0
+Job = Entry (List ℕ)
 
 -- What one domain does
 
@@ -134,7 +143,7 @@ pub record PicksUp (d : DomainState) (r : Reply) (d' : DomainState) : Type 0 whe
 abbrev pub Unparks : DomainState → Reply → DomainState → Type 0
 Unparks d r d' = PicksUp d r d' ⊎ (d.desk ≡ None) × IsRefused command.Unpark Empty d r d'
 
--- the names stay, and what lies on the desk, and the jobs that wait or are out. This is the reply
+-- the names stay, and what lies on the desk, and the lists. This is the reply
 pub record Replies (given : Reply) (d : DomainState) (r : Reply) (d' : DomainState) : Type 0 where
   pub rest : d' ≡ record d { course = d'.course }
   pub reply : r ≡ given
@@ -158,13 +167,12 @@ pub record Shows (d : DomainState) (r : Reply) (d' : DomainState) : Type 0 where
       (record { number = number; phase = phase })
       (record { index = index_now d.course.standing; zero = open_of Zero d.course.standing.history; one = open_of One d.course.standing.history; need = d.course.asked })) d r d'
 
--- the job is queued, and comes last of those that wait there, under this name
+-- the job of this name is queued with the cookie of now, and comes last in the processor's list
 pub record Queues (p : ℕ) (name : List ℕ) (d : DomainState) (r : Reply) (d' : DomainState) : Type 0 where
   pub job : Queued
-  pub jobs : Jobs
-  pub there : slice_get d.jobs p ≡ Some jobs
   pub queues : solo.Queues p job d.course d'.course
-  pub rest : d' ≡ record d { course = d'.course; jobs = slice_set d.jobs p (record jobs { waiting = jobs.waiting ++ record { name = name; cookie = job.cookie } ∷ [] }) }
+  pub list : OnList p (QueuesLast name job.cookie) d.lines d'.lines
+  pub rest : d' ≡ record d { course = d'.course; lines = d'.lines }
   pub reply : r ≡ reply.Queued job.k job.cookie
 
 abbrev pub cause_of_none : CallRefusal → Cause
@@ -175,51 +183,90 @@ abbrev pub Calls : ℕ → List ℕ → DomainState → Reply → DomainState �
 Calls p name d r d' = Queues p name d r d'
     ⊎ (why : CallRefusal) × QueuesNone p why d.course d'.course × Replies (reply.Refused command.Call (cause_of_none why)) d r d'
 
--- no batch of the processor was out, and so many jobs that are queued and not finished leave, for which the grace periods have come far enough, these among them; `out` is out then. A script's state has no lists, so it isn't said which of those that are due leave
-pub record Takes (p count : ℕ) (taken : List Job) (out : Option Batch) (d d' : DomainState) : Type 0 where
-  pub jobs : Jobs
-  pub waiting : List Job
-  pub there : slice_get d.jobs p ≡ Some jobs
-  pub none_out : jobs.out ≡ None
-  pub queued : solo.AreOut p count d.course
-  pub leave : AreTaken (4 * ended_in d.course.standing.history) count taken jobs.waiting waiting
-  pub rest : d' ≡ record d { course = d'.course; jobs = slice_set d.jobs p (record { waiting = waiting; out = out }) }
+-- the processor's list and the grace periods go on, and nothing else of the domain does
+abbrev pub KeepsRest : DomainState → DomainState → Type 0
+KeepsRest d d' = d' ≡ record d { course = d'.course; lines = d'.lines }
 
--- the processor asks how far the grace periods have come
-abbrev pub AsksHowFar : ℕ → Course → Course → Type 0
-AsksHowFar p c c' = AsksIfDone p (4 * ended_in c.standing.history) true c c'
+abbrev pub cause_of_taking : TakeRefusal → Cause
+cause_of_taking taking.Invoking = Invoking
 
--- what was taken is finished at once. Refused where a batch is out, and nothing is done
+-- nothing is taken, as a cause stands against it
+abbrev pub IsRefusedJobs : Command → ℕ → DomainState → Reply → DomainState → Type 0
+IsRefusedJobs c p d r d' = (why : TakeRefusal) × TakesNone p why d.lines × IsRefused c (cause_of_taking why) d r d'
+
+-- the processor is told that the cookie of the number `far` is done, and so many of its own jobs are finished
+abbrev pub runs : ℕ → ℕ → ℕ → Doing
+runs far count p = record (asks_whether far true p) { finished = count; owner = p; list = Some p }
+
+-- these jobs leave the processor's list: of those that are ready by now the first ones, as many as there are, but no more than eight. A full grace period is over for each of them, and they were queued and not finished
+pub record Leave (p : ℕ) (gone : List Job) (becomes : JobList → JobList → Type 0) (d d' : DomainState) : Type 0 where
+  pub list : OnList p becomes d.lines d'.lines
+  pub ready : AreReady 8 (4 * ended_in d.course.standing.history) d'.course.standing.history gone
+  pub unfinished : solo.AreOut p (length gone) d.course
+  pub rest : KeepsRest d d'
+
+-- none of them is out then
+pub record RunsFirst (number : ℕ) (gone : List Job) (was is : JobList) : Type 0 where
+  pub gives : GivesFirst number 8 gone was is
+  pub out : is.out ≡ None
+
+-- they run, and are finished at once. The reply has their names, in order
+pub record RunsJobs (p : ℕ) (d : DomainState) (r : Reply) (d' : DomainState) : Type 0 where
+  pub gone : List Job
+  pub leave : Leave p gone (RunsFirst (number_now d.course.standing) gone) d d'
+  pub happens : DoesAct p (runs (4 * ended_in d.course.standing.history) (length gone)) d.course d'.course
+  pub reply : r ≡ reply.Ran (jobs_of gone)
+
+-- refused where a batch of the processor is out, and nothing is done
 abbrev pub Runs : ℕ → DomainState → Reply → DomainState → Type 0
-Runs p d r d' = ((count : ℕ) × (taken : List Job) × Takes p count taken None d d' × DoesAct p (runs (4 * ended_in d.course.standing.history) count) d.course d'.course × (r ≡ reply.Ran (names_of_jobs taken)))
-    ⊎ IsRefused command.Run Invoking d r d'
+Runs p d r d' = RunsJobs p d r d' ⊎ IsRefusedJobs command.Run p d r d'
 
--- so many jobs are a batch that is out, these among them; without a job none is
-abbrev pub AreOut : ℕ → List Job → Option Batch → Type 0
-AreOut count taken out = (0 < count) × (out ≡ Some (record { count = count; names = names_of_jobs taken })) ⊎ (count ≡ 0) × (out ≡ None)
+-- they are a batch that is out then, if there are any. The reply has their names, in order
+pub record TakesJobs (p : ℕ) (d : DomainState) (r : Reply) (d' : DomainState) : Type 0 where
+  pub gone : List Job
+  pub leave : Leave p gone (PutsOut (number_now d.course.standing) 8 gone) d d'
+  pub asks : AsksIfDone p (4 * ended_in d.course.standing.history) true d.course d'.course
+  pub reply : r ≡ reply.TookJobs (jobs_of gone)
 
--- what was taken stays out. Refused where a batch is out, and nothing is done
+-- refused as `run` is
 abbrev pub TakesOut : ℕ → DomainState → Reply → DomainState → Type 0
-TakesOut p d r d' = ((count : ℕ) × (taken : List Job) × (out : Option Batch) × Takes p count taken out d d' × AsksHowFar p d.course d'.course × AreOut count taken out × (r ≡ reply.TookJobs (names_of_jobs taken)))
-    ⊎ IsRefused command.Batch Invoking d r d'
+TakesOut p d r d' = TakesJobs p d r d' ⊎ IsRefusedJobs command.Batch p d r d'
 
--- the batch of the processor that is out is over, and its jobs are finished
+-- the batch of the processor that is out, of so many jobs, is over, and they are finished
 pub record IsOver (p : ℕ) (d : DomainState) (r : Reply) (d' : DomainState) : Type 0 where
-  pub jobs : Jobs
-  pub batch : Batch
-  pub there : slice_get d.jobs p ≡ Some jobs
-  pub out : jobs.out ≡ Some batch
-  pub over : DoesAct p (finishes p batch.count) d.course d'.course
-  pub rest : d' ≡ record d { course = d'.course; jobs = slice_set d.jobs p (record jobs { out = None }) }
-  pub reply : r ≡ reply.Finished batch.count
+  pub count : ℕ
+  pub list : OnList p (FinishesOut count) d.lines d'.lines
+  pub over : DoesAct p (finishes p count) d.course d'.course
+  pub rest : KeepsRest d d'
+  pub reply : r ≡ reply.Finished count
+
+-- no batch of the processor is out
+pub record HasNoneOut (p : ℕ) (lines : List JobList) : Type 0 where
+  pub list : JobList
+  pub there : slice_get lines p ≡ Some list
+  pub none : list.out ≡ None
 
 abbrev pub Finishes : ℕ → DomainState → Reply → DomainState → Type 0
-Finishes p d r d' = IsOver p d r d'
-    ⊎ (jobs : Jobs) × (slice_get d.jobs p ≡ Some jobs) × (jobs.out ≡ None) × IsRefused command.Finish NoBatch d r d'
+Finishes p d r d' = IsOver p d r d' ⊎ HasNoneOut p d.lines × IsRefused command.Finish NoBatch d r d'
 
--- how the jobs of the processor wait. A script's state has no lists, so it isn't said which counts those are
-abbrev pub ShowsSegments : DomainState → Reply → DomainState → Type 0
-ShowsSegments d r d' = (d' ≡ d) × ((segments : Segments) × (r ≡ reply.Segs segments)) ⊎ IsRefused command.Segs Memory d r d'
+-- how many jobs are done, wait for each of two numbers, and have none; and these numbers, 0 where there is none
+abbrev pub segments_of : List ℕ × List ℕ → Segments
+segments_of told = record {
+  done = slice_index told.0 0;
+  wait = record { count = slice_index told.0 1; number = slice_index told.1 0 };
+  ready = record { count = slice_index told.0 2; number = slice_index told.1 1 };
+  next = slice_index told.0 3;
+}
+
+-- how the jobs of the processor wait
+pub record ShowsSegments (p : ℕ) (d : DomainState) (r : Reply) (d' : DomainState) : Type 0 where
+  pub list : JobList
+  pub there : slice_get d.lines p ≡ Some list
+  pub after : d' ≡ d
+  pub reply : r ≡ reply.Segs (segments_of (lens list.waiting, numbers list.waiting))
+
+abbrev pub TellsSegments : ℕ → DomainState → Reply → DomainState → Type 0
+TellsSegments p d r d' = ShowsSegments p d r d' ⊎ IsRefused command.Segs Memory d r d'
 
 -- a ticket has the name, which waits for all jobs that are queued now
 pub record GivesTicket (name : List ℕ) (d : DomainState) (r : Reply) (d' : DomainState) : Type 0 where
@@ -262,7 +309,7 @@ Does limits (act.Call p name) d r d' = Calls p name d r d'
 Does limits (act.Run p) d r d' = Runs p d r d'
 Does limits (act.Batch p) d r d' = TakesOut p d r d'
 Does limits (act.Finish p) d r d' = Finishes p d r d'
-Does limits (act.Segs p) d r d' = ShowsSegments d r d'
+Does limits (act.Segs p) d r d' = TellsSegments p d r d'
 Does limits (act.Barrier p name) d r d' = StartsBarrier name d r d'
 Does limits (act.BarrierPoll p name) d r d' = PollsBarrier name d r d'
 
@@ -274,11 +321,8 @@ pub record GoesOn (state : State) (place : ℕ) (d d' : DomainState) (state' : S
   pub same : d'.name ≡ d.name
   pub others : state' ≡ slice_set state place d'
 
-abbrev pub no_jobs : Jobs
-no_jobs = record { waiting = []; out = None }
-
 abbrev pub new_domain : Limits → List ℕ → ℕ → DomainState
-new_domain limits name processors = record { name = name; names = []; desk = None; jobs = replicate processors no_jobs; course = new_course limits processors }
+new_domain limits name processors = record { name = name; names = []; desk = None; lines = replicate processors no_calls; course = new_course limits processors }
 
 -- a domain comes behind those that are there
 pub record Makes (limits : Limits) (state : State) (name : List ℕ) (processors : ℕ) (r : Reply) (state' : State) : Type 0 where

@@ -1,14 +1,14 @@
--- The state of a script: its domains, each with the names in use there, what lies on its desk, and the jobs that were queued.
-use Rattle.std.specs.Prelude.{◌≡◌, ◌≢◌, ℕ, ◌≤◌, Bool, false, if◌then◌else◌, List, ◌++◌, length, All, Option, Some, None, map, position, option_map, option_and_then, slice_get, bytes_eq}
+-- The state of a script: its domains, each with the names in use there, what lies on its desk, and the list of each processor.
+use Rattle.std.specs.Prelude.{◌≡◌, ◌≢◌, ℕ, Bool, false, if◌then◌else◌, List, Option, Some, None, map, position, option_map, option_and_then, slice_get, bytes_eq}
 use Rattle.std.specs.Option.{option_map_or}
 use Rattle.std.specs.Map.{lookup}
 use Rattle.sseq.specs.declared.index.Index.{Index}
 use Rattle.sections.specs.declared.limits.Limits.{Limits}
+use Rattle.calls.specs.Lines.{Line}
 use Rattle.solo.specs.Courses.{Course}
 use Rattle.requests.specs.declared.scene.Kind.{Kind}
 use Rattle.requests.specs.declared.scene.Kind.TheVariants as kind
 use Rattle.requests.specs.Scenes.{SceneView}
-use Rattle.session.specs.declared.jobs.Job.{Job}
 
 -- what has a name: a look, which has the index that it found; an open section of this number, which ends on this processor, where it was begun; one that may end on any; or a ticket, which waits until so many jobs of each processor are finished
 pub data Bearer : Type 0 where
@@ -26,22 +26,16 @@ pub record Parked : Type 0 where
   pub name : List ℕ
   pub section : ℕ
 
--- a batch that is out: how many jobs are in it, and the names that are known of these
-pub record Batch : Type 0 where
-  pub count : ℕ
-  pub names : List (List ℕ)
+-- the list of a processor: the jobs that wait there in order, each with its name, the cookie of its moment, and its mark; and how many are out, if some are
+abbrev pub JobList : Type 0
+JobList = Line (List ℕ)
 
--- the jobs of a processor: those that were queued and not taken, in order, each with its name and the number of the cookie that it waits for; and the batch that is out, if one is
-pub record Jobs : Type 0 where
-  pub waiting : List Job
-  pub out : Option Batch
-
--- a domain: its name, the names in use there but that of the section on its desk, what lies on the desk, the jobs of each processor, and how far it has come
+-- a domain: its name, the names in use there but that of the section on its desk, what lies on the desk, the list of each processor, and how far it has come
 pub record DomainState : Type 0 where
   pub name : List ℕ
   pub names : Names
   pub desk : Option Parked
-  pub jobs : List Jobs
+  pub lines : List JobList
   pub course : Course
 
 -- the domains, in the order in which they were made
@@ -70,18 +64,6 @@ bearer_at name names = lookup (bytes_eq name) names
 pub record Becomes (name : List ℕ) (bearer : Option Bearer) (names names' : Names) : Type 0 where
   pub here : bearer_at name names' ≡ bearer
   pub others : (other : List ℕ) → other ≢ name → bearer_at other names' ≡ bearer_at other names
-
--- Jobs
-
-abbrev pub names_of_jobs : List Job → List (List ℕ)
-names_of_jobs jobs = map (λ job. job.name) jobs
-
--- a batch of so many jobs, at most eight, was taken. These are the first of those that waited, no more than it has, and what each of them waits for is reached. The others wait on
-pub record AreTaken (reached count : ℕ) (taken waiting waiting' : List Job) : Type 0 where
-  pub first : waiting ≡ taken ++ waiting'
-  pub known : length taken ≤ count
-  pub few : count ≤ 8
-  pub due : All (λ job. job.cookie ≤ reached) taken
 
 -- Places
 

@@ -1,4 +1,4 @@
-//! A domain with its name, the names in use there, its desk, and the jobs of its processors.
+//! A domain with its name, the names in use there, its desk, and the batches that are out.
 ghost use Rattle.std.specs.Prelude.{◌≡◌, ◌<◌, [], ◌∷◌, option_map, IfOk, OnErr, bytes_eq};
 ghost use Rattle.requests.specs.Requests.{Fits};
 ghost use Rattle.session.specs.States.{kind_at, scene_of};
@@ -6,8 +6,8 @@ ghost use Rattle.session.specs.Entries.{AreTogether};
 ghost use Rattle.session.specs.Scripts.{Does};
 
 use crate::entry::calling::finish_all;
-use crate::jobs::{Jobs, new_jobs};
 use crate::names::{Names, Token, take_last};
+use crate::out::{Out, none_out};
 use crate::parking::Parking;
 use lines::Name;
 use requests::{Act, Cause, Command, Kind, Period, Reply, Sections};
@@ -29,11 +29,12 @@ mod cleanup;
 /// that of the allocator is: here it is the size of a reference.
 pub struct Entry<A: Allocator> {
     name: Name,
-    domain: Solo<A>,
+    /// Its jobs are their names.
+    domain: Solo<Name, A>,
     names: Names<A>,
     parking: Parking<A>,
     /// Of each processor, in order.
-    jobs: Vec<Jobs<A>, A>,
+    outs: Vec<Out<A>, A>,
 }
 
 impl<A: Allocator> Model for Entry<A> {
@@ -53,14 +54,14 @@ impl<A: Allocator> Entry<A> {
     ghost use Rattle.solo.specs.Calls.{IsNew};
 
     /// A domain in which no name is in use. Nothing has happened in it.
-    pub fn new(alloc: A, name: Name, mut domain: Solo<A>) -> Result<Entry<A>, AllocError>
+    pub fn new(alloc: A, name: Name, mut domain: Solo<Name, A>) -> Result<Entry<A>, AllocError>
     where
         A: Copy,
         requires { IsNew domain.limits domain.course.standing.processors domain }
         ensures { IfOk result (λ e. e ≡ record { limits = domain.limits; state = new_domain domain.limits name domain.course.standing.processors }) }
     {
         let parking = Parking::new(alloc, domain.home())?;
-        let Ok(jobs) = new_jobs(alloc, domain.processors()) else {
+        let Ok(outs) = none_out(alloc, domain.processors()) else {
             let parked = parking.close();
             let None = parked else { unreachable!() };
             return Err(AllocError);
@@ -70,7 +71,7 @@ impl<A: Allocator> Entry<A> {
             domain,
             names: Names::new(alloc),
             parking,
-            jobs,
+            outs,
         })
     }
 
@@ -339,7 +340,7 @@ impl<'a, A: Allocator> Entry<&'a A> {
             Act::Start { .. } => Ok(self.start(rt)),
             Act::Advance { .. } => Ok(self.advance(rt)),
             Act::Step { .. } => Ok(self.step(rt)),
-            Act::Call { processor, job } => self.call(rt, processor, job),
+            Act::Call { processor, job } => Ok(self.call(rt, processor, job)),
             Act::Run { processor } => Ok(self.run(rt, processor)),
             Act::Batch { processor } => Ok(self.take_batch(rt, processor)),
             Act::Finish { processor } => Ok(self.finish_batch(rt, processor)),
@@ -356,15 +357,20 @@ impl<'a, A: Allocator> Entry<&'a A> {
             mut domain,
             names,
             parking,
-            jobs,
+            outs,
         } = self;
-        finish_all(rt, &mut domain, jobs);
+        finish_all(rt, &mut domain, outs);
         end_all(rt, domain, names, parking);
     }
 }
 
 /// Ends all open sections of a domain, and drops its looks, its tickets and itself.
-fn end_all<A: Allocator>(rt: &impl Wait, mut domain: Solo<A>, names: Names<A>, parking: Parking<A>)
+fn end_all<A: Allocator>(
+    rt: &impl Wait,
+    mut domain: Solo<Name, A>,
+    names: Names<A>,
+    parking: Parking<A>,
+)
     requires { AreTogether domain names.tokens parking }
 {
     if let Some(held) = parking.close() {

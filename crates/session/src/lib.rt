@@ -2,9 +2,9 @@
 #![tactic(auto)]
 
 mod entry;
-mod jobs;
 mod names;
 mod open;
+mod out;
 mod parking;
 mod scene;
 mod session;

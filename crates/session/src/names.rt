@@ -22,7 +22,7 @@ pub enum Token<A: Allocator> {
     Look(Look),
     Reading(Reading),
     Held(Held),
-    Ticket(Ticket<(), A>),
+    Ticket(Ticket<Name, A>),
 }
 
 /// Tokens under names. To find, to add and to take out one costs the same however many there are.

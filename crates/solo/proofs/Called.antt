@@ -7,29 +7,30 @@ use Rattle.solo.specs.Courses.{Does}
 use Rattle.solo.specs.Settling.{HaveMet}
 use Rattle.solo.proofs.Meeting.{Hand, s', come_quietly, does, same_tables, same_domain, have_met}
 
--- all have met again, the domain is the same, and this
-pub record Says (t : Hand) (it : Type 0) : Type 0 where
-  pub met : HaveMet t.d' t.limits t.cpus' t.meets.left
-  pub same : IsSameDomain t.s (s' t)
-  pub what : it
+module _ {J : Type 0} where
+  -- all have met again, the domain is the same, and this
+  pub record Says (t : Hand J) (it : Type 0) : Type 0 where
+    pub met : HaveMet t.d' t.limits t.cpus' t.meets.left
+    pub same : IsSameDomain t.s (s' t)
+    pub what : it
 
--- the same, but for the lists
-pub record SaysOnList (t : Hand) (it : Type 0) : Type 0 where
-  pub met : HaveMet t.d' t.limits t.cpus' t.meets.left
-  pub same : HasSameTables t.s (s' t)
-  pub what : it
+  -- the same, but for the lists
+  pub record SaysOnList (t : Hand J) (it : Type 0) : Type 0 where
+    pub met : HaveMet t.d' t.limits t.cpus' t.meets.left
+    pub same : HasSameTables t.s (s' t)
+    pub what : it
 
-module _ (t : Hand) (what : ℕ → Act) (did : ActsAs what t.was t.now) where
-  pub says : (what t.p).list ≡ None → (it : Type 0) → it → Says t it
-  says quiet it h = record { met = have_met t what did; same = same_domain t what did quiet; what = h }
+  module _ (t : Hand J) (what : ℕ → Act) (did : ActsAs what t.was t.now) where
+    pub says : (what t.p).list ≡ None → (it : Type 0) → it → Says t it
+    says quiet it h = record { met = have_met t what did; same = same_domain t what did quiet; what = h }
 
-  pub says_on_list : (it : Type 0) → it → SaysOnList t it
-  says_on_list it h = record { met = have_met t what did; same = same_tables t what did; what = h }
+    pub says_on_list : (it : Type 0) → it → SaysOnList t it
+    says_on_list it h = record { met = have_met t what did; same = same_tables t what did; what = h }
 
-  -- it does what it did
-  pub says_does : (what t.p).list ≡ None → Says t (Does t.p what t.s.course (s' t).course)
-  says_does quiet = says quiet _ (does t what did)
+    -- it does what it did
+    pub says_does : (what t.p).list ≡ None → Says t (Does t.p what t.s.course (s' t).course)
+    says_does quiet = says quiet _ (does t what did)
 
--- nothing was done
-pub still : (t : Hand) → ActsAs loads t.was t.now → s' t ≡ t.s
-still t did = come_quietly t loads did refl
+  -- nothing was done
+  pub still : (t : Hand J) → ActsAs loads t.was t.now → s' t ≡ t.s
+  still t did = come_quietly t loads did refl

@@ -60,287 +60,288 @@ sum_is count p (x ∷ xs) each =
 abbrev missed : Bool → ℕ
 missed b = if b then 0 else 1
 
--- a processor that is there is not missing
-none_missed : (cpus : List (DomainCpu (Unit {0}))) (nobody : DomainCpu (Unit {0})) → ((k : ℕ) → k < length cpus → (get_or cpus k nobody).cpu.processor ≡ k) → (m : ℕ) → m ≤ length cpus → sum_below (λ p. if is_there p cpus then 0 else 1) m ≡ 0
-none_missed cpus nobody order zero le = refl
-none_missed cpus nobody order (suc m) le =
-    let before = none_missed cpus nobody order m (omega (arith, le)) in
-    let there : is_there m cpus ≡ true = list_any_at (λ c. c.cpu.processor == m) cpus m nobody (omega (arith, le)) (eq-eqb (get_or cpus m nobody).cpu.processor m (order m (omega (arith, le)))) in
-    let none : missed (is_there m cpus) ≡ 0 = ap missed there in
-    omega (arith, before, none)
+module _ {J : Type 0} where
+  -- a processor that is there is not missing
+  none_missed : (cpus : List (DomainCpu J)) (nobody : DomainCpu J) → ((k : ℕ) → k < length cpus → (get_or cpus k nobody).cpu.processor ≡ k) → (m : ℕ) → m ≤ length cpus → sum_below (λ p. if is_there p cpus then 0 else 1) m ≡ 0
+  none_missed cpus nobody order zero le = refl
+  none_missed cpus nobody order (suc m) le =
+      let before = none_missed cpus nobody order m (omega (arith, le)) in
+      let there : is_there m cpus ≡ true = list_any_at (λ c. c.cpu.processor == m) cpus m nobody (omega (arith, le)) (eq-eqb (get_or cpus m nobody).cpu.processor m (order m (omega (arith, le)))) in
+      let none : missed (is_there m cpus) ≡ 0 = ap missed there in
+      omega (arith, before, none)
 
--- the domain has as many processors as are in hand
-processors_are : (d : DomainView) (limits : Limits) (cpus : List (DomainCpu (Unit {0}))) (v : View) → HaveMet d limits cpus v → d.processors ≡ length cpus
-processors_are d limits [] v met = let some = met.all.some in absurd (omega (arith, some))
-processors_are d limits (c ∷ cpus) v met = sym (met.all.here 0 c met.all.some).many ∙ met.all.count 0 c met.all.some
+  -- the domain has as many processors as are in hand
+  processors_are : (d : DomainView) (limits : Limits) (cpus : List (DomainCpu J)) (v : View) → HaveMet d limits cpus v → d.processors ≡ length cpus
+  processors_are d limits [] v met = let some = met.all.some in absurd (omega (arith, some))
+  processors_are d limits (c ∷ cpus) v met = sym (met.all.here 0 c met.all.some).many ∙ met.all.count 0 c met.all.some
 
-module _ (d : DomainView) (limits : Limits) (cpus : List (DomainCpu (Unit {0}))) (lay : View) (met : HaveMet d limits cpus lay) (seen : SoloView) (seen_is : seen_first d limits cpus ≡ seen) where
-  abbrev nobody : DomainCpu (Unit {0})
-  nobody = new_cpu d (bounds_of 0 limits) d.domain (record { processors = 0; nodes = 0 }) 0
+  module _ (d : DomainView) (limits : Limits) (cpus : List (DomainCpu J)) (lay : View) (met : HaveMet d limits cpus lay) (seen : SoloView J) (seen_is : seen_first d limits cpus ≡ seen) where
+    abbrev nobody : DomainCpu J
+    nobody = new_cpu d (bounds_of 0 limits) d.domain (record { processors = 0; nodes = 0 }) 0
 
-  some : 0 < length cpus
-  some = met.all.some
+    some : 0 < length cpus
+    some = met.all.some
 
-  many : d.processors ≡ length cpus
-  many = processors_are d limits cpus lay met
+    many : d.processors ≡ length cpus
+    many = processors_are d limits cpus lay met
 
-  all_there : missing_of d.processors cpus ≡ 0
-  all_there = none_missed cpus nobody (λ k lt. met.all.order k nobody lt) d.processors (let is = many in omega (arith, is))
+    all_there : missing_of d.processors cpus ≡ 0
+    all_there = none_missed cpus nobody (λ k lt. met.all.order k nobody lt) d.processors (let is = many in omega (arith, is))
 
-  view_is : seen ≡ view d limits cpus lay met
-  view_is = now_is d limits cpus lay met seen seen_is
+    view_is : seen ≡ view d limits cpus lay met
+    view_is = now_is d limits cpus lay met seen seen_is
 
-  -- What was done in all
+    -- What was done in all
 
-  module _ (history : List Event) (of_all : IsHistoryOf d cpus history) where
-    each_made : (m : Maker) → IsMaker (length cpus) m → made_by m history ≡ made_by m lay.seat.seen
-    each_made (Processor k) lt =
-        let held = met.together.hold.each k nobody lt in
-        ap (λ q. made_by (Processor q) history) (sym held.processor) ∙ (of_all.own k nobody lt ∙ held.mine)
-    each_made Engine is = of_all.engine nobody ∙ ap (made_by Engine) (met.together.seen of_all.one nobody of_all.there)
+    module _ (history : List Event) (of_all : IsHistoryOf d cpus history) where
+      each_made : (m : Maker) → IsMaker (length cpus) m → made_by m history ≡ made_by m lay.seat.seen
+      each_made (Processor k) lt =
+          let held = met.together.hold.each k nobody lt in
+          ap (λ q. made_by (Processor q) history) (sym held.processor) ∙ (of_all.own k nobody lt ∙ held.mine)
+      each_made Engine is = of_all.engine nobody ∙ ap (made_by Engine) (met.together.seen of_all.one nobody of_all.there)
 
-    pub history_is : history ≡ lay.seat.seen
-    history_is =
-        let same = append-nil lay.seat.seen in
-        let since : IsBeginning lay.seat.seen history = subst (λ l. IsBeginning l history) (met.together.seen 0 nobody some) (of_all.since 0 nobody some) in
-        (nothing_between (length cpus) lay.seat.seen [] [] history (subst (λ l. IsBeginning l history) (sym same) since) (subst (λ n. All (HasItsMaker n) history) many of_all.makers) (λ m is. ap length (each_made m is ∙ ap (made_by m) (sym same)))).1 ∙ same
+      pub history_is : history ≡ lay.seat.seen
+      history_is =
+          let same = append-nil lay.seat.seen in
+          let since : IsBeginning lay.seat.seen history = subst (λ l. IsBeginning l history) (met.together.seen 0 nobody some) (of_all.since 0 nobody some) in
+          (nothing_between (length cpus) lay.seat.seen [] [] history (subst (λ l. IsBeginning l history) (sym same) since) (subst (λ n. All (HasItsMaker n) history) many of_all.makers) (λ m is. ap length (each_made m is ∙ ap (made_by m) (sym same)))).1 ∙ same
 
-    seen_history : history ≡ seen.course.standing.history
-    seen_history = history_is ∙ sym (ap (λ (x : SoloView). x.course.standing.history) view_is)
+      seen_history : history ≡ seen.course.standing.history
+      seen_history = history_is ∙ sym (ap (λ (x : SoloView J). x.course.standing.history) view_is)
 
-  module _ (deeds : List (Deed (Unit {0}))) (of_all : AreDeedsOf d cpus deeds) where
-    abbrev counting : List (Deed (Unit {0}))
-    counting = map (deed 0) (queued_loads 0 of_all.queued ++ finished_loads 0 of_all.finished)
+    module _ (deeds : List (Deed J)) (of_all : AreDeedsOf d cpus deeds) where
+      abbrev counting : List (Deed J)
+      counting = map (deed 0) (queued_loads 0 of_all.queued ++ finished_loads 0 of_all.finished)
 
-    counts_nothing : CountsNothing counting
-    counts_nothing = subst (λ l. CountsNothing l) (sym (map-append (deed 0) (queued_loads 0 of_all.queued) (finished_loads 0 of_all.finished)))
-        (both_count (map (deed 0) (queued_loads 0 of_all.queued)) (map (deed 0) (finished_loads 0 of_all.finished)) (queued_loads_count 0 0 of_all.queued) (finished_loads_count 0 0 of_all.finished))
+      counts_nothing : CountsNothing counting
+      counts_nothing = subst (λ l. CountsNothing l) (sym (map-append (deed 0) (queued_loads 0 of_all.queued) (finished_loads 0 of_all.finished)))
+          (both_count (map (deed 0) (queued_loads 0 of_all.queued)) (map (deed 0) (finished_loads 0 of_all.finished)) (queued_loads_count 0 0 of_all.queued) (finished_loads_count 0 0 of_all.finished))
 
-    goes_by_first : GoesOnBy (length cpus) 0 met.deeds counting deeds
-    goes_by_first = record {
-      since = subst (λ (s : CallSeatView (Unit {0})). tallies.IsBeginning s.seen deeds) (met.tally_together.seats 0 nobody some) (of_all.since 0 nobody some);
-      own = subst (λ (s : CallSeatView (Unit {0})). deeds_of s.processor deeds ≡ deeds_of s.processor s.seen ++ map (deed s.processor) (queued_loads 0 of_all.queued ++ finished_loads 0 of_all.finished)) (met.tally_together.seats 0 nobody some) (of_all.first nobody);
-      others = λ q lt other. subst (λ (s : CallSeatView (Unit {0})). deeds_of s.processor deeds ≡ deeds_of s.processor s.seen) (met.tally_together.seats q nobody lt) (of_all.others q nobody (omega (arith, other)) lt);
-      takers = subst (λ n. AreTakers n deeds) many of_all.takers;
-    }
+      goes_by_first : GoesOnBy (length cpus) 0 met.deeds counting deeds
+      goes_by_first = record {
+        since = subst (λ (s : CallSeatView J). tallies.IsBeginning s.seen deeds) (met.tally_together.seats 0 nobody some) (of_all.since 0 nobody some);
+        own = subst (λ (s : CallSeatView J). deeds_of s.processor deeds ≡ deeds_of s.processor s.seen ++ map (deed s.processor) (queued_loads 0 of_all.queued ++ finished_loads 0 of_all.finished)) (met.tally_together.seats 0 nobody some) (of_all.first nobody);
+        others = λ q lt other. subst (λ (s : CallSeatView J). deeds_of s.processor deeds ≡ deeds_of s.processor s.seen) (met.tally_together.seats q nobody lt) (of_all.others q nobody (omega (arith, other)) lt);
+        takers = subst (λ n. AreTakers n deeds) many of_all.takers;
+      }
 
-    pub same_queued : (k : ℕ) → k < length cpus → queued_in k deeds ≡ queued_in k met.deeds
-    same_queued = still_queued (length cpus) 0 met.deeds counting deeds goes_by_first counts_nothing
+      pub same_queued : (k : ℕ) → k < length cpus → queued_in k deeds ≡ queued_in k met.deeds
+      same_queued = still_queued (length cpus) 0 met.deeds counting deeds goes_by_first counts_nothing
 
-    pub same_finished : (k : ℕ) → finished_in k deeds ≡ finished_in k met.deeds
-    same_finished = still_finished (length cpus) 0 met.deeds counting deeds goes_by_first counts_nothing
+      pub same_finished : (k : ℕ) → finished_in k deeds ≡ finished_in k met.deeds
+      same_finished = still_finished (length cpus) 0 met.deeds counting deeds goes_by_first counts_nothing
 
-    pub same_line : (k : ℕ) → k < length cpus → line_in k deeds ≡ line_in k met.deeds
-    same_line = still_line (length cpus) 0 met.deeds counting deeds goes_by_first counts_nothing
+      pub same_line : (k : ℕ) → k < length cpus → line_in k deeds ≡ line_in k met.deeds
+      same_line = still_line (length cpus) 0 met.deeds counting deeds goes_by_first counts_nothing
 
-    queued_sum : all_queued d.processors deeds ≡ sum seen.course.queued
-    queued_sum =
-        let long : length (queued_on cpus) ≡ length cpus = length-map cpus (λ c. queued_in c.calls.processor c.calls.seen) in
-        ap (λ n. all_queued n deeds) (many ∙ sym long) ∙ (sym (sum_is (λ p. queued_in p deeds) 0 (queued_on cpus) (λ k lt. let there : k < length cpus = omega (arith, lt, long) in count_at 0 queued_in d met.deeds cpus met.tally_together k there ∙ (sym (same_queued k there) ∙ ap (λ q. queued_in q deeds) (let e : k ≡ 0 + k = omega arith in e)))) ∙ sym (ap (λ (x : SoloView). sum x.course.queued) view_is))
+      queued_sum : all_queued d.processors deeds ≡ sum seen.course.queued
+      queued_sum =
+          let long : length (queued_on cpus) ≡ length cpus = length-map cpus (λ c. queued_in c.calls.processor c.calls.seen) in
+          ap (λ n. all_queued n deeds) (many ∙ sym long) ∙ (sym (sum_is (λ p. queued_in p deeds) 0 (queued_on cpus) (λ k lt. let there : k < length cpus = omega (arith, lt, long) in count_at 0 queued_in d met.deeds cpus met.tally_together k there ∙ (sym (same_queued k there) ∙ ap (λ q. queued_in q deeds) (let e : k ≡ 0 + k = omega arith in e)))) ∙ sym (ap (λ (x : SoloView J). sum x.course.queued) view_is))
 
-    finished_sum : all_finished d.processors deeds ≡ sum seen.course.finished
-    finished_sum =
-        let long : length (finished_on cpus) ≡ length cpus = length-map cpus (λ c. finished_in c.calls.processor c.calls.seen) in
-        ap (λ n. all_finished n deeds) (many ∙ sym long) ∙ (sym (sum_is (λ p. finished_in p deeds) 0 (finished_on cpus) (λ k lt. let there : k < length cpus = omega (arith, lt, long) in count_at 0 finished_in d met.deeds cpus met.tally_together k there ∙ (sym (same_finished k) ∙ ap (λ q. finished_in q deeds) (let e : k ≡ 0 + k = omega arith in e)))) ∙ sym (ap (λ (x : SoloView). sum x.course.finished) view_is))
+      finished_sum : all_finished d.processors deeds ≡ sum seen.course.finished
+      finished_sum =
+          let long : length (finished_on cpus) ≡ length cpus = length-map cpus (λ c. finished_in c.calls.processor c.calls.seen) in
+          ap (λ n. all_finished n deeds) (many ∙ sym long) ∙ (sym (sum_is (λ p. finished_in p deeds) 0 (finished_on cpus) (λ k lt. let there : k < length cpus = omega (arith, lt, long) in count_at 0 finished_in d met.deeds cpus met.tally_together k there ∙ (sym (same_finished k) ∙ ap (λ q. finished_in q deeds) (let e : k ≡ 0 + k = omega arith in e)))) ∙ sym (ap (λ (x : SoloView J). sum x.course.finished) view_is))
 
-  -- Totals, and why it is in use
+    -- Totals, and why it is in use
 
-  whole_is : (history : List Event) (deeds : List (Deed (Unit {0}))) → IsHistoryOf d cpus history → AreDeedsOf d cpus deeds → cleanup.whole_of d.processors history deeds ≡ whole_of seen.course
-  whole_is history deeds of_all deeds_of_all = λ i. record { history = seen_history history of_all i; queued = queued_sum deeds deeds_of_all i; finished = finished_sum deeds deeds_of_all i }
+    whole_is : (history : List Event) (deeds : List (Deed J)) → IsHistoryOf d cpus history → AreDeedsOf d cpus deeds → cleanup.whole_of d.processors history deeds ≡ whole_of seen.course
+    whole_is history deeds of_all deeds_of_all = λ i. record { history = seen_history history of_all i; queued = queued_sum deeds deeds_of_all i; finished = finished_sum deeds deeds_of_all i }
 
-  pub taken_down : (t : Totals) → cleanup.IsTakenDown d cpus t → IsTakenDown seen.course t
-  taken_down t h =
-      let same = whole_is h.history h.all h.of_all h.deeds_of_all in
-      record { unused = subst IsUnused same h.unused; totals = subst (λ w. AreTotals w t) same h.totals }
+    pub taken_down : (t : Totals) → cleanup.IsTakenDown d cpus t → IsTakenDown seen.course t
+    taken_down t h =
+        let same = whole_is h.history h.all h.of_all h.deeds_of_all in
+        record { unused = subst IsUnused same h.unused; totals = subst (λ w. AreTotals w t) same h.totals }
 
-  pub refused_is : (cause : InUse) (dm : DomainView) (mid : List (DomainCpu (Unit {0}))) → cleanup.IsRefused d cpus cause dm mid → cleanup.IsInUse d cpus cause dm mid
-  refused_is (Missing n) dm mid h = let none = all_there in let is = h.0 in let some = h.1 in absurd (omega (arith, none, is, some))
-  refused_is (Sections n) dm mid h = h
-  refused_is Period dm mid h = h
-  refused_is (Callbacks n) dm mid h = h
+    pub refused_is : (cause : InUse) (dm : DomainView) (mid : List (DomainCpu J)) → cleanup.IsRefused d cpus cause dm mid → cleanup.IsInUse d cpus cause dm mid
+    refused_is (Missing n) dm mid h = let none = all_there in let is = h.0 in let some = h.1 in absurd (omega (arith, none, is, some))
+    refused_is (Sections n) dm mid h = h
+    refused_is Period dm mid h = h
+    refused_is (Callbacks n) dm mid h = h
 
-  pub in_use : (cause : InUse) (dm : DomainView) (mid : List (DomainCpu (Unit {0}))) → cleanup.IsRefused d cpus cause dm mid → IsInUse seen.course cause
-  in_use cause dm mid h = let r = refused_is cause dm mid h in subst (λ w. IsCause w cause) (whole_is r.history r.all r.of_all r.deeds_of_all) r.is
+    pub in_use : (cause : InUse) (dm : DomainView) (mid : List (DomainCpu J)) → cleanup.IsRefused d cpus cause dm mid → IsInUse seen.course cause
+    in_use cause dm mid h = let r = refused_is cause dm mid h in subst (λ w. IsCause w cause) (whole_is r.history r.all r.of_all r.deeds_of_all) r.is
 
-  -- all come back
-  pub handed_back : (dm : DomainView) (mid : List (DomainCpu (Unit {0}))) → dm ≡ d → IsHandedBack d cpus dm mid → IsAllOf dm mid
-  handed_back dm mid same h = subst (λ (z : DomainView). IsAllOf z mid) (sym same) (all_the_same d cpus mid h.count h.same (subst (λ (z : DomainView). (k : ℕ) (c : DomainCpu (Unit {0})) → k < length cpus → IsOf z (get_or mid k c)) same (λ k c lt. h.here k c (let long = h.count in omega (arith, long, lt)))) met.all)
+    -- all come back
+    pub handed_back : (dm : DomainView) (mid : List (DomainCpu J)) → dm ≡ d → IsHandedBack d cpus dm mid → IsAllOf dm mid
+    handed_back dm mid same h = subst (λ (z : DomainView). IsAllOf z mid) (sym same) (all_the_same d cpus mid h.count h.same (subst (λ (z : DomainView). (k : ℕ) (c : DomainCpu J) → k < length cpus → IsOf z (get_or mid k c)) same (λ k c lt. h.here k c (let long = h.count in omega (arith, long, lt)))) met.all)
 
-  -- Then they meet
+    -- Then they meet
 
-  module _ (history : List Event) (of_all : IsHistoryOf d cpus history) (deeds : List (Deed (Unit {0}))) (deeds_of_all : AreDeedsOf d cpus deeds) (mid : List (DomainCpu (Unit {0}))) (h : AreBack d history deeds cpus mid) (engine : IsSameEngine h.found.seat h.left.seat) (d' : DomainView) (cpus' : List (DomainCpu (Unit {0}))) (all : IsAllOf d' cpus') (meets : MeetsHere mid cpus') where
-    within : (k : ℕ) → k < length mid → k < length cpus
-    within k lt = let long = h.count in omega (arith, long, lt)
+    module _ (history : List Event) (of_all : IsHistoryOf d cpus history) (deeds : List (Deed J)) (deeds_of_all : AreDeedsOf d cpus deeds) (mid : List (DomainCpu J)) (h : AreBack d history deeds cpus mid) (engine : IsSameEngine h.found.seat h.left.seat) (d' : DomainView) (cpus' : List (DomainCpu J)) (all : IsAllOf d' cpus') (meets : MeetsHere mid cpus') where
+      within : (k : ℕ) → k < length mid → k < length cpus
+      within k lt = let long = h.count in omega (arith, long, lt)
 
-    within_mid : (k : ℕ) → k < length cpus → k < length mid
-    within_mid k lt = let long = h.count in omega (arith, long, lt)
+      within_mid : (k : ℕ) → k < length cpus → k < length mid
+      within_mid k lt = let long = h.count in omega (arith, long, lt)
 
-    turn : TakesTurn (get_or cpus 0 nobody).turn h.found h.left (get_or mid 0 nobody).turn
-    turn = h.first nobody
+      turn : TakesTurn (get_or cpus 0 nobody).turn h.found h.left (get_or mid 0 nobody).turn
+      turn = h.first nobody
 
-    found_is : h.found ≡ lay
-    found_is = turn_found met.swaps cpus mid lay met.turn_together some h.count h.others cpus' meets.found meets.left meets.turns meets.count nobody h.found h.left turn
+      found_is : h.found ≡ lay
+      found_is = turn_found met.swaps cpus mid lay met.turn_together some h.count h.others cpus' meets.found meets.left meets.turns meets.count nobody h.found h.left turn
 
-    meeting_is : meets.found ≡ h.left
-    meeting_is = meeting_found met.swaps cpus mid lay met.turn_together some h.count h.others cpus' meets.found meets.left meets.turns meets.count nobody h.found h.left turn
+      meeting_is : meets.found ≡ h.left
+      meeting_is = meeting_found met.swaps cpus mid lay met.turn_together some h.count h.others cpus' meets.found meets.left meets.turns meets.count nobody h.found h.left turn
 
-    turned : TurnTogether meets.turns.swaps cpus' meets.left
-    turned = turn_turned met.swaps cpus mid lay met.turn_together some h.count h.others cpus' meets.found meets.left meets.turns meets.count nobody h.found h.left turn
+      turned : TurnTogether meets.turns.swaps cpus' meets.left
+      turned = turn_turned met.swaps cpus mid lay met.turn_together some h.count h.others cpus' meets.found meets.left meets.turns meets.count nobody h.found h.left turn
 
-    engine_meets : EngineMeets h.left.seat mid meets.left.seat cpus'
-    engine_meets = subst (λ (z : View). EngineMeets z.seat mid meets.left.seat cpus') meeting_is meets.engine
+      engine_meets : EngineMeets h.left.seat mid meets.left.seat cpus'
+      engine_meets = subst (λ (z : View). EngineMeets z.seat mid meets.left.seat cpus') meeting_is meets.engine
 
-    engine_is : IsSameEngine lay.seat h.left.seat
-    engine_is = subst (λ (z : View). IsSameEngine z.seat h.left.seat) found_is engine
+      engine_is : IsSameEngine lay.seat h.left.seat
+      engine_is = subst (λ (z : View). IsSameEngine z.seat h.left.seat) found_is engine
 
-    whole : lay.seat.seen ++ [] ≡ lay.seat.seen
-    whole = append-nil lay.seat.seen
+      whole : lay.seat.seen ++ [] ≡ lay.seat.seen
+      whole = append-nil lay.seat.seen
 
-    hold : AllHold limits (lay.seat.seen ++ []) mid h.left.seat
-    hold = record {
-      in_range = met.together.hold.in_range;
-      periods = engine_is.2 ∙ met.together.hold.periods;
-      count = subst IsCount (sym engine_is.1) met.together.hold.count;
-      all = h.count ∙ (met.together.hold.all ∙ sym engine_is.1);
-      engine = h.mine ∙ (ap (λ (z : View). z.seat.mine) found_is ∙ (met.together.hold.engine ∙ ap (made_by Engine) (sym whole)));
-      each = λ k c lt.
-          let was = met.together.hold.each k c (within k lt) in
-          let b = h.each k c (within k lt) in record {
-            domain = b.same.0 ∙ (was.domain ∙ sym engine_is.0);
-            processors_are = b.same.1 ∙ (was.processors_are ∙ sym engine_is.1);
-            sections = b.same.2 ∙ was.sections;
-            processor = b.same.3 ∙ was.processor;
-            mine = b.mine ∙ (was.mine ∙ ap (made_by (Processor k)) (sym whole));
-          };
-    }
-
-    acted : IsSettled limits lay.seat.seen [] [] cpus' meets.left.seat
-    acted = settled mid cpus' h.left.seat meets.left.seat meets.count engine_meets nobody limits lay.seat.seen [] [] (record { hold = hold; seen = inl (subst (λ l. IsBeginning l h.left.seat.seen) (h.seen ∙ (history_is history of_all ∙ sym whole)) (beginning_refl h.left.seat.seen)) })
-
-    -- The tree
-
-    have_asked : HaveAsked 0 met.raises [] mid
-    have_asked = record {
-      mine = λ k c lt. ap (λ n. n.mine) (h.each k c (within k lt)).needs ∙ (met.ask_together.mine k c (within k lt) ∙ ap (raised_by k) (sym (append-nil met.raises)));
-      inside = within_mid 0 some;
-      own = refl;
-      others = λ q other. refl;
-      since = λ c. subst (λ l. tree.IsBeginning met.raises l) (sym (ap (λ n. n.seen) (h.each 0 c some).needs ∙ met.ask_together.seen 0 c some)) (begins_itself met.raises);
-    }
-
-    raises_are : meets.needs.raises ≡ met.raises
-    raises_are = all_raised d' mid cpus' all meets.count meets.needs nobody 0 met.raises [] have_asked ∙ append-nil met.raises
-
-    ask_together : AskTogether meets.needs.raises cpus'
-    ask_together = asked_together d' mid cpus' all meets.count meets.needs nobody 0 met.raises [] have_asked
-
-    same_asked : greatest meets.needs.raises ≡ greatest met.raises
-    same_asked = ap greatest raises_are
-
-    -- The tally words
-
-    mid_tally : TallyTogether d deeds mid
-    mid_tally = record {
-      seats = λ k c lt.
-          let was = met.tally_together.seats k c (within k lt) in
-          (h.each k c (within k lt)).calls ∙ (ap (λ (s : CallSeatView (Unit {0})). record s { seen = deeds }) was ∙ ap (λ n. record { tallies = d.tallies; processors = n; processor = k; seen = deeds }) (sym h.count));
-      takers = subst (λ n. AreTakers n deeds) (many ∙ sym h.count) deeds_of_all.takers;
-    }
-
-    abbrev first : DomainCpu (Unit {0})
-    first = get_or mid 0 nobody
-
-    unmoved : set mid 0 first ≡ mid
-    unmoved = set-get_or mid 0 nobody
-
-    first_is : first ≡ get_or mid 0 first
-    first_is = get_or_default mid 0 nobody first (within_mid 0 some)
-
-    count : length cpus' ≡ length (set mid 0 first)
-    count = meets.count ∙ sym (ap length unmoved)
-
-    tallies_meet : TalliesMeet (set mid 0 first) cpus'
-    tallies_meet = subst (λ l. TalliesMeet l cpus') (sym unmoved) meets.calls
-
-    same_tallies : d'.tallies ≡ d.tallies
-    same_tallies =
-        let there : 0 < length mid = within_mid 0 some in
-        let left = (all.here 0 nobody all.some).fits.tallies in
-        let is = ap (λ (s : CallSeatView (Unit {0})). s.tallies) ((meets.calls.each 0 nobody there).is) in
-        let was = ap (λ (s : CallSeatView (Unit {0})). s.tallies) (mid_tally.seats 0 nobody there) in
-        sym left ∙ (is ∙ was)
-
-    all_tally : TallyTogether d' tallies_meet.deeds cpus'
-    all_tally = tally_together d d' deeds mid cpus' 0 first first (within_mid 0 some) first_is mid_tally [] (adds_none first.calls first.calls refl) count tallies_meet same_tallies
-
-    all_on : GoesOnBy (length mid) 0 deeds [] tallies_meet.deeds
-    all_on = goes_on d d' deeds mid cpus' 0 first first (within_mid 0 some) first_is mid_tally [] (adds_none first.calls first.calls refl) count tallies_meet same_tallies
-
-    long : length cpus' ≡ length cpus
-    long = meets.count ∙ h.count
-
-    queued_are : queued_on cpus' ≡ queued_on cpus
-    queued_are = same_counts 0 queued_in d d' met.deeds tallies_meet.deeds cpus cpus' met.tally_together all_tally long (λ k lt. still_queued (length mid) 0 deeds [] tallies_meet.deeds all_on nothing_done k (within_mid k lt) ∙ same_queued deeds deeds_of_all k lt)
-
-    finished_are : finished_on cpus' ≡ finished_on cpus
-    finished_are = same_counts 0 finished_in d d' met.deeds tallies_meet.deeds cpus cpus' met.tally_together all_tally long (λ k lt. still_finished (length mid) 0 deeds [] tallies_meet.deeds all_on nothing_done k ∙ same_finished deeds deeds_of_all k)
-
-    lines_are : lines_on cpus' ≡ lines_on cpus
-    lines_are = same_counts no_calls line_in d d' met.deeds tallies_meet.deeds cpus cpus' met.tally_together all_tally long (λ k lt. still_line (length mid) 0 deeds [] tallies_meet.deeds all_on nothing_done k (within_mid k lt) ∙ same_line deeds deeds_of_all k lt)
-
-    -- All of it
-
-    same_engine : IsSameEngine lay.seat meets.left.seat
-    same_engine = (engine_meets.same.0 ∙ engine_is.0, engine_meets.same.1 ∙ engine_is.1, engine_meets.same.2 ∙ engine_is.2)
-
-    rest_is : meets.left ≡ with_seat meets.left.seat lay
-    rest_is = subst (λ (z : View). meets.left ≡ with_seat meets.left.seat z) meeting_is meets.rest ∙ ap (λ (z : View). with_seat meets.left.seat z) (h.rest ∙ ap (λ (z : View). with_seat h.left.seat z) found_is)
-
-    history_stays : meets.left.seat.seen ≡ lay.seat.seen
-    history_stays = acted.seen ∙ whole
-
-    changes_stay : meets.left.seat.changes ≡ lay.seat.changes
-    changes_stay = engine_meets.changes ∙ (h.changes ∙ ap (λ (z : View). z.seat.changes) found_is)
-
-    pub refused_met : HaveMet d' limits cpus' meets.left
-    refused_met = record {
-      all = all;
-      together = acted.together;
-      raises = meets.needs.raises;
-      ask_together = ask_together;
-      swaps = meets.turns.swaps;
-      turn_together = turned;
-      deeds = tallies_meet.deeds;
-      tally_together = all_tally;
-      cookies = ap (λ n. n % 4) same_asked ∙ met.cookies;
-      wanted = λ resting half.
-          let so_far = ap (λ (x : View). x.so_far) rest_is in
-          let need = ap (λ (x : View). x.need) rest_is in
-          let was = met.wanted (λ running. resting (subst IsRunning (sym history_stays) running)) (omega (arith, so_far, half)) in record {
-            need = need ∙ (was.need ∙ sym same_asked);
-            above = (let above = was.above in let same = ap number_at_rest history_stays in omega (arith, above, same, need));
-          };
-    }
-
-    pub refused_same : seen_first d' limits cpus' ≡ seen
-    refused_same =
-        first_seen d' limits cpus' meets.left (greatest meets.needs.raises) all.some turned.lying (λ c. ap greatest (ask_together.seen 0 c all.some))
-        ∙ ((λ i. record {
-          table = same_engine.0 i;
-          limits = limits;
-          tallies = same_tallies i;
-          course = record {
-            standing = record {
-              processors = same_engine.1 i;
-              periods = same_engine.2 i;
-              history = history_stays i;
-              changes = changes_stay i;
-              so_far = ap (λ (x : View). x.so_far) rest_is i;
-              began = ap (λ (x : View). x.began) rest_is i;
+      hold : AllHold limits (lay.seat.seen ++ []) mid h.left.seat
+      hold = record {
+        in_range = met.together.hold.in_range;
+        periods = engine_is.2 ∙ met.together.hold.periods;
+        count = subst IsCount (sym engine_is.1) met.together.hold.count;
+        all = h.count ∙ (met.together.hold.all ∙ sym engine_is.1);
+        engine = h.mine ∙ (ap (λ (z : View). z.seat.mine) found_is ∙ (met.together.hold.engine ∙ ap (made_by Engine) (sym whole)));
+        each = λ k c lt.
+            let was = met.together.hold.each k c (within k lt) in
+            let b = h.each k c (within k lt) in record {
+              domain = b.same.0 ∙ (was.domain ∙ sym engine_is.0);
+              processors_are = b.same.1 ∙ (was.processors_are ∙ sym engine_is.1);
+              sections = b.same.2 ∙ was.sections;
+              processor = b.same.3 ∙ was.processor;
+              mine = b.mine ∙ (was.mine ∙ ap (made_by (Processor k)) (sym whole));
             };
-            asked = same_asked i;
-            queued = queued_are i;
-            finished = finished_are i;
-          };
-          lines = lines_are i;
-        }) ∙ sym view_is)
+      }
+
+      acted : IsSettled limits lay.seat.seen [] [] cpus' meets.left.seat
+      acted = settled mid cpus' h.left.seat meets.left.seat meets.count engine_meets nobody limits lay.seat.seen [] [] (record { hold = hold; seen = inl (subst (λ l. IsBeginning l h.left.seat.seen) (h.seen ∙ (history_is history of_all ∙ sym whole)) (beginning_refl h.left.seat.seen)) })
+
+      -- The tree
+
+      have_asked : HaveAsked 0 met.raises [] mid
+      have_asked = record {
+        mine = λ k c lt. ap (λ n. n.mine) (h.each k c (within k lt)).needs ∙ (met.ask_together.mine k c (within k lt) ∙ ap (raised_by k) (sym (append-nil met.raises)));
+        inside = within_mid 0 some;
+        own = refl;
+        others = λ q other. refl;
+        since = λ c. subst (λ l. tree.IsBeginning met.raises l) (sym (ap (λ n. n.seen) (h.each 0 c some).needs ∙ met.ask_together.seen 0 c some)) (begins_itself met.raises);
+      }
+
+      raises_are : meets.needs.raises ≡ met.raises
+      raises_are = all_raised d' mid cpus' all meets.count meets.needs nobody 0 met.raises [] have_asked ∙ append-nil met.raises
+
+      ask_together : AskTogether meets.needs.raises cpus'
+      ask_together = asked_together d' mid cpus' all meets.count meets.needs nobody 0 met.raises [] have_asked
+
+      same_asked : greatest meets.needs.raises ≡ greatest met.raises
+      same_asked = ap greatest raises_are
+
+      -- The tally words
+
+      mid_tally : TallyTogether d deeds mid
+      mid_tally = record {
+        seats = λ k c lt.
+            let was = met.tally_together.seats k c (within k lt) in
+            (h.each k c (within k lt)).calls ∙ (ap (λ (s : CallSeatView J). record s { seen = deeds }) was ∙ ap (λ n. record { tallies = d.tallies; processors = n; processor = k; seen = deeds }) (sym h.count));
+        takers = subst (λ n. AreTakers n deeds) (many ∙ sym h.count) deeds_of_all.takers;
+      }
+
+      abbrev first : DomainCpu J
+      first = get_or mid 0 nobody
+
+      unmoved : set mid 0 first ≡ mid
+      unmoved = set-get_or mid 0 nobody
+
+      first_is : first ≡ get_or mid 0 first
+      first_is = get_or_default mid 0 nobody first (within_mid 0 some)
+
+      count : length cpus' ≡ length (set mid 0 first)
+      count = meets.count ∙ sym (ap length unmoved)
+
+      tallies_meet : TalliesMeet (set mid 0 first) cpus'
+      tallies_meet = subst (λ l. TalliesMeet l cpus') (sym unmoved) meets.calls
+
+      same_tallies : d'.tallies ≡ d.tallies
+      same_tallies =
+          let there : 0 < length mid = within_mid 0 some in
+          let left = (all.here 0 nobody all.some).fits.tallies in
+          let is = ap (λ (s : CallSeatView J). s.tallies) ((meets.calls.each 0 nobody there).is) in
+          let was = ap (λ (s : CallSeatView J). s.tallies) (mid_tally.seats 0 nobody there) in
+          sym left ∙ (is ∙ was)
+
+      all_tally : TallyTogether d' tallies_meet.deeds cpus'
+      all_tally = tally_together d d' deeds mid cpus' 0 first first (within_mid 0 some) first_is mid_tally [] (adds_none first.calls first.calls refl) count tallies_meet same_tallies
+
+      all_on : GoesOnBy (length mid) 0 deeds [] tallies_meet.deeds
+      all_on = goes_on d d' deeds mid cpus' 0 first first (within_mid 0 some) first_is mid_tally [] (adds_none first.calls first.calls refl) count tallies_meet same_tallies
+
+      long : length cpus' ≡ length cpus
+      long = meets.count ∙ h.count
+
+      queued_are : queued_on cpus' ≡ queued_on cpus
+      queued_are = same_counts 0 queued_in d d' met.deeds tallies_meet.deeds cpus cpus' met.tally_together all_tally long (λ k lt. still_queued (length mid) 0 deeds [] tallies_meet.deeds all_on nothing_done k (within_mid k lt) ∙ same_queued deeds deeds_of_all k lt)
+
+      finished_are : finished_on cpus' ≡ finished_on cpus
+      finished_are = same_counts 0 finished_in d d' met.deeds tallies_meet.deeds cpus cpus' met.tally_together all_tally long (λ k lt. still_finished (length mid) 0 deeds [] tallies_meet.deeds all_on nothing_done k ∙ same_finished deeds deeds_of_all k)
+
+      lines_are : lines_on cpus' ≡ lines_on cpus
+      lines_are = same_counts no_calls line_in d d' met.deeds tallies_meet.deeds cpus cpus' met.tally_together all_tally long (λ k lt. still_line (length mid) 0 deeds [] tallies_meet.deeds all_on nothing_done k (within_mid k lt) ∙ same_line deeds deeds_of_all k lt)
+
+      -- All of it
+
+      same_engine : IsSameEngine lay.seat meets.left.seat
+      same_engine = (engine_meets.same.0 ∙ engine_is.0, engine_meets.same.1 ∙ engine_is.1, engine_meets.same.2 ∙ engine_is.2)
+
+      rest_is : meets.left ≡ with_seat meets.left.seat lay
+      rest_is = subst (λ (z : View). meets.left ≡ with_seat meets.left.seat z) meeting_is meets.rest ∙ ap (λ (z : View). with_seat meets.left.seat z) (h.rest ∙ ap (λ (z : View). with_seat h.left.seat z) found_is)
+
+      history_stays : meets.left.seat.seen ≡ lay.seat.seen
+      history_stays = acted.seen ∙ whole
+
+      changes_stay : meets.left.seat.changes ≡ lay.seat.changes
+      changes_stay = engine_meets.changes ∙ (h.changes ∙ ap (λ (z : View). z.seat.changes) found_is)
+
+      pub refused_met : HaveMet d' limits cpus' meets.left
+      refused_met = record {
+        all = all;
+        together = acted.together;
+        raises = meets.needs.raises;
+        ask_together = ask_together;
+        swaps = meets.turns.swaps;
+        turn_together = turned;
+        deeds = tallies_meet.deeds;
+        tally_together = all_tally;
+        cookies = ap (λ n. n % 4) same_asked ∙ met.cookies;
+        wanted = λ resting half.
+            let so_far = ap (λ (x : View). x.so_far) rest_is in
+            let need = ap (λ (x : View). x.need) rest_is in
+            let was = met.wanted (λ running. resting (subst IsRunning (sym history_stays) running)) (omega (arith, so_far, half)) in record {
+              need = need ∙ (was.need ∙ sym same_asked);
+              above = (let above = was.above in let same = ap number_at_rest history_stays in omega (arith, above, same, need));
+            };
+      }
+
+      pub refused_same : seen_first d' limits cpus' ≡ seen
+      refused_same =
+          first_seen d' limits cpus' meets.left (greatest meets.needs.raises) all.some turned.lying (λ c. ap greatest (ask_together.seen 0 c all.some))
+          ∙ ((λ i. record {
+            table = same_engine.0 i;
+            limits = limits;
+            tallies = same_tallies i;
+            course = record {
+              standing = record {
+                processors = same_engine.1 i;
+                periods = same_engine.2 i;
+                history = history_stays i;
+                changes = changes_stay i;
+                so_far = ap (λ (x : View). x.so_far) rest_is i;
+                began = ap (λ (x : View). x.began) rest_is i;
+              };
+              asked = same_asked i;
+              queued = queued_are i;
+              finished = finished_are i;
+            };
+            lines = lines_are i;
+          }) ∙ sym view_is)

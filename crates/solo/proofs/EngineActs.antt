@@ -199,16 +199,23 @@ module _ (raises : List Raise) (root : value 0 raises ≡ greatest raises) where
         through_alone us u w a s' h.1 (record { seen = there; wanted = wanted_after raises root v u knows there answer.Step s }) still (seen ∙ ap (λ l. l ++ events_of a) (sym unmoved)) same,
       )
 
+pub no_start_goes_on : (v w : View) → w ≡ v → GoesOn [] v.needs w.needs
+no_start_goes_on v w same = stays v.needs w.needs (ap (λ (x : View). x.needs) same)
+
+not_started : (v : View) (c : Course) (refusal : scan.StartRefusal) → c.standing ≡ standing_of v → IsNoStart v refusal → StartsNone refusal c
+not_started v c refusal_of.Running same h = subst (λ (z : Standing). IsRunning z.history) (sym same) h
+not_started v c refusal_of.Exhausted same h = subst engine.IsOutOfPeriods (sym same) h
+
 -- the engine of the domain was found and worked with the first processor, was left tied to it, and then all have met
-pub record Turn : Type 1 where
+pub record Turn (J : Type 0) : Type 1 where
   pub d : DomainView
   pub limits : Limits
-  pub cpus : List (DomainCpu (Unit {0}))
+  pub cpus : List (DomainCpu J)
   pub v : View
-  pub was : DomainCpu (Unit {0})
-  pub now : DomainCpu (Unit {0})
+  pub was : DomainCpu J
+  pub now : DomainCpu J
   pub d' : DomainView
-  pub cpus' : List (DomainCpu (Unit {0}))
+  pub cpus' : List (DomainCpu J)
   pub met : HaveMet d limits cpus v
   pub is : was ≡ get_or cpus 0 was
   pub all : IsAllOf d' cpus'
@@ -217,483 +224,477 @@ pub record Turn : Type 1 where
   pub lends : Lends work was now
   pub loaded : GoesOn [] was.needs lends.worked.needs
 
-module _ (t : Turn) where
-  abbrev nobody : DomainCpu (Unit {0})
-  nobody = t.was
+module _ {J : Type 0} where
+  module _ (t : Turn J) where
+    abbrev nobody : DomainCpu J
+    nobody = t.was
 
-  -- the engine as it worked, with the processor's seat at the tree
-  abbrev pub v : View
-  v = with_needs t.was.needs t.v
+    -- the engine as it worked, with the processor's seat at the tree
+    abbrev pub v : View
+    v = with_needs t.was.needs t.v
 
-  abbrev pub w : View
-  w = t.lends.worked
+    abbrev pub w : View
+    w = t.lends.worked
 
-  some : 0 < length t.cpus
-  some = t.met.all.some
+    some : 0 < length t.cpus
+    some = t.met.all.some
 
-  long : length (set t.cpus 0 t.now) ≡ length t.cpus
-  long = length-set t.cpus 0 t.now
+    long : length (set t.cpus 0 t.now) ≡ length t.cpus
+    long = length-set t.cpus 0 t.now
 
-  within : 0 < length (set t.cpus 0 t.now)
-  within = let inside = some in omega (arith, long, inside)
+    within : 0 < length (set t.cpus 0 t.now)
+    within = let inside = some in omega (arith, long, inside)
 
-  here : (d : DomainCpu (Unit {0})) → get_or (set t.cpus 0 t.now) 0 d ≡ t.now
-  here d = get_or-set_same t.cpus 0 t.now d some
+    here : (d : DomainCpu J) → get_or (set t.cpus 0 t.now) 0 d ≡ t.now
+    here d = get_or-set_same t.cpus 0 t.now d some
 
-  first : (d : DomainCpu (Unit {0})) → get_or t.cpus 0 d ≡ t.was
-  first d = get_or_default t.cpus 0 d t.was some ∙ sym t.is
+    first : (d : DomainCpu J) → get_or t.cpus 0 d ≡ t.was
+    first d = get_or_default t.cpus 0 d t.was some ∙ sym t.is
 
-  other : (k : ℕ) (d : DomainCpu (Unit {0})) → 0 < k → get_or (set t.cpus 0 t.now) k d ≡ get_or t.cpus k d
-  other k d positive = get_or-set_other t.cpus 0 k t.now d (λ e. omega (arith, e, positive))
+    other : (k : ℕ) (d : DomainCpu J) → 0 < k → get_or (set t.cpus 0 t.now) k d ≡ get_or t.cpus k d
+    other k d positive = get_or-set_other t.cpus 0 k t.now d (λ e. omega (arith, e, positive))
 
-  -- The turns
+    -- The turns
 
-  turn : TakesTurn (get_or t.cpus 0 nobody).turn t.lends.found t.lends.left (get_or (set t.cpus 0 t.now) 0 nobody).turn
-  turn = subst (λ (z : DomainCpu (Unit {0}) × DomainCpu (Unit {0})). TakesTurn z.0.turn t.lends.found t.lends.left z.1.turn) (λ i. (sym (first nobody) i, sym (here nobody) i)) t.lends.turn
+    turn : TakesTurn (get_or t.cpus 0 nobody).turn t.lends.found t.lends.left (get_or (set t.cpus 0 t.now) 0 nobody).turn
+    turn = subst (λ (z : DomainCpu J × DomainCpu J). TakesTurn z.0.turn t.lends.found t.lends.left z.1.turn) (λ i. (sym (first nobody) i, sym (here nobody) i)) t.lends.turn
 
-  found_is : t.lends.found ≡ t.v
-  found_is = turn_found t.met.swaps t.cpus (set t.cpus 0 t.now) t.v t.met.turn_together some long (λ k d positive lt. ap (λ (z : DomainCpu (Unit {0})). z.turn) (other k d positive)) t.cpus' t.meets.found t.meets.left t.meets.turns t.meets.count nobody t.lends.found t.lends.left turn
+    found_is : t.lends.found ≡ t.v
+    found_is = turn_found t.met.swaps t.cpus (set t.cpus 0 t.now) t.v t.met.turn_together some long (λ k d positive lt. ap (λ (z : DomainCpu J). z.turn) (other k d positive)) t.cpus' t.meets.found t.meets.left t.meets.turns t.meets.count nobody t.lends.found t.lends.left turn
 
-  meeting_is : t.meets.found ≡ t.lends.left
-  meeting_is = meeting_found t.met.swaps t.cpus (set t.cpus 0 t.now) t.v t.met.turn_together some long (λ k d positive lt. ap (λ (z : DomainCpu (Unit {0})). z.turn) (other k d positive)) t.cpus' t.meets.found t.meets.left t.meets.turns t.meets.count nobody t.lends.found t.lends.left turn
+    meeting_is : t.meets.found ≡ t.lends.left
+    meeting_is = meeting_found t.met.swaps t.cpus (set t.cpus 0 t.now) t.v t.met.turn_together some long (λ k d positive lt. ap (λ (z : DomainCpu J). z.turn) (other k d positive)) t.cpus' t.meets.found t.meets.left t.meets.turns t.meets.count nobody t.lends.found t.lends.left turn
 
-  turned : TurnTogether t.meets.turns.swaps t.cpus' t.meets.left
-  turned = turn_turned t.met.swaps t.cpus (set t.cpus 0 t.now) t.v t.met.turn_together some long (λ k d positive lt. ap (λ (z : DomainCpu (Unit {0})). z.turn) (other k d positive)) t.cpus' t.meets.found t.meets.left t.meets.turns t.meets.count nobody t.lends.found t.lends.left turn
+    turned : TurnTogether t.meets.turns.swaps t.cpus' t.meets.left
+    turned = turn_turned t.met.swaps t.cpus (set t.cpus 0 t.now) t.v t.met.turn_together some long (λ k d positive lt. ap (λ (z : DomainCpu J). z.turn) (other k d positive)) t.cpus' t.meets.found t.meets.left t.meets.turns t.meets.count nobody t.lends.found t.lends.left turn
 
-  pub works : t.work v w
-  works = subst (λ (z : View). t.work (with_needs t.was.needs z) w) found_is t.lends.works
+    pub works : t.work v w
+    works = subst (λ (z : View). t.work (with_needs t.was.needs z) w) found_is t.lends.works
 
-  -- The engine behind its work and its tie
+    -- The engine behind its work and its tie
 
-  ties : TiesEngine w.seat t.was.cpu t.lends.left.seat t.now.cpu
-  ties = t.lends.ties
+    ties : TiesEngine w.seat t.was.cpu t.lends.left.seat t.now.cpu
+    ties = t.lends.ties
 
-  noted_is : t.lends.left.seat ≡ noted t.was.cpu.processor ties.between.changes ties.between
-  noted_is = ties.notes
+    noted_is : t.lends.left.seat ≡ noted t.was.cpu.processor ties.between.changes ties.between
+    noted_is = ties.notes
 
-  tied_same : IsSameEngine w.seat t.lends.left.seat
-  tied_same = (ap (λ (z : EngineView). z.domain) noted_is ∙ ties.covers.step.same.0, ap (λ (z : EngineView). z.processors) noted_is ∙ ties.covers.step.same.1, ap (λ (z : EngineView). z.periods) noted_is ∙ ties.covers.step.same.2)
+    tied_same : IsSameEngine w.seat t.lends.left.seat
+    tied_same = (ap (λ (z : EngineView). z.domain) noted_is ∙ ties.covers.step.same.0, ap (λ (z : EngineView). z.processors) noted_is ∙ ties.covers.step.same.1, ap (λ (z : EngineView). z.periods) noted_is ∙ ties.covers.step.same.2)
 
-  tied_mine : t.lends.left.seat.mine ≡ w.seat.mine
-  tied_mine = ap (λ (z : EngineView). z.mine) noted_is ∙ ties.covers.step.mine
+    tied_mine : t.lends.left.seat.mine ≡ w.seat.mine
+    tied_mine = ap (λ (z : EngineView). z.mine) noted_is ∙ ties.covers.step.mine
 
-  tied_changes : t.lends.left.seat.changes ≡ w.seat.changes
-  tied_changes = ap (λ (z : EngineView). z.changes) noted_is ∙ ties.covers.step.changes_are
+    tied_changes : t.lends.left.seat.changes ≡ w.seat.changes
+    tied_changes = ap (λ (z : EngineView). z.changes) noted_is ∙ ties.covers.step.changes_are
 
-  tied_since : IsBeginning w.seat.seen t.lends.left.seat.seen
-  tied_since = subst (λ l. IsBeginning w.seat.seen l) (sym (ap (λ (z : EngineView). z.seen) noted_is)) ties.covers.step.since
+    tied_since : IsBeginning w.seat.seen t.lends.left.seat.seen
+    tied_since = subst (λ l. IsBeginning w.seat.seen l) (sym (ap (λ (z : EngineView). z.seen) noted_is)) ties.covers.step.since
 
-  -- and behind the meeting
+    -- and behind the meeting
 
-  engine_meets : EngineMeets t.lends.left.seat (set t.cpus 0 t.now) t.meets.left.seat t.cpus'
-  engine_meets = subst (λ (z : View). EngineMeets z.seat (set t.cpus 0 t.now) t.meets.left.seat t.cpus') meeting_is t.meets.engine
+    engine_meets : EngineMeets t.lends.left.seat (set t.cpus 0 t.now) t.meets.left.seat t.cpus'
+    engine_meets = subst (λ (z : View). EngineMeets z.seat (set t.cpus 0 t.now) t.meets.left.seat t.cpus') meeting_is t.meets.engine
 
-  pub same_engine : IsSameEngine w.seat t.meets.left.seat
-  same_engine = (engine_meets.same.0 ∙ tied_same.0, engine_meets.same.1 ∙ tied_same.1, engine_meets.same.2 ∙ tied_same.2)
+    pub same_engine : IsSameEngine w.seat t.meets.left.seat
+    same_engine = (engine_meets.same.0 ∙ tied_same.0, engine_meets.same.1 ∙ tied_same.1, engine_meets.same.2 ∙ tied_same.2)
 
-  same_changes : t.meets.left.seat.changes ≡ w.seat.changes
-  same_changes = engine_meets.changes ∙ tied_changes
+    same_changes : t.meets.left.seat.changes ≡ w.seat.changes
+    same_changes = engine_meets.changes ∙ tied_changes
 
-  -- nothing of it but its seats has changed since its work
-  rest_is : t.meets.left ≡ record w { seat = t.meets.left.seat; needs = t.lends.found.needs }
-  rest_is = subst (λ (z : View). t.meets.left ≡ with_seat t.meets.left.seat z) meeting_is t.meets.rest ∙ ap (λ (z : View). with_seat t.meets.left.seat z) t.lends.rest
+    -- nothing of it but its seats has changed since its work
+    rest_is : t.meets.left ≡ record w { seat = t.meets.left.seat; needs = t.lends.found.needs }
+    rest_is = subst (λ (z : View). t.meets.left ≡ with_seat t.meets.left.seat z) meeting_is t.meets.rest ∙ ap (λ (z : View). with_seat t.meets.left.seat z) t.lends.rest
 
-  -- The tree
+    -- The tree
 
-  abbrev raises : List Raise
-  raises = t.met.raises
+    abbrev raises : List Raise
+    raises = t.met.raises
 
-  needs_on : GoesOn [] t.was.needs t.now.needs
-  needs_on = subst (λ (z : FunnelView). GoesOn [] t.was.needs z) (sym t.lends.needs) t.loaded
+    needs_on : GoesOn [] t.was.needs t.now.needs
+    needs_on = subst (λ (z : FunnelView). GoesOn [] t.was.needs z) (sym t.lends.needs) t.loaded
 
-  have_asked : HaveAsked 0 raises [] (set t.cpus 0 t.now)
-  have_asked = raised_here raises t.cpus t.met.ask_together 0 some t.was t.now t.is [] needs_on refl (λ q ne. refl)
+    have_asked : HaveAsked 0 raises [] (set t.cpus 0 t.now)
+    have_asked = raised_here raises t.cpus t.met.ask_together 0 some t.was t.now t.is [] needs_on refl (λ q ne. refl)
 
-  raises_are : t.meets.needs.raises ≡ raises
-  raises_are = all_raised t.d' (set t.cpus 0 t.now) t.cpus' t.all t.meets.count t.meets.needs nobody 0 raises [] have_asked ∙ append-nil raises
+    raises_are : t.meets.needs.raises ≡ raises
+    raises_are = all_raised t.d' (set t.cpus 0 t.now) t.cpus' t.all t.meets.count t.meets.needs nobody 0 raises [] have_asked ∙ append-nil raises
 
-  ask_together : AskTogether t.meets.needs.raises t.cpus'
-  ask_together = asked_together t.d' (set t.cpus 0 t.now) t.cpus' t.all t.meets.count t.meets.needs nobody 0 raises [] have_asked
+    ask_together : AskTogether t.meets.needs.raises t.cpus'
+    ask_together = asked_together t.d' (set t.cpus 0 t.now) t.cpus' t.all t.meets.count t.meets.needs nobody 0 raises [] have_asked
 
-  root : value 0 raises ≡ greatest raises
-  root = t.met.ask_together.root
-
-  was_seen : t.was.needs.seen ≡ raises
-  was_seen = ap (λ (z : DomainCpu (Unit {0})). z.needs.seen) t.is ∙ t.met.ask_together.seen 0 nobody some
-
-  known : Knows raises v
-  known = record { seen = was_seen; wanted = λ resting half. let wanted = t.met.wanted resting half in record { need = wanted.need; above = wanted.above } }
-
-  still : w.needs.seen ≡ raises
-  still =
-      let into : IsBeginningAtTree w.needs.seen t.meets.needs.raises = subst (λ (l : List Raise). IsBeginningAtTree l t.meets.needs.raises) (ap (λ (z : DomainCpu (Unit {0})). z.needs.seen) (here nobody) ∙ ap (λ (z : FunnelView). z.seen) t.lends.needs) (t.meets.needs.each 0 nobody within).since in
-      squeezed raises w.needs.seen t.meets.needs.raises (subst (λ l. IsBeginningAtTree l w.needs.seen) was_seen t.loaded.since) into raises_are
-
-  abbrev pub asked_before : ℕ
-  asked_before = greatest raises
-
-  abbrev pub asked_after : ℕ
-  asked_after = greatest t.meets.needs.raises
-
-  same_asked : asked_after ≡ asked_before
-  same_asked = ap greatest raises_are
-
-  -- Their seats at the tally words
-
-  calls_stay : Adds [] t.was.calls t.now.calls
-  calls_stay = adds_none t.was.calls t.now.calls t.lends.calls
-
-  same_tallies : t.d'.tallies ≡ t.d.tallies
-  same_tallies =
-      let left = (t.all.here 0 nobody t.all.some).fits.tallies in
-      let met = ap (λ s. s.tallies) (t.meets.calls.each 0 nobody within).is ∙ ap (λ (z : DomainCpu (Unit {0})). z.calls.tallies) (here nobody) in
-      let was = ap (λ (z : DomainCpu (Unit {0})). z.calls.tallies) t.is ∙ (t.met.all.here 0 t.was some).fits.tallies in
-      sym left ∙ (met ∙ (calls_stay.same.0 ∙ was))
-
-  all_tally : TallyTogether t.d' t.meets.calls.deeds t.cpus'
-  all_tally = tally_together t.d t.d' t.met.deeds t.cpus t.cpus' 0 t.was t.now some t.is t.met.tally_together [] calls_stay t.meets.count t.meets.calls same_tallies
-
-  deeds_go_on : GoesOnBy (length t.cpus) 0 t.met.deeds [] t.meets.calls.deeds
-  deeds_go_on = goes_on t.d t.d' t.met.deeds t.cpus t.cpus' 0 t.was t.now some t.is t.met.tally_together [] calls_stay t.meets.count t.meets.calls same_tallies
-
-  same_queued : queued_on t.cpus' ≡ queued_on t.cpus
-  same_queued = same_counts 0 queued_in t.d t.d' t.met.deeds t.meets.calls.deeds t.cpus t.cpus' t.met.tally_together all_tally (t.meets.count ∙ long) (still_queued (length t.cpus) 0 t.met.deeds [] t.meets.calls.deeds deeds_go_on nothing_done)
-
-  same_finished : finished_on t.cpus' ≡ finished_on t.cpus
-  same_finished = same_counts 0 finished_in t.d t.d' t.met.deeds t.meets.calls.deeds t.cpus t.cpus' t.met.tally_together all_tally (t.meets.count ∙ long) (λ k lt. still_finished (length t.cpus) 0 t.met.deeds [] t.meets.calls.deeds deeds_go_on nothing_done k)
-
-  same_lines : lines_on t.cpus' ≡ lines_on t.cpus
-  same_lines = same_counts no_calls line_in t.d t.d' t.met.deeds t.meets.calls.deeds t.cpus t.cpus' t.met.tally_together all_tally (t.meets.count ∙ long) (still_line (length t.cpus) 0 t.met.deeds [] t.meets.calls.deeds deeds_go_on nothing_done)
-
-  abbrev pub before : SoloView
-  before = seen_as t.d.tallies t.limits asked_before (queued_on t.cpus) (finished_on t.cpus) (lines_on t.cpus) t.v
-
-  abbrev pub after : SoloView
-  after = seen_as t.d'.tallies t.limits asked_after (queued_on t.cpus') (finished_on t.cpus') (lines_on t.cpus') t.meets.left
-
-  module _ (act others : List Event) (own : MakesOwn act v w) (seen : w.seat.seen ≡ t.v.seat.seen ++ (others ++ act)) where
-    table : t.lends.left.seat.domain ≡ t.v.seat.domain
-    table = tied_same.0 ∙ own.same.0
-
-    processors : t.lends.left.seat.processors ≡ t.v.seat.processors
-    processors = tied_same.1 ∙ own.same.1
-
-    hold : AllHold t.limits (t.v.seat.seen ++ act) (set t.cpus 0 t.now) t.lends.left.seat
-    hold = record {
-      in_range = t.met.together.hold.in_range;
-      periods = tied_same.2 ∙ (own.same.2 ∙ t.met.together.hold.periods);
-      count = subst IsCount (sym processors) t.met.together.hold.count;
-      all = long ∙ (t.met.together.hold.all ∙ sym processors);
-      engine = tied_mine ∙ (own.mine ∙ (ap (λ l. l ++ act) t.met.together.hold.engine ∙ (ap (λ l. made_by Engine t.v.seat.seen ++ l) (sym own.engines) ∙ sym (made_by_append Engine t.v.seat.seen act))));
-      each = λ k d lt. by k d (let same = long in omega (arith, lt, same));
-    }
-      where
-        own_mine : (k : ℕ) → made_by (Processor k) t.v.seat.seen ≡ made_by (Processor k) (t.v.seat.seen ++ act)
-        own_mine k = sym (made_by_append (Processor k) t.v.seat.seen act ∙ (ap (λ l. made_by (Processor k) t.v.seat.seen ++ l) (own.no_processors k) ∙ append-nil (made_by (Processor k) t.v.seat.seen)))
-
-        by : (k : ℕ) (d : DomainCpu (Unit {0})) → k < length t.cpus → Holds t.limits t.lends.left.seat.domain t.lends.left.seat.processors (t.v.seat.seen ++ act) k (get_or (set t.cpus 0 t.now) k d).cpu
-        by zero d lt =
-            let held = t.met.together.hold.each 0 d lt in
-            let accepts = ties.accepts in
-            let was = ap (λ (z : DomainCpu (Unit {0})). z.cpu) (sym (first d)) in
-            subst (λ (z : DomainCpu (Unit {0})). Holds t.limits t.lends.left.seat.domain t.lends.left.seat.processors (t.v.seat.seen ++ act) 0 z.cpu) (sym (here d)) (record {
-              domain = accepts.same.0 ∙ (ap (λ c. c.domain) was ∙ (held.domain ∙ sym table));
-              processors_are = accepts.same.1 ∙ (ap (λ c. c.processors) was ∙ (held.processors_are ∙ sym processors));
-              sections = accepts.same.2 ∙ (ap (λ c. c.sections) was ∙ held.sections);
-              processor = accepts.same.3 ∙ (ap (λ c. c.processor) was ∙ held.processor);
-              mine = accepts.mine ∙ (ap (λ c. c.mine) was ∙ (held.mine ∙ own_mine 0));
-            })
-        by (suc k) d lt =
-            let held = t.met.together.hold.each (suc k) d lt in
-            subst (λ (z : DomainCpu (Unit {0})). Holds t.limits t.lends.left.seat.domain t.lends.left.seat.processors (t.v.seat.seen ++ act) (suc k) z.cpu) (sym (get_or-set_other t.cpus 0 (suc k) t.now d (λ e. omega (arith, e)))) (record {
-              domain = held.domain ∙ sym table;
-              processors_are = held.processors_are ∙ sym processors;
-              sections = held.sections;
-              processor = held.processor;
-              mine = held.mine ∙ own_mine (suc k);
-            })
-
-    acted : IsSettled t.limits t.v.seat.seen others act t.cpus' t.meets.left.seat
-    acted = settled (set t.cpus 0 t.now) t.cpus' t.lends.left.seat t.meets.left.seat t.meets.count engine_meets nobody t.limits t.v.seat.seen others act (record { hold = hold; seen = inl (subst (λ l. IsBeginning l t.lends.left.seat.seen) seen tied_since) })
-
-    seen_alone : w.seat.seen ≡ t.v.seat.seen ++ act
-    seen_alone = seen ∙ ap (λ l. t.v.seat.seen ++ (l ++ act)) acted.alone
-
-    -- the meeting has changed nothing
-    as_before : standing_of t.meets.left ≡ standing_of w
-    as_before = λ z. record {
-      processors = same_engine.1 z;
-      periods = same_engine.2 z;
-      history = (acted.seen ∙ sym seen_alone) z;
-      changes = same_changes z;
-      so_far = ap (λ (x : View). x.so_far) rest_is z;
-      began = ap (λ (x : View). x.began) rest_is z;
-    }
-
-    same_as : IsSameDomain before after
-    same_as = ((same_engine.0 ∙ own.same.0, refl, same_engine.1 ∙ own.same.1, same_engine.2 ∙ own.same.2, same_tallies), same_lines)
-
-    worked : (work : Standing → Standing → Type 0) → work (standing_of t.v) (standing_of t.meets.left) → Works work before.course after.course
-    worked work it = record { work_is = it; rest = λ i. record { standing = standing_of t.meets.left; asked = same_asked i; queued = same_queued i; finished = same_finished i } }
-
-    -- all that is true of a domain in one hand
-    met_after : (¬ IsRunning w.seat.seen → 0 < w.so_far → IsWanted (greatest raises) w) → HaveMet t.d' t.limits t.cpus' t.meets.left
-    met_after wants = record {
-      all = t.all;
-      together = acted.together;
-      raises = t.meets.needs.raises;
-      ask_together = ask_together;
-      swaps = t.meets.turns.swaps;
-      turn_together = turned;
-      deeds = t.meets.calls.deeds;
-      tally_together = all_tally;
-      cookies = ap (λ n. n % 4) same_asked ∙ t.met.cookies;
-      wanted = λ resting some.
-          let history : t.meets.left.seat.seen ≡ w.seat.seen = acted.seen ∙ sym seen_alone in
-          let so_far = ap (λ (x : View). x.so_far) rest_is in
-          let need = ap (λ (x : View). x.need) rest_is in
-          let was = wants (λ running. resting (subst IsRunning (sym history) running)) (omega (arith, so_far, some)) in record {
-            need = need ∙ (was.need ∙ sym same_asked);
-            above = (let above = was.above in let same = ap number_at_rest history in omega (arith, above, same, need));
-          };
-    }
-
-  nothing_half : (so_far : ℕ) → so_far ≡ 0 → 0 < so_far → ⊥
-  nothing_half so_far none some = omega (arith, none, some)
-
-  -- One step
-
-  module _ (a : Progress) (s : StepsTo LoadsRoot v a w) where
-    pub stepped_met : HaveMet t.d' t.limits t.cpus' t.meets.left
-    stepped_met = met_after (events_of a) s.goes_on.others (own_answer v w a s.goes_on) s.step.answered.events (wanted_after raises root v w known still a s)
-
-    pub stepped_same : IsSameDomain before after
-    stepped_same = same_as (events_of a) s.goes_on.others (own_answer v w a s.goes_on) s.step.answered.events
-
-    pub stepped : Steps a before.course after.course
-    stepped =
-        let own = own_answer v w a s.goes_on in
-        worked (events_of a) s.goes_on.others own s.step.answered.events _ (step_alone s.goes_on.others s.needs.need asked_before a (standing_of t.v) (standing_of w) (standing_of t.meets.left)
-        (acted (events_of a) s.goes_on.others own s.step.answered.events).alone (need_is_asked raises root v w known still s.needs) (as_before (events_of a) s.goes_on.others own s.step.answered.events) s.step)
-
-  -- Steps until there is an answer
-
-  module _ (a : Progress) (s : AdvancesTo LoadsRoot v a w) where
-    pub advanced_met : HaveMet t.d' t.limits t.cpus' t.meets.left
-    advanced_met = met_after (events_of a) s.goes_on.others (own_answer v w a s.goes_on) s.answered.events (λ _ some. absurd (nothing_half w.so_far s.done some))
-
-    pub advanced_same : IsSameDomain before after
-    advanced_same = same_as (events_of a) s.goes_on.others (own_answer v w a s.goes_on) s.answered.events
-
-    pub advanced : Advances a before.course after.course
-    advanced =
-        let own = own_answer v w a s.goes_on in worked (events_of a) s.goes_on.others own s.answered.events _ (record {
-          between = map standing_of s.advances.between;
-          through = through_alone raises root s.advances.between v w a (standing_of t.meets.left) s.advances.through known still (seen_alone (events_of a) s.goes_on.others own s.answered.events) (as_before (events_of a) s.goes_on.others own s.answered.events);
-          answer = s.advances.answer;
-        })
-
-  -- Nothing was done but a load of the need, by the engine or by another
-
-  module _ (rest : w ≡ record v { needs = w.needs }) where
-    seat_kept : w.seat ≡ t.v.seat
-    seat_kept = ap (λ (x : View). x.seat) rest
-
-    seen_kept : w.seat.seen ≡ t.v.seat.seen ++ ([] ++ [])
-    seen_kept = ap (λ e. e.seen) seat_kept ∙ sym (append-nil t.v.seat.seen)
-
-    pub loaded_met : HaveMet t.d' t.limits t.cpus' t.meets.left
-    loaded_met = met_after [] [] (own_none v w seat_kept) seen_kept (λ resting some.
-        let wanted = t.met.wanted (λ running. resting (subst IsRunning (ap (λ e. e.seen) (sym seat_kept)) running)) (let half = ap (λ (x : View). x.so_far) rest in omega (arith, half, some)) in
-        let need = ap (λ (x : View). x.need) rest in record {
-          need = need ∙ wanted.need;
-          above = (let above = wanted.above in let same = ap (λ (x : View). number_at_rest x.seat.seen) rest in omega (arith, above, need, same));
-        })
-
-    pub loaded_same : after ≡ before
-    loaded_same = λ i. record {
-      table = (same_engine.0 ∙ ap (λ e. e.domain) seat_kept) i;
-      limits = t.limits;
-      tallies = same_tallies i;
-      course = record { standing = (as_before [] [] (own_none v w seat_kept) seen_kept ∙ ap standing_of rest) i; asked = same_asked i; queued = same_queued i; finished = same_finished i };
-      lines = same_lines i;
-    }
-
-  module _ (x : FindsExhausted LoadsRoot v w) where
-    pub refused : IsAskedTooMuch before.course
-    refused = record {
-      out = subst engine.IsOutOfPeriods (ap standing_of x.rest) x.out;
-      asked = (let above = x.asked in let same = ap (λ (z : View). number_at_rest z.seat.seen) x.rest in let found = finds_asked raises root v w known still x.need x.load in omega (arith, above, same, found));
-      nothing_half = x.nothing_half;
-    }
-
-  -- A start
-
-  module _ (n : ℕ) (s : StartsTo v n w) where
-    pub started_met : HaveMet t.d' t.limits t.cpus' t.meets.left
-    started_met = met_after (Start Engine ∷ []) s.others (own_start v w n s) s.starts.events (λ _ some. absurd (nothing_half w.so_far s.starts.done some))
-
-    pub started_same : IsSameDomain before after
-    started_same = same_as (Start Engine ∷ []) s.others (own_start v w n s) s.starts.events
-
-    pub started : Starts n before.course after.course
-    started =
-        let own = own_start v w n s in
-        let alone = (acted (Start Engine ∷ []) s.others own s.starts.events).alone in
-        worked (Start Engine ∷ []) s.others own s.starts.events _ (subst (λ (x : Standing). engine.Starts [] n (standing_of t.v) x) (sym (as_before (Start Engine ∷ []) s.others own s.starts.events)) (subst (λ l. engine.Starts l n (standing_of t.v) (standing_of w)) alone s.starts))
-
--- where nothing has changed
-pub unchanged : (d d' : SoloView) → d' ≡ d → IsSameDomain d d'
-unchanged d d' same = subst (IsSameDomain d) (sym same) ((refl, refl, refl, refl, refl), refl)
-
--- Each call that drives the engine leaves the processor what it was
-
-pub lent_still : (work : View → View → Type 0) (d : DomainView) (was now : DomainCpu (Unit {0})) (h : Lends work was now) → GoesOn [] was.needs h.worked.needs → IsOf d now → IsStill d was now
-lent_still work d was now h on is_of = record {
-  is_of = is_of;
-  cpu = h.ties.accepts.same;
-  needs = subst (λ (z : FunnelView). IsSameSeat was.needs z) (sym h.needs) on.same;
-}
-
-pub stepped_still : (d : DomainView) (was now : DomainCpu (Unit {0})) (r : Result Progress AdvanceRefusal) → MatchResult r (λ a. StepsIn was a now) (λ refusal. IsRefused was refusal now) → IsOf d now → IsStill d was now
-stepped_still d was now (Ok a) h is_of = lent_still _ d was now h (loaded_goes_on (with_needs was.needs h.found) h.worked h.works.needs) is_of
-stepped_still d was now (Err advance.Busy) h is_of = absurd h
-stepped_still d was now (Err advance.Exhausted) h is_of = lent_still _ d was now h (exhausted_goes_on (with_needs was.needs h.found) h.worked h.works) is_of
-
-pub advanced_still : (d : DomainView) (was now : DomainCpu (Unit {0})) (r : Result Progress AdvanceRefusal) → MatchResult r (λ a. AdvancesIn was a now) (λ refusal. IsRefused was refusal now) → IsOf d now → IsStill d was now
-advanced_still d was now (Ok a) h is_of = lent_still _ d was now h (loaded_goes_on (with_needs was.needs h.found) h.worked h.works.needs) is_of
-advanced_still d was now (Err advance.Busy) h is_of = absurd h
-advanced_still d was now (Err advance.Exhausted) h is_of = lent_still _ d was now h (exhausted_goes_on (with_needs was.needs h.found) h.worked h.works) is_of
-
-pub no_start_goes_on : (v w : View) → w ≡ v → GoesOn [] v.needs w.needs
-no_start_goes_on v w same = stays v.needs w.needs (ap (λ (x : View). x.needs) same)
-
-pub started_still : (d : DomainView) (was now : DomainCpu (Unit {0})) (r : Result ℕ StartRefusal) → MatchResult r (λ n. StartsIn was n now) (λ refusal. IsNotStarted was refusal now) → IsOf d now → IsStill d was now
-started_still d was now (Ok n) h is_of = lent_still _ d was now h (stays was.needs h.worked.needs h.works.needs) is_of
-started_still d was now (Err start.Busy) h is_of = absurd h
-started_still d was now (Err start.Running) h is_of = lent_still _ d was now h (no_start_goes_on (with_needs was.needs h.found) h.worked h.works.1) is_of
-started_still d was now (Err start.Exhausted) h is_of = lent_still _ d was now h (no_start_goes_on (with_needs was.needs h.found) h.worked h.works.1) is_of
-
-pub load_still : (d : DomainView) (was now : DomainCpu (Unit {0})) (need : ℕ) → LoadsNeed was need now → IsOf d now → IsStill d was now
-load_still d was now need h is_of = record { is_of = is_of; cpu = subst (λ (z : CpuView). IsSameCpu was.cpu z) (sym (ap (λ (x : DomainCpu (Unit {0})). x.cpu) h.rest)) (refl, refl, refl, refl); needs = h.load.same }
-
-pub poll_still : (d : DomainView) (was now : DomainCpu (Unit {0})) (cookie : CookieView) → StartsPoll was cookie now → IsOf d now → IsStill d was now
-poll_still d was now cookie h is_of = record { is_of = is_of; cpu = h.gives.notes.adds.same; needs = h.asks.same }
-
--- What the calls say: each is a turn
-
-not_started : (v : View) (c : Course) (refusal : scan.StartRefusal) → c.standing ≡ standing_of v → IsNoStart v refusal → StartsNone refusal c
-not_started v c refusal_of.Running same h = subst (λ (z : Standing). IsRunning z.history) (sym same) h
-not_started v c refusal_of.Exhausted same h = subst engine.IsOutOfPeriods (sym same) h
-
-pub not_busy : (was now : DomainCpu (Unit {0})) (P : Progress → Type 0) (r : Result Progress AdvanceRefusal) → MatchResult r P (λ refusal. IsRefused was refusal now) → IsNotBusy r
-not_busy was now P (Ok a) h = tt
-not_busy was now P (Err advance.Busy) h = absurd h
-not_busy was now P (Err advance.Exhausted) h = tt
-
-pub none_busy : (was now : DomainCpu (Unit {0})) (P : ℕ → Type 0) (r : Result ℕ StartRefusal) → MatchResult r P (λ refusal. IsNotStarted was refusal now) → NoneIsBusy r
-none_busy was now P (Ok n) h = tt
-none_busy was now P (Err start.Busy) h = absurd h
-none_busy was now P (Err start.Running) h = tt
-none_busy was now P (Err start.Exhausted) h = tt
-
--- all that a call says: the domain is in one hand again, it is the same, and this
-pub record Says (d' : DomainView) (limits : Limits) (cpus' : List (DomainCpu (Unit {0}))) (left : View) (seen seen' : SoloView) (it : Type 0) : Type 0 where
-  pub met : HaveMet d' limits cpus' left
-  pub same : IsSameDomain seen seen'
-  pub what : it
-
-module _ (d : DomainView) (limits : Limits) (cpus : List (DomainCpu (Unit {0}))) (lay : View) (was now : DomainCpu (Unit {0})) (d' : DomainView) (cpus' : List (DomainCpu (Unit {0}))) (met : HaveMet d limits cpus lay) (is : was ≡ get_or cpus 0 was) (all : IsAllOf d' cpus') (meets : MeetsHere (set cpus 0 now) cpus')
-    (seen : SoloView) (seen_is : seen_first d limits cpus ≡ seen) where
-  abbrev a_turn : (work : View → View → Type 0) (h : Lends work was now) → GoesOn [] was.needs h.worked.needs → Turn
-  a_turn work h on = record { d = d; limits = limits; cpus = cpus; v = lay; was = was; now = now; d' = d'; cpus' = cpus'; met = met; is = is; all = all; meets = meets; work = work; lends = h; loaded = on }
-
-  abbrev seen' : SoloView
-  seen' = seen_first d' limits cpus'
-
-  module _ (work : View → View → Type 0) (h : Lends work was now) (on : GoesOn [] was.needs h.worked.needs) where
-    abbrev t : Turn
-    t = a_turn work h on
-
-    told_first : seen ≡ before t
-    told_first = sym seen_is ∙ is_seen d limits cpus lay met
-
-    told_second : seen' ≡ after t
-    told_second = first_seen d' limits cpus' meets.left (asked_after t) all.some (turned t).lying (λ c. ap greatest ((ask_together t).seen 0 c all.some))
-
-    -- what the turn says is said of the domain as it is seen
-    say : (P : SoloView → SoloView → Type 0) → P (before t) (after t) → P seen seen'
-    say P it = subst (λ (z : SoloView × SoloView). P z.0 z.1) (λ i. (sym told_first i, sym told_second i)) it
-
-  refused_for : (h : FindsExhaustedIn was now) (told : Result Progress Exhausted) → IsErr told → (P : Progress → Type 0) → MatchResult told P (λ _. IsAskedTooMuch seen.course × (seen' ≡ seen))
-  refused_for h (Ok a) err P = absurd (true≢false (sym err))
-  refused_for h (Err e) err P =
-      let on = exhausted_goes_on (with_needs was.needs h.found) h.worked h.works in
-      let x = works (a_turn _ h on) in
-      (say _ h on (λ a b. IsAskedTooMuch a.course) (refused (a_turn _ h on) x), say _ h on (λ a b. b ≡ a) (loaded_same (a_turn _ h on) x.rest))
-
-  exhausted_says : (h : FindsExhaustedIn was now) (told : Result Progress Exhausted) → IsErr told → (P : Progress → Type 0) → Says d' limits cpus' meets.left seen seen' (MatchResult told P (λ _. IsAskedTooMuch seen.course × (seen' ≡ seen)))
-  exhausted_says h told err P =
-      let on = exhausted_goes_on (with_needs was.needs h.found) h.worked h.works in
-      let t = a_turn _ h on in
-      let x = works t in record {
-        met = loaded_met t x.rest;
-        same = say _ h on IsSameDomain (unchanged (before t) (after t) (loaded_same t x.rest));
-        what = refused_for h told err P;
+    root : value 0 raises ≡ greatest raises
+    root = t.met.ask_together.root
+
+    was_seen : t.was.needs.seen ≡ raises
+    was_seen = ap (λ (z : DomainCpu J). z.needs.seen) t.is ∙ t.met.ask_together.seen 0 nobody some
+
+    known : Knows raises v
+    known = record { seen = was_seen; wanted = λ resting half. let wanted = t.met.wanted resting half in record { need = wanted.need; above = wanted.above } }
+
+    still : w.needs.seen ≡ raises
+    still =
+        let into : IsBeginningAtTree w.needs.seen t.meets.needs.raises = subst (λ (l : List Raise). IsBeginningAtTree l t.meets.needs.raises) (ap (λ (z : DomainCpu J). z.needs.seen) (here nobody) ∙ ap (λ (z : FunnelView). z.seen) t.lends.needs) (t.meets.needs.each 0 nobody within).since in
+        squeezed raises w.needs.seen t.meets.needs.raises (subst (λ l. IsBeginningAtTree l w.needs.seen) was_seen t.loaded.since) into raises_are
+
+    abbrev pub asked_before : ℕ
+    asked_before = greatest raises
+
+    abbrev pub asked_after : ℕ
+    asked_after = greatest t.meets.needs.raises
+
+    same_asked : asked_after ≡ asked_before
+    same_asked = ap greatest raises_are
+
+    -- Their seats at the tally words
+
+    calls_stay : Adds [] t.was.calls t.now.calls
+    calls_stay = adds_none t.was.calls t.now.calls t.lends.calls
+
+    same_tallies : t.d'.tallies ≡ t.d.tallies
+    same_tallies =
+        let left = (t.all.here 0 nobody t.all.some).fits.tallies in
+        let met = ap (λ s. s.tallies) (t.meets.calls.each 0 nobody within).is ∙ ap (λ (z : DomainCpu J). z.calls.tallies) (here nobody) in
+        let was = ap (λ (z : DomainCpu J). z.calls.tallies) t.is ∙ (t.met.all.here 0 t.was some).fits.tallies in
+        sym left ∙ (met ∙ (calls_stay.same.0 ∙ was))
+
+    all_tally : TallyTogether t.d' t.meets.calls.deeds t.cpus'
+    all_tally = tally_together t.d t.d' t.met.deeds t.cpus t.cpus' 0 t.was t.now some t.is t.met.tally_together [] calls_stay t.meets.count t.meets.calls same_tallies
+
+    deeds_go_on : GoesOnBy (length t.cpus) 0 t.met.deeds [] t.meets.calls.deeds
+    deeds_go_on = goes_on t.d t.d' t.met.deeds t.cpus t.cpus' 0 t.was t.now some t.is t.met.tally_together [] calls_stay t.meets.count t.meets.calls same_tallies
+
+    same_queued : queued_on t.cpus' ≡ queued_on t.cpus
+    same_queued = same_counts 0 queued_in t.d t.d' t.met.deeds t.meets.calls.deeds t.cpus t.cpus' t.met.tally_together all_tally (t.meets.count ∙ long) (still_queued (length t.cpus) 0 t.met.deeds [] t.meets.calls.deeds deeds_go_on nothing_done)
+
+    same_finished : finished_on t.cpus' ≡ finished_on t.cpus
+    same_finished = same_counts 0 finished_in t.d t.d' t.met.deeds t.meets.calls.deeds t.cpus t.cpus' t.met.tally_together all_tally (t.meets.count ∙ long) (λ k lt. still_finished (length t.cpus) 0 t.met.deeds [] t.meets.calls.deeds deeds_go_on nothing_done k)
+
+    same_lines : lines_on t.cpus' ≡ lines_on t.cpus
+    same_lines = same_counts no_calls line_in t.d t.d' t.met.deeds t.meets.calls.deeds t.cpus t.cpus' t.met.tally_together all_tally (t.meets.count ∙ long) (still_line (length t.cpus) 0 t.met.deeds [] t.meets.calls.deeds deeds_go_on nothing_done)
+
+    abbrev pub before : SoloView J
+    before = seen_as t.d.tallies t.limits asked_before (queued_on t.cpus) (finished_on t.cpus) (lines_on t.cpus) t.v
+
+    abbrev pub after : SoloView J
+    after = seen_as t.d'.tallies t.limits asked_after (queued_on t.cpus') (finished_on t.cpus') (lines_on t.cpus') t.meets.left
+
+    module _ (act others : List Event) (own : MakesOwn act v w) (seen : w.seat.seen ≡ t.v.seat.seen ++ (others ++ act)) where
+      table : t.lends.left.seat.domain ≡ t.v.seat.domain
+      table = tied_same.0 ∙ own.same.0
+
+      processors : t.lends.left.seat.processors ≡ t.v.seat.processors
+      processors = tied_same.1 ∙ own.same.1
+
+      hold : AllHold t.limits (t.v.seat.seen ++ act) (set t.cpus 0 t.now) t.lends.left.seat
+      hold = record {
+        in_range = t.met.together.hold.in_range;
+        periods = tied_same.2 ∙ (own.same.2 ∙ t.met.together.hold.periods);
+        count = subst IsCount (sym processors) t.met.together.hold.count;
+        all = long ∙ (t.met.together.hold.all ∙ sym processors);
+        engine = tied_mine ∙ (own.mine ∙ (ap (λ l. l ++ act) t.met.together.hold.engine ∙ (ap (λ l. made_by Engine t.v.seat.seen ++ l) (sym own.engines) ∙ sym (made_by_append Engine t.v.seat.seen act))));
+        each = λ k d lt. by k d (let same = long in omega (arith, lt, same));
+      }
+        where
+          own_mine : (k : ℕ) → made_by (Processor k) t.v.seat.seen ≡ made_by (Processor k) (t.v.seat.seen ++ act)
+          own_mine k = sym (made_by_append (Processor k) t.v.seat.seen act ∙ (ap (λ l. made_by (Processor k) t.v.seat.seen ++ l) (own.no_processors k) ∙ append-nil (made_by (Processor k) t.v.seat.seen)))
+
+          by : (k : ℕ) (d : DomainCpu J) → k < length t.cpus → Holds t.limits t.lends.left.seat.domain t.lends.left.seat.processors (t.v.seat.seen ++ act) k (get_or (set t.cpus 0 t.now) k d).cpu
+          by zero d lt =
+              let held = t.met.together.hold.each 0 d lt in
+              let accepts = ties.accepts in
+              let was = ap (λ (z : DomainCpu J). z.cpu) (sym (first d)) in
+              subst (λ (z : DomainCpu J). Holds t.limits t.lends.left.seat.domain t.lends.left.seat.processors (t.v.seat.seen ++ act) 0 z.cpu) (sym (here d)) (record {
+                domain = accepts.same.0 ∙ (ap (λ c. c.domain) was ∙ (held.domain ∙ sym table));
+                processors_are = accepts.same.1 ∙ (ap (λ c. c.processors) was ∙ (held.processors_are ∙ sym processors));
+                sections = accepts.same.2 ∙ (ap (λ c. c.sections) was ∙ held.sections);
+                processor = accepts.same.3 ∙ (ap (λ c. c.processor) was ∙ held.processor);
+                mine = accepts.mine ∙ (ap (λ c. c.mine) was ∙ (held.mine ∙ own_mine 0));
+              })
+          by (suc k) d lt =
+              let held = t.met.together.hold.each (suc k) d lt in
+              subst (λ (z : DomainCpu J). Holds t.limits t.lends.left.seat.domain t.lends.left.seat.processors (t.v.seat.seen ++ act) (suc k) z.cpu) (sym (get_or-set_other t.cpus 0 (suc k) t.now d (λ e. omega (arith, e)))) (record {
+                domain = held.domain ∙ sym table;
+                processors_are = held.processors_are ∙ sym processors;
+                sections = held.sections;
+                processor = held.processor;
+                mine = held.mine ∙ own_mine (suc k);
+              })
+
+      acted : IsSettled t.limits t.v.seat.seen others act t.cpus' t.meets.left.seat
+      acted = settled (set t.cpus 0 t.now) t.cpus' t.lends.left.seat t.meets.left.seat t.meets.count engine_meets nobody t.limits t.v.seat.seen others act (record { hold = hold; seen = inl (subst (λ l. IsBeginning l t.lends.left.seat.seen) seen tied_since) })
+
+      seen_alone : w.seat.seen ≡ t.v.seat.seen ++ act
+      seen_alone = seen ∙ ap (λ l. t.v.seat.seen ++ (l ++ act)) acted.alone
+
+      -- the meeting has changed nothing
+      as_before : standing_of t.meets.left ≡ standing_of w
+      as_before = λ z. record {
+        processors = same_engine.1 z;
+        periods = same_engine.2 z;
+        history = (acted.seen ∙ sym seen_alone) z;
+        changes = same_changes z;
+        so_far = ap (λ (x : View). x.so_far) rest_is z;
+        began = ap (λ (x : View). x.began) rest_is z;
       }
 
-  pub step_says : (r : Result Progress AdvanceRefusal) → MatchResult r (λ a. StepsIn was a now) (λ refusal. IsRefused was refusal now) → (told : Result Progress Exhausted) → IsToldAs r told
-      → Says d' limits cpus' meets.left seen seen' (MatchResult told (λ a. Steps a seen.course seen'.course) (λ _. IsAskedTooMuch seen.course × (seen' ≡ seen)))
-  step_says (Ok a) h told same =
-      let on = loaded_goes_on (with_needs was.needs h.found) h.worked h.works.needs in
-      let t = a_turn _ h on in
-      let s = works t in record {
-        met = stepped_met t a s;
-        same = say _ h on IsSameDomain (stepped_same t a s);
-        what = subst (λ x. MatchResult x (λ b. Steps b seen.course seen'.course) (λ _. IsAskedTooMuch seen.course × (seen' ≡ seen))) (sym same) (say _ h on (λ x y. Steps a x.course y.course) (stepped t a s));
-      }
-  step_says (Err advance.Busy) h told same = absurd h
-  step_says (Err advance.Exhausted) h told same = exhausted_says h told same (λ a. Steps a seen.course seen'.course)
+      same_as : IsSameDomain before after
+      same_as = ((same_engine.0 ∙ own.same.0, refl, same_engine.1 ∙ own.same.1, same_engine.2 ∙ own.same.2, same_tallies), same_lines)
 
-  pub advance_says : (r : Result Progress AdvanceRefusal) → MatchResult r (λ a. AdvancesIn was a now) (λ refusal. IsRefused was refusal now) → (told : Result Progress Exhausted) → IsToldAs r told
-      → Says d' limits cpus' meets.left seen seen' (MatchResult told (λ a. Advances a seen.course seen'.course) (λ _. IsAskedTooMuch seen.course × (seen' ≡ seen)))
-  advance_says (Ok a) h told same =
-      let on = loaded_goes_on (with_needs was.needs h.found) h.worked h.works.needs in
-      let t = a_turn _ h on in
-      let s = works t in record {
-        met = advanced_met t a s;
-        same = say _ h on IsSameDomain (advanced_same t a s);
-        what = subst (λ x. MatchResult x (λ b. Advances b seen.course seen'.course) (λ _. IsAskedTooMuch seen.course × (seen' ≡ seen))) (sym same) (say _ h on (λ x y. Advances a x.course y.course) (advanced t a s));
-      }
-  advance_says (Err advance.Busy) h told same = absurd h
-  advance_says (Err advance.Exhausted) h told same = exhausted_says h told same (λ a. Advances a seen.course seen'.course)
+      worked : (work : Standing → Standing → Type 0) → work (standing_of t.v) (standing_of t.meets.left) → Works work before.course after.course
+      worked work it = record { work_is = it; rest = λ i. record { standing = standing_of t.meets.left; asked = same_asked i; queued = same_queued i; finished = same_finished i } }
 
-  module _ (refusal : scan.StartRefusal) (h : StartsNoneIn was refusal now) where
-    no_start_says : Says d' limits cpus' meets.left seen seen' (StartsNone refusal seen.course × (seen' ≡ seen))
-    no_start_says =
-        let on = no_start_goes_on (with_needs was.needs h.found) h.worked h.works.1 in
+      -- all that is true of a domain in one hand
+      met_after : (¬ IsRunning w.seat.seen → 0 < w.so_far → IsWanted (greatest raises) w) → HaveMet t.d' t.limits t.cpus' t.meets.left
+      met_after wants = record {
+        all = t.all;
+        together = acted.together;
+        raises = t.meets.needs.raises;
+        ask_together = ask_together;
+        swaps = t.meets.turns.swaps;
+        turn_together = turned;
+        deeds = t.meets.calls.deeds;
+        tally_together = all_tally;
+        cookies = ap (λ n. n % 4) same_asked ∙ t.met.cookies;
+        wanted = λ resting some.
+            let history : t.meets.left.seat.seen ≡ w.seat.seen = acted.seen ∙ sym seen_alone in
+            let so_far = ap (λ (x : View). x.so_far) rest_is in
+            let need = ap (λ (x : View). x.need) rest_is in
+            let was = wants (λ running. resting (subst IsRunning (sym history) running)) (omega (arith, so_far, some)) in record {
+              need = need ∙ (was.need ∙ sym same_asked);
+              above = (let above = was.above in let same = ap number_at_rest history in omega (arith, above, same, need));
+            };
+      }
+
+    nothing_half : (so_far : ℕ) → so_far ≡ 0 → 0 < so_far → ⊥
+    nothing_half so_far none some = omega (arith, none, some)
+
+    -- One step
+
+    module _ (a : Progress) (s : StepsTo LoadsRoot v a w) where
+      pub stepped_met : HaveMet t.d' t.limits t.cpus' t.meets.left
+      stepped_met = met_after (events_of a) s.goes_on.others (own_answer v w a s.goes_on) s.step.answered.events (wanted_after raises root v w known still a s)
+
+      pub stepped_same : IsSameDomain before after
+      stepped_same = same_as (events_of a) s.goes_on.others (own_answer v w a s.goes_on) s.step.answered.events
+
+      pub stepped : Steps a before.course after.course
+      stepped =
+          let own = own_answer v w a s.goes_on in
+          worked (events_of a) s.goes_on.others own s.step.answered.events _ (step_alone s.goes_on.others s.needs.need asked_before a (standing_of t.v) (standing_of w) (standing_of t.meets.left)
+          (acted (events_of a) s.goes_on.others own s.step.answered.events).alone (need_is_asked raises root v w known still s.needs) (as_before (events_of a) s.goes_on.others own s.step.answered.events) s.step)
+
+    -- Steps until there is an answer
+
+    module _ (a : Progress) (s : AdvancesTo LoadsRoot v a w) where
+      pub advanced_met : HaveMet t.d' t.limits t.cpus' t.meets.left
+      advanced_met = met_after (events_of a) s.goes_on.others (own_answer v w a s.goes_on) s.answered.events (λ _ some. absurd (nothing_half w.so_far s.done some))
+
+      pub advanced_same : IsSameDomain before after
+      advanced_same = same_as (events_of a) s.goes_on.others (own_answer v w a s.goes_on) s.answered.events
+
+      pub advanced : Advances a before.course after.course
+      advanced =
+          let own = own_answer v w a s.goes_on in worked (events_of a) s.goes_on.others own s.answered.events _ (record {
+            between = map standing_of s.advances.between;
+            through = through_alone raises root s.advances.between v w a (standing_of t.meets.left) s.advances.through known still (seen_alone (events_of a) s.goes_on.others own s.answered.events) (as_before (events_of a) s.goes_on.others own s.answered.events);
+            answer = s.advances.answer;
+          })
+
+    -- Nothing was done but a load of the need, by the engine or by another
+
+    module _ (rest : w ≡ record v { needs = w.needs }) where
+      seat_kept : w.seat ≡ t.v.seat
+      seat_kept = ap (λ (x : View). x.seat) rest
+
+      seen_kept : w.seat.seen ≡ t.v.seat.seen ++ ([] ++ [])
+      seen_kept = ap (λ e. e.seen) seat_kept ∙ sym (append-nil t.v.seat.seen)
+
+      pub loaded_met : HaveMet t.d' t.limits t.cpus' t.meets.left
+      loaded_met = met_after [] [] (own_none v w seat_kept) seen_kept (λ resting some.
+          let wanted = t.met.wanted (λ running. resting (subst IsRunning (ap (λ e. e.seen) (sym seat_kept)) running)) (let half = ap (λ (x : View). x.so_far) rest in omega (arith, half, some)) in
+          let need = ap (λ (x : View). x.need) rest in record {
+            need = need ∙ wanted.need;
+            above = (let above = wanted.above in let same = ap (λ (x : View). number_at_rest x.seat.seen) rest in omega (arith, above, need, same));
+          })
+
+      pub loaded_same : after ≡ before
+      loaded_same = λ i. record {
+        table = (same_engine.0 ∙ ap (λ e. e.domain) seat_kept) i;
+        limits = t.limits;
+        tallies = same_tallies i;
+        course = record { standing = (as_before [] [] (own_none v w seat_kept) seen_kept ∙ ap standing_of rest) i; asked = same_asked i; queued = same_queued i; finished = same_finished i };
+        lines = same_lines i;
+      }
+
+    module _ (x : FindsExhausted LoadsRoot v w) where
+      pub refused : IsAskedTooMuch before.course
+      refused = record {
+        out = subst engine.IsOutOfPeriods (ap standing_of x.rest) x.out;
+        asked = (let above = x.asked in let same = ap (λ (z : View). number_at_rest z.seat.seen) x.rest in let found = finds_asked raises root v w known still x.need x.load in omega (arith, above, same, found));
+        nothing_half = x.nothing_half;
+      }
+
+    -- A start
+
+    module _ (n : ℕ) (s : StartsTo v n w) where
+      pub started_met : HaveMet t.d' t.limits t.cpus' t.meets.left
+      started_met = met_after (Start Engine ∷ []) s.others (own_start v w n s) s.starts.events (λ _ some. absurd (nothing_half w.so_far s.starts.done some))
+
+      pub started_same : IsSameDomain before after
+      started_same = same_as (Start Engine ∷ []) s.others (own_start v w n s) s.starts.events
+
+      pub started : Starts n before.course after.course
+      started =
+          let own = own_start v w n s in
+          let alone = (acted (Start Engine ∷ []) s.others own s.starts.events).alone in
+          worked (Start Engine ∷ []) s.others own s.starts.events _ (subst (λ (x : Standing). engine.Starts [] n (standing_of t.v) x) (sym (as_before (Start Engine ∷ []) s.others own s.starts.events)) (subst (λ l. engine.Starts l n (standing_of t.v) (standing_of w)) alone s.starts))
+
+  -- where nothing has changed
+  pub unchanged : (d d' : SoloView J) → d' ≡ d → IsSameDomain d d'
+  unchanged d d' same = subst (IsSameDomain d) (sym same) ((refl, refl, refl, refl, refl), refl)
+
+  -- Each call that drives the engine leaves the processor what it was
+
+  pub lent_still : (work : View → View → Type 0) (d : DomainView) (was now : DomainCpu J) (h : Lends work was now) → GoesOn [] was.needs h.worked.needs → IsOf d now → IsStill d was now
+  lent_still work d was now h on is_of = record {
+    is_of = is_of;
+    cpu = h.ties.accepts.same;
+    needs = subst (λ (z : FunnelView). IsSameSeat was.needs z) (sym h.needs) on.same;
+  }
+
+  pub stepped_still : (d : DomainView) (was now : DomainCpu J) (r : Result Progress AdvanceRefusal) → MatchResult r (λ a. StepsIn was a now) (λ refusal. IsRefused was refusal now) → IsOf d now → IsStill d was now
+  stepped_still d was now (Ok a) h is_of = lent_still _ d was now h (loaded_goes_on (with_needs was.needs h.found) h.worked h.works.needs) is_of
+  stepped_still d was now (Err advance.Busy) h is_of = absurd h
+  stepped_still d was now (Err advance.Exhausted) h is_of = lent_still _ d was now h (exhausted_goes_on (with_needs was.needs h.found) h.worked h.works) is_of
+
+  pub advanced_still : (d : DomainView) (was now : DomainCpu J) (r : Result Progress AdvanceRefusal) → MatchResult r (λ a. AdvancesIn was a now) (λ refusal. IsRefused was refusal now) → IsOf d now → IsStill d was now
+  advanced_still d was now (Ok a) h is_of = lent_still _ d was now h (loaded_goes_on (with_needs was.needs h.found) h.worked h.works.needs) is_of
+  advanced_still d was now (Err advance.Busy) h is_of = absurd h
+  advanced_still d was now (Err advance.Exhausted) h is_of = lent_still _ d was now h (exhausted_goes_on (with_needs was.needs h.found) h.worked h.works) is_of
+
+  pub started_still : (d : DomainView) (was now : DomainCpu J) (r : Result ℕ StartRefusal) → MatchResult r (λ n. StartsIn was n now) (λ refusal. IsNotStarted was refusal now) → IsOf d now → IsStill d was now
+  started_still d was now (Ok n) h is_of = lent_still _ d was now h (stays was.needs h.worked.needs h.works.needs) is_of
+  started_still d was now (Err start.Busy) h is_of = absurd h
+  started_still d was now (Err start.Running) h is_of = lent_still _ d was now h (no_start_goes_on (with_needs was.needs h.found) h.worked h.works.1) is_of
+  started_still d was now (Err start.Exhausted) h is_of = lent_still _ d was now h (no_start_goes_on (with_needs was.needs h.found) h.worked h.works.1) is_of
+
+  pub load_still : (d : DomainView) (was now : DomainCpu J) (need : ℕ) → LoadsNeed was need now → IsOf d now → IsStill d was now
+  load_still d was now need h is_of = record { is_of = is_of; cpu = subst (λ (z : CpuView). IsSameCpu was.cpu z) (sym (ap (λ (x : DomainCpu J). x.cpu) h.rest)) (refl, refl, refl, refl); needs = h.load.same }
+
+  pub poll_still : (d : DomainView) (was now : DomainCpu J) (cookie : CookieView) → StartsPoll was cookie now → IsOf d now → IsStill d was now
+  poll_still d was now cookie h is_of = record { is_of = is_of; cpu = h.gives.notes.adds.same; needs = h.asks.same }
+
+  -- What the calls say: each is a turn
+
+  pub not_busy : (was now : DomainCpu J) (P : Progress → Type 0) (r : Result Progress AdvanceRefusal) → MatchResult r P (λ refusal. IsRefused was refusal now) → IsNotBusy r
+  not_busy was now P (Ok a) h = tt
+  not_busy was now P (Err advance.Busy) h = absurd h
+  not_busy was now P (Err advance.Exhausted) h = tt
+
+  pub none_busy : (was now : DomainCpu J) (P : ℕ → Type 0) (r : Result ℕ StartRefusal) → MatchResult r P (λ refusal. IsNotStarted was refusal now) → NoneIsBusy r
+  none_busy was now P (Ok n) h = tt
+  none_busy was now P (Err start.Busy) h = absurd h
+  none_busy was now P (Err start.Running) h = tt
+  none_busy was now P (Err start.Exhausted) h = tt
+
+  -- all that a call says: the domain is in one hand again, it is the same, and this
+  pub record Says (d' : DomainView) (limits : Limits) (cpus' : List (DomainCpu J)) (left : View) (seen seen' : SoloView J) (it : Type 0) : Type 0 where
+    pub met : HaveMet d' limits cpus' left
+    pub same : IsSameDomain seen seen'
+    pub what : it
+
+  module _ (d : DomainView) (limits : Limits) (cpus : List (DomainCpu J)) (lay : View) (was now : DomainCpu J) (d' : DomainView) (cpus' : List (DomainCpu J)) (met : HaveMet d limits cpus lay) (is : was ≡ get_or cpus 0 was) (all : IsAllOf d' cpus') (meets : MeetsHere (set cpus 0 now) cpus')
+      (seen : SoloView J) (seen_is : seen_first d limits cpus ≡ seen) where
+    abbrev a_turn : (work : View → View → Type 0) (h : Lends work was now) → GoesOn [] was.needs h.worked.needs → Turn J
+    a_turn work h on = record { d = d; limits = limits; cpus = cpus; v = lay; was = was; now = now; d' = d'; cpus' = cpus'; met = met; is = is; all = all; meets = meets; work = work; lends = h; loaded = on }
+
+    abbrev seen' : SoloView J
+    seen' = seen_first d' limits cpus'
+
+    module _ (work : View → View → Type 0) (h : Lends work was now) (on : GoesOn [] was.needs h.worked.needs) where
+      abbrev t : Turn J
+      t = a_turn work h on
+
+      told_first : seen ≡ before t
+      told_first = sym seen_is ∙ is_seen d limits cpus lay met
+
+      told_second : seen' ≡ after t
+      told_second = first_seen d' limits cpus' meets.left (asked_after t) all.some (turned t).lying (λ c. ap greatest ((ask_together t).seen 0 c all.some))
+
+      -- what the turn says is said of the domain as it is seen
+      say : (P : SoloView J → SoloView J → Type 0) → P (before t) (after t) → P seen seen'
+      say P it = subst (λ (z : SoloView J × SoloView J). P z.0 z.1) (λ i. (sym told_first i, sym told_second i)) it
+
+    refused_for : (h : FindsExhaustedIn was now) (told : Result Progress Exhausted) → IsErr told → (P : Progress → Type 0) → MatchResult told P (λ _. IsAskedTooMuch seen.course × (seen' ≡ seen))
+    refused_for h (Ok a) err P = absurd (true≢false (sym err))
+    refused_for h (Err e) err P =
+        let on = exhausted_goes_on (with_needs was.needs h.found) h.worked h.works in
+        let x = works (a_turn _ h on) in
+        (say _ h on (λ a b. IsAskedTooMuch a.course) (refused (a_turn _ h on) x), say _ h on (λ a b. b ≡ a) (loaded_same (a_turn _ h on) x.rest))
+
+    exhausted_says : (h : FindsExhaustedIn was now) (told : Result Progress Exhausted) → IsErr told → (P : Progress → Type 0) → Says d' limits cpus' meets.left seen seen' (MatchResult told P (λ _. IsAskedTooMuch seen.course × (seen' ≡ seen)))
+    exhausted_says h told err P =
+        let on = exhausted_goes_on (with_needs was.needs h.found) h.worked h.works in
         let t = a_turn _ h on in
-        let x = works t in
-        let rest : w t ≡ record (v t) { needs = (w t).needs } = x.1 ∙ ap (λ (z : View). record (v t) { needs = z.needs }) (sym x.1) in record {
-          met = loaded_met t rest;
-          same = say _ h on IsSameDomain (unchanged (before t) (after t) (loaded_same t rest));
-          what = (say _ h on (λ a b. StartsNone refusal a.course) (not_started (v t) (before t).course refusal refl x.0), say _ h on (λ a b. b ≡ a) (loaded_same t rest));
+        let x = works t in record {
+          met = loaded_met t x.rest;
+          same = say _ h on IsSameDomain (unchanged (before t) (after t) (loaded_same t x.rest));
+          what = refused_for h told err P;
         }
 
-  pub start_says : (r : Result ℕ StartRefusal) → MatchResult r (λ n. StartsIn was n now) (λ refusal. IsNotStarted was refusal now) → (told : Result ℕ scan.StartRefusal) → IsStartedAs r told
-      → Says d' limits cpus' meets.left seen seen' (MatchResult told (λ n. Starts n seen.course seen'.course) (λ e. StartsNone e seen.course × (seen' ≡ seen)))
-  start_says (Ok n) h told same =
-      let on = stays was.needs h.worked.needs h.works.needs in
-      let t = a_turn _ h on in
-      let s = works t in record {
-        met = started_met t n s;
-        same = say _ h on IsSameDomain (started_same t n s);
-        what = subst (λ x. MatchResult x (λ m. Starts m seen.course seen'.course) (λ e. StartsNone e seen.course × (seen' ≡ seen))) (sym same) (say _ h on (λ x y. Starts n x.course y.course) (started t n s));
-      }
-  start_says (Err start.Busy) h told same = absurd h
-  start_says (Err start.Running) h told same =
-      let it = no_start_says refusal_of.Running h in
-      record { met = it.met; same = it.same; what = subst (λ x. MatchResult x (λ m. Starts m seen.course seen'.course) (λ e. StartsNone e seen.course × (seen' ≡ seen))) (sym same) it.what }
-  start_says (Err start.Exhausted) h told same =
-      let it = no_start_says refusal_of.Exhausted h in
-      record { met = it.met; same = it.same; what = subst (λ x. MatchResult x (λ m. Starts m seen.course seen'.course) (λ e. StartsNone e seen.course × (seen' ≡ seen))) (sym same) it.what }
+    pub step_says : (r : Result Progress AdvanceRefusal) → MatchResult r (λ a. StepsIn was a now) (λ refusal. IsRefused was refusal now) → (told : Result Progress Exhausted) → IsToldAs r told
+        → Says d' limits cpus' meets.left seen seen' (MatchResult told (λ a. Steps a seen.course seen'.course) (λ _. IsAskedTooMuch seen.course × (seen' ≡ seen)))
+    step_says (Ok a) h told same =
+        let on = loaded_goes_on (with_needs was.needs h.found) h.worked h.works.needs in
+        let t = a_turn _ h on in
+        let s = works t in record {
+          met = stepped_met t a s;
+          same = say _ h on IsSameDomain (stepped_same t a s);
+          what = subst (λ x. MatchResult x (λ b. Steps b seen.course seen'.course) (λ _. IsAskedTooMuch seen.course × (seen' ≡ seen))) (sym same) (say _ h on (λ x y. Steps a x.course y.course) (stepped t a s));
+        }
+    step_says (Err advance.Busy) h told same = absurd h
+    step_says (Err advance.Exhausted) h told same = exhausted_says h told same (λ a. Steps a seen.course seen'.course)
+
+    pub advance_says : (r : Result Progress AdvanceRefusal) → MatchResult r (λ a. AdvancesIn was a now) (λ refusal. IsRefused was refusal now) → (told : Result Progress Exhausted) → IsToldAs r told
+        → Says d' limits cpus' meets.left seen seen' (MatchResult told (λ a. Advances a seen.course seen'.course) (λ _. IsAskedTooMuch seen.course × (seen' ≡ seen)))
+    advance_says (Ok a) h told same =
+        let on = loaded_goes_on (with_needs was.needs h.found) h.worked h.works.needs in
+        let t = a_turn _ h on in
+        let s = works t in record {
+          met = advanced_met t a s;
+          same = say _ h on IsSameDomain (advanced_same t a s);
+          what = subst (λ x. MatchResult x (λ b. Advances b seen.course seen'.course) (λ _. IsAskedTooMuch seen.course × (seen' ≡ seen))) (sym same) (say _ h on (λ x y. Advances a x.course y.course) (advanced t a s));
+        }
+    advance_says (Err advance.Busy) h told same = absurd h
+    advance_says (Err advance.Exhausted) h told same = exhausted_says h told same (λ a. Advances a seen.course seen'.course)
+
+    module _ (refusal : scan.StartRefusal) (h : StartsNoneIn was refusal now) where
+      no_start_says : Says d' limits cpus' meets.left seen seen' (StartsNone refusal seen.course × (seen' ≡ seen))
+      no_start_says =
+          let on = no_start_goes_on (with_needs was.needs h.found) h.worked h.works.1 in
+          let t = a_turn _ h on in
+          let x = works t in
+          let rest : w t ≡ record (v t) { needs = (w t).needs } = x.1 ∙ ap (λ (z : View). record (v t) { needs = z.needs }) (sym x.1) in record {
+            met = loaded_met t rest;
+            same = say _ h on IsSameDomain (unchanged (before t) (after t) (loaded_same t rest));
+            what = (say _ h on (λ a b. StartsNone refusal a.course) (not_started (v t) (before t).course refusal refl x.0), say _ h on (λ a b. b ≡ a) (loaded_same t rest));
+          }
+
+    pub start_says : (r : Result ℕ StartRefusal) → MatchResult r (λ n. StartsIn was n now) (λ refusal. IsNotStarted was refusal now) → (told : Result ℕ scan.StartRefusal) → IsStartedAs r told
+        → Says d' limits cpus' meets.left seen seen' (MatchResult told (λ n. Starts n seen.course seen'.course) (λ e. StartsNone e seen.course × (seen' ≡ seen)))
+    start_says (Ok n) h told same =
+        let on = stays was.needs h.worked.needs h.works.needs in
+        let t = a_turn _ h on in
+        let s = works t in record {
+          met = started_met t n s;
+          same = say _ h on IsSameDomain (started_same t n s);
+          what = subst (λ x. MatchResult x (λ m. Starts m seen.course seen'.course) (λ e. StartsNone e seen.course × (seen' ≡ seen))) (sym same) (say _ h on (λ x y. Starts n x.course y.course) (started t n s));
+        }
+    start_says (Err start.Busy) h told same = absurd h
+    start_says (Err start.Running) h told same =
+        let it = no_start_says refusal_of.Running h in
+        record { met = it.met; same = it.same; what = subst (λ x. MatchResult x (λ m. Starts m seen.course seen'.course) (λ e. StartsNone e seen.course × (seen' ≡ seen))) (sym same) it.what }
+    start_says (Err start.Exhausted) h told same =
+        let it = no_start_says refusal_of.Exhausted h in
+        record { met = it.met; same = it.same; what = subst (λ x. MatchResult x (λ m. Starts m seen.course seen'.course) (λ e. StartsNone e seen.course × (seen' ≡ seen))) (sym same) it.what }

@@ -1,7 +1,7 @@
 -- What the calls for the need and for callbacks say of the domain in one hand, beside their acts.
 use Rattle.std.proofs.Common.{◌≡◌, ℕ, ◌*◌, ◌<◌, ◌≤◌, min, List, [], ◌∷◌, ◌++◌, length, get_or, refl, sym, ap, ◌∙◌, subst, arith}
-use Rattle.std.specs.Prelude.{All, true, Option, Some, None, IfSome, IsSome, Result, Ok, Err, MatchResult, IfOk, slice_get}
-use Rattle.std.proofs.lemmas.List.Elements.{All-weaker}
+use Rattle.std.specs.Prelude.{All, true, Option, Some, None, IfSome, IsSome, Result, Ok, Err, MatchResult, IfOk, IfErr, slice_get}
+use Rattle.std.proofs.lemmas.List.Elements.{All-nil, All-weaker}
 use Rattle.sseq.specs.Numbers.{periods_ended}
 use Rattle.onedom.specs.declared.event.Maker.{Maker}
 use Rattle.onedom.specs.declared.event.Maker.TheVariants.{Processor}
@@ -13,31 +13,28 @@ use Rattle.calls.specs.declared.entry.Entry.{Entry}
 use Rattle.calls.specs.declared.refusals.CallRefusal.{CallRefusal}
 use Rattle.calls.specs.declared.refusals.CallRefusal.TheVariants as calling
 use Rattle.calls.specs.declared.refusals.TakeRefusal.{TakeRefusal}
-use Rattle.calls.specs.declared.view.Deed.{Deed}
+use Rattle.calls.specs.declared.refusals.TakeRefusal.TheVariants as take_refusal
 use Rattle.calls.specs.declared.view.Act.TheVariants.{Queue, Take, Finish}
 use Rattle.calls.specs.Tallies.{deed, queued_in, finished_in, deeds_of, IsBeginning}
 use Rattle.calls.specs.Views.{CallSeatView, ListKey, ListView, BatchView, ReceiptView}
 use Rattle.calls.specs.Calls.{Does, IsHanded, AreHanded, IsTaken, GivesOut, TakesIn, InvokesIn, FinishesIn, FindsLensIn}
 use Rattle.calls.proofs.CallerLemmas.{begins_itself, begins_on, queued_later, finished_later, called_here, finish_here}
-use Rattle.domain.proofs.CallerLemmas.{adds_deed}
 use Rattle.scan.specs.Standings.{number_now}
 use Rattle.segs.specs.MarkedList.{count_done, lens, numbers}
 use Rattle.calls.specs.Lines.{Line, line_in, some_out, with_call, with_none_out, readied}
-use Rattle.domain.specs.Views.{CpuView, callbacks_of}
+use Rattle.domain.specs.Views.{callbacks_of}
 use Rattle.domain.specs.Waiting.{LoadsNeed}
 use Rattle.domain.specs.Calling.{CallsIn, RefusesCall}
 use Rattle.domain.specs.Acting as domain
 use Rattle.domain.specs.Acting.{Act, loads, notes, takes, asks_for, finishes, ActsAs}
 use Rattle.solo.specs.declared.queued.Queued.{Queued}
-use Rattle.solo.specs.declared.taking.Ran.{Ran}
 use Rattle.solo.specs.Refusals.{IsQueuedAs}
 use Rattle.solo.specs.Calls as call
-use Rattle.solo.specs.Calls.{SoloView, OnList, Queues, QueuesNone, QueuesLast, AreOut, IsGiven, GivesFirst, jobs_taken, Takes, HasOut, Runs, RunsFirst, Finishes, FinishesOut, TellsLens}
-use Rattle.solo.specs.Courses.{Does as CourseDoes, more_at, runs}
-use Rattle.solo.specs.Batches.{AreReady, WereReady, count_run}
-use Rattle.solo.specs.Taking.{TakesBatch, RunsBatch, TakesUp, RunsUp, asks_how_far_and_finishes}
-use Rattle.solo.proofs.BatchActs.{takes_out_on}
-use Rattle.solo.proofs.Meeting.{Hand, s', deeds_were, queued_were, queued_found, finished_were, finished_found, line_found, queued_now, line_now, line_before, line_behind, line_between, line_quiet, on_list, same_lines, seen_by_all, seen_now, tallies_are, reaches_were, changes_are, root_is, does}
+use Rattle.solo.specs.Calls.{SoloView, OnList, Queues, QueuesNone, QueuesLast, AreOut, IsGiven, GivesFirst, PutsOut, entries_taken, Takes, TakesNone, HasOut, Finishes, FinishesOut, TellsLens}
+use Rattle.solo.specs.Courses.{Does as CourseDoes, more_at}
+use Rattle.solo.specs.Batches.{AreReady}
+use Rattle.solo.specs.Taking.{TakesBatch, TakesUp}
+use Rattle.solo.proofs.Meeting.{Hand, s', deeds_were, queued_were, queued_found, finished_were, finished_found, line_found, queued_now, line_now, line_before, line_behind, line_quiet, on_list, same_lines, seen_by_all, seen_now, tallies_are, reaches_were, changes_are, root_is, does}
 use Rattle.solo.proofs.Called.{Says, SaysOnList, says, says_on_list, still}
 
 -- How far the grace periods have come
@@ -63,264 +60,247 @@ far_enough reached seen before by is e handed =
     omega (arith, told, enough)
 
 -- a batch that was taken from a list
-batch_ready : (max done far : ℕ) (now : List Event) (l l' : ListView (Unit {0})) (gone : List (Entry (Unit {0}))) (b : BatchView (Unit {0})) → IsTaken l gone (Some b) l' → length gone ≡ min (min max 8) done → All (λ e. e.cookie.number ≤ far) b.entries → AreHanded b.entries now → (b.count ≡ length b.entries) × AreReady max far now b.entries
+batch_ready : {J : Type 0} (max done far : ℕ) (now : List Event) (l l' : ListView J) (gone : List (Entry J)) (b : BatchView J) → IsTaken l gone (Some b) l' → length gone ≡ min (min max 8) done → All (λ e. e.cookie.number ≤ far) b.entries → AreHanded b.entries now
+    → (b.count ≡ length b.entries) × (0 < length b.entries) × AreReady max far now b.entries
 batch_ready max done far now l l' [] b is many all handed = absurd is
-batch_ready max done far now l l' (e ∷ es) b is many all handed =
-    let counted : length b.entries ≡ length (e ∷ es) = ap (λ (x : BatchView (Unit {0})). length x.entries) is.0 in (
-      ap (λ (x : BatchView (Unit {0})). x.count) is.0 ∙ sym counted,
-      record { some = omega (arith, counted); few = omega (arith, counted, many); most = omega (arith, counted, many); done = all; handed = handed },
+batch_ready {J} max done far now l l' (e ∷ es) b is many all handed =
+    let counted : length b.entries ≡ length (e ∷ es) = ap (λ (x : BatchView J). length x.entries) is.0 in (
+      ap (λ (x : BatchView J). x.count) is.0 ∙ sym counted,
+      omega (arith, counted),
+      record { few = omega (arith, counted, many); most = omega (arith, counted, many); done = all; handed = handed },
     )
 
-module _ (t : Hand) where
-  -- the root was loaded
-  pub need_says : (need : ℕ) → LoadsNeed t.was need t.now → ActsAs loads t.was t.now → Says t ((s' t ≡ t.s) × (need ≡ t.s.course.asked))
-  need_says need h did = says t loads did refl _ (still t did, root_is t loads did need h.load)
+-- nothing that was taken is ready
+none_ready : {J : Type 0} (max far : ℕ) (now : List Event) → AreReady {J = J} max far now []
+none_ready {J} max far now = record {
+  few = omega arith;
+  most = omega arith;
+  done = All-nil (λ (e : Entry J). e.cookie.number ≤ far);
+  handed = All-nil (λ (e : Entry J). IsHanded e.cookie.number e.cookie.seen now);
+}
 
-  -- Jobs are queued
+module _ {J : Type 0} where
+  module _ (t : Hand J) where
+    -- the root was loaded
+    pub need_says : (need : ℕ) → LoadsNeed t.was need t.now → ActsAs loads t.was t.now → Says t ((s' t ≡ t.s) × (need ≡ t.s.course.asked))
+    need_says need h did = says t loads did refl _ (still t did, root_is t loads did need h.load)
 
-  -- what the seat knew of its own jobs
-  counted : queued_in t.was.calls.processor t.was.calls.seen ≡ get_or t.s.course.queued t.p 0
-  counted = ap (λ (s : CallSeatView (Unit {0})). queued_in s.processor s.seen) (deeds_were t) ∙ sym (queued_were t t.p t.inside)
+    -- Jobs are queued
 
-  own_number : t.was.calls.processor ≡ t.p
-  own_number = ap (λ (s : CallSeatView (Unit {0})). s.processor) (deeds_were t)
+    -- what the seat knew of its own jobs
+    counted : queued_in t.was.calls.processor t.was.calls.seen ≡ get_or t.s.course.queued t.p 0
+    counted = ap (λ (s : CallSeatView J). queued_in s.processor s.seen) (deeds_were t) ∙ sym (queued_were t t.p t.inside)
 
-  module _ (job : Unit {0}) where
-    abbrev IsAnswered : Result Queued CallRefusal → Type 0
-    IsAnswered told = MatchResult told (λ q. Queues t.p q t.s.course (s' t).course) (λ why. QueuesNone t.p why t.s.course (s' t).course)
+    own_number : t.was.calls.processor ≡ t.p
+    own_number = ap (λ (s : CallSeatView J). s.processor) (deeds_were t)
 
-    abbrev LeavesList : Result Queued CallRefusal → Type 0
-    LeavesList told = MatchResult told (λ q. OnList t.p (QueuesLast q.cookie) t.s (s' t)) (λ _. (s' t).lines ≡ t.s.lines)
+    module _ (job : J) where
+      abbrev Answer : Type 0
+      Answer = Result Queued (J × CallRefusal)
 
-    -- the job came last in the list
-    came_last : (r : ReceiptView (Unit {0})) → CallsIn t.d t.was job r t.now → ActsAs (asks_for r.cookie.number 1) t.was t.now → OnList t.p (QueuesLast r.cookie.number) t.s (s' t)
-    came_last r h did =
-        let what = asks_for r.cookie.number 1 in
-        let e : Entry (Unit {0}) = record { job = job; cookie = r.cookie } in
-        let q = h.queues.queues.tally in
-        let before = line_before t what did q.before q.since record { rest = _ ∷ []; whole = q.seen } q.own t.p t.inside in
-        on_list t what did refl (QueuesLast r.cookie.number) (with_call e (line_in t.p t.met.deeds))
-        (line_now t what did t.p t.inside ∙ (ap (line_in t.p) q.seen ∙ (ap (λ b. line_in t.p (q.before ++ deed b (Queue e) ∷ [])) own_number ∙ (called_here t.p e q.before ∙ ap (with_call e) before))))
-        (e, refl, refl)
+      abbrev IsAnswered : Answer → Type 0
+      IsAnswered told = MatchResult told (λ q. Queues t.p q t.s.course (s' t).course) (λ refused. QueuesNone t.p refused.1 t.s.course (s' t).course)
 
-    queued_says : (r : ReceiptView (Unit {0})) → CallsIn t.d t.was job r t.now → ActsAs (asks_for r.cookie.number 1) t.was t.now → SaysOnList t (Queues t.p (record { k = r.k; cookie = r.cookie.number }) t.s.course (s' t).course × OnList t.p (QueuesLast r.cookie.number) t.s (s' t))
-    queued_says r h did = says_on_list t (asks_for r.cookie.number 1) did _ (record { number = queued_found t t.p t.inside ∙ ap Some (sym (h.queues.queues.counted ∙ counted)); queues = does t (asks_for r.cookie.number 1) did }, came_last r h did)
+      abbrev LeavesList : Answer → Type 0
+      LeavesList told = MatchResult told (λ q. OnList t.p (QueuesLast job q.cookie) t.s.lines (s' t).lines) (λ _. (s' t).lines ≡ t.s.lines)
 
-    refused_says : (refusal : CallRefusal) (j : Unit {0}) → RefusesCall t.d t.was job (j, refusal) t.now → domain.QueuesNone refusal t.was t.now → SaysOnList t (QueuesNone t.p refusal t.s.course (s' t).course × ((s' t).lines ≡ t.s.lines))
-    refused_says calling.Exhausted j h did = says_on_list t loads did _ ((queued_found t t.p t.inside ∙ ap Some (sym counted ∙ h.refuses.refuses.cause.0), (does t loads did).come), same_lines t loads did refl)
-    refused_says calling.Memory j h did = says_on_list t (notes did.0) did.1 _ ((did.0, does t (notes did.0) did.1), same_lines t (notes did.0) did.1 refl)
+      abbrev ComesBack : Answer → Type 0
+      ComesBack told = IfErr told (λ refused. refused.0 ≡ job)
 
-    pub call_says : (r : Result (ReceiptView (Unit {0})) (Unit {0} × CallRefusal)) → MatchResult r (λ r. CallsIn t.d t.was job r t.now) (λ refused. RefusesCall t.d t.was job refused t.now)
-        → MatchResult r (λ r. ActsAs (asks_for r.cookie.number 1) t.was t.now) (λ refused. domain.QueuesNone refused.1 t.was t.now) → (told : Result Queued CallRefusal) → IsQueuedAs r told → SaysOnList t (IsAnswered told × LeavesList told)
-    call_says (Ok r) h did told same = subst (λ x. SaysOnList t (IsAnswered x × LeavesList x)) (sym same) (queued_says r h did)
-    call_says (Err refused) h did told same = subst (λ x. SaysOnList t (IsAnswered x × LeavesList x)) (sym same) (refused_says refused.1 refused.0 h did)
+      -- the job came last in the list
+      came_last : (r : ReceiptView J) → CallsIn t.d t.was job r t.now → ActsAs (asks_for r.cookie.number 1) t.was t.now → OnList t.p (QueuesLast job r.cookie.number) t.s.lines (s' t).lines
+      came_last r h did =
+          let what = asks_for r.cookie.number 1 in
+          let e : Entry J = record { job = job; cookie = r.cookie } in
+          let q = h.queues.queues.tally in
+          let before = line_before t what did q.before q.since record { rest = _ ∷ []; whole = q.seen } q.own t.p t.inside in
+          on_list t what did refl (QueuesLast job r.cookie.number) (with_call e (line_in t.p t.met.deeds))
+          (line_now t what did t.p t.inside ∙ (ap (line_in t.p) q.seen ∙ (ap (λ b. line_in t.p (q.before ++ deed b (Queue e) ∷ [])) own_number ∙ (called_here t.p e q.before ∙ ap (with_call e) before))))
+          (e, refl, refl, refl)
 
-  -- A batch is taken
+      queued_says : (r : ReceiptView J) → CallsIn t.d t.was job r t.now → ActsAs (asks_for r.cookie.number 1) t.was t.now
+          → SaysOnList t (Queues t.p (record { k = r.k; cookie = r.cookie.number }) t.s.course (s' t).course × OnList t.p (QueuesLast job r.cookie.number) t.s.lines (s' t).lines × Unit {0})
+      queued_says r h did = says_on_list t (asks_for r.cookie.number 1) did _ (record { number = queued_found t t.p t.inside ∙ ap Some (sym (h.queues.queues.counted ∙ counted)); queues = does t (asks_for r.cookie.number 1) did }, came_last r h did, tt)
 
-  -- how far the grace periods have come, as the engine's changes tell
-  reached_is : (changes : ℕ) → changes ≡ t.s.course.standing.changes → 4 * periods_ended (number_word changes) ≡ 4 * ended_in t.s.course.standing.history
-  reached_is changes same = let found = ap number_word same in let ended = (reaches_were t).ended in omega (arith, found, ended)
+      refused_says : (refusal : CallRefusal) (back : J) → RefusesCall t.d t.was job (back, refusal) t.now → domain.QueuesNone refusal t.was t.now → SaysOnList t (QueuesNone t.p refusal t.s.course (s' t).course × ((s' t).lines ≡ t.s.lines) × (back ≡ job))
+      refused_says calling.Exhausted back h did = says_on_list t loads did _ ((queued_found t t.p t.inside ∙ ap Some (sym counted ∙ h.refuses.refuses.cause.0), (does t loads did).come), same_lines t loads did refl, h.refuses.refuses.job_is)
+      refused_says calling.Memory back h did = says_on_list t (notes did.0) did.1 _ ((did.0, does t (notes did.0) did.1), same_lines t (notes did.0) did.1 refl, h.refuses.refuses.job_is)
 
-  -- A batch is taken: its jobs were ready, and are out
+      pub call_says : (r : Result (ReceiptView J) (J × CallRefusal)) → MatchResult r (λ r. CallsIn t.d t.was job r t.now) (λ refused. RefusesCall t.d t.was job refused t.now)
+          → MatchResult r (λ r. ActsAs (asks_for r.cookie.number 1) t.was t.now) (λ refused. domain.QueuesNone refused.1 t.was t.now) → (told : Answer) → IsQueuedAs r told → SaysOnList t (IsAnswered told × LeavesList told × ComesBack told)
+      call_says (Ok r) h did told same = subst (λ x. SaysOnList t (IsAnswered x × LeavesList x × ComesBack x)) (sym same) (queued_says r h did)
+      call_says (Err refused) h did told same = subst (λ x. SaysOnList t (IsAnswered x × LeavesList x × ComesBack x)) (sym same) (refused_says refused.1 refused.0 h did)
 
-  module _ (most : ℕ) (b : BatchView (Unit {0})) (h : TakesBatch t.d t.p most b t.was t.now) (what : ℕ → Act) (did : ActsAs what t.was t.now) where
-    abbrev far : ℕ
-    far = 4 * ended_in t.s.course.standing.history
+    -- A batch is taken
 
-    all_done : All (λ (e : Entry (Unit {0})). e.cookie.number ≤ far) b.entries
-    all_done =
-        let asks = h.takes.takes.gives.asks in
-        let number : 4 * periods_ended h.takes.takes.gives.number ≡ far = ap (λ n. 4 * periods_ended n) asks.current ∙ reached_is t.now.cpu.changes (changes_are t what did) in
-        All-weaker (λ (e : Entry (Unit {0})). IsHanded e.cookie.number e.cookie.seen t.now.cpu.seen) (λ (e : Entry (Unit {0})). e.cookie.number ≤ far)
-        (λ e it. subst (λ n. e.cookie.number ≤ n) number (far_enough (4 * periods_ended h.takes.takes.gives.number) t.now.cpu.seen asks.adds.before (Processor t.was.cpu.processor) asks.adds.seen e it)) b.entries h.handed
+    -- how far the grace periods have come, as the engine's changes tell
+    reached_is : (changes : ℕ) → changes ≡ t.s.course.standing.changes → 4 * periods_ended (number_word changes) ≡ 4 * ended_in t.s.course.standing.history
+    reached_is changes same = let found = ap number_word same in let ended = (reaches_were t).ended in omega (arith, found, ended)
 
-    are_ready : (b.count ≡ length b.entries) × AreReady most far (s' t).course.standing.history b.entries
-    are_ready =
-        let x = h.takes in
-        batch_ready most (count_done (readied x.takes.gives.number x.list.entries)) far (s' t).course.standing.history x.list x.list' x.takes.gone b x.takes.taken_is x.takes.gives.many all_done (subst (AreHanded b.entries) (seen_now t what did) h.handed)
+    -- A batch is taken: its jobs were ready, and are out
 
-    are_out : (what t.p).queued ≡ 0 → AreOut t.p b.count t.s.course
-    are_out none =
-        let low = finished_later t.p h.not_before in
-        let old = ap (λ (s : CallSeatView (Unit {0})). finished_in t.p s.seen) (deeds_were t) in
-        let was = finished_were t t.p t.inside in
-        let later = queued_later t.p h.not_after in
-        let met = queued_later t.p (seen_by_all t what did) in
-        let now = queued_now t what did t.p t.inside ∙ ap (λ n. get_or (more_at t.p n t.s.course.queued) t.p 0) none in
-        let moment = h.queued in
-        omega (arith, low, old, was, later, met, now, moment)
+    module _ (most : ℕ) (b : BatchView J) (h : TakesBatch t.d t.p most b t.was t.now) (what : ℕ → Act) (did : ActsAs what t.was t.now) where
+      abbrev far : ℕ
+      far = 4 * ended_in t.s.course.standing.history
 
-  -- What is left in the list
+      all_done : All (λ (e : Entry J). e.cookie.number ≤ far) b.entries
+      all_done =
+          let asks = h.takes.takes.gives.asks in
+          let number : 4 * periods_ended h.takes.takes.gives.number ≡ far = ap (λ n. 4 * periods_ended n) asks.current ∙ reached_is t.now.cpu.changes (changes_are t what did) in
+          All-weaker (λ (e : Entry J). IsHanded e.cookie.number e.cookie.seen t.now.cpu.seen) (λ (e : Entry J). e.cookie.number ≤ far)
+          (λ e it. subst (λ n. e.cookie.number ≤ n) number (far_enough (4 * periods_ended h.takes.takes.gives.number) t.now.cpu.seen asks.adds.before (Processor t.was.cpu.processor) asks.adds.seen e it)) b.entries h.handed
 
-  abbrev far_now : ℕ
-  far_now = number_now t.s.course.standing
+      are_ready : (b.count ≡ length b.entries) × (0 < length b.entries) × AreReady most far (s' t).course.standing.history b.entries
+      are_ready =
+          let x = h.takes in
+          batch_ready most (count_done (readied x.takes.gives.number x.list.entries)) far (s' t).course.standing.history x.list x.list' x.takes.gone b x.takes.taken_is x.takes.gives.many all_done (subst (AreHanded b.entries) (seen_now t what did) h.handed)
 
-  taken_are : (l l' : ListView (Unit {0})) (gone : List (Entry (Unit {0}))) (taken : Option (BatchView (Unit {0}))) → IsTaken l gone taken l' → gone ≡ jobs_taken taken
-  taken_are l l' [] None h = refl
-  taken_are l l' [] (Some b) h = absurd h
-  taken_are l l' (e ∷ es) None h = absurd h
-  taken_are l l' (e ∷ es) (Some b) h = ap (λ (z : BatchView (Unit {0})). z.entries) (sym h.0)
+      are_out : (what t.p).queued ≡ 0 → AreOut t.p b.count t.s.course
+      are_out none =
+          let low = finished_later t.p h.not_before in
+          let old = ap (λ (s : CallSeatView J). finished_in t.p s.seen) (deeds_were t) in
+          let was = finished_were t t.p t.inside in
+          let later = queued_later t.p h.not_after in
+          let met = queued_later t.p (seen_by_all t what did) in
+          let now = queued_now t what did t.p t.inside ∙ ap (λ n. get_or (more_at t.p n t.s.course.queued) t.p 0) none in
+          let moment = h.queued in
+          omega (arith, low, old, was, later, met, now, moment)
 
-  module _ (most : ℕ) (taken : Option (BatchView (Unit {0}))) (x : CallSeatView (Unit {0})) (h : TakesIn (callbacks_of t.d) t.p most t.was.cpu t.was.calls taken t.now.cpu x) (since : IsBeginning x.seen t.now.calls.seen) (what : ℕ → Act) (did : ActsAs what t.was t.now) where
-    abbrev given : GivesOut most h.list t.was.cpu t.was.calls h.takes.gone h.list' t.now.cpu x
-    given = h.takes.gives
+    -- What is left in the list
 
-    abbrev taking : Does (Take h.list.processor given.number most) t.was.calls x
-    taking = given.tally
+    abbrev far_now : ℕ
+    far_now = number_now t.s.course.standing
 
-    mine : h.list.processor ≡ t.p
-    mine = ap (λ (k : ListKey). k.processor) h.of_calls
+    taken_are : (l l' : ListView J) (gone : List (Entry J)) (taken : Option (BatchView J)) → IsTaken l gone taken l' → gone ≡ entries_taken taken
+    taken_are l l' [] None h = refl
+    taken_are l l' [] (Some b) h = absurd h
+    taken_are l l' (e ∷ es) None h = absurd h
+    taken_are l l' (e ∷ es) (Some b) h = ap (λ (z : BatchView J). z.entries) (sym h.0)
 
-    mine_still : h.list'.processor ≡ t.p
-    mine_still = ap (λ (k : ListKey). k.processor) given.same ∙ mine
+    module _ (most : ℕ) (taken : Option (BatchView J)) (x : CallSeatView J) (h : TakesIn (callbacks_of t.d) t.p most t.was.cpu t.was.calls taken t.now.cpu x) (since : IsBeginning x.seen t.now.calls.seen) (what : ℕ → Act) (did : ActsAs what t.was t.now) where
+      abbrev given : GivesOut most h.list t.was.cpu t.was.calls h.takes.gone h.list' t.now.cpu x
+      given = h.takes.gives
 
-    -- the list as it was found, and as it was left
-    abbrev found_list : Line (Unit {0})
-    found_list = record { out = h.list.out; waiting = h.list.entries }
+      abbrev taking : Does (Take h.list.processor given.number most) t.was.calls x
+      taking = given.tally
 
-    abbrev left_list : Line (Unit {0})
-    left_list = record { out = h.list'.out; waiting = h.list'.entries }
+      mine : h.list.processor ≡ t.p
+      mine = ap (λ (k : ListKey). k.processor) h.of_calls
 
-    behind_it : IsBeginning t.was.calls.seen x.seen
-    behind_it = begins_on taking.since record { rest = _ ∷ []; whole = taking.seen }
+      mine_still : h.list'.processor ≡ t.p
+      mine_still = ap (λ (k : ListKey). k.processor) given.same ∙ mine
 
-    was_found : line_in t.p t.met.deeds ≡ found_list
-    was_found =
-        sym (line_before t what did taking.before taking.since (begins_on (record { rest = _ ∷ []; whole = taking.seen }) since) taking.own t.p t.inside)
-        ∙ subst (λ q. line_in q taking.before ≡ found_list) mine given.was.line
+      -- the list as it was found, and as it was left
+      abbrev found_list : Line J
+      found_list = record { out = h.list.out; waiting = h.list.entries }
 
-    is_left : line_in t.p x.seen ≡ left_list
-    is_left = subst (λ q. line_in q x.seen ≡ left_list) mine_still given.is.line
+      abbrev left_list : Line J
+      left_list = record { out = h.list'.out; waiting = h.list'.entries }
 
-    gives_first : GivesFirst far_now most (jobs_taken taken) (line_in t.p t.met.deeds) left_list
-    gives_first =
-        let number : given.number ≡ far_now = given.asks.current ∙ ap number_word (changes_are t what did) in
-        subst (λ (k : Line (Unit {0})). GivesFirst far_now most (jobs_taken taken) k left_list) (sym was_found)
-        (subst (λ (z : ℕ × List (Entry (Unit {0}))). GivesFirst z.0 most z.1 found_list left_list) (λ i. (number i, taken_are h.list h.list' h.takes.gone taken h.takes.taken_is i))
-        record { none_out = h.takes.none_out; many = given.many; in_order = given.in_order })
+      behind_it : IsBeginning t.was.calls.seen x.seen
+      behind_it = begins_on taking.since record { rest = _ ∷ []; whole = taking.seen }
 
-    out_then : left_list.out ≡ some_out (length (jobs_taken taken))
-    out_then = given.out ∙ ap (λ (l : List (Entry (Unit {0}))). some_out (length l)) (taken_are h.list h.list' h.takes.gone taken h.takes.taken_is)
+      was_found : line_in t.p t.met.deeds ≡ found_list
+      was_found =
+          sym (line_before t what did taking.before taking.since (begins_on (record { rest = _ ∷ []; whole = taking.seen }) since) taking.own t.p t.inside)
+          ∙ subst (λ q. line_in q taking.before ≡ found_list) mine given.was.line
 
-    module _ (own : deeds_of t.was.calls.processor t.now.calls.seen ≡ deeds_of t.was.calls.processor x.seen) (same : (what t.p).list ≡ Some t.p) where
-      left_then : OnList t.p (λ was is. GivesFirst far_now most (jobs_taken taken) was is × (is.out ≡ some_out (length (jobs_taken taken)))) t.s (s' t)
-      left_then = on_list t what did same _ left_list (line_behind t what did x.seen behind_it since own t.p t.inside ∙ is_left) (gives_first, out_then)
+      is_left : line_in t.p x.seen ≡ left_list
+      is_left = subst (λ q. line_in q x.seen ≡ left_list) mine_still given.is.line
 
-  -- a batch is out
-  has_out : InvokesIn t.p t.was.cpu t.was.calls t.now.cpu t.now.calls → ActsAs loads t.was t.now → HasOut t.p t.s
-  has_out h did = (line_in t.p t.met.deeds, line_found t t.p t.inside, subst (λ (k : Line (Unit {0})). IsSome k.out) (sym (line_now t loads did t.p t.inside) ∙ line_quiet t loads did refl t.p t.inside) h.out)
+      gives_first : GivesFirst far_now most (entries_taken taken) (line_in t.p t.met.deeds) left_list
+      gives_first =
+          let number : given.number ≡ far_now = given.asks.current ∙ ap number_word (changes_are t what did) in
+          subst (λ (k : Line J). GivesFirst far_now most (entries_taken taken) k left_list) (sym was_found)
+          (subst (λ (z : ℕ × List (Entry J)). GivesFirst z.0 most z.1 found_list left_list) (λ i. (number i, taken_are h.list h.list' h.takes.gone taken h.takes.taken_is i))
+          record { none_out = h.takes.none_out; many = given.many; in_order = given.in_order })
 
-  taken_says : (most : ℕ) (taken : Option (BatchView (Unit {0}))) → TakesUp t.d t.p most taken t.was t.now → ActsAs (takes t.now.cpu.changes t.p) t.was t.now → t.p < t.s.course.standing.processors → SaysOnList t (Takes t.p most taken t.s (s' t))
-  taken_says most taken h did small =
-      let far_is = takes t.now.cpu.changes t.p in
-      let done = does t far_is did in
-      says_on_list t far_is did _ (record { asks = subst (λ n. call.Asks t.p n true t.s.course (s' t).course) (reached_is t.now.cpu.changes (changes_are t far_is did)) (record { follows = done.follows; come = done.come }); batch = each taken h; list = lists taken h })
-    where
-      each : (taken : Option (BatchView (Unit {0}))) → TakesUp t.d t.p most taken t.was t.now → IfSome taken (IsGiven t.p most t.s (s' t))
-      each None h = tt
-      each (Some b) h = let ready = are_ready most b h.taken (takes t.now.cpu.changes t.p) did in record {
-        is_of = record { tallies = h.taken.of_processor.0 ∙ tallies_are t; processor = h.taken.of_processor.1; there = small };
-        counted = ready.0;
-        ready = ready.1;
-        out = are_out most b h.taken (takes t.now.cpu.changes t.p) did refl;
-      }
+      out_then : left_list.out ≡ some_out (length (entries_taken taken))
+      out_then = given.out ∙ ap (λ (l : List (Entry J)). some_out (length l)) (taken_are h.list h.list' h.takes.gone taken h.takes.taken_is)
 
-      lists : (taken : Option (BatchView (Unit {0}))) → TakesUp t.d t.p most taken t.was t.now → OnList t.p (λ was is. GivesFirst far_now most (jobs_taken taken) was is × (is.out ≡ some_out (length (jobs_taken taken)))) t.s (s' t)
-      lists None h = left_then most None t.now.calls h (begins_itself t.now.calls.seen) (takes t.now.cpu.changes t.p) did refl refl
-      lists (Some b) h = left_then most (Some b) h.taken.behind h.taken.takes h.taken.since (takes t.now.cpu.changes t.p) did h.own refl
+      module _ (own : deeds_of t.was.calls.processor t.now.calls.seen ≡ deeds_of t.was.calls.processor x.seen) (same : (what t.p).list ≡ Some t.p) where
+        left_then : OnList t.p (PutsOut far_now most (entries_taken taken)) t.s.lines (s' t).lines
+        left_then = on_list t what did same _ left_list (line_behind t what did x.seen behind_it since own t.p t.inside ∙ is_left) (record { gives = gives_first; out = out_then })
 
-  pub take_says : (most : ℕ) → t.p < t.s.course.standing.processors → (r : Result (Option (BatchView (Unit {0}))) TakeRefusal) → MatchResult r (λ taken. TakesUp t.d t.p most taken t.was t.now) (λ _. InvokesIn t.p t.was.cpu t.was.calls t.now.cpu t.now.calls)
-      → MatchResult r (λ _. ActsAs (takes t.now.cpu.changes t.p) t.was t.now) (λ _. ActsAs loads t.was t.now) → SaysOnList t (MatchResult r (λ taken. Takes t.p most taken t.s (s' t)) (λ _. HasOut t.p t.s × (s' t ≡ t.s)))
-  take_says most small (Ok taken) h did = taken_says most taken h did small
-  take_says most small (Err refusal) h did = says_on_list t loads did _ (has_out h did, still t did)
+    -- a batch is out
+    has_out : InvokesIn t.p t.was.cpu t.was.calls t.now.cpu t.now.calls → ActsAs loads t.was t.now → HasOut t.p t.s.lines
+    has_out h did = record {
+      list = line_in t.p t.met.deeds;
+      there = line_found t t.p t.inside;
+      out = subst (λ (k : Line J). IsSome k.out) (sym (line_now t loads did t.p t.inside) ∙ line_quiet t loads did refl t.p t.inside) h.out;
+    }
 
-  -- and finished at once
+    taken_says : (most : ℕ) (taken : Option (BatchView J)) → TakesUp t.d t.p most taken t.was t.now → ActsAs (takes t.now.cpu.changes t.p) t.was t.now → t.p < t.s.course.standing.processors → SaysOnList t (Takes t.p most taken t.s (s' t))
+    taken_says most taken h did small =
+        let far_is = takes t.now.cpu.changes t.p in
+        let done = does t far_is did in
+        says_on_list t far_is did _ (record {
+          asks = subst (λ n. call.Asks t.p n true t.s.course (s' t).course) (reached_is t.now.cpu.changes (changes_are t far_is did)) (record { follows = done.follows; come = done.come });
+          ready = ready taken h;
+          batch = each taken h;
+          list = lists taken h;
+        })
+      where
+        batch_says : (b : BatchView J) → TakesBatch t.d t.p most b t.was t.now → (b.count ≡ length b.entries) × (0 < length b.entries) × AreReady most (4 * ended_in t.s.course.standing.history) (s' t).course.standing.history b.entries
+        batch_says b h = are_ready most b h (takes t.now.cpu.changes t.p) did
 
-  -- a batch went out, and was finished behind that
-  ran_first : (most : ℕ) (r : Ran) → RunsBatch t.d t.p most r t.was t.now → (what : ℕ → Act) (did : ActsAs what t.was t.now) → (what t.p).list ≡ Some t.p → OnList t.p (RunsFirst far_now most (Some r)) t.s (s' t)
-  ran_first most r h what did same =
-      let cpu : t.now.cpu ≡ h.between.cpu = ap (λ (z : CpuView (Unit {0})). z.cpu) h.rest in
-      let taken = h.taken.taken in
-      let takes' = subst (λ z. TakesIn (callbacks_of t.d) t.p most t.was.cpu t.was.calls (Some h.batch) z taken.behind) (sym cpu) taken.takes in
-      let f = h.finishes.finishes.tally in
-      let x : List (Deed (Unit {0})) = taken.behind.seen in
-      let tally = taken.takes.takes.gives.tally in
-      let up : IsBeginning x t.now.calls.seen = begins_on taken.since (begins_on f.since record { rest = _ ∷ []; whole = f.seen }) in
-      let low : IsBeginning t.was.calls.seen x = begins_on tally.since record { rest = _ ∷ []; whole = tally.seen } in
-      let high : IsBeginning f.before t.now.calls.seen = record { rest = _ ∷ []; whole = f.seen } in
-      let mid : IsBeginning t.was.calls.seen f.before = begins_on low (begins_on taken.since f.since) in
-      let who : h.between.calls.processor ≡ t.was.calls.processor = same_number h in
-      let own : deeds_of t.was.calls.processor f.before ≡ deeds_of t.was.calls.processor x = subst (λ q. deeds_of q f.before ≡ deeds_of q h.between.calls.seen) who f.own ∙ h.taken.own in
-      let one = line_between t what did x f.before low up mid high (deed t.was.calls.processor (Take taken.takes.list.processor taken.takes.takes.gives.number most) ∷ []) (adds_deed (Take taken.takes.list.processor taken.takes.takes.gives.number most) t.was.calls taken.behind tally).own own t.p t.inside in
-      let left = is_left most (Some h.batch) taken.behind takes' up what did in
-      let first = gives_first most (Some h.batch) taken.behind takes' up what did in
-      let at : h.batch.processor ≡ t.p = taken.of_processor.1 in
-      on_list t what did same (RunsFirst far_now most (Some r)) (record { out = None; waiting = takes'.list'.entries })
-      (line_now t what did t.p t.inside ∙ (ap (line_in t.p) f.seen ∙ (ap (λ q. line_in t.p (f.before ++ deed h.between.calls.processor (Finish q h.batch.count) ∷ [])) at ∙ (finish_here t.p h.batch.count f.before h.between.calls.processor ∙ ap (λ k. with_none_out k) (one ∙ left)))))
-      (h.batch.entries, record { none_out = first.none_out; many = first.many; in_order = first.in_order }, refl, sym (h.counted ∙ (are_ready most h.batch (takes_out_on taken h.rest (begins_on f.since record { rest = _ ∷ []; whole = f.seen })) what did).0), h.last)
-    where
-      same_number : (h : RunsBatch t.d t.p most r t.was t.now) → h.between.calls.processor ≡ t.was.calls.processor
-      same_number h = sym h.finishes.finishes.tally.same.2 ∙ did.adds.same.2
+        ready : (taken : Option (BatchView J)) → TakesUp t.d t.p most taken t.was t.now → AreReady most (4 * ended_in t.s.course.standing.history) (s' t).course.standing.history (entries_taken taken)
+        ready None h = none_ready most _ _
+        ready (Some b) h = (batch_says b h).2
 
-  ran_says : (most : ℕ) (ran : Option Ran) → RunsUp t.d t.p most ran t.was t.now → ActsAs (asks_how_far_and_finishes t.now.cpu.changes (count_run ran)) t.was t.now → SaysOnList t (Runs t.p most ran t.s.course (s' t).course × OnList t.p (RunsFirst far_now most ran) t.s (s' t))
-  ran_says most ran h did =
-      let what = asks_how_far_and_finishes t.now.cpu.changes (count_run ran) in
-      says_on_list t what did _ (record { n = get_or t.s.course.finished t.p 0; there = finished_found t t.p t.inside; happens = subst (λ n. CourseDoes t.p (runs n (count_run ran)) t.s.course (s' t).course) (reached_is t.now.cpu.changes (changes_are t what did)) (does t what did); jobs = each ran h did }, lists ran h did)
-    where
-      each : (ran : Option Ran) → RunsUp t.d t.p most ran t.was t.now → ActsAs (asks_how_far_and_finishes t.now.cpu.changes (count_run ran)) t.was t.now → IfSome ran (λ r. WereReady most (4 * ended_in t.s.course.standing.history) (s' t).course.standing.history r × AreOut t.p r.count t.s.course)
-      each None h did = tt
-      each (Some r) h did =
-          let what = asks_how_far_and_finishes t.now.cpu.changes r.count in
-          let f = h.finishes.finishes.tally in
-          let taken = takes_out_on h.taken.taken h.rest (begins_on f.since record { rest = _ ∷ []; whole = f.seen }) in
-          let ready = are_ready most h.batch taken what did in (
-            record { entries = h.batch.entries; ready = ready.1; counted = h.counted ∙ ready.0; last = h.last },
-            subst (λ n. AreOut t.p n t.s.course) (sym h.counted) (are_out most h.batch taken what did refl),
-          )
+        each : (taken : Option (BatchView J)) → TakesUp t.d t.p most taken t.was t.now → IfSome taken (IsGiven t.p t.s)
+        each None h = tt
+        each (Some b) h = record {
+          is_of = record { tallies = h.of_processor.0 ∙ tallies_are t; processor = h.of_processor.1; there = small };
+          some = (batch_says b h).1;
+          counted = (batch_says b h).0;
+          out = are_out most b h (takes t.now.cpu.changes t.p) did refl;
+        }
 
-      lists : (ran : Option Ran) → RunsUp t.d t.p most ran t.was t.now → ActsAs (asks_how_far_and_finishes t.now.cpu.changes (count_run ran)) t.was t.now → OnList t.p (RunsFirst far_now most ran) t.s (s' t)
-      lists None h did =
-          let what = asks_how_far_and_finishes t.now.cpu.changes 0 in
-          let none = left_then most None t.now.calls h (begins_itself t.now.calls.seen) what did refl refl in
-          record { was = none.was; is = none.is; there = none.there; becomes_so = ([], none.becomes_so.0, none.becomes_so.1, refl, tt); rest = none.rest }
-      lists (Some r) h did = ran_first most r h (asks_how_far_and_finishes t.now.cpu.changes r.count) did refl
+        lists : (taken : Option (BatchView J)) → TakesUp t.d t.p most taken t.was t.now → OnList t.p (PutsOut far_now most (entries_taken taken)) t.s.lines (s' t).lines
+        lists None h = left_then most None t.now.calls h (begins_itself t.now.calls.seen) (takes t.now.cpu.changes t.p) did refl refl
+        lists (Some b) h = left_then most (Some b) h.behind h.takes h.since (takes t.now.cpu.changes t.p) did h.own refl
 
-  pub run_says : (most : ℕ) (r : Result (Option Ran) TakeRefusal) → MatchResult r (λ ran. RunsUp t.d t.p most ran t.was t.now) (λ _. InvokesIn t.p t.was.cpu t.was.calls t.now.cpu t.now.calls) → MatchResult r (λ ran. ActsAs (asks_how_far_and_finishes t.now.cpu.changes (count_run ran)) t.was t.now) (λ _. ActsAs loads t.was t.now)
-      → SaysOnList t (MatchResult r (λ ran. Runs t.p most ran t.s.course (s' t).course) (λ _. HasOut t.p t.s × (s' t ≡ t.s)) × IfOk r (λ ran. OnList t.p (RunsFirst far_now most ran) t.s (s' t)))
-  run_says most (Ok ran) h did = ran_says most ran h did
-  run_says most (Err refusal) h did = says_on_list t loads did _ ((has_out h did, still t did), tt)
+    -- nothing is taken, and why
+    none_taken : (why : TakeRefusal) → InvokesIn t.p t.was.cpu t.was.calls t.now.cpu t.now.calls → ActsAs loads t.was t.now → TakesNone t.p why t.s.lines
+    none_taken take_refusal.Invoking h did = has_out h did
 
-  -- A batch is finished
+    pub take_says : (most : ℕ) → t.p < t.s.course.standing.processors → (r : Result (Option (BatchView J)) TakeRefusal) → MatchResult r (λ taken. TakesUp t.d t.p most taken t.was t.now) (λ _. InvokesIn t.p t.was.cpu t.was.calls t.now.cpu t.now.calls)
+        → MatchResult r (λ _. ActsAs (takes t.now.cpu.changes t.p) t.was t.now) (λ _. ActsAs loads t.was t.now) → SaysOnList t (MatchResult r (λ taken. Takes t.p most taken t.s (s' t)) (λ why. TakesNone t.p why t.s.lines × (s' t ≡ t.s)))
+    take_says most small (Ok taken) h did = taken_says most taken h did small
+    take_says most small (Err why) h did = says_on_list t loads did _ (none_taken why h did, still t did)
 
-  module _ (b : BatchView (Unit {0})) (h : FinishesIn (callbacks_of t.d) t.was.calls b t.now.calls) (did : ActsAs (finishes b.processor b.count) t.was t.now) (at : b.processor ≡ t.p) where
-    finished_out : OnList b.processor (FinishesOut b.count) t.s (s' t)
-    finished_out =
-        let what = finishes b.processor b.count in
-        let f = h.finishes.tally in
-        let before = line_before t what did f.before f.since record { rest = _ ∷ []; whole = f.seen } f.own t.p t.inside in
-        let mine : h.list.processor ≡ t.p = ap (λ (k : ListKey). k.processor) h.of_calls ∙ at in
-        let was : line_in t.p f.before ≡ record { out = h.list.out; waiting = h.list.entries } = subst (λ q. line_in q f.before ≡ record { out = h.list.out; waiting = h.list.entries }) mine h.finishes.was.line in
-        subst (λ q. OnList q (FinishesOut b.count) t.s (s' t)) (sym at) (on_list t what did (ap Some at) (FinishesOut b.count) (with_none_out (line_in t.p t.met.deeds))
-        (line_now t what did t.p t.inside ∙ (ap (line_in t.p) f.seen ∙ (ap (λ q. line_in t.p (f.before ++ deed t.was.calls.processor (Finish q b.count) ∷ [])) at ∙ (finish_here t.p b.count f.before t.was.calls.processor ∙ ap (λ k. with_none_out k) before))))
-        (ap (λ (k : Line (Unit {0})). k.out) (sym before ∙ was) ∙ h.finishes.was_out, refl))
+    -- A batch is finished
 
-    pub finish_says : SaysOnList t (Finishes b.processor b.count t.s.course (s' t).course × OnList b.processor (FinishesOut b.count) t.s (s' t))
-    finish_says = says_on_list t (finishes b.processor b.count) did _ (
-      record {
-        n = get_or t.s.course.finished t.p 0;
-        there = ap (slice_get t.s.course.finished) at ∙ finished_found t t.p t.inside;
-        finishes_are = subst (λ q. CourseDoes q (finishes b.processor b.count) t.s.course (s' t).course) (sym at) (does t (finishes b.processor b.count) did);
-      },
-      finished_out,
-    )
+    module _ (b : BatchView J) (h : FinishesIn (callbacks_of t.d) t.was.calls b t.now.calls) (did : ActsAs (finishes b.processor b.count) t.was t.now) (at : b.processor ≡ t.p) where
+      finished_out : OnList b.processor (FinishesOut b.count) t.s.lines (s' t).lines
+      finished_out =
+          let what = finishes b.processor b.count in
+          let f = h.finishes.tally in
+          let before = line_before t what did f.before f.since record { rest = _ ∷ []; whole = f.seen } f.own t.p t.inside in
+          let mine : h.list.processor ≡ t.p = ap (λ (k : ListKey). k.processor) h.of_calls ∙ at in
+          let was : line_in t.p f.before ≡ record { out = h.list.out; waiting = h.list.entries } = subst (λ q. line_in q f.before ≡ record { out = h.list.out; waiting = h.list.entries }) mine h.finishes.was.line in
+          subst (λ q. OnList q (FinishesOut b.count) t.s.lines (s' t).lines) (sym at) (on_list t what did (ap Some at) (FinishesOut b.count) (with_none_out (line_in t.p t.met.deeds))
+          (line_now t what did t.p t.inside ∙ (ap (line_in t.p) f.seen ∙ (ap (λ q. line_in t.p (f.before ++ deed t.was.calls.processor (Finish q b.count) ∷ [])) at ∙ (finish_here t.p b.count f.before t.was.calls.processor ∙ ap (λ k. with_none_out k) before))))
+          (ap (λ (k : Line J). k.out) (sym before ∙ was) ∙ h.finishes.was_out, refl))
 
-module _ (t : Hand) (did : ActsAs loads t.was t.now) where
-  -- what was found is of just what was done
-  found_lens : (found : List ℕ × List ℕ) → FindsLensIn t.p t.was.calls found t.now.calls → TellsLens t.s t.p found
-  found_lens found h =
-      let same : line_in t.p t.now.calls.seen ≡ line_in t.p t.met.deeds = sym (line_now t loads did t.p t.inside) ∙ line_quiet t loads did refl t.p t.inside in
-      (line_in t.p t.met.deeds, line_found t t.p t.inside, h.found_is ∙ ap (λ (k : Line (Unit {0})). (lens k.waiting, numbers k.waiting)) same)
+      pub finish_says : SaysOnList t (Finishes b.processor b.count t.s.course (s' t).course × OnList b.processor (FinishesOut b.count) t.s.lines (s' t).lines)
+      finish_says = says_on_list t (finishes b.processor b.count) did _ (
+        record {
+          n = get_or t.s.course.finished t.p 0;
+          there = ap (slice_get t.s.course.finished) at ∙ finished_found t t.p t.inside;
+          finishes_are = subst (λ q. CourseDoes q (finishes b.processor b.count) t.s.course (s' t).course) (sym at) (does t (finishes b.processor b.count) did);
+        },
+        finished_out,
+      )
 
-  pub lens_says : {E : Type 0} (r : Result (List ℕ × List ℕ) E) → IfOk r (λ found. FindsLensIn t.p t.was.calls found t.now.calls) → Says t ((s' t ≡ t.s) × IfOk r (TellsLens t.s t.p))
-  lens_says (Ok found) h = says t loads did refl _ (still t did, found_lens found h)
-  lens_says (Err e) h = says t loads did refl _ (still t did, tt)
+  module _ (t : Hand J) (did : ActsAs loads t.was t.now) where
+    -- what was found is of just what was done
+    found_lens : (found : List ℕ × List ℕ) → FindsLensIn t.p t.was.calls found t.now.calls → TellsLens t.p t.s.lines found
+    found_lens found h =
+        let same : line_in t.p t.now.calls.seen ≡ line_in t.p t.met.deeds = sym (line_now t loads did t.p t.inside) ∙ line_quiet t loads did refl t.p t.inside in
+        record { list = line_in t.p t.met.deeds; there = line_found t t.p t.inside; told_is = h.found_is ∙ ap (λ (k : Line J). (lens k.waiting, numbers k.waiting)) same }
+
+    pub lens_says : {E : Type 0} (r : Result (List ℕ × List ℕ) E) → IfOk r (λ found. FindsLensIn t.p t.was.calls found t.now.calls) → Says t ((s' t ≡ t.s) × IfOk r (TellsLens t.p t.s.lines))
+    lens_says (Ok found) h = says t loads did refl _ (still t did, found_lens found h)
+    lens_says (Err e) h = says t loads did refl _ (still t did, tt)

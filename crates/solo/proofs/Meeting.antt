@@ -77,17 +77,17 @@ number_of (holder.Processor q) = q
 number_of holder.Engine = 0
 
 -- the domain had come so far, and all had met; processor p was called, and all have met again
-pub record Hand : Type 0 where
+pub record Hand (J : Type 0) : Type 0 where
   pub d : DomainView
   pub limits : Limits
-  pub cpus : List (CpuView (Unit {0}))
+  pub cpus : List (CpuView J)
   pub v : View
-  pub s : SoloView
+  pub s : SoloView J
   pub p : ℕ
-  pub was : CpuView (Unit {0})
-  pub now : CpuView (Unit {0})
+  pub was : CpuView J
+  pub now : CpuView J
   pub d' : DomainView
-  pub cpus' : List (CpuView (Unit {0}))
+  pub cpus' : List (CpuView J)
   pub met : HaveMet d limits cpus v
   pub seen : seen_first d limits cpus ≡ s
   pub inside : p < length cpus
@@ -95,395 +95,389 @@ pub record Hand : Type 0 where
   pub all : IsAllOf d' cpus'
   pub meets : MeetsHere (set cpus p now) cpus'
 
-abbrev pub hand_of : {d : DomainView} {limits : Limits} {cpus : List (CpuView (Unit {0}))} {v : View} {s : SoloView} {was : CpuView (Unit {0})} {d' : DomainView} {cpus' : List (CpuView (Unit {0}))} (p : ℕ) (now : CpuView (Unit {0}))
-    → HaveMet d limits cpus v → seen_first d limits cpus ≡ s → p < s.course.standing.processors → was ≡ get_or cpus p was → IsAllOf d' cpus' → MeetsHere (set cpus p now) cpus' → Hand
-hand_of {d} {limits} {cpus} {v} {s} {was} {d'} {cpus'} p now met seen small is all meets = record { d = d; limits = limits; cpus = cpus; v = v; s = s; p = p; was = was; now = now; d' = d'; cpus' = cpus'; met = met; seen = seen; inside = is_inside d limits cpus v met s seen p small; is = is; all = all; meets = meets }
+module _ {J : Type 0} where
+  abbrev pub hand_of : {d : DomainView} {limits : Limits} {cpus : List (CpuView J)} {v : View} {s : SoloView J} {was : CpuView J} {d' : DomainView} {cpus' : List (CpuView J)} (p : ℕ) (now : CpuView J)
+      → HaveMet d limits cpus v → seen_first d limits cpus ≡ s → p < s.course.standing.processors → was ≡ get_or cpus p was → IsAllOf d' cpus' → MeetsHere (set cpus p now) cpus' → Hand J
+  hand_of {d} {limits} {cpus} {v} {s} {was} {d'} {cpus'} p now met seen small is all meets = record { d = d; limits = limits; cpus = cpus; v = v; s = s; p = p; was = was; now = now; d' = d'; cpus' = cpus'; met = met; seen = seen; inside = is_inside d limits cpus v met s seen p small; is = is; all = all; meets = meets }
 
-module _ (t : Hand) where
-  abbrev pub s' : SoloView
-  s' = seen_first t.d' t.limits t.cpus'
+  module _ (t : Hand J) where
+    abbrev pub s' : SoloView J
+    s' = seen_first t.d' t.limits t.cpus'
 
-  -- The processor that was called has seen just what all have
+    -- The processor that was called has seen just what all have
 
-  view_is : t.s ≡ seen_as t.d.tallies t.limits (greatest t.met.raises) (queued_on t.cpus) (finished_on t.cpus) (lines_on t.cpus) t.v
-  view_is = now_is t.d t.limits t.cpus t.v t.met t.s t.seen
+    view_is : t.s ≡ seen_as t.d.tallies t.limits (greatest t.met.raises) (queued_on t.cpus) (finished_on t.cpus) (lines_on t.cpus) t.v
+    view_is = now_is t.d t.limits t.cpus t.v t.met t.s t.seen
 
-  pub limits_are : t.limits ≡ t.s.limits
-  limits_are = sym (ap (λ (x : SoloView). x.limits) view_is)
+    pub limits_are : t.limits ≡ t.s.limits
+    limits_are = sym (ap (λ (x : SoloView J). x.limits) view_is)
 
-  pub many_are : length t.cpus ≡ t.s.course.standing.processors
-  many_are = t.met.together.hold.all ∙ sym (ap (λ (x : SoloView). x.course.standing.processors) view_is)
+    pub many_are : length t.cpus ≡ t.s.course.standing.processors
+    many_are = t.met.together.hold.all ∙ sym (ap (λ (x : SoloView J). x.course.standing.processors) view_is)
 
-  pub tallies_are : t.d.tallies ≡ t.s.tallies
-  tallies_are = sym (ap (λ (x : SoloView). x.tallies) view_is)
+    pub tallies_are : t.d.tallies ≡ t.s.tallies
+    tallies_are = sym (ap (λ (x : SoloView J). x.tallies) view_is)
 
-  pub held : Holds t.s.limits t.s.table t.s.course.standing.processors t.s.course.standing.history t.p t.was.cpu
-  held = subst (λ (x : SoloView). Holds x.limits x.table x.course.standing.processors x.course.standing.history t.p t.was.cpu) (sym view_is) (subst (λ (z : CpuView (Unit {0})). Holds t.limits t.v.seat.domain t.v.seat.processors t.v.seat.seen t.p z.cpu) (sym t.is) (t.met.together.hold.each t.p t.was t.inside))
+    pub held : Holds t.s.limits t.s.table t.s.course.standing.processors t.s.course.standing.history t.p t.was.cpu
+    held = subst (λ (x : SoloView J). Holds x.limits x.table x.course.standing.processors x.course.standing.history t.p t.was.cpu) (sym view_is) (subst (λ (z : CpuView J). Holds t.limits t.v.seat.domain t.v.seat.processors t.v.seat.seen t.p z.cpu) (sym t.is) (t.met.together.hold.each t.p t.was t.inside))
 
-  pub changes_were : t.was.cpu.changes ≡ t.s.course.standing.changes
-  changes_were = ap (λ (x : CpuView (Unit {0})). x.cpu.changes) t.is ∙ (t.met.together.changes t.p t.was t.inside ∙ sym (ap (λ (x : SoloView). x.course.standing.changes) view_is))
+    pub changes_were : t.was.cpu.changes ≡ t.s.course.standing.changes
+    changes_were = ap (λ (x : CpuView J). x.cpu.changes) t.is ∙ (t.met.together.changes t.p t.was t.inside ∙ sym (ap (λ (x : SoloView J). x.course.standing.changes) view_is))
 
-  pub deeds_were : t.was.calls ≡ record { tallies = t.d.tallies; processors = length t.cpus; processor = t.p; seen = t.met.deeds }
-  deeds_were = ap (λ (x : CpuView (Unit {0})). x.calls) t.is ∙ t.met.tally_together.seats t.p t.was t.inside
+    pub deeds_were : t.was.calls ≡ record { tallies = t.d.tallies; processors = length t.cpus; processor = t.p; seen = t.met.deeds }
+    deeds_were = ap (λ (x : CpuView J). x.calls) t.is ∙ t.met.tally_together.seats t.p t.was t.inside
 
-  pub queued_were : (k : ℕ) → k < length t.cpus → get_or t.s.course.queued k 0 ≡ queued_in k t.met.deeds
-  queued_were k lt = ap (λ (x : SoloView). get_or x.course.queued k 0) view_is ∙ count_at 0 queued_in t.d t.met.deeds t.cpus t.met.tally_together k lt
+    pub queued_were : (k : ℕ) → k < length t.cpus → get_or t.s.course.queued k 0 ≡ queued_in k t.met.deeds
+    queued_were k lt = ap (λ (x : SoloView J). get_or x.course.queued k 0) view_is ∙ count_at 0 queued_in t.d t.met.deeds t.cpus t.met.tally_together k lt
 
-  pub finished_were : (k : ℕ) → k < length t.cpus → get_or t.s.course.finished k 0 ≡ finished_in k t.met.deeds
-  finished_were k lt = ap (λ (x : SoloView). get_or x.course.finished k 0) view_is ∙ count_at 0 finished_in t.d t.met.deeds t.cpus t.met.tally_together k lt
+    pub finished_were : (k : ℕ) → k < length t.cpus → get_or t.s.course.finished k 0 ≡ finished_in k t.met.deeds
+    finished_were k lt = ap (λ (x : SoloView J). get_or x.course.finished k 0) view_is ∙ count_at 0 finished_in t.d t.met.deeds t.cpus t.met.tally_together k lt
 
-  pub queued_found : (k : ℕ) → k < length t.cpus → slice_get t.s.course.queued k ≡ Some (get_or t.s.course.queued k 0)
-  queued_found k lt = ap (λ (x : SoloView). slice_get x.course.queued k) view_is ∙ (found_at 0 queued_in t.d t.met.deeds t.cpus t.met.tally_together k lt ∙ ap Some (sym (queued_were k lt)))
+    pub queued_found : (k : ℕ) → k < length t.cpus → slice_get t.s.course.queued k ≡ Some (get_or t.s.course.queued k 0)
+    queued_found k lt = ap (λ (x : SoloView J). slice_get x.course.queued k) view_is ∙ (found_at 0 queued_in t.d t.met.deeds t.cpus t.met.tally_together k lt ∙ ap Some (sym (queued_were k lt)))
 
-  pub finished_found : (k : ℕ) → k < length t.cpus → slice_get t.s.course.finished k ≡ Some (get_or t.s.course.finished k 0)
-  finished_found k lt = ap (λ (x : SoloView). slice_get x.course.finished k) view_is ∙ (found_at 0 finished_in t.d t.met.deeds t.cpus t.met.tally_together k lt ∙ ap Some (sym (finished_were k lt)))
+    pub finished_found : (k : ℕ) → k < length t.cpus → slice_get t.s.course.finished k ≡ Some (get_or t.s.course.finished k 0)
+    finished_found k lt = ap (λ (x : SoloView J). slice_get x.course.finished k) view_is ∙ (found_at 0 finished_in t.d t.met.deeds t.cpus t.met.tally_together k lt ∙ ap Some (sym (finished_were k lt)))
 
-  pub line_found : (k : ℕ) → k < length t.cpus → slice_get t.s.lines k ≡ Some (line_in k t.met.deeds)
-  line_found k lt = ap (λ (x : SoloView). slice_get x.lines k) view_is ∙ found_at no_calls line_in t.d t.met.deeds t.cpus t.met.tally_together k lt
+    pub line_found : (k : ℕ) → k < length t.cpus → slice_get t.s.lines k ≡ Some (line_in k t.met.deeds)
+    line_found k lt = ap (λ (x : SoloView J). slice_get x.lines k) view_is ∙ found_at no_calls line_in t.d t.met.deeds t.cpus t.met.tally_together k lt
 
-  pub queued_long : length t.s.course.queued ≡ length t.cpus
-  queued_long = ap (λ (x : SoloView). length x.course.queued) view_is ∙ length-map t.cpus (λ c. queued_in c.calls.processor c.calls.seen)
+    pub queued_long : length t.s.course.queued ≡ length t.cpus
+    queued_long = ap (λ (x : SoloView J). length x.course.queued) view_is ∙ length-map t.cpus (λ c. queued_in c.calls.processor c.calls.seen)
 
-  -- as many periods have ended as there are changes for
-  pub reaches_were : Reaches t.s.course.standing.changes t.s.course.standing.history
-  reaches_were = subst (λ (x : SoloView). Reaches x.course.standing.changes x.course.standing.history) (sym view_is) t.met.together.history.reaches
+    -- as many periods have ended as there are changes for
+    pub reaches_were : Reaches t.s.course.standing.changes t.s.course.standing.history
+    reaches_were = subst (λ (x : SoloView J). Reaches x.course.standing.changes x.course.standing.history) (sym view_is) t.met.together.history.reaches
 
-  pub makers_were : All (HasItsMaker t.s.course.standing.processors) t.s.course.standing.history
-  makers_were = subst (λ (x : SoloView). All (HasItsMaker x.course.standing.processors) x.course.standing.history) (sym view_is) t.met.together.history.makers
+    pub makers_were : All (HasItsMaker t.s.course.standing.processors) t.s.course.standing.history
+    makers_were = subst (λ (x : SoloView J). All (HasItsMaker x.course.standing.processors) x.course.standing.history) (sym view_is) t.met.together.history.makers
 
-  holder_is : t.was.needs.holder ≡ holder.Processor t.p
-  holder_is = ap (λ (x : CpuView (Unit {0})). x.needs.holder) t.is ∙ (t.met.all.asks t.p t.was t.inside).2
+    holder_is : t.was.needs.holder ≡ holder.Processor t.p
+    holder_is = ap (λ (x : CpuView J). x.needs.holder) t.is ∙ (t.met.all.asks t.p t.was t.inside).2
 
-  -- It acted
+    -- It acted
 
-  module _ (what : ℕ → Act) (did : ActsAs what t.was t.now) where
-    abbrev a : Act
-    a = what t.p
+    module _ (what : ℕ → Act) (did : ActsAs what t.was t.now) where
+      abbrev a : Act
+      a = what t.p
 
-    acts : Acts t.p a t.was t.now
-    acts = subst (λ q. Acts q (what q) t.was t.now) held.processor did
+      acts : Acts t.p a t.was t.now
+      acts = subst (λ q. Acts q (what q) t.was t.now) held.processor did
 
-    abbrev acted_cpus : List (CpuView (Unit {0}))
-    acted_cpus = set t.cpus t.p t.now
+      abbrev acted_cpus : List (CpuView J)
+      acted_cpus = set t.cpus t.p t.now
 
-    count : length t.cpus' ≡ length acted_cpus
-    count = t.meets.count
+      count : length t.cpus' ≡ length acted_cpus
+      count = t.meets.count
 
-    some : 0 < length t.cpus
-    some = t.met.all.some
+      some : 0 < length t.cpus
+      some = t.met.all.some
 
-    long : length acted_cpus ≡ length t.cpus
-    long = length-set t.cpus t.p t.now
+      long : length acted_cpus ≡ length t.cpus
+      long = length-set t.cpus t.p t.now
 
-    here : (c : CpuView (Unit {0})) → get_or acted_cpus t.p c ≡ t.now
-    here c = get_or-set_same t.cpus t.p t.now c t.inside
+      here : (c : CpuView J) → get_or acted_cpus t.p c ≡ t.now
+      here c = get_or-set_same t.cpus t.p t.now c t.inside
 
-    within : t.p < length acted_cpus
-    within = omega (arith, length-set t.cpus t.p t.now, t.inside)
+      within : t.p < length acted_cpus
+      within = omega (arith, length-set t.cpus t.p t.now, t.inside)
 
-    -- no turn was made but in the meeting, which found the engine that lay there
-    same_turns : (k : ℕ) (c : CpuView (Unit {0})) → (get_or acted_cpus k c).turn ≡ (get_or t.cpus k c).turn
-    same_turns k c = dite (ℕ_discrete k t.p)
-        (λ same. subst (λ q. (get_or acted_cpus q c).turn ≡ (get_or t.cpus q c).turn) (sym same) (ap (λ (z : CpuView (Unit {0})). z.turn) (here c) ∙ (acts.turn ∙ ap (λ (z : CpuView (Unit {0})). z.turn) (t.is ∙ get_or_default t.cpus t.p t.was c t.inside))))
-        (λ other. ap (λ (z : CpuView (Unit {0})). z.turn) (get_or-set_other t.cpus t.p k t.now c other))
+      -- no turn was made but in the meeting, which found the engine that lay there
+      same_turns : (k : ℕ) (c : CpuView J) → (get_or acted_cpus k c).turn ≡ (get_or t.cpus k c).turn
+      same_turns k c = dite (ℕ_discrete k t.p)
+          (λ same. subst (λ q. (get_or acted_cpus q c).turn ≡ (get_or t.cpus q c).turn) (sym same) (ap (λ (z : CpuView J). z.turn) (here c) ∙ (acts.turn ∙ ap (λ (z : CpuView J). z.turn) (t.is ∙ get_or_default t.cpus t.p t.was c t.inside))))
+          (λ other. ap (λ (z : CpuView J). z.turn) (get_or-set_other t.cpus t.p k t.now c other))
 
-    found_is : t.meets.found ≡ t.v
-    found_is = idle_found t.met.swaps t.cpus acted_cpus t.v t.met.turn_together some long (λ k c _ lt. same_turns k c) t.cpus' t.meets.found t.meets.left t.meets.turns count t.was (same_turns 0 t.was)
+      found_is : t.meets.found ≡ t.v
+      found_is = idle_found t.met.swaps t.cpus acted_cpus t.v t.met.turn_together some long (λ k c _ lt. same_turns k c) t.cpus' t.meets.found t.meets.left t.meets.turns count t.was (same_turns 0 t.was)
 
-    turned : TurnTogether t.meets.turns.swaps t.cpus' t.meets.left
-    turned = idle_turned t.met.swaps t.cpus acted_cpus t.v t.met.turn_together some long (λ k c _ lt. same_turns k c) t.cpus' t.meets.found t.meets.left t.meets.turns count t.was (same_turns 0 t.was)
+      turned : TurnTogether t.meets.turns.swaps t.cpus' t.meets.left
+      turned = idle_turned t.met.swaps t.cpus acted_cpus t.v t.met.turn_together some long (λ k c _ lt. same_turns k c) t.cpus' t.meets.found t.meets.left t.meets.turns count t.was (same_turns 0 t.was)
 
-    engine_meets : EngineMeets t.v.seat acted_cpus t.meets.left.seat t.cpus'
-    engine_meets = subst (λ (z : View). EngineMeets z.seat acted_cpus t.meets.left.seat t.cpus') found_is t.meets.engine
+      engine_meets : EngineMeets t.v.seat acted_cpus t.meets.left.seat t.cpus'
+      engine_meets = subst (λ (z : View). EngineMeets z.seat acted_cpus t.meets.left.seat t.cpus') found_is t.meets.engine
 
-    same_engine : IsSameEngine t.v.seat t.meets.left.seat
-    same_engine = engine_meets.same
+      same_engine : IsSameEngine t.v.seat t.meets.left.seat
+      same_engine = engine_meets.same
 
-    rest_is : t.meets.left ≡ with_seat t.meets.left.seat t.v
-    rest_is = subst (λ (z : View). t.meets.left ≡ with_seat t.meets.left.seat z) found_is t.meets.rest
+      rest_is : t.meets.left ≡ with_seat t.meets.left.seat t.v
+      rest_is = subst (λ (z : View). t.meets.left ≡ with_seat t.meets.left.seat z) found_is t.meets.rest
 
-    -- The tree
+      -- The tree
 
-    have_asked : HaveAsked t.p t.met.raises acts.raised acted_cpus
-    have_asked = raised_here t.met.raises t.cpus t.met.ask_together t.p t.inside t.was t.now t.is acts.raised acts.needs (acts.ask_for.own t.p holder_is) (λ q other. acts.ask_for.others q (λ is. other (sym (ap number_of (sym holder_is ∙ is)))))
+      have_asked : HaveAsked t.p t.met.raises acts.raised acted_cpus
+      have_asked = raised_here t.met.raises t.cpus t.met.ask_together t.p t.inside t.was t.now t.is acts.raised acts.needs (acts.ask_for.own t.p holder_is) (λ q other. acts.ask_for.others q (λ is. other (sym (ap number_of (sym holder_is ∙ is)))))
 
-    raises_are : t.meets.needs.raises ≡ t.met.raises ++ acts.raised
-    raises_are = all_raised t.d' acted_cpus t.cpus' t.all count t.meets.needs t.was t.p t.met.raises acts.raised have_asked
+      raises_are : t.meets.needs.raises ≡ t.met.raises ++ acts.raised
+      raises_are = all_raised t.d' acted_cpus t.cpus' t.all count t.meets.needs t.was t.p t.met.raises acts.raised have_asked
 
-    ask_together : AskTogether t.meets.needs.raises t.cpus'
-    ask_together = asked_together t.d' acted_cpus t.cpus' t.all count t.meets.needs t.was t.p t.met.raises acts.raised have_asked
+      ask_together : AskTogether t.meets.needs.raises t.cpus'
+      ask_together = asked_together t.d' acted_cpus t.cpus' t.all count t.meets.needs t.was t.p t.met.raises acts.raised have_asked
 
-    asked_is : greatest t.meets.needs.raises ≡ with_asked a.asked (greatest t.met.raises)
-    asked_is = ap greatest raises_are ∙ (acts.ask_for.greatest_is t.met.raises ∙ sym (with_asked_is a.asked (greatest t.met.raises)))
+      asked_is : greatest t.meets.needs.raises ≡ with_asked a.asked (greatest t.met.raises)
+      asked_is = ap greatest raises_are ∙ (acts.ask_for.greatest_is t.met.raises ∙ sym (with_asked_is a.asked (greatest t.met.raises)))
 
-    -- The tally words
+      -- The tally words
 
-    same_tallies : t.d'.tallies ≡ t.d.tallies
-    same_tallies =
-        let left = (t.all.here t.p t.was (omega (arith, count, within))).fits.tallies in
-        let met = ap (λ s. s.tallies) (t.meets.calls.each t.p t.was within).is ∙ ap (λ (z : CpuView (Unit {0})). z.calls.tallies) (here t.was) in
-        let was = ap (λ (z : CpuView (Unit {0})). z.calls.tallies) t.is ∙ (t.met.all.here t.p t.was t.inside).fits.tallies in
-        sym left ∙ (met ∙ (acts.adds.same.0 ∙ was))
+      same_tallies : t.d'.tallies ≡ t.d.tallies
+      same_tallies =
+          let left = (t.all.here t.p t.was (omega (arith, count, within))).fits.tallies in
+          let met = ap (λ s. s.tallies) (t.meets.calls.each t.p t.was within).is ∙ ap (λ (z : CpuView J). z.calls.tallies) (here t.was) in
+          let was = ap (λ (z : CpuView J). z.calls.tallies) t.is ∙ (t.met.all.here t.p t.was t.inside).fits.tallies in
+          sym left ∙ (met ∙ (acts.adds.same.0 ∙ was))
 
-    abbrev deeds_after : List (Deed (Unit {0}))
-    deeds_after = t.meets.calls.deeds
+      abbrev deeds_after : List (Deed J)
+      deeds_after = t.meets.calls.deeds
 
-    all_tally : TallyTogether t.d' deeds_after t.cpus'
-    all_tally = tally_together t.d t.d' t.met.deeds t.cpus t.cpus' t.p t.was t.now t.inside t.is t.met.tally_together acts.deeds acts.adds count t.meets.calls same_tallies
+      all_tally : TallyTogether t.d' deeds_after t.cpus'
+      all_tally = tally_together t.d t.d' t.met.deeds t.cpus t.cpus' t.p t.was t.now t.inside t.is t.met.tally_together acts.deeds acts.adds count t.meets.calls same_tallies
 
-    on : GoesOnBy (length t.cpus) t.p t.met.deeds acts.deeds deeds_after
-    on = goes_on t.d t.d' t.met.deeds t.cpus t.cpus' t.p t.was t.now t.inside t.is t.met.tally_together acts.deeds acts.adds count t.meets.calls same_tallies
+      on : GoesOnBy (length t.cpus) t.p t.met.deeds acts.deeds deeds_after
+      on = goes_on t.d t.d' t.met.deeds t.cpus t.cpus' t.p t.was t.now t.inside t.is t.met.tally_together acts.deeds acts.adds count t.meets.calls same_tallies
 
-    queued_after : queued_on t.cpus' ≡ more_at t.p a.queued (queued_on t.cpus)
-    queued_after =
-        let was = count_at 0 queued_in t.d t.met.deeds t.cpus t.met.tally_together t.p t.inside in
-        let now = queued_here (length t.cpus) t.p t.met.deeds acts.deeds deeds_after on in
-        let more = acts.count.queued in
-        one_count 0 queued_in t.d t.d' t.met.deeds deeds_after t.cpus t.cpus' t.met.tally_together all_tally (count ∙ long) t.p (get_or (queued_on t.cpus) t.p 0 + a.queued) (λ there. omega (arith, was, now, more)) (queued_else (length t.cpus) t.p t.met.deeds acts.deeds deeds_after on)
-        ∙ more_is t.p a.queued (queued_on t.cpus)
+      queued_after : queued_on t.cpus' ≡ more_at t.p a.queued (queued_on t.cpus)
+      queued_after =
+          let was = count_at 0 queued_in t.d t.met.deeds t.cpus t.met.tally_together t.p t.inside in
+          let now = queued_here (length t.cpus) t.p t.met.deeds acts.deeds deeds_after on in
+          let more = acts.count.queued in
+          one_count 0 queued_in t.d t.d' t.met.deeds deeds_after t.cpus t.cpus' t.met.tally_together all_tally (count ∙ long) t.p (get_or (queued_on t.cpus) t.p 0 + a.queued) (λ there. omega (arith, was, now, more)) (queued_else (length t.cpus) t.p t.met.deeds acts.deeds deeds_after on)
+          ∙ more_is t.p a.queued (queued_on t.cpus)
 
-    finished_after : finished_on t.cpus' ≡ more_at a.owner a.finished (finished_on t.cpus)
-    finished_after =
-        let now = finished_are (length t.cpus) t.p t.met.deeds acts.deeds deeds_after on a.owner in
-        let more = acts.count.finished in
-        one_count 0 finished_in t.d t.d' t.met.deeds deeds_after t.cpus t.cpus' t.met.tally_together all_tally (count ∙ long) a.owner (get_or (finished_on t.cpus) a.owner 0 + a.finished)
-        (λ there. let was = count_at 0 finished_in t.d t.met.deeds t.cpus t.met.tally_together a.owner there in omega (arith, was, now, more))
-        (λ k lt other. let are = finished_are (length t.cpus) t.p t.met.deeds acts.deeds deeds_after on k in let none = acts.count.others k other in omega (arith, are, none))
-        ∙ more_is a.owner a.finished (finished_on t.cpus)
+      finished_after : finished_on t.cpus' ≡ more_at a.owner a.finished (finished_on t.cpus)
+      finished_after =
+          let now = finished_are (length t.cpus) t.p t.met.deeds acts.deeds deeds_after on a.owner in
+          let more = acts.count.finished in
+          one_count 0 finished_in t.d t.d' t.met.deeds deeds_after t.cpus t.cpus' t.met.tally_together all_tally (count ∙ long) a.owner (get_or (finished_on t.cpus) a.owner 0 + a.finished)
+          (λ there. let was = count_at 0 finished_in t.d t.met.deeds t.cpus t.met.tally_together a.owner there in omega (arith, was, now, more))
+          (λ k lt other. let are = finished_are (length t.cpus) t.p t.met.deeds acts.deeds deeds_after on k in let none = acts.count.others k other in omega (arith, are, none))
+          ∙ more_is a.owner a.finished (finished_on t.cpus)
 
-    -- the lists of all but one
-    line_else : (k : ℕ) → k < length t.cpus → a.list ≢ Some k → line_in k deeds_after ≡ line_in k t.met.deeds
-    line_else k lt away = lines_are (length t.cpus) t.p t.met.deeds acts.deeds deeds_after on k lt ∙ acts.count.lists k away (line_in k t.met.deeds)
+      -- the lists of all but one
+      line_else : (k : ℕ) → k < length t.cpus → a.list ≢ Some k → line_in k deeds_after ≡ line_in k t.met.deeds
+      line_else k lt away = lines_are (length t.cpus) t.p t.met.deeds acts.deeds deeds_after on k lt ∙ acts.count.lists k away (line_in k t.met.deeds)
 
-    -- The history
+      -- The history
 
-    was_held : Holds t.limits t.v.seat.domain t.v.seat.processors t.v.seat.seen t.p t.was.cpu
-    was_held = subst (λ (z : CpuView (Unit {0})). Holds t.limits t.v.seat.domain t.v.seat.processors t.v.seat.seen t.p z.cpu) (sym t.is) (t.met.together.hold.each t.p t.was t.inside)
+      was_held : Holds t.limits t.v.seat.domain t.v.seat.processors t.v.seat.seen t.p t.was.cpu
+      was_held = subst (λ (z : CpuView J). Holds t.limits t.v.seat.domain t.v.seat.processors t.v.seat.seen t.p z.cpu) (sym t.is) (t.met.together.hold.each t.p t.was t.inside)
 
-    -- what the processor has seen of the engine's changes is all of them
-    all_changes : t.now.cpu.changes ≡ t.v.seat.changes
-    all_changes =
-        let before : t.was.cpu.changes ≡ t.v.seat.changes = ap (λ (x : CpuView (Unit {0})). x.cpu.changes) t.is ∙ t.met.together.changes t.p t.was t.inside in
-        let joins : t.now.cpu.changes ≤ t.meets.left.seat.changes = subst (λ (x : CpuView (Unit {0})). x.cpu.changes ≤ t.meets.left.seat.changes) (here t.was) (engine_meets.each t.p t.was within).later in
-        let most = engine_meets.changes in
-        let later = acts.events.later in
-        omega (arith, later, before, joins, most)
+      -- what the processor has seen of the engine's changes is all of them
+      all_changes : t.now.cpu.changes ≡ t.v.seat.changes
+      all_changes =
+          let before : t.was.cpu.changes ≡ t.v.seat.changes = ap (λ (x : CpuView J). x.cpu.changes) t.is ∙ t.met.together.changes t.p t.was t.inside in
+          let joins : t.now.cpu.changes ≤ t.meets.left.seat.changes = subst (λ (x : CpuView J). x.cpu.changes ≤ t.meets.left.seat.changes) (here t.was) (engine_meets.each t.p t.was within).later in
+          let most = engine_meets.changes in
+          let later = acts.events.later in
+          omega (arith, later, before, joins, most)
 
-    abbrev history : List Event
-    history = t.v.seat.seen ++ a.events
+      abbrev history : List Event
+      history = t.v.seat.seen ++ a.events
 
-    -- one that made none of the events
-    none_own : (k : ℕ) → made_by (Processor k) a.events ≡ [] → made_by (Processor k) t.v.seat.seen ≡ made_by (Processor k) history
-    none_own k none = sym (made_by_append (Processor k) t.v.seat.seen a.events ∙ (ap (λ l. made_by (Processor k) t.v.seat.seen ++ l) none ∙ append-nil (made_by (Processor k) t.v.seat.seen)))
+      -- one that made none of the events
+      none_own : (k : ℕ) → made_by (Processor k) a.events ≡ [] → made_by (Processor k) t.v.seat.seen ≡ made_by (Processor k) history
+      none_own k none = sym (made_by_append (Processor k) t.v.seat.seen a.events ∙ (ap (λ l. made_by (Processor k) t.v.seat.seen ++ l) none ∙ append-nil (made_by (Processor k) t.v.seat.seen)))
 
-    hold : AllHold t.limits history acted_cpus t.v.seat
-    hold = record {
-      in_range = t.met.together.hold.in_range;
-      periods = t.met.together.hold.periods;
-      count = t.met.together.hold.count;
-      all = long ∙ t.met.together.hold.all;
-      engine = t.met.together.hold.engine ∙ sym (made_by_append Engine t.v.seat.seen a.events ∙ (ap (λ l. made_by Engine t.v.seat.seen ++ l) acts.are_of.engine ∙ append-nil (made_by Engine t.v.seat.seen)));
-      each = λ k c lt. dite (ℕ_discrete k t.p)
-          (λ same. subst (λ (q : ℕ). Holds t.limits t.v.seat.domain t.v.seat.processors history q (get_or acted_cpus q c).cpu) (sym same) (subst (λ (z : CpuView (Unit {0})). Holds t.limits t.v.seat.domain t.v.seat.processors history t.p z.cpu) (sym (here c)) (record {
-            domain = acts.events.same.0 ∙ was_held.domain;
-            processors_are = acts.events.same.1 ∙ was_held.processors_are;
-            sections = acts.events.same.2 ∙ was_held.sections;
-            processor = acts.events.same.3 ∙ was_held.processor;
-            mine = acts.events.mine ∙ (ap (λ l. l ++ a.events) was_held.mine ∙ (ap (λ l. made_by (Processor t.p) t.v.seat.seen ++ l) (sym acts.are_of.own) ∙ sym (made_by_append (Processor t.p) t.v.seat.seen a.events)));
-          })))
-          (λ other. let old = t.met.together.hold.each k c (omega (arith, length-set t.cpus t.p t.now, lt)) in subst (λ (z : CpuView (Unit {0})). Holds t.limits t.v.seat.domain t.v.seat.processors history k z.cpu) (sym (get_or-set_other t.cpus t.p k t.now c other))
-          (record { domain = old.domain; processors_are = old.processors_are; sections = old.sections; processor = old.processor; mine = old.mine ∙ none_own k (acts.are_of.others k other) }));
-    }
+      hold : AllHold t.limits history acted_cpus t.v.seat
+      hold = record {
+        in_range = t.met.together.hold.in_range;
+        periods = t.met.together.hold.periods;
+        count = t.met.together.hold.count;
+        all = long ∙ t.met.together.hold.all;
+        engine = t.met.together.hold.engine ∙ sym (made_by_append Engine t.v.seat.seen a.events ∙ (ap (λ l. made_by Engine t.v.seat.seen ++ l) acts.are_of.engine ∙ append-nil (made_by Engine t.v.seat.seen)));
+        each = λ k c lt. dite (ℕ_discrete k t.p)
+            (λ same. subst (λ (q : ℕ). Holds t.limits t.v.seat.domain t.v.seat.processors history q (get_or acted_cpus q c).cpu) (sym same) (subst (λ (z : CpuView J). Holds t.limits t.v.seat.domain t.v.seat.processors history t.p z.cpu) (sym (here c)) (record {
+              domain = acts.events.same.0 ∙ was_held.domain;
+              processors_are = acts.events.same.1 ∙ was_held.processors_are;
+              sections = acts.events.same.2 ∙ was_held.sections;
+              processor = acts.events.same.3 ∙ was_held.processor;
+              mine = acts.events.mine ∙ (ap (λ l. l ++ a.events) was_held.mine ∙ (ap (λ l. made_by (Processor t.p) t.v.seat.seen ++ l) (sym acts.are_of.own) ∙ sym (made_by_append (Processor t.p) t.v.seat.seen a.events)));
+            })))
+            (λ other. let old = t.met.together.hold.each k c (omega (arith, length-set t.cpus t.p t.now, lt)) in subst (λ (z : CpuView J). Holds t.limits t.v.seat.domain t.v.seat.processors history k z.cpu) (sym (get_or-set_other t.cpus t.p k t.now c other))
+            (record { domain = old.domain; processors_are = old.processors_are; sections = old.sections; processor = old.processor; mine = old.mine ∙ none_own k (acts.are_of.others k other) }));
+      }
 
-    seen_here : IsBeginning (t.v.seat.seen ++ (acts.events.others ++ a.events)) (get_or acted_cpus t.p t.was).cpu.seen
-    seen_here = subst (λ (x : CpuView (Unit {0})). IsBeginning (t.v.seat.seen ++ (acts.events.others ++ a.events)) x.cpu.seen) (sym (here t.was))
-        (subst (λ l. IsBeginning (l ++ (acts.events.others ++ a.events)) t.now.cpu.seen) (ap (λ (x : CpuView (Unit {0})). x.cpu.seen) t.is ∙ t.met.together.seen t.p t.was t.inside) acts.events.since)
+      seen_here : IsBeginning (t.v.seat.seen ++ (acts.events.others ++ a.events)) (get_or acted_cpus t.p t.was).cpu.seen
+      seen_here = subst (λ (x : CpuView J). IsBeginning (t.v.seat.seen ++ (acts.events.others ++ a.events)) x.cpu.seen) (sym (here t.was))
+          (subst (λ l. IsBeginning (l ++ (acts.events.others ++ a.events)) t.now.cpu.seen) (ap (λ (x : CpuView J). x.cpu.seen) t.is ∙ t.met.together.seen t.p t.was t.inside) acts.events.since)
 
-    acted : IsSettled t.limits t.v.seat.seen acts.events.others a.events t.cpus' t.meets.left.seat
-    acted = settled acted_cpus t.cpus' t.v.seat t.meets.left.seat count engine_meets t.was t.limits t.v.seat.seen acts.events.others a.events
-        (record { hold = hold; seen = inr (t.p, t.was, within, seen_here) })
+      acted : IsSettled t.limits t.v.seat.seen acts.events.others a.events t.cpus' t.meets.left.seat
+      acted = settled acted_cpus t.cpus' t.v.seat t.meets.left.seat count engine_meets t.was t.limits t.v.seat.seen acts.events.others a.events
+          (record { hold = hold; seen = inr (t.p, t.was, within, seen_here) })
 
-    -- The theorem
+      -- The theorem
 
-    seen_after : s' ≡ seen_as t.d'.tallies t.limits (greatest t.meets.needs.raises) (queued_on t.cpus') (finished_on t.cpus') (lines_on t.cpus') t.meets.left
-    seen_after = first_seen t.d' t.limits t.cpus' t.meets.left (greatest t.meets.needs.raises) t.all.some turned.lying (λ c. ap greatest (ask_together.seen 0 c t.all.some))
+      seen_after : s' ≡ seen_as t.d'.tallies t.limits (greatest t.meets.needs.raises) (queued_on t.cpus') (finished_on t.cpus') (lines_on t.cpus') t.meets.left
+      seen_after = first_seen t.d' t.limits t.cpus' t.meets.left (greatest t.meets.needs.raises) t.all.some turned.lying (λ c. ap greatest (ask_together.seen 0 c t.all.some))
 
-    all_lines : s'.lines ≡ lines_on t.cpus'
-    all_lines = ap (λ (x : SoloView). x.lines) seen_after
+      all_lines : s'.lines ≡ lines_on t.cpus'
+      all_lines = ap (λ (x : SoloView J). x.lines) seen_after
 
-    old_lines : t.s.lines ≡ lines_on t.cpus
-    old_lines = ap (λ (x : SoloView). x.lines) view_is
+      old_lines : t.s.lines ≡ lines_on t.cpus
+      old_lines = ap (λ (x : SoloView J). x.lines) view_is
 
-    -- what was asked for are cookies, and where a period is wanted already, it is the next one
-    still_wanted : (¬ IsRunning t.v.seat.seen → 0 < t.v.so_far → greatest t.meets.needs.raises ≡ greatest t.met.raises) × (greatest t.meets.needs.raises % 4 ≡ 0)
-    still_wanted = by_case acts.ask_for.cookie
-      where
-        by_case : (a.asked ≡ 0) ⊎ (a.events ≡ Note a.asked (Processor t.p) ∷ []) → (¬ IsRunning t.v.seat.seen → 0 < t.v.so_far → greatest t.meets.needs.raises ≡ greatest t.met.raises) × (greatest t.meets.needs.raises % 4 ≡ 0)
-        by_case (inl none) =
-            let same : greatest t.meets.needs.raises ≡ greatest t.met.raises = asked_is ∙ ap (λ n. with_asked n (greatest t.met.raises)) none in
-            (λ _ _. same, ap (λ n. n % 4) same ∙ t.met.cookies)
-        by_case (inr noted) =
-            let seen : t.meets.left.seat.seen ≡ t.v.seat.seen ++ Note a.asked (Processor t.p) ∷ [] = acted.seen ∙ ap (λ l. t.v.seat.seen ++ l) noted in
-            let cookie : a.asked ≡ cookie_after t.v.seat.seen = last_may_follow t.v.seat.seen (Note a.asked (Processor t.p)) (subst IsLegal seen acted.together.history.legal) in
-            let asks : greatest t.meets.needs.raises ≡ max (greatest t.met.raises) a.asked = asked_is ∙ with_asked_is a.asked (greatest t.met.raises) in
-            let before = t.met.cookies in (
-              λ resting half.
-                  let wanted = t.met.wanted resting half in let need = wanted.need in let above = wanted.above in
-                  let low = next_above t.v.seat.seen (greatest t.met.raises) resting t.met.cookies (omega (arith, need, above)) in omega (arith, low, cookie, asks),
-              omega (arith, before, cookie, asks),
-            )
+      -- what was asked for are cookies, and where a period is wanted already, it is the next one
+      still_wanted : (¬ IsRunning t.v.seat.seen → 0 < t.v.so_far → greatest t.meets.needs.raises ≡ greatest t.met.raises) × (greatest t.meets.needs.raises % 4 ≡ 0)
+      still_wanted = by_case acts.ask_for.cookie
+        where
+          by_case : (a.asked ≡ 0) ⊎ (a.events ≡ Note a.asked (Processor t.p) ∷ []) → (¬ IsRunning t.v.seat.seen → 0 < t.v.so_far → greatest t.meets.needs.raises ≡ greatest t.met.raises) × (greatest t.meets.needs.raises % 4 ≡ 0)
+          by_case (inl none) =
+              let same : greatest t.meets.needs.raises ≡ greatest t.met.raises = asked_is ∙ ap (λ n. with_asked n (greatest t.met.raises)) none in
+              (λ _ _. same, ap (λ n. n % 4) same ∙ t.met.cookies)
+          by_case (inr noted) =
+              let seen : t.meets.left.seat.seen ≡ t.v.seat.seen ++ Note a.asked (Processor t.p) ∷ [] = acted.seen ∙ ap (λ l. t.v.seat.seen ++ l) noted in
+              let cookie : a.asked ≡ cookie_after t.v.seat.seen = last_may_follow t.v.seat.seen (Note a.asked (Processor t.p)) (subst IsLegal seen acted.together.history.legal) in
+              let asks : greatest t.meets.needs.raises ≡ max (greatest t.met.raises) a.asked = asked_is ∙ with_asked_is a.asked (greatest t.met.raises) in
+              let before = t.met.cookies in (
+                λ resting half.
+                    let wanted = t.met.wanted resting half in let need = wanted.need in let above = wanted.above in
+                    let low = next_above t.v.seat.seen (greatest t.met.raises) resting t.met.cookies (omega (arith, need, above)) in omega (arith, low, cookie, asks),
+                omega (arith, before, cookie, asks),
+              )
 
-    pub have_met : HaveMet t.d' t.limits t.cpus' t.meets.left
-    have_met = record {
-      all = t.all;
-      together = acted.together;
-      raises = t.meets.needs.raises;
-      ask_together = ask_together;
-      swaps = t.meets.turns.swaps;
-      turn_together = turned;
-      deeds = deeds_after;
-      tally_together = all_tally;
-      cookies = still_wanted.1;
-      wanted = λ resting some.
-          let quiet = acts.are_of.quiet t.v.seat.seen in
-          let after = ap starts_in acted.seen ∙ quiet.0 in
-          let ended = ap ended_in acted.seen ∙ quiet.1 in
-          let before : ¬ IsRunning t.v.seat.seen = λ running. resting (omega (arith, after, ended, running)) in
-          let so_far = ap (λ (x : View). x.so_far) rest_is in
-          let half : 0 < t.v.so_far = omega (arith, so_far, some) in
-          let wanted = t.met.wanted before half in
-          let need = ap (λ (x : View). x.need) rest_is in record {
-            need = need ∙ (wanted.need ∙ sym (still_wanted.0 before half));
-            above = (let above = wanted.above in omega (arith, above, need, ended));
-          };
-    }
-
-    -- the domain has come just so far
-    pub come : s' ≡ record t.s { course = after t.p a t.s.course; lines = lines_on t.cpus' }
-    come = seen_after
-        ∙ ((λ z. record {
-          table = same_engine.0 z;
-          limits = t.limits;
-          tallies = same_tallies z;
-          course = record {
-            standing = record {
-              processors = same_engine.1 z;
-              periods = same_engine.2 z;
-              history = (acted.seen ∙ with_events_is a.events t.v.seat.seen) z;
-              changes = engine_meets.changes z;
-              so_far = ap (λ (x : View). x.so_far) rest_is z;
-              began = ap (λ (x : View). x.began) rest_is z;
+      pub have_met : HaveMet t.d' t.limits t.cpus' t.meets.left
+      have_met = record {
+        all = t.all;
+        together = acted.together;
+        raises = t.meets.needs.raises;
+        ask_together = ask_together;
+        swaps = t.meets.turns.swaps;
+        turn_together = turned;
+        deeds = deeds_after;
+        tally_together = all_tally;
+        cookies = still_wanted.1;
+        wanted = λ resting some.
+            let quiet = acts.are_of.quiet t.v.seat.seen in
+            let after = ap starts_in acted.seen ∙ quiet.0 in
+            let ended = ap ended_in acted.seen ∙ quiet.1 in
+            let before : ¬ IsRunning t.v.seat.seen = λ running. resting (omega (arith, after, ended, running)) in
+            let so_far = ap (λ (x : View). x.so_far) rest_is in
+            let half : 0 < t.v.so_far = omega (arith, so_far, some) in
+            let wanted = t.met.wanted before half in
+            let need = ap (λ (x : View). x.need) rest_is in record {
+              need = need ∙ (wanted.need ∙ sym (still_wanted.0 before half));
+              above = (let above = wanted.above in omega (arith, above, need, ended));
             };
-            asked = asked_is z;
-            queued = queued_after z;
-            finished = finished_after z;
-          };
-          lines = lines_on t.cpus';
-        }) ∙ sym (ap (λ (x : SoloView). record x { course = after t.p a x.course; lines = lines_on t.cpus' }) view_is))
+      }
 
-    pub does : Does t.p what t.s.course s'.course
-    does = record {
-      follows = subst (λ (x : SoloView). IsLegalAfter x.course.standing.history a.events) (sym view_is) (legal_after_append [] t.v.seat.seen a.events (subst IsLegal acted.seen acted.together.history.legal)).1;
-      come = ap (λ (x : SoloView). x.course) come;
-    }
+      -- the domain has come just so far
+      pub come : s' ≡ record t.s { course = after t.p a t.s.course; lines = lines_on t.cpus' }
+      come = seen_after
+          ∙ ((λ z. record {
+            table = same_engine.0 z;
+            limits = t.limits;
+            tallies = same_tallies z;
+            course = record {
+              standing = record {
+                processors = same_engine.1 z;
+                periods = same_engine.2 z;
+                history = (acted.seen ∙ with_events_is a.events t.v.seat.seen) z;
+                changes = engine_meets.changes z;
+                so_far = ap (λ (x : View). x.so_far) rest_is z;
+                began = ap (λ (x : View). x.began) rest_is z;
+              };
+              asked = asked_is z;
+              queued = queued_after z;
+              finished = finished_after z;
+            };
+            lines = lines_on t.cpus';
+          }) ∙ sym (ap (λ (x : SoloView J). record x { course = after t.p a x.course; lines = lines_on t.cpus' }) view_is))
 
-    pub same_tables : HasSameTables t.s s'
-    same_tables = subst (HasSameTables t.s) (sym come) (refl, refl, refl, refl, refl)
+      pub does : Does t.p what t.s.course s'.course
+      does = record {
+        follows = subst (λ (x : SoloView J). IsLegalAfter x.course.standing.history a.events) (sym view_is) (legal_after_append [] t.v.seat.seen a.events (subst IsLegal acted.seen acted.together.history.legal)).1;
+        come = ap (λ (x : SoloView J). x.course) come;
+      }
 
-    -- The lists
+      pub same_tables : HasSameTables t.s s'
+      same_tables = subst (HasSameTables t.s) (sym come) (refl, refl, refl, refl, refl)
 
-    -- what it has seen of the tally words, all have
-    pub seen_by_all : tallies.IsBeginning t.now.calls.seen deeds_after
-    seen_by_all = subst (λ (z : CpuView (Unit {0})). tallies.IsBeginning z.calls.seen deeds_after) (here t.was) (t.meets.calls.each t.p t.was within).since
+      -- The lists
 
-    -- a moment of the call, at which these were done
-    moment : (x : List (Deed (Unit {0}))) → tallies.IsBeginning t.was.calls.seen x → tallies.IsBeginning x deeds_after → (made : List (Deed (Unit {0}))) → deeds_of t.was.calls.processor x ≡ deeds_of t.was.calls.processor t.was.calls.seen ++ made → GoesOnBy (length t.cpus) t.p t.met.deeds made x
-    moment x low high made own = at_moment (length t.cpus) t.p t.met.deeds acts.deeds deeds_after on x (subst (λ l. tallies.IsBeginning l x) seen_is low) high made (subst (λ (s : CallSeatView (Unit {0})). deeds_of s.processor x ≡ deeds_of s.processor s.seen ++ made) deeds_were own)
-      where
-        seen_is : t.was.calls.seen ≡ t.met.deeds
-        seen_is = ap (λ (s : CallSeatView (Unit {0})). s.seen) deeds_were
+      -- what it has seen of the tally words, all have
+      pub seen_by_all : tallies.IsBeginning t.now.calls.seen deeds_after
+      seen_by_all = subst (λ (z : CpuView J). tallies.IsBeginning z.calls.seen deeds_after) (here t.was) (t.meets.calls.each t.p t.was within).since
 
-    -- what a processor has seen of each list, all have
-    pub line_now : (k : ℕ) → k < length t.cpus → line_in k deeds_after ≡ line_in k t.now.calls.seen
-    line_now k lt = lines_are (length t.cpus) t.p t.met.deeds acts.deeds deeds_after on k lt ∙ sym (lines_are (length t.cpus) t.p t.met.deeds acts.deeds t.now.calls.seen (moment t.now.calls.seen acts.adds.since seen_by_all acts.deeds acts.adds.own) k lt)
-
-    -- at a moment of the call at which it had done nothing yet, a list was as before
-    pub line_before : (x : List (Deed (Unit {0}))) → tallies.IsBeginning t.was.calls.seen x → tallies.IsBeginning x t.now.calls.seen → deeds_of t.was.calls.processor x ≡ deeds_of t.was.calls.processor t.was.calls.seen → (k : ℕ) → k < length t.cpus → line_in k x ≡ line_in k t.met.deeds
-    line_before x low high own k lt = lines_are (length t.cpus) t.p t.met.deeds [] x (moment x low (begins_on high seen_by_all) [] (own ∙ sym (append-nil (deeds_of t.was.calls.processor t.was.calls.seen)))) k lt
-
-    -- and at one behind which it did nothing more, it is as behind
-    pub line_behind : (x : List (Deed (Unit {0}))) → tallies.IsBeginning t.was.calls.seen x → tallies.IsBeginning x t.now.calls.seen → deeds_of t.was.calls.processor t.now.calls.seen ≡ deeds_of t.was.calls.processor x → (k : ℕ) → k < length t.cpus → line_in k deeds_after ≡ line_in k x
-    line_behind x low high own k lt =
-        lines_are (length t.cpus) t.p t.met.deeds acts.deeds deeds_after on k lt
-        ∙ sym (lines_are (length t.cpus) t.p t.met.deeds acts.deeds x (moment x low (begins_on high seen_by_all) acts.deeds (sym own ∙ acts.adds.own)) k lt)
-
-    -- at two moments by which it had done the same, they are the same
-    pub line_between : (x y : List (Deed (Unit {0}))) → tallies.IsBeginning t.was.calls.seen x → tallies.IsBeginning x t.now.calls.seen → tallies.IsBeginning t.was.calls.seen y → tallies.IsBeginning y t.now.calls.seen
-        → (made : List (Deed (Unit {0}))) → deeds_of t.was.calls.processor x ≡ deeds_of t.was.calls.processor t.was.calls.seen ++ made → deeds_of t.was.calls.processor y ≡ deeds_of t.was.calls.processor x → (k : ℕ) → k < length t.cpus → line_in k y ≡ line_in k x
-    line_between x y low_x high_x low_y high_y made own same k lt =
-        lines_are (length t.cpus) t.p t.met.deeds made y (moment y low_y (begins_on high_y seen_by_all) made (same ∙ own)) k lt
-        ∙ sym (lines_are (length t.cpus) t.p t.met.deeds made x (moment x low_x (begins_on high_x seen_by_all) made own) k lt)
-
-    -- one list is another, and no other one
-    pub on_list : a.list ≡ Some t.p → (becomes : Line (Unit {0}) → Line (Unit {0}) → Type 0) → (is : Line (Unit {0})) → line_in t.p deeds_after ≡ is → becomes (line_in t.p t.met.deeds) is → OnList t.p becomes t.s s'
-    on_list mine becomes is found so = record {
-      was = line_in t.p t.met.deeds;
-      is = is;
-      there = line_found t.p t.inside;
-      becomes_so = so;
-      rest = all_lines ∙ (one_count no_calls line_in t.d t.d' t.met.deeds deeds_after t.cpus t.cpus' t.met.tally_together all_tally (count ∙ long) t.p is (λ there. found) (λ k lt other. line_else k lt (λ same. other (same_some k (sym (sym mine ∙ same))))) ∙ ap (λ l. set l t.p is) (sym old_lines));
-    }
-      where
-        same_some : (k : ℕ) → Some k ≡ Some t.p → k ≡ t.p
-        same_some k e = cc
-
-    module _ (quiet : a.list ≡ None) where
-      lines_stay : lines_on t.cpus' ≡ lines_on t.cpus
-      lines_stay = same_counts no_calls line_in t.d t.d' t.met.deeds deeds_after t.cpus t.cpus' t.met.tally_together all_tally (count ∙ long) (λ k lt. line_else k lt (λ some. nothing k (sym quiet ∙ some)))
+      -- a moment of the call, at which these were done
+      moment : (x : List (Deed J)) → tallies.IsBeginning t.was.calls.seen x → tallies.IsBeginning x deeds_after → (made : List (Deed J)) → deeds_of t.was.calls.processor x ≡ deeds_of t.was.calls.processor t.was.calls.seen ++ made → GoesOnBy (length t.cpus) t.p t.met.deeds made x
+      moment x low high made own = at_moment (length t.cpus) t.p t.met.deeds acts.deeds deeds_after on x (subst (λ l. tallies.IsBeginning l x) seen_is low) high made (subst (λ (s : CallSeatView J). deeds_of s.processor x ≡ deeds_of s.processor s.seen ++ made) deeds_were own)
         where
-          nothing : (k : ℕ) → None ≡ Some k → ⊥
-          nothing k e = cc
+          seen_is : t.was.calls.seen ≡ t.met.deeds
+          seen_is = ap (λ (s : CallSeatView J). s.seen) deeds_were
 
-      pub line_quiet : (k : ℕ) → k < length t.cpus → line_in k deeds_after ≡ line_in k t.met.deeds
-      line_quiet k lt = line_else k lt (λ some. nothing_some k (sym quiet ∙ some))
+      -- what a processor has seen of each list, all have
+      pub line_now : (k : ℕ) → k < length t.cpus → line_in k deeds_after ≡ line_in k t.now.calls.seen
+      line_now k lt = lines_are (length t.cpus) t.p t.met.deeds acts.deeds deeds_after on k lt ∙ sym (lines_are (length t.cpus) t.p t.met.deeds acts.deeds t.now.calls.seen (moment t.now.calls.seen acts.adds.since seen_by_all acts.deeds acts.adds.own) k lt)
+
+      -- at a moment of the call at which it had done nothing yet, a list was as before
+      pub line_before : (x : List (Deed J)) → tallies.IsBeginning t.was.calls.seen x → tallies.IsBeginning x t.now.calls.seen → deeds_of t.was.calls.processor x ≡ deeds_of t.was.calls.processor t.was.calls.seen → (k : ℕ) → k < length t.cpus → line_in k x ≡ line_in k t.met.deeds
+      line_before x low high own k lt = lines_are (length t.cpus) t.p t.met.deeds [] x (moment x low (begins_on high seen_by_all) [] (own ∙ sym (append-nil (deeds_of t.was.calls.processor t.was.calls.seen)))) k lt
+
+      -- and at one behind which it did nothing more, it is as behind
+      pub line_behind : (x : List (Deed J)) → tallies.IsBeginning t.was.calls.seen x → tallies.IsBeginning x t.now.calls.seen → deeds_of t.was.calls.processor t.now.calls.seen ≡ deeds_of t.was.calls.processor x → (k : ℕ) → k < length t.cpus → line_in k deeds_after ≡ line_in k x
+      line_behind x low high own k lt =
+          lines_are (length t.cpus) t.p t.met.deeds acts.deeds deeds_after on k lt
+          ∙ sym (lines_are (length t.cpus) t.p t.met.deeds acts.deeds x (moment x low (begins_on high seen_by_all) acts.deeds (sym own ∙ acts.adds.own)) k lt)
+
+      -- one list is another, and no other one
+      pub on_list : a.list ≡ Some t.p → (becomes : Line J → Line J → Type 0) → (is : Line J) → line_in t.p deeds_after ≡ is → becomes (line_in t.p t.met.deeds) is → OnList t.p becomes t.s.lines s'.lines
+      on_list mine becomes is found so = record {
+        was = line_in t.p t.met.deeds;
+        is = is;
+        there = line_found t.p t.inside;
+        becomes_so = so;
+        rest = all_lines ∙ (one_count no_calls line_in t.d t.d' t.met.deeds deeds_after t.cpus t.cpus' t.met.tally_together all_tally (count ∙ long) t.p is (λ there. found) (λ k lt other. line_else k lt (λ same. other (same_some k (sym (sym mine ∙ same))))) ∙ ap (λ l. set l t.p is) (sym old_lines));
+      }
         where
-          nothing_some : (k : ℕ) → None ≡ Some k → ⊥
-          nothing_some k e = cc
+          same_some : (k : ℕ) → Some k ≡ Some t.p → k ≡ t.p
+          same_some k e = cc
 
-      pub same_lines : s'.lines ≡ t.s.lines
-      same_lines = all_lines ∙ (lines_stay ∙ sym old_lines)
+      module _ (quiet : a.list ≡ None) where
+        lines_stay : lines_on t.cpus' ≡ lines_on t.cpus
+        lines_stay = same_counts no_calls line_in t.d t.d' t.met.deeds deeds_after t.cpus t.cpus' t.met.tally_together all_tally (count ∙ long) (λ k lt. line_else k lt (λ some. nothing k (sym quiet ∙ some)))
+          where
+            nothing : (k : ℕ) → None ≡ Some k → ⊥
+            nothing k e = cc
 
-      pub same_domain : IsSameDomain t.s s'
-      same_domain = (same_tables, same_lines)
+        pub line_quiet : (k : ℕ) → k < length t.cpus → line_in k deeds_after ≡ line_in k t.met.deeds
+        line_quiet k lt = line_else k lt (λ some. nothing_some k (sym quiet ∙ some))
+          where
+            nothing_some : (k : ℕ) → None ≡ Some k → ⊥
+            nothing_some k e = cc
 
-      pub come_quietly : s' ≡ record t.s { course = after t.p a t.s.course }
-      come_quietly = come ∙ ap (λ l. record t.s { course = after t.p a t.s.course; lines = l }) (lines_stay ∙ sym old_lines)
+        pub same_lines : s'.lines ≡ t.s.lines
+        same_lines = all_lines ∙ (lines_stay ∙ sym old_lines)
 
-    -- What the call found
+        pub same_domain : IsSameDomain t.s s'
+        same_domain = (same_tables, same_lines)
 
-    pub changes_are : t.now.cpu.changes ≡ t.s.course.standing.changes
-    changes_are = all_changes ∙ sym (ap (λ (x : SoloView). x.course.standing.changes) view_is)
+        pub come_quietly : s' ≡ record t.s { course = after t.p a t.s.course }
+        come_quietly = come ∙ ap (λ l. record t.s { course = after t.p a t.s.course; lines = l }) (lines_stay ∙ sym old_lines)
 
-    -- the processor has then seen the whole history
-    pub seen_now : t.now.cpu.seen ≡ s'.course.standing.history
-    seen_now =
-        let alone : t.v.seat.seen ++ (acts.events.others ++ a.events) ≡ t.meets.left.seat.seen = ap (λ l. t.v.seat.seen ++ (l ++ a.events)) acted.alone ∙ sym acted.seen in
-        let low = subst (λ (x : CpuView (Unit {0})). IsBeginning t.meets.left.seat.seen x.cpu.seen) (here t.was) (subst (λ l. IsBeginning l (get_or acted_cpus t.p t.was).cpu.seen) alone seen_here) in
-        let high = subst (λ (x : CpuView (Unit {0})). IsBeginning x.cpu.seen t.meets.left.seat.seen) (here t.was) (engine_meets.each t.p t.was within).since in
-        let history = ap (λ (x : SoloView). x.course.standing.history) come ∙ ap (λ (x : SoloView). with_events a.events x.course.standing.history) view_is in
-        same_beginning t.now.cpu.seen t.meets.left.seat.seen high low ∙ (acted.seen ∙ (with_events_is a.events t.v.seat.seen ∙ sym history))
+      -- What the call found
 
-    -- a load of the root found just what had been asked for
-    pub root_is : (found : ℕ) → LoadsRoot t.was.needs found t.now.needs → found ≡ t.s.course.asked
-    root_is found h =
-        let none : acts.raised ≡ [] = append_cancel_left t.was.needs.mine acts.raised [] (sym acts.needs.mine ∙ (h.mine ∙ sym (append-nil t.was.needs.mine))) in
-        let seen : t.was.needs.seen ≡ t.met.raises = ap (λ (z : CpuView (Unit {0})). z.needs.seen) t.is ∙ t.met.ask_together.seen t.p t.was t.inside in
-        let into : IsBeginningAtTree t.now.needs.seen t.meets.needs.raises = subst (λ (z : CpuView (Unit {0})). IsBeginningAtTree z.needs.seen t.meets.needs.raises) (here t.was) (t.meets.needs.each t.p t.was within).since in
-        let same : t.now.needs.seen ≡ t.met.raises = squeezed t.met.raises t.now.needs.seen t.meets.needs.raises (subst (λ l. IsBeginningAtTree l t.now.needs.seen) seen h.since) into (raises_are ∙ (ap (λ l. t.met.raises ++ l) none ∙ append-nil t.met.raises)) in
-        h.current ∙ (ap (value 0) same ∙ (t.met.ask_together.root ∙ sym (ap (λ (x : SoloView). x.course.asked) view_is)))
+      pub changes_are : t.now.cpu.changes ≡ t.s.course.standing.changes
+      changes_are = all_changes ∙ sym (ap (λ (x : SoloView J). x.course.standing.changes) view_is)
 
-    pub queued_now : (k : ℕ) → k < length t.cpus → queued_in k deeds_after ≡ get_or (more_at t.p a.queued t.s.course.queued) k 0
-    queued_now k lt = sym (count_at 0 queued_in t.d' deeds_after t.cpus' all_tally k (omega (arith, count, length-set t.cpus t.p t.now, lt))) ∙ (ap (λ l. get_or l k 0) queued_after ∙ sym (ap (λ (x : SoloView). get_or (more_at t.p a.queued x.course.queued) k 0) view_is))
+      -- the processor has then seen the whole history
+      pub seen_now : t.now.cpu.seen ≡ s'.course.standing.history
+      seen_now =
+          let alone : t.v.seat.seen ++ (acts.events.others ++ a.events) ≡ t.meets.left.seat.seen = ap (λ l. t.v.seat.seen ++ (l ++ a.events)) acted.alone ∙ sym acted.seen in
+          let low = subst (λ (x : CpuView J). IsBeginning t.meets.left.seat.seen x.cpu.seen) (here t.was) (subst (λ l. IsBeginning l (get_or acted_cpus t.p t.was).cpu.seen) alone seen_here) in
+          let high = subst (λ (x : CpuView J). IsBeginning x.cpu.seen t.meets.left.seat.seen) (here t.was) (engine_meets.each t.p t.was within).since in
+          let history = ap (λ (x : SoloView J). x.course.standing.history) come ∙ ap (λ (x : SoloView J). with_events a.events x.course.standing.history) view_is in
+          same_beginning t.now.cpu.seen t.meets.left.seat.seen high low ∙ (acted.seen ∙ (with_events_is a.events t.v.seat.seen ∙ sym history))
 
-    pub finished_now : (k : ℕ) → k < length t.cpus → finished_in k deeds_after ≡ get_or (more_at a.owner a.finished t.s.course.finished) k 0
-    finished_now k lt = sym (count_at 0 finished_in t.d' deeds_after t.cpus' all_tally k (omega (arith, count, length-set t.cpus t.p t.now, lt))) ∙ (ap (λ l. get_or l k 0) finished_after ∙ sym (ap (λ (x : SoloView). get_or (more_at a.owner a.finished x.course.finished) k 0) view_is))
+      -- a load of the root found just what had been asked for
+      pub root_is : (found : ℕ) → LoadsRoot t.was.needs found t.now.needs → found ≡ t.s.course.asked
+      root_is found h =
+          let none : acts.raised ≡ [] = append_cancel_left t.was.needs.mine acts.raised [] (sym acts.needs.mine ∙ (h.mine ∙ sym (append-nil t.was.needs.mine))) in
+          let seen : t.was.needs.seen ≡ t.met.raises = ap (λ (z : CpuView J). z.needs.seen) t.is ∙ t.met.ask_together.seen t.p t.was t.inside in
+          let into : IsBeginningAtTree t.now.needs.seen t.meets.needs.raises = subst (λ (z : CpuView J). IsBeginningAtTree z.needs.seen t.meets.needs.raises) (here t.was) (t.meets.needs.each t.p t.was within).since in
+          let same : t.now.needs.seen ≡ t.met.raises = squeezed t.met.raises t.now.needs.seen t.meets.needs.raises (subst (λ l. IsBeginningAtTree l t.now.needs.seen) seen h.since) into (raises_are ∙ (ap (λ l. t.met.raises ++ l) none ∙ append-nil t.met.raises)) in
+          h.current ∙ (ap (value 0) same ∙ (t.met.ask_together.root ∙ sym (ap (λ (x : SoloView J). x.course.asked) view_is)))
+
+      pub queued_now : (k : ℕ) → k < length t.cpus → queued_in k deeds_after ≡ get_or (more_at t.p a.queued t.s.course.queued) k 0
+      queued_now k lt = sym (count_at 0 queued_in t.d' deeds_after t.cpus' all_tally k (omega (arith, count, length-set t.cpus t.p t.now, lt))) ∙ (ap (λ l. get_or l k 0) queued_after ∙ sym (ap (λ (x : SoloView J). get_or (more_at t.p a.queued x.course.queued) k 0) view_is))
+
+      pub finished_now : (k : ℕ) → k < length t.cpus → finished_in k deeds_after ≡ get_or (more_at a.owner a.finished t.s.course.finished) k 0
+      finished_now k lt = sym (count_at 0 finished_in t.d' deeds_after t.cpus' all_tally k (omega (arith, count, length-set t.cpus t.p t.now, lt))) ∙ (ap (λ l. get_or l k 0) finished_after ∙ sym (ap (λ (x : SoloView J). get_or (more_at a.owner a.finished x.course.finished) k 0) view_is))

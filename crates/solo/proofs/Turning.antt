@@ -99,101 +99,102 @@ module _ (t u : BaySeatView Engine) (lay found left : Engine) (all : List (Swap 
         alone.others n inside elsewhere ∙ sym (between n inside elsewhere);
   }
 
--- a meeting, behind an act of one of those in hand: of the turns it may have changed the first one's alone
-module _ (swaps : List (Swap Engine)) (cpus acted : List (CpuView (Unit {0}))) (v : Engine) (before : TurnTogether swaps cpus v) (some : 0 < length cpus) (count : length acted ≡ length cpus)
-    (others : (k : ℕ) (d : CpuView (Unit {0})) → 0 < k → k < length cpus → (get_or acted k d).turn ≡ (get_or cpus k d).turn)
-    (cpus' : List (CpuView (Unit {0}))) (found left : Engine) (meets : TurnsMeet acted found left cpus') (count' : length cpus' ≡ length acted) (nobody : CpuView (Unit {0})) where
-  abbrev first : BaySeatView Engine
-  first = (get_or cpus 0 nobody).turn
+module _ {J : Type 0} where
+  -- a meeting, behind an act of one of those in hand: of the turns it may have changed the first one's alone
+  module _ (swaps : List (Swap Engine)) (cpus acted : List (CpuView J)) (v : Engine) (before : TurnTogether swaps cpus v) (some : 0 < length cpus) (count : length acted ≡ length cpus)
+      (others : (k : ℕ) (d : CpuView J) → 0 < k → k < length cpus → (get_or acted k d).turn ≡ (get_or cpus k d).turn)
+      (cpus' : List (CpuView J)) (found left : Engine) (meets : TurnsMeet acted found left cpus') (count' : length cpus' ≡ length acted) (nobody : CpuView J) where
+    abbrev first : BaySeatView Engine
+    first = (get_or cpus 0 nobody).turn
 
-  abbrev last : BaySeatView Engine
-  last = (get_or cpus' 0 nobody).turn
+    abbrev last : BaySeatView Engine
+    last = (get_or cpus' 0 nobody).turn
 
-  last_seen : last.seen ≡ meets.swaps
-  last_seen = meets.seen 0 nobody (omega (arith, some, count))
+    last_seen : last.seen ≡ meets.swaps
+    last_seen = meets.seen 0 nobody (omega (arith, some, count))
 
-  accepts : (k : ℕ) (d : CpuView (Unit {0})) → 0 < k → k < length cpus → Accepts (get_or cpus k d).turn meets.swaps (get_or cpus' k d).turn
-  accepts k d positive lt = subst (λ (z : BaySeatView Engine). Accepts z meets.swaps (get_or cpus' k d).turn) (others k d positive lt) (meets.others k d positive (omega (arith, lt, count)))
+    accepts : (k : ℕ) (d : CpuView J) → 0 < k → k < length cpus → Accepts (get_or cpus k d).turn meets.swaps (get_or cpus' k d).turn
+    accepts k d positive lt = subst (λ (z : BaySeatView Engine). Accepts z meets.swaps (get_or cpus' k d).turn) (others k d positive lt) (meets.others k d positive (omega (arith, lt, count)))
 
-  first_alone : IsAlone first v meets.swaps
-  first_alone = record {
-    legal = before.history nobody;
-    lying = before.lying nobody;
-    others = λ n there other.
-        let number = before.number 0 nobody some in
-        let seats = before.seats 0 nobody some in
-        by_number n (omega (arith, there, seats)) (λ e. other (e ∙ sym number));
-  }
-    where
-      by_number : (n : ℕ) → n < length cpus → n ≢ 0 → swaps_of n meets.swaps ≡ swaps_of n first.seen
-      by_number n there other =
-          let positive : 0 < n = omega (arith, other) in
-          let is : (get_or cpus n nobody).turn.number ≡ n = before.number n nobody there in
-          let own : swaps_of n meets.swaps ≡ swaps_of n (get_or cpus n nobody).turn.seen = ap (λ m. swaps_of m meets.swaps) (sym is) ∙ ((accepts n nobody positive there).own ∙ ap (λ m. swaps_of m (get_or cpus n nobody).turn.seen) is) in
-          let seen : (get_or cpus n nobody).turn.seen ≡ first.seen = before.seen n nobody there ∙ sym (before.seen 0 nobody some) in
-          own ∙ ap (swaps_of n) seen
-
-  module _ (same : last ≡ record first { seen = last.seen }) (legal : HasSeenLegal last) (lying : lies last ≡ Some left) where
-    turned : TurnTogether meets.swaps cpus' left
-    turned = record {
-      number = λ k d lt. number_of k d (omega (arith, lt, count, count'));
-      seats = λ k d lt. seats_of k d (omega (arith, lt, count, count')) ∙ sym (count' ∙ count);
-      seen = λ k d lt. meets.seen k d (omega (arith, lt, count'));
-      lying = λ d. ap (λ (z : CpuView (Unit {0})). lies z.turn) (first_of d) ∙ lying;
-      history = λ d. subst (λ (z : CpuView (Unit {0})). HasSeenLegal z.turn) (sym (first_of d)) legal;
+    first_alone : IsAlone first v meets.swaps
+    first_alone = record {
+      legal = before.history nobody;
+      lying = before.lying nobody;
+      others = λ n there other.
+          let number = before.number 0 nobody some in
+          let seats = before.seats 0 nobody some in
+          by_number n (omega (arith, there, seats)) (λ e. other (e ∙ sym number));
     }
       where
-        inside : 0 < length cpus'
-        inside = omega (arith, some, count, count')
+        by_number : (n : ℕ) → n < length cpus → n ≢ 0 → swaps_of n meets.swaps ≡ swaps_of n first.seen
+        by_number n there other =
+            let positive : 0 < n = omega (arith, other) in
+            let is : (get_or cpus n nobody).turn.number ≡ n = before.number n nobody there in
+            let own : swaps_of n meets.swaps ≡ swaps_of n (get_or cpus n nobody).turn.seen = ap (λ m. swaps_of m meets.swaps) (sym is) ∙ ((accepts n nobody positive there).own ∙ ap (λ m. swaps_of m (get_or cpus n nobody).turn.seen) is) in
+            let seen : (get_or cpus n nobody).turn.seen ≡ first.seen = before.seen n nobody there ∙ sym (before.seen 0 nobody some) in
+            own ∙ ap (swaps_of n) seen
 
-        first_of : (d : CpuView (Unit {0})) → get_or cpus' 0 d ≡ get_or cpus' 0 nobody
-        first_of d = get_or_default cpus' 0 d nobody inside
+    module _ (same : last ≡ record first { seen = last.seen }) (legal : HasSeenLegal last) (lying : lies last ≡ Some left) where
+      turned : TurnTogether meets.swaps cpus' left
+      turned = record {
+        number = λ k d lt. number_of k d (omega (arith, lt, count, count'));
+        seats = λ k d lt. seats_of k d (omega (arith, lt, count, count')) ∙ sym (count' ∙ count);
+        seen = λ k d lt. meets.seen k d (omega (arith, lt, count'));
+        lying = λ d. ap (λ (z : CpuView J). lies z.turn) (first_of d) ∙ lying;
+        history = λ d. subst (λ (z : CpuView J). HasSeenLegal z.turn) (sym (first_of d)) legal;
+      }
+        where
+          inside : 0 < length cpus'
+          inside = omega (arith, some, count, count')
 
-        number_of : (k : ℕ) (d : CpuView (Unit {0})) → k < length cpus → (get_or cpus' k d).turn.number ≡ k
-        number_of zero d lt = ap (λ (z : CpuView (Unit {0})). z.turn.number) (first_of d) ∙ (ap (λ (z : BaySeatView Engine). z.number) same ∙ before.number 0 nobody some)
-        number_of (suc k) d lt = ap (λ (z : BaySeatView Engine). z.number) (accepts (suc k) d (omega arith) lt).is ∙ before.number (suc k) d lt
+          first_of : (d : CpuView J) → get_or cpus' 0 d ≡ get_or cpus' 0 nobody
+          first_of d = get_or_default cpus' 0 d nobody inside
 
-        seats_of : (k : ℕ) (d : CpuView (Unit {0})) → k < length cpus → (get_or cpus' k d).turn.seats ≡ length cpus
-        seats_of zero d lt = ap (λ (z : CpuView (Unit {0})). z.turn.seats) (first_of d) ∙ (ap (λ (z : BaySeatView Engine). z.seats) same ∙ before.seats 0 nobody some)
-        seats_of (suc k) d lt = ap (λ (z : BaySeatView Engine). z.seats) (accepts (suc k) d (omega arith) lt).is ∙ before.seats (suc k) d lt
+          number_of : (k : ℕ) (d : CpuView J) → k < length cpus → (get_or cpus' k d).turn.number ≡ k
+          number_of zero d lt = ap (λ (z : CpuView J). z.turn.number) (first_of d) ∙ (ap (λ (z : BaySeatView Engine). z.number) same ∙ before.number 0 nobody some)
+          number_of (suc k) d lt = ap (λ (z : BaySeatView Engine). z.number) (accepts (suc k) d (omega arith) lt).is ∙ before.number (suc k) d lt
 
-  -- the act was no turn: the engine that lay there was found
-  module _ (unmoved : (get_or acted 0 nobody).turn ≡ first) where
-    meeting : TakesTurn first found left last
-    meeting = subst (λ (z : BaySeatView Engine). TakesTurn z found left last) unmoved (meets.first nobody)
+          seats_of : (k : ℕ) (d : CpuView J) → k < length cpus → (get_or cpus' k d).turn.seats ≡ length cpus
+          seats_of zero d lt = ap (λ (z : CpuView J). z.turn.seats) (first_of d) ∙ (ap (λ (z : BaySeatView Engine). z.seats) same ∙ before.seats 0 nobody some)
+          seats_of (suc k) d lt = ap (λ (z : BaySeatView Engine). z.seats) (accepts (suc k) d (omega arith) lt).is ∙ before.seats (suc k) d lt
 
-    pub idle_found : found ≡ v
-    idle_found = found_is first last v found left meets.swaps meeting (is_seen last.seen meets.swaps last_seen) first_alone
+    -- the act was no turn: the engine that lay there was found
+    module _ (unmoved : (get_or acted 0 nobody).turn ≡ first) where
+      meeting : TakesTurn first found left last
+      meeting = subst (λ (z : BaySeatView Engine). TakesTurn z found left last) unmoved (meets.first nobody)
 
-    pub idle_turned : TurnTogether meets.swaps cpus' left
-    idle_turned =
-        let alone = still_alone first last v found left meets.swaps meeting (is_seen last.seen meets.swaps last_seen) first_alone in
-        turned (same_seat first last v found left meets.swaps meeting (is_seen last.seen meets.swaps last_seen) first_alone) alone.legal alone.lying
+      pub idle_found : found ≡ v
+      idle_found = found_is first last v found left meets.swaps meeting (is_seen last.seen meets.swaps last_seen) first_alone
 
-  -- the act was a turn of the first one: it found the engine that lay there, and the meeting found what it had left
-  module _ (took put : Engine) (turn : TakesTurn first took put (get_or acted 0 nobody).turn) where
-    abbrev middle : BaySeatView Engine
-    middle = (get_or acted 0 nobody).turn
+      pub idle_turned : TurnTogether meets.swaps cpus' left
+      idle_turned =
+          let alone = still_alone first last v found left meets.swaps meeting (is_seen last.seen meets.swaps last_seen) first_alone in
+          turned (same_seat first last v found left meets.swaps meeting (is_seen last.seen meets.swaps last_seen) first_alone) alone.legal alone.lying
 
-    meeting_behind : TakesTurn middle found left last
-    meeting_behind = meets.first nobody
+    -- the act was a turn of the first one: it found the engine that lay there, and the meeting found what it had left
+    module _ (took put : Engine) (turn : TakesTurn first took put (get_or acted 0 nobody).turn) where
+      abbrev middle : BaySeatView Engine
+      middle = (get_or acted 0 nobody).turn
 
-    on : IsBeginning last.seen meets.swaps
-    on = is_seen last.seen meets.swaps last_seen
+      meeting_behind : TakesTurn middle found left last
+      meeting_behind = meets.first nobody
 
-    middle_on : IsBeginning middle.seen meets.swaps
-    middle_on = goes_further middle.seen last.seen meets.swaps (turn_since middle last found left meeting_behind) on
+      on : IsBeginning last.seen meets.swaps
+      on = is_seen last.seen meets.swaps last_seen
 
-    pub turn_found : took ≡ v
-    turn_found = found_is first middle v took put meets.swaps turn middle_on first_alone
+      middle_on : IsBeginning middle.seen meets.swaps
+      middle_on = goes_further middle.seen last.seen meets.swaps (turn_since middle last found left meeting_behind) on
 
-    middle_alone : IsAlone middle put meets.swaps
-    middle_alone = still_alone first middle v took put meets.swaps turn middle_on first_alone
+      pub turn_found : took ≡ v
+      turn_found = found_is first middle v took put meets.swaps turn middle_on first_alone
 
-    pub meeting_found : found ≡ put
-    meeting_found = found_is middle last put found left meets.swaps meeting_behind on middle_alone
+      middle_alone : IsAlone middle put meets.swaps
+      middle_alone = still_alone first middle v took put meets.swaps turn middle_on first_alone
 
-    pub turn_turned : TurnTogether meets.swaps cpus' left
-    turn_turned =
-        let alone = still_alone middle last put found left meets.swaps meeting_behind on middle_alone in
-        turned (same_seat middle last put found left meets.swaps meeting_behind on middle_alone ∙ ap (λ (z : BaySeatView Engine). record z { seen = last.seen }) (same_seat first middle v took put meets.swaps turn middle_on first_alone)) alone.legal alone.lying
+      pub meeting_found : found ≡ put
+      meeting_found = found_is middle last put found left meets.swaps meeting_behind on middle_alone
+
+      pub turn_turned : TurnTogether meets.swaps cpus' left
+      turn_turned =
+          let alone = still_alone middle last put found left meets.swaps meeting_behind on middle_alone in
+          turned (same_seat middle last put found left meets.swaps meeting_behind on middle_alone ∙ ap (λ (z : BaySeatView Engine). record z { seen = last.seen }) (same_seat first middle v took put meets.swaps turn middle_on first_alone)) alone.legal alone.lying

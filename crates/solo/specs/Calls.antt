@@ -13,6 +13,8 @@ use Rattle.segs.specs.MarkedList.{Done, marked, lens, numbers}
 use Rattle.calls.specs.declared.entry.Entry.{Entry}
 use Rattle.calls.specs.declared.refusals.CallRefusal.{CallRefusal}
 use Rattle.calls.specs.declared.refusals.CallRefusal.TheVariants as calling
+use Rattle.calls.specs.declared.refusals.TakeRefusal.{TakeRefusal}
+use Rattle.calls.specs.declared.refusals.TakeRefusal.TheVariants as taking
 use Rattle.calls.specs.Lines.{Line, no_calls, some_out, with_call, with_none_out, readied, many_ready}
 use Rattle.calls.specs.Tallies.{most_calls}
 use Rattle.calls.specs.Views.{BatchView}
@@ -22,34 +24,34 @@ use Rattle.scan.specs.declared.progress.StartRefusal.TheVariants as refusal
 use Rattle.scan.specs.Standings as engine
 use Rattle.scan.specs.Standings.{Standing, index_now, number_now, number_at_rest, IsOutOfPeriods}
 use Rattle.solo.specs.declared.queued.Queued.{Queued}
-use Rattle.solo.specs.declared.taking.Ran.{Ran}
 use Rattle.domain.specs.Acting.{begins, ends, notes, asks_whether, asks_for, finishes}
-use Rattle.solo.specs.Courses.{Course, Does, Works, runs}
-use Rattle.solo.specs.Batches.{AreReady, WereReady, IsLastCookie, count_run}
+use Rattle.solo.specs.Courses.{Course, Does, Works}
+use Rattle.solo.specs.Batches.{AreReady}
 
 -- `table` tells which looks and readings are of this domain, and `tallies` which batches; `course` is how far it has come. `lines` is the list of each processor in order: the jobs that wait there, with their marks, and how many are out
-pub record SoloView : Type 0 where
+pub record SoloView (J : Type 0) : Type 0 where
   pub table : TableId
   pub limits : Limits
   pub tallies : TableId
   pub course : Course
-  pub lines : List (Line (Unit {0}))
+  pub lines : List (Line J)
 
--- the same domain, with the same limits and processors, which may have gone on
-abbrev pub HasSameTables : SoloView → SoloView → Type 0
-HasSameTables d d' = (d'.table ≡ d.table) × (d'.limits ≡ d.limits) × (d'.course.standing.processors ≡ d.course.standing.processors) × (d'.course.standing.periods ≡ d.course.standing.periods) × (d'.tallies ≡ d.tallies)
+module _ {J : Type 0} where
+  -- the same domain, with the same limits and processors, which may have gone on
+  abbrev pub HasSameTables : SoloView J → SoloView J → Type 0
+  HasSameTables d d' = (d'.table ≡ d.table) × (d'.limits ≡ d.limits) × (d'.course.standing.processors ≡ d.course.standing.processors) × (d'.course.standing.periods ≡ d.course.standing.periods) × (d'.tallies ≡ d.tallies)
 
--- and its lists are as they were
-abbrev pub IsSameDomain : SoloView → SoloView → Type 0
-IsSameDomain d d' = HasSameTables d d' × (d'.lines ≡ d.lines)
+  -- and its lists are as they were
+  abbrev pub IsSameDomain : SoloView J → SoloView J → Type 0
+  IsSameDomain d d' = HasSameTables d d' × (d'.lines ≡ d.lines)
 
--- the list of this processor becomes so, and every other one is as it was
-pub record OnList (p : ℕ) (becomes : Line (Unit {0}) → Line (Unit {0}) → Type 0) (d d' : SoloView) : Type 0 where
-  pub was : Line (Unit {0})
-  pub is : Line (Unit {0})
-  pub there : slice_get d.lines p ≡ Some was
-  pub becomes_so : becomes was is
-  pub rest : d'.lines ≡ slice_set d.lines p is
+  -- of these lists the one of this processor becomes so, and every other one is as it was
+  pub record OnList (p : ℕ) (becomes : Line J → Line J → Type 0) (lines lines' : List (Line J)) : Type 0 where
+    pub was : Line J
+    pub is : Line J
+    pub there : slice_get lines p ≡ Some was
+    pub becomes_so : becomes was is
+    pub rest : lines' ≡ slice_set lines p is
 
 -- Making
 
@@ -60,7 +62,7 @@ new_standing limits processors = record { processors = processors; periods = lim
 abbrev pub new_course : Limits → ℕ → Course
 new_course limits processors = record { standing = new_standing limits processors; asked = 0; queued = replicate processors 0; finished = replicate processors 0 }
 
-pub record IsNew (limits : Limits) (processors : ℕ) (d : SoloView) : Type 0 where
+pub record IsNew {J : Type 0} (limits : Limits) (processors : ℕ) (d : SoloView J) : Type 0 where
   pub limits_are : d.limits ≡ limits
   pub nothing_yet : d.course ≡ new_course limits processors
   pub none_waits : d.lines ≡ replicate processors no_calls
@@ -74,7 +76,7 @@ IsNotMade processors make.Memory = IsCount processors
 -- What is given out
 
 -- a look of this domain, which has the index that now is
-pub record IsLookNow (d : SoloView) (look : LookView) : Type 0 where
+pub record IsLookNow {J : Type 0} (d : SoloView J) (look : LookView) : Type 0 where
   pub table : look.domain ≡ d.table
   pub index : look.index ≡ index_now d.course.standing
 
@@ -130,10 +132,6 @@ pub record Queues (p : ℕ) (job : Queued) (c c' : Course) : Type 0 where
   pub number : slice_get c.queued p ≡ Some job.k
   pub queues : Does p (asks_for job.cookie 1) c c'
 
--- a job with a cookie of this number comes last
-abbrev pub QueuesLast : ℕ → Line (Unit {0}) → Line (Unit {0}) → Type 0
-QueuesLast cookie was is = (e : Entry (Unit {0})) × (e.cookie.number ≡ cookie) × (is ≡ with_call e was)
-
 -- why: as many were queued there as may be; or the processor was given a cookie, and nothing else happened
 abbrev pub QueuesNone : ℕ → CallRefusal → Course → Course → Type 0
 QueuesNone p calling.Exhausted c c' = (slice_get c.queued p ≡ Some most_calls) × (c' ≡ c)
@@ -143,64 +141,74 @@ QueuesNone p calling.Memory c c' = (cookie : ℕ) × GivesCookie p cookie c c'
 abbrev pub AreOut : ℕ → ℕ → Course → Type 0
 AreOut p count c = slice_index c.finished p + count ≤ slice_index c.queued p
 
--- the batch is of this domain, and of this processor
-pub record IsBatchOf {J : Type 0} (d : SoloView) (p : ℕ) (b : BatchView J) : Type 0 where
-  pub tallies : b.tallies ≡ d.tallies
-  pub processor : b.processor ≡ p
-  pub there : p < d.course.standing.processors
-
--- a batch of the processor, whose jobs were ready when it asked, and were queued and not finished
-pub record IsGiven (p max : ℕ) (d d' : SoloView) (b : BatchView (Unit {0})) : Type 0 where
-  pub is_of : IsBatchOf d p b
-  pub counted : b.count ≡ length b.entries
-  pub ready : AreReady max (4 * ended_in d.course.standing.history) d'.course.standing.history b.entries
-  pub out : AreOut p b.count d.course
-
--- the jobs that are taken: those of the batch, or none
-abbrev pub jobs_taken : Option (BatchView (Unit {0})) → List (Entry (Unit {0}))
-jobs_taken None = []
-jobs_taken (Some b) = b.entries
-
--- no batch was out. The first that are ready where this is the number go out, `max` of them, but no more than eight and no more than there are; the others wait on, with their marks
-pub record GivesFirst (number max : ℕ) (gone : List (Entry (Unit {0}))) (was is : Line (Unit {0})) : Type 0 where
-  pub none_out : was.out ≡ None
-  pub many : length gone ≡ many_ready max (readied number was.waiting)
-  pub in_order : readied number was.waiting ≡ marked Done gone ++ is.waiting
-
--- the processor asks how far the grace periods have come and is told, and the jobs that are ready then are taken, or none where none is
-pub record Takes (p max : ℕ) (taken : Option (BatchView (Unit {0}))) (d d' : SoloView) : Type 0 where
-  pub asks : Asks p (4 * ended_in d.course.standing.history) true d.course d'.course
-  pub batch : IfSome taken (IsGiven p max d d')
-  pub list : OnList p (λ was is. GivesFirst (number_now d.course.standing) max (jobs_taken taken) was is × (is.out ≡ some_out (length (jobs_taken taken)))) d d'
-
--- a batch of the processor is out
-abbrev pub HasOut : ℕ → SoloView → Type 0
-HasOut p d = (list : Line (Unit {0})) × (slice_get d.lines p ≡ Some list) × IsSome list.out
-
 -- so many calls of the processor are finished more, those of the batch
 pub record Finishes (p count : ℕ) (c c' : Course) : Type 0 where
   pub n : ℕ
   pub there : slice_get c.finished p ≡ Some n
   pub finishes_are : Does p (finishes p count) c c'
 
--- as where they are only taken, and the jobs are finished too
-pub record Runs (p max : ℕ) (ran : Option Ran) (c c' : Course) : Type 0 where
-  pub n : ℕ
-  pub there : slice_get c.finished p ≡ Some n
-  pub happens : Does p (runs (4 * ended_in c.standing.history) (count_run ran)) c c'
-  pub jobs : IfSome ran (λ r. WereReady max (4 * ended_in c.standing.history) c'.standing.history r × AreOut p r.count c)
+-- Lists and batches
 
--- the jobs that were taken are finished at once. It tells how many these were, and the number of the last one's cookie
-abbrev pub RunsFirst : ℕ → ℕ → Option Ran → Line (Unit {0}) → Line (Unit {0}) → Type 0
-RunsFirst number max ran was is = (gone : List (Entry (Unit {0}))) × GivesFirst number max gone was is × (is.out ≡ None) × (length gone ≡ count_run ran) × IfSome ran (λ r. IsLastCookie r.reached gone)
+module _ {J : Type 0} where
+  -- the job comes last, with a cookie of this number
+  abbrev pub QueuesLast : J → ℕ → Line J → Line J → Type 0
+  QueuesLast job cookie was is = (e : Entry J) × (e.job ≡ job) × (e.cookie.number ≡ cookie) × (is ≡ with_call e was)
 
--- the batch was the one that is out, and none is then
-abbrev pub FinishesOut : ℕ → Line (Unit {0}) → Line (Unit {0}) → Type 0
-FinishesOut count was is = (was.out ≡ Some count) × (is ≡ with_none_out was)
+  -- the batch is of this domain, and of this processor
+  pub record IsBatchOf (d : SoloView J) (p : ℕ) (b : BatchView J) : Type 0 where
+    pub tallies : b.tallies ≡ d.tallies
+    pub processor : b.processor ≡ p
+    pub there : p < d.course.standing.processors
 
--- so long are the segments of the list of this processor, and these are their numbers
-abbrev pub TellsLens : SoloView → ℕ → List ℕ × List ℕ → Type 0
-TellsLens d p told = (list : Line (Unit {0})) × (slice_get d.lines p ≡ Some list) × (told ≡ (lens list.waiting, numbers list.waiting))
+  -- the jobs that are taken: those of the batch, or none
+  abbrev pub entries_taken : Option (BatchView J) → List (Entry J)
+  entries_taken None = []
+  entries_taken (Some b) = b.entries
+
+  -- no batch was out. The first that are ready where this is the number go out, `max` of them, but no more than eight and no more than there are; the others wait on, with their marks
+  pub record GivesFirst (number max : ℕ) (gone : List (Entry J)) (was is : Line J) : Type 0 where
+    pub none_out : was.out ≡ None
+    pub many : length gone ≡ many_ready max (readied number was.waiting)
+    pub in_order : readied number was.waiting ≡ marked Done gone ++ is.waiting
+
+  -- and they are a batch that is out, if there are any
+  pub record PutsOut (number max : ℕ) (gone : List (Entry J)) (was is : Line J) : Type 0 where
+    pub gives : GivesFirst number max gone was is
+    pub out : is.out ≡ some_out (length gone)
+
+  -- a batch of the processor with at least one job, all of which were queued and not finished
+  pub record IsGiven (p : ℕ) (d : SoloView J) (b : BatchView J) : Type 0 where
+    pub is_of : IsBatchOf d p b
+    pub some : 0 < length b.entries
+    pub counted : b.count ≡ length b.entries
+    pub out : AreOut p b.count d.course
+
+  -- the processor asks how far the grace periods have come and is told, and the jobs that are ready then are taken, or none where none is
+  pub record Takes (p max : ℕ) (taken : Option (BatchView J)) (d d' : SoloView J) : Type 0 where
+    pub asks : Asks p (4 * ended_in d.course.standing.history) true d.course d'.course
+    pub ready : AreReady max (4 * ended_in d.course.standing.history) d'.course.standing.history (entries_taken taken)
+    pub batch : IfSome taken (IsGiven p d)
+    pub list : OnList p (PutsOut (number_now d.course.standing) max (entries_taken taken)) d.lines d'.lines
+
+  -- a batch of the processor is out
+  pub record HasOut (p : ℕ) (lines : List (Line J)) : Type 0 where
+    pub list : Line J
+    pub there : slice_get lines p ≡ Some list
+    pub out : IsSome list.out
+
+  -- why nothing is taken: a batch of the processor is out
+  abbrev pub TakesNone : ℕ → TakeRefusal → List (Line J) → Type 0
+  TakesNone p taking.Invoking lines = HasOut p lines
+
+  -- the batch was the one that is out, and none is then
+  abbrev pub FinishesOut : ℕ → Line J → Line J → Type 0
+  FinishesOut count was is = (was.out ≡ Some count) × (is ≡ with_none_out was)
+
+  -- so long are the segments of the list of this processor, and these are their numbers
+  pub record TellsLens (p : ℕ) (lines : List (Line J)) (told : List ℕ × List ℕ) : Type 0 where
+    pub list : Line J
+    pub there : slice_get lines p ≡ Some list
+    pub told_is : told ≡ (lens list.waiting, numbers list.waiting)
 
 -- Grace periods: nobody comes between, and just what was asked for is found
 

@@ -1,9 +1,9 @@
 -- How far a domain in one hand has come, and what an act of one of its processors adds.
-use Rattle.std.specs.Prelude.{◌≡◌, ℕ, zero, suc, ◌+◌, max, Some, true, List, [], ◌∷◌, ◌++◌, slice_index, slice_set}
+use Rattle.std.specs.Prelude.{◌≡◌, ℕ, zero, suc, ◌+◌, max, List, [], ◌∷◌, ◌++◌, slice_index, slice_set}
 use Rattle.onedom.specs.declared.event.Event.{Event}
 use Rattle.onedom.specs.Histories.{IsLegalAfter}
 use Rattle.scan.specs.Standings.{Standing}
-use Rattle.domain.specs.Acting.{Act, asks_whether}
+use Rattle.domain.specs.Acting.{Act}
 
 -- `standing` has its processors, its history, and how far its grace periods have come; `asked` is the greatest number that was asked for, 0 if none; `queued` is how many jobs were ever queued, and `finished` how many of these are finished, for each processor in order
 pub record Course : Type 0 where
@@ -13,10 +13,6 @@ pub record Course : Type 0 where
   pub finished : List ℕ
 
 -- Acts of a processor
-
--- it is told that the cookie of the number `far` is done, and so many of its own jobs are finished
-abbrev pub runs : ℕ → ℕ → ℕ → Act
-runs far count p = record (asks_whether far true p) { finished = count; owner = p; list = Some p }
 
 -- the greatest number that was asked for, with this one
 abbrev pub with_asked : ℕ → ℕ → ℕ

@@ -33,7 +33,8 @@ IsStartedAs (Err start.Busy) told = ⊥
 IsStartedAs (Err start.Running) told = told ≡ Err scan.Running
 IsStartedAs (Err start.Exhausted) told = told ≡ Err scan.Exhausted
 
--- the job's number and that of its cookie, or why it was refused
-abbrev pub IsQueuedAs : {J : Type 0} → Result (ReceiptView (Unit {0})) (J × CallRefusal) → Result Queued CallRefusal → Type 0
-IsQueuedAs (Ok r) told = told ≡ Ok (record { k = r.k; cookie = r.cookie.number })
-IsQueuedAs (Err refused) told = told ≡ Err refused.1
+module _ {J : Type 0} where
+  -- the job's number and that of its cookie; or the job comes back, and why it was refused
+  abbrev pub IsQueuedAs : Result (ReceiptView J) (J × CallRefusal) → Result Queued (J × CallRefusal) → Type 0
+  IsQueuedAs (Ok r) told = told ≡ Ok (record { k = r.k; cookie = r.cookie.number })
+  IsQueuedAs (Err refused) told = told ≡ Err refused

@@ -10,4 +10,3 @@ mod taking;
 pub use domain::{InUse, Totals};
 pub use queued::Queued;
 pub use solo::Solo;
-pub use taking::{Ran, drain};

@@ -7,12 +7,12 @@ use std::sync::Wait;
 
 /// All that can act in a domain: whoever has the processors has the engine too, since it lies where they take it from.
 #[derive(Drop)]
-pub(crate) struct Members<A: Allocator> {
-    pub(crate) domain: Domain<(), A>,
-    pub(crate) cpus: Vec<Cpu<(), A>, A>,
+pub(crate) struct Members<J, A: Allocator> {
+    pub(crate) domain: Domain<J, A>,
+    pub(crate) cpus: Vec<Cpu<J, A>, A>,
 }
 
-impl<A: Allocator> Members<A> {
+impl<J: Drop, A: Allocator> Members<J, A> {
     /// Lets all meet behind an act of one of them. Each knows its own events, raises, turns, and deeds at the tally words,
     /// so what all have then seen is what was before, with the act: nobody else can have come between.
     pub(crate) fn settle(&mut self, rt: &impl Wait)

@@ -1,6 +1,6 @@
 //! What is told of a job that was queued.
 
-/// A job was queued. Who queues it keeps what it is.
+/// A job was queued.
 #[derive(Clone, Copy, Debug, PartialEq, Eq)]
 pub struct Queued {
     /// Its number among all jobs that were ever queued on its processor, from 0.

@@ -33,8 +33,10 @@ pub(crate) fn started(answer: Result<Number, domain::StartRefusal>) -> Result<Nu
     }
 }
 
-/// The answer of a call: nothing else is told of a job, which comes back where it is refused.
-pub(crate) fn queued(answer: Result<Receipt<()>, ((), CallRefusal)>) -> Result<Queued, CallRefusal>
+/// The answer of a call. Nothing else is told of a job that was queued, and one that is refused comes back.
+pub(crate) fn queued<J>(
+    answer: Result<Receipt<J>, (J, CallRefusal)>,
+) -> Result<Queued, (J, CallRefusal)>
     ensures told { IsQueuedAs answer result }
     ensures small { IfOk result (λ job. job.cookie ≤ 2 ^ 61) }
 {
@@ -43,6 +45,6 @@ pub(crate) fn queued(answer: Result<Receipt<()>, ((), CallRefusal)>) -> Result<Q
             k: receipt.k(),
             cookie: receipt.cookie(),
         }),
-        Err((_, refusal)) => Err(refusal),
+        Err(refused) => Err(refused),
     }
 }

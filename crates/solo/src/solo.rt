@@ -22,17 +22,17 @@ mod cleanup;
 /// A domain that one thread drives. After each call that made a step its processors and its engine meet, so that all
 /// have seen one history, in which nothing stands but what the calls have done. Contracts see how far the domain has
 /// come: its history, what is half done of a grace period, the greatest number that was asked for, and of each processor
-/// how many jobs were queued there and how many of these are finished; and the list of each processor.
+/// how many jobs were queued there and how many of these are finished; and the list of each processor. A job is of type `J`.
 #[derive(Drop)]
-pub struct Solo<A: Allocator> {
-    members: Members<A>,
+pub struct Solo<J, A: Allocator> {
+    members: Members<J, A>,
     limits: Limits,
 }
 
-impl<A: Allocator> Model for Solo<A> {
+impl<J, A: Allocator> Model for Solo<J, A> {
     ghost use Rattle.solo.specs.Calls.{SoloView};
 
-    ghost Value = { SoloView };
+    ghost Value = { SoloView J };
 
     ghost use Rattle.solo.specs.Insides.{view_of_solo, IsSolo};
 
@@ -41,9 +41,9 @@ impl<A: Allocator> Model for Solo<A> {
     ghost invariant = { IsSolo };
 }
 
-impl<A: Allocator> Solo<A> {
+impl<J: Drop, A: Allocator> Solo<J, A> {
     /// A domain in which nothing has happened; refused where it can't have so many processors (1 to 64), or memory is.
-    pub fn new(alloc: A, processors: u64, limits: Limits) -> Result<Solo<A>, MakeError>
+    pub fn new(alloc: A, processors: u64, limits: Limits) -> Result<Solo<J, A>, MakeError>
     where
         A: Copy,
         requires { AreInRange limits }

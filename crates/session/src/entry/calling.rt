@@ -1,66 +1,65 @@
 //! Callbacks: jobs are queued under their names, and run once a grace period is over.
-ghost use Rattle.std.specs.Prelude.{◌≡◌, ◌<◌, IfOk, OnErr};
+ghost use Rattle.std.specs.Prelude.{◌≡◌, ◌<◌};
 ghost use Rattle.solo.specs.Calls.{HasSameTables};
-ghost use Rattle.session.specs.JobLists.{AreJobsOf};
-ghost use Rattle.session.specs.Scripts.{Does};
+ghost use Rattle.session.specs.Batches.{AreBatchesOf};
+ghost use Rattle.session.specs.Scripts.{Does, cause_of_taking};
 
 use super::Entry;
-use crate::jobs::{Job, Jobs};
+use crate::out::{Out, drain};
 use calls::{CallRefusal, TakeRefusal};
 use lines::Name;
 use requests::{Act, Cause, Command, JobNames, Reply, Segments, Waiting};
-use solo::{Solo, drain};
-use std::alloc::{AllocError, Allocator};
+use solo::Solo;
+use std::alloc::Allocator;
 use std::sync::Wait;
 
 /// As many jobs are taken at once, at most.
 const MOST: usize = 8;
 
-/// Finishes the batches that are out, and drops the jobs that wait. No section begins or ends.
+/// Finishes the batches that are out. No section begins or ends.
 pub(super) fn finish_all<'a, A: Allocator>(
     rt: &impl Wait,
-    domain: &mut Solo<&'a A>,
-    mut jobs: Vec<Jobs<&'a A>, &'a A>,
+    domain: &mut Solo<Name, &'a A>,
+    mut outs: Vec<Out<&'a A>, &'a A>,
 )
-    requires { AreJobsOf domain.old jobs.items }
+    requires { AreBatchesOf domain.old outs.items }
     ensures { HasSameTables domain.old domain.new × (domain.new.course.standing ≡ domain.old.course.standing) }
 {
-    while let Some(last) = jobs.pop() {
-        if let Some(batch) = last.close() {
+    while let Some(last) = outs.pop() {
+        if let Some(batch) = last.into_batch() {
             domain.finish(rt, batch);
         }
     }
-    jobs.destroy_empty();
+    outs.destroy_empty();
+}
+
+/// Why nothing was taken.
+fn cause_of(why: TakeRefusal) -> Cause
+    ensures { result ≡ cause_of_taking why }
+{
+    match why {
+        TakeRefusal::Invoking => Cause::Invoking,
+    }
 }
 
 impl<'a, A: Allocator> Entry<&'a A> {
     /// Queues a job on a processor, where it comes last of those that wait; refused where no more may be queued there, or
     /// the domain has no memory.
-    pub(super) fn call(
-        &mut self,
-        rt: &impl Wait,
-        processor: u64,
-        name: Name,
-    ) -> Result<Reply, AllocError>
+    pub(super) fn call(&mut self, rt: &impl Wait, processor: u64, name: Name) -> Reply
         requires { processor < self.old.state.course.standing.processors }
         ensures limits { self.new.limits ≡ self.old.limits }
         ensures name { self.new.state.name ≡ self.old.state.name }
-        ensures does { IfOk result (λ r. Does self.old.limits (Act.Call processor name) self.old.state r self.new.state) }
-        ensures err { OnErr result (self.new ≡ self.old) }
+        ensures does { Does self.old.limits (Act.Call processor name) self.old.state result self.new.state }
     {
-        let jobs = &mut self.jobs[processor as usize];
-        jobs.reserve()?;
-        match self.domain.call(rt, processor) {
-            Ok(queued) => {
-                let cookie = queued.cookie;
-                jobs.push(Job { name, cookie });
-                Ok(Reply::Queued {
-                    k: queued.k,
-                    cookie,
-                })
+        match self.domain.call(rt, processor, name) {
+            Ok(queued) => Reply::Queued {
+                k: queued.k,
+                cookie: queued.cookie,
+            },
+            Err((_name, CallRefusal::Exhausted)) => {
+                Reply::Refused(Command::Call, Cause::Exhausted)
             }
-            Err(CallRefusal::Exhausted) => Ok(Reply::Refused(Command::Call, Cause::Exhausted)),
-            Err(CallRefusal::Memory) => Ok(Reply::Refused(Command::Call, Cause::Memory)),
+            Err((_name, CallRefusal::Memory)) => Reply::Refused(Command::Call, Cause::Memory),
         }
     }
 
@@ -71,15 +70,14 @@ impl<'a, A: Allocator> Entry<&'a A> {
         ensures name { self.new.state.name ≡ self.old.state.name }
         ensures does { Does self.old.limits (Act.Run processor) self.old.state result self.new.state }
     {
-        let jobs = &mut self.jobs[processor as usize];
-        // The domain would refuse it too.
-        if jobs.is_out() {
-            return Reply::Refused(Command::Run, Cause::Invoking);
-        }
-        match self.domain.run(rt, processor, MOST) {
-            Ok(Some(ran)) => Reply::Ran(jobs.take(ran.count, ran.reached)),
+        match self.domain.take_ready(rt, processor, MOST) {
+            Ok(Some(mut batch)) => {
+                let names = drain(&mut batch);
+                self.domain.finish(rt, batch);
+                Reply::Ran(names)
+            }
             Ok(None) => Reply::Ran(JobNames::new()),
-            Err(TakeRefusal::Invoking) => Reply::Refused(Command::Run, Cause::Invoking),
+            Err(why) => Reply::Refused(Command::Run, cause_of(why)),
         }
     }
 
@@ -90,21 +88,14 @@ impl<'a, A: Allocator> Entry<&'a A> {
         ensures name { self.new.state.name ≡ self.old.state.name }
         ensures does { Does self.old.limits (Act.Batch processor) self.old.state result self.new.state }
     {
-        let jobs = &mut self.jobs[processor as usize];
-        // The domain would refuse it too.
-        if jobs.is_out() {
-            return Reply::Refused(Command::Batch, Cause::Invoking);
-        }
         match self.domain.take_ready(rt, processor, MOST) {
             Ok(Some(mut batch)) => {
-                let count = batch.count();
-                let reached = drain(&mut batch);
-                let names = jobs.take(count, reached);
-                jobs.put_out(batch, names);
+                let names = drain(&mut batch);
+                self.outs[processor as usize].put(batch);
                 Reply::TookJobs(names)
             }
             Ok(None) => Reply::TookJobs(JobNames::new()),
-            Err(TakeRefusal::Invoking) => Reply::Refused(Command::Batch, Cause::Invoking),
+            Err(why) => Reply::Refused(Command::Batch, cause_of(why)),
         }
     }
 
@@ -115,12 +106,11 @@ impl<'a, A: Allocator> Entry<&'a A> {
         ensures name { self.new.state.name ≡ self.old.state.name }
         ensures does { Does self.old.limits (Act.Finish processor) self.old.state result self.new.state }
     {
-        let Some(out) = self.jobs[processor as usize].take_out() else {
+        let Some(batch) = self.outs[processor as usize].take() else {
             return Reply::Refused(Command::Finish, Cause::NoBatch);
         };
-        let (over, _names) = out;
-        let count = over.count();
-        self.domain.finish(rt, over);
+        let count = batch.count();
+        self.domain.finish(rt, batch);
         Reply::Finished(count)
     }
 

@@ -5,8 +5,8 @@ ghost use Rattle.solo.specs.Cleanup.{IsTakenDown};
 ghost use Rattle.session.specs.Scripts.{IsInUse};
 
 use super::Entry;
-use crate::jobs::Jobs;
 use crate::names::{Names, Token, take_last};
+use crate::out::Out;
 use crate::parking::Parking;
 use requests::Cause;
 use solo::{InUse, Totals};
@@ -17,18 +17,18 @@ use std::sync::Wait;
 fn drop_all<'a, A: Allocator>(
     names: Names<&'a A>,
     parking: Parking<&'a A>,
-    mut jobs: Vec<Jobs<&'a A>, &'a A>,
+    mut outs: Vec<Out<&'a A>, &'a A>,
 )
-    requires { AreSpent names.tokens parking jobs.items }
+    requires { AreSpent names.tokens parking outs.items }
 {
     let parked = parking.close();
     let None = parked else { unreachable!() };
     drop_tokens(names);
-    while let Some(last) = jobs.pop() {
-        let out = last.close();
-        let None = out else { unreachable!() };
+    while let Some(last) = outs.pop() {
+        let batch = last.into_batch();
+        let None = batch else { unreachable!() };
     }
-    jobs.destroy_empty();
+    outs.destroy_empty();
 }
 
 /// Drops looks and tickets.
@@ -59,12 +59,12 @@ impl<'a, A: Allocator> Entry<&'a A> {
             domain,
             names,
             parking,
-            jobs,
+            outs,
         } = self;
         match domain.cleanup(rt) {
             Ok(totals) => {
                 // No section is open and each job is finished, so nothing is left that has to be spent.
-                drop_all(names, parking, jobs);
+                drop_all(names, parking, outs);
                 Ok(totals)
             }
             Err((in_use, domain)) => {
@@ -73,7 +73,7 @@ impl<'a, A: Allocator> Entry<&'a A> {
                     domain,
                     names,
                     parking,
-                    jobs,
+                    outs,
                 };
                 match in_use {
                     InUse::Sections(open) => Err((Cause::Sections(open), entry)),

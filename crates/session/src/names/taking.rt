@@ -58,7 +58,7 @@ impl<A: Allocator> Names<A> {
     }
 
     /// The ticket of this name, which keeps it.
-    pub fn ticket(&self, name: &Name) -> &Ticket<(), A>
+    pub fn ticket(&self, name: &Name) -> &Ticket<Name, A>
         requires { kind_in name.now self.now.tokens ≡ Some Kind.Ticket }
         ensures { token_at name.now self.now.tokens ≡ Some (Token.Ticket result.now) }
     {

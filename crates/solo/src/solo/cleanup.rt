@@ -8,11 +8,11 @@ use domain::{InUse, Totals};
 use std::alloc::Allocator;
 use std::sync::Wait;
 
-impl<A: Allocator + Copy> Solo<A> {
+impl<J: Drop, A: Allocator + Copy> Solo<J, A> {
     /// Takes the domain down (`cleanup_srcu_struct`), and tells what was done in it. It is refused where a section is open, a
     /// grace period runs, or a callback is queued and not finished: the first of these, with its count. Then the domain
     /// comes back, in which nothing has changed. No processor is ever missing.
-    pub fn cleanup(self, rt: &impl Wait) -> Result<Totals, (InUse, Solo<A>)>
+    pub fn cleanup(self, rt: &impl Wait) -> Result<Totals, (InUse, Solo<J, A>)>
         ensures { MatchResult result (IsTakenDown self.course) (λ refused. IsInUse self.course refused.0 × (refused.1 ≡ self)) }
     {
         let Solo { members, limits } = self;

@@ -64,3 +64,53 @@ fn names_of_jobs_need_not_differ(rt: HostRuntime) -> Result<(), Fail> {
         ],
     )
 }
+
+/// Would catch a list that gives the names of another one, or not in the order in which they were queued.
+#[test]
+fn each_list_gives_its_own_names(rt: HostRuntime) -> Result<(), Fail> {
+    check(
+        &rt,
+        AMPLE,
+        &[
+            ("domain a 2", "made a 2"),
+            ("call a 0 z", "queued 0 cookie 4"),
+            ("call a 1 y", "queued 0 cookie 4"),
+            ("call a 0 b", "queued 1 cookie 4"),
+            ("call a 1 c", "queued 1 cookie 4"),
+            ("advance a 0", "started 1"),
+            ("advance a 0", "flipped 1"),
+            ("advance a 0", "ended 4"),
+            ("run a 1", "ran y c"),
+            ("segs a 0", "segs done 0 wait 2 4 ready 0 0 next 0"),
+            ("batch a 0", "took z b"),
+            ("run a 1", "ran"),
+            ("finish a 0", "finished 2"),
+        ],
+    )
+}
+
+/// Would catch a job that comes with those of an earlier cookie, and one that is taken while they are out.
+#[test]
+fn a_late_job_comes_later(rt: HostRuntime) -> Result<(), Fail> {
+    check(
+        &rt,
+        AMPLE,
+        &[
+            ("domain a 1", "made a 1"),
+            ("call a 0 first", "queued 0 cookie 4"),
+            ("call a 0 second", "queued 1 cookie 4"),
+            ("advance a 0", "started 1"),
+            ("call a 0 late", "queued 2 cookie 8"),
+            ("advance a 0", "flipped 1"),
+            ("advance a 0", "ended 4"),
+            ("batch a 0", "took first second"),
+            ("advance a 0", "started 5"),
+            ("advance a 0", "flipped 0"),
+            ("advance a 0", "ended 8"),
+            ("run a 0", "refused run invoking"),
+            ("segs a 0", "segs done 0 wait 1 8 ready 0 0 next 0"),
+            ("finish a 0", "finished 2"),
+            ("run a 0", "ran late"),
+        ],
+    )
+}

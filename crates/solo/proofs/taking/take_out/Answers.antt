@@ -11,4 +11,4 @@ returns-clause-taken g c =
     rw c.see_out.ensures.batch (takes_out of takes handed c.see_out.ensures.out c.see_out.ensures.rest)
 
 pub returns-clause-acts : goal.returns-clause-acts
-returns-clause-acts g c = takes_then_loads c.in_ok-batch.ensures.acts (ap (λ (x : CpuView (Unit {0})). x.cpu.changes) c.see_out.ensures.rest) c.see_out.ensures.acts
+returns-clause-acts g c = takes_then_loads c.in_ok-batch.ensures.acts (ap (λ (x : CpuView g.row.J.Denot). x.cpu.changes) c.see_out.ensures.rest) c.see_out.ensures.acts

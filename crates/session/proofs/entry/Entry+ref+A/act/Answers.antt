@@ -4,7 +4,7 @@ use Rattle.session.proofs.Quiet.{does_keeps}
 use Rattle.session.proofs.entry.Entry+ref+A.act.Goals as goal
 
 pub invariant_of-self : goal.invariant_of-self
-invariant_of-self g c = entry_on c.self.invariant c.cookie.ensures.same.0 (does_keeps c.self.invariant.0.all.legal tt refl c.cookie.ensures.cookie)
+invariant_of-self g c = entry_on c.self.invariant c.cookie.ensures.same (does_keeps c.self.invariant.0.all.legal tt refl c.cookie.ensures.cookie)
 
 pub invariant_of-self-in-Ask : goal.invariant_of-self-in-Ask
-invariant_of-self-in-Ask g c = entry_on c.self-in-Ask.invariant c.ask.ensures.same.0 (does_keeps c.self-in-Ask.invariant.0.all.legal tt refl c.ask.ensures.asks)
+invariant_of-self-in-Ask g c = entry_on c.self-in-Ask.invariant c.ask.ensures.same (does_keeps c.self-in-Ask.invariant.0.all.legal tt refl c.ask.ensures.asks)

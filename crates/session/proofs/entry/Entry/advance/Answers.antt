@@ -5,4 +5,4 @@ use Rattle.session.proofs.Quiet.{quietly_advanced, works_keeps, same_keeps, eith
 use Rattle.session.proofs.entry.Entry.advance.Goals as goal
 
 pub invariant_of-self : goal.invariant_of-self
-invariant_of-self g c = entry_on c.self.invariant c.advance.ensures.same.0 (either_way c.advance.result c.advance.ensures.answer (λ a h. works_keeps h (quietly_advanced c.self.inside.domain.course.asked a _ _)) (λ _ h. same_keeps c.self.invariant.0.all.legal (ap (λ (x : SoloView). x.course) h.1)))
+invariant_of-self g c = entry_on c.self.invariant c.advance.ensures.same (either_way c.advance.result c.advance.ensures.answer (λ a h. works_keeps h (quietly_advanced c.self.inside.domain.course.asked a _ _)) (λ _ h. same_keeps c.self.invariant.0.all.legal (ap (λ (x : SoloView _). x.course) h.1)))

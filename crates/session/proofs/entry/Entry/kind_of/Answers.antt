@@ -8,24 +8,24 @@ use Rattle.session.proofs.entry.Entry.kind_of.Goals as goal
 pub returns-in_err-get : goal.returns-in_err-get
 returns-in_err-get g c =
     let other = sym c.has.ensures ∙ c.if-has.false in
-    rw (← c.self.view_is) (c.from_residual.ensures ∙ known_kind c.self.inside.name c.args.name.now c.self.inside.names.tokens c.self.inside.parking.parked c.self.inside.jobs.items c.self.inside.domain None other c.in_err-get.ensures)
+    rw (← c.self.view_is) (c.from_residual.ensures ∙ known_kind c.self.inside.name c.args.name.now c.self.inside.names.tokens c.self.inside.parking.parked c.self.inside.domain None other c.in_err-get.ensures)
 
 pub returns-in-Look : goal.returns-in-Look
 returns-in-Look g c =
     let other = sym c.has.ensures ∙ c.if-has.false in
-    rw (← c.self.view_is) (known_kind c.self.inside.name c.args.name.now c.self.inside.names.tokens c.self.inside.parking.parked c.self.inside.jobs.items c.self.inside.domain (Some (token.Look c.in-Look.field-0)) other (ap (λ (t : Token _). Some t) (sym c.in-Look.is) ∙ c.in_ok-get.ensures))
+    rw (← c.self.view_is) (known_kind c.self.inside.name c.args.name.now c.self.inside.names.tokens c.self.inside.parking.parked c.self.inside.domain (Some (token.Look c.in-Look.field-0)) other (ap (λ (t : Token _). Some t) (sym c.in-Look.is) ∙ c.in_ok-get.ensures))
 
 pub returns-in-Reading : goal.returns-in-Reading
 returns-in-Reading g c =
     let other = sym c.has.ensures ∙ c.if-has.false in
-    rw (← c.self.view_is) (known_kind c.self.inside.name c.args.name.now c.self.inside.names.tokens c.self.inside.parking.parked c.self.inside.jobs.items c.self.inside.domain (Some (token.Reading c.in-Reading.field-0)) other (ap (λ (t : Token _). Some t) (sym c.in-Reading.is) ∙ c.in_ok-get.ensures))
+    rw (← c.self.view_is) (known_kind c.self.inside.name c.args.name.now c.self.inside.names.tokens c.self.inside.parking.parked c.self.inside.domain (Some (token.Reading c.in-Reading.field-0)) other (ap (λ (t : Token _). Some t) (sym c.in-Reading.is) ∙ c.in_ok-get.ensures))
 
 pub returns-in-Ticket : goal.returns-in-Ticket
 returns-in-Ticket g c =
     let other = sym c.has.ensures ∙ c.if-has.false in
-    rw (← c.self.view_is) (known_kind c.self.inside.name c.args.name.now c.self.inside.names.tokens c.self.inside.parking.parked c.self.inside.jobs.items c.self.inside.domain (Some (token.Ticket c.in-Ticket.field-0)) other (ap (λ (t : Token _). Some t) (sym c.in-Ticket.is) ∙ c.in_ok-get.ensures))
+    rw (← c.self.view_is) (known_kind c.self.inside.name c.args.name.now c.self.inside.names.tokens c.self.inside.parking.parked c.self.inside.domain (Some (token.Ticket c.in-Ticket.field-0)) other (ap (λ (t : Token _). Some t) (sym c.in-Ticket.is) ∙ c.in_ok-get.ensures))
 
 pub returns-in-Held : goal.returns-in-Held
 returns-in-Held g c =
     let other = sym c.has.ensures ∙ c.if-has.false in
-    rw (← c.self.view_is) (known_kind c.self.inside.name c.args.name.now c.self.inside.names.tokens c.self.inside.parking.parked c.self.inside.jobs.items c.self.inside.domain (Some (token.Held c.in-Held.field-0)) other (ap (λ (t : Token _). Some t) (sym c.in-Held.is) ∙ c.in_ok-get.ensures))
+    rw (← c.self.view_is) (known_kind c.self.inside.name c.args.name.now c.self.inside.names.tokens c.self.inside.parking.parked c.self.inside.domain (Some (token.Held c.in-Held.field-0)) other (ap (λ (t : Token _). Some t) (sym c.in-Held.is) ∙ c.in_ok-get.ensures))

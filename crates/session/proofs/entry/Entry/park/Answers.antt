@@ -8,7 +8,7 @@ use Rattle.session.proofs.entry.Entry.park.Goals as goal
 pub take_held-held-requires : goal.take_held-held-requires
 take_held-held-requires g c =
     let asked = rw (← c.self.view_is) at c.requires in
-    has_kind c.self.inside.name c.args.name c.self.inside.names.tokens c.self.inside.parking.parked c.self.inside.jobs.items c.self.inside.domain kind.Held refl asked
+    has_kind c.self.inside.name c.args.name c.self.inside.names.tokens c.self.inside.parking.parked c.self.inside.domain kind.Held refl asked
 
 pub park-requires-clause-domain : goal.park-requires-clause-domain
 park-requires-clause-domain g c = (it_is_of c.self.inside.domain c.self.inside.names.tokens c.self.inside.parking c.self.invariant.0 c.take_held-held.ensures).of_domain.table_is ∙ sym c.self.invariant.0.desk
@@ -22,9 +22,9 @@ pub returns-clause-does : goal.returns-clause-does
 returns-clause-does g c =
     let none = none_parked c.self.inside.parking.parked (search rules) in
     rw (← c.self.view_is, c.park.ensures)
-    (laid_down c.self.inside.name c.self.inside.names.tokens c.self.inside.parking.parked c.self.inside.jobs.items c.self.inside.domain c.self.inside.domain c.take_held-held.result none c.take_held-held.ensures)
+    (laid_down c.self.inside.name c.self.inside.names.tokens c.self.inside.parking.parked c.self.inside.domain c.self.inside.domain c.take_held-held.result none c.take_held-held.ensures)
 
 pub returns-then-not-is_empty-clause-does : goal.returns-then-not-is_empty-clause-does
 returns-then-not-is_empty-clause-does g c =
     let (p, there) = some_parked c.self.inside.parking.parked (search rules) in
-    rw (← c.self.view_is) (laid_none c.self.inside.name c.self.inside.names.tokens c.self.inside.parking.parked c.self.inside.jobs.items c.self.inside.domain c.self.inside.domain c.args.name p there)
+    rw (← c.self.view_is) (laid_none c.self.inside.name c.self.inside.names.tokens c.self.inside.parking.parked c.self.inside.domain c.self.inside.domain c.args.name p there)

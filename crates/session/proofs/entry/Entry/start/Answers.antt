@@ -5,4 +5,4 @@ use Rattle.session.proofs.Quiet.{quietly_started, works_keeps, same_keeps, eithe
 use Rattle.session.proofs.entry.Entry.start.Goals as goal
 
 pub invariant_of-self : goal.invariant_of-self
-invariant_of-self g c = entry_on c.self.invariant c.start.ensures.same.0 (either_way c.start.result c.start.ensures.start (λ n h. works_keeps h (quietly_started n _ _)) (λ _ h. same_keeps c.self.invariant.0.all.legal (ap (λ (x : SoloView). x.course) h.1)))
+invariant_of-self g c = entry_on c.self.invariant c.start.ensures.same (either_way c.start.result c.start.ensures.start (λ n h. works_keeps h (quietly_started n _ _)) (λ _ h. same_keeps c.self.invariant.0.all.legal (ap (λ (x : SoloView _). x.course) h.1)))

@@ -15,4 +15,4 @@ returns-clause-does g c =
     let there = sym c.unpark.ensures.taken ∙ c.in-Some.is in
     let free = parked_is_apart c.self.inside.domain c.reserve.new.self.tokens c.self.inside.parking held c.in-Some.parked there in
     rw (← c.self.view_is, c.insert.ensures, c.unpark.ensures.empty, ← c.in_ok-reserve.ensures.tokens)
-    (picked_up c.self.inside.name c.reserve.new.self.tokens c.self.inside.parking.parked c.self.inside.jobs.items c.self.inside.domain c.self.inside.domain c.in-Some.parked there free)
+    (picked_up c.self.inside.name c.reserve.new.self.tokens c.self.inside.parking.parked c.self.inside.domain c.self.inside.domain c.in-Some.parked there free)

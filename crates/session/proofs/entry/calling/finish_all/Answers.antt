@@ -1,29 +1,29 @@
 use Rattle.std.proofs.Common.{rules, ◌∙◌, ap, refl, sym}
 use Rattle.solo.specs.Courses.{Course}
 use Rattle.std.proofs.lemmas.List.Elements.{All-pop}
-use Rattle.session.proofs.Callbacks.{IsOut, emptied_is, out_finished}
+use Rattle.session.proofs.Batches.{IsKept, emptied_is, all_kept_on}
 use Rattle.session.proofs.entry.calling.finish_all.Goals as goal
 
 pub loop-last-init : goal.loop-last-init
-loop-last-init g c = record { out = c.requires.out; same = (refl, refl, refl, refl, refl); standing = refl }
+loop-last-init g c = record { out = c.requires.emptied; same = (refl, refl, refl, refl, refl); standing = refl }
 
 pub finish-requires : goal.finish-requires
 finish-requires g c =
-    let popped = All-pop (IsOut c.loop-last.domain) c.loop-last.jobs.items c.pop.new.self.items c.pop.result c.pop.ensures.items c.loop-last.invariant.out in
-    let emptied = emptied_is c.loop-last.domain c.pop.result c.in-Some.last c.in-Some-close.batch c.in-Some.is popped.1 (sym c.in-Some-close.is ∙ c.close.ensures) in
+    let popped = All-pop (IsKept c.loop-last.domain) c.loop-last.outs.items c.pop.new.self.items c.pop.result c.pop.ensures.items c.loop-last.invariant.out in
+    let emptied = emptied_is c.loop-last.domain c.pop.result c.in-Some.last c.in-Some-into_batch.batch c.in-Some.is popped.1 (sym c.into_batch.ensures ∙ c.in-Some-into_batch.is) in
     (search rules, (emptied.of_domain, emptied.empty))
 
-pub loop-last-preserved-in-Some-close : goal.loop-last-preserved-in-Some-close
-loop-last-preserved-in-Some-close g c =
+pub loop-last-preserved-in-Some-into_batch : goal.loop-last-preserved-in-Some-into_batch
+loop-last-preserved-in-Some-into_batch g c =
     let v = c.loop-last.invariant in
-    let out = (All-pop (IsOut c.loop-last.domain) c.loop-last.jobs.items c.pop.new.self.items c.pop.result c.pop.ensures.items v.out).0 in
+    let out = (All-pop (IsKept c.loop-last.domain) c.loop-last.outs.items c.pop.new.self.items c.pop.result c.pop.ensures.items v.out).0 in
     let on = c.finish.ensures.same in
     let (a, b, d, e, f) = on in
     let (a', b', d', e', f') = v.same in
-    record { out = out_finished c.loop-last.domain c.finish.new.self c.pop.new.self.items on out; same = (a ∙ a', b ∙ b', d ∙ d', e ∙ e', f ∙ f'); standing = ap (λ (x : Course). x.standing) c.finish.ensures.finishes.finishes_are.come ∙ v.standing }
+    record { out = all_kept_on c.loop-last.domain c.finish.new.self c.pop.new.self.items on out; same = (a ∙ a', b ∙ b', d ∙ d', e ∙ e', f ∙ f'); standing = ap (λ (x : Course). x.standing) c.finish.ensures.finishes.finishes_are.come ∙ v.standing }
 
 pub loop-last-preserved : goal.loop-last-preserved
 loop-last-preserved g c =
     let v = c.loop-last.invariant in
-    let out = (All-pop (IsOut c.loop-last.domain) c.loop-last.jobs.items c.pop.new.self.items c.pop.result c.pop.ensures.items v.out).0 in
+    let out = (All-pop (IsKept c.loop-last.domain) c.loop-last.outs.items c.pop.new.self.items c.pop.result c.pop.ensures.items v.out).0 in
     record { out = out; same = v.same; standing = v.standing }

@@ -5,7 +5,7 @@ use Rattle.solo.proofs.Meeting.{Hand, hand_of, does, same_domain, have_met}
 use Rattle.solo.proofs.solo.Solo.ask.Given.{Over}
 use Rattle.solo.proofs.solo.Solo.ask.Goals as goal
 
-abbrev hand : (g : Over) → goal.After-drop-cookie-inside g → Hand
+abbrev hand : (g : Over) → goal.After-drop-cookie-inside g → Hand g.row.J.Denot
 hand g c = hand_of c.args.processor c.start_poll-cookie.new.cpu c.self.invariant.met c.self.view_is c.requires c.index_mut-cpu.ensures.value c.settle.ensures.all c.settle.ensures.meets
 
 pub index_mut-cpu-requires : goal.index_mut-cpu-requires

@@ -4,7 +4,7 @@ use Rattle.solo.proofs.Jobs.{call_says}
 use Rattle.solo.proofs.solo.Solo.call.Given.{Over}
 use Rattle.solo.proofs.solo.Solo.call.Goals as goal
 
-abbrev hand : (g : Over) → goal.After-queued g → Hand
+abbrev hand : (g : Over) → goal.After-queued g → Hand g.row.J.Denot
 hand g c = hand_of c.args.processor c.call-answer.new.cpu c.self.invariant.met c.self.view_is c.requires c.index_mut-cpu.ensures.value c.settle.ensures.all c.settle.ensures.meets
 
 pub index_mut-cpu-requires : goal.index_mut-cpu-requires
@@ -27,3 +27,6 @@ returns-clause-answer g c = (call_says (hand g c) _ c.call-answer.result c.call-
 
 pub returns-clause-list : goal.returns-clause-list
 returns-clause-list g c = (call_says (hand g c) _ c.call-answer.result c.call-answer.ensures.calls c.call-answer.ensures.acts c.queued.result c.queued.ensures.told).what.1
+
+pub returns-clause-back : goal.returns-clause-back
+returns-clause-back g c = (call_says (hand g c) _ c.call-answer.result c.call-answer.ensures.calls c.call-answer.ensures.acts c.queued.result c.queued.ensures.told).what.2

@@ -8,7 +8,7 @@ use Rattle.solo.proofs.solo.Solo.finish.Goals as goal
 at : (g : Over) (c : goal.After-settle g) → c.args.batch.processor ≡ c.from-processor.result
 at g c = search rules
 
-abbrev hand : (g : Over) → goal.After-settle g → Hand
+abbrev hand : (g : Over) → goal.After-settle g → Hand g.row.J.Denot
 hand g c = hand_of c.from-processor.result c.finish.new.cpu c.self.invariant.met c.self.view_is (subst (λ p. p < c.args.self.now.course.standing.processors) (at g c) c.requires.batch.there) c.index_mut-cpu.ensures.value c.settle.ensures.all c.settle.ensures.meets
 
 pub index_mut-cpu-requires : goal.index_mut-cpu-requires

@@ -20,7 +20,7 @@ invariant_of-self g c = record { engine = c.self.invariant.engine; met = subst (
 pub returns-clause-home : goal.returns-clause-home
 returns-clause-home g c = c.home.ensures.home
     ∙ ((ap (λ (z : CpuView _). z.cpu.domain) c.index_mut.ensures.value ∙ (c.self.invariant.met.together.hold.each 0 c.index_mut.result.now (first_inside _ _ _ _ c.self.invariant.met)).domain)
-    ∙ sym (ap (λ (x : SoloView). x.table) (now_is _ _ _ _ c.self.invariant.met _ c.self.view_is)))
+    ∙ sym (ap (λ (x : SoloView g.row.J.Denot). x.table) (now_is _ _ _ _ c.self.invariant.met _ c.self.view_is)))
 
 pub returns-clause-same : goal.returns-clause-same
 returns-clause-same g c = ap (λ (l : List (CpuView _)). seen_first c.self.inside.members.domain c.self.inside.limits l) (unchanged g c) ∙ c.self.view_is

@@ -5,7 +5,7 @@ use Rattle.solo.proofs.Quiet.{look_says}
 use Rattle.solo.proofs.solo.Solo.index.Given.{Over}
 use Rattle.solo.proofs.solo.Solo.index.Goals as goal
 
-abbrev hand : (g : Over) → goal.After-drop-look-inside g → Hand
+abbrev hand : (g : Over) → goal.After-drop-look-inside g → Hand g.row.J.Denot
 hand g c = hand_of 0 c.look-look.new.self c.self.invariant.met c.self.view_is (first_small c.self.invariant.met c.self.view_is) c.index_mut.ensures.value c.settle.ensures.all c.settle.ensures.meets
 
 pub index_mut-requires : goal.index_mut-requires

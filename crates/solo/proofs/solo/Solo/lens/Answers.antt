@@ -5,7 +5,7 @@ use Rattle.solo.proofs.Jobs.{lens_says}
 use Rattle.solo.proofs.solo.Solo.lens.Given.{Over}
 use Rattle.solo.proofs.solo.Solo.lens.Goals as goal
 
-abbrev hand : (g : Over) → goal.After-settle g → Hand
+abbrev hand : (g : Over) → goal.After-settle g → Hand g.row.J.Denot
 hand g c = hand_of c.args.processor c.lens-lens.new.cpu c.self.invariant.met c.self.view_is c.requires c.index_mut-cpu.ensures.value c.settle.ensures.all c.settle.ensures.meets
 
 pub index_mut-cpu-requires : goal.index_mut-cpu-requires

@@ -4,7 +4,7 @@ use Rattle.solo.proofs.Quiet.{number_says}
 use Rattle.solo.proofs.solo.Solo.number.Given.{Over}
 use Rattle.solo.proofs.solo.Solo.number.Goals as goal
 
-abbrev hand : (g : Over) → goal.After-settle g → Hand
+abbrev hand : (g : Over) → goal.After-settle g → Hand g.row.J.Denot
 hand g c = hand_of 0 c.number-number.new.self c.self.invariant.met c.self.view_is (first_small c.self.invariant.met c.self.view_is) c.index_mut.ensures.value c.settle.ensures.all c.settle.ensures.meets
 
 pub index_mut-requires : goal.index_mut-requires

@@ -4,7 +4,7 @@ use Rattle.solo.proofs.Quiet.{poll_says}
 use Rattle.solo.proofs.solo.Solo.poll.Given.{Over}
 use Rattle.solo.proofs.solo.Solo.poll.Goals as goal
 
-abbrev hand : (g : Over) → goal.After-settle g → Hand
+abbrev hand : (g : Over) → goal.After-settle g → Hand g.row.J.Denot
 hand g c = hand_of c.args.processor c.poll_number-answer.new.self c.self.invariant.met c.self.view_is c.requires c.index_mut.ensures.value c.settle.ensures.all c.settle.ensures.meets
 
 pub index_mut-requires : goal.index_mut-requires

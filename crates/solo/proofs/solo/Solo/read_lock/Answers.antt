@@ -5,7 +5,7 @@ use Rattle.solo.proofs.Quiet.{lock_says}
 use Rattle.solo.proofs.solo.Solo.read_lock.Given.{Over}
 use Rattle.solo.proofs.solo.Solo.read_lock.Goals as goal
 
-abbrev hand : (g : Over) → goal.After-settle g → Hand
+abbrev hand : (g : Over) → goal.After-settle g → Hand g.row.J.Denot
 hand g c = hand_of c.args.processor c.read_lock-taken.new.self c.self.invariant.met c.self.view_is c.requires c.index_mut.ensures.value c.settle.ensures.all c.settle.ensures.meets
 
 pub index_mut-requires : goal.index_mut-requires

@@ -9,7 +9,7 @@ use Rattle.solo.proofs.solo.Solo.read_unlock.Goals as goal
 at : (g : Over) (c : goal.After-settle g) → c.args.reading.processor ≡ c.from-processor.result
 at g c = search rules
 
-abbrev hand : (g : Over) → goal.After-settle g → Hand
+abbrev hand : (g : Over) → goal.After-settle g → Hand g.row.J.Denot
 hand g c = hand_of c.from-processor.result c.read_unlock.new.self c.self.invariant.met c.self.view_is (subst (λ p. p < c.args.self.now.course.standing.processors) (at g c) c.requires.processor) c.index_mut.ensures.value c.settle.ensures.all c.settle.ensures.meets
 
 pub index_mut-requires : goal.index_mut-requires

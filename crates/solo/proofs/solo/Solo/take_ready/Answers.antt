@@ -5,7 +5,7 @@ use Rattle.solo.proofs.Jobs.{take_says}
 use Rattle.solo.proofs.solo.Solo.take_ready.Given.{Over}
 use Rattle.solo.proofs.solo.Solo.take_ready.Goals as goal
 
-abbrev hand : (g : Over) → goal.After-settle g → Hand
+abbrev hand : (g : Over) → goal.After-settle g → Hand g.row.J.Denot
 hand g c = hand_of c.args.processor c.take_out-taken.new.cpu c.self.invariant.met c.self.view_is c.requires c.index_mut-taker.ensures.value c.settle.ensures.all c.settle.ensures.meets
 
 pub index_mut-taker-requires : goal.index_mut-taker-requires
