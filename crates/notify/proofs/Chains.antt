@@ -1,0 +1,31 @@
+-- The blocks of a chain, one behind the other.
+use Rattle.std.proofs.Common.{ℕ, ◌+◌, ◌<◌, ◌≤◌, List, All, length, take, get_or, sym, ap, ◌∙◌, subst, arith, add-one, pos}
+use Rattle.std.specs.List.{AllPairs}
+use Rattle.std.proofs.lemmas.List.{length-take, get_or-take}
+use Rattle.std.proofs.lemmas.List.Elements.{All-more, All-from_get_or}
+use Rattle.std.proofs.lemmas.List.Quantifiers.{all_pairs_push}
+use Rattle.std.proofs.Math.Seq.{take-suc}
+use Rattle.notify.specs.declared.block.Block.{Block}
+use Rattle.notify.specs.Blocks.{Precedes, IsChain}
+
+-- a block that is read where there is none
+abbrev pub blank : Block
+blank = record { id = 0; priority = pos 0 }
+
+module _ (ids : ℕ) (xs : List Block) (i : ℕ) (there : i < length xs) where
+  -- one more block, which may stand behind those before it
+  pub chain_more : length xs ≤ 15 → (get_or xs i blank).id < ids → All (λ b. Precedes b (get_or xs i blank)) (take i xs) → IsChain ids (take i xs) → IsChain ids (take (i + 1) xs)
+  chain_more few known behind h = record {
+    few = let t = length-take (i + 1) xs in omega (arith, t, few);
+    known = All-more (λ b. b.id < ids) xs i blank there h.known known;
+    ordered = subst (AllPairs Precedes) (sym (ap (λ j. take j xs) (add-one i) ∙ take-suc xs i blank there)) (all_pairs_push Precedes (take i xs) (get_or xs i blank) h.ordered behind);
+  }
+
+  -- each block of a chain may stand behind those before it
+  pub chain_behind : IsChain ids xs → All (λ b. Precedes b (get_or xs i blank)) (take i xs)
+  chain_behind h = All-from_get_or (λ b. Precedes b (get_or xs i blank)) (take i xs) blank (λ k lt.
+      let t = length-take i xs in let less : k < i = omega (arith, t, lt) in
+      subst (λ b. Precedes b (get_or xs i blank)) (sym (get_or-take i xs k blank less)) (h.ordered k i blank less there))
+
+  pub chain_known : IsChain ids xs → (get_or xs i blank).id < ids
+  chain_known h = h.known i blank there

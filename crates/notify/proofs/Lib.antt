@@ -1,0 +1,9 @@
+mod Answering
+mod Chains
+mod Filling
+mod Inserting
+mod Lists
+mod Loading
+mod Pairs
+mod Searching
+mod Texts

@@ -1,0 +1,7 @@
+pub mod Blocks
+pub mod Calling
+pub mod Chains
+pub mod Insides
+pub mod Putting
+pub mod Changes
+pub mod Reading

@@ -1,0 +1,91 @@
+//! A chain in a domain of one processor, with its own one thread.
+ghost use Rattle.std.specs.Prelude.{◌<◌};
+ghost use Rattle.domain.specs.Views.{IsOf};
+
+use crate::{Chain, ChainView, RegisterRefusal, UnregisterRefusal};
+use domain::{Cpu, Domain, Limits, MakeError};
+use std::alloc::Global;
+use std::marker::Model;
+use std::sync::Wait;
+
+/// How many ids there are.
+pub(super) const IDS: u64 = 16;
+
+/// A domain, its processor, and its chain.
+#[derive(Drop)]
+pub(super) struct World {
+    pub(super) domain: Domain<()>,
+    pub(super) cpu: Cpu<()>,
+    pub(super) chain: Chain,
+    pub(super) view: ChainView,
+}
+
+impl Model for World {
+    ghost use Rattle.std.specs.Prelude.{◌≡◌, ◌<◌};
+    ghost use Rattle.sections.specs.Words.{cells_in};
+    ghost use Rattle.domain.specs.Views.{IsOf};
+
+    ghost Value = { Unit {0} };
+
+    ghost view = { λ w. tt };
+
+    ghost invariant = { λ w. IsOf w.domain w.cpu × (w.chain.writer.domain ≡ w.domain.domain) × (w.chain.ids ≡ 16) × (w.view.cell < cells_in w.domain.domain) × (w.view.ids ≡ 16) };
+}
+
+impl World {
+    /// A chain with no blocks, in a cell with so many slots.
+    pub(super) fn new(alloc: Global, slots: u64) -> Result<World, MakeError> {
+        let limits = Limits {
+            sections: Limits::MOST_SECTIONS,
+            periods: Limits::MOST_PERIODS,
+            cells: 1,
+            slots,
+        };
+        let (domain, mut cpus, mut writers) = Domain::<()>::new(alloc, 1, limits)?;
+        let cpu = cpus.pop().unwrap();
+        let writer = writers.pop().unwrap();
+        let cell = writer.cell();
+        let (chain, view) = Chain::new(writer, cell, IDS);
+        Ok(World {
+            domain,
+            cpu,
+            chain,
+            view,
+        })
+    }
+
+    /// Registers one.
+    pub(super) fn register(&mut self, id: u64, priority: i32) -> Result<(), RegisterRefusal>
+        requires { id < 16 }
+    {
+        self.chain
+            .register(&self.domain, &mut self.cpu, id, priority)
+    }
+
+    /// Unregisters one.
+    pub(super) fn unregister(&mut self, id: u64) -> Result<(), UnregisterRefusal>
+        requires { id < 16 }
+    {
+        self.chain.unregister(&self.domain, &mut self.cpu, id)
+    }
+
+    /// The ids, and how many there are.
+    pub(super) fn ids(&mut self) -> Option<([u64; 15], usize)> {
+        self.view.ids(&mut self.cpu).ok()
+    }
+
+    /// Drives the period that was asked for until it has ended.
+    pub(super) fn drive<R: Wait>(&mut self, rt: &R) {
+        drive(rt, &self.domain, &mut self.cpu);
+    }
+}
+
+/// Three turns of the engine: where no section is open, a period begins and ends.
+fn drive<R: Wait>(rt: &R, domain: &Domain<()>, cpu: &mut Cpu<()>)
+    requires { IsOf domain.now cpu.old }
+    ensures { IsOf domain.now cpu.new }
+{
+    for _ in 0..3 {
+        let _answer = domain.advance(rt, cpu);
+    }
+}

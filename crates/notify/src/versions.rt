@@ -1,0 +1,82 @@
+//! The words of a version: stored in a slot, put, and loaded.
+ghost use Rattle.std.specs.Prelude.{◌≡◌, ◌<◌, length, MatchOption};
+ghost use Rattle.sections.specs.Shelves.{words_of};
+ghost use Rattle.sections.specs.Writers.{IsOwn};
+ghost use Rattle.sections.specs.Reads.{IsPinned};
+ghost use Rattle.domain.specs.Views.{IsOf, Stays, with_cpu};
+ghost use Rattle.notify.specs.Putting.{Fills, FindsSlot, FindsNone, Publishes};
+ghost use Rattle.notify.specs.Reading.{LoadsAll};
+
+use domain::{Cpu, Domain, Pin, Slot, Writer};
+use std::alloc::Allocator;
+
+/// A slot that nobody can read. `None` where no slot is blank, also behind a look at all that are retired, or where 2^54
+/// versions were put.
+pub(crate) fn free_slot<J, A: Allocator>(writer: &mut Writer, cpu: &mut Cpu<J, A>) -> Option<Slot>
+    requires { cpu.old.cpu.domain ≡ writer.old.domain }
+    ensures finds { MatchOption result
+        (FindsNone writer.old cpu.old writer.new cpu.new)
+        (λ s. FindsSlot s writer.old cpu.old writer.new cpu.new) }
+    ensures same { (writer.new.domain ≡ writer.old.domain) × (writer.new.cell ≡ writer.old.cell) }
+    ensures stays { Stays cpu.old cpu.new }
+{
+    writer.reclaim(cpu);
+    writer.blank()
+}
+
+/// Fills the slot with these words, puts it as the next version, and asks for the grace period behind which nobody reads
+/// the one that was current.
+pub(crate) fn publish<J, A: Allocator>(
+    writer: &mut Writer,
+    domain: &Domain<J, A>,
+    cpu: &mut Cpu<J, A>,
+    mut slot: Slot,
+    words: &[u64; 16],
+)
+    requires domain { IsOf domain.now cpu.old }
+    requires here { writer.old.domain ≡ domain.now.domain }
+    requires own { IsOwn writer.old slot }
+    requires long { (length writer.old.words ≡ 128) × (slot.slot < 8) }
+    ensures here { IsOf domain.now cpu.new }
+    ensures same { (writer.new.domain ≡ writer.old.domain) × (writer.new.cell ≡ writer.old.cell) }
+    ensures publishes { Publishes slot.slot words.now writer.old cpu.old writer.new cpu.new }
+    ensures has { words_of writer.old.cell writer.new.version cpu.new.cpu.texts ≡ words.now }
+{
+    fill(writer, cpu, &mut slot, words);
+    let _cookie = writer.put_and_ask(domain, cpu, slot);
+}
+
+/// Stores sixteen words in the slot.
+fn fill<J, A: Allocator>(
+    writer: &mut Writer,
+    cpu: &mut Cpu<J, A>,
+    slot: &mut Slot,
+    words: &[u64; 16],
+)
+    requires here { cpu.old.cpu.domain ≡ writer.old.domain }
+    requires own { IsOwn writer.old slot.old }
+    requires long { (length writer.old.words ≡ 128) × (slot.old.slot < 8) }
+    ensures fills { Fills slot.old.slot words.now writer.old writer.new }
+    ensures cpu { cpu.new ≡ cpu.old }
+    ensures slot { slot.new ≡ slot.old }
+{
+    for place in 0..16 {
+        writer.set(cpu, slot, place, words[place]);
+    }
+}
+
+/// Loads the sixteen words of the version that the pin found.
+pub(crate) fn load_all<J, A: Allocator>(cpu: &mut Cpu<J, A>, pin: &mut Pin<'_>) -> [u64; 16]
+    requires here { pin.old.reading.now.domain ≡ cpu.old.cpu.domain }
+    requires pinned { IsPinned pin.old.reading.now pin.old.found }
+    ensures loads { LoadsAll pin.old.reading.now pin.old.found result cpu.old cpu.new }
+    ensures same { (pin.new.reading.now ≡ pin.old.reading.now) × (pin.new.found ≡ pin.old.found) }
+    ensures same_reference { pin.new.reading.ghost_name ≡ pin.old.reading.ghost_name }
+    ensures stays { Stays cpu.old cpu.new }
+{
+    let mut words = [0; 16];
+    for place in 0..16 {
+        words[place] = cpu.word(pin, place);
+    }
+    words
+}

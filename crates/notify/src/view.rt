@@ -1,0 +1,99 @@
+//! Who reads a chain, and calls its handlers.
+ghost use Rattle.std.specs.Prelude.{◌≡◌, ◌^◌, ◌<◌, ◌≤◌, length, MatchResult};
+ghost use Rattle.sections.specs.Words.{cells_in};
+ghost use Rattle.domain.specs.Views.{Stays};
+ghost use Rattle.notify.specs.Calling.{GivesAt};
+ghost use Rattle.notify.specs.Reading.{Reads, Lists, Calls, IsRefused};
+
+use crate::blocks::Blocks;
+use crate::handler::{Handler, call_all};
+use crate::text::{ids, read};
+use crate::versions::load_all;
+use domain::{Cpu, Exhausted, Reading};
+use std::alloc::Allocator;
+use std::marker::Model;
+
+/// A notifier chain, for those who call it, on any thread. Contracts see the number of its cell, and below which number
+/// the ids of its blocks are.
+#[derive(Clone, Copy)]
+pub struct ChainView {
+    cell: usize,
+    ids: u64,
+}
+
+impl Model for ChainView {
+    ghost use Rattle.std.specs.Prelude.{◌≤◌, ◌^◌};
+    ghost use Rattle.notify.specs.Chains.{ChainCell};
+
+    ghost Value = { ChainCell };
+
+    ghost view = { λ v. record { cell = v.cell; ids = v.ids } };
+
+    ghost invariant = { λ v. v.ids ≤ 2 ^ 32 };
+
+    ghost inverse = { λ v. record { cell = v.cell; ids = v.ids } };
+}
+
+impl ChainView {
+    pub(crate) fn of_cell(cell: usize, ids: u64) -> ChainView
+        requires { ids ≤ 2 ^ 32 }
+        ensures { result ≡ record { cell = cell; ids = ids } }
+    {
+        ChainView { cell, ids }
+    }
+
+    /// The ids of the blocks of one version, in the order in which they are called, with 0 in the places behind them, and
+    /// how many there are. The version is no older than any that the processor has seen. It is read in a section of its
+    /// own: refused, with nothing done but a look, exactly where the processor can begin none.
+    pub fn ids<J, A: Allocator>(&self, cpu: &mut Cpu<J, A>) -> Result<([u64; 15], usize), Exhausted>
+        requires { self.now.cell < cells_in cpu.old.cpu.domain }
+        ensures lists { MatchResult result
+            (λ r. Lists self.now cpu.old cpu.new r.0 r.1)
+            (λ _. IsRefused cpu.old cpu.new) }
+        ensures stays { Stays cpu.old cpu.new }
+    {
+        let mut reading = cpu.read_lock()?;
+        let blocks = self.read(cpu, &mut reading);
+        cpu.read_unlock(reading);
+        Ok((ids(blocks.as_slice()), blocks.len()))
+    }
+
+    /// Calls the handlers of one version's blocks, in their order (`srcu_notifier_call_chain`), up to the first result
+    /// with [`STOP_BIT`](crate::STOP_BIT): a block's handler is the one at the place of its id. What it gives is the last
+    /// result, 0 where there is none, and how many were called. The version is no older than any that the processor has
+    /// seen. All happens in one section, however long a handler sleeps, and it ends on every way out. Refused as
+    /// [`ChainView::ids`] is; then nobody is called.
+    pub fn call_chain<J, A: Allocator>(
+        &self,
+        cpu: &mut Cpu<J, A>,
+        handlers: &[Box<dyn Handler>],
+        action: u64,
+        value: u64,
+    ) -> Result<(u32, u64), Exhausted>
+        requires cell { self.now.cell < cells_in cpu.old.cpu.domain }
+        requires handlers { self.now.ids ≤ length handlers.now }
+        ensures calls { MatchResult result
+            (λ r. Calls (GivesAt (λ h x. answers h action value x) handlers.now) self.now cpu.old cpu.new r.0 r.1)
+            (λ _. IsRefused cpu.old cpu.new) }
+        ensures stays { Stays cpu.old cpu.new }
+    {
+        let mut reading = cpu.read_lock()?;
+        let blocks = self.read(cpu, &mut reading);
+        let answer = call_all(blocks.as_slice(), handlers, action, value);
+        cpu.read_unlock(reading);
+        Ok(answer)
+    }
+
+    /// The blocks of the version that is current, in the reading's section.
+    fn read<J, A: Allocator>(&self, cpu: &mut Cpu<J, A>, reading: &mut Reading) -> Blocks
+        requires here { reading.old.domain ≡ cpu.old.cpu.domain }
+        requires cell { self.now.cell < cells_in cpu.old.cpu.domain }
+        ensures reads { Reads self.now reading.old cpu.old cpu.new result.items }
+        ensures reading { reading.new ≡ reading.old }
+        ensures stays { Stays cpu.old cpu.new }
+    {
+        let mut pin = cpu.find(reading, self.cell);
+        let words = load_all(cpu, &mut pin);
+        read(&words, self.ids)
+    }
+}
