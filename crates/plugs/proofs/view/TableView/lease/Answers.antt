@@ -1,0 +1,17 @@
+-- The section began, and found the version.
+use Rattle.std.proofs.Common.{true}
+use Rattle.sections.specs.Reads.{Finds}
+use Rattle.plugs.proofs.Fresh.{not_older_than_seen}
+use Rattle.plugs.proofs.view.TableView.lease.Goals as goal
+
+pub returns-clause-leases : goal.returns-clause-leases
+returns-clause-leases g c =
+    let held = c.find_held.ensures.held in
+    let downs = c.in-Ok.ensures.downs in
+    let finds : Finds c.args.self.now c.in-Ok.held c.down_read.new.self.cpu c.find_held.new.self.cpu c.find_held.result.found = rw (← c.self.view_is) c.find_held.ensures.finds in
+    rw (c.of_pin.ensures, held) (record {
+      begun = c.down_read.new.self;
+      downs = downs;
+      finds = finds;
+      not_older = not_older_than_seen true c.args.self.now _ _ _ c.in-Ok.held c.find_held.result.found downs finds;
+    })

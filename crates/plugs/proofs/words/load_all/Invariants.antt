@@ -1,0 +1,14 @@
+-- The words before this place are loaded, and the pin is as it was.
+use Rattle.std.proofs.Common.{◌≡◌}
+use Rattle.domain.specs.Views.{Stays}
+use Rattle.plugs.proofs.Loading.{LoadedTo}
+use Rattle.plugs.proofs.words.load_all.Given as goal
+
+abbrev pub invariant-loop-place : goal.invariant-loop-place
+invariant-loop-place g l = record {
+  words : LoadedTo l.place l.initial.pin.reading.now l.initial.pin.found l.words l.initial.cpu l.cpu;
+  reading : l.pin.reading.now ≡ l.initial.pin.reading.now;
+  found : l.pin.found ≡ l.initial.pin.found;
+  name : l.pin.reading.ghost_name ≡ l.initial.pin.reading.ghost_name;
+  stays : Stays l.initial.cpu l.cpu;
+}

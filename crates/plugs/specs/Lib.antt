@@ -1,0 +1,10 @@
+pub mod Tables
+pub mod Parts
+pub mod Insides
+pub mod Views
+pub mod Changes
+pub mod Reading
+pub mod Refusals
+pub mod TableInsides
+pub mod ViewInsides
+pub mod LeaseInsides

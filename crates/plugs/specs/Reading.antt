@@ -1,0 +1,74 @@
+-- What is read of a table in one section.
+use Rattle.std.specs.Prelude.{◌≡◌, ℕ, ◌<◌, ◌≤◌, Option, List, length, slice_index_or}
+use Rattle.onedom.specs.Histories.{version_of, IsBeginning}
+use Rattle.sections.specs.Shelves.{IsStart, word_of}
+use Rattle.sections.specs.Views.{ReadingView, FoundView}
+use Rattle.sections.specs.Calls.{IsSameCpu, IsSeenBy, ReadLocks, DownReads, Unlocks}
+use Rattle.sections.specs.Reads.{Finds}
+use Rattle.domain.specs.Views.{CpuView, with_cpu}
+use Rattle.plugs.specs.declared.rows.Row.{Row}
+use Rattle.plugs.specs.Tables.{plug_of, AreRead}
+use Rattle.plugs.specs.Views.{LeaseView}
+
+-- these are the sixteen words of the version that was found
+pub record AreWords (f : FoundView) (words : List ℕ) : Type 0 where
+  pub long : length words ≡ 16
+  pub each : (i : ℕ) → i < 16 → slice_index_or words i 0 ≡ word_of f.cell f.version i f.texts
+
+module _ {J : Type 0} where
+  -- who has seen this has seen what the section had when it began, and what it had when it found the version
+  pub record Covers (r : ReadingView) (f : FoundView) (c : CpuView J) : Type 0 where
+    pub section : IsBeginning r.seen c.cpu.seen
+    pub found : IsBeginning f.seen c.cpu.seen
+    pub changes : f.changes ≤ c.cpu.changes
+    pub texts : IsStart f.texts c.cpu.texts
+    pub history : IsSeenBy c.cpu
+
+  -- they were loaded in the section that found the version, and nothing was done; what is then seen goes on from what was seen before
+  pub record LoadsAll (r : ReadingView) (f : FoundView) (words : List ℕ) (c c' : CpuView J) : Type 0 where
+    pub words_are : AreWords f words
+    pub same : IsSameCpu c.cpu c'.cpu
+    pub mine : c'.cpu.mine ≡ c.cpu.mine
+    pub since : IsBeginning c.cpu.seen c'.cpu.seen
+    pub later : c.cpu.changes ≤ c'.cpu.changes
+    pub texts : IsStart c.cpu.texts c'.cpu.texts
+    pub covers : Covers r f c'
+    pub rest : c' ≡ with_cpu c'.cpu c
+
+  -- the words of the version that was found were loaded, and are read as these rows
+  pub record LoadsRows (r : ReadingView) (f : FoundView) (rows : List Row) (c c' : CpuView J) : Type 0 where
+    pub words : List ℕ
+    pub loads : LoadsAll r f words c c'
+    pub read : AreRead words rows
+
+  -- the section found the version that is current in the cell, and these are its rows
+  pub record FindsRows (cell : ℕ) (r : ReadingView) (rows : List Row) (c c' : CpuView J) : Type 0 where
+    pub found : FoundView
+    pub at : CpuView J
+    pub finds : Finds cell r c.cpu at.cpu found
+    pub loads : LoadsRows r found rows at c'
+
+  -- a section began, found a version of the cell that is no older than any that the processor had seen there, and ended. The plug is that of the key in this version
+  pub record LooksUp (cell key : ℕ) (plug : Option ℕ) (c c' : CpuView J) : Type 0 where
+    pub reading : ReadingView
+    pub begun : CpuView J
+    pub locks : ReadLocks c.cpu begun.cpu reading
+    pub rows : List Row
+    pub at : CpuView J
+    pub finds : FindsRows cell reading rows begun at
+    pub not_older : version_of cell c.cpu.seen ≤ finds.found.version
+    pub ends : Unlocks reading at.cpu c'.cpu
+    pub plug_is : plug ≡ plug_of rows key
+
+  -- a held section began and found a version of the cell that is no older than any that the processor had seen there
+  pub record Leases (cell : ℕ) (lease : LeaseView) (c c' : CpuView J) : Type 0 where
+    pub begun : CpuView J
+    pub downs : DownReads c.cpu begun.cpu lease.held
+    pub finds : Finds cell lease.held begun.cpu c'.cpu lease.found
+    pub not_older : version_of cell c.cpu.seen ≤ lease.found.version
+
+  -- the plug is that of the key in the lease's version
+  pub record Gets (lease : LeaseView) (key : ℕ) (plug : Option ℕ) (c c' : CpuView J) : Type 0 where
+    pub rows : List Row
+    pub loads : LoadsRows lease.held lease.found rows c c'
+    pub plug_is : plug ≡ plug_of rows key

@@ -1,0 +1,91 @@
+//! Who reads a table.
+ghost use Rattle.std.specs.Prelude.{◌≡◌, ◌<◌, MatchResult};
+ghost use Rattle.sections.specs.Words.{cells_in};
+ghost use Rattle.sections.specs.Calls.{LooksInVain};
+ghost use Rattle.domain.specs.Views.{Stays, with_cpu};
+ghost use Rattle.plugs.specs.Reading.{FindsRows, LooksUp, Leases};
+
+use crate::lease::Lease;
+use crate::rows::Rows;
+use crate::words::load_all;
+use domain::{Cpu, Exhausted, Reading};
+use std::alloc::Allocator;
+use std::marker::Model;
+
+/// Reads the table of a cell, from any thread. Contracts see the number of the cell.
+#[derive(Clone, Copy, Debug)]
+pub struct TableView {
+    cell: usize,
+}
+
+impl Model for TableView {
+    ghost use Rattle.std.specs.Prelude.{ℕ};
+
+    ghost Value = { ℕ };
+
+    ghost use Rattle.plugs.specs.ViewInsides.{cell_of, view_at};
+
+    ghost view = { cell_of };
+
+    ghost inverse = { view_at };
+}
+
+impl TableView {
+    pub(crate) fn of_cell(cell: usize) -> TableView
+        ensures { result ≡ cell }
+    {
+        TableView { cell }
+    }
+
+    /// The plug of the key, in a section of its own: that of the version which is current there, no older than any that
+    /// the processor has seen. Words that are no table are read as one without rows. It takes no memory and does not
+    /// wait, and is refused as [`Cpu::read_lock`] is.
+    pub fn lookup<J, A: Allocator>(
+        &self,
+        cpu: &mut Cpu<J, A>,
+        key: u32,
+    ) -> Result<Option<u32>, Exhausted>
+        requires cell { self.now < cells_in cpu.old.cpu.domain }
+        ensures looks_up { MatchResult result
+            (λ plug. LooksUp self.now key plug cpu.old cpu.new)
+            (λ _. LooksInVain cpu.old.cpu cpu.new.cpu) }
+        ensures rest { cpu.new ≡ with_cpu cpu.new.cpu cpu.old }
+        ensures stays { Stays cpu.old cpu.new }
+    {
+        let Ok(mut reading) = cpu.read_lock() else {
+            return Err(Exhausted);
+        };
+        let rows = rows_there(cpu, &mut reading, self.cell);
+        cpu.read_unlock(reading);
+        Ok(rows.get(key))
+    }
+
+    /// A held section with the version that it finds, no older than any that the processor has seen. It takes no memory
+    /// and does not wait, and is refused as [`Cpu::down_read`] is.
+    pub fn lease<J, A: Allocator>(&self, cpu: &mut Cpu<J, A>) -> Result<Lease, Exhausted>
+        requires cell { self.now < cells_in cpu.old.cpu.domain }
+        ensures leases { MatchResult result
+            (λ lease. Leases self.now lease cpu.old cpu.new)
+            (λ _. LooksInVain cpu.old.cpu cpu.new.cpu) }
+        ensures rest { cpu.new ≡ with_cpu cpu.new.cpu cpu.old }
+        ensures stays { Stays cpu.old cpu.new }
+    {
+        let Ok(held) = cpu.down_read() else {
+            return Err(Exhausted);
+        };
+        Ok(Lease::of_pin(cpu.find_held(held, self.cell)))
+    }
+}
+
+/// The rows of the version that is current in the cell.
+fn rows_there<J, A: Allocator>(cpu: &mut Cpu<J, A>, reading: &mut Reading, cell: usize) -> Rows
+    requires here { reading.old.domain ≡ cpu.old.cpu.domain }
+    requires cell { cell < cells_in cpu.old.cpu.domain }
+    ensures finds { FindsRows cell reading.old result cpu.old cpu.new }
+    ensures reading { reading.new ≡ reading.old }
+    ensures rest { cpu.new ≡ with_cpu cpu.new.cpu cpu.old }
+    ensures stays { Stays cpu.old cpu.new }
+{
+    let mut pin = cpu.find(reading, cell);
+    Rows::read(&load_all(cpu, &mut pin))
+}

@@ -1,0 +1,97 @@
+//! The sixteen words of a version: how they get into a slot, and how a section loads them.
+ghost use Rattle.std.specs.Prelude.{◌≡◌, ◌<◌, length, MatchOption};
+ghost use Rattle.sections.specs.Shelves.{words_of};
+ghost use Rattle.sections.specs.Writers.{IsOwn};
+ghost use Rattle.sections.specs.Reads.{IsPinned};
+ghost use Rattle.domain.specs.Views.{IsOf, Stays};
+ghost use Rattle.plugs.specs.Changes.{Fills, FindsNone, Claims, Puts};
+ghost use Rattle.plugs.specs.Reading.{LoadsAll};
+
+use domain::{Cpu, Domain, HeldPin, Pin, Slot, Writer};
+use std::alloc::Allocator;
+
+/// Makes blank what nobody can read any more, and gives a blank slot out. None where there is none, or 2^54 versions
+/// were put.
+pub fn claim<J, A: Allocator>(writer: &mut Writer, cpu: &mut Cpu<J, A>) -> Option<Slot>
+    requires here { cpu.old.cpu.domain ≡ writer.old.domain }
+    ensures claims { MatchOption result
+        (FindsNone writer.old cpu.old writer.new cpu.new)
+        (λ s. Claims s writer.old cpu.old writer.new cpu.new) }
+    ensures stays { Stays cpu.old cpu.new }
+{
+    writer.reclaim(cpu);
+    writer.blank()
+}
+
+/// Fills the slot with these words and puts it, and asks for the grace period of the slot that was current. The answer
+/// is the version.
+pub fn publish<J, A: Allocator>(
+    writer: &mut Writer,
+    domain: &Domain<J, A>,
+    cpu: &mut Cpu<J, A>,
+    mut slot: Slot,
+    words: &[u64; 16],
+) -> u64
+    requires domain { IsOf domain.now cpu.old }
+    requires here { writer.old.domain ≡ domain.now.domain }
+    requires own { IsOwn writer.old slot }
+    requires long { (length writer.old.words ≡ 128) × (slot.slot < 8) }
+    ensures here { IsOf domain.now cpu.new }
+    ensures puts { Puts slot.slot words.now writer.old cpu.old writer.new cpu.new }
+    ensures has { words_of writer.old.cell writer.new.version cpu.new.cpu.texts ≡ words.now }
+    ensures version { result ≡ writer.new.version }
+{
+    fill(writer, cpu, &mut slot, words);
+    let _cookie = writer.put_and_ask(domain, cpu, slot);
+    writer.version()
+}
+
+/// Stores sixteen words in the slot.
+fn fill<J, A: Allocator>(
+    writer: &mut Writer,
+    cpu: &mut Cpu<J, A>,
+    slot: &mut Slot,
+    words: &[u64; 16],
+)
+    requires here { cpu.old.cpu.domain ≡ writer.old.domain }
+    requires own { IsOwn writer.old slot.old }
+    requires long { (length writer.old.words ≡ 128) × (slot.old.slot < 8) }
+    ensures fills { Fills slot.old.slot words.now writer.old writer.new }
+    ensures cpu { cpu.new ≡ cpu.old }
+    ensures slot { slot.new ≡ slot.old }
+{
+    for place in 0..16 {
+        writer.set(cpu, slot, place, words[place]);
+    }
+}
+
+/// Loads the sixteen words of the version that the pin found.
+pub fn load_all<J, A: Allocator>(cpu: &mut Cpu<J, A>, pin: &mut Pin<'_>) -> [u64; 16]
+    requires here { pin.old.reading.now.domain ≡ cpu.old.cpu.domain }
+    requires pinned { IsPinned pin.old.reading.now pin.old.found }
+    ensures loads { LoadsAll pin.old.reading.now pin.old.found result cpu.old cpu.new }
+    ensures same { (pin.new.reading.now ≡ pin.old.reading.now) × (pin.new.found ≡ pin.old.found) }
+    ensures same_reference { pin.new.reading.ghost_name ≡ pin.old.reading.ghost_name }
+    ensures stays { Stays cpu.old cpu.new }
+{
+    let mut words = [0; 16];
+    for place in 0..16 {
+        words[place] = cpu.word(pin, place);
+    }
+    words
+}
+
+/// The same for a pin that owns its section, on any processor of the domain.
+pub fn load_all_held<J, A: Allocator>(cpu: &mut Cpu<J, A>, pin: &mut HeldPin) -> [u64; 16]
+    requires here { pin.old.held.domain ≡ cpu.old.cpu.domain }
+    requires pinned { IsPinned pin.old.held pin.old.found }
+    ensures loads { LoadsAll pin.old.held pin.old.found result cpu.old cpu.new }
+    ensures same { (pin.new.held ≡ pin.old.held) × (pin.new.found ≡ pin.old.found) }
+    ensures stays { Stays cpu.old cpu.new }
+{
+    let mut words = [0; 16];
+    for place in 0..16 {
+        words[place] = cpu.word_held(pin, place);
+    }
+    words
+}
