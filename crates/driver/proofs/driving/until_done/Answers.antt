@@ -1,0 +1,66 @@
+-- A poll of the ticket, and then one more round.
+use Rattle.std.proofs.Common.{inr, refl}
+use Rattle.calls.proofs.CallerLemmas.{begins_itself, begins_on}
+use Rattle.domain.proofs.CallerLemmas.{none_at_tallies, same_trans, same_finished}
+use Rattle.driver.proofs.Rows.{same_itself, works_from_none, works_from_on, counts_from_on}
+use Rattle.driver.proofs.driving.until_done.Goals as goal
+
+pub loop-init : goal.loop-init
+loop-init g c = (
+  c.requires.work,
+  record { here = c.requires.here; still = c.requires.none; later = begins_itself _; same = same_itself _; works = works_from_none (λ p x q. goal.F-step g p x tt q) c.args.domain.now c.args.work.now c.args.cpu.now c.args.before },
+)
+
+pub barrier_poll-requires-clause-domain : goal.barrier_poll-requires-clause-domain
+barrier_poll-requires-clause-domain g c = c.loop.invariant.1.here
+
+pub returns-then-barrier_poll-clause-none : goal.returns-then-barrier_poll-clause-none
+returns-then-barrier_poll-clause-none g c = none_at_tallies c.loop.cpu c.barrier_poll.new.cpu c.loop.invariant.1.still c.barrier_poll.ensures.rest
+
+pub returns-then-barrier_poll-clause-later : goal.returns-then-barrier_poll-clause-later
+returns-then-barrier_poll-clause-later g c = begins_on c.loop.invariant.1.later c.barrier_poll.ensures.acts.adds.since
+
+pub returns-then-barrier_poll-clause-works : goal.returns-then-barrier_poll-clause-works
+returns-then-barrier_poll-clause-works g c = counts_from_on (λ p x q. goal.F-step g p x tt q) c.args.domain.now c.args.before _ _ _ c.loop.cpu c.barrier_poll.new.cpu c.loop.served c.loop.invariant.1.works record { ticket = c.args.ticket.now; loads = inr (c.barrier_poll.result, c.barrier_poll.ensures.polls); rest = c.barrier_poll.ensures.rest; none = (refl, refl, refl) }
+
+pub round-came-requires-clause-none : goal.round-came-requires-clause-none
+round-came-requires-clause-none g c = none_at_tallies c.loop.cpu c.barrier_poll.new.cpu c.loop.invariant.1.still c.barrier_poll.ensures.rest
+
+pub round-came-requires-clause-work : goal.round-came-requires-clause-work
+round-came-requires-clause-work g c = c.loop.invariant.0
+
+pub returns-then-is_end-clause-later : goal.returns-then-is_end-clause-later
+returns-then-is_end-clause-later g c = begins_on (begins_on c.loop.invariant.1.later c.barrier_poll.ensures.acts.adds.since) c.round-came.ensures.later
+
+pub returns-then-is_end-clause-works : goal.returns-then-is_end-clause-works
+returns-then-is_end-clause-works g c = works_from_on (λ p x q. goal.F-step g p x tt q) c.args.domain.now c.args.before _ _ _ _ c.barrier_poll.new.cpu _ c.loop.served c.and-served.result c.round-came.result.answer c.round-came.result.jobs (counts_from_on (λ p x q. goal.F-step g p x tt q) c.args.domain.now c.args.before _ _ _ c.loop.cpu c.barrier_poll.new.cpu c.loop.served c.loop.invariant.1.works record { ticket = c.args.ticket.now; loads = inr (c.barrier_poll.result, c.barrier_poll.ensures.polls); rest = c.barrier_poll.ensures.rest; none = (refl, refl, refl) }) c.round-came.ensures.round c.and-served.ensures.periods c.and-served.ensures.jobs
+
+pub loop-preserved-then-is_rest : goal.loop-preserved-then-is_rest
+loop-preserved-then-is_rest g c = (
+  c.round-came.ensures.work,
+  record {
+    here = c.round-came.ensures.here;
+    still = c.round-came.ensures.none;
+    later = begins_on (begins_on c.loop.invariant.1.later c.barrier_poll.ensures.acts.adds.since) c.round-came.ensures.later;
+    same = same_trans _ _ _ (same_trans _ _ _ c.loop.invariant.1.same (same_finished c.loop.cpu c.barrier_poll.new.cpu c.barrier_poll.ensures.same c.barrier_poll.ensures.rest)) c.round-came.ensures.same;
+    works = works_from_on (λ p x q. goal.F-step g p x tt q) c.args.domain.now c.args.before _ _ _ _ c.barrier_poll.new.cpu _ c.loop.served c.and-served.result c.round-came.result.answer c.round-came.result.jobs (counts_from_on (λ p x q. goal.F-step g p x tt q) c.args.domain.now c.args.before _ _ _ c.loop.cpu c.barrier_poll.new.cpu c.loop.served c.loop.invariant.1.works record { ticket = c.args.ticket.now; loads = inr (c.barrier_poll.result, c.barrier_poll.ensures.polls); rest = c.barrier_poll.ensures.rest; none = (refl, refl, refl) }) c.round-came.ensures.round c.and-served.ensures.periods c.and-served.ensures.jobs;
+  },
+)
+
+pub loop-preserved : goal.loop-preserved
+loop-preserved g c = (
+  c.round-came.ensures.work,
+  record {
+    here = c.round-came.ensures.here;
+    still = c.round-came.ensures.none;
+    later = begins_on (begins_on c.loop.invariant.1.later c.barrier_poll.ensures.acts.adds.since) c.round-came.ensures.later;
+    same = same_trans _ _ _ (same_trans _ _ _ c.loop.invariant.1.same (same_finished c.loop.cpu c.barrier_poll.new.cpu c.barrier_poll.ensures.same c.barrier_poll.ensures.rest)) c.round-came.ensures.same;
+    works = works_from_on (λ p x q. goal.F-step g p x tt q) c.args.domain.now c.args.before _ _ _ _ c.barrier_poll.new.cpu _ c.loop.served c.and-served.result c.round-came.result.answer c.round-came.result.jobs (counts_from_on (λ p x q. goal.F-step g p x tt q) c.args.domain.now c.args.before _ _ _ c.loop.cpu c.barrier_poll.new.cpu c.loop.served c.loop.invariant.1.works record { ticket = c.args.ticket.now; loads = inr (c.barrier_poll.result, c.barrier_poll.ensures.polls); rest = c.barrier_poll.ensures.rest; none = (refl, refl, refl) }) c.round-came.ensures.round c.and-served.ensures.periods c.and-served.ensures.jobs;
+  },
+)
+
+pub returns-then-barrier_poll-clause-same : goal.returns-then-barrier_poll-clause-same
+returns-then-barrier_poll-clause-same g c = same_trans _ _ _ c.loop.invariant.1.same (same_finished c.loop.cpu c.barrier_poll.new.cpu c.barrier_poll.ensures.same c.barrier_poll.ensures.rest)
+
+pub returns-then-is_end-clause-same : goal.returns-then-is_end-clause-same
+returns-then-is_end-clause-same g c = same_trans _ _ _ (same_trans _ _ _ c.loop.invariant.1.same (same_finished c.loop.cpu c.barrier_poll.new.cpu c.barrier_poll.ensures.same c.barrier_poll.ensures.rest)) c.round-came.ensures.same

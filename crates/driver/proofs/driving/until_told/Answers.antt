@@ -1,0 +1,62 @@
+-- One more round.
+use Rattle.calls.proofs.CallerLemmas.{begins_itself, begins_on}
+use Rattle.domain.proofs.CallerLemmas.{same_trans}
+use Rattle.driver.proofs.Rows.{same_itself, works_none, works_on}
+use Rattle.driver.proofs.driving.until_told.Goals as goal
+
+pub loop-init : goal.loop-init
+loop-init g c = (
+  c.requires.work,
+  record { here = c.requires.here; still = c.requires.none; later = begins_itself _; same = same_itself _; works = works_none (λ p x q. goal.F-step g p x tt q) c.args.domain.now c.args.work.now c.args.cpu.now c.nothing-served.result c.nothing-served.ensures.periods c.nothing-served.ensures.jobs },
+)
+
+pub round-came-requires-clause-here : goal.round-came-requires-clause-here
+round-came-requires-clause-here g c = c.loop.invariant.1.here
+
+pub round-came-requires-clause-none : goal.round-came-requires-clause-none
+round-came-requires-clause-none g c = c.loop.invariant.1.still
+
+pub round-came-requires-clause-work : goal.round-came-requires-clause-work
+round-came-requires-clause-work g c = c.loop.invariant.0
+
+pub returns-then-is_end-clause-later : goal.returns-then-is_end-clause-later
+returns-then-is_end-clause-later g c = begins_on c.loop.invariant.1.later c.round-came.ensures.later
+
+pub returns-then-is_end-clause-works : goal.returns-then-is_end-clause-works
+returns-then-is_end-clause-works g c = works_on (λ p x q. goal.F-step g p x tt q) c.args.domain.now _ _ _ _ _ _ c.loop.served c.and-served.result c.round-came.result.answer c.round-came.result.jobs c.loop.invariant.1.works c.round-came.ensures.round c.and-served.ensures.periods c.and-served.ensures.jobs
+
+pub returns-then-is_given-clause-later : goal.returns-then-is_given-clause-later
+returns-then-is_given-clause-later g c = begins_on c.loop.invariant.1.later c.round-came.ensures.later
+
+pub returns-then-is_given-clause-works : goal.returns-then-is_given-clause-works
+returns-then-is_given-clause-works g c = works_on (λ p x q. goal.F-step g p x tt q) c.args.domain.now _ _ _ _ _ _ c.loop.served c.and-served.result c.round-came.result.answer c.round-came.result.jobs c.loop.invariant.1.works c.round-came.ensures.round c.and-served.ensures.periods c.and-served.ensures.jobs
+
+pub loop-preserved-then-is_rest : goal.loop-preserved-then-is_rest
+loop-preserved-then-is_rest g c = (
+  c.round-came.ensures.work,
+  record {
+    here = c.round-came.ensures.here;
+    still = c.round-came.ensures.none;
+    later = begins_on c.loop.invariant.1.later c.round-came.ensures.later;
+    same = same_trans _ _ _ c.loop.invariant.1.same c.round-came.ensures.same;
+    works = works_on (λ p x q. goal.F-step g p x tt q) c.args.domain.now _ _ _ _ _ _ c.loop.served c.and-served.result c.round-came.result.answer c.round-came.result.jobs c.loop.invariant.1.works c.round-came.ensures.round c.and-served.ensures.periods c.and-served.ensures.jobs;
+  },
+)
+
+pub loop-preserved : goal.loop-preserved
+loop-preserved g c = (
+  c.round-came.ensures.work,
+  record {
+    here = c.round-came.ensures.here;
+    still = c.round-came.ensures.none;
+    later = begins_on c.loop.invariant.1.later c.round-came.ensures.later;
+    same = same_trans _ _ _ c.loop.invariant.1.same c.round-came.ensures.same;
+    works = works_on (λ p x q. goal.F-step g p x tt q) c.args.domain.now _ _ _ _ _ _ c.loop.served c.and-served.result c.round-came.result.answer c.round-came.result.jobs c.loop.invariant.1.works c.round-came.ensures.round c.and-served.ensures.periods c.and-served.ensures.jobs;
+  },
+)
+
+pub returns-then-is_end-clause-same : goal.returns-then-is_end-clause-same
+returns-then-is_end-clause-same g c = same_trans _ _ _ c.loop.invariant.1.same c.round-came.ensures.same
+
+pub returns-then-is_given-clause-same : goal.returns-then-is_given-clause-same
+returns-then-is_given-clause-same g c = same_trans _ _ _ c.loop.invariant.1.same c.round-came.ensures.same

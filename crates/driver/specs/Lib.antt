@@ -1,0 +1,5 @@
+pub mod Counts
+pub mod Pools
+pub mod PoolInsides
+pub mod Refusals
+pub mod Serving

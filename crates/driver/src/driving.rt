@@ -1,0 +1,153 @@
+//! A driver: a thread that carries grace periods and runs callbacks.
+ghost use Rattle.std.specs.Prelude.{◌≡◌, IfOk, MatchResult};
+ghost use Rattle.calls.specs.Barriers.{IsDone, AreFinished};
+ghost use Rattle.calls.specs.Tallies.{IsBeginning};
+ghost use Rattle.domain.specs.Views.{IsOf, IsSameProcessor};
+ghost use Rattle.domain.specs.Waiting.{HasNoneOpen};
+ghost use Rattle.domain.specs.Barriers.{IsTicketOf};
+ghost use Rattle.driver.specs.Serving.{Works, WorksFrom, IsStopped, AllFinished};
+
+use crate::counts::Served;
+use crate::pause::Pause;
+use crate::refusals::ServeRefusal;
+use crate::serving::round;
+use crate::stop::Stop;
+use domain::{Cpu, Domain, Ticket};
+use std::alloc::Allocator;
+use std::sync::Wait;
+
+/// Rounds until the sign is given, which is looked at behind each round. `Err` where no more grace periods may start.
+fn until_told<R: Wait, J: Drop, A: Allocator + Copy, F: FnMut(J)>(
+    rt: &R,
+    domain: &Domain<J, A>,
+    cpu: &mut Cpu<J, A>,
+    processors: u16,
+    stop: &Stop,
+    work: &mut F,
+) -> Result<Served, Served>
+    requires here { IsOf domain.now cpu.old }
+    requires none { HasNoneOpen cpu.old }
+    requires processors { processors ≡ domain.now.processors }
+    requires work { F.IsAlwaysCallable work.old }
+    ensures here { IsOf domain.now cpu.new }
+    ensures none { HasNoneOpen cpu.new }
+    ensures later { IsBeginning cpu.old.calls.seen cpu.new.calls.seen }
+    ensures same { IsSameProcessor cpu.old cpu.new }
+    ensures works { MatchResult result
+        (λ served. Works (λ p x q. F.step p x tt q) domain.now work.old cpu.old served work.new cpu.new)
+        (λ served. Works (λ p x q. F.step p x tt q) domain.now work.old cpu.old served work.new cpu.new) }
+    ensures work { F.IsAlwaysCallable work.new }
+{
+    let mut served = Served::nothing();
+    let mut pause = Pause::new();
+    for _ in rt.forever() {
+        let came = round(rt, domain, cpu, processors, work);
+        served = served.and(&came);
+        if came.is_end() {
+            return Err(served);
+        }
+        if stop.is_given() {
+            return Ok(served);
+        }
+        if came.is_rest() {
+            pause.sleep_until(rt, stop);
+        } else {
+            pause.reset();
+        }
+    }
+    unreachable!()
+}
+
+/// Rounds until the ticket is done, which is polled before each round. `Err` where no more grace periods may start. Goes
+/// on from these counts.
+fn until_done<R: Wait, J: Drop, A: Allocator + Copy, F: FnMut(J)>(
+    rt: &R,
+    domain: &Domain<J, A>,
+    cpu: &mut Cpu<J, A>,
+    processors: u16,
+    ticket: &Ticket<J, A>,
+    before: Served,
+    work: &mut F,
+) -> Result<Served, Served>
+    requires here { IsOf domain.now cpu.old }
+    requires none { HasNoneOpen cpu.old }
+    requires processors { processors ≡ domain.now.processors }
+    requires ticket { IsTicketOf domain.now ticket.now }
+    requires work { F.IsAlwaysCallable work.old }
+    ensures here { IsOf domain.now cpu.new }
+    ensures none { HasNoneOpen cpu.new }
+    ensures later { IsBeginning cpu.old.calls.seen cpu.new.calls.seen }
+    ensures same { IsSameProcessor cpu.old cpu.new }
+    ensures works { MatchResult result
+        (λ served. WorksFrom (λ p x q. F.step p x tt q) domain.now before work.old cpu.old served work.new cpu.new)
+        (λ served. WorksFrom (λ p x q. F.step p x tt q) domain.now before work.old cpu.old served work.new cpu.new) }
+    ensures done { IfOk result (λ _. IsDone ticket.now cpu.new.calls.seen × AreFinished ticket.now cpu.new.calls.seen) }
+{
+    let mut served = before;
+    let mut pause = Pause::new();
+    for _ in rt.forever() {
+        if domain.barrier_poll(cpu, ticket) {
+            return Ok(served);
+        }
+        let came = round(rt, domain, cpu, processors, work);
+        served = served.and(&came);
+        if came.is_end() {
+            return Err(served);
+        }
+        if came.is_rest() {
+            pause.sleep(rt);
+        } else {
+            pause.reset();
+        }
+    }
+    unreachable!()
+}
+
+/// Carries grace periods and runs callbacks until it is told to stop, and then until all that was queued by then on any
+/// processor is finished (`srcu_advance_state`, `srcu_invoke_callbacks`). A round is one turn of the engine and one look
+/// at each processor's list: what is ready there, at most eight jobs, is taken out, each job is handed to `work`, the
+/// first one first, and the batch is finished. Behind a round that found nothing to do it sleeps, each time twice as
+/// long, up to a millisecond.
+///
+/// Several threads may do so in one domain, each with a processor of its own: where one has the engine or a batch, the
+/// others go on. A section that stays open holds it up, and so does a batch that somebody else took and keeps.
+///
+/// Answers how many grace periods it ended and how many jobs it ran, also where it ends early. Then no batch of it is
+/// out, and jobs may be left.
+pub fn serve<R: Wait, J: Drop, A: Allocator + Copy, F: FnMut(J)>(
+    rt: &R,
+    domain: &Domain<J, A>,
+    cpu: &mut Cpu<J, A>,
+    processors: u16,
+    stop: &Stop,
+    mut work: F,
+) -> Result<Served, (Served, ServeRefusal)>
+    requires here { IsOf domain.now cpu.old }
+    requires none { HasNoneOpen cpu.old }
+    requires processors { processors ≡ domain.now.processors }
+    requires work { F.IsAlwaysCallable work }
+    ensures here { IsOf domain.now cpu.new }
+    ensures none { HasNoneOpen cpu.new }
+    ensures same { IsSameProcessor cpu.old cpu.new }
+
+    // It made rounds and nothing else: each batch that it took it ran and finished.
+    ensures works { MatchResult result
+        (λ served. (last : F) × Works (λ p x q. F.step p x tt q) domain.now work cpu.old served last cpu.new)
+        (λ ended. (last : F) × Works (λ p x q. F.step p x tt q) domain.now work cpu.old ended.0 last cpu.new) }
+
+    // What was queued when it was told to stop is finished.
+    ensures stopped { IfOk result (λ _. IsStopped cpu.old cpu.new) }
+    ensures finished { IfOk result (λ _. AllFinished domain.now.processors cpu.old cpu.new) }
+{
+    let served = match until_told(rt, domain, cpu, processors, stop, &mut work) {
+        Ok(served) => served,
+        Err(served) => return Err((served, ServeRefusal::Exhausted)),
+    };
+    let Ok(ticket) = domain.barrier_start(cpu) else {
+        return Err((served, ServeRefusal::Memory));
+    };
+    match until_done(rt, domain, cpu, processors, &ticket, served, &mut work) {
+        Ok(served) => Ok(served),
+        Err(served) => Err((served, ServeRefusal::Exhausted)),
+    }
+}

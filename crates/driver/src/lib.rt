@@ -1,0 +1,21 @@
+//! Somebody who carries grace periods and runs callbacks (`srcu_advance_state`, `srcu_invoke_callbacks`), and processors
+//! for threads that come and go.
+#![tactic(auto)]
+
+mod counts;
+mod driving;
+mod idle;
+mod pause;
+mod pool;
+mod refusals;
+mod serving;
+mod stop;
+#[cfg(test)]
+mod tests;
+
+pub use counts::Served;
+pub use driving::serve;
+pub use pool::{Lent, Pool};
+pub use refusals::ServeRefusal;
+pub use serving::run_batch;
+pub use stop::Stop;
