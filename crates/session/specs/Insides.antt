@@ -8,7 +8,7 @@ use Rattle.desk.specs.Views.{SeatView}
 use Rattle.session.specs.declared.names.Names.TheInside as names
 use Rattle.session.specs.declared.parking.Label.{Label}
 use Rattle.session.specs.declared.parking.Parking.TheInside as parking
-use Rattle.session.specs.declared.out.Out.TheInside as out
+use Rattle.session.specs.declared.batch_out.Out.TheInside as out
 use Rattle.session.specs.OpenSections.{count_of}
 use Rattle.session.specs.Tokens.{NamesView, held_of}
 use Rattle.session.specs.Parkings.{ParkingView}

@@ -7,7 +7,7 @@ ghost use Rattle.session.specs.Scripts.{Does};
 
 use crate::entry::calling::finish_all;
 use crate::names::{Names, Token, take_last};
-use crate::out::{Out, none_out};
+use crate::batch_out::{Out, none_out};
 use crate::parking::Parking;
 use lines::Name;
 use requests::{Act, Cause, Command, Kind, Period, Reply, Sections};

@@ -4,7 +4,7 @@
 mod entry;
 mod names;
 mod open;
-mod out;
+mod batch_out;
 mod parking;
 mod scene;
 mod session;

@@ -5,7 +5,7 @@ ghost use Rattle.session.specs.Batches.{AreBatchesOf};
 ghost use Rattle.session.specs.Scripts.{Does, cause_of_taking};
 
 use super::Entry;
-use crate::out::{Out, drain};
+use crate::batch_out::{Out, drain};
 use calls::{CallRefusal, TakeRefusal};
 use lines::Name;
 use requests::{Act, Cause, Command, JobNames, Reply, Segments, Waiting};

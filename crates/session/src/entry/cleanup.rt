@@ -6,7 +6,7 @@ ghost use Rattle.session.specs.Scripts.{IsInUse};
 
 use super::Entry;
 use crate::names::{Names, Token, take_last};
-use crate::out::Out;
+use crate::batch_out::Out;
 use crate::parking::Parking;
 use requests::Cause;
 use solo::{InUse, Totals};
