@@ -64,7 +64,7 @@ module _ {T : Type 0} where
   fits_turned plan o (suc k) swaps seat_of there j v here ne f = let before : List (Swap T) = turned plan.first.value o k swaps in
       fits_more plan before (turn plan.first.value o before) seat_of there j v here ne (fits_turned plan o k swaps seat_of there j v here ne f)
 
-module _ {T : Type 0} (domain : T → TableId) (plan : Plan T) (s : State (Option T) (View T)) (r : Kept domain plan s) (there : ℕ) (u : View T) (o : ℕ) (at : get_elem? s.views there ≡ some u) (is : u.role ≡ Sits o) (k : ℕ) where
+module _ {T : Type 0} (domain : T → TableId) (like : T → T → Type 0) (plan : Plan T) (s : State (Option T) (View T)) (r : Kept domain like plan s) (there : ℕ) (u : View T) (o : ℕ) (at : get_elem? s.views there ≡ some u) (is : u.role ≡ Sits o) (k : ℕ) where
   -- the other seat has swapped more often
   abbrev all : List (Swap T)
   all = turned plan.first.value o k r.swaps
@@ -90,7 +90,7 @@ module _ {T : Type 0} (domain : T → TableId) (plan : Plan T) (s : State (Optio
   here : r.seat_of o ≡ there
   here = fits.alone o stands
 
-  kept : Kept domain plan state
+  kept : Kept domain like plan state
   kept = record {
     swaps = all;
     seat_of = r.seat_of;
@@ -99,6 +99,8 @@ module _ {T : Type 0} (domain : T → TableId) (plan : Plan T) (s : State (Optio
     legal = turned_legal plan.seats plan.first.value o k r.swaps in_bay r.legal;
     first_of_domain = r.first_of_domain;
     of_domain = turned_of_domain (λ x. domain x ≡ plan.home) plan.first.value o k r.swaps r.first_of_domain r.of_domain;
+    first_alike = r.first_alike;
+    alike = turned_of_domain (λ x. like plan.first.value x) plan.first.value o k r.swaps r.first_alike r.alike;
     each_view = views_set (Fits plan all r.seat_of) s.views there knowing
         record { seen = beginning_refl all; told = beginning_empty all; there = fits.there; alone = fits.alone; own = λ n _. refl; of_plan = fits.of_plan }
         (λ j z ne e. fits_turned plan o k r.swaps r.seat_of there j z here ne (r.each_view j z e));
@@ -115,31 +117,31 @@ module _ {T : Type 0} (domain : T → TableId) (plan : Plan T) (s : State (Optio
     known = set_here s.views there knowing (at_below s.views there u at)
 
     -- whatever a seat says then, it says no more than what is known
-    says : (after : State (Option T) (View T)) → Kept domain plan after → get_elem? after.views there ≡ some knowing → (j : ℕ) (w : View T) → get_elem? after.views j ≡ some w → length w.seen ≤ k → HasNoMore m v.seen w.seen
+    says : (after : State (Option T) (View T)) → Kept domain like plan after → get_elem? after.views there ≡ some knowing → (j : ℕ) (w : View T) → get_elem? after.views j ≡ some w → length w.seen ≤ k → HasNoMore m v.seen w.seen
     says after a know j w at_j short = let long = turned_long plan.first.value o k r.swaps in
         has_no_more m v.seen w.seen a.swaps all same (a.each_view j w at_j).seen (a.each_view there knowing know).seen (omega (arith, short, long))
 
-    pub cut_left : (left right : View T) → length left.seen ≤ k → Splits (Kept domain plan) id v left right → HasNoMore m v.seen left.seen
+    pub cut_left : (left right : View T) → length left.seen ≤ k → Splits (Kept domain like plan) id v left right → HasNoMore m v.seen left.seen
     cut_left left right short splits =
         says record { words = state.words; homes = state.homes; views = set state.views id left ++ right ∷ [] } (splits state kept still_mine)
         (at_longer (set state.views id left) (right ∷ []) there knowing (set_else state.views id there left apart ∙ known))
         id left (at_longer (set state.views id left) (right ∷ []) id left (set_here state.views id left (at_below state.views id v still_mine))) short
 
-    pub cut_right : (left right : View T) → length right.seen ≤ k → Splits (Kept domain plan) id v left right → HasNoMore m v.seen right.seen
+    pub cut_right : (left right : View T) → length right.seen ≤ k → Splits (Kept domain like plan) id v left right → HasNoMore m v.seen right.seen
     cut_right left right short splits =
         says record { words = state.words; homes = state.homes; views = set state.views id left ++ right ∷ [] } (splits state kept still_mine)
         (at_longer (set state.views id left) (right ∷ []) there knowing (set_else state.views id there left apart ∙ known))
         (length (set state.views id left)) right (at_last (set state.views id left) right (length (set state.views id left)) refl) short
 
-    pub joined : (other : ℕ) (w both spent : View T) → other ≢ id → other ≢ there → get_elem? s.views other ≡ some w → length both.seen ≤ k → Joins (Kept domain plan) id v other w both spent → HasNoMore m v.seen both.seen
+    pub joined : (other : ℕ) (w both spent : View T) → other ≢ id → other ≢ there → get_elem? s.views other ≡ some w → length both.seen ≤ k → Joins (Kept domain like plan) id v other w both spent → HasNoMore m v.seen both.seen
     joined other w both spent not_me not_there was short joins =
         let w_there : get_elem? (set state.views id both) other ≡ some w = set_else state.views id other both not_me ∙ (set_else s.views there other knowing not_there ∙ was) in
         says record { words = state.words; homes = state.homes; views = set (set state.views id both) other spent } (joins state kept still_mine not_me w_there)
         (set_else (set state.views id both) other there spent (λ e. not_there (sym e)) ∙ (set_else state.views id there both apart ∙ known))
         id both (set_else (set state.views id both) other id spent (λ e. not_me (sym e)) ∙ set_here state.views id both (at_below state.views id v still_mine)) short
 
-pub never_forged : {T : Type 0} (domain : T → TableId) → NoBaySwapIsForged domain
-never_forged domain plan s r id v m mine seat there u o at is apart = (
-  (λ left right splits. (cut_left domain plan s r there u o at is (length left.seen) id v m mine seat apart left right (omega arith) splits, cut_right domain plan s r there u o at is (length right.seen) id v m mine seat apart left right (omega arith) splits)),
-  (λ other w both spent not_me not_there was joins. joined domain plan s r there u o at is (length both.seen) id v m mine seat apart other w both spent not_me not_there was (omega arith) joins),
+pub never_forged : {T : Type 0} (domain : T → TableId) (like : T → T → Type 0) → NoBaySwapIsForged domain like
+never_forged domain like plan s r id v m mine seat there u o at is apart = (
+  (λ left right splits. (cut_left domain like plan s r there u o at is (length left.seen) id v m mine seat apart left right (omega arith) splits, cut_right domain like plan s r there u o at is (length right.seen) id v m mine seat apart left right (omega arith) splits)),
+  (λ other w both spent not_me not_there was joins. joined domain like plan s r there u o at is (length both.seen) id v m mine seat apart other w both spent not_me not_there was (omega arith) joins),
 )

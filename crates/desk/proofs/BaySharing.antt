@@ -14,9 +14,9 @@ use Rattle.desk.specs.BayRule.{StandsFor, IsThere, Fits, Kept, founder, bearer, 
 use Rattle.desk.proofs.Turns.{beginning_empty}
 use Rattle.desk.proofs.Keeping.{views_set, views_new, given, given_here, given_else}
 
-module _ {T : Type 0} (domain : T → TableId) (plan : Plan T) where
+module _ {T : Type 0} (domain : T → TableId) (like : T → T → Type 0) (plan : Plan T) where
   -- the same words, slot and swaps, and other views
-  reviewed : (s : State (Option T) (View T)) (r : Kept domain plan s) (views : List (View T)) (seat_of : ℕ → ℕ) → ((j : ℕ) (v : View T) → get_elem? views j ≡ some v → Fits plan r.swaps seat_of j v) → Kept domain plan record { words = s.words; homes = s.homes; views = views }
+  reviewed : (s : State (Option T) (View T)) (r : Kept domain like plan s) (views : List (View T)) (seat_of : ℕ → ℕ) → ((j : ℕ) (v : View T) → get_elem? views j ≡ some v → Fits plan r.swaps seat_of j v) → Kept domain like plan record { words = s.words; homes = s.homes; views = views }
   reviewed s r views seat_of each = record {
     swaps = r.swaps;
     seat_of = seat_of;
@@ -25,6 +25,8 @@ module _ {T : Type 0} (domain : T → TableId) (plan : Plan T) where
     legal = r.legal;
     first_of_domain = r.first_of_domain;
     of_domain = r.of_domain;
+    first_alike = r.first_alike;
+    alike = r.alike;
     each_view = each;
   }
 
@@ -33,13 +35,13 @@ module _ {T : Type 0} (domain : T → TableId) (plan : Plan T) where
       → (j : ℕ) (v : View T) → get_elem? (set views id left ++ right ∷ []) j ≡ some v → K j v
   both_views K views id left right l r others = views_new K (set views id left) right (subst (λ z. K z right) (sym (length-set views id left)) r) (λ j v _ e. views_set K views id left l others j v e)
 
-  pub gives_token : (id : ℕ) (v : View T) → Splits (Kept domain plan) id v v (bearer v)
+  pub gives_token : (id : ℕ) (v : View T) → Splits (Kept domain like plan) id v v (bearer v)
   gives_token id v s r at = let f = r.each_view id v at in reviewed s r (set s.views id v ++ bearer v ∷ []) r.seat_of
       (both_views (Fits plan r.swaps r.seat_of) s.views id v (bearer v) f
       record { seen = f.seen; told = beginning_empty r.swaps; there = tt; alone = λ n h. absurd h; own = λ n h. absurd h; of_plan = λ n h. absurd h }
       (λ j d _ e. r.each_view j d e))
 
-  pub takes_token : (id : ℕ) (v : View T) (other : ℕ) (w : View T) → Joins (Kept domain plan) id v other w (informed v w) spent
+  pub takes_token : (id : ℕ) (v : View T) (other : ℕ) (w : View T) → Joins (Kept domain like plan) id v other w (informed v w) spent
   takes_token id v other w s r at apart there =
       let f = r.each_view id v at in
       let was : get_elem? s.views other ≡ some w = ⊎_elim (λ (t : (other ≡ id) × (informed v w ≡ w)). absurd (apart t.0)) (λ (t : (other ≢ id) × (get_elem? s.views other ≡ some w)). t.1) (at_set s.views id other (informed v w) w there) in
@@ -50,7 +52,7 @@ module _ {T : Type 0} (domain : T → TableId) (plan : Plan T) where
 
   -- Dealing
 
-  pub deals : (id : ℕ) (v : View T) (k : ℕ) → v.role ≡ Dealer k → v.seen ≡ [] → k < plan.seats → Splits (Kept domain plan) id v (dealer v) (dealt v)
+  pub deals : (id : ℕ) (v : View T) (k : ℕ) → v.role ≡ Dealer k → v.seen ≡ [] → k < plan.seats → Splits (Kept domain like plan) id v (dealer v) (dealt v)
   deals id v k is none lt s r at =
       let f = r.each_view id v at in
       let m : ℕ = length s.views in
@@ -96,8 +98,8 @@ module _ {T : Type 0} (domain : T → TableId) (plan : Plan T) where
   }
   first_view (suc j) v e = absurd (some-ne-none v (sym e))
 
-  pub opens : (words : List ℕ) (slots : List (Option T)) (value : T) → words ≡ 0 ∷ [] → slots ≡ Some value ∷ [] → plan.first.value ≡ value → domain value ≡ plan.home → Kept domain plan (opening words slots (founder plan))
-  opens words slots value w is first of = subst (λ (z : List ℕ × List (Option T)). Kept domain plan (opening z.0 z.1 (founder plan))) (λ i. (sym w i, sym is i)) record {
+  pub opens : (words : List ℕ) (slots : List (Option T)) (value : T) → words ≡ 0 ∷ [] → slots ≡ Some value ∷ [] → plan.first.value ≡ value → domain value ≡ plan.home → like value value → Kept domain like plan (opening words slots (founder plan))
+  opens words slots value w is first of alike = subst (λ (z : List ℕ × List (Option T)). Kept domain like plan (opening z.0 z.1 (founder plan))) (λ i. (sym w i, sym is i)) record {
     swaps = [];
     seat_of = λ _. 0;
     words = refl;
@@ -105,5 +107,7 @@ module _ {T : Type 0} (domain : T → TableId) (plan : Plan T) where
     legal = tt;
     first_of_domain = ap domain first ∙ of;
     of_domain = ap domain first ∙ of;
+    first_alike = subst (λ z. like z z) (sym first) alike;
+    alike = subst (λ z. like z z) (sym first) alike;
     each_view = first_view;
   }

@@ -70,9 +70,9 @@ module _ {T : Type 0} where
       let other : one.holder ≢ k = λ e. true≢false (sym one.holding ∙ (ap (λ n. holds_behind n swaps) e ∙ free)) in
       (one.holder, one.there, other, holds_other one.holder swaps made (λ e. other (sym e ∙ by)) ∙ one.holding)
 
-module _ {T : Type 0} (domain : T → TableId) (plan : Plan T) where
+module _ {T : Type 0} (domain : T → TableId) (like : T → T → Type 0) (plan : Plan T) where
   pub takes_here : (slots id : ℕ) (home : TableId) (seats : ℕ) (first : Option T) (k : ℕ) (seen : List (Swap T)) → holds_behind k seen ≡ false
-      → Allows (Kept domain plan) slots id (sitting home seats first k seen [], []) 0 (λ _. 1) (Takes domain (sitting home seats first k seen [], []))
+      → Allows (Kept domain like plan) slots id (sitting home seats first k seen [], []) 0 (λ _. 1) (Takes domain like (sitting home seats first k seen [], []))
   takes_here slots id home seats first k seen free s r wide at few =
       let v : View T = sitting home seats first k seen [] in
       let f = r.each_view id v at in
@@ -96,6 +96,8 @@ module _ {T : Type 0} (domain : T → TableId) (plan : Plan T) where
           legal = legal';
           first_of_domain = r.first_of_domain;
           of_domain = subst (λ (z : Option T). IfSome z (λ x. domain x ≡ plan.home)) (sym left_is) tt;
+          first_alike = r.first_alike;
+          alike = subst (λ (z : Option T). IfSome z (λ x. like plan.first.value x)) (sym left_is) tt;
           each_view = views_set (Fits plan swaps' r.seat_of) s.views id w
               record { seen = beginning_refl swaps'; told = beginning_empty swaps'; there = f.there; alone = f.alone; own = λ n _. refl; of_plan = λ n _. of }
               (λ j z ne e. fits_more plan r.swaps made r.seat_of id j z (f.alone k refl) ne (r.each_view j z e));
@@ -104,6 +106,7 @@ module _ {T : Type 0} (domain : T → TableId) (plan : Plan T) where
           found = lay;
           word = ap (λ ws. get_or ws 0 0) r.words;
           of_domain = subst (λ z. IfSome lay (λ x. domain x ≡ z)) (sym of.0) r.of_domain;
+          alike = subst (λ (z : Option T). IfSome lay (λ x. IfSome z (λ y. like y x))) (sym of.2) r.alike;
           now = ap (λ c. (w, c)) (now_carried lay);
           swap = λ table. record {
             same = refl;
@@ -120,9 +123,9 @@ module _ {T : Type 0} (domain : T → TableId) (plan : Plan T) where
         },
       )
 
-  pub puts_here : (slots id : ℕ) (home : TableId) (seats : ℕ) (first : Option T) (k : ℕ) (seen : List (Swap T)) (x : T) → holds_behind k seen ≡ true → domain x ≡ home
-      → Allows (Kept domain plan) slots id (sitting home seats first k seen [], (0, Some x) ∷ []) 0 (λ _. 0) (λ n m'. Puts (sitting home seats first k seen [], (0, Some x) ∷ []) m')
-  puts_here slots id home seats first k seen x held ok s r wide at few =
+  pub puts_here : (slots id : ℕ) (home : TableId) (seats : ℕ) (first : Option T) (k : ℕ) (seen : List (Swap T)) (x : T) → holds_behind k seen ≡ true → domain x ≡ home → IfSome first (λ y. like y x)
+      → Allows (Kept domain like plan) slots id (sitting home seats first k seen [], (0, Some x) ∷ []) 0 (λ _. 0) (λ n m'. Puts (sitting home seats first k seen [], (0, Some x) ∷ []) m')
+  puts_here slots id home seats first k seen x held ok fits s r wide at few =
       let v : View T = sitting home seats first k seen [] in
       let f = r.each_view id v at in
       let of : IsOf plan v = f.of_plan k refl in
@@ -145,6 +148,8 @@ module _ {T : Type 0} (domain : T → TableId) (plan : Plan T) where
           legal = legal';
           first_of_domain = r.first_of_domain;
           of_domain = subst (λ (z : Option T). IfSome z (λ y. domain y ≡ plan.home)) (sym left_is) (ok ∙ of.0);
+          first_alike = r.first_alike;
+          alike = subst (λ (z : Option T). IfSome z (λ y. like plan.first.value y)) (sym left_is) (subst (λ (z : Option T). IfSome z (λ y. like y x)) of.2 fits);
           each_view = views_set (Fits plan swaps' r.seat_of) s.views id w
               record { seen = beginning_refl swaps'; told = beginning_empty swaps'; there = f.there; alone = f.alone; own = λ n _. refl; of_plan = λ n _. of }
               (λ j z ne e. fits_more plan r.swaps made r.seat_of id j z (f.alone k refl) ne (r.each_view j z e));
@@ -164,8 +169,8 @@ module _ {T : Type 0} (domain : T → TableId) (plan : Plan T) where
       )
 
   -- a load changes no word
-  unmoved : (s : State (Option T) (View T)) (r : Kept domain plan s) (id : ℕ) (cs : List (ℕ × Option T)) (w : View T) → Fits plan r.swaps r.seat_of id w → Kept domain plan (stepped s 0 (get_or s.words 0 0) id cs w keeps)
-  unmoved s r id cs w fits = subst (λ (ws : List ℕ). Kept domain plan record { words = ws; homes = s.homes; views = set s.views id w }) (sym (set-get_or s.words 0 0)) record {
+  unmoved : (s : State (Option T) (View T)) (r : Kept domain like plan s) (id : ℕ) (cs : List (ℕ × Option T)) (w : View T) → Fits plan r.swaps r.seat_of id w → Kept domain like plan (stepped s 0 (get_or s.words 0 0) id cs w keeps)
+  unmoved s r id cs w fits = subst (λ (ws : List ℕ). Kept domain like plan record { words = ws; homes = s.homes; views = set s.views id w }) (sym (set-get_or s.words 0 0)) record {
     swaps = r.swaps;
     seat_of = r.seat_of;
     words = r.words;
@@ -173,11 +178,13 @@ module _ {T : Type 0} (domain : T → TableId) (plan : Plan T) where
     legal = r.legal;
     first_of_domain = r.first_of_domain;
     of_domain = r.of_domain;
+    first_alike = r.first_alike;
+    alike = r.alike;
     each_view = views_set (Fits plan r.swaps r.seat_of) s.views id w fits (λ j z ne e. r.each_view j z e);
   }
 
   pub finds_all_here : (slots id : ℕ) (home : TableId) (seats : ℕ) (first : Option T) (k : ℕ) (seen told : List (Swap T)) (cs : List (ℕ × Option T))
-      → Allows (Kept domain plan) slots id (sitting home seats first k seen told, cs) 0 (λ n. n) (λ n m'. FindsAll (sitting home seats first k seen told, cs) m')
+      → Allows (Kept domain like plan) slots id (sitting home seats first k seen told, cs) 0 (λ n. n) (λ n m'. FindsAll (sitting home seats first k seen told, cs) m')
   finds_all_here slots id home seats first k seen told cs s r wide at few =
       let v : View T = sitting home seats first k seen told in
       let f = r.each_view id v at in
@@ -202,7 +209,7 @@ module _ {T : Type 0} (domain : T → TableId) (plan : Plan T) where
       )
 
   pub admits_here : (slots id : ℕ) (home : TableId) (seats : ℕ) (first : Option T) (k : ℕ) (seen told : List (Swap T)) (cs : List (ℕ × Option T)) → IsBeginning seen told
-      → Allows (Kept domain plan) slots id (sitting home seats first k seen told, cs) 0 (λ n. n) (λ n m'. Admits (sitting home seats first k seen told, cs) m')
+      → Allows (Kept domain like plan) slots id (sitting home seats first k seen told, cs) 0 (λ n. n) (λ n m'. Admits (sitting home seats first k seen told, cs) m')
   admits_here slots id home seats first k seen told cs covered s r wide at few =
       let v : View T = sitting home seats first k seen told in
       let f = r.each_view id v at in

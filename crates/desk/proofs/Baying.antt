@@ -65,11 +65,11 @@ module _ {T : Type 0} where
   word_some None n is e = absurd (e is)
   word_some (Some x) n is e = (x, refl)
 
-  pub takes_as : (domain : T → TableId) (plan : Plan T) (slots id : ℕ) (m : Sat T) → AtBay m → holds_behind (number_of m.0.role) m.0.seen ≡ false → Allows (Kept domain plan) slots id m 0 (λ _. 1) (Takes domain m)
-  takes_as domain plan slots id m is free = subst (λ (z : Sat T). Allows (Kept domain plan) slots id z 0 (λ _. 1) (Takes domain z)) (sym (is ∙ ap (λ b. (record m.0 { role = Sits (number_of m.0.role); told = [] }, emptied b)) free))
-      (takes_here domain plan slots id m.0.home m.0.seats m.0.first (number_of m.0.role) m.0.seen free)
+  pub takes_as : (domain : T → TableId) (like : T → T → Type 0) (plan : Plan T) (slots id : ℕ) (m : Sat T) → AtBay m → holds_behind (number_of m.0.role) m.0.seen ≡ false → Allows (Kept domain like plan) slots id m 0 (λ _. 1) (Takes domain like m)
+  takes_as domain like plan slots id m is free = subst (λ (z : Sat T). Allows (Kept domain like plan) slots id z 0 (λ _. 1) (Takes domain like z)) (sym (is ∙ ap (λ b. (record m.0 { role = Sits (number_of m.0.role); told = [] }, emptied b)) free))
+      (takes_here domain like plan slots id m.0.home m.0.seats m.0.first (number_of m.0.role) m.0.seen free)
 
-  module _ (domain : T → TableId) (m : Sat T) (n : ℕ) (m' : Sat T) (t : Takes domain m n m') where
+  module _ (domain : T → TableId) (like : T → T → Type 0) (m : Sat T) (n : ℕ) (m' : Sat T) (t : Takes domain like m n m') where
     same_view : m'.0 ≡ record m.0 { seen = m'.0.seen }
     same_view = ap (λ (z : Sat T). z.0) t.now
 
@@ -126,6 +126,9 @@ module _ {T : Type 0} where
         pub taken_domain : IfSome result (λ x. domain x ≡ m.0.home)
         taken_domain = subst (λ (z : Option T). IfSome z (λ x. domain x ≡ m.0.home)) (sym result_is) t.of_domain
 
+        pub taken_alike : IfSome result (λ x. IfSome m.0.first (λ y. like y x))
+        taken_alike = subst (λ (z : Option T). IfSome z (λ x. IfSome m.0.first (λ y. like y x))) (sym result_is) t.alike
+
         pub at_bay_taken : AtBay m → AtBay m2
         at_bay_taken is = at_bay m2
             (same_role m' m2 (ap (λ (z : View T). z.role) view_is) (taken_role is))
@@ -149,11 +152,11 @@ module _ {T : Type 0} where
   filled : (m m1 : Sat T) (x : T) → AtBay m → holds_behind (number_of m.0.role) m.0.seen ≡ true → m1 ≡ (m.0, (0, Some x) ∷ rest m.1) → m1.1 ≡ (0, Some x) ∷ []
   filled m m1 x is held wrote = ap (λ (z : Sat T). z.1) wrote ∙ ap (λ l. (0, Some x) ∷ rest l) (empty_slot m is held)
 
-  pub puts_as : (domain : T → TableId) (plan : Plan T) (slots id : ℕ) (m m1 : Sat T) (x : T) → AtBay m → holds_behind (number_of m.0.role) m.0.seen ≡ true → m1 ≡ (m.0, (0, Some x) ∷ rest m.1) → domain x ≡ m.0.home
-      → Allows (Kept domain plan) slots id m1 0 (λ _. 0) (λ n m'. Puts m1 m')
-  puts_as domain plan slots id m m1 x is held wrote ok =
+  pub puts_as : (domain : T → TableId) (like : T → T → Type 0) (plan : Plan T) (slots id : ℕ) (m m1 : Sat T) (x : T) → AtBay m → holds_behind (number_of m.0.role) m.0.seen ≡ true → m1 ≡ (m.0, (0, Some x) ∷ rest m.1) → domain x ≡ m.0.home → IfSome m.0.first (λ y. like y x)
+      → Allows (Kept domain like plan) slots id m1 0 (λ _. 0) (λ n m'. Puts m1 m')
+  puts_as domain like plan slots id m m1 x is held wrote ok fits =
       let e : m1 ≡ (record m.0 { role = Sits (number_of m.0.role); told = [] }, (0, Some x) ∷ []) = wrote ∙ (λ q. ((is q).0, (0, Some x) ∷ rest (empty_slot m is held q))) in
-      subst (λ (z : Sat T). Allows (Kept domain plan) slots id z 0 (λ _. 0) (λ n m'. Puts z m')) (sym e) (puts_here domain plan slots id m.0.home m.0.seats m.0.first (number_of m.0.role) m.0.seen x held ok)
+      subst (λ (z : Sat T). Allows (Kept domain like plan) slots id z 0 (λ _. 0) (λ n m'. Puts z m')) (sym e) (puts_here domain like plan slots id m.0.home m.0.seats m.0.first (number_of m.0.role) m.0.seen x held ok fits)
 
   module _ (m m1 m2 : Sat T) (x : T) (is : AtBay m) (held : holds_behind (number_of m.0.role) m.0.seen ≡ true) (wrote : m1 ≡ (m.0, (0, Some x) ∷ rest m.1)) (p : Puts m1 m2) where
     put_view : m1.0 ≡ m.0
@@ -177,15 +180,15 @@ module _ {T : Type 0} where
 
   -- Loads
 
-  pub finds_all_as : (domain : T → TableId) (plan : Plan T) (slots id : ℕ) (m m1 : Sat T) (o : View T) → AtBay m → m1 ≡ (informed m.0 (bearer o), m.1) → Allows (Kept domain plan) slots id m1 0 (λ n. n) (λ n m'. FindsAll m1 m')
-  finds_all_as domain plan slots id m m1 o is joined =
+  pub finds_all_as : (domain : T → TableId) (like : T → T → Type 0) (plan : Plan T) (slots id : ℕ) (m m1 : Sat T) (o : View T) → AtBay m → m1 ≡ (informed m.0 (bearer o), m.1) → Allows (Kept domain like plan) slots id m1 0 (λ n. n) (λ n m'. FindsAll m1 m')
+  finds_all_as domain like plan slots id m m1 o is joined =
       let e : m1 ≡ (record m.0 { role = Sits (number_of m.0.role); told = o.seen }, m.1) = joined ∙ (λ q. (record m.0 { role = role_of m is q; told = o.seen }, m.1)) in
-      subst (λ (z : Sat T). Allows (Kept domain plan) slots id z 0 (λ n. n) (λ n m'. FindsAll z m')) (sym e) (finds_all_here domain plan slots id m.0.home m.0.seats m.0.first (number_of m.0.role) m.0.seen o.seen m.1)
+      subst (λ (z : Sat T). Allows (Kept domain like plan) slots id z 0 (λ n. n) (λ n m'. FindsAll z m')) (sym e) (finds_all_here domain like plan slots id m.0.home m.0.seats m.0.first (number_of m.0.role) m.0.seen o.seen m.1)
 
-  pub admits_as : (domain : T → TableId) (plan : Plan T) (slots id : ℕ) (m m1 : Sat T) (o : View T) → AtBay m → m1 ≡ (informed m.0 (bearer o), m.1) → IsBeginning m.0.seen o.seen → Allows (Kept domain plan) slots id m1 0 (λ n. n) (λ n m'. Admits m1 m')
-  admits_as domain plan slots id m m1 o is joined covered =
+  pub admits_as : (domain : T → TableId) (like : T → T → Type 0) (plan : Plan T) (slots id : ℕ) (m m1 : Sat T) (o : View T) → AtBay m → m1 ≡ (informed m.0 (bearer o), m.1) → IsBeginning m.0.seen o.seen → Allows (Kept domain like plan) slots id m1 0 (λ n. n) (λ n m'. Admits m1 m')
+  admits_as domain like plan slots id m m1 o is joined covered =
       let e : m1 ≡ (record m.0 { role = Sits (number_of m.0.role); told = o.seen }, m.1) = joined ∙ (λ q. (record m.0 { role = role_of m is q; told = o.seen }, m.1)) in
-      subst (λ (z : Sat T). Allows (Kept domain plan) slots id z 0 (λ n. n) (λ n m'. Admits z m')) (sym e) (admits_here domain plan slots id m.0.home m.0.seats m.0.first (number_of m.0.role) m.0.seen o.seen m.1 covered)
+      subst (λ (z : Sat T). Allows (Kept domain like plan) slots id z 0 (λ n. n) (λ n m'. Admits z m')) (sym e) (admits_here domain like plan slots id m.0.home m.0.seats m.0.first (number_of m.0.role) m.0.seen o.seen m.1 covered)
 
   module _ (m m1 m2 : Sat T) (o : View T) (is : AtBay m) (joined : m1 ≡ (informed m.0 (bearer o), m.1)) where
     told_view : m1.0 ≡ record m.0 { told = o.seen }

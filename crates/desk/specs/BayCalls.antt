@@ -1,5 +1,5 @@
 -- What the calls of a bay and of its seats do.
-use Rattle.std.specs.Prelude.{◌≡◌, ◌≢◌, ℕ, ◌<◌, Bool, true, List, [], ◌∷◌, ◌++◌, length, slice_index_or, Option, Some}
+use Rattle.std.specs.Prelude.{◌≡◌, ◌≢◌, ℕ, ◌<◌, Bool, true, List, [], ◌∷◌, ◌++◌, length, slice_index_or, Option, Some, IfSome}
 use Rattle.atomic_table.specs.Seated.{TableId}
 use Rattle.desk.specs.Swaps.{Swap, lies_after, swaps_of, IsBeginning}
 use Rattle.desk.specs.Holding.{holds_behind, IsLegal}
@@ -13,6 +13,10 @@ module _ {T : Type 0} where
   -- what lies in the bay behind the swaps that the seat has seen
   abbrev pub lies : BaySeatView T → Option T
   lies v = lies_after v.first v.seen
+
+  -- the value is like the one that lay there first
+  abbrev pub IsLikeFirst : (T → T → Type 0) → BaySeatView T → T → Type 0
+  IsLikeFirst like v x = IfSome v.first (λ y. like y x)
 
   -- the seat is one of the bay's, something lay there first, and what it has seen are legal swaps
   pub record HasSeenLegal (v : BaySeatView T) : Type 0 where

@@ -28,16 +28,17 @@ module _ {T : Type 0} where
   carried (Some x) = (0, Some x) ∷ []
 
   -- the seat has what lay there
-  pub record Takes (domain : T → TableId) (m : Sat T) (n : ℕ) (m' : Sat T) : Type 0 where
+  pub record Takes (domain : T → TableId) (like : T → T → Type 0) (m : Sat T) (n : ℕ) (m' : Sat T) : Type 0 where
     pub found : Option T
     pub word : n ≡ word_of found
     pub of_domain : IfSome found (λ x. domain x ≡ m.0.home)
+    pub alike : IfSome found (λ x. IfSome m.0.first (λ y. like y x))
     pub now : m' ≡ (record m.0 { seen = m'.0.seen }, carried found)
     pub swap : (table : TableId) → MakesSwap (as_bay_seat table m.0) None found (as_bay_seat table m'.0)
     pub elsewhere : (table : TableId) → found ≡ None → IsHeldElsewhere (as_bay_seat table m'.0)
 
-  abbrev pub took : (T → TableId) → Sat T → ℕ → Sat T → Type 0
-  took domain m n m' = Takes domain m n m'
+  abbrev pub took : (T → TableId) → (T → T → Type 0) → Sat T → ℕ → Sat T → Type 0
+  took domain like m n m' = Takes domain like m n m'
 
   -- what the seat had lies there
   pub record Puts (m m' : Sat T) : Type 0 where

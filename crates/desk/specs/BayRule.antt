@@ -59,7 +59,8 @@ module _ {T : Type 0} where
     pub own : (n : ℕ) → StandsFor v.role n → swaps_of n swaps ≡ swaps_of n v.seen
     pub of_plan : (n : ℕ) → StandsFor v.role n → IsOf plan v
 
-  pub record Kept (domain : T → TableId) (plan : Plan T) (s : State (Option T) (View T)) : Type 0 where
+  -- `domain` says of which domain a value is, and `like` which values are like another one
+  pub record Kept (domain : T → TableId) (like : T → T → Type 0) (plan : Plan T) (s : State (Option T) (View T)) : Type 0 where
     pub swaps : List (Swap T)
     pub seat_of : ℕ → ℕ
     pub words : s.words ≡ word_of (lies_now plan swaps) ∷ []
@@ -67,6 +68,8 @@ module _ {T : Type 0} where
     pub legal : IsLegal plan.seats (Some plan.first.value) swaps
     pub first_of_domain : domain plan.first.value ≡ plan.home
     pub of_domain : IfSome (lies_now plan swaps) (λ x. domain x ≡ plan.home)
+    pub first_alike : like plan.first.value plan.first.value
+    pub alike : IfSome (lies_now plan swaps) (λ x. like plan.first.value x)
     pub each_view : (j : ℕ) (v : View T) → get_elem? s.views j ≡ some v → Fits plan swaps seat_of j v
 
   -- Views that are made

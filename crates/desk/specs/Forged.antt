@@ -40,8 +40,8 @@ NoDeskSwapIsForged {T} domain = (plan : Plan) (s : State (Option T) (View T)) �
     × ((other : ℕ) (w both spent : View T) → ¬ (other ≡ id) → ¬ (other ≡ there) → get_elem? s.views other ≡ some w → Joins (desk.Kept domain plan) id v other w both spent → ClaimsNone m v both)
 
 -- the same of a bay, where nobody else has seen such a swap either
-abbrev pub NoBaySwapIsForged : {T : Type 0} → (T → TableId) → Type 0
-NoBaySwapIsForged {T} domain = (plan : bay_plan.Plan T) (s : State (Option T) (bay_view.View T)) → bay.Kept domain plan s → (id : ℕ) (v : bay_view.View T) (m : ℕ) → get_elem? s.views id ≡ some v → bay.StandsFor v.role m
+abbrev pub NoBaySwapIsForged : {T : Type 0} → (T → TableId) → (T → T → Type 0) → Type 0
+NoBaySwapIsForged {T} domain like = (plan : bay_plan.Plan T) (s : State (Option T) (bay_view.View T)) → bay.Kept domain like plan s → (id : ℕ) (v : bay_view.View T) (m : ℕ) → get_elem? s.views id ≡ some v → bay.StandsFor v.role m
     → (there : ℕ) (u : bay_view.View T) (o : ℕ) → get_elem? s.views there ≡ some u → u.role ≡ bay_roles.Sits o → ¬ (there ≡ id)
-    → ((left right : bay_view.View T) → Splits (bay.Kept domain plan) id v left right → HasNoMore m v.seen left.seen × HasNoMore m v.seen right.seen)
-    × ((other : ℕ) (w both spent : bay_view.View T) → ¬ (other ≡ id) → ¬ (other ≡ there) → get_elem? s.views other ≡ some w → Joins (bay.Kept domain plan) id v other w both spent → HasNoMore m v.seen both.seen)
+    → ((left right : bay_view.View T) → Splits (bay.Kept domain like plan) id v left right → HasNoMore m v.seen left.seen × HasNoMore m v.seen right.seen)
+    × ((other : ℕ) (w both spent : bay_view.View T) → ¬ (other ≡ id) → ¬ (other ≡ there) → get_elem? s.views other ≡ some w → Joins (bay.Kept domain like plan) id v other w both spent → HasNoMore m v.seen both.seen)

@@ -30,14 +30,20 @@ pub(crate) const OUT: u64 = 1;
 /// The bay's one slot.
 pub(crate) const SLOT: usize = 0;
 
+/// A value that may lie in a bay. Each that lies there is like the one that lay there first; what that says, contracts
+/// alone see. So whoever finds it knows what all of them share.
+pub trait Alike {
+    ghost like: { Self → Self → Type 0 };
+}
+
 /// One place where a value of one domain lies, or just one seat holds it. A bay that is dropped drops what lies there.
 /// Contracts see which bay it is, its domain, how many seats it has, and what lay there first.
 #[derive(Drop)]
-pub struct Bay<T: Token, A: Allocator = Global> {
+pub struct Bay<T: Token + Alike, A: Allocator = Global> {
     pub(crate) table: Floor<T, A>,
 }
 
-impl<T: Token, A: Allocator> Model for Bay<T, A> {
+impl<T: Token + Alike, A: Allocator> Model for Bay<T, A> {
     ghost use Rattle.desk.specs.BayViews.{BayView};
 
     ghost Value = { BayView T };
@@ -50,7 +56,7 @@ impl<T: Token, A: Allocator> Model for Bay<T, A> {
 }
 
 /// The bay's next seat.
-fn deal<T: Token>(top: &Top<T>, dealer: &mut Place<T>, number: usize) -> BaySeat<T>
+fn deal<T: Token + Alike>(top: &Top<T>, dealer: &mut Place<T>, number: usize) -> BaySeat<T>
     requires there { number < top.now.key.seats }
     requires dealer { IsFounder top.now.key top.now.table_id number dealer.old }
     ensures dealer { IsFounder top.now.key top.now.table_id (number + 1) dealer.new }
@@ -61,7 +67,7 @@ fn deal<T: Token>(top: &Top<T>, dealer: &mut Place<T>, number: usize) -> BaySeat
     }
 }
 
-impl<T: Token + Drop, A: Allocator + Clone> Bay<T, A> {
+impl<T: Token + Alike + Drop, A: Allocator + Clone> Bay<T, A> {
     /// A bay for values of this domain where the value lies, and its seats in the order of their numbers. There may be
     /// no memory for it. The value is dropped then.
     pub fn new(
@@ -70,7 +76,8 @@ impl<T: Token + Drop, A: Allocator + Clone> Bay<T, A> {
         seats: usize,
         home: Home,
     ) -> Result<(Bay<T, A>, Vec<BaySeat<T>, A>), AllocError>
-        requires { T.domain value ≡ home }
+        requires there { T.domain value ≡ home }
+        requires alike { T.like value value }
         ensures bay { IfOk result (λ r. IsNewBay home seats value r.0) }
         ensures seats { IfOk result (λ r. AreNewBaySeats r.0 r.1.items) }
     {

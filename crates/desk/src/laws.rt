@@ -2,6 +2,7 @@
 ghost use Rattle.desk.specs.BayLaws.{OneHolds, GrowsByOne, GrowsByTwo, OneSwap, OneTurn};
 ghost use Rattle.desk.specs.Forged.{NoDeskSwapIsForged, NoBaySwapIsForged};
 
+use crate::bay::Alike;
 use sections::Token;
 
 /// The rule of a bay: behind any legal swaps the value lies there and no seat holds, or nothing lies there and just one
@@ -22,7 +23,7 @@ pub fn swaps_of_a_bay<T: Token>()
 
 /// What contracts see of a seat's swaps, the rules of desk and bay tie to the one list of all swaps: as long as another
 /// seat is elsewhere, no seat gets a swap that it did not make by being cut in two or by taking another in.
-pub fn makers_of_swaps<T: Token>()
+pub fn makers_of_swaps<T: Token + Alike>()
     ensures desk { NoDeskSwapIsForged T.domain }
-    ensures bay { NoBaySwapIsForged T.domain }
+    ensures bay { NoBaySwapIsForged T.domain T.like }
 {}

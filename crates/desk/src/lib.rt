@@ -11,7 +11,7 @@ mod seat;
 mod tests;
 mod view;
 
-pub use bay::Bay;
+pub use bay::{Alike, Bay};
 pub use bay::seat::BaySeat;
 pub use desk::Desk;
 pub use laws::{holders_of_a_bay, makers_of_swaps, swaps_of_a_bay};

@@ -8,10 +8,10 @@ use Rattle.sections.specs.EngineCalls.{IsSeenByEngine, AddsEngineEvent}
 use Rattle.scan.specs.declared.place.Place.{Place}
 use Rattle.scan.specs.declared.place.Place.TheVariants.{Idle, Wanted, Unlocks}
 use Rattle.scan.specs.declared.progress.Progress.TheVariants as answer
-use Rattle.scan.specs.Places.{IsAt}
+use Rattle.scan.specs.Places.{viewed, IsAt}
 use Rattle.scan.specs.Progress.{StepsTo, AdvancesTo}
 use Rattle.scan.specs.Needed.{FindsNeed}
-use Rattle.scan.proofs.Stepping.{viewed, nothing_asked, is_asked, nothing_yet, under_way, arrives}
+use Rattle.scan.proofs.Stepping.{nothing_asked, is_asked, nothing_yet, under_way, arrives}
 use Rattle.scan.proofs.Flips.{started_moves}
 use Rattle.scan.proofs.RowsOfSteps.{answered_at_once, arrives_by}
 

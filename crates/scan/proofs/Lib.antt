@@ -6,3 +6,5 @@ mod Flips
 mod Stepping
 mod Asked
 mod PlaceKept
+mod Driving
+mod ForTests

@@ -14,10 +14,9 @@ use Rattle.sections.proofs.CallerLemmas.{sum_le, unlocks_grow, locks_grow, start
 use Rattle.scan.specs.declared.place.Place.{Place}
 use Rattle.scan.specs.declared.place.Place.TheVariants.{Idle, Wanted, Unlocks, Locks, Passed, Flipped}
 use Rattle.scan.specs.Standings.{not_current}
-use Rattle.scan.specs.Places.{so_far, wanted, began, seen_at_load, BeganScan, InUnlocks, InLocks, IsAt}
+use Rattle.scan.specs.Places.{so_far, wanted, began, viewed, seen_at_load, BeganScan, InUnlocks, InLocks, IsAt}
 use Rattle.scan.specs.Progress.{is_counter_load, counter_loads, with_seat}
 use Rattle.scan.proofs.Scans.{same_scanned, no_start, still_scanning, began_still, seen_still}
-use Rattle.scan.proofs.Stepping.{viewed}
 
 -- only loads were made, and none of a counter
 pub record OnlySees (e f : EngineView) : Type 0 where

@@ -6,10 +6,10 @@ use Rattle.scan.specs.declared.place.Place.{Place}
 use Rattle.scan.specs.declared.place.Place.TheVariants.{Idle, Unlocks, Locks}
 use Rattle.scan.specs.declared.progress.Progress.{Progress}
 use Rattle.scan.specs.declared.progress.Progress.TheVariants.{Step}
-use Rattle.scan.specs.Places.{IsAt, Moves}
+use Rattle.scan.specs.Places.{viewed, IsAt, Moves}
 use Rattle.scan.specs.Progress.{ScanView, AdvancesTo}
 use Rattle.scan.specs.Rows.{Stand, MovesBy, MovesThrough, MovesUntil}
-use Rattle.scan.proofs.Stepping.{viewed, steps_from, not_idle, IsUnderWay, under_way, arrives}
+use Rattle.scan.proofs.Stepping.{steps_from, not_idle, IsUnderWay, under_way, arrives}
 
 joined : (xs ys : List Stand) (s t u : Stand) → MovesBy s xs t → MovesBy t ys u → MovesBy s (xs ++ ys) u
 joined [] ys s t u same after = subst (λ z. MovesBy z ys u) same after

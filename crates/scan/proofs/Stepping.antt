@@ -13,15 +13,11 @@ use Rattle.scan.specs.declared.place.Place.{Place}
 use Rattle.scan.specs.declared.place.Place.TheVariants.{Idle, Wanted, Unlocks, Locks, Passed, Flipped}
 use Rattle.scan.specs.declared.progress.Progress.{Progress}
 use Rattle.scan.specs.declared.progress.Progress.TheVariants as answer
-use Rattle.scan.specs.Places.{so_far, began, wanted, IsScanning, IsAt, Moves}
+use Rattle.scan.specs.Places.{so_far, wanted, viewed, IsScanning, IsAt, Moves}
 use Rattle.scan.specs.declared.progress.Exhausted.{Exhausted}
 use Rattle.scan.specs.Standings.{number_at_rest, steps_for, events_of, changes_for, changes_so_far, FirstLoaded, WaitsFor, Says, Counts, StepsThrough}
 use Rattle.scan.specs.Progress.{ScanView, standing_of, Shows, NeedsLoaded, GetsOn, StepsTo, AdvancesTo, FindsExhausted}
 use Rattle.onedom.proofs.CallerLemmas.{length_grows}
-
-module _ {N : Type 0} where
-  abbrev pub viewed : EngineView → N → Place → ScanView N
-  viewed e needs place = record { seat = e; needs = needs; need = wanted place; so_far = so_far e.processors place; began = began e place }
 
 pub half_few : (e : EngineView) (p : Place) → IsAt e p → 1 ≤ e.processors → so_far e.processors p ≤ 2 * e.processors + 1
 half_few e Idle at some = omega arith

@@ -1,15 +1,20 @@
--- How the fields of an engine are seen, and what is always true of them.
-use Rattle.std.specs.Prelude.{◌≤◌}
-use Rattle.sections.specs.EngineCalls.{IsSeenByEngine}
+-- How the fields of an engine, of its place and of the place's seats are seen, and what is always true of them.
+use Rattle.sections.specs.EngineCalls.{IsTied}
 use Rattle.scan.specs.declared.engine.Engine.TheInside as engine
-use Rattle.scan.specs.Places.{so_far, began, wanted, IsAt}
+use Rattle.scan.specs.declared.tied.Tied.TheInside as tied
+use Rattle.scan.specs.Places.{viewed, IsReady}
 use Rattle.scan.specs.Progress.{ScanView}
 
 module _ {N A : Type 0} where
   abbrev pub view_of_engine : engine.Inside N A → ScanView N
-  view_of_engine e = record { seat = e.seat; needs = e.needs; need = wanted e.place; so_far = so_far e.seat.processors e.place; began = began e.seat e.place }
+  view_of_engine e = viewed e.seat e.needs e.place
 
-  pub record IsEngine (e : engine.Inside N A) : Type 0 where
-    pub history : IsSeenByEngine e.seat
-    pub some : 1 ≤ e.seat.processors
-    pub place_is : IsAt e.seat e.place
+  abbrev pub IsEngine : engine.Inside N A → Type 0
+  IsEngine e = IsReady e.seat e.place
+
+  abbrev pub view_of_tied : tied.Inside N A → ScanView N
+  view_of_tied t = t.engine
+
+  -- some processor has seen all that the engine made
+  abbrev pub IsTiedInside : tied.Inside N A → Type 0
+  IsTiedInside t = IsTied t.engine.seat

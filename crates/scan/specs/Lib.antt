@@ -5,4 +5,7 @@ pub mod Progress
 pub mod Places
 pub mod Needed
 pub mod Rows
+pub mod Stations
+pub mod Refusals
 pub mod Insides
+pub mod StationInsides

@@ -9,7 +9,7 @@ use Rattle.sections.specs.Words.{number_word, locks, unlocks, sum_below, all_unl
 use Rattle.sections.specs.Views.{EngineView}
 use Rattle.sections.specs.EngineCalls.{IsSeenByEngine, IsSameEngine}
 use Rattle.scan.specs.Standings.{Standing, current, not_current, events_of, FirstLoaded, Counts, IsAnswered}
-use Rattle.scan.specs.Progress.{IsStepAt, counter_loads, Shows}
+use Rattle.scan.specs.Progress.{ScanView, IsStepAt, counter_loads, Shows}
 use Rattle.scan.specs.declared.place.Place.{Place}
 use Rattle.scan.specs.declared.place.Place.TheVariants.{Idle, Wanted, Unlocks, Locks, Passed, Flipped}
 use Rattle.scan.specs.declared.progress.Progress.{Progress}
@@ -104,6 +104,16 @@ IsAt e (Unlocks p ended) = InUnlocks e p ended
 IsAt e (Locks p ended begun) = InLocks e p ended begun
 IsAt e Passed = HasPassed e
 IsAt e (Flipped i) = IsHalfFlipped e i
+
+-- an engine with this seat and these needs, at this place
+abbrev pub viewed : {N : Type 0} → EngineView → N → Place → ScanView N
+viewed e needs place = record { seat = e; needs = needs; need = wanted place; so_far = so_far e.processors place; began = began e place }
+
+-- what is always true of an engine's seat and place
+pub record IsReady (e : EngineView) (place : Place) : Type 0 where
+  pub history : IsSeenByEngine e
+  pub some : 1 ≤ e.processors
+  pub place_is : IsAt e place
 
 -- how far the domain has come at this place
 abbrev pub standing_at : EngineView → Place → Standing

@@ -96,6 +96,14 @@ module _ {N : Type 0} where
   abbrev pub with_seat : EngineView → ScanView N → ScanView N
   with_seat seat v = record v { seat = seat }
 
+  abbrev pub with_needs : N → ScanView N → ScanView N
+  with_needs needs v = record v { needs = needs }
+
+  -- the engine did this work with needs that it was handed, which were n and are n'. Its own ones did nothing
+  pub record WorksFor (n n' : N) (work : ScanView N → ScanView N → Type 0) (v w : ScanView N) : Type 0 where
+    pub works : work (with_needs n v) (with_needs n' w)
+    pub own : w.needs ≡ v.needs
+
   -- `loads` says what one load of the needs does
   module _ (loads : N → ℕ → N → Type 0) where
     -- the need is loaded at rest where nothing is half done, once, and nowhere else; `need` is the number that is then found to be asked for, or that was found before

@@ -1,19 +1,16 @@
 //! The engine.
 ghost use Rattle.std.specs.Prelude.{◌≡◌, ℕ, ◌+◌, ◌*◌, ◌^◌, ◌≤◌, [], MatchResult};
-ghost use Rattle.std.specs.Borrow.{Lends, sem};
 ghost use Rattle.onedom.specs.Histories.{IsBeginning};
 ghost use Rattle.sections.specs.Words.{number_word};
 ghost use Rattle.sections.specs.declared.view.Shown.TheVariants.{To};
 ghost use Rattle.sections.specs.Calls.{Accepts, IsSeenBy};
 ghost use Rattle.sections.specs.EngineCalls.{Covers, IsTied, TiesEngine, Meets, AreInDomain, AreAllCpus, OneHasSeenAll};
-ghost use Rattle.scan.specs.Progress.{StepsTo, AdvancesTo, FindsExhausted, StartsTo, IsNoStart, new_engine, with_seat};
+ghost use Rattle.scan.specs.Progress.{StepsTo, AdvancesTo, FindsExhausted, StartsTo, IsNoStart, WorksFor, new_engine, with_seat};
 
-use crate::needed::find_need;
 use crate::place::Place;
 use crate::progress::{Exhausted, Progress, StartRefusal};
-use crate::rows::go_on;
-use crate::scanning::move_on;
-use sections::{Cpu, EngineSeat};
+use crate::steps::{advance_at, step_at};
+use sections::{Cpu, EngineSeat, Home};
 use sseq::{Needs, Number, Phase, state};
 use std::alloc::{Allocator, Global};
 use std::marker::Model;
@@ -40,8 +37,6 @@ impl<N: Needs, A: Allocator> Model for Engine<N, A> {
 }
 
 impl<N: Needs, A: Allocator> Engine<N, A> {
-    ghost use Rattle.scan.specs.contracts.engine.Engine.{the_row};
-
     /// The engine of a domain in which no grace period was started.
     pub fn new(seat: EngineSeat<A>, needs: N) -> Engine<N, A>
         requires { seat.mine ≡ [] }
@@ -61,20 +56,16 @@ impl<N: Needs, A: Allocator> Engine<N, A> {
     pub fn step(&mut self) -> Result<Progress, Exhausted>
         ensures { MatchResult result (λ answer. StepsTo N.loads self.old answer self.new) (λ _. FindsExhausted N.loads self.old self.new) }
     {
-        match self.place {
-            Place::Idle => {
-                let Some(need) = find_need(&self.seat, &mut self.needs)? else {
-                    return Ok(Progress::Idle);
-                };
-                self.place = Place::Wanted(need);
-                Ok(Progress::Step)
-            }
-            place => {
-                let (next, answer) = move_on(&mut self.seat, place);
-                self.place = next;
-                Ok(answer)
-            }
-        }
+        step_at(&mut self.seat, &mut self.place, &mut self.needs)
+    }
+
+    /// The step that [`Engine::step`] would make with these needs in place of its own, which stay as they are.
+    pub(crate) fn step_for(&mut self, needs: &mut N) -> Result<Progress, Exhausted>
+        ensures { MatchResult result
+            (λ answer. WorksFor needs.old needs.new (λ v w. StepsTo N.loads v answer w) self.old self.new)
+            (λ _. WorksFor needs.old needs.new (FindsExhausted N.loads) self.old self.new) }
+    {
+        step_at(&mut self.seat, &mut self.place, needs)
     }
 
     /// Makes steps until there is an answer, which is never `Step`: those that [`Engine::step`] would make one by one,
@@ -84,21 +75,16 @@ impl<N: Needs, A: Allocator> Engine<N, A> {
     pub fn advance(&mut self) -> Result<Progress, Exhausted>
         ensures { MatchResult result (λ answer. AdvancesTo N.loads self.old answer self.new) (λ _. FindsExhausted N.loads self.old self.new) }
     {
-        match self.place {
-            Place::Idle => {
-                let Some(_) = find_need(&self.seat, &mut self.needs)? else {
-                    return Ok(Progress::Idle);
-                };
-                let started = self.seat.add_start();
-                self.place = Place::SCAN;
-                Ok(Progress::Started(started))
-            }
-            place => {
-                let (next, answer) = go_on(&mut self.seat, place);
-                self.place = next;
-                Ok(answer)
-            }
-        }
+        advance_at(&mut self.seat, &mut self.place, &mut self.needs)
+    }
+
+    /// The steps that [`Engine::advance`] would make with these needs in place of its own, which stay as they are.
+    pub(crate) fn advance_for(&mut self, needs: &mut N) -> Result<Progress, Exhausted>
+        ensures { MatchResult result
+            (λ answer. WorksFor needs.old needs.new (λ v w. AdvancesTo N.loads v answer w) self.old self.new)
+            (λ _. WorksFor needs.old needs.new (FindsExhausted N.loads) self.old self.new) }
+    {
+        advance_at(&mut self.seat, &mut self.place, needs)
     }
 
     /// Starts a grace period, whether it is asked for or not, and answers the number from then on. A need that was
@@ -128,12 +114,12 @@ impl<N: Needs, A: Allocator> Engine<N, A> {
         self.seat.number()
     }
 
-    /// The engine's needs, for what is no step of the engine, as a tie of theirs. Nothing else of it changes.
-    pub fn needs(&mut self) -> &mut N
-        ensures value { result.now ≡ self.old.needs }
-        ensures* writes_back { sem 𝓛 (Lends (the_row N.row A.row N.Needs A.Allocator) N.row self.entry result (λ w. record self.old { needs = w })) }
+    /// The domain that the engine drives. One load, which tells nothing.
+    pub(crate) fn home(&mut self) -> Home
+        ensures home { result ≡ self.old.seat.domain }
+        ensures same { self.new ≡ self.old }
     {
-        &mut self.needs
+        self.seat.home()
     }
 
     /// One load of the index word by the engine, which has then seen what the processor has. Both are of one domain.

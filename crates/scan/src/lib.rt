@@ -1,15 +1,21 @@
 //! The engine that carries a grace period of a sleepable RCU domain from its start to its end, one atomic step at a
-//! time.
+//! time, and the place where it lies between two turns, from which any processor may drive it.
 #![tactic(auto)]
 
 mod engine;
 mod needed;
 mod place;
 mod progress;
+pub mod refusals;
 mod rows;
 mod scanning;
+mod station;
+mod steps;
 #[cfg(test)]
 mod tests;
+mod tied;
 
 pub use engine::Engine;
 pub use progress::{Exhausted, Progress, StartRefusal};
+pub use station::Station;
+pub use station::seat::StationSeat;

@@ -9,6 +9,8 @@ use std::sync::atomic::{AtomicBool, Ordering};
 use std::test::Fail;
 use std::thread::join;
 
+mod station;
+
 const MANY: u64 = 10_000;
 
 fn limits(periods: u64) -> Limits {
@@ -140,24 +142,6 @@ fn starts_what_is_asked_for(rt: HostRuntime) -> Result<(), Fail> {
             Ok(Progress::Idle),
         ]
     );
-    Ok(())
-}
-
-/// Would catch needs that are lent and are not those that the engine loads.
-#[test]
-fn lends_its_needs(rt: HostRuntime) -> Result<(), Fail> {
-    let (_cpus, mut engine) = new_domain(rt.alloc(), 1, 1, 0)?;
-    assert_eq!(rt; engine.advance(), Ok(Progress::Idle));
-    engine.needs().0 = number(1);
-    assert_eq!(rt; engine.advance(), Ok(Progress::Started(number(1))));
-    Ok(())
-}
-
-/// Would catch numbers of refusals that have changed: a status may be made of them.
-#[test]
-fn refusals(rt: HostRuntime) -> Result<(), Fail> {
-    let numbers = [StartRefusal::Running as u8, StartRefusal::Exhausted as u8];
-    assert_eq!(rt; numbers, [1, 2]);
     Ok(())
 }
 

@@ -2,6 +2,7 @@
 ghost use Rattle.desk.specs.BayRule.{Kept, founder, bearer, informed, spent, dealer, dealt};
 ghost use Rattle.desk.specs.BayPlays.{took, put_back, found_all, admitted};
 
+use super::Alike;
 use super::view::{Plan, View};
 use atomic_table::{Join, Play, Seat, Shared, Split, TableRule};
 use sections::Token;
@@ -14,8 +15,8 @@ pub(crate) type Top<T> = Shared<Option<T>, View<T>, Plan<T>, OneHolds<T>>;
 /// The value lies in the bay, or just one seat holds it.
 pub struct OneHolds<T>(PhantomData<T>);
 
-impl<T: Token> TableRule<Option<T>, View<T>, Plan<T>> for OneHolds<T> {
-    ghost holds = { λ plan. Kept T.domain plan };
+impl<T: Token + Alike> TableRule<Option<T>, View<T>, Plan<T>> for OneHolds<T> {
+    ghost holds = { λ plan. Kept T.domain T.like plan };
 
     ghost first = { founder };
 }
@@ -23,8 +24,8 @@ impl<T: Token> TableRule<Option<T>, View<T>, Plan<T>> for OneHolds<T> {
 /// Swap of the word: what lies there comes to the seat.
 pub(crate) struct Take<T>(PhantomData<T>);
 
-impl<T: Token> Play<Option<T>, View<T>> for Take<T> {
-    ghost then = { λ st. took T.domain };
+impl<T: Token + Alike> Play<Option<T>, View<T>> for Take<T> {
+    ghost then = { λ st. took T.domain T.like };
 }
 
 /// Swap of the word: the value lies there again.

@@ -1,9 +1,9 @@
 //! A seat at a bay, and its two swaps.
 ghost use Rattle.std.specs.Prelude.{◌≡◌, true, false, Some, None, IfSome, is_some};
-ghost use Rattle.desk.specs.BayCalls.{holds, lies, MakesSwap, IsHeldElsewhere};
+ghost use Rattle.desk.specs.BayCalls.{holds, lies, MakesSwap, IsHeldElsewhere, IsLikeFirst};
 
 use super::plays::{self, Place};
-use super::{Bay, OUT, SLOT, THERE};
+use super::{Alike, Bay, OUT, SLOT, THERE};
 use sections::Token;
 use std::alloc::Allocator;
 use std::marker::Model;
@@ -28,7 +28,7 @@ impl<T> Model for BaySeat<T> {
     ghost invariant = { IsBaySeat };
 }
 
-impl<T: Token> BaySeat<T> {
+impl<T: Token + Alike> BaySeat<T> {
     /// One swap: the value comes out, and this seat holds from then on. `None` only where another seat held; then
     /// nothing has changed. This seat must not hold.
     pub fn take<A: Allocator>(&mut self, bay: &Bay<T, A>) -> Option<T>
@@ -38,6 +38,7 @@ impl<T: Token> BaySeat<T> {
         ensures holds { holds self.new ≡ is_some result }
         ensures elsewhere { result ≡ None → IsHeldElsewhere self.new }
         ensures domain { IfSome result (λ x. T.domain x ≡ self.old.domain) }
+        ensures alike { IfSome result (λ x. IsLikeFirst T.like self.old x) }
     {
         let top = &bay.table.shared;
         if top.swap::<plays::Take<T>>(&mut self.seat, 0, OUT) == OUT {
@@ -52,6 +53,7 @@ impl<T: Token> BaySeat<T> {
         requires bay { self.old.bay ≡ bay.now.bay }
         requires held { holds self.old ≡ true }
         requires domain { T.domain value ≡ self.old.domain }
+        requires alike { IsLikeFirst T.like self.old value }
         ensures swap { MakesSwap self.old (Some value) None self.new }
         ensures holds { holds self.new ≡ false }
         ensures lies { lies self.new ≡ Some value }

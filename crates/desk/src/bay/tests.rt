@@ -1,7 +1,7 @@
 ghost use Rattle.std.specs.Prelude.{◌≡◌, true, false, IfOk, IfSome, is_some};
 ghost use Rattle.desk.specs.BayCalls.{holds, new_bay_seat};
 
-use super::Bay;
+use super::{Alike, Bay};
 use super::seat::BaySeat;
 use linked_list_allocator::LocalHeap;
 use sections::{EngineSeat, Home, Limits, Made, MakeError, Token, make};
@@ -18,6 +18,10 @@ struct Marked {
 
 impl Token for Marked {
     ghost domain = { λ m. m.home };
+}
+
+impl Alike for Marked {
+    ghost like = { λ m n. n.home ≡ m.home };
 }
 
 /// The engine's seat of a new domain.
@@ -265,6 +269,10 @@ struct Load<'a> {
 
 impl<'a> Token for Load<'a> {
     ghost domain = { λ l. l.home };
+}
+
+impl<'a> Alike for Load<'a> {
+    ghost like = { λ l m. m.home ≡ l.home };
 }
 
 /// A bay with one seat, where a value lies that has memory of this heap.

@@ -4,11 +4,11 @@ ghost use Rattle.desk.specs.Swaps.{IsBeginning};
 ghost use Rattle.desk.specs.BayCalls.{Covers, Accepts, Ties};
 
 use super::seat::BaySeat;
-use super::{Bay, plays};
+use super::{Alike, Bay, plays};
 use sections::Token;
 use std::alloc::Allocator;
 
-impl<T: Token> BaySeat<T> {
+impl<T: Token + Alike> BaySeat<T> {
     /// One load by this seat, which has then seen what the other has.
     pub fn cover<A: Allocator>(&mut self, other: &mut BaySeat<T>, bay: &Bay<T, A>)
         requires bay { self.old.bay ≡ bay.now.bay }

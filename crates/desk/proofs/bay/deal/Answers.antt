@@ -6,7 +6,7 @@ use Rattle.desk.proofs.bay.deal.Goals as goal
 
 pub split_seat-requires : goal.split_seat-requires
 split_seat-requires g c = let d = c.requires.dealer in let one = d.wide in
-    (d.seated, omega (arith, one), deals g.T.Token.domain c.args.top.now.key _ _ c.args.number (ap (λ m. m.0.role) d.me) (ap (λ m. m.0.seen) d.me) c.requires.there)
+    (d.seated, omega (arith, one), deals g.T.Token.domain g.T.Alike.like c.args.top.now.key _ _ c.args.number (ap (λ m. m.0.role) d.me) (ap (λ m. m.0.seen) d.me) c.requires.there)
 
 pub returns : goal.returns
 returns g c = let d = c.requires.dealer in let s = c.split_seat.ensures in record {

@@ -6,4 +6,4 @@ pub returns-clause-desk : goal.returns-clause-desk
 returns-clause-desk g c = desk.never_forged g.T.Token.domain
 
 pub returns-clause-bay : goal.returns-clause-bay
-returns-clause-bay g c = bay.never_forged g.T.Token.domain
+returns-clause-bay g c = bay.never_forged g.T.Token.domain g.T.Alike.like

@@ -7,7 +7,7 @@ use Rattle.desk.proofs.BaySharing.{opens}
 use Rattle.desk.proofs.bay.Bay.new.Goals as goal
 
 pub new-requires : goal.new-requires
-new-requires g c = opens g.T.Token.domain _ _ _ c.args.value refl (c.push_reserved.ensures.items ∙ ap (λ (l : List (Option g.row.T.Denot)). l ++ Some c.args.value ∷ []) c.in_ok-slots.ensures.items) c.of-first.ensures c.requires
+new-requires g c = opens g.T.Token.domain g.T.Alike.like _ _ _ c.args.value refl (c.push_reserved.ensures.items ∙ ap (λ (l : List (Option g.row.T.Denot)). l ++ Some c.args.value ∷ []) c.in_ok-slots.ensures.items) c.of-first.ensures c.requires.there c.requires.alike
 
 pub loop-number-init : goal.loop-number-init
 loop-number-init g c = let t = c.in-Ok.ensures.ok in record {

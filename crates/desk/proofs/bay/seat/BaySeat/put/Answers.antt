@@ -18,7 +18,7 @@ swap-requires g c =
     let one = c.bay.invariant in (
       e.0 ∙ (ap (λ (v : BaySeatView g.row.T.Denot). v.bay) c.self.view_is ∙ (c.requires.bay ∙ sym (ap (λ (b : BayView g.row.T.Denot). b.bay) c.bay.view_is))),
       omega (arith, one),
-      puts_as g.T.Token.domain c.bay.inside.table.shared.key _ _ c.self.inside.seat.me c.exchange-nothing.new.seat.me c.args.value c.self.invariant (rw (← c.self.view_is) at c.requires.held) e.3 (rw (← c.self.view_is) at c.requires.domain),
+      puts_as g.T.Token.domain g.T.Alike.like c.bay.inside.table.shared.key _ _ c.self.inside.seat.me c.exchange-nothing.new.seat.me c.args.value c.self.invariant (rw (← c.self.view_is) at c.requires.held) e.3 (rw (← c.self.view_is) at c.requires.domain) (rw (← c.self.view_is) at c.requires.alike),
     )
 
 pub invariant_of-self : goal.invariant_of-self

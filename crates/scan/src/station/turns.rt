@@ -1,0 +1,129 @@
+//! Driving the engine from its place: a swap that takes it, its work, a tie, and a swap that puts it back.
+ghost use Rattle.std.specs.Prelude.{◌≡◌, true, false, MatchResult};
+ghost use Rattle.desk.specs.BayCalls.{holds};
+ghost use Rattle.scan.specs.Progress.{StepsTo, AdvancesTo, StartsTo, WorksFor};
+ghost use Rattle.scan.specs.Stations.{IsOfStation, FindsBusy, GivesBack, Drives, IsNotDriven, IsNotStarted};
+
+use super::Station;
+use super::seat::StationSeat;
+use crate::engine::Engine;
+use crate::progress::{Exhausted, Progress};
+use crate::refusals::{AdvanceRefusal, Busy, StartRefusal};
+use sections::Cpu;
+use sseq::{Needs, Number};
+use std::alloc::Allocator;
+
+impl<N: Needs, A: Allocator> StationSeat<N, A> {
+    /// Ties the engine to the processor and puts it back. It is tied behind its work: the processor has then seen all
+    /// that it made. An engine that was tied before its work would lie there with a change that no processor has seen.
+    fn give_back(&mut self, station: &Station<N, A>, cpu: &mut Cpu<A>, mut engine: Engine<N, A>)
+        requires station { self.old.bay ≡ station.now.bay }
+        requires held { holds self.old ≡ true }
+        requires domain { (engine.seat.domain ≡ cpu.old.domain) × (engine.seat.domain ≡ self.old.domain) }
+        requires size { IsOfStation self.old engine }
+        ensures back { GivesBack self.old cpu.old engine self.new cpu.new }
+        ensures free { holds self.new ≡ false }
+    {
+        engine.tie(cpu);
+        self.put(station, engine);
+    }
+
+    /// Has the engine make one step (part of `srcu_advance_state`), with these needs in place of its own. The processor
+    /// has then seen what the engine had. A refusal puts the engine back too. Where another seat has the engine the
+    /// answer is `Busy`, and nothing was done but the swap that found the place empty.
+    pub fn step(
+        &mut self,
+        station: &Station<N, A>,
+        cpu: &mut Cpu<A>,
+        needs: &mut N,
+    ) -> Result<Progress, AdvanceRefusal>
+        requires station { self.old.bay ≡ station.now.bay }
+        requires free { holds self.old ≡ false }
+        requires cpu { cpu.old.domain ≡ self.old.domain }
+        ensures free { holds self.new ≡ false }
+        ensures steps { MatchResult result
+            (λ answer. Drives (WorksFor needs.old needs.new (λ v w. StepsTo N.loads v answer w)) self.old cpu.old self.new cpu.new)
+            (λ refusal. IsNotDriven N.loads refusal self.old cpu.old needs.old self.new cpu.new needs.new) }
+    {
+        let Some(mut engine) = self.take(station) else {
+            return Err(AdvanceRefusal::Busy);
+        };
+        let answer = engine.step_for(needs);
+        self.give_back(station, cpu, engine);
+        match answer {
+            Ok(progress) => Ok(progress),
+            Err(Exhausted) => Err(AdvanceRefusal::Exhausted),
+        }
+    }
+
+    /// Has the engine make steps until there is an answer, which is never `Step` (`srcu_advance_state`). Else it is as
+    /// [`StationSeat::step`].
+    pub fn advance(
+        &mut self,
+        station: &Station<N, A>,
+        cpu: &mut Cpu<A>,
+        needs: &mut N,
+    ) -> Result<Progress, AdvanceRefusal>
+        requires station { self.old.bay ≡ station.now.bay }
+        requires free { holds self.old ≡ false }
+        requires cpu { cpu.old.domain ≡ self.old.domain }
+        ensures free { holds self.new ≡ false }
+        ensures advances { MatchResult result
+            (λ answer. Drives (WorksFor needs.old needs.new (λ v w. AdvancesTo N.loads v answer w)) self.old cpu.old self.new cpu.new)
+            (λ refusal. IsNotDriven N.loads refusal self.old cpu.old needs.old self.new cpu.new needs.new) }
+    {
+        let Some(mut engine) = self.take(station) else {
+            return Err(AdvanceRefusal::Busy);
+        };
+        let answer = engine.advance_for(needs);
+        self.give_back(station, cpu, engine);
+        match answer {
+            Ok(progress) => Ok(progress),
+            Err(Exhausted) => Err(AdvanceRefusal::Exhausted),
+        }
+    }
+
+    /// Starts a grace period, whether it is asked for or not, and answers the number from then on (`srcu_gp_start`). The
+    /// processor has then seen what the engine had. A refusal puts the engine back too. `Busy` is as for
+    /// [`StationSeat::step`].
+    pub fn start(
+        &mut self,
+        station: &Station<N, A>,
+        cpu: &mut Cpu<A>,
+    ) -> Result<Number, StartRefusal>
+        requires station { self.old.bay ≡ station.now.bay }
+        requires free { holds self.old ≡ false }
+        requires cpu { cpu.old.domain ≡ self.old.domain }
+        ensures free { holds self.new ≡ false }
+        ensures starts { MatchResult result
+            (λ n. Drives (λ v w. StartsTo v n w) self.old cpu.old self.new cpu.new)
+            (λ refusal. IsNotStarted refusal self.old cpu.old self.new cpu.new) }
+    {
+        let Some(mut engine) = self.take(station) else {
+            return Err(StartRefusal::Busy);
+        };
+        let answer = engine.start();
+        self.give_back(station, cpu, engine);
+        match answer {
+            Ok(number) => Ok(number),
+            Err(refusal) => Err(StartRefusal::of(refusal)),
+        }
+    }
+
+    /// Ties the engine to this processor: both have then seen one history. `Busy` is as for [`StationSeat::step`].
+    pub fn tie(&mut self, station: &Station<N, A>, cpu: &mut Cpu<A>) -> Result<(), Busy>
+        requires station { self.old.bay ≡ station.now.bay }
+        requires free { holds self.old ≡ false }
+        requires cpu { cpu.old.domain ≡ self.old.domain }
+        ensures free { holds self.new ≡ false }
+        ensures ties { MatchResult result
+            (λ _. Drives (λ v w. w ≡ v) self.old cpu.old self.new cpu.new)
+            (λ _. FindsBusy self.old self.new × (cpu.new ≡ cpu.old)) }
+    {
+        let Some(engine) = self.take(station) else {
+            return Err(Busy);
+        };
+        self.give_back(station, cpu, engine);
+        Ok(())
+    }
+}
