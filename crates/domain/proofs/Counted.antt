@@ -22,16 +22,17 @@ use Rattle.sections.specs.Rule.{HasItsMaker, IsProcessor}
 use Rattle.sections.specs.declared.view.Shown.TheVariants.{To}
 use Rattle.sections.specs.Views as sections
 use Rattle.sections.specs.Calls as calls
+use Rattle.sections.specs.Shelves.{IsStart}
 use Rattle.sections.specs.EngineCalls.{IsTied, Covers}
 use Rattle.sections.specs.Words.{number_word, opened_in, closed_in, is_begin, is_end}
-use Rattle.sections.proofs.CallerLemmas.{seen_all}
+use Rattle.sections.proofs.CallerLemmas.{seen_all, start_trans}
 use Rattle.scan.specs.Progress.{with_seat}
 use Rattle.desk.specs.BayViews.{BaySeatView}
 use Rattle.desk.specs.BayCalls.{holds, MakesSwap}
 use Rattle.domain.specs.Views as views
 use Rattle.domain.specs.Views.{DomainView, CpuView, IsOf}
 use Rattle.domain.specs.Counts.{IsJoined, CountsSections, IsHistoryOf, CountsHistory, HasMet, HaveMet, AreAllThere, CountsInAll, AreDeedsOf, HasHeard, CountsCalls}
-use Rattle.domain.specs.Turns.{Takes}
+use Rattle.scan.specs.Stations.{Takes}
 use Rattle.domain.specs.Parts.{Each, AreAllTurns, EngineCovers, CallsCover, EachBecomes, IsHeard}
 use Rattle.domain.proofs.Lending.{turn_same}
 use Rattle.domain.proofs.Staying.{still_fits, still_with_cpu, still_with_calls}
@@ -266,7 +267,7 @@ module _ {J : Type 0} (d : DomainView) (c : CpuView J) (cs cs' : List (CpuView J
   first_is = here 0 c (omega arith)
 
   turn_is : t' ≡ record c.turn { seen = t'.seen }
-  turn_is = turn_same c.turn e0 e3 took t' takes puts
+  turn_is = turn_same c.turn e0 e3 took t' takes.swap puts
 
   each_back : (k : ℕ) (x : CpuView J) → k < length all → HasMet d history (get_or all k x) (get_or after k x)
   each_back zero x lt = record {
@@ -285,6 +286,7 @@ module _ {J : Type 0} (d : DomainView) (c : CpuView J) (cs cs' : List (CpuView J
     same = first_same;
     mine = first_mine;
     seen = accepts_too.seen;
+    texts = start_trans (subst (λ l. IsStart c.cpu.texts l) (sym accepts.texts) accepts.texts_since) (start_trans counts.loads.texts (subst (λ l. IsStart cpu2.texts l) (sym accepts_too.texts) accepts_too.texts_since));
     needs = refl;
     calls = refl;
   }
@@ -296,6 +298,7 @@ module _ {J : Type 0} (d : DomainView) (c : CpuView J) (cs cs' : List (CpuView J
         same = a.same;
         mine = a.mine;
         seen = a.seen;
+        texts = subst (λ l. IsStart (get_or cs k x).cpu.texts l) (sym a.texts) a.texts_since;
         needs = ap (λ (z : CpuView J). z.needs) j.rest;
         calls = ap (λ (z : CpuView J). z.calls) j.rest;
       }
@@ -315,7 +318,7 @@ module _ {J : Type 0} (d : DomainView) (c : CpuView J) (cs cs' : List (CpuView J
     mine = again.step.mine ∙ (covers_all.mine ∙ covers.step.mine);
     changes = changes;
     seen = refl;
-    first = λ x. record { took = took; takes = takes; puts = puts };
+    first = λ x. record { took = took; takes = takes.swap; puts = puts };
     others = other_turns;
   }
 

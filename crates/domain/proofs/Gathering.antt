@@ -7,9 +7,9 @@ use Rattle.desk.specs.BayCalls.{holds, MakesSwap, IsHeldElsewhere}
 use Rattle.desk.proofs.CallerLemmas.{own_between}
 use Rattle.domain.specs.Views.{Engine, CpuView}
 use Rattle.domain.specs.Making.{new_cpu}
-use Rattle.domain.specs.Turns.{Takes}
+use Rattle.scan.specs.Stations.{IsOfStation, Takes}
 use Rattle.domain.specs.Parts.{Each, TurnCovers, AreAllTurns, EachBecomes, IsTurned}
-use Rattle.domain.proofs.Turning.{swaps_beginning_refl, swaps_beginning_trans, no_wait}
+use Rattle.domain.proofs.Turning.{swaps_beginning_trans}
 
 module _ {J : Type 0} where
   -- a swap behind loads is a swap behind what was there before them
@@ -26,9 +26,15 @@ module _ {J : Type 0} where
         history = m.history;
       }
 
-  -- taken with no wait
-  pub taken_at_once : (v t w : BaySeatView Engine) (cpus : List (CpuView J)) (found : Engine) → TurnCovers v cpus t → MakesSwap t None (Some found) w → holds w ≡ true → Takes v found w
-  taken_at_once v t w cpus found h m held = record { vain = 0; waited = v; waits = no_wait v; swap = swap_after_loads v t w cpus None (Some found) h m; holds_now = held }
+  -- taken behind loads
+  pub taken_at_once : (v t w : BaySeatView Engine) (cpus : List (CpuView J)) (found : Engine) → TurnCovers v cpus t → Takes t found w → Takes v found w
+  taken_at_once v t w cpus found h k = record {
+    swap = swap_after_loads v t w cpus None (Some found) h k.swap;
+    holds_now = k.holds_now;
+    domain = k.domain ∙ ap (λ (z : BaySeatView Engine). z.domain) h.same;
+    size = subst (λ (z : BaySeatView Engine). IsOfStation z found) h.same k.size;
+    tied = k.tied;
+  }
 
 -- the seat covered the others and took in vain, covered them again and admitted them: so one of them would have the engine, and none has it
 module _ {J : Type 0} (v t u w : BaySeatView Engine) (cs cs' : List (CpuView J)) (all : AreAllTurns v cs) (first : TurnCovers v cs t) (vain : MakesSwap t None None u) (elsewhere : IsHeldElsewhere u) (again : TurnCovers u cs w) (admitted : EachBecomes (IsTurned w) cs cs') where

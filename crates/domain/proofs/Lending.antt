@@ -1,78 +1,91 @@
--- What a turn with a lent processor does, from the steps that it is made of.
-use Rattle.std.proofs.Common.{◌≡◌, ℕ, ◌+◌, sym, ap, ◌∙◌, subst, arith, true, Some, None}
+-- What a turn with a lent processor does, from what is said of it at the station.
+use Rattle.std.proofs.Common.{◌≡◌, ℕ, ◌+◌, refl, sym, ap, ◌∙◌, subst, arith, Option, Some, None, IfSome, Result, Ok, Err, MatchResult}
 use mathlib.Core.Logic.{dite, inl, inr}
 use native.Mathlib.Decide.{dec_le, ℕ_discrete}
 use Rattle.onedom.specs.Histories.{ended_in, starts_in}
-use Rattle.sections.specs.Views as sections
-use Rattle.sections.specs.Calls.{IsSameCpu}
-use Rattle.sections.specs.EngineCalls.{TiesEngine}
+use Rattle.sections.specs.EngineCalls.{IsSameEngine}
 use Rattle.scan.specs.declared.progress.Progress.{Progress}
-use Rattle.scan.specs.declared.progress.StartRefusal as scan
+use Rattle.scan.specs.declared.progress.StartRefusal as engine
 use Rattle.scan.specs.declared.progress.StartRefusal.TheVariants as refused
-use Rattle.scan.specs.Progress.{NeedsLoaded, StepsTo, AdvancesTo, FindsExhausted, StartsTo, with_seat}
+use Rattle.scan.specs.declared.refusals.AdvanceRefusal.{AdvanceRefusal}
+use Rattle.scan.specs.declared.refusals.AdvanceRefusal.TheVariants as advance
+use Rattle.scan.specs.declared.refusals.StartRefusal.{StartRefusal}
+use Rattle.scan.specs.declared.refusals.StartRefusal.TheVariants as start
+use Rattle.scan.specs.Progress.{NeedsLoaded, StepsTo, AdvancesTo, FindsExhausted, StartsTo, IsNoStart, WorksFor, with_seat, with_needs}
+use Rattle.scan.specs.Stations as station
+use Rattle.scan.specs.Stations.{IsOfStation, Takes, FindsBusy, Drives, IsNotDriven}
 use Rattle.funnel.specs.Views.{FunnelView}
 use Rattle.funnel.specs.Calls.{LoadsRoot, IsSameSeat}
 use Rattle.desk.specs.BayViews.{BaySeatView}
-use Rattle.desk.specs.BayCalls.{holds, MakesSwap}
-use Rattle.calls.specs.Views.{CallSeatView}
-use Rattle.domain.proofs.Staying.{still_fits, seat_the_same}
-use Rattle.domain.specs.Views.{Engine, DomainView, CpuView, IsOf, IsSameProcessor, with_needs}
-use Rattle.domain.specs.Turns.{Takes, IsLent, GivesBack, Lends, StartsNone, IsNotStarted}
-use Rattle.domain.specs.Refusals.{refusal_of}
+use Rattle.desk.specs.BayCalls.{MakesSwap}
+use Rattle.domain.proofs.Staying.{seat_the_same}
+use Rattle.domain.specs.Views.{Engine, CpuView, IsSameProcessor}
+use Rattle.domain.specs.Turns.{Lends, FindsBusyIn, StepsIn, AdvancesIn, IsRefused, StartsIn, IsNotStarted}
 
--- the engine is taken at one seat
+-- a swap is made at one seat, so the engine is taken there
 pub took_same : (v : BaySeatView Engine) (found : Engine) (took : BaySeatView Engine) → Takes v found took → took ≡ record v { seen = took.seen }
-took_same v found took t = t.swap.same ∙ ap (λ (z : BaySeatView Engine). record z { seen = took.seen }) t.waits.same
+took_same v found took t = t.swap.same
 
 -- a turn is made at one seat
-pub turn_same : (v : BaySeatView Engine) (found left : Engine) (took w : BaySeatView Engine) → Takes v found took → MakesSwap took (Some left) None w → w ≡ record v { seen = w.seen }
-turn_same v found left took w t m =
-    m.same ∙ ap (λ (z : BaySeatView Engine). record z { seen = w.seen }) (took_same v found took t)
+pub turn_same : (v : BaySeatView Engine) (found left : Engine) (took w : BaySeatView Engine) → MakesSwap v None (Some found) took → MakesSwap took (Some left) None w → w ≡ record v { seen = w.seen }
+turn_same v found left took w t m = m.same ∙ ap (λ (z : BaySeatView Engine). record z { seen = w.seen }) t.same
 
-module _ {J : Type 0} where
-  -- the engine was lent, worked and was given back
-  pub lends : (work : Engine → Engine → Type 0) (d : DomainView) (c c1 c' : CpuView J) (lent worked : Engine) → IsOf d c → IsLent c lent c1 → work lent worked → GivesBack c1 worked c' → Lends work c c'
-  lends work d c c1 c' lent worked is l works b = record {
-    found = l.found;
-    worked = worked;
-    left = b.left;
-    domain = l.domain ∙ (is.home ∙ sym is.domain);
-    works = subst (λ (z : Engine). work z worked) l.in_place works;
-    needs = b.needs;
-    ties = subst (λ (z : sections.CpuView). TiesEngine worked.seat z b.left.seat c'.cpu) l.cpu b.ties;
-    rest = b.rest ∙ ap (λ (z : FunnelView). with_seat b.left.seat (with_needs z worked)) l.own;
-    turn = record { took = c1.turn; takes = l.takes; puts = b.puts };
-    calls = b.calls ∙ l.calls;
+-- whichever engine is like that which lay there first, one like it is so too, as another seat knows
+pub of_station : (t u : BaySeatView Engine) (v w : Engine) → u ≡ record t { seen = u.seen } → IsSameEngine v.seat w.seat → IsOfStation t v → IsOfStation u w
+of_station t u v w same like size = subst (λ (z : BaySeatView Engine). IsOfStation z w) (sym same) (go t.first size)
+  where
+    go : (first : Option Engine) → IfSome first (λ e. IsSameEngine e.seat v.seat) → IfSome first (λ e. IsSameEngine e.seat w.seat)
+    go None h = tt
+    go (Some e) h = (like.0 ∙ h.0, like.1 ∙ h.1, like.2 ∙ h.2)
+
+module _ {J : Type 0} (c c' : CpuView J) where
+  -- the engine worked with the processor's seat at the tree
+  pub lends : (work : Engine → Engine → Type 0) → Drives (WorksFor c.needs c'.needs work) c.turn c.cpu c'.turn c'.cpu → c'.calls ≡ c.calls → Lends work c c'
+  lends work h calls = record {
+    found = h.found;
+    worked = with_needs c'.needs h.worked;
+    left = h.left;
+    domain = h.domain;
+    size = h.size;
+    works = h.works.works;
+    needs = refl;
+    ties = h.ties;
+    rest = h.rest ∙ ap (λ n. with_seat h.left.seat (with_needs n h.worked)) h.works.own;
+    turn = h.turn;
+    calls = calls;
   }
 
-  -- the processor stays one of its domain
-  pub still_of : (d : DomainView) (c c1 c' : CpuView J) (lent worked : Engine) → IsOf d c → IsLent c lent c1 → GivesBack c1 worked c' → IsSameSeat lent.needs worked.needs → IsOf d c'
-  still_of d c c1 c' lent worked is l b same =
-      let turn = turn_same c.turn l.found b.left c1.turn c'.turn l.takes b.puts in
-      let cpu : IsSameCpu c.cpu c'.cpu = subst (λ (z : sections.CpuView). IsSameCpu z c'.cpu) l.cpu b.ties.accepts.same in
-      record {
-        domain = cpu.0 ∙ is.domain;
-        bay = ap (λ (z : BaySeatView Engine). z.bay) turn ∙ is.bay;
-        home = ap (λ (z : BaySeatView Engine). z.domain) turn ∙ is.home;
-        free = b.free;
-        asks = (is.asks.0, ap (λ (z : FunnelView). z.holder) b.needs ∙ (same.holder ∙ (ap (λ (z : Engine). z.needs.holder) l.in_place ∙ is.asks.1)));
-        many = cpu.1 ∙ is.many;
-        fits = still_fits d c c' cpu (seat_the_same _ _ (b.calls ∙ l.calls)) is.fits;
-        number = ap (λ (z : BaySeatView Engine). z.number) turn ∙ (is.number ∙ sym cpu.3);
-        seats = ap (λ (z : BaySeatView Engine). z.seats) turn ∙ is.seats;
-        words = ap (λ (z : CallSeatView J). z.processors) (b.calls ∙ l.calls) ∙ is.words;
-      }
+  -- a start loads no need, so it is as if it had been lent one
+  pub starts_for : (n : ℕ) → Drives (λ v w. StartsTo v n w) c.turn c.cpu c'.turn c'.cpu → c'.needs ≡ c.needs → Drives (WorksFor c.needs c'.needs (λ v w. StartsTo v n w)) c.turn c.cpu c'.turn c'.cpu
+  starts_for n h same = record {
+    found = h.found;
+    worked = h.worked;
+    left = h.left;
+    domain = h.domain;
+    size = h.size;
+    works = record { works = record { others = h.works.others; starts = h.works.starts; event = h.works.event; needs = same; no_need = h.works.no_need }; own = h.works.needs };
+    ties = h.ties;
+    rest = h.rest;
+    turn = h.turn;
+  }
 
-  -- where it may be given back
-  pub back_here : (d : DomainView) (c c1 : CpuView J) (lent : Engine) → IsOf d c → IsLent c lent c1 → (c1.turn.bay ≡ d.bay) × (holds c1.turn ≡ true) × (lent.seat.domain ≡ c1.cpu.domain) × (lent.seat.domain ≡ c1.turn.domain)
-  back_here d c c1 lent is l =
-      let took = took_same c.turn l.found c1.turn l.takes in
-      let at : lent.seat.domain ≡ c.turn.domain = ap (λ (z : Engine). z.seat.domain) l.in_place ∙ l.domain in (
-        ap (λ (z : BaySeatView Engine). z.bay) took ∙ is.bay,
-        l.takes.holds_now,
-        at ∙ (is.home ∙ (sym is.domain ∙ sym (ap (λ (z : sections.CpuView). z.domain) l.cpu))),
-        at ∙ sym (ap (λ (z : BaySeatView Engine). z.domain) took),
-      )
+  -- nor does one that starts none
+  pub none_for : (why : engine.StartRefusal) → station.StartsNone why c.turn c.cpu c'.turn c'.cpu → c'.needs ≡ c.needs → Drives (WorksFor c.needs c'.needs (λ v w. IsNoStart v why × (w ≡ v))) c.turn c.cpu c'.turn c'.cpu
+  none_for why h same = record {
+    found = h.found;
+    worked = h.worked;
+    left = h.left;
+    domain = h.domain;
+    size = h.size;
+    works = record { works = (still_none why h.found h.works.0, λ i. with_needs (same i) (h.works.1 i)); own = ap (λ (z : Engine). z.needs) h.works.1 };
+    ties = h.ties;
+    rest = h.rest;
+    turn = h.turn;
+  }
+    where
+      still_none : (why : engine.StartRefusal) (v : Engine) → IsNoStart v why → IsNoStart (with_needs c.needs v) why
+      still_none refused.Running v h = h
+      still_none refused.Exhausted v h = h
 
 -- The engine's work is done with one seat at the tree
 
@@ -127,8 +140,40 @@ module _ {J : Type 0} (work : Engine → Engine → Type 0) (c c' : CpuView J) w
   pub mine_lent : ((v w : Engine) → work v w → w.needs.mine ≡ v.needs.mine) → Lends work c c' → c'.needs.mine ≡ c.needs.mine
   mine_lent keeps h = ap (λ (z : FunnelView). z.mine) h.needs ∙ keeps _ _ h.works
 
+-- Answers
+
 module _ {J : Type 0} where
-  -- where the engine started none, the domain says so
-  pub not_started : (c c' : CpuView J) (refusal : scan.StartRefusal) → StartsNone c refusal c' → IsNotStarted c (refusal_of refusal) c'
-  not_started c c' refused.Running h = h
-  not_started c c' refused.Exhausted h = h
+  -- nothing was done but a swap
+  pub same_busy : (c c' : CpuView J) → FindsBusyIn c c' → IsSameProcessor c c'
+  same_busy c c' h = record {
+    cpu = (ap (λ (z : CpuView J). z.cpu.domain) h.rest, ap (λ (z : CpuView J). z.cpu.processors) h.rest, ap (λ (z : CpuView J). z.cpu.sections) h.rest, ap (λ (z : CpuView J). z.cpu.processor) h.rest);
+    needs = record { domain = ap (λ (z : CpuView J). z.needs.domain) h.rest; shape = ap (λ (z : CpuView J). z.needs.shape) h.rest; holder = ap (λ (z : CpuView J). z.needs.holder) h.rest };
+    turn = h.busy.swap.same;
+    calls = seat_the_same _ _ (ap (λ (z : CpuView J). z.calls) h.rest);
+  }
+
+module _ {J : Type 0} (c c' : CpuView J) (calls : c'.calls ≡ c.calls) where
+  busy : FindsBusy c.turn c'.turn → c'.cpu ≡ c.cpu → c'.needs ≡ c.needs → FindsBusyIn c c'
+  busy h cpu needs = record { busy = h; rest = λ i. record { cpu = cpu i; needs = needs i; turn = c'.turn; calls = calls i } }
+
+  not_driven : (why : AdvanceRefusal) → IsNotDriven LoadsRoot why c.turn c.cpu c.needs c'.turn c'.cpu c'.needs → IsRefused c why c'
+  not_driven advance.Busy h = busy h.0 h.1 h.2
+  not_driven advance.Exhausted h = lends c c' _ h calls
+
+  -- what the station answers, the domain does
+  pub stepped : (r : Result Progress AdvanceRefusal) → MatchResult r (λ a. Drives (WorksFor c.needs c'.needs (λ v w. StepsTo LoadsRoot v a w)) c.turn c.cpu c'.turn c'.cpu) (λ why. IsNotDriven LoadsRoot why c.turn c.cpu c.needs c'.turn c'.cpu c'.needs)
+      → MatchResult r (λ a. StepsIn c a c') (λ why. IsRefused c why c')
+  stepped (Ok a) h = lends c c' _ h calls
+  stepped (Err why) h = not_driven why h
+
+  pub advanced : (r : Result Progress AdvanceRefusal) → MatchResult r (λ a. Drives (WorksFor c.needs c'.needs (λ v w. AdvancesTo LoadsRoot v a w)) c.turn c.cpu c'.turn c'.cpu) (λ why. IsNotDriven LoadsRoot why c.turn c.cpu c.needs c'.turn c'.cpu c'.needs)
+      → MatchResult r (λ a. AdvancesIn c a c') (λ why. IsRefused c why c')
+  advanced (Ok a) h = lends c c' _ h calls
+  advanced (Err why) h = not_driven why h
+
+  pub started : c'.needs ≡ c.needs → (r : Result ℕ StartRefusal) → MatchResult r (λ n. Drives (λ v w. StartsTo v n w) c.turn c.cpu c'.turn c'.cpu) (λ why. station.IsNotStarted why c.turn c.cpu c'.turn c'.cpu)
+      → MatchResult r (λ n. StartsIn c n c') (λ why. IsNotStarted c why c')
+  started needs (Ok n) h = lends c c' _ (starts_for c c' n h needs) calls
+  started needs (Err start.Busy) h = busy h.0 h.1 needs
+  started needs (Err start.Running) h = lends c c' _ (none_for c c' refused.Running h needs) calls
+  started needs (Err start.Exhausted) h = lends c c' _ (none_for c c' refused.Exhausted h needs) calls

@@ -26,7 +26,7 @@ use Rattle.calls.specs.Views.{CallSeatView}
 use Rattle.calls.specs.Calls.{IsSameSeat}
 use Rattle.calls.specs.Meetings as tallies
 use Rattle.domain.specs.Views.{Engine, DomainView, CpuView}
-use Rattle.domain.specs.Turns.{Takes, TakesTurn}
+use Rattle.scan.specs.Stations.{Takes, TakesTurn}
 use Rattle.domain.specs.Meetings.{IsAllOf, EngineMeets, JoinsTree, TreeMeets, TalliesMeet, MeetsHere}
 use Rattle.domain.specs.Parts.{EngineCovers, NeedsCover, TurnCovers, EachBecomes, IsAdmitted, IsTurned, IsHeard}
 use Rattle.domain.proofs.Turning.{swaps_beginning_trans}
@@ -126,7 +126,7 @@ module _ {J : Type 0} (d : DomainView) (c : CpuView J) (cs cs1 cs2 cs3 : List (C
 
   -- the turns
   pub first_turn : TakesTurn c.turn e0 e2 t3
-  first_turn = record { took = took; takes = takes; puts = swap_behind took t2 t3 cs e2 turn puts }
+  first_turn = record { took = took; takes = takes.swap; puts = swap_behind took t2 t3 cs e2 turn puts }
 
   other_turn : (k : ℕ) (x : CpuView J) → suc k < length (c ∷ cs) → Accepts (get_or cs k x).turn t3.seen (get_or cs3 k x).turn
   other_turn k x lt =
@@ -145,7 +145,7 @@ module _ {J : Type 0} (d : DomainView) (c : CpuView J) (cs cs1 cs2 cs3 : List (C
   -- a turn's seat stays that of the domain, and does not have the engine
   pub turn_stays : (k : ℕ) (x : CpuView J) → k < length (c ∷ cs) → holds t3 ≡ false → holds (get_or (c ∷ cs) k x).turn ≡ false
       → ((get_or after k x).turn.bay ≡ (get_or (c ∷ cs) k x).turn.bay) × ((get_or after k x).turn.domain ≡ (get_or (c ∷ cs) k x).turn.domain) × (holds (get_or after k x).turn ≡ false) × ((get_or after k x).turn.number ≡ (get_or (c ∷ cs) k x).turn.number) × ((get_or after k x).turn.seats ≡ (get_or (c ∷ cs) k x).turn.seats)
-  turn_stays zero x lt free _ = let same = turn_same c.turn e0 e2 took t3 takes (swap_behind took t2 t3 cs e2 turn puts) in (ap (λ (z : BaySeatView Engine). z.bay) same, ap (λ (z : BaySeatView Engine). z.domain) same, free, ap (λ (z : BaySeatView Engine). z.number) same, ap (λ (z : BaySeatView Engine). z.seats) same)
+  turn_stays zero x lt free _ = let same = turn_same c.turn e0 e2 took t3 takes.swap (swap_behind took t2 t3 cs e2 turn puts) in (ap (λ (z : BaySeatView Engine). z.bay) same, ap (λ (z : BaySeatView Engine). z.domain) same, free, ap (λ (z : BaySeatView Engine). z.number) same, ap (λ (z : BaySeatView Engine). z.seats) same)
   turn_stays (suc k) x lt _ free = let h = other_turn k x lt in (ap (λ (z : BaySeatView Engine). z.bay) h.is, ap (λ (z : BaySeatView Engine). z.domain) h.is, h.holding ∙ free, ap (λ (z : BaySeatView Engine). z.number) h.is, ap (λ (z : BaySeatView Engine). z.seats) h.is)
 
   -- the seats at the tally words

@@ -8,11 +8,19 @@ use Rattle.desk.specs.BayViews.{BaySeatView}
 use Rattle.desk.specs.BayCalls.{MakesSwap}
 use Rattle.calls.specs.Views.{CallSeatView}
 use Rattle.domain.specs.Views.{Engine, DomainView, CpuView, IsOf}
-use Rattle.domain.specs.Turns.{Takes}
+use Rattle.scan.specs.Stations.{Takes}
 use Rattle.domain.specs.Meetings.{IsAllOf}
+use Rattle.domain.specs.Counts.{AreAllThere}
 use Rattle.domain.specs.Parts.{Each, IsBeside, EngineCovers, NeedsCover, TurnCovers, EachBecomes, IsAdmitted, IsTurned}
 use Rattle.domain.proofs.Turning.{swaps_beginning_trans}
 use Rattle.domain.proofs.Lending.{took_same}
+
+module _ {J : Type 0} (d : DomainView) (c : CpuView J) (cs : List (CpuView J)) where
+  -- nobody else is a processor of the domain
+  pub all_are_there : IsAllOf d (c ∷ cs) → AreAllThere d (c ∷ cs)
+  all_are_there all p there =
+      let inside : p < length (c ∷ cs) = (let many = (all.here 0 c all.some).many in let count = all.count 0 c all.some in omega (arith, there, many, count)) in
+      (p, inside, λ x. all.order p x inside)
 
 module _ {J : Type 0} (d : DomainView) (c : CpuView J) (cs : List (CpuView J)) (all : IsAllOf d (c ∷ cs)) (e0 : Engine) (took : BaySeatView Engine) (takes : Takes c.turn e0 took) (at : e0.seat.domain ≡ c.turn.domain) where
   first : IsOf d c

@@ -6,16 +6,16 @@ use Rattle.sections.specs.Calls.{IsSameCpu}
 use Rattle.calls.specs.Calls.{IsSameSeat}
 use Rattle.desk.specs.BayViews.{BaySeatView}
 use Rattle.scan.specs.declared.progress.Progress.{Progress}
-use Rattle.domain.specs.declared.refusals.AdvanceRefusal.{AdvanceRefusal}
-use Rattle.domain.specs.declared.refusals.AdvanceRefusal.TheVariants as advance
-use Rattle.domain.specs.declared.refusals.StartRefusal.{StartRefusal}
-use Rattle.domain.specs.declared.refusals.StartRefusal.TheVariants as start
+use Rattle.scan.specs.declared.refusals.AdvanceRefusal.{AdvanceRefusal}
+use Rattle.scan.specs.declared.refusals.AdvanceRefusal.TheVariants as advance
+use Rattle.scan.specs.declared.refusals.StartRefusal.{StartRefusal}
+use Rattle.scan.specs.declared.refusals.StartRefusal.TheVariants as start
 use Rattle.domain.specs.Views.{Engine, DomainView, CpuView, IsOf, IsSameProcessor, with_cpu, with_calls}
 use Rattle.domain.specs.Turns.{StepsIn, AdvancesIn, IsRefused, StartsIn, IsNotStarted}
 use Rattle.domain.specs.Meetings.{IsAllOf}
 use Rattle.domain.specs.Waiting.{StartsPoll, LoadsNeed}
 use Rattle.domain.proofs.Staying.{seat_the_same, same_seat_trans}
-use Rattle.domain.proofs.Lending.{same_lent, same_stepped, same_advanced, same_exhausted, same_started, same_still}
+use Rattle.domain.proofs.Lending.{same_busy, same_lent, same_stepped, same_advanced, same_exhausted, same_started, same_still}
 
 module _ {J : Type 0} where
   -- behind one call and then another
@@ -67,17 +67,17 @@ module _ {J : Type 0} where
 
   pub same_stepped_in : (c d : CpuView J) (r : Result Progress AdvanceRefusal) → MatchResult r (λ a. StepsIn c a d) (λ refusal. IsRefused c refusal d) → IsSameProcessor c d
   same_stepped_in c d (Ok a) h = same_lent _ c d (λ v w. same_stepped v w a) h
-  same_stepped_in c d (Err advance.Busy) h = absurd h
+  same_stepped_in c d (Err advance.Busy) h = same_busy c d h
   same_stepped_in c d (Err advance.Exhausted) h = same_lent _ c d same_exhausted h
 
   pub same_advanced_in : (c d : CpuView J) (r : Result Progress AdvanceRefusal) → MatchResult r (λ a. AdvancesIn c a d) (λ refusal. IsRefused c refusal d) → IsSameProcessor c d
   same_advanced_in c d (Ok a) h = same_lent _ c d (λ v w. same_advanced v w a) h
-  same_advanced_in c d (Err advance.Busy) h = absurd h
+  same_advanced_in c d (Err advance.Busy) h = same_busy c d h
   same_advanced_in c d (Err advance.Exhausted) h = same_lent _ c d same_exhausted h
 
   pub same_started_in : (c d : CpuView J) (r : Result ℕ StartRefusal) → MatchResult r (λ n. StartsIn c n d) (λ refusal. IsNotStarted c refusal d) → IsSameProcessor c d
   same_started_in c d (Ok n) h = same_lent _ c d (λ v w. same_started v w n) h
-  same_started_in c d (Err start.Busy) h = absurd h
+  same_started_in c d (Err start.Busy) h = same_busy c d h
   same_started_in c d (Err start.Running) h = same_lent _ c d (λ v w e. same_still v w e.1) h
   same_started_in c d (Err start.Exhausted) h = same_lent _ c d (λ v w e. same_still v w e.1) h
 

@@ -1,9 +1,11 @@
 -- A processor's seats stay those of its domain.
-use Rattle.std.proofs.Common.{◌≡◌, ◌<◌, refl, sym, ap, ◌∙◌, subst}
+use Rattle.std.proofs.Common.{◌≡◌, ◌<◌, false, refl, sym, ap, ◌∙◌, subst}
 use Rattle.sections.specs.Calls.{IsSameCpu}
+use Rattle.desk.specs.BayViews.{BaySeatView}
+use Rattle.desk.specs.BayCalls.{holds}
 use Rattle.calls.specs.Views.{CallSeatView}
 use Rattle.calls.specs.Calls.{IsSameSeat, FitsIn}
-use Rattle.domain.specs.Views.{DomainView, CpuView, IsOf, callbacks_of, with_cpu, with_calls}
+use Rattle.domain.specs.Views.{Engine, DomainView, CpuView, IsOf, IsSameProcessor, callbacks_of, with_cpu, with_calls}
 
 module _ {J : Type 0} where
   -- the seat at the tally words, as it was
@@ -21,6 +23,21 @@ module _ {J : Type 0} where
     tallies = seat.0 ∙ f.tallies;
     cpu = cpu.3 ∙ (f.cpu ∙ sym seat.2);
     there = subst (λ n. n < d.processors) (sym seat.2) f.there;
+  }
+
+  -- behind any call after which it does not have the engine
+  pub still_of : (d : DomainView) (c c' : CpuView J) → IsOf d c → IsSameProcessor c c' → holds c'.turn ≡ false → IsOf d c'
+  still_of d c c' is same free = record {
+    domain = same.cpu.0 ∙ is.domain;
+    bay = ap (λ (z : BaySeatView Engine). z.bay) same.turn ∙ is.bay;
+    home = ap (λ (z : BaySeatView Engine). z.domain) same.turn ∙ is.home;
+    free = free;
+    asks = (is.asks.0, same.needs.holder ∙ is.asks.1);
+    many = same.cpu.1 ∙ is.many;
+    fits = still_fits d c c' same.cpu same.calls is.fits;
+    number = ap (λ (z : BaySeatView Engine). z.number) same.turn ∙ (is.number ∙ sym same.cpu.3);
+    seats = ap (λ (z : BaySeatView Engine). z.seats) same.turn ∙ is.seats;
+    words = same.calls.1 ∙ is.words;
   }
 
   -- behind a call at its seat at the domain's words

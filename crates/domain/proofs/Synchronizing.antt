@@ -1,22 +1,20 @@
 -- Waiting for a grace period: a cookie, and then turns and polls until it is done.
-use Rattle.std.proofs.Common.{◌≡◌, ℕ, ◌+◌, Bool, true, false, not, List, [], ◌∷◌, ◌++◌, All, length, filter, refl, sym, ap, ◌∙◌, subst, append_assoc, append-nil, length-append}
+use Rattle.std.proofs.Common.{◌≡◌, ℕ, ◌+◌, Bool, true, false, not, Option, Some, None, List, [], ◌∷◌, ◌++◌, All, length, filter, refl, sym, ap, ◌∙◌, subst, append_assoc, append-nil, length-append}
 use Rattle.std.proofs.lemmas.List.Elements.{All-nil, All-cons, All-head, All-tail, All-append}
 use Rattle.onedom.specs.declared.event.Event.{Event}
 use Rattle.onedom.specs.declared.event.Event.TheVariants.{Note, Ask}
 use Rattle.onedom.specs.declared.event.Maker.{Maker}
 use Rattle.onedom.specs.declared.event.Maker.TheVariants.{Processor}
 use Rattle.onedom.specs.Histories.{IsBeginning, open_sections}
-use Rattle.onedom.proofs.CallerLemmas.{beginning_trans, open_sections_plain}
+use Rattle.onedom.proofs.CallerLemmas.{beginning_refl, beginning_trans, open_sections_plain}
 use Rattle.sections.specs.Words.{is_held}
 use Rattle.sections.specs.Views as sections
 use Rattle.sections.specs.Calls.{Asks, AllClosed}
 use Rattle.scan.specs.declared.progress.Progress.{Progress}
-use Rattle.domain.specs.declared.refusals.AdvanceRefusal.{AdvanceRefusal}
-use Rattle.domain.specs.declared.refusals.AdvanceRefusal.TheVariants as advance
 use Rattle.domain.specs.Views.{DomainView, CpuView, IsOf, IsSameProcessor, with_cpu}
-use Rattle.domain.specs.Turns.{AdvancesIn, FindsExhaustedIn, IsRefused}
-use Rattle.domain.specs.Waiting.{StartsPoll, HasNoneOpen, HasNoted, TurnsAndPolls, RoundsThrough, Synchronizes, WaitsInVain, WaitedFor}
-use Rattle.domain.proofs.Lending.{same_lent, same_advanced, same_exhausted, mine_lent, mine_advanced, mine_exhausted}
+use Rattle.domain.specs.Turns.{AdvancesIn, FindsBusyIn, FindsExhaustedIn}
+use Rattle.domain.specs.Waiting.{StartsPoll, HasNoneOpen, HasNoted, Turns, TurnsAndPolls, RoundsThrough, Synchronizes, WaitsInVain, WaitedFor}
+use Rattle.domain.proofs.Lending.{same_busy, same_lent, same_advanced, same_exhausted, mine_lent, mine_advanced, mine_exhausted}
 use Rattle.domain.proofs.Staying.{still_with_cpu}
 use Rattle.domain.proofs.Sameness.{same_trans, same_polled, same_asked}
 
@@ -37,10 +35,12 @@ module _ {J : Type 0} where
   pub turned_exhausted : (x y : CpuView J) → FindsExhaustedIn x y → Turned x y
   turned_exhausted x y h = record { same = same_lent _ x y same_exhausted h; mine = h.ties.accepts.mine; asked = mine_lent _ x y mine_exhausted h; calls = h.calls; since = h.ties.since }
 
-  -- while it waits for the engine there is just this refusal
-  pub only_exhausted : (x y : CpuView J) (r : AdvanceRefusal) → IsRefused x r y → FindsExhaustedIn x y
-  only_exhausted x y advance.Busy h = absurd h
-  only_exhausted x y advance.Exhausted h = h
+  pub turned_busy : (x y : CpuView J) → FindsBusyIn x y → Turned x y
+  turned_busy x y h = record { same = same_busy x y h; mine = ap (λ (z : CpuView J). z.cpu.mine) h.rest; asked = ap (λ (z : CpuView J). z.needs.mine) h.rest; calls = ap (λ (z : CpuView J). z.calls) h.rest; since = subst (λ (z : CpuView J). IsBeginning x.cpu.seen z.cpu.seen) (sym h.rest) (beginning_refl x.cpu.seen) }
+
+  pub turned : (x y : CpuView J) (a : Option Progress) → Turns a x y → Turned x y
+  turned x y None h = turned_busy x y h
+  turned x y (Some a) h = turned_advanced x y a h
 
   -- Rounds
 
@@ -145,7 +145,7 @@ module _ {J : Type 0} (d : DomainView) (c at x y : CpuView J) (k : sections.Cook
 
 module _ {J : Type 0} where
   -- the round is at its end, in vain
-  pub asks_in_vain : (d : DomainView) (c at x y : CpuView J) (k : sections.CookieView) (a : Progress) → HasWaited d c k at x → AdvancesIn at a x → Asks k.seen k.changes k.number false x.cpu y.cpu → y ≡ with_cpu y.cpu x → HasWaited d c k y y
+  pub asks_in_vain : (d : DomainView) (c at x y : CpuView J) (k : sections.CookieView) (a : Option Progress) → HasWaited d c k at x → Turns a at x → Asks k.seen k.changes k.number false x.cpu y.cpu → y ≡ with_cpu y.cpu x → HasWaited d c k y y
   asks_in_vain d c at x y k p h turn a rest = record {
     here = still_with_cpu d x y h.here a.adds.same rest;
     same = same_trans c x y h.same (same_polled x y a.adds.same rest);
@@ -166,7 +166,7 @@ module _ {J : Type 0} where
 
   -- The two answers
 
-  pub synchronizes : (d : DomainView) (c at x y : CpuView J) (k : sections.CookieView) (p : Progress) → HasWaited d c k at x → AdvancesIn at p x → Asks k.seen k.changes k.number true x.cpu y.cpu → y ≡ with_cpu y.cpu x → AllClosed k.seen y.cpu.seen → Synchronizes c y
+  pub synchronizes : (d : DomainView) (c at x y : CpuView J) (k : sections.CookieView) (p : Option Progress) → HasWaited d c k at x → Turns p at x → Asks k.seen k.changes k.number true x.cpu y.cpu → y ≡ with_cpu y.cpu x → AllClosed k.seen y.cpu.seen → Synchronizes c y
   synchronizes d c at x y k p h turn a rest closed = record {
     cookie = k;
     waits = record {

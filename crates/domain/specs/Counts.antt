@@ -19,7 +19,7 @@ use Rattle.calls.specs.Tallies.{deed, deeds_of, AreTrue, AreTakers}
 use Rattle.calls.specs.Barriers.{queued_loads, finished_loads}
 use Rattle.calls.specs.Totals.{all_queued, all_finished}
 use Rattle.domain.specs.Views.{Engine, DomainView, CpuView, IsOf, with_cpu, with_calls}
-use Rattle.domain.specs.Turns.{TakesTurn}
+use Rattle.scan.specs.Stations.{TakesTurn}
 use Rattle.domain.specs.Parts.{Each, EachBecomes}
 
 -- Loads of counters
@@ -81,6 +81,7 @@ module _ {J : Type 0} where
     pub same : IsSameCpu c.cpu c'.cpu
     pub mine : c'.cpu.mine ≡ c.cpu.mine
     pub seen : c'.cpu.seen ≡ history
+    pub texts : IsStart c.cpu.texts c'.cpu.texts
     pub needs : c'.needs ≡ c.needs
     pub calls : c'.calls ≡ c.calls
 
@@ -155,6 +156,7 @@ module _ {J : Type 0} where
     pub same : IsSameCpu c.cpu c'.cpu
     pub mine : c'.cpu.mine ≡ c.cpu.mine
     pub seen : c'.cpu.seen ≡ history
+    pub texts : IsStart c.cpu.texts c'.cpu.texts
     pub needs : c'.needs ≡ c.needs
     pub calls : c'.calls ≡ record c.calls { seen = all }
 

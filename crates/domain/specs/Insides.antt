@@ -1,27 +1,17 @@
--- How the fields of a domain, of its processors and of its engine are seen, and what is always true of them.
+-- How the fields of a domain and of its processors are seen, and what is always true of them.
 use Rattle.std.specs.Prelude.{◌≡◌, ◌≤◌}
-use Rattle.sections.specs.EngineCalls.{IsTied}
 use Rattle.domain.specs.declared.cpu.Cpu.TheInside as cpu
 use Rattle.domain.specs.declared.domain.Domain.TheInside as domain
-use Rattle.domain.specs.declared.tied.Tied.TheInside as tied
 use Rattle.domain.specs.declared.writer.Writer.TheInside as writer
 use Rattle.sections.specs.WriterViews.{WriterView}
-use Rattle.domain.specs.Views.{Engine, CpuView, DomainView}
-
-module _ {A : Type 0} where
-  abbrev pub view_of_tied : tied.Inside A → Engine
-  view_of_tied t = t.engine
-
-  -- some processor has seen all that the engine made
-  abbrev pub IsTiedInside : tied.Inside A → Type 0
-  IsTiedInside t = IsTied t.engine.seat
+use Rattle.domain.specs.Views.{CpuView, DomainView}
 
 module _ {J A : Type 0} where
   abbrev pub view_of_cpu : cpu.Inside J A → CpuView J
   view_of_cpu c = record { cpu = c.cpu; needs = c.needs; turn = c.turn; calls = c.calls }
 
   abbrev pub view_of_domain : domain.Inside J A → DomainView
-  view_of_domain d = record { domain = d.calls.domain; bay = d.bay.bay; tallies = d.calls.tallies; processors = d.calls.processors }
+  view_of_domain d = record { domain = d.calls.domain; bay = d.station.bay; tallies = d.calls.tallies; processors = d.calls.processors }
 
   -- there is one at least
   pub record IsDomain (d : domain.Inside J A) : Type 0 where

@@ -1,7 +1,6 @@
 pub use Rattle.sections.specs.Words
 pub use Rattle.scan.specs.Progress
 pub mod Views
-pub mod Refusals
 pub mod Turns
 pub mod Meetings
 pub mod Parts

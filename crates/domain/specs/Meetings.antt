@@ -20,7 +20,7 @@ use Rattle.calls.specs.declared.view.Deed.{Deed}
 use Rattle.calls.specs.Tallies.{AreTakers}
 use Rattle.calls.specs.Meetings as tallies
 use Rattle.domain.specs.Views.{Engine, DomainView, CpuView, IsOf}
-use Rattle.domain.specs.Turns.{TakesTurn}
+use Rattle.scan.specs.Stations.{TakesTurn}
 
 module _ {J : Type 0} where
   -- all processors of this domain, in order, each with its seat at one tree

@@ -66,7 +66,3 @@ module _ {J : Type 0} where
   -- nothing but its seat at the tally words may have changed
   abbrev pub with_calls : CallSeatView J → CpuView J → CpuView J
   with_calls calls c = record c { calls = calls }
-
--- the engine, with this seat at the tree in place of its own
-abbrev pub with_needs : FunnelView → Engine → Engine
-with_needs needs v = record v { needs = needs }

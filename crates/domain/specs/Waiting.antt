@@ -1,5 +1,5 @@
 -- What asking for a grace period and waiting for it is.
-use Rattle.std.specs.Prelude.{◌≡◌, ℕ, List, [], ◌∷◌, ◌++◌, All, Bool, true, false, length}
+use Rattle.std.specs.Prelude.{◌≡◌, ℕ, List, [], ◌∷◌, ◌++◌, All, Bool, true, false, length, Option, MatchOption}
 use Rattle.onedom.specs.declared.event.Event.{Event}
 use Rattle.onedom.specs.declared.event.Event.TheVariants.{Note, Ask}
 use Rattle.onedom.specs.declared.event.Maker.TheVariants.{Processor}
@@ -13,7 +13,7 @@ use Rattle.funnel.specs.declared.seat.Level.{Level}
 use Rattle.funnel.specs.Calls.{LoadsRoot}
 use Rattle.funnel.specs.Calls as tree
 use Rattle.domain.specs.Views.{CpuView, with_cpu}
-use Rattle.domain.specs.Turns.{AdvancesIn, FindsExhaustedIn}
+use Rattle.domain.specs.Turns.{AdvancesIn, FindsBusyIn, FindsExhaustedIn}
 
 module _ {J : Type 0} where
   -- a cookie was given, and then just its number asked for
@@ -47,11 +47,15 @@ module _ {J : Type 0} where
     pub asks : calls.Asks cookie.seen cookie.changes cookie.number answer c.cpu c'.cpu
     pub rest : c' ≡ with_cpu c'.cpu c
 
-  -- the engine made steps until there was an answer, and then the cookie was polled, with this answer
+  -- a turn: the engine made steps until there was this answer; or another call had it, and there is none
+  abbrev pub Turns : Option Progress → CpuView J → CpuView J → Type 0
+  Turns progress c c' = MatchOption progress (FindsBusyIn c c') (λ a. AdvancesIn c a c')
+
+  -- a turn was tried, and then the cookie was polled, with this answer
   pub record TurnsAndPolls (answer : Bool) (cookie : sections.CookieView) (c c' : CpuView J) : Type 0 where
-    pub progress : Progress
+    pub progress : Option Progress
     pub turned : CpuView J
-    pub turns : AdvancesIn c progress turned
+    pub turns : Turns progress c turned
     pub polls : Polls answer cookie turned c'
 
   -- rounds of a turn and a poll in vain, to one of these after another, and then what ends the row

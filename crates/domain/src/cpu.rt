@@ -1,8 +1,7 @@
 //! A processor of a domain.
-use crate::tied::Tied;
 use calls::CallSeat;
-use desk::BaySeat;
 use funnel::FunnelSeat;
+use scan::StationSeat;
 use std::alloc::{Allocator, Global};
 use std::marker::Model;
 
@@ -19,7 +18,7 @@ mod versions;
 pub struct Cpu<J, A: Allocator = Global> {
     pub(crate) cpu: sections::Cpu<A>,
     pub(crate) needs: FunnelSeat<A>,
-    pub(crate) turn: BaySeat<Tied<A>>,
+    pub(crate) turn: StationSeat<FunnelSeat<A>, A>,
     pub(crate) calls: CallSeat<J, A>,
 }
 

@@ -1,7 +1,7 @@
 //! A domain, and how it is made.
-use crate::tied::Tied;
 use calls::Calls;
-use desk::Bay;
+use funnel::FunnelSeat;
+use scan::Station;
 use std::alloc::{Allocator, Global};
 use std::marker::Model;
 
@@ -15,16 +15,15 @@ mod meeting;
 mod needs;
 mod periods;
 mod tallies;
-mod turns;
 mod waiting;
 
 /// A sleepable RCU domain (`srcu_struct`), which all of its processors share by reference. It has the place where the
-/// engine lies; whoever drives it has it for one call, and others that want it wait. And it has the callbacks, whose
+/// engine lies; whoever drives it has it for one call, and others that want it are told that it is busy. And it has the callbacks, whose
 /// jobs are of type `J`, a list for each processor. A domain that is dropped drops the jobs that still wait. Contracts
 /// see the domain's table, the place, the tally words of the callbacks, and how many processors there are.
 #[derive(Drop)]
 pub struct Domain<J, A: Allocator = Global> {
-    pub(crate) bay: Bay<Tied<A>, A>,
+    pub(crate) station: Station<FunnelSeat<A>, A>,
     pub(crate) calls: Calls<J, A>,
     /// How many processors there are.
     pub(crate) processors: u16,

@@ -95,7 +95,7 @@ impl<J, A: Allocator> Domain<J, A> {
         engine.cover(&mut first.cpu);
         engine.admit(&mut first.cpu);
         admit_cpus(&mut engine, others);
-        self.put(&mut first.turn, engine);
+        first.turn.put(&self.station, engine);
         (opened, closed, number)
     }
 

@@ -1,27 +1,24 @@
 //! Taking the engine with the seats of all processors in hand: nobody else can have it, so there is nobody to wait for.
 ghost use Rattle.std.specs.Prelude.{◌≡◌};
-ghost use Rattle.sections.specs.EngineCalls.{IsTied};
-ghost use Rattle.domain.specs.Turns.{Takes};
+ghost use Rattle.scan.specs.Stations.{Takes};
 ghost use Rattle.domain.specs.Parts.{Each, TurnCovers, AreAllTurns};
 
 use crate::cpu::Cpu;
 use crate::domain::Domain;
-use crate::tied::Tied;
-use desk::BaySeat;
 use funnel::FunnelSeat;
-use scan::Engine;
+use scan::{Engine, StationSeat};
 use std::alloc::Allocator;
 
 impl<J, A: Allocator> Domain<J, A> {
     /// The seat has then seen each turn that these processors have.
-    fn cover_turns(&self, turn: &mut BaySeat<Tied<A>>, others: &mut [Cpu<J, A>])
+    fn cover_turns(&self, turn: &mut StationSeat<FunnelSeat<A>, A>, others: &mut [Cpu<J, A>])
         requires bay { turn.old.bay ≡ self.now.bay }
         requires beside { Each (λ c. c.turn.bay ≡ self.now.bay) others.old }
         ensures turn { TurnCovers turn.old others.old turn.new }
         ensures others { others.new ≡ others.old }
     {
         for other in others.iter_mut() {
-            turn.cover(&mut other.turn, &self.bay);
+            turn.cover_seat(&mut other.turn, &self.station);
         }
     }
 
@@ -29,20 +26,18 @@ impl<J, A: Allocator> Domain<J, A> {
     /// them has it.
     pub(super) fn take_at_once(
         &self,
-        turn: &mut BaySeat<Tied<A>>,
+        turn: &mut StationSeat<FunnelSeat<A>, A>,
         others: &mut [Cpu<J, A>],
     ) -> Engine<FunnelSeat<A>, A>
         requires bay { turn.old.bay ≡ self.now.bay }
         requires beside { Each (λ c. c.turn.bay ≡ self.now.bay) others.old }
         requires all { AreAllTurns turn.old others.old }
         ensures takes { Takes turn.old result turn.new }
-        ensures tied { IsTied result.seat }
-        ensures domain { result.seat.domain ≡ turn.old.domain }
         ensures others { others.new ≡ others.old }
     {
         self.cover_turns(turn, others);
-        if let Some(tied) = turn.take(&self.bay) {
-            return tied.untie();
+        if let Some(engine) = turn.take(&self.station) {
+            return engine;
         }
         // Then another seat would have it. But they all come to see one list of turns, in which each has just its own,
         // and so none of them has it: this is never reached.

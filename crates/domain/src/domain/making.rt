@@ -9,12 +9,10 @@ ghost use Rattle.domain.specs.Meetings.{IsAllOf};
 
 use crate::cpu::Cpu;
 use crate::domain::Domain;
-use crate::tied::Tied;
 use crate::writer::Writer;
 use calls::{CallSeat, Calls};
-use desk::{Bay, BaySeat};
 use funnel::FunnelSeat;
-use scan::Engine;
+use scan::{Engine, Station, StationSeat};
 use sections::{Limits, MOST_PROCESSORS, Made, MakeError};
 use std::alloc::{AllocError, Allocator};
 
@@ -23,7 +21,7 @@ fn join_seats<J, A: Allocator>(
     alloc: A,
     mut cpus: Vec<sections::Cpu<A>, A>,
     mut needs: Vec<FunnelSeat<A>, A>,
-    mut turns: Vec<BaySeat<Tied<A>>, A>,
+    mut turns: Vec<StationSeat<FunnelSeat<A>, A>, A>,
     mut calls: Vec<CallSeat<J, A>, A>,
 ) -> Result<Vec<Cpu<J, A>, A>, AllocError>
     requires needs { length needs.items ≡ length cpus.items }
@@ -85,14 +83,13 @@ fn build<J: Drop, A: Allocator + Copy>(
     // The callbacks take the domain and the number of processors from the engine's seat, so it is lent to them before
     // it goes where the engine lies.
     let (calls, seats) = Calls::make(alloc, &mut engine)?;
-    let home = engine.home();
     let count = engine.processors();
     let engine = Engine::new(engine, root);
-    let (bay, turns) = Bay::new(alloc, Tied { engine }, processors, home)?;
+    let (station, turns) = Station::new(alloc, engine, processors)?;
     let cpus = join_seats(alloc, cpus, needs, turns, seats)?;
     let writers = wrap_writers(alloc, writers)?;
     let domain = Domain {
-        bay,
+        station,
         calls,
         processors: count,
     };

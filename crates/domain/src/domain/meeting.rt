@@ -12,12 +12,9 @@ ghost use Rattle.domain.specs.Parts.{Each, IsBeside, EngineCovers, NeedsCover, T
 use super::tallies::meet_calls;
 use crate::cpu::Cpu;
 use crate::domain::Domain;
-use crate::tied::Tied;
-use desk::BaySeat;
 use funnel::{FunnelSeat, needs_of_a_tree};
-use scan::Engine;
+use scan::{Engine, StationSeat};
 use std::alloc::Allocator;
-use std::sync::Wait;
 
 /// Each of these processors has then seen just what the engine has, and at the tree just what this seat has.
 fn admit_all<J, A: Allocator>(
@@ -45,7 +42,7 @@ impl<J, A: Allocator> Domain<J, A> {
         &self,
         engine: &mut Engine<FunnelSeat<A>, A>,
         needs: &mut FunnelSeat<A>,
-        turn: &mut BaySeat<Tied<A>>,
+        turn: &mut StationSeat<FunnelSeat<A>, A>,
         others: &mut [Cpu<J, A>],
     )
         requires beside { Each (IsBeside engine.old.seat needs.old turn.old) others.old }
@@ -60,12 +57,12 @@ impl<J, A: Allocator> Domain<J, A> {
         for other in others.iter_mut() {
             engine.cover(&mut other.cpu);
             needs.cover(&mut other.needs);
-            turn.cover(&mut other.turn, &self.bay);
+            turn.cover_seat(&mut other.turn, &self.station);
         }
     }
 
     /// Each of these processors has then seen just the turns that this seat has.
-    pub(super) fn admit_turns(&self, turn: &mut BaySeat<Tied<A>>, others: &mut [Cpu<J, A>])
+    pub(super) fn admit_turns(&self, turn: &mut StationSeat<FunnelSeat<A>, A>, others: &mut [Cpu<J, A>])
         requires bay { turn.old.bay ≡ self.now.bay }
         requires beside { Each (λ c. c.turn.bay ≡ self.now.bay) others.old }
         requires covered { Each (λ c. swaps.IsBeginning c.turn.seen turn.old.seen) others.old }
@@ -73,25 +70,25 @@ impl<J, A: Allocator> Domain<J, A> {
         ensures others { EachBecomes (IsTurned turn.old) others.old others.new }
     {
         for other in others.iter_mut() {
-            turn.admit(&mut other.turn, &self.bay);
+            turn.admit_seat(&mut other.turn, &self.station);
         }
     }
 
     /// What [`Domain::meet`] does, with the first processor on its own.
-    fn meet_others<R: Wait>(&self, rt: &R, first: &mut Cpu<J, A>, others: &mut [Cpu<J, A>])
+    fn meet_others(&self, first: &mut Cpu<J, A>, others: &mut [Cpu<J, A>])
         requires { IsAllOf self.now (first.old ∷ others.old) }
         ensures all { IsAllOf self.now (first.new ∷ others.new) }
         ensures meets { MeetsHere (first.old ∷ others.old) (first.new ∷ others.new) }
     {
         // For the proof: where no call of `ask` is on its way, the root has the greatest number.
         needs_of_a_tree();
-        let mut engine = self.take(rt, &mut first.turn);
+        let mut engine = self.take_at_once(&mut first.turn, others);
         engine.cover(&mut first.cpu);
         first.needs.root_need();
         self.cover_all(&mut engine, &mut first.needs, &mut first.turn, others);
         engine.admit(&mut first.cpu);
         admit_all(&mut engine, &mut first.needs, others);
-        self.put(&mut first.turn, engine);
+        first.turn.put(&self.station, engine);
         self.admit_turns(&mut first.turn, others);
         meet_calls(&mut first.calls, others);
     }
@@ -100,13 +97,13 @@ impl<J, A: Allocator> Domain<J, A> {
     /// has only those that one of them had seen before. Likewise one list of raises at the tree, whose root then holds
     /// the greatest number that they asked for (0 if none), one list of turns, and one list of what was done at the tally
     /// words of the callbacks, where all batches were finished by these processors. The processors are all of this
-    /// domain's, in order. It waits for the engine.
-    pub fn meet<R: Wait>(&self, rt: &R, cpus: &mut [Cpu<J, A>])
+    /// domain's, in order: so nobody else can have the engine, and its place is found full.
+    pub fn meet(&self, cpus: &mut [Cpu<J, A>])
         requires { IsAllOf self.now cpus.old }
         ensures all { IsAllOf self.now cpus.new }
         ensures meets { MeetsHere cpus.old cpus.new }
     {
         let (first, others) = cpus.split_first_mut().unwrap();
-        self.meet_others(rt, first, others);
+        self.meet_others(first, others);
     }
 }

@@ -5,59 +5,43 @@ ghost use Rattle.domain.specs.Turns.{StepsIn, AdvancesIn, IsRefused, StartsIn, I
 
 use crate::cpu::Cpu;
 use crate::domain::Domain;
-use crate::refusals::{AdvanceRefusal, StartRefusal};
-use scan::{Exhausted, Progress};
+use scan::Progress;
+use scan::refusals::{AdvanceRefusal, StartRefusal};
 use sseq::Number;
 use std::alloc::Allocator;
-use std::sync::Wait;
 
 impl<J, A: Allocator> Domain<J, A> {
-    /// Has the engine make one step (part of `srcu_advance_state`), and waits for the engine before that. The processor
-    /// has then seen what the engine had. A refusal puts the engine back too.
-    pub fn step<R: Wait>(&self, rt: &R, cpu: &mut Cpu<J, A>) -> Result<Progress, AdvanceRefusal>
+    /// Has the engine make one step (part of `srcu_advance_state`). The processor has then seen what the engine had. A
+    /// refusal by the engine puts it back too. `Busy` where another call has the engine: one swap found it taken, and
+    /// nothing else was done.
+    pub fn step(&self, cpu: &mut Cpu<J, A>) -> Result<Progress, AdvanceRefusal>
         requires { IsOf self.now cpu.old }
         ensures here { IsOf self.now cpu.new }
         ensures steps { MatchResult result (λ answer. StepsIn cpu.old answer cpu.new) (λ refusal. IsRefused cpu.old refusal cpu.new) }
     {
-        let mut engine = self.lend(rt, cpu);
-        let answer = engine.step();
-        self.give_back(cpu, engine);
-        match answer {
-            Ok(progress) => Ok(progress),
-            Err(Exhausted) => Err(AdvanceRefusal::Exhausted),
-        }
+        // The engine works with the processor's own seat at the tree: what the processor has seen there is found, and no
+        // engine can load the needs of another tree.
+        cpu.turn.step(&self.station, &mut cpu.cpu, &mut cpu.needs)
     }
 
-    /// Has the engine make steps until there is an answer, which is never `Step` (`srcu_advance_state`), and waits for
-    /// the engine before that. The processor has then seen what the engine had. A refusal puts the engine back too.
-    pub fn advance<R: Wait>(&self, rt: &R, cpu: &mut Cpu<J, A>) -> Result<Progress, AdvanceRefusal>
+    /// Has the engine make steps until there is an answer, which is never `Step` (`srcu_advance_state`). The processor
+    /// has then seen what the engine had. A refusal by the engine puts it back too. `Busy` is as for [`Domain::step`].
+    pub fn advance(&self, cpu: &mut Cpu<J, A>) -> Result<Progress, AdvanceRefusal>
         requires { IsOf self.now cpu.old }
         ensures here { IsOf self.now cpu.new }
         ensures advances { MatchResult result (λ answer. AdvancesIn cpu.old answer cpu.new) (λ refusal. IsRefused cpu.old refusal cpu.new) }
     {
-        let mut engine = self.lend(rt, cpu);
-        let answer = engine.advance();
-        self.give_back(cpu, engine);
-        match answer {
-            Ok(progress) => Ok(progress),
-            Err(Exhausted) => Err(AdvanceRefusal::Exhausted),
-        }
+        cpu.turn.advance(&self.station, &mut cpu.cpu, &mut cpu.needs)
     }
 
-    /// Starts a grace period, whether it is asked for or not, and answers the number from then on (`srcu_gp_start`). It
-    /// waits for the engine before that. The processor has then seen what the engine had. A refusal puts the engine
-    /// back too.
-    pub fn start<R: Wait>(&self, rt: &R, cpu: &mut Cpu<J, A>) -> Result<Number, StartRefusal>
+    /// Starts a grace period, whether it is asked for or not, and answers the number from then on (`srcu_gp_start`). The
+    /// processor has then seen what the engine had. A refusal by the engine puts it back too. `Busy` is as for
+    /// [`Domain::step`].
+    pub fn start(&self, cpu: &mut Cpu<J, A>) -> Result<Number, StartRefusal>
         requires { IsOf self.now cpu.old }
         ensures here { IsOf self.now cpu.new }
         ensures starts { MatchResult result (λ n. StartsIn cpu.old n cpu.new) (λ refusal. IsNotStarted cpu.old refusal cpu.new) }
     {
-        let mut engine = self.lend(rt, cpu);
-        let answer = engine.start();
-        self.give_back(cpu, engine);
-        match answer {
-            Ok(number) => Ok(number),
-            Err(refusal) => Err(StartRefusal::of(refusal)),
-        }
+        cpu.turn.start(&self.station, &mut cpu.cpu)
     }
 }

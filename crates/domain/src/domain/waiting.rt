@@ -1,25 +1,46 @@
 //! Waiting for a grace period.
 ghost use Rattle.std.specs.Prelude.{IfOk, MatchResult};
 ghost use Rattle.domain.specs.Views.{IsOf, IsSameProcessor};
-ghost use Rattle.domain.specs.Waiting.{HasNoneOpen, Synchronizes, WaitsInVain, WaitedFor};
+ghost use Rattle.domain.specs.Turns.{FindsExhaustedIn};
+ghost use Rattle.domain.specs.Waiting.{HasNoneOpen, Turns, Synchronizes, WaitsInVain, WaitedFor};
 
 use crate::cpu::Cpu;
 use crate::domain::Domain;
+use crate::pause::Pause;
+use scan::refusals::AdvanceRefusal;
 use scan::{Exhausted, Progress};
 use std::alloc::Allocator;
 use std::sync::Wait;
 use std::thread::yield_now;
 
-/// Lets other threads run where the engine waits for a section. Behind any other answer there is something to do at once.
-fn give_way(answer: Progress) {
-    if let Progress::Waiting(_) = answer {
-        yield_now();
+/// What a thread does behind a turn before it tries again. Where another call has the engine, that one drives the
+/// period; whoever waits for it sleeps longer and longer, so that many of them don't burn their cores. Where the engine
+/// waits for a section other threads may run. Behind any other answer there is something to do at once.
+fn give_way<R: Wait>(rt: &R, pause: &mut Pause, turn: Option<Progress>) {
+    match turn {
+        None => pause.pause(rt),
+        Some(Progress::Waiting(_)) => yield_now(),
+        Some(_) => pause.reset(),
     }
 }
 
 impl<J, A: Allocator> Domain<J, A> {
+    /// One turn with the engine, and its answer. `None` where another call has it.
+    fn turn(&self, cpu: &mut Cpu<J, A>) -> Result<Option<Progress>, Exhausted>
+        requires { IsOf self.now cpu.old }
+        ensures here { IsOf self.now cpu.new }
+        ensures turns { MatchResult result (λ turn. Turns turn cpu.old cpu.new) (λ _. FindsExhaustedIn cpu.old cpu.new) }
+    {
+        match self.advance(cpu) {
+            Ok(answer) => Ok(Some(answer)),
+            Err(AdvanceRefusal::Busy) => Ok(None),
+            Err(AdvanceRefusal::Exhausted) => Err(Exhausted),
+        }
+    }
+
     /// Waits until every section is closed that is open now (`synchronize_srcu`): it asks for one grace period, once, and
-    /// then drives the engine and polls in turn until the cookie is done. On the processor itself no reading may be
+    /// then drives the engine and polls in turn until the cookie is done. Where another call has the engine it polls,
+    /// since that call may have ended the period meanwhile, and tries again. On the processor itself no reading may be
     /// open, or the call would wait for itself. It is refused where a turn of its own found that no more grace periods
     /// may start: that turn is the last thing that it did, and what it asked for stays asked for.
     pub fn synchronize<R: Wait>(&self, rt: &R, cpu: &mut Cpu<J, A>) -> Result<(), Exhausted>
@@ -34,14 +55,16 @@ impl<J, A: Allocator> Domain<J, A> {
         ensures closed { IfOk result (λ _. WaitedFor cpu.old cpu.new) }
     {
         let mut cookie = self.start_poll(cpu);
+        let mut pause = Pause::new();
         for _ in rt.forever() {
-            match self.advance(rt, cpu) {
-                Ok(answer) => give_way(answer),
-                Err(_) => return Err(Exhausted),
-            }
+            let turn = match self.turn(cpu) {
+                Ok(turn) => turn,
+                Err(Exhausted) => return Err(Exhausted),
+            };
             if cpu.poll(&mut cookie) {
                 return Ok(());
             }
+            give_way(rt, &mut pause, turn);
         }
         unreachable!()
     }

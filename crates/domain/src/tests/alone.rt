@@ -84,12 +84,12 @@ fn new_in_little_room(rt: HostRuntime) -> Result<(), Fail> {
 }
 
 /// The numbers of the last two of 64 processors, and a period that the last one holds up.
-fn hold_up_by_the_last<R: Wait + AllocGlobal>(
+fn hold_up_by_the_last<R: AllocGlobal>(
     rt: &R,
 ) -> Result<((u16, u16), Option<HeldUp>), MakeError> {
     let (domain, mut driver, mut last) = last_two(rt.alloc(), 64, SCARCE)?;
     let numbers = (driver.processor(), last.processor());
-    Ok((numbers, hold_up(rt, &domain, &mut driver, &mut last)))
+    Ok((numbers, hold_up(&domain, &mut driver, &mut last)))
 }
 
 /// Would catch a processor that is not dealt or that a scan leaves out, as where it goes over 63 of 64.
@@ -207,35 +207,31 @@ fn what_is_not_made(rt: HostRuntime) -> Result<(), Fail> {
 }
 
 /// Asks for a grace period, and starts one where none runs.
-fn ask_and_start<R: Wait>(rt: &R, domain: &Domain<()>, cpu: &mut Cpu<()>)
+fn ask_and_start(domain: &Domain<()>, cpu: &mut Cpu<()>)
     requires { IsOf domain.now cpu.old }
     ensures here { IsOf domain.now cpu.new }
     ensures same { IsSameProcessor cpu.old cpu.new }
 {
     domain.start_poll(cpu);
-    let _ = domain.start(rt, cpu);
+    let _ = domain.start(cpu);
 }
 
 /// Does so with each of these processors, which are all of the domain's.
-fn ask_with_each<R: Wait>(rt: &R, domain: &Domain<()>, cpus: &mut [Cpu<()>])
+fn ask_with_each(domain: &Domain<()>, cpus: &mut [Cpu<()>])
     requires { IsAllOf domain.now cpus.old }
     ensures { IsAllOf domain.now cpus.new }
 {
     for cpu in cpus.iter_mut() {
-        ask_and_start(rt, domain, cpu);
+        ask_and_start(domain, cpu);
     }
 }
 
 /// Each asks, all meet, and then the first loads the need.
-fn need_behind_a_meeting<R: Wait>(
-    rt: &R,
-    domain: &Domain<()>,
-    cpus: &mut [Cpu<()>],
-) -> Option<Number>
+fn need_behind_a_meeting(domain: &Domain<()>, cpus: &mut [Cpu<()>]) -> Option<Number>
     requires { IsAllOf domain.now cpus.old }
 {
-    ask_with_each(rt, domain, cpus);
-    domain.meet(rt, cpus);
+    ask_with_each(domain, cpus);
+    domain.meet(cpus);
     let (first, _) = cpus.split_first_mut()?;
     Some(domain.need(first))
 }
@@ -245,42 +241,10 @@ fn need_behind_a_meeting<R: Wait>(
 #[test]
 fn meets(rt: HostRuntime) -> Result<(), Fail> {
     let (domain, mut cpus, _) = Domain::<()>::new(rt.alloc(), 5, AMPLE)?;
-    let need = need_behind_a_meeting(&rt, &domain, &mut cpus);
+    let need = need_behind_a_meeting(&domain, &mut cpus);
     assert_eq!(rt; need.map(Number::get), Some(8));
     for cpu in cpus.iter_mut() {
         assert_eq!(rt; (cpu.number().get(), cpu.cookie().number()), (1, 8));
     }
-    Ok(())
-}
-
-/// Would catch another number or another text of a refusal: callers hand both on.
-#[test]
-fn numbers_and_texts_of_refusals(rt: HostRuntime) -> Result<(), Fail> {
-    let advance = [AdvanceRefusal::Busy as u8, AdvanceRefusal::Exhausted as u8];
-    let start = [
-        StartRefusal::Busy as u8,
-        StartRefusal::Running as u8,
-        StartRefusal::Exhausted as u8,
-    ];
-    assert_eq!(rt; (advance, start), ([1, 2], [1, 2, 3]));
-    let advance = format!(in rt.alloc();
-        "{}; {}",
-        AdvanceRefusal::Busy,
-        AdvanceRefusal::Exhausted
-    )?;
-    assert_eq!(rt;
-        advance.as_str(),
-        "another call has the engine; no more grace periods may start"
-    );
-    let (busy, running, exhausted) = (
-        StartRefusal::Busy,
-        StartRefusal::Running,
-        StartRefusal::Exhausted,
-    );
-    let start = format!(in rt.alloc(); "{busy}; {running}; {exhausted}")?;
-    assert_eq!(rt;
-        start.as_str(),
-        "another call has the engine; a grace period runs; no more grace periods may start"
-    );
     Ok(())
 }

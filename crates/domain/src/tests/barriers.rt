@@ -75,7 +75,7 @@ fn poll_at_each_stage<R: Wait>(rt: &R, domain: &Domain<u64>, cpu: &mut Cpu<u64>)
     let Ok(behind) = domain.barrier_start(cpu) else { // the first half of srcu_barrier: what was queued until now
         return None;
     };
-    let _period = drive(rt, domain, cpu);
+    let _period = drive(domain, cpu);
     let ended = domain.barrier_poll(cpu, &behind); // false
     Some((nothing, ended, poll_round_a_batch(rt, domain, cpu, &behind)))
 }
@@ -250,7 +250,7 @@ fn run_beside<R: Wait>(rt: &R, domain: &Domain<()>, mut cpu: Cpu<()>, ran: &Ran)
     requires { IsOf domain.now cpu }
 {
     for _ in rt.forever() {
-        let _answer = domain.advance(rt, &mut cpu);
+        let _answer = domain.advance(&mut cpu);
         match ran.stage.load(SeqCst) {
             OVER => return,
             WAITING => run_batch(rt, domain, &mut cpu, ran),

@@ -36,13 +36,13 @@ pub(super) fn single<A: Allocator + Copy>(
 pub(super) type Answer = Result<Progress, AdvanceRefusal>;
 
 /// Drives a whole grace period, with a step for each of its parts.
-pub(super) fn drive<J, R: Wait>(rt: &R, domain: &Domain<J>, cpu: &mut Cpu<J>) -> [Answer; 3]
+pub(super) fn drive<J>(domain: &Domain<J>, cpu: &mut Cpu<J>) -> [Answer; 3]
     requires { IsOf domain.now cpu.old }
     ensures { IsOf domain.now cpu.new }
 {
-    let started = domain.advance(rt, cpu);
-    let flipped = domain.advance(rt, cpu);
-    let ended = domain.advance(rt, cpu);
+    let started = domain.advance(cpu);
+    let flipped = domain.advance(cpu);
+    let ended = domain.advance(cpu);
     [started, flipped, ended]
 }
 
@@ -51,8 +51,7 @@ pub(super) type HeldUp = ([Answer; 3], Answer, bool, bool);
 
 /// A period that a section on another processor holds up. Tells what the engine answers until the section's end, and
 /// behind it; and whether a cookie of before is done, both times.
-pub(super) fn hold_up<J, R: Wait>(
-    rt: &R,
+pub(super) fn hold_up<J>(
     domain: &Domain<J>,
     driver: &mut Cpu<J>,
     reader: &mut Cpu<J>,
@@ -63,10 +62,10 @@ pub(super) fn hold_up<J, R: Wait>(
         return None;
     };
     let mut cookie = domain.start_poll(driver);
-    let period = drive(rt, domain, driver);
+    let period = drive(domain, driver);
     let early = driver.poll(&mut cookie);
     reader.read_unlock(section);
-    let ended = domain.advance(rt, driver);
+    let ended = domain.advance(driver);
     let late = driver.poll(&mut cookie);
     Some((period, ended, early, late))
 }

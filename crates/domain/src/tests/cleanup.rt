@@ -83,12 +83,12 @@ fn number(value: u64) -> Number {
 }
 
 /// Hands in two of three processors. Tells the cause, and a period behind that.
-fn hand_in_too_few<R: Wait + Abort + AllocGlobal>(
+fn hand_in_too_few<R: Abort + AllocGlobal>(
     rt: &R,
 ) -> Result<(InUse, Option<HeldUp>), MakeError> {
     let (domain, first, second) = last_two(rt.alloc(), 3)?;
     let (cause, domain, mut first, mut second) = refused(rt, rt.alloc(), domain, first, second);
-    Ok((cause, hold_up(rt, &domain, &mut first, &mut second)))
+    Ok((cause, hold_up(&domain, &mut first, &mut second)))
 }
 
 /// Would catch a cleanup that does not miss a processor, and a domain or processors that are not of use behind a refusal.
@@ -137,7 +137,7 @@ fn drops_what_waits(rt: HostRuntime) -> Result<(), Fail> {
     let counted = Arc::new(rt.alloc(), 7u64)?;
     let (domain, mut cpu) = single::<Arc<u64>>(rt.alloc())?;
     let ready = domain.call(&rt, &mut cpu, counted.clone()?).is_ok();
-    let period = drive(&rt, &domain, &mut cpu);
+    let period = drive(&domain, &mut cpu);
     let waiting = domain.call(&rt, &mut cpu, counted.clone()?).is_ok();
     drop(cpu);
     let before = Arc::strong_count(&counted);

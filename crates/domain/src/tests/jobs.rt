@@ -271,7 +271,7 @@ fn take_until<R: Wait + Clock>(
         if next == [end; 4] {
             break;
         }
-        let _progress = domain.advance(rt, &mut cpu);
+        let _progress = domain.advance(&mut cpu);
         let Some(then) = take_of_four(rt, domain, &mut cpu, next, closing) else {
             return (cpu, None);
         };

@@ -144,7 +144,7 @@ struct Crossing {
 }
 
 /// Takes a section from the desk, and closes it in the middle of a grace period.
-fn close_from_desk<R: Wait + Clock>(
+fn close_from_desk<R: Clock>(
     rt: &R,
     domain: &Domain<()>,
     mut cpu: Cpu<()>,
@@ -161,12 +161,12 @@ fn close_from_desk<R: Wait + Clock>(
     };
     let (opened_on, closed_on) = (held.processor(), cpu.processor());
     let mut cookie = domain.start_poll(&mut cpu);
-    let _started = domain.advance(rt, &mut cpu);
-    let _flipped = domain.advance(rt, &mut cpu);
-    let waiting = domain.advance(rt, &mut cpu);
+    let _started = domain.advance(&mut cpu);
+    let _flipped = domain.advance(&mut cpu);
+    let waiting = domain.advance(&mut cpu);
     let early = cpu.poll(&mut cookie);
     cpu.up_read(held);
-    let ended = domain.advance(rt, &mut cpu);
+    let ended = domain.advance(&mut cpu);
     let late = cpu.poll(&mut cookie);
     let crossing = Crossing {
         opened_on,
@@ -453,7 +453,7 @@ fn drive_period<R: Wait>(rt: &R, domain: &Domain<()>, cpu: &mut Cpu<()>, tally: 
 {
     let mut cookie = domain.start_poll(cpu);
     for _ in rt.forever() {
-        if tally.finished.load(SeqCst) == THREADS || domain.advance(rt, cpu).is_err() {
+        if tally.finished.load(SeqCst) == THREADS || domain.advance(cpu).is_err() {
             return false;
         }
         if cpu.poll(&mut cookie) {
@@ -486,13 +486,13 @@ fn drive_beside<R: Wait>(
 }
 
 /// Asks for a grace period, and tells whether it has ended after some turns of the engine.
-fn ends_in_some_turns<R: Wait>(rt: &R, domain: &Domain<()>, cpu: &mut Cpu<()>) -> bool
+fn ends_in_some_turns(domain: &Domain<()>, cpu: &mut Cpu<()>) -> bool
     requires { IsOf domain.now cpu.old }
     ensures { IsOf domain.now cpu.new }
 {
     let mut cookie = domain.start_poll(cpu);
     for _ in 0..TURNS {
-        let _answer = domain.advance(rt, cpu);
+        let _answer = domain.advance(cpu);
     }
     cpu.poll(&mut cookie)
 }
@@ -531,14 +531,14 @@ fn hand_on_beside<R: Wait + Threads + Sync>(
 }
 
 /// Closes a section that was handed on last. Tells whether a grace period ends that is asked for before, and two behind.
-fn close_last<R: Wait>(rt: &R, domain: &Domain<()>, driver: &mut Cpu<()>, held: Held) -> [bool; 3]
+fn close_last(domain: &Domain<()>, driver: &mut Cpu<()>, held: Held) -> [bool; 3]
     requires driver { IsOf domain.now driver.old }
     requires held { held.domain ≡ domain.now.domain }
 {
-    let early = ends_in_some_turns(rt, domain, driver);
+    let early = ends_in_some_turns(domain, driver);
     driver.up_read(held);
-    let late = ends_in_some_turns(rt, domain, driver);
-    [early, late, ends_in_some_turns(rt, domain, driver)]
+    let late = ends_in_some_turns(domain, driver);
+    [early, late, ends_in_some_turns(domain, driver)]
 }
 
 /// Would catch a desk that loses or doubles what lies there, a section's end that is lost among those of other
@@ -554,7 +554,7 @@ fn desk_of_a_thousand(rt: HostRuntime) -> Result<(), Fail> {
     let Some(held) = close_four(&rt, desk, seats) else {
         panic!(rt; "the last one lies there");
     };
-    let ended = close_last(&rt, &domain, &mut driver, held);
+    let ended = close_last(&domain, &mut driver, held);
     let sections = (tally.opened.load(SeqCst), tally.closing.load(SeqCst));
     assert_eq!(rt;
         (sections, in_time, ended),

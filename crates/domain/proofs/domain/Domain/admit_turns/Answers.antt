@@ -8,18 +8,18 @@ use Rattle.domain.proofs.domain.Domain.admit_turns.Goals as goal
 pub loop-other-init : goal.loop-other-init
 loop-other-init g c = record { turn = refl; goes = goes_none _ _ }
 
-pub admit-requires-clause-bay : goal.admit-requires-clause-bay
-admit-requires-clause-bay g c = ap (λ (z : BaySeatView Engine). z.bay) c.loop-other.invariant.turn ∙ (c.requires.bay ∙ sym (ap (λ (z : DomainView). z.bay) c.self.view_is))
+pub admit_seat-requires-clause-station : goal.admit_seat-requires-clause-station
+admit_seat-requires-clause-station g c = ap (λ (z : BaySeatView Engine). z.bay) c.loop-other.invariant.turn ∙ (c.requires.bay ∙ sym (ap (λ (z : DomainView). z.bay) c.self.view_is))
 
-pub admit-requires-clause-other : goal.admit-requires-clause-other
-admit-requires-clause-other g c =
+pub admit_seat-requires-clause-other : goal.admit_seat-requires-clause-other
+admit_seat-requires-clause-other g c =
     let v = c.loop-other.invariant in
     let inside = c.loop-other-test.true in
     let long = c.loop-other.auto.others in
     item_has _ (λ (z : CpuView _). z.turn.bay ≡ c.args.self.now.bay) _ _ _ _ _ v.goes (omega (arith, inside, long)) c.other.view_is c.requires.beside ∙ sym (ap (λ (z : DomainView). z.bay) c.self.view_is)
 
-pub admit-requires-clause-covered : goal.admit-requires-clause-covered
-admit-requires-clause-covered g c =
+pub admit_seat-requires-clause-covered : goal.admit_seat-requires-clause-covered
+admit_seat-requires-clause-covered g c =
     let v = c.loop-other.invariant in
     let inside = c.loop-other-test.true in
     let long = c.loop-other.auto.others in

@@ -31,19 +31,19 @@ pub cover-requires : goal.cover-requires
 cover-requires g c =
     let here = subst (λ (z : CpuView _). Each (IsOf c.args.self.now) (z ∷ c.args.others.now)) (sym c.first.view_is) c.requires.here in
     let t = c.take_at_once-engine.ensures in
-    first_here _ _ _ here _ _ t.takes t.domain
+    first_here _ _ _ here _ _ t.takes t.takes.domain
 
 pub cover_cpus-requires-clause-domain : goal.cover_cpus-requires-clause-domain
 cover_cpus-requires-clause-domain g c =
     let here = subst (λ (z : CpuView _). Each (IsOf c.args.self.now) (z ∷ c.args.others.now)) (sym c.first.view_is) c.requires.here in
     let t = c.take_at_once-engine.ensures in
-    subst (λ (l : List (CpuView _)). Each (λ x. x.cpu.domain ≡ c.cover.new.self.seat.domain) l) (sym t.others) (others_here _ _ _ here _ _ t.takes t.domain c.cover.new.self.seat c.cover.ensures.engine.step.same.0)
+    subst (λ (l : List (CpuView _)). Each (λ x. x.cpu.domain ≡ c.cover.new.self.seat.domain) l) (sym t.others) (others_here _ _ _ here _ _ t.takes t.takes.domain c.cover.new.self.seat c.cover.ensures.engine.step.same.0)
 
 pub admit-requires-clause-domain : goal.admit-requires-clause-domain
 admit-requires-clause-domain g c =
     let here = subst (λ (z : CpuView _). Each (IsOf c.args.self.now) (z ∷ c.args.others.now)) (sym c.first.view_is) c.requires.here in
     let t = c.take_at_once-engine.ensures in
-    let first = first_here _ _ _ here _ _ t.takes t.domain in
+    let first = first_here _ _ _ here _ _ t.takes t.takes.domain in
     let same = ap (λ (z : sections.CpuView). z.domain) c.cover.ensures.cpu ∙ (first ∙ sym (c.cover_cpus.ensures.engine.same.0 ∙ c.cover.ensures.engine.step.same.0)) in
     same
 
@@ -56,7 +56,7 @@ pub cover-requires-2 : goal.cover-requires-2
 cover-requires-2 g c =
     let here = subst (λ (z : CpuView _). Each (IsOf c.args.self.now) (z ∷ c.args.others.now)) (sym c.first.view_is) c.requires.here in
     let t = c.take_at_once-engine.ensures in
-    let first = first_here _ _ _ here _ _ t.takes t.domain in
+    let first = first_here _ _ _ here _ _ t.takes t.takes.domain in
     let same = ap (λ (z : sections.CpuView). z.domain) c.cover.ensures.cpu ∙ (first ∙ sym (c.cover_cpus.ensures.engine.same.0 ∙ c.cover.ensures.engine.step.same.0)) in
     let again = c.count_sections-opened.ensures.loads.same.0 ∙ (c.admit.ensures.cpu.same.0 ∙ (same ∙ sym (ap (λ (z : Engine). z.seat.domain) c.admit.ensures.engine))) in
     again
@@ -65,7 +65,7 @@ pub admit-requires-2-clause-domain : goal.admit-requires-2-clause-domain
 admit-requires-2-clause-domain g c =
     let here = subst (λ (z : CpuView _). Each (IsOf c.args.self.now) (z ∷ c.args.others.now)) (sym c.first.view_is) c.requires.here in
     let t = c.take_at_once-engine.ensures in
-    let first = first_here _ _ _ here _ _ t.takes t.domain in
+    let first = first_here _ _ _ here _ _ t.takes t.takes.domain in
     let same = ap (λ (z : sections.CpuView). z.domain) c.cover.ensures.cpu ∙ (first ∙ sym (c.cover_cpus.ensures.engine.same.0 ∙ c.cover.ensures.engine.step.same.0)) in
     let again = c.count_sections-opened.ensures.loads.same.0 ∙ (c.admit.ensures.cpu.same.0 ∙ (same ∙ sym (ap (λ (z : Engine). z.seat.domain) c.admit.ensures.engine))) in
     ap (λ (z : sections.CpuView). z.domain) c.cover-2.ensures.cpu ∙ (again ∙ sym c.cover-2.ensures.engine.step.same.0)
@@ -77,7 +77,7 @@ admit_cpus-requires-clause-domain g c =
     let others = c.cover_cpus.ensures.others ∙ t.others in
     let second = c.cover-2.ensures.engine in
     let engine = c.admit-2.ensures.engine in
-    subst (λ (l : List (CpuView _)). Each (λ x. x.cpu.domain ≡ c.admit-2.new.self.seat.domain) l) (sym others) (others_here _ _ _ here _ _ t.takes t.domain c.admit-2.new.self.seat (ap (λ (z : Engine). z.seat.domain) engine ∙ (second.step.same.0 ∙ (ap (λ (z : Engine). z.seat.domain) c.admit.ensures.engine ∙ (c.cover_cpus.ensures.engine.same.0 ∙ c.cover.ensures.engine.step.same.0)))))
+    subst (λ (l : List (CpuView _)). Each (λ x. x.cpu.domain ≡ c.admit-2.new.self.seat.domain) l) (sym others) (others_here _ _ _ here _ _ t.takes t.takes.domain c.admit-2.new.self.seat (ap (λ (z : Engine). z.seat.domain) engine ∙ (second.step.same.0 ∙ (ap (λ (z : Engine). z.seat.domain) c.admit.ensures.engine ∙ (c.cover_cpus.ensures.engine.same.0 ∙ c.cover.ensures.engine.step.same.0)))))
 
 pub admit_cpus-requires-clause-covered : goal.admit_cpus-requires-clause-covered
 admit_cpus-requires-clause-covered g c =
@@ -86,11 +86,11 @@ admit_cpus-requires-clause-covered g c =
     subst (λ (z : List (CpuView _) × Engine). Each (λ x. IsBeginning x.cpu.seen z.1.seat.seen × (x.cpu.changes ≤ z.1.seat.changes)) z.0) (λ i. (sym c.cover_cpus.ensures.others i, sym c.admit-2.ensures.engine i))
     (λ k x lt. let h = c.cover_cpus.ensures.engine.covers k x lt in let low = h.1 in (beginning_trans h.0 second.step.since, omega (arith, low, same)))
 
-pub put-requires-clause-bay : goal.put-requires-clause-bay
-put-requires-clause-bay g c =
+pub put-requires-clause-station : goal.put-requires-clause-station
+put-requires-clause-station g c =
     let here = subst (λ (z : CpuView _). Each (IsOf c.args.self.now) (z ∷ c.args.others.now)) (sym c.first.view_is) c.requires.here in
     let t = c.take_at_once-engine.ensures in
-    ap (λ (z : BaySeatView Engine). z.bay) (took_same _ _ _ t.takes) ∙ (here 0 (record { cpu = c.first.inside.cpu; needs = c.first.inside.needs; turn = c.first.inside.turn; calls = c.first.inside.calls }) (omega arith)).bay
+    ap (λ (z : BaySeatView Engine). z.bay) (took_same _ _ _ t.takes) ∙ (here 0 (record { cpu = c.first.inside.cpu; needs = c.first.inside.needs; turn = c.first.inside.turn; calls = c.first.inside.calls }) (omega arith)).bay ∙ sym (ap (λ (z : DomainView). z.bay) c.self.view_is)
 
 pub put-requires-clause-tied : goal.put-requires-clause-tied
 put-requires-clause-tied g c =
@@ -98,7 +98,7 @@ put-requires-clause-tied g c =
     let engine = c.admit_cpus.ensures.engine ∙ c.admit-2.ensures.engine in
     let one = c.cover.ensures.engine.step in
     let all = c.cover_cpus.ensures.engine in
-    subst (λ (z : Engine). IsTied z.seat) (sym engine) (still_tied c.take_at_once-engine.result.seat c.cover-2.new.self.seat (second.step.same.1 ∙ (all.same.1 ∙ one.same.1)) (second.step.shown ∙ (all.shown ∙ one.shown)) (second.step.changes_are ∙ (all.changes ∙ one.changes_are)) c.take_at_once-engine.ensures.tied)
+    subst (λ (z : Engine). IsTied z.seat) (sym engine) (still_tied c.take_at_once-engine.result.seat c.cover-2.new.self.seat (second.step.same.1 ∙ (all.same.1 ∙ one.same.1)) (second.step.shown ∙ (all.shown ∙ one.shown)) (second.step.changes_are ∙ (all.changes ∙ one.changes_are)) c.take_at_once-engine.ensures.takes.tied)
 
 pub returns : goal.returns
 returns g c =
@@ -116,6 +116,6 @@ returns g c =
     let again = subst (λ (z : Engine). Covers z.seat c.count_sections-opened.new.cpu.seen c.count_sections-opened.new.cpu.changes e3.seat) c.admit.ensures.engine c.cover-2.ensures.engine in
     let accepts_too = subst (λ (z : sections.CpuView). calls.Accepts z e3.seat.seen e3.seat.changes e3.seat.texts c.admit-2.new.cpu) c.cover-2.ensures.cpu c.admit-2.ensures.cpu in
     let joined = subst (λ (z : Engine × List (CpuView _)). EachBecomes (IsJoined z.0.seat) z.1 c.admit_cpus.new.others) (λ i. (c.admit-2.ensures.engine i, (c.cover_cpus.ensures.others ∙ t.others) i)) c.admit_cpus.ensures.others in
-    let puts = subst (λ (z : Engine). MakesSwap c.take_at_once-engine.new.turn (Some z) None c.put.new.turn) (c.admit_cpus.ensures.engine ∙ c.admit-2.ensures.engine) c.put.ensures.swap in
+    let puts = subst (λ (z : Engine). MakesSwap c.take_at_once-engine.new.turn (Some z) None c.put.new.self) (c.admit_cpus.ensures.engine ∙ c.admit-2.ensures.engine) c.put.ensures.swap in
     let rest = c.cover-2.ensures.rest ∙ (ap (λ (z : Engine). with_seat e3.seat z) (c.admit.ensures.engine ∙ c.cover_cpus.ensures.rest) ∙ ap (λ (z : Engine). with_seat e3.seat z) c.cover.ensures.rest) in
-    rw (← c.first.view_is) (counted_in_all _ _ _ _ here there _ c.cover.new.self e2 e3 _ _ _ _ _ _ _ _ t.takes t.tied c.cover.ensures.engine covers_all accepts was sized heard c.count_sections-opened.ensures number again accepts_too joined puts c.put.ensures.free rest)
+    rw (← c.first.view_is) (counted_in_all _ _ _ _ here there _ c.cover.new.self e2 e3 _ _ _ _ _ _ _ _ t.takes t.takes.tied c.cover.ensures.engine covers_all accepts was sized heard c.count_sections-opened.ensures number again accepts_too joined puts c.put.ensures.free rest)

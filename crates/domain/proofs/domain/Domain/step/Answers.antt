@@ -1,14 +1,11 @@
-use Rattle.domain.proofs.Lending.{lends, still_of, same_stepped, same_exhausted}
+use Rattle.std.proofs.Common.{refl}
+use Rattle.domain.proofs.Lending.{stepped}
+use Rattle.domain.proofs.Sameness.{same_stepped_in}
+use Rattle.domain.proofs.Staying.{still_of}
 use Rattle.domain.proofs.domain.Domain.step.Goals as goal
 
-pub returns-in-Ok-clause-here : goal.returns-in-Ok-clause-here
-returns-in-Ok-clause-here g c = still_of _ _ _ _ _ _ c.requires c.lend-engine.ensures c.give_back.ensures (same_stepped _ _ _ c.in-Ok.ensures)
+pub returns-clause-steps : goal.returns-clause-steps
+returns-clause-steps g c = rw (← c.cpu.view_is) (stepped _ _ refl c.step.result c.step.ensures.steps)
 
-pub returns-in-Ok-clause-steps : goal.returns-in-Ok-clause-steps
-returns-in-Ok-clause-steps g c = lends _ _ _ _ _ _ _ c.requires c.lend-engine.ensures c.in-Ok.ensures c.give_back.ensures
-
-pub returns-in-Err-clause-here : goal.returns-in-Err-clause-here
-returns-in-Err-clause-here g c = still_of _ _ _ _ _ _ c.requires c.lend-engine.ensures c.give_back.ensures (same_exhausted _ _ c.in-Err.ensures)
-
-pub returns-in-Err-clause-steps : goal.returns-in-Err-clause-steps
-returns-in-Err-clause-steps g c = lends _ _ _ _ _ _ _ c.requires c.lend-engine.ensures c.in-Err.ensures c.give_back.ensures
+pub returns-clause-here : goal.returns-clause-here
+returns-clause-here g c = still_of _ _ _ c.requires (same_stepped_in _ _ _ (returns-clause-steps g c)) c.step.ensures.free

@@ -1,59 +1,32 @@
-use Rattle.std.proofs.Common.{sym, ◌∙◌, subst}
+use Rattle.std.proofs.Common.{sym, subst}
 use Rattle.sections.specs.Views.{CookieView}
-use Rattle.domain.proofs.Sameness.{same_trans, same_polled}
-use Rattle.domain.proofs.Synchronizing.{HasWaited, turned_advanced, turned_exhausted, only_exhausted, begins, turns, asks_in_vain, synchronizes, waits_in_vain, waited_for, still_none, none_in_vain}
+use Rattle.domain.proofs.Synchronizing.{HasWaited, turned, begins, turns, asks_in_vain, synchronizes, waits_in_vain, waited_for, still_none, none_in_vain}
 use Rattle.domain.proofs.domain.Domain.synchronize.Goals as goal
 
 pub loop-init : goal.loop-init
 loop-init g c = record { can = (tt, tt); waited = begins _ _ _ _ c.start_poll-cookie.ensures.here c.start_poll-cookie.ensures.starts }
 
-pub advance-requires : goal.advance-requires
-advance-requires g c = c.loop.invariant.waited.here
-
-pub returns-in-Err-clause-same : goal.returns-in-Err-clause-same
-returns-in-Err-clause-same g c = same_trans _ _ _ c.loop.invariant.waited.same (turned_exhausted _ _ (only_exhausted _ _ _ c.in-Err.ensures.advances)).same
+pub returns-in-Err-clause-waits : goal.returns-in-Err-clause-waits
+returns-in-Err-clause-waits g c = waits_in_vain _ _ _ _ _ c.loop.invariant.waited c.in-Err.ensures.turns
 
 pub returns-in-Err-clause-still_none : goal.returns-in-Err-clause-still_none
-returns-in-Err-clause-still_none g c = none_in_vain _ _ c.requires.none (waits_in_vain _ _ _ _ _ c.loop.invariant.waited (only_exhausted _ _ _ c.in-Err.ensures.advances))
-
-pub returns-in-Err-clause-waits : goal.returns-in-Err-clause-waits
-returns-in-Err-clause-waits g c = waits_in_vain _ _ _ _ _ c.loop.invariant.waited (only_exhausted _ _ _ c.in-Err.ensures.advances)
-
-pub poll-requires : goal.poll-requires
-poll-requires g c =
-    let h = turns _ _ _ _ _ c.loop.invariant.waited c.advance.ensures.here (turned_advanced _ _ _ c.in-Ok.ensures.advances) in
-    h.of_domain ∙ sym h.same.cpu.0
-
-pub returns-then-poll-clause-same : goal.returns-then-poll-clause-same
-returns-then-poll-clause-same g c =
-    let h = turns _ _ _ _ _ c.loop.invariant.waited c.advance.ensures.here (turned_advanced _ _ _ c.in-Ok.ensures.advances) in
-    same_trans _ _ _ h.same (same_polled _ _ c.poll.ensures.asks.adds.same c.poll.ensures.rest)
-
-pub returns-then-poll-clause-still_none : goal.returns-then-poll-clause-still_none
-returns-then-poll-clause-still_none g c =
-    let h = turns _ _ _ _ _ c.loop.invariant.waited c.advance.ensures.here (turned_advanced _ _ _ c.in-Ok.ensures.advances) in
-    still_none _ _ c.requires.none (synchronizes _ _ _ _ _ _ _ h c.in-Ok.ensures.advances c.if-poll.ensures.asks c.poll.ensures.rest (c.poll.ensures.closed c.if-poll.true))
+returns-in-Err-clause-still_none g c = none_in_vain _ _ c.requires.none (returns-in-Err-clause-waits g c)
 
 pub returns-then-poll-clause-waits : goal.returns-then-poll-clause-waits
 returns-then-poll-clause-waits g c =
-    let h = turns _ _ _ _ _ c.loop.invariant.waited c.advance.ensures.here (turned_advanced _ _ _ c.in-Ok.ensures.advances) in
-    synchronizes _ _ _ _ _ _ _ h c.in-Ok.ensures.advances c.if-poll.ensures.asks c.poll.ensures.rest (c.poll.ensures.closed c.if-poll.true)
+    let h = turns _ _ _ _ _ c.loop.invariant.waited c.in-Ok.ensures.here (turned _ _ _ c.in-Ok.ensures.turns) in
+    synchronizes _ _ _ _ _ _ _ h c.in-Ok.ensures.turns c.if-poll.ensures.asks c.poll.ensures.rest (c.poll.ensures.closed c.if-poll.true)
+
+pub returns-then-poll-clause-still_none : goal.returns-then-poll-clause-still_none
+returns-then-poll-clause-still_none g c = still_none _ _ c.requires.none (returns-then-poll-clause-waits g c)
 
 pub returns-then-poll-clause-closed : goal.returns-then-poll-clause-closed
-returns-then-poll-clause-closed g c =
-    let h = turns _ _ _ _ _ c.loop.invariant.waited c.advance.ensures.here (turned_advanced _ _ _ c.in-Ok.ensures.advances) in
-    waited_for _ _ (synchronizes _ _ _ _ _ _ _ h c.in-Ok.ensures.advances c.if-poll.ensures.asks c.poll.ensures.rest (c.poll.ensures.closed c.if-poll.true))
+returns-then-poll-clause-closed g c = waited_for _ _ (returns-then-poll-clause-waits g c)
 
 pub loop-preserved : goal.loop-preserved
 loop-preserved g c =
-    let h = turns _ _ _ _ _ c.loop.invariant.waited c.advance.ensures.here (turned_advanced _ _ _ c.in-Ok.ensures.advances) in
+    let h = turns _ _ _ _ _ c.loop.invariant.waited c.in-Ok.ensures.here (turned _ _ _ c.in-Ok.ensures.turns) in
     record {
       can = (tt, tt);
-      waited = subst (λ (k : CookieView). HasWaited c.args.self.now c.args.cpu.now k c.poll.new.self c.poll.new.self) (sym c.poll.ensures.cookie) (asks_in_vain _ _ _ _ _ _ _ h c.in-Ok.ensures.advances c.if-poll.ensures.asks c.poll.ensures.rest);
+      waited = subst (λ (k : CookieView). HasWaited c.args.self.now c.args.cpu.now k c.poll.new.self c.poll.new.self) (sym c.poll.ensures.cookie) (asks_in_vain _ _ _ _ _ _ _ h c.in-Ok.ensures.turns c.if-poll.ensures.asks c.poll.ensures.rest);
     }
-
-pub returns-in-Err-clause-here : goal.returns-in-Err-clause-here
-returns-in-Err-clause-here g c = c.advance.ensures.here
-
-pub returns-then-poll-clause-here : goal.returns-then-poll-clause-here
-returns-then-poll-clause-here g c = c.poll.ensures.stays c.args.self.now c.advance.ensures.here
