@@ -12,8 +12,9 @@ use Rattle.sections.specs.declared.limits.Limits.{Limits}
 use Rattle.sections.specs.Views.{CpuView, CookieView, EngineView}
 use Rattle.sections.specs.Calls.{IsSameCpu}
 use Rattle.sections.specs.EngineCalls.{IsSameEngine, TiesEngine, noted}
+use Rattle.sections.specs.Shelves.{put_cells, IsStart}
 use Rattle.sections.specs.Making.{IsCount}
-use Rattle.sections.proofs.CallerLemmas.{last_may_follow}
+use Rattle.sections.proofs.CallerLemmas.{last_may_follow, start_trans}
 use Rattle.funnel.specs.declared.view.Raise.{Raise}
 use Rattle.funnel.specs.Histories.{IsBeginning as IsBeginningAtTree, value, greatest}
 use Rattle.funnel.specs.Views.{FunnelView}
@@ -26,13 +27,14 @@ use Rattle.scan.specs.declared.progress.StartRefusal as scan
 use Rattle.scan.specs.declared.progress.StartRefusal.TheVariants as refusal_of
 use Rattle.scan.specs.Standings as engine
 use Rattle.scan.specs.Standings.{Standing, number_at_rest, events_of, Says as SaysOf, StepsThrough}
-use Rattle.scan.specs.Progress.{standing_of, with_seat, GetsOn, NeedsLoaded, StepsTo, AdvancesTo, FindsExhausted, StartsTo, IsNoStart}
-use Rattle.domain.specs.declared.refusals.AdvanceRefusal.{AdvanceRefusal}
-use Rattle.domain.specs.declared.refusals.AdvanceRefusal.TheVariants as advance
-use Rattle.domain.specs.declared.refusals.StartRefusal.{StartRefusal}
-use Rattle.domain.specs.declared.refusals.StartRefusal.TheVariants as start
-use Rattle.domain.specs.Views.{DomainView, CpuView as DomainCpu, IsOf, with_needs}
-use Rattle.domain.specs.Turns.{TakesTurn, Lends, StepsIn, AdvancesIn, FindsExhaustedIn, IsRefused, StartsIn, StartsNone as StartsNoneIn, IsNotStarted}
+use Rattle.scan.specs.Progress.{standing_of, with_seat, with_needs, GetsOn, NeedsLoaded, StepsTo, AdvancesTo, FindsExhausted, StartsTo, IsNoStart}
+use Rattle.scan.specs.Stations.{TakesTurn, FindsBusy}
+use Rattle.scan.specs.declared.refusals.AdvanceRefusal.{AdvanceRefusal}
+use Rattle.scan.specs.declared.refusals.AdvanceRefusal.TheVariants as advance
+use Rattle.scan.specs.declared.refusals.StartRefusal.{StartRefusal}
+use Rattle.scan.specs.declared.refusals.StartRefusal.TheVariants as start
+use Rattle.domain.specs.Views.{DomainView, CpuView as DomainCpu, IsOf}
+use Rattle.domain.specs.Turns.{Lends, FindsBusyIn, StepsIn, AdvancesIn, FindsExhaustedIn, IsRefused, StartsIn, StartsNone as StartsNoneIn, IsNotStarted}
 use Rattle.solo.specs.Refusals.{IsNotBusy, NoneIsBusy, IsToldAs, IsStartedAs}
 use Rattle.domain.specs.Waiting.{LoadsNeed, StartsPoll}
 use Rattle.domain.specs.Meetings.{IsAllOf, EngineMeets, MeetsHere}
@@ -42,12 +44,13 @@ use Rattle.solo.specs.Settling.{View, Holds, AllHold, AskTogether, TurnTogether,
 use Rattle.calls.specs.Lines.{no_calls, line_in}
 use Rattle.solo.specs.Insides.{queued_on, finished_on, lines_on, seen_as, seen_first}
 use Rattle.solo.proofs.NothingBetween.{made_by_append}
+use Rattle.solo.proofs.Shelving.{shelf_stays}
 use Rattle.domain.specs.Acting.{GoesOn, Adds}
 use Rattle.domain.proofs.CallerLemmas.{stays, goes_further, adds_none, nothing_done}
 use Rattle.solo.proofs.Needing.{squeezed, raised_here}
 use Rattle.solo.proofs.Tallying.{GoesOnBy, still_queued, still_finished, still_line, same_counts, goes_on, tally_together}
 use Rattle.solo.proofs.Settled.{HaveAsked, IsSettled, settled, all_raised, asked_together}
-use Rattle.solo.proofs.Turning.{turn_found, meeting_found, turn_turned}
+use Rattle.solo.proofs.Turning.{turn_found, meeting_found, turn_turned, never_busy}
 use Rattle.solo.proofs.Hand.{IsStill, first_seen, is_seen}
 
 -- the engine made these events of its own
@@ -206,6 +209,15 @@ not_started : (v : View) (c : Course) (refusal : scan.StartRefusal) → c.standi
 not_started v c refusal_of.Running same h = subst (λ (z : Standing). IsRunning z.history) (sym same) h
 not_started v c refusal_of.Exhausted same h = subst engine.IsOutOfPeriods (sym same) h
 
+-- the engine puts nothing
+no_puts : (a : Progress) → put_cells (events_of a) ≡ []
+no_puts answer.Idle = refl
+no_puts (answer.Started n) = refl
+no_puts (answer.Flipped i) = refl
+no_puts (answer.Ended n) = refl
+no_puts (answer.Waiting i) = refl
+no_puts answer.Step = refl
+
 -- the engine of the domain was found and worked with the first processor, was left tied to it, and then all have met
 pub record Turn (J : Type 0) : Type 1 where
   pub d : DomainView
@@ -295,6 +307,10 @@ module _ {J : Type 0} where
 
     engine_meets : EngineMeets t.lends.left.seat (set t.cpus 0 t.now) t.meets.left.seat t.cpus'
     engine_meets = subst (λ (z : View). EngineMeets z.seat (set t.cpus 0 t.now) t.meets.left.seat t.cpus') meeting_is t.meets.engine
+
+    -- the words of versions that were known before are known still
+    texts_on : IsStart t.v.seat.texts t.meets.left.seat.texts
+    texts_on = start_trans (subst (λ l. IsStart l t.lends.left.seat.texts) (ap (λ (z : DomainCpu J). z.cpu.texts) t.is ∙ t.met.together.texts 0 nobody some) ties.accepts.texts_since) engine_meets.texts
 
     pub same_engine : IsSameEngine w.seat t.meets.left.seat
     same_engine = (engine_meets.same.0 ∙ tied_same.0, engine_meets.same.1 ∙ tied_same.1, engine_meets.same.2 ∙ tied_same.2)
@@ -438,8 +454,11 @@ module _ {J : Type 0} where
         began = ap (λ (x : View). x.began) rest_is z;
       }
 
-      same_as : IsSameDomain before after
-      same_as = ((same_engine.0 ∙ own.same.0, refl, same_engine.1 ∙ own.same.1, same_engine.2 ∙ own.same.2, same_tallies), same_lines)
+      same_shelf : put_cells act ≡ [] → after.shelf ≡ before.shelf
+      same_shelf none = shelf_stays t.v.seat.seen act t.meets.left.seat.seen acted.seen none t.v.seat.texts t.meets.left.seat.texts texts_on t.met.together.history.texts acted.together.history.texts
+
+      same_as : put_cells act ≡ [] → IsSameDomain before after
+      same_as none = ((same_engine.0 ∙ own.same.0, refl, same_engine.1 ∙ own.same.1, same_engine.2 ∙ own.same.2, same_tallies, same_shelf none), same_lines)
 
       worked : (work : Standing → Standing → Type 0) → work (standing_of t.v) (standing_of t.meets.left) → Works work before.course after.course
       worked work it = record { work_is = it; rest = λ i. record { standing = standing_of t.meets.left; asked = same_asked i; queued = same_queued i; finished = same_finished i } }
@@ -476,7 +495,7 @@ module _ {J : Type 0} where
       stepped_met = met_after (events_of a) s.goes_on.others (own_answer v w a s.goes_on) s.step.answered.events (wanted_after raises root v w known still a s)
 
       pub stepped_same : IsSameDomain before after
-      stepped_same = same_as (events_of a) s.goes_on.others (own_answer v w a s.goes_on) s.step.answered.events
+      stepped_same = same_as (events_of a) s.goes_on.others (own_answer v w a s.goes_on) s.step.answered.events (no_puts a)
 
       pub stepped : Steps a before.course after.course
       stepped =
@@ -491,7 +510,7 @@ module _ {J : Type 0} where
       advanced_met = met_after (events_of a) s.goes_on.others (own_answer v w a s.goes_on) s.answered.events (λ _ some. absurd (nothing_half w.so_far s.done some))
 
       pub advanced_same : IsSameDomain before after
-      advanced_same = same_as (events_of a) s.goes_on.others (own_answer v w a s.goes_on) s.answered.events
+      advanced_same = same_as (events_of a) s.goes_on.others (own_answer v w a s.goes_on) s.answered.events (no_puts a)
 
       pub advanced : Advances a before.course after.course
       advanced =
@@ -525,6 +544,7 @@ module _ {J : Type 0} where
         tallies = same_tallies i;
         course = record { standing = (as_before [] [] (own_none v w seat_kept) seen_kept ∙ ap standing_of rest) i; asked = same_asked i; queued = same_queued i; finished = same_finished i };
         lines = same_lines i;
+        shelf = same_shelf [] [] (own_none v w seat_kept) seen_kept refl i;
       }
 
     module _ (x : FindsExhausted LoadsRoot v w) where
@@ -542,7 +562,7 @@ module _ {J : Type 0} where
       started_met = met_after (Start Engine ∷ []) s.others (own_start v w n s) s.starts.events (λ _ some. absurd (nothing_half w.so_far s.starts.done some))
 
       pub started_same : IsSameDomain before after
-      started_same = same_as (Start Engine ∷ []) s.others (own_start v w n s) s.starts.events
+      started_same = same_as (Start Engine ∷ []) s.others (own_start v w n s) s.starts.events refl
 
       pub started : Starts n before.course after.course
       started =
@@ -552,7 +572,7 @@ module _ {J : Type 0} where
 
   -- where nothing has changed
   pub unchanged : (d d' : SoloView J) → d' ≡ d → IsSameDomain d d'
-  unchanged d d' same = subst (IsSameDomain d) (sym same) ((refl, refl, refl, refl, refl), refl)
+  unchanged d d' same = subst (IsSameDomain d) (sym same) ((refl, refl, refl, refl, refl, refl), refl)
 
   -- Each call that drives the engine leaves the processor what it was
 
@@ -563,19 +583,27 @@ module _ {J : Type 0} where
     needs = subst (λ (z : FunnelView). IsSameSeat was.needs z) (sym h.needs) on.same;
   }
 
+  -- where it finds the engine taken, too
+  busy_still : (d : DomainView) (was now : DomainCpu J) → FindsBusyIn was now → IsOf d now → IsStill d was now
+  busy_still d was now h is_of = record {
+    is_of = is_of;
+    cpu = subst (λ (z : CpuView). IsSameCpu was.cpu z) (sym (ap (λ (x : DomainCpu J). x.cpu) h.rest)) (refl, refl, refl, refl);
+    needs = (stays was.needs now.needs (ap (λ (x : DomainCpu J). x.needs) h.rest)).same;
+  }
+
   pub stepped_still : (d : DomainView) (was now : DomainCpu J) (r : Result Progress AdvanceRefusal) → MatchResult r (λ a. StepsIn was a now) (λ refusal. IsRefused was refusal now) → IsOf d now → IsStill d was now
   stepped_still d was now (Ok a) h is_of = lent_still _ d was now h (loaded_goes_on (with_needs was.needs h.found) h.worked h.works.needs) is_of
-  stepped_still d was now (Err advance.Busy) h is_of = absurd h
+  stepped_still d was now (Err advance.Busy) h is_of = busy_still d was now h is_of
   stepped_still d was now (Err advance.Exhausted) h is_of = lent_still _ d was now h (exhausted_goes_on (with_needs was.needs h.found) h.worked h.works) is_of
 
   pub advanced_still : (d : DomainView) (was now : DomainCpu J) (r : Result Progress AdvanceRefusal) → MatchResult r (λ a. AdvancesIn was a now) (λ refusal. IsRefused was refusal now) → IsOf d now → IsStill d was now
   advanced_still d was now (Ok a) h is_of = lent_still _ d was now h (loaded_goes_on (with_needs was.needs h.found) h.worked h.works.needs) is_of
-  advanced_still d was now (Err advance.Busy) h is_of = absurd h
+  advanced_still d was now (Err advance.Busy) h is_of = busy_still d was now h is_of
   advanced_still d was now (Err advance.Exhausted) h is_of = lent_still _ d was now h (exhausted_goes_on (with_needs was.needs h.found) h.worked h.works) is_of
 
   pub started_still : (d : DomainView) (was now : DomainCpu J) (r : Result ℕ StartRefusal) → MatchResult r (λ n. StartsIn was n now) (λ refusal. IsNotStarted was refusal now) → IsOf d now → IsStill d was now
   started_still d was now (Ok n) h is_of = lent_still _ d was now h (stays was.needs h.worked.needs h.works.needs) is_of
-  started_still d was now (Err start.Busy) h is_of = absurd h
+  started_still d was now (Err start.Busy) h is_of = busy_still d was now h is_of
   started_still d was now (Err start.Running) h is_of = lent_still _ d was now h (no_start_goes_on (with_needs was.needs h.found) h.worked h.works.1) is_of
   started_still d was now (Err start.Exhausted) h is_of = lent_still _ d was now h (no_start_goes_on (with_needs was.needs h.found) h.worked h.works.1) is_of
 
@@ -587,16 +615,23 @@ module _ {J : Type 0} where
 
   -- What the calls say: each is a turn
 
-  pub not_busy : (was now : DomainCpu J) (P : Progress → Type 0) (r : Result Progress AdvanceRefusal) → MatchResult r P (λ refusal. IsRefused was refusal now) → IsNotBusy r
-  not_busy was now P (Ok a) h = tt
-  not_busy was now P (Err advance.Busy) h = absurd h
-  not_busy was now P (Err advance.Exhausted) h = tt
+  -- no call finds the engine taken: all seats are in hand, and none of them has it
+  module _ (d : DomainView) (limits : Limits) (cpus : List (DomainCpu J)) (lay : View) (was now : DomainCpu J) (cpus' : List (DomainCpu J)) (met : HaveMet d limits cpus lay) (is : was ≡ get_or cpus 0 was) (meets : MeetsHere (set cpus 0 now) cpus') where
+    never : FindsBusyIn was now → ⊥
+    never h =
+        let behind : FindsBusy (get_or cpus 0 was).turn (get_or (set cpus 0 now) 0 was).turn = subst (λ (z : DomainCpu J × DomainCpu J). FindsBusy z.0.turn z.1.turn) (λ i. (is i, sym (get_or-set_same cpus 0 now was met.all.some) i)) h.busy in
+        never_busy met.swaps cpus (set cpus 0 now) lay met.turn_together met.all.some (length-set cpus 0 now) (λ k c positive lt. ap (λ (z : DomainCpu J). z.turn) (get_or-set_other cpus 0 k now c (λ e. omega (arith, e, positive)))) cpus' meets.found meets.left meets.turns meets.count was behind
 
-  pub none_busy : (was now : DomainCpu J) (P : ℕ → Type 0) (r : Result ℕ StartRefusal) → MatchResult r P (λ refusal. IsNotStarted was refusal now) → NoneIsBusy r
-  none_busy was now P (Ok n) h = tt
-  none_busy was now P (Err start.Busy) h = absurd h
-  none_busy was now P (Err start.Running) h = tt
-  none_busy was now P (Err start.Exhausted) h = tt
+    pub not_busy : (P : Progress → Type 0) (r : Result Progress AdvanceRefusal) → MatchResult r P (λ refusal. IsRefused was refusal now) → IsNotBusy r
+    not_busy P (Ok a) h = tt
+    not_busy P (Err advance.Busy) h = absurd (never h)
+    not_busy P (Err advance.Exhausted) h = tt
+
+    pub none_busy : (P : ℕ → Type 0) (r : Result ℕ StartRefusal) → MatchResult r P (λ refusal. IsNotStarted was refusal now) → NoneIsBusy r
+    none_busy P (Ok n) h = tt
+    none_busy P (Err start.Busy) h = absurd (never h)
+    none_busy P (Err start.Running) h = tt
+    none_busy P (Err start.Exhausted) h = tt
 
   -- all that a call says: the domain is in one hand again, it is the same, and this
   pub record Says (d' : DomainView) (limits : Limits) (cpus' : List (DomainCpu J)) (left : View) (seen seen' : SoloView J) (it : Type 0) : Type 0 where
@@ -653,7 +688,7 @@ module _ {J : Type 0} where
           same = say _ h on IsSameDomain (stepped_same t a s);
           what = subst (λ x. MatchResult x (λ b. Steps b seen.course seen'.course) (λ _. IsAskedTooMuch seen.course × (seen' ≡ seen))) (sym same) (say _ h on (λ x y. Steps a x.course y.course) (stepped t a s));
         }
-    step_says (Err advance.Busy) h told same = absurd h
+    step_says (Err advance.Busy) h told same = absurd (never d limits cpus lay was now cpus' met is meets h)
     step_says (Err advance.Exhausted) h told same = exhausted_says h told same (λ a. Steps a seen.course seen'.course)
 
     pub advance_says : (r : Result Progress AdvanceRefusal) → MatchResult r (λ a. AdvancesIn was a now) (λ refusal. IsRefused was refusal now) → (told : Result Progress Exhausted) → IsToldAs r told
@@ -666,7 +701,7 @@ module _ {J : Type 0} where
           same = say _ h on IsSameDomain (advanced_same t a s);
           what = subst (λ x. MatchResult x (λ b. Advances b seen.course seen'.course) (λ _. IsAskedTooMuch seen.course × (seen' ≡ seen))) (sym same) (say _ h on (λ x y. Advances a x.course y.course) (advanced t a s));
         }
-    advance_says (Err advance.Busy) h told same = absurd h
+    advance_says (Err advance.Busy) h told same = absurd (never d limits cpus lay was now cpus' met is meets h)
     advance_says (Err advance.Exhausted) h told same = exhausted_says h told same (λ a. Advances a seen.course seen'.course)
 
     module _ (refusal : scan.StartRefusal) (h : StartsNoneIn was refusal now) where
@@ -691,7 +726,7 @@ module _ {J : Type 0} where
           same = say _ h on IsSameDomain (started_same t n s);
           what = subst (λ x. MatchResult x (λ m. Starts m seen.course seen'.course) (λ e. StartsNone e seen.course × (seen' ≡ seen))) (sym same) (say _ h on (λ x y. Starts n x.course y.course) (started t n s));
         }
-    start_says (Err start.Busy) h told same = absurd h
+    start_says (Err start.Busy) h told same = absurd (never d limits cpus lay was now cpus' met is meets h)
     start_says (Err start.Running) h told same =
         let it = no_start_says refusal_of.Running h in
         record { met = it.met; same = it.same; what = subst (λ x. MatchResult x (λ m. Starts m seen.course seen'.course) (λ e. StartsNone e seen.course × (seen' ≡ seen))) (sym same) it.what }

@@ -1,17 +1,15 @@
 -- Turns of one seat, while no other swaps: each finds what the one before has left.
-use Rattle.std.proofs.Common.{◌≡◌, ◌≢◌, ℕ, zero, suc, ◌<◌, List, [], ◌∷◌, ◌++◌, true, false, length, get_or, refl, sym, ap, ◌∙◌, subst, arith, append_assoc}
+use Rattle.std.proofs.Common.{◌≡◌, ◌≢◌, ℕ, zero, suc, ◌<◌, List, [], ◌∷◌, ◌++◌, true, false, length, get_or, refl, sym, ap, ◌∙◌, subst, true≢false, arith, append_assoc}
 use Rattle.std.specs.Prelude.{Option, Some, None, All}
 use Rattle.std.proofs.lemmas.List.{get_or_default}
-use mathlib.Core.Logic.{dite}
-use native.Mathlib.Decide.{ℕ_discrete}
 use Rattle.desk.specs.Swaps.{Swap, swaps_of, lies_after, IsBeginning}
 use Rattle.desk.specs.Holding.{holds_after, holds_behind, IsLegal}
 use Rattle.desk.specs.BayViews.{BaySeatView}
 use Rattle.desk.specs.BayCalls.{lies, MakesSwap, HasSeenLegal, Accepts}
 use Rattle.desk.specs.BayLaws.{HasOneHolder, NobodyHolds, SwapsAlone}
 use Rattle.desk.proofs.CallerLemmas.{beginning_refl, legal_makers, one_holds, makes_lie, own_between, one_turn}
+use Rattle.scan.specs.Stations.{TakesTurn, FindsBusy}
 use Rattle.domain.specs.Views.{Engine, CpuView}
-use Rattle.domain.specs.Turns.{TakesTurn}
 use Rattle.domain.specs.Meetings.{TurnsMeet}
 use Rattle.solo.specs.Settling.{TurnTogether}
 
@@ -39,7 +37,7 @@ swap_since : (v : BaySeatView Engine) (left found : Option Engine) (w : BaySeatV
 swap_since v left found w h = goes_further v.seen h.before w.seen h.since (record { rest = record { by = v.number; left = left; found = found } ∷ []; whole = h.seen })
 
 turn_since : (t u : BaySeatView Engine) (found left : Engine) → TakesTurn t found left u → IsBeginning t.seen u.seen
-turn_since t u found left turn = goes_further t.seen turn.takes.waited.seen u.seen turn.takes.waits.since (goes_further turn.takes.waited.seen turn.took.seen u.seen (swap_since _ _ _ _ turn.takes.swap) (swap_since _ _ _ _ turn.puts))
+turn_since t u found left turn = goes_further t.seen turn.took.seen u.seen (swap_since _ _ _ _ turn.takes) (swap_since _ _ _ _ turn.puts)
 
 -- what lies there, as the seat has seen it; and that up to these swaps no other seat made one
 record IsAlone (t : BaySeatView Engine) (lay : Engine) (all : List (Swap Engine)) : Type 0 where
@@ -48,30 +46,8 @@ record IsAlone (t : BaySeatView Engine) (lay : Engine) (all : List (Swap Engine)
   others : (n : ℕ) → n < t.seats → n ≢ t.number → swaps_of n all ≡ swaps_of n t.seen
 
 module _ (t u : BaySeatView Engine) (lay found left : Engine) (all : List (Swap Engine)) (turn : TakesTurn t found left u) (on : IsBeginning u.seen all) (alone : IsAlone t lay all) where
-  abbrev w : BaySeatView Engine
-  w = turn.takes.waited
-
-  w_all : IsBeginning w.seen all
-  w_all = goes_further w.seen u.seen all (goes_further w.seen turn.took.seen u.seen (swap_since _ _ _ _ turn.takes.swap) (swap_since _ _ _ _ turn.puts)) on
-
-  no_wait : turn.takes.vain ≡ 0
-  no_wait = dite (ℕ_discrete turn.takes.vain 0)
-      (λ none. none)
-      (λ some. let elsewhere = turn.takes.waits.elsewhere (omega (arith, some)) in
-      let n : ℕ = elsewhere.holder in
-      let there : n < t.seats = subst (λ (z : BaySeatView Engine). n < z.seats) turn.takes.waits.same elsewhere.there in
-      let other : n ≢ t.number = subst (λ (z : BaySeatView Engine). n ≢ z.number) turn.takes.waits.same elsewhere.other in
-      let still : swaps_of n w.seen ≡ swaps_of n t.seen = own_between n t.seen w.seen all turn.takes.waits.since w_all (alone.others n there other) in
-      let held : holds_behind n w.seen ≡ true = elsewhere.holding in
-      let free : holds_behind n w.seen ≡ false = ap (λ l. holds_after false l) still ∙ nobody_holds t lay alone.legal alone.lying n in
-      let clash : true ≡ false = sym held ∙ free in
-      cc)
-
-  takes : MakesSwap t None (Some found) turn.took
-  takes = subst (λ z. MakesSwap z None (Some found) turn.took) (turn.takes.waits.none no_wait) turn.takes.swap
-
   same_seat : u ≡ record t { seen = u.seen }
-  same_seat = turn.puts.same ∙ ap (λ (z : BaySeatView Engine). record z { seen = u.seen }) takes.same
+  same_seat = turn.puts.same ∙ ap (λ (z : BaySeatView Engine). record z { seen = u.seen }) turn.takes.same
 
   between : (n : ℕ) → n < t.seats → n ≢ t.number → swaps_of n u.seen ≡ swaps_of n t.seen
   between n there other = own_between n t.seen u.seen all (turn_since t u found left turn) on (alone.others n there other)
@@ -86,7 +62,7 @@ module _ (t u : BaySeatView Engine) (lay found left : Engine) (all : List (Swap 
 
   -- it found what lay there
   found_is : found ≡ lay
-  found_is = same_value found lay ((one_turn t turn.took u (Some found) left u.seen takes turn.puts swaps_alone).0 ∙ alone.lying)
+  found_is = same_value found lay ((one_turn t turn.took u (Some found) left u.seen turn.takes turn.puts swaps_alone).0 ∙ alone.lying)
 
   -- and then what it left lies there
   still_alone : IsAlone u left all
@@ -98,6 +74,19 @@ module _ (t u : BaySeatView Engine) (lay found left : Engine) (all : List (Swap 
         let elsewhere : n ≢ t.number = subst (λ (z : BaySeatView Engine). n ≢ z.number) same_seat other in
         alone.others n inside elsewhere ∙ sym (between n inside elsewhere);
   }
+
+-- and its swap finds the engine there: no other seat can have it
+module _ (t u : BaySeatView Engine) (lay : Engine) (all : List (Swap Engine)) (on : IsBeginning u.seen all) (alone : IsAlone t lay all) where
+  finds_it : FindsBusy t u → ⊥
+  finds_it busy =
+      let elsewhere = busy.elsewhere in
+      let n : ℕ = elsewhere.holder in
+      let there : n < t.seats = subst (λ (z : BaySeatView Engine). n < z.seats) busy.swap.same elsewhere.there in
+      let other : n ≢ t.number = subst (λ (z : BaySeatView Engine). n ≢ z.number) busy.swap.same elsewhere.other in
+      let still : swaps_of n u.seen ≡ swaps_of n t.seen = own_between n t.seen u.seen all (swap_since t None None u busy.swap) on (alone.others n there other) in
+      let held : holds_behind n u.seen ≡ true = elsewhere.holding in
+      let free : holds_behind n u.seen ≡ false = ap (λ l. holds_after false l) still ∙ nobody_holds t lay alone.legal alone.lying n in
+      true≢false (sym held ∙ free)
 
 module _ {J : Type 0} where
   -- a meeting, behind an act of one of those in hand: of the turns it may have changed the first one's alone
@@ -171,19 +160,24 @@ module _ {J : Type 0} where
           let alone = still_alone first last v found left meets.swaps meeting (is_seen last.seen meets.swaps last_seen) first_alone in
           turned (same_seat first last v found left meets.swaps meeting (is_seen last.seen meets.swaps last_seen) first_alone) alone.legal alone.lying
 
-    -- the act was a turn of the first one: it found the engine that lay there, and the meeting found what it had left
-    module _ (took put : Engine) (turn : TakesTurn first took put (get_or acted 0 nobody).turn) where
-      abbrev middle : BaySeatView Engine
-      middle = (get_or acted 0 nobody).turn
+    -- behind the act
+    abbrev middle : BaySeatView Engine
+    middle = (get_or acted 0 nobody).turn
 
+    middle_on : IsBeginning middle.seen meets.swaps
+    middle_on = goes_further middle.seen last.seen meets.swaps (turn_since middle last found left (meets.first nobody)) (is_seen last.seen meets.swaps last_seen)
+
+    -- it found the engine there: all seats are in hand, and none of them had it
+    pub never_busy : FindsBusy first middle → ⊥
+    never_busy = finds_it first middle v meets.swaps middle_on first_alone
+
+    -- the act was a turn of the first one: it found the engine that lay there, and the meeting found what it had left
+    module _ (took put : Engine) (turn : TakesTurn first took put middle) where
       meeting_behind : TakesTurn middle found left last
       meeting_behind = meets.first nobody
 
       on : IsBeginning last.seen meets.swaps
       on = is_seen last.seen meets.swaps last_seen
-
-      middle_on : IsBeginning middle.seen meets.swaps
-      middle_on = goes_further middle.seen last.seen meets.swaps (turn_since middle last found left meeting_behind) on
 
       pub turn_found : took ≡ v
       turn_found = found_is first middle v took put meets.swaps turn middle_on first_alone

@@ -6,10 +6,10 @@ use Rattle.scan.specs.declared.progress.Progress.{Progress}
 use Rattle.scan.specs.declared.progress.Exhausted.{Exhausted}
 use Rattle.scan.specs.declared.progress.StartRefusal.{StartRefusal}
 use Rattle.scan.specs.declared.progress.StartRefusal.TheVariants as scan
-use Rattle.domain.specs.declared.refusals.AdvanceRefusal.{AdvanceRefusal}
-use Rattle.domain.specs.declared.refusals.AdvanceRefusal.TheVariants as advance
-use Rattle.domain.specs.declared.refusals.StartRefusal as domain
-use Rattle.domain.specs.declared.refusals.StartRefusal.TheVariants as start
+use Rattle.scan.specs.declared.refusals.AdvanceRefusal.{AdvanceRefusal}
+use Rattle.scan.specs.declared.refusals.AdvanceRefusal.TheVariants as advance
+use Rattle.scan.specs.declared.refusals.StartRefusal as domain
+use Rattle.scan.specs.declared.refusals.StartRefusal.TheVariants as start
 use Rattle.solo.specs.declared.queued.Queued.{Queued}
 
 -- nobody else has the engine, so nobody is told so

@@ -3,7 +3,6 @@ ghost use Rattle.domain.specs.Meetings.{IsAllOf, MeetsHere};
 
 use domain::{Cpu, Domain};
 use std::alloc::Allocator;
-use std::sync::Wait;
 
 /// All that can act in a domain: whoever has the processors has the engine too, since it lies where they take it from.
 #[derive(Drop)]
@@ -15,11 +14,11 @@ pub(crate) struct Members<J, A: Allocator> {
 impl<J: Drop, A: Allocator> Members<J, A> {
     /// Lets all meet behind an act of one of them. Each knows its own events, raises, turns, and deeds at the tally words,
     /// so what all have then seen is what was before, with the act: nobody else can have come between.
-    pub(crate) fn settle(&mut self, rt: &impl Wait)
+    pub(crate) fn settle(&mut self)
         requires { IsAllOf self.old.domain self.old.cpus.items }
         ensures all { IsAllOf self.new.domain self.new.cpus.items }
         ensures meets { MeetsHere self.old.cpus.items self.new.cpus.items }
     {
-        self.domain.meet(rt, &mut self.cpus);
+        self.domain.meet(&mut self.cpus);
     }
 }

@@ -61,18 +61,18 @@ fn in_two_slots(rt: HostRuntime) -> Result<(), Fail> {
     assert_eq!(rt; world.register(2, 5), Err(RegisterRefusal::NoSlot));
     assert_eq!(rt; world.unregister(1), Err(UnregisterRefusal::NoSlot));
     assert_eq!(rt; world.ids(), first([1, 0, 0, 0], 1));
-    world.drive(&rt);
+    world.drive();
     assert_eq!(rt; world.register(2, 5), Ok(()));
     assert_eq!(rt; world.ids(), first([1, 2, 0, 0], 2));
     Ok(())
 }
 
 /// Registers one more, and drives a period.
-fn fill_up<R: Wait>(rt: &R, world: &mut World, id: u64) -> bool
+fn fill_up(world: &mut World, id: u64) -> bool
     requires { id < 16 }
 {
     let taken = world.register(id, 0);
-    world.drive(rt);
+    world.drive();
     taken.is_ok()
 }
 
@@ -81,7 +81,7 @@ fn fill_up<R: Wait>(rt: &R, world: &mut World, id: u64) -> bool
 fn fifteen(rt: HostRuntime) -> Result<(), Fail> {
     let mut world = World::new(rt.alloc(), 2)?;
     for id in 0..15 {
-        assert!(rt; fill_up(&rt, &mut world, id));
+        assert!(rt; fill_up(&mut world, id));
     }
     assert_eq!(rt; world.register(15, 9), Err(RegisterRefusal::Full));
     assert_eq!(rt; world.register(3, 9), Err(RegisterRefusal::There));

@@ -75,17 +75,17 @@ impl World {
     }
 
     /// Drives the period that was asked for until it has ended.
-    pub(super) fn drive<R: Wait>(&mut self, rt: &R) {
-        drive(rt, &self.domain, &mut self.cpu);
+    pub(super) fn drive(&mut self) {
+        drive(&self.domain, &mut self.cpu);
     }
 }
 
 /// Three turns of the engine: where no section is open, a period begins and ends.
-fn drive<R: Wait>(rt: &R, domain: &Domain<()>, cpu: &mut Cpu<()>)
+fn drive(domain: &Domain<()>, cpu: &mut Cpu<()>)
     requires { IsOf domain.now cpu.old }
     ensures { IsOf domain.now cpu.new }
 {
     for _ in 0..3 {
-        let _answer = domain.advance(rt, cpu);
+        let _answer = domain.advance(cpu);
     }
 }

@@ -69,7 +69,7 @@ fn two_slots<R: AllocGlobal + Wait>(rt: &R) -> Result<[Result<u64, InstallRefusa
     let first = world.install(7, 70);
     let second = world.install(7, 71);
     for _ in 0..3 {
-        world.drive(rt);
+        world.drive();
     }
     Ok([first, second, world.install(7, 72)])
 }
@@ -88,7 +88,7 @@ fn full_world<R: AllocGlobal + Wait>(rt: &R) -> Result<World, MakeError> {
     for key in 0..15 {
         let _version = world.install(key, key);
         for _ in 0..3 {
-            world.drive(rt);
+            world.drive();
         }
     }
     Ok(world)

@@ -19,12 +19,12 @@ fn leased(world: &mut World) -> Option<Lease>
 }
 
 /// What one more is answered: at once, and behind as many turns as a grace period takes where nobody reads.
-fn held_up<R: Wait>(rt: &R, world: &mut World) -> [Result<u64, InstallRefusal>; 2]
+fn held_up(world: &mut World) -> [Result<u64, InstallRefusal>; 2]
     ensures { world.new ≡ world.old }
 {
     let at_once = world.install(4, 40);
     for _ in 0..3 {
-        world.drive(rt);
+        world.drive();
     }
     [at_once, world.install(4, 40)]
 }
@@ -44,10 +44,10 @@ fn told(world: &mut World, lease: Lease) -> (u64, Option<u32>, Option<u32>)
 }
 
 /// What one more is answered a turn after the lease has ended.
-fn let_go<R: Wait>(rt: &R, world: &mut World) -> Result<u64, InstallRefusal>
+fn let_go(world: &mut World) -> Result<u64, InstallRefusal>
     ensures { world.new ≡ world.old }
 {
-    world.drive(rt);
+    world.drive();
     world.install(4, 40)
 }
 
@@ -61,9 +61,9 @@ fn leases_keep(rt: HostRuntime) -> Result<(), Fail> {
         return Ok(());
     };
     let none = Err(InstallRefusal::NoSlot);
-    assert_eq!(rt; held_up(&rt, &mut world), [none, none]);
+    assert_eq!(rt; held_up(&mut world), [none, none]);
     assert_eq!(rt; world.lookup(3), Some(30));
     assert_eq!(rt; told(&mut world, lease), (1, Some(10), None));
-    assert_eq!(rt; let_go(&rt, &mut world), Ok(4));
+    assert_eq!(rt; let_go(&mut world), Ok(4));
     Ok(())
 }

@@ -242,7 +242,7 @@ fn install_one<R: Wait>(
         if table.install(domain, cpu, KEY, plug).is_ok() {
             return;
         }
-        drive_on(rt, domain, cpu);
+        drive_on(domain, cpu);
     }
     unreachable!()
 }

@@ -56,11 +56,11 @@ pub fn two_cells(
 }
 
 /// One turn of the engine.
-pub fn drive_on<R: Wait>(rt: &R, domain: &Domain<()>, cpu: &mut Cpu<()>)
+pub fn drive_on(domain: &Domain<()>, cpu: &mut Cpu<()>)
     requires { IsOf domain.now cpu.old }
     ensures { IsOf domain.now cpu.new }
 {
-    let _answer = domain.advance(rt, cpu);
+    let _answer = domain.advance(cpu);
 }
 
 /// Puts a version whose first words are these, and whose others are zeros.
@@ -127,10 +127,10 @@ impl World {
     }
 
     /// One turn of the engine.
-    pub fn drive<R: Wait>(&mut self, rt: &R)
+    pub fn drive(&mut self)
         ensures { self.new ≡ self.old }
     {
-        drive_on(rt, &self.domain, &mut self.writer);
+        drive_on(&self.domain, &mut self.writer);
     }
 
     /// A lease by the processor that changes the table.

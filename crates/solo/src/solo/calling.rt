@@ -29,7 +29,7 @@ impl<J: Drop, A: Allocator + Copy> Solo<J, A> {
     {
         let cpu = &mut self.members.cpus[processor as usize];
         let answer = self.members.domain.call(rt, cpu, job);
-        self.members.settle(rt);
+        self.members.settle();
         queued(answer)
     }
 
@@ -48,7 +48,7 @@ impl<J: Drop, A: Allocator + Copy> Solo<J, A> {
     {
         let taker = &mut self.members.cpus[processor as usize];
         let taken = take_out(&self.members.domain, rt, taker, processor as u16, max);
-        self.members.settle(rt);
+        self.members.settle();
         taken
     }
 
@@ -63,7 +63,7 @@ impl<J: Drop, A: Allocator + Copy> Solo<J, A> {
         let processor = usize::from(batch.processor());
         let cpu = &mut self.members.cpus[processor];
         self.members.domain.finish(rt, cpu, batch);
-        self.members.settle(rt);
+        self.members.settle();
     }
 
     /// How many jobs of a processor are done, wait for the first and for the second number, and have none yet; and the two
@@ -76,7 +76,7 @@ impl<J: Drop, A: Allocator + Copy> Solo<J, A> {
     {
         let cpu = &mut self.members.cpus[processor as usize];
         let lens = self.members.domain.lens(rt, cpu, processor as u16);
-        self.members.settle(rt);
+        self.members.settle();
         lens
     }
 }

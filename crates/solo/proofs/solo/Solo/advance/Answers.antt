@@ -12,7 +12,7 @@ pub settle-requires : goal.settle-requires
 settle-requires g c = all_still c.self.inside.members.cpus.items 0 _ (first_inside _ _ _ _ c.self.invariant.met) _ _ c.self.invariant.met.all c.index_mut.ensures.value (advanced_still _ _ _ c.advance-answer.result c.advance-answer.ensures.advances c.advance-answer.ensures.here)
 
 pub told-requires : goal.told-requires
-told-requires g c = not_busy _ _ _ c.advance-answer.result c.advance-answer.ensures.advances
+told-requires g c = not_busy _ _ _ _ _ _ _ c.self.invariant.met c.index_mut.ensures.value c.settle.ensures.meets _ c.advance-answer.result c.advance-answer.ensures.advances
 
 pub invariant_of-self : goal.invariant_of-self
 invariant_of-self g c = record { engine = c.settle.ensures.meets.left; met = (advance_says _ _ _ _ _ _ _ _ c.self.invariant.met c.index_mut.ensures.value c.settle.ensures.all c.settle.ensures.meets _ c.self.view_is c.advance-answer.result c.advance-answer.ensures.advances c.told.result c.told.ensures).met }

@@ -12,7 +12,7 @@ pub settle-requires : goal.settle-requires
 settle-requires g c = all_still c.self.inside.members.cpus.items 0 _ (first_inside _ _ _ _ c.self.invariant.met) _ _ c.self.invariant.met.all c.index_mut.ensures.value (started_still _ _ _ c.start-answer.result c.start-answer.ensures.starts c.start-answer.ensures.here)
 
 pub started-requires : goal.started-requires
-started-requires g c = none_busy _ _ _ c.start-answer.result c.start-answer.ensures.starts
+started-requires g c = none_busy _ _ _ _ _ _ _ c.self.invariant.met c.index_mut.ensures.value c.settle.ensures.meets _ c.start-answer.result c.start-answer.ensures.starts
 
 pub invariant_of-self : goal.invariant_of-self
 invariant_of-self g c = record { engine = c.settle.ensures.meets.left; met = (start_says _ _ _ _ _ _ _ _ c.self.invariant.met c.index_mut.ensures.value c.settle.ensures.all c.settle.ensures.meets _ c.self.view_is c.start-answer.result c.start-answer.ensures.starts c.started.result c.started.ensures).met }

@@ -12,7 +12,7 @@ pub settle-requires : goal.settle-requires
 settle-requires g c = all_still c.self.inside.members.cpus.items 0 _ (first_inside _ _ _ _ c.self.invariant.met) _ _ c.self.invariant.met.all c.index_mut.ensures.value (stepped_still _ _ _ c.step-answer.result c.step-answer.ensures.steps c.step-answer.ensures.here)
 
 pub told-requires : goal.told-requires
-told-requires g c = not_busy _ _ _ c.step-answer.result c.step-answer.ensures.steps
+told-requires g c = not_busy _ _ _ _ _ _ _ c.self.invariant.met c.index_mut.ensures.value c.settle.ensures.meets _ c.step-answer.result c.step-answer.ensures.steps
 
 pub invariant_of-self : goal.invariant_of-self
 invariant_of-self g c = record { engine = c.settle.ensures.meets.left; met = (step_says _ _ _ _ _ _ _ _ c.self.invariant.met c.index_mut.ensures.value c.settle.ensures.all c.settle.ensures.meets _ c.self.view_is c.step-answer.result c.step-answer.ensures.steps c.told.result c.told.ensures).met }
