@@ -16,6 +16,8 @@ pub enum Cause {
     Exhausted,
     /// A grace period runs.
     Running,
+    /// Another call has the engine. A script has one thread, which meets none.
+    Busy,
     /// The number is no cookie.
     NotACookie,
     /// A batch of the processor is out.
@@ -44,6 +46,7 @@ impl fmt::Display for Cause {
             Cause::Memory => f.write_str("memory"),
             Cause::Exhausted => f.write_str("exhausted"),
             Cause::Running => f.write_str("running"),
+            Cause::Busy => f.write_str("busy"),
             Cause::NotACookie => f.write_str("not-a-cookie"),
             Cause::Invoking => f.write_str("invoking"),
             Cause::NoBatch => f.write_str("none"),

@@ -450,6 +450,7 @@ fn texts_of_refusals(rt: HostRuntime) -> Result<(), Fail> {
         Reply::Refused(Command::Advance, Cause::Exhausted),
         Reply::Refused(Command::Step, Cause::Exhausted),
         Reply::Refused(Command::Start, Cause::Running),
+        Reply::Refused(Command::Start, Cause::Busy),
         Reply::Refused(Command::Poll, Cause::NotACookie),
     ];
     let text = "refused domain full\n\
@@ -462,6 +463,7 @@ fn texts_of_refusals(rt: HostRuntime) -> Result<(), Fail> {
         refused advance exhausted\n\
         refused step exhausted\n\
         refused start running\n\
+        refused start busy\n\
         refused poll not-a-cookie\n";
     check_texts(&rt, &replies, text)
 }

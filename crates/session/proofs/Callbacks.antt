@@ -151,9 +151,9 @@ module _ (d d' d'' : SoloView (List ℕ)) (p : ℕ) (b b' : Batch) (takes : Take
   pub entry_ran : {A : Type 0} {tokens : List (List ℕ × Token A)} {q : ParkingView} {kept : List (Option Batch)} → AreTogether d tokens q × AreBatchesOf d kept → p < d.course.standing.processors → HasSameTables d d' → HasSameTables d' d''
       → AreTogether d'' tokens q × AreBatchesOf d'' kept
   entry_ran {A} {tokens} {q} {kept} h small same same' =
-      let (a, b1, c, e, f) = same in
-      let (a', b1', c', e', f') = same' in
-      let all : HasSameTables d d'' = (a' ∙ a, b1' ∙ b1, c' ∙ c, e' ∙ e, f' ∙ f) in
+      let (a, b1, c, e, f, s) = same in
+      let (a', b1', c', e', f', s') = same' in
+      let all : HasSameTables d d'' = (a' ∙ a, b1' ∙ b1, c' ∙ c, e' ∙ e, f' ∙ f, s' ∙ s) in
       let o : Option Batch = get_or kept p None in
       let inside : p < length kept = (let count = h.1.count in omega (arith, small, count)) in
       let is : o ≡ get_or kept p o = get_or_default kept p None o inside in

@@ -105,7 +105,7 @@ impl<A: Allocator> Entry<A> {
     }
 
     /// Reads the index word on a processor, and gives the look the name.
-    fn look(&mut self, rt: &impl Wait, processor: u64, name: Name) -> Result<Reply, AllocError>
+    fn look(&mut self, processor: u64, name: Name) -> Result<Reply, AllocError>
         requires { Fits (scene_of (self.old.state ∷ [])) 0 (Act.Look processor name) }
         ensures limits { self.new.limits ≡ self.old.limits }
         ensures name { self.new.state.name ≡ self.old.state.name }
@@ -113,7 +113,7 @@ impl<A: Allocator> Entry<A> {
         ensures err { OnErr result (self.new ≡ self.old) }
     {
         self.names.reserve()?;
-        let look = self.domain.look(rt, processor);
+        let look = self.domain.look(processor);
         let index = look.index();
         self.names.insert(name, Token::Look(look));
         Ok(Reply::Look(index))
@@ -122,7 +122,7 @@ impl<A: Allocator> Entry<A> {
     /// Uses up the look of this name, and begins a section of its index on a processor, which gets the name. Where it
     /// is refused, the name is free. The look's own place would do for the section, but the map doesn't say so: hence
     /// the room.
-    fn enter(&mut self, rt: &impl Wait, processor: u64, name: Name) -> Result<Reply, AllocError>
+    fn enter(&mut self, processor: u64, name: Name) -> Result<Reply, AllocError>
         requires { Fits (scene_of (self.old.state ∷ [])) 0 (Act.Enter processor name) }
         ensures limits { self.new.limits ≡ self.old.limits }
         ensures name { self.new.state.name ≡ self.old.state.name }
@@ -131,7 +131,7 @@ impl<A: Allocator> Entry<A> {
     {
         self.names.reserve()?;
         let look = self.names.take_look(&name);
-        match self.domain.enter(rt, processor, look) {
+        match self.domain.enter(processor, look) {
             Ok(reading) => {
                 let index = reading.index();
                 self.names.insert(name, Token::Reading(reading));
@@ -143,7 +143,7 @@ impl<A: Allocator> Entry<A> {
 
     /// Begins a section on a processor, and gives it the name; refused, with nothing done, where the processor has
     /// begun as many of its index as it may.
-    fn lock(&mut self, rt: &impl Wait, processor: u64, name: Name) -> Result<Reply, AllocError>
+    fn lock(&mut self, processor: u64, name: Name) -> Result<Reply, AllocError>
         requires { Fits (scene_of (self.old.state ∷ [])) 0 (Act.Lock processor name) }
         ensures limits { self.new.limits ≡ self.old.limits }
         ensures name { self.new.state.name ≡ self.old.state.name }
@@ -151,7 +151,7 @@ impl<A: Allocator> Entry<A> {
         ensures err { OnErr result (self.new ≡ self.old) }
     {
         self.names.reserve()?;
-        match self.domain.read_lock(rt, processor) {
+        match self.domain.read_lock(processor) {
             Ok(reading) => {
                 let index = reading.index();
                 self.names.insert(name, Token::Reading(reading));
@@ -162,20 +162,20 @@ impl<A: Allocator> Entry<A> {
     }
 
     /// Ends the section of this name, which is then free.
-    fn unlock(&mut self, rt: &impl Wait, name: Name) -> Reply
+    fn unlock(&mut self, name: Name) -> Reply
         requires { Fits (scene_of (self.old.state ∷ [])) 0 (Act.Unlock name) }
         ensures limits { self.new.limits ≡ self.old.limits }
         ensures name { self.new.state.name ≡ self.old.state.name }
         ensures does { Does self.old.limits (Act.Unlock name) self.old.state result self.new.state }
     {
         let reading = self.names.take_reading(&name);
-        self.domain.read_unlock(rt, reading);
+        self.domain.read_unlock(reading);
         Reply::Closed
     }
 
     /// Begins a section on a processor that any processor may end, and gives it the name; refused, with nothing done,
     /// where the processor has begun as many of its index as it may.
-    fn down(&mut self, rt: &impl Wait, processor: u64, name: Name) -> Result<Reply, AllocError>
+    fn down(&mut self, processor: u64, name: Name) -> Result<Reply, AllocError>
         requires { Fits (scene_of (self.old.state ∷ [])) 0 (Act.Down processor name) }
         ensures limits { self.new.limits ≡ self.old.limits }
         ensures name { self.new.state.name ≡ self.old.state.name }
@@ -183,7 +183,7 @@ impl<A: Allocator> Entry<A> {
         ensures err { OnErr result (self.new ≡ self.old) }
     {
         self.names.reserve()?;
-        match self.domain.down_read(rt, processor) {
+        match self.domain.down_read(processor) {
             Ok(held) => {
                 let index = held.index();
                 self.names.insert(name, Token::Held(held));
@@ -194,14 +194,14 @@ impl<A: Allocator> Entry<A> {
     }
 
     /// Ends the held section of this name on a processor. The name is then free.
-    fn up(&mut self, rt: &impl Wait, processor: u64, name: Name) -> Reply
+    fn up(&mut self, processor: u64, name: Name) -> Reply
         requires { Fits (scene_of (self.old.state ∷ [])) 0 (Act.Up processor name) }
         ensures limits { self.new.limits ≡ self.old.limits }
         ensures name { self.new.state.name ≡ self.old.state.name }
         ensures does { Does self.old.limits (Act.Up processor name) self.old.state result self.new.state }
     {
         let held = self.names.take_held(&name);
-        self.domain.up_read(rt, processor, held);
+        self.domain.up_read(processor, held);
         Reply::Closed
     }
 
@@ -237,13 +237,13 @@ impl<A: Allocator> Entry<A> {
     }
 
     /// Whether a cookie is done, as a processor finds it; refused where no cookie has this number.
-    fn poll(&mut self, rt: &impl Wait, processor: u64, cookie: u64) -> Reply
+    fn poll(&mut self, processor: u64, cookie: u64) -> Reply
         requires { processor < self.old.state.course.standing.processors }
         ensures limits { self.new.limits ≡ self.old.limits }
         ensures name { self.new.state.name ≡ self.old.state.name }
         ensures does { Does self.old.limits (Act.Poll processor cookie) self.old.state result self.new.state }
     {
-        match self.domain.poll(rt, processor, cookie) {
+        match self.domain.poll(processor, cookie) {
             Ok(true) => Reply::Done,
             Ok(false) => Reply::NotYet,
             Err(NotACookie) => Reply::Refused(Command::Poll, Cause::NotACookie),
@@ -251,12 +251,12 @@ impl<A: Allocator> Entry<A> {
     }
 
     /// Starts a grace period; refused where one runs, or as many have ended as may.
-    fn start(&mut self, rt: &impl Wait) -> Reply
+    fn start(&mut self) -> Reply
         ensures limits { self.new.limits ≡ self.old.limits }
         ensures name { self.new.state.name ≡ self.old.state.name }
         ensures does { Does self.old.limits (Act.Start 0) self.old.state result self.new.state }
     {
-        match self.domain.start(rt) {
+        match self.domain.start() {
             Ok(number) => Reply::Progress(Progress::Started(number)),
             Err(StartRefusal::Running) => Reply::Refused(Command::Start, Cause::Running),
             Err(StartRefusal::Exhausted) => Reply::Refused(Command::Start, Cause::Exhausted),
@@ -264,36 +264,36 @@ impl<A: Allocator> Entry<A> {
     }
 
     /// Lets the engine work until it has an answer; refused where a grace period is asked for and as many have ended as may.
-    fn advance(&mut self, rt: &impl Wait) -> Reply
+    fn advance(&mut self) -> Reply
         ensures limits { self.new.limits ≡ self.old.limits }
         ensures name { self.new.state.name ≡ self.old.state.name }
         ensures does { Does self.old.limits (Act.Advance 0) self.old.state result self.new.state }
     {
-        match self.domain.advance(rt) {
+        match self.domain.advance() {
             Ok(said) => Reply::Progress(said),
             Err(NoMorePeriods) => Reply::Refused(Command::Advance, Cause::Exhausted),
         }
     }
 
     /// Lets the engine make one step; refused as `advance` is.
-    fn step(&mut self, rt: &impl Wait) -> Reply
+    fn step(&mut self) -> Reply
         ensures limits { self.new.limits ≡ self.old.limits }
         ensures name { self.new.state.name ≡ self.old.state.name }
         ensures does { Does self.old.limits (Act.Step 0) self.old.state result self.new.state }
     {
-        match self.domain.step(rt) {
+        match self.domain.step() {
             Ok(said) => Reply::Progress(said),
             Err(NoMorePeriods) => Reply::Refused(Command::Step, Cause::Exhausted),
         }
     }
 
     /// Where the domain stands, as processor 0 finds it.
-    fn show(&mut self, rt: &impl Wait) -> Reply
+    fn show(&mut self) -> Reply
         ensures limits { self.new.limits ≡ self.old.limits }
         ensures name { self.new.state.name ≡ self.old.state.name }
         ensures does { Does self.old.limits Act.State self.old.state result self.new.state }
     {
-        let number = self.domain.number(rt);
+        let number = self.domain.number();
         let period = Period {
             number,
             phase: state(number),
@@ -301,10 +301,10 @@ impl<A: Allocator> Entry<A> {
         let mut open = self.names.open();
         open.raise(self.parking.open_index());
         let sections = Sections {
-            index: self.domain.index(rt),
+            index: self.domain.index(),
             zero: open.zero,
             one: open.one,
-            need: self.domain.need(rt),
+            need: self.domain.need(),
         };
         Reply::State {
             domain: self.name,
@@ -325,28 +325,28 @@ impl<'a, A: Allocator> Entry<&'a A> {
         ensures err { OnErr result (self.new ≡ self.old) }
     {
         match act {
-            Act::State => Ok(self.show(rt)),
-            Act::Look { processor, look } => self.look(rt, processor, look),
-            Act::Enter { processor, look } => self.enter(rt, processor, look),
-            Act::Lock { processor, section } => self.lock(rt, processor, section),
-            Act::Unlock { section } => Ok(self.unlock(rt, section)),
-            Act::Down { processor, section } => self.down(rt, processor, section),
-            Act::Up { processor, section } => Ok(self.up(rt, processor, section)),
+            Act::State => Ok(self.show()),
+            Act::Look { processor, look } => self.look(processor, look),
+            Act::Enter { processor, look } => self.enter(processor, look),
+            Act::Lock { processor, section } => self.lock(processor, section),
+            Act::Unlock { section } => Ok(self.unlock(section)),
+            Act::Down { processor, section } => self.down(processor, section),
+            Act::Up { processor, section } => Ok(self.up(processor, section)),
             Act::Park { section } => Ok(self.park(section)),
             Act::Unpark => self.unpark(),
-            Act::Get { processor } => Ok(Reply::Cookie(self.domain.cookie(rt, processor))),
-            Act::Ask { processor } => Ok(Reply::Cookie(self.domain.ask(rt, processor))),
-            Act::Poll { processor, cookie } => Ok(self.poll(rt, processor, cookie)),
-            Act::Start { .. } => Ok(self.start(rt)),
-            Act::Advance { .. } => Ok(self.advance(rt)),
-            Act::Step { .. } => Ok(self.step(rt)),
+            Act::Get { processor } => Ok(Reply::Cookie(self.domain.cookie(processor))),
+            Act::Ask { processor } => Ok(Reply::Cookie(self.domain.ask(processor))),
+            Act::Poll { processor, cookie } => Ok(self.poll(processor, cookie)),
+            Act::Start { .. } => Ok(self.start()),
+            Act::Advance { .. } => Ok(self.advance()),
+            Act::Step { .. } => Ok(self.step()),
             Act::Call { processor, job } => Ok(self.call(rt, processor, job)),
             Act::Run { processor } => Ok(self.run(rt, processor)),
             Act::Batch { processor } => Ok(self.take_batch(rt, processor)),
             Act::Finish { processor } => Ok(self.finish_batch(rt, processor)),
             Act::Segs { processor } => Ok(self.segs(rt, processor)),
-            Act::Barrier { processor, ticket } => self.barrier(rt, processor, ticket),
-            Act::BarrierPoll { processor, ticket } => Ok(self.barrier_poll(rt, processor, &ticket)),
+            Act::Barrier { processor, ticket } => self.barrier(processor, ticket),
+            Act::BarrierPoll { processor, ticket } => Ok(self.barrier_poll(processor, &ticket)),
         }
     }
 
@@ -360,32 +360,27 @@ impl<'a, A: Allocator> Entry<&'a A> {
             outs,
         } = self;
         finish_all(rt, &mut domain, outs);
-        end_all(rt, domain, names, parking);
+        end_all(domain, names, parking);
     }
 }
 
 /// Ends all open sections of a domain, and drops its looks, its tickets and itself.
-fn end_all<A: Allocator>(
-    rt: &impl Wait,
-    mut domain: Solo<Name, A>,
-    names: Names<A>,
-    parking: Parking<A>,
-)
+fn end_all<A: Allocator>(mut domain: Solo<Name, A>, names: Names<A>, parking: Parking<A>)
     requires { AreTogether domain names.tokens parking }
 {
     if let Some(held) = parking.close() {
         let processor = u64::from(held.processor());
-        domain.up_read(rt, processor, held);
+        domain.up_read(processor, held);
     }
     let mut tokens = names.into_tokens();
     while let Some(token) = take_last(&mut tokens) {
         match token {
             Token::Look(_look) => {}
             Token::Ticket(_ticket) => {}
-            Token::Reading(reading) => domain.read_unlock(rt, reading),
+            Token::Reading(reading) => domain.read_unlock(reading),
             Token::Held(held) => {
                 let processor = u64::from(held.processor());
-                domain.up_read(rt, processor, held);
+                domain.up_read(processor, held);
             }
         }
     }

@@ -18,7 +18,7 @@ use std::sync::Wait;
 /// The domains of a script. Open sections must be ended: spend it by [`Session::finish`].
 pub struct Session<'r, A: Allocator, R: Wait> {
     alloc: A,
-    /// With what the domains' calls wait.
+    /// With what the calls of callbacks wait.
     rt: &'r R,
     limits: Limits,
     pub(crate) entries: Vec<Entry<A>, A>,
@@ -78,7 +78,7 @@ impl<'r, 'a, A: Allocator, R: Wait> Session<'r, &'a A, R> {
         }
         self.entries.reserve(1)?;
         let domain = match Solo::new(self.alloc, processors, self.limits) {
-            Ok(domain) => domain,
+            Ok((domain, _writers)) => domain,
             Err(MakeError::Processors) => {
                 return Ok(Reply::Refused(Command::Domain, Cause::Processors));
             }
@@ -104,7 +104,7 @@ impl<'r, 'a, A: Allocator, R: Wait> Session<'r, &'a A, R> {
             ⊎ CleansNone self.old.domains place result self.new.domains }
     {
         let entry = self.entries.remove(place);
-        match entry.cleanup(self.rt) {
+        match entry.cleanup() {
             Ok(totals) => Reply::Cleaned {
                 opened: totals.opened,
                 closed: totals.closed,

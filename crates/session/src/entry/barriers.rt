@@ -9,17 +9,11 @@ use crate::names::Token;
 use lines::Name;
 use requests::{Act, Cause, Command, Reply};
 use std::alloc::{AllocError, Allocator};
-use std::sync::Wait;
 
 impl<'a, A: Allocator> Entry<&'a A> {
     /// Gives the name to a ticket, which waits for all jobs that are queued now; refused, with nothing done, where the
     /// domain has no memory for it.
-    pub(super) fn barrier(
-        &mut self,
-        rt: &impl Wait,
-        processor: u64,
-        name: Name,
-    ) -> Result<Reply, AllocError>
+    pub(super) fn barrier(&mut self, processor: u64, name: Name) -> Result<Reply, AllocError>
         requires { Fits (scene_of (self.old.state ∷ [])) 0 (Act.Barrier processor name) }
         ensures limits { self.new.limits ≡ self.old.limits }
         ensures name { self.new.state.name ≡ self.old.state.name }
@@ -27,7 +21,7 @@ impl<'a, A: Allocator> Entry<&'a A> {
         ensures err { OnErr result (self.new ≡ self.old) }
     {
         self.names.reserve()?;
-        let Ok(ticket) = self.domain.barrier_start(rt, processor) else {
+        let Ok(ticket) = self.domain.barrier_start(processor) else {
             return Ok(Reply::Refused(Command::Barrier, Cause::Memory));
         };
         self.names.insert(name, Token::Ticket(ticket));
@@ -35,14 +29,14 @@ impl<'a, A: Allocator> Entry<&'a A> {
     }
 
     /// Whether the ticket of this name is done, as a processor finds it. It keeps its name.
-    pub(super) fn barrier_poll(&mut self, rt: &impl Wait, processor: u64, name: &Name) -> Reply
+    pub(super) fn barrier_poll(&mut self, processor: u64, name: &Name) -> Reply
         requires { Fits (scene_of (self.old.state ∷ [])) 0 (Act.BarrierPoll processor name.now) }
         ensures limits { self.new.limits ≡ self.old.limits }
         ensures name { self.new.state.name ≡ self.old.state.name }
         ensures does { Does self.old.limits (Act.BarrierPoll processor name.now) self.old.state result self.new.state }
     {
         let ticket = self.names.ticket(name);
-        if self.domain.barrier_poll(rt, processor, ticket) {
+        if self.domain.barrier_poll(processor, ticket) {
             return Reply::Done;
         }
         Reply::NotYet

@@ -11,7 +11,6 @@ use crate::parking::Parking;
 use requests::Cause;
 use solo::{InUse, Totals};
 use std::alloc::Allocator;
-use std::sync::Wait;
 
 /// Drops what is left of a domain that was taken down: its looks and tickets, and its desk.
 fn drop_all<'a, A: Allocator>(
@@ -49,7 +48,7 @@ fn drop_tokens<A: Allocator>(names: Names<A>)
 
 impl<'a, A: Allocator> Entry<&'a A> {
     /// Takes the domain down, and drops its looks and its tickets; or tells why it is in use, and it comes back as it was.
-    pub fn cleanup(self, rt: &impl Wait) -> Result<Totals, (Cause, Entry<&'a A>)>
+    pub fn cleanup(self) -> Result<Totals, (Cause, Entry<&'a A>)>
         ensures { MatchResult result
             (λ totals. IsTakenDown self.entry.state.course totals)
             (λ refused. IsInUse self.entry.state.course refused.0 × (refused.1 ≡ self.entry)) }
@@ -61,7 +60,7 @@ impl<'a, A: Allocator> Entry<&'a A> {
             parking,
             outs,
         } = self;
-        match domain.cleanup(rt) {
+        match domain.cleanup() {
             Ok(totals) => {
                 // No section is open and each job is finished, so nothing is left that has to be spent.
                 drop_all(names, parking, outs);
