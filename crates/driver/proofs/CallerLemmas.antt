@@ -6,6 +6,18 @@ use Rattle.domain.specs.Parts.{Each}
 use Rattle.driver.specs.Pools.{IsIdle}
 -- behind a look at a list: the processor is the same
 pub use Rattle.driver.proofs.Rows.{same_itself, same_taken}
+-- Work in a section, and on a processor that is lent
+
+-- a load, a find, and a job that is queued or a cookie that is asked for keep what is open
+pub use Rattle.driver.proofs.Keeping.{kept_loading, kept_finding, kept_asking}
+-- so does each call that makes no event, or one that neither begins nor ends a section
+pub use Rattle.driver.proofs.Keeping.{kept_quiet, kept_plain}
+-- so does nothing at all, and one thing behind another
+pub use Rattle.driver.proofs.Keeping.{kept_itself, kept_trans}
+-- behind a call of a domain a processor stays of whichever it was
+pub use Rattle.driver.proofs.Keeping.{stays_here}
+-- where the same readings are open, a processor of a pool may go back
+pub use Rattle.driver.proofs.Keeping.{idle_kept}
 
 module _ {J : Type 0} where
   -- the processors of a new domain are idle, so they may make a pool

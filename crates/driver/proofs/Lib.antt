@@ -1,2 +1,3 @@
 pub mod CallerLemmas
+mod Keeping
 mod Rows

@@ -3,3 +3,4 @@ pub mod Pools
 pub mod PoolInsides
 pub mod Refusals
 pub mod Serving
+pub mod Works

@@ -2,7 +2,7 @@
 use Rattle.std.specs.Prelude.{ℕ, All}
 use Rattle.driver.specs.declared.idle.Idle.TheInside as idle
 use Rattle.driver.specs.declared.pool.Pool.TheInside as pool
-use Rattle.driver.specs.declared.pool.Lent.TheInside as lent
+use Rattle.driver.specs.declared.pool.lending.Lent.TheInside as lent
 use Rattle.driver.specs.Pools.{PoolView, IdleView, IsIdle}
 
 abbrev pub view_of_idle : {J A : Type 0} → idle.Inside J A → IdleView J

@@ -1,12 +1,15 @@
 //! Processors for threads that come and go.
 use crate::idle::Idle;
-use domain::{Cpu, Domain};
+use domain::Domain;
 use keep::Keep;
 use std::alloc::{Allocator, Global};
 use std::marker::Model;
 use std::sync::atomic::AtomicU64;
 
 mod lending;
+mod working;
+
+pub use lending::Lent;
 
 /// Processors of one domain that threads take for a while and give back, in the place of the kernel's per-CPU data, which
 /// each task finds. It has a lock, behind which the processors lie that nobody has. Threads share it by reference.
@@ -27,19 +30,4 @@ impl<'a, J, A: Allocator> Model for Pool<'a, J, A> {
     ghost use Rattle.driver.specs.PoolInsides.{view_of_pool};
 
     ghost view = { view_of_pool };
-}
-
-/// A processor of a pool is out. It can't be dropped: it ends in [`Pool::give`]. Contracts see the processor's number.
-pub struct Lent {
-    pub(crate) processor: u16,
-}
-
-impl Model for Lent {
-    ghost use Rattle.std.specs.Prelude.{ℕ};
-
-    ghost Value = { ℕ };
-
-    ghost use Rattle.driver.specs.PoolInsides.{view_of_lent};
-
-    ghost view = { view_of_lent };
 }

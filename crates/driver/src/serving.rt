@@ -43,8 +43,7 @@ pub fn run_batch<R: Wait, J: Drop, A: Allocator + Copy, F: FnMut(J)>(
 }
 
 /// One turn of the engine.
-fn turn<R: Wait, J, A: Allocator>(
-    rt: &R,
+fn turn<J, A: Allocator>(
     domain: &Domain<J, A>,
     cpu: &mut Cpu<J, A>,
 ) -> Result<Progress, AdvanceRefusal>
@@ -56,7 +55,7 @@ fn turn<R: Wait, J, A: Allocator>(
     ensures same { IsSameProcessor cpu.old cpu.new }
     ensures turns { Turns result cpu.old cpu.new }
 {
-    domain.advance(rt, cpu)
+    domain.advance(cpu)
 }
 
 /// Takes what is ready on a processor, runs it and finishes it. Answers how many jobs there were, from 0 to 8.
@@ -144,7 +143,7 @@ pub fn round<R: Wait, J: Drop, A: Allocator + Copy, F: FnMut(J)>(
     ensures round { (jobs : List J) × (length jobs ≡ result.jobs) × Round (λ p x q. F.step p x tt q) domain.now work.old cpu.old result.answer jobs work.new cpu.new }
     ensures work { F.IsAlwaysCallable work.new }
 {
-    let answer = turn(rt, domain, cpu);
+    let answer = turn(domain, cpu);
     let jobs = look_after_all(rt, domain, cpu, processors, work);
     Came { answer, jobs }
 }

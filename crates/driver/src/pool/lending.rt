@@ -2,11 +2,12 @@
 ghost use Rattle.std.specs.Prelude.{◌≡◌, All, IfSome, MatchResult, length};
 ghost use Rattle.driver.specs.Pools.{IsIdle, IsLent};
 
-use super::{Lent, Pool};
+use super::Pool;
 use crate::idle::Idle;
 use domain::{Cpu, Domain};
 use keep::Keep;
 use std::alloc::Allocator;
+use std::marker::Model;
 use std::sync::Wait;
 use std::sync::atomic::AtomicU64;
 use std::sync::atomic::Ordering::SeqCst;
@@ -17,6 +18,22 @@ const WORD: u64 = 1 << 32;
 
 /// How long a thread sleeps at most before it looks again: a millisecond.
 const LONGEST: u64 = 1_000;
+
+/// A processor of a pool is out. It can't be dropped: it ends in [`Pool::give`], and nobody but this module sees what is in
+/// it. Contracts see the processor's number.
+pub struct Lent {
+    processor: u16,
+}
+
+impl Model for Lent {
+    ghost use Rattle.std.specs.Prelude.{ℕ};
+
+    ghost Value = { ℕ };
+
+    ghost use Rattle.driver.specs.PoolInsides.{view_of_lent};
+
+    ghost view = { view_of_lent };
+}
 
 impl<'a, J: Drop, A: Allocator + Copy> Pool<'a, J, A> {
     /// A pool of these processors of a domain, on each of which no reading is open. `alloc` gives the memory. Where there

@@ -14,7 +14,7 @@ pub serve-served-requires-clause-none : goal.serve-served-requires-clause-none
 serve-served-requires-clause-none g c = c.queue-queued.ensures.idle.closed
 
 pub serve-served-requires-clause-processors : goal.serve-served-requires-clause-processors
-serve-served-requires-clause-processors g c = sym c.requires.many
+serve-served-requires-clause-processors g c = c.requires.many
 
 pub give-requires : goal.give-requires
 give-requires g c = record {
