@@ -90,12 +90,12 @@ struct Five {
 }
 
 /// Drives so many turns of the engine.
-fn drive<R: Wait>(rt: &R, domain: &Domain<()>, cpu: &mut Cpu<()>, turns: u32)
+fn drive(domain: &Domain<()>, cpu: &mut Cpu<()>, turns: u32)
     requires { IsOf domain.now cpu.old }
     ensures { IsOf domain.now cpu.new }
 {
     for _ in 0..turns {
-        let _answer = domain.advance(rt, cpu);
+        let _answer = domain.advance(cpu);
     }
 }
 
@@ -121,8 +121,7 @@ fn read_over(
 }
 
 /// Replaces twice, and a third time behind a grace period.
-fn replace_thrice<R: Wait>(
-    rt: &R,
+fn replace_thrice(
     domain: &Domain<()>,
     cpu: &mut Cpu<()>,
     shelf: &mut Shelf<Sixteen>,
@@ -134,17 +133,17 @@ fn replace_thrice<R: Wait>(
 {
     let first = read_over(domain, cpu, shelf, values, 7);
     let second = read_over(domain, cpu, shelf, values, 8);
-    drive(rt, domain, cpu, 3);
+    drive(domain, cpu, 3);
     [first, second, read_over(domain, cpu, shelf, values, 9)]
 }
 
 /// Makes a domain whose cell has two slots, and replaces there.
-fn replace_in_two_slots<R: Wait + AllocGlobal>(
+fn replace_in_two_slots<R: AllocGlobal>(
     rt: &R,
 ) -> Result<[Option<([u64; 2], Result<u64, NoSlot>)>; 3], MakeError> {
     let (domain, cpus, mut shelf, values) = domain_of_five(rt.alloc(), 2)?;
     let mut cpu = cpus.writer;
-    Ok(replace_thrice(rt, &domain, &mut cpu, &mut shelf, &values))
+    Ok(replace_thrice(&domain, &mut cpu, &mut shelf, &values))
 }
 
 /// Would catch a value that is not found, one of another version, a slot that is used again while it may be read, and one
@@ -228,7 +227,7 @@ fn put_once<R: Wait>(
         if shelf.replace(domain, cpu, &same(number)).is_ok() {
             return;
         }
-        if let Ok(domain::Progress::Waiting(_)) = domain.advance(rt, cpu) {
+        if let Ok(domain::Progress::Waiting(_)) = domain.advance(cpu) {
             yield_now();
         }
     }

@@ -8,7 +8,7 @@ ghost use Rattle.soak.specs.Drivers.{IsDriving};
 use crate::counts::{Counts, count};
 use crate::signs::{AGES, Signs};
 use crate::worker::{Job, Length};
-use domain::{Batch, Cpu, Domain, Progress, Writer};
+use domain::{AdvanceRefusal, Batch, Cpu, Domain, Progress, Writer};
 use std::sync::Wait;
 use std::thread::yield_now;
 use std::time::{Clock, Duration, Instant};
@@ -186,24 +186,24 @@ fn age_all(domain: &Domain<Job>, driver: &mut Driver, signs: &Signs)
 }
 
 /// One turn of the engine.
-fn advance<R: Wait>(rt: &R, domain: &Domain<Job>, driver: &mut Driver)
+fn advance(domain: &Domain<Job>, driver: &mut Driver)
     requires { IsDriving domain.now driver.old }
     ensures { IsDriving domain.now driver.new }
 {
-    match domain.advance(rt, &mut driver.cpu) {
-        Ok(Progress::Idle | Progress::Waiting(_)) => yield_now(),
+    match domain.advance(&mut driver.cpu) {
+        Ok(Progress::Idle | Progress::Waiting(_)) | Err(AdvanceRefusal::Busy) => yield_now(),
         Ok(_) => {}
-        Err(_) => count(&mut driver.counts.refused),
+        Err(AdvanceRefusal::Exhausted) => count(&mut driver.counts.refused),
     }
 }
 
 /// Turns of the engine until it rests. No section is open any more, so each of them gets on.
-fn rest<R: Wait>(rt: &R, domain: &Domain<Job>, driver: &mut Driver)
+fn rest(domain: &Domain<Job>, driver: &mut Driver)
     requires { IsDriving domain.now driver.old }
     ensures { IsDriving domain.now driver.new }
 {
     for _ in 0..TURNS {
-        if let Ok(Progress::Idle) = domain.advance(rt, &mut driver.cpu) {
+        if let Ok(Progress::Idle) = domain.advance(&mut driver.cpu) {
             break;
         }
     }
@@ -228,11 +228,11 @@ pub fn drive<R: Wait + Clock>(
         if deadline.is_past(rt) {
             signs.end();
         }
-        advance(rt, domain, &mut driver);
+        advance(domain, &mut driver);
         take_all(rt, domain, &mut driver, signs);
         age_all(domain, &mut driver, signs);
         put_next(domain, &mut driver, signs);
     }
-    rest(rt, domain, &mut driver);
+    rest(domain, &mut driver);
     driver
 }

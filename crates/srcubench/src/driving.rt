@@ -38,8 +38,7 @@ impl fmt::Display for Halt {
 impl Error for Halt {}
 
 /// The engine's next answer.
-fn answer<R: Wait, A: Allocator>(
-    rt: &R,
+fn answer<A: Allocator>(
     domain: &Domain<(), A>,
     cpu: &mut Cpu<(), A>,
 ) -> Result<Progress, Halt>
@@ -47,15 +46,14 @@ fn answer<R: Wait, A: Allocator>(
     ensures here { IsOf domain.now cpu.new }
     ensures advances { IfOk result (λ answer. AdvancesIn cpu.old answer cpu.new) }
 {
-    match domain.advance(rt, cpu) {
+    match domain.advance(cpu) {
         Ok(answer) => Ok(answer),
         Err(refusal) => Err(Halt::Refused(refusal)),
     }
 }
 
 /// Starts a grace period, and has the engine carry it to its end: three turns of the engine.
-pub fn drive_period<R: Wait, A: Allocator>(
-    rt: &R,
+pub fn drive_period<A: Allocator>(
     domain: &Domain<(), A>,
     cpu: &mut Cpu<(), A>,
 ) -> Result<(), Halt>
@@ -63,22 +61,21 @@ pub fn drive_period<R: Wait, A: Allocator>(
     ensures here { IsOf domain.now cpu.new }
     ensures drives { IfOk result (λ _. DrivesPeriod cpu.old cpu.new) }
 {
-    if let Err(refusal) = domain.start(rt, cpu) {
+    if let Err(refusal) = domain.start(cpu) {
         return Err(Halt::NotStarted(refusal));
     }
-    match answer(rt, domain, cpu)? {
+    match answer(domain, cpu)? {
         Progress::Flipped(_) => {}
         other => return Err(Halt::Answered(other)),
     }
-    match answer(rt, domain, cpu)? {
+    match answer(domain, cpu)? {
         Progress::Ended(_) => Ok(()),
         other => Err(Halt::Answered(other)),
     }
 }
 
 /// Drives so many grace periods, one behind the other.
-pub fn drive_periods<R: Wait, A: Allocator>(
-    rt: &R,
+pub fn drive_periods<A: Allocator>(
     domain: &Domain<(), A>,
     cpu: &mut Cpu<(), A>,
     periods: u64,
@@ -88,7 +85,7 @@ pub fn drive_periods<R: Wait, A: Allocator>(
     ensures drives { IfOk result (λ _. DrivesPeriods periods cpu.old cpu.new) }
 {
     for _ in 0..periods {
-        drive_period(rt, domain, cpu)?;
+        drive_period(domain, cpu)?;
     }
     Ok(())
 }
@@ -130,7 +127,7 @@ pub fn run_periods<R: Wait + Clock + AllocGlobal>(
     let (domain, mut cpus, _) = Domain::<()>::new(rt.alloc(), processors, limits)?;
     let mut cpu = cpus.pop().unwrap();
     let start = Instant::now(rt)?;
-    drive_periods(rt, &domain, &mut cpu, periods)?;
+    drive_periods(&domain, &mut cpu, periods)?;
     let elapsed = start.elapsed(rt)?;
     Ok(Timed {
         done: periods,

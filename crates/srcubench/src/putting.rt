@@ -39,8 +39,7 @@ impl Versioned for Sixteen {
 }
 
 /// Puts a value, and drives a grace period, behind which nobody can read the one that was there.
-fn put_once<R: Wait, A: Allocator>(
-    rt: &R,
+fn put_once<A: Allocator>(
     domain: &Domain<(), A>,
     cpu: &mut Cpu<(), A>,
     shelf: &mut Shelf<Sixteen>,
@@ -53,13 +52,12 @@ fn put_once<R: Wait, A: Allocator>(
     ensures puts { IfOk result (λ _. PutsOnce number shelf.old cpu.old shelf.new cpu.new) }
 {
     shelf.replace(domain, cpu, &Sixteen { number })?;
-    drive_period(rt, domain, cpu)?;
+    drive_period(domain, cpu)?;
     Ok(())
 }
 
 /// Puts so many values, one behind the other.
-fn put_often<R: Wait, A: Allocator>(
-    rt: &R,
+fn put_often<A: Allocator>(
     domain: &Domain<(), A>,
     cpu: &mut Cpu<(), A>,
     shelf: &mut Shelf<Sixteen>,
@@ -70,7 +68,7 @@ fn put_often<R: Wait, A: Allocator>(
     ensures { IfOk result (λ _. PutsOften times shelf.old cpu.old shelf.new cpu.new) }
 {
     for number in 0..times {
-        put_once(rt, domain, cpu, shelf, number)?;
+        put_once(domain, cpu, shelf, number)?;
     }
     Ok(())
 }
@@ -101,7 +99,7 @@ pub fn run<R: Wait + Clock + AllocGlobal>(rt: &R, times: u64) -> Result<Timed>
     let writer = writers.pop().unwrap();
     let mut shelf = shelve(writer);
     let start = Instant::now(rt)?;
-    put_often(rt, &domain, &mut cpu, &mut shelf, times)?;
+    put_often(&domain, &mut cpu, &mut shelf, times)?;
     let elapsed = start.elapsed(rt)?;
     Ok(Timed {
         done: times,

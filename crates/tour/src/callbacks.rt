@@ -7,7 +7,7 @@ ghost use Rattle.tour.specs.Parts.{IsReady};
 use crate::config::{Archive, Config, Old};
 use crate::readers::read_once;
 use anyhow::Result;
-use domain::{Cpu, Domain};
+use domain::{AdvanceRefusal, Cpu, Domain};
 use shelf::{Shelf, Values};
 use std::sync::Wait;
 use std::thread::yield_now;
@@ -75,7 +75,10 @@ fn serve<R: Wait>(
 {
     let mut ran: usize = 0;
     for _ in rt.forever() {
-        domain.advance(rt, cpu)?;
+        match domain.advance(cpu) {
+            Ok(_) | Err(AdvanceRefusal::Busy) => {} // another thread has the engine, and drives it on
+            Err(exhausted) => return Err(exhausted.into()),
+        }
         ran = ran.saturating_add(run_ready(rt, domain, cpu, processor, archive)?);
         let (queued, _) = domain.lens(rt, cpu, processor)?;
         if queued == [0; 4] {

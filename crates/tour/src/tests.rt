@@ -21,8 +21,7 @@ fn number(value: u64) -> Number {
 }
 
 /// What a cookie answers before a period and behind it, and what the period's steps answer.
-fn poll_round_a_period<R: Wait>(
-    rt: &R,
+fn poll_round_a_period(
     domain: &Domain<Old>,
     reader: &mut Cpu<Old>,
     updater: &mut Cpu<Old>,
@@ -34,9 +33,9 @@ fn poll_round_a_period<R: Wait>(
     let mut cookie = updater.cookie(); // get_state_synchronize_srcu
     let early = updater.poll(&mut cookie); // poll_state_synchronize_srcu: false
     reader.read_unlock(section);
-    let started = domain.start(rt, updater); // Ok(1): a period is started, by whomever
-    let flipped = domain.advance(rt, updater);
-    let ended = domain.advance(rt, updater); // Ok(Ended(4))
+    let started = domain.start(updater); // Ok(1): a period is started, by whomever
+    let flipped = domain.advance(updater);
+    let ended = domain.advance(updater); // Ok(Ended(4))
     let late = updater.poll(&mut cookie); // true: a whole period has passed meanwhile
 
     Ok(((early, late), started, [flipped, ended]))
@@ -44,7 +43,7 @@ fn poll_round_a_period<R: Wait>(
 
 fn poll_in_a_pair<R: Wait + AllocGlobal>(rt: &R) -> Result<((bool, bool), Started, [Advanced; 2])> {
     let (domain, mut reader, mut updater, _) = pair(rt.alloc())?;
-    poll_round_a_period(rt, &domain, &mut reader, &mut updater)
+    poll_round_a_period(&domain, &mut reader, &mut updater)
 }
 
 /// Would catch a cookie that is done while a section is open that was open when it was given, and one that never is.
@@ -84,8 +83,7 @@ fn numbers(rt: HostRuntime) -> Result<(), Fail> {
 }
 
 /// What each call of a period answers that waits for a section, and those of the next one.
-fn drive_by_hand<R: Wait>(
-    rt: &R,
+fn drive_by_hand(
     domain: &Domain<Old>,
     reader: &mut Cpu<Old>,
     driver: &mut Cpu<Old>,
@@ -96,17 +94,17 @@ fn drive_by_hand<R: Wait>(
 
     let mut cookie = domain.start_poll(driver); // the need is now at the root of the tree
     let need = domain.need(driver); // srcu_gp_seq_needed
-    let started = domain.advance(rt, driver); // Ok(Started(1))
-    let flipped = domain.advance(rt, driver); // Ok(Flipped(One)): the first scan has passed
-    let waiting = domain.advance(rt, driver); // Ok(Waiting(Zero)): the second scan waits for the section
+    let started = domain.advance(driver); // Ok(Started(1))
+    let flipped = domain.advance(driver); // Ok(Flipped(One)): the first scan has passed
+    let waiting = domain.advance(driver); // Ok(Waiting(Zero)): the second scan waits for the section
     reader.read_unlock(section);
-    let ended = domain.advance(rt, driver); // Ok(Ended(4))
-    let idle = domain.advance(rt, driver); // Ok(Idle): nobody asks for more
+    let ended = domain.advance(driver); // Ok(Ended(4))
+    let idle = domain.advance(driver); // Ok(Idle): nobody asks for more
     let done = driver.poll(&mut cookie); // true
 
-    let again = domain.start(rt, driver); // Ok(5): a period is started that nobody asked for
-    let refused = domain.start(rt, driver); // Err(Running)
-    let step = domain.step(rt, driver); // Ok(Step): one load of a counter
+    let again = domain.start(driver); // Ok(5): a period is started that nobody asked for
+    let refused = domain.start(driver); // Err(Running)
+    let step = domain.step(driver); // Ok(Step): one load of a counter
 
     Ok((
         (need.get(), done),
@@ -119,7 +117,7 @@ fn drive_a_pair<R: Wait + AllocGlobal>(
     rt: &R,
 ) -> Result<((u64, bool), [Advanced; 6], [Started; 2])> {
     let (domain, mut reader, mut driver, _) = pair(rt.alloc())?;
-    drive_by_hand(rt, &domain, &mut reader, &mut driver)
+    drive_by_hand(&domain, &mut reader, &mut driver)
 }
 
 /// Would catch a period that doesn't wait for the section, or waits for another.
@@ -165,15 +163,15 @@ fn run_round_a_section<R: Wait>(
     let before = configs.load(reader, &mut version);
     let old = Old { number: 1 };
     let replaced = replace_and_call(rt, domain, updater, shelf, &archive, old, 2);
-    let _started = domain.advance(rt, updater);
-    let _flipped = domain.advance(rt, updater);
-    let waiting = domain.advance(rt, updater);
+    let _started = domain.advance(updater);
+    let _flipped = domain.advance(updater);
+    let waiting = domain.advance(updater);
     let early = run_ready(rt, domain, updater, processor, &archive);
     let filed = archive.count();
     let behind = configs.load(reader, &mut version);
     drop(version);
     reader.read_unlock(section);
-    let ended = domain.advance(rt, updater);
+    let ended = domain.advance(updater);
     let late = run_ready(rt, domain, updater, processor, &archive);
     replaced?;
     let filed = [filed, archive.count()];

@@ -8,7 +8,7 @@ ghost use Rattle.tour.specs.Parts.{IsReady, ReplacesAndWaits, text_of};
 use crate::config::{Archive, Config, Old};
 use crate::readers::read_once;
 use anyhow::Result;
-use domain::{Cpu, Domain, HeldPin};
+use domain::{AdvanceRefusal, Cpu, Domain, HeldPin};
 use shelf::{Shelf, Values};
 use std::sync::Wait;
 
@@ -73,7 +73,10 @@ pub fn replace_and_poll<R: Wait>(
         if cpu.poll(&mut cookie) {
             break;
         }
-        domain.advance(rt, &mut cpu)?; // there is no kthread: any thread drives the period on
+        match domain.advance(&mut cpu) {
+            Ok(_) | Err(AdvanceRefusal::Busy) => {} // there is no kthread: any thread drives the period on
+            Err(exhausted) => return Err(exhausted.into()),
+        }
     }
     let late = cpu.poll(&mut cookie); // true: the period is over, and nobody reads the old one
     replaced?;
