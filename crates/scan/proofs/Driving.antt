@@ -4,7 +4,7 @@ use Rattle.sections.specs.Views.{CpuView}
 use Rattle.desk.specs.BayViews.{BaySeatView}
 use Rattle.scan.specs.declared.progress.StartRefusal as engine
 use Rattle.scan.specs.declared.progress.StartRefusal.TheVariants as refused
-use Rattle.scan.specs.Progress.{ScanView, IsNoStart}
+use Rattle.scan.specs.Progress.{ScanView}
 use Rattle.scan.specs.Refusals.{refusal_of}
 use Rattle.scan.specs.Stations.{Takes, GivesBack, Drives, StartsNone, IsNotStarted}
 

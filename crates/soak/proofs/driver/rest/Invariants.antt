@@ -3,4 +3,4 @@ use Rattle.soak.specs.Drivers.{IsDriving}
 use Rattle.soak.proofs.driver.rest.Given as goal
 
 abbrev pub invariant-loop : goal.invariant-loop
-invariant-loop g l = IsDriving l.domain l.driver
+invariant-loop l = IsDriving l.domain l.driver

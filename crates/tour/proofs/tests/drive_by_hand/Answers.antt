@@ -4,37 +4,37 @@ use Rattle.tour.proofs.Reading.{begun_here}
 use Rattle.tour.proofs.tests.drive_by_hand.Goals as goal
 
 pub start_poll-cookie-requires : goal.start_poll-cookie-requires
-start_poll-cookie-requires g c = c.requires
+start_poll-cookie-requires c = c.requires
 
 pub need-need-requires : goal.need-need-requires
-need-need-requires g c = c.start_poll-cookie.ensures.here
+need-need-requires c = c.start_poll-cookie.ensures.here
 
 pub advance-started-requires : goal.advance-started-requires
-advance-started-requires g c = c.need-need.ensures.here
+advance-started-requires c = c.need-need.ensures.here
 
 pub advance-flipped-requires : goal.advance-flipped-requires
-advance-flipped-requires g c = c.advance-started.ensures.here
+advance-flipped-requires c = c.advance-started.ensures.here
 
 pub advance-waiting-requires : goal.advance-waiting-requires
-advance-waiting-requires g c = c.advance-flipped.ensures.here
+advance-waiting-requires c = c.advance-flipped.ensures.here
 
 pub read_unlock-requires : goal.read_unlock-requires
-read_unlock-requires g c = begun_here _ _ _ c.in_ok-section.ensures.locks
+read_unlock-requires c = begun_here _ _ _ c.in_ok-section.ensures.locks
 
 pub advance-ended-requires : goal.advance-ended-requires
-advance-ended-requires g c = c.advance-waiting.ensures.here
+advance-ended-requires c = c.advance-waiting.ensures.here
 
 pub advance-idle-requires : goal.advance-idle-requires
-advance-idle-requires g c = c.advance-ended.ensures.here
+advance-idle-requires c = c.advance-ended.ensures.here
 
 pub poll-done-requires : goal.poll-done-requires
-poll-done-requires g c = ap (λ k. k.domain) c.start_poll-cookie.ensures.starts.gives.cookie_is ∙ (c.requires.domain ∙ sym c.advance-idle.ensures.here.domain)
+poll-done-requires c = ap (λ k. k.domain) c.start_poll-cookie.ensures.starts.gives.cookie_is ∙ (c.requires.domain ∙ sym c.advance-idle.ensures.here.domain)
 
 pub start-again-requires : goal.start-again-requires
-start-again-requires g c = c.poll-done.ensures.stays _ c.advance-idle.ensures.here
+start-again-requires c = c.poll-done.ensures.stays _ c.advance-idle.ensures.here
 
 pub start-refused-requires : goal.start-refused-requires
-start-refused-requires g c = c.start-again.ensures.here
+start-refused-requires c = c.start-again.ensures.here
 
 pub step-step-requires : goal.step-step-requires
-step-step-requires g c = c.start-refused.ensures.here
+step-step-requires c = c.start-refused.ensures.here

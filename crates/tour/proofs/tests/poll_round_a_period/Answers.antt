@@ -4,23 +4,23 @@ use Rattle.tour.proofs.Reading.{begun_here}
 use Rattle.tour.proofs.tests.poll_round_a_period.Goals as goal
 
 pub poll-early-requires : goal.poll-early-requires
-poll-early-requires g c =
+poll-early-requires c =
     let gives = c.cookie-cookie.ensures.gives in
     ap (λ k. k.domain) gives.cookie_is ∙ sym gives.notes.adds.same.0
 
 pub read_unlock-requires : goal.read_unlock-requires
-read_unlock-requires g c = begun_here _ _ _ c.in_ok-section.ensures.locks
+read_unlock-requires c = begun_here _ _ _ c.in_ok-section.ensures.locks
 
 pub start-started-requires : goal.start-started-requires
-start-started-requires g c = c.poll-early.ensures.stays _ (c.cookie-cookie.ensures.stays _ c.requires)
+start-started-requires c = c.poll-early.ensures.stays _ (c.cookie-cookie.ensures.stays _ c.requires)
 
 pub advance-flipped-requires : goal.advance-flipped-requires
-advance-flipped-requires g c = c.start-started.ensures.here
+advance-flipped-requires c = c.start-started.ensures.here
 
 pub advance-ended-requires : goal.advance-ended-requires
-advance-ended-requires g c = c.advance-flipped.ensures.here
+advance-ended-requires c = c.advance-flipped.ensures.here
 
 pub poll-late-requires : goal.poll-late-requires
-poll-late-requires g c =
+poll-late-requires c =
     let given = c.cookie-cookie.ensures.gives.cookie_is in
     ap (λ k. k.domain) (c.poll-early.ensures.cookie ∙ given) ∙ (c.requires.domain ∙ sym c.advance-ended.ensures.here.domain)

@@ -2,4 +2,4 @@
 use Rattle.domain.proofs.tests.threads.close_last.Goals as goal
 
 pub ends_in_some_turns-late-requires : goal.ends_in_some_turns-late-requires
-ends_in_some_turns-late-requires g c = c.up_read.ensures.stays _ c.ends_in_some_turns-early.ensures
+ends_in_some_turns-late-requires c = c.up_read.ensures.stays _ c.ends_in_some_turns-early.ensures

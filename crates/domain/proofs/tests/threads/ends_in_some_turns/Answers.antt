@@ -3,7 +3,7 @@ use Rattle.std.proofs.Common.{ap, ◌∙◌}
 use Rattle.domain.proofs.tests.threads.ends_in_some_turns.Goals as goal
 
 pub loop-init : goal.loop-init
-loop-init g c = record {
+loop-init c = record {
   here = c.start_poll-cookie.ensures.here;
   cookie = ap (λ k. k.domain) c.start_poll-cookie.ensures.starts.gives.cookie_is ∙ c.requires.domain;
 }

@@ -4,7 +4,7 @@ use Rattle.domain.specs.Views.{IsOf}
 use Rattle.domain.proofs.tests.threads.ends_in_some_turns.Given as goal
 
 abbrev pub invariant-loop : goal.invariant-loop
-invariant-loop g l = record {
+invariant-loop l = record {
   here : IsOf l.domain l.cpu;
   cookie : l.cookie.domain ≡ l.domain.domain;
 }

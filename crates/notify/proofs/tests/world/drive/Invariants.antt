@@ -3,4 +3,4 @@ use Rattle.domain.specs.Views.{IsOf}
 use Rattle.notify.proofs.tests.world.drive.Given as goal
 
 abbrev pub invariant-loop : goal.invariant-loop
-invariant-loop g l = IsOf l.domain l.cpu
+invariant-loop l = IsOf l.domain l.cpu

@@ -3,4 +3,4 @@ use Rattle.std.proofs.Common.{◌≡◌}
 use Rattle.plugs.proofs.tests.leases.held_up.Given as goal
 
 abbrev pub invariant-loop : goal.invariant-loop
-invariant-loop g l = l.world ≡ l.initial.world
+invariant-loop l = l.world ≡ l.initial.world
