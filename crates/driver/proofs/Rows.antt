@@ -9,7 +9,7 @@ use Rattle.calls.specs.declared.entry.Entry.{Entry}
 use Rattle.calls.specs.Views.{BatchView, ListView}
 use Rattle.sections.specs.Calls.{IsSameCpu}
 use Rattle.calls.specs.Calls.{IsSameSeat, TakesIn, IsTaken}
-use Rattle.domain.specs.declared.refusals.AdvanceRefusal.{AdvanceRefusal}
+use Rattle.scan.specs.declared.refusals.AdvanceRefusal.{AdvanceRefusal}
 use Rattle.domain.specs.Views.{DomainView, CpuView, IsSameProcessor, callbacks_of, with_cpu, with_calls}
 use Rattle.domain.specs.Waiting.{HasNoneOpen}
 use Rattle.domain.proofs.CallerLemmas.{none_still, same_trans, same_polled, same_finished}

@@ -2,7 +2,7 @@
 use Rattle.std.specs.Prelude.{◌≡◌, ℕ, ◌<◌, ◌^◌, Result, Ok, Err}
 use Rattle.scan.specs.declared.progress.Progress.{Progress}
 use Rattle.scan.specs.declared.progress.Progress.TheVariants as progress
-use Rattle.domain.specs.declared.refusals.AdvanceRefusal.{AdvanceRefusal}
+use Rattle.scan.specs.declared.refusals.AdvanceRefusal.{AdvanceRefusal}
 
 -- how many grace periods ended by an answer of the engine
 abbrev pub ended_by : Progress → ℕ

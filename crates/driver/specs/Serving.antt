@@ -8,7 +8,7 @@ use Rattle.calls.specs.Views.{BatchView, CallSeatView, TicketView, ReceiptView}
 use Rattle.calls.specs.Calls.{TakesIn, InvokesIn, FinishesIn, AreHanded}
 use Rattle.calls.specs.Tallies.{IsBeginning}
 use Rattle.calls.specs.Barriers.{Starts, Polls, IsDone, IsQueued, IsFinished}
-use Rattle.domain.specs.declared.refusals.AdvanceRefusal.{AdvanceRefusal}
+use Rattle.scan.specs.declared.refusals.AdvanceRefusal.{AdvanceRefusal}
 use Rattle.driver.specs.declared.counts.Served.{Served}
 use Rattle.driver.specs.Counts.{periods_in, IsCount}
 use Rattle.domain.specs.Views.{DomainView, CpuView, callbacks_of, with_calls}
