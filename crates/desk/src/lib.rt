@@ -11,8 +11,8 @@ mod seat;
 mod tests;
 mod view;
 
-pub use bay::{Alike, Bay};
 pub use bay::seat::BaySeat;
+pub use bay::{Alike, Bay};
 pub use desk::Desk;
 pub use laws::{holders_of_a_bay, makers_of_swaps, swaps_of_a_bay};
 pub use seat::DeskSeat;

@@ -1,8 +1,8 @@
 ghost use Rattle.std.specs.Prelude.{◌≡◌, true, false, IfOk, IfSome, is_some};
-ghost use Rattle.desk.specs.BayCalls.{holds, new_bay_seat};
+ghost use Rattle.desk.specs.BayCalls.{holds, new_bay_seat, IsLikeFirst};
 
-use super::{Alike, Bay};
 use super::seat::BaySeat;
+use super::{Alike, Bay};
 use linked_list_allocator::LocalHeap;
 use sections::{EngineSeat, Home, Limits, Made, MakeError, Token, make};
 use std::alloc::{AllocError, Global};
@@ -186,6 +186,7 @@ fn wait(seat: &mut BaySeat<Marked>, bay: &Bay<Marked>) -> Option<Marked>
     requires bay { (seat.old.bay ≡ bay.now.bay) × (holds seat.old ≡ false) }
     ensures seat { (seat.new.bay ≡ seat.old.bay) × (seat.new.domain ≡ seat.old.domain) × (holds seat.new ≡ is_some result) }
     ensures domain { IfSome result (λ x. x.home ≡ seat.old.domain) }
+    ensures alike { IfSome result (λ x. IsLikeFirst (λ m n. n.home ≡ m.home) seat.new x) }
 {
     for _ in 0..TRIES {
         if let Some(value) = seat.take(bay) {

@@ -31,7 +31,8 @@ impl<J, A: Allocator> Domain<J, A> {
         ensures here { IsOf self.now cpu.new }
         ensures advances { MatchResult result (λ answer. AdvancesIn cpu.old answer cpu.new) (λ refusal. IsRefused cpu.old refusal cpu.new) }
     {
-        cpu.turn.advance(&self.station, &mut cpu.cpu, &mut cpu.needs)
+        cpu.turn
+            .advance(&self.station, &mut cpu.cpu, &mut cpu.needs)
     }
 
     /// Starts a grace period, whether it is asked for or not, and answers the number from then on (`srcu_gp_start`). The

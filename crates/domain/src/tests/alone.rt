@@ -84,9 +84,7 @@ fn new_in_little_room(rt: HostRuntime) -> Result<(), Fail> {
 }
 
 /// The numbers of the last two of 64 processors, and a period that the last one holds up.
-fn hold_up_by_the_last<R: AllocGlobal>(
-    rt: &R,
-) -> Result<((u16, u16), Option<HeldUp>), MakeError> {
+fn hold_up_by_the_last<R: AllocGlobal>(rt: &R) -> Result<((u16, u16), Option<HeldUp>), MakeError> {
     let (domain, mut driver, mut last) = last_two(rt.alloc(), 64, SCARCE)?;
     let numbers = (driver.processor(), last.processor());
     Ok((numbers, hold_up(&domain, &mut driver, &mut last)))

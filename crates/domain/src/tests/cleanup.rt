@@ -83,9 +83,7 @@ fn number(value: u64) -> Number {
 }
 
 /// Hands in two of three processors. Tells the cause, and a period behind that.
-fn hand_in_too_few<R: Abort + AllocGlobal>(
-    rt: &R,
-) -> Result<(InUse, Option<HeldUp>), MakeError> {
+fn hand_in_too_few<R: Abort + AllocGlobal>(rt: &R) -> Result<(InUse, Option<HeldUp>), MakeError> {
     let (domain, first, second) = last_two(rt.alloc(), 3)?;
     let (cause, domain, mut first, mut second) = refused(rt, rt.alloc(), domain, first, second);
     Ok((cause, hold_up(&domain, &mut first, &mut second)))

@@ -76,7 +76,9 @@ fn two_seats<N: Needs + Drop>(
     ensures cpus { IfOk result (λ r. (r.0.domain ≡ r.2.domain) × (r.1.domain ≡ r.2.domain)) }
 {
     let Made {
-        mut cpus, engine, ..
+        mut cpus,
+        engine,
+        ..
     } = make(alloc, 2, LIMITS)?;
     let Ok((station, mut seats)) = Station::new(alloc, Engine::new(engine, needs), 2) else {
         return Err(MakeError::Memory);
@@ -113,7 +115,11 @@ fn engine_busy(rt: HostRuntime) -> Result<(), Fail> {
         inside: AtomicBool::new(false),
         busy: AtomicBool::new(false),
     };
-    let needs = || Waits { rt: &rt, signs: &signs, told: false };
+    let needs = || Waits {
+        rt: &rt,
+        signs: &signs,
+        told: false,
+    };
     let (mut first, mut second, station, mut left, mut right) = two_seats(rt.alloc(), needs())?;
     let mut here = needs();
     let mut there = needs();
@@ -122,7 +128,10 @@ fn engine_busy(rt: HostRuntime) -> Result<(), Fail> {
         || left.advance(&station, &mut first, &mut here),
         || advance_beside(&rt, &station, &mut right, &mut second, &mut there),
     );
-    assert_eq!(rt; (idle, busy), (Ok(Progress::Idle), Err(AdvanceRefusal::Busy)));
+    assert_eq!(rt;
+        (idle, busy),
+        (Ok(Progress::Idle), Err(AdvanceRefusal::Busy))
+    );
     assert_eq!(rt; (here.told, there.told), (true, false));
     Ok(())
 }
@@ -156,8 +165,10 @@ fn start(
 /// answer that no clause tells apart from another.
 #[test]
 fn taken_in_turn(rt: HostRuntime) -> Result<(), Fail> {
-    let (mut first, mut second, station, mut left, mut right) =
-        two_seats(rt.alloc(), Asks(number(0)))?;
+    let (mut first, mut second, station, mut left, mut right) = two_seats(
+        rt.alloc(),
+        Asks(number(0)),
+    )?;
     let started = advance(&mut left, &station, &mut first, 8);
     let running = start(&mut right, &station, &mut second);
     let flipped = advance(&mut left, &station, &mut first, 0);
@@ -185,20 +196,27 @@ fn taken_in_turn(rt: HostRuntime) -> Result<(), Fail> {
 /// Would catch a tie that is refused while nobody has the engine, and a step that makes more than one.
 #[test]
 fn steps_from_a_station(rt: HostRuntime) -> Result<(), Fail> {
-    let (mut first, mut second, station, mut left, mut right) =
-        two_seats(rt.alloc(), Asks(number(0)))?;
+    let (mut first, mut second, station, mut left, mut right) = two_seats(
+        rt.alloc(),
+        Asks(number(0)),
+    )?;
     let tied = left.tie(&station, &mut first);
     let wanted = right.step(&station, &mut second, &mut Asks(number(4)));
     let started = left.start(&station, &mut first);
-    assert_eq!(rt; (tied, wanted, started), (Ok(()), Ok(Progress::Step), Ok(number(1))));
+    assert_eq!(rt;
+        (tied, wanted, started),
+        (Ok(()), Ok(Progress::Step), Ok(number(1)))
+    );
     Ok(())
 }
 
 /// Would catch a call that has an answer while another seat has the engine.
 #[test]
 fn busy_while_it_is_out(rt: HostRuntime) -> Result<(), Fail> {
-    let (mut first, mut second, station, mut left, mut right) =
-        two_seats(rt.alloc(), Asks(number(0)))?;
+    let (mut first, mut second, station, mut left, mut right) = two_seats(
+        rt.alloc(),
+        Asks(number(0)),
+    )?;
     let mut needs = Asks(number(4));
     let Some(engine) = left.take(&station) else {
         panic!(rt; "it lies there from the start");
@@ -208,7 +226,10 @@ fn busy_while_it_is_out(rt: HostRuntime) -> Result<(), Fail> {
     let start = right.start(&station, &mut second);
     let tie = right.tie(&station, &mut second);
     left.put(&station, engine);
-    assert_eq!(rt; [step, advance], [Err(AdvanceRefusal::Busy), Err(AdvanceRefusal::Busy)]);
+    assert_eq!(rt;
+        [step, advance],
+        [Err(AdvanceRefusal::Busy), Err(AdvanceRefusal::Busy)]
+    );
     assert_eq!(rt; (start, tie), (Err(StartRefusal::Busy), Err(Busy)));
     left.tie_seat(&mut right, &station);
     assert_eq!(rt; left.start(&station, &mut first), Ok(number(1)));
