@@ -1,0 +1,5 @@
+pub mod Rule
+pub mod Plays
+pub mod Views
+pub mod Calls
+pub mod Insides

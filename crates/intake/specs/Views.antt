@@ -1,0 +1,21 @@
+-- What a caller knows of the ends of a line.
+use Rattle.std.specs.Prelude.{List, Option}
+use Rattle.crossbeam_queue.specs.SegTies.{SegId}
+
+-- which line it is (its queue, and the allocator of its blocks), its key, and all that was ever pushed
+pub record InletView (T K A : Type 0) : Type 0 where
+  pub line : SegId A
+  pub key : Option K
+  pub pushed : List T
+
+-- the same, with all that was ever taken out, and what this end heard was pushed
+pub record OutletView (T K A : Type 0) : Type 0 where
+  pub line : SegId A
+  pub key : Option K
+  pub taken : List T
+  pub heard : List T
+
+-- a beginning of what was pushed into this line
+pub record FrontView (T A : Type 0) : Type 0 where
+  pub line : SegId A
+  pub seen : List T

@@ -1,0 +1,18 @@
+//! How calls come in: one end pushes entries and touches no lock, the other one takes them out, in their order.
+#![tactic(auto)]
+
+mod front;
+mod inlet;
+mod item;
+mod line;
+mod outlet;
+mod plays;
+#[cfg(test)]
+mod tests;
+mod view;
+
+pub use front::Front;
+pub use inlet::Inlet;
+pub use item::Item;
+pub use line::{Refused, open};
+pub use outlet::Outlet;
