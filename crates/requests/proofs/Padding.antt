@@ -2,9 +2,9 @@
 use Rattle.std.proofs.Common.{◌≡◌, ℕ, ◌+◌, ◌-◌, ◌<◌, List, drop, set, arith, sym, ap, ◌∙◌}
 use Rattle.std.specs.Prelude.{replicate}
 use Rattle.std.proofs.lemmas.List.{length-set, drop-replicate, drop-set-lt, drop-drop}
-use Rattle.requests.specs.JobNames.{ArePadded, blank}
+use Rattle.requests.specs.JobNames.{AreKept, blank}
 
-pub one_more : (n : ℕ) (names : List (List ℕ)) (name : List ℕ) → n < 8 → ArePadded n names → ArePadded (n + 1) (set names n name)
+pub one_more : (n : ℕ) (names : List (List ℕ)) (name : List ℕ) → n < 8 → AreKept n names → AreKept (n + 1) (set names n name)
 one_more n names name few h = record {
   wide = length-set names n name ∙ h.wide;
   fits = omega (arith, few);

@@ -19,17 +19,18 @@ pub struct JobNames {
 
 impl Model for JobNames {
     ghost use Rattle.std.specs.Prelude.{ℕ, List, length, take};
-    ghost use Rattle.requests.specs.JobNames.{ArePadded, padded, padded_again};
+    ghost use Rattle.requests.specs.Padding.{padded};
+    ghost use Rattle.requests.specs.JobNames.{AreKept, blank, kept_again};
 
     ghost Value = { List (List ℕ) };
 
     ghost view = { λ j. take j.count j.names };
 
-    ghost invariant = { λ j. ArePadded j.count j.names };
+    ghost invariant = { λ j. AreKept j.count j.names };
 
-    ghost inverse = { λ names. record { names = padded names; count = length names } };
+    ghost inverse = { λ names. record { names = padded 8 blank names; count = length names } };
 
-    ghost inverse_ok = { λ j h. padded_again j.count j.names h };
+    ghost inverse_ok = { λ j h. kept_again j.count j.names h };
 }
 
 impl JobNames {

@@ -4,6 +4,7 @@
 ghost use Rattle.sections.specs.Limits.{AreInRange};
 
 mod command_line;
+mod handler;
 mod help;
 #[cfg(test)]
 mod replies;
@@ -11,6 +12,7 @@ mod script;
 mod status;
 
 use clap::error::ErrorKind;
+use handler::run_told;
 use sections::Limits;
 use status::Ending;
 use std::rt::Env;
@@ -21,7 +23,7 @@ use std::{env, io};
 fn run_script(rt: &(impl Wait + Input + Print + AllocGlobal), limits: Limits) -> Ending
     requires { AreInRange limits }
 {
-    let ended = script::run(
+    let ended = run_told(
         rt.alloc(),
         rt,
         &mut rt.reader(),

@@ -1,10 +1,11 @@
 //! A script, from bytes to bytes.
-ghost use Rattle.std.specs.Prelude.{ℕ, List, MatchResult};
+ghost use Rattle.std.specs.Prelude.{◌≡◌, ℕ, List, MatchResult, length};
 ghost use Rattle.std.specs.Io.KnownBytes.{Appends, Consumes, IsAtEnd};
 ghost use Rattle.sections.specs.Limits.{AreInRange};
 ghost use Rattle.srcuctl.specs.Programs.{Runs, RunsInPart};
 
 use lines::{Outcome, RunError, run_lines};
+use notify::Handler;
 use sections::Limits;
 use session::Session;
 use std::alloc::Allocator;
@@ -15,7 +16,7 @@ use std::sync::Wait;
 mod tests;
 
 /// Runs the script that `reader` gives, line by line, from a state without domains, and writes a reply to each line before
-/// the next one is run. Each domain that it makes has these limits. At the end, also after an error, open sections are
+/// the next one is run. Each domain that it makes has these limits, and its chain calls these handlers. At the end, also after an error, open sections are
 /// closed and the domains dropped.
 ///
 /// Every error of the reader or the writer ends the run, and so does a write that takes no byte: after `Read` the
@@ -27,8 +28,10 @@ pub fn run<A: Allocator, R: Read, W: Write>(
     reader: &mut R,
     writer: &mut W,
     limits: Limits,
+    handlers: &[Box<dyn Handler>],
 ) -> Result<Outcome, RunError>
-    requires { AreInRange limits }
+    requires limits { AreInRange limits }
+    requires handlers { length handlers.now ≡ 16 }
     ensures { (taken : List ℕ) × (given : List ℕ)
         × Consumes (R.remaining reader.old) (R.remaining reader.new) taken
         × Appends (W.contents writer.old) (W.contents writer.new) given
@@ -36,7 +39,7 @@ pub fn run<A: Allocator, R: Read, W: Write>(
         (λ outcome. Runs limits taken given outcome.faulty × IsAtEnd (R.remaining reader.new))
         (λ error. RunsInPart limits taken given error) }
 {
-    let mut session = Session::new(&alloc, rt, limits);
+    let mut session = Session::new(&alloc, rt, limits, handlers);
     let outcome = run_lines(&alloc, rt, &mut session, reader, writer);
     session.finish();
     outcome
