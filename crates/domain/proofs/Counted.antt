@@ -22,9 +22,10 @@ use Rattle.sections.specs.Rule.{HasItsMaker, IsProcessor}
 use Rattle.sections.specs.declared.view.Shown.TheVariants.{To}
 use Rattle.sections.specs.Views as sections
 use Rattle.sections.specs.Calls as calls
+use Rattle.sections.specs.Shelves.{IsStart}
 use Rattle.sections.specs.EngineCalls.{IsTied, Covers}
 use Rattle.sections.specs.Words.{number_word, opened_in, closed_in, is_begin, is_end}
-use Rattle.sections.proofs.CallerLemmas.{seen_all}
+use Rattle.sections.proofs.CallerLemmas.{seen_all, start_trans}
 use Rattle.scan.specs.Progress.{with_seat}
 use Rattle.desk.specs.BayViews.{BaySeatView}
 use Rattle.desk.specs.BayCalls.{holds, MakesSwap}
@@ -285,6 +286,7 @@ module _ {J : Type 0} (d : DomainView) (c : CpuView J) (cs cs' : List (CpuView J
     same = first_same;
     mine = first_mine;
     seen = accepts_too.seen;
+    texts = start_trans (subst (λ l. IsStart c.cpu.texts l) (sym accepts.texts) accepts.texts_since) (start_trans counts.loads.texts (subst (λ l. IsStart cpu2.texts l) (sym accepts_too.texts) accepts_too.texts_since));
     needs = refl;
     calls = refl;
   }
@@ -296,6 +298,7 @@ module _ {J : Type 0} (d : DomainView) (c : CpuView J) (cs cs' : List (CpuView J
         same = a.same;
         mine = a.mine;
         seen = a.seen;
+        texts = subst (λ l. IsStart (get_or cs k x).cpu.texts l) (sym a.texts) a.texts_since;
         needs = ap (λ (z : CpuView J). z.needs) j.rest;
         calls = ap (λ (z : CpuView J). z.calls) j.rest;
       }

@@ -18,6 +18,7 @@ use Rattle.funnel.specs.Views.{FunnelView}
 use Rattle.domain.proofs.Lending.{turn_same}
 use Rattle.sections.specs.Views as sections
 use Rattle.sections.specs.Calls.{IsSameCpu}
+use Rattle.sections.specs.Shelves.{IsStart}
 use Rattle.sseq.specs.Numbers.{periods_ended}
 use Rattle.sections.specs.Words.{sum_below}
 use Rattle.sections.proofs.CallerLemmas.{idle_not_running, busy_running, counters_add_up}
@@ -154,6 +155,7 @@ module _ {J : Type 0} (d : DomainView) (cpus between : List (CpuView J)) (opened
           same = subst (λ (z : sections.CpuView). IsSameCpu (get_or cpus n x).cpu z) (sym cpu) a.same;
           mine = ap (λ (z : sections.CpuView). z.mine) cpu ∙ a.mine;
           seen = ap (λ (z : sections.CpuView). z.seen) cpu ∙ a.seen;
+          texts = subst (λ (z : sections.CpuView). IsStart (get_or cpus n x).cpu.texts z.texts) (sym cpu) a.texts;
           needs = ap (λ (z : CpuView J). z.needs) b.rest ∙ a.needs;
           calls = b.calls ∙ ap (λ (z : CallSeatView J). record z { seen = k.all }) a.calls;
         }

@@ -81,6 +81,7 @@ module _ {J : Type 0} where
     pub same : IsSameCpu c.cpu c'.cpu
     pub mine : c'.cpu.mine ≡ c.cpu.mine
     pub seen : c'.cpu.seen ≡ history
+    pub texts : IsStart c.cpu.texts c'.cpu.texts
     pub needs : c'.needs ≡ c.needs
     pub calls : c'.calls ≡ c.calls
 
@@ -155,6 +156,7 @@ module _ {J : Type 0} where
     pub same : IsSameCpu c.cpu c'.cpu
     pub mine : c'.cpu.mine ≡ c.cpu.mine
     pub seen : c'.cpu.seen ≡ history
+    pub texts : IsStart c.cpu.texts c'.cpu.texts
     pub needs : c'.needs ≡ c.needs
     pub calls : c'.calls ≡ record c.calls { seen = all }
 

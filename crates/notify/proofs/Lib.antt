@@ -1,4 +1,6 @@
+mod Acting
 mod Answering
+pub mod CallerLemmas
 mod Chains
 mod Filling
 mod Inserting

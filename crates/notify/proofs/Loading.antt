@@ -11,7 +11,9 @@ use Rattle.sections.specs.Calls.{IsSameCpu}
 use Rattle.sections.specs.Reads.{ReadsWord}
 use Rattle.sections.proofs.CallerLemmas.{start_refl, start_trans}
 use Rattle.domain.specs.Views.{CpuView, with_cpu}
+use Rattle.domain.specs.Acting.{loads, ActsAs}
 use Rattle.notify.specs.Reading.{Covers, LoadsAll}
+use Rattle.notify.proofs.Acting.{still_loads, loads_on}
 
 module _ {J : Type 0} where
   -- so far these are the words of the version, and behind the first of them the section is covered
@@ -25,15 +27,16 @@ module _ {J : Type 0} where
     pub texts : IsStart c.cpu.texts c'.cpu.texts
     pub covers : 0 < place → Covers r f c'
     pub rest : c' ≡ with_cpu c'.cpu c
+    pub acts : ActsAs loads c c'
 
   pub loaded_none : (r : ReadingView) (f : FoundView) (c : CpuView J) → LoadedTo 0 r f (replicate 16 0) c c
-  loaded_none r f c = record { long = refl; so_far = λ i lt. absurd (omega (arith, lt)); same = (refl, refl, refl, refl); mine = refl; since = beginning_refl c.cpu.seen; later = same_changes c.cpu.changes; texts = start_refl c.cpu.texts; covers = λ lt. absurd (omega (arith, lt)); rest = refl }
+  loaded_none r f c = record { long = refl; so_far = λ i lt. absurd (omega (arith, lt)); same = (refl, refl, refl, refl); mine = refl; since = beginning_refl c.cpu.seen; later = same_changes c.cpu.changes; texts = start_refl c.cpu.texts; covers = λ lt. absurd (omega (arith, lt)); rest = refl; acts = still_loads c }
     where
       same_changes : (n : ℕ) → n ≤ n
       same_changes n = omega (arith)
 
-  pub loaded_more : (place : ℕ) (r : ReadingView) (f : FoundView) (words : List ℕ) (word : ℕ) (c d e : CpuView J) → place < 16 → LoadedTo place r f words c d → ReadsWord r f place word d.cpu e.cpu → e ≡ with_cpu e.cpu d → LoadedTo (place + 1) r f (set words place word) c e
-  loaded_more place r f words word c d e lp h reads rest = let l = reads.load in record {
+  pub loaded_more : (place : ℕ) (r : ReadingView) (f : FoundView) (words : List ℕ) (word : ℕ) (c d e : CpuView J) → place < 16 → LoadedTo place r f words c d → ReadsWord r f place word d.cpu e.cpu → e ≡ with_cpu e.cpu d → ActsAs loads d e → LoadedTo (place + 1) r f (set words place word) c e
+  loaded_more place r f words word c d e lp h reads rest acts = let l = reads.load in record {
     long = length-set words place word ∙ h.long;
     so_far = λ i lt. dite (ℕ_discrete i place)
         (λ is. ap (λ j. get_or (set words place word) j 0) is ∙ (get_or-set_same words place word 0 (let long = h.long in omega (arith, lp, long)) ∙ (reads.value ∙ ap (λ j. word_of f.cell f.version j f.texts) (sym is))))
@@ -45,6 +48,7 @@ module _ {J : Type 0} where
     texts = start_trans h.texts l.texts;
     covers = λ lt. record { section = reads.covers_reading; found = reads.covers; changes = reads.not_before; texts = reads.texts; history = l.history };
     rest = rest ∙ ap (λ (z : CpuView J). with_cpu e.cpu z) h.rest;
+    acts = loads_on c d e h.acts acts;
   }
     where
       less : (i p : ℕ) → i < p + 1 → i ≢ p → i < p
@@ -54,4 +58,4 @@ module _ {J : Type 0} where
       further a b d ab bd = omega (arith, ab, bd)
 
   pub loaded_all : (r : ReadingView) (f : FoundView) (words : List ℕ) (c c' : CpuView J) → LoadedTo 16 r f words c c' → LoadsAll r f words c c'
-  loaded_all r f words c c' h = record { words_are = record { long = h.long; each = h.so_far }; same = h.same; mine = h.mine; since = h.since; later = h.later; texts = h.texts; covers = h.covers (omega (arith)); rest = h.rest }
+  loaded_all r f words c c' h = record { words_are = record { long = h.long; each = h.so_far }; same = h.same; mine = h.mine; since = h.since; later = h.later; texts = h.texts; covers = h.covers (omega (arith)); rest = h.rest; acts = h.acts }

@@ -6,6 +6,7 @@ use Rattle.sections.specs.WriterViews.{WriterView, SlotView}
 use Rattle.sections.specs.Writers.{IsSameWriter, Reclaims, Gives, NoneBlank}
 use Rattle.domain.specs.Views.{CpuView, with_cpu}
 use Rattle.domain.specs.Writers.{PutsAndAsks}
+use Rattle.domain.specs.Acting.{asks_for, PutsAndThen}
 
 -- the slot has these words then, and nothing else has changed. Nobody can read it in what the writer has then seen
 pub record Fills (slot : ℕ) (words : List ℕ) (w w' : WriterView) : Type 0 where
@@ -39,3 +40,4 @@ module _ {J : Type 0} where
     pub fills : Fills slot words w filled
     pub cookie : ℕ
     pub puts : PutsAndAsks slot cookie filled c w' c'
+    pub acts : PutsAndThen (asks_for cookie 0) w.cell slot w'.version c c'

@@ -6,6 +6,8 @@ use Rattle.sections.specs.Views.{ReadingView, FoundView}
 use Rattle.sections.specs.Calls.{IsSameCpu, IsSeenBy, ReadLocks, LooksInVain, Unlocks}
 use Rattle.sections.specs.Reads.{IsPinned, Finds}
 use Rattle.domain.specs.Views.{CpuView, with_cpu}
+use Rattle.domain.specs.Acting as doing
+use Rattle.domain.specs.Acting.{ActsAs}
 use Rattle.notify.specs.declared.block.Block.{Block}
 use Rattle.notify.specs.Blocks.{ids_text, AreRead}
 use Rattle.notify.specs.Calling.{Answers}
@@ -35,6 +37,7 @@ module _ {J : Type 0} where
     pub texts : IsStart c.cpu.texts c'.cpu.texts
     pub covers : Covers r f c'
     pub rest : c' ≡ with_cpu c'.cpu c
+    pub acts : ActsAs doing.loads c c'
 
   -- the section found a version of the chain, no older than any that the processor had seen there, and its words were read as these blocks
   pub record Reads (v : ChainCell) (r : ReadingView) (c c' : CpuView J) (blocks : List Block) : Type 0 where
@@ -43,6 +46,7 @@ module _ {J : Type 0} where
     pub finds : Finds v.cell r c.cpu between.cpu found
     pub pinned : IsPinned r found
     pub only : between ≡ with_cpu between.cpu c
+    pub acts : ActsAs (doing.finds r.section v.cell found) c between
     pub words : List ℕ
     pub loads : LoadsAll r found words between c'
     pub read : AreRead v.ids words blocks
@@ -53,10 +57,12 @@ module _ {J : Type 0} where
     pub begun : CpuView J
     pub locks : ReadLocks c.cpu begun.cpu reading
     pub only : begun ≡ with_cpu begun.cpu c
+    pub acts : ActsAs (doing.begins reading.section reading.index) c begun
     pub behind : CpuView J
     pub reads : Reads v reading begun behind blocks
     pub ends : Unlocks reading behind.cpu c'.cpu
     pub rest : c' ≡ with_cpu c'.cpu behind
+    pub closes : ActsAs (doing.ends reading.section) behind c'
 
   -- one version was read, and these are the ids of its blocks
   pub record Lists (v : ChainCell) (c c' : CpuView J) (ids : List ℕ) (count : ℕ) : Type 0 where
@@ -75,3 +81,4 @@ module _ {J : Type 0} where
   pub record IsRefused (c c' : CpuView J) : Type 0 where
     pub looks : LooksInVain c.cpu c'.cpu
     pub rest : c' ≡ with_cpu c'.cpu c
+    pub acts : ActsAs doing.loads c c'

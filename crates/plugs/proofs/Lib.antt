@@ -1,3 +1,4 @@
+mod Acting
 mod Looking
 mod Changing
 mod Texts

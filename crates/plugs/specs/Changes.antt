@@ -6,6 +6,7 @@ use Rattle.sections.specs.WriterViews.{WriterView, SlotView}
 use Rattle.sections.specs.Writers.{IsSameWriter, Reclaims, Gives, NoneBlank}
 use Rattle.domain.specs.Views.{CpuView, with_cpu}
 use Rattle.domain.specs.Writers.{PutsAndAsks}
+use Rattle.domain.specs.Acting.{asks_for, PutsAndThen}
 use Rattle.plugs.specs.declared.refusals.InstallRefusal.{InstallRefusal}
 use Rattle.plugs.specs.declared.refusals.InstallRefusal.TheVariants as install
 use Rattle.plugs.specs.declared.refusals.RemoveRefusal.{RemoveRefusal}
@@ -45,6 +46,7 @@ module _ {J : Type 0} where
     pub fills : Fills slot text w filled
     pub cookie : ℕ
     pub puts : PutsAndAsks slot cookie filled c w' c'
+    pub acts : PutsAndThen (asks_for cookie 0) w.cell slot w'.version c c'
 
   -- a blank slot was claimed, and put with these words as the version that follows
   pub record Publishes (text : List ℕ) (version : ℕ) (w : WriterView) (c : CpuView J) (w' : WriterView) (c' : CpuView J) : Type 0 where

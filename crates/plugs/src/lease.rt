@@ -4,6 +4,7 @@ ghost use Rattle.onedom.specs.Histories.{index_of};
 ghost use Rattle.sections.specs.Calls.{Unlocks};
 ghost use Rattle.sections.specs.Reads.{IsPinned};
 ghost use Rattle.domain.specs.Views.{Stays, with_cpu};
+ghost use Rattle.domain.specs.Acting.{loads, ends, ActsAs};
 ghost use Rattle.plugs.specs.Reading.{Gets};
 
 use crate::rows::Rows;
@@ -66,6 +67,7 @@ impl Lease {
         ensures same { self.new ≡ self.old }
         ensures rest { cpu.new ≡ with_cpu cpu.new.cpu cpu.old }
         ensures stays { Stays cpu.old cpu.new }
+        ensures acts { ActsAs loads cpu.old cpu.new }
     {
         let words = load_all_held(cpu, &mut self.pin);
         Rows::read(&words).get(key)
@@ -80,6 +82,7 @@ pub fn release<J, A: Allocator>(lease: Lease, cpu: &mut Cpu<J, A>)
     ensures index { index_of lease.held.section cpu.new.cpu.seen ≡ lease.held.index }
     ensures rest { cpu.new ≡ with_cpu cpu.new.cpu cpu.old }
     ensures stays { Stays cpu.old cpu.new }
+    ensures acts { ActsAs (ends lease.held.section) cpu.old cpu.new }
 {
     let Lease { pin } = lease;
     cpu.up_read(pin.into_held());

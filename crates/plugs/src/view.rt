@@ -1,8 +1,9 @@
 //! Who reads a table.
-ghost use Rattle.std.specs.Prelude.{◌≡◌, ◌<◌, MatchResult};
+ghost use Rattle.std.specs.Prelude.{◌≡◌, ◌<◌, IfErr, MatchResult};
 ghost use Rattle.sections.specs.Words.{cells_in};
 ghost use Rattle.sections.specs.Calls.{LooksInVain};
 ghost use Rattle.domain.specs.Views.{Stays, with_cpu};
+ghost use Rattle.domain.specs.Acting.{loads, ActsAs};
 ghost use Rattle.plugs.specs.Reading.{FindsRows, LooksUp, Leases};
 
 use crate::lease::Lease;
@@ -51,6 +52,7 @@ impl TableView {
             (λ _. LooksInVain cpu.old.cpu cpu.new.cpu) }
         ensures rest { cpu.new ≡ with_cpu cpu.new.cpu cpu.old }
         ensures stays { Stays cpu.old cpu.new }
+        ensures refused { IfErr result (λ _. ActsAs loads cpu.old cpu.new) }
     {
         let Ok(mut reading) = cpu.read_lock() else {
             return Err(Exhausted);
@@ -69,6 +71,7 @@ impl TableView {
             (λ _. LooksInVain cpu.old.cpu cpu.new.cpu) }
         ensures rest { cpu.new ≡ with_cpu cpu.new.cpu cpu.old }
         ensures stays { Stays cpu.old cpu.new }
+        ensures refused { IfErr result (λ _. ActsAs loads cpu.old cpu.new) }
     {
         let Ok(held) = cpu.down_read() else {
             return Err(Exhausted);

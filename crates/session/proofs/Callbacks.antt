@@ -23,7 +23,7 @@ use Rattle.requests.specs.declared.reply.Reply.TheVariants as reply
 use Rattle.session.specs.declared.names.Token.{Token}
 use Rattle.session.specs.Parkings.{ParkingView}
 use Rattle.session.specs.Batches.{Batch, out_of, outs_of, count_in, IsEmptied, AreBatchesOf}
-use Rattle.session.specs.States.{DomainState, JobList}
+use Rattle.session.specs.States.{ChainNow, TableNow, DomainState, JobList}
 use Rattle.session.specs.Entries.{state_with, entry_with, names_of, desk_of, tokens_with, IsTokenOf, AreOf, AreTogether}
 use Rattle.session.specs.Scripts.{Does, RunsFirst, runs, new_domain}
 use Rattle.session.specs.Tokens.{token_at}
@@ -151,9 +151,9 @@ module _ (d d' d'' : SoloView (List ℕ)) (p : ℕ) (b b' : Batch) (takes : Take
   pub entry_ran : {A : Type 0} {tokens : List (List ℕ × Token A)} {q : ParkingView} {kept : List (Option Batch)} → AreTogether d tokens q × AreBatchesOf d kept → p < d.course.standing.processors → HasSameTables d d' → HasSameTables d' d''
       → AreTogether d'' tokens q × AreBatchesOf d'' kept
   entry_ran {A} {tokens} {q} {kept} h small same same' =
-      let (a, b1, c, e, f) = same in
-      let (a', b1', c', e', f') = same' in
-      let all : HasSameTables d d'' = (a' ∙ a, b1' ∙ b1, c' ∙ c, e' ∙ e, f' ∙ f) in
+      let (a, b1, c, e, f, s) = same in
+      let (a', b1', c', e', f', s') = same' in
+      let all : HasSameTables d d'' = (a' ∙ a, b1' ∙ b1, c' ∙ c, e' ∙ e, f' ∙ f, s' ∙ s) in
       let o : Option Batch = get_or kept p None in
       let inside : p < length kept = (let count = h.1.count in omega (arith, small, count)) in
       let is : o ≡ get_or kept p o = get_or_default kept p None o inside in
@@ -165,12 +165,12 @@ module _ (d d' d'' : SoloView (List ℕ)) (p : ℕ) (b b' : Batch) (takes : Take
 
 -- What a line does
 
-module _ {A : Type 0} (own : List ℕ) (tokens : List (List ℕ × Token A)) (parked : Option Named) (d d' : SoloView (List ℕ)) (limits : Limits) (p : ℕ) where
+module _ {A : Type 0} {chain : ChainNow} {table : TableNow} (own : List ℕ) (tokens : List (List ℕ × Token A)) (parked : Option Named) (d d' : SoloView (List ℕ)) (limits : Limits) (p : ℕ) where
   abbrev pub before : DomainState
-  before = state_with own tokens parked d
+  before = state_with chain table own tokens parked d
 
   abbrev pub behind : DomainState
-  behind = state_with own tokens parked d'
+  behind = state_with chain table own tokens parked d'
 
   -- nothing was ready
 
@@ -230,11 +230,11 @@ module _ {A : Type 0} {tokens : List (List ℕ × Token A)} {q : ParkingView} {k
         batches_over d kept h.1 p small o is d' b.count (finishes p b.count) counted same (outs_with p (FinishesOut b.count) d.lines d'.lines list_over ∙ ap (set (outs_of d.lines) p) (ap (λ (l : JobList). l.out) list_over.becomes_so.1)) acts_over (refl, refl, refl),
       )
 
-      pub over : (own : List ℕ) (limits : Limits) → Does limits (act.Finish p) (state_with own tokens q.parked d) (reply.Finished b.count) (state_with own tokens q.parked d')
+      pub over : {chain : ChainNow} {table : TableNow} (own : List ℕ) (limits : Limits) → Does limits (act.Finish p) (state_with chain table own tokens q.parked d) (reply.Finished b.count) (state_with chain table own tokens q.parked d')
       over own limits = inl (record { count = b.count; list = list_over; over = acts_over; rest = refl; reply = refl })
 
   module _ (none : o ≡ None) where
-    pub over_none : (own : List ℕ) (limits : Limits) → Does limits (act.Finish p) (state_with own tokens q.parked d) (reply.Refused command.Finish cause.NoBatch) (state_with own tokens q.parked d)
+    pub over_none : {chain : ChainNow} {table : TableNow} (own : List ℕ) (limits : Limits) → Does limits (act.Finish p) (state_with chain table own tokens q.parked d) (reply.Refused command.Finish cause.NoBatch) (state_with chain table own tokens q.parked d)
     over_none own limits = let (l, there, out) = list_there d kept h.1 p small o is in inr (
       record { list = l; there = there; none = out ∙ ap out_of none },
       record { after = refl; reply = refl },
@@ -242,7 +242,7 @@ module _ {A : Type 0} {tokens : List (List ℕ × Token A)} {q : ParkingView} {k
 
 -- A new domain
 
-module _ {A : Type 0} (own : List ℕ) (tokens : List (List ℕ × Token A)) (q : ParkingView) (d d' : SoloView (List ℕ)) (new : IsNew d.limits d.course.standing.processors d) (same : d' ≡ d)
+module _ {A : Type 0} {chain : ChainNow} {table : TableNow} (own : List ℕ) (tokens : List (List ℕ × Token A)) (q : ParkingView) (d d' : SoloView (List ℕ)) (new : IsNew d.limits d.course.standing.processors d) (same : d' ≡ d)
     (none : tokens ≡ []) (empty : q ≡ record { domain = d.table; parked = None }) where
   rests : d'.course ≡ new_course d.limits d.course.standing.processors
   rests = ap (λ (x : SoloView (List ℕ)). x.course) same ∙ new.nothing_yet
@@ -263,7 +263,7 @@ module _ {A : Type 0} (own : List ℕ) (tokens : List (List ℕ × Token A)) (q 
     apart = subst (λ o. IfSome o (λ (named : Named). token_at named.0 tokens ≡ None)) (sym nothing_parked) tt;
   }
 
-  pub new_entry : entry_with own tokens q.parked d' ≡ record { limits = d.limits; state = new_domain d.limits own d.course.standing.processors }
+  pub new_entry : entry_with chain table own tokens q.parked d' ≡ record { limits = d.limits; state = new_domain d.limits own d.course.standing.processors }
   new_entry = λ i. record {
     limits = (same i).limits;
     state = record {

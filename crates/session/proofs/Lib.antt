@@ -13,3 +13,4 @@ mod Quiet
 mod Spent
 mod Taken
 mod Together
+mod Users

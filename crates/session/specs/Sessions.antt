@@ -6,7 +6,7 @@ use Rattle.session.specs.States.{EntryView, SessionView, states_of}
 
 module _ {A R : Type 0} where
   abbrev pub view_of_session : session.Inside A R → SessionView
-  view_of_session s = record { limits = s.limits; domains = states_of s.entries.items }
+  view_of_session s = record { limits = s.limits; handlers = s.handlers; domains = states_of s.entries.items }
 
   pub record IsSession (s : session.Inside A R) : Type 0 where
     pub in_range : AreInRange s.limits

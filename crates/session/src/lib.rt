@@ -1,6 +1,7 @@
 //! The session of a script: its domains, the tokens that have names there, and what each line does to them.
 #![tactic(auto)]
 
+mod callees;
 mod entry;
 mod names;
 mod open;

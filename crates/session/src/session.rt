@@ -1,16 +1,18 @@
 //! The domains of a script, and what a line does to them.
-ghost use Rattle.std.specs.Prelude.{◌≡◌, ◌⊎◌, ◌++◌, ◌<◌, [], true, length, IfOk, OnErr};
+ghost use Rattle.std.specs.Prelude.{◌≡◌, ◌⊎◌, ◌++◌, ◌<◌, ◌≤◌, [], true, length, IfOk, OnErr};
 ghost use Rattle.sections.specs.Limits.{AreInRange};
 ghost use Rattle.requests.specs.Replies.{reply_text};
 ghost use Rattle.requests.specs.Requests.{IsFor};
+ghost use Rattle.notify.specs.Calling.{GivesAt};
 ghost use Rattle.session.specs.States.{scene_of};
 ghost use Rattle.session.specs.Scripts.{Makes, MakesNone, CleansUp, CleansNone, Answers as AnswersTo};
 
+use crate::callees::Callees;
 use crate::entry::Entry;
 use lines::{Answers, Name, words};
 use requests::{Cause, Command, Fault, Reply, Request, is_skipped, parse, push_reply};
 use sections::{Limits, MakeError};
-use solo::Solo;
+use solo::{Notifier, Plugboard, Solo};
 use std::alloc::{AllocError, Allocator};
 use std::marker::Model;
 use std::sync::Wait;
@@ -21,8 +23,11 @@ pub struct Session<'r, A: Allocator, R: Wait> {
     /// With what the domains' calls wait.
     rt: &'r R,
     limits: Limits,
+    /// Those of the chains' blocks, by their ids.
+    handlers: Callees<'r>,
     pub(crate) entries: Vec<Entry<A>, A>,
 }
+
 
 impl<'r, A: Allocator, R: Wait> Model for Session<'r, A, R> {
     ghost use Rattle.session.specs.States.{SessionView};
@@ -36,19 +41,29 @@ impl<'r, A: Allocator, R: Wait> Model for Session<'r, A, R> {
     ghost invariant = { IsSession };
 }
 
+/// How many ids blocks may have.
+const IDS: u64 = 16;
+
 /// How many domains a script may have.
 const MOST_DOMAINS: usize = 8;
 
 impl<'r, 'a, A: Allocator, R: Wait> Session<'r, &'a A, R> {
     /// A session without domains. Each domain that it makes has these limits.
-    pub fn new(alloc: &'a A, rt: &'r R, limits: Limits) -> Session<'r, &'a A, R>
-        requires { AreInRange limits }
-        ensures { result ≡ record { limits = limits; domains = [] } }
+    pub fn new(
+        alloc: &'a A,
+        rt: &'r R,
+        limits: Limits,
+        handlers: Callees<'r>,
+    ) -> Session<'r, &'a A, R>
+        requires limits { AreInRange limits × (limits.cells ≡ 2) }
+        requires handlers { 16 ≤ length handlers.list.now }
+        ensures { result ≡ record { limits = limits; handlers = handlers; domains = [] } }
     {
         Session {
             alloc,
             rt,
             limits,
+            handlers,
             entries: Vec::new(alloc),
         }
     }
@@ -57,11 +72,12 @@ impl<'r, 'a, A: Allocator, R: Wait> Session<'r, &'a A, R> {
     fn respond(&mut self, request: Request) -> Result<Reply, AllocError>
         requires { IsFor (scene_of self.old.domains) request }
         ensures limits { self.new.limits ≡ self.old.limits }
-        ensures ok { IfOk result (λ r. AnswersTo self.old.limits self.old.domains request r self.new.domains) }
+        ensures handlers { self.new.handlers ≡ self.old.handlers }
+        ensures ok { IfOk result (λ r. AnswersTo (λ value id x. GivesAt (λ h y. answers h 1 value y) self.old.handlers.list.now id x) self.old.limits self.old.domains request r self.new.domains) }
     {
         match request {
             Request::Domain { name, processors } => self.make(name, processors),
-            Request::On { domain, act } => self.entries[domain].act(self.rt, act),
+            Request::On { domain, act } => self.entries[domain].act(self.rt, self.handlers.list, act),
             Request::Cleanup { domain } => Ok(self.cleanup(domain)),
         }
     }
@@ -69,6 +85,7 @@ impl<'r, 'a, A: Allocator, R: Wait> Session<'r, &'a A, R> {
     /// Makes a domain, unless a cause stands against it. Where memory for the session is refused, nothing is done.
     fn make(&mut self, name: Name, processors: u64) -> Result<Reply, AllocError>
         ensures limits { self.new.limits ≡ self.old.limits }
+        ensures handlers { self.new.handlers ≡ self.old.handlers }
         ensures ok { IfOk result (λ r. Makes self.old.limits self.old.domains name processors r self.new.domains
             ⊎ MakesNone self.old.domains processors r self.new.domains) }
         ensures err { OnErr result (self.new ≡ self.old) }
@@ -77,8 +94,8 @@ impl<'r, 'a, A: Allocator, R: Wait> Session<'r, &'a A, R> {
             return Ok(Reply::Refused(Command::Domain, Cause::Full));
         }
         self.entries.reserve(1)?;
-        let domain = match Solo::new(self.alloc, processors, self.limits) {
-            Ok(domain) => domain,
+        let (domain, mut writers) = match Solo::new(self.alloc, processors, self.limits) {
+            Ok(made) => made,
             Err(MakeError::Processors) => {
                 return Ok(Reply::Refused(Command::Domain, Cause::Processors));
             }
@@ -87,7 +104,9 @@ impl<'r, 'a, A: Allocator, R: Wait> Session<'r, &'a A, R> {
             }
             Err(MakeError::Limits) => unreachable!(),
         };
-        let entry = Entry::new(self.alloc, name, domain)?;
+        let board = Plugboard::new(writers.pop().unwrap());
+        let chain = Notifier::new(writers.pop().unwrap(), IDS);
+        let entry = Entry::new(self.alloc, name, domain, chain, board)?;
         self.entries.push(entry).unwrap();
         Ok(Reply::Made {
             domain: name,
@@ -100,6 +119,7 @@ impl<'r, 'a, A: Allocator, R: Wait> Session<'r, &'a A, R> {
     fn cleanup(&mut self, place: usize) -> Reply
         requires { place < length self.old.domains }
         ensures limits { self.new.limits ≡ self.old.limits }
+        ensures handlers { self.new.handlers ≡ self.old.handlers }
         ensures cleans { CleansUp self.old.domains place result self.new.domains
             ⊎ CleansNone self.old.domains place result self.new.domains }
     {
@@ -123,6 +143,7 @@ impl<'r, 'a, A: Allocator, R: Wait> Session<'r, &'a A, R> {
             alloc: _,
             rt,
             limits: _,
+            handlers: _,
             mut entries,
         } = self;
         while let Some(entry) = entries.pop() {
@@ -134,9 +155,10 @@ impl<'r, 'a, A: Allocator, R: Wait> Session<'r, &'a A, R> {
 
 impl<'a, A: Allocator, R: Wait> Answers<&'a A> for Session<'_, &'a A, R> {
     ghost use Rattle.std.specs.Prelude.{◌≡◌};
+    ghost use Rattle.notify.specs.Calling.{GivesAt};
     ghost use Rattle.session.specs.Scripts.{LineGives};
 
-    ghost gives = { λ s number line reply faulty s'. LineGives s.limits s.domains number line reply faulty s'.domains × (s'.limits ≡ s.limits) };
+    ghost gives = { λ s number line reply faulty s'. LineGives (λ value id x. GivesAt (λ h y. answers h 1 value y) s.handlers.list.now id x) s.limits s.domains number line reply faulty s'.domains × (s'.limits ≡ s.limits) × (s'.handlers ≡ s.handlers) };
 
     fn answer(
         &mut self,

@@ -10,7 +10,7 @@ use Rattle.calls.specs.Barriers.{Starts, IsDone, IsBehind}
 use Rattle.calls.proofs.CallerLemmas.{queued_later, finished_later}
 use Rattle.domain.specs.Acting.{loads, ActsAs}
 use Rattle.solo.specs.Barriers.{ticket_of, IsTicketOf, AreReached}
-use Rattle.solo.proofs.Meeting.{Hand, s', deeds_were, queued_were, finished_were, queued_long, tallies_are, many_are, seen_by_all, queued_now, finished_now}
+use Rattle.solo.proofs.Acted.{Hand, s', deeds_were, queued_were, finished_were, queued_long, tallies_are, many_are, seen_by_all, queued_now, finished_now}
 use Rattle.solo.proofs.Called.{Says, says, still}
 
 module _ {J : Type 0} where
@@ -20,7 +20,7 @@ module _ {J : Type 0} where
     Stays what = Says t ((s' t ≡ t.s) × what)
 
     stays : (what : Type 0) → what → Stays what
-    stays what it = says t loads did refl _ (still t did, it)
+    stays what it = says t loads did refl refl _ (still t did, it)
 
     seen_before : t.was.calls.seen ≡ t.met.deeds
     seen_before = ap (λ (s : CallSeatView J). s.seen) (deeds_were t)

@@ -1,11 +1,12 @@
 -- What a call of a processor says of the domain, from its act.
-use Rattle.std.proofs.Common.{◌≡◌, ℕ, refl}
+use Rattle.std.proofs.Common.{◌≡◌, ℕ, [], refl}
+use Rattle.sections.specs.Shelves.{put_cells}
 use Rattle.std.specs.Prelude.{None}
 use Rattle.domain.specs.Acting.{Act, loads, ActsAs}
 use Rattle.solo.specs.Calls.{HasSameTables, IsSameDomain}
 use Rattle.solo.specs.Courses.{Does}
 use Rattle.solo.specs.Settling.{HaveMet}
-use Rattle.solo.proofs.Meeting.{Hand, s', come_quietly, does, same_tables, same_domain, have_met}
+use Rattle.solo.proofs.Acted.{Hand, s', come_quietly, does, same_tables, same_domain, have_met}
 
 module _ {J : Type 0} where
   -- all have met again, the domain is the same, and this
@@ -21,16 +22,16 @@ module _ {J : Type 0} where
     pub what : it
 
   module _ (t : Hand J) (what : ℕ → Act) (did : ActsAs what t.was t.now) where
-    pub says : (what t.p).list ≡ None → (it : Type 0) → it → Says t it
-    says quiet it h = record { met = have_met t what did; same = same_domain t what did quiet; what = h }
+    pub says : (what t.p).list ≡ None → put_cells (what t.p).events ≡ [] → (it : Type 0) → it → Says t it
+    says quiet none it h = record { met = have_met t what did; same = same_domain t what did quiet none; what = h }
 
-    pub says_on_list : (it : Type 0) → it → SaysOnList t it
-    says_on_list it h = record { met = have_met t what did; same = same_tables t what did; what = h }
+    pub says_on_list : put_cells (what t.p).events ≡ [] → (it : Type 0) → it → SaysOnList t it
+    says_on_list none it h = record { met = have_met t what did; same = same_tables t what did none; what = h }
 
     -- it does what it did
-    pub says_does : (what t.p).list ≡ None → Says t (Does t.p what t.s.course (s' t).course)
-    says_does quiet = says quiet _ (does t what did)
+    pub says_does : (what t.p).list ≡ None → put_cells (what t.p).events ≡ [] → Says t (Does t.p what t.s.course (s' t).course)
+    says_does quiet none = says quiet none _ (does t what did)
 
   -- nothing was done
   pub still : (t : Hand J) → ActsAs loads t.was t.now → s' t ≡ t.s
-  still t did = come_quietly t loads did refl
+  still t did = come_quietly t loads did refl refl

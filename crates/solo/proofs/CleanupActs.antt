@@ -14,6 +14,8 @@ use Rattle.sections.specs.Words.{sum_below}
 use Rattle.sections.specs.Rule.{HasItsMaker}
 use Rattle.sections.specs.Making.{IsCount, bounds_of}
 use Rattle.sections.specs.EngineCalls.{IsSameEngine}
+use Rattle.sections.specs.Shelves.{IsStart}
+use Rattle.sections.proofs.CallerLemmas.{start_trans}
 use Rattle.funnel.specs.Histories as tree
 use Rattle.funnel.specs.Histories.{raised_by, greatest}
 use Rattle.funnel.proofs.CallerLemmas.{begins_itself}
@@ -41,7 +43,9 @@ use Rattle.solo.specs.Cleanup.{whole_of, IsTakenDown, IsInUse}
 use Rattle.solo.specs.Settling.{View, AllHold, AskTogether, TurnTogether, TallyTogether, HaveMet}
 use Rattle.calls.specs.Lines.{no_calls, line_in}
 use Rattle.solo.specs.Insides.{queued_on, finished_on, lines_on, seen_first}
+use Rattle.solo.specs.Shelf.{shelf_of}
 use Rattle.solo.proofs.NothingBetween.{IsMaker, nothing_between}
+use Rattle.solo.proofs.Shelving.{shelf_stays}
 use Rattle.solo.proofs.Turning.{turn_found, meeting_found, turn_turned}
 use Rattle.solo.proofs.Settled.{HaveAsked, IsSettled, settled, all_raised, asked_together}
 use Rattle.solo.proofs.Tallying.{GoesOnBy, still_queued, still_finished, still_line, count_at, same_counts, goes_on, tally_together}
@@ -303,6 +307,13 @@ module _ {J : Type 0} where
       changes_stay : meets.left.seat.changes ≡ lay.seat.changes
       changes_stay = engine_meets.changes ∙ (h.changes ∙ ap (λ (z : View). z.seat.changes) found_is)
 
+      -- the words of versions that were known before are known still, and no version was put
+      texts_on : IsStart lay.seat.texts meets.left.seat.texts
+      texts_on = start_trans (subst (λ l. IsStart l (get_or mid 0 nobody).cpu.texts) (met.together.texts 0 nobody some) (h.each 0 nobody some).texts) (engine_meets.each 0 nobody (within_mid 0 some)).accepts.texts_since
+
+      same_shelf : shelf_of meets.left.seat.seen meets.left.seat.texts ≡ shelf_of lay.seat.seen lay.seat.texts
+      same_shelf = shelf_stays lay.seat.seen [] meets.left.seat.seen acted.seen refl lay.seat.texts meets.left.seat.texts texts_on met.together.history.texts acted.together.history.texts
+
       pub refused_met : HaveMet d' limits cpus' meets.left
       refused_met = record {
         all = all;
@@ -344,4 +355,5 @@ module _ {J : Type 0} where
               finished = finished_are i;
             };
             lines = lines_are i;
+            shelf = same_shelf i;
           }) ∙ sym view_is)

@@ -12,8 +12,9 @@ use Rattle.sections.specs.declared.limits.Limits.{Limits}
 use Rattle.sections.specs.Views.{CpuView, CookieView, EngineView}
 use Rattle.sections.specs.Calls.{IsSameCpu}
 use Rattle.sections.specs.EngineCalls.{IsSameEngine, TiesEngine, noted}
+use Rattle.sections.specs.Shelves.{put_cells, IsStart}
 use Rattle.sections.specs.Making.{IsCount}
-use Rattle.sections.proofs.CallerLemmas.{last_may_follow}
+use Rattle.sections.proofs.CallerLemmas.{last_may_follow, start_trans}
 use Rattle.funnel.specs.declared.view.Raise.{Raise}
 use Rattle.funnel.specs.Histories.{IsBeginning as IsBeginningAtTree, value, greatest}
 use Rattle.funnel.specs.Views.{FunnelView}
@@ -42,6 +43,7 @@ use Rattle.solo.specs.Settling.{View, Holds, AllHold, AskTogether, TurnTogether,
 use Rattle.calls.specs.Lines.{no_calls, line_in}
 use Rattle.solo.specs.Insides.{queued_on, finished_on, lines_on, seen_as, seen_first}
 use Rattle.solo.proofs.NothingBetween.{made_by_append}
+use Rattle.solo.proofs.Shelving.{shelf_stays}
 use Rattle.domain.specs.Acting.{GoesOn, Adds}
 use Rattle.domain.proofs.CallerLemmas.{stays, goes_further, adds_none, nothing_done}
 use Rattle.solo.proofs.Needing.{squeezed, raised_here}
@@ -206,6 +208,15 @@ not_started : (v : View) (c : Course) (refusal : scan.StartRefusal) → c.standi
 not_started v c refusal_of.Running same h = subst (λ (z : Standing). IsRunning z.history) (sym same) h
 not_started v c refusal_of.Exhausted same h = subst engine.IsOutOfPeriods (sym same) h
 
+-- the engine puts nothing
+no_puts : (a : Progress) → put_cells (events_of a) ≡ []
+no_puts answer.Idle = refl
+no_puts (answer.Started n) = refl
+no_puts (answer.Flipped i) = refl
+no_puts (answer.Ended n) = refl
+no_puts (answer.Waiting i) = refl
+no_puts answer.Step = refl
+
 -- the engine of the domain was found and worked with the first processor, was left tied to it, and then all have met
 pub record Turn (J : Type 0) : Type 1 where
   pub d : DomainView
@@ -295,6 +306,10 @@ module _ {J : Type 0} where
 
     engine_meets : EngineMeets t.lends.left.seat (set t.cpus 0 t.now) t.meets.left.seat t.cpus'
     engine_meets = subst (λ (z : View). EngineMeets z.seat (set t.cpus 0 t.now) t.meets.left.seat t.cpus') meeting_is t.meets.engine
+
+    -- the words of versions that were known before are known still
+    texts_on : IsStart t.v.seat.texts t.meets.left.seat.texts
+    texts_on = start_trans (subst (λ l. IsStart l t.lends.left.seat.texts) (ap (λ (z : DomainCpu J). z.cpu.texts) t.is ∙ t.met.together.texts 0 nobody some) ties.accepts.texts_since) engine_meets.texts
 
     pub same_engine : IsSameEngine w.seat t.meets.left.seat
     same_engine = (engine_meets.same.0 ∙ tied_same.0, engine_meets.same.1 ∙ tied_same.1, engine_meets.same.2 ∙ tied_same.2)
@@ -438,8 +453,11 @@ module _ {J : Type 0} where
         began = ap (λ (x : View). x.began) rest_is z;
       }
 
-      same_as : IsSameDomain before after
-      same_as = ((same_engine.0 ∙ own.same.0, refl, same_engine.1 ∙ own.same.1, same_engine.2 ∙ own.same.2, same_tallies), same_lines)
+      same_shelf : put_cells act ≡ [] → after.shelf ≡ before.shelf
+      same_shelf none = shelf_stays t.v.seat.seen act t.meets.left.seat.seen acted.seen none t.v.seat.texts t.meets.left.seat.texts texts_on t.met.together.history.texts acted.together.history.texts
+
+      same_as : put_cells act ≡ [] → IsSameDomain before after
+      same_as none = ((same_engine.0 ∙ own.same.0, refl, same_engine.1 ∙ own.same.1, same_engine.2 ∙ own.same.2, same_tallies, same_shelf none), same_lines)
 
       worked : (work : Standing → Standing → Type 0) → work (standing_of t.v) (standing_of t.meets.left) → Works work before.course after.course
       worked work it = record { work_is = it; rest = λ i. record { standing = standing_of t.meets.left; asked = same_asked i; queued = same_queued i; finished = same_finished i } }
@@ -476,7 +494,7 @@ module _ {J : Type 0} where
       stepped_met = met_after (events_of a) s.goes_on.others (own_answer v w a s.goes_on) s.step.answered.events (wanted_after raises root v w known still a s)
 
       pub stepped_same : IsSameDomain before after
-      stepped_same = same_as (events_of a) s.goes_on.others (own_answer v w a s.goes_on) s.step.answered.events
+      stepped_same = same_as (events_of a) s.goes_on.others (own_answer v w a s.goes_on) s.step.answered.events (no_puts a)
 
       pub stepped : Steps a before.course after.course
       stepped =
@@ -491,7 +509,7 @@ module _ {J : Type 0} where
       advanced_met = met_after (events_of a) s.goes_on.others (own_answer v w a s.goes_on) s.answered.events (λ _ some. absurd (nothing_half w.so_far s.done some))
 
       pub advanced_same : IsSameDomain before after
-      advanced_same = same_as (events_of a) s.goes_on.others (own_answer v w a s.goes_on) s.answered.events
+      advanced_same = same_as (events_of a) s.goes_on.others (own_answer v w a s.goes_on) s.answered.events (no_puts a)
 
       pub advanced : Advances a before.course after.course
       advanced =
@@ -525,6 +543,7 @@ module _ {J : Type 0} where
         tallies = same_tallies i;
         course = record { standing = (as_before [] [] (own_none v w seat_kept) seen_kept ∙ ap standing_of rest) i; asked = same_asked i; queued = same_queued i; finished = same_finished i };
         lines = same_lines i;
+        shelf = same_shelf [] [] (own_none v w seat_kept) seen_kept refl i;
       }
 
     module _ (x : FindsExhausted LoadsRoot v w) where
@@ -542,7 +561,7 @@ module _ {J : Type 0} where
       started_met = met_after (Start Engine ∷ []) s.others (own_start v w n s) s.starts.events (λ _ some. absurd (nothing_half w.so_far s.starts.done some))
 
       pub started_same : IsSameDomain before after
-      started_same = same_as (Start Engine ∷ []) s.others (own_start v w n s) s.starts.events
+      started_same = same_as (Start Engine ∷ []) s.others (own_start v w n s) s.starts.events refl
 
       pub started : Starts n before.course after.course
       started =
@@ -552,7 +571,7 @@ module _ {J : Type 0} where
 
   -- where nothing has changed
   pub unchanged : (d d' : SoloView J) → d' ≡ d → IsSameDomain d d'
-  unchanged d d' same = subst (IsSameDomain d) (sym same) ((refl, refl, refl, refl, refl), refl)
+  unchanged d d' same = subst (IsSameDomain d) (sym same) ((refl, refl, refl, refl, refl, refl), refl)
 
   -- Each call that drives the engine leaves the processor what it was
 

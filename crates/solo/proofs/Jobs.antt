@@ -34,7 +34,7 @@ use Rattle.solo.specs.Calls.{SoloView, OnList, Queues, QueuesNone, QueuesLast, A
 use Rattle.solo.specs.Courses.{Does as CourseDoes, more_at}
 use Rattle.solo.specs.Batches.{AreReady}
 use Rattle.solo.specs.Taking.{TakesBatch, TakesUp}
-use Rattle.solo.proofs.Meeting.{Hand, s', deeds_were, queued_were, queued_found, finished_were, finished_found, line_found, queued_now, line_now, line_before, line_behind, line_quiet, on_list, same_lines, seen_by_all, seen_now, tallies_are, reaches_were, changes_are, root_is, does}
+use Rattle.solo.proofs.Acted.{Hand, s', deeds_were, queued_were, queued_found, finished_were, finished_found, line_found, queued_now, line_now, line_before, line_behind, line_quiet, on_list, same_lines, seen_by_all, seen_now, tallies_are, reaches_were, changes_are, root_is, does}
 use Rattle.solo.proofs.Called.{Says, SaysOnList, says, says_on_list, still}
 
 -- How far the grace periods have come
@@ -83,7 +83,7 @@ module _ {J : Type 0} where
   module _ (t : Hand J) where
     -- the root was loaded
     pub need_says : (need : ℕ) → LoadsNeed t.was need t.now → ActsAs loads t.was t.now → Says t ((s' t ≡ t.s) × (need ≡ t.s.course.asked))
-    need_says need h did = says t loads did refl _ (still t did, root_is t loads did need h.load)
+    need_says need h did = says t loads did refl refl _ (still t did, root_is t loads did need h.load)
 
     -- Jobs are queued
 
@@ -120,11 +120,11 @@ module _ {J : Type 0} where
 
       queued_says : (r : ReceiptView J) → CallsIn t.d t.was job r t.now → ActsAs (asks_for r.cookie.number 1) t.was t.now
           → SaysOnList t (Queues t.p (record { k = r.k; cookie = r.cookie.number }) t.s.course (s' t).course × OnList t.p (QueuesLast job r.cookie.number) t.s.lines (s' t).lines × Unit {0})
-      queued_says r h did = says_on_list t (asks_for r.cookie.number 1) did _ (record { number = queued_found t t.p t.inside ∙ ap Some (sym (h.queues.queues.counted ∙ counted)); queues = does t (asks_for r.cookie.number 1) did }, came_last r h did, tt)
+      queued_says r h did = says_on_list t (asks_for r.cookie.number 1) did refl _ (record { number = queued_found t t.p t.inside ∙ ap Some (sym (h.queues.queues.counted ∙ counted)); queues = does t (asks_for r.cookie.number 1) did }, came_last r h did, tt)
 
       refused_says : (refusal : CallRefusal) (back : J) → RefusesCall t.d t.was job (back, refusal) t.now → domain.QueuesNone refusal t.was t.now → SaysOnList t (QueuesNone t.p refusal t.s.course (s' t).course × ((s' t).lines ≡ t.s.lines) × (back ≡ job))
-      refused_says calling.Exhausted back h did = says_on_list t loads did _ ((queued_found t t.p t.inside ∙ ap Some (sym counted ∙ h.refuses.refuses.cause.0), (does t loads did).come), same_lines t loads did refl, h.refuses.refuses.job_is)
-      refused_says calling.Memory back h did = says_on_list t (notes did.0) did.1 _ ((did.0, does t (notes did.0) did.1), same_lines t (notes did.0) did.1 refl, h.refuses.refuses.job_is)
+      refused_says calling.Exhausted back h did = says_on_list t loads did refl _ ((queued_found t t.p t.inside ∙ ap Some (sym counted ∙ h.refuses.refuses.cause.0), (does t loads did).come), same_lines t loads did refl, h.refuses.refuses.job_is)
+      refused_says calling.Memory back h did = says_on_list t (notes did.0) did.1 refl _ ((did.0, does t (notes did.0) did.1), same_lines t (notes did.0) did.1 refl, h.refuses.refuses.job_is)
 
       pub call_says : (r : Result (ReceiptView J) (J × CallRefusal)) → MatchResult r (λ r. CallsIn t.d t.was job r t.now) (λ refused. RefusesCall t.d t.was job refused t.now)
           → MatchResult r (λ r. ActsAs (asks_for r.cookie.number 1) t.was t.now) (λ refused. domain.QueuesNone refused.1 t.was t.now) → (told : Answer) → IsQueuedAs r told → SaysOnList t (IsAnswered told × LeavesList told × ComesBack told)
@@ -234,7 +234,7 @@ module _ {J : Type 0} where
     taken_says most taken h did small =
         let far_is = takes t.now.cpu.changes t.p in
         let done = does t far_is did in
-        says_on_list t far_is did _ (record {
+        says_on_list t far_is did refl _ (record {
           asks = subst (λ n. call.Asks t.p n true t.s.course (s' t).course) (reached_is t.now.cpu.changes (changes_are t far_is did)) (record { follows = done.follows; come = done.come });
           ready = ready taken h;
           batch = each taken h;
@@ -268,7 +268,7 @@ module _ {J : Type 0} where
     pub take_says : (most : ℕ) → t.p < t.s.course.standing.processors → (r : Result (Option (BatchView J)) TakeRefusal) → MatchResult r (λ taken. TakesUp t.d t.p most taken t.was t.now) (λ _. InvokesIn t.p t.was.cpu t.was.calls t.now.cpu t.now.calls)
         → MatchResult r (λ _. ActsAs (takes t.now.cpu.changes t.p) t.was t.now) (λ _. ActsAs loads t.was t.now) → SaysOnList t (MatchResult r (λ taken. Takes t.p most taken t.s (s' t)) (λ why. TakesNone t.p why t.s.lines × (s' t ≡ t.s)))
     take_says most small (Ok taken) h did = taken_says most taken h did small
-    take_says most small (Err why) h did = says_on_list t loads did _ (none_taken why h did, still t did)
+    take_says most small (Err why) h did = says_on_list t loads did refl _ (none_taken why h did, still t did)
 
     -- A batch is finished
 
@@ -285,7 +285,7 @@ module _ {J : Type 0} where
           (ap (λ (k : Line J). k.out) (sym before ∙ was) ∙ h.finishes.was_out, refl))
 
       pub finish_says : SaysOnList t (Finishes b.processor b.count t.s.course (s' t).course × OnList b.processor (FinishesOut b.count) t.s.lines (s' t).lines)
-      finish_says = says_on_list t (finishes b.processor b.count) did _ (
+      finish_says = says_on_list t (finishes b.processor b.count) did refl _ (
         record {
           n = get_or t.s.course.finished t.p 0;
           there = ap (slice_get t.s.course.finished) at ∙ finished_found t t.p t.inside;
@@ -302,5 +302,5 @@ module _ {J : Type 0} where
         record { list = line_in t.p t.met.deeds; there = line_found t t.p t.inside; told_is = h.found_is ∙ ap (λ (k : Line J). (lens k.waiting, numbers k.waiting)) same }
 
     pub lens_says : {E : Type 0} (r : Result (List ℕ × List ℕ) E) → IfOk r (λ found. FindsLensIn t.p t.was.calls found t.now.calls) → Says t ((s' t ≡ t.s) × IfOk r (TellsLens t.p t.s.lines))
-    lens_says (Ok found) h = says t loads did refl _ (still t did, found_lens found h)
-    lens_says (Err e) h = says t loads did refl _ (still t did, tt)
+    lens_says (Ok found) h = says t loads did refl refl _ (still t did, found_lens found h)
+    lens_says (Err e) h = says t loads did refl refl _ (still t did, tt)

@@ -1,5 +1,5 @@
 -- A processor of the domain in one hand acted, and then all have met: the domain has come just so far as the act says.
-use Rattle.std.proofs.Common.{◌≡◌, ℕ, zero, suc, ◌+◌, ◌*◌, ◌%◌, ◌<◌, ◌≤◌, ◌⊎◌, cond, max, inl, inr, List, [], ◌∷◌, ◌++◌, length, get_or, set, refl, sym, ap, ◌∙◌, subst, append-nil, arith, length-append, length-set, get_or-set_other, get_or-set_same, le-ltb}
+use Rattle.std.proofs.Common.{◌≡◌, ℕ, zero, suc, ◌+◌, ◌*◌, ◌%◌, ◌<◌, ◌≤◌, ◌⊎◌, cond, max, inl, inr, List, [], ◌∷◌, ◌++◌, length, get_or, set, refl, sym, ap, ◌∙◌, subst, append-nil, append_assoc, ltb, arith, length-set, get_or-set_other, get_or-set_same, le-ltb}
 use Rattle.std.specs.Prelude.{◌≢◌, All, Some, None, slice_get}
 use Rattle.std.proofs.lemmas.List.{get_or_default, set-get_or, length-map, append_cancel_left}
 use mathlib.Core.Logic.{dite}
@@ -8,11 +8,12 @@ use Rattle.onedom.specs.declared.event.Maker.TheVariants.{Processor, Engine}
 use Rattle.onedom.specs.declared.event.Event.{Event}
 use Rattle.onedom.specs.declared.event.Event.TheVariants.{Note}
 use Rattle.onedom.specs.Histories.{IsLegal, IsLegalAfter, IsRunning, IsBeginning, starts_in, ended_in, made_by, cookie_after}
-use Rattle.onedom.proofs.CallerLemmas.{legal_after_append}
+use Rattle.onedom.proofs.CallerLemmas.{legal_after_append, beginning_refl, starts_in_push, ended_in_push}
 use Rattle.sections.specs.declared.limits.Limits.{Limits}
 use Rattle.sections.specs.Words.{Reaches}
 use Rattle.sections.specs.Rule.{HasItsMaker}
 use Rattle.sections.specs.EngineCalls.{IsSameEngine}
+use Rattle.sections.specs.Shelves.{put_cells, IsStart}
 use Rattle.sections.proofs.CallerLemmas.{last_may_follow}
 use Rattle.scan.specs.Standings.{number_at_rest}
 use Rattle.scan.specs.Progress.{with_seat}
@@ -29,27 +30,19 @@ use Rattle.calls.proofs.CallerLemmas.{begins_on}
 use Rattle.domain.specs.Views.{DomainView, CpuView}
 use Rattle.domain.specs.Meetings.{IsAllOf, EngineMeets, MeetsHere}
 use Rattle.solo.specs.Calls.{SoloView, HasSameTables, IsSameDomain, OnList}
-use Rattle.domain.specs.Acting.{Act, Acts, ActsAs}
+use Rattle.domain.specs.Acting.{Act}
 use Rattle.solo.specs.Courses.{after, with_asked, more_at, with_events, Does}
-use Rattle.solo.specs.Settling.{View, Holds, AllHold, AskTogether, TurnTogether, TallyTogether, HaveMet}
+use Rattle.solo.specs.Settling.{View, Holds, AllHold, AreTogether, AskTogether, TurnTogether, TallyTogether, HaveMet}
 use Rattle.solo.specs.Insides.{queued_on, finished_on, lines_on, seen_as, seen_first}
 use Rattle.solo.proofs.Hand.{first_seen, now_is, is_inside}
 use Rattle.solo.proofs.Needing.{squeezed, raised_here}
 use Rattle.solo.proofs.Tallying.{GoesOnBy, finished_are, queued_here, queued_else, lines_are, at_moment, count_at, found_at, one_count, same_counts, goes_on, tally_together}
-use Rattle.solo.proofs.Settled.{HaveAsked, IsSettled, settled, all_raised, asked_together}
+use Rattle.solo.proofs.Settled.{HaveAsked, settled_by, all_raised, asked_together}
 use Rattle.solo.proofs.Turning.{idle_found, idle_turned}
-use Rattle.solo.proofs.NothingBetween.{made_by_append}
-
--- two that are beginnings of each other
-same_beginning : (h g : List Event) → IsBeginning h g → IsBeginning g h → h ≡ g
-same_beginning h g hg gh =
-    let long = ap length hg.whole ∙ length-append h hg.rest in
-    let short = ap length gh.whole ∙ length-append g gh.rest in
-    sym (hg.whole ∙ (ap (λ l. h ++ l) (none_left hg.rest (omega (arith, long, short))) ∙ append-nil h))
-  where
-    none_left : (rest : List Event) → length rest ≡ 0 → rest ≡ []
-    none_left [] none = refl
-    none_left (e ∷ es) none = absurd (omega (arith, none))
+use Rattle.solo.proofs.NothingBetween.{made, made_by_append, all_seen}
+use Rattle.solo.proofs.Shelving.{shelf_stays}
+use Rattle.solo.proofs.Adding.{Did}
+use Rattle.solo.specs.Shelf.{Shelf, shelf_of}
 
 -- What was added
 
@@ -106,7 +99,7 @@ module _ {J : Type 0} where
 
     -- The processor that was called has seen just what all have
 
-    view_is : t.s ≡ seen_as t.d.tallies t.limits (greatest t.met.raises) (queued_on t.cpus) (finished_on t.cpus) (lines_on t.cpus) t.v
+    pub view_is : t.s ≡ seen_as t.d.tallies t.limits (greatest t.met.raises) (queued_on t.cpus) (finished_on t.cpus) (lines_on t.cpus) t.v
     view_is = now_is t.d t.limits t.cpus t.v t.met t.s t.seen
 
     pub limits_are : t.limits ≡ t.s.limits
@@ -157,13 +150,7 @@ module _ {J : Type 0} where
 
     -- It acted
 
-    module _ (what : ℕ → Act) (did : ActsAs what t.was t.now) where
-      abbrev a : Act
-      a = what t.p
-
-      acts : Acts t.p a t.was t.now
-      acts = subst (λ q. Acts q (what q) t.was t.now) held.processor did
-
+    module _ (a : Act) (acts : Did t.p a t.was t.now) where
       abbrev acted_cpus : List (CpuView J)
       acted_cpus = set t.cpus t.p t.now
 
@@ -194,7 +181,7 @@ module _ {J : Type 0} where
       turned : TurnTogether t.meets.turns.swaps t.cpus' t.meets.left
       turned = idle_turned t.met.swaps t.cpus acted_cpus t.v t.met.turn_together some long (λ k c _ lt. same_turns k c) t.cpus' t.meets.found t.meets.left t.meets.turns count t.was (same_turns 0 t.was)
 
-      engine_meets : EngineMeets t.v.seat acted_cpus t.meets.left.seat t.cpus'
+      pub engine_meets : EngineMeets t.v.seat acted_cpus t.meets.left.seat t.cpus'
       engine_meets = subst (λ (z : View). EngineMeets z.seat acted_cpus t.meets.left.seat t.cpus') found_is t.meets.engine
 
       same_engine : IsSameEngine t.v.seat t.meets.left.seat
@@ -296,13 +283,15 @@ module _ {J : Type 0} where
             (record { domain = old.domain; processors_are = old.processors_are; sections = old.sections; processor = old.processor; mine = old.mine ∙ none_own k (acts.are_of.others k other) }));
       }
 
-      seen_here : IsBeginning (t.v.seat.seen ++ (acts.events.others ++ a.events)) (get_or acted_cpus t.p t.was).cpu.seen
-      seen_here = subst (λ (x : CpuView J). IsBeginning (t.v.seat.seen ++ (acts.events.others ++ a.events)) x.cpu.seen) (sym (here t.was))
-          (subst (λ l. IsBeginning (l ++ (acts.events.others ++ a.events)) t.now.cpu.seen) (ap (λ (x : CpuView J). x.cpu.seen) t.is ∙ t.met.together.seen t.p t.was t.inside) acts.events.since)
+      acted : (t.meets.left.seat.seen ≡ history) × AreTogether t.limits t.cpus' t.meets.left.seat
+      acted = settled_by acted_cpus t.cpus' t.v.seat t.meets.left.seat count engine_meets t.was t.limits t.p t.v.seat.seen a.events hold (beginning_refl t.v.seat.seen)
+          (let all = t.met.together.hold.all in let inside = t.inside in omega (arith, all, inside)) acts.are_of.own acts.are_of.others acts.are_of.engine
 
-      acted : IsSettled t.limits t.v.seat.seen acts.events.others a.events t.cpus' t.meets.left.seat
-      acted = settled acted_cpus t.cpus' t.v.seat t.meets.left.seat count engine_meets t.was t.limits t.v.seat.seen acts.events.others a.events
-          (record { hold = hold; seen = inr (t.p, t.was, within, seen_here) })
+      pub history_is : t.meets.left.seat.seen ≡ history
+      history_is = acted.0
+
+      pub together : AreTogether t.limits t.cpus' t.meets.left.seat
+      together = acted.1
 
       -- The theorem
 
@@ -319,25 +308,32 @@ module _ {J : Type 0} where
       still_wanted : (¬ IsRunning t.v.seat.seen → 0 < t.v.so_far → greatest t.meets.needs.raises ≡ greatest t.met.raises) × (greatest t.meets.needs.raises % 4 ≡ 0)
       still_wanted = by_case acts.ask_for.cookie
         where
-          by_case : (a.asked ≡ 0) ⊎ (a.events ≡ Note a.asked (Processor t.p) ∷ []) → (¬ IsRunning t.v.seat.seen → 0 < t.v.so_far → greatest t.meets.needs.raises ≡ greatest t.met.raises) × (greatest t.meets.needs.raises % 4 ≡ 0)
+          by_case : (a.asked ≡ 0) ⊎ (before : List Event) × (a.events ≡ before ++ Note a.asked (Processor t.p) ∷ []) → (¬ IsRunning t.v.seat.seen → 0 < t.v.so_far → greatest t.meets.needs.raises ≡ greatest t.met.raises) × (greatest t.meets.needs.raises % 4 ≡ 0)
           by_case (inl none) =
               let same : greatest t.meets.needs.raises ≡ greatest t.met.raises = asked_is ∙ ap (λ n. with_asked n (greatest t.met.raises)) none in
               (λ _ _. same, ap (λ n. n % 4) same ∙ t.met.cookies)
-          by_case (inr noted) =
-              let seen : t.meets.left.seat.seen ≡ t.v.seat.seen ++ Note a.asked (Processor t.p) ∷ [] = acted.seen ∙ ap (λ l. t.v.seat.seen ++ l) noted in
-              let cookie : a.asked ≡ cookie_after t.v.seat.seen = last_may_follow t.v.seat.seen (Note a.asked (Processor t.p)) (subst IsLegal seen acted.together.history.legal) in
+          by_case (inr (early, noted)) =
+              let h : List Event = t.v.seat.seen ++ early in
+              let note : Event = Note a.asked (Processor t.p) in
+              let seen : t.meets.left.seat.seen ≡ h ++ note ∷ [] = history_is ∙ (ap (λ l. t.v.seat.seen ++ l) noted ∙ sym (append_assoc t.v.seat.seen early (note ∷ []))) in
+              let cookie : a.asked ≡ cookie_after h = last_may_follow h note (subst IsLegal seen together.history.legal) in
+              -- and nothing starts or ends before it
+              let quiet = acts.are_of.quiet t.v.seat.seen in
+              let starts : starts_in h ≡ starts_in t.v.seat.seen = (let one = ap starts_in seen in let push = starts_in_push h note in let all = ap starts_in history_is in let none = quiet.0 in omega (arith, one, push, all, none)) in
+              let ended : ended_in h ≡ ended_in t.v.seat.seen = (let one = ap ended_in seen in let push = ended_in_push h note in let all = ap ended_in history_is in let none = quiet.1 in omega (arith, one, push, all, none)) in
+              let now : cookie_after h ≡ cookie_after t.v.seat.seen = λ i. 4 * (ended i + cond (ltb (ended i) (starts i)) 2 1) in
               let asks : greatest t.meets.needs.raises ≡ max (greatest t.met.raises) a.asked = asked_is ∙ with_asked_is a.asked (greatest t.met.raises) in
               let before = t.met.cookies in (
                 λ resting half.
                     let wanted = t.met.wanted resting half in let need = wanted.need in let above = wanted.above in
-                    let low = next_above t.v.seat.seen (greatest t.met.raises) resting t.met.cookies (omega (arith, need, above)) in omega (arith, low, cookie, asks),
+                    let low = next_above t.v.seat.seen (greatest t.met.raises) resting t.met.cookies (omega (arith, need, above)) in omega (arith, low, cookie, now, asks),
                 omega (arith, before, cookie, asks),
               )
 
       pub have_met : HaveMet t.d' t.limits t.cpus' t.meets.left
       have_met = record {
         all = t.all;
-        together = acted.together;
+        together = together;
         raises = t.meets.needs.raises;
         ask_together = ask_together;
         swaps = t.meets.turns.swaps;
@@ -347,8 +343,8 @@ module _ {J : Type 0} where
         cookies = still_wanted.1;
         wanted = λ resting some.
             let quiet = acts.are_of.quiet t.v.seat.seen in
-            let after = ap starts_in acted.seen ∙ quiet.0 in
-            let ended = ap ended_in acted.seen ∙ quiet.1 in
+            let after = ap starts_in history_is ∙ quiet.0 in
+            let ended = ap ended_in history_is ∙ quiet.1 in
             let before : ¬ IsRunning t.v.seat.seen = λ running. resting (omega (arith, after, ended, running)) in
             let so_far = ap (λ (x : View). x.so_far) rest_is in
             let half : 0 < t.v.so_far = omega (arith, so_far, some) in
@@ -359,8 +355,12 @@ module _ {J : Type 0} where
             };
       }
 
+      -- what is current in the cells then
+      abbrev pub shelf_now : Shelf
+      shelf_now = shelf_of t.meets.left.seat.seen t.meets.left.seat.texts
+
       -- the domain has come just so far
-      pub come : s' ≡ record t.s { course = after t.p a t.s.course; lines = lines_on t.cpus' }
+      pub come : s' ≡ record t.s { course = after t.p a t.s.course; lines = lines_on t.cpus'; shelf = shelf_now }
       come = seen_after
           ∙ ((λ z. record {
             table = same_engine.0 z;
@@ -370,7 +370,7 @@ module _ {J : Type 0} where
               standing = record {
                 processors = same_engine.1 z;
                 periods = same_engine.2 z;
-                history = (acted.seen ∙ with_events_is a.events t.v.seat.seen) z;
+                history = (history_is ∙ with_events_is a.events t.v.seat.seen) z;
                 changes = engine_meets.changes z;
                 so_far = ap (λ (x : View). x.so_far) rest_is z;
                 began = ap (λ (x : View). x.began) rest_is z;
@@ -380,16 +380,30 @@ module _ {J : Type 0} where
               finished = finished_after z;
             };
             lines = lines_on t.cpus';
-          }) ∙ sym (ap (λ (x : SoloView J). record x { course = after t.p a x.course; lines = lines_on t.cpus' }) view_is))
+            shelf = shelf_now;
+          }) ∙ sym (ap (λ (x : SoloView J). record x { course = after t.p a x.course; lines = lines_on t.cpus'; shelf = shelf_now }) view_is))
 
-      pub does : Does t.p what t.s.course s'.course
+      pub does : Does t.p (λ _. a) t.s.course s'.course
       does = record {
-        follows = subst (λ (x : SoloView J). IsLegalAfter x.course.standing.history a.events) (sym view_is) (legal_after_append [] t.v.seat.seen a.events (subst IsLegal acted.seen acted.together.history.legal)).1;
+        follows = subst (λ (x : SoloView J). IsLegalAfter x.course.standing.history a.events) (sym view_is) (legal_after_append [] t.v.seat.seen a.events (subst IsLegal history_is together.history.legal)).1;
         come = ap (λ (x : SoloView J). x.course) come;
       }
 
-      pub same_tables : HasSameTables t.s s'
-      same_tables = subst (HasSameTables t.s) (sym come) (refl, refl, refl, refl, refl)
+      -- but for what is current in the cells
+      pub same_but_shelf : HasSameTables (record t.s { shelf = s'.shelf }) s'
+      same_but_shelf = subst (λ (x : SoloView J). HasSameTables (record t.s { shelf = x.shelf }) x) (sym come) (refl, refl, refl, refl, refl, refl)
+
+      -- and that too, where nothing is put
+      module _ (none : put_cells a.events ≡ []) where
+        pub same_shelf : s'.shelf ≡ t.s.shelf
+        same_shelf =
+            ap (λ (x : SoloView J). x.shelf) come
+            ∙ (shelf_stays t.v.seat.seen a.events t.meets.left.seat.seen history_is none t.v.seat.texts t.meets.left.seat.texts engine_meets.texts t.met.together.history.texts together.history.texts
+            ∙ sym (ap (λ (x : SoloView J). x.shelf) view_is))
+
+        pub same_tables : HasSameTables t.s s'
+        same_tables =
+            let but = same_but_shelf in (but.0, but.1, but.2, but.3, but.4, same_shelf)
 
       -- The lists
 
@@ -447,25 +461,32 @@ module _ {J : Type 0} where
         pub same_lines : s'.lines ≡ t.s.lines
         same_lines = all_lines ∙ (lines_stay ∙ sym old_lines)
 
-        pub same_domain : IsSameDomain t.s s'
-        same_domain = (same_tables, same_lines)
+        pub same_domain : put_cells a.events ≡ [] → IsSameDomain t.s s'
+        same_domain none = (same_tables none, same_lines)
 
-        pub come_quietly : s' ≡ record t.s { course = after t.p a t.s.course }
-        come_quietly = come ∙ ap (λ l. record t.s { course = after t.p a t.s.course; lines = l }) (lines_stay ∙ sym old_lines)
+        pub come_quietly : put_cells a.events ≡ [] → s' ≡ record t.s { course = after t.p a t.s.course }
+        come_quietly none = come ∙ (λ i. record t.s { course = after t.p a t.s.course; lines = (lines_stay ∙ sym old_lines) i; shelf = (sym (ap (λ (x : SoloView J). x.shelf) come) ∙ same_shelf none) i })
 
       -- What the call found
 
       pub changes_are : t.now.cpu.changes ≡ t.s.course.standing.changes
       changes_are = all_changes ∙ sym (ap (λ (x : SoloView J). x.course.standing.changes) view_is)
 
-      -- the processor has then seen the whole history
+      -- the processor has then seen the whole history, and knows the words of all versions
+      pub seen_first_of_all : t.now.cpu.seen ≡ t.meets.left.seat.seen
+      seen_first_of_all =
+          let seen_is : t.was.cpu.seen ≡ t.v.seat.seen = ap (λ (x : CpuView J). x.cpu.seen) t.is ∙ t.met.together.seen t.p t.was t.inside in
+          let high = subst (λ (x : CpuView J). IsBeginning x.cpu.seen t.meets.left.seat.seen) (here t.was) (engine_meets.each t.p t.was within).since in
+          all_seen t.p t.v.seat.seen a.events t.now.cpu.seen t.meets.left.seat.seen (subst (λ l. IsBeginning l t.now.cpu.seen) seen_is acts.events.since) high history_is
+          (subst (λ l. made (Processor t.p) l + length a.events ≤ made (Processor t.p) t.now.cpu.seen) seen_is acts.events.seen)
+
       pub seen_now : t.now.cpu.seen ≡ s'.course.standing.history
       seen_now =
-          let alone : t.v.seat.seen ++ (acts.events.others ++ a.events) ≡ t.meets.left.seat.seen = ap (λ l. t.v.seat.seen ++ (l ++ a.events)) acted.alone ∙ sym acted.seen in
-          let low = subst (λ (x : CpuView J). IsBeginning t.meets.left.seat.seen x.cpu.seen) (here t.was) (subst (λ l. IsBeginning l (get_or acted_cpus t.p t.was).cpu.seen) alone seen_here) in
-          let high = subst (λ (x : CpuView J). IsBeginning x.cpu.seen t.meets.left.seat.seen) (here t.was) (engine_meets.each t.p t.was within).since in
           let history = ap (λ (x : SoloView J). x.course.standing.history) come ∙ ap (λ (x : SoloView J). with_events a.events x.course.standing.history) view_is in
-          same_beginning t.now.cpu.seen t.meets.left.seat.seen high low ∙ (acted.seen ∙ (with_events_is a.events t.v.seat.seen ∙ sym history))
+          seen_first_of_all ∙ (history_is ∙ (with_events_is a.events t.v.seat.seen ∙ sym history))
+
+      pub texts_start : IsStart t.now.cpu.texts t.meets.left.seat.texts
+      texts_start = subst (λ (x : CpuView J). IsStart x.cpu.texts t.meets.left.seat.texts) (here t.was) (engine_meets.each t.p t.was within).accepts.texts_since
 
       -- a load of the root found just what had been asked for
       pub root_is : (found : ℕ) → LoadsRoot t.was.needs found t.now.needs → found ≡ t.s.course.asked

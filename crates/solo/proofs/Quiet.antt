@@ -1,5 +1,5 @@
 -- What the calls of a processor for sections, cookies and the number say of the domain in one hand, beside their acts.
-use Rattle.std.proofs.Common.{◌≡◌, ℕ, ◌<◌, Bool, false, List, refl, sym, ap, ◌∙◌, subst, arith}
+use Rattle.std.proofs.Common.{◌≡◌, ℕ, ◌<◌, ◌≤◌, Bool, false, List, refl, sym, ap, ◌∙◌, subst, arith}
 use Rattle.std.specs.Prelude.{Result, Ok, Err, MatchResult}
 use Rattle.sseq.specs.declared.index.Index.{Index}
 use Rattle.sseq.specs.Indexes.{low_bit}
@@ -19,7 +19,7 @@ use Rattle.domain.specs.Acting.{loads, begins, notes, asks_whether, ActsAs}
 use Rattle.solo.specs.Calls as call
 use Rattle.solo.specs.Calls.{Begins, IsOutOfSections, IsReadingAt, IsLookNow}
 use Rattle.solo.specs.Courses.{Does}
-use Rattle.solo.proofs.Meeting.{Hand, s', held, changes_were, makers_were, changes_are, does}
+use Rattle.solo.proofs.Acted.{Hand, s', held, changes_were, makers_were, changes_are, does}
 use Rattle.solo.proofs.Called.{Says, says, says_does, still}
 
 module _ {J : Type 0} where
@@ -43,7 +43,7 @@ module _ {J : Type 0} where
     -- Looks
 
     pub look_says : (l : LookView) → Looks was now l → Loaded → Says t (IsLookNow t.s l × (s' t ≡ t.s))
-    look_says l h did = says t loads did refl _ (
+    look_says l h did = says t loads did refl refl _ (
       record { table = ap (λ (x : LookView). x.domain) h.look_is ∙ (held t).domain; index = index_is was now l h (changes_are t loads did) },
       still t did,
     )
@@ -70,7 +70,7 @@ module _ {J : Type 0} where
           let begun = counted look.index in
           let sections = most in
           let room : locks c.processor look.index c.mine < c.sections = h.room in
-          says t (begins r.section r.index) did refl _ (
+          says t (begins r.section r.index) did refl refl _ (
             record {
               room = omega (arith, begun, sections, room);
               happens = subst (λ i. Does t.p (begins r.section i) t.s.course (s' t).course) index (does t (begins r.section r.index) did);
@@ -84,7 +84,7 @@ module _ {J : Type 0} where
 
       -- none may begin
       out_says : (i : Index) → IsExhausted c i → Loaded → Says t (IsOut i)
-      out_says i full did = says t loads did refl _ (sym (counted i) ∙ (full ∙ most), still t did)
+      out_says i full did = says t loads did refl refl _ (sym (counted i) ∙ (full ∙ most), still t did)
 
     abbrev DoesTake : Result ReadingView Exhausted → Type 0
     DoesTake taken = MatchResult taken (λ r. ActsAs (begins r.section r.index) t.was t.now) (λ _. Loaded)
@@ -101,14 +101,26 @@ module _ {J : Type 0} where
         subst (λ i. Says t (IsBegun i r)) (index_is was h.between h.look h.looks (omega (arith, low, high, before, all))) (begun_says h.between h.looks.load.same h.looks.load.mine h.look kind r h.enters did)
     lock_says kind (Err x) h did = subst (λ i. Says t (IsOut i)) (index_is was now h.look h.looks (changes_are t loads did)) (out_says now h.looks.load.same h.looks.load.mine h.look.index h.exhausted did)
 
+    -- a section that begins has the index that now is, also where more is done behind it
+    pub begins_here : (kind : Bool) (begun : sections.CpuView) (r : ReadingView) (h : LooksAndBegins kind was begun r) → now.changes ≡ t.s.course.standing.changes → h.between.changes ≤ now.changes
+        → (r.index ≡ index_now t.s.course.standing) × (locks t.p (index_now t.s.course.standing) t.s.course.standing.history < t.s.limits.sections)
+    begins_here kind begun r h all late =
+        let low = h.looks.load.later in
+        let before = changes_were t in
+        let index : h.look.index ≡ index_now t.s.course.standing = index_is was h.between h.look h.looks (omega (arith, low, late, before, all)) in
+        let room : locks h.between.processor h.look.index h.between.mine < h.between.sections = h.enters.room in
+        let count = counted h.between h.looks.load.same h.looks.load.mine h.look.index in
+        let sections = most h.between h.looks.load.same h.looks.load.mine in
+        (ap (λ (x : ReadingView). x.index) h.enters.reading ∙ index, subst (λ i. locks t.p i t.s.course.standing.history < t.s.limits.sections) index (omega (arith, room, count, sections)))
+
     -- The number and cookies
 
     pub number_says : (number : ℕ) → Notes number was now → ActsAs (notes (cookie_at number)) t.was t.now → Says t ((number ≡ number_now t.s.course.standing) × call.GivesCookie t.p (cookie_after t.s.course.standing.history) t.s.course (s' t).course)
     number_says number h did =
         let gives = does t (notes (cookie_at number)) did in
-        says t (notes (cookie_at number)) did refl _ (h.current ∙ ap number_word (changes_are t (notes (cookie_at number)) did), subst (λ n. call.GivesCookie t.p n t.s.course (s' t).course) gives.follows.0 gives)
+        says t (notes (cookie_at number)) did refl refl _ (h.current ∙ ap number_word (changes_are t (notes (cookie_at number)) did), subst (λ n. call.GivesCookie t.p n t.s.course (s' t).course) gives.follows.0 gives)
 
     pub poll_says : (cookie : ℕ) (taken : Result Bool NotACookie) → MatchResult taken (λ done. Asks was.seen was.changes cookie done was now) (λ _. IsNoCookie cookie × (now ≡ was)) → MatchResult taken (λ done. ActsAs (asks_whether cookie done) t.was t.now) (λ _. Loaded)
         → Says t (MatchResult taken (λ done. call.Asks t.p cookie done t.s.course (s' t).course) (λ _. IsNoCookie cookie × (s' t ≡ t.s)))
-    poll_says cookie (Ok done) h did = says_does t (asks_whether cookie done) did refl
-    poll_says cookie (Err x) h did = says t loads did refl _ (h.0, still t did)
+    poll_says cookie (Ok done) h did = says_does t (asks_whether cookie done) did refl refl
+    poll_says cookie (Err x) h did = says t loads did refl refl _ (h.0, still t did)

@@ -20,7 +20,7 @@ use Rattle.funnel.proofs.CallerLemmas.{begins_on, raised_alone}
 use Rattle.domain.specs.Views.{DomainView, CpuView}
 use Rattle.domain.specs.Meetings.{IsAllOf, EngineMeets, TreeMeets}
 use Rattle.solo.specs.Settling.{AllHold, AreTogether, AskTogether}
-use Rattle.solo.proofs.NothingBetween.{IsMaker, nothing_between}
+use Rattle.solo.proofs.NothingBetween.{IsMaker, nothing_between, only_the_act}
 
 -- the items as they are kept, all of them
 pub all_kept : {X : Type 0} (n : ℕ) (items rest : List X) → n ≡ length items → take n (items ++ rest) ≡ items
@@ -85,7 +85,19 @@ module _ {J : Type 0} where
         history = meets.history;
         seen = λ k d lt. let inside : k < length cpus = omega (arith, count, lt) in (meets.each k d inside).accepts.seen;
         changes = λ k d lt. let inside : k < length cpus = omega (arith, count, lt) in (meets.each k d inside).accepts.changes;
+        texts = λ k d lt. let inside : k < length cpus = omega (arith, count, lt) in (meets.each k d inside).accepts.texts;
       }
+
+    -- processor p made the act, and nobody anything else
+    pub settled_by : (limits : Limits) (p : ℕ) (before act : List Event) → AllHold limits (before ++ act) cpus e → IsBeginning before e.seen → p < e.processors → made_by (Processor p) act ≡ act → ((k : ℕ) → k ≢ p → made_by (Processor k) act ≡ []) → made_by Engine act ≡ [] → (e'.seen ≡ before ++ act) × AreTogether limits cpus' e'
+    settled_by limits p before act hold seen lt own others engine = (seen_is, together_after limits (before ++ act) hold seen_is)
+      where
+        nobody_else : (m : Maker) → IsMaker e.processors m → m ≢ Processor p → made_by m act ≡ []
+        nobody_else Engine is other = engine
+        nobody_else (Processor k) is other = others k (λ same. other (ap Processor same))
+
+        seen_is : e'.seen ≡ before ++ act
+        seen_is = only_the_act e.processors p before act e'.seen (beginning_trans seen meets.since) (all_makers limits (before ++ act) hold) (each_made limits (before ++ act) hold) lt own nobody_else
 
     pub settled : (limits : Limits) (before others act : List Event) → IsActed limits before others act cpus e → IsSettled limits before others act cpus' e'
     settled limits before others act h =

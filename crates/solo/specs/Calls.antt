@@ -27,19 +27,21 @@ use Rattle.solo.specs.declared.queued.Queued.{Queued}
 use Rattle.domain.specs.Acting.{begins, ends, notes, asks_whether, asks_for, finishes}
 use Rattle.solo.specs.Courses.{Course, Does, Works}
 use Rattle.solo.specs.Batches.{AreReady}
+use Rattle.solo.specs.Shelf.{Shelf, blank_shelf}
 
--- `table` tells which looks and readings are of this domain, and `tallies` which batches; `course` is how far it has come. `lines` is the list of each processor in order: the jobs that wait there, with their marks, and how many are out
+-- `table` tells which looks and readings are of this domain, and `tallies` which batches; `course` is how far it has come. `lines` is the list of each processor in order: the jobs that wait there, with their marks, and how many are out. `shelf` is what is current in each cell
 pub record SoloView (J : Type 0) : Type 0 where
   pub table : TableId
   pub limits : Limits
   pub tallies : TableId
   pub course : Course
   pub lines : List (Line J)
+  pub shelf : Shelf
 
 module _ {J : Type 0} where
-  -- the same domain, with the same limits and processors, which may have gone on
+  -- the same domain, with the same limits and processors, which may have gone on; what is current in its cells is what was
   abbrev pub HasSameTables : SoloView J → SoloView J → Type 0
-  HasSameTables d d' = (d'.table ≡ d.table) × (d'.limits ≡ d.limits) × (d'.course.standing.processors ≡ d.course.standing.processors) × (d'.course.standing.periods ≡ d.course.standing.periods) × (d'.tallies ≡ d.tallies)
+  HasSameTables d d' = (d'.table ≡ d.table) × (d'.limits ≡ d.limits) × (d'.course.standing.processors ≡ d.course.standing.processors) × (d'.course.standing.periods ≡ d.course.standing.periods) × (d'.tallies ≡ d.tallies) × (d'.shelf ≡ d.shelf)
 
   -- and its lists are as they were
   abbrev pub IsSameDomain : SoloView J → SoloView J → Type 0
@@ -66,6 +68,7 @@ pub record IsNew {J : Type 0} (limits : Limits) (processors : ℕ) (d : SoloView
   pub limits_are : d.limits ≡ limits
   pub nothing_yet : d.course ≡ new_course limits processors
   pub none_waits : d.lines ≡ replicate processors no_calls
+  pub blank : d.shelf ≡ blank_shelf
   pub count : IsCount processors
 
 abbrev pub IsNotMade : ℕ → MakeError → Type 0

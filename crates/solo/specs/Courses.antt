@@ -1,5 +1,5 @@
 -- How far a domain in one hand has come, and what an act of one of its processors adds.
-use Rattle.std.specs.Prelude.{◌≡◌, ℕ, zero, suc, ◌+◌, max, List, [], ◌∷◌, ◌++◌, slice_index, slice_set}
+use Rattle.std.specs.Prelude.{◌≡◌, ℕ, zero, suc, ◌+◌, max, None, List, [], ◌∷◌, ◌++◌, slice_index, slice_set}
 use Rattle.onedom.specs.declared.event.Event.{Event}
 use Rattle.onedom.specs.Histories.{IsLegalAfter}
 use Rattle.scan.specs.Standings.{Standing}
@@ -27,6 +27,10 @@ more_at p (suc n) counts = slice_set counts p (slice_index counts p + suc n)
 abbrev pub with_events : List Event → List Event → List Event
 with_events [] history = history
 with_events (e ∷ es) history = history ++ e ∷ es
+
+-- these events, and a cookie that is asked for (0 if none is)
+abbrev pub all_of : List Event → ℕ → Act
+all_of events asked = record { events = events; asked = asked; queued = 0; finished = 0; owner = 0; list = None }
 
 -- how far the domain has come behind an act of processor p
 abbrev pub after : ℕ → Act → Course → Course

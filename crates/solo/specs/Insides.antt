@@ -11,6 +11,7 @@ use Rattle.domain.specs.Views.{DomainView, CpuView}
 use Rattle.solo.specs.declared.solo.Solo.TheInside as solo
 use Rattle.solo.specs.Calls.{SoloView, new_standing}
 use Rattle.solo.specs.Settling.{View, HaveMet}
+use Rattle.solo.specs.Shelf.{shelf_of, blank_shelf}
 
 module _ {J : Type 0} where
   -- how many jobs each of these processors ever queued
@@ -27,11 +28,11 @@ module _ {J : Type 0} where
 
   -- with these tally words, this asked for, these calls, and this engine
   abbrev pub seen_as : TableId → Limits → ℕ → List ℕ → List ℕ → List (Line J) → View → SoloView J
-  seen_as tallies limits asked queued finished lines v = record { table = v.seat.domain; limits = limits; tallies = tallies; course = record { standing = standing_of v; asked = asked; queued = queued; finished = finished }; lines = lines }
+  seen_as tallies limits asked queued finished lines v = record { table = v.seat.domain; limits = limits; tallies = tallies; course = record { standing = standing_of v; asked = asked; queued = queued; finished = finished }; lines = lines; shelf = shelf_of v.seat.seen v.seat.texts }
 
   -- a domain without processors or engine, which there is none of
   abbrev pub nobody : DomainView → Limits → SoloView J
-  nobody d limits = record { table = d.domain; limits = limits; tallies = d.tallies; course = record { standing = new_standing limits 0; asked = 0; queued = []; finished = [] }; lines = [] }
+  nobody d limits = record { table = d.domain; limits = limits; tallies = d.tallies; course = record { standing = new_standing limits 0; asked = 0; queued = []; finished = [] }; lines = []; shelf = blank_shelf }
 
   abbrev pub seen_with : DomainView → Limits → ℕ → List ℕ → List ℕ → List (Line J) → Option View → SoloView J
   seen_with d limits asked queued finished lines None = nobody d limits

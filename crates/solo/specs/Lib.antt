@@ -1,9 +1,15 @@
 pub mod Courses
 pub mod Batches
 pub mod Taking
+pub mod Shelf
 pub mod Calls
 pub mod Settling
 pub mod Refusals
 pub mod Insides
 pub mod Barriers
 pub mod Cleanup
+pub mod Versions
+pub mod Chains
+pub mod Notifiers
+pub mod Tables
+pub mod Plugboards

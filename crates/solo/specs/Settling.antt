@@ -51,12 +51,13 @@ module _ {J : Type 0} where
     pub engine : e.mine ≡ made_by Engine history
     pub each : (k : ℕ) (d : CpuView J) → k < length cpus → Holds limits e.domain e.processors history k (slice_index_or cpus k d).cpu
 
-  -- all of them have seen one history, and all changes of the engine
+  -- all of them have seen one history, all changes of the engine, and the words of all versions that were put
   pub record AreTogether (limits : Limits) (cpus : List (CpuView J)) (e : EngineView) : Type 0 where
     pub hold : AllHold limits e.seen cpus e
     pub history : IsSeenByEngine e
     pub seen : (k : ℕ) (d : CpuView J) → k < length cpus → (slice_index_or cpus k d).cpu.seen ≡ e.seen
     pub changes : (k : ℕ) (d : CpuView J) → k < length cpus → (slice_index_or cpus k d).cpu.changes ≡ e.changes
+    pub texts : (k : ℕ) (d : CpuView J) → k < length cpus → (slice_index_or cpus k d).cpu.texts ≡ e.texts
 
   -- Needs
 

@@ -1,13 +1,15 @@
 //! One domain, all of whose processors and whose engine are in one hand.
-ghost use Rattle.std.specs.Prelude.{◌≡◌, ◌+◌, ◌^◌, ◌<◌, ◌≤◌, MatchResult};
+ghost use Rattle.std.specs.Prelude.{◌≡◌, ◌+◌, ◌^◌, ◌<◌, ◌≤◌, IfOk, MatchResult};
 ghost use Rattle.sections.specs.Limits.{AreInRange};
+ghost use Rattle.sections.specs.Words.{cells_in};
+ghost use Rattle.sections.specs.Dealing.{AreNewWriters};
 ghost use Rattle.sections.specs.Calls.{IsNoCookie};
 ghost use Rattle.scan.specs.Standings.{index_now};
 ghost use Rattle.solo.specs.Calls.{IsSameDomain, IsNew, IsNotMade, IsOf, IsReadingAt, IsLookNow, Begins, IsOutOfSections, Ends, GivesCookie, Asks, AsksFor, ReadsNumber, Starts, StartsNone, Steps, Advances, IsAskedTooMuch};
 
 use crate::members::Members;
 use crate::refusals::{started, told};
-use domain::Domain;
+use domain::{Domain, Writer};
 use scan::{Exhausted as NoMorePeriods, Progress, StartRefusal};
 use sections::{Exhausted, Held, Home, Limits, Look, MakeError, NotACookie, Reading};
 use sseq::{Index, Number};
@@ -17,7 +19,9 @@ use std::sync::Wait;
 
 mod barriers;
 mod calling;
+mod chains;
 mod cleanup;
+mod tables;
 
 /// A domain that one thread drives. After each call that made a step its processors and its engine meet, so that all
 /// have seen one history, in which nothing stands but what the calls have done. Contracts see how far the domain has
@@ -42,18 +46,26 @@ impl<J, A: Allocator> Model for Solo<J, A> {
 }
 
 impl<J: Drop, A: Allocator> Solo<J, A> {
-    /// A domain in which nothing has happened; refused where it can't have so many processors (1 to 64), or memory is.
-    pub fn new(alloc: A, processors: u64, limits: Limits) -> Result<Solo<J, A>, MakeError>
+    /// A domain in which nothing has happened, and the writers of its cells, in order; refused where it can't have so many
+    /// processors (1 to 64), or memory is.
+    pub fn new(
+        alloc: A,
+        processors: u64,
+        limits: Limits,
+    ) -> Result<(Solo<J, A>, Vec<Writer, A>), MakeError>
     where
         A: Copy,
         requires { AreInRange limits }
-        ensures { MatchResult result (IsNew limits processors) (IsNotMade processors) }
+        ensures domain { MatchResult result (λ m. IsNew limits processors m.0) (IsNotMade processors) }
+        ensures writers { IfOk result (λ m. AreNewWriters m.0.table limits.cells limits.slots m.1.items) }
+        ensures cells { IfOk result (λ m. cells_in m.0.table ≡ limits.cells) }
     {
-        let (domain, cpus, _) = Domain::new(alloc, processors as usize, limits)?;
-        Ok(Solo {
+        let (domain, cpus, writers) = Domain::new(alloc, processors as usize, limits)?;
+        let solo = Solo {
             members: Members { domain, cpus },
             limits,
-        })
+        };
+        Ok((solo, writers))
     }
 
     /// How many processors there are.

@@ -42,6 +42,7 @@ fn drop_tokens<A: Allocator>(names: Names<A>)
             Token::Ticket(_ticket) => {}
             Token::Reading(_reading) => unreachable!(),
             Token::Held(_held) => unreachable!(),
+            Token::Lease(_lease) => unreachable!(),
         }
     }
     tokens.destroy_empty();
@@ -60,6 +61,8 @@ impl<'a, A: Allocator> Entry<&'a A> {
             names,
             parking,
             outs,
+            chain,
+            board,
         } = self;
         match domain.cleanup(rt) {
             Ok(totals) => {
@@ -74,6 +77,8 @@ impl<'a, A: Allocator> Entry<&'a A> {
                     names,
                     parking,
                     outs,
+                    chain,
+                    board,
                 };
                 match in_use {
                     InUse::Sections(open) => Err((Cause::Sections(open), entry)),

@@ -2,16 +2,20 @@ ghost use Rattle.sections.specs.Limits.{AreInRange};
 
 use super::*;
 use bumpalo::Bump;
+use chains::{CHAINS, CHAINS_REPLIES};
 use lines::fakes::{Reader, Writer};
 use std::alloc::{AllocError, Global};
 use std::process::Abort;
 use std::test::Fail;
+use tables::{TABLES, TABLES_REPLIES};
 
 mod barriers;
 mod callbacks;
+mod chains;
 mod holding;
 mod needs;
 mod periods;
+mod tables;
 
 const LIMITS: Limits = Limits {
     sections: 18_014_398_509_481_984,
@@ -443,14 +447,12 @@ fn runs_scripts(rt: HostRuntime) -> Result<(), Fail> {
         (HELD, HELD_REPLIES, true),
         (CALLBACKS, CALLBACKS_REPLIES, false),
         (BARRIERS, BARRIERS_REPLIES, true),
+        (CHAINS, CHAINS_REPLIES, false),
+        (TABLES, TABLES_REPLIES, false),
         (FAULTS, FAULTS_REPLIES, true),
     ];
     for (script, replies, faulty) in table {
-        let mut written = Vec::new(rt.alloc());
-        let mut reader = script.as_bytes();
-        let outcome = run(rt.alloc(), &rt, &mut reader, &mut written, LIMITS);
-        assert_eq!(rt; outcome, Ok(Outcome { faulty }));
-        assert_eq!(rt; written.as_slice(), replies.as_bytes());
+        check_script(&rt, LIMITS, script, replies, faulty)?;
     }
     Ok(())
 }
@@ -693,6 +695,19 @@ fn check_run(
         write!(script, "{line}\n")?;
         write!(replies, "{reply}\n")?;
     }
+    check_script(rt, limits, &script, &replies, faulty)
+}
+
+/// Runs this script, and compares what is written with these replies, and whether a line is faulty.
+fn check_script(
+    rt: &(impl Abort + Wait + AllocGlobal),
+    limits: Limits,
+    script: &str,
+    replies: &str,
+    faulty: bool,
+) -> Result<(), Fail>
+    requires { AreInRange limits }
+{
     let mut written = Vec::new(rt.alloc());
     let mut reader = script.as_bytes();
     let outcome = run(rt.alloc(), rt, &mut reader, &mut written, limits);

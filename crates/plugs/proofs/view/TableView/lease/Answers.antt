@@ -12,6 +12,8 @@ returns-clause-leases g c =
     rw (c.of_pin.ensures, held) (record {
       begun = c.down_read.new.self;
       downs = downs;
+      acts = c.in-Ok.ensures.acts;
       finds = finds;
+      looks = rw (← c.self.view_is) c.find_held.ensures.acts;
       not_older = not_older_than_seen true c.args.self.now _ _ _ c.in-Ok.held c.find_held.result.found downs finds;
     })

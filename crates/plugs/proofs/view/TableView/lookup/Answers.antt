@@ -2,6 +2,7 @@
 use Rattle.std.proofs.Common.{false, subst}
 use Rattle.sections.specs.Views.{ReadingView}
 use Rattle.sections.specs.Calls.{Unlocks}
+use Rattle.domain.specs.Acting.{ends, ActsAs}
 use Rattle.plugs.specs.Reading.{FindsRows}
 use Rattle.plugs.proofs.Fresh.{not_older_than_seen}
 use Rattle.plugs.proofs.view.TableView.lookup.Goals as goal
@@ -13,10 +14,12 @@ returns-clause-looks_up g c =
       reading = c.in-Ok.reading;
       begun = c.read_lock.new.self;
       locks = locks;
+      acts = c.in-Ok.ensures.acts;
       rows = c.rows_there-rows.result;
       at = c.rows_there-rows.new.cpu;
       finds = finds;
       not_older = not_older_than_seen false c.args.self.now _ _ _ c.in-Ok.reading finds.found locks finds.finds;
       ends = subst (λ (r : ReadingView). Unlocks r c.rows_there-rows.new.cpu.cpu c.read_unlock.new.self.cpu) c.rows_there-rows.ensures.reading c.read_unlock.ensures.ends;
+      closes = subst (λ (r : ReadingView). ActsAs (ends r.section) c.rows_there-rows.new.cpu c.read_unlock.new.self) c.rows_there-rows.ensures.reading c.read_unlock.ensures.acts;
       plug_is = c.get.ensures;
     }

@@ -5,7 +5,7 @@ use Rattle.session.proofs.Batches.{IsKept, emptied_is, all_kept_on}
 use Rattle.session.proofs.entry.calling.finish_all.Goals as goal
 
 pub loop-last-init : goal.loop-last-init
-loop-last-init g c = record { out = c.requires.emptied; same = (refl, refl, refl, refl, refl); standing = refl }
+loop-last-init g c = record { out = c.requires.emptied; same = (refl, refl, refl, refl, refl, refl); standing = refl }
 
 pub finish-requires : goal.finish-requires
 finish-requires g c =
@@ -18,9 +18,9 @@ loop-last-preserved-in-Some-into_batch g c =
     let v = c.loop-last.invariant in
     let out = (All-pop (IsKept c.loop-last.domain) c.loop-last.outs.items c.pop.new.self.items c.pop.result c.pop.ensures.items v.out).0 in
     let on = c.finish.ensures.same in
-    let (a, b, d, e, f) = on in
-    let (a', b', d', e', f') = v.same in
-    record { out = all_kept_on c.loop-last.domain c.finish.new.self c.pop.new.self.items on out; same = (a ∙ a', b ∙ b', d ∙ d', e ∙ e', f ∙ f'); standing = ap (λ (x : Course). x.standing) c.finish.ensures.finishes.finishes_are.come ∙ v.standing }
+    let (a, b, d, e, f, s) = on in
+    let (a', b', d', e', f', s') = v.same in
+    record { out = all_kept_on c.loop-last.domain c.finish.new.self c.pop.new.self.items on out; same = (a ∙ a', b ∙ b', d ∙ d', e ∙ e', f ∙ f', s ∙ s'); standing = ap (λ (x : Course). x.standing) c.finish.ensures.finishes.finishes_are.come ∙ v.standing }
 
 pub loop-last-preserved : goal.loop-last-preserved
 loop-last-preserved g c =

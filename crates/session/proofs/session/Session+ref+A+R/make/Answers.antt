@@ -22,12 +22,12 @@ invariant_of-self-2 g c =
     let pushed : c.push.new.self.items ≡ entries ++ entry ∷ [] = search rules in
     record {
       in_range = c.self.invariant.in_range;
-      same = All-same (λ (e : EntryView). e.limits ≡ limits) _ _ pushed (All-push (λ (e : EntryView). e.limits ≡ limits) entries entry c.self.invariant.same (ap (λ (e : EntryView). e.limits) c.in_ok-entry.ensures ∙ c.in-Ok.ensures.limits_are));
+      same = All-same (λ (e : EntryView). e.limits ≡ limits) _ _ pushed (All-push (λ (e : EntryView). e.limits ≡ limits) entries entry c.self.invariant.same (ap (λ (e : EntryView). e.limits) c.in_ok-entry.ensures ∙ c.in-Ok.ensures.domain.limits_are));
     }
 
 pub returns-in-Err-Processors-clause-ok : goal.returns-in-Err-Processors-clause-ok
 returns-in-Err-Processors-clause-ok g c =
-    let none = rw c.in-Err-Processors.field-0-is at c.in-Err-Processors.ensures in
+    let none = rw c.in-Err-Processors.field-0-is at c.in-Err-Processors.ensures.domain in
     let few : length c.self.inside.entries.items < 8 = omega (arith, c.if-len-ge-MOST_DOMAINS.false, c.len.ensures, c.self.inside.entries.ok.0) in
     rw (← c.self.view_is, c.reserve.ensures.items) (inr (record { after = refl; cause = inr (inl (omega (arith, few, length-map c.self.inside.entries.items (λ (e : EntryView). e.state)), none, refl)) }))
 
@@ -38,7 +38,7 @@ returns-then-len-ge-MOST_DOMAINS-clause-ok g c =
 
 pub returns-in-Err-Memory-clause-ok : goal.returns-in-Err-Memory-clause-ok
 returns-in-Err-Memory-clause-ok g c =
-    let counted = rw c.in-Err-Memory.field-0-is at c.in-Err-Memory.ensures in
+    let counted = rw c.in-Err-Memory.field-0-is at c.in-Err-Memory.ensures.domain in
     let few : length c.self.inside.entries.items < 8 = omega (arith, c.if-len-ge-MOST_DOMAINS.false, c.len.ensures, c.self.inside.entries.ok.0) in
     rw (← c.self.view_is, c.reserve.ensures.items) (inr (record { after = refl; cause = inr (inr (omega (arith, few, length-map c.self.inside.entries.items (λ (e : EntryView). e.state)), counted, refl)) }))
 
@@ -50,7 +50,7 @@ pub returns-clause-ok : goal.returns-clause-ok
 returns-clause-ok g c =
     let entries = c.self.inside.entries.items in
     let entry = c.in_ok-entry.entry in
-    let made = c.in-Ok.ensures in
+    let made = c.in-Ok.ensures.domain in
     let few : length entries < 8 = omega (arith, c.if-len-ge-MOST_DOMAINS.false, c.len.ensures, c.self.inside.entries.ok.0) in
     let pushed : c.push.new.self.items ≡ entries ++ entry ∷ [] = search rules in
     let processors : c.in-Ok.domain.course.standing.processors ≡ c.args.processors = ap (λ z. z.standing.processors) made.nothing_yet in

@@ -1,7 +1,7 @@
 use Rattle.std.proofs.Common.{refl}
 use Rattle.solo.proofs.Hand.{in_items, lent, all_there}
 use Rattle.domain.specs.Acting.{asks_for}
-use Rattle.solo.proofs.Meeting.{Hand, hand_of, does, same_domain, have_met}
+use Rattle.solo.proofs.Acted.{Hand, hand_of, does, same_domain, have_met}
 use Rattle.solo.proofs.solo.Solo.ask.Given.{Over}
 use Rattle.solo.proofs.solo.Solo.ask.Goals as goal
 
@@ -21,7 +21,7 @@ pub invariant_of-self : goal.invariant_of-self
 invariant_of-self g c = record { engine = c.settle.ensures.meets.left; met = have_met (hand g c) (asks_for c.start_poll-cookie.result.number 0) c.start_poll-cookie.ensures.acts }
 
 pub returns-clause-same : goal.returns-clause-same
-returns-clause-same g c = same_domain (hand g c) (asks_for c.start_poll-cookie.result.number 0) c.start_poll-cookie.ensures.acts refl
+returns-clause-same g c = same_domain (hand g c) (asks_for c.start_poll-cookie.result.number 0) c.start_poll-cookie.ensures.acts refl refl
 
 pub returns-clause-asks : goal.returns-clause-asks
 returns-clause-asks g c = rw c.number.ensures.value (does (hand g c) (asks_for c.start_poll-cookie.result.number 0) c.start_poll-cookie.ensures.acts)

@@ -1,6 +1,6 @@
 use Rattle.std.proofs.Common.{◌∙◌}
 use Rattle.solo.proofs.Hand.{in_items, lent, own_tallies, all_there}
-use Rattle.solo.proofs.Meeting.{Hand, hand_of}
+use Rattle.solo.proofs.Acted.{Hand, hand_of}
 use Rattle.solo.proofs.Barriers.{poll_says}
 use Rattle.solo.proofs.solo.Solo.barrier_poll.Given.{Over}
 use Rattle.solo.proofs.solo.Solo.barrier_poll.Goals as goal

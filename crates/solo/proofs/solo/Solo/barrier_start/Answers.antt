@@ -1,6 +1,6 @@
 use Rattle.std.proofs.lemmas.Result.{IfOk-weaker}
 use Rattle.solo.proofs.Hand.{in_items, all_there, lent}
-use Rattle.solo.proofs.Meeting.{Hand, hand_of}
+use Rattle.solo.proofs.Acted.{Hand, hand_of}
 use Rattle.solo.proofs.Barriers.{start_says}
 use Rattle.solo.proofs.solo.Solo.barrier_start.Given.{Over}
 use Rattle.solo.proofs.solo.Solo.barrier_start.Goals as goal

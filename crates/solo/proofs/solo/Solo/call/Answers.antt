@@ -1,5 +1,5 @@
 use Rattle.solo.proofs.Hand.{in_items, all_stay, lent}
-use Rattle.solo.proofs.Meeting.{Hand, hand_of}
+use Rattle.solo.proofs.Acted.{Hand, hand_of}
 use Rattle.solo.proofs.Jobs.{call_says}
 use Rattle.solo.proofs.solo.Solo.call.Given.{Over}
 use Rattle.solo.proofs.solo.Solo.call.Goals as goal

@@ -1,7 +1,7 @@
 use Rattle.std.proofs.Common.{refl}
 use Rattle.solo.proofs.Hand.{in_items, all_here}
 use Rattle.domain.specs.Acting.{notes}
-use Rattle.solo.proofs.Meeting.{Hand, hand_of, does, same_domain, have_met}
+use Rattle.solo.proofs.Acted.{Hand, hand_of, does, same_domain, have_met}
 use Rattle.solo.proofs.solo.Solo.cookie.Given.{Over}
 use Rattle.solo.proofs.solo.Solo.cookie.Goals as goal
 
@@ -18,7 +18,7 @@ pub invariant_of-self : goal.invariant_of-self
 invariant_of-self g c = record { engine = c.settle.ensures.meets.left; met = have_met (hand g c) (notes c.cookie-cookie.result.number) c.cookie-cookie.ensures.acts }
 
 pub returns-clause-same : goal.returns-clause-same
-returns-clause-same g c = same_domain (hand g c) (notes c.cookie-cookie.result.number) c.cookie-cookie.ensures.acts refl
+returns-clause-same g c = same_domain (hand g c) (notes c.cookie-cookie.result.number) c.cookie-cookie.ensures.acts refl refl
 
 pub returns-clause-cookie : goal.returns-clause-cookie
 returns-clause-cookie g c = rw c.number.ensures.value (does (hand g c) (notes c.cookie-cookie.result.number) c.cookie-cookie.ensures.acts)

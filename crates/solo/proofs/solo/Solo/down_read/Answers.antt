@@ -1,6 +1,6 @@
 use Rattle.std.proofs.Common.{true}
 use Rattle.solo.proofs.Hand.{in_items, all_here, either}
-use Rattle.solo.proofs.Meeting.{Hand, hand_of}
+use Rattle.solo.proofs.Acted.{Hand, hand_of}
 use Rattle.solo.proofs.Quiet.{lock_says}
 use Rattle.solo.proofs.solo.Solo.down_read.Given.{Over}
 use Rattle.solo.proofs.solo.Solo.down_read.Goals as goal

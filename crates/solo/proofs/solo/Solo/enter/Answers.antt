@@ -1,5 +1,5 @@
 use Rattle.solo.proofs.Hand.{in_items, of_table, all_here, either}
-use Rattle.solo.proofs.Meeting.{Hand, hand_of}
+use Rattle.solo.proofs.Acted.{Hand, hand_of}
 use Rattle.solo.proofs.Quiet.{enter_says}
 use Rattle.solo.proofs.solo.Solo.enter.Given.{Over}
 use Rattle.solo.proofs.solo.Solo.enter.Goals as goal

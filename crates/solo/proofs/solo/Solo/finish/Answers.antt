@@ -1,6 +1,6 @@
 use Rattle.std.proofs.Common.{◌≡◌, ◌<◌, ◌∙◌, subst, rules}
 use Rattle.solo.proofs.Hand.{in_items, in_domain, lent, own_tallies, all_there}
-use Rattle.solo.proofs.Meeting.{Hand, hand_of}
+use Rattle.solo.proofs.Acted.{Hand, hand_of}
 use Rattle.solo.proofs.Jobs.{finish_says}
 use Rattle.solo.proofs.solo.Solo.finish.Given.{Over}
 use Rattle.solo.proofs.solo.Solo.finish.Goals as goal

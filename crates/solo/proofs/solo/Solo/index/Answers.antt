@@ -1,6 +1,6 @@
 use Rattle.std.proofs.Common.{◌∙◌}
 use Rattle.solo.proofs.Hand.{in_items, first_small, all_here}
-use Rattle.solo.proofs.Meeting.{Hand, hand_of}
+use Rattle.solo.proofs.Acted.{Hand, hand_of}
 use Rattle.solo.proofs.Quiet.{look_says}
 use Rattle.solo.proofs.solo.Solo.index.Given.{Over}
 use Rattle.solo.proofs.solo.Solo.index.Goals as goal

@@ -1,6 +1,6 @@
 use Rattle.std.proofs.Common.{arith}
 use Rattle.solo.proofs.Hand.{in_items, in_domain, in_room, lent, all_there}
-use Rattle.solo.proofs.Meeting.{Hand, hand_of}
+use Rattle.solo.proofs.Acted.{Hand, hand_of}
 use Rattle.solo.proofs.Jobs.{lens_says}
 use Rattle.solo.proofs.solo.Solo.lens.Given.{Over}
 use Rattle.solo.proofs.solo.Solo.lens.Goals as goal

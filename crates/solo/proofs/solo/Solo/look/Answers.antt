@@ -1,5 +1,5 @@
 use Rattle.solo.proofs.Hand.{in_items, all_here}
-use Rattle.solo.proofs.Meeting.{Hand, hand_of}
+use Rattle.solo.proofs.Acted.{Hand, hand_of}
 use Rattle.solo.proofs.Quiet.{look_says}
 use Rattle.solo.proofs.solo.Solo.look.Given.{Over}
 use Rattle.solo.proofs.solo.Solo.look.Goals as goal

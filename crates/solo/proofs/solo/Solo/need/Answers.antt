@@ -1,5 +1,5 @@
 use Rattle.solo.proofs.Hand.{in_items, first_small, lent, all_there}
-use Rattle.solo.proofs.Meeting.{Hand, hand_of}
+use Rattle.solo.proofs.Acted.{Hand, hand_of}
 use Rattle.solo.proofs.Jobs.{need_says}
 use Rattle.solo.proofs.solo.Solo.need.Given.{Over}
 use Rattle.solo.proofs.solo.Solo.need.Goals as goal

@@ -1,5 +1,5 @@
 use Rattle.solo.proofs.Hand.{in_items, first_small, all_here}
-use Rattle.solo.proofs.Meeting.{Hand, hand_of}
+use Rattle.solo.proofs.Acted.{Hand, hand_of}
 use Rattle.solo.proofs.Quiet.{number_says}
 use Rattle.solo.proofs.solo.Solo.number.Given.{Over}
 use Rattle.solo.proofs.solo.Solo.number.Goals as goal

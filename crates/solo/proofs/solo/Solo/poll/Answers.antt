@@ -1,5 +1,5 @@
 use Rattle.solo.proofs.Hand.{in_items, all_here, either}
-use Rattle.solo.proofs.Meeting.{Hand, hand_of}
+use Rattle.solo.proofs.Acted.{Hand, hand_of}
 use Rattle.solo.proofs.Quiet.{poll_says}
 use Rattle.solo.proofs.solo.Solo.poll.Given.{Over}
 use Rattle.solo.proofs.solo.Solo.poll.Goals as goal

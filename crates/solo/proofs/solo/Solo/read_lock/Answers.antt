@@ -1,6 +1,6 @@
 use Rattle.std.proofs.Common.{false}
 use Rattle.solo.proofs.Hand.{in_items, all_here, either}
-use Rattle.solo.proofs.Meeting.{Hand, hand_of}
+use Rattle.solo.proofs.Acted.{Hand, hand_of}
 use Rattle.solo.proofs.Quiet.{lock_says}
 use Rattle.solo.proofs.solo.Solo.read_lock.Given.{Over}
 use Rattle.solo.proofs.solo.Solo.read_lock.Goals as goal

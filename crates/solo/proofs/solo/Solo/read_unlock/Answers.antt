@@ -1,7 +1,7 @@
 use Rattle.std.proofs.Common.{◌≡◌, ◌<◌, sym, subst, rules, refl}
 use Rattle.solo.proofs.Hand.{in_items, of_table, of_number, all_here}
 use Rattle.domain.specs.Acting.{ends}
-use Rattle.solo.proofs.Meeting.{Hand, hand_of, s', does, same_domain, have_met}
+use Rattle.solo.proofs.Acted.{Hand, hand_of, s', does, same_domain, have_met}
 use Rattle.solo.specs.Calls.{Ends}
 use Rattle.solo.proofs.solo.Solo.read_unlock.Given.{Over}
 use Rattle.solo.proofs.solo.Solo.read_unlock.Goals as goal
@@ -32,7 +32,7 @@ pub invariant_of-self : goal.invariant_of-self
 invariant_of-self g c = record { engine = c.settle.ensures.meets.left; met = have_met (hand g c) (ends c.args.reading.section) c.read_unlock.ensures.acts }
 
 pub returns-clause-same : goal.returns-clause-same
-returns-clause-same g c = same_domain (hand g c) (ends c.args.reading.section) c.read_unlock.ensures.acts refl
+returns-clause-same g c = same_domain (hand g c) (ends c.args.reading.section) c.read_unlock.ensures.acts refl refl
 
 pub returns-clause-section : goal.returns-clause-section
 returns-clause-section g c = subst (λ p. Ends c.args.reading.section p c.args.self.now.course (s' (hand g c)).course) (sym (at g c)) (does (hand g c) (ends c.args.reading.section) c.read_unlock.ensures.acts)

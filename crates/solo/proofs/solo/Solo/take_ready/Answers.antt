@@ -1,6 +1,6 @@
 use Rattle.std.proofs.Common.{arith, rules}
 use Rattle.solo.proofs.Hand.{in_items, in_domain, in_room, lent, all_there, either}
-use Rattle.solo.proofs.Meeting.{Hand, hand_of}
+use Rattle.solo.proofs.Acted.{Hand, hand_of}
 use Rattle.solo.proofs.Jobs.{take_says}
 use Rattle.solo.proofs.solo.Solo.take_ready.Given.{Over}
 use Rattle.solo.proofs.solo.Solo.take_ready.Goals as goal

@@ -1,7 +1,7 @@
 use Rattle.std.proofs.Common.{refl}
 use Rattle.solo.proofs.Hand.{in_items, of_table, all_here}
 use Rattle.domain.specs.Acting.{ends}
-use Rattle.solo.proofs.Meeting.{Hand, hand_of, does, same_domain, have_met}
+use Rattle.solo.proofs.Acted.{Hand, hand_of, does, same_domain, have_met}
 use Rattle.solo.proofs.solo.Solo.up_read.Given.{Over}
 use Rattle.solo.proofs.solo.Solo.up_read.Goals as goal
 
@@ -21,7 +21,7 @@ pub invariant_of-self : goal.invariant_of-self
 invariant_of-self g c = record { engine = c.settle.ensures.meets.left; met = have_met (hand g c) (ends c.args.held.section) c.up_read.ensures.acts }
 
 pub returns-clause-same : goal.returns-clause-same
-returns-clause-same g c = same_domain (hand g c) (ends c.args.held.section) c.up_read.ensures.acts refl
+returns-clause-same g c = same_domain (hand g c) (ends c.args.held.section) c.up_read.ensures.acts refl refl
 
 pub returns-clause-section : goal.returns-clause-section
 returns-clause-section g c = does (hand g c) (ends c.args.held.section) c.up_read.ensures.acts

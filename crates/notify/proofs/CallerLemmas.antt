@@ -1,0 +1,34 @@
+-- For the proofs of callers: what was put is read.
+use Rattle.std.proofs.Common.{◌≡◌, ℕ, ◌-◌, ◌^◌, ◌≤◌, inl, inr, List, ◌∷◌, length, map, replicate, sym, ap, ◌∙◌, subst, arith, ext_get_or, length-append}
+use Rattle.std.proofs.lemmas.List.{length-map, length-replicate}
+use Rattle.sections.specs.Shelves.{words_of}
+use Rattle.sections.specs.Views.{FoundView}
+use Rattle.notify.specs.declared.block.Block.{Block}
+use Rattle.notify.specs.Blocks.{word_of, text_of, blocks_in, IsTextOf, AreRead}
+use Rattle.notify.specs.Reading.{AreWords}
+use Rattle.notify.proofs.Texts.{text_round}
+
+-- the words that were put are those of sixteen places
+pub text_long : (blocks : List Block) → length blocks ≤ 15 → length (text_of blocks) ≡ 16
+text_long blocks few =
+    let a = length-append (length blocks ∷ map word_of blocks) (replicate (16 - length (length blocks ∷ map word_of blocks)) 0) in
+    let m = length-map blocks word_of in
+    let r = length-replicate {A = ℕ} (16 - length (length blocks ∷ map word_of blocks)) 0 in omega (arith, a, m, r, few)
+
+module _ (ids : ℕ) (small : ids ≤ 2 ^ 32) where
+  -- the blocks are in the words
+  only_blocks : (words : List ℕ) (blocks : List Block) → IsTextOf ids words blocks → blocks_in words ≡ blocks
+  only_blocks words blocks t = ap blocks_in t.words_are ∙ text_round blocks t.chain.few (λ k d lt. let h = t.chain.known k d lt in omega (arith, h, small)) t.fit
+
+  -- the text of a chain is read as that chain
+  pub read_back : (words : List ℕ) (put read : List Block) → IsTextOf ids words put → AreRead ids words read → read ≡ put
+  read_back words put read t (inl r) = sym (only_blocks words read r) ∙ only_blocks words put t
+  read_back words put read t (inr none) = absurd (none.of_none put t)
+
+  -- and so are the words that a section loads of the version that it found
+  pub read_of_version : (f : FoundView) (words : List ℕ) (put read : List Block) → IsTextOf ids (words_of f.cell f.version f.texts) put → AreWords f words → AreRead ids words read → read ≡ put
+  read_of_version f words put read t are h = read_back words put read (subst (λ l. IsTextOf ids l put) (sym same) t) h
+    where
+      same : words ≡ words_of f.cell f.version f.texts
+      same = ext_get_or 0 words (words_of f.cell f.version f.texts) (are.long ∙ sym (ap length t.words_are ∙ text_long put t.chain.few))
+          (λ i lt. are.each i (let n = are.long in omega (arith, lt, n)))
