@@ -1,10 +1,13 @@
 mod AllAsked
 mod Carrying
+mod Chained
 mod Drives
 mod Finds
+mod Founded
 mod Passes
 mod Passing
 mod Puts
 mod Rooms
 mod Sampling
+mod Tabled
 mod TwoCpus

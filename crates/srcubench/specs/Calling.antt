@@ -9,7 +9,6 @@ use Rattle.domain.specs.Views.{DomainView, CpuView, callbacks_of, with_cpu, with
 use Rattle.domain.specs.Calling.{CallsIn}
 use Rattle.domain.specs.Waiting.{Synchronizes}
 use Rattle.domain.specs.Making.{new_cpu}
-use Rattle.srcubench.specs.declared.calling.JobError.{JobError}
 
 -- so many jobs were queued, one behind the other, each the number of its place
 abbrev pub QueuesAll : DomainView → ℕ → CpuView ℕ → CpuView ℕ → Type 0
@@ -52,9 +51,9 @@ pub record PassesAll (d : DomainView) (jobs : ℕ) (c c' : CpuView ℕ) : Type 0
   pub runs : RunsAll d jobs waited c'
 
 -- each of these processors, where there was no error, became another one in this way
-pub record AreOutcomes (Becomes : CpuView ℕ → CpuView ℕ → Type 0) (cpus : List (CpuView ℕ)) (outcomes : List (Result (CpuView ℕ) JobError)) : Type 0 where
+pub record AreOutcomes {J : Type 0} {E : Type 0} (Becomes : CpuView J → CpuView J → Type 0) (cpus : List (CpuView J)) (outcomes : List (Result (CpuView J) E)) : Type 0 where
   pub count : length outcomes ≡ length cpus
-  pub each : (k : ℕ) (c : CpuView ℕ) (r : Result (CpuView ℕ) JobError) → k < length cpus → IfOk (slice_index_or outcomes k r) (Becomes (slice_index_or cpus k c))
+  pub each : (k : ℕ) (c : CpuView J) (r : Result (CpuView J) E) → k < length cpus → IfOk (slice_index_or outcomes k r) (Becomes (slice_index_or cpus k c))
 
 -- each processor of a new domain of so many became another one in this way
 pub record OnEachOfNew (threads : ℕ) (Becomes : DomainView → CpuView ℕ → CpuView ℕ → Type 0) : Type 0 where

@@ -6,7 +6,10 @@ ghost use Rattle.srcubench.specs.Spreads.{IsSpreadOf};
 
 use crate::passage::Way;
 use crate::spread::{Spread, cost_of_one};
-use crate::{asking, callbacks, driving, finding, held, passage, putting, quiet, trial};
+use crate::{
+    asking, callbacks, driving, finding, held, installing, looking, notifying, passage, putting,
+    quiet, registering, trial,
+};
 use anyhow::Result;
 use std::sync::Wait;
 use std::thread::Threads;
@@ -72,6 +75,28 @@ pub enum Work {
     Puts {
         times: u64,
     },
+    /// Calls of a notifier chain with four handlers that do nothing: so many in each of so many threads, which are
+    /// processors of one domain.
+    ChainCalls {
+        threads: usize,
+        times: u64,
+    },
+    /// Rounds in which a block of a chain of four is unregistered and registered again, each behind a grace period, in
+    /// one thread.
+    ChainChanges {
+        rounds: u64,
+    },
+    /// One key of a table of fifteen that is looked up, or read through a lease: so many times in each of so many
+    /// threads, which are processors of one domain.
+    Looks {
+        threads: usize,
+        leased: bool,
+        times: u64,
+    },
+    /// Plugs that are installed for one key of a table of fifteen, each with a grace period behind it, in one thread.
+    Installs {
+        times: u64,
+    },
 }
 
 /// What one run did.
@@ -129,6 +154,14 @@ pub fn run<R: Threads + Sync + Wait + Clock + AllocGlobal>(rt: &R, work: Work) -
             })
         }
         Work::Puts { times } => putting::run(rt, times),
+        Work::ChainCalls { threads, times } => notifying::run(rt, threads, times),
+        Work::ChainChanges { rounds } => registering::run(rt, rounds),
+        Work::Looks {
+            threads,
+            leased,
+            times,
+        } => looking::run(rt, threads, leased, times),
+        Work::Installs { times } => installing::run(rt, times),
     }
 }
 
