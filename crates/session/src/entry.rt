@@ -5,9 +5,9 @@ ghost use Rattle.session.specs.States.{kind_at, scene_of};
 ghost use Rattle.session.specs.Entries.{AreTogether};
 ghost use Rattle.session.specs.Scripts.{Does};
 
+use crate::batch_out::{Out, none_out};
 use crate::entry::calling::finish_all;
 use crate::names::{Names, Token, take_last};
-use crate::batch_out::{Out, none_out};
 use crate::parking::Parking;
 use lines::Name;
 use requests::{Act, Cause, Command, Kind, Period, Reply, Sections};

@@ -1,10 +1,10 @@
 //! The session of a script: its domains, the tokens that have names there, and what each line does to them.
 #![tactic(auto)]
 
+mod batch_out;
 mod entry;
 mod names;
 mod open;
-mod batch_out;
 mod parking;
 mod scene;
 mod session;

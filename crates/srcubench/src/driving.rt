@@ -38,10 +38,7 @@ impl fmt::Display for Halt {
 impl Error for Halt {}
 
 /// The engine's next answer.
-fn answer<A: Allocator>(
-    domain: &Domain<(), A>,
-    cpu: &mut Cpu<(), A>,
-) -> Result<Progress, Halt>
+fn answer<A: Allocator>(domain: &Domain<(), A>, cpu: &mut Cpu<(), A>) -> Result<Progress, Halt>
     requires { IsOf domain.now cpu.old }
     ensures here { IsOf domain.now cpu.new }
     ensures advances { IfOk result (λ answer. AdvancesIn cpu.old answer cpu.new) }
@@ -53,10 +50,7 @@ fn answer<A: Allocator>(
 }
 
 /// Starts a grace period, and has the engine carry it to its end: three turns of the engine.
-pub fn drive_period<A: Allocator>(
-    domain: &Domain<(), A>,
-    cpu: &mut Cpu<(), A>,
-) -> Result<(), Halt>
+pub fn drive_period<A: Allocator>(domain: &Domain<(), A>, cpu: &mut Cpu<(), A>) -> Result<(), Halt>
     requires { IsOf domain.now cpu.old }
     ensures here { IsOf domain.now cpu.new }
     ensures drives { IfOk result (λ _. DrivesPeriod cpu.old cpu.new) }

@@ -5,8 +5,8 @@ ghost use Rattle.solo.specs.Cleanup.{IsTakenDown};
 ghost use Rattle.session.specs.Scripts.{IsInUse};
 
 use super::Entry;
-use crate::names::{Names, Token, take_last};
 use crate::batch_out::Out;
+use crate::names::{Names, Token, take_last};
 use crate::parking::Parking;
 use requests::Cause;
 use solo::{InUse, Totals};

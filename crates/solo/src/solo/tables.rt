@@ -89,11 +89,7 @@ impl<J: Drop, A: Allocator + Copy> Solo<J, A> {
 
     /// A held section with the version that is current, begun on a processor; refused, with nothing done, where none may
     /// begin there. Its rows are those of the table now, whatever is put later.
-    pub fn lease(
-        &mut self,
-        processor: u64,
-        board: &Plugboard,
-    ) -> Result<Lease, Exhausted>
+    pub fn lease(&mut self, processor: u64, board: &Plugboard) -> Result<Lease, Exhausted>
         requires processor { processor < self.old.course.standing.processors }
         requires current { IsCurrent self.old board.now }
         ensures same { IsSameDomain self.old self.new }
@@ -108,12 +104,7 @@ impl<J: Drop, A: Allocator + Copy> Solo<J, A> {
     }
 
     /// The plug of a key in the version of a lease, however old, on any processor.
-    pub fn read(
-        &mut self,
-        processor: u64,
-        lease: &mut Lease,
-        key: u32,
-    ) -> Option<u32>
+    pub fn read(&mut self, processor: u64, lease: &mut Lease, key: u32) -> Option<u32>
         requires processor { processor < self.old.course.standing.processors }
         requires lease { lease.old.held.domain ≡ self.old.table }
         ensures after { self.new ≡ self.old }

@@ -15,7 +15,7 @@ push-requires g c =
     let es = c.loop-name.batch.entries in
     let one : length es ≡ length c.next.new.self.entries + 1 = ap length c.in-Some.ensures.1.1 ∙ sym (add-one _) in
     let all : length names + length es ≡ length c.args.batch.now.entries =
-        ap (λ (n : ℕ). length names + n) (sym (length-map es (λ (e : Entry (List ℕ)). e.job))) ∙ sym (length-append names (jobs_of es)) ∙ ap length v.all ∙ length-map c.args.batch.now.entries (λ (e : Entry (List ℕ)). e.job) in
+    ap (λ (n : ℕ). length names + n) (sym (length-map es (λ (e : Entry (List ℕ)). e.job))) ∙ sym (length-append names (jobs_of es)) ∙ ap length v.all ∙ length-map c.args.batch.now.entries (λ (e : Entry (List ℕ)). e.job) in
     let few = c.requires in
     omega (arith, one, all, few)
 
@@ -32,11 +32,11 @@ loop-name-preserved g c =
     record {
       batch = c.in-Some.ensures.0 ∙ ap (λ (z : Batch). record z { entries = left }) v.batch;
       all =
-        ap (λ (ns : List (List ℕ)). ns ++ jobs_of left) c.push.ensures
-        ∙ append_snoc names c.in-Some.name (jobs_of left)
-        ∙ ap (λ (j : List ℕ). names ++ j ∷ jobs_of left) c.in-Some.ensures.1.2
-        ∙ ap (λ (es : List (Entry (List ℕ))). names ++ jobs_of es) (sym c.in-Some.ensures.1.1)
-        ∙ v.all;
+          ap (λ (ns : List (List ℕ)). ns ++ jobs_of left) c.push.ensures
+          ∙ append_snoc names c.in-Some.name (jobs_of left)
+          ∙ ap (λ (j : List ℕ). names ++ j ∷ jobs_of left) c.in-Some.ensures.1.2
+          ∙ ap (λ (es : List (Entry (List ℕ))). names ++ jobs_of es) (sym c.in-Some.ensures.1.1)
+          ∙ v.all;
     }
 
 pub returns-clause-names : goal.returns-clause-names
