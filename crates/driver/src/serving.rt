@@ -78,6 +78,8 @@ fn look_after<R: Wait, J: Drop, A: Allocator + Copy, F: FnMut(J)>(
     ensures few { result ≤ 8 }
     ensures work { F.IsAlwaysCallable work.new }
 {
+    // A batch is moved below, and the proof of that wants to know that its type fits in memory. So does every type that is
+    // compiled, but of one with a type parameter only a comparison says so: the compiler drops all of this.
     let vain: Option<Batch<J, A>> = None;
     if !fits(&vain) {
         for _ in rt.forever() {}
