@@ -3,6 +3,7 @@ ghost use Rattle.sections.specs.Words.{cells_in};
 ghost use Rattle.driver.specs.Pools.{IsIdle};
 
 mod lending;
+mod sharing;
 
 use super::*;
 use domain::{Cpu, Domain, Limits, MakeError, Totals};
