@@ -1,0 +1,5 @@
+pub mod Courses
+pub mod Readers
+pub mod Updaters
+pub mod Workers
+pub mod Totals
