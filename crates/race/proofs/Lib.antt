@@ -10,3 +10,4 @@ mod Comings
 mod Seating
 mod Telling
 mod Summing
+mod Finishing

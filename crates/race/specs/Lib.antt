@@ -3,3 +3,4 @@ pub mod Readers
 pub mod Updaters
 pub mod Workers
 pub mod Totals
+pub mod Endings

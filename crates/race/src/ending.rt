@@ -1,7 +1,9 @@
 //! How a race ends.
 ghost use Rattle.std.specs.Prelude.{◌≡◌, ◌+◌, ◌<◌, ◌≤◌, length, map, vec_capacity};
+ghost use Rattle.desk.specs.Calls.{AreAllSeats};
 ghost use Rattle.race.specs.Courses.{IsCourse};
 ghost use Rattle.race.specs.Workers.{EachAt, IsBack, AreBack, opened_by, closed_by, HasRoom};
+ghost use Rattle.race.specs.Endings.{ClosesDesk, EndsSections};
 ghost use Rattle.race.specs.Totals.{AreCounts};
 
 use crate::course::Course;
@@ -9,7 +11,9 @@ use crate::making::Parts;
 use crate::reader::Reader;
 use crate::totals::RaceTotals;
 use crate::workers::Workers;
-use plugs::release;
+use desk::{Desk, DeskSeat};
+use domain::Cpu;
+use plugs::{Lease, release};
 
 /// What the readers of a race had, apart, and what they have counted together.
 #[derive(Drop)]
@@ -45,11 +49,25 @@ fn take_apart(course: &Course, readers: Vec<Reader>, parts: Parts) -> Sums
     sums
 }
 
+/// Closes the desk, and releases the lease that lies there, if one does. Tells how many it released.
+fn close_desk(desk: Desk<Lease>, seats: Vec<DeskSeat<Lease>>, cpu: &mut Cpu<()>) -> u64
+    requires seats { AreAllSeats desk seats.items }
+    requires home { desk.domain ≡ cpu.old.cpu.domain }
+    ensures closes { ClosesDesk desk seats.items result }
+    ensures cpu { EndsSections result cpu.old cpu.new }
+{
+    let Some(lease) = desk.close(seats) else {
+        return 0;
+    };
+    release(lease, cpu);
+    1
+}
+
 /// Closes the desk, takes the domain down, and tells what was counted.
 pub fn end(course: Course, workers: Workers, parts: Parts) -> RaceTotals
     requires course { IsCourse course }
     requires many { course.domain.processors ≡ course.desk.seats + 1 }
-    requires few { course.desk.seats ≤ 63 }
+    requires few { (1 ≤ course.desk.seats) × (course.desk.seats ≤ 63) }
     requires back { AreBack course workers }
     requires room { HasRoom course.desk.seats parts }
     ensures counts { AreCounts course.rounds result }
@@ -71,10 +89,7 @@ pub fn end(course: Course, workers: Workers, parts: Parts) -> RaceTotals
         rounds: _,
     } = course;
     let Parts { mut cpus, seats } = parts;
-    if let Some(lease) = desk.close(seats) {
-        release(lease, &mut updater.cpu);
-        closed += 1;
-    }
+    closed += close_desk(desk, seats, &mut updater.cpu);
     cpus.push_reserved(updater.cpu);
     RaceTotals {
         opened,
