@@ -1,11 +1,13 @@
 -- Readers that have raced are back.
-use Rattle.std.proofs.Common.{◌≡◌, ◌+◌, ◌≤◌, ◌*◌, ℕ, zero, suc, ◌<◌, List, [], ◌∷◌, Result, Ok, Err, IfOk, length, get_or, sum_by, refl, ap, ◌∙◌, arith}
+use Rattle.std.proofs.Common.{◌≡◌, ◌+◌, ◌≤◌, ◌*◌, ℕ, zero, suc, ◌<◌, List, [], ◌∷◌, Result, Ok, Err, IfOk, length, get_or, sum_by, refl, ap, ◌∙◌, subst, arith}
 use Rattle.std.proofs.lemmas.List.Sums.{sum_by-cons}
 use Rattle.race.specs.declared.course.Course.{Course}
 use Rattle.race.specs.declared.reader.Reader.{Reader}
 use Rattle.race.specs.declared.workers.Workers.{Workers}
 use Rattle.race.specs.Readers.{HasRead}
+use Rattle.race.specs.declared.totals.RaceTotals.{RaceTotals}
 use Rattle.race.specs.Workers.{AreBack, HaveRaced, opened_by}
+use Rattle.race.specs.Totals.{AreCounts, AreTotals}
 
 pub back_of : (g : Course) (w : Workers) → HaveRaced g w → AreBack g w
 back_of g w h = record {
@@ -29,3 +31,10 @@ times rounds (r ∷ rs) h =
 
 pub all_opened : (g : Course) (w : Workers) → HaveRaced g w → opened_by w.readers.items ≡ length w.readers.items * g.rounds
 all_opened g w h = times g.rounds w.readers.items (λ i d lt. (h.each i d lt).opened)
+
+-- so the totals are those of so many readers
+pub totals_are : (readers rounds : ℕ) (g : Course) (w : Workers) (t : RaceTotals) → g.desk.seats ≡ readers → g.rounds ≡ rounds → HaveRaced g w → AreCounts g.rounds t → t.opened ≡ opened_by w.readers.items → AreTotals readers rounds t
+totals_are readers rounds g w t seats rounds_are h counts opened = record {
+  counts = subst (λ n. AreCounts n t) rounds_are counts;
+  opened = opened ∙ (all_opened g w h ∙ (ap (λ n. n * g.rounds) (h.many ∙ seats) ∙ ap (λ n. readers * n) rounds_are));
+}

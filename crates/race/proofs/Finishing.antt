@@ -1,7 +1,7 @@
 -- When all workers are back, what they counted is what the domain tells.
 use Rattle.std.proofs.Common.{◌≡◌, ◌≢◌, ℕ, ◌+◌, ◌*◌, ◌^◌, ◌<◌, ◌≤◌, List, [], ◌∷◌, ◌++◌, All, Contains, Option, Some, None, is_some, IfSome, map, length, get_or, sum_by, refl, sym, ap, ◌∙◌, subst, arith, length-append, Result, Ok, Err, MatchResult}
 use Rattle.std.proofs.lemmas.List.{length-map, get_or-map}
-use Rattle.std.proofs.lemmas.List.Sums.{sum_by_push, sum_by-le, sum_by-cons}
+use Rattle.std.proofs.lemmas.List.Sums.{sum_by_push, sum_by-le}
 use Rattle.std.proofs.Math.Seq.{get_or-append_seam}
 use Rattle.std.specs.Result.{result_ok}
 use Rattle.onedom.proofs.CallerLemmas.{bit}
@@ -50,11 +50,11 @@ one_bit : (left : Option LeaseView) → one_if left ≡ bit (is_some left)
 one_bit None = refl
 one_bit (Some x) = refl
 
--- Sums of what is left
+pub one_at_most : (left : Option LeaseView) → one_if left ≤ 1
+one_at_most None = omega arith
+one_at_most (Some x) = omega arith
 
--- what one reader counted is no more than what all of them did
-pub counts_within : (f : Reader → ℕ) (so_far whole : ℕ) (r : Reader) (rest : List Reader) → so_far + sum_by f (r ∷ rest) ≡ whole → so_far + f r + sum_by f rest ≡ whole
-counts_within f so_far whole r rest is = let n = sum_by-cons f r rest in omega (arith, is, n)
+-- Sums of what is left
 
 pub few_opened : (g : Course) (rs : List Reader) → IsCourse g → EachAt (IsBack g) rs → length rs ≤ 63 → opened_by rs ≤ 63000
 few_opened g rs course each few =
@@ -153,7 +153,7 @@ module _ (g : Course) (w : Workers) (back : AreBack g w) where
         omega (arith, cut, own, last, none)
 
     -- all but the last one have done nothing at the tally words
-    IsIdle : ℕ → CpuView Unit → Type 0
+    abbrev IsIdle : ℕ → CpuView Unit → Type 0
     IsIdle k c = k < length rs → c.calls.seen ≡ []
 
     idle_cpus : (k : ℕ) (c : CpuView Unit) → k < length cpus → IsIdle k (get_or cpus k c)

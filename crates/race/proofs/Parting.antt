@@ -46,12 +46,15 @@ sum_map f g (x ∷ xs) =
     sum_by-cons f (g x) (map g xs) ∙ omega (arith, rest, a)
 
 -- a sum over a list is that of what stands at each place
-pub sum_at : {A : Type 0} (f : A → ℕ) (g : ℕ → ℕ) (p : ℕ) (xs : List A) → ((i : ℕ) (d : A) → i < length xs → f (get_or xs i d) ≡ g (p + i)) → sum_by f xs ≡ added g p (length xs)
+sum_at : {A : Type 0} (f : A → ℕ) (g : ℕ → ℕ) (p : ℕ) (xs : List A) → ((i : ℕ) (d : A) → i < length xs → f (get_or xs i d) ≡ g (p + i)) → sum_by f xs ≡ added g p (length xs)
 sum_at f g p [] h = refl
 sum_at f g p (x ∷ xs) h =
     let first : f x ≡ g p = h 0 x (omega arith) ∙ ap g (omega arith) in
     let rest = sum_at f g (p + 1) xs (λ i d lt. h (suc i) d (omega (arith, lt)) ∙ ap g (omega arith)) in
     sum_by-cons f x xs ∙ omega (arith, first, rest)
+
+pub sum_by_place : {A : Type 0} (f : A → ℕ) (g : ℕ → ℕ) (xs : List A) → ((i : ℕ) (d : A) → i < length xs → f (get_or xs i d) ≡ g i) → sum_by f xs ≡ added g 0 (length xs)
+sum_by_place f g xs h = sum_at f g 0 xs (λ i d lt. h i d lt ∙ ap g (omega arith))
 
 -- a count of a list, item by item, of which each that counts has just one of so many makers
 module _ {A : Type 0} (count : List A → ℕ) (weight : A → ℕ) (nil : count [] ≡ 0) (cons : (x : A) (xs : List A) → count (x ∷ xs) ≡ weight x + count xs) (is_by : ℕ → A → Bool) (n : ℕ) where

@@ -11,7 +11,7 @@ use Rattle.race.specs.declared.course.Course.{Course}
 use Rattle.race.specs.declared.reader.Reader.{Reader}
 use Rattle.race.specs.Readers.{laid_in, found_in, own_swaps}
 use Rattle.race.specs.Workers.{EachAt, IsBack, opened_by, closed_by}
-use Rattle.race.proofs.Parting.{sum_at}
+use Rattle.race.proofs.Parting.{sum_by_place}
 use Rattle.race.proofs.Handing.{handed, by_all_seats}
 
 module _ (g : Course) (rs : List Reader) (many : length rs ≡ g.desk.seats) (each : EachAt (IsBack g) rs) (left : Option LeaseView) (closes : Closes g.desk (map (λ (r : Reader). r.seat) rs) left) where
@@ -27,12 +27,12 @@ module _ (g : Course) (rs : List Reader) (many : length rs ≡ g.desk.seats) (ea
 
   laid_by_all : opened_by rs ≡ laid_in closes.swaps
   laid_by_all =
-      sum_at (λ (r : Reader). r.opened) (λ k. laid_in (swaps_of k closes.swaps)) 0 rs (λ i d lt. let b = each i d lt in let laid = b.tells.laid in let own = ap laid_in (own_in_all i d lt) in omega (arith, laid, own))
+      sum_by_place (λ (r : Reader). r.opened) (λ k. laid_in (swaps_of k closes.swaps)) rs (λ i d lt. let b = each i d lt in let laid = b.tells.laid in let own = ap laid_in (own_in_all i d lt) in omega (arith, laid, own))
       ∙ (ap (λ n. added (λ k. laid_in (swaps_of k closes.swaps)) 0 n) many ∙ by_all_seats (λ (s : Swap LeaseView). is_some s.left) g.desk.seats closes.swaps closes.makers)
 
   found_by_all : closed_by rs ≡ found_in closes.swaps
   found_by_all =
-      sum_at (λ (r : Reader). r.closed) (λ k. found_in (swaps_of k closes.swaps)) 0 rs (λ i d lt. let b = each i d lt in let found = b.tells.found in let own = ap found_in (own_in_all i d lt) in omega (arith, found, own))
+      sum_by_place (λ (r : Reader). r.closed) (λ k. found_in (swaps_of k closes.swaps)) rs (λ i d lt. let b = each i d lt in let found = b.tells.found in let own = ap found_in (own_in_all i d lt) in omega (arith, found, own))
       ∙ (ap (λ n. added (λ k. found_in (swaps_of k closes.swaps)) 0 n) many ∙ by_all_seats (λ (s : Swap LeaseView). is_some s.found) g.desk.seats closes.swaps closes.makers)
 
   -- as many were made as were released, with the one that was left

@@ -18,7 +18,7 @@ use Rattle.domain.specs.Cleanup.{IsTakenDown}
 use Rattle.domain.proofs.CallerLemmas.{CountsNothing, nothing_done, queued_loads_count, finished_loads_count, both_count}
 use Rattle.std.proofs.lemmas.List.{map-append}
 use Rattle.race.specs.Updaters.{own_deeds, TellsOf}
-use Rattle.race.proofs.Parting.{added_one, added_none, sum_at}
+use Rattle.race.proofs.Parting.{added_one, added_none, sum_by_place}
 use Rattle.race.proofs.Sections.{opened_by_all, closed_by_all}
 use Rattle.race.proofs.Callbacks.{finished_by_all}
 
@@ -53,13 +53,13 @@ module _ (d : DomainView) (cpus : List (CpuView Unit)) (t : Totals) (down : IsTa
   opened_told = down.totals.opened
       ∙ (sym (opened_by_all d.processors down.history down.of_all.makers)
       ∙ (ap (λ n. added (λ k. opened_in (made_by (Processor k) down.history)) 0 n) (sym places.count)
-      ∙ sym (sum_at (λ (c : CpuView Unit). opened_in c.cpu.mine) (λ k. opened_in (made_by (Processor k) down.history)) 0 cpus (λ i c lt. ap opened_in (own_at i c lt)))))
+      ∙ sym (sum_by_place (λ (c : CpuView Unit). opened_in c.cpu.mine) (λ k. opened_in (made_by (Processor k) down.history)) cpus (λ i c lt. ap opened_in (own_at i c lt)))))
 
   pub closed_told : t.closed ≡ sum_by (λ c. closed_in c.cpu.mine) cpus
   closed_told = down.totals.closed
       ∙ (sym (closed_by_all d.processors down.history down.of_all.makers)
       ∙ (ap (λ n. added (λ k. closed_in (made_by (Processor k) down.history)) 0 n) (sym places.count)
-      ∙ sym (sum_at (λ (c : CpuView Unit). closed_in c.cpu.mine) (λ k. closed_in (made_by (Processor k) down.history)) 0 cpus (λ i c lt. ap closed_in (own_at i c lt)))))
+      ∙ sym (sum_by_place (λ (c : CpuView Unit). closed_in c.cpu.mine) (λ k. closed_in (made_by (Processor k) down.history)) cpus (λ i c lt. ap closed_in (own_at i c lt)))))
 
   -- Callbacks: all but the last processor have done nothing at the tally words
   abbrev IdleBut : ℕ → Type 0
@@ -68,7 +68,7 @@ module _ (d : DomainView) (cpus : List (CpuView Unit)) (t : Totals) (down : IsTa
   tally : (k : ℕ) (c : CpuView Unit) → k < length cpus → (get_or cpus k c).calls.processor ≡ k
   tally k c lt = sym (places.here k c lt).fits.cpu ∙ places.number k c lt
 
-  loads_of : ℕ → List (Deed Unit)
+  abbrev loads_of : ℕ → List (Deed Unit)
   loads_of p = map (deed p) (queued_loads 0 down.deeds_of_all.queued ++ finished_loads 0 down.deeds_of_all.finished)
 
   loads_nothing : (p : ℕ) → CountsNothing (loads_of p)
