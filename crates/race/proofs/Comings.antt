@@ -1,10 +1,9 @@
 -- Readers that have raced are back.
-use Rattle.std.proofs.Common.{◌≡◌, ◌+◌, ◌≤◌, ◌*◌, ℕ, zero, suc, ◌<◌, List, [], ◌∷◌, Result, Ok, Err, IfOk, length, get_or, sum_by, refl, ap, ◌∙◌, subst, arith}
+use Rattle.std.proofs.Common.{◌≡◌, ◌*◌, ℕ, suc, ◌<◌, List, [], ◌∷◌, Result, Ok, Err, IfOk, length, get_or, ap, ◌∙◌, subst, arith}
 use Rattle.std.proofs.lemmas.List.Sums.{sum_by-cons}
 use Rattle.race.specs.declared.course.Course.{Course}
 use Rattle.race.specs.declared.reader.Reader.{Reader}
 use Rattle.race.specs.declared.workers.Workers.{Workers}
-use Rattle.race.specs.Readers.{HasRead}
 use Rattle.race.specs.declared.totals.RaceTotals.{RaceTotals}
 use Rattle.race.specs.Workers.{AreBack, HaveRaced, opened_by}
 use Rattle.race.specs.Totals.{AreCounts, AreTotals}

@@ -1,5 +1,5 @@
 -- When all workers are back, what they counted is what the domain tells.
-use Rattle.std.proofs.Common.{◌≡◌, ◌≢◌, ℕ, ◌+◌, ◌*◌, ◌^◌, ◌<◌, ◌≤◌, List, [], ◌∷◌, ◌++◌, All, Contains, Option, Some, None, is_some, IfSome, map, length, get_or, sum_by, refl, sym, ap, ◌∙◌, subst, arith, length-append, Result, Ok, Err, MatchResult}
+use Rattle.std.proofs.Common.{◌≡◌, ℕ, ◌+◌, ◌<◌, ◌≤◌, List, [], ◌∷◌, ◌++◌, Option, Some, None, is_some, IfSome, map, length, get_or, sum_by, refl, sym, ap, ◌∙◌, subst, arith, length-append, Result, Ok, Err, MatchResult}
 use Rattle.std.proofs.lemmas.List.{length-map, get_or-map}
 use Rattle.std.proofs.lemmas.List.Sums.{sum_by_push, sum_by-le}
 use Rattle.std.proofs.Math.Seq.{get_or-append_seam}
@@ -7,8 +7,8 @@ use Rattle.std.specs.Result.{result_ok}
 use Rattle.onedom.proofs.CallerLemmas.{bit}
 use Rattle.sections.specs.Words.{opened_in, closed_in}
 use Rattle.sections.specs.Calls.{Unlocks}
-use Rattle.desk.specs.Views.{DeskView, SeatView}
-use Rattle.desk.specs.Calls.{new_seat, AreAllSeats, Closes}
+use Rattle.desk.specs.Views.{SeatView}
+use Rattle.desk.specs.Calls.{new_seat, AreAllSeats}
 use Rattle.domain.specs.declared.domain.cleanup.Totals as domain
 use Rattle.domain.specs.Views.{CpuView, IsOf, Stays, with_cpu}
 use Rattle.domain.specs.Parts.{Each}

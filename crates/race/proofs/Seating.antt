@@ -1,15 +1,15 @@
 -- Each processor gets the seat of its number.
-use Rattle.std.proofs.Common.{◌≡◌, ℕ, ◌+◌, ◌-◌, ◌^◌, ◌<◌, ◌≤◌, List, [], ◌∷◌, ◌++◌, Option, Some, None, option_to_list, IfSome, length, get_or, reverse, refl, sym, ap, ◌∙◌, subst, arith, append-nil}
+use Rattle.std.proofs.Common.{◌≡◌, ℕ, ◌+◌, ◌-◌, ◌^◌, ◌<◌, List, [], ◌++◌, Option, Some, None, option_to_list, IfSome, length, get_or, reverse, refl, sym, ap, ◌∙◌, subst, arith, append-nil}
 use Rattle.std.proofs.lemmas.List.{get_or-reverse, length-reverse}
 use Rattle.sections.specs.Words.{opened_in, closed_in}
-use Rattle.desk.specs.Views.{DeskView, SeatView}
+use Rattle.desk.specs.Views.{SeatView}
 use Rattle.desk.specs.Calls.{new_seat}
 use Rattle.domain.specs.Views.{CpuView, IsOf}
 use Rattle.plugs.specs.Views.{LeaseView}
 use Rattle.race.specs.declared.course.Course.{Course}
 use Rattle.race.specs.declared.reader.Reader.{Reader}
 use Rattle.race.specs.Courses.{IsCourse}
-use Rattle.race.specs.Readers.{own_swaps, laid_in, found_in, IsReaderOf, Tells, HasMade}
+use Rattle.race.specs.Readers.{own_swaps, laid_in, found_in, HasMade}
 use Rattle.race.specs.Workers.{EachAt, EachCpu, IsNewReader, IsNewCpu}
 use Rattle.race.specs.Updaters.{own_deeds, IsNew}
 use Rattle.calls.specs.Tallies.{queued_in, finished_in, deeds_of}

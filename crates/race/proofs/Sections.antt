@@ -1,5 +1,5 @@
 -- The sections of a history, counted by the processors that began and ended them.
-use Rattle.std.proofs.Common.{◌≡◌, ◌≢◌, ℕ, ◌<◌, ◌==◌, Bool, true, false, eqb, List, All, inl, inr, count_by, refl, sym, ap, ◌∙◌, eq-eqb, ne_eqb}
+use Rattle.std.proofs.Common.{◌≡◌, ◌≢◌, ℕ, Bool, true, false, List, All, inl, inr, count_by, refl, sym, ap, ◌∙◌, eq-eqb, ne_eqb}
 use Rattle.std.proofs.lemmas.List.Elements.{All-weaker}
 use Rattle.calls.specs.Totals.{added}
 use Rattle.onedom.specs.declared.event.Maker.{Maker}
@@ -10,7 +10,7 @@ use Rattle.onedom.specs.Histories.{maker_of, same_maker, made_by}
 use Rattle.onedom.proofs.CallerLemmas.{bit, count_cons}
 use Rattle.sections.specs.Words.{is_begin, is_end, opened_in, closed_in}
 use Rattle.sections.specs.Rule.{HasItsMaker}
-use Rattle.race.proofs.Parting.{HasOneMaker, Counts, parts}
+use Rattle.race.proofs.Parting.{Counts, parts}
 
 abbrev by_processor : ℕ → Event → Bool
 by_processor k e = same_maker (maker_of e) (Processor k)

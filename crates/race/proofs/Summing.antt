@@ -1,9 +1,9 @@
 -- Each lease that a reader laid down one of them found, but for the one that lay there in the end.
-use Rattle.std.proofs.Common.{◌≡◌, ℕ, ◌+◌, ◌<◌, List, All, Option, is_some, map, length, get_or, count_by, sum_by, sym, ap, ◌∙◌, subst, arith}
+use Rattle.std.proofs.Common.{◌≡◌, ℕ, ◌+◌, ◌<◌, List, Option, is_some, map, length, get_or, sym, ap, ◌∙◌, subst, arith}
 use Rattle.std.proofs.lemmas.List.{length-map, get_or-map}
 use Rattle.onedom.proofs.CallerLemmas.{bit}
 use Rattle.calls.specs.Totals.{added}
-use Rattle.desk.specs.Swaps.{Swap, lies_behind, swaps_of}
+use Rattle.desk.specs.Swaps.{Swap, swaps_of}
 use Rattle.desk.specs.Views.{SeatView}
 use Rattle.desk.specs.Calls.{Closes}
 use Rattle.plugs.specs.Views.{LeaseView}

@@ -1,5 +1,5 @@
 -- What each call of the updater's processor adds to what the updater tells.
-use Rattle.std.proofs.Common.{◌≡◌, ℕ, ◌+◌, ◌^◌, ◌<◌, ◌⊎◌, inl, inr, List, [], ◌∷◌, ◌++◌, refl, sym, ap, ◌∙◌, append-nil, append_assoc, arith}
+use Rattle.std.proofs.Common.{◌≡◌, ℕ, ◌+◌, ◌^◌, ◌<◌, inl, inr, List, [], ◌∷◌, ◌++◌, refl, sym, ap, ◌∙◌, append_assoc, arith}
 use Rattle.onedom.specs.declared.event.Event.{Event}
 use Rattle.sections.specs.WriterViews.{WriterView}
 use Rattle.sections.specs.Writers.{questions}
@@ -8,15 +8,14 @@ use Rattle.onedom.specs.declared.event.Maker.TheVariants.{Processor}
 use Rattle.onedom.specs.declared.event.Event.TheVariants.{Note, Put}
 use Rattle.calls.specs.declared.refusals.CallRefusal.{CallRefusal}
 use Rattle.calls.specs.declared.refusals.CallRefusal.TheVariants as calling
-use Rattle.calls.specs.Views.{CallSeatView}
-use Rattle.domain.specs.Views.{CpuView, IsOf, with_cpu}
+use Rattle.domain.specs.Views.{CpuView, IsOf}
 use Rattle.domain.specs.Acting.{loads, notes, takes, asks_for, finishes, ActsAs, QueuesNone}
 use Rattle.plugs.specs.Views.{TableState}
 use Rattle.plugs.specs.Changes.{Frees, Publishes, Installs, LacksSlotFor}
 use Rattle.race.specs.declared.course.Course.{Course}
 use Rattle.race.specs.declared.updater.Updater.{Updater}
-use Rattle.race.specs.Updaters.{own_deeds, IsUpdaterOf, TellsOf, Tells, GoesOn}
-use Rattle.race.proofs.Counted.{IsQuiet, quiet_append, questions_quiet, Adds, adds_nothing, adds_act, tells_after}
+use Rattle.race.specs.Updaters.{IsUpdaterOf, Tells, GoesOn}
+use Rattle.race.proofs.Counted.{quiet_append, questions_quiet, Adds, adds_nothing, adds_act, tells_after}
 
 module _ (g : Course) (u : Updater) (is : IsUpdaterOf g u) (tells : Tells u) where
   -- the number of the seat at the tally words is that of the processor

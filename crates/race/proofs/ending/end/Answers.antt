@@ -1,5 +1,5 @@
 -- The seats and the processors are those of all workers, so what these counted is what the domain tells.
-use Rattle.std.proofs.Common.{◌≡◌, ◌+◌, ◌≤◌, ◌∷◌, [], ◌++◌, List, length, refl, sym, ap, ◌∙◌, subst, arith}
+use Rattle.std.proofs.Common.{◌+◌, ◌≤◌, ◌∷◌, [], ◌++◌, List, length, refl, sym, ap, ◌∙◌, subst, arith}
 use Rattle.desk.specs.Views.{SeatView}
 use Rattle.desk.specs.Calls.{AreAllSeats}
 use Rattle.domain.specs.Views.{CpuView}

@@ -1,14 +1,12 @@
 -- The processors and the seats are new ones, and the last processor is the updater's.
-use Rattle.std.proofs.Common.{◌≡◌, ◌<◌, ◌+◌, ℕ, List, vec_len, length, refl, sym, ap, ◌∙◌, subst, arith}
+use Rattle.std.proofs.Common.{◌≡◌, ◌<◌, ◌+◌, vec_len, length, refl, sym, ap, ◌∙◌, subst, arith}
 use Rattle.std.proofs.lemmas.List.Elements.{All-pop}
 use Rattle.sections.specs.declared.limits.Limits.{Limits}
 use Rattle.sections.specs.Making.{bounds_of}
 use Rattle.sections.specs.WriterViews.{WriterView}
-use Rattle.domain.specs.Views.{CpuView}
 use Rattle.domain.proofs.CallerLemmas.{writers_here}
 use Rattle.race.specs.declared.course.Course.{Course}
-use Rattle.race.specs.Courses.{IsCourse}
-use Rattle.race.specs.Workers.{EachCpu, IsNewCpu}
+use Rattle.race.specs.Workers.{IsNewCpu}
 use Rattle.race.proofs.Seating.{popped, made_cpus, new_updater}
 use Rattle.race.proofs.making.prepare.Goals as goal
 

@@ -1,9 +1,8 @@
 -- The last processor that is left gets the last seat that is left.
-use Rattle.std.proofs.Common.{rules, ◌≡◌, ◌+◌, ℕ, length, subst, arith}
+use Rattle.std.proofs.Common.{rules, ◌≡◌, ℕ, length, subst, arith}
 use Rattle.std.specs.Vec.{vec_len}
 use Rattle.desk.specs.Views.{SeatView}
 use Rattle.desk.specs.Calls.{new_seat}
-use Rattle.domain.specs.Views.{CpuView}
 use Rattle.plugs.specs.Views.{LeaseView}
 use Rattle.race.specs.declared.reader.Reader.{Reader}
 use Rattle.race.specs.Workers.{EachAt, IsNewCpu}

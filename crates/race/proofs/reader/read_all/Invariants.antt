@@ -1,6 +1,5 @@
 -- So many rounds were made, by the same processor.
 use Rattle.std.proofs.Common.{◌≡◌}
-use Rattle.race.specs.Courses.{IsCourse}
 use Rattle.race.specs.Readers.{HasMade}
 use Rattle.race.proofs.reader.read_all.Given as goal
 

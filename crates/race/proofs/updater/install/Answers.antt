@@ -1,6 +1,4 @@
 -- One version more was installed, or no slot was free.
-use Rattle.std.proofs.Common.{◌≡◌}
-use Rattle.race.specs.Updaters.{GoesOn}
 use Rattle.race.proofs.Updating.{after_install, after_none, on_and_on}
 use Rattle.race.proofs.updater.install.Goals as goal
 

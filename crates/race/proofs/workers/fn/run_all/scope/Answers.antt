@@ -1,5 +1,4 @@
 -- Who has raced is back.
-use Rattle.std.proofs.Common.{◌≡◌}
 use Rattle.race.proofs.Comings.{back_of, whatever}
 use Rattle.race.proofs.workers.fn.run_all.scope.Goals as goal
 
