@@ -100,7 +100,7 @@ module _ (g : Course) (w : Workers) (back : AreBack g w) where
           number,
           (let n = length-map seats (λ (v : SeatView LeaseView). v.number) in omega (arith, there, n)),
           get_or-map (λ (v : SeatView LeaseView). v.number) seats number nobody.seat number there
-          ∙ (ap (λ (z : SeatView LeaseView). z.number) (get_or-map (λ (r : Reader). r.seat) rs number nobody nobody.seat inside) ∙ (b.is.number ∙ b.number_is)),
+              ∙ (ap (λ (z : SeatView LeaseView). z.number) (get_or-map (λ (r : Reader). r.seat) rs number nobody nobody.seat inside) ∙ (b.is.number ∙ b.number_is)),
         );
   }
 

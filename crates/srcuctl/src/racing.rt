@@ -74,9 +74,7 @@ pub fn command<'a>(alloc: Global) -> Result<Command<'a>, Error> {
         .help(OF_ROUNDS);
     Ok(
         Command::new(alloc, "race")
-            .about(
-                "Has threads read and change a table of plug-ins at once, and tells what they counted",
-            )
+            .about("Has threads use one table of plug-ins at once, and tells their counts")
             .arg(readers)?
             .arg(rounds)?
             .after_help(BEHIND),
