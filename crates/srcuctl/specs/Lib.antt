@@ -1,3 +1,4 @@
 pub mod Options
 pub mod Programs
+pub mod Races
 pub mod Statuses

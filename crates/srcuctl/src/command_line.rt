@@ -3,6 +3,7 @@ ghost use Rattle.std.specs.Prelude.{◌≡◌, ◌-◌, ◌^◌, codes};
 ghost use Rattle.clap.specs.Words.{found_of, one_text};
 ghost use Rattle.srcuctl.specs.Options.{SetsLimit};
 
+use crate::racing;
 use clap::builder::ValueParser;
 use clap::{Arg, ArgMatches, Command, Error};
 use sections::Limits;
@@ -44,7 +45,8 @@ pub fn command<'a>(alloc: Global, of_scripts: &'a str) -> Result<Command<'a>, Er
         .about("Drives sleepable RCU domains by a script")
         .after_help(of_scripts)
         .subcommand_required(true)
-        .subcommand(run)?;
+        .subcommand(run)?
+        .subcommand(racing::command(alloc)?)?;
     Ok(srcuctl)
 }
 

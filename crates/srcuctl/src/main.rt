@@ -2,19 +2,23 @@
 #![tactic(auto)]
 
 ghost use Rattle.sections.specs.Limits.{AreInRange};
+ghost use Rattle.srcuctl.specs.Races.{IsInRange};
 
 mod command_line;
 mod help;
+mod racing;
 #[cfg(test)]
 mod replies;
 mod script;
 mod status;
 
 use clap::error::ErrorKind;
+use racing::Size;
 use sections::Limits;
 use status::Ending;
 use std::rt::Env;
 use std::sync::Wait;
+use std::thread::Threads;
 use std::{env, io};
 
 /// Runs the script of standard input.
@@ -34,23 +38,41 @@ fn run_script(rt: &(impl Wait + Input + Print + AllocGlobal), limits: Limits) ->
     }
 }
 
+/// Has a race, and tells what it came to on standard output.
+fn have_race(rt: &(impl Threads + Sync + Wait + Print + AllocGlobal), size: Size) -> Ending
+    requires { IsInRange size }
+{
+    match racing::run(rt, &mut io::writer(rt), size) {
+        Ok(()) => Ending::Raced,
+        Err(error) => Ending::Stopped(error),
+    }
+}
+
 /// Does what the words of the command line ask for.
 fn obey(
-    rt: &(impl Wait + Input + Print + AllocGlobal),
+    rt: &(impl Threads + Sync + Wait + Input + Print + AllocGlobal),
     words: &[String],
 ) -> Result<Ending, clap::Error> {
     let of_scripts = help::of_scripts(rt.alloc())?;
     let mut command = command_line::command(rt.alloc(), &of_scripts)?;
     let matches = command.try_get_matches_from_mut(words)?;
-    let Some(("run", options)) = matches.subcommand() else {
-        return Err(command.error(ErrorKind::MissingSubcommand, "a subcommand is wanted")?);
-    };
-    let limits = command_line::limits_of(options);
     // The command line takes numbers of the ranges alone. No clause of `clap` says so of a subcommand's options.
-    if !limits.are_in_range() {
-        return Err(command.error(ErrorKind::ValueValidation, "an option is out of its range")?);
+    match matches.subcommand() {
+        Some(("run", options)) => {
+            let limits = command_line::limits_of(options);
+            if limits.are_in_range() {
+                return Ok(run_script(rt, limits));
+            }
+        }
+        Some(("race", options)) => {
+            let size = racing::size_of(options);
+            if size.is_in_range() {
+                return Ok(have_race(rt, size));
+            }
+        }
+        _ => return Err(command.error(ErrorKind::MissingSubcommand, "a subcommand is wanted")?),
     }
-    Ok(run_script(rt, limits))
+    Err(command.error(ErrorKind::ValueValidation, "an option is out of its range")?)
 }
 
 /// The words of the command line.

@@ -9,11 +9,12 @@ use lines::{Outcome, RunError};
 use std::io;
 use std::process::{ExitCode, Termination};
 
-/// The status where all went well: no line of the script was faulty, or the help or the version was asked for.
+/// The status where all went well: no line of the script was faulty, or there was a race, or the help or the version
+/// was asked for.
 const ALL_WELL: u8 = 0;
 /// The status of a run in which one or more lines were faulty.
 const FAULTY: u8 = 1;
-/// The status of a run that ended early, and of a command line that is wrong or can't be read.
+/// The status of a run or a race that ended early, and of a command line that is wrong or can't be read.
 const STOPPED: u8 = 2;
 
 /// How the program ends. It is what `main` returns, so there is no status but that of an ending.
@@ -21,7 +22,9 @@ const STOPPED: u8 = 2;
 pub enum Ending {
     /// The whole script was run.
     Ran(Outcome),
-    /// The run ended early.
+    /// There was a race, and its lines are written.
+    Raced,
+    /// The run or the race ended early.
     Stopped(RunError),
     /// Nothing was run: the help or the version was asked for, or the command line is wrong, or there was no memory to
     /// read it.
@@ -37,7 +40,7 @@ impl Ending {
     {
         match self {
             Ending::Ran(outcome) if outcome.faulty => FAULTY,
-            Ending::Ran(_) => ALL_WELL,
+            Ending::Ran(_) | Ending::Raced => ALL_WELL,
             Ending::Answered(error) => match error.kind() {
                 ErrorKind::DisplayHelp | ErrorKind::DisplayVersion => ALL_WELL,
                 _ => STOPPED,
@@ -51,7 +54,7 @@ impl Ending {
     pub fn tell(&self, rt: &(impl Print + Eprint)) {
         // Where it can't be written, the status is all that is left to tell.
         let _ = match self {
-            Ending::Ran(_) => Ok(()),
+            Ending::Ran(_) | Ending::Raced => Ok(()),
             Ending::Stopped(error) => eprintln!(rt; "srcuctl: {error}"),
             Ending::Answered(error) => error.print(rt),
             Ending::Unread(error) => eprintln!(rt; "srcuctl: {error}"),

@@ -68,6 +68,7 @@ Usage: srcuctl <COMMAND>
 
 Commands:
   run   Reads a script from standard input, and writes a reply to each line
+  race  Has threads use one table of plug-ins at once, and tells their counts
   help  Print this message or the help of the given subcommand(s)
 
 Options:
@@ -92,6 +93,19 @@ Options:
 of scripts
 ";
 
+/// How the help of `race` begins.
+const HELP_OF_RACE: &str = "\
+Has threads use one table of plug-ins at once, and tells their counts
+
+Usage: srcuctl race --readers <R> --rounds <N>
+
+Options:
+      --readers <R>  How many threads read: 1 to 63
+      --rounds <N>   How many rounds each thread makes: 1 to 1000
+  -h, --help         Print help
+
+A race makes a domain with a table of plug-ins, ";
+
 /// The text of the help or the version, where these words ask for it.
 fn text_asked_for(alloc: Global, words: &[&str]) -> Result<Option<String>, Error> {
     match command(alloc, "of scripts")?.try_get_matches_from(words) {
@@ -99,6 +113,53 @@ fn text_asked_for(alloc: Global, words: &[&str]) -> Result<Option<String>, Error
         Err(error) if error.exit_code() == 0 => Ok(Some(format!(in alloc; "{error}")?)),
         Err(error) => Err(error),
     }
+}
+
+/// The readers and rounds that these words set, or `None` where the command line refuses them.
+fn size_by(alloc: Global, words: &[&str]) -> Result<Option<(u64, u64)>, Error> {
+    match command(alloc, "of scripts")?.try_get_matches_from(words) {
+        Ok(matches) => Ok(matches.subcommand().map(|(_, options)| {
+            let size = racing::size_of(options);
+            (size.readers, size.rounds)
+        })),
+        Err(error) if error.exit_code() == 2 => Ok(None),
+        Err(error) => Err(error),
+    }
+}
+
+/// Would catch an option that is taken for the other one, one that may be left out, and another end of a range.
+#[test]
+fn options_set_a_race(rt: HostRuntime) -> Result<(), Fail> {
+    let rows: [(&[&str], Option<(u64, u64)>); 8] = [
+        (&["--readers", "2", "--rounds", "3"], Some((2, 3))),
+        (&["--rounds=1000", "--readers=63"], Some((63, 1000))),
+        (&["--readers", "1", "--rounds", "1"], Some((1, 1))),
+        (&["--readers", "64", "--rounds", "1"], None),
+        (&["--readers", "1", "--rounds", "1001"], None),
+        (&["--readers", "0", "--rounds", "1"], None),
+        (&["--readers", "1", "--rounds", "0"], None),
+        (&["--readers", "1"], None),
+    ];
+    for (options, size) in rows {
+        let mut words = Vec::new(rt.alloc());
+        words.push("srcuctl")?;
+        words.push("race")?;
+        for &option in options {
+            words.push(option)?;
+        }
+        assert!(rt; size_by(rt.alloc(), &words)? == size, "{options:?}");
+    }
+    Ok(())
+}
+
+/// Would catch a text of another command, and a line that is too long.
+#[test]
+fn shows_help_of_race(rt: HostRuntime) -> Result<(), Fail> {
+    let shown = text_asked_for(rt.alloc(), &["srcuctl", "race", "--help"])?;
+    let shown = shown.ok_or("a text for what is asked")?;
+    assert!(rt; shown.as_str().starts_with(HELP_OF_RACE));
+    assert!(rt; shown.as_str().lines().all(|line| line.len() <= 80));
+    Ok(())
 }
 
 /// Would catch a text of another option or command, and one that is left out.

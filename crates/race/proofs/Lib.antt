@@ -1,0 +1,13 @@
+mod Parting
+mod Handing
+mod Sections
+mod Callbacks
+mod Stepping
+mod Counted
+mod Updating
+mod Placing
+mod Comings
+mod Seating
+mod Telling
+mod Summing
+mod Finishing

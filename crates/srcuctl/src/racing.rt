@@ -1,0 +1,136 @@
+//! A race, and the lines that tell what it came to.
+ghost use Rattle.std.specs.Prelude.{◌≡◌, true};
+ghost use Rattle.srcuctl.specs.Races.{IsInRange};
+
+use clap::builder::ValueParser;
+use clap::{Arg, ArgMatches, Command, Error};
+use lines::RunError;
+use race::{At, Gate, RaceTotals, race};
+use std::alloc::{AllocGlobal, Global};
+use std::io::Write;
+use std::sync::Wait;
+use std::thread::Threads;
+
+#[cfg(test)]
+mod tests;
+
+const OF_READERS: &str = "How many threads read: 1 to 63";
+
+const OF_ROUNDS: &str = "How many rounds each thread makes: 1 to 1000";
+
+/// What a newcomer has to know of a race.
+const BEHIND: &str = "\
+A race makes a domain with a table of plug-ins, and has threads at work in it at
+once. In each round a reader leases the version of the table that is there,
+looks a key up in it, and lays the lease on a desk, where it finds the lease of
+another reader or one of its own, and releases that. One more thread installs a
+plug in each round and queues a callback, and drives grace periods.
+
+In the end there are five lines, each a word and a count:
+
+  opened    leases that were made
+  closed    leases that were released
+  queued    callbacks that were queued
+  finished  callbacks that were run
+  versions  versions of the table that were installed
+
+The status is 0, or 2 where writing failed, memory ran out, or a thread could
+not be started.";
+
+/// How many readers and rounds there are at most.
+const MOST_READERS: u64 = 63;
+
+const MOST_ROUNDS: u64 = 1000;
+
+/// How large a race is.
+#[derive(Clone, Copy, Debug, PartialEq, Eq)]
+pub struct Size {
+    pub readers: u64,
+    pub rounds: u64,
+}
+
+impl Size {
+    /// Whether there are 1 to 63 readers and 1 to 1000 rounds.
+    pub fn is_in_range(self) -> bool
+        ensures { result ≡ true → IsInRange self }
+    {
+        (1..=MOST_READERS).contains(&self.readers) && (1..=MOST_ROUNDS).contains(&self.rounds)
+    }
+}
+
+/// What the program takes for a race.
+pub fn command<'a>(alloc: Global) -> Result<Command<'a>, Error> {
+    let readers = Arg::new(alloc, "readers")
+        .long("readers")
+        .value_name("R")
+        .value_parser(ValueParser::unsigned(1, MOST_READERS))
+        .required(true)
+        .help(OF_READERS);
+    let rounds = Arg::new(alloc, "rounds")
+        .long("rounds")
+        .value_name("N")
+        .value_parser(ValueParser::unsigned(1, MOST_ROUNDS))
+        .required(true)
+        .help(OF_ROUNDS);
+    Ok(
+        Command::new(alloc, "race")
+            .about("Has threads use one table of plug-ins at once, and tells their counts")
+            .arg(readers)?
+            .arg(rounds)?
+            .after_help(BEHIND),
+    )
+}
+
+/// The size that the options of `race` set. 0, which is out of range, where one is missing.
+pub fn size_of(matches: &ArgMatches<'_>) -> Size {
+    Size {
+        readers: matches.get_one::<u64>("readers").unwrap_or(0),
+        rounds: matches.get_one::<u64>("rounds").unwrap_or(0),
+    }
+}
+
+/// Lets every reader pass.
+#[derive(Clone, Copy)]
+struct Open;
+
+impl Gate for Open {
+    fn pass(&self, _worker: usize, _round: u64, _at: At) {}
+}
+
+/// Writes the five lines.
+fn write_lines<W: Write>(
+    alloc: Global,
+    writer: &mut W,
+    totals: &RaceTotals,
+) -> Result<(), RunError> {
+    let RaceTotals {
+        opened,
+        closed,
+        queued,
+        finished,
+        versions,
+        domain: _,
+    } = totals;
+    let Ok(text) = format!(in alloc;
+        "opened {opened}\nclosed {closed}\nqueued {queued}\nfinished {finished}\nversions {versions}\n"
+    ) else {
+        return Err(RunError::Memory);
+    };
+    writer
+        .write_all(text.as_bytes())
+        .map_err(|_| RunError::Write)
+}
+
+/// Has a race, and writes what it came to.
+pub fn run<R: Threads + Sync + Wait + AllocGlobal, W: Write>(
+    rt: &R,
+    writer: &mut W,
+    size: Size,
+) -> Result<(), RunError>
+    requires { IsInRange size }
+{
+    match race(rt, size.readers as usize, size.rounds, &Open) {
+        Ok(totals) => write_lines(rt.alloc(), writer, &totals),
+        Err(_) => Err(RunError::Memory),
+    }
+}
