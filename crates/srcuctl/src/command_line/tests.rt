@@ -118,10 +118,12 @@ fn text_asked_for(alloc: Global, words: &[&str]) -> Result<Option<String>, Error
 /// The readers and rounds that these words set, or `None` where the command line refuses them.
 fn size_by(alloc: Global, words: &[&str]) -> Result<Option<(u64, u64)>, Error> {
     match command(alloc, "of scripts")?.try_get_matches_from(words) {
-        Ok(matches) => Ok(matches.subcommand().map(|(_, options)| {
-            let size = racing::size_of(options);
-            (size.readers, size.rounds)
-        })),
+        Ok(matches) => Ok(
+            matches.subcommand().map(|(_, options)| {
+                let size = racing::size_of(options);
+                (size.readers, size.rounds)
+            }),
+        ),
         Err(error) if error.exit_code() == 2 => Ok(None),
         Err(error) => Err(error),
     }

@@ -1,5 +1,5 @@
 use super::*;
-use lines::fakes::Writer;
+use std::io;
 use std::test::Fail;
 
 const LINES: &str = "opened 6\nclosed 6\nqueued 3\nfinished 3\nversions 3\n";
@@ -17,18 +17,27 @@ fn race_of_two_readers(rt: HostRuntime) -> Result<(), Fail> {
     Ok(())
 }
 
+/// A writer that is full.
+#[derive(Drop)]
+struct Full;
+
+impl Write for Full {
+    fn write(&mut self, _buf: &[u8]) -> io::Result<usize> {
+        Ok(0)
+    }
+
+    fn flush(&mut self) -> io::Result<()> {
+        Ok(())
+    }
+}
+
 /// Would catch a write that fails and is not told of.
 #[test]
 fn writing_fails(rt: HostRuntime) -> Result<(), Fail> {
-    let mut writer = Writer {
-        taken: Vec::new(rt.alloc()),
-        most: 10,
-        writes: 0,
-    };
     let size = Size {
         readers: 1,
         rounds: 1,
     };
-    assert_eq!(rt; run(&rt, &mut writer, size), Err(RunError::Write));
+    assert_eq!(rt; run(&rt, &mut Full, size), Err(RunError::Write));
     Ok(())
 }
