@@ -129,28 +129,36 @@ fn size_by(alloc: Global, words: &[&str]) -> Result<Option<(u64, u64)>, Error> {
     }
 }
 
-/// Would catch an option that is taken for the other one, one that may be left out, and another end of a range.
+/// What these options of `race` set.
+fn race_by(alloc: Global, options: [&str; 4]) -> Result<Option<(u64, u64)>, Error> {
+    let [first, second, third, fourth] = options;
+    size_by(alloc, &["srcuctl", "race", first, second, third, fourth])
+}
+
+/// Would catch an option that is taken for the other one, and another end of a range.
 #[test]
 fn options_set_a_race(rt: HostRuntime) -> Result<(), Fail> {
-    let rows: [(&[&str], Option<(u64, u64)>); 8] = [
-        (&["--readers", "2", "--rounds", "3"], Some((2, 3))),
-        (&["--rounds=1000", "--readers=63"], Some((63, 1000))),
-        (&["--readers", "1", "--rounds", "1"], Some((1, 1))),
-        (&["--readers", "64", "--rounds", "1"], None),
-        (&["--readers", "1", "--rounds", "1001"], None),
-        (&["--readers", "0", "--rounds", "1"], None),
-        (&["--readers", "1", "--rounds", "0"], None),
-        (&["--readers", "1"], None),
+    let rows = [
+        (["--readers", "2", "--rounds", "3"], Some((2, 3))),
+        (["--rounds", "1000", "--readers", "63"], Some((63, 1000))),
+        (["--readers", "1", "--rounds", "1"], Some((1, 1))),
+        (["--readers", "64", "--rounds", "1"], None),
+        (["--readers", "1", "--rounds", "1001"], None),
+        (["--readers", "0", "--rounds", "1"], None),
+        (["--readers", "1", "--rounds", "0"], None),
     ];
     for (options, size) in rows {
-        let mut words = Vec::new(rt.alloc());
-        words.push("srcuctl")?;
-        words.push("race")?;
-        for &option in options {
-            words.push(option)?;
-        }
-        assert!(rt; size_by(rt.alloc(), &words)? == size, "{options:?}");
+        assert!(rt; race_by(rt.alloc(), options)? == size, "{options:?}");
     }
+    Ok(())
+}
+
+/// Would catch an option that may be left out.
+#[test]
+fn race_wants_both_options(rt: HostRuntime) -> Result<(), Fail> {
+    let readers = size_by(rt.alloc(), &["srcuctl", "race", "--readers", "1"])?;
+    let rounds = size_by(rt.alloc(), &["srcuctl", "race", "--rounds", "1"])?;
+    assert_eq!(rt; [readers, rounds], [None, None]);
     Ok(())
 }
 
