@@ -1,9 +1,11 @@
 //! `srcuctl` drives sleepable RCU domains by a script.
 #![tactic(auto)]
 
+ghost use Rattle.std.specs.Prelude.{◌≡◌};
 ghost use Rattle.sections.specs.Limits.{AreInRange};
 
 mod command_line;
+mod handler;
 mod help;
 #[cfg(test)]
 mod replies;
@@ -11,6 +13,7 @@ mod script;
 mod status;
 
 use clap::error::ErrorKind;
+use handler::run_told;
 use sections::Limits;
 use status::Ending;
 use std::rt::Env;
@@ -19,9 +22,10 @@ use std::{env, io};
 
 /// Runs the script of standard input.
 fn run_script(rt: &(impl Wait + Input + Print + AllocGlobal), limits: Limits) -> Ending
-    requires { AreInRange limits }
+    requires limits { AreInRange limits }
+    requires cells { limits.cells ≡ 2 }
 {
-    let ended = script::run(
+    let ended = run_told(
         rt.alloc(),
         rt,
         &mut rt.reader(),

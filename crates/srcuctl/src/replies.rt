@@ -1,6 +1,8 @@
 ghost use Rattle.sections.specs.Limits.{AreInRange};
 
+use crate::handler::{HANDLERS, ToldHandler};
 use lines::Answers;
+use notify::Handler;
 use sections::Limits;
 use session::Session;
 use std::alloc::{AllocError, Global};
@@ -24,7 +26,11 @@ fn replies<R: Wait + AllocGlobal>(
     requires { AreInRange limits }
 {
     let alloc = rt.alloc();
-    let mut session = Session::new(&alloc, rt, limits);
+    let mut handlers: Vec<Box<dyn Handler>> = Vec::new(alloc);
+    for id in 0..HANDLERS {
+        handlers.push(Box::new(alloc, ToldHandler::new(id))?)?;
+    }
+    let mut session = Session::new(&alloc, rt, limits, &handlers);
     let given = answer_all(&alloc, &mut session, lines);
     session.finish();
     given
@@ -75,8 +81,8 @@ fn check(
 const AMPLE: Limits = Limits {
     sections: Limits::MOST_SECTIONS,
     periods: Limits::MOST_PERIODS,
-    cells: 0,
-    slots: 2,
+    cells: 2,
+    slots: 4,
 };
 
 #[test]
@@ -213,8 +219,8 @@ fn refuses(rt: HostRuntime) -> Result<(), Fail> {
         Limits {
             sections: 2,
             periods: 1,
-            cells: 0,
-            slots: 2,
+            cells: 2,
+            slots: 4,
         },
         &[
             ("domain a 0", "refused domain processors"),
@@ -307,8 +313,8 @@ fn refuses_to_enter(rt: HostRuntime) -> Result<(), Fail> {
     let one = Limits {
         sections: 1,
         periods: 1,
-        cells: 0,
-        slots: 2,
+        cells: 2,
+        slots: 4,
     };
     check(
         &rt,

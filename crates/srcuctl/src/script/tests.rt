@@ -1,23 +1,28 @@
 ghost use Rattle.sections.specs.Limits.{AreInRange};
 
 use super::*;
+use crate::handler::run_told;
 use bumpalo::Bump;
+use chains::{CHAINS, CHAINS_REPLIES};
 use lines::fakes::{Reader, Writer};
 use std::alloc::{AllocError, Global};
 use std::process::Abort;
 use std::test::Fail;
+use tables::{TABLES, TABLES_REPLIES};
 
 mod barriers;
 mod callbacks;
+mod chains;
 mod holding;
 mod needs;
 mod periods;
+mod tables;
 
 const LIMITS: Limits = Limits {
     sections: 18_014_398_509_481_984,
     periods: 576_460_752_303_423_487,
-    cells: 0,
-    slots: 2,
+    cells: 2,
+    slots: 4,
 };
 
 /// A section before a grace period and one within it.
@@ -443,14 +448,12 @@ fn runs_scripts(rt: HostRuntime) -> Result<(), Fail> {
         (HELD, HELD_REPLIES, true),
         (CALLBACKS, CALLBACKS_REPLIES, false),
         (BARRIERS, BARRIERS_REPLIES, true),
+        (CHAINS, CHAINS_REPLIES, false),
+        (TABLES, TABLES_REPLIES, false),
         (FAULTS, FAULTS_REPLIES, true),
     ];
     for (script, replies, faulty) in table {
-        let mut written = Vec::new(rt.alloc());
-        let mut reader = script.as_bytes();
-        let outcome = run(rt.alloc(), &rt, &mut reader, &mut written, LIMITS);
-        assert_eq!(rt; outcome, Ok(Outcome { faulty }));
-        assert_eq!(rt; written.as_slice(), replies.as_bytes());
+        check_script(&rt, LIMITS, script, replies, faulty)?;
     }
     Ok(())
 }
@@ -467,7 +470,7 @@ fn every_read_may_fail(rt: HostRuntime) -> Result<(), Fail> {
             most: 1,
             reads,
         };
-        let outcome = run(rt.alloc(), &rt, &mut reader, &mut written, LIMITS);
+        let outcome = run_told(rt.alloc(), &rt, &mut reader, &mut written, LIMITS);
         assert_eq!(rt; outcome, Err(RunError::Read));
         let replies = first_replies(rt.alloc(), whole_lines)?;
         assert_eq!(rt; written.as_slice(), replies.as_bytes(), "after {reads}");
@@ -486,7 +489,7 @@ fn every_write_may_fail(rt: HostRuntime) -> Result<(), Fail> {
             writes,
         };
         let mut reader = STARTED.as_bytes();
-        let outcome = run(rt.alloc(), &rt, &mut reader, &mut writer, LIMITS);
+        let outcome = run_told(rt.alloc(), &rt, &mut reader, &mut writer, LIMITS);
         let ended = if writes < replies.len() {
             Err(RunError::Write)
         } else {
@@ -593,7 +596,7 @@ fn run_in(
     arena.try_alloc_slice_copy(&zeros[..filled])?;
     let mut written = Vec::new(rt.alloc());
     let mut reader = script.as_bytes();
-    let outcome = run(&arena, rt, &mut reader, &mut written, LIMITS);
+    let outcome = run_told(&arena, rt, &mut reader, &mut written, LIMITS);
     let lines = written.iter().filter(|byte| **byte == b'\n').count();
     let Some(refused) = refused_domains(rt.alloc(), &written)? else {
         return Ok(None);
@@ -660,7 +663,7 @@ fn first_fault_of_two(rt: HostRuntime) -> Result<(), Fail> {
     for (script, replies) in table {
         let mut written = Vec::new(rt.alloc());
         let mut reader = script;
-        let outcome = run(rt.alloc(), &rt, &mut reader, &mut written, LIMITS);
+        let outcome = run_told(rt.alloc(), &rt, &mut reader, &mut written, LIMITS);
         assert_eq!(rt; outcome, Ok(Outcome { faulty: true }));
         assert_eq!(rt; written.as_slice(), replies.as_bytes());
     }
@@ -693,9 +696,22 @@ fn check_run(
         write!(script, "{line}\n")?;
         write!(replies, "{reply}\n")?;
     }
+    check_script(rt, limits, &script, &replies, faulty)
+}
+
+/// Runs this script, and compares what is written with these replies, and whether a line is faulty.
+fn check_script(
+    rt: &(impl Abort + Wait + AllocGlobal),
+    limits: Limits,
+    script: &str,
+    replies: &str,
+    faulty: bool,
+) -> Result<(), Fail>
+    requires { AreInRange limits }
+{
     let mut written = Vec::new(rt.alloc());
     let mut reader = script.as_bytes();
-    let outcome = run(rt.alloc(), rt, &mut reader, &mut written, limits);
+    let outcome = run_told(rt.alloc(), rt, &mut reader, &mut written, limits);
     assert_eq!(rt; outcome, Ok(Outcome { faulty }));
     assert_eq!(rt; written.as_slice(), replies.as_bytes());
     Ok(())
