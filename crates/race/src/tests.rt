@@ -69,7 +69,7 @@ struct Meeting<'a, R> {
     rt: &'a R,
     is_in: AtomicBool,
     has_read: AtomicBool,
-    /// Whether each has met the other.
+    /// Whether one of them gave up before the other came.
     missed: AtomicBool,
 }
 
