@@ -47,7 +47,7 @@ callers (suc p) = 1
 
 module _ {J : Type 0} where
   abbrev books : Books J
-  books = record { log = first_load ∷ []; caller_at = callers; list_at = λ _. 3; batch_at = λ _. 3 }
+  books = record { log = first_load ∷ []; caller_at = callers; list_at = λ _. 3; batch_at = λ _. 3; call_at = λ _. 3; calling = λ _. None }
 
   three_fit : (plan : Plan) (j : ℕ) (v : View J) → get_elem? (three_seats plan).views j ≡ some v → Fits books j v
   unfolding callers
@@ -56,6 +56,7 @@ module _ {J : Type 0} where
     told = begins_empty (first_load ∷ []);
     makes = (refl, refl);
     list = tt;
+    calling = refl;
     batch = tt;
   }
   three_fit plan (suc zero) v e = subst (λ (z : View J). Fits books 1 z) (some-injective one_that_looked v e) record {
@@ -63,6 +64,7 @@ module _ {J : Type 0} where
     told = begins_empty (first_load ∷ []);
     makes = (refl, refl);
     list = tt;
+    calling = refl;
     batch = tt;
   }
   three_fit plan (suc (suc zero)) v e = subst (λ (z : View J). Fits books 2 z) (some-injective (note idle_seat) v e) record {
@@ -70,6 +72,7 @@ module _ {J : Type 0} where
     told = begins_empty (first_load ∷ []);
     makes = tt;
     list = tt;
+    calling = tt;
     batch = tt;
   }
   three_fit plan (suc (suc (suc j))) v e = absurd (some-ne-none v (sym e))

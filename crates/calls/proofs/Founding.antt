@@ -15,12 +15,12 @@ all_zero n words e k = let z : get_or (replicate n 0) k 0 ≡ 0 = dite (dec_le (
 
 module _ {J : Type 0} where
   -- the seats so far
-  abbrev pub AreNewSoFar : TableId → ℕ → List (CallSeatView J) → Type 0
-  AreNewSoFar tallies processors seats = (p : ℕ) (d : CallSeatView J) → p < length seats → get_or seats p d ≡ new_seat tallies processors p
+  abbrev pub AreNewSoFar : TableId → TableId → ℕ → List (CallSeatView J) → Type 0
+  AreNewSoFar domain tallies processors seats = (p : ℕ) (d : CallSeatView J) → p < length seats → get_or seats p d ≡ new_seat domain tallies processors p
 
-  pub new_so_far : (tallies : TableId) (processors i : ℕ) (seats : List (CallSeatView J)) (new : CallSeatView J) → length seats ≡ i → new ≡ new_seat tallies processors i → AreNewSoFar tallies processors seats → AreNewSoFar tallies processors (seats ++ new ∷ [])
-  new_so_far tallies processors i seats new count is all k d lt = dite (ℕ_discrete k i)
-      (λ e. get_or_push seats new d k (count ∙ sym e) ∙ (is ∙ ap (λ z. new_seat tallies processors z) (sym e)))
+  pub new_so_far : (domain tallies : TableId) (processors i : ℕ) (seats : List (CallSeatView J)) (new : CallSeatView J) → length seats ≡ i → new ≡ new_seat domain tallies processors i → AreNewSoFar domain tallies processors seats → AreNewSoFar domain tallies processors (seats ++ new ∷ [])
+  new_so_far domain tallies processors i seats new count is all k d lt = dite (ℕ_discrete k i)
+      (λ e. get_or_push seats new d k (count ∙ sym e) ∙ (is ∙ ap (λ z. new_seat domain tallies processors z) (sym e)))
       (λ ne. let long = length-append seats (new ∷ []) in let inside : k < length seats = omega (arith, long, lt, ne, count) in get_or_append_left seats (new ∷ []) d k inside ∙ all k d inside)
 
 -- the locks so far

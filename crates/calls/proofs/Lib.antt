@@ -9,11 +9,14 @@ mod Totalling
 pub mod CallerLemmas
 mod Forging
 mod Once
+mod Moving
+mod Arriving
 mod Sharing
 mod Seating
 mod Wrapping
 mod Keeping
 mod Listing
 mod Turning
+mod Gathering
 mod Handing
 mod Founding

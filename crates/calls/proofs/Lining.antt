@@ -1,14 +1,14 @@
 -- What one more deed makes of a processor's list.
-use Rattle.std.proofs.Common.{◌≡◌, ◌≢◌, ℕ, zero, suc, ◌+◌, ◌-◌, ◌≤◌, min, Bool, true, false, if◌then◌else◌, eqb, List, [], ◌∷◌, ◌++◌, Option, None, length, drop, refl, ap, ◌∙◌, eq-eqb, ne_eqb, arith}
+use Rattle.std.proofs.Common.{◌≡◌, ◌≢◌, ℕ, zero, suc, ◌+◌, ◌-◌, ◌≤◌, min, Bool, true, false, if◌then◌else◌, eqb, List, [], ◌∷◌, ◌++◌, Option, None, length, take, drop, refl, sym, ap, ◌∙◌, eq-eqb, ne_eqb, arith}
 use Rattle.std.proofs.Math.Nat.{min-le_right}
-use Rattle.std.proofs.lemmas.List.{length-append, length-drop}
+use Rattle.std.proofs.lemmas.List.{length-append, length-drop, length-take-le, take-append-le}
 use Rattle.std.proofs.lemmas.List.Sums.{count_by-le-length}
 use Rattle.segs.specs.MarkedList.{Mark, Next, is_done, remarked, advanced, assigned, reached, next_becomes, number_given, awaited, count_done}
 use Rattle.calls.specs.declared.entry.Entry.{Entry}
 use Rattle.calls.specs.declared.view.Act.{Act}
 use Rattle.calls.specs.declared.view.Act.TheVariants.{Queue, Take, Finish}
 use Rattle.calls.specs.declared.view.Deed.{Deed}
-use Rattle.calls.specs.Lines.{Line, count_out, some_out, with_call, with_taken, with_none_out, last_number, readied, many_ready, next_line, line_from, line_in}
+use Rattle.calls.specs.Lines.{Line, no_calls, count_out, some_out, with_call, with_moved, all_moved, gathered, with_taken, with_none_out, last_number, readied, many_ready, next_line, line_from, line_in}
 use Rattle.calls.specs.Tallies.{deed}
 
 pub count_some_out : (n : ℕ) → count_out (some_out n) ≡ n
@@ -22,7 +22,7 @@ module _ {J : Type 0} where
 
   -- what the last deed made of it
   pub line_push : (p : ℕ) (l : List (Deed J)) (c : ℕ) (act : Act J) → line_in p (l ++ deed c act ∷ []) ≡ next_line p c act (line_in p l)
-  line_push p l c act = line_from_push p record { out = None; waiting = [] } l (deed c act)
+  line_push p l c act = line_from_push p no_calls l (deed c act)
 
   abbrev either : Line J → Line J → Bool → Line J
   either a b here = if here then a else b
@@ -33,11 +33,11 @@ module _ {J : Type 0} where
   pub called_else : (p q : ℕ) (e : Entry J) (l : List (Deed J)) → q ≢ p → line_in p (l ++ deed q (Queue e) ∷ []) ≡ line_in p l
   called_else p q e l ne = line_push p l q (Queue e) ∙ ap (either (with_call e (line_in p l)) (line_in p l)) (ne_eqb q p ne)
 
-  pub taken_here : (p number max : ℕ) (l : List (Deed J)) (c : ℕ) → line_in p (l ++ deed c (Take p number max) ∷ []) ≡ with_taken number max (line_in p l)
-  taken_here p number max l c = line_push p l c (Take p number max) ∙ ap (either (with_taken number max (line_in p l)) (line_in p l)) (eq-eqb p p refl)
+  pub taken_here : (p number max moved : ℕ) (l : List (Deed J)) (c : ℕ) → line_in p (l ++ deed c (Take p number max moved) ∷ []) ≡ with_taken number max (gathered moved (line_in p l))
+  taken_here p number max moved l c = line_push p l c (Take p number max moved) ∙ ap (either (with_taken number max (gathered moved (line_in p l))) (line_in p l)) (eq-eqb p p refl)
 
-  pub taken_else : (p q number max : ℕ) (l : List (Deed J)) (c : ℕ) → q ≢ p → line_in p (l ++ deed c (Take q number max) ∷ []) ≡ line_in p l
-  taken_else p q number max l c ne = line_push p l c (Take q number max) ∙ ap (either (with_taken number max (line_in p l)) (line_in p l)) (ne_eqb q p ne)
+  pub taken_else : (p q number max moved : ℕ) (l : List (Deed J)) (c : ℕ) → q ≢ p → line_in p (l ++ deed c (Take q number max moved) ∷ []) ≡ line_in p l
+  taken_else p q number max moved l c ne = line_push p l c (Take q number max moved) ∙ ap (either (with_taken number max (gathered moved (line_in p l))) (line_in p l)) (ne_eqb q p ne)
 
   pub finish_here : (p n : ℕ) (l : List (Deed J)) (c : ℕ) → line_in p (l ++ deed c (Finish p n) ∷ []) ≡ with_none_out (line_in p l)
   finish_here p n l c = line_push p l c (Finish p n) ∙ ap (either (with_none_out (line_in p l)) (line_in p l)) (eq-eqb p p refl)
@@ -54,9 +54,35 @@ module _ {J : Type 0} where
   pub length_pushed : (l : List (Entry J × Mark)) (e : Entry J × Mark) → length (l ++ e ∷ []) ≡ length l + 1
   length_pushed l e = length-append l (e ∷ [])
 
-  -- a call makes it longer by one
-  pub called_long : (e : Entry J) (l : Line J) → length (with_call e l).waiting ≡ length l.waiting + 1
-  called_long e l = length_remarked (next_becomes (number_given e.cookie.number (awaited (l.waiting ++ (e, Next) ∷ [])))) (l.waiting ++ (e, Next) ∷ []) ∙ length_pushed l.waiting (e, Next)
+  -- a call makes what came in longer by one
+  pub called_long : (e : Entry J) (l : Line J) → length (with_call e l).coming ≡ length l.coming + 1
+  called_long e l = length-append l.coming (e ∷ [])
+
+  pub length_moved : (e : Entry J) (w : List (Entry J × Mark)) → length (with_moved e w) ≡ length w + 1
+  length_moved e w = length_remarked (next_becomes (number_given e.cookie.number (awaited (w ++ (e, Next) ∷ [])))) (w ++ (e, Next) ∷ []) ∙ length_pushed w (e, Next)
+
+  pub length_all_moved : (es : List (Entry J)) (w : List (Entry J × Mark)) → length (all_moved es w) ≡ length w + length es
+  length_all_moved [] w = omega arith
+  length_all_moved (e ∷ es) w = let rest = length_all_moved es (with_moved e w) in let one = length_moved e w in omega (arith, rest, one)
+
+  -- what is moved makes what waits longer, and what came in shorter
+  pub gathered_long : (n : ℕ) (l : Line J) → n ≤ length l.coming → length (gathered n l).waiting ≡ length l.waiting + n
+  gathered_long n l few = length_all_moved (take n l.coming) l.waiting ∙ ap (λ k. length l.waiting + k) (length-take-le n l.coming few)
+
+  pub gathered_left : (n : ℕ) (l : Line J) → length (gathered n l).coming ≡ length l.coming - n
+  gathered_left n l = length-drop n l.coming
+
+  -- the last one is moved behind the others
+  pub all_moved_last : (es : List (Entry J)) (e : Entry J) (w : List (Entry J × Mark)) → all_moved (es ++ e ∷ []) w ≡ with_moved e (all_moved es w)
+  all_moved_last [] e w = refl
+  all_moved_last (x ∷ xs) e w = all_moved_last xs e (with_moved x w)
+
+  pub gathered_next : (n : ℕ) (l : Line J) (e : Entry J) → take (n + 1) l.coming ≡ take n l.coming ++ e ∷ [] → (gathered (n + 1) l).waiting ≡ with_moved e (gathered n l).waiting
+  gathered_next n l e next = ap (λ es. all_moved es l.waiting) next ∙ all_moved_last (take n l.coming) e l.waiting
+
+  -- a call that comes in leaves those that were moved
+  pub gathered_called : (n : ℕ) (e : Entry J) (l : Line J) → n ≤ length l.coming → (gathered n (with_call e l)).waiting ≡ (gathered n l).waiting
+  gathered_called n e l few = ap (λ es. all_moved es l.waiting) (take-append-le n l.coming (e ∷ []) few)
 
   pub length_readied : (number : ℕ) (l : List (Entry J × Mark)) → length (readied number l) ≡ length l
   length_readied number l = length_remarked (next_becomes (number_given (last_number l) (awaited (advanced number l)))) (advanced number l) ∙ length_remarked (reached number) l

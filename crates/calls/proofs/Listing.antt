@@ -1,5 +1,5 @@
 -- The list's type keeps what it says of its fields.
-use Rattle.std.proofs.Common.{◌≡◌, ℕ, suc, ◌+◌, ◌<◌, ◌↔◌, IsTrue, Bool, true, false, List, [], ◌∷◌, ◌++◌, All, Option, Some, None, map, length, drop, refl, sym, ap, ◌∙◌, subst, arith}
+use Rattle.std.proofs.Common.{◌≡◌, ℕ, suc, ◌+◌, ◌<◌, ◌≤◌, ◌↔◌, IsTrue, Bool, true, false, List, [], ◌∷◌, ◌++◌, All, Option, Some, None, map, length, drop, refl, sym, ap, ◌∙◌, subst, arith}
 use Rattle.std.specs.Prelude.{IsSome}
 use Rattle.std.proofs.Math.Seq.{drop-append_seam}
 use Rattle.std.proofs.lemmas.List.{length-append}
@@ -8,38 +8,54 @@ use Rattle.sections.specs.Views.{CpuView}
 use Rattle.sections.specs.Sights.{SightView, AsksHowFar}
 use Rattle.segs.specs.MarkedList.{Mark, Done, Next, marked, remarked, awaited, number_given, next_becomes, assigned, reached, advanced, count_done}
 use Rattle.calls.specs.declared.entry.Entry.{Entry}
-use Rattle.calls.specs.declared.view.ListRight.{ListRight}
+use Rattle.calls.specs.declared.view.Known.{Known}
 use Rattle.calls.specs.declared.view.ListRight.TheVariants.{OfList}
 use Rattle.calls.specs.declared.view.BatchRight.TheVariants.{OfBatch}
 use Rattle.calls.specs.declared.list.List.TheInside as list
-use Rattle.calls.specs.Tallies.{finished_place}
-use Rattle.calls.specs.Lines.{count_out, some_out, with_taken, last_number, readied, many_ready}
-use Rattle.calls.specs.Rule.{batch_seat}
-use Rattle.calls.specs.Plays.{line_of}
-use Rattle.calls.specs.Seats.{Place, IsListSeat, IsBatchSeat, list_of, queued_known, finished_known, out_known, waiting_known, first_known}
+use Rattle.calls.specs.Tallies.{finished_place, most_calls}
+use Rattle.calls.specs.Lines.{some_out, last_number, readied, many_ready}
+use Rattle.calls.specs.Rule.{list_seat, batch_seat}
+use Rattle.calls.specs.Plays.{known_taken}
+use Rattle.calls.specs.Seats.{Place, IsListSeat, IsBatchSeat, known_in, next_known, first_known}
 use Rattle.calls.specs.Waiting.{AreWaiting, wrapped, GoesOut}
 use Rattle.calls.specs.Views.{ListView, BatchView}
-use Rattle.calls.specs.Insides.{IsList}
+use Rattle.calls.specs.Insides.{IsLast, IsList}
 use Rattle.calls.specs.Calls.{IsTaken}
 use Rattle.calls.proofs.Wrapping.{wrapped_push, assigned_wrapped, advanced_wrapped, count_done_wrapped, split_wrapped, items_length}
 use Rattle.calls.proofs.Keeping.{moved_waiting, last_waiting, remarked_each, since_each}
 use Rattle.calls.proofs.Lining.{length_readied}
 
 module _ {J : Type 0} where
-  pub list_seat_is : (seat : Place J) (p q f : ℕ) (o : Option ℕ) (w : List (Entry J × Mark)) → seat.me ≡ (list_of p q f o w, []) → IsListSeat seat.table_id p seat
-  list_seat_is seat p q f o w h = record { seated = refl; me = h ∙ ap (λ m. (list_of p (queued_known m.0.list) (finished_known m.0.list) (out_known m.0.list) (waiting_known m.0.list), [])) (sym h) }
+  pub list_seat_is : (seat : Place J) (p : ℕ) (k : Known J) → seat.me ≡ (list_seat (OfList p k), []) → IsListSeat seat.table_id p seat
+  list_seat_is seat p k h = record { seated = refl; me = h ∙ ap (λ m. (list_seat (OfList p (known_in m.0.list)), [])) (sym h) }
 
 module _ {J A : Type 0} where
+  -- what else is always true of a list
+  pub record IsFed (l : list.Inside J A) (k : Known J) : Type 0 where
+    pub one_domain : l.given.domain ≡ l.sight.domain
+    pub key : l.outlet.key ≡ Some record { domain = l.sight.domain; tallies = l.seat.table_id; processor = l.processor }
+    pub last : IsLast l.outlet.taken l.given
+    pub arrived : l.arrived ≡ length l.outlet.taken
+    pub numbered : l.arrived ≡ next_known k
+    pub few : l.arrived ≤ k.queued
+    pub most : k.queued ≤ most_calls
+    pub there : finished_place l.processor < l.seat.table_id.words
+
   -- the list's right says this
-  pub list_from : (l : list.Inside J A) (q f : ℕ) (o : Option ℕ) (w : List (Entry J × Mark)) → l.seat.me ≡ (list_of l.processor q f o w, []) → l.waiting.entries ≡ wrapped w → AreWaiting l.sight w
-      → q ≡ f + count_out o + length w → (IsTrue l.out ↔ IsSome o) → finished_place l.processor < l.seat.table_id.words → IsList l
-  list_from l q f o w me is waiting numbered out there = let right : l.seat.me.0.list ≡ OfList l.processor q f o w = ap (λ m. m.0.list) me in record {
-    seated = list_seat_is l.seat l.processor q f o w me;
-    wrapping = is ∙ ap (λ (r : ListRight J). wrapped (waiting_known r)) (sym right);
-    waiting = subst (λ (r : ListRight J). AreWaiting l.sight (waiting_known r)) (sym right) waiting;
-    numbered = subst (λ (r : ListRight J). queued_known r ≡ finished_known r + count_out (out_known r) + length (waiting_known r)) (sym right) numbered;
-    out = subst (λ (r : ListRight J). IsTrue l.out ↔ IsSome (out_known r)) (sym right) out;
-    there = there;
+  pub list_from : (l : list.Inside J A) (k : Known J) → l.seat.me ≡ (list_seat (OfList l.processor k), []) → l.waiting.entries ≡ wrapped k.waiting → AreWaiting l.given l.sight k.waiting → (IsTrue l.out ↔ IsSome k.out) → IsFed l k → IsList l
+  list_from l k me is waiting out fed = let known : known_in l.seat.me.0.list ≡ k = ap (λ m. known_in m.0.list) me in record {
+    seated = list_seat_is l.seat l.processor k me;
+    wrapping = is ∙ ap (λ (z : Known J). wrapped z.waiting) (sym known);
+    waiting = subst (λ (z : Known J). AreWaiting l.given l.sight z.waiting) (sym known) waiting;
+    one_domain = fed.one_domain;
+    key = fed.key;
+    last = fed.last;
+    arrived = fed.arrived;
+    numbered = fed.numbered ∙ ap next_known (sym known);
+    few = subst (λ (z : Known J). l.arrived ≤ z.queued) (sym known) fed.few;
+    most = subst (λ (z : Known J). z.queued ≤ most_calls) (sym known) fed.most;
+    out = subst (λ (z : Known J). IsTrue l.out ↔ IsSome z.out) (sym known) out;
+    there = fed.there;
   }
 
 module _ {J : Type 0} where
@@ -55,6 +71,10 @@ module _ {J : Type 0} where
 module _ {J : Type 0} where
   pub batch_seat_is : (seat : Place J) (p f n : ℕ) → seat.me ≡ (batch_seat (OfBatch p f n), []) → IsBatchSeat seat.table_id p n seat
   batch_seat_is seat p f n h = record { seated = refl; me = h ∙ ap (λ m. (batch_seat (OfBatch p (first_known m.0.batch) n), [])) (sym h) }
+
+-- whether a batch is out, where none is
+pub flag_as : (b : Bool) (o : Option ℕ) → (IsTrue b ↔ IsSome o) → o ≡ None → (IsTrue b ↔ IsSome (some_out 0))
+flag_as b o h none = subst (λ (z : Option ℕ). IsTrue b ↔ IsSome z) none h
 
 -- whether a batch is out
 pub none_out : (b : Bool) (o : Option ℕ) → (IsTrue b ↔ IsSome o) → b ≡ false → o ≡ None
@@ -72,9 +92,9 @@ not_out o e = subst (λ (z : Option ℕ). IsTrue false ↔ IsSome z) (sym e) ((�
 
 module _ {J : Type 0} where
   -- what a take did to the entries of a list
-  pub record IsMoved (u : List (Entry J × Mark)) (s s' : SightView) (gone : List (Entry J)) (rest : List (Entry J × Mark)) : Type 0 where
-    pub waiting : AreWaiting s' (marked Done gone ++ rest)
-    pub since : All (λ (e : Entry J × Mark). IsBeginning e.0.cookie.seen s.seen) (marked Done gone ++ rest)
+  pub record IsMoved (u : List (Entry J × Mark)) (g s' : SightView) (gone : List (Entry J)) (rest : List (Entry J × Mark)) : Type 0 where
+    pub waiting : AreWaiting g s' (marked Done gone ++ rest)
+    pub since : All (λ (e : Entry J × Mark). IsBeginning e.0.cookie.seen g.seen) (marked Done gone ++ rest)
     pub long : length gone + length rest ≡ length u
 
   length_marked : (l : List (Entry J)) → length (marked Done l) ≡ length l
@@ -87,14 +107,14 @@ module _ {J : Type 0} where
   last_remarked change (e ∷ []) = refl
   last_remarked change (e ∷ f ∷ es) = last_remarked change (f ∷ es)
 
-  pub moves : (u : List (Entry J × Mark)) (s s' : SightView) (c d : CpuView) (n : ℕ) (gone : List (Entry J)) (rest : List (Entry J × Mark)) → AreWaiting s u → c.domain ≡ s.domain → AsksHowFar n s c d s' → readied n u ≡ marked Done gone ++ rest → IsMoved u s s' gone rest
-  moves u s s' c d n gone rest h domain asks order =
+  pub moves : (u : List (Entry J × Mark)) (g s s' : SightView) (c d : CpuView) (n : ℕ) (gone : List (Entry J)) (rest : List (Entry J × Mark)) → AreWaiting g s u → c.domain ≡ s.domain → AsksHowFar n s c d s' → readied n u ≡ marked Done gone ++ rest → IsMoved u g s' gone rest
+  moves u g s s' c d n gone rest h domain asks order =
       let adv : List (Entry J × Mark) = advanced n u in
-      let waiting : AreWaiting s' (readied n u) = subst (λ (k : ℕ). AreWaiting s' (assigned k adv)) (last_remarked (reached n) u) (last_waiting s' adv (moved_waiting n s s' c d u domain asks h)) in
-      let since : All (λ (e : Entry J × Mark). IsBeginning e.0.cookie.seen s.seen) (readied n u) = remarked_each (λ (e : Entry J). IsBeginning e.cookie.seen s.seen) (next_becomes (number_given (last_number u) (awaited adv))) adv (remarked_each (λ (e : Entry J). IsBeginning e.cookie.seen s.seen) (reached n) u (since_each s u h)) in
+      let waiting : AreWaiting g s' (readied n u) = subst (λ (k : ℕ). AreWaiting g s' (assigned k adv)) (last_remarked (reached n) u) (last_waiting g s' adv (moved_waiting n g s s' c d u domain asks h)) in
+      let since : All (λ (e : Entry J × Mark). IsBeginning e.0.cookie.seen g.seen) (readied n u) = remarked_each (λ (e : Entry J). IsBeginning e.cookie.seen g.seen) (next_becomes (number_given (last_number u) (awaited adv))) adv (remarked_each (λ (e : Entry J). IsBeginning e.cookie.seen g.seen) (reached n) u (since_each g s u h)) in
       record {
-        waiting = subst (AreWaiting s') order waiting;
-        since = subst (λ (z : List (Entry J × Mark)). All (λ (e : Entry J × Mark). IsBeginning e.0.cookie.seen s.seen) z) order since;
+        waiting = subst (AreWaiting g s') order waiting;
+        since = subst (λ (z : List (Entry J × Mark)). All (λ (e : Entry J × Mark). IsBeginning e.0.cookie.seen g.seen) z) order since;
         long = ap (λ (k : ℕ). k + length rest) (sym (length_marked gone)) ∙ (sym (length-append (marked Done gone) rest) ∙ (ap length (sym order) ∙ length_readied n u));
       }
 
@@ -115,9 +135,9 @@ module _ {J : Type 0} where
   rest_behind gone rest ready order = sym (drop-append_seam (marked Done gone) rest) ∙ (ap (λ (k : ℕ). drop k (marked Done gone ++ rest)) (length_marked gone) ∙ ap (drop (length gone)) (sym order))
 
   -- the list after the take
-  pub taken_is_line : (number max : ℕ) (u : List (Entry J × Mark)) (gone : List (Entry J)) (rest : List (Entry J × Mark)) → readied number u ≡ marked Done gone ++ rest → length gone ≡ many_ready max (readied number u)
-      → with_taken number max (line_of None u) ≡ line_of (some_out (length gone)) rest
-  taken_is_line number max u gone rest order many = λ i. record { out = some_out (sym many i); waiting = (ap (λ (k : ℕ). drop k (readied number u)) (sym many) ∙ sym (rest_behind gone rest (readied number u) order)) i }
+  pub taken_is_known : (number max : ℕ) (k : Known J) (gone : List (Entry J)) (rest : List (Entry J × Mark)) → readied number k.waiting ≡ marked Done gone ++ rest → length gone ≡ many_ready max (readied number k.waiting)
+      → known_taken number max k ≡ record k { out = some_out (length gone); moved = 0; waiting = rest }
+  taken_is_known number max k gone rest order many = λ i. record k { out = some_out (sym many i); moved = 0; waiting = (ap (λ (n : ℕ). drop n (readied number k.waiting)) (sym many) ∙ sym (rest_behind gone rest (readied number k.waiting) order)) i }
 
   pub taken_none : (l l' : ListView J) (gone : List (Entry J)) → length gone ≡ 0 → l'.out ≡ None → IsTaken l gone None l'
   taken_none l l' [] long h = h

@@ -54,7 +54,7 @@ module _ {J : Type 0} where
   last_true l seen d e h = last_after [] l d (subst (λ (z : List (Deed J)). AreTrue z) e h)
 
   pub no_loads : (s : CallSeatView J) → AreTrue s.seen → Loads [] s s
-  no_loads s true = record { same = (refl, refl, refl); since = begins_itself s.seen; own = sym (append-nil (deeds_of s.processor s.seen)); loads = true }
+  no_loads s true = record { same = (refl, refl, refl, refl); since = begins_itself s.seen; own = sym (append-nil (deeds_of s.processor s.seen)); loads = true }
 
   map_push : (p : ℕ) (acts : List (Act J)) (act : Act J) → map (deed p) (acts ++ act ∷ []) ≡ map (deed p) acts ++ deed p act ∷ []
   map_push p [] act = refl
@@ -67,7 +67,7 @@ module _ {J : Type 0} where
       let by : m.processor ≡ p = h.same.2 in
       let kept : deeds_of p d.before ≡ deeds_of p m.seen = subst (λ (z : ℕ). deeds_of z d.before ≡ deeds_of z m.seen) by d.own in
       let seen : t.seen ≡ d.before ++ deed p act ∷ [] = d.seen ∙ ap (λ (z : ℕ). d.before ++ deed z act ∷ []) by in record {
-        same = (d.same.0 ∙ h.same.0, d.same.1 ∙ h.same.1, d.same.2 ∙ h.same.2);
+        same = (d.same.0 ∙ h.same.0, d.same.1 ∙ h.same.1, d.same.2 ∙ h.same.2, d.same.3 ∙ h.same.3);
         since = begins_on h.since (begins_on d.since record { rest = deed p act ∷ []; whole = seen });
         own = ap (deeds_of p) seen ∙ (deeds_own p d.before (deed p act) refl ∙ (ap (λ l. l ++ deed p act ∷ []) (kept ∙ h.own) ∙ (append_assoc (deeds_of p s.seen) (map (deed p) acts) (deed p act ∷ []) ∙ ap (λ l. deeds_of p s.seen ++ l) (sym (map_push p acts act)))));
         loads = d.loads;

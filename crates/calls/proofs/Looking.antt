@@ -1,5 +1,6 @@
 -- A load of a tally word keeps their rule, and is one more deed of its maker.
-use Rattle.std.proofs.Common.{◌≡◌, ℕ, ◌<◌, ◌≤◌, false, List, [], ◌∷◌, ◌++◌, Option, length, get_or, set, refl, sym, ap, ◌∙◌, subst, arith}
+use Rattle.std.proofs.Common.{◌≡◌, ℕ, ◌<◌, ◌≤◌, ◌⊎◌, inl, inr, ⊎_elim, false, List, [], ◌∷◌, ◌++◌, Option, Some, length, get_or, set, refl, sym, ap, ◌∙◌, subst, arith}
+use Rattle.std.specs.Prelude.{slice_get}
 use lib.Seq.{set-get_or}
 use lib.ListN.{get_elem?}
 use mathlib.Core.Option.{none, some}
@@ -9,19 +10,20 @@ use Rattle.calls.specs.declared.view.Act.{Act}
 use Rattle.calls.specs.declared.view.Act.TheVariants.{LoadQueued, LoadFinished}
 use Rattle.calls.specs.declared.view.Deed.{Deed}
 use Rattle.calls.specs.declared.view.Who.{Who}
-use Rattle.calls.specs.declared.view.Who.TheVariants.{Caller}
+use Rattle.calls.specs.declared.view.Who.TheVariants.{Nobody, Caller, Dealer}
 use Rattle.calls.specs.declared.view.ListRight.{ListRight}
-use Rattle.calls.specs.declared.view.ListRight.TheVariants.{NoList, OfList}
+use Rattle.calls.specs.declared.view.ListRight.TheVariants.{NoList, OfList, Calling, OfCall}
 use Rattle.calls.specs.declared.view.BatchRight.{BatchRight}
 use Rattle.calls.specs.declared.view.BatchRight.TheVariants.{NoBatch, OfBatch}
 use Rattle.calls.specs.declared.view.View.{View}
-use Rattle.calls.specs.Lines.{Line, count_out, next_line, line_in}
+use Rattle.calls.specs.Lines.{Line, count_out, next_line, line_in, calls_in}
 use Rattle.calls.specs.Tallies.{queued_place, finished_place, deed, is_queue, queued_in, finished_by, finished_in, IsTaker, AreTakers, IsTrueOf}
-use Rattle.calls.specs.Rule.{Books, Makes, HasList, HasBatch, Fits, Kept}
+use Rattle.calls.specs.Rule.{Books, Makes, HasList, IsCalling, HasBatch, Fits, Kept}
 use Rattle.calls.specs.Plays.{Sat, Looks, counts_queued, counts_finished}
 use Rattle.calls.proofs.Counting.{queued_still, finished_still, begins_itself, begins_empty, begins_pushed, one_more_true, one_more_taker}
 use Rattle.calls.proofs.Lining.{line_push}
-use Rattle.calls.proofs.Knowing.{views_set, moved, fits_else}
+use Rattle.calls.proofs.Knowing.{views_set, moved, Untouched, there_still, fits_else}
+use Rattle.calls.proofs.Once.{calls_unqueued}
 
 same_caller : (c b : ℕ) → Caller c ≡ Caller b → c ≡ b
 same_caller c b h = cc
@@ -47,12 +49,24 @@ module _ {J : Type 0} (plan : Plan) (s : State (Option ℕ) (View J)) (r : Kept 
   still_line : (p : ℕ) → line_in p log' ≡ line_in p r.books.log
   still_line p = line_push p r.books.log c act ∙ no_turn p (line_in p r.books.log)
 
+  untouched : (p : ℕ) → Untouched r.books books' p
+  untouched p = record { queued = still_queued p; finished = still_finished p; line = still_line p }
+
   made : Makes r.books id v.seen (Caller c)
   made = subst (λ (z : Who). Makes r.books id v.seen z) who (r.each_view id v at).makes
 
   list_stays : (right : ListRight J) → HasList r.books id right → HasList books' id right
   list_stays NoList h = tt
-  list_stays (OfList p q f o w) h = (h.0, h.1 ∙ sym (still_queued p), h.2 ∙ sym (still_finished p), h.3 ∙ ap (λ (z : Line J). z.out) (sym (still_line p)), h.4 ∙ ap (λ (z : Line J). z.waiting) (sym (still_line p)))
+  list_stays (OfList p k) h = (h.0, there_still r.books books' p k (untouched p) h.1)
+  list_stays (Calling e) h = tt
+  list_stays (OfCall p n e) h = ⊎_elim
+      (λ (x : slice_get (calls_in p r.books.log) n ≡ Some e). inl (ap (λ l. slice_get l n) (calls_unqueued p c act r.books.log no_queue) ∙ x))
+      (λ (y : (n ≡ queued_in p r.books.log) × (r.books.calling p ≡ Some e) × (r.books.call_at p ≡ id)). inr (y.0 ∙ sym (still_queued p), y.1, y.2)) h
+
+  calling_stays : (right : ListRight J) (whose : Who) → IsCalling r.books right whose → IsCalling books' right whose
+  calling_stays right Nobody h = tt
+  calling_stays right (Caller p) h = h
+  calling_stays right (Dealer k) h = tt
 
   batch_stays : (right : BatchRight) → HasBatch r.books id right → HasBatch books' id right
   batch_stays NoBatch h = tt
@@ -67,7 +81,7 @@ module _ {J : Type 0} (plan : Plan) (s : State (Option ℕ) (View J)) (r : Kept 
         books = b';
         loads = one_more_true r.books.log (deed c act) r.loads true;
         takers = one_more_taker plan.processors r.books.log (deed c act) r.takers taker;
-        counted = λ p. let was = r.counted p in let all = was.all in let few = was.few in let q = still_queued p in let d = still_finished p in let out = ap (λ (z : Line J). count_out z.out) (still_line p) in let long = ap (λ (z : Line J). length z.waiting) (still_line p) in record { all = omega (arith, q, d, all, out, long); few = omega (arith, q, few) };
+        counted = λ p. let was = r.counted p in let all = was.all in let few = was.few in let q = still_queued p in let d = still_finished p in let out = ap (λ (z : Line J). count_out z.out) (still_line p) in let long = ap (λ (z : Line J). length z.waiting) (still_line p) in let came = ap (λ (z : Line J). length z.coming) (still_line p) in record { all = omega (arith, q, d, all, out, long, came); few = omega (arith, q, few) };
         wide = r.wide;
         queued = λ p below. r.queued p below ∙ sym (still_queued p);
         finished = λ p below. r.finished p below ∙ sym (still_finished p);
@@ -77,9 +91,10 @@ module _ {J : Type 0} (plan : Plan) (s : State (Option ℕ) (View J)) (r : Kept 
               told = begins_empty log';
               makes = subst (λ (z : Who). Makes b' id log' z) (sym who) (made.0, refl);
               list = list_stays v.list f.list;
+              calling = calling_stays v.list v.who f.calling;
               batch = batch_stays v.batch f.batch;
             }
-            (λ j u ne there. fits_else r.books (deed c act) r.books.batch_at id j made.0 ne (λ p _. record { queued = still_queued p; finished = still_finished p; line = still_line p }) (λ p n at out. (at, still_finished p, ap (λ (z : Line J). z.out) (still_line p) ∙ out)) u (r.each_view j u there));
+            (λ j u ne there. fits_else r.books (deed c act) r.books.batch_at id j made.0 ne no_queue (λ p _. untouched p) (λ p n at out. (at, still_finished p, ap (λ (z : Line J). z.out) (still_line p) ∙ out)) u (r.each_view j u there));
       }
 
   pub load_looks : Looks c act v (looked r.books v c act)

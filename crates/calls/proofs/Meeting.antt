@@ -1,5 +1,5 @@
 -- The loads of a meeting keep the rule of the tally words, and are no deeds.
-use Rattle.std.proofs.Common.{◌≡◌, ℕ, ◌+◌, ◌==◌, List, [], ◌∷◌, ◌++◌, Option, length, get_or, set, refl, sym, ap, ◌∙◌, subst, append-nil, length-append, arith}
+use Rattle.std.proofs.Common.{◌≡◌, ℕ, ◌+◌, ◌<◌, ◌==◌, List, [], ◌∷◌, ◌++◌, Option, length, get_or, set, refl, sym, ap, ◌∙◌, subst, append-nil, length-append, arith}
 use Rattle.std.proofs.lemmas.List.Elements.{filter-append}
 use lib.Seq.{set-get_or}
 use lib.ListN.{get_elem?}
@@ -13,47 +13,17 @@ use Rattle.calls.specs.declared.view.Who.{Who}
 use Rattle.calls.specs.declared.view.Who.TheVariants.{Caller}
 use Rattle.calls.specs.declared.view.ListRight.{ListRight}
 use Rattle.calls.specs.declared.view.ListRight.TheVariants.{OfList}
+use Rattle.calls.specs.declared.view.Known.{Known}
 use Rattle.calls.specs.declared.view.BatchRight.{BatchRight}
 use Rattle.calls.specs.declared.view.BatchRight.TheVariants.{OfBatch}
 use Rattle.calls.specs.declared.view.View.{View}
-use Rattle.calls.specs.Tallies.{deeds_of, AreTakers, IsBeginning, AreTrueAfter, AreTrue}
+use Rattle.calls.specs.Tallies.{queued_place, queued_in, deeds_of, AreTakers, IsBeginning, AreTrueAfter, AreTrue}
 use Rattle.calls.specs.Lines.{count_out, line_in}
-use Rattle.calls.specs.Rule.{Books, Makes, HasList, HasBatch, Fits, Kept}
-use Rattle.calls.specs.Plays.{Sat, FindsAll, found_all, IsAdmitted, admitted, IsOut, found_out, IsThere, found_list}
-use Rattle.calls.proofs.Counting.{begins_itself, begins_empty, earlier_takers}
+use Rattle.calls.specs.Rule.{Books, Makes, IsThere, HasList, IsCalling, HasBatch, Fits, Kept}
+use Rattle.calls.specs.Plays.{Sat, FindsAll, found_all, IsAdmitted, admitted, IsOut, found_out, right_counted, found_list}
+use Rattle.calls.proofs.Counting.{begins_itself, begins_empty, earlier_takers, own_between, true_beginning}
 use Rattle.calls.proofs.Knowing.{views_set}
-use Rattle.calls.proofs.Steps.{has_there}
-
--- Own deeds
-
-module _ {J : Type 0} where
-  pub deeds_append : (p : ℕ) (a b : List (Deed J)) → deeds_of p (a ++ b) ≡ deeds_of p a ++ deeds_of p b
-  deeds_append p a b = filter-append (λ d. d.by == p) a b
-
-  many_append : (p : ℕ) (a b : List (Deed J)) → length (deeds_of p (a ++ b)) ≡ length (deeds_of p a) + length (deeds_of p b)
-  many_append p a b = ap length (deeds_append p a b) ∙ length-append (deeds_of p a) (deeds_of p b)
-
-  pub none_more : (l : List (Deed J)) → length l ≡ 0 → l ≡ []
-  none_more [] e = refl
-  none_more (x ∷ xs) e = absurd (omega arith)
-
-  -- a processor whose deeds are the same in two lists has just these in all that lie between
-  pub own_between : (p : ℕ) (a b c : List (Deed J)) → IsBeginning a b → IsBeginning b c → deeds_of p c ≡ deeds_of p a → deeds_of p b ≡ deeds_of p a
-  own_between p a b c ab bc same =
-      let up : length (deeds_of p b) ≡ length (deeds_of p a) + length (deeds_of p ab.rest) = ap (λ l. length (deeds_of p l)) ab.whole ∙ many_append p a ab.rest in
-      let over : length (deeds_of p c) ≡ length (deeds_of p b) + length (deeds_of p bc.rest) = ap (λ l. length (deeds_of p l)) bc.whole ∙ many_append p b bc.rest in
-      let alike : length (deeds_of p c) ≡ length (deeds_of p a) = ap length same in
-      ap (deeds_of p) ab.whole ∙ (deeds_append p a ab.rest ∙ (ap (λ l. deeds_of p a ++ l) (none_more (deeds_of p ab.rest) (omega (arith, up, over, alike))) ∙ append-nil (deeds_of p a)))
-
-  -- Loads
-
-  true_front : (before a b : List (Deed J)) → AreTrueAfter before (a ++ b) → AreTrueAfter before a
-  true_front before [] b h = tt
-  true_front before (x ∷ xs) b h = (h.0, true_front (before ++ x ∷ []) xs b h.1)
-
-  -- each beginning of true loads is true
-  pub true_beginning : {a b : List (Deed J)} → IsBeginning a b → AreTrue b → AreTrue a
-  true_beginning {a} {b} h true = true_front [] a h.rest (subst (λ (l : List (Deed J)). AreTrue l) h.whole true)
+use Rattle.calls.proofs.Steps.{same_list}
 
 same_caller : (c b : ℕ) → Caller c ≡ Caller b → c ≡ b
 same_caller c b h = cc
@@ -82,7 +52,7 @@ module _ {J : Type 0} (plan : Plan) where
       let b : Books J = r.books in
       let f = r.each_view id v at in
       let made : Makes b id v.seen (Caller c) = subst (λ (z : Who). Makes b id v.seen z) who f.makes in
-      record { seen = begins_itself b.log; told = begins_empty b.log; makes = subst (λ (z : Who). Makes b id b.log z) (sym who) (made.0, refl); list = f.list; batch = f.batch }
+      record { seen = begins_itself b.log; told = begins_empty b.log; makes = subst (λ (z : Who). Makes b id b.log z) (sym who) (made.0, refl); list = f.list; calling = f.calling; batch = f.batch }
 
   full_finds : (s : State (Option ℕ) (View J)) (r : Kept plan s) (id c many : ℕ) (v : View J) → plan.processors ≡ many → get_elem? s.views id ≡ some v → v.who ≡ Caller c → FindsAll many c v (full r.books v)
   full_finds s r id c many v all at who =
@@ -123,18 +93,32 @@ module _ {J : Type 0} (plan : Plan) where
       )
 
   -- a list whose right the seat has is there as the right knows it
-  list_is_there : (s : State (Option ℕ) (View J)) (r : Kept plan s) (id p q f : ℕ) (o : Option ℕ) (w : List (Entry J × Mark)) (v : View J) → get_elem? s.views id ≡ some v → v.list ≡ OfList p q f o w → IsThere p q f o w r.books.log
-  list_is_there s r id p q f o w v at is = has_there r.books id p q f o w (subst (λ (z : ListRight J). HasList r.books id z) is (r.each_view id v at).list)
-
-  pub finds_list_here : (slots id c word many : ℕ) (me : Sat J) → plan.processors ≡ many → me.0.who ≡ Caller c → Allows (Kept plan) slots id me word (λ x. x) (found_list many (step slots word 0 0 none) me)
-  finds_list_here slots id c word many me all who s r _ at _ =
+  pub finds_list_here : (slots id c p word many : ℕ) (k : Known J) (me : Sat J) → plan.processors ≡ many → me.0.who ≡ Caller c → me.0.list ≡ OfList p k → word ≡ queued_place p → p < plan.processors → Allows (Kept plan) slots id me word (λ x. x) (found_list many (step slots word 0 0 none) me)
+  finds_list_here slots id c p word many k me all who list place lt s r _ at _ =
       let v : View J = me.0 in
-      let w : View J = full r.books v in (
+      let b : Books J = r.books in
+      let x : ℕ = get_or s.words word 0 in
+      let found : x ≡ queued_in p b.log = ap (λ z. get_or s.words z 0) place ∙ r.queued p lt in
+      let has : HasList b id (OfList p k) = subst (λ (z : ListRight J). HasList b id z) list (r.each_view id v at).list in
+      let right : right_counted x v.list ≡ OfList p (record k { queued = x }) = ap (right_counted x) list in
+      let w : View J = record v { list = right_counted x v.list; seen = b.log; told = [] } in
+      let f = full_fits s r id c v at who in (
         w,
         keeps,
         tt,
-        unmoved s r id word me.1 w (full_fits s r id c v at who),
-        ((refl, λ p is. full_finds s r id p many v all at is), λ p q f o ws is. list_is_there s r id p q f o ws v at is),
+        unmoved s r id word me.1 w record {
+          seen = f.seen;
+          told = f.told;
+          makes = f.makes;
+          list = subst (λ (z : ListRight J). HasList b id z) (sym right) (has.0, record { queued_least = omega (arith, found); finished_is = has.1.finished_is; out_is = has.1.out_is; few = has.1.few; waiting_is = has.1.waiting_is });
+          calling = subst (λ (z : Who × ListRight J). IsCalling b z.1 z.0) (λ i. (sym who i, sym right i)) (subst (λ (z : Who × ListRight J). IsCalling b z.1 z.0) (λ i. (who i, list i)) f.calling);
+          batch = f.batch;
+        },
+        (
+          refl,
+          λ q is. let h = full_finds s r id q many v all at is in record { since = h.since; own = h.own; covers = h.covers; loads = h.loads; takers = h.takers },
+          λ q j list' word_is. let same = same_list p k q j (sym list ∙ list') in (found ∙ ap (λ z. queued_in z b.log) same.0, subst (λ (z : ℕ × Known J). IsThere z.0 z.1 b.log) (λ i. (same.0 i, same.1 i)) has.1, let few = (r.counted p).few in omega (arith, few, found)),
+        ),
       )
 
   -- just what was told is seen
@@ -150,6 +134,6 @@ module _ {J : Type 0} (plan : Plan) where
         w,
         keeps,
         tt,
-        unmoved s r id word me.1 w record { seen = f.told; told = begins_empty b.log; makes = subst (λ (z : Who). Makes b id v.told z) (sym who) (made.0, own ∙ made.1); list = f.list; batch = f.batch },
+        unmoved s r id word me.1 w record { seen = f.told; told = begins_empty b.log; makes = subst (λ (z : Who). Makes b id v.told z) (sym who) (made.0, own ∙ made.1); list = f.list; calling = f.calling; batch = f.batch },
         (refl, λ p is. subst (λ (z : ℕ). IsAdmitted many z v) (same_caller c p (sym who ∙ is)) record { own = own; loads = true_beginning f.told r.loads; takers = takers }),
       )

@@ -1,9 +1,9 @@
 -- Each call is given out once, in its order: what waits on a processor is what was queued there and not given out.
-use Rattle.std.proofs.Common.{◌≡◌, ◌≢◌, ℕ, zero, suc, ◌+◌, ◌-◌, ◌<◌, ◌≤◌, ◌==◌, Bool, true, false, if◌then◌else◌, List, [], ◌∷◌, ◌++◌, Some, None, map, length, take, drop, refl, sym, ap, ◌∙◌, subst, eq-eqb, ne_eqb, append_assoc, append-nil, arith}
+use Rattle.std.proofs.Common.{◌≡◌, ◌≢◌, ℕ, zero, suc, ◌+◌, ◌-◌, ◌<◌, ◌≤◌, ◌==◌, Bool, true, false, if◌then◌else◌, cond, List, [], ◌∷◌, ◌++◌, Some, None, map, length, take, drop, refl, sym, ap, ◌∙◌, subst, eq-eqb, ne_eqb, append_assoc, append-nil, arith}
 use Rattle.std.proofs.Math.Seq.{drop-append_seam, take-append_seam, drop-length, get_or-append_seam}
 use Rattle.std.specs.Prelude.{slice_get}
 use Rattle.std.proofs.lemmas.Option.{slice_get-get_or, slice_get_within, get_or_from_slice_get}
-use Rattle.std.proofs.lemmas.List.{length-append, length-drop, drop-append-le, get_or_append_left}
+use Rattle.std.proofs.lemmas.List.{length-append, length-drop, drop-drop, drop-append-le, take-append-drop, get_or_append_left}
 use mathlib.Core.Logic.{dite}
 use native.Mathlib.Decide.{ℕ_discrete}
 use Rattle.segs.specs.MarkedList.{Mark, Done, Next, marked, remarked, advanced, assigned, reached, next_becomes, number_given, awaited}
@@ -11,16 +11,18 @@ use Rattle.calls.specs.declared.entry.Entry.{Entry}
 use Rattle.calls.specs.declared.view.Act.{Act}
 use Rattle.calls.specs.declared.view.Act.TheVariants.{Queue, Take, Finish, LoadQueued, LoadFinished}
 use Rattle.calls.specs.declared.view.Deed.{Deed}
-use Rattle.calls.specs.Lines.{Line, count_out, some_out, no_calls, with_call, with_taken, with_none_out, last_number, readied, many_ready, next_line, line_in, call_of, calls_in}
-use Rattle.calls.specs.Tallies.{deed, is_queue, queued_by, queued_in, finished_by, finished_in, IsBeginning, IsTrueOf, AreTrueAfter, AreTrue}
-use Rattle.calls.specs.Laws.{given_out, WaitsInOrder, GivesOnce, KeepsCalls}
+use Rattle.calls.specs.declared.view.Known.{Known}
+use Rattle.calls.specs.Lines.{Line, count_out, some_out, no_calls, with_call, with_moved, all_moved, gathered, with_taken, with_none_out, last_number, readied, many_ready, next_line, line_in, call_of, calls_in}
+use Rattle.calls.specs.Tallies.{deed, is_queue, queued_by, queued_in, finished_by, finished_in, given_out, deeds_of, IsBeginning, IsTrueOf, AreTrueAfter, AreTrue}
+use Rattle.calls.specs.Rule.{IsThere}
+use Rattle.calls.specs.Laws.{WaitsInOrder, GivesOnce, KeepsCalls}
 use Rattle.calls.proofs.Counting.{queued_push, finished_push}
-use Rattle.calls.proofs.Meeting.{true_beginning}
-use Rattle.calls.proofs.Lining.{count_some_out, line_push, few_ready, length_readied}
+use Rattle.calls.proofs.Counting.{true_beginning}
+use Rattle.calls.proofs.Lining.{count_some_out, line_push, few_ready, gathered_long, gathered_next}
 
 module _ {J : Type 0} where
   -- the entries, without marks
-  abbrev plain : List (Entry J × Mark) → List (Entry J)
+  abbrev pub plain : List (Entry J × Mark) → List (Entry J)
   plain l = map (λ e. e.0) l
 
   plain_remarked : (change : Mark → Mark) (l : List (Entry J × Mark)) → plain (remarked change l) ≡ plain l
@@ -43,11 +45,12 @@ module _ {J : Type 0} where
   plain_readied : (number : ℕ) (l : List (Entry J × Mark)) → plain (readied number l) ≡ plain l
   plain_readied number l = plain_remarked (next_becomes (number_given (last_number l) (awaited (advanced number l)))) (advanced number l) ∙ plain_remarked (reached number) l
 
-  drop_drop : (m n : ℕ) (l : List (Entry J)) → drop n (drop m l) ≡ drop (m + n) l
-  drop_drop zero n l = ap (λ k. drop k l) (let e : n ≡ 0 + n = omega arith in e)
-  drop_drop (suc m) zero [] = ap (λ k. drop k []) (let e : suc m ≡ suc m + 0 = omega arith in e)
-  drop_drop (suc m) (suc n) [] = ap (λ k. drop k []) (let e : suc (m + suc n) ≡ suc m + suc n = omega arith in e)
-  drop_drop (suc m) n (x ∷ xs) = drop_drop m n xs ∙ ap (λ k. drop k (x ∷ xs)) (let e : suc (m + n) ≡ suc m + n = omega arith in e)
+  plain_all_moved : (es : List (Entry J)) (w : List (Entry J × Mark)) → plain (all_moved es w) ≡ plain w ++ es
+  plain_all_moved [] w = sym (append-nil (plain w))
+  plain_all_moved (e ∷ es) w = plain_all_moved es (with_moved e w) ∙ (ap (λ z. z ++ es) (plain_remarked (next_becomes (number_given e.cookie.number (awaited (w ++ (e, Next) ∷ [])))) (w ++ (e, Next) ∷ []) ∙ plain_push w (e, Next)) ∙ append_assoc (plain w) (e ∷ []) es)
+
+  plain_gathered : (n : ℕ) (k : Line J) → plain (gathered n k).waiting ++ (gathered n k).coming ≡ plain k.waiting ++ k.coming
+  plain_gathered n k = ap (λ z. z ++ drop n k.coming) (plain_all_moved (take n k.coming) k.waiting) ∙ (append_assoc (plain k.waiting) (take n k.coming) (drop n k.coming) ∙ ap (λ z. plain k.waiting ++ z) (take-append-drop n k.coming))
 
   -- Calls
 
@@ -62,8 +65,8 @@ module _ {J : Type 0} where
   one_call : (act : Act J) (here : Bool) → length (if here then call_of act else []) ≡ (if is_queue act then (if here then 1 else 0) else 0)
   one_call (Queue e) true = refl
   one_call (Queue e) false = refl
-  one_call (Take q number max) true = refl
-  one_call (Take q number max) false = refl
+  one_call (Take q number max moved) true = refl
+  one_call (Take q number max moved) false = refl
   one_call (Finish q n) true = refl
   one_call (Finish q n) false = refl
   one_call (LoadQueued q n) true = refl
@@ -78,10 +81,10 @@ module _ {J : Type 0} where
 
   -- What one more deed leaves
 
-  -- a list with what is finished and all calls: what waits is what was not given out
-  record IsGood (k : Line J) (f : ℕ) (cs : List (Entry J)) : Type 0 where
-    order : plain k.waiting ≡ drop (f + count_out k.out) cs
-    enough : f + count_out k.out ≤ length cs
+  -- a list with what is finished and all calls: what waits, and behind it what came in, is what was not given out
+  pub record IsGood (k : Line J) (f : ℕ) (cs : List (Entry J)) : Type 0 where
+    pub order : plain k.waiting ++ k.coming ≡ drop (f + count_out k.out) cs
+    pub enough : f + count_out k.out ≤ length cs
 
   -- the same list, as another one says it
   good_as : (k k' : Line J) (f f' : ℕ) (cs cs' : List (Entry J)) → k' ≡ k → f' ≡ f → cs' ≡ cs → IsGood k f cs → IsGood k' f' cs'
@@ -90,7 +93,7 @@ module _ {J : Type 0} where
   -- what a deed has to be, by the list before it
   abbrev Could : ℕ → Act J → Line J → Type 0
   Could p (Queue e) k = Unit {0}
-  Could p (Take q number max) k = q ≡ p → k.out ≡ None
+  Could p (Take q number max moved) k = q ≡ p → k.out ≡ None
   Could p (Finish q n) k = q ≡ p → k.out ≡ Some n
   Could p (LoadQueued q n) k = Unit {0}
   Could p (LoadFinished q n) k = Unit {0}
@@ -99,13 +102,15 @@ module _ {J : Type 0} where
   with_call_good e k f cs good =
       let m : ℕ = f + count_out k.out in
       let same : m ≡ f + 0 + count_out k.out = omega arith in
-      let waiting : plain (with_call e k).waiting ≡ plain k.waiting ++ e ∷ [] = plain_remarked (next_becomes (number_given e.cookie.number (awaited (k.waiting ++ (e, Next) ∷ [])))) (k.waiting ++ (e, Next) ∷ []) ∙ plain_push k.waiting (e, Next) in
       let long = length-append cs (e ∷ []) in
       let enough = good.enough in
       record {
-        order = waiting ∙ (ap (λ z. z ++ e ∷ []) good.order ∙ (sym (drop-append-le m cs (e ∷ []) enough) ∙ ap (λ z. drop z (cs ++ e ∷ [])) same));
+        order = sym (append_assoc (plain k.waiting) k.coming (e ∷ [])) ∙ (ap (λ z. z ++ e ∷ []) good.order ∙ (sym (drop-append-le m cs (e ∷ []) enough) ∙ ap (λ z. drop z (cs ++ e ∷ [])) same));
         enough = omega (arith, enough, long);
       }
+
+  gathered_good : (n : ℕ) (k : Line J) (f : ℕ) (cs : List (Entry J)) → IsGood k f cs → IsGood (gathered n k) f cs
+  gathered_good n k f cs good = record { order = plain_gathered n k ∙ good.order; enough = good.enough }
 
   with_taken_good : (number max : ℕ) (k : Line J) (f : ℕ) (cs : List (Entry J)) → k.out ≡ None → IsGood k f cs → IsGood (with_taken number max k) (f + 0) (cs ++ [])
   with_taken_good number max k f cs none good =
@@ -116,13 +121,16 @@ module _ {J : Type 0} where
       let was : count_out k.out ≡ 0 = ap count_out none in
       let same : m + n ≡ f + 0 + count_out (some_out n) = omega (arith, out, was) in
       let few = few_ready max ready in
-      let long = length_readied number k.waiting in
-      let there : length k.waiting ≡ length (drop m cs) = sym (plain_long k.waiting) ∙ ap length good.order in
+      let plain_ready : length (plain ready) ≡ length ready = plain_long ready in
+      let long : length (plain ready) ≡ length (plain k.waiting) = ap length (plain_readied number k.waiting) in
+      let there : length (plain k.waiting ++ k.coming) ≡ length (drop m cs) = ap length good.order in
+      let both = length-append (plain k.waiting) k.coming in
       let left = length-drop m cs in
       let enough = good.enough in
+      let all : plain ready ++ k.coming ≡ drop m cs = ap (λ z. z ++ k.coming) (plain_readied number k.waiting) ∙ good.order in
       good_as (with_taken number max k) (with_taken number max k) (f + 0) (f + 0) cs (cs ++ []) refl refl (append-nil cs) record {
-        order = plain_drop n ready ∙ (ap (drop n) (plain_readied number k.waiting ∙ good.order) ∙ (drop_drop m n cs ∙ ap (λ z. drop z cs) same));
-        enough = omega (arith, same, few, long, there, left, enough);
+        order = ap (λ z. z ++ k.coming) (plain_drop n ready) ∙ (sym (drop-append-le n (plain ready) k.coming (omega (arith, few, plain_ready))) ∙ (ap (drop n) all ∙ (drop-drop n m cs ∙ ap (λ z. drop z cs) same)));
+        enough = omega (arith, same, few, plain_ready, long, there, both, left, enough);
       }
 
   with_none_out_good : (n : ℕ) (k : Line J) (f : ℕ) (cs : List (Entry J)) → k.out ≡ Some n → IsGood k f cs → IsGood (with_none_out k) (f + n) (cs ++ [])
@@ -145,10 +153,10 @@ module _ {J : Type 0} where
       either : (b : Bool) → IsGood (if b then with_call e k else k) (f + 0) (cs ++ (if b then e ∷ [] else []))
       either true = with_call_good e k f cs good
       either false = still_good k f cs good
-  next_good p by (Take q number max) k f cs could good = good_as (next_line p by (Take q number max) k) (next_line p by (Take q number max) k) (f + 0) (f + 0) (cs ++ []) (cs ++ (if by == p then [] else [])) refl refl (ap (λ z. cs ++ z) (none_of (Take q number max) (by == p) refl))
+  next_good p by (Take q number max moved) k f cs could good = good_as (next_line p by (Take q number max moved) k) (next_line p by (Take q number max moved) k) (f + 0) (f + 0) (cs ++ []) (cs ++ (if by == p then [] else [])) refl refl (ap (λ z. cs ++ z) (none_of (Take q number max moved) (by == p) refl))
       (dite (ℕ_discrete q p)
-      (λ e. good_as (with_taken number max k) (next_line p by (Take q number max) k) (f + 0) (f + 0) (cs ++ []) (cs ++ []) (ap (λ (b : Bool). if b then with_taken number max k else k) (eq-eqb q p e)) refl refl (with_taken_good number max k f cs (could e) good))
-      (λ ne. good_as k (next_line p by (Take q number max) k) (f + 0) (f + 0) (cs ++ []) (cs ++ []) (ap (λ (b : Bool). if b then with_taken number max k else k) (ne_eqb q p ne)) refl refl (still_good k f cs good)))
+      (λ e. good_as (with_taken number max (gathered moved k)) (next_line p by (Take q number max moved) k) (f + 0) (f + 0) (cs ++ []) (cs ++ []) (ap (λ (b : Bool). if b then with_taken number max (gathered moved k) else k) (eq-eqb q p e)) refl refl (with_taken_good number max (gathered moved k) f cs (could e) (gathered_good moved k f cs good)))
+      (λ ne. good_as k (next_line p by (Take q number max moved) k) (f + 0) (f + 0) (cs ++ []) (cs ++ []) (ap (λ (b : Bool). if b then with_taken number max (gathered moved k) else k) (ne_eqb q p ne)) refl refl (still_good k f cs good)))
   next_good p by (Finish q n) k f cs could good = good_as (next_line p by (Finish q n) k) (next_line p by (Finish q n) k) (f + finished_by {J = J} p (Finish q n)) (f + finished_by {J = J} p (Finish q n)) (cs ++ []) (cs ++ (if by == p then [] else [])) refl refl (ap (λ z. cs ++ z) (none_of (Finish q n) (by == p) refl))
       (dite (ℕ_discrete q p)
       (λ e. good_as (with_none_out k) (next_line p by (Finish q n) k) (f + n) (f + finished_by {J = J} p (Finish q n)) (cs ++ []) (cs ++ []) (ap (λ (b : Bool). if b then with_none_out k else k) (eq-eqb q p e)) (ap (λ (b : Bool). f + (if b then n else 0)) (eq-eqb q p e)) refl (with_none_out_good n k f cs (could e) good))
@@ -160,12 +168,12 @@ module _ {J : Type 0} where
 
   could_be : (p : ℕ) (l : List (Deed J)) (act : Act J) → IsTrueOf l act → Could p act (line_in p l)
   could_be p l (Queue e) h = tt
-  could_be p l (Take q number max) h = λ e. subst (λ z. (line_in z l).out ≡ None) e h
+  could_be p l (Take q number max moved) h = λ e. subst (λ z. (line_in z l).out ≡ None) e h.0
   could_be p l (Finish q n) h = λ e. subst (λ z. (line_in z l).out ≡ Some n) e h
   could_be p l (LoadQueued q n) h = tt
   could_be p l (LoadFinished q n) h = tt
 
-  abbrev GoodIn : ℕ → List (Deed J) → Type 0
+  abbrev pub GoodIn : ℕ → List (Deed J) → Type 0
   GoodIn p l = IsGood (line_in p l) (finished_in p l) (calls_in p l)
 
   good_push : (p : ℕ) (l : List (Deed J)) (d : Deed J) → IsTrueOf l d.act → GoodIn p l → GoodIn p (l ++ d ∷ [])
@@ -176,7 +184,7 @@ module _ {J : Type 0} where
   good_after p before [] so good = subst (λ z. GoodIn p z) (sym (append-nil before)) good
   good_after p before (d ∷ ds) so good = subst (λ z. GoodIn p z) (append_assoc before (d ∷ []) ds) (good_after p (before ++ d ∷ []) ds so.1 (good_push p before d so.0 good))
 
-  good_in : (p : ℕ) (l : List (Deed J)) → AreTrue l → GoodIn p l
+  pub good_in : (p : ℕ) (l : List (Deed J)) → AreTrue l → GoodIn p l
   good_in p l so = good_after p [] l so record { order = refl; enough = omega arith }
 
   pub waits_in_order : WaitsInOrder J
@@ -189,9 +197,9 @@ module _ {J : Type 0} where
       either : (b : Bool) → f + count_out k.out ≤ f + 0 + count_out (if b then with_call e k else k).out
       either true = omega arith
       either false = omega arith
-  next_grows p by (Take q number max) k f could = dite (ℕ_discrete q p)
+  next_grows p by (Take q number max moved) k f could = dite (ℕ_discrete q p)
       (λ e. let none : count_out k.out ≡ 0 = ap count_out (could e) in omega (arith, none))
-      (λ ne. let same : count_out (next_line p by (Take q number max) k).out ≡ count_out k.out = ap (λ (b : Bool). count_out (if b then with_taken number max k else k).out) (ne_eqb q p ne) in omega (arith, same))
+      (λ ne. let same : count_out (next_line p by (Take q number max moved) k).out ≡ count_out k.out = ap (λ (b : Bool). count_out (if b then with_taken number max (gathered moved k) else k).out) (ne_eqb q p ne) in omega (arith, same))
   next_grows p by (Finish q n) k f could = dite (ℕ_discrete q p)
       (λ e. let out : count_out k.out ≡ n = ap count_out (could e) in let more : finished_by {J = J} p (Finish q n) ≡ n = ap (λ (b : Bool). if b then n else 0) (eq-eqb q p e) in omega (arith, out, more))
       (λ ne. let same : count_out (next_line p by (Finish q n) k).out ≡ count_out k.out = ap (λ (b : Bool). count_out (if b then with_none_out k else k).out) (ne_eqb q p ne) in omega (arith, same))
@@ -216,14 +224,14 @@ module _ {J : Type 0} where
   never_falls p seen later so on = let more = grows_after p seen on.rest (true_rest [] seen on.rest (subst (λ z. AreTrue z) on.whole so)) in let same = ap (given_out p) on.whole in omega (arith, more, same)
 
   -- where something is taken, no batch is out
-  none_at_take : (p by number max : ℕ) (later : List (Deed J)) → AreTrue (later ++ deed by (Take p number max) ∷ []) → (line_in p later).out ≡ None
-  none_at_take p by number max later so = (true_rest [] later (deed by (Take p number max) ∷ []) so).0
+  none_at_take : (p by number max moved : ℕ) (later : List (Deed J)) → AreTrue (later ++ deed by (Take p number max moved) ∷ []) → (line_in p later).out ≡ None
+  none_at_take p by number max moved later so = (true_rest [] later (deed by (Take p number max moved) ∷ []) so).0.0
 
   pub gives_once : GivesOnce J
-  gives_once p by number max by' number' max' before later on so =
-      let more = never_falls p (before ++ deed by (Take p number max) ∷ []) later (true_beginning record { rest = deed by' (Take p number' max') ∷ []; whole = refl } so) on in
-      let same = finished_push p before (deed by (Take p number max)) in
-      let none : count_out (line_in p later).out ≡ 0 = ap count_out (none_at_take p by' number' max' later so) in
+  gives_once p by number max moved by' number' max' moved' before later on so =
+      let more = never_falls p (before ++ deed by (Take p number max moved) ∷ []) later (true_beginning record { rest = deed by' (Take p number' max' moved') ∷ []; whole = refl } so) on in
+      let same = finished_push p before (deed by (Take p number max moved)) in
+      let none : count_out (line_in p later).out ≡ 0 = ap count_out (none_at_take p by' number' max' moved' later so) in
       omega (arith, more, same, none)
 
   calls_stay : (p : ℕ) (seen later : List (Deed J)) → IsBeginning seen later → calls_in p seen ≡ take (queued_in p seen) (calls_in p later)
@@ -258,16 +266,85 @@ module _ {J : Type 0} where
   plain_append [] b = refl
   plain_append (x ∷ xs) b = ap (λ z. x.0 ∷ z) (plain_append xs b)
 
-  pub next_calls : (p number by max : ℕ) (before seen : List (Deed J)) (finished : ℕ) (waiting : List (Entry J × Mark)) (gone : List (Entry J)) (rest : List (Entry J × Mark)) → seen ≡ before ++ deed by (Take p number max) ∷ [] → AreTrue seen → finished ≡ finished_in p before → line_in p before ≡ record { out = None; waiting = waiting }
-      → readied number waiting ≡ marked Done gone ++ rest → gone ≡ take (length gone) (drop finished (calls_in p seen))
-  next_calls p number by max before seen finished waiting gone rest is so counted line order =
-      let good = good_in p before (front_true before (deed by (Take p number max) ∷ []) (subst (λ z. AreTrue z) is so)) in
-      let none : count_out (line_in p before).out ≡ 0 = ap (λ (z : Line J). count_out z.out) line in
-      let same : finished_in p before + count_out (line_in p before).out ≡ finished = omega (arith, none, counted) in
-      let calls : calls_in p seen ≡ calls_in p before = ap (calls_in p) is ∙ (calls_push p before (deed by (Take p number max)) ∙ (ap (λ z. calls_in p before ++ z) (none_of (Take p number max) (by == p) refl) ∙ append-nil (calls_in p before))) in
-      let all : gone ++ plain rest ≡ drop finished (calls_in p seen) =
-      ap (λ z. z ++ plain rest) (sym (plain_marked Done gone)) ∙ (sym (plain_append (marked Done gone) rest) ∙ (ap plain (sym order) ∙ (plain_readied number waiting ∙ (ap (λ (z : Line J). plain z.waiting) (sym line) ∙ (good.order ∙ (ap (λ z. drop z (calls_in p before)) same ∙ ap (drop finished) (sym calls))))))) in
-      sym (take-append_seam gone (plain rest)) ∙ ap (take (length gone)) all
+  pub next_calls : (p number by max : ℕ) (k : Known J) (before seen : List (Deed J)) (gone : List (Entry J)) (rest : List (Entry J × Mark)) → seen ≡ before ++ deed by (Take p number max k.moved) ∷ [] → AreTrue seen → k.out ≡ None → IsThere p k before
+      → readied number k.waiting ≡ marked Done gone ++ rest → gone ≡ take (length gone) (drop k.finished (calls_in p seen))
+  next_calls p number by max k before seen gone rest is so none_out there order =
+      let l : Line J = gathered k.moved (line_in p before) in
+      let good = gathered_good k.moved (line_in p before) (finished_in p before) (calls_in p before) (good_in p before (front_true before (deed by (Take p number max k.moved) ∷ []) (subst (λ z. AreTrue z) is so))) in
+      let none : count_out (line_in p before).out ≡ 0 = ap count_out (sym there.out_is ∙ none_out) in
+      let counted = there.finished_is in
+      let same : finished_in p before + count_out (line_in p before).out ≡ k.finished = omega (arith, none, counted) in
+      let calls : calls_in p seen ≡ calls_in p before = ap (calls_in p) is ∙ (calls_push p before (deed by (Take p number max k.moved)) ∙ (ap (λ z. calls_in p before ++ z) (none_of (Take p number max k.moved) (by == p) refl) ∙ append-nil (calls_in p before))) in
+      let front : gone ++ plain rest ≡ plain l.waiting = ap (λ z. z ++ plain rest) (sym (plain_marked Done gone)) ∙ (sym (plain_append (marked Done gone) rest) ∙ (ap plain (sym order) ∙ (plain_readied number k.waiting ∙ ap plain there.waiting_is))) in
+      let all : gone ++ (plain rest ++ l.coming) ≡ drop k.finished (calls_in p seen) =
+      sym (append_assoc gone (plain rest) l.coming) ∙ (ap (λ z. z ++ l.coming) front ∙ (good.order ∙ (ap (λ z. drop z (calls_in p before)) same ∙ ap (drop k.finished) (sym calls)))) in
+      sym (take-append_seam gone (plain rest ++ l.coming)) ∙ ap (take (length gone)) all
     where
       front_true : (a b : List (Deed J)) → AreTrue (a ++ b) → AreTrue a
       front_true a b h = true_beginning record { rest = b; whole = refl } h
+
+  -- What is moved next
+
+  behind_at : (xs : List (Entry J)) (i : ℕ) (e : Entry J) → slice_get xs i ≡ Some e → (rest : List (Entry J)) × (drop i xs ≡ e ∷ rest)
+  behind_at [] i e h = let wrong : None ≡ Some e = h in cc
+  behind_at (x ∷ xs) zero e h = (xs, ap (λ z. z ∷ xs) (same x e h))
+    where
+      same : (a b : Entry J) → Some a ≡ Some b → a ≡ b
+      same a b h = cc
+  behind_at (x ∷ xs) (suc i) e h = behind_at xs i e h
+
+  take_next : (n : ℕ) (xs rest : List (Entry J)) (e : Entry J) → drop n xs ≡ e ∷ rest → take (suc n) xs ≡ take n xs ++ e ∷ []
+  take_next zero [] rest e h = cc
+  take_next zero (x ∷ xs) rest e h = let first : x ≡ e = cc in ap (λ z. z ∷ []) first
+  take_next (suc n) [] rest e h = cc
+  take_next (suc n) (x ∷ xs) rest e h = ap (λ z. x ∷ z) (take_next n xs rest e h)
+
+  -- a call that has the list's next number is the first of those that came in
+  pub next_comes : (p : ℕ) (k : Known J) (log : List (Deed J)) (e : Entry J) → AreTrue log → IsThere p k log → slice_get (calls_in p log) (k.finished + count_out k.out + length k.waiting) ≡ Some e
+      → (k.moved + 1 ≤ length (line_in p log).coming) × (with_moved e k.waiting ≡ (gathered (k.moved + 1) (line_in p log)).waiting)
+  next_comes p k log e so there at =
+      let l : Line J = line_in p log in
+      let good = good_in p log so in
+      let g : ℕ = finished_in p log + count_out l.out in
+      let few = there.few in
+      let fin = there.finished_is in
+      let out = ap count_out there.out_is in
+      let long : length k.waiting ≡ length l.waiting + k.moved = ap length there.waiting_is ∙ gathered_long k.moved l few in
+      let same : k.finished + count_out k.out + length k.waiting ≡ g + (length (plain l.waiting) + k.moved) = let w = plain_long l.waiting in omega (arith, fin, out, long, w) in
+      let b = behind_at (calls_in p log) (k.finished + count_out k.out + length k.waiting) e at in
+      let behind : drop k.moved l.coming ≡ e ∷ b.0 =
+      sym (ap (drop k.moved) (drop-append_seam (plain l.waiting) l.coming)) ∙ (drop-drop k.moved (length (plain l.waiting)) (plain l.waiting ++ l.coming) ∙ (ap (drop (length (plain l.waiting) + k.moved)) good.order ∙ (drop-drop (length (plain l.waiting) + k.moved) g (calls_in p log) ∙ (ap (λ n. drop n (calls_in p log)) (sym same) ∙ b.1)))) in
+      let left : length (drop k.moved l.coming) ≡ suc (length b.0) = ap length behind in
+      let cut = length-drop k.moved l.coming in
+      let suc_is : suc k.moved ≡ k.moved + 1 = omega arith in
+      (omega (arith, left, cut), ap (with_moved e) there.waiting_is ∙ sym (gathered_next k.moved l e (ap (λ n. take n l.coming) (sym suc_is) ∙ take_next k.moved l.coming b.0 e behind)))
+
+  -- a processor's own deeds tell which calls it has queued
+  calls_deeds : (p : ℕ) (l : List (Deed J)) → calls_in p (deeds_of p l) ≡ calls_in p l
+  calls_deeds p [] = refl
+  calls_deeds p (x ∷ xs) = let rest = calls_deeds p xs in dite (ℕ_discrete x.by p)
+      (λ e. ap (λ b. calls_in p (cond b (x ∷ deeds_of p xs) (deeds_of p xs))) (eq-eqb x.by p e) ∙ ap (λ z. (if x.by == p then call_of x.act else []) ++ z) rest)
+      (λ n. ap (λ b. calls_in p (cond b (x ∷ deeds_of p xs) (deeds_of p xs))) (ne_eqb x.by p n) ∙ (rest ∙ ap (λ z. z ++ calls_in p xs) (sym (ap (λ (b : Bool). if b then call_of x.act else []) (ne_eqb x.by p n)))))
+
+  pub same_calls : (p : ℕ) (a b : List (Deed J)) → deeds_of p a ≡ deeds_of p b → calls_in p a ≡ calls_in p b
+  same_calls p a b same = sym (calls_deeds p a) ∙ (ap (calls_in p) same ∙ calls_deeds p b)
+
+  -- one more call, and other deeds
+  pub calls_here : (p : ℕ) (e : Entry J) (l : List (Deed J)) → calls_in p (l ++ deed p (Queue e) ∷ []) ≡ calls_in p l ++ e ∷ []
+  calls_here p e l = calls_push p l (deed p (Queue e)) ∙ ap (λ (b : Bool). calls_in p l ++ (if b then e ∷ [] else [])) (eq-eqb p p refl)
+
+  pub calls_elsewhere : (p q : ℕ) (e : Entry J) (l : List (Deed J)) → q ≢ p → calls_in p (l ++ deed q (Queue e) ∷ []) ≡ calls_in p l
+  calls_elsewhere p q e l ne = calls_push p l (deed q (Queue e)) ∙ (ap (λ (b : Bool). calls_in p l ++ (if b then e ∷ [] else [])) (ne_eqb q p ne) ∙ append-nil (calls_in p l))
+
+  pub calls_still : (p c : ℕ) (act : Act J) (l : List (Deed J)) → call_of act ≡ [] → calls_in p (l ++ deed c act ∷ []) ≡ calls_in p l
+  calls_still p c act l none = calls_push p l (deed c act) ∙ (ap (λ z. calls_in p l ++ z) (none_of act (c == p) none) ∙ append-nil (calls_in p l))
+
+  no_call : (act : Act J) → is_queue act ≡ false → call_of act ≡ []
+  no_call (Queue e) h = let wrong : true ≡ false = h in cc
+  no_call (Take p number max moved) h = refl
+  no_call (Finish p n) h = refl
+  no_call (LoadQueued p n) h = refl
+  no_call (LoadFinished p n) h = refl
+
+  pub calls_unqueued : (p c : ℕ) (act : Act J) (l : List (Deed J)) → is_queue act ≡ false → calls_in p (l ++ deed c act ∷ []) ≡ calls_in p l
+  calls_unqueued p c act l none = calls_still p c act l (no_call act none)

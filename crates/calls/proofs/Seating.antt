@@ -8,6 +8,7 @@ use Rattle.calls.specs.declared.view.Act.{Act}
 use Rattle.calls.specs.declared.view.Deed.{Deed}
 use Rattle.calls.specs.declared.view.BatchRight.TheVariants.{NoBatch}
 use Rattle.calls.specs.Tallies.{word_count, deeds_of, AreTakers, IsBeginning, AreTrue}
+use Rattle.calls.specs.declared.view.ListRight.{ListRight}
 use Rattle.calls.specs.declared.view.ListRight.TheVariants.{NoList}
 use Rattle.calls.specs.Rule.{with_list, without_list, with_batch, without_batch}
 use Rattle.calls.specs.Plays.{Sat, Does, FindsAll}
@@ -49,8 +50,8 @@ module _ {J : Type 0} where
   }
 
   -- the seat, where a list's right was taken over before the load and given away after it
-  pub list_through : (a j e t : Sat J) (w : View J) → j ≡ (with_list a.0 w, a.1) → e ≡ (record j.0 { seen = e.0.seen; told = [] }, j.1) → t ≡ (without_list e.0, e.1) → t ≡ (record a.0 { list = NoList; seen = t.0.seen; told = [] }, a.1)
-  list_through a j e t w taken loaded given =
+  pub list_through : (a j e t : Sat J) (w : View J) (right : ListRight J) → j ≡ (with_list a.0 w, a.1) → e ≡ (record j.0 { list = right; seen = e.0.seen; told = [] }, j.1) → t ≡ (without_list e.0, e.1) → t ≡ (record a.0 { list = NoList; seen = t.0.seen; told = [] }, a.1)
+  list_through a j e t w right taken loaded given =
       let seen : t.0.seen ≡ e.0.seen = ap (λ m. m.0.seen) given in
       given ∙ ((λ i. (without_list (loaded i).0, (loaded i).1)) ∙ (λ i. (record (taken i).0 { list = NoList; seen = sym seen i; told = [] }, (taken i).1)))
 

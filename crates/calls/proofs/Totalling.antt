@@ -13,7 +13,7 @@ use Rattle.calls.specs.Totals.{added}
 use Rattle.calls.specs.Laws.{TotalsAreExact}
 use Rattle.calls.proofs.Counting.{same_queued, queued_deeds, later_takers}
 use Rattle.calls.proofs.Loading.{begins_on, queued_append, finished_append, queued_later, finished_later}
-use Rattle.calls.proofs.Meeting.{deeds_append, none_more, own_between}
+use Rattle.calls.proofs.Counting.{deeds_append, none_more, own_between}
 
 -- Deeds of one processor
 
@@ -31,7 +31,7 @@ module _ {J : Type 0} where
 
   not_finished : (n p by : ℕ) (act : Act J) → IsTaker n by act → (by < n → ⊥) → finished_by p act ≡ 0
   not_finished n p by (Queue e) h away = refl
-  not_finished n p by (Take q number max) h away = refl
+  not_finished n p by (Take q number max moved) h away = refl
   not_finished n p by (Finish q k) h away = absurd (away h)
   not_finished n p by (LoadQueued q k) h away = refl
   not_finished n p by (LoadFinished q k) h away = refl

@@ -7,17 +7,19 @@ use Rattle.onedom.specs.declared.event.Event.TheVariants.{Ask}
 use Rattle.onedom.specs.Histories.{IsBeginning}
 use Rattle.sections.specs.Views.{CpuView, CookieView}
 use Rattle.sections.specs.Calls.{EndsWithNote}
-use Rattle.sections.specs.Sights.{GivesCookieBehind, AsksHowFar}
-use Rattle.segs.specs.MarkedList.{Mark, Done, Next, marked, assigned, count_done, lens, numbers}
+use Rattle.sections.specs.Sights.{SightView, GivesCookieBehind, AsksHowFar}
+use Rattle.segs.specs.MarkedList.{Mark, Done, marked, lens, numbers}
 use Rattle.calls.specs.declared.view.Act.{Act}
 use Rattle.calls.specs.declared.view.Act.TheVariants.{Queue, Take, Finish}
 use Rattle.calls.specs.declared.view.Deed.{Deed}
 use Rattle.calls.specs.declared.entry.Entry.{Entry}
 use Rattle.calls.specs.declared.refusals.CallRefusal.{CallRefusal}
 use Rattle.calls.specs.declared.refusals.CallRefusal.TheVariants.{Exhausted, Memory}
-use Rattle.calls.specs.Lines.{some_out, line_in, readied, many_ready, calls_in}
-use Rattle.calls.specs.Tallies.{deed, most_calls, queued_in, deeds_of, AreTrue, IsBeginning as IsBeginningOf}
-use Rattle.calls.specs.Views.{CallSeatView, ListView, BatchView, CallsView, key_of, next_of, IsListIn, ReceiptView}
+use Rattle.calls.specs.declared.refusals.TakeRefusal.{TakeRefusal}
+use Rattle.calls.specs.declared.refusals.TakeRefusal.TheVariants.{Invoking, Memory as NoMemory}
+use Rattle.calls.specs.Lines.{some_out, line_in, gathered, with_moved, all_moved, readied, many_ready, calls_in}
+use Rattle.calls.specs.Tallies.{deed, most_calls, queued_in, given_out, deeds_of, AreTrue, IsBeginning as IsBeginningOf}
+use Rattle.calls.specs.Views.{CallSeatView, ListView, BatchView, CallsView, key_of, IsListIn, ReceiptView}
 use Rattle.calls.specs.Meetings.{Covers}
 
 -- Tallies
@@ -25,7 +27,7 @@ use Rattle.calls.specs.Meetings.{Covers}
 module _ {J : Type 0} where
   -- the same processor's seat at the same tally words
   abbrev pub IsSameSeat : CallSeatView J → CallSeatView J → Type 0
-  IsSameSeat s t = (t.tallies ≡ s.tallies) × (t.processors ≡ s.processors) × (t.processor ≡ s.processor)
+  IsSameSeat s t = (t.tallies ≡ s.tallies) × (t.processors ≡ s.processors) × (t.processor ≡ s.processor) × (t.domain ≡ s.domain)
 
   -- the seat did this, behind all that it had seen. Of its own it knew all before, and each load in what it has then seen found what was counted
   pub record Does (act : Act J) (s t : CallSeatView J) : Type 0 where
@@ -54,6 +56,7 @@ module _ {J : Type 0} where
   -- the processor and its seat, of the same domain
   pub record FitsIn (k : CallsView) (c : CpuView) (s : CallSeatView J) : Type 0 where
     pub domain : c.domain ≡ k.domain
+    pub seat : s.domain ≡ k.domain
     pub tallies : s.tallies ≡ k.tallies
     pub cpu : c.processor ≡ s.processor
     pub there : s.processor < k.processors
@@ -69,40 +72,57 @@ module _ {J : Type 0} where
   abbrev pub IsSameList : ListView J → ListView J → Type 0
   IsSameList l m = key_of m ≡ key_of l
 
-  -- the processor, its seat and its list, of one domain and its tally words
-  pub record Fits (l : ListView J) (c : CpuView) (s : CallSeatView J) : Type 0 where
-    pub domain : c.domain ≡ l.sight.domain
-    pub tallies : s.tallies ≡ l.tallies
-    pub cpu : c.processor ≡ l.processor
-    pub seat : s.processor ≡ l.processor
+  -- the processor and its seat, of one domain
+  pub record Fits (c : CpuView) (s : CallSeatView J) : Type 0 where
+    pub domain : c.domain ≡ s.domain
+    pub cpu : c.processor ≡ s.processor
 
-  -- the cookie was given, the job came last with it, and what had no number was assigned this one; then 1 was added to the queued word. The receipt has the cookie, its number is that of the job in the list and what the word held, and what the seat has then seen is noted in it, by which its call was queued
-  pub record Queues (l : ListView J) (c : CpuView) (s : CallSeatView J) (job : J) (r : ReceiptView J) (l' : ListView J) (c' : CpuView) (s' : CallSeatView J) : Type 0 where
-    pub note : GivesCookieBehind l.sight c c' r.cookie l'.sight
-    pub same : IsSameList l l'
-    pub entries : l'.entries ≡ assigned r.cookie.number (l.entries ++ (record { job = job; cookie = r.cookie }, Next) ∷ [])
-    pub finished : l'.finished ≡ l.finished
-    pub out : l'.out ≡ l.out
+  -- a cookie was given, behind all that the processor had seen, and 1 was added to the queued word for the job with it. The receipt has the cookie, and the number that the word held; and it notes what the seat has then seen, where its call is queued
+  pub record Queues (c : CpuView) (s : CallSeatView J) (job : J) (r : ReceiptView J) (c' : CpuView) (s' : CallSeatView J) : Type 0 where
+    pub behind : SightView
+    pub sight : SightView
+    pub note : GivesCookieBehind behind c c' r.cookie sight
     pub tally : Does (Queue (record { job = job; cookie = r.cookie })) s s'
-    pub was : IsListIn tally.before l
-    pub is : IsListIn s'.seen l'
     pub processor : r.processor ≡ s.processor
     pub counted : r.k ≡ queued_in s.processor s.seen
-    pub numbered : r.k ≡ next_of l
     pub noted : (r.tallies ≡ s'.tallies) × (r.seen ≡ s'.seen)
     pub known : r.k < queued_in r.processor r.seen
 
   -- why: as many were queued as may be, and no step was made; or fewer, and a cookie was noted
-  abbrev pub IsCause : ListView J → CpuView → CallSeatView J → CallRefusal → ListView J → CpuView → Type 0
-  IsCause l c s Exhausted l' c' = (queued_in s.processor s.seen ≡ most_calls) × (l' ≡ l) × (c' ≡ c)
-  IsCause l c s Memory l' c' = (queued_in s.processor s.seen < most_calls) × ((cookie : CookieView) × GivesCookieBehind l.sight c c' cookie l'.sight)
+  abbrev pub IsCause : CpuView → CallSeatView J → CallRefusal → CpuView → Type 0
+  IsCause c s Exhausted c' = (queued_in s.processor s.seen ≡ most_calls) × (c' ≡ c)
+  IsCause c s Memory c' = (queued_in s.processor s.seen < most_calls) × ((cookie : CookieView) × (behind : SightView) × (sight : SightView) × GivesCookieBehind behind c c' cookie sight)
 
-  -- the job comes back. The list but for its sight, and what the seat has seen, are as before
-  pub record Refuses (l : ListView J) (c : CpuView) (s : CallSeatView J) (job : J) (refused : J × CallRefusal) (l' : ListView J) (c' : CpuView) (s' : CallSeatView J) : Type 0 where
+  -- the job comes back, and what the seat has seen is as before
+  pub record Refuses (c : CpuView) (s : CallSeatView J) (job : J) (refused : J × CallRefusal) (c' : CpuView) (s' : CallSeatView J) : Type 0 where
     pub job_is : refused.0 ≡ job
-    pub list : l' ≡ record l { sight = l'.sight }
     pub seat : s' ≡ s
-    pub cause : IsCause l c s refused.1 l' c'
+    pub cause : IsCause c s refused.1 c'
+
+  -- Moving
+
+  -- so many of those that came in are moved: with those that were given out and those that wait, they are all that had been queued on the processor at a moment, which was not before the first history and not after the second
+  pub record MovesAll (p moved : ℕ) (from seen : List (Deed J)) : Type 0 where
+    pub few : moved ≤ length (line_in p seen).coming
+    pub moment : List (Deed J)
+    pub not_before : IsBeginningOf from moment
+    pub not_after : IsBeginningOf moment seen
+    pub all : given_out p seen + length (line_in p seen).waiting + moved ≡ queued_in p moment
+
+  -- this one came last, and what had no number was assigned that of its cookie
+  pub record MovesOne (l l' : ListView J) : Type 0 where
+    pub entry : Entry J
+    pub is : l' ≡ record l { moved = l.moved + 1; entries = with_moved entry l.entries; given = l'.given }
+
+  -- these were moved, one after the other, to where more may be known to be queued
+  pub record Came (l l' : ListView J) : Type 0 where
+    pub came : List (Entry J)
+    pub is : l' ≡ record l { counted = l'.counted; moved = l.moved + length came; entries = all_moved came l.entries; given = l'.given }
+
+  -- the seat made one load, which is no deed
+  pub record Gathers (l : ListView J) (s : CallSeatView J) (l' : ListView J) (s' : CallSeatView J) : Type 0 where
+    pub came : Came l l'
+    pub covers : Covers s s.seen s'
 
   -- Taking
 
@@ -131,33 +151,54 @@ module _ {J : Type 0} where
     pub same : IsSameList l l'
     pub finished : l'.finished ≡ l.finished
     pub out : l'.out ≡ some_out (length gone)
-    pub tally : Does (Take l.processor number max) s s'
+    pub tally : Does (Take l.processor number max l.moved) s s'
     pub was : IsListIn tally.before l
     pub is : IsListIn s'.seen l'
     pub in_order : readied number l.entries ≡ marked Done gone ++ l'.entries
     pub many : length gone ≡ many_ready max (readied number l.entries)
     pub calls : gone ≡ take (length gone) (drop l.finished (calls_in l.processor s'.seen))
 
-  -- no batch was out, and these were given out
-  pub record Takes (max : ℕ) (l : ListView J) (c : CpuView) (s : CallSeatView J) (taken : Option (BatchView J)) (l' : ListView J) (c' : CpuView) (s' : CallSeatView J) : Type 0 where
+  -- no batch was out, and these were given out of the list
+  pub record TakesReady (max : ℕ) (l : ListView J) (c : CpuView) (s : CallSeatView J) (taken : Option (BatchView J)) (l' : ListView J) (c' : CpuView) (s' : CallSeatView J) : Type 0 where
     pub none_out : l.out ≡ None
     pub gone : List (Entry J)
     pub gives : GivesOut max l c s gone l' c' s'
     pub taken_is : IsTaken l gone taken l'
 
+  -- the same, where all that had been queued at a moment of the call had been moved to the list
+  pub record Takes (max : ℕ) (l : ListView J) (c : CpuView) (s : CallSeatView J) (taken : Option (BatchView J)) (l' : ListView J) (c' : CpuView) (s' : CallSeatView J) : Type 0 where
+    pub none_out : l.out ≡ None
+    pub gone : List (Entry J)
+    pub gives : GivesOut max l c s gone l' c' s'
+    pub all : MovesAll l.processor l.moved s.seen gives.tally.before
+    pub taken_is : IsTaken l gone taken l'
+
+  -- these were moved first
+  pub record TakesAll (max : ℕ) (l : ListView J) (c : CpuView) (s : CallSeatView J) (taken : Option (BatchView J)) (l' : ListView J) (c' : CpuView) (s' : CallSeatView J) : Type 0 where
+    pub gathered : ListView J
+    pub came : Came l gathered
+    pub takes : Takes max gathered c s taken l' c' s'
+
   -- a batch is out: one load by the seat found it so
   pub record FindsOut (l : ListView J) (c : CpuView) (s : CallSeatView J) (l' : ListView J) (c' : CpuView) (s' : CallSeatView J) : Type 0 where
     pub invoking : IsInvoking l
-    pub list : l' ≡ l
+    pub list : l' ≡ record l { counted = l'.counted }
     pub cpu : c' ≡ c
     pub covers : Covers s s.seen s'
     pub is : IsListIn s'.seen l
 
-  -- one load by the seat found the list as it is
-  pub record FindsLens (l : ListView J) (s : CallSeatView J) (found : List ℕ × List ℕ) (s' : CallSeatView J) : Type 0 where
+  -- why nothing was taken: a batch is out; or there was no memory for one that was to be moved, and the seat has made a load
+  abbrev pub TakesNothing : ListView J → CpuView → CallSeatView J → TakeRefusal → ListView J → CpuView → CallSeatView J → Type 0
+  TakesNothing l c s Invoking l' c' s' = FindsOut l c s l' c' s'
+  TakesNothing l c s NoMemory l' c' s' = (c' ≡ c) × Gathers l s l' s'
+
+  -- the list was found so, by a load of the seat, after all that had been queued at a moment of the call were moved
+  pub record FindsLens (l : ListView J) (s : CallSeatView J) (found : List ℕ × List ℕ) (l' : ListView J) (s' : CallSeatView J) : Type 0 where
     pub covers : Covers s s.seen s'
-    pub is : IsListIn s'.seen l
-    pub found_is : found ≡ (lens l.entries, numbers l.entries)
+    pub same : IsSameList l l'
+    pub is : IsListIn s'.seen l'
+    pub all : MovesAll l.processor l'.moved s.seen s'.seen
+    pub found_is : found ≡ (lens l'.entries, numbers l'.entries)
 
   abbrev pub AreHanded : List (Entry J) → List Event → Type 0
   AreHanded entries now = All (λ e. IsHanded e.cookie.number e.cookie.seen now) entries
@@ -195,23 +236,19 @@ module _ {J : Type 0} where
   abbrev pub IsListOf : CallsView → ℕ → ListView J → Type 0
   IsListOf k p l = key_of l ≡ record { domain = k.domain; tallies = k.tallies; processor = p }
 
-  -- a list of the processor, as it was when the call had it, and as the call left it
+  -- the job was queued on the processor, at these tally words
   pub record QueuesIn (k : CallsView) (c : CpuView) (s : CallSeatView J) (job : J) (r : ReceiptView J) (c' : CpuView) (s' : CallSeatView J) : Type 0 where
-    pub list : ListView J
-    pub of_calls : IsListOf k s.processor list
-    pub list' : ListView J
-    pub queues : Queues list c s job r list' c' s'
+    pub tallies : r.tallies ≡ k.tallies
+    pub queues : Queues c s job r c' s'
 
   pub record RefusesIn (k : CallsView) (c : CpuView) (s : CallSeatView J) (job : J) (refused : J × CallRefusal) (c' : CpuView) (s' : CallSeatView J) : Type 0 where
-    pub list : ListView J
-    pub of_calls : IsListOf k s.processor list
-    pub list' : ListView J
-    pub refuses : Refuses list c s job refused list' c' s'
+    pub refuses : Refuses c s job refused c' s'
 
   -- a batch of this processor
   abbrev pub IsOfProcessor : CallsView → ℕ → BatchView J → Type 0
   IsOfProcessor k p b = (b.tallies ≡ k.tallies) × (b.processor ≡ p)
 
+  -- the list of the processor, once all that had been queued at a moment of the call were moved, and as the call left it
   pub record TakesIn (k : CallsView) (p max : ℕ) (c : CpuView) (s : CallSeatView J) (taken : Option (BatchView J)) (c' : CpuView) (s' : CallSeatView J) : Type 0 where
     pub list : ListView J
     pub of_calls : IsListOf k p list
@@ -224,10 +261,17 @@ module _ {J : Type 0} where
     pub covers : Covers s s.seen s'
     pub out : IsSome (line_in p s'.seen).out
 
-  -- one load by the seat found this processor's list
+  -- why nothing was taken: a batch of this processor is out; or there was no memory for a call that was to be moved, and the seat has made a load
+  abbrev pub TakesNothingIn : ℕ → CpuView → CallSeatView J → TakeRefusal → CpuView → CallSeatView J → Type 0
+  TakesNothingIn p c s Invoking c' s' = InvokesIn p c s c' s'
+  TakesNothingIn p c s NoMemory c' s' = (c' ≡ c) × Covers s s.seen s'
+
+  -- this processor's list was found so, after all that had been queued at a moment of the call were moved
   pub record FindsLensIn (p : ℕ) (s : CallSeatView J) (found : List ℕ × List ℕ) (s' : CallSeatView J) : Type 0 where
     pub covers : Covers s s.seen s'
-    pub found_is : found ≡ (lens (line_in p s'.seen).waiting, numbers (line_in p s'.seen).waiting)
+    pub moved : ℕ
+    pub all : MovesAll p moved s.seen s'.seen
+    pub found_is : found ≡ (lens (gathered moved (line_in p s'.seen)).waiting, numbers (gathered moved (line_in p s'.seen)).waiting)
 
   pub record MayFinishIn (k : CallsView) (s : CallSeatView J) (b : BatchView J) : Type 0 where
     pub empty : b.entries ≡ []
@@ -245,16 +289,16 @@ module _ {J : Type 0} where
 
 module _ {J : Type 0} where
   -- a seat that has seen nothing
-  abbrev pub new_seat : TableId → ℕ → ℕ → CallSeatView J
-  new_seat tallies processors p = record { tallies = tallies; processors = processors; processor = p; seen = [] }
+  abbrev pub new_seat : TableId → TableId → ℕ → ℕ → CallSeatView J
+  new_seat domain tallies processors p = record { domain = domain; tallies = tallies; processors = processors; processor = p; seen = [] }
 
   -- the seats of all processors in order, which have seen nothing
-  pub record AreNewSeats (tallies : TableId) (processors : ℕ) (seats : List (CallSeatView J)) : Type 0 where
+  pub record AreNewSeats (domain tallies : TableId) (processors : ℕ) (seats : List (CallSeatView J)) : Type 0 where
     pub count : length seats ≡ processors
-    pub each : (p : ℕ) (d : CallSeatView J) → p < length seats → slice_index_or seats p d ≡ new_seat tallies processors p
+    pub each : (p : ℕ) (d : CallSeatView J) → p < length seats → slice_index_or seats p d ≡ new_seat domain tallies processors p
 
   -- callbacks of this domain, for all of its processors
   pub record AreMade (domain : TableId) (processors : ℕ) (k : CallsView) (seats : List (CallSeatView J)) : Type 0 where
     pub of_domain : k.domain ≡ domain
     pub many : k.processors ≡ processors
-    pub seats_new : AreNewSeats k.tallies processors seats
+    pub seats_new : AreNewSeats k.domain k.tallies processors seats

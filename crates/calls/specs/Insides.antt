@@ -1,8 +1,12 @@
 -- How the fields of a seat, a list, a batch and of all callbacks are seen, and what is always true of them.
-use Rattle.std.specs.Prelude.{◌≡◌, ℕ, ◌+◌, ◌<◌, ◌≤◌, ◌↔◌, IsTrue, IsSome, List, [], ◌∷◌, Some, length, map, slice_index_or}
+use Rattle.std.specs.Prelude.{◌≡◌, ℕ, ◌<◌, ◌≤◌, ◌↔◌, ◌⊎◌, IsTrue, IsSome, List, [], ◌∷◌, ◌++◌, All, Some, length, map, slice_index_or}
 use Rattle.std.specs.Arc.{arc_value}
 use Rattle.atomic_table.specs.Seated.{TableId}
 use Rattle.keep.specs.Views.{KeepView}
+use Rattle.sections.specs.Sights.{SightView}
+use Rattle.intake.specs.Views.{InletView}
+use Rattle.calls.specs.declared.entry.Entry.{Entry}
+use Rattle.calls.specs.declared.entry.Arrival.{Arrival}
 use Rattle.calls.specs.declared.seat.CallSeat.TheInside as seat
 use Rattle.calls.specs.declared.list.List.TheInside as list
 use Rattle.calls.specs.declared.batch.Batch.TheInside as batch
@@ -12,15 +16,28 @@ use Rattle.calls.specs.declared.barrier.Ticket.TheInside as ticket
 use Rattle.calls.specs.declared.note.Note.TheInside as note
 use Rattle.calls.specs.declared.receipt.Receipt.TheInside as receipt
 use Rattle.calls.specs.Tallies.{finished_place, word_count, most_calls, queued_in, AreTrue}
-use Rattle.calls.specs.Lines.{count_out}
-use Rattle.calls.specs.Seats.{IsPlaced, IsAtRest, IsListSeat, IsBatchSeat, finished_known, queued_known, out_known, waiting_known, first_known}
+use Rattle.calls.specs.Lines.{calls_in}
+use Rattle.calls.specs.Seats.{IsPlaced, IsAtRest, IsListSeat, IsBatchSeat, known_in, next_known, first_known}
 use Rattle.calls.specs.Waiting.{AreWaiting, wrapped, entries_of}
 use Rattle.calls.specs.Views.{CallSeatView, ListKey, ListView, BatchView, NoteView, ReceiptView, TicketView, CallsView}
+use Rattle.calls.specs.Arrivals.{GoesOn, entries_in}
 use Rattle.calls.specs.Barriers.{IsQueued, IsCallOf}
 
 module _ {J A : Type 0} where
+  -- the end of a processor's line at which these calls came in. The sight goes as far as all who queued them
+  pub record IsIntake (tallies : TableId) (p : ℕ) (inlet : InletView (Arrival J) ListKey A) (sight : SightView) (calls : List (Entry J)) : Type 0 where
+    pub key : inlet.key ≡ Some record { domain = sight.domain; tallies = tallies; processor = p }
+    pub pushed : entries_in inlet.pushed ≡ calls
+    pub before : All (λ (y : Arrival J). GoesOn y.sight sight) inlet.pushed
+
+module _ {J : Type 0} where
+  -- where nothing was taken out, or that of the last one
+  abbrev pub IsLast : List (Arrival J) → SightView → Type 0
+  IsLast taken given = (taken ≡ []) ⊎ ((front : List (Arrival J)) × (y : Arrival J) × (taken ≡ front ++ y ∷ []) × (given ≡ y.sight))
+
+module _ {J A : Type 0} where
   abbrev pub view_of_seat : seat.Inside J A → CallSeatView J
-  view_of_seat s = record { tallies = s.seat.table_id; processors = (arc_value s.table).shared.key.processors; processor = s.processor; seen = s.seat.me.0.seen }
+  view_of_seat s = record { domain = s.sight.domain; tallies = s.seat.table_id; processors = (arc_value s.table).shared.key.processors; processor = s.processor; seen = s.seat.me.0.seen }
 
   pub record IsCallSeat (s : seat.Inside J A) : Type 0 where
     pub placed : IsPlaced (arc_value s.table).shared.key (arc_value s.table).shared.table_id s.seat
@@ -28,17 +45,24 @@ module _ {J A : Type 0} where
     pub loads : AreTrue s.seat.me.0.seen
     pub queued : s.queued ≡ queued_in s.processor s.seat.me.0.seen
     pub few : s.queued ≤ most_calls
+    pub intake : IsIntake s.seat.table_id s.processor s.inlet s.sight (calls_in s.processor s.seat.me.0.seen)
 
 module _ {J A : Type 0} where
   abbrev pub view_of_list : list.Inside J A → ListView J
-  view_of_list l = record { tallies = l.seat.table_id; processor = l.processor; finished = finished_known l.seat.me.0.list; out = out_known l.seat.me.0.list; entries = waiting_known l.seat.me.0.list; sight = l.sight }
+  view_of_list l = let k = known_in l.seat.me.0.list in record { tallies = l.seat.table_id; processor = l.processor; counted = k.queued; finished = k.finished; out = k.out; moved = k.moved; entries = k.waiting; given = l.given; sight = l.sight }
 
   pub record IsList (l : list.Inside J A) : Type 0 where
     pub seated : IsListSeat l.seat.table_id l.processor l.seat
-    pub wrapping : l.waiting.entries ≡ wrapped (waiting_known l.seat.me.0.list)
-    pub waiting : AreWaiting l.sight (waiting_known l.seat.me.0.list)
-    pub numbered : queued_known l.seat.me.0.list ≡ finished_known l.seat.me.0.list + count_out (out_known l.seat.me.0.list) + length (waiting_known l.seat.me.0.list)
-    pub out : IsTrue l.out ↔ IsSome (out_known l.seat.me.0.list)
+    pub wrapping : l.waiting.entries ≡ wrapped (known_in l.seat.me.0.list).waiting
+    pub waiting : AreWaiting l.given l.sight (known_in l.seat.me.0.list).waiting
+    pub one_domain : l.given.domain ≡ l.sight.domain
+    pub key : l.outlet.key ≡ Some record { domain = l.sight.domain; tallies = l.seat.table_id; processor = l.processor }
+    pub last : IsLast l.outlet.taken l.given
+    pub arrived : l.arrived ≡ length l.outlet.taken
+    pub numbered : l.arrived ≡ next_known (known_in l.seat.me.0.list)
+    pub few : l.arrived ≤ (known_in l.seat.me.0.list).queued
+    pub most : (known_in l.seat.me.0.list).queued ≤ most_calls
+    pub out : IsTrue l.out ↔ IsSome (known_in l.seat.me.0.list).out
     pub there : finished_place l.processor < l.seat.table_id.words
 
   abbrev pub view_of_batch : batch.Inside J A → BatchView J

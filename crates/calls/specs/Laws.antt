@@ -11,7 +11,7 @@ use Rattle.calls.specs.declared.view.ListRight.TheVariants.{NoList}
 use Rattle.calls.specs.declared.view.BatchRight.TheVariants.{NoBatch}
 use Rattle.calls.specs.declared.view.View.{View}
 use Rattle.calls.specs.Lines.{count_out, line_in, calls_in}
-use Rattle.calls.specs.Tallies.{deed, queued_place, finished_place, queued_in, finished_in, deeds_of, IsBeginning, AreTrue}
+use Rattle.calls.specs.Tallies.{deed, queued_place, finished_place, queued_in, finished_in, given_out, deeds_of, IsBeginning, AreTrue}
 use Rattle.calls.specs.Rule.{Kept, note}
 use Rattle.calls.specs.Views.{CallSeatView, TicketView, ReceiptView}
 use Rattle.calls.specs.Barriers.{IsQueued, IsFinished, IsDone, Starts}
@@ -31,10 +31,6 @@ module _ {J : Type 0} where
   abbrev pub idle_seat : View J
   idle_seat = record { who = Caller 0; list = NoList; batch = NoBatch; seen = []; told = [] }
 
-  -- so many of a processor were given out
-  abbrev pub given_out : ℕ → List (Deed J) → ℕ
-  given_out p seen = finished_in p seen + count_out (line_in p seen).out
-
 module _ (J : Type 0) where
   -- the rule, which holds between any two steps, says so
   abbrev pub OneHistory : Type 0
@@ -47,14 +43,14 @@ module _ (J : Type 0) where
 
   -- Jobs
 
-  -- what waits on a processor is just what was queued there and not given out, in its order
+  -- what waits on a processor, and behind it what came in, is just what was queued there and not given out, in its order
   abbrev pub WaitsInOrder : Type 0
-  WaitsInOrder = (p : ℕ) (seen : List (Deed J)) → AreTrue seen → map (λ e. e.0) (line_in p seen).waiting ≡ drop (given_out p seen) (calls_in p seen)
+  WaitsInOrder = (p : ℕ) (seen : List (Deed J)) → AreTrue seen → map (λ e. e.0) (line_in p seen).waiting ++ (line_in p seen).coming ≡ drop (given_out p seen) (calls_in p seen)
 
   -- a batch begins with the number of those that are finished. It ends before any batch begins that is taken behind it
   abbrev pub GivesOnce : Type 0
-  GivesOnce = (p : ℕ) (by number max by' number' max' : ℕ) (before later : List (Deed J)) → IsBeginning (before ++ deed by (Take p number max) ∷ []) later → AreTrue (later ++ deed by' (Take p number' max') ∷ [])
-      → finished_in p before + count_out (line_in p (before ++ deed by (Take p number max) ∷ [])).out ≤ finished_in p later
+  GivesOnce = (p : ℕ) (by number max moved by' number' max' moved' : ℕ) (before later : List (Deed J)) → IsBeginning (before ++ deed by (Take p number max moved) ∷ []) later → AreTrue (later ++ deed by' (Take p number' max' moved') ∷ [])
+      → finished_in p before + count_out (line_in p (before ++ deed by (Take p number max moved) ∷ [])).out ≤ finished_in p later
 
   -- the calls that were queued are as many as are counted, and stay as they are
   pub record KeepsCalls : Type 0 where

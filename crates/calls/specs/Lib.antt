@@ -5,6 +5,7 @@ pub mod Plays
 pub mod Seats
 pub mod Waiting
 pub mod Views
+pub mod Arrivals
 pub mod Refusals
 pub mod Calls
 pub mod Barriers

@@ -1,5 +1,5 @@
--- What a processor's list is, by what was done on the tally words: the calls that wait there in order, with their marks, and how many are out.
-use Rattle.std.specs.Prelude.{ℕ, zero, suc, ◌==◌, min, List, [], ◌∷◌, ◌++◌, Option, Some, None, drop, if◌then◌else◌}
+-- What a processor's list is, by what was done on the tally words: how many are out, the calls that wait there, in order, with their marks, and those that came in behind them.
+use Rattle.std.specs.Prelude.{ℕ, zero, suc, ◌==◌, min, List, [], ◌∷◌, ◌++◌, Option, Some, None, take, drop, if◌then◌else◌}
 use Rattle.segs.specs.MarkedList.{Mark, Next, assigned, advanced, count_done}
 use Rattle.calls.specs.declared.entry.Entry.{Entry}
 use Rattle.calls.specs.declared.view.Act.{Act}
@@ -20,18 +20,31 @@ some_out (suc n) = Some (suc n)
 abbrev pub Marked : Type 0 → Type 0
 Marked J = List (Entry J × Mark)
 
--- a processor's list: how many are in the batch that is out, and the calls that wait, in order
+-- a processor's list: how many are in the batch that is out, the calls that wait, in order, and those behind them that had not been moved when something was last taken out
 pub record Line (J : Type 0) : Type 0 where
   pub out : Option ℕ
   pub waiting : List (Entry J × Mark)
+  pub coming : List (Entry J)
 
 module _ {J : Type 0} where
   abbrev pub no_calls : Line J
-  no_calls = record { out = None; waiting = [] }
+  no_calls = record { out = None; waiting = []; coming = [] }
 
-  -- a call comes last, and what has no number gets that of its cookie
+  -- a call comes in last
   abbrev pub with_call : Entry J → Line J → Line J
-  with_call e l = record l { waiting = assigned e.cookie.number (l.waiting ++ (e, Next) ∷ []) }
+  with_call e l = record l { coming = l.coming ++ e ∷ [] }
+
+  -- it is moved behind those that wait, and what has no number gets that of its cookie
+  abbrev pub with_moved : Entry J → List (Entry J × Mark) → List (Entry J × Mark)
+  with_moved e waiting = assigned e.cookie.number (waiting ++ (e, Next) ∷ [])
+
+  abbrev pub all_moved : List (Entry J) → List (Entry J × Mark) → List (Entry J × Mark)
+  all_moved [] waiting = waiting
+  all_moved (e ∷ es) waiting = all_moved es (with_moved e waiting)
+
+  -- the first ones that came in are moved, so many
+  abbrev pub gathered : ℕ → Line J → Line J
+  gathered many l = record { out = l.out; waiting = all_moved (take many l.coming) l.waiting; coming = drop many l.coming }
 
   -- the number of the last one's cookie
   abbrev pub last_number : List (Entry J × Mark) → ℕ
@@ -49,7 +62,7 @@ module _ {J : Type 0} where
 
   -- the first ones that are ready go out
   abbrev pub with_taken : ℕ → ℕ → Line J → Line J
-  with_taken number max l = let ready = readied number l.waiting in record { out = some_out (many_ready max ready); waiting = drop (many_ready max ready) ready }
+  with_taken number max l = let ready = readied number l.waiting in record { out = some_out (many_ready max ready); waiting = drop (many_ready max ready) ready; coming = l.coming }
 
   abbrev pub with_none_out : Line J → Line J
   with_none_out l = record l { out = None }
@@ -57,7 +70,7 @@ module _ {J : Type 0} where
   -- what an act makes of the list of processor p
   abbrev pub next_line : ℕ → ℕ → Act J → Line J → Line J
   next_line p by (Queue e) l = if by == p then with_call e l else l
-  next_line p by (Take q number max) l = if q == p then with_taken number max l else l
+  next_line p by (Take q number max moved) l = if q == p then with_taken number max (gathered moved l) else l
   next_line p by (Finish q n) l = if q == p then with_none_out l else l
   next_line p by (LoadQueued q n) l = l
   next_line p by (LoadFinished q n) l = l
@@ -74,7 +87,7 @@ module _ {J : Type 0} where
 
   abbrev pub call_of : Act J → List (Entry J)
   call_of (Queue e) = e ∷ []
-  call_of (Take p number max) = []
+  call_of (Take p number max moved) = []
   call_of (Finish p n) = []
   call_of (LoadQueued p n) = []
   call_of (LoadFinished p n) = []

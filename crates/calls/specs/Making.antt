@@ -1,7 +1,7 @@
 -- What new callbacks are.
 use Rattle.std.specs.Prelude.{◌≡◌, ℕ, [], None}
 use Rattle.atomic_table.specs.Seated.{TableId}
-use Rattle.sections.specs.Sights.{SightView}
+use Rattle.calls.specs.declared.making.Sights.{Sights}
 use Rattle.calls.specs.declared.view.Plan.{Plan}
 use Rattle.calls.specs.declared.view.Who.TheVariants.{Dealer}
 use Rattle.calls.specs.Tallies.{word_count}
@@ -9,6 +9,10 @@ use Rattle.calls.specs.Rule.{founder}
 use Rattle.calls.specs.Seats.{Place}
 use Rattle.calls.specs.Views.{CallSeatView, ListView}
 use Rattle.calls.specs.Calls.{new_seat}
+
+-- all of this domain
+abbrev pub AreSights : TableId → Sights → Type 0
+AreSights domain sights = (sights.seat.domain ≡ domain) × (sights.given.domain ≡ domain) × (sights.list.domain ≡ domain)
 
 module _ {J : Type 0} where
   -- the seat stands for the processors from k on
@@ -21,7 +25,8 @@ module _ {J : Type 0} where
     pub key_is : key ≡ plan
     pub dealer : IsDealer key table 0 seat
 
-  -- the seat and the list of a processor, new
-  pub record IsDealt (plan : Plan) (table : TableId) (p : ℕ) (sight : SightView) (s : CallSeatView J) (l : ListView J) : Type 0 where
-    pub seat : s ≡ new_seat table plan.processors p
-    pub list : l ≡ record { tallies = table; processor = p; finished = 0; out = None; entries = []; sight = sight }
+  -- the seat and the list of a processor, new, of this domain
+  pub record IsDealt (plan : Plan) (table : TableId) (domain : TableId) (p : ℕ) (s : CallSeatView J) (l : ListView J) : Type 0 where
+    pub seat : s ≡ new_seat domain table plan.processors p
+    pub list : l ≡ record { tallies = table; processor = p; counted = 0; finished = 0; out = None; moved = 0; entries = []; given = l.given; sight = l.sight }
+    pub of_domain : l.sight.domain ≡ domain

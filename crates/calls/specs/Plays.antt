@@ -1,18 +1,20 @@
 -- What each step on the tally words tells the seat that makes it.
 use Rattle.std.specs.Prelude.{◌≡◌, ℕ, ◌+◌, ◌≤◌, List, [], ◌∷◌, ◌++◌, Option, Some, None}
 use Rattle.atomic_table.specs.Table.{Me, Step}
-use Rattle.segs.specs.MarkedList.{Mark}
 use Rattle.calls.specs.declared.entry.Entry.{Entry}
 use Rattle.calls.specs.declared.view.Act.{Act}
 use Rattle.calls.specs.declared.view.Act.TheVariants.{Queue, Take, Finish, LoadQueued, LoadFinished}
 use Rattle.calls.specs.declared.view.Deed.{Deed}
 use Rattle.calls.specs.declared.view.Who.TheVariants.{Caller}
-use Rattle.calls.specs.declared.view.ListRight.TheVariants.{OfList}
+use Rattle.calls.specs.declared.view.Known.{Known}
+use Rattle.calls.specs.declared.view.ListRight.{ListRight}
+use Rattle.calls.specs.declared.view.ListRight.TheVariants.{NoList, OfList, Calling, OfCall}
 use Rattle.calls.specs.declared.view.BatchRight.{BatchRight}
 use Rattle.calls.specs.declared.view.BatchRight.TheVariants.{NoBatch, OfBatch}
 use Rattle.calls.specs.declared.view.View.{View}
-use Rattle.calls.specs.Lines.{Line, line_in, with_call, with_taken}
+use Rattle.calls.specs.Lines.{Line, with_taken}
 use Rattle.calls.specs.Tallies.{queued_place, finished_place, most_calls, deed, queued_in, finished_in, deeds_of, AreTakers, IsBeginning, AreTrue}
+use Rattle.calls.specs.Rule.{IsThere}
 
 -- the right of the batch that is out, where there is one
 abbrev pub batch_of : ℕ → ℕ → Option ℕ → BatchRight
@@ -32,52 +34,48 @@ module _ {J : Type 0} where
     pub who : w.who ≡ v.who
     pub loads : AreTrue w.seen
 
-  -- the list that a right knows
-  abbrev pub line_of : Option ℕ → List (Entry J × Mark) → Line J
-  line_of out waiting = record { out = out; waiting = waiting }
-
-  -- a list, for one who has seen this, is as a right knows it
-  pub record IsThere (p queued finished : ℕ) (out : Option ℕ) (waiting : List (Entry J × Mark)) (seen : List (Deed J)) : Type 0 where
-    pub queued_is : queued ≡ queued_in p seen
-    pub finished_is : finished ≡ finished_in p seen
-    pub line : line_in p seen ≡ line_of out waiting
-
-  -- 1 is added to the queued word for a call, with the list, in which it comes last: both knew what was queued
-  pub record Queues (p queued finished : ℕ) (out : Option ℕ) (waiting : List (Entry J × Mark)) (entry : Entry J) (v : View J) (n : ℕ) (w : View J) : Type 0 where
+  -- 1 is added to the queued word for the call that was announced
+  pub record Queues (p : ℕ) (entry : Entry J) (v : View J) (n : ℕ) (w : View J) : Type 0 where
     pub does : Does p (Queue entry) v w
-    pub there : IsThere p queued finished out waiting does.before
-    pub found : n ≡ queued
     pub own : n ≡ queued_in p v.seen
-    pub list : w.list ≡ OfList p (queued + 1) finished out (with_call entry (line_of out waiting)).waiting
+    pub list : w.list ≡ NoList
     pub batch : w.batch ≡ v.batch
 
-  abbrev pub queues : Option (Entry J) → Step (Option ℕ) → Sat J → ℕ → Sat J → Type 0
-  queues call st m n m' = (m'.1 ≡ m.1) × ((p queued finished : ℕ) (out : Option ℕ) (waiting : List (Entry J × Mark)) (entry : Entry J) → m.0.who ≡ Caller p → m.0.list ≡ OfList p queued finished out waiting → call ≡ Some entry
-      → Queues p queued finished out waiting entry m.0 n m'.0)
+  abbrev pub queues : Step (Option ℕ) → Sat J → ℕ → Sat J → Type 0
+  queues st m n m' = (m'.1 ≡ m.1) × ((p : ℕ) (entry : Entry J) → m.0.who ≡ Caller p → m.0.list ≡ Calling entry → Queues p entry m.0 n m'.0)
+
+  -- what is left of a list where what is ready was taken out
+  abbrev pub line_taken : ℕ → ℕ → Known J → Line J
+  line_taken number max k = with_taken number max record { out = k.out; waiting = k.waiting; coming = [] }
+
+  abbrev pub known_taken : ℕ → ℕ → Known J → Known J
+  known_taken number max k = record k { out = (line_taken number max k).out; moved = 0; waiting = (line_taken number max k).waiting }
 
   -- what is ready is taken out of the list, of which nothing was out, and a right goes with the batch
-  pub record TakesOut (c p queued finished : ℕ) (waiting : List (Entry J × Mark)) (number max : ℕ) (v w : View J) : Type 0 where
-    pub does : Does c (Take p number max) v w
-    pub there : IsThere p queued finished None waiting does.before
-    pub list : w.list ≡ OfList p queued finished (with_taken number max (line_of None waiting)).out (with_taken number max (line_of None waiting)).waiting
-    pub batch : w.batch ≡ batch_of p finished (with_taken number max (line_of None waiting)).out
+  pub record TakesOut (c p : ℕ) (k : Known J) (number max : ℕ) (v w : View J) : Type 0 where
+    pub does : Does c (Take p number max k.moved) v w
+    pub there : IsThere p k does.before
+    pub list : w.list ≡ OfList p (known_taken number max k)
+    pub batch : w.batch ≡ batch_of p k.finished (line_taken number max k).out
 
   abbrev pub takes_out : ℕ → ℕ → Step (Option ℕ) → Sat J → ℕ → Sat J → Type 0
-  takes_out number max st m n m' = (m'.1 ≡ m.1) × ((c p queued finished : ℕ) (waiting : List (Entry J × Mark)) → m.0.who ≡ Caller c → m.0.list ≡ OfList p queued finished None waiting → TakesOut c p queued finished waiting number max m.0 m'.0)
+  takes_out number max st m n m' = (m'.1 ≡ m.1) × ((c p : ℕ) (k : Known J) → m.0.who ≡ Caller c → m.0.list ≡ OfList p k → k.out ≡ None → TakesOut c p k number max m.0 m'.0)
+
+  abbrev pub known_finished : ℕ → Known J → Known J
+  known_finished count k = record k { finished = k.finished + count; out = None }
 
   -- the batch's count is added to the finished word, with the list and the batch: the batch was the one that was out of that list
-  pub record Finishes (c p queued finished : ℕ) (out : Option ℕ) (waiting : List (Entry J × Mark)) (first count : ℕ) (v : View J) (n : ℕ) (w : View J) : Type 0 where
+  pub record Finishes (c p : ℕ) (k : Known J) (first count : ℕ) (v : View J) (n : ℕ) (w : View J) : Type 0 where
     pub does : Does c (Finish p count) v w
-    pub there : IsThere p queued finished out waiting does.before
-    pub found : n ≡ finished
-    pub first_is : first ≡ finished
-    pub was_out : out ≡ Some count
-    pub list : w.list ≡ OfList p queued (finished + count) None waiting
+    pub there : IsThere p k does.before
+    pub found : n ≡ k.finished
+    pub first_is : first ≡ k.finished
+    pub was_out : k.out ≡ Some count
+    pub list : w.list ≡ OfList p (known_finished count k)
     pub batch : w.batch ≡ NoBatch
 
   abbrev pub finishes : Step (Option ℕ) → Sat J → ℕ → Sat J → Type 0
-  finishes st m n m' = (m'.1 ≡ m.1) × ((c p queued finished : ℕ) (out : Option ℕ) (waiting : List (Entry J × Mark)) (first count : ℕ) → m.0.who ≡ Caller c → m.0.list ≡ OfList p queued finished out waiting → m.0.batch ≡ OfBatch p first count
-      → Finishes c p queued finished out waiting first count m.0 n m'.0)
+  finishes st m n m' = (m'.1 ≡ m.1) × ((c p : ℕ) (k : Known J) (first count : ℕ) → m.0.who ≡ Caller c → m.0.list ≡ OfList p k → m.0.batch ≡ OfBatch p first count → Finishes c p k first count m.0 n m'.0)
 
   -- a word was loaded: what was told is covered, and no right has changed
   pub record Looks (c : ℕ) (act : Act J) (v w : View J) : Type 0 where
@@ -124,6 +122,14 @@ module _ {J : Type 0} where
   abbrev pub found_out : ℕ → Step (Option ℕ) → Sat J → ℕ → Sat J → Type 0
   found_out processors st m n m' = found_all processors st m n m' × ((p first count : ℕ) → m.0.batch ≡ OfBatch p first count → IsOut p first count m'.0.seen)
 
-  -- a word was loaded with a list's right, and the load is no deed: all that was done until then is seen, and the list is there as the right knows it
+  -- the list then knows that so many were queued
+  abbrev pub right_counted : ℕ → ListRight J → ListRight J
+  right_counted n NoList = NoList
+  right_counted n (OfList p k) = OfList p (record k { queued = n })
+  right_counted n (Calling e) = Calling e
+  right_counted n (OfCall p number e) = OfCall p number e
+
+  -- the queued word of a list's processor was loaded with its right, and the load is no deed: all that was done until then is seen, and the list is there as the right knows it, and knows how many were queued
   abbrev pub found_list : ℕ → Step (Option ℕ) → Sat J → ℕ → Sat J → Type 0
-  found_list processors st m n m' = found_all processors st m n m' × ((p queued finished : ℕ) (out : Option ℕ) (waiting : List (Entry J × Mark)) → m.0.list ≡ OfList p queued finished out waiting → IsThere p queued finished out waiting m'.0.seen)
+  found_list processors st m n m' = (m' ≡ (record m.0 { list = right_counted n m.0.list; seen = m'.0.seen; told = [] }, m.1)) × ((c : ℕ) → m.0.who ≡ Caller c → FindsAll processors c m.0 m'.0)
+      × ((p : ℕ) (k : Known J) → m.0.list ≡ OfList p k → st.word ≡ queued_place p → (n ≡ queued_in p m'.0.seen) × IsThere p k m'.0.seen × (n ≤ most_calls))

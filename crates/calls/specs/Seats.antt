@@ -1,22 +1,22 @@
 -- What the steps do to the seats that they are made with.
-use Rattle.std.specs.Prelude.{◌≡◌, ℕ, ◌+◌, ◌<◌, ◌≤◌, List, [], Option, Some, None}
+use Rattle.std.specs.Prelude.{◌≡◌, ℕ, ◌+◌, ◌<◌, ◌≤◌, List, [], Option, Some, None, length}
 use Rattle.atomic_table.specs.Seated.{TableId}
 use Rattle.atomic_table.specs.declared.shared.Seat.{Seat}
 use Rattle.calls.specs.declared.view.Plan.{Plan}
 use Rattle.calls.specs.declared.view.Deed.{Deed}
-use Rattle.segs.specs.MarkedList.{Mark}
 use Rattle.calls.specs.declared.entry.Entry.{Entry}
 use Rattle.calls.specs.declared.view.Act.TheVariants.{Queue, Take, Finish, LoadFinished}
 use Rattle.calls.specs.declared.view.Who.TheVariants.{Caller}
+use Rattle.calls.specs.declared.view.Known.{Known}
 use Rattle.calls.specs.declared.view.ListRight.{ListRight}
-use Rattle.calls.specs.declared.view.ListRight.TheVariants.{NoList, OfList}
+use Rattle.calls.specs.declared.view.ListRight.TheVariants.{NoList, OfList, Calling, OfCall}
 use Rattle.calls.specs.declared.view.BatchRight.{BatchRight}
 use Rattle.calls.specs.declared.view.BatchRight.TheVariants.{NoBatch, OfBatch}
 use Rattle.calls.specs.declared.view.View.{View}
-use Rattle.calls.specs.Lines.{Line, with_call, with_taken}
-use Rattle.calls.specs.Tallies.{finished_place, word_count, queued_in, AreTakers}
-use Rattle.calls.specs.Rule.{list_seat, batch_seat}
-use Rattle.calls.specs.Plays.{Does, Looks, FindsAll, IsAdmitted, IsOut, IsThere, line_of, batch_of}
+use Rattle.calls.specs.Lines.{count_out}
+use Rattle.calls.specs.Tallies.{finished_place, word_count, most_calls, queued_in, AreTakers}
+use Rattle.calls.specs.Rule.{list_seat, batch_seat, IsThere, known_moved}
+use Rattle.calls.specs.Plays.{Does, Looks, FindsAll, IsAdmitted, IsOut, batch_of, line_taken, known_taken, known_finished}
 
 abbrev pub Place : Type 0 → Type 0
 Place J = Seat (Option ℕ) (View J)
@@ -28,7 +28,7 @@ module _ {J : Type 0} where
     pub wide : table.words ≡ word_count plan.processors
     pub bare : seat.me.1 ≡ []
 
-  -- the seat of a processor between two calls: it has no right of a list or a batch
+  -- the seat of a processor between two calls: it has no right, and is about to queue nothing
   pub record IsAtRest (p : ℕ) (plan : Plan) (v : View J) : Type 0 where
     pub who : v.who ≡ Caller p
     pub there : p < plan.processors
@@ -39,22 +39,23 @@ module _ {J : Type 0} where
   abbrev pub IsOfCaller : Plan → View J → Type 0
   IsOfCaller plan v = (c : ℕ) × (v.who ≡ Caller c) × (c < plan.processors)
 
+  -- the seat is that of a processor which is about to queue this call
+  pub record IsAboutTo (p : ℕ) (plan : Plan) (e : Entry J) (v : View J) : Type 0 where
+    pub who : v.who ≡ Caller p
+    pub there : p < plan.processors
+    pub calling : v.list ≡ Calling e
+    pub no_batch : v.batch ≡ NoBatch
+
   -- what a list's right knows
-  abbrev pub queued_known : ListRight J → ℕ
-  queued_known NoList = 0
-  queued_known (OfList p queued finished out waiting) = queued
+  abbrev pub known_in : ListRight J → Known J
+  known_in NoList = record { queued = 0; finished = 0; out = None; moved = 0; waiting = [] }
+  known_in (OfList p known) = known
+  known_in (Calling e) = record { queued = 0; finished = 0; out = None; moved = 0; waiting = [] }
+  known_in (OfCall p number e) = record { queued = 0; finished = 0; out = None; moved = 0; waiting = [] }
 
-  abbrev pub finished_known : ListRight J → ℕ
-  finished_known NoList = 0
-  finished_known (OfList p queued finished out waiting) = finished
-
-  abbrev pub out_known : ListRight J → Option ℕ
-  out_known NoList = None
-  out_known (OfList p queued finished out waiting) = out
-
-  abbrev pub waiting_known : ListRight J → List (Entry J × Mark)
-  waiting_known NoList = []
-  waiting_known (OfList p queued finished out waiting) = waiting
+  -- the number of the next one that is moved, among all that were queued
+  abbrev pub next_known : Known J → ℕ
+  next_known k = k.finished + count_out k.out + length k.waiting
 
 -- what a batch's right knows
 abbrev pub first_known : BatchRight → ℕ
@@ -62,33 +63,47 @@ first_known NoBatch = 0
 first_known (OfBatch p first count) = first
 
 module _ {J : Type 0} where
-  abbrev pub list_of : ℕ → ℕ → ℕ → Option ℕ → List (Entry J × Mark) → View J
-  list_of p queued finished out waiting = list_seat (OfList p queued finished out waiting)
-
   -- the list of the processor, for one who has seen this, is as the right knows it
   abbrev pub IsKnown : ℕ → ListRight J → List (Deed J) → Type 0
-  IsKnown p right seen = IsThere p (queued_known right) (finished_known right) (out_known right) (waiting_known right) seen
+  IsKnown p right seen = IsThere p (known_in right) seen
 
   -- the seat is that of the processor's list
   pub record IsListSeat (table : TableId) (p : ℕ) (seat : Place J) : Type 0 where
     pub seated : seat.table_id ≡ table
-    pub me : seat.me ≡ (list_of p (queued_known seat.me.0.list) (finished_known seat.me.0.list) (out_known seat.me.0.list) (waiting_known seat.me.0.list), [])
+    pub me : seat.me ≡ (list_seat (OfList p (known_in seat.me.0.list)), [])
+
+  -- the seat is that of a call, which has this number on the processor
+  pub record IsCallPlace (table : TableId) (p number : ℕ) (e : Entry J) (seat : Place J) : Type 0 where
+    pub seated : seat.table_id ≡ table
+    pub me : seat.me ≡ (list_seat (OfCall p number e), [])
 
   -- the seat is that of a batch of so many of the processor
   pub record IsBatchSeat (table : TableId) (p count : ℕ) (seat : Place J) : Type 0 where
     pub seated : seat.table_id ≡ table
     pub me : seat.me ≡ (batch_seat (OfBatch p (first_known seat.me.0.batch) count), [])
 
-  -- 1 was added to the queued word for a call, and the word held what both seats knew. The list's seat knows of it
-  pub record QueuesOne (p : ℕ) (entry : Entry J) (seat list : Place J) (found : ℕ) (seat' list' : Place J) : Type 0 where
+  -- a call was announced: the seat is about to queue it, and another one has the call's right, under the next number
+  pub record Announces (p : ℕ) (e : Entry J) (seat seat' call : Place J) : Type 0 where
+    pub table : seat'.table_id ≡ seat.table_id
+    pub me : seat'.me ≡ (record seat.me.0 { list = Calling e }, seat.me.1)
+    pub call_is : IsCallPlace seat.table_id p (queued_in p seat.me.0.seen) e call
+
+  -- it is not queued after all
+  pub record Withdraws (seat seat' : Place J) : Type 0 where
+    pub table : seat'.table_id ≡ seat.table_id
+    pub me : seat'.me ≡ (record seat.me.0 { list = NoList }, seat.me.1)
+
+  -- 1 was added to the queued word for a call, and the word held what the seat knew
+  pub record QueuesOne (p : ℕ) (entry : Entry J) (seat : Place J) (found : ℕ) (seat' : Place J) : Type 0 where
     pub does : Does p (Queue entry) seat.me.0 seat'.me.0
-    pub there : IsKnown p list.me.0.list does.before
     pub no_list : seat'.me.0.list ≡ NoList
     pub no_batch : seat'.me.0.batch ≡ NoBatch
     pub own : found ≡ queued_in p seat.me.0.seen
-    pub found_is : found ≡ queued_known list.me.0.list
+
+  -- the list knows that this call is moved
+  pub record MovesCall (p : ℕ) (e : Entry J) (list list' : Place J) : Type 0 where
     pub table : list'.table_id ≡ list.table_id
-    pub list_is : list'.me ≡ (list_of p (queued_known list.me.0.list + 1) (finished_known list.me.0.list) (out_known list.me.0.list) (with_call entry (line_of (out_known list.me.0.list) (waiting_known list.me.0.list))).waiting, [])
+    pub list_is : list'.me ≡ (list_seat (OfList p (known_moved e (known_in list.me.0.list))), [])
 
   -- the count was added to the finished word. The batch was the one that was out, and is so no more
   pub record FinishesBatch (p count : ℕ) (seat list batch seat' list' : Place J) : Type 0 where
@@ -98,27 +113,23 @@ module _ {J : Type 0} where
     pub there : IsKnown p list.me.0.list does.before
     pub no_list : seat'.me.0.list ≡ NoList
     pub no_batch : seat'.me.0.batch ≡ NoBatch
-    pub was_out : out_known list.me.0.list ≡ Some count
-    pub first : first_known batch.me.0.batch ≡ finished_known list.me.0.list
+    pub was_out : (known_in list.me.0.list).out ≡ Some count
+    pub first : first_known batch.me.0.batch ≡ (known_in list.me.0.list).finished
     pub table : list'.table_id ≡ list.table_id
-    pub list_is : list'.me ≡ (list_of p (queued_known list.me.0.list) (finished_known list.me.0.list + count) None (waiting_known list.me.0.list), [])
-
-  -- what the list was after a take
-  abbrev pub taken_line : ℕ → ℕ → Place J → Line J
-  taken_line number max list = with_taken number max (line_of None (waiting_known list.me.0.list))
+    pub list_is : list'.me ≡ (list_seat (OfList p (known_finished count (known_in list.me.0.list))), [])
 
   -- what is ready was taken out of the list. A batch of so many has its right, where there are any
   pub record TakesOne (p number max : ℕ) (seat list seat' list' batch : Place J) : Type 0 where
     pub by : ℕ
     pub who : seat.me.0.who ≡ Caller by
-    pub does : Does by (Take p number max) seat.me.0 seat'.me.0
+    pub does : Does by (Take p number max (known_in list.me.0.list).moved) seat.me.0 seat'.me.0
     pub there : IsKnown p list.me.0.list does.before
     pub no_list : seat'.me.0.list ≡ NoList
     pub no_batch : seat'.me.0.batch ≡ NoBatch
     pub table : list'.table_id ≡ list.table_id
-    pub list_is : list'.me ≡ (list_of p (queued_known list.me.0.list) (finished_known list.me.0.list) (taken_line number max list).out (taken_line number max list).waiting, [])
+    pub list_is : list'.me ≡ (list_seat (OfList p (known_taken number max (known_in list.me.0.list))), [])
     pub batch_table : batch.table_id ≡ list.table_id
-    pub batch_is : batch.me ≡ (batch_seat (batch_of p (finished_known list.me.0.list) (taken_line number max list).out), [])
+    pub batch_is : batch.me ≡ (batch_seat (batch_of p (known_in list.me.0.list).finished (line_taken number max (known_in list.me.0.list)).out), [])
 
   -- the finished word at this place was loaded. No more were found than were queued, and all batches were finished by processors that are there
   pub record CountsFinished (plan : Plan) (place : ℕ) (seat : Place J) (found : ℕ) (seat' : Place J) : Type 0 where
@@ -149,11 +160,13 @@ module _ {J : Type 0} where
     pub batch_table : batch'.table_id ≡ batch.table_id
     pub batch_is : batch'.me ≡ batch.me
 
-  -- all that was done is seen, and the list is there as its seat knows it, which keeps its right
-  pub record SeesList (plan : Plan) (p : ℕ) (seat list seat' list' : Place J) : Type 0 where
+  -- all that was done is seen, so many were queued, and the list is there as its seat knows it, which keeps its right and knows so many
+  pub record SeesList (plan : Plan) (p : ℕ) (seat list : Place J) (found : ℕ) (seat' list' : Place J) : Type 0 where
     pub table : seat'.table_id ≡ seat.table_id
     pub me : seat'.me ≡ (record seat.me.0 { list = NoList; seen = seat'.me.0.seen; told = [] }, seat.me.1)
     pub finds : (c : ℕ) → seat.me.0.who ≡ Caller c → FindsAll plan.processors c seat.me.0 seat'.me.0
+    pub counted : found ≡ queued_in p seat'.me.0.seen
+    pub few : found ≤ most_calls
     pub there : IsKnown p list.me.0.list seat'.me.0.seen
     pub list_table : list'.table_id ≡ list.table_id
-    pub list_is : list'.me ≡ list.me
+    pub list_is : list'.me ≡ (list_seat (OfList p (record (known_in list.me.0.list) { queued = found })), [])

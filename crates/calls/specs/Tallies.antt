@@ -1,10 +1,10 @@
 -- What was done on the tally words of a domain, and what the words then hold.
 -- Processor p has word 32 p + 16 as its queued word and word 32 p + 32 as its finished word, so that any two of them are 128 bytes apart. Word 0, which every split and join of seats loads, is nobody's, and nobody writes it.
-use Rattle.std.specs.Prelude.{◌≡◌, ℕ, ◌+◌, ◌*◌, ◌<◌, ◌==◌, Bool, true, false, List, [], ◌∷◌, ◌++◌, Some, None, filter, if◌then◌else◌}
+use Rattle.std.specs.Prelude.{◌≡◌, ℕ, ◌+◌, ◌*◌, ◌<◌, ◌≤◌, ◌==◌, Bool, true, false, List, [], ◌∷◌, ◌++◌, Some, None, length, filter, if◌then◌else◌}
 use Rattle.calls.specs.declared.view.Act.{Act}
 use Rattle.calls.specs.declared.view.Act.TheVariants.{Queue, Take, Finish, LoadQueued, LoadFinished}
 use Rattle.calls.specs.declared.view.Deed.{Deed}
-use Rattle.calls.specs.Lines.{line_in}
+use Rattle.calls.specs.Lines.{count_out, line_in}
 
 abbrev pub queued_place : ℕ → ℕ
 queued_place p = 32 * p + 16
@@ -27,7 +27,7 @@ module _ {J : Type 0} where
 
   abbrev pub is_queue : Act J → Bool
   is_queue (Queue e) = true
-  is_queue (Take p n max) = false
+  is_queue (Take p n max moved) = false
   is_queue (Finish p n) = false
   is_queue (LoadQueued p n) = false
   is_queue (LoadFinished p n) = false
@@ -44,7 +44,7 @@ module _ {J : Type 0} where
   -- what the act adds to the finished word of a processor
   abbrev pub finished_by : ℕ → Act J → ℕ
   finished_by p (Queue e) = 0
-  finished_by p (Take q n max) = 0
+  finished_by p (Take q n max moved) = 0
   finished_by p (Finish q n) = if q == p then n else 0
   finished_by p (LoadQueued q n) = 0
   finished_by p (LoadFinished q n) = 0
@@ -54,6 +54,10 @@ module _ {J : Type 0} where
   finished_in p [] = 0
   finished_in p (d ∷ ds) = finished_by p d.act + finished_in p ds
 
+  -- how many were given out
+  abbrev pub given_out : ℕ → List (Deed J) → ℕ
+  given_out p deeds = finished_in p deeds + count_out (line_in p deeds).out
+
   -- Whose deeds
 
   abbrev pub deeds_of : ℕ → List (Deed J) → List (Deed J)
@@ -62,7 +66,7 @@ module _ {J : Type 0} where
   -- a batch is taken, and finished, by one of so many processors
   abbrev pub IsTaker : ℕ → ℕ → Act J → Type 0
   IsTaker processors by (Queue e) = Unit {0}
-  IsTaker processors by (Take p n max) = by < processors
+  IsTaker processors by (Take p n max moved) = by < processors
   IsTaker processors by (Finish p n) = by < processors
   IsTaker processors by (LoadQueued p n) = Unit {0}
   IsTaker processors by (LoadFinished p n) = Unit {0}
@@ -79,10 +83,10 @@ module _ {J : Type 0} where
 
   -- Deeds that could be done
 
-  -- a load found what the word held, something was taken only where no batch was out, and what was finished is the batch that was out
+  -- a load found what the word held, something was taken only where no batch was out, and no more was moved before than had come in, and what was finished is the batch that was out
   abbrev pub IsTrueOf : List (Deed J) → Act J → Type 0
   IsTrueOf before (Queue e) = Unit {0}
-  IsTrueOf before (Take p n max) = (line_in p before).out ≡ None
+  IsTrueOf before (Take p n max moved) = ((line_in p before).out ≡ None) × (moved ≤ length (line_in p before).coming)
   IsTrueOf before (Finish p n) = (line_in p before).out ≡ Some n
   IsTrueOf before (LoadQueued p n) = n ≡ queued_in p before
   IsTrueOf before (LoadFinished p n) = n ≡ finished_in p before

@@ -21,13 +21,13 @@ IsDue seen cookie (At n) = (cookie ≤ n) × (n % 4 ≡ 0)
 IsDue seen cookie Next = Unit {0}
 
 module _ {J : Type 0} where
-  -- an entry of a list with this sight: its cookie was given in that domain, no later than the sight goes, and it is marked as it may be
-  pub record IsWaiting (s : SightView) (e : Entry J × Mark) : Type 0 where
-    pub domain : e.0.cookie.domain ≡ s.domain
+  -- an entry of a list with these sights: its cookie was given in that domain, no later than the first one goes, and it is marked as it may be, by the second one
+  pub record IsWaiting (g s : SightView) (e : Entry J × Mark) : Type 0 where
+    pub domain : e.0.cookie.domain ≡ g.domain
     pub given : EndsWithNote e.0.cookie.number e.0.cookie.seen
-    pub since : IsBeginning e.0.cookie.seen s.seen
+    pub since : IsBeginning e.0.cookie.seen g.seen
     pub whole : e.0.cookie.number % 4 ≡ 0
-    pub not_after : e.0.cookie.number ≤ cookie_at (number_word s.changes)
+    pub not_after : e.0.cookie.number ≤ cookie_at (number_word g.changes)
     pub due : IsDue s.seen e.0.cookie.number e.1
 
   -- no cookie is smaller than one before it
@@ -36,8 +36,8 @@ module _ {J : Type 0} where
   AreRising (e ∷ es) = All (λ (f : Entry J × Mark). e.0.cookie.number ≤ f.0.cookie.number) es × AreRising es
 
   -- all entries are so
-  pub record AreWaiting (s : SightView) (entries : List (Entry J × Mark)) : Type 0 where
-    pub each : All (IsWaiting s) entries
+  pub record AreWaiting (g s : SightView) (entries : List (Entry J × Mark)) : Type 0 where
+    pub each : All (IsWaiting g s) entries
     pub rising : AreRising entries
 
   -- How a list keeps its entries: each in an option, which is never empty

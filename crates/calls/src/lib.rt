@@ -23,7 +23,7 @@ mod view;
 pub use barrier::Ticket;
 pub use batch::Batch;
 pub use calls::Calls;
-pub use entry::Entry;
+pub use entry::{Arrival, Entry};
 pub use laws::{
     barriers_of_callbacks, jobs_of_callbacks, tallies_of_callbacks, totals_of_callbacks,
 };

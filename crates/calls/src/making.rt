@@ -2,7 +2,7 @@
 ghost use Rattle.std.specs.Prelude.{◌≡◌, ◌+◌, ◌<◌, ◌≤◌, ◌^◌, IfOk};
 ghost use Rattle.std.specs.Arc.{arc_value};
 ghost use Rattle.calls.specs.Calls.{AreMade};
-ghost use Rattle.calls.specs.Making.{NewTable, IsDealer, IsDealt};
+ghost use Rattle.calls.specs.Making.{NewTable, IsDealer, AreSights, IsDealt};
 
 use crate::calls::Calls;
 use crate::list::List;
@@ -12,6 +12,7 @@ use crate::seat::CallSeat;
 use crate::spot::Spot;
 use crate::view::Plan;
 use atomic_table::Table;
+use intake::open;
 use keep::Keep;
 use sections::{EngineSeat, Sight};
 use segs::SegList;
@@ -30,36 +31,52 @@ fn new_table<J, A: Allocator + Copy>(
     Table::of_words(alloc, words.as_slice(), &plan)
 }
 
-/// The next processor's seat and list.
-fn deal<J, A: Allocator + Copy>(
+/// How far the engine's seat has seen: for who queues, for the list what was queued, and for who takes something out.
+#[derive(Drop)]
+struct Sights {
+    seat: Sight,
+    given: Sight,
+    list: Sight,
+}
+
+/// The next processor's seat and list, with a new line between them.
+fn deal<J: Drop, A: Allocator + Copy>(
     alloc: A,
     table: &Arc<Tallies<J, A>, A>,
     dealer: &mut Place<J>,
-    processor: u16,
-    sight: Sight,
+    spot: &Spot<J>,
+    sights: Sights,
 ) -> Result<(CallSeat<J, A>, List<J, A>), Memory>
-    requires there { processor < (arc_value table.now).shared.key.processors }
+    requires there { spot.now.processor < (arc_value table.now).shared.key.processors }
     requires dealer { let shared = (arc_value table.now).shared in
-        IsDealer shared.key shared.table_id processor dealer.old }
+        IsDealer shared.key shared.table_id spot.now.processor dealer.old }
+    requires spot { let shared = (arc_value table.now).shared in
+        (spot.now.tallies ≡ shared.table_id) × AreSights spot.now.domain sights }
     ensures { let shared = (arc_value table.now).shared in IfOk result (λ d.
-        IsDealt shared.key shared.table_id processor sight d.0 d.1
-        × IsDealer shared.key shared.table_id (processor + 1) dealer.new) }
+        IsDealt shared.key shared.table_id spot.now.domain spot.now.processor d.0 d.1
+        × IsDealer shared.key shared.table_id (spot.now.processor + 1) dealer.new) }
 {
+    let (inlet, outlet) = open(alloc, spot)?;
     let table = Arc::try_clone(table)?;
     let mut seat = table.shared.split_seat::<plays::Deal>(dealer);
     let right = table.shared.split_seat::<plays::GiveList>(&mut seat);
     let list = List {
         waiting: SegList::new(alloc),
-        sight,
+        outlet,
+        given: sights.given,
+        sight: sights.list,
         seat: right,
-        processor,
+        processor: spot.processor,
+        arrived: 0,
         out: false,
     };
     let seat = CallSeat {
         table,
         seat,
-        processor,
+        processor: spot.processor,
         queued: 0,
+        inlet,
+        sight: sights.seat,
     };
     Ok((seat, list))
 }
@@ -87,9 +104,13 @@ fn build<J: Drop, A: Allocator + Copy, B: Allocator>(
         processor: 0,
     };
     for processor in 0..processors {
-        let sight = engine.sight();
-        let (seat, list) = deal(alloc, &table, &mut dealer, processor, sight)?;
         spot.processor = processor;
+        let sights = Sights {
+            seat: engine.sight(),
+            given: engine.sight(),
+            list: engine.sight(),
+        };
+        let (seat, list) = deal(alloc, &table, &mut dealer, &spot, sights)?;
         seats.push(seat)?;
         lists.push(Keep::new(alloc, alloc, list, &spot)?)?;
     }

@@ -1,7 +1,7 @@
 //! The rule of the tally words, and what each step on them tells the one that makes it.
 ghost use Rattle.std.specs.Prelude.{ℕ, Option, None};
 ghost use Rattle.calls.specs.declared.entry.Entry.{Entry};
-ghost use Rattle.calls.specs.Rule.{Kept, founder, dealer, dealt, without_list, only_list, with_list, without_batch, only_batch, with_batch, note, informed, spent};
+ghost use Rattle.calls.specs.Rule.{Kept, founder, dealer, dealt, without_list, only_list, with_list, without_batch, only_batch, with_batch, note, informed, spent, announcing, announced, withdrawn, moving};
 ghost use Rattle.calls.specs.Plays.{queues, takes_out, finishes, counts_queued, counts_finished, found_all, admitted, found_out, found_list};
 
 use crate::view::{Plan, View};
@@ -29,20 +29,11 @@ pub(crate) type Board<J> = Shared<NoSlot, View<J>, Plan, Counted>;
 /// With what they are made.
 pub(crate) type Place<J> = Seat<NoSlot, View<J>>;
 
-/// What is queued. Each call of `call` names it anew.
-pub trait Calling<J> {
-    ghost call: { Option (Entry J) };
-}
+/// Addition of 1 to a queued word, for the call that was announced.
+pub(crate) struct AddQueued;
 
-impl<J> Calling<J> for Brand {
-    ghost call = { None };
-}
-
-/// Addition of 1 to a queued word, for a call.
-pub(crate) struct AddQueued<N>(PhantomData<N>);
-
-impl<J, N: Calling<J>> Play<NoSlot, View<J>> for AddQueued<N> {
-    ghost then = { queues N.call };
+impl<J> Play<NoSlot, View<J>> for AddQueued {
+    ghost then = { queues };
 }
 
 /// For which number entries are ready, and how many are wanted. Each `take_ready` names them anew.
@@ -108,7 +99,8 @@ impl<J, N: Counting> Play<NoSlot, View<J>> for SeeOut<N> {
     ghost then = { found_out N.count };
 }
 
-/// Load of a word with a list's right: in all that is then seen, the list is as the right knows it. It is no deed.
+/// Load of a queued word with its list's right: in all that is then seen, the list is as the right knows it, and it knows how
+/// many were queued. It is no deed.
 pub(crate) struct SeeList<N: Counting>(PhantomData<N>);
 
 impl<J, N: Counting> Play<NoSlot, View<J>> for SeeList<N> {
@@ -138,6 +130,42 @@ pub(crate) struct TakeList;
 
 impl<J> Join<View<J>> for TakeList {
     ghost both = { with_list };
+
+    ghost spent = { spent };
+}
+
+/// Which call is announced. Each `call` names it anew.
+pub trait Calling<J> {
+    ghost call: { Option (Entry J) };
+}
+
+impl<J> Calling<J> for Brand {
+    ghost call = { None };
+}
+
+/// A new seat gets the right of a call that is about to be queued.
+pub(crate) struct Announce<N>(PhantomData<N>);
+
+impl<J, N: Calling<J>> Split<View<J>> for Announce<N> {
+    ghost left = { announcing N.call };
+
+    ghost right = { announced N.call };
+}
+
+/// The right of a call comes back, which is not queued.
+pub(crate) struct Withdraw;
+
+impl<J> Join<View<J>> for Withdraw {
+    ghost both = { withdrawn };
+
+    ghost spent = { spent };
+}
+
+/// The right of a call goes into that of its list, in which it now waits.
+pub(crate) struct Move;
+
+impl<J> Join<View<J>> for Move {
+    ghost both = { moving };
 
     ghost spent = { spent };
 }

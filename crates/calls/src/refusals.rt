@@ -6,7 +6,7 @@ use std::fmt;
 /// There was not enough memory.
 pub type Memory = AllocError;
 
-/// Why a job was not queued. It comes back; the processor's list and its counts are as before.
+/// Why a job was not queued. It comes back, and the processor's counts are as before.
 #[derive(Clone, Copy, Debug, PartialEq, Eq)]
 pub enum CallRefusal {
     /// As many calls were queued on this processor as may ever be, 2^54. No step was made.
@@ -31,20 +31,27 @@ impl fmt::Display for CallRefusal {
 
 impl Error for CallRefusal {}
 
-/// Why nothing was taken. Nothing has changed: the seat that was lent has made a load at most.
+/// Why nothing was taken. The seat that was lent has made a load.
 #[derive(Clone, Copy, Debug, PartialEq, Eq)]
 pub enum TakeRefusal {
-    /// A batch of this processor is out.
+    /// A batch of this processor is out. Nothing else has changed.
     Invoking = 1,
+    /// There was no memory for a call that had come in. It and those behind it have still to be moved to the list; nothing
+    /// is lost.
+    Memory = 2,
 }
 
 impl fmt::Display for TakeRefusal {
-    ghost use Rattle.std.specs.Prelude.{Some, codes};
+    ghost use Rattle.std.specs.Prelude.{Some};
+    ghost use Rattle.calls.specs.Refusals.{take_refusal_text};
 
-    ghost output = { λ _. Some (codes "a batch of this processor is out") };
+    ghost output = { λ refusal. Some (take_refusal_text refusal) };
 
     fn fmt<W: fmt::Write>(&self, f: &mut fmt::Formatter<W>) -> fmt::Result {
-        f.write_str("a batch of this processor is out")
+        match self {
+            TakeRefusal::Invoking => f.write_str("a batch of this processor is out"),
+            TakeRefusal::Memory => f.write_str("out of memory"),
+        }
     }
 }
 

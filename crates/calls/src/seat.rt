@@ -2,18 +2,24 @@
 ghost use Rattle.std.specs.Prelude.{◌≡◌};
 ghost use Rattle.calls.specs.Tallies.{most_calls};
 
+use crate::entry::Arrival;
 use crate::plays::{Place, Tallies};
+use crate::spot::Spot;
+use intake::Inlet;
+use sections::Sight;
 use std::alloc::{Allocator, Global};
 use std::marker::Model;
 use std::sync::Arc;
 
 mod meeting;
+mod queueing;
 mod totals;
 
 pub use totals::Totals;
 
-/// The seat of a processor at the tally words. It goes with the [`Cpu`](sections::Cpu) of the same number. Contracts see
-/// what was done on the tally words, as far as this seat has seen it: what it did itself is among it.
+/// The seat of a processor at the tally words, with the end of the line at which its calls come in. It goes with the
+/// [`Cpu`](sections::Cpu) of the same number. Contracts see the domain, and what was done on the tally words, as far as
+/// this seat has seen it: what it did itself is among it.
 #[derive(Drop)]
 pub struct CallSeat<J, A: Allocator = Global> {
     pub(crate) table: Arc<Tallies<J, A>, A>,
@@ -21,6 +27,10 @@ pub struct CallSeat<J, A: Allocator = Global> {
     pub(crate) processor: u16,
     /// How many calls were queued here.
     pub(crate) queued: u64,
+    /// Calls come in here.
+    pub(crate) inlet: Inlet<Arrival<J>, Spot<J>, A>,
+    /// As far as all who queued here had seen then.
+    pub(crate) sight: Sight,
 }
 
 impl<J, A: Allocator> Model for CallSeat<J, A> {

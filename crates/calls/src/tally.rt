@@ -1,13 +1,11 @@
 //! The steps on the tally words.
-ghost use Rattle.std.specs.Prelude.{◌≡◌, ℕ, ◌<◌, IfSome, IsSome, None};
-ghost use Rattle.calls.specs.Tallies.{queued_place, finished_place, most_calls, queued_in, IsBeginning};
-ghost use Rattle.calls.specs.Waiting.{last_entry};
-ghost use Rattle.calls.specs.Seats.{IsPlaced, IsAtRest, IsOfCaller, IsListSeat, IsBatchSeat, out_known, QueuesOne, TakesOne, FinishesBatch, CountsFinished, SeesAll, SeesTold, SeesBatchOut, SeesList};
+ghost use Rattle.std.specs.Prelude.{◌≡◌, ℕ, ◌<◌, Some, None};
+ghost use Rattle.calls.specs.declared.entry.Entry.{Entry};
+ghost use Rattle.calls.specs.Tallies.{queued_place, finished_place, word_count, most_calls, queued_in, IsBeginning};
+ghost use Rattle.calls.specs.Seats.{IsPlaced, IsAtRest, IsAboutTo, IsOfCaller, IsListSeat, IsBatchSeat, IsCallPlace, known_in, next_known, Announces, Withdraws, QueuesOne, MovesCall, TakesOne, FinishesBatch, CountsFinished, SeesAll, SeesTold, SeesBatchOut, SeesList};
 
 use crate::entry::Entry;
 use crate::plays::{self, Board, Calling, Counting, Place, Taking};
-use segs::SegList;
-use std::alloc::Allocator;
 
 /// Where the queued word of a processor stands.
 pub(crate) fn place_of_queued(processor: u16) -> usize
@@ -23,30 +21,52 @@ pub(crate) fn place_of_finished(processor: u16) -> usize
     32 * processor as usize + 32
 }
 
-/// Adds 1 to the processor's queued word for the call that came last among those that wait, with the right of its list, which
-/// gets it back. Answers what the word held.
-pub(crate) fn add_queued<J, A: Allocator, N: Calling<J>>(
+/// Announces a call, which comes next on the seat's processor. Gives its right.
+pub(crate) fn announce<J, N: Calling<J>>(
     top: &Board<J>,
     seat: &mut Place<J>,
-    list: &mut Place<J>,
     processor: u16,
-    waiting: &SegList<Option<Entry<J>>, A>,
-) -> u64
+    entry: &Entry<J>,
+) -> Place<J>
+    requires call { N.call ≡ Some entry.now }
     requires placed { IsPlaced top.now.key top.now.table_id seat.old }
     requires rests { IsAtRest processor top.now.key seat.old.me.0 }
-    requires list { IsListSeat top.now.table_id processor list.old }
-    requires room { queued_in processor seat.old.me.0.seen < most_calls }
-    requires call { (N.call ≡ last_entry waiting.now.entries) × IsSome N.call }
-    ensures placed { IsPlaced top.now.key top.now.table_id seat.new }
-    ensures queues { IfSome N.call (λ entry. QueuesOne processor entry seat.old list.old result seat.new list.new) }
+    ensures { Announces processor entry.now seat.old seat.new result }
 {
-    // For the proof, which reads of it what was queued.
-    let _ = waiting;
-    let right = top.split_seat::<plays::GiveList>(list);
-    top.join_seat::<plays::TakeList>(seat, right);
-    let found = top.fetch_add::<plays::AddQueued<N>>(seat, place_of_queued(processor), 1);
-    *list = top.split_seat::<plays::GiveList>(seat);
-    found
+    // For the proof, which notes what is to be queued, and by whom.
+    let _ = entry;
+    let _ = processor;
+    top.split_seat::<plays::Announce<N>>(seat)
+}
+
+/// The call is not queued after all.
+pub(crate) fn withdraw<J>(top: &Board<J>, seat: &mut Place<J>, call: Place<J>)
+    requires placed { IsPlaced top.now.key top.now.table_id seat.old }
+    requires call { (p : ℕ) × (e : Entry J) × IsAboutTo p top.now.key e seat.old.me.0 × IsCallPlace top.now.table_id p (queued_in p seat.old.me.0.seen) e call }
+    ensures { Withdraws seat.old seat.new }
+{
+    top.join_seat::<plays::Withdraw>(seat, call);
+}
+
+/// Adds 1 to the processor's queued word for the call that was announced. Answers what the word held.
+pub(crate) fn add_queued<J>(top: &Board<J>, seat: &mut Place<J>, processor: u16) -> u64
+    requires placed { IsPlaced top.now.key top.now.table_id seat.old }
+    requires calling { (e : Entry J) × IsAboutTo processor top.now.key e seat.old.me.0 }
+    requires room { queued_in processor seat.old.me.0.seen < most_calls }
+    ensures placed { IsPlaced top.now.key top.now.table_id seat.new }
+    ensures queues { (e : Entry J) → IsAboutTo processor top.now.key e seat.old.me.0 → QueuesOne processor e seat.old result seat.new }
+{
+    top.fetch_add::<plays::AddQueued>(seat, place_of_queued(processor), 1)
+}
+
+/// The call waits in its list from now on, behind those that were moved there before.
+pub(crate) fn move_call<J>(top: &Board<J>, list: &mut Place<J>, call: Place<J>)
+    requires wide { top.now.table_id.words ≡ word_count top.now.key.processors }
+    requires call { (p : ℕ) × (e : Entry J) × IsListSeat top.now.table_id p list.old × IsCallPlace top.now.table_id p (next_known (known_in list.old.me.0.list)) e call × (p < top.now.key.processors) }
+    requires queued { next_known (known_in list.old.me.0.list) < (known_in list.old.me.0.list).queued }
+    ensures { (p : ℕ) (e : Entry J) → IsListSeat top.now.table_id p list.old → IsCallPlace top.now.table_id p (next_known (known_in list.old.me.0.list)) e call → MovesCall p e list.old list.new }
+{
+    top.join_seat::<plays::Move>(list, call);
 }
 
 /// Loads the queued word of the list's processor, with the right of the list, out of which is taken what is ready. Gives the
@@ -61,10 +81,10 @@ pub(crate) fn take_out<J, N: Taking>(
 ) -> Place<J>
     requires taking { (N.number ≡ number) × (N.max ≡ max) }
     requires placed { IsPlaced top.now.key top.now.table_id seat.old }
-    requires rests { IsOfCaller top.now.key seat.old.me.0 }
+    requires rests { (c : ℕ) × IsAtRest c top.now.key seat.old.me.0 }
     requires there { processor < top.now.key.processors }
     requires list { IsListSeat top.now.table_id processor list.old }
-    requires none { out_known list.old.me.0.list ≡ None }
+    requires none { (known_in list.old.me.0.list).out ≡ None }
     ensures placed { IsPlaced top.now.key top.now.table_id seat.new }
     ensures takes { TakesOne processor number max seat.old list.old seat.new list.new result }
 {
@@ -77,24 +97,26 @@ pub(crate) fn take_out<J, N: Taking>(
     top.split_seat::<plays::PassBatch>(seat)
 }
 
-/// Loads the queued word of the seat's processor, with the right of a list, which gets it back. The seat has then seen all
-/// that was done, and there the list is as its right knows it.
+/// Loads the queued word of this processor, with the right of its list, which gets it back. The seat has then seen all that
+/// was done, and there the list is as its right knows it. Answers how many were queued.
 pub(crate) fn see_list<J, N: Counting>(
     top: &Board<J>,
     seat: &mut Place<J>,
     list: &mut Place<J>,
     processor: u16,
-)
+) -> u64
     requires count { top.now.key.processors ≡ N.count }
     requires placed { IsPlaced top.now.key top.now.table_id seat.old }
-    requires rests { IsAtRest processor top.now.key seat.old.me.0 }
-    requires list { (p : ℕ) × IsListSeat top.now.table_id p list.old }
-    ensures { (p : ℕ) → IsListSeat top.now.table_id p list.old → SeesList top.now.key p seat.old list.old seat.new list.new }
+    requires rests { (c : ℕ) × IsAtRest c top.now.key seat.old.me.0 }
+    requires there { processor < top.now.key.processors }
+    requires list { IsListSeat top.now.table_id processor list.old }
+    ensures { SeesList top.now.key processor seat.old list.old result seat.new list.new }
 {
     let right = top.split_seat::<plays::GiveList>(list);
     top.join_seat::<plays::TakeList>(seat, right);
-    top.load::<plays::SeeList<N>>(seat, place_of_queued(processor));
+    let found = top.load::<plays::SeeList<N>>(seat, place_of_queued(processor));
     *list = top.split_seat::<plays::GiveList>(seat);
+    found
 }
 
 /// Loads the finished word at this place. Answers what it holds. Each call says of how many processors the tally words
@@ -166,7 +188,7 @@ pub(crate) fn add_finished<J>(
 )
     requires placed { IsPlaced top.now.key top.now.table_id seat.old }
     requires there { processor < top.now.key.processors }
-    requires rests { IsOfCaller top.now.key seat.old.me.0 }
+    requires rests { (c : ℕ) × IsAtRest c top.now.key seat.old.me.0 }
     requires list { IsListSeat top.now.table_id processor list.old }
     requires batch { IsBatchSeat top.now.table_id processor count batch }
     ensures placed { IsPlaced top.now.key top.now.table_id seat.new }

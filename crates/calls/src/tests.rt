@@ -3,6 +3,7 @@ use sections::Limits;
 
 mod meeting;
 mod rooms;
+mod unlocked;
 
 const LIMITS: Limits = Limits {
     sections: 1 << 20,

@@ -11,16 +11,17 @@ pub struct Plan {
 
 /// What was done on a tally word.
 pub enum Act<J> {
-    /// 1 was added to the queued word of the processor whose seat did it: this came last in its list.
+    /// 1 was added to the queued word of the processor whose seat did it: this came in last.
     Queue {
         entry: Entry<J>,
     },
-    /// A load of the queued word of this processor, with its list in hand: what waited for this number was done, and at
-    /// most so many jobs were taken out.
+    /// A load of the queued word of this processor, with its list in hand: so many calls that had come in were moved
+    /// before, what waited for this number was done, and at most so many jobs were taken out.
     Take {
         processor: u16,
         number: u64,
         max: usize,
+        moved: u64,
     },
     /// So many were added to the finished word of this processor.
     Finish {
@@ -83,19 +84,36 @@ pub enum Who {
     Dealer(u64),
 }
 
-/// What a processor's list knows, and a right: no call of this processor is queued, nothing is taken out, and no batch of it
-/// is finished, without the list.
+/// What a processor's list knows.
+pub struct Known<J> {
+    /// How many calls were queued, at least.
+    pub queued: u64,
+    /// How many of them were finished.
+    pub finished: u64,
+    /// How many are in the batch that is out.
+    pub out: Option<u64>,
+    /// How many were moved behind those that wait, since something was last taken out.
+    pub moved: u64,
+    pub waiting: Waiting<J>,
+}
+
+/// A right. That of a list: no call of this processor is moved, nothing is taken out, and no batch of it is finished,
+/// without the list. And that of a call that is being queued.
 pub enum ListRight<J> {
     NoList,
     OfList {
         processor: u16,
-        /// How many calls were queued.
-        queued: u64,
-        /// How many of them were finished.
-        finished: u64,
-        /// How many are in the batch that is out.
-        out: Option<u64>,
-        waiting: Waiting<J>,
+        known: Known<J>,
+    },
+    /// The seat's processor is about to queue this call.
+    Calling {
+        entry: Entry<J>,
+    },
+    /// The call that has this number on the processor, as soon as it is counted there.
+    OfCall {
+        processor: u16,
+        number: u64,
+        entry: Entry<J>,
     },
 }
 

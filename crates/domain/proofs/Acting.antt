@@ -1,6 +1,6 @@
 -- Calls of a processor act: from what a call says of its seats to its act.
 use Rattle.std.proofs.Common.{◌≡◌, ◌≢◌, ℕ, suc, ◌+◌, ◌*◌, ◌≤◌, cond, if◌then◌else◌, map, inl, inr, Bool, true, false, List, [], ◌∷◌, ◌++◌, refl, sym, ap, ◌∙◌, subst, append-nil, append_assoc, arith, eq-eqb, ne_eqb}
-use Rattle.std.specs.Prelude.{Option, Some, None, Result, Ok, Err, MatchResult, IsOk, IfOk}
+use Rattle.std.specs.Prelude.{Option, Some, None, Result, Ok, Err, MatchResult}
 use Rattle.std.proofs.lemmas.List.{map-append}
 use mathlib.Core.Logic.{dite}
 use native.Mathlib.Decide.{ℕ_discrete}
@@ -34,14 +34,15 @@ use Rattle.funnel.proofs.CallerLemmas as climbs
 use Rattle.calls.specs.declared.refusals.CallRefusal.{CallRefusal}
 use Rattle.calls.specs.declared.refusals.CallRefusal.TheVariants as calling
 use Rattle.calls.specs.declared.refusals.TakeRefusal.{TakeRefusal}
+use Rattle.calls.specs.declared.refusals.TakeRefusal.TheVariants as refused
 use Rattle.calls.specs.declared.view.Act as does
 use Rattle.calls.specs.declared.entry.Entry.{Entry}
 use Rattle.calls.specs.declared.view.Act.TheVariants.{Queue, Take, Finish, LoadQueued}
 use Rattle.calls.specs.declared.view.Deed.{Deed}
-use Rattle.calls.specs.Lines.{Line, with_call, with_taken, with_none_out, next_line, line_from}
+use Rattle.calls.specs.Lines.{Line, with_call, gathered, with_taken, with_none_out, next_line, line_from}
 use Rattle.calls.specs.Tallies.{deed, queued_in, finished_in, deeds_of}
 use Rattle.calls.specs.Views.{CallSeatView, ListKey, CallsView, BatchView, TicketView, ReceiptView}
-use Rattle.calls.specs.Calls.{Does, IsCause, QueuesIn, RefusesIn, TakesIn, InvokesIn, FinishesIn, FindsLensIn}
+use Rattle.calls.specs.Calls.{Does, IsCause, QueuesIn, RefusesIn, TakesIn, TakesNothingIn, FinishesIn, FindsLensIn}
 use Rattle.calls.specs.Barriers as barriers
 use Rattle.calls.specs.Barriers.{queued_loads, finished_loads, Hears}
 use Rattle.calls.specs.Meetings.{Covers, SeesOut}
@@ -132,7 +133,7 @@ module _ (n : ℕ) (v w : FunnelView) (level : Level) (h : tree.Asks n v level w
 module _ {J : Type 0} where
   -- nothing was done there
   pub adds_none : (s t : CallSeatView J) → t ≡ s → Adds [] s t
-  adds_none s t is = subst (λ (z : CallSeatView J). Adds [] s z) (sym is) (record { same = (refl, refl, refl); since = begins_itself s.seen; own = sym (append-nil (deeds_of s.processor s.seen)) })
+  adds_none s t is = subst (λ (z : CallSeatView J). Adds [] s z) (sym is) (record { same = (refl, refl, refl, refl); since = begins_itself s.seen; own = sym (append-nil (deeds_of s.processor s.seen)) })
 
   pub adds_deed : (act : does.Act J) (s t : CallSeatView J) → Does act s t → Adds (deed s.processor act ∷ []) s t
   adds_deed act s t h =
@@ -149,7 +150,7 @@ module _ {J : Type 0} where
   -- a load that is no deed
   pub adds_seen : (other : List (Deed J)) (s t : CallSeatView J) → Covers s other t → Adds [] s t
   adds_seen other s t h = record {
-    same = (ap (λ (z : CallSeatView J). z.tallies) h.same, ap (λ (z : CallSeatView J). z.processors) h.same, ap (λ (z : CallSeatView J). z.processor) h.same);
+    same = (ap (λ (z : CallSeatView J). z.tallies) h.same, ap (λ (z : CallSeatView J). z.processors) h.same, ap (λ (z : CallSeatView J). z.processor) h.same, ap (λ (z : CallSeatView J). z.domain) h.same);
     since = h.since;
     own = h.own ∙ sym (append-nil (deeds_of s.processor s.seen));
   }
@@ -216,8 +217,8 @@ module _ (J : Type 0) where
   queued_off : (p q : ℕ) (e : Entry J) (l : Line J) → q ≢ p → line_from q l (deed p (Queue e) ∷ []) ≡ l
   queued_off p q e l other = ap (λ (b : Bool). if b then with_call e l else l) (ne_eqb p q (λ same. other (sym same)))
 
-  taken_off : (by p number most q : ℕ) (l : Line J) → q ≢ p → line_from q l (deed by (Take p number most) ∷ []) ≡ l
-  taken_off by p number most q l other = ap (λ (b : Bool). if b then with_taken number most l else l) (ne_eqb p q (λ same. other (sym same)))
+  taken_off : (by p number most moved q : ℕ) (l : Line J) → q ≢ p → line_from q l (deed by (Take p number most moved) ∷ []) ≡ l
+  taken_off by p number most moved q l other = ap (λ (b : Bool). if b then with_taken number most (gathered moved l) else l) (ne_eqb p q (λ same. other (sym same)))
 
   finished_off : (by p n q : ℕ) (l : Line J) → q ≢ p → line_from q l (deed by (Finish p n) ∷ []) ≡ l
   finished_off by p n q l other = ap (λ (b : Bool). if b then with_none_out l else l) (ne_eqb p q (λ same. other (sym same)))
@@ -326,15 +327,13 @@ module _ {J : Type 0} (c c' : CpuView J) (rest : c' ≡ with_calls c'.calls c) w
   pub out_acts : {b : BatchView J} → SeesOut b c.calls c'.calls → ActsAs loads c c'
   out_acts h = loads_deeds [] (adds_seen h.moment c.calls c'.calls h.covers) nothing_done
 
-  pub lens_acts : {E : Type 0} (p : ℕ) (r : Result (List ℕ × List ℕ) E) → IsOk r → IfOk r (λ found. FindsLensIn p c.calls found c'.calls) → ActsAs loads c c'
-  lens_acts p (Ok found) ok h = loads_deeds [] (adds_seen c.calls.seen c.calls c'.calls h.covers) nothing_done
-  lens_acts p (Err e) ok h = let wrong : false ≡ true = ok in absurd (no_truth wrong)
-    where
-      no_truth : false ≡ true → ⊥
-      no_truth e = cc
+  -- one load
+  pub covers_acts : Covers c.calls c.calls.seen c'.calls → ActsAs loads c c'
+  covers_acts h = loads_deeds [] (adds_seen c.calls.seen c.calls c'.calls h) nothing_done
 
-  pub invokes_acts : (p : ℕ) → InvokesIn p c.cpu c.calls c'.cpu c'.calls → ActsAs loads c c'
-  invokes_acts p h = loads_deeds [] (adds_seen c.calls.seen c.calls c'.calls h.covers) nothing_done
+  pub lens_acts : {E : Type 0} (p : ℕ) (r : Result (List ℕ × List ℕ) E) → MatchResult r (λ found. FindsLensIn p c.calls found c'.calls) (λ _. Covers c.calls c.calls.seen c'.calls) → ActsAs loads c c'
+  lens_acts p (Ok found) h = covers_acts h.covers
+  lens_acts p (Err e) h = covers_acts h
 
   pub hear_acts : {r : ReceiptView J} → Hears r c.calls c'.calls → ActsAs loads c c'
   hear_acts {r} h = loads_deeds _ (adds_deed (LoadQueued r.processor h.found) c.calls c'.calls h.does) (record { queued = λ q. refl; finished = λ q. refl; lists = λ q l. refl })
@@ -356,7 +355,7 @@ module _ {J : Type 0} (c c' : CpuView J) (rest : c' ≡ with_calls c'.calls (wit
   takes_out k processor most taken h =
       let g = h.takes.gives in
       let p : ℕ = c.cpu.processor in
-      let act : does.Act J = Take h.list.processor g.number most in
+      let act : does.Act J = Take h.list.processor g.number most h.list.moved in
       let e : Event = Ask (4 * periods_ended g.number) true (Processor p) in
       let own : h.list.processor ≡ processor = ap (λ (z : ListKey). z.processor) h.of_calls in
       subst (λ n. ActsAs (λ q. record (asks_whether (4 * periods_ended n) true q) { list = Some processor }) c c') g.asks.current record {
@@ -367,14 +366,18 @@ module _ {J : Type 0} (c c' : CpuView J) (rest : c' ≡ with_calls c'.calls (wit
         ask_for = asks_nothing p c.needs.holder (e ∷ []) 0 0 0 (Some processor);
         deeds = deed c.calls.processor act ∷ [];
         adds = adds_deed act c.calls c'.calls g.tally;
-        count = record { queued = refl; finished = refl; others = λ q other. refl; lists = λ q away l. taken_off J c.calls.processor h.list.processor g.number most q l (λ same. away (ap Some (sym (same ∙ own)))) };
+        count = record { queued = refl; finished = refl; others = λ q other. refl; lists = λ q away l. taken_off J c.calls.processor h.list.processor g.number most h.list.moved q l (λ same. away (ap Some (sym (same ∙ own)))) };
         turn = ap (λ (x : CpuView J). x.turn) rest;
       }
 
-  pub take_acts : (k : CallsView) (processor most : ℕ) (r : Result (Option (BatchView J)) TakeRefusal) → MatchResult r (λ taken. TakesIn k processor most c.cpu c.calls taken c'.cpu c'.calls) (λ _. InvokesIn processor c.cpu c.calls c'.cpu c'.calls)
+  with_calls_alone : c'.cpu ≡ c.cpu → c' ≡ with_calls c'.calls c
+  with_calls_alone is = rest ∙ ap (λ (z : sections.CpuView). with_calls c'.calls (with_cpu z c)) is
+
+  pub take_acts : (k : CallsView) (processor most : ℕ) (r : Result (Option (BatchView J)) TakeRefusal) → MatchResult r (λ taken. TakesIn k processor most c.cpu c.calls taken c'.cpu c'.calls) (λ refusal. TakesNothingIn processor c.cpu c.calls refusal c'.cpu c'.calls)
       → MatchResult r (λ _. ActsAs (takes c'.cpu.changes processor) c c') (λ _. ActsAs loads c c')
   take_acts k processor most (Ok taken) h = takes_out k processor most taken h
-  take_acts k processor most (Err x) h = invokes_acts c c' (rest ∙ ap (λ (z : sections.CpuView). with_calls c'.calls (with_cpu z c)) h.cpu) processor h
+  take_acts k processor most (Err refused.Invoking) h = covers_acts c c' (with_calls_alone h.cpu) h.covers
+  take_acts k processor most (Err refused.Memory) h = covers_acts c c' (with_calls_alone h.0) h.1
 
 -- The root is loaded
 
@@ -447,10 +450,10 @@ module _ {J : Type 0} (k : CallsView) (c c' : CpuView J) (job : J) where
   pub refusal_acts : c' ≡ with_cpu c'.cpu c → (refused : J × CallRefusal) → RefusesIn k c.cpu c.calls job refused c'.cpu c'.calls → QueuesNone refused.1 c c'
   refusal_acts rest refused h = by_cause refused.1 h.refuses.cause
     where
-      by_cause : (why : CallRefusal) → IsCause h.list c.cpu c.calls why h.list' c'.cpu → QueuesNone why c c'
-      by_cause calling.Exhausted cause = still c c' rest cause.2
+      by_cause : (why : CallRefusal) → IsCause c.cpu c.calls why c'.cpu → QueuesNone why c c'
+      by_cause calling.Exhausted cause = still c c' rest cause.1
       by_cause calling.Memory cause =
-          let (cookie, note) = cause.1 in
+          let (cookie, behind, sight, note) = cause.1 in
           (cookie.number, subst (λ n. ActsAs (notes n) c c') (ap (λ (x : CookieView). x.number) (sym note.cookie_is)) (note_acts c c' rest note.adds))
 
 -- One call and then another
@@ -483,7 +486,7 @@ module _ {J : Type 0} {p : ℕ} {a : Act} {owner count : ℕ} {list : Option ℕ
   both_add : Adds (first.deeds ++ second.deeds) was.calls now.calls
   both_add =
       let here = first.adds.same.2 in record {
-        same = (second.adds.same.0 ∙ first.adds.same.0, second.adds.same.1 ∙ first.adds.same.1, second.adds.same.2 ∙ here);
+        same = (second.adds.same.0 ∙ first.adds.same.0, second.adds.same.1 ∙ first.adds.same.1, second.adds.same.2 ∙ here, second.adds.same.3 ∙ first.adds.same.3);
         since = begins_on first.adds.since second.adds.since;
         own = subst (λ q. deeds_of q now.calls.seen ≡ deeds_of q mid.calls.seen ++ second.deeds) here second.adds.own ∙ (ap (λ l. l ++ second.deeds) first.adds.own ∙ append_assoc (deeds_of was.calls.processor was.calls.seen) first.deeds second.deeds);
       }

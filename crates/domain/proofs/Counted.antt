@@ -278,7 +278,7 @@ module _ {J : Type 0} (d : DomainView) (c : CpuView J) (cs cs' : List (CpuView J
       free = free;
       asks = first_is.asks;
       many = first_same.1 ∙ first_is.many;
-      fits = still_fits d c (record { cpu = cpu3; needs = c.needs; turn = t'; calls = c.calls }) first_same (refl, refl, refl) first_is.fits;
+      fits = still_fits d c (record { cpu = cpu3; needs = c.needs; turn = t'; calls = c.calls }) first_same (refl, refl, refl, refl) first_is.fits;
       number = ap (λ (z : BaySeatView views.Engine). z.number) turn_is ∙ (first_is.number ∙ sym first_same.3);
       seats = ap (λ (z : BaySeatView views.Engine). z.seats) turn_is ∙ first_is.seats;
       words = first_is.words;
@@ -373,7 +373,7 @@ module _ {J : Type 0} where
   seat_of_loads s t h =
       let a = h.queued.loads.same in
       let b = h.finished.loads.same in
-      λ i. record { tallies = (b.0 ∙ a.0) i; processors = (b.1 ∙ a.1) i; processor = (b.2 ∙ a.2) i; seen = t.seen }
+      λ i. record { domain = (b.3 ∙ a.3) i; tallies = (b.0 ∙ a.0) i; processors = (b.1 ∙ a.1) i; processor = (b.2 ∙ a.2) i; seen = t.seen }
 
   -- the seats at the tally words are of one domain
   pub calls_of_domain : (d : DomainView) (c : CpuView J) (cs : List (CpuView J)) → Each (IsOf d) (c ∷ cs) → Each (λ x. x.calls.tallies ≡ c.calls.tallies) cs
@@ -472,14 +472,14 @@ module _ {J : Type 0} (d : DomainView) (c : CpuView J) (cs cs' : List (CpuView J
 
   each_heard : (k : ℕ) (x : CpuView J) → k < length everyone → HasHeard d t.seen (get_or everyone k x) (get_or (record { cpu = c.cpu; needs = c.needs; turn = c.turn; calls = t } ∷ cs') k x)
   each_heard zero x lt = record {
-    here = still_with_calls d c (record { cpu = c.cpu; needs = c.needs; turn = c.turn; calls = t }) first_here_too (ap (λ (z : CallSeatView J). z.tallies) seat_is, ap (λ (z : CallSeatView J). z.processors) seat_is, ap (λ (z : CallSeatView J). z.processor) seat_is) refl;
+    here = still_with_calls d c (record { cpu = c.cpu; needs = c.needs; turn = c.turn; calls = t }) first_here_too (ap (λ (z : CallSeatView J). z.tallies) seat_is, ap (λ (z : CallSeatView J). z.processors) seat_is, ap (λ (z : CallSeatView J). z.processor) seat_is, ap (λ (z : CallSeatView J). z.domain) seat_is) refl;
     calls = seat_is;
     rest = refl;
   }
   each_heard (suc k) x lt =
       let h = heard.each k x (omega (arith, lt)) in
       record {
-        here = still_with_calls d (get_or cs k x) (get_or cs' k x) (here (suc k) x lt) (ap (λ (z : CallSeatView J). z.tallies) h.calls.is, ap (λ (z : CallSeatView J). z.processors) h.calls.is, ap (λ (z : CallSeatView J). z.processor) h.calls.is) h.rest;
+        here = still_with_calls d (get_or cs k x) (get_or cs' k x) (here (suc k) x lt) (ap (λ (z : CallSeatView J). z.tallies) h.calls.is, ap (λ (z : CallSeatView J). z.processors) h.calls.is, ap (λ (z : CallSeatView J). z.processor) h.calls.is, ap (λ (z : CallSeatView J). z.domain) h.calls.is) h.rest;
         calls = h.calls.is;
         rest = h.rest;
       }

@@ -43,7 +43,7 @@ module _ {J : Type 0} (bounds : Bounds) (d : DomainView) (cs : List sections.Cpu
         least = tree.least;
         each = λ k c lt. let lt_cs : k < length cs = omega (arith, lt, many) in let lt_ns : k < length ns = omega (arith, lt_cs, ns_many) in let lt_ts : k < length ts = omega (arith, lt_cs, ts_many) in let lt_ss : k < length ss = omega (arith, lt_cs, ss_many) in
             ap (λ l. slice_index_or l k c) all_are ∙ (joined_at cs ns ts ss ns_many ts_many ss_many k c lt_cs
-            ∙ (λ i. record { cpu = (made.cpus_new k c.cpu lt_cs ∙ ap (λ t. sections_calls.new_cpu t bounds.processors bounds.sections k) (sym domain)) i; needs = tree.made.seats_new k c.needs lt_ns i; turn = (seats.each k c.turn lt_ts ∙ ap (λ (z : BayView Engine). new_bay_seat z k) b_is) i; calls = (callbacks.seats_new.each k c.calls lt_ss ∙ (λ j. new_seat (sym (ap (λ (z : DomainView). z.tallies) d_is) j) (sized j) k)) i }));
+            ∙ (λ i. record { cpu = (made.cpus_new k c.cpu lt_cs ∙ ap (λ t. sections_calls.new_cpu t bounds.processors bounds.sections k) (sym domain)) i; needs = tree.made.seats_new k c.needs lt_ns i; turn = (seats.each k c.turn lt_ts ∙ ap (λ (z : BayView Engine). new_bay_seat z k) b_is) i; calls = (callbacks.seats_new.each k c.calls lt_ss ∙ (λ j. new_seat (sym (ap (λ (z : DomainView). z.domain) d_is) j) (sym (ap (λ (z : DomainView). z.tallies) d_is) j) (sized j) k)) i }));
       }
 
 module _ {J : Type 0} where
@@ -54,7 +54,7 @@ module _ {J : Type 0} where
       let count = made.count in
       record {
         some = omega (arith, some, count);
-        here = λ k c lt. rw (made.each k c lt) (record { domain = refl; bay = refl; home = refl; free = refl; asks = (k, refl); many = sym made.many; fits = record { domain = refl; tallies = refl; cpu = refl; there = subst (λ n. k < n) (count ∙ sym made.many) lt }; number = refl; seats = sym made.many; words = sym made.many });
+        here = λ k c lt. rw (made.each k c lt) (record { domain = refl; bay = refl; home = refl; free = refl; asks = (k, refl); many = sym made.many; fits = record { domain = refl; seat = refl; tallies = refl; cpu = refl; there = subst (λ n. k < n) (count ∙ sym made.many) lt }; number = refl; seats = sym made.many; words = sym made.many });
         count = λ k c lt. ap (λ (z : CpuView J). z.cpu.processors) (made.each k c lt) ∙ sym count;
         order = λ k c lt. ap (λ (z : CpuView J). z.cpu.processor) (made.each k c lt);
         tree = made.tree;

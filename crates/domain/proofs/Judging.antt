@@ -210,7 +210,7 @@ all_kept n items rest same = ap (λ k. take k (items ++ rest)) same ∙ take-app
 
 module _ {J : Type 0} where
   pub nothing_changed : (d : DomainView) (cpus : List (CpuView J)) → Each (IsOf d) cpus → IsHandedBack d cpus d cpus
-  nothing_changed d cpus here = record { domain = refl; count = refl; here = here; same = λ k c lt. record { cpu = (refl, refl, refl, refl); needs = record { domain = refl; shape = refl; holder = refl }; turn = refl; calls = (refl, refl, refl) } }
+  nothing_changed d cpus here = record { domain = refl; count = refl; here = here; same = λ k c lt. record { cpu = (refl, refl, refl, refl); needs = record { domain = refl; shape = refl; holder = refl }; turn = refl; calls = (refl, refl, refl, refl) } }
 
 module _ {J : Type 0} (d : DomainView) (history : List Event) (all : List (Deed J)) (cpus cpus' : List (CpuView J)) (h : AreBack d history all cpus cpus') where
   turn_same_seat : (k : ℕ) (c : CpuView J) → k < length cpus → (get_or cpus' k c).turn ≡ record (get_or cpus k c).turn { seen = (get_or cpus' k c).turn.seen }
@@ -226,6 +226,6 @@ module _ {J : Type 0} (d : DomainView) (history : List Event) (all : List (Deed 
       cpu = e.same;
       needs = record { domain = ap (λ (z : FunnelView). z.domain) e.needs; shape = ap (λ (z : FunnelView). z.shape) e.needs; holder = ap (λ (z : FunnelView). z.holder) e.needs };
       turn = turn_same_seat k c lt;
-      calls = (ap (λ (z : CallSeatView J). z.tallies) e.calls, ap (λ (z : CallSeatView J). z.processors) e.calls, ap (λ (z : CallSeatView J). z.processor) e.calls);
+      calls = (ap (λ (z : CallSeatView J). z.tallies) e.calls, ap (λ (z : CallSeatView J). z.processors) e.calls, ap (λ (z : CallSeatView J). z.processor) e.calls, ap (λ (z : CallSeatView J). z.domain) e.calls);
     };
   }

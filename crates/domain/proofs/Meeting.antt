@@ -154,7 +154,7 @@ module _ {J : Type 0} (d : DomainView) (c : CpuView J) (cs cs1 cs2 cs3 : List (C
   each_accepts (suc k) x lt = subst (λ (z : CallSeatView J). tallies.Accepts z s.seen (get_or cs3 k x).calls) ((turned.each k x (in_admitted k lt)).calls ∙ (admitted.each k x (in_others k lt)).calls) (heard_all.each k x (in_turned k lt)).calls
 
   same_seat : (k : ℕ) (x : CpuView J) → k < length (c ∷ cs) → IsSameSeat (get_or (c ∷ cs) k x).calls (get_or after k x).calls
-  same_seat k x lt = let is = (each_accepts k x lt).is in (ap (λ (z : CallSeatView J). z.tallies) is, ap (λ (z : CallSeatView J). z.processors) is, ap (λ (z : CallSeatView J). z.processor) is)
+  same_seat k x lt = let is = (each_accepts k x lt).is in (ap (λ (z : CallSeatView J). z.tallies) is, ap (λ (z : CallSeatView J). z.processors) is, ap (λ (z : CallSeatView J). z.processor) is, ap (λ (z : CallSeatView J). z.domain) is)
 
   pub tallies_meet : IsAllOf d (c ∷ cs) → TalliesMeet (c ∷ cs) after
   tallies_meet all =

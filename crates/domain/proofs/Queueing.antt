@@ -10,7 +10,7 @@ use Rattle.sections.specs.Sights.{SightView, GivesCookieBehind}
 use Rattle.sections.specs.Views.{CookieView}
 use Rattle.calls.specs.declared.refusals.CallRefusal.{CallRefusal}
 use Rattle.calls.specs.declared.refusals.CallRefusal.TheVariants.{Exhausted, Memory}
-use Rattle.calls.specs.Views.{ListView, CallSeatView, ReceiptView}
+use Rattle.calls.specs.Views.{CallSeatView, ReceiptView}
 use Rattle.calls.specs.Calls.{IsCause}
 use Rattle.domain.specs.Views.{DomainView, CpuView, IsOf}
 use Rattle.domain.specs.Waiting.{HasNoneOpen}
@@ -24,9 +24,9 @@ module _ {J : Type 0} where
   none_noted s s' c c' cookie none h = none_open c c' none (ap open_sections h.adds.mine ∙ open_sections_plain c.cpu.mine _ refl (λ t. refl))
 
 module _ {J : Type 0} where
-  none_refused : (l l' : ListView J) (s : CallSeatView J) (c c' : CpuView J) (r : CallRefusal) → HasNoneOpen c → IsCause l c.cpu s r l' c'.cpu → HasNoneOpen c'
-  none_refused l l' s c c' Exhausted none h = none_open c c' none (ap (λ z. open_sections z.mine) h.2)
-  none_refused l l' s c c' Memory none h = none_noted _ _ c c' h.1.0 none h.1.1
+  none_refused : (s : CallSeatView J) (c c' : CpuView J) (r : CallRefusal) → HasNoneOpen c → IsCause c.cpu s r c'.cpu → HasNoneOpen c'
+  none_refused s c c' Exhausted none h = none_open c c' none (ap (λ z. open_sections z.mine) h.1)
+  none_refused s c c' Memory none h = none_noted _ _ c c' h.1.0 none h.1.3
 
   -- the receipt is one of the domain's
   pub queued_here : (d : DomainView) (c c' : CpuView J) (job : J) (r : ReceiptView J) → IsOf d c → CallsIn d c job r c' → IsReceiptOf d r
@@ -35,4 +35,4 @@ module _ {J : Type 0} where
   -- no reading is opened by a call, nor by one that is refused
   pub none_queued : (d : DomainView) (c c' : CpuView J) (job : J) (result : Result (ReceiptView J) (J × CallRefusal)) → HasNoneOpen c → MatchResult result (λ receipt. CallsIn d c job receipt c') (λ refused. RefusesCall d c job refused c') → HasNoneOpen c'
   none_queued d c c' job (Ok r) none h = none_noted _ _ c c' _ none h.queues.queues.note
-  none_queued d c c' job (Err e) none h = none_refused _ _ c.calls c c' e.1 none h.refuses.refuses.cause
+  none_queued d c c' job (Err e) none h = none_refused c.calls c c' e.1 none h.refuses.refuses.cause

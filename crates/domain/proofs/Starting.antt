@@ -10,4 +10,4 @@ module _ {J : Type 0} where
   IsReady d c = IsOf d c × HasNoneOpen c
 
   pub new_ones_are_ready : {bounds : _} (d : DomainView) (cpus : List (CpuView J)) → IsMade bounds d cpus → All (IsReady d) cpus
-  new_ones_are_ready d cpus made = λ k c lt. subst (IsReady d) (sym (made.each k c lt)) (record { domain = refl; bay = refl; home = refl; free = refl; asks = (k, refl); many = sym made.many; fits = record { domain = refl; tallies = refl; cpu = refl; there = subst (λ n. k < n) (made.count ∙ sym made.many) lt }; number = refl; seats = sym made.many; words = sym made.many }, refl)
+  new_ones_are_ready d cpus made = λ k c lt. subst (IsReady d) (sym (made.each k c lt)) (record { domain = refl; bay = refl; home = refl; free = refl; asks = (k, refl); many = sym made.many; fits = record { domain = refl; seat = refl; tallies = refl; cpu = refl; there = subst (λ n. k < n) (made.count ∙ sym made.many) lt }; number = refl; seats = sym made.many; words = sym made.many }, refl)

@@ -10,16 +10,17 @@ use Rattle.domain.specs.Views.{Engine, DomainView, CpuView, IsOf, IsSameProcesso
 module _ {J : Type 0} where
   -- the seat at the tally words, as it was
   pub seat_the_same : (s t : CallSeatView J) → t ≡ s → IsSameSeat s t
-  seat_the_same s t e = (ap (λ (z : CallSeatView J). z.tallies) e, ap (λ (z : CallSeatView J). z.processors) e, ap (λ (z : CallSeatView J). z.processor) e)
+  seat_the_same s t e = (ap (λ (z : CallSeatView J). z.tallies) e, ap (λ (z : CallSeatView J). z.processors) e, ap (λ (z : CallSeatView J). z.processor) e, ap (λ (z : CallSeatView J). z.domain) e)
 
   -- one call and then another
   pub same_seat_trans : (s t u : CallSeatView J) → IsSameSeat s t → IsSameSeat t u → IsSameSeat s u
-  same_seat_trans s t u h i = (i.0 ∙ h.0, i.1 ∙ h.1, i.2 ∙ h.2)
+  same_seat_trans s t u h i = (i.0 ∙ h.0, i.1 ∙ h.1, i.2 ∙ h.2, i.3 ∙ h.3)
 
   -- the processor and its seat at the tally words stay of one domain
   pub still_fits : (d : DomainView) (c c' : CpuView J) → IsSameCpu c.cpu c'.cpu → IsSameSeat c.calls c'.calls → FitsIn (callbacks_of d) c.cpu c.calls → FitsIn (callbacks_of d) c'.cpu c'.calls
   still_fits d c c' cpu seat f = record {
     domain = cpu.0 ∙ f.domain;
+    seat = seat.3 ∙ f.seat;
     tallies = seat.0 ∙ f.tallies;
     cpu = cpu.3 ∙ (f.cpu ∙ sym seat.2);
     there = subst (λ n. n < d.processors) (sym seat.2) f.there;
@@ -42,7 +43,7 @@ module _ {J : Type 0} where
 
   -- behind a call at its seat at the domain's words
   pub still_with_cpu : (d : DomainView) (c c' : CpuView J) → IsOf d c → IsSameCpu c.cpu c'.cpu → c' ≡ with_cpu c'.cpu c → IsOf d c'
-  still_with_cpu d c c' is same rest = subst (λ (z : CpuView J). IsOf d z) (sym rest) record { domain = same.0 ∙ is.domain; bay = is.bay; home = is.home; free = is.free; asks = is.asks; many = same.1 ∙ is.many; fits = still_fits d c (with_cpu c'.cpu c) same (refl, refl, refl) is.fits; number = is.number ∙ sym same.3; seats = is.seats; words = is.words }
+  still_with_cpu d c c' is same rest = subst (λ (z : CpuView J). IsOf d z) (sym rest) record { domain = same.0 ∙ is.domain; bay = is.bay; home = is.home; free = is.free; asks = is.asks; many = same.1 ∙ is.many; fits = still_fits d c (with_cpu c'.cpu c) same (refl, refl, refl, refl) is.fits; number = is.number ∙ sym same.3; seats = is.seats; words = is.words }
 
   -- behind a call at its seat at the tally words
   pub still_with_calls : (d : DomainView) (c c' : CpuView J) → IsOf d c → IsSameSeat c.calls c'.calls → c' ≡ with_calls c'.calls c → IsOf d c'

@@ -29,7 +29,7 @@ new_bay d bounds tree shape = record { bay = d.bay; domain = d.domain; seats = b
 module _ {J : Type 0} where
   -- processor k, whose seats know of nothing yet: no call is queued
   abbrev pub new_cpu : DomainView → Bounds → TableId → Shape → ℕ → CpuView J
-  new_cpu d bounds tree shape k = record { cpu = sections.new_cpu d.domain bounds.processors bounds.sections k; needs = funnel.new_seat tree shape (Processor k); turn = new_bay_seat (new_bay d bounds tree shape) k; calls = new_seat d.tallies bounds.processors k }
+  new_cpu d bounds tree shape k = record { cpu = sections.new_cpu d.domain bounds.processors bounds.sections k; needs = funnel.new_seat tree shape (Processor k); turn = new_bay_seat (new_bay d bounds tree shape) k; calls = new_seat d.domain d.tallies bounds.processors k }
 
   -- the processors in order, none of which has made a step
   pub record IsMade (bounds : Bounds) (d : DomainView) (cpus : List (CpuView J)) : Type 0 where

@@ -19,8 +19,9 @@ mod waiting;
 
 /// A sleepable RCU domain (`srcu_struct`), which all of its processors share by reference. It has the place where the
 /// engine lies; whoever drives it has it for one call, and others that want it are told that it is busy. And it has the callbacks, whose
-/// jobs are of type `J`, a list for each processor. A domain that is dropped drops the jobs that still wait. Contracts
-/// see the domain's table, the place, the tally words of the callbacks, and how many processors there are.
+/// jobs are of type `J`, a list for each processor. A domain that is dropped drops the jobs that still wait in its lists;
+/// those that came in and were not moved there yet are dropped once their processor is gone too. Contracts see the
+/// domain's table, the place, the tally words of the callbacks, and how many processors there are.
 #[derive(Drop)]
 pub struct Domain<J, A: Allocator = Global> {
     pub(crate) station: Station<FunnelSeat<A>, A>,

@@ -22,7 +22,7 @@ pub use Rattle.driver.proofs.Keeping.{idle_kept}
 module _ {J : Type 0} where
   -- the processors of a new domain are idle, so they may make a pool
   pub new_ones_are_idle : {bounds : _} (d : DomainView) (cpus : List (CpuView J)) → IsMade bounds d cpus → All (IsIdle d) cpus
-  new_ones_are_idle d cpus made = λ k c lt. subst (IsIdle d) (sym (made.each k c lt)) record { here = record { domain = refl; bay = refl; home = refl; free = refl; asks = (k, refl); many = sym made.many; fits = record { domain = refl; tallies = refl; cpu = refl; there = subst (λ n. k < n) (made.count ∙ sym made.many) lt }; number = refl; seats = sym made.many; words = sym made.many }; closed = refl }
+  new_ones_are_idle d cpus made = λ k c lt. subst (IsIdle d) (sym (made.each k c lt)) record { here = record { domain = refl; bay = refl; home = refl; free = refl; asks = (k, refl); many = sym made.many; fits = record { domain = refl; seat = refl; tallies = refl; cpu = refl; there = subst (λ n. k < n) (made.count ∙ sym made.many) lt }; number = refl; seats = sym made.many; words = sym made.many }; closed = refl }
 
   -- those that a closed pool gives are of its domain, so it may be taken down with them
   pub idle_ones_are_here : (d : DomainView) (cpus : List (CpuView J)) → All (IsIdle d) cpus → Each (IsOf d) cpus

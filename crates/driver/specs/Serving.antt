@@ -5,7 +5,8 @@ use Rattle.sections.specs.Calls.{AllClosed}
 use Rattle.scan.specs.declared.progress.Progress.{Progress}
 use Rattle.calls.specs.declared.entry.Entry.{Entry}
 use Rattle.calls.specs.Views.{BatchView, CallSeatView, TicketView, ReceiptView}
-use Rattle.calls.specs.Calls.{TakesIn, InvokesIn, FinishesIn, AreHanded}
+use Rattle.calls.specs.declared.refusals.TakeRefusal.{TakeRefusal}
+use Rattle.calls.specs.Calls.{TakesIn, TakesNothingIn, FinishesIn, AreHanded}
 use Rattle.calls.specs.Tallies.{IsBeginning}
 use Rattle.calls.specs.Barriers.{Starts, Polls, IsDone, IsQueued, IsFinished}
 use Rattle.scan.specs.declared.refusals.AdvanceRefusal.{AdvanceRefusal}
@@ -52,9 +53,9 @@ module _ {J : Type 0} where
       pub jobs_are : jobs ≡ jobs_of batch.entries
       pub runs : RunsIn d batch f taken f' c'
 
-    -- nothing was ready on processor p, or a batch of it was out
+    -- nothing was ready on processor p; or a batch of it was out, or there was no memory for a job that had come in
     pub record TakesNone (d : DomainView) (p : ℕ) (f : F) (c : CpuView J) (jobs : List J) (f' : F) (c' : CpuView J) : Type 0 where
-      pub found : TakesIn (callbacks_of d) p 8 c.cpu c.calls None c'.cpu c'.calls ⊎ InvokesIn p c.cpu c.calls c'.cpu c'.calls
+      pub found : TakesIn (callbacks_of d) p 8 c.cpu c.calls None c'.cpu c'.calls ⊎ ((refusal : TakeRefusal) × TakesNothingIn p c.cpu c.calls refusal c'.cpu c'.calls)
       pub jobs_are : jobs ≡ []
       pub same : f' ≡ f
 

@@ -96,7 +96,8 @@ fn look_after<R: Wait, J: Drop, A: Allocator + Copy, F: FnMut(J)>(
             count
         }
         Ok(None) => 0,
-        Err(_) => 0, // a batch of the processor is out, and somebody else runs it
+        // A batch of the processor is out, and somebody else runs it; or there was no memory, and what came in waits.
+        Err(_) => 0,
     }
 }
 

@@ -20,7 +20,7 @@ module _ {J : Type 0} where
 
   one_finish : (q n by : ℕ) (act : Act J) → IsTaker n by act → CountsOf q n record { by = by; act = act }
   one_finish q n by (Queue e) h = inl refl
-  one_finish q n by (Take p c max) h = inl refl
+  one_finish q n by (Take p c max moved) h = inl refl
   one_finish q n by (Finish p c) h = made q n record { by = by; act = Finish p c } h
   one_finish q n by (LoadQueued p c) h = inl refl
   one_finish q n by (LoadFinished p c) h = inl refl

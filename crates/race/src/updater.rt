@@ -133,7 +133,7 @@ fn run<R: Wait>(rt: &R, course: &Course, updater: &mut Updater, mut batch: Batch
 }
 
 /// Takes what is ready on the updater's own processor: callbacks are queued there alone. A batch that is out is one of
-/// somebody else, and there is nobody else.
+/// somebody else, and there is nobody else. Where there is no memory for what came in, it waits until the next time.
 fn take<R: Wait>(rt: &R, course: &Course, updater: &mut Updater) -> Option<Batch<()>>
     requires is { IsUpdaterOf course.now updater.old }
     requires tells { Tells updater.old }

@@ -1,6 +1,6 @@
 -- From what a step tells a seat to what a caller of a processor sees.
 use Rattle.std.proofs.Common.{◌≡◌, ℕ, ◌+◌, ◌*◌, ◌%◌, ◌^◌, ◌<◌, ◌≤◌, ◌≢◌, ◌==◌, if◌then◌else◌, Bool, true, false, nat_le, eqb, List, [], ◌∷◌, ◌++◌, None, All, Contains, zero, suc, ⊎_elim, length, length-append, filter, not, ◌&&◌, get_or, set, refl, sym, ap, ◌∙◌, subst, eq-eqb, ne_eqb, leb-true, le-leb, append_assoc, arith, get_or-set_other, get_or-set_same}
-use Rattle.std.proofs.lemmas.List.Elements.{All-head, filter_agree, Contains-append_left, Contains-append_right, Contains-append_cases}
+use Rattle.std.proofs.lemmas.List.Elements.{All-head, All-tail, filter_agree, Contains-append_left, Contains-append_right, Contains-append_cases}
 use mathlib.Core.Logic.{dite}
 use native.Mathlib.Decide.{ℕ_discrete}
 use Rattle.atomic_table.specs.Seated.{TableId}
@@ -19,6 +19,7 @@ use Rattle.sections.specs.declared.view.Role.TheVariants.{Cpu, Driver}
 use Rattle.sections.specs.declared.view.Right.{Right}
 use Rattle.sections.specs.declared.view.Right.TheVariants.{Nothing, Section}
 use Rattle.sections.specs.declared.view.Step.{Step}
+use Rattle.sections.specs.declared.view.Moment.{Moment}
 use Rattle.sections.specs.declared.view.View.{View}
 use Rattle.sections.specs.Words.{is_held, open_readings, locks_at, locks, number_word}
 use Rattle.sections.specs.Rule.{HasItsMaker, GoesOn, moment_of, steps_of, informed, lacking}
@@ -89,6 +90,33 @@ pub adds_cut : (e : Event) (d d' : TableId) (n limit p : ℕ) (v o j w w' : View
     → AddsEvent o.seen o.changes e (seen_as d n limit p v) (seen_as d' n limit p w')
 adds_cut e d d' n limit p v o j w w' same sized is joined cut h =
     subst (λ (z : View). AddsEvent o.seen o.changes e (seen_as d n limit p v) (seen_as d' n limit p z)) (sym cut) (adds_event e d d' n limit p v o j w same sized is joined h)
+
+-- the same, after what two others had seen was handed in: the step is behind the first one too
+pub adds_both : (e : Event) (d d' : TableId) (n limit p : ℕ) (v g o i j w w' : View) → d' ≡ d → v.processors ≡ n → v.role ≡ Cpu p → i ≡ informed v g → j ≡ informed i o → w' ≡ lacking w → Adds j e w
+    → (a : AddsEvent o.seen o.changes e (seen_as d n limit p v) (seen_as d' n limit p w')) × IsBeginning g.seen a.before × (g.changes ≤ w'.changes)
+adds_both e d d' n limit p v g o i j w w' same sized is first second cut h =
+    let joined : j ≡ informed (informed v g) o = second ∙ ap (λ (z : View). informed z o) first in
+    let a : Adds (informed (informed v g) o) e w = subst (λ (z : View). Adds z e w) joined h in
+    let covered : (m : Moment) → Type 0 = λ m. GoesOn m (record { history = a.before; changes = w.changes; texts = [] }) in
+    let last = All-head covered (moment_of o) (moment_of g ∷ v.told) a.covers in
+    let mine = All-head covered (moment_of g) v.told (All-tail covered (moment_of o) (moment_of g ∷ v.told) a.covers) in
+    subst (λ (z : View). (b : AddsEvent o.seen o.changes e (seen_as d n limit p v) (seen_as d' n limit p z)) × IsBeginning g.seen b.before × (g.changes ≤ z.changes)) (sym cut) (
+      record {
+        same = (same, refl, refl, refl);
+        before = a.before;
+        seen = a.seen;
+        since = a.since;
+        later = a.later;
+        covers = last.history;
+        not_before = last.changes;
+        mine = a.mine;
+        steps = ap (steps_of (Processor p)) a.done;
+        texts = a.texts.since;
+        history = history_of n p w (a.processors ∙ sized) (a.role ∙ is) a.sound;
+      },
+      mine.history,
+      mine.changes,
+    )
 
 -- an event with nothing handed in
 pub adds_alone : (e : Event) (d d' : TableId) (n limit p : ℕ) (v w w' : View) → d' ≡ d → v.processors ≡ n → v.role ≡ Cpu p → w' ≡ lacking w → Adds v e w → AddsEvent v.seen v.changes e (seen_as d n limit p v) (seen_as d' n limit p w')

@@ -3,6 +3,7 @@ use Rattle.std.specs.Prelude.{◌≡◌, ℕ, ◌+◌, ◌*◌, ◌^◌, ◌≤�
 use Rattle.atomic_table.specs.Seated.{TableId}
 use Rattle.atomic_table.specs.Table.{Step as TableStep}
 use Rattle.sseq.specs.Numbers.{periods_ended, cookie_at}
+use Rattle.onedom.specs.Histories.{IsBeginning}
 use Rattle.onedom.specs.declared.event.Maker.TheVariants.{Processor}
 use Rattle.onedom.specs.declared.event.Event.{Event}
 use Rattle.onedom.specs.declared.event.Event.TheVariants.{Note, Ask}
@@ -39,6 +40,12 @@ pub record AsksHowFar (number : ℕ) (s : SightView) (c d : CpuView) (s' : Sight
   pub since : number_word c.changes ≤ number
   pub small : number + 4 ≤ 2 ^ 61
   pub sight_is : s' ≡ sight_of d
+
+-- the same, behind all that a second sight had seen too
+pub record AsksHowFarBehind (number : ℕ) (given s : SightView) (c d : CpuView) (s' : SightView) : Type 0 where
+  pub asks : AsksHowFar number s c d s'
+  pub covers : IsBeginning given.seen asks.adds.before
+  pub not_before : given.changes ≤ d.changes
 
 -- load of the number: somebody asks how many periods have ended
 abbrev pub asked_how_far : TableStep (Option ℕ) → Sat → ℕ → Sat → Type 0

@@ -189,6 +189,7 @@ KeepsRest d d' = d' ≡ record d { course = d'.course; lines = d'.lines }
 
 abbrev pub cause_of_taking : TakeRefusal → Cause
 cause_of_taking taking.Invoking = Invoking
+cause_of_taking taking.Memory = Memory
 
 -- nothing is taken, as a cause stands against it
 abbrev pub IsRefusedJobs : Command → ℕ → DomainState → Reply → DomainState → Type 0

@@ -10,6 +10,7 @@ use Rattle.calls.specs.Lines.{Line, line_in}
 use Rattle.domain.specs.Acting.{Act, Acts, ActsAs}
 use Rattle.solo.specs.Calls.{HasSameTables, IsSameDomain, OnList}
 use Rattle.solo.specs.Courses.{Does, after, more_at}
+use Rattle.solo.specs.Insides.{list_in}
 use Rattle.solo.specs.Settling.{HaveMet}
 use Rattle.solo.proofs.Adding.{Did, did_of}
 use Rattle.solo.proofs.Meeting as met
@@ -58,7 +59,7 @@ module _ {J : Type 0} where
     pub line_behind : (x : List (Deed J)) → tallies.IsBeginning t.was.calls.seen x → tallies.IsBeginning x t.now.calls.seen → deeds_of t.was.calls.processor t.now.calls.seen ≡ deeds_of t.was.calls.processor x → (k : ℕ) → k < length t.cpus → line_in k t.meets.calls.deeds ≡ line_in k x
     line_behind = met.line_behind t (what t.p) did_it
 
-    pub on_list : (what t.p).list ≡ Some t.p → (becomes : Line J → Line J → Type 0) → (is : Line J) → line_in t.p t.meets.calls.deeds ≡ is → becomes (line_in t.p t.met.deeds) is → OnList t.p becomes t.s.lines (s' t).lines
+    pub on_list : (what t.p).list ≡ Some t.p → (becomes : Line J → Line J → Type 0) → (is : Line J) → list_in t.p t.meets.calls.deeds ≡ is → becomes (list_in t.p t.met.deeds) is → OnList t.p becomes t.s.lines (s' t).lines
     on_list = met.on_list t (what t.p) did_it
 
     module _ (quiet : (what t.p).list ≡ None) where

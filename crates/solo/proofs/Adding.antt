@@ -119,7 +119,7 @@ module _ {J : Type 0} where
     both_add : Adds (first.deeds ++ second.deeds) was.calls now.calls
     both_add =
         let here = first.adds.same.2 in record {
-          same = (second.adds.same.0 ∙ first.adds.same.0, second.adds.same.1 ∙ first.adds.same.1, second.adds.same.2 ∙ here);
+          same = (second.adds.same.0 ∙ first.adds.same.0, second.adds.same.1 ∙ first.adds.same.1, second.adds.same.2 ∙ here, second.adds.same.3 ∙ first.adds.same.3);
           since = begins_on first.adds.since second.adds.since;
           own = subst (λ q. deeds_of q now.calls.seen ≡ deeds_of q mid.calls.seen ++ second.deeds) here second.adds.own ∙ (ap (λ l. l ++ second.deeds) first.adds.own ∙ append_assoc (deeds_of was.calls.processor was.calls.seen) first.deeds second.deeds);
         }

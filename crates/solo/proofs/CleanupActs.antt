@@ -42,7 +42,7 @@ use Rattle.solo.specs.Calls.{SoloView}
 use Rattle.solo.specs.Cleanup.{whole_of, IsTakenDown, IsInUse}
 use Rattle.solo.specs.Settling.{View, AllHold, AskTogether, TurnTogether, TallyTogether, HaveMet}
 use Rattle.calls.specs.Lines.{no_calls, line_in}
-use Rattle.solo.specs.Insides.{queued_on, finished_on, lines_on, seen_first}
+use Rattle.solo.specs.Insides.{queued_on, finished_on, in_one, list_in, lines_on, seen_first}
 use Rattle.solo.specs.Shelf.{shelf_of}
 use Rattle.solo.proofs.NothingBetween.{IsMaker, nothing_between}
 use Rattle.solo.proofs.Shelving.{shelf_stays}
@@ -248,7 +248,7 @@ module _ {J : Type 0} where
       mid_tally = record {
         seats = λ k c lt.
             let was = met.tally_together.seats k c (within k lt) in
-            (h.each k c (within k lt)).calls ∙ (ap (λ (s : CallSeatView J). record s { seen = deeds }) was ∙ ap (λ n. record { tallies = d.tallies; processors = n; processor = k; seen = deeds }) (sym h.count));
+            (h.each k c (within k lt)).calls ∙ (ap (λ (s : CallSeatView J). record s { seen = deeds }) was ∙ ap (λ n. record { domain = d.domain; tallies = d.tallies; processors = n; processor = k; seen = deeds }) (sym h.count));
         takers = subst (λ n. AreTakers n deeds) (many ∙ sym h.count) deeds_of_all.takers;
       }
 
@@ -275,11 +275,19 @@ module _ {J : Type 0} where
           let was = ap (λ (s : CallSeatView J). s.tallies) (mid_tally.seats 0 nobody there) in
           sym left ∙ (is ∙ was)
 
+      same_home : d'.domain ≡ d.domain
+      same_home =
+          let there : 0 < length mid = within_mid 0 some in
+          let left = (all.here 0 nobody all.some).fits.seat in
+          let is = ap (λ (s : CallSeatView J). s.domain) ((meets.calls.each 0 nobody there).is) in
+          let was = ap (λ (s : CallSeatView J). s.domain) (mid_tally.seats 0 nobody there) in
+          sym left ∙ (is ∙ was)
+
       all_tally : TallyTogether d' tallies_meet.deeds cpus'
-      all_tally = tally_together d d' deeds mid cpus' 0 first first (within_mid 0 some) first_is mid_tally [] (adds_none first.calls first.calls refl) count tallies_meet same_tallies
+      all_tally = tally_together d d' deeds mid cpus' 0 first first (within_mid 0 some) first_is mid_tally [] (adds_none first.calls first.calls refl) count tallies_meet (same_tallies, same_home)
 
       all_on : GoesOnBy (length mid) 0 deeds [] tallies_meet.deeds
-      all_on = goes_on d d' deeds mid cpus' 0 first first (within_mid 0 some) first_is mid_tally [] (adds_none first.calls first.calls refl) count tallies_meet same_tallies
+      all_on = goes_on d d' deeds mid cpus' 0 first first (within_mid 0 some) first_is mid_tally [] (adds_none first.calls first.calls refl) count tallies_meet (same_tallies, same_home)
 
       long : length cpus' ≡ length cpus
       long = meets.count ∙ h.count
@@ -291,7 +299,7 @@ module _ {J : Type 0} where
       finished_are = same_counts 0 finished_in d d' met.deeds tallies_meet.deeds cpus cpus' met.tally_together all_tally long (λ k lt. still_finished (length mid) 0 deeds [] tallies_meet.deeds all_on nothing_done k ∙ same_finished deeds deeds_of_all k)
 
       lines_are : lines_on cpus' ≡ lines_on cpus
-      lines_are = same_counts no_calls line_in d d' met.deeds tallies_meet.deeds cpus cpus' met.tally_together all_tally long (λ k lt. still_line (length mid) 0 deeds [] tallies_meet.deeds all_on nothing_done k (within_mid k lt) ∙ same_line deeds deeds_of_all k lt)
+      lines_are = same_counts no_calls list_in d d' met.deeds tallies_meet.deeds cpus cpus' met.tally_together all_tally long (λ k lt. ap in_one (still_line (length mid) 0 deeds [] tallies_meet.deeds all_on nothing_done k (within_mid k lt) ∙ same_line deeds deeds_of_all k lt))
 
       -- All of it
 

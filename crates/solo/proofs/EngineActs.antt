@@ -41,8 +41,8 @@ use Rattle.domain.specs.Meetings.{IsAllOf, EngineMeets, MeetsHere}
 use Rattle.solo.specs.Calls.{SoloView, IsSameDomain, Starts, StartsNone, StepsOf, Steps, Advances, IsAskedTooMuch}
 use Rattle.solo.specs.Courses.{Course, Works}
 use Rattle.solo.specs.Settling.{View, Holds, AllHold, AskTogether, TurnTogether, TallyTogether, IsWanted, HaveMet}
-use Rattle.calls.specs.Lines.{no_calls, line_in}
-use Rattle.solo.specs.Insides.{queued_on, finished_on, lines_on, seen_as, seen_first}
+use Rattle.calls.specs.Lines.{no_calls}
+use Rattle.solo.specs.Insides.{queued_on, finished_on, in_one, list_in, lines_on, seen_as, seen_first}
 use Rattle.solo.proofs.NothingBetween.{made_by_append}
 use Rattle.solo.proofs.Shelving.{shelf_stays}
 use Rattle.domain.specs.Acting.{GoesOn, Adds}
@@ -374,11 +374,18 @@ module _ {J : Type 0} where
         let was = ap (λ (z : DomainCpu J). z.calls.tallies) t.is ∙ (t.met.all.here 0 t.was some).fits.tallies in
         sym left ∙ (met ∙ (calls_stay.same.0 ∙ was))
 
+    same_home : t.d'.domain ≡ t.d.domain
+    same_home =
+        let left = (t.all.here 0 nobody t.all.some).fits.seat in
+        let met = ap (λ s. s.domain) (t.meets.calls.each 0 nobody within).is ∙ ap (λ (z : DomainCpu J). z.calls.domain) (here nobody) in
+        let was = ap (λ (z : DomainCpu J). z.calls.domain) t.is ∙ (t.met.all.here 0 t.was some).fits.seat in
+        sym left ∙ (met ∙ (calls_stay.same.3 ∙ was))
+
     all_tally : TallyTogether t.d' t.meets.calls.deeds t.cpus'
-    all_tally = tally_together t.d t.d' t.met.deeds t.cpus t.cpus' 0 t.was t.now some t.is t.met.tally_together [] calls_stay t.meets.count t.meets.calls same_tallies
+    all_tally = tally_together t.d t.d' t.met.deeds t.cpus t.cpus' 0 t.was t.now some t.is t.met.tally_together [] calls_stay t.meets.count t.meets.calls (same_tallies, same_home)
 
     deeds_go_on : GoesOnBy (length t.cpus) 0 t.met.deeds [] t.meets.calls.deeds
-    deeds_go_on = goes_on t.d t.d' t.met.deeds t.cpus t.cpus' 0 t.was t.now some t.is t.met.tally_together [] calls_stay t.meets.count t.meets.calls same_tallies
+    deeds_go_on = goes_on t.d t.d' t.met.deeds t.cpus t.cpus' 0 t.was t.now some t.is t.met.tally_together [] calls_stay t.meets.count t.meets.calls (same_tallies, same_home)
 
     same_queued : queued_on t.cpus' ≡ queued_on t.cpus
     same_queued = same_counts 0 queued_in t.d t.d' t.met.deeds t.meets.calls.deeds t.cpus t.cpus' t.met.tally_together all_tally (t.meets.count ∙ long) (still_queued (length t.cpus) 0 t.met.deeds [] t.meets.calls.deeds deeds_go_on nothing_done)
@@ -387,7 +394,7 @@ module _ {J : Type 0} where
     same_finished = same_counts 0 finished_in t.d t.d' t.met.deeds t.meets.calls.deeds t.cpus t.cpus' t.met.tally_together all_tally (t.meets.count ∙ long) (λ k lt. still_finished (length t.cpus) 0 t.met.deeds [] t.meets.calls.deeds deeds_go_on nothing_done k)
 
     same_lines : lines_on t.cpus' ≡ lines_on t.cpus
-    same_lines = same_counts no_calls line_in t.d t.d' t.met.deeds t.meets.calls.deeds t.cpus t.cpus' t.met.tally_together all_tally (t.meets.count ∙ long) (still_line (length t.cpus) 0 t.met.deeds [] t.meets.calls.deeds deeds_go_on nothing_done)
+    same_lines = same_counts no_calls list_in t.d t.d' t.met.deeds t.meets.calls.deeds t.cpus t.cpus' t.met.tally_together all_tally (t.meets.count ∙ long) (λ k lt. ap in_one (still_line (length t.cpus) 0 t.met.deeds [] t.meets.calls.deeds deeds_go_on nothing_done k lt))
 
     abbrev pub before : SoloView J
     before = seen_as t.d.tallies t.limits asked_before (queued_on t.cpus) (finished_on t.cpus) (lines_on t.cpus) t.v

@@ -16,8 +16,8 @@ use Rattle.domain.specs.Making.{IsMade, idle_engine, new_cpu}
 use Rattle.domain.specs.Meetings.{IsAllOf}
 use Rattle.solo.specs.Calls.{IsNew, new_standing}
 use Rattle.solo.specs.Settling.{View, Holds, AreTogether, AskTogether, TurnTogether, TallyTogether, HaveMet}
-use Rattle.calls.specs.Lines.{no_calls, line_in}
-use Rattle.solo.specs.Insides.{queued_on, finished_on, lines_on, seen_first}
+use Rattle.calls.specs.Lines.{no_calls}
+use Rattle.solo.specs.Insides.{queued_on, finished_on, list_in, lines_on, seen_first}
 use Rattle.solo.proofs.Tallying.{none_counted}
 use Rattle.solo.proofs.Hand.{first_seen}
 
@@ -35,7 +35,7 @@ module _ {J : Type 0} where
     all : IsAllOf d cpus
     all = record {
       some = (let some = count.0 in let long = made.count in omega (arith, some, long));
-      here = λ k c lt. subst (λ (z : CpuView J). IsOf d z) (sym (is_new k c lt)) (record { domain = refl; bay = refl; home = refl; free = refl; asks = (k, refl); many = sym made.many; fits = record { domain = refl; tallies = refl; cpu = refl; there = subst (λ n. k < n) (made.count ∙ sym made.many) lt }; number = refl; seats = sym made.many; words = sym made.many });
+      here = λ k c lt. subst (λ (z : CpuView J). IsOf d z) (sym (is_new k c lt)) (record { domain = refl; bay = refl; home = refl; free = refl; asks = (k, refl); many = sym made.many; fits = record { domain = refl; seat = refl; tallies = refl; cpu = refl; there = subst (λ n. k < n) (made.count ∙ sym made.many) lt }; number = refl; seats = sym made.many; words = sym made.many });
       count = λ k c lt. ap (λ (z : CpuView J). z.cpu.processors) (is_new k c lt) ∙ sym made.count;
       order = λ k c lt. ap (λ (z : CpuView J). z.cpu.processor) (is_new k c lt);
       tree = made.tree;
@@ -82,7 +82,7 @@ module _ {J : Type 0} where
 
     tally_together : TallyTogether d [] cpus
     tally_together = record {
-      seats = λ k c lt. ap (λ (z : CpuView J). z.calls) (is_new k c lt) ∙ ap (λ n. record { tallies = d.tallies; processors = n; processor = k; seen = [] }) (sym made.count);
+      seats = λ k c lt. ap (λ (z : CpuView J). z.calls) (is_new k c lt) ∙ ap (λ n. record { domain = d.domain; tallies = d.tallies; processors = n; processor = k; seen = [] }) (sym made.count);
       takers = tt;
     }
 
@@ -96,7 +96,7 @@ module _ {J : Type 0} where
     finished = none_counted 0 finished_in cpus (λ k c lt. ap (λ (z : CpuView J). finished_in z.calls.processor z.calls.seen) (is_new k c lt)) ∙ ap (λ n. replicate n 0) made.count
 
     lines : lines_on cpus ≡ replicate processors no_calls
-    lines = none_counted no_calls line_in cpus (λ k c lt. ap (λ (z : CpuView J). line_in z.calls.processor z.calls.seen) (is_new k c lt)) ∙ ap (λ n. replicate n no_calls) made.count
+    lines = none_counted no_calls list_in cpus (λ k c lt. ap (λ (z : CpuView J). list_in z.calls.processor z.calls.seen) (is_new k c lt)) ∙ ap (λ n. replicate n no_calls) made.count
 
     pub is_new_domain : IsNew limits processors (seen_first d limits cpus)
     is_new_domain = subst (IsNew limits processors) (sym (first_seen d limits cpus engine 0 all.some turn_together.lying (λ c. ap (λ (z : CpuView J). greatest z.needs.seen) (is_new 0 c all.some)))) (record { limits_are = refl; nothing_yet = λ i. record { standing = new_standing limits processors; asked = 0; queued = queued i; finished = finished i }; none_waits = lines; blank = refl; count = count })

@@ -1,6 +1,7 @@
 -- What the calls for the need and for callbacks say of the domain in one hand, beside their acts.
 use Rattle.std.proofs.Common.{◌≡◌, ℕ, ◌*◌, ◌<◌, ◌≤◌, min, List, [], ◌∷◌, ◌++◌, length, get_or, refl, sym, ap, ◌∙◌, subst, arith}
 use Rattle.std.specs.Prelude.{All, true, Option, Some, None, IfSome, IsSome, Result, Ok, Err, MatchResult, IfOk, IfErr, slice_get}
+use Rattle.std.proofs.lemmas.List.{length-drop}
 use Rattle.std.proofs.lemmas.List.Elements.{All-nil, All-weaker}
 use Rattle.sseq.specs.Numbers.{periods_ended}
 use Rattle.onedom.specs.declared.event.Maker.{Maker}
@@ -15,13 +16,14 @@ use Rattle.calls.specs.declared.refusals.CallRefusal.TheVariants as calling
 use Rattle.calls.specs.declared.refusals.TakeRefusal.{TakeRefusal}
 use Rattle.calls.specs.declared.refusals.TakeRefusal.TheVariants as take_refusal
 use Rattle.calls.specs.declared.view.Act.TheVariants.{Queue, Take, Finish}
-use Rattle.calls.specs.Tallies.{deed, queued_in, finished_in, deeds_of, IsBeginning}
+use Rattle.calls.specs.Tallies.{deed, queued_in, finished_in, deeds_of, IsBeginning, AreTrue}
 use Rattle.calls.specs.Views.{CallSeatView, ListKey, ListView, BatchView, ReceiptView}
-use Rattle.calls.specs.Calls.{Does, IsHanded, AreHanded, IsTaken, GivesOut, TakesIn, InvokesIn, FinishesIn, FindsLensIn}
-use Rattle.calls.proofs.CallerLemmas.{begins_itself, begins_on, queued_later, finished_later, called_here, finish_here}
+use Rattle.calls.specs.Calls.{Does, IsHanded, AreHanded, IsTaken, GivesOut, TakesIn, InvokesIn, TakesNothingIn, FinishesIn, FindsLensIn, MovesAll}
+use Rattle.calls.specs.Meetings.{Covers}
+use Rattle.calls.proofs.CallerLemmas.{begins_itself, begins_on, queued_later, finished_later, same_queued, true_beginning, called_here, taken_here, finish_here, moved_all}
 use Rattle.scan.specs.Standings.{number_now}
 use Rattle.segs.specs.MarkedList.{count_done, lens, numbers}
-use Rattle.calls.specs.Lines.{Line, line_in, some_out, with_call, with_none_out, readied}
+use Rattle.calls.specs.Lines.{Line, line_in, some_out, gathered, with_moved, with_call, with_none_out, readied}
 use Rattle.domain.specs.Views.{callbacks_of}
 use Rattle.domain.specs.Waiting.{LoadsNeed}
 use Rattle.domain.specs.Calling.{CallsIn, RefusesCall}
@@ -33,6 +35,8 @@ use Rattle.solo.specs.Calls as call
 use Rattle.solo.specs.Calls.{SoloView, OnList, Queues, QueuesNone, QueuesLast, AreOut, IsGiven, GivesFirst, PutsOut, entries_taken, Takes, TakesNone, HasOut, Finishes, FinishesOut, TellsLens}
 use Rattle.solo.specs.Courses.{Does as CourseDoes, more_at}
 use Rattle.solo.specs.Batches.{AreReady}
+use Rattle.solo.specs.Insides.{in_one, list_in}
+use Rattle.solo.proofs.Listed.{called_last, whole_list, gathered_whole}
 use Rattle.solo.specs.Taking.{TakesBatch, TakesUp}
 use Rattle.solo.proofs.Acted.{Hand, s', deeds_were, queued_were, queued_found, finished_were, finished_found, line_found, queued_now, line_now, line_before, line_behind, line_quiet, on_list, same_lines, seen_by_all, seen_now, tallies_are, reaches_were, changes_are, root_is, does}
 use Rattle.solo.proofs.Called.{Says, SaysOnList, says, says_on_list, still}
@@ -114,8 +118,9 @@ module _ {J : Type 0} where
           let e : Entry J = record { job = job; cookie = r.cookie } in
           let q = h.queues.queues.tally in
           let before = line_before t what did q.before q.since record { rest = _ ∷ []; whole = q.seen } q.own t.p t.inside in
-          on_list t what did refl (QueuesLast job r.cookie.number) (with_call e (line_in t.p t.met.deeds))
-          (line_now t what did t.p t.inside ∙ (ap (line_in t.p) q.seen ∙ (ap (λ b. line_in t.p (q.before ++ deed b (Queue e) ∷ [])) own_number ∙ (called_here t.p e q.before ∙ ap (with_call e) before))))
+          let was : Line J = list_in t.p t.met.deeds in
+          on_list t what did refl (QueuesLast job r.cookie.number) (record was { waiting = with_moved e was.waiting })
+          (ap in_one (line_now t what did t.p t.inside ∙ (ap (line_in t.p) q.seen ∙ (ap (λ b. line_in t.p (q.before ++ deed b (Queue e) ∷ [])) own_number ∙ (called_here t.p e q.before ∙ ap (with_call e) before)))) ∙ called_last e (line_in t.p t.met.deeds))
           (e, refl, refl, refl)
 
       queued_says : (r : ReceiptView J) → CallsIn t.d t.was job r t.now → ActsAs (asks_for r.cookie.number 1) t.was t.now
@@ -181,7 +186,7 @@ module _ {J : Type 0} where
       abbrev given : GivesOut most h.list t.was.cpu t.was.calls h.takes.gone h.list' t.now.cpu x
       given = h.takes.gives
 
-      abbrev taking : Does (Take h.list.processor given.number most) t.was.calls x
+      abbrev taking : Does (Take h.list.processor given.number most h.list.moved) t.was.calls x
       taking = given.tally
 
       mine : h.list.processor ≡ t.p
@@ -192,23 +197,40 @@ module _ {J : Type 0} where
 
       -- the list as it was found, and as it was left
       abbrev found_list : Line J
-      found_list = record { out = h.list.out; waiting = h.list.entries }
+      found_list = record { out = h.list.out; waiting = h.list.entries; coming = [] }
 
       abbrev left_list : Line J
-      left_list = record { out = h.list'.out; waiting = h.list'.entries }
+      left_list = record { out = h.list'.out; waiting = h.list'.entries; coming = [] }
 
       behind_it : IsBeginning t.was.calls.seen x.seen
       behind_it = begins_on taking.since record { rest = _ ∷ []; whole = taking.seen }
 
-      was_found : line_in t.p t.met.deeds ≡ found_list
+      true_before : AreTrue taking.before
+      true_before = true_beginning (record { rest = _ ∷ []; whole = taking.seen }) taking.loads
+
+      -- nobody else queued anything there meanwhile, so all that came in were moved
+      all_came : h.list.moved ≡ length (line_in t.p taking.before).coming
+      all_came = moved_all t.p h.list.moved t.was.calls.seen taking.before true_before (subst (λ q. MovesAll q h.list.moved t.was.calls.seen taking.before) mine h.takes.all)
+          (subst (λ q. queued_in q t.was.calls.seen ≡ queued_in q taking.before) own_number (sym (same_queued t.was.calls.processor taking.before t.was.calls.seen taking.own)))
+
+      was_found : list_in t.p t.met.deeds ≡ found_list
       was_found =
-          sym (line_before t what did taking.before taking.since (begins_on (record { rest = _ ∷ []; whole = taking.seen }) since) taking.own t.p t.inside)
-          ∙ subst (λ q. line_in q taking.before ≡ found_list) mine given.was.line
+          ap in_one (sym (line_before t what did taking.before taking.since (begins_on (record { rest = _ ∷ []; whole = taking.seen }) since) taking.own t.p t.inside))
+          ∙ whole_list t.p taking.before h.list mine given.was all_came
 
-      is_left : line_in t.p x.seen ≡ left_list
-      is_left = subst (λ q. line_in q x.seen ≡ left_list) mine_still given.is.line
+      -- so nothing is left of that
+      none_left : length (line_in t.p x.seen).coming ≡ 0
+      none_left =
+          let seen : x.seen ≡ taking.before ++ deed t.was.calls.processor (Take t.p given.number most h.list.moved) ∷ [] = taking.seen ∙ ap (λ q. taking.before ++ deed t.was.calls.processor (Take q given.number most h.list.moved) ∷ []) mine in
+          let line = ap (line_in t.p) seen ∙ taken_here t.p given.number most h.list.moved taking.before t.was.calls.processor in
+          let long = length-drop h.list.moved (line_in t.p taking.before).coming in
+          ap (λ (k : Line J). length k.coming) line ∙ omega (arith, long, all_came)
 
-      gives_first : GivesFirst far_now most (entries_taken taken) (line_in t.p t.met.deeds) left_list
+      is_left : list_in t.p x.seen ≡ left_list
+      is_left = whole_list t.p x.seen h.list' mine_still given.is
+          (let few : h.list'.moved ≤ length (line_in t.p x.seen).coming = subst (λ q. h.list'.moved ≤ length (line_in q x.seen).coming) mine_still given.is.few in let none = none_left in omega (arith, few, none))
+
+      gives_first : GivesFirst far_now most (entries_taken taken) (list_in t.p t.met.deeds) left_list
       gives_first =
           let number : given.number ≡ far_now = given.asks.current ∙ ap number_word (changes_are t what did) in
           subst (λ (k : Line J). GivesFirst far_now most (entries_taken taken) k left_list) (sym was_found)
@@ -220,12 +242,12 @@ module _ {J : Type 0} where
 
       module _ (own : deeds_of t.was.calls.processor t.now.calls.seen ≡ deeds_of t.was.calls.processor x.seen) (same : (what t.p).list ≡ Some t.p) where
         left_then : OnList t.p (PutsOut far_now most (entries_taken taken)) t.s.lines (s' t).lines
-        left_then = on_list t what did same _ left_list (line_behind t what did x.seen behind_it since own t.p t.inside ∙ is_left) (record { gives = gives_first; out = out_then })
+        left_then = on_list t what did same _ left_list (ap in_one (line_behind t what did x.seen behind_it since own t.p t.inside) ∙ is_left) (record { gives = gives_first; out = out_then })
 
     -- a batch is out
     has_out : InvokesIn t.p t.was.cpu t.was.calls t.now.cpu t.now.calls → ActsAs loads t.was t.now → HasOut t.p t.s.lines
     has_out h did = record {
-      list = line_in t.p t.met.deeds;
+      list = list_in t.p t.met.deeds;
       there = line_found t t.p t.inside;
       out = subst (λ (k : Line J). IsSome k.out) (sym (line_now t loads did t.p t.inside) ∙ line_quiet t loads did refl t.p t.inside) h.out;
     }
@@ -262,10 +284,11 @@ module _ {J : Type 0} where
         lists (Some b) h = left_then most (Some b) h.behind h.takes h.since (takes t.now.cpu.changes t.p) did h.own refl
 
     -- nothing is taken, and why
-    none_taken : (why : TakeRefusal) → InvokesIn t.p t.was.cpu t.was.calls t.now.cpu t.now.calls → ActsAs loads t.was t.now → TakesNone t.p why t.s.lines
+    none_taken : (why : TakeRefusal) → TakesNothingIn t.p t.was.cpu t.was.calls why t.now.cpu t.now.calls → ActsAs loads t.was t.now → TakesNone t.p why t.s.lines
     none_taken take_refusal.Invoking h did = has_out h did
+    none_taken take_refusal.Memory h did = tt
 
-    pub take_says : (most : ℕ) → t.p < t.s.course.standing.processors → (r : Result (Option (BatchView J)) TakeRefusal) → MatchResult r (λ taken. TakesUp t.d t.p most taken t.was t.now) (λ _. InvokesIn t.p t.was.cpu t.was.calls t.now.cpu t.now.calls)
+    pub take_says : (most : ℕ) → t.p < t.s.course.standing.processors → (r : Result (Option (BatchView J)) TakeRefusal) → MatchResult r (λ taken. TakesUp t.d t.p most taken t.was t.now) (λ refusal. TakesNothingIn t.p t.was.cpu t.was.calls refusal t.now.cpu t.now.calls)
         → MatchResult r (λ _. ActsAs (takes t.now.cpu.changes t.p) t.was t.now) (λ _. ActsAs loads t.was t.now) → SaysOnList t (MatchResult r (λ taken. Takes t.p most taken t.s (s' t)) (λ why. TakesNone t.p why t.s.lines × (s' t ≡ t.s)))
     take_says most small (Ok taken) h did = taken_says most taken h did small
     take_says most small (Err why) h did = says_on_list t loads did refl _ (none_taken why h did, still t did)
@@ -279,10 +302,10 @@ module _ {J : Type 0} where
           let f = h.finishes.tally in
           let before = line_before t what did f.before f.since record { rest = _ ∷ []; whole = f.seen } f.own t.p t.inside in
           let mine : h.list.processor ≡ t.p = ap (λ (k : ListKey). k.processor) h.of_calls ∙ at in
-          let was : line_in t.p f.before ≡ record { out = h.list.out; waiting = h.list.entries } = subst (λ q. line_in q f.before ≡ record { out = h.list.out; waiting = h.list.entries }) mine h.finishes.was.line in
-          subst (λ q. OnList q (FinishesOut b.count) t.s.lines (s' t).lines) (sym at) (on_list t what did (ap Some at) (FinishesOut b.count) (with_none_out (line_in t.p t.met.deeds))
-          (line_now t what did t.p t.inside ∙ (ap (line_in t.p) f.seen ∙ (ap (λ q. line_in t.p (f.before ++ deed t.was.calls.processor (Finish q b.count) ∷ [])) at ∙ (finish_here t.p b.count f.before t.was.calls.processor ∙ ap (λ k. with_none_out k) before))))
-          (ap (λ (k : Line J). k.out) (sym before ∙ was) ∙ h.finishes.was_out, refl))
+          let was : h.list.out ≡ (line_in t.p f.before).out = subst (λ q. h.list.out ≡ (line_in q f.before).out) mine h.finishes.was.out in
+          subst (λ q. OnList q (FinishesOut b.count) t.s.lines (s' t).lines) (sym at) (on_list t what did (ap Some at) (FinishesOut b.count) (with_none_out (list_in t.p t.met.deeds))
+          (ap in_one (line_now t what did t.p t.inside ∙ (ap (line_in t.p) f.seen ∙ (ap (λ q. line_in t.p (f.before ++ deed t.was.calls.processor (Finish q b.count) ∷ [])) at ∙ (finish_here t.p b.count f.before t.was.calls.processor ∙ ap (λ k. with_none_out k) before)))))
+          (ap (λ (k : Line J). k.out) (sym before) ∙ (sym was ∙ h.finishes.was_out), refl))
 
       pub finish_says : SaysOnList t (Finishes b.processor b.count t.s.course (s' t).course × OnList b.processor (FinishesOut b.count) t.s.lines (s' t).lines)
       finish_says = says_on_list t (finishes b.processor b.count) did refl _ (
@@ -299,8 +322,10 @@ module _ {J : Type 0} where
     found_lens : (found : List ℕ × List ℕ) → FindsLensIn t.p t.was.calls found t.now.calls → TellsLens t.p t.s.lines found
     found_lens found h =
         let same : line_in t.p t.now.calls.seen ≡ line_in t.p t.met.deeds = sym (line_now t loads did t.p t.inside) ∙ line_quiet t loads did refl t.p t.inside in
-        record { list = line_in t.p t.met.deeds; there = line_found t t.p t.inside; told_is = h.found_is ∙ ap (λ (k : Line J). (lens k.waiting, numbers k.waiting)) same }
+        let queued = subst (λ q. queued_in q t.was.calls.seen ≡ queued_in q t.now.calls.seen) (own_number t) (sym (same_queued t.was.calls.processor t.now.calls.seen t.was.calls.seen h.covers.own)) in
+        let all = gathered_whole (line_in t.p t.now.calls.seen) h.moved (moved_all t.p h.moved t.was.calls.seen t.now.calls.seen h.covers.loads h.all queued) in
+        record { list = list_in t.p t.met.deeds; there = line_found t t.p t.inside; told_is = h.found_is ∙ ap (λ (k : Line J). (lens k.waiting, numbers k.waiting)) (all ∙ ap in_one same) }
 
-    pub lens_says : {E : Type 0} (r : Result (List ℕ × List ℕ) E) → IfOk r (λ found. FindsLensIn t.p t.was.calls found t.now.calls) → Says t ((s' t ≡ t.s) × IfOk r (TellsLens t.p t.s.lines))
+    pub lens_says : {E : Type 0} (r : Result (List ℕ × List ℕ) E) → MatchResult r (λ found. FindsLensIn t.p t.was.calls found t.now.calls) (λ _. Covers t.was.calls t.was.calls.seen t.now.calls) → Says t ((s' t ≡ t.s) × IfOk r (TellsLens t.p t.s.lines))
     lens_says (Ok found) h = says t loads did refl refl _ (still t did, found_lens found h)
     lens_says (Err e) h = says t loads did refl refl _ (still t did, tt)

@@ -18,6 +18,7 @@ mod Chained
 mod Changed
 mod Tabled
 mod BatchActs
+mod Listed
 mod Jobs
 mod Barriers
 mod CleanupActs

@@ -33,7 +33,7 @@ use Rattle.solo.specs.Calls.{SoloView, HasSameTables, IsSameDomain, OnList}
 use Rattle.domain.specs.Acting.{Act}
 use Rattle.solo.specs.Courses.{after, with_asked, more_at, with_events, Does}
 use Rattle.solo.specs.Settling.{View, Holds, AllHold, AreTogether, AskTogether, TurnTogether, TallyTogether, HaveMet}
-use Rattle.solo.specs.Insides.{queued_on, finished_on, lines_on, seen_as, seen_first}
+use Rattle.solo.specs.Insides.{queued_on, finished_on, in_one, list_in, lines_on, seen_as, seen_first}
 use Rattle.solo.proofs.Hand.{first_seen, now_is, is_inside}
 use Rattle.solo.proofs.Needing.{squeezed, raised_here}
 use Rattle.solo.proofs.Tallying.{GoesOnBy, finished_are, queued_here, queued_else, lines_are, at_moment, count_at, found_at, one_count, same_counts, goes_on, tally_together}
@@ -117,7 +117,7 @@ module _ {J : Type 0} where
     pub changes_were : t.was.cpu.changes ≡ t.s.course.standing.changes
     changes_were = ap (λ (x : CpuView J). x.cpu.changes) t.is ∙ (t.met.together.changes t.p t.was t.inside ∙ sym (ap (λ (x : SoloView J). x.course.standing.changes) view_is))
 
-    pub deeds_were : t.was.calls ≡ record { tallies = t.d.tallies; processors = length t.cpus; processor = t.p; seen = t.met.deeds }
+    pub deeds_were : t.was.calls ≡ record { domain = t.d.domain; tallies = t.d.tallies; processors = length t.cpus; processor = t.p; seen = t.met.deeds }
     deeds_were = ap (λ (x : CpuView J). x.calls) t.is ∙ t.met.tally_together.seats t.p t.was t.inside
 
     pub queued_were : (k : ℕ) → k < length t.cpus → get_or t.s.course.queued k 0 ≡ queued_in k t.met.deeds
@@ -132,8 +132,8 @@ module _ {J : Type 0} where
     pub finished_found : (k : ℕ) → k < length t.cpus → slice_get t.s.course.finished k ≡ Some (get_or t.s.course.finished k 0)
     finished_found k lt = ap (λ (x : SoloView J). slice_get x.course.finished k) view_is ∙ (found_at 0 finished_in t.d t.met.deeds t.cpus t.met.tally_together k lt ∙ ap Some (sym (finished_were k lt)))
 
-    pub line_found : (k : ℕ) → k < length t.cpus → slice_get t.s.lines k ≡ Some (line_in k t.met.deeds)
-    line_found k lt = ap (λ (x : SoloView J). slice_get x.lines k) view_is ∙ found_at no_calls line_in t.d t.met.deeds t.cpus t.met.tally_together k lt
+    pub line_found : (k : ℕ) → k < length t.cpus → slice_get t.s.lines k ≡ Some (list_in k t.met.deeds)
+    line_found k lt = ap (λ (x : SoloView J). slice_get x.lines k) view_is ∙ found_at no_calls list_in t.d t.met.deeds t.cpus t.met.tally_together k lt
 
     pub queued_long : length t.s.course.queued ≡ length t.cpus
     queued_long = ap (λ (x : SoloView J). length x.course.queued) view_is ∙ length-map t.cpus (λ c. queued_in c.calls.processor c.calls.seen)
@@ -213,14 +213,21 @@ module _ {J : Type 0} where
           let was = ap (λ (z : CpuView J). z.calls.tallies) t.is ∙ (t.met.all.here t.p t.was t.inside).fits.tallies in
           sym left ∙ (met ∙ (acts.adds.same.0 ∙ was))
 
+      same_home : t.d'.domain ≡ t.d.domain
+      same_home =
+          let left = (t.all.here t.p t.was (omega (arith, count, within))).fits.seat in
+          let met = ap (λ s. s.domain) (t.meets.calls.each t.p t.was within).is ∙ ap (λ (z : CpuView J). z.calls.domain) (here t.was) in
+          let was = ap (λ (z : CpuView J). z.calls.domain) t.is ∙ (t.met.all.here t.p t.was t.inside).fits.seat in
+          sym left ∙ (met ∙ (acts.adds.same.3 ∙ was))
+
       abbrev deeds_after : List (Deed J)
       deeds_after = t.meets.calls.deeds
 
       all_tally : TallyTogether t.d' deeds_after t.cpus'
-      all_tally = tally_together t.d t.d' t.met.deeds t.cpus t.cpus' t.p t.was t.now t.inside t.is t.met.tally_together acts.deeds acts.adds count t.meets.calls same_tallies
+      all_tally = tally_together t.d t.d' t.met.deeds t.cpus t.cpus' t.p t.was t.now t.inside t.is t.met.tally_together acts.deeds acts.adds count t.meets.calls (same_tallies, same_home)
 
       on : GoesOnBy (length t.cpus) t.p t.met.deeds acts.deeds deeds_after
-      on = goes_on t.d t.d' t.met.deeds t.cpus t.cpus' t.p t.was t.now t.inside t.is t.met.tally_together acts.deeds acts.adds count t.meets.calls same_tallies
+      on = goes_on t.d t.d' t.met.deeds t.cpus t.cpus' t.p t.was t.now t.inside t.is t.met.tally_together acts.deeds acts.adds count t.meets.calls (same_tallies, same_home)
 
       queued_after : queued_on t.cpus' ≡ more_at t.p a.queued (queued_on t.cpus)
       queued_after =
@@ -433,13 +440,13 @@ module _ {J : Type 0} where
           ∙ sym (lines_are (length t.cpus) t.p t.met.deeds acts.deeds x (moment x low (begins_on high seen_by_all) acts.deeds (sym own ∙ acts.adds.own)) k lt)
 
       -- one list is another, and no other one
-      pub on_list : a.list ≡ Some t.p → (becomes : Line J → Line J → Type 0) → (is : Line J) → line_in t.p deeds_after ≡ is → becomes (line_in t.p t.met.deeds) is → OnList t.p becomes t.s.lines s'.lines
+      pub on_list : a.list ≡ Some t.p → (becomes : Line J → Line J → Type 0) → (is : Line J) → list_in t.p deeds_after ≡ is → becomes (list_in t.p t.met.deeds) is → OnList t.p becomes t.s.lines s'.lines
       on_list mine becomes is found so = record {
-        was = line_in t.p t.met.deeds;
+        was = list_in t.p t.met.deeds;
         is = is;
         there = line_found t.p t.inside;
         becomes_so = so;
-        rest = all_lines ∙ (one_count no_calls line_in t.d t.d' t.met.deeds deeds_after t.cpus t.cpus' t.met.tally_together all_tally (count ∙ long) t.p is (λ there. found) (λ k lt other. line_else k lt (λ same. other (same_some k (sym (sym mine ∙ same))))) ∙ ap (λ l. set l t.p is) (sym old_lines));
+        rest = all_lines ∙ (one_count no_calls list_in t.d t.d' t.met.deeds deeds_after t.cpus t.cpus' t.met.tally_together all_tally (count ∙ long) t.p is (λ there. found) (λ k lt other. ap in_one (line_else k lt (λ same. other (same_some k (sym (sym mine ∙ same)))))) ∙ ap (λ l. set l t.p is) (sym old_lines));
       }
         where
           same_some : (k : ℕ) → Some k ≡ Some t.p → k ≡ t.p
@@ -447,7 +454,7 @@ module _ {J : Type 0} where
 
       module _ (quiet : a.list ≡ None) where
         lines_stay : lines_on t.cpus' ≡ lines_on t.cpus
-        lines_stay = same_counts no_calls line_in t.d t.d' t.met.deeds deeds_after t.cpus t.cpus' t.met.tally_together all_tally (count ∙ long) (λ k lt. line_else k lt (λ some. nothing k (sym quiet ∙ some)))
+        lines_stay = same_counts no_calls list_in t.d t.d' t.met.deeds deeds_after t.cpus t.cpus' t.met.tally_together all_tally (count ∙ long) (λ k lt. ap in_one (line_else k lt (λ some. nothing k (sym quiet ∙ some))))
           where
             nothing : (k : ℕ) → None ≡ Some k → ⊥
             nothing k e = cc

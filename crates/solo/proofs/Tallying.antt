@@ -54,7 +54,7 @@ module _ {J : Type 0} where
 
   finishes_none : (n q by : ℕ) (act : Act J) → IsTaker n by act → (by < n → ⊥) → finished_by q act ≡ 0
   finishes_none n q by (Queue e) h away = refl
-  finishes_none n q by (Take p number max) h away = refl
+  finishes_none n q by (Take p number max moved) h away = refl
   finishes_none n q by (Finish p k) h away = absurd (away h)
   finishes_none n q by (LoadQueued p k) h away = refl
   finishes_none n q by (LoadFinished p k) h away = refl
@@ -72,7 +72,7 @@ module _ {J : Type 0} where
   -- one that isn't there leaves each list of those that are
   away_none : (n q by : ℕ) (act : Act J) (l : Line J) → q < n → IsTaker n by act → (by < n → ⊥) → next_line q by act l ≡ l
   away_none n q by (Queue e) l lt h away = ap (λ (b : Bool). if b then with_call e l else l) (ne_eqb by q (λ same. away (omega (arith, same, lt))))
-  away_none n q by (Take p number max) l lt h away = absurd (away h)
+  away_none n q by (Take p number max moved) l lt h away = absurd (away h)
   away_none n q by (Finish p k) l lt h away = absurd (away h)
   away_none n q by (LoadQueued p k) l lt h away = refl
   away_none n q by (LoadFinished p k) l lt h away = refl
@@ -194,8 +194,8 @@ module _ {J : Type 0} where
 
   -- one of them acted, and then all met
   module _ (d d' : DomainView) (before : List (Deed J)) (cpus cpus' : List (CpuView J)) (p : ℕ) (was now : CpuView J) (inside : p < length cpus) (is : was ≡ get_or cpus p was) (together : TallyTogether d before cpus) (act : List (Deed J)) (adds : Adds act was.calls now.calls)
-      (count : length cpus' ≡ length (set cpus p now)) (meets : TalliesMeet (set cpus p now) cpus') (same : d'.tallies ≡ d.tallies) where
-    was_is : was.calls ≡ record { tallies = d.tallies; processors = length cpus; processor = p; seen = before }
+      (count : length cpus' ≡ length (set cpus p now)) (meets : TalliesMeet (set cpus p now) cpus') (same : (d'.tallies ≡ d.tallies) × (d'.domain ≡ d.domain)) where
+    was_is : was.calls ≡ record { domain = d.domain; tallies = d.tallies; processors = length cpus; processor = p; seen = before }
     was_is = ap (λ (z : CpuView J). z.calls) is ∙ together.seats p was inside
 
     within : (k : ℕ) → k < length cpus → k < length (set cpus p now)
@@ -204,7 +204,7 @@ module _ {J : Type 0} where
     accepts_here : (c : CpuView J) → Accepts now.calls meets.deeds (get_or cpus' p c).calls
     accepts_here c = subst (λ (z : CpuView J). Accepts z.calls meets.deeds (get_or cpus' p c).calls) (get_or-set_same cpus p now c inside) (meets.each p c (within p inside))
 
-    accepts_else : (k : ℕ) (c : CpuView J) → k < length cpus → k ≢ p → Accepts (record { tallies = d.tallies; processors = length cpus; processor = k; seen = before }) meets.deeds (get_or cpus' k c).calls
+    accepts_else : (k : ℕ) (c : CpuView J) → k < length cpus → k ≢ p → Accepts (record { domain = d.domain; tallies = d.tallies; processors = length cpus; processor = k; seen = before }) meets.deeds (get_or cpus' k c).calls
     accepts_else k c lt other = subst (λ (s : CallSeatView J). Accepts s meets.deeds (get_or cpus' k c).calls) (ap (λ (z : CpuView J). z.calls) (get_or-set_other cpus p k now c other) ∙ together.seats k c lt) (meets.each k c (within k lt))
 
     pub goes_on : GoesOnBy (length cpus) p before act meets.deeds
@@ -225,13 +225,14 @@ module _ {J : Type 0} where
           let there : k < length cpus = omega (arith, count, length-set cpus p now, lt) in
           let long : length cpus ≡ length cpus' = sym (count ∙ length-set cpus p now) in
           dite (ℕ_discrete k p)
-          (λ at. subst (λ q. (get_or cpus' q c).calls ≡ record { tallies = d'.tallies; processors = length cpus'; processor = q; seen = meets.deeds }) (sym at)
+          (λ at. subst (λ q. (get_or cpus' q c).calls ≡ record { domain = d'.domain; tallies = d'.tallies; processors = length cpus'; processor = q; seen = meets.deeds }) (sym at)
           ((accepts_here c).is ∙ (λ i. record {
-            tallies = (adds.same.0 ∙ (ap (λ (s : CallSeatView J). s.tallies) was_is ∙ sym same)) i;
+            domain = (adds.same.3 ∙ (ap (λ (s : CallSeatView J). s.domain) was_is ∙ sym same.1)) i;
+            tallies = (adds.same.0 ∙ (ap (λ (s : CallSeatView J). s.tallies) was_is ∙ sym same.0)) i;
             processors = (adds.same.1 ∙ (ap (λ (s : CallSeatView J). s.processors) was_is ∙ long)) i;
             processor = (adds.same.2 ∙ ap (λ (s : CallSeatView J). s.processor) was_is) i;
             seen = meets.deeds;
           })))
-          (λ other. (accepts_else k c there other).is ∙ (λ i. record { tallies = sym same i; processors = long i; processor = k; seen = meets.deeds }));
+          (λ other. (accepts_else k c there other).is ∙ (λ i. record { domain = sym same.1 i; tallies = sym same.0 i; processors = long i; processor = k; seen = meets.deeds }));
       takers = subst (λ k. AreTakers k meets.deeds) (sym count) meets.takers;
     }

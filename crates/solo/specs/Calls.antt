@@ -15,7 +15,7 @@ use Rattle.calls.specs.declared.refusals.CallRefusal.{CallRefusal}
 use Rattle.calls.specs.declared.refusals.CallRefusal.TheVariants as calling
 use Rattle.calls.specs.declared.refusals.TakeRefusal.{TakeRefusal}
 use Rattle.calls.specs.declared.refusals.TakeRefusal.TheVariants as taking
-use Rattle.calls.specs.Lines.{Line, no_calls, some_out, with_call, with_none_out, readied, many_ready}
+use Rattle.calls.specs.Lines.{Line, no_calls, some_out, with_moved, with_none_out, readied, many_ready}
 use Rattle.calls.specs.Tallies.{most_calls}
 use Rattle.calls.specs.Views.{BatchView}
 use Rattle.scan.specs.declared.progress.Progress.{Progress}
@@ -29,7 +29,7 @@ use Rattle.solo.specs.Courses.{Course, Does, Works}
 use Rattle.solo.specs.Batches.{AreReady}
 use Rattle.solo.specs.Shelf.{Shelf, blank_shelf}
 
--- `table` tells which looks and readings are of this domain, and `tallies` which batches; `course` is how far it has come. `lines` is the list of each processor in order: the jobs that wait there, with their marks, and how many are out. `shelf` is what is current in each cell
+-- `table` tells which looks and readings are of this domain, and `tallies` which batches; `course` is how far it has come. `lines` is the list of each processor in order: the jobs that were queued there and not given out, with the marks that they have as soon as all are moved to the list, and how many are out. `shelf` is what is current in each cell
 pub record SoloView (J : Type 0) : Type 0 where
   pub table : TableId
   pub limits : Limits
@@ -153,9 +153,9 @@ pub record Finishes (p count : ℕ) (c c' : Course) : Type 0 where
 -- Lists and batches
 
 module _ {J : Type 0} where
-  -- the job comes last, with a cookie of this number
+  -- the job comes last, with a cookie of this number, and what has no number gets this one
   abbrev pub QueuesLast : J → ℕ → Line J → Line J → Type 0
-  QueuesLast job cookie was is = (e : Entry J) × (e.job ≡ job) × (e.cookie.number ≡ cookie) × (is ≡ with_call e was)
+  QueuesLast job cookie was is = (e : Entry J) × (e.job ≡ job) × (e.cookie.number ≡ cookie) × (is ≡ record was { waiting = with_moved e was.waiting })
 
   -- the batch is of this domain, and of this processor
   pub record IsBatchOf (d : SoloView J) (p : ℕ) (b : BatchView J) : Type 0 where
@@ -199,9 +199,10 @@ module _ {J : Type 0} where
     pub there : slice_get lines p ≡ Some list
     pub out : IsSome list.out
 
-  -- why nothing is taken: a batch of the processor is out
+  -- why nothing is taken: a batch of the processor is out; or memory is
   abbrev pub TakesNone : ℕ → TakeRefusal → List (Line J) → Type 0
   TakesNone p taking.Invoking lines = HasOut p lines
+  TakesNone p taking.Memory lines = Unit {0}
 
   -- the batch was the one that is out, and none is then
   abbrev pub FinishesOut : ℕ → Line J → Line J → Type 0

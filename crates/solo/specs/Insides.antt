@@ -5,7 +5,8 @@ use Rattle.sections.specs.declared.limits.Limits.{Limits}
 use Rattle.funnel.specs.Histories.{greatest}
 use Rattle.desk.specs.BayCalls.{lies}
 use Rattle.scan.specs.Progress.{standing_of}
-use Rattle.calls.specs.Lines.{Line, line_in}
+use Rattle.calls.specs.declared.view.Deed.{Deed}
+use Rattle.calls.specs.Lines.{Line, all_moved, line_in}
 use Rattle.calls.specs.Tallies.{queued_in, finished_in}
 use Rattle.domain.specs.Views.{DomainView, CpuView}
 use Rattle.solo.specs.declared.solo.Solo.TheInside as solo
@@ -22,9 +23,17 @@ module _ {J : Type 0} where
   abbrev pub finished_on : List (CpuView J) → List ℕ
   finished_on cpus = map (λ c. finished_in c.calls.processor c.calls.seen) cpus
 
+  -- the same list, where all that came in is moved behind those that wait
+  abbrev pub in_one : Line J → Line J
+  in_one l = record { out = l.out; waiting = all_moved l.coming l.waiting; coming = [] }
+
+  -- the list of a processor, where this was done: what was queued there and was not given out
+  abbrev pub list_in : ℕ → List (Deed J) → Line J
+  list_in p deeds = in_one (line_in p deeds)
+
   -- the list of each
   abbrev pub lines_on : List (CpuView J) → List (Line J)
-  lines_on cpus = map (λ c. line_in c.calls.processor c.calls.seen) cpus
+  lines_on cpus = map (λ c. list_in c.calls.processor c.calls.seen) cpus
 
   -- with these tally words, this asked for, these calls, and this engine
   abbrev pub seen_as : TableId → Limits → ℕ → List ℕ → List ℕ → List (Line J) → View → SoloView J

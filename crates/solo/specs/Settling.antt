@@ -82,7 +82,7 @@ module _ {J : Type 0} where
 
   -- all processors have seen just these deeds at the domain's tally words, each at its own seat, and all batches were finished by these processors
   pub record TallyTogether (d : DomainView) (deeds : List (Deed J)) (cpus : List (CpuView J)) : Type 0 where
-    pub seats : (k : ℕ) (c : CpuView J) → k < length cpus → (slice_index_or cpus k c).calls ≡ record { tallies = d.tallies; processors = length cpus; processor = k; seen = deeds }
+    pub seats : (k : ℕ) (c : CpuView J) → k < length cpus → (slice_index_or cpus k c).calls ≡ record { domain = d.domain; tallies = d.tallies; processors = length cpus; processor = k; seen = deeds }
     pub takers : AreTakers (length cpus) deeds
 
   -- All of it

@@ -1,6 +1,6 @@
 //! Taking a batch of a domain in one hand.
 ghost use Rattle.std.specs.Prelude.{◌<◌, MatchResult};
-ghost use Rattle.calls.specs.Calls.{InvokesIn};
+ghost use Rattle.calls.specs.Calls.{TakesNothingIn};
 ghost use Rattle.domain.specs.Views.{IsOf};
 ghost use Rattle.domain.specs.Acting.{loads, takes, ActsAs};
 ghost use Rattle.solo.specs.Taking.{TakesUp};
@@ -22,7 +22,7 @@ pub(crate) fn take_out<J: Drop, A: Allocator + Copy>(
     requires processor { processor < domain.now.processors }
     ensures here { IsOf domain.now cpu.new }
     ensures acts { MatchResult result (λ _. ActsAs (takes cpu.new.cpu.changes processor) cpu.old cpu.new) (λ _. ActsAs loads cpu.old cpu.new) }
-    ensures taken { MatchResult result (λ taken. TakesUp domain.now processor max taken cpu.old cpu.new) (λ _. InvokesIn processor cpu.old.cpu cpu.old.calls cpu.new.cpu cpu.new.calls) }
+    ensures taken { MatchResult result (λ taken. TakesUp domain.now processor max taken cpu.old cpu.new) (λ refusal. TakesNothingIn processor cpu.old.cpu cpu.old.calls refusal cpu.new.cpu cpu.new.calls) }
 {
     let Some(mut batch) = domain.take_ready(rt, cpu, processor, max)? else {
         return Ok(None);

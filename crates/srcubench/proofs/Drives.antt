@@ -41,7 +41,7 @@ was_last cpus rest o c whole is =
     sym (get_or-append_seam rest c [] c) ∙ (sym (ap (λ l. slice_index_or l (length rest) c) same) ∙ ap (λ k. slice_index_or cpus k c) last)
 
 new_is_of : {J : Type 0} (d : DomainView) (bounds : Bounds) (tree : TableId) (shape : Shape) (k : ℕ) → d.processors ≡ bounds.processors → k < bounds.processors → IsOf {J = J} d (new_cpu d bounds tree shape k)
-new_is_of d bounds tree shape k many there = record { domain = refl; bay = refl; home = refl; free = refl; asks = (k, refl); many = sym many; fits = record { domain = refl; tallies = refl; cpu = refl; there = subst (λ n. k < n) (sym many) there }; number = refl; seats = sym many; words = sym many }
+new_is_of d bounds tree shape k many there = record { domain = refl; bay = refl; home = refl; free = refl; asks = (k, refl); many = sym many; fits = record { domain = refl; seat = refl; tallies = refl; cpu = refl; there = subst (λ n. k < n) (sym many) there }; number = refl; seats = sym many; words = sym many }
 
 module _ {J : Type 0} (processors periods : ℕ) (d : DomainView) (cpus : List (CpuView J)) (c : CpuView J) (made : IsMade (record { processors = processors; sections = 1; periods = periods; cells = 0 }) d cpus) (some : 0 < length cpus) (is : c ≡ slice_index_or cpus (length cpus - 1) c) where
   is_new : c ≡ new_cpu d (record { processors = processors; sections = 1; periods = periods; cells = 0 }) made.tree (record { processors = processors; nodes = made.nodes }) (length cpus - 1)

@@ -1,7 +1,8 @@
-//! The calls lock a processor's list, and hand on to it.
-ghost use Rattle.std.specs.Prelude.{◌≡◌, ◌<◌, All, IfOk, IsOk, IfSome, MatchResult};
+//! The calls of a domain's callbacks. But for `call`, they lock a processor's list, and hand on to it.
+ghost use Rattle.std.specs.Prelude.{◌≡◌, ◌<◌, All, IfOk, IfSome, MatchResult};
 ghost use Rattle.sections.specs.Calls.{IsSameCpu, AllClosed};
-ghost use Rattle.calls.specs.Calls.{IsSameSeat, IsOfProcessor, FitsIn, QueuesIn, RefusesIn, MayTakeIn, TakesIn, AreHanded, InvokesIn, MayFinishIn, FinishesIn, FindsLensIn};
+ghost use Rattle.calls.specs.Calls.{IsSameSeat, IsOfProcessor, FitsIn, QueuesIn, RefusesIn, MayTakeIn, TakesIn, AreHanded, TakesNothingIn, MayFinishIn, FinishesIn, FindsLensIn};
+ghost use Rattle.calls.specs.Meetings.{Covers};
 
 use super::Calls;
 use crate::batch::Batch;
@@ -13,8 +14,8 @@ use std::alloc::Allocator;
 use std::sync::Wait;
 
 impl<J: Drop, A: Allocator + Copy> Calls<J, A> {
-    /// Queues a job on this processor (`call_srcu`). It is given out after a full grace period that starts later. It
-    /// waits while another thread has the processor's list. Where it is refused, the job comes back.
+    /// Queues a job on this processor (`call_srcu`). It is given out after a full grace period that starts later. Where it
+    /// is refused, the job comes back. No lock is touched; the handle is for the queue at which jobs come in.
     pub fn call<R: Wait, B: Allocator, C: Allocator>(
         &self,
         rt: &R,
@@ -28,15 +29,13 @@ impl<J: Drop, A: Allocator + Copy> Calls<J, A> {
             (λ refused. RefusesIn self.now cpu.old seat.old job refused cpu.new seat.new) }
         ensures same { IsSameCpu cpu.old cpu.new × IsSameSeat seat.old seat.new }
     {
-        let lock = &self.lists[seat.processor as usize];
-        let (mut list, loan) = lock.take(rt);
-        let result = list.push(cpu, seat, job);
-        lock.put_back(list, loan);
-        result
+        seat.queue(rt, cpu, job)
     }
 
     /// Takes out what is ready on a processor: at most `max` jobs and at most eight, the first ones first
-    /// (`srcu_invoke_callbacks`). `None` where nothing is. Any processor of the domain may do it, for any processor. It
+    /// (`srcu_invoke_callbacks`). `None` where nothing is. Any processor of the domain may do it, for any processor. All
+    /// calls that are counted as queued there are moved to the processor's list first. It is refused where a batch is out
+    /// there, and where there was no memory for a call that was to be moved: nothing is taken then, and nothing is lost. It
     /// waits while another thread has that processor's list.
     pub fn take_ready<R: Wait, B: Allocator, C: Allocator>(
         &self,
@@ -49,7 +48,7 @@ impl<J: Drop, A: Allocator + Copy> Calls<J, A> {
         requires { MayTakeIn self.now cpu.old seat.old processor }
         ensures takes { MatchResult result
             (λ taken. TakesIn self.now processor max cpu.old seat.old taken cpu.new seat.new)
-            (λ _. InvokesIn processor cpu.old seat.old cpu.new seat.new) }
+            (λ refusal. TakesNothingIn processor cpu.old seat.old refusal cpu.new seat.new) }
         ensures same { IsSameCpu cpu.old cpu.new × IsSameSeat seat.old seat.new }
         ensures batch { IfOk result (λ taken. IfSome taken (λ batch. IsOfProcessor self.now processor batch)) }
 
@@ -61,7 +60,7 @@ impl<J: Drop, A: Allocator + Copy> Calls<J, A> {
     {
         let lock = &self.lists[processor as usize];
         let (mut list, loan) = lock.take(rt);
-        let result = list.take(cpu, seat, max);
+        let result = list.take(rt, cpu, seat, max);
         lock.put_back(list, loan);
         result
     }
@@ -85,8 +84,9 @@ impl<J: Drop, A: Allocator + Copy> Calls<J, A> {
     }
 
     /// How many entries of a processor are done, wait for the first and for the second number, and have none yet; and
-    /// the two numbers, 0 where there is none. What is out isn't counted. One load by the seat shows that this is the
-    /// processor's list. It takes no memory, so it always succeeds. It waits while another thread has the list.
+    /// the two numbers, 0 where there is none. What is out isn't counted. All calls that are counted as queued are moved to
+    /// the list first; where there is no memory for one, nothing is answered, and nothing is lost. One more load by the seat
+    /// shows that this is the processor's list. It waits while another thread has the list.
     pub fn lens<R: Wait, C: Allocator>(
         &self,
         rt: &R,
@@ -94,12 +94,13 @@ impl<J: Drop, A: Allocator + Copy> Calls<J, A> {
         processor: u16,
     ) -> Result<([usize; 4], [u64; 2]), Memory>
         requires { (processor < self.now.processors) × (seat.old.tallies ≡ self.now.tallies) }
-        ensures found { IfOk result (λ found. FindsLensIn processor seat.old found seat.new) }
-        ensures ok { IsOk result }
+        ensures found { MatchResult result
+            (λ found. FindsLensIn processor seat.old found seat.new)
+            (λ _. Covers seat.old seat.old.seen seat.new) }
     {
         let lock = &self.lists[processor as usize];
         let (mut list, loan) = lock.take(rt);
-        let lens = list.lens(seat);
+        let lens = list.lens(rt, seat);
         lock.put_back(list, loan);
         lens
     }

@@ -1,10 +1,10 @@
 //! How jobs go out of the list.
-ghost use Rattle.std.specs.Prelude.{◌≡◌, All, IfOk, IfSome, MatchResult};
+ghost use Rattle.std.specs.Prelude.{◌≡◌, All, None, IfOk, IfSome, MatchResult};
 ghost use Rattle.sections.specs.Calls.{AllClosed};
 ghost use Rattle.segs.specs.MarkedList.{assigned};
 ghost use Rattle.calls.specs.Lines.{Marked, last_number};
 ghost use Rattle.calls.specs.Waiting.{wrapped, GoesOut};
-ghost use Rattle.calls.specs.Calls.{Takes, AreHanded, FindsOut, Finishes, MayFinish, MayTake};
+ghost use Rattle.calls.specs.Calls.{TakesAll, TakesReady, TakesNothing, AreHanded, Finishes, MayFinish, MayTake};
 
 use super::List;
 use crate::batch::Batch;
@@ -17,6 +17,7 @@ use segs::SegList;
 use smallvec::SmallVec;
 use std::alloc::Allocator;
 use std::marker::Brand;
+use std::sync::Wait;
 
 /// What has no number yet gets that of the cookie of the last entry: it is the greatest one.
 fn assign_last<J, A: Allocator>(waiting: &mut SegList<Option<Entry<J>>, A>)
@@ -49,18 +50,20 @@ fn take_first<J: Drop, A: Allocator + Copy>(
 
 impl<J: Drop, A: Allocator + Copy> List<J, A> {
     /// Takes out what is ready: at most `max` jobs and at most eight, the first ones first. `None` where nothing is.
-    /// Any processor of the domain may do it. It is refused exactly where a batch is out, as one load by the seat finds,
-    /// and nothing is moved.
-    pub fn take<B: Allocator, C: Allocator>(
+    /// Any processor of the domain may do it. All calls that are counted as queued are moved to the list first. It is refused
+    /// where a batch is out, as one load by the seat finds, and then nothing is moved; and where there was no memory for one
+    /// that was to be moved.
+    pub fn take<R: Wait, B: Allocator, C: Allocator>(
         &mut self,
+        rt: &R,
         cpu: &mut Cpu<B>,
         seat: &mut CallSeat<J, C>,
         max: usize,
     ) -> Result<Option<Batch<J, A>>, TakeRefusal>
         requires { MayTake self.old cpu.old seat.old }
         ensures takes { MatchResult result
-            (λ taken. Takes max self.old cpu.old seat.old taken self.new cpu.new seat.new)
-            (λ _. FindsOut self.old cpu.old seat.old self.new cpu.new seat.new) }
+            (λ taken. TakesAll max self.old cpu.old seat.old taken self.new cpu.new seat.new)
+            (λ refusal. TakesNothing self.old cpu.old seat.old refusal self.new cpu.new seat.new) }
 
         // Each job is given out after a full grace period: it was queued at the end of what its cookie has seen, and
         // the taker goes on from there and has been told that the cookie is done.
@@ -71,11 +74,30 @@ impl<J: Drop, A: Allocator + Copy> List<J, A> {
     {
         if self.out {
             let top = &seat.table.shared;
-            see_list::<J, Brand>(top, &mut seat.seat, &mut self.seat, seat.processor);
+            see_list::<J, Brand>(top, &mut seat.seat, &mut self.seat, self.processor);
             return Err(TakeRefusal::Invoking);
         }
+        match self.gather(rt, seat) {
+            Ok(()) => Ok(self.take_ready(cpu, seat, max)),
+            Err(_) => Err(TakeRefusal::Memory),
+        }
+    }
+
+    /// Takes out what is ready of the entries that are in the list.
+    fn take_ready<B: Allocator, C: Allocator>(
+        &mut self,
+        cpu: &mut Cpu<B>,
+        seat: &mut CallSeat<J, C>,
+        max: usize,
+    ) -> Option<Batch<J, A>>
+        requires fits { MayTake self.old cpu.old seat.old }
+        requires none_out { self.old.out ≡ None }
+        ensures takes { TakesReady max self.old cpu.old seat.old result self.new cpu.new seat.new }
+        ensures handed { IfSome result (λ batch. AreHanded batch.entries cpu.new.seen) }
+        ensures closed { IfSome result (λ batch. All (λ e. AllClosed e.cookie.seen cpu.new.seen) batch.entries) }
+    {
         // The number is loaded first: with an older one, entries would stay that are due.
-        let number = cpu.how_far(&mut self.sight).get();
+        let number = cpu.how_far_behind(&mut self.given, &mut self.sight).get();
         let entries = take_first(&mut self.waiting, number, max);
         let top = &seat.table.shared;
         let right = take_out::<J, Brand>(
@@ -88,15 +110,15 @@ impl<J: Drop, A: Allocator + Copy> List<J, A> {
         );
         let count = entries.len();
         if count == 0 {
-            return Ok(None);
+            return None;
         }
         self.out = true;
-        Ok(Some(Batch {
+        Some(Batch {
             entries,
             count,
             processor: self.processor,
             seat: right,
-        }))
+        })
     }
 
     /// The batch is over: its count is added to the finished word of its processor, by this seat. It is empty, and of

@@ -10,8 +10,11 @@ use std::sync::Wait;
 use std::test::Fail;
 
 /// The callbacks of a new domain of two processors, and what these need for them.
-fn pair(alloc: Global) -> Result<(Calls<u64>, (Cpu, CallSeat<u64>), (Cpu, CallSeat<u64>)), Fail>
-    ensures { IfOk result (λ r. MayTakeIn r.0 r.1.0 r.1.1 r.1.1.processor × MayTakeIn r.0 r.2.0 r.2.1 r.2.1.processor) }
+pub(super) fn pair(
+    alloc: Global,
+) -> Result<(Calls<u64>, (Cpu, CallSeat<u64>), (Cpu, CallSeat<u64>)), Fail>
+    ensures first { IfOk result (λ r. MayTakeIn r.0 r.1.0 r.1.1 r.1.1.processor × (r.1.1.domain ≡ r.0.domain)) }
+    ensures second { IfOk result (λ r. MayTakeIn r.0 r.2.0 r.2.1 r.2.1.processor × (r.2.1.domain ≡ r.0.domain)) }
 {
     let Made {
         mut cpus,
@@ -25,8 +28,8 @@ fn pair(alloc: Global) -> Result<(Calls<u64>, (Cpu, CallSeat<u64>), (Cpu, CallSe
 }
 
 /// Whether the two are of one processor.
-fn fits(calls: &Calls<u64>, cpu: &Cpu, seat: &CallSeat<u64>) -> bool
-    requires { MayTakeIn calls.now cpu.now seat.now seat.now.processor }
+pub(super) fn fits(calls: &Calls<u64>, cpu: &Cpu, seat: &CallSeat<u64>) -> bool
+    requires { MayTakeIn calls.now cpu.now seat.now seat.now.processor × (seat.now.domain ≡ calls.now.domain) }
     ensures { IsTrue result → FitsIn calls.now cpu.now seat.now }
 {
     let _ = calls;

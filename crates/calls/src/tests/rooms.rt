@@ -20,7 +20,7 @@ fn make_and_drop(heap: &LocalHeap, engine: &mut EngineSeat) -> Option<(usize, us
 }
 
 /// Would catch a refused allocation that leaves something allocated. There are several: the tally words, the table, the
-/// seats, the locks.
+/// lines, the seats, the locks.
 #[test]
 fn new_in_little_room(rt: HostRuntime) -> Result<(), Fail> {
     let Made {
@@ -29,7 +29,7 @@ fn new_in_little_room(rt: HostRuntime) -> Result<(), Fail> {
         ..
     } = make(rt.alloc(), 2, LIMITS)?;
     for room in 0..200 {
-        let heap = LocalHeap::new(rt.alloc(), 64 + 16 * room)?;
+        let heap = LocalHeap::new(rt.alloc(), 64 + 256 * room)?;
         let made = make_and_drop(&heap, &mut engine);
         assert_eq!(rt; heap.used(), 0);
         if let Some((seats, used)) = made {
@@ -82,8 +82,8 @@ fn stuff(alloc: Global, heap: &LocalHeap) -> Result<Vec<Vec<u8, &LocalHeap>>, Al
     Ok(all)
 }
 
-/// Queues the jobs from the first to the end until one is refused, and looks whether that one comes back, with the list as before. Tells which
-/// one was refused, or else the end.
+/// Queues the jobs from the first to the end until one is refused, and looks whether that one comes back. Tells which one was
+/// refused, or else the end.
 fn fill<R: Wait + Abort>(
     rt: &R,
     calls: &Calls<u64, &LocalHeap>,
@@ -96,12 +96,10 @@ fn fill<R: Wait + Abort>(
     ensures { FitsIn calls.now cpu.new seat.new }
 {
     for job in first..end {
-        let before = calls.lens(rt, seat, 0);
         match calls.call(rt, cpu, seat, job) {
             Ok(receipt) => assert_eq!(rt; receipt.k(), job),
             Err(refused) => {
-                let wanted = ((job, CallRefusal::Memory), before);
-                assert_eq!(rt; (refused, calls.lens(rt, seat, 0)), wanted);
+                assert_eq!(rt; refused, (job, CallRefusal::Memory));
                 return job;
             }
         }
@@ -109,7 +107,11 @@ fn fill<R: Wait + Abort>(
     end
 }
 
-/// Does so while there is no room in the heap.
+/// What a list is found to be: how many jobs are in each segment, and the two numbers.
+type Lens = Result<([usize; 4], [u64; 2]), Memory>;
+
+/// Queues jobs from this one on, up to the hundredth, and looks at the list, while there is no room in the heap. Tells which
+/// job was refused, and the list.
 fn fill_without_room<R: Wait + Abort + AllocGlobal>(
     rt: &R,
     heap: &LocalHeap,
@@ -117,54 +119,46 @@ fn fill_without_room<R: Wait + Abort + AllocGlobal>(
     cpu: &mut Cpu,
     seat: &mut CallSeat<u64, &LocalHeap>,
     first: u64,
-    end: u64,
-) -> Result<u64, AllocError>
+) -> Result<(u64, Lens), AllocError>
     requires { FitsIn calls.now cpu.old seat.old }
     ensures { FitsIn calls.now cpu.new seat.new }
 {
     let full = stuff(rt.alloc(), heap)?;
-    let refused = fill(rt, calls, cpu, seat, first, end);
+    let refused = fill(rt, calls, cpu, seat, first, 100);
+    let lens = calls.lens(rt, seat, 0);
     drop(full);
-    Ok(refused)
+    Ok((refused, lens))
 }
 
-/// What a list is found to be: how many jobs are in each segment, and the two numbers.
-type Lens = Result<([usize; 4], [u64; 2]), Memory>;
-
-/// Queues 20 jobs, while there is room in the heap and while there is none, by turns. Tells which job was refused each time,
-/// and the list behind the first refusal and in the end.
+/// Queues a hundred jobs, while there is no room in the heap and then while there is. Tells which job was refused each time,
+/// and the list behind it.
 fn fill_by_turns<R: Wait + Abort + AllocGlobal>(
     rt: &R,
     heap: &LocalHeap,
     calls: &Calls<u64, &LocalHeap>,
     cpu: &mut Cpu,
     seat: &mut CallSeat<u64, &LocalHeap>,
-) -> Result<([u64; 4], [Lens; 2]), AllocError>
+) -> Result<([u64; 2], [Lens; 2]), AllocError>
     requires { FitsIn calls.now cpu.old seat.old }
 {
-    let none = fill_without_room(rt, heap, calls, cpu, seat, 0, 20)?;
-    let empty = calls.lens(rt, seat, 0);
-    let one = fill(rt, calls, cpu, seat, 0, 1);
-    // There is room for some more before the list has to grow.
-    let some = fill_without_room(rt, heap, calls, cpu, seat, 1, 20)?;
-    let all = fill(rt, calls, cpu, seat, some, 20);
-    Ok(([none, one, some, all], [empty, calls.lens(rt, seat, 0)]))
+    let (some, none) = fill_without_room(rt, heap, calls, cpu, seat, 0)?;
+    let all = fill(rt, calls, cpu, seat, some, 100);
+    Ok(([some, all], [none, calls.lens(rt, seat, 0)]))
 }
 
-/// Would catch a refused job that stays, or that is counted, and a list that takes no more jobs once one was refused.
+/// Would catch a refused job that stays, or that is counted; a list that loses what it has no room for; and a processor that
+/// takes no more jobs once one was refused.
 #[test]
 fn call_in_little_room(rt: HostRuntime) -> Result<(), Fail> {
     let (mut cpu, mut engine) = new_domain(rt.alloc())?;
-    let heap = LocalHeap::new(rt.alloc(), 8 * 1024)?;
+    let heap = LocalHeap::new(rt.alloc(), 32 * 1024)?;
     let (calls, mut seat) = make_in(&heap, &mut engine, &cpu)?;
     let (refused, lens) = fill_by_turns(&rt, &heap, &calls, &mut cpu, &mut seat)?;
     drop(calls);
     drop(seat);
-    assert_eq!(rt;
-        (refused[0], refused[1], refused[2] < 20, refused[3]),
-        (0, 1, true, 20)
-    );
-    assert_eq!(rt; lens, [Ok(([0; 4], [0; 2])), Ok(([0, 20, 0, 0], [4, 0]))]);
+    assert!(rt; refused[0] > 0 && refused[0] < 100);
+    assert!(rt; lens[0].is_err());
+    assert_eq!(rt; (refused[1], lens[1]), (100, Ok(([0, 100, 0, 0], [4, 0]))));
     assert_eq!(rt; heap.used(), 0);
     Ok(())
 }

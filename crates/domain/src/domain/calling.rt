@@ -1,8 +1,8 @@
 //! Callbacks: a job is queued on a processor, and given out after a full grace period.
-ghost use Rattle.std.specs.Prelude.{◌≡◌, ◌<◌, All, IfOk, IsOk, IfSome, MatchResult};
+ghost use Rattle.std.specs.Prelude.{◌≡◌, ◌<◌, All, IfOk, IfSome, MatchResult};
 ghost use Rattle.sections.specs.Calls.{IsSameCpu, AllClosed};
-ghost use Rattle.calls.specs.Meetings.{SeesOut};
-ghost use Rattle.calls.specs.Calls.{IsSameSeat, IsOfProcessor, TakesIn, InvokesIn, AreHanded, FinishesIn, FindsLensIn};
+ghost use Rattle.calls.specs.Meetings.{Covers, SeesOut};
+ghost use Rattle.calls.specs.Calls.{IsSameSeat, IsOfProcessor, TakesIn, TakesNothingIn, AreHanded, FinishesIn, FindsLensIn};
 ghost use Rattle.domain.specs.Views.{IsOf, IsSameProcessor, callbacks_of, with_cpu, with_calls};
 ghost use Rattle.domain.specs.Calling.{CallsIn, RefusesCall, MayFinish};
 ghost use Rattle.domain.specs.Acting.{loads, takes, asks_for, finishes, ActsAs, QueuesNone};
@@ -16,8 +16,8 @@ use std::sync::Wait;
 
 impl<J: Drop, A: Allocator + Copy> Domain<J, A> {
     /// Queues a job on this processor (`call_srcu`), and asks for the grace period after which it is given out: whoever
-    /// drives the engine may find it. It waits while another thread has the processor's list. Where it is refused, the job
-    /// comes back, nothing is queued, and nothing asked for.
+    /// drives the engine may find it. It touches no lock. Where it is refused, the job comes back, nothing is queued, and
+    /// nothing asked for.
     pub fn call<R: Wait>(
         &self,
         rt: &R,
@@ -42,8 +42,10 @@ impl<J: Drop, A: Allocator + Copy> Domain<J, A> {
     }
 
     /// Takes out what is ready on a processor: at most `max` jobs and at most eight, the first ones first
-    /// (`srcu_invoke_callbacks`). `None` where nothing is. Any processor of the domain may do it, for any processor. It
-    /// waits while another thread has that processor's list.
+    /// (`srcu_invoke_callbacks`). `None` where nothing is. Any processor of the domain may do it, for any processor. All
+    /// calls that are counted as queued there are moved to the processor's list first. It is refused where a batch is out
+    /// there, and where there was no memory for a call that was to be moved: nothing is taken out then, and the processor
+    /// that was lent has made one load. It waits while another thread has that processor's list.
     pub fn take_ready<R: Wait>(
         &self,
         rt: &R,
@@ -56,7 +58,7 @@ impl<J: Drop, A: Allocator + Copy> Domain<J, A> {
         ensures here { IsOf self.now cpu.new }
         ensures takes { MatchResult result
             (λ taken. TakesIn (callbacks_of self.now) processor max cpu.old.cpu cpu.old.calls taken cpu.new.cpu cpu.new.calls)
-            (λ _. InvokesIn processor cpu.old.cpu cpu.old.calls cpu.new.cpu cpu.new.calls) }
+            (λ refusal. TakesNothingIn processor cpu.old.cpu cpu.old.calls refusal cpu.new.cpu cpu.new.calls) }
         ensures acts { MatchResult result (λ _. ActsAs (takes cpu.new.cpu.changes processor) cpu.old cpu.new) (λ _. ActsAs loads cpu.old cpu.new) }
         ensures same { IsSameCpu cpu.old.cpu cpu.new.cpu × IsSameSeat cpu.old.calls cpu.new.calls }
         ensures rest { cpu.new ≡ with_calls cpu.new.calls (with_cpu cpu.new.cpu cpu.old) }
@@ -102,9 +104,9 @@ impl<J: Drop, A: Allocator + Copy> Domain<J, A> {
     }
 
     /// How many calls of a processor are done, wait for the first and for the second number, and have none yet; and the two
-    /// numbers, 0 where there is none. What is out isn't counted. The processor that is lent makes one load, and has then
-    /// seen the moment of which this is told. It takes no memory, so it always succeeds. It waits while another thread has
-    /// the processor's list.
+    /// numbers, 0 where there is none. What is out isn't counted. All calls that are counted as queued are moved to the
+    /// list first; where there is no memory for one, nothing is counted. The processor that is lent has then seen the
+    /// moment of which this is told. It waits while another thread has the processor's list.
     pub fn lens<R: Wait>(
         &self,
         rt: &R,
@@ -114,8 +116,9 @@ impl<J: Drop, A: Allocator + Copy> Domain<J, A> {
         requires domain { IsOf self.now cpu.old }
         requires processor { processor < self.now.processors }
         ensures here { IsOf self.now cpu.new }
-        ensures found { IfOk result (λ found. FindsLensIn processor cpu.old.calls found cpu.new.calls) }
-        ensures ok { IsOk result }
+        ensures found { MatchResult result
+            (λ found. FindsLensIn processor cpu.old.calls found cpu.new.calls)
+            (λ _. Covers cpu.old.calls cpu.old.calls.seen cpu.new.calls) }
         ensures acts { ActsAs loads cpu.old cpu.new }
         ensures same { IsSameSeat cpu.old.calls cpu.new.calls }
         ensures rest { cpu.new ≡ with_calls cpu.new.calls cpu.old }

@@ -17,7 +17,7 @@ use sections::{Limits, MOST_PROCESSORS, Made, MakeError};
 use std::alloc::{AllocError, Allocator};
 
 /// Processors of four seats each, in order.
-fn join_seats<J, A: Allocator>(
+fn join_seats<J: Drop, A: Allocator>(
     alloc: A,
     mut cpus: Vec<sections::Cpu<A>, A>,
     mut needs: Vec<FunnelSeat<A>, A>,

@@ -36,7 +36,7 @@ pub(super) fn single<A: Allocator + Copy>(
 pub(super) type Answer = Result<Progress, AdvanceRefusal>;
 
 /// Drives a whole grace period, with a step for each of its parts.
-pub(super) fn drive<J>(domain: &Domain<J>, cpu: &mut Cpu<J>) -> [Answer; 3]
+pub(super) fn drive<J, A: Allocator>(domain: &Domain<J, A>, cpu: &mut Cpu<J, A>) -> [Answer; 3]
     requires { IsOf domain.now cpu.old }
     ensures { IsOf domain.now cpu.new }
 {
@@ -94,15 +94,35 @@ fn stuff(alloc: Global, heap: &LocalHeap) -> Result<Vec<Vec<u8, &LocalHeap>>, Al
     Ok(all)
 }
 
+/// Queues jobs with the numbers from 0 on until one is refused, at most a hundred. Tells how many were queued, and what came
+/// back.
+fn queue_until_refused<R: Wait, A: Allocator + Copy>(
+    rt: &R,
+    domain: &Domain<u64, A>,
+    cpu: &mut Cpu<u64, A>,
+) -> (u64, Option<(u64, CallRefusal)>)
+    requires { IsOf domain.now cpu.old }
+    ensures { IsOf domain.now cpu.new }
+{
+    for job in 0..100 {
+        if let Err(refused) = domain.call(rt, cpu, job) {
+            return (job, Some(refused));
+        }
+    }
+    (100, None)
+}
+
 /// Would catch a refused job that is lost or that stays queued, one for which a grace period is asked, and a domain that
-/// takes no more jobs behind it.
+/// takes no more jobs behind it. Memory is asked for once for many jobs, so some are queued before.
 #[test]
 fn gives_the_job_back(rt: HostRuntime) -> Result<(), Fail> {
     let heap = LocalHeap::new(rt.alloc(), 64 * 1024)?;
     let (domain, mut cpu) = single(&heap)?;
     let full = stuff(rt.alloc(), &heap)?;
-    let refused = domain.call(&rt, &mut cpu, 7).err();
-    let empty = (domain.need(&mut cpu).get(), domain.lens(&rt, &mut cpu, 0));
+    let (many, first) = queue_until_refused(&rt, &domain, &mut cpu);
+    let _period = drive(&domain, &mut cpu);
+    let again = domain.call(&rt, &mut cpu, 777).err();
+    let need = domain.need(&mut cpu).get();
     drop(full);
     let queued = domain
         .call(&rt, &mut cpu, 7)
@@ -111,12 +131,10 @@ fn gives_the_job_back(rt: HostRuntime) -> Result<(), Fail> {
     let then = (domain.need(&mut cpu).get(), domain.lens(&rt, &mut cpu, 0));
     drop(domain);
     drop(cpu);
-    assert_eq!(rt;
-        (refused, queued),
-        (Some((7, CallRefusal::Memory)), Some(0))
-    );
-    assert_eq!(rt; empty, (0, Ok(([0; 4], [0; 2]))));
-    assert_eq!(rt; then, (4, Ok(([0, 1, 0, 0], [4, 0]))));
+    assert_eq!(rt; first, Some((many, CallRefusal::Memory)));
+    assert_eq!(rt; again, Some((777, CallRefusal::Memory)));
+    assert_eq!(rt; (need, queued), (4, Some(many)));
+    assert_eq!(rt; then, (8, Ok(([0, many as usize, 1, 0], [4, 8]))));
     assert_eq!(rt; heap.used(), 0);
     Ok(())
 }

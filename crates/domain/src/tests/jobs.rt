@@ -300,3 +300,77 @@ fn four_queue_and_a_fifth_takes(rt: HostRuntime) -> Result<(), Fail> {
     assert_eq!(rt; more, Some([JOBS; 4]));
     Ok(())
 }
+
+/// How many jobs each of the four queues that queues them without a pause.
+const FEW: u64 = 100;
+
+/// Queues so many jobs on a processor, without a pause. Tells whether each got its number.
+fn queue_at_once<R: Wait>(rt: &R, domain: &Domain<Job>, mut cpu: Cpu<Job>) -> bool
+    requires { IsOf domain.now cpu }
+{
+    let processor = cpu.processor();
+    let mut in_order = true;
+    for number in 0..FEW {
+        match domain.call(rt, &mut cpu, Job { processor, number }) {
+            Ok(receipt) => in_order &= receipt.processor() == processor && receipt.k() == number,
+            Err(_) => in_order = false,
+        }
+    }
+    in_order
+}
+
+/// Two processors do, each in a thread of its own. Tells whether each job got its number.
+fn queue_two_at_once<R: Wait + Threads + Sync>(
+    rt: &R,
+    domain: &Domain<Job>,
+    first: Cpu<Job>,
+    second: Cpu<Job>,
+) -> bool
+    requires { IsOf domain.now first × IsOf domain.now second }
+{
+    let (first, second) = join(
+        rt,
+        || queue_at_once(rt, domain, first),
+        || queue_at_once(rt, domain, second),
+    );
+    first && second
+}
+
+/// Four processors do. Tells whether each job got its number.
+fn queue_four_at_once<R: Wait + Threads + Sync>(rt: &R, domain: &Domain<Job>, cpus: Cpus) -> bool
+    requires first { IsOf domain.now cpus.first × IsOf domain.now cpus.second }
+    requires last { IsOf domain.now cpus.third × IsOf domain.now cpus.fourth }
+{
+    let (first, last) = join(
+        rt,
+        ||
+            requires first { IsOf domain.now cpus.first × IsOf domain.now cpus.second }
+        { queue_two_at_once(rt, domain, cpus.first, cpus.second) },
+        ||
+            requires last { IsOf domain.now cpus.third × IsOf domain.now cpus.fourth }
+        { queue_two_at_once(rt, domain, cpus.third, cpus.fourth) },
+    );
+    first && last
+}
+
+/// Would catch a job that is lost, doubled or out of its order on its way into the list, where many come in while the list
+/// is in another thread's hand.
+#[test]
+fn intake_threads(rt: HostRuntime) -> Result<(), Fail> {
+    let (domain, four, fifth) = five_cpus(rt.alloc())?;
+    let closing = Closing::new();
+    for processor in 0..4 {
+        // No section is opened here.
+        closing.store(processor, FEW);
+    }
+    let (in_order, (fifth, came)) = join(
+        &rt,
+        || queue_four_at_once(&rt, &domain, four),
+        || take_until(&rt, &domain, fifth, [0; 4], FEW, LOOKS, &closing),
+    );
+    let (_, more) = take_until(&rt, &domain, fifth, [FEW; 4], FEW + 1, TURNS, &closing);
+    assert!(rt; in_order);
+    assert_eq!(rt; came, Some([FEW; 4]));
+    assert_eq!(rt; more, Some([FEW; 4]));
+    Ok(())
+}

@@ -6,7 +6,7 @@ use super::Idle;
 use domain::{Cpu, Domain};
 use std::alloc::Allocator;
 
-impl<'a, J, A: Allocator + Copy> Idle<'a, J, A> {
+impl<'a, J: Drop, A: Allocator + Copy> Idle<'a, J, A> {
     /// None yet.
     pub fn none(alloc: A, domain: &'a Domain<J, A>) -> Idle<'a, J, A>
         ensures { result.domain ≡ domain.entry.now }

@@ -1,7 +1,7 @@
 //! What a processor does behind all that a sight has seen.
 ghost use Rattle.std.specs.Prelude.{◌≡◌, ◌%◌, ◌<◌, ◌≤◌};
 ghost use Rattle.sections.specs.Rule.{lacking};
-ghost use Rattle.sections.specs.Sights.{sight_of, GivesCookieBehind, AsksHowFar};
+ghost use Rattle.sections.specs.Sights.{sight_of, GivesCookieBehind, AsksHowFar, AsksHowFarBehind};
 
 use super::Sight;
 use crate::board::NUMBER_PLACE;
@@ -57,6 +57,35 @@ impl<A: Allocator> Cpu<A> {
         let found = top.load::<plays::AskHowFar>(&mut self.seat, NUMBER_PLACE);
         sight.seat = top.split_seat::<plays::GiveToken>(&mut self.seat);
         Number::new(found).unwrap()
+    }
+
+    /// The same as [`Cpu::how_far`], behind all that a second sight has seen too, which stays as it is.
+    pub fn how_far_behind(&mut self, given: &mut Sight, sight: &mut Sight) -> Number
+        requires { (given.old.domain ≡ self.old.domain) × (sight.old.domain ≡ self.old.domain) }
+        ensures asks { AsksHowFarBehind result given.old sight.old self.old self.new sight.new }
+        ensures same { given.new ≡ given.old }
+    {
+        let top = &self.table.shared;
+        let first = top.split_seat::<plays::GiveToken>(&mut given.seat);
+        top.join_seat::<plays::TakeToken>(&mut self.seat, first);
+        let told = top.split_seat::<plays::GiveToken>(&mut sight.seat);
+        top.join_seat::<plays::TakeToken>(&mut self.seat, told);
+        let number = top.load::<plays::AskHowFar>(&mut self.seat, NUMBER_PLACE);
+        sight.seat = top.split_seat::<plays::GiveToken>(&mut self.seat);
+        Number::new(number).unwrap()
+    }
+
+    /// A second sight like this one. No step is made; one load, which tells nothing.
+    pub fn copy_sight(&self, sight: &mut Sight) -> Sight
+        requires { sight.old.domain ≡ self.now.domain }
+        ensures copy { result ≡ sight.old }
+        ensures same { sight.new ≡ sight.old }
+    {
+        let seat = self
+            .table
+            .shared
+            .split_seat::<plays::GiveToken>(&mut sight.seat);
+        Sight { seat }
     }
 
     /// A second cookie like this one. No step is made; one load, which tells nothing.

@@ -39,6 +39,7 @@ fn cause_of(why: TakeRefusal) -> Cause
 {
     match why {
         TakeRefusal::Invoking => Cause::Invoking,
+        TakeRefusal::Memory => Cause::Memory,
     }
 }
 
@@ -63,7 +64,8 @@ impl<'a, A: Allocator> Entry<&'a A> {
         }
     }
 
-    /// Takes what is ready on a processor, and finishes it at once; refused, with nothing done, where a batch is out.
+    /// Takes what is ready on a processor, and finishes it at once; refused, with nothing done, where a batch is out or the
+    /// domain has no memory for a job that had come in.
     pub(super) fn run(&mut self, rt: &impl Wait, processor: u64) -> Reply
         requires { processor < self.old.state.course.standing.processors }
         ensures limits { self.new.limits ≡ self.old.limits }
@@ -114,7 +116,8 @@ impl<'a, A: Allocator> Entry<&'a A> {
         Reply::Finished(count)
     }
 
-    /// How the jobs of a processor wait; refused where the domain has no memory.
+    /// How the jobs of a processor wait; refused, with nothing done, where the domain has no memory for a job that had come
+    /// in.
     pub(super) fn segs(&mut self, rt: &impl Wait, processor: u64) -> Reply
         requires { processor < self.old.state.course.standing.processors }
         ensures limits { self.new.limits ≡ self.old.limits }

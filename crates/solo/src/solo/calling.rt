@@ -1,5 +1,5 @@
 //! Callbacks: a job is queued on a processor, and given out after a full grace period.
-ghost use Rattle.std.specs.Prelude.{◌≡◌, ◌^◌, ◌<◌, ◌≤◌, [], IfOk, IsOk, IfErr, MatchResult};
+ghost use Rattle.std.specs.Prelude.{◌≡◌, ◌^◌, ◌<◌, ◌≤◌, [], IfOk, IfErr, MatchResult};
 ghost use Rattle.solo.specs.Calls.{HasSameTables, OnList, IsBatchOf, Queues, QueuesNone, QueuesLast, Takes, TakesNone, Finishes, FinishesOut, TellsLens};
 
 use crate::queued::Queued;
@@ -35,7 +35,7 @@ impl<J: Drop, A: Allocator + Copy> Solo<J, A> {
 
     /// Takes out what is ready on a processor, the first jobs first: at most `max`, and at most eight
     /// (`srcu_invoke_callbacks`). They are then queued and not finished. `None` where nothing is ready. It is refused, with
-    /// nothing done, where a batch of this processor is out.
+    /// nothing done, where a batch of this processor is out, or where there was no memory for a job that had come in.
     pub fn take_ready(
         &mut self,
         rt: &impl Wait,
@@ -67,12 +67,12 @@ impl<J: Drop, A: Allocator + Copy> Solo<J, A> {
     }
 
     /// How many jobs of a processor are done, wait for the first and for the second number, and have none yet; and the two
-    /// numbers, 0 where there is none. What is out isn't counted. It takes no memory, so it always succeeds.
+    /// numbers, 0 where there is none. What is out isn't counted. It is refused where there was no memory for a job that had
+    /// come in. Nothing has changed then.
     pub fn lens(&mut self, rt: &impl Wait, processor: u64) -> Result<([usize; 4], [u64; 2]), Memory>
         requires { processor < self.old.course.standing.processors }
         ensures after { self.new ≡ self.old }
         ensures told { IfOk result (TellsLens processor self.old.lines) }
-        ensures ok { IsOk result }
     {
         let cpu = &mut self.members.cpus[processor as usize];
         let lens = self.members.domain.lens(rt, cpu, processor as u16);

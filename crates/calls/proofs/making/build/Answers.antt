@@ -44,9 +44,8 @@ pub new-requires-in-loop-processor : goal.new-requires-in-loop-processor
 new-requires-in-loop-processor g c =
     let v = c.loop-processor.invariant in
     let dealt = c.in_ok-seat.ensures.0 in
-    let domain = ap (λ s. s.domain) c.sight-sight.ensures.sight ∙ (ap (λ e. e.domain) v.engine ∙ (sym v.spot.0 ∙ ap (λ (k : ListKey). k.domain) (sym c.spot.view_is))) in
     let tallies = sym v.spot.1 ∙ ap (λ (k : ListKey). k.tallies) (sym c.spot.view_is) in
-    ap key_of dealt.list ∙ (λ i. record { domain = domain i; tallies = tallies i; processor = c.loop-processor.processor })
+    ap key_of dealt.list ∙ (λ i. record { domain = dealt.of_domain i; tallies = tallies i; processor = c.loop-processor.processor })
 
 pub loop-processor-preserved : goal.loop-processor-preserved
 loop-processor-preserved g c =
@@ -64,13 +63,13 @@ loop-processor-preserved g c =
     let f = v.locks_count in
     let key = c.in_ok-new.ensures ∙ (λ i. record { domain = home i; tallies = words i; processor = c.loop-processor.processor }) in
     let table : TableId = (arc_value c.in_ok-table-2.table).shared.table_id in
-    let new = dealt.seat ∙ ap (λ n. new_seat table n c.loop-processor.processor) v.sized in record {
+    let new = dealt.seat ∙ (λ i. new_seat (home i) table (v.sized i) c.loop-processor.processor) in record {
       sized = v.sized;
       dealer = c.in_ok-seat.ensures.1;
       spot = (home, words);
-      engine = c.sight-sight.ensures.same ∙ v.engine;
+      engine = c.sight-in-loop-processor-2.ensures.same ∙ (c.sight-in-loop-processor.ensures.same ∙ (c.sight.ensures.same ∙ v.engine));
       seats_count = omega (arith, a, one, e);
-      seats_new = subst (λ (z : List (CallSeatView _)). AreNewSoFar table c.args.processors z) (sym seats) (new_so_far table c.args.processors c.loop-processor.processor c.loop-processor.seats.items c.in_ok-seat.seat e new v.seats_new);
+      seats_new = subst (λ (z : List (CallSeatView _)). AreNewSoFar c.args.engine.now.domain table c.args.processors z) (sym seats) (new_so_far c.args.engine.now.domain table c.args.processors c.loop-processor.processor c.loop-processor.seats.items c.in_ok-seat.seat e new v.seats_new);
       locks_count = omega (arith, b, two, f);
       locks = subst (λ (z : List (KeepView ListKey)). AreOfDomain c.args.engine.now.domain table z) (sym lists) (locks_so_far c.args.engine.now.domain table c.loop-processor.processor c.loop-processor.lists.items c.in_ok-new.field-0 f key v.locks);
     }
@@ -101,7 +100,7 @@ returns g c =
       made = record {
         of_domain = first.0;
         many = omega (arith, le, ge, f);
-        seats_new = record { count = omega (arith, le, ge, e); each = λ p d lt. v.seats_new p d lt ∙ ap (λ t. new_seat t c.args.processors p) (sym first.1) };
+        seats_new = record { count = omega (arith, le, ge, e); each = λ p d lt. v.seats_new p d lt ∙ (λ i. new_seat (sym first.0 i) (sym first.1 i) c.args.processors p) };
       };
       same = v.engine;
     }

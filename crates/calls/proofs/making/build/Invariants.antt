@@ -13,7 +13,7 @@ invariant-loop-processor g l = record {
   spot : (l.spot.domain ≡ l.fn.engine.domain) × (l.spot.tallies ≡ (arc_value l.table).shared.table_id);
   engine : l.engine ≡ l.fn.engine;
   seats_count : length l.seats.items ≡ l.processor;
-  seats_new : AreNewSoFar (arc_value l.table).shared.table_id l.processors l.seats.items;
+  seats_new : AreNewSoFar l.fn.engine.domain (arc_value l.table).shared.table_id l.processors l.seats.items;
   locks_count : length l.lists.items ≡ l.processor;
   locks : AreOfDomain l.fn.engine.domain (arc_value l.table).shared.table_id l.lists.items;
 }

@@ -52,7 +52,7 @@ pub returns-in-Ok-None-clause-looks : goal.returns-in-Ok-None-clause-looks
 returns-in-Ok-None-clause-looks g c = ([], refl, inr record { found = inl (rw c.in-Ok-None.field-0-is at c.in-Ok-None.ensures.takes); jobs_are = refl; same = refl })
 
 pub returns-in-Err-clause-looks : goal.returns-in-Err-clause-looks
-returns-in-Err-clause-looks g c = ([], refl, inr record { found = inr c.in-Err.ensures.takes; jobs_are = refl; same = refl })
+returns-in-Err-clause-looks g c = ([], refl, inr record { found = inr (c.in-Err.field-0, c.in-Err.ensures.takes); jobs_are = refl; same = refl })
 
 pub returns-in-Ok-Some-clause-same : goal.returns-in-Ok-Some-clause-same
 returns-in-Ok-Some-clause-same g c = same_trans c.args.cpu.now c.take_ready.new.cpu c.run_batch.new.cpu (same_taken c.args.cpu.now c.take_ready.new.cpu c.take_ready.ensures.same.0 c.take_ready.ensures.same.1 c.take_ready.ensures.rest) c.run_batch.ensures.same

@@ -1,7 +1,6 @@
 use Rattle.std.proofs.Common.{rules, ◌<◌, length, ap, sym, ◌∙◌, subst}
-use Rattle.std.proofs.lemmas.Result.{MatchResult-weaker}
 use Rattle.calls.specs.Views.{CallsView, ListKey}
-use Rattle.calls.proofs.Handing.{behind_lock, same_key_taken, same_taken, batch_of_list, out_in_list}
+use Rattle.calls.proofs.Handing.{behind_lock, same_key_taken, same_taken, batch_of_list, taken_in_list}
 use Rattle.calls.proofs.calls.Calls.take_ready.Goals as goal
 
 pub take-result-requires : goal.take-result-requires
@@ -17,7 +16,7 @@ pub returns-clause-takes : goal.returns-clause-takes
 returns-clause-takes g c =
     let lt : c.args.processor < length c.self.inside.lists.items = subst (λ (k : CallsView). c.args.processor < k.processors) (sym c.self.view_is) c.requires.there in
     let of = behind_lock {J = g.row.J.Denot} _ _ c.self.inside.lists.items c.args.self.now _ c.index-lock.result.now c.take-list.result.0 (sym c.self.view_is) c.self.invariant.locks lt c.index-lock.ensures c.take-list.ensures.value in
-    MatchResult-weaker c.take-result.result c.take-result.ensures.takes (λ t q. record { list = c.take-list.result.0; of_calls = of; list' = c.take-result.new.self; takes = q }) (λ r q. out_in_list c.args.self.now _ c.take-list.result.0 _ _ _ _ _ of q)
+    taken_in_list c.args.self.now c.args.processor c.args.max c.take-list.result.0 c.args.cpu.now c.args.seat.now c.take-result.result c.take-result.new.self _ _ of c.take-result.ensures.takes
 
 pub returns-clause-same : goal.returns-clause-same
 returns-clause-same g c = same_taken c.args.max c.take-list.result.0 _ _ c.take-result.result c.take-result.new.self _ _ c.take-result.ensures.takes

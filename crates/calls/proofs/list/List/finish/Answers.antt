@@ -1,7 +1,8 @@
-use Rattle.std.proofs.Common.{◌≡◌, ℕ, refl, ap, sym, ◌∙◌, subst, arith}
+use Rattle.std.proofs.Common.{◌≡◌, ℕ, Some, refl, ap, sym, ◌∙◌, subst, arith}
 use Rattle.calls.specs.declared.view.Act.TheVariants.{Finish}
 use Rattle.calls.specs.Lines.{count_out}
-use Rattle.calls.specs.Seats.{IsPlaced, IsKnown, FinishesBatch, finished_known, out_known, waiting_known}
+use Rattle.calls.specs.Plays.{known_finished}
+use Rattle.calls.specs.Seats.{IsPlaced, IsKnown, FinishesBatch, known_in}
 use Rattle.calls.proofs.Listing.{list_from, not_out}
 use Rattle.calls.proofs.Turning.{seat_after, does_after, finished_known_after}
 use Rattle.calls.proofs.list.List.finish.Goals as goal
@@ -12,10 +13,19 @@ invariant_of-self g c =
     let same : c.batch.inside.processor ≡ c.self.inside.processor = ap (λ b. b.processor) c.batch.view_is ∙ (c.requires.processor ∙ ap (λ l. l.processor) (sym c.self.view_is)) in
     let q = subst (λ (p : ℕ). FinishesBatch p c.batch.inside.count c.seat.inside.seat c.self.inside.seat c.batch.inside.seat c.add_finished.new.seat c.add_finished.new.list) same c.add_finished.ensures.finishes in
     let was = ap count_out q.was_out in
-    let were = v.numbered in
+    let numbered = v.numbered in
     let there = v.there in
     let words = ap (λ t. t.words) q.table in
-    list_from _ _ _ _ (waiting_known c.self.inside.seat.me.0.list) q.list_is v.wrapping v.waiting (omega (arith, was, were)) (not_out _ refl) (omega (arith, there, words))
+    list_from _ (known_finished c.batch.inside.count (known_in c.self.inside.seat.me.0.list)) q.list_is v.wrapping v.waiting (not_out _ refl) record {
+      one_domain = v.one_domain;
+      key = v.key ∙ (λ i. Some record { domain = c.self.inside.sight.domain; tallies = sym q.table i; processor = c.self.inside.processor });
+      last = v.last;
+      arrived = v.arrived;
+      numbered = omega (arith, was, numbered);
+      few = v.few;
+      most = v.most;
+      there = omega (arith, there, words);
+    }
 
 pub invariant_of-seat : goal.invariant_of-seat
 invariant_of-seat g c =
@@ -34,9 +44,9 @@ returns g c =
     let now = subst (λ (k : ℕ). IsKnown k c.add_finished.new.list.me.0.list c.add_finished.new.seat.me.0.seen) same after in
     rw (← c.self.view_is, ← c.seat.view_is, ← c.batch.view_is) (record {
       tally = does_after c.seat.inside c.add_finished.new.seat c.seat.invariant q.by (Finish p c.batch.inside.count) q.who q.does (subst (λ t. IsPlaced t.shared.key t.shared.table_id c.add_finished.new.seat) c.deref.ensures c.add_finished.ensures.placed);
-      was = record { finished = before.finished_is; line = before.line };
-      is = record { finished = now.finished_is; line = now.line };
+      was = record { finished = before.finished_is; out = before.out_is; few = before.few; entries = before.waiting_is };
+      is = record { finished = now.finished_is; out = now.out_is; few = now.few; entries = now.waiting_is };
       was_out = q.was_out;
       first = q.first;
-      list = λ i. record { tallies = q.table i; processor = c.self.inside.processor; finished = finished_known (h i).0.list; out = out_known (h i).0.list; entries = waiting_known (h i).0.list; sight = c.self.inside.sight };
+      list = λ i. let k = known_in (h i).0.list in record { tallies = q.table i; processor = c.self.inside.processor; counted = k.queued; finished = k.finished; out = k.out; moved = k.moved; entries = k.waiting; given = c.self.inside.given; sight = c.self.inside.sight };
     })

@@ -1,204 +1,41 @@
-use Rattle.std.proofs.Common.{◌≡◌, ℕ, ◌↔◌, IsTrue, Bool, true, false, List, All, Option, Some, None, map, length, refl, ap, sym, ◌∙◌, subst, arith}
-use Rattle.std.specs.Prelude.{IsSome}
-use Rattle.sections.specs.Calls.{AllClosed}
-use Rattle.sections.specs.Sights.{AsksHowFar}
-use Rattle.calls.specs.declared.entry.Entry.{Entry}
-use Rattle.calls.specs.Lines.{some_out}
-use Rattle.calls.specs.Seats.{IsPlaced, IsBatchSeat, finished_known, out_known, waiting_known}
-use Rattle.calls.specs.Waiting.{entries_of}
-use Rattle.calls.specs.Calls.{AreHanded}
-use Rattle.calls.specs.Insides.{view_of_list}
-use Rattle.calls.proofs.Wrapping.{items_length, entries_wrap}
-use Rattle.calls.proofs.Keeping.{handed_all, closed_all}
-use Rattle.calls.proofs.Listing.{list_from, none_out, is_out, taken_none, taken_some}
-use Rattle.calls.proofs.Turning.{IsTake, seat_saw, seat_covers, some_flag, some_out_some, took_moved, took_list, took_seat, took_gives, took_right, took_first}
+use Rattle.std.proofs.Common.{rules, ◌≡◌, ℕ, List, Some, None, refl, ap, sym, ◌∙◌, subst}
+use Rattle.calls.specs.Seats.{known_in}
+use Rattle.calls.proofs.Listing.{none_out, is_out}
+use Rattle.calls.proofs.Turning.{seat_saw, seat_covers}
+use Rattle.calls.proofs.Gathering.{list_saw, saw_same, saw_was, takes_behind}
 use Rattle.calls.proofs.list.List.take.Goals as goal
 
 pub invariant_of-self : goal.invariant_of-self
-invariant_of-self g c =
-    let v = c.self.invariant in
-    let h = c.see_list.ensures c.self.inside.processor record { seated = ap (λ l. l.tallies) c.self.view_is ∙ (sym c.requires.tallies ∙ (sym (ap (λ s. s.tallies) c.seat.view_is) ∙ (c.seat.invariant.placed.seated ∙ ap (λ t. t.shared.table_id) (sym c.deref.ensures)))); me = c.self.invariant.seated.me } in
-    let there = v.there in
-    let words = ap (λ t. t.words) h.list_table in
-    list_from _ _ _ _ (waiting_known c.self.inside.seat.me.0.list) (h.list_is ∙ v.seated.me) v.wrapping v.waiting v.numbered v.out (omega (arith, there, words))
+invariant_of-self g c = list_saw c.self.inside _ _ _ _ c.see_list.new.list c.see_list.ensures c.self.invariant
 
 pub invariant_of-seat : goal.invariant_of-seat
-invariant_of-seat g c = seat_saw c.seat.inside c.see_list.new.seat c.seat.invariant _ c.self.inside.processor _ c.see_list.new.list (ap (λ t. t.shared.key) c.deref.ensures) (c.see_list.ensures c.self.inside.processor record { seated = ap (λ l. l.tallies) c.self.view_is ∙ (sym c.requires.tallies ∙ (sym (ap (λ s. s.tallies) c.seat.view_is) ∙ (c.seat.invariant.placed.seated ∙ ap (λ t. t.shared.table_id) (sym c.deref.ensures)))); me = c.self.invariant.seated.me })
+invariant_of-seat g c = seat_saw c.seat.inside c.see_list.new.seat c.seat.invariant _ c.self.inside.processor _ _ c.see_list.new.list (ap (λ t. t.shared.key) c.deref.ensures) c.see_list.ensures
 
 pub returns-then-self-clause-takes : goal.returns-then-self-clause-takes
 returns-then-self-clause-takes g c =
-    let h = c.see_list.ensures c.self.inside.processor record { seated = ap (λ l. l.tallies) c.self.view_is ∙ (sym c.requires.tallies ∙ (sym (ap (λ s. s.tallies) c.seat.view_is) ∙ (c.seat.invariant.placed.seated ∙ ap (λ t. t.shared.table_id) (sym c.deref.ensures)))); me = c.self.invariant.seated.me } in
-    let v = c.self.invariant in
+    let h = c.see_list.ensures in
     rw (← c.self.view_is, ← c.seat.view_is) (record {
-      invoking = is_out c.self.inside.out (out_known c.self.inside.seat.me.0.list) v.out c.if-self.true;
-      list = λ i. record { tallies = h.list_table i; processor = c.self.inside.processor; finished = finished_known (h.list_is i).0.list; out = out_known (h.list_is i).0.list; entries = waiting_known (h.list_is i).0.list; sight = c.self.inside.sight };
+      invoking = is_out c.self.inside.out _ c.self.invariant.out c.if-self.true;
+      list = saw_same c.self.inside _ _ _ _ c.see_list.new.list h;
       cpu = refl;
-      covers = seat_covers c.seat.inside c.see_list.new.seat c.seat.invariant _ c.self.inside.processor _ c.see_list.new.list (ap (λ t. t.shared.key) c.deref.ensures) h;
-      is = record { finished = h.there.finished_is; line = h.there.line };
+      covers = seat_covers c.seat.inside c.see_list.new.seat c.seat.invariant _ c.self.inside.processor _ _ c.see_list.new.list (ap (λ t. t.shared.key) c.deref.ensures) h;
+      is = saw_was c.self.inside _ _ _ _ c.see_list.new.list h;
     })
 
-pub take_out-right-requires-clause-none : goal.take_out-right-requires-clause-none
-take_out-right-requires-clause-none g c = none_out c.self.inside.out _ c.self.invariant.out c.if-self.false
+pub take_ready-requires : goal.take_ready-requires
+take_ready-requires g c =
+    let g1 = c.gather.ensures.gathers in (
+      search rules,
+      (
+        record { domain = c.requires.domain ∙ ap (λ l. l.sight.domain) (sym g1.came.is); tallies = ap (λ s. s.tallies) g1.covers.same ∙ (c.requires.tallies ∙ ap (λ l. l.tallies) (sym g1.came.is)) },
+        ap (λ l. l.out) g1.came.is ∙ (ap (λ l. l.out) (sym c.self.view_is) ∙ none_out c.self.inside.out _ c.self.invariant.out c.if-self.false),
+      ),
+    )
 
-pub invariant_of-self-then-count-eq0 : goal.invariant_of-self-then-count-eq0
-invariant_of-self-then-count-eq0 g c =
-    let v = c.self.invariant in
-    let took : IsTake c.self.inside c.args.cpu.now c.how_far.new.self c.seat.inside c.get-number.result c.args.max c.take_first-entries.result.items c.take_first-entries.new.waiting c.how_far.new.sight c.take_out-right.new.seat c.take_out-right.new.list c.take_out-right.result = record {
-      old = v;
-      caller = c.seat.invariant;
-      none = none_out c.self.inside.out _ v.out c.if-self.false;
-      domain = c.requires.domain ∙ ap (λ l. l.sight.domain) (sym c.self.view_is);
-      asks = subst (λ (n : ℕ). AsksHowFar n c.self.inside.sight c.args.cpu.now c.how_far.new.self c.how_far.new.sight) (sym c.get-number.ensures.value) c.how_far.ensures;
-      goes = c.take_first-entries.ensures _ v.wrapping;
-      takes = c.take_out-right.ensures.takes;
-      placed = subst (λ t. IsPlaced t.shared.key t.shared.table_id c.take_out-right.new.seat) c.deref-2.ensures c.take_out-right.ensures.placed;
-    } in
-    let none : length took.goes.gone ≡ 0 = sym (items_length _ took.goes.gone took.goes.items_are) ∙ (sym c.len-count.ensures.value ∙ c.if-count-eq0.true) in
-    took_list _ _ _ _ _ _ _ _ _ _ _ _ took c.self.inside.out (subst (λ (n : ℕ). IsTrue c.self.inside.out ↔ IsSome (some_out n)) (sym none) (subst (λ (b : Bool). IsTrue b ↔ IsSome (some_out 0)) (sym c.if-self.false) ((λ t. t), (λ t. t))))
-
-pub invariant_of-seat-then-count-eq0 : goal.invariant_of-seat-then-count-eq0
-invariant_of-seat-then-count-eq0 g c =
-    let v = c.self.invariant in
-    let took : IsTake c.self.inside c.args.cpu.now c.how_far.new.self c.seat.inside c.get-number.result c.args.max c.take_first-entries.result.items c.take_first-entries.new.waiting c.how_far.new.sight c.take_out-right.new.seat c.take_out-right.new.list c.take_out-right.result = record {
-      old = v;
-      caller = c.seat.invariant;
-      none = none_out c.self.inside.out _ v.out c.if-self.false;
-      domain = c.requires.domain ∙ ap (λ l. l.sight.domain) (sym c.self.view_is);
-      asks = subst (λ (n : ℕ). AsksHowFar n c.self.inside.sight c.args.cpu.now c.how_far.new.self c.how_far.new.sight) (sym c.get-number.ensures.value) c.how_far.ensures;
-      goes = c.take_first-entries.ensures _ v.wrapping;
-      takes = c.take_out-right.ensures.takes;
-      placed = subst (λ t. IsPlaced t.shared.key t.shared.table_id c.take_out-right.new.seat) c.deref-2.ensures c.take_out-right.ensures.placed;
-    } in
-    took_seat _ _ _ _ _ _ _ _ _ _ _ _ took
-
-pub returns-then-count-eq0-clause-takes : goal.returns-then-count-eq0-clause-takes
-returns-then-count-eq0-clause-takes g c =
-    let v = c.self.invariant in
-    let took : IsTake c.self.inside c.args.cpu.now c.how_far.new.self c.seat.inside c.get-number.result c.args.max c.take_first-entries.result.items c.take_first-entries.new.waiting c.how_far.new.sight c.take_out-right.new.seat c.take_out-right.new.list c.take_out-right.result = record {
-      old = v;
-      caller = c.seat.invariant;
-      none = none_out c.self.inside.out _ v.out c.if-self.false;
-      domain = c.requires.domain ∙ ap (λ l. l.sight.domain) (sym c.self.view_is);
-      asks = subst (λ (n : ℕ). AsksHowFar n c.self.inside.sight c.args.cpu.now c.how_far.new.self c.how_far.new.sight) (sym c.get-number.ensures.value) c.how_far.ensures;
-      goes = c.take_first-entries.ensures _ v.wrapping;
-      takes = c.take_out-right.ensures.takes;
-      placed = subst (λ t. IsPlaced t.shared.key t.shared.table_id c.take_out-right.new.seat) c.deref-2.ensures c.take_out-right.ensures.placed;
-    } in
-    let none : length took.goes.gone ≡ 0 = sym (items_length _ took.goes.gone took.goes.items_are) ∙ (sym c.len-count.ensures.value ∙ c.if-count-eq0.true) in
-    let gives = took_gives _ _ _ _ _ _ _ _ _ _ _ _ took c.self.inside.out in
-    rw (← c.self.view_is, ← c.seat.view_is) (record {
-      none_out = took.none;
-      gone = took.goes.gone;
-      gives = gives;
-      taken_is = taken_none (view_of_list c.self.inside) _ took.goes.gone none (gives.out ∙ ap some_out none);
-    })
-
-pub invariant_of-self-2 : goal.invariant_of-self-2
-invariant_of-self-2 g c =
-    let v = c.self.invariant in
-    let took : IsTake c.self.inside c.args.cpu.now c.how_far.new.self c.seat.inside c.get-number.result c.args.max c.take_first-entries.result.items c.take_first-entries.new.waiting c.how_far.new.sight c.take_out-right.new.seat c.take_out-right.new.list c.take_out-right.result = record {
-      old = v;
-      caller = c.seat.invariant;
-      none = none_out c.self.inside.out _ v.out c.if-self.false;
-      domain = c.requires.domain ∙ ap (λ l. l.sight.domain) (sym c.self.view_is);
-      asks = subst (λ (n : ℕ). AsksHowFar n c.self.inside.sight c.args.cpu.now c.how_far.new.self c.how_far.new.sight) (sym c.get-number.ensures.value) c.how_far.ensures;
-      goes = c.take_first-entries.ensures _ v.wrapping;
-      takes = c.take_out-right.ensures.takes;
-      placed = subst (λ t. IsPlaced t.shared.key t.shared.table_id c.take_out-right.new.seat) c.deref-2.ensures c.take_out-right.ensures.placed;
-    } in
-    let some : length took.goes.gone ≡ 0 → ⊥ = λ z. c.if-count-eq0.false (c.len-count.ensures.value ∙ (items_length _ took.goes.gone took.goes.items_are ∙ z)) in
-    took_list _ _ _ _ _ _ _ _ _ _ _ _ took true (some_flag (length took.goes.gone) some)
-
-pub invariant_of-seat-2 : goal.invariant_of-seat-2
-invariant_of-seat-2 g c =
-    let v = c.self.invariant in
-    let took : IsTake c.self.inside c.args.cpu.now c.how_far.new.self c.seat.inside c.get-number.result c.args.max c.take_first-entries.result.items c.take_first-entries.new.waiting c.how_far.new.sight c.take_out-right.new.seat c.take_out-right.new.list c.take_out-right.result = record {
-      old = v;
-      caller = c.seat.invariant;
-      none = none_out c.self.inside.out _ v.out c.if-self.false;
-      domain = c.requires.domain ∙ ap (λ l. l.sight.domain) (sym c.self.view_is);
-      asks = subst (λ (n : ℕ). AsksHowFar n c.self.inside.sight c.args.cpu.now c.how_far.new.self c.how_far.new.sight) (sym c.get-number.ensures.value) c.how_far.ensures;
-      goes = c.take_first-entries.ensures _ v.wrapping;
-      takes = c.take_out-right.ensures.takes;
-      placed = subst (λ t. IsPlaced t.shared.key t.shared.table_id c.take_out-right.new.seat) c.deref-2.ensures c.take_out-right.ensures.placed;
-    } in
-    took_seat _ _ _ _ _ _ _ _ _ _ _ _ took
-
-pub invariant_of-result : goal.invariant_of-result
-invariant_of-result g c =
-    let v = c.self.invariant in
-    let took : IsTake c.self.inside c.args.cpu.now c.how_far.new.self c.seat.inside c.get-number.result c.args.max c.take_first-entries.result.items c.take_first-entries.new.waiting c.how_far.new.sight c.take_out-right.new.seat c.take_out-right.new.list c.take_out-right.result = record {
-      old = v;
-      caller = c.seat.invariant;
-      none = none_out c.self.inside.out _ v.out c.if-self.false;
-      domain = c.requires.domain ∙ ap (λ l. l.sight.domain) (sym c.self.view_is);
-      asks = subst (λ (n : ℕ). AsksHowFar n c.self.inside.sight c.args.cpu.now c.how_far.new.self c.how_far.new.sight) (sym c.get-number.ensures.value) c.how_far.ensures;
-      goes = c.take_first-entries.ensures _ v.wrapping;
-      takes = c.take_out-right.ensures.takes;
-      placed = subst (λ t. IsPlaced t.shared.key t.shared.table_id c.take_out-right.new.seat) c.deref-2.ensures c.take_out-right.ensures.placed;
-    } in
-    let count : c.len-count.result ≡ length took.goes.gone = c.len-count.ensures.value ∙ items_length _ took.goes.gone took.goes.items_are in
-    let right = took_right _ _ _ _ _ _ _ _ _ _ _ _ took (λ z. c.if-count-eq0.false (count ∙ z)) in
-    record { seated = subst (λ (n : ℕ). IsBatchSeat c.take_out-right.result.table_id c.self.inside.processor n c.take_out-right.result) (sym count) right; wrapping = took.goes.items_are ∙ ap (map Some) (sym (ap entries_of took.goes.items_are ∙ entries_wrap took.goes.gone)) }
-
-pub returns-clause-takes : goal.returns-clause-takes
-returns-clause-takes g c =
-    let v = c.self.invariant in
-    let took : IsTake c.self.inside c.args.cpu.now c.how_far.new.self c.seat.inside c.get-number.result c.args.max c.take_first-entries.result.items c.take_first-entries.new.waiting c.how_far.new.sight c.take_out-right.new.seat c.take_out-right.new.list c.take_out-right.result = record {
-      old = v;
-      caller = c.seat.invariant;
-      none = none_out c.self.inside.out _ v.out c.if-self.false;
-      domain = c.requires.domain ∙ ap (λ l. l.sight.domain) (sym c.self.view_is);
-      asks = subst (λ (n : ℕ). AsksHowFar n c.self.inside.sight c.args.cpu.now c.how_far.new.self c.how_far.new.sight) (sym c.get-number.ensures.value) c.how_far.ensures;
-      goes = c.take_first-entries.ensures _ v.wrapping;
-      takes = c.take_out-right.ensures.takes;
-      placed = subst (λ t. IsPlaced t.shared.key t.shared.table_id c.take_out-right.new.seat) c.deref-2.ensures c.take_out-right.ensures.placed;
-    } in
-    let count : c.len-count.result ≡ length took.goes.gone = c.len-count.ensures.value ∙ items_length _ took.goes.gone took.goes.items_are in
-    let some : length took.goes.gone ≡ 0 → ⊥ = λ z. c.if-count-eq0.false (count ∙ z) in
-    let gives = took_gives _ _ _ _ _ _ _ _ _ _ _ _ took true in
-    let right = took_right _ _ _ _ _ _ _ _ _ _ _ _ took some in
-    let entries : entries_of c.take_first-entries.result.items ≡ took.goes.gone = ap entries_of took.goes.items_are ∙ entries_wrap took.goes.gone in
-    let first = took_first _ _ _ _ _ _ _ _ _ _ _ _ took some in
-    rw (← c.self.view_is, ← c.seat.view_is) (record {
-      none_out = took.none;
-      gone = took.goes.gone;
-      gives = gives;
-      taken_is = taken_some (view_of_list c.self.inside) _ took.goes.gone _ some (λ i. record { tallies = took.takes.batch_table i; processor = c.self.inside.processor; first = first i; count = count i; entries = entries i }) (gives.out ∙ some_out_some (length took.goes.gone) some);
-    })
-
-pub returns-clause-handed : goal.returns-clause-handed
-returns-clause-handed g c =
-    let v = c.self.invariant in
-    let took : IsTake c.self.inside c.args.cpu.now c.how_far.new.self c.seat.inside c.get-number.result c.args.max c.take_first-entries.result.items c.take_first-entries.new.waiting c.how_far.new.sight c.take_out-right.new.seat c.take_out-right.new.list c.take_out-right.result = record {
-      old = v;
-      caller = c.seat.invariant;
-      none = none_out c.self.inside.out _ v.out c.if-self.false;
-      domain = c.requires.domain ∙ ap (λ l. l.sight.domain) (sym c.self.view_is);
-      asks = subst (λ (n : ℕ). AsksHowFar n c.self.inside.sight c.args.cpu.now c.how_far.new.self c.how_far.new.sight) (sym c.get-number.ensures.value) c.how_far.ensures;
-      goes = c.take_first-entries.ensures _ v.wrapping;
-      takes = c.take_out-right.ensures.takes;
-      placed = subst (λ t. IsPlaced t.shared.key t.shared.table_id c.take_out-right.new.seat) c.deref-2.ensures c.take_out-right.ensures.placed;
-    } in
-    let moved = took_moved _ _ _ _ _ _ _ _ _ _ _ _ took in
-    let entries : entries_of c.take_first-entries.result.items ≡ took.goes.gone = ap entries_of took.goes.items_are ∙ entries_wrap took.goes.gone in
-    subst (λ (z : List (Entry g.row.J.Denot)). AreHanded z c.how_far.new.self.seen) (sym entries) (handed_all c.get-number.result c.self.inside.sight c.how_far.new.sight c.args.cpu.now c.how_far.new.self took.asks took.goes.gone took.goes.rest moved.waiting moved.since)
-
-pub returns-clause-closed : goal.returns-clause-closed
-returns-clause-closed g c =
-    let v = c.self.invariant in
-    let took : IsTake c.self.inside c.args.cpu.now c.how_far.new.self c.seat.inside c.get-number.result c.args.max c.take_first-entries.result.items c.take_first-entries.new.waiting c.how_far.new.sight c.take_out-right.new.seat c.take_out-right.new.list c.take_out-right.result = record {
-      old = v;
-      caller = c.seat.invariant;
-      none = none_out c.self.inside.out _ v.out c.if-self.false;
-      domain = c.requires.domain ∙ ap (λ l. l.sight.domain) (sym c.self.view_is);
-      asks = subst (λ (n : ℕ). AsksHowFar n c.self.inside.sight c.args.cpu.now c.how_far.new.self c.how_far.new.sight) (sym c.get-number.ensures.value) c.how_far.ensures;
-      goes = c.take_first-entries.ensures _ v.wrapping;
-      takes = c.take_out-right.ensures.takes;
-      placed = subst (λ t. IsPlaced t.shared.key t.shared.table_id c.take_out-right.new.seat) c.deref-2.ensures c.take_out-right.ensures.placed;
-    } in
-    let moved = took_moved _ _ _ _ _ _ _ _ _ _ _ _ took in
-    let entries : entries_of c.take_first-entries.result.items ≡ took.goes.gone = ap entries_of took.goes.items_are ∙ entries_wrap took.goes.gone in
-    subst (λ (z : List (Entry g.row.J.Denot)). All (λ e. AllClosed e.cookie.seen c.how_far.new.self.seen) z) (sym entries)
-    (closed_all c.get-number.result c.self.inside.sight c.how_far.new.sight c.args.cpu.now c.how_far.new.self took.asks took.goes.gone
-    (handed_all c.get-number.result c.self.inside.sight c.how_far.new.sight c.args.cpu.now c.how_far.new.self took.asks took.goes.gone took.goes.rest moved.waiting moved.since))
+pub returns-in-Ok-clause-takes : goal.returns-in-Ok-clause-takes
+returns-in-Ok-clause-takes g c =
+    let g1 = c.gather.ensures.gathers in record {
+      gathered = c.gather.new.self;
+      came = g1.came;
+      takes = takes_behind _ c.args.self.now c.gather.new.self c.args.cpu.now c.args.seat.now c.gather.new.seat _ _ _ _ g1 c.in-Ok.ensures.all c.take_ready.ensures.takes;
+    }

@@ -8,6 +8,8 @@ use Rattle.calls.proofs.Seating.{some_words, queued_there, does_through}
 use Rattle.calls.proofs.Sharing.{gives_note, takes_note}
 use Rattle.calls.proofs.Looking.{counts_queued_here}
 use Rattle.calls.proofs.Loading.{same_count, load_not_below}
+use Rattle.calls.proofs.Arriving.{intake_as, same_own_calls}
+use Rattle.calls.specs.Lines.{calls_in}
 use Rattle.calls.proofs.seat.CallSeat.load_behind.Goals as goal
 
 pub split_seat-copy-requires : goal.split_seat-copy-requires
@@ -50,6 +52,7 @@ invariant_of-self g c =
       loads = q.does.loads;
       queued = v.queued ∙ sym (same_count _ _ _ _ q.does refl ∙ ap (λ m. queued_in c.self.inside.processor m.0.seen) j.2);
       few = v.few;
+      intake = intake_as v.intake (e.0 ∙ j.0) (same_own_calls _ _ _ _ q.does refl ∙ ap (λ m. calls_in c.self.inside.processor m.0.seen) j.2);
     }
 
 pub returns-clause-does : goal.returns-clause-does
@@ -60,7 +63,7 @@ returns-clause-does g c =
     let who = ap (λ m. m.0.who) j.2 ∙ v.rests.who in
     let q = e.2.1 c.self.inside.processor c.args.processor who refl in
     let d = does_through c.self.inside.processor (LoadQueued c.args.processor c.load.result) c.self.inside.seat.me.0 c.join_seat.new.seat.me.0 c.load.new.seat.me.0 c.load.new.seat.me.0 (ap (λ m. m.0.seen) j.2) (ap (λ m. m.0.who) j.2) refl refl q.does in
-    rw (← c.self.view_is) (record { same = (e.0 ∙ j.0, refl, refl); before = d.before; since = d.since; own = d.own; seen = d.seen; loads = d.loads })
+    rw (← c.self.view_is) (record { same = (e.0 ∙ j.0, refl, refl, refl); before = d.before; since = d.since; own = d.own; seen = d.seen; loads = d.loads })
 
 pub returns-clause-covers : goal.returns-clause-covers
 returns-clause-covers g c =

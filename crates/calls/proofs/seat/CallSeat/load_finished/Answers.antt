@@ -3,6 +3,7 @@ use Rattle.calls.specs.Tallies.{AreTakers}
 use Rattle.calls.specs.Views.{CallSeatView}
 use Rattle.calls.specs.Seats.{IsPlaced, IsOfCaller}
 use Rattle.calls.proofs.Loading.{same_count}
+use Rattle.calls.proofs.Arriving.{intake_as, same_own_calls}
 use Rattle.calls.proofs.seat.CallSeat.load_finished.Goals as goal
 
 pub count_finished-requires-clause-there : goal.count_finished-requires-clause-there
@@ -30,6 +31,7 @@ invariant_of-self g c =
       loads = q.does.loads;
       queued = v.queued ∙ sym (same_count _ _ _ _ q.does refl);
       few = v.few;
+      intake = intake_as v.intake (e.table) (same_own_calls _ _ _ _ q.does refl);
     }
 
 pub returns-clause-does : goal.returns-clause-does
@@ -37,7 +39,7 @@ returns-clause-does g c =
     let v = c.self.invariant in
     let e = c.count_finished.ensures in
     let q = e.looks c.self.inside.processor c.args.processor v.rests.who refl in
-    rw (← c.self.view_is) (record { same = (e.table, refl, refl); before = q.does.before; since = q.does.since; own = q.does.own; seen = q.does.seen; loads = q.does.loads })
+    rw (← c.self.view_is) (record { same = (e.table, refl, refl, refl); before = q.does.before; since = q.does.since; own = q.does.own; seen = q.does.seen; loads = q.does.loads })
 
 pub returns-clause-within : goal.returns-clause-within
 returns-clause-within g c = c.count_finished.ensures.within c.args.processor refl

@@ -4,6 +4,7 @@ use Rattle.calls.specs.Seats.{IsPlaced}
 use Rattle.calls.proofs.Seating.{queued_there}
 use Rattle.calls.proofs.Looking.{counts_queued_here}
 use Rattle.calls.proofs.Loading.{same_count}
+use Rattle.calls.proofs.Arriving.{intake_as, same_own_calls}
 use Rattle.calls.proofs.seat.CallSeat.load_queued.Goals as goal
 
 pub load-requires : goal.load-requires
@@ -25,6 +26,7 @@ invariant_of-self g c =
       loads = q.does.loads;
       queued = v.queued ∙ sym (same_count _ _ _ _ q.does refl);
       few = v.few;
+      intake = intake_as v.intake (e.0) (same_own_calls _ _ _ _ q.does refl);
     }
 
 pub returns-clause-few : goal.returns-clause-few
@@ -35,4 +37,4 @@ returns-clause-does g c =
     let v = c.self.invariant in
     let e = c.load.ensures in
     let q = e.2.1 c.self.inside.processor c.args.processor v.rests.who refl in
-    rw (← c.self.view_is) (record { same = (e.0, refl, refl); before = q.does.before; since = q.does.since; own = q.does.own; seen = q.does.seen; loads = q.does.loads })
+    rw (← c.self.view_is) (record { same = (e.0, refl, refl, refl); before = q.does.before; since = q.does.since; own = q.does.own; seen = q.does.seen; loads = q.does.loads })

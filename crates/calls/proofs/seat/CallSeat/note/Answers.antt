@@ -5,6 +5,8 @@ use Rattle.calls.specs.Tallies.{queued_in, AreTrue}
 use Rattle.calls.specs.Seats.{IsPlaced}
 use Rattle.calls.proofs.Seating.{some_words}
 use Rattle.calls.proofs.Sharing.{gives_note}
+use Rattle.calls.proofs.Arriving.{intake_as}
+use Rattle.calls.specs.Lines.{calls_in}
 use Rattle.calls.proofs.seat.CallSeat.note.Goals as goal
 
 pub split_seat-seat-requires : goal.split_seat-seat-requires
@@ -25,12 +27,13 @@ invariant_of-self g c =
       loads = subst (λ (l : List (Deed _)). AreTrue l) seen v.loads;
       queued = v.queued ∙ ap (λ (l : List (Deed _)). queued_in c.self.inside.processor l) seen;
       few = v.few;
+      intake = intake_as v.intake (e.0) (sym (ap (λ (l : List (Deed _)). calls_in c.self.inside.processor l) seen));
     }
 
 pub returns-clause-same : goal.returns-clause-same
 returns-clause-same g c =
     let e = c.split_seat-seat.ensures in
-    rw (← c.self.view_is) (λ i. record { tallies = e.0 i; processors = (arc_value c.self.inside.table).shared.key.processors; processor = c.self.inside.processor; seen = (e.2 i).0.seen })
+    rw (← c.self.view_is) (λ i. record { domain = c.self.inside.sight.domain; tallies = e.0 i; processors = (arc_value c.self.inside.table).shared.key.processors; processor = c.self.inside.processor; seen = (e.2 i).0.seen })
 
 pub returns-clause-note : goal.returns-clause-note
 returns-clause-note g c =

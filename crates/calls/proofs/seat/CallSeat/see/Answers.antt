@@ -7,6 +7,9 @@ use Rattle.calls.specs.Seats.{IsPlaced, IsAtRest}
 use Rattle.calls.proofs.Seating.{some_words}
 use Rattle.calls.proofs.Sharing.{gives_note, takes_note}
 use Rattle.calls.proofs.Counting.{same_queued}
+use Rattle.calls.proofs.Arriving.{intake_as}
+use Rattle.calls.proofs.Once.{same_calls}
+use Rattle.calls.specs.Lines.{calls_in}
 use Rattle.calls.proofs.seat.CallSeat.see.Goals as goal
 
 pub split_seat-copy-requires : goal.split_seat-copy-requires
@@ -53,6 +56,7 @@ invariant_of-self g c =
       loads = f.loads;
       queued = v.queued ∙ sym (same_queued c.self.inside.processor c.see_all.new.seat.me.0.seen c.join_seat.new.seat.me.0.seen f.own ∙ ap (λ m. queued_in c.self.inside.processor m.0.seen) j.2);
       few = v.few;
+      intake = intake_as v.intake (e.table ∙ j.0) (same_calls c.self.inside.processor c.see_all.new.seat.me.0.seen c.join_seat.new.seat.me.0.seen f.own ∙ ap (λ m. calls_in c.self.inside.processor m.0.seen) j.2);
     }
 
 pub returns : goal.returns
@@ -63,7 +67,7 @@ returns g c =
     let told = ap (λ m. m.0.told) j.2 ∙ ap (λ m. m.0.seen) c.split_seat-copy.ensures.4 in
     let was = ap (λ m. m.0.seen) j.2 in
     rw (← c.self.view_is, ← c.note.view_is) (record {
-      same = λ i. record { tallies = (e.table ∙ j.0) i; processors = (arc_value c.self.inside.table).shared.key.processors; processor = c.self.inside.processor; seen = c.see_all.new.seat.me.0.seen };
+      same = λ i. record { domain = c.self.inside.sight.domain; tallies = (e.table ∙ j.0) i; processors = (arc_value c.self.inside.table).shared.key.processors; processor = c.self.inside.processor; seen = c.see_all.new.seat.me.0.seen };
       since = subst (λ (l : List (Deed _)). IsBeginning l c.see_all.new.seat.me.0.seen) was f.since;
       own = f.own ∙ ap (deeds_of c.self.inside.processor) was;
       covers = subst (λ (l : List (Deed _)). IsBeginning l c.see_all.new.seat.me.0.seen) told f.covers;

@@ -7,6 +7,9 @@ use Rattle.calls.specs.Seats.{IsPlaced, IsAtRest}
 use Rattle.calls.proofs.Seating.{some_words}
 use Rattle.calls.proofs.Sharing.{gives_note, takes_note}
 use Rattle.calls.proofs.Counting.{same_queued}
+use Rattle.calls.proofs.Arriving.{intake_as}
+use Rattle.calls.proofs.Once.{same_calls}
+use Rattle.calls.specs.Lines.{calls_in}
 use Rattle.calls.proofs.seat.CallSeat.see_just.Goals as goal
 
 pub split_seat-copy-requires : goal.split_seat-copy-requires
@@ -61,6 +64,7 @@ invariant_of-self g c =
       loads = subst (λ (l : List (Deed _)). AreTrue l) (sym seen) f.loads;
       queued = v.queued ∙ sym (ap (queued_in c.self.inside.processor) seen ∙ (same_queued c.self.inside.processor c.join_seat.new.seat.me.0.told c.join_seat.new.seat.me.0.seen f.own ∙ ap (λ m. queued_in c.self.inside.processor m.0.seen) j.2));
       few = v.few;
+      intake = intake_as v.intake (e.table ∙ j.0) (ap (calls_in c.self.inside.processor) seen ∙ (same_calls c.self.inside.processor c.join_seat.new.seat.me.0.told c.join_seat.new.seat.me.0.seen f.own ∙ ap (λ m. calls_in c.self.inside.processor m.0.seen) j.2));
     }
 
 pub returns : goal.returns
@@ -72,7 +76,7 @@ returns g c =
     let was = ap (λ m. m.0.seen) j.2 in
     let seen = ap (λ m. m.0.seen) e.me ∙ told in
     rw (← c.self.view_is, ← c.note.view_is) (record {
-      is = λ i. record { tallies = (e.table ∙ j.0) i; processors = (arc_value c.self.inside.table).shared.key.processors; processor = c.self.inside.processor; seen = seen i };
+      is = λ i. record { domain = c.self.inside.sight.domain; tallies = (e.table ∙ j.0) i; processors = (arc_value c.self.inside.table).shared.key.processors; processor = c.self.inside.processor; seen = seen i };
       since = rw (← c.self.view_is, ← c.note.view_is) at c.requires.since;
       own = ap (deeds_of c.self.inside.processor) (sym told) ∙ (f.own ∙ ap (deeds_of c.self.inside.processor) was);
       loads = subst (λ (l : List (Deed _)). AreTrue l) told f.loads;

@@ -8,6 +8,8 @@ use Rattle.calls.specs.Seats.{IsPlaced, IsAtRest, first_known}
 use Rattle.calls.specs.Waiting.{entries_of}
 use Rattle.calls.specs.Views.{CallSeatView}
 use Rattle.calls.proofs.Counting.{same_queued, begins_itself}
+use Rattle.calls.proofs.Arriving.{intake_as}
+use Rattle.calls.proofs.Once.{same_calls}
 use Rattle.calls.proofs.seat.CallSeat.see_out.Goals as goal
 
 pub see_batch_out-requires-clause-placed : goal.see_batch_out-requires-clause-placed
@@ -31,6 +33,7 @@ invariant_of-self g c =
       loads = f.loads;
       queued = v.queued ∙ sym (same_queued c.self.inside.processor c.see_batch_out.new.seat.me.0.seen c.self.inside.seat.me.0.seen f.own);
       few = v.few;
+      intake = intake_as v.intake (e.table) (same_calls c.self.inside.processor c.see_batch_out.new.seat.me.0.seen c.self.inside.seat.me.0.seen f.own);
     }
 
 pub invariant_of-batch : goal.invariant_of-batch
@@ -50,7 +53,7 @@ returns-clause-out g c =
       moment = c.see_batch_out.new.seat.me.0.seen;
       not_before = f.since;
       covers = record {
-        same = λ i. record { tallies = e.table i; processors = (arc_value c.self.inside.table).shared.key.processors; processor = c.self.inside.processor; seen = c.see_batch_out.new.seat.me.0.seen };
+        same = λ i. record { domain = c.self.inside.sight.domain; tallies = e.table i; processors = (arc_value c.self.inside.table).shared.key.processors; processor = c.self.inside.processor; seen = c.see_batch_out.new.seat.me.0.seen };
         since = f.since;
         own = f.own;
         covers = begins_itself c.see_batch_out.new.seat.me.0.seen;

@@ -1,4 +1,4 @@
-use Rattle.std.proofs.Common.{ℕ, ◌≤◌, List, [], ◌∷◌, ◌++◌, sym, subst, arith}
+use Rattle.std.proofs.Common.{ℕ, ◌≤◌, List, [], ◌∷◌, ◌++◌, refl, sym, subst, arith}
 use Rattle.std.proofs.lemmas.List.{length-append}
 use Rattle.std.proofs.lemmas.List.Sums.{sum_by-append}
 use Rattle.calls.specs.declared.view.Act.{Act}
@@ -7,8 +7,19 @@ use Rattle.calls.specs.Tallies.{most_calls, queued_in}
 use Rattle.calls.specs.Views.{CallSeatView}
 use Rattle.calls.specs.Calls.{Does}
 use Rattle.calls.specs.Barriers.{IsCountBetween, Loads, queued_loads}
-use Rattle.calls.proofs.Loading.{one_more_load, later_count, goes_on, queued_found, queued_loads_push, each_push}
+use Rattle.calls.proofs.Loading.{no_loads, one_more_load, later_count, goes_on, queued_found, queued_loads_push, each_push}
 use Rattle.calls.proofs.seat.CallSeat.total_queued.Goals as goal
+
+pub loop-processor-init : goal.loop-processor-init
+loop-processor-init g c = record {
+  found = [];
+  loads = no_loads _ c.processors-processors.ensures.loads;
+  count = refl;
+  each = λ p lt. absurd (omega (arith, lt));
+  few = λ p lt. absurd (omega (arith, lt));
+  total_is = refl;
+  small = omega arith;
+}
 
 pub loop-processor-preserved : goal.loop-processor-preserved
 loop-processor-preserved g c =

@@ -27,10 +27,12 @@ returns c =
         ap (λ (s : CallSeatView _). s.tallies) all ∙ (h.finished.loads.same.0 ∙ (h.queued.loads.same.0 ∙ ap (λ (s : CallSeatView _). s.tallies) one)),
         ap (λ (s : CallSeatView _). s.processors) all ∙ (h.finished.loads.same.1 ∙ (h.queued.loads.same.1 ∙ ap (λ (s : CallSeatView _). s.processors) one)),
         ap (λ (s : CallSeatView _). s.processor) all ∙ (h.finished.loads.same.2 ∙ (h.queued.loads.same.2 ∙ ap (λ (s : CallSeatView _). s.processor) one)),
+        ap (λ (s : CallSeatView _). s.domain) all ∙ (h.finished.loads.same.3 ∙ (h.queued.loads.same.3 ∙ ap (λ (s : CallSeatView _). s.domain) one)),
       ),
       (
         ap (λ (s : CallSeatView _). s.tallies) two ∙ ap (λ (s : CallSeatView _). s.tallies) other,
         ap (λ (s : CallSeatView _). s.processors) two ∙ ap (λ (s : CallSeatView _). s.processors) other,
         ap (λ (s : CallSeatView _). s.processor) two ∙ ap (λ (s : CallSeatView _). s.processor) other,
+        ap (λ (s : CallSeatView _). s.domain) two ∙ ap (λ (s : CallSeatView _). s.domain) other,
       ),
     )
