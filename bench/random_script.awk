@@ -39,7 +39,7 @@ function domain_name() {
     return chance(faults) ? bad_name() : padded("d" below(domains) "x")
 }
 
-# Looks, sections and tickets share their names, so that one kind is often found where another should be.
+# Looks, sections, tickets and leases share their names, so that one kind is often found where another should be.
 function token_name() {
     return chance(faults) ? bad_name() : padded("s" below(tokens) "x")
 }
@@ -64,6 +64,37 @@ function cookie() {
     return 4 * below(8)
 }
 
+# The handler of a block, 0 to 15.
+function handler() {
+    if (chance(faults))
+        return chance(50) ? bad_number() : "16"
+    return below(chance(70) ? 4 : 16)
+}
+
+function priority() {
+    if (chance(faults))
+        return one_of("-0,+1,-01,2147483648,-2147483649,x,-")
+    return one_of("-5,-1,0,0,5,5,9,-2147483648,2147483647")
+}
+
+# A key, or a plug: a number of 32 bits.
+function word_of_32_bits() {
+    if (chance(faults))
+        return chance(50) ? bad_number() : "4294967296"
+    return chance(90) ? below(4) : one_of("4294967295,65536," below(1000))
+}
+
+# What handlers answer, each of them once but where a fault is wanted.
+function pairs(    all, id) {
+    all = ""
+    for (id = 0; id < 16; id++)
+        if (chance(20))
+            all = all " " id ":" one_of("done,ok,ok,stop,bad")
+    if (chance(faults))
+        all = all " " one_of("0:ok,1,1:,:ok,1:OK,16:ok,01:ok,1:ok:,-1:bad," bad_number() ":stop")
+    return all
+}
+
 function words_of(command) {
     if (command == "domain")
         return command " " domain_name() " " processors()
@@ -75,6 +106,20 @@ function words_of(command) {
         return command " " domain_name() " " processor() " " token_name()
     if (command == "poll")
         return command " " domain_name() " " processor() " " cookie()
+    if (command == "register")
+        return command " " domain_name() " " processor() " " handler() " " priority()
+    if (command == "unregister")
+        return command " " domain_name() " " processor() " " handler()
+    if (command == "notify")
+        return command " " domain_name() " " processor() pairs()
+    if (command == "install")
+        return command " " domain_name() " " processor() " " word_of_32_bits() " " word_of_32_bits()
+    if (command == "remove" || command == "lookup")
+        return command " " domain_name() " " processor() " " word_of_32_bits()
+    if (command == "lease" || command == "release")
+        return command " " domain_name() " " processor() " " token_name()
+    if (command == "read")
+        return command " " domain_name() " " processor() " " token_name() " " word_of_32_bits()
     return command " " domain_name() " " processor()
 }
 
@@ -94,7 +139,7 @@ function spoilt(line,    words, count) {
     if (kind == 2)
         return repeated("x", 195 + below(400))
     if (kind == 3)
-        return one_of("Lock,locks,loc,advance1,help,exit,lookup,STATE,.,0,synchronize,barriers,downs,unpar,runs,cal") substr(line, length(words[1]) + 1)
+        return one_of("Lock,locks,loc,advance1,help,exit,lookups,STATE,.,0,synchronize,barriers,downs,unpar,runs,cal") substr(line, length(words[1]) + 1)
     if (kind == 4)
         return words[1]
     if (kind == 5)
@@ -139,7 +184,8 @@ BEGIN {
     for (i = 0; i < 20; i++)
         below(2)
     acting = "look,enter,lock,lock,unlock,unlock,down,down,up,up,park,park,unpark,unpark,get,ask,poll,poll,state,domain" \
-        ",call,call,call,call,run,run,run,batch,finish,segs,barrier,barrier-poll,barrier-poll,cleanup"
+        ",call,call,call,call,run,run,run,batch,finish,segs,barrier,barrier-poll,barrier-poll,cleanup" \
+        ",register,register,unregister,chain,notify,notify,install,install,remove,lookup,lease,read,release,release"
     driving = "start,advance,advance,step,step,step"
     faults = one_of("0,1,5,20")
     domains = one_of("1,2,3,12")

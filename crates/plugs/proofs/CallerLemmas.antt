@@ -7,11 +7,12 @@ use Rattle.domain.specs.Views.{CpuView}
 use Rattle.domain.specs.Waiting.{HasNoneOpen}
 use Rattle.domain.proofs.CallerLemmas.{same_put, same_reclaimed, none_still}
 use Rattle.plugs.specs.declared.rows.Row.{Row}
+use Rattle.plugs.specs.Parts.{rows_in}
 use Rattle.plugs.specs.Tables.{plug_of, IsTable, text_of}
 use Rattle.plugs.specs.Views.{LeaseView}
 use Rattle.plugs.specs.Changes.{Publishes, FindsNone}
 use Rattle.plugs.specs.Reading.{AreWords, LoadsRows, LooksUp, Gets}
-use Rattle.plugs.proofs.Texts.{text_long}
+use Rattle.plugs.proofs.Texts.{text_long, read_back as rows_out}
 
 -- the version has the text of this table
 abbrev pub HasTable : FoundView → List Row → Type 0
@@ -20,6 +21,10 @@ HasTable f rows = IsTable rows × (words_of f.cell f.version f.texts ≡ text_of
 words_put : (f : FoundView) (rows : List Row) (words : List ℕ) → HasTable f rows → AreWords f words → words ≡ text_of rows
 words_put f rows words has are = ext_get_or 0 words (text_of rows) (are.long ∙ sym (text_long rows has.0.few))
     (λ i lt. let li : i < 16 = (let n = are.long in omega (arith, lt, n)) in are.each i li ∙ ap (λ l. get_or l i 0) has.1)
+
+-- the rows come out of the text of their table
+pub read_back : (rows : List Row) → IsTable rows → rows_in (text_of rows) ≡ rows
+read_back rows table = rows_out rows table
 
 module _ {J : Type 0} where
   -- these rows are read

@@ -1,20 +1,24 @@
 -- What the words of a line ask for, by the command that the first of them is.
-use Rattle.std.proofs.Common.{◌≡◌, ℕ, ◌<◌, List, [], ◌∷◌, length, drop, get_or, refl, sym, ap, ◌∙◌, subst, arith}
-use Rattle.std.specs.Prelude.{Option, Some, None}
+use Rattle.std.proofs.Common.{◌≡◌, ℕ, ◌-◌, ◌<◌, List, [], ◌∷◌, length, take, drop, get_or, refl, sym, ap, ◌∙◌, subst, arith}
+use Rattle.std.specs.Prelude.{Option, Some, None, min}
 use Rattle.std.specs.Borrow.{Bor}
+use Rattle.std.specs.List.{drop-map}
+use Rattle.std.proofs.lemmas.List.{drop_min, length-map, take_min, take-map, take_rest}
 use Rattle.requests.specs.declared.command.Command.{Command}
 use Rattle.requests.specs.declared.command.Command.TheVariants as command
 use Rattle.requests.specs.declared.command.Argument.{Argument}
-use Rattle.requests.specs.declared.command.Argument.TheVariants.{NewDomain, AnyNumber, ADomain, AProcessor}
+use Rattle.requests.specs.declared.command.Argument.TheVariants.{NewDomain, AnyNumber, ADomain, AProcessor, AnId, APriority, AKey, APlug}
 use Rattle.requests.specs.declared.given.Given.{Given}
 use Rattle.requests.specs.declared.request.Request.{Request}
 use Rattle.requests.specs.declared.fault.Fault.{Fault}
 use Rattle.requests.specs.declared.fault.Fault.TheVariants as fault
-use Rattle.requests.specs.Commands.{arguments, command_of}
+use Rattle.requests.specs.declared.handler_answers.HandlerAnswers.{HandlerAnswers}
+use Rattle.requests.specs.Commands.{arguments, arguments_in, pairs_in, count_of_arguments, command_of}
+use Rattle.requests.specs.Pairs.{answers_of}
 use Rattle.requests.specs.Scenes.{SceneView}
-use Rattle.requests.specs.Faults.{texts, command_fault, words_fault, fault_of}
-use Rattle.requests.specs.Requests.{Names, AllName, request_of, Asks, AskOnly, IsFor}
-use Rattle.requests.specs.Given.{AllSuit, AreOfARow}
+use Rattle.requests.specs.Faults.{texts, command_fault, words_fault, pairs_fault, or_else, fault_of}
+use Rattle.requests.specs.Requests.{Names, AllName, PairsName, request_of, Asks, AskOnly, IsFor}
+use Rattle.requests.specs.Given.{Suits, AllSuit, AreOfARow}
 
 -- each row names a domain before an argument of it, and each of its arguments fills a field of its own
 pub rows : (c : Command) → AreOfARow (arguments c)
@@ -32,6 +36,10 @@ Agree g h NewDomain = g.name ≡ h.name
 Agree g h AnyNumber = g.number ≡ h.number
 Agree g h ADomain = g.domain ≡ h.domain
 Agree g h AProcessor = g.processor ≡ h.processor
+Agree g h AnId = g.id ≡ h.id
+Agree g h APriority = g.priority ≡ h.priority
+Agree g h AKey = g.key ≡ h.key
+Agree g h APlug = g.plug ≡ h.plug
 Agree g h _ = g.name ≡ h.name
 
 abbrev AllAgree : Given → Given → List Argument → Type 0
@@ -49,10 +57,43 @@ module _ (s : SceneView) (g h : Given) where
   all_agree (a ∷ rest) [] p q = absurd p
   all_agree (a ∷ rest) (w ∷ ws) p q = (agree a w p.0 q.0, all_agree rest ws p.1 q.1)
 
--- a command's request has no field that none of its arguments fills
-same_request : (c : Command) (g h : Given) → AllAgree g h (arguments c) → request_of c g ≡ request_of c h
-same_request command.Domain g h e = cc
-same_request _ g h e = cc
+-- and the same answers
+same_answers : (g h : Given) (ws : List (List ℕ)) → PairsName g ws → PairsName h ws → g.answers ≡ h.answers
+same_answers g h ws (pairs, read, is) (others, read_again, other) =
+    let same : pairs ≡ others = cc in
+    let by_id : g.answers.by_id ≡ h.answers.by_id = is ∙ ap answers_of same ∙ sym other in
+    λ i. record { by_id = by_id i }
+
+-- a command's request has no field that neither one of its arguments fills nor its pairs
+same_request : (c : Command) (g h : Given) → AllAgree g h (arguments c) → g.answers ≡ h.answers → request_of c g ≡ request_of c h
+same_request command.Domain g h e d = cc
+same_request _ g h e d = cc
+
+-- what the arguments name stays as it is where the answers come behind
+name_with : (s : SceneView) (g : Given) (answers : HandlerAnswers) (a : Argument) (w : List ℕ) → Names s g a w → Names s (record g { answers = answers }) a w
+name_with s g answers NewDomain w h = h
+name_with s g answers _ w h = h
+
+names_with : (s : SceneView) (g : Given) (answers : HandlerAnswers) (taken : List Argument) (ws : List (List ℕ)) → AllName s g taken ws → AllName s (record g { answers = answers }) taken ws
+names_with s g answers [] [] h = tt
+names_with s g answers [] (w ∷ ws) h = absurd h
+names_with s g answers (a ∷ rest) [] h = absurd h
+names_with s g answers (a ∷ rest) (w ∷ ws) h = (name_with s g answers a w h.0, names_with s g answers rest ws h.1)
+
+suits_with : (s : SceneView) (g : Given) (answers : HandlerAnswers) (a : Argument) → Suits s g a → Suits s (record g { answers = answers }) a
+suits_with s g answers NewDomain h = h
+suits_with s g answers _ h = h
+
+suit_with : (s : SceneView) (g : Given) (answers : HandlerAnswers) (taken : List Argument) → AllSuit s g taken → AllSuit s (record g { answers = answers }) taken
+suit_with s g answers [] h = tt
+suit_with s g answers (a ∷ rest) h = (suits_with s g answers a h.0, suit_with s g answers rest h.1)
+
+module _ (s : SceneView) (g g' : Given) (is : g' ≡ record g { answers = g'.answers }) where
+  names_as : (taken : List Argument) (ws : List (List ℕ)) → AllName s g taken ws → AllName s g' taken ws
+  names_as taken ws h = subst (λ (k : Given). AllName s k taken ws) (sym is) (names_with s g g'.answers taken ws h)
+
+  suit_as : (taken : List Argument) → AllSuit s g taken → AllSuit s g' taken
+  suit_as taken h = subst (λ (k : Given). AllSuit s k taken) (sym is) (suit_with s g g'.answers taken h)
 
 -- the bytes of the word at a place
 abbrev word : List (Bor (List ℕ)) → ℕ → List ℕ
@@ -63,12 +104,28 @@ first_word [] some = absurd (omega arith)
 first_word (w ∷ ws) some = refl
 
 -- words behind one word ask for one thing
-asked_once : (s : SceneView) (w : List ℕ) (ws : List (List ℕ)) (c : Command) (g : Given) (asked : Request) → AllName s g (arguments c) ws → command_of w ≡ Some c → asked ≡ request_of c g
-    → (d : Command) (k : Given) (other : Request) → AllName s k (arguments d) ws → command_of w ≡ Some d → other ≡ request_of d k → other ≡ asked
-asked_once s w ws c g asked names known is d k other others also that =
-    let same : d ≡ c = cc in
-    let again : AllName s k (arguments c) ws = subst (λ d. AllName s k (arguments d) ws) same others in
-    that ∙ ap (λ d. request_of d k) same ∙ same_request c k g (all_agree s k g (arguments c) ws again names) ∙ sym is
+module _ (s : SceneView) (w : List ℕ) (ws : List (List ℕ)) (c : Command) (known : command_of w ≡ Some c) (g : Given) (asked : Request)
+    (names : AllName s g (arguments c) (arguments_in c ws)) (pairs : PairsName g (pairs_in c ws)) (is : asked ≡ request_of c g) where
+  asked_once : (other : Request) → Asks s (w ∷ ws) other → other ≡ asked
+  unfolding Asks
+  asked_once other (d, k, also, others, other_pairs, that) =
+      let same : d ≡ c = cc in
+      let again : AllName s k (arguments c) (arguments_in c ws) = subst (λ d. AllName s k (arguments d) (arguments_in d ws)) same others in
+      let pairs_again : PairsName k (pairs_in c ws) = subst (λ d. PairsName k (pairs_in d ws)) same other_pairs in
+      that ∙ ap (λ d. request_of d k) same
+      ∙ same_request c k g (all_agree s k g (arguments c) (arguments_in c ws) again names) (same_answers k g (pairs_in c ws) pairs_again pairs) ∙ sym is
+
+-- The arguments and the pairs of the words behind the command
+
+module _ (c : Command) (rest : List (Bor (List ℕ))) (count : ℕ) (is : count ≡ min (count_of_arguments c (length rest)) (length rest)) where
+  count_is : count ≡ min (count_of_arguments c (length (texts rest))) (length (texts rest))
+  count_is = is ∙ ap (λ k. min (count_of_arguments c k) k) (sym (length-map rest (λ w. w.now)))
+
+  arguments_are : (front : List (Bor (List ℕ))) → front ≡ take count rest → texts front ≡ arguments_in c (texts rest)
+  arguments_are front e = ap texts e ∙ sym (take-map (λ w. w.now) count rest) ∙ ap (λ k. take k (texts rest)) count_is ∙ take_min (count_of_arguments c (length (texts rest))) (texts rest)
+
+  pairs_are : (back : List (Bor (List ℕ))) → back ≡ drop count rest → texts back ≡ pairs_in c (texts rest)
+  pairs_are back e = ap texts e ∙ sym (drop-map (λ w. w.now) count rest) ∙ ap (λ k. drop k (texts rest)) count_is ∙ drop_min (count_of_arguments c (length (texts rest))) (texts rest)
 
 module _ (s : SceneView) (ws rest : List (Bor (List ℕ))) (some : 0 < length ws) (is : rest ≡ drop 1 ws) (o : Option Command) (found : o ≡ command_of (word ws 0)) where
   whole : texts ws ≡ word ws 0 ∷ texts rest
@@ -81,14 +138,60 @@ module _ (s : SceneView) (ws rest : List (Bor (List ℕ))) (some : 0 < length ws
   pub no_command : o ≡ None → fault_of s (texts ws) ≡ Some fault.Command
   no_command e = fault_is ∙ ap (λ o. command_fault s o (texts rest)) e
 
-  module _ (c : Command) (e : o ≡ Some c) (taken : List Argument) (row : taken ≡ arguments c) where
-    pub fault_of_words : (f : Option Fault) → words_fault s taken (texts rest) ≡ f → fault_of s (texts ws) ≡ f
-    fault_of_words f h = fault_is ∙ ap (λ o. command_fault s o (texts rest)) e ∙ ap (λ t. words_fault s t (texts rest)) (sym row) ∙ h
+  module _ (c : Command) (e : o ≡ Some c) (taken : List Argument) (row : taken ≡ arguments c) (front back : List (Bor (List ℕ)))
+      (front_is : texts front ≡ arguments_in c (texts rest)) (back_is : texts back ≡ pairs_in c (texts rest)) where
+    parts_fault : fault_of s (texts ws) ≡ or_else (words_fault s taken (texts front)) (pairs_fault (texts back))
+    parts_fault =
+        fault_is ∙ ap (λ o. command_fault s o (texts rest)) e ∙ ap (λ t. or_else (words_fault s t (arguments_in c (texts rest))) (pairs_fault (pairs_in c (texts rest)))) (sym row)
+        ∙ ap (λ ws. or_else (words_fault s taken ws) (pairs_fault (pairs_in c (texts rest)))) (sym front_is) ∙ ap (λ ws. or_else (words_fault s taken (texts front)) (pairs_fault ws)) (sym back_is)
 
-    pub asked_of_words : (g : Given) (asked : Request) → AllName s g taken (texts rest) → AllSuit s g taken → asked ≡ request_of c g → Asks s (texts ws) asked × IsFor s asked × AskOnly s (texts ws) asked
+    fault_of_words : (f : Fault) → words_fault s taken (texts front) ≡ Some f → fault_of s (texts ws) ≡ Some f
+    fault_of_words f h = parts_fault ∙ ap (λ o. or_else o (pairs_fault (texts back))) h
+
+    fault_of_pairs : (f : Option Fault) → words_fault s taken (texts front) ≡ None → pairs_fault (texts back) ≡ f → fault_of s (texts ws) ≡ f
+    fault_of_pairs f fine h = parts_fault ∙ ap (λ o. or_else o (pairs_fault (texts back))) fine ∙ h
+
+    asked_of_words : (g : Given) (asked : Request) → AllName s g taken (texts front) → AllSuit s g taken → PairsName g (texts back) → asked ≡ request_of c g
+        → Asks s (texts ws) asked × IsFor s asked × AskOnly s (texts ws) asked
     unfolding Asks
-    asked_of_words g asked names suits h =
-        let row_names : AllName s g (arguments c) (texts rest) = subst (λ t. AllName s g t (texts rest)) row names in
-        let asks : Asks s (word ws 0 ∷ texts rest) asked = (c, g, sym found ∙ e, row_names, h) in
-        let only : AskOnly s (word ws 0 ∷ texts rest) asked = λ other (d, k, known, names, is). asked_once s (word ws 0) (texts rest) c g asked row_names (sym found ∙ e) h d k other names known is in
+    asked_of_words g asked names suits pairs h =
+        let row_names : AllName s g (arguments c) (texts front) = subst (λ t. AllName s g t (texts front)) row names in
+        let front_names : AllName s g (arguments c) (arguments_in c (texts rest)) = subst (AllName s g (arguments c)) front_is row_names in
+        let back_names : PairsName g (pairs_in c (texts rest)) = subst (PairsName g) back_is pairs in
+        let asks : Asks s (word ws 0 ∷ texts rest) asked = (c, g, sym found ∙ e, front_names, back_names, h) in
+        let only : AskOnly s (word ws 0 ∷ texts rest) asked = asked_once s (word ws 0) (texts rest) c (sym found ∙ e) g asked front_names back_names h in
         (subst (λ t. Asks s t asked) (sym whole) asks, subst (IsFor s) (sym h) (is_for s c g (subst (AllSuit s g) row suits)), subst (λ t. AskOnly s t asked) (sym whole) only)
+
+-- The words behind the first one, and of these the arguments and the pairs, as they are cut out
+
+abbrev Words : Type 0
+Words = List (Bor (List ℕ))
+
+abbrev behind : Words → Words
+behind ws = take (length ws - 1) (drop 1 ws)
+
+abbrev front : Words → ℕ → Words
+front ws count = take count (behind ws)
+
+abbrev back : Words → ℕ → Words
+back ws count = take (length (behind ws) - count) (drop count (behind ws))
+
+module _ (s : SceneView) (ws : Words) (some : 0 < length ws) (o : Option Command) (found : o ≡ command_of (word ws 0)) (c : Command) (e : o ≡ Some c) (taken : List Argument) (row : taken ≡ arguments c)
+    (count : ℕ) (is : count ≡ min (count_of_arguments c (length (behind ws))) (length (behind ws))) where
+  front_is : texts (front ws count) ≡ arguments_in c (texts (behind ws))
+  front_is = arguments_are c (behind ws) count is (front ws count) refl
+
+  back_is : texts (back ws count) ≡ pairs_in c (texts (behind ws))
+  back_is = pairs_are c (behind ws) count is (back ws count) (take_rest (behind ws) count)
+
+  pub wrong_words : (f : Fault) → words_fault s taken (texts (front ws count)) ≡ Some f → fault_of s (texts ws) ≡ Some f
+  wrong_words = fault_of_words s ws (behind ws) some (take_rest ws 1) o found c e taken row (front ws count) (back ws count) front_is back_is
+
+  pub first_fault : (f : Option Fault) → words_fault s taken (texts (front ws count)) ≡ None → pairs_fault (texts (back ws count)) ≡ f → fault_of s (texts ws) ≡ f
+  first_fault = fault_of_pairs s ws (behind ws) some (take_rest ws 1) o found c e taken row (front ws count) (back ws count) front_is back_is
+
+  pub is_asked : (g g' : Given) (asked : Request) → g' ≡ record g { answers = g'.answers } → AllName s g taken (texts (front ws count)) → AllSuit s g taken → PairsName g' (texts (back ws count)) → asked ≡ request_of c g'
+      → Asks s (texts ws) asked × IsFor s asked × AskOnly s (texts ws) asked
+  is_asked g g' asked same names suits =
+      asked_of_words s ws (behind ws) some (take_rest ws 1) o found c e taken row (front ws count) (back ws count) front_is back_is g' asked
+      (names_as s g g' same taken (texts (front ws count)) names) (suit_as s g g' same taken suits)

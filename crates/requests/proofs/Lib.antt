@@ -1,3 +1,6 @@
 mod Reading
 mod Asking
 mod Padding
+mod Values
+mod Pairing
+mod Hexadecimal

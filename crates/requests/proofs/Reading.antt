@@ -2,20 +2,22 @@
 use Rattle.std.proofs.Common.{◌≡◌, ℕ, ◌<◌, Bool, true, false, not, ◌&&◌, ◌⊎◌, List, [], ◌∷◌, length, refl, sym, ap, ◌∙◌, subst, inl, inr, arith, rules}
 use borrow.Author.Tests.{tests}
 use Rattle.std.specs.Borrow.{Bor}
-use Rattle.std.specs.Prelude.{Option, Some, None, is_some, unwrap_or, nat_lt, if◌then◌else◌}
+use Rattle.std.specs.Prelude.{pos, Option, Some, None, is_some, unwrap_or, nat_lt, if◌then◌else◌}
 use Rattle.std.specs.List.{list_all}
 use Rattle.std.proofs.lemmas.Bool.Decides.{nat_tests}
 use Rattle.lines.specs.Lines.{is_name, number_of}
 use Rattle.requests.specs.declared.fault.Fault.{Fault}
 use Rattle.requests.specs.declared.fault.Fault.TheVariants as fault
 use Rattle.requests.specs.declared.command.Argument.{Argument}
-use Rattle.requests.specs.declared.command.Argument.TheVariants.{NewDomain, AnyNumber, ADomain, AProcessor, NewName, ALook, AReading, AHeld, ATicket, AJob}
+use Rattle.requests.specs.declared.command.Argument.TheVariants.{NewDomain, AnyNumber, ADomain, AProcessor, NewName, ALook, AReading, AHeld, ATicket, AJob, ALease, AnId, APriority, AKey, APlug}
 use Rattle.requests.specs.declared.given.Given.{Given}
 use Rattle.requests.specs.declared.scene.Kind.{Kind}
 use Rattle.requests.specs.declared.scene.Kind.TheVariants as kind
+use Rattle.requests.specs.Numbers.{below, priority_of, word32_of}
 use Rattle.requests.specs.Scenes.{SceneView, IsPlace}
 use Rattle.requests.specs.Faults.{number_fault, processor_fault, has_kind, argument_fault, place_after, or_else, arguments_fault, words_fault, texts}
 use Rattle.requests.specs.Requests.{Names, AllName}
+use Rattle.requests.proofs.Pairing.{below_end}
 use Rattle.requests.specs.Given.{filled, Suits, AllSuit, needs_domain, may_follow, names_domain_first, fill_apart}
 
 -- One word without a fault
@@ -38,17 +40,22 @@ domain_there true None other h = cc
 domain_there true (Some place) other h = refl
 domain_there false found other h = cc
 
-number_there : (found : Option ℕ) → number_fault found ≡ None → found ≡ Some (unwrap_or found 0)
-number_there None h = cc
-number_there (Some n) h = refl
+number_there : {N : Type 0} (found : Option N) (other : N) → number_fault found ≡ None → found ≡ Some (unwrap_or found other)
+number_there None other h = cc
+number_there (Some n) other h = refl
 
-below : (p processors : ℕ) (b : Bool) → nat_lt p processors ≡ b → (if b then None else Some fault.Processor) ≡ None → p < processors
-below p processors true e h = grind (arith, nat_tests)
-below p processors false e h = cc
+id_there : (found : Option ℕ) → number_fault (below 16 found) ≡ None → (below 16 found ≡ Some (unwrap_or (below 16 found) 0)) × (unwrap_or (below 16 found) 0 < 16)
+id_there found h =
+    let there : below 16 found ≡ Some (unwrap_or (below 16 found) 0) = number_there (below 16 found) 0 h in
+    (there, below_end 16 found (unwrap_or (below 16 found) 0) there)
+
+below_them : (p processors : ℕ) (b : Bool) → nat_lt p processors ≡ b → (if b then None else Some fault.Processor) ≡ None → p < processors
+below_them p processors true e h = grind (arith, nat_tests)
+below_them p processors false e h = cc
 
 processor_there : (processors : ℕ) (found : Option ℕ) → processor_fault processors found ≡ None → (found ≡ Some (unwrap_or found 0)) × (unwrap_or found 0 < processors)
 processor_there processors None h = cc
-processor_there processors (Some p) h = (refl, below p processors (nat_lt p processors) refl h)
+processor_there processors (Some p) h = (refl, below_them p processors (nat_lt p processors) refl h)
 
 kind_there : (named : Bool) (k : Kind) (found : Option Kind) → (if named && has_kind k found then None else Some fault.Name) ≡ None → found ≡ Some k
 kind_there false k found h = cc
@@ -58,11 +65,13 @@ kind_there true kind.Reading (Some kind.Reading) h = refl
 kind_there true kind.Held (Some kind.Held) h = refl
 kind_there true kind.Parked (Some kind.Parked) h = refl
 kind_there true kind.Ticket (Some kind.Ticket) h = refl
+kind_there true kind.Lease (Some kind.Lease) h = refl
 kind_there true kind.Look (Some _) h = cc
 kind_there true kind.Reading (Some _) h = cc
 kind_there true kind.Held (Some _) h = cc
 kind_there true kind.Parked (Some _) h = cc
 kind_there true kind.Ticket (Some _) h = cc
+kind_there true kind.Lease (Some _) h = cc
 
 -- the word, as this argument, names what is given, and it is what the argument should be
 abbrev IsKnown : SceneView → Given → Argument → List ℕ → Type 0
@@ -72,7 +81,7 @@ module _ (s : SceneView) where
   reads : (g : Given) (a : Argument) (w : List ℕ) → argument_fault s g.domain a w ≡ None → IsKnown s (filled s g a w) a w
   unfolding argument_fault
   reads g NewDomain w h = (refl, new_name_none (is_name w) (s.place_of w) h)
-  reads g AnyNumber w h = (number_there (number_of w) h, tt)
+  reads g AnyNumber w h = (number_there (number_of w) 0 h, tt)
   reads g ADomain w h = let there = domain_there (is_name w) (s.place_of w) g.domain h in (there, (w, there))
   reads g AProcessor w h = processor_there (s.processors_of g.domain) (number_of w) h
   reads g NewName w h = (refl, new_name_none (is_name w) (s.kind_of g.domain w) h)
@@ -81,6 +90,11 @@ module _ (s : SceneView) where
   reads g AHeld w h = (refl, kind_there (is_name w) kind.Held (s.kind_of g.domain w) h)
   reads g ATicket w h = (refl, kind_there (is_name w) kind.Ticket (s.kind_of g.domain w) h)
   reads g AJob w h = (refl, tt)
+  reads g ALease w h = (refl, kind_there (is_name w) kind.Lease (s.kind_of g.domain w) h)
+  reads g AnId w h = id_there (number_of w) h
+  reads g APriority w h = (number_there (priority_of w) (pos 0) h, tt)
+  reads g AKey w h = (number_there (word32_of w) 0 h, tt)
+  reads g APlug w h = (number_there (word32_of w) 0 h, tt)
 
   -- an argument behind it changes nothing of what is known of a word
   keeps : (g : Given) (b a : Argument) (v w : List ℕ) → may_follow b a ≡ true → IsKnown s g b v → IsKnown s (filled s g a w) b v
@@ -104,6 +118,16 @@ module _ (s : SceneView) where
   keeps g b ATicket v w e h = first_of (cc, assumption h)
   keeps g NewDomain AJob v w e h = cc
   keeps g b AJob v w e h = first_of (cc, assumption h)
+  keeps g NewDomain ALease v w e h = cc
+  keeps g b ALease v w e h = first_of (cc, assumption h)
+  keeps g NewDomain AnId v w e h = h
+  keeps g b AnId v w e h = first_of (cc, assumption h)
+  keeps g NewDomain APriority v w e h = h
+  keeps g b APriority v w e h = first_of (cc, assumption h)
+  keeps g NewDomain AKey v w e h = h
+  keeps g b AKey v w e h = first_of (cc, assumption h)
+  keeps g NewDomain APlug v w e h = h
+  keeps g b APlug v w e h = first_of (cc, assumption h)
 
   filled_domain : (g : Given) (a : Argument) (w : List ℕ) → (filled s g a w).domain ≡ place_after s g.domain a w
   unfolding place_after
@@ -153,6 +177,10 @@ module _ (s : SceneView) where
   ready g NewDomain w rest fine (inr e) = inr e
   ready g AnyNumber w rest fine (inr e) = inr e
   ready g AJob w rest fine (inr e) = inr e
+  ready g AnId w rest fine (inr e) = inr e
+  ready g APriority w rest fine (inr e) = inr e
+  ready g AKey w rest fine (inr e) = inr e
+  ready g APlug w rest fine (inr e) = inr e
   ready g _ w rest fine (inr e) = cc
 
 -- so far words were read as arguments without a fault, and `rest` and `behind` are left of them

@@ -1,9 +1,9 @@
 -- The table of commands.
-use Rattle.std.specs.Prelude.{◌≡◌, ℕ, length, List, [], ◌∷◌, find, Option, codes, bytes_eq}
+use Rattle.std.specs.Prelude.{◌≡◌, ℕ, ◌+◌, length, Bool, true, false, List, [], ◌∷◌, take, drop, find, Option, codes, bytes_eq, if◌then◌else◌}
 use Rattle.requests.specs.declared.command.Command.{Command}
 use Rattle.requests.specs.declared.command.Command.TheVariants as command
 use Rattle.requests.specs.declared.command.Argument.{Argument}
-use Rattle.requests.specs.declared.command.Argument.TheVariants.{NewDomain, AnyNumber, ADomain, AProcessor, NewName, ALook, AReading, AHeld, ATicket, AJob}
+use Rattle.requests.specs.declared.command.Argument.TheVariants.{NewDomain, AnyNumber, ADomain, AProcessor, NewName, ALook, AReading, AHeld, ATicket, AJob, ALease, AnId, APriority, AKey, APlug}
 
 -- the word of a command, and what the words behind it should be
 pub record RowView : Type 0 where
@@ -33,11 +33,21 @@ row_of command.Finish = record { word = codes "finish"; takes = ADomain ∷ APro
 row_of command.Segs = record { word = codes "segs"; takes = ADomain ∷ AProcessor ∷ [] }
 row_of command.Barrier = record { word = codes "barrier"; takes = ADomain ∷ AProcessor ∷ NewName ∷ [] }
 row_of command.BarrierPoll = record { word = codes "barrier-poll"; takes = ADomain ∷ AProcessor ∷ ATicket ∷ [] }
+row_of command.Register = record { word = codes "register"; takes = ADomain ∷ AProcessor ∷ AnId ∷ APriority ∷ [] }
+row_of command.Unregister = record { word = codes "unregister"; takes = ADomain ∷ AProcessor ∷ AnId ∷ [] }
+row_of command.Chain = record { word = codes "chain"; takes = ADomain ∷ AProcessor ∷ [] }
+row_of command.Notify = record { word = codes "notify"; takes = ADomain ∷ AProcessor ∷ [] }
+row_of command.Install = record { word = codes "install"; takes = ADomain ∷ AProcessor ∷ AKey ∷ APlug ∷ [] }
+row_of command.Remove = record { word = codes "remove"; takes = ADomain ∷ AProcessor ∷ AKey ∷ [] }
+row_of command.Lookup = record { word = codes "lookup"; takes = ADomain ∷ AProcessor ∷ AKey ∷ [] }
+row_of command.Lease = record { word = codes "lease"; takes = ADomain ∷ AProcessor ∷ NewName ∷ [] }
+row_of command.Read = record { word = codes "read"; takes = ADomain ∷ AProcessor ∷ ALease ∷ AKey ∷ [] }
+row_of command.Release = record { word = codes "release"; takes = ADomain ∷ AProcessor ∷ ALease ∷ [] }
 row_of command.State = record { word = codes "state"; takes = ADomain ∷ [] }
 row_of command.Cleanup = record { word = codes "cleanup"; takes = ADomain ∷ [] }
 
 abbrev pub commands : List Command
-commands = command.Domain ∷ command.Look ∷ command.Enter ∷ command.Lock ∷ command.Unlock ∷ command.Down ∷ command.Up ∷ command.Park ∷ command.Unpark ∷ command.Get ∷ command.Ask ∷ command.Poll ∷ command.Start ∷ command.Advance ∷ command.Step ∷ command.Call ∷ command.Run ∷ command.Batch ∷ command.Finish ∷ command.Segs ∷ command.Barrier ∷ command.BarrierPoll ∷ command.State ∷ command.Cleanup ∷ []
+commands = command.Domain ∷ command.Look ∷ command.Enter ∷ command.Lock ∷ command.Unlock ∷ command.Down ∷ command.Up ∷ command.Park ∷ command.Unpark ∷ command.Get ∷ command.Ask ∷ command.Poll ∷ command.Start ∷ command.Advance ∷ command.Step ∷ command.Call ∷ command.Run ∷ command.Batch ∷ command.Finish ∷ command.Segs ∷ command.Barrier ∷ command.BarrierPoll ∷ command.Register ∷ command.Unregister ∷ command.Chain ∷ command.Notify ∷ command.Install ∷ command.Remove ∷ command.Lookup ∷ command.Lease ∷ command.Read ∷ command.Release ∷ command.State ∷ command.Cleanup ∷ []
 
 abbrev pub command_word : Command → List ℕ
 command_word c = (row_of c).word
@@ -49,7 +59,22 @@ arguments c = (row_of c).takes
 abbrev pub command_of : List ℕ → Option Command
 command_of w = find (λ c. bytes_eq (command_word c) w) commands
 
--- a line of the command as the help shows it: its word, and one for each argument
+-- pairs may stand behind the arguments of the command
+abbrev pub takes_pairs : Command → Bool
+takes_pairs command.Notify = true
+takes_pairs _ = false
+
+-- how many of so many words behind the command are its arguments, where there are enough of them: all, unless those behind its arguments are pairs
+abbrev pub count_of_arguments : Command → ℕ → ℕ
+count_of_arguments c count = if takes_pairs c then length (arguments c) else count
+
+abbrev pub arguments_in : Command → List (List ℕ) → List (List ℕ)
+arguments_in c ws = take (count_of_arguments c (length ws)) ws
+
+abbrev pub pairs_in : Command → List (List ℕ) → List (List ℕ)
+pairs_in c ws = drop (count_of_arguments c (length ws)) ws
+
+-- a line of the command as the help shows it: its word, one for each argument, and one for its pairs
 abbrev pub IsForm : Command → List (List ℕ) → Type 0
 IsForm c [] = ⊥
-IsForm c (w ∷ ws) = (w ≡ command_word c) × (length ws ≡ length (arguments c))
+IsForm c (w ∷ ws) = (w ≡ command_word c) × (length ws ≡ length (arguments c) + (if takes_pairs c then 1 else 0))

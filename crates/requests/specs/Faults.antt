@@ -6,10 +6,12 @@ use Rattle.requests.specs.declared.fault.Fault.{Fault}
 use Rattle.requests.specs.declared.fault.Fault.TheVariants as fault
 use Rattle.requests.specs.declared.command.Command.{Command}
 use Rattle.requests.specs.declared.command.Argument.{Argument}
-use Rattle.requests.specs.declared.command.Argument.TheVariants.{NewDomain, AnyNumber, ADomain, AProcessor, NewName, ALook, AReading, AHeld, ATicket, AJob}
+use Rattle.requests.specs.declared.command.Argument.TheVariants.{NewDomain, AnyNumber, ADomain, AProcessor, NewName, ALook, AReading, AHeld, ATicket, AJob, ALease, AnId, APriority, AKey, APlug}
 use Rattle.requests.specs.declared.scene.Kind.{Kind}
-use Rattle.requests.specs.declared.scene.Kind.TheVariants.{Look, Reading, Held, Parked, Ticket}
-use Rattle.requests.specs.Commands.{command_of, arguments}
+use Rattle.requests.specs.declared.scene.Kind.TheVariants.{Look, Reading, Held, Parked, Ticket, Lease}
+use Rattle.requests.specs.Commands.{command_of, arguments, arguments_in, pairs_in}
+use Rattle.requests.specs.Numbers.{id_of, priority_of, word32_of}
+use Rattle.requests.specs.Pairs.{pairs_of}
 use Rattle.requests.specs.Scenes.{SceneView}
 
 abbrev pub fault_word : Fault → List ℕ
@@ -21,6 +23,7 @@ fault_word fault.Domain = codes "domain"
 fault_word fault.Taken = codes "taken"
 fault_word fault.Number = codes "number"
 fault_word fault.Processor = codes "processor"
+fault_word fault.Pair = codes "pair"
 
 -- the bytes of words
 abbrev pub texts : List (Bor (List ℕ)) → List (List ℕ)
@@ -50,7 +53,7 @@ abbrev pub domain_fault : List ℕ → Option ℕ → Option Fault
 domain_fault w place = if not (is_name w) then Some fault.Name else (if is_some place then None else Some fault.Domain)
 
 -- the fault of a word that should be the number that is found in it, if any
-abbrev pub number_fault : Option ℕ → Option Fault
+abbrev pub number_fault : {N : Type 0} → Option N → Option Fault
 number_fault None = Some fault.Number
 number_fault (Some n) = None
 
@@ -65,6 +68,7 @@ same_kind Reading Reading = true
 same_kind Held Held = true
 same_kind Parked Parked = true
 same_kind Ticket Ticket = true
+same_kind Lease Lease = true
 same_kind _ _ = false
 
 abbrev pub has_kind : Kind → Option Kind → Bool
@@ -87,6 +91,11 @@ argument_fault s place AReading w = kind_fault Reading w (s.kind_of place w)
 argument_fault s place AHeld w = kind_fault Held w (s.kind_of place w)
 argument_fault s place ATicket w = kind_fault Ticket w (s.kind_of place w)
 argument_fault s place AJob w = name_fault w
+argument_fault s place ALease w = kind_fault Lease w (s.kind_of place w)
+argument_fault s place AnId w = number_fault (id_of w)
+argument_fault s place APriority w = number_fault (priority_of w)
+argument_fault s place AKey w = number_fault (word32_of w)
+argument_fault s place APlug w = number_fault (word32_of w)
 
 -- The words of a line
 
@@ -109,11 +118,15 @@ arguments_fault s place (a ∷ rest) (w ∷ ws) = or_else (argument_fault s plac
 abbrev pub words_fault : SceneView → List Argument → List (List ℕ) → Option Fault
 words_fault s taken ws = if length ws == length taken then arguments_fault s 0 taken ws else Some fault.Words
 
+-- the fault of words that should be pairs
+abbrev pub pairs_fault : List (List ℕ) → Option Fault
+pairs_fault ws = if is_some (pairs_of ws) then None else Some fault.Pair
+
 abbrev pub command_fault : SceneView → Option Command → List (List ℕ) → Option Fault
 command_fault s None ws = Some fault.Command
-command_fault s (Some c) ws = words_fault s (arguments c) ws
+command_fault s (Some c) ws = or_else (words_fault s (arguments c) (arguments_in c ws)) (pairs_fault (pairs_in c ws))
 
--- what is wrong with the words of a line: the first of a fault of the command, of the number of words, and of each argument
+-- what is wrong with the words of a line: the first of a fault of the command, of the number of words, of each argument, and of the pairs
 unfoldable pub fault_of : SceneView → List (List ℕ) → Option Fault
 fault_of s [] = None
 fault_of s (w ∷ ws) = command_fault s (command_of w) ws

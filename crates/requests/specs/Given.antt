@@ -1,14 +1,15 @@
 -- How the words of a line are read, one by one.
-use Rattle.std.specs.Prelude.{◌≡◌, ℕ, ◌<◌, not, ◌&&◌, ◌||◌, Bool, true, false, List, [], ◌∷◌, Some, None, Result, MatchResult, unwrap_or}
+use Rattle.std.specs.Prelude.{◌≡◌, ℕ, ◌<◌, pos, not, ◌&&◌, ◌||◌, Bool, true, false, List, [], ◌∷◌, Some, None, Result, MatchResult, unwrap_or}
 use Rattle.std.specs.List.{list_all}
 use Rattle.lines.specs.Lines.{number_of}
 use Rattle.requests.specs.declared.fault.Fault.{Fault}
 use Rattle.requests.specs.declared.command.Argument.{Argument}
-use Rattle.requests.specs.declared.command.Argument.TheVariants.{NewDomain, AnyNumber, ADomain, AProcessor, NewName, ALook, AReading, AHeld, ATicket, AJob}
+use Rattle.requests.specs.declared.command.Argument.TheVariants.{NewDomain, AnyNumber, ADomain, AProcessor, NewName, ALook, AReading, AHeld, ATicket, AJob, ALease, AnId, APriority, AKey, APlug}
 use Rattle.requests.specs.declared.given.Given.{Given}
 use Rattle.requests.specs.declared.scene.Kind.TheVariants as kind
 use Rattle.requests.specs.Scenes.{SceneView, IsPlace}
 use Rattle.requests.specs.Faults.{argument_fault}
+use Rattle.requests.specs.Numbers.{id_of, priority_of, word32_of}
 
 -- what is given with one word more, which is this argument
 abbrev pub filled : SceneView → Given → Argument → List ℕ → Given
@@ -22,6 +23,11 @@ filled s g AReading w = record g { name = w }
 filled s g AHeld w = record g { name = w }
 filled s g ATicket w = record g { name = w }
 filled s g AJob w = record g { name = w }
+filled s g ALease w = record g { name = w }
+filled s g AnId w = record g { id = unwrap_or (id_of w) 0 }
+filled s g APriority w = record g { priority = unwrap_or (priority_of w) (pos 0) }
+filled s g AKey w = record g { key = unwrap_or (word32_of w) 0 }
+filled s g APlug w = record g { plug = unwrap_or (word32_of w) 0 }
 
 -- the word is read as this argument, or has this fault
 abbrev pub IsRead : SceneView → Given → Argument → List ℕ → Result Given Fault → Type 0
@@ -41,6 +47,11 @@ Suits s g AReading = s.kind_of g.domain g.name ≡ Some kind.Reading
 Suits s g AHeld = s.kind_of g.domain g.name ≡ Some kind.Held
 Suits s g ATicket = s.kind_of g.domain g.name ≡ Some kind.Ticket
 Suits s g AJob = Unit {0}
+Suits s g ALease = s.kind_of g.domain g.name ≡ Some kind.Lease
+Suits s g AnId = g.id < 16
+Suits s g APriority = Unit {0}
+Suits s g AKey = Unit {0}
+Suits s g APlug = Unit {0}
 
 abbrev pub AllSuit : SceneView → Given → List Argument → Type 0
 AllSuit s g [] = Unit {0}
@@ -58,19 +69,32 @@ needs_domain AReading = true
 needs_domain AHeld = true
 needs_domain ATicket = true
 needs_domain AJob = false
+needs_domain ALease = true
+needs_domain AnId = false
+needs_domain APriority = false
+needs_domain AKey = false
+needs_domain APlug = false
 
--- the fields of what is given
+-- the fields of what is given that an argument fills
 pub data Field : Type 0 where
   Domain : Field
   Processor : Field
   Name : Field
   Number : Field
+  Id : Field
+  Priority : Field
+  Key : Field
+  Plug : Field
 
 abbrev pub same_field : Field → Field → Bool
 same_field Domain Domain = true
 same_field Processor Processor = true
 same_field Name Name = true
 same_field Number Number = true
+same_field Id Id = true
+same_field Priority Priority = true
+same_field Key Key = true
+same_field Plug Plug = true
 same_field _ _ = false
 
 -- the field that an argument fills
@@ -85,6 +109,11 @@ field_of AReading = Name
 field_of AHeld = Name
 field_of ATicket = Name
 field_of AJob = Name
+field_of ALease = Name
+field_of AnId = Id
+field_of APriority = Priority
+field_of AKey = Key
+field_of APlug = Plug
 
 abbrev pub names_domain : Argument → Bool
 names_domain a = same_field (field_of a) Domain

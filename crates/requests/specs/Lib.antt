@@ -1,8 +1,11 @@
 pub use Rattle.lines.specs.Lines
 pub mod Commands
 pub mod Scenes
+pub mod Numbers
+pub mod Pairs
 pub mod Faults
 pub mod Requests
 pub mod Given
 pub mod JobNames
+pub mod BlockIds
 pub mod Replies

@@ -1,5 +1,6 @@
 -- The texts of replies.
-use Rattle.std.specs.Prelude.{ℕ, List, [], ◌∷◌, ◌++◌, codes, decimal}
+use Rattle.std.specs.Prelude.{ℕ, ◌-◌, false, List, [], ◌∷◌, ◌++◌, length, replicate, codes, decimal}
+use Rattle.std.specs.Fmt.{digits}
 use Rattle.std.specs.List.{flat_map}
 use Rattle.sseq.specs.Indexes.{index_text}
 use Rattle.sseq.specs.Numbers.{phase_text}
@@ -30,6 +31,9 @@ cause_text cause.NoBatch = codes "none"
 cause_text (cause.Sections count) = codes "sections " ++ decimal count
 cause_text cause.Period = codes "period"
 cause_text (cause.Callbacks count) = codes "callbacks " ++ decimal count
+cause_text cause.There = codes "there"
+cause_text cause.NotThere = codes "notthere"
+cause_text cause.NoSlot = codes "noslot"
 
 abbrev pub period_text : Period → List ℕ
 period_text p = codes "number " ++ decimal p.number ++ codes " " ++ phase_text p.phase
@@ -40,6 +44,17 @@ sections_text s = codes "index " ++ index_text s.index ++ codes " open " ++ deci
 -- names, each with a space before it
 abbrev pub names_text : List (List ℕ) → List ℕ
 names_text names = flat_map (λ name. codes " " ++ name) names
+
+-- ids, each with a space before it
+abbrev pub ids_text : List ℕ → List ℕ
+ids_text ids = flat_map (λ id. codes " " ++ decimal id) ids
+
+abbrev pub at_least_four : List ℕ → List ℕ
+at_least_four glyphs = replicate (4 - length glyphs) 48 ++ glyphs
+
+-- lower hexadecimal, with zeros before it where it has less than four digits
+abbrev pub hexadecimal : ℕ → List ℕ
+hexadecimal n = at_least_four (digits 16 false n)
 
 abbrev pub waiting_text : Waiting → List ℕ
 waiting_text w = decimal w.count ++ codes " " ++ decimal w.number
@@ -74,6 +89,16 @@ words_text (reply.TookJobs jobs) = codes "took" ++ names_text jobs
 words_text (reply.Finished n) = codes "finished " ++ decimal n
 words_text (reply.Segs s) = codes "segs " ++ segments_text s
 words_text reply.Ticket = codes "ticket"
+words_text (reply.Registered id) = codes "registered " ++ decimal id
+words_text (reply.Unregistered id) = codes "unregistered " ++ decimal id
+words_text (reply.Chain ids) = codes "chain" ++ ids_text ids
+words_text (reply.Called last calls) = hexadecimal last ++ codes " calls " ++ decimal calls
+words_text (reply.Installed version) = codes "installed version " ++ decimal version
+words_text (reply.Removed version) = codes "removed version " ++ decimal version
+words_text (reply.Plug plug) = codes "plug " ++ decimal plug
+words_text reply.NoPlug = codes "none"
+words_text (reply.Leased i version) = codes "lease index " ++ index_text i ++ codes " version " ++ decimal version
+words_text reply.Released = codes "released"
 words_text (reply.Cleaned opened closed) = codes "cleaned opened " ++ decimal opened ++ codes " closed " ++ decimal closed
 words_text (reply.Refused c why) = codes "refused " ++ command_word c ++ codes " " ++ cause_text why
 words_text (reply.Faulty n f) = codes "line " ++ decimal n ++ codes ": " ++ fault_word f

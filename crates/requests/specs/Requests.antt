@@ -4,14 +4,17 @@ use Rattle.lines.specs.Lines.{number_of}
 use Rattle.requests.specs.declared.command.Command.{Command}
 use Rattle.requests.specs.declared.command.Command.TheVariants as command
 use Rattle.requests.specs.declared.command.Argument.{Argument}
-use Rattle.requests.specs.declared.command.Argument.TheVariants.{NewDomain, AnyNumber, ADomain, AProcessor, NewName, ALook, AReading, AHeld, ATicket, AJob}
+use Rattle.requests.specs.declared.command.Argument.TheVariants.{NewDomain, AnyNumber, ADomain, AProcessor, NewName, ALook, AReading, AHeld, ATicket, AJob, ALease, AnId, APriority, AKey, APlug}
 use Rattle.requests.specs.declared.given.Given.{Given}
+use Rattle.requests.specs.declared.handler_answers.Answer.{Answer}
 use Rattle.requests.specs.declared.scene.Kind.TheVariants as kind
 use Rattle.requests.specs.declared.request.Act.{Act}
 use Rattle.requests.specs.declared.request.Act.TheVariants as act
 use Rattle.requests.specs.declared.request.Request.{Request}
 use Rattle.requests.specs.declared.request.Request.TheVariants.{Domain, On, Cleanup}
-use Rattle.requests.specs.Commands.{command_of, arguments}
+use Rattle.requests.specs.Commands.{command_of, arguments, arguments_in, pairs_in}
+use Rattle.requests.specs.Numbers.{id_of, priority_of, word32_of}
+use Rattle.requests.specs.Pairs.{pairs_of, answers_of}
 use Rattle.requests.specs.Scenes.{SceneView, IsPlace}
 
 -- What is asked
@@ -28,6 +31,11 @@ Names s g AReading w = g.name ≡ w
 Names s g AHeld w = g.name ≡ w
 Names s g ATicket w = g.name ≡ w
 Names s g AJob w = g.name ≡ w
+Names s g ALease w = g.name ≡ w
+Names s g AnId w = id_of w ≡ Some g.id
+Names s g APriority w = priority_of w ≡ Some g.priority
+Names s g AKey w = word32_of w ≡ Some g.key
+Names s g APlug w = word32_of w ≡ Some g.plug
 
 -- each of the words, as the argument at its place, names what is given
 abbrev pub AllName : SceneView → Given → List Argument → List (List ℕ) → Type 0
@@ -35,6 +43,10 @@ AllName s g [] [] = Unit {0}
 AllName s g [] (w ∷ ws) = ⊥
 AllName s g (a ∷ rest) [] = ⊥
 AllName s g (a ∷ rest) (w ∷ ws) = Names s g a w × AllName s g rest ws
+
+-- the words, as pairs, name what is given
+abbrev pub PairsName : Given → List (List ℕ) → Type 0
+PairsName g ws = (pairs : List (ℕ × Answer)) × (pairs_of ws ≡ Some pairs) × (g.answers.by_id ≡ answers_of pairs)
 
 -- what a command asks for, of what is given
 abbrev pub request_of : Command → Given → Request
@@ -60,13 +72,23 @@ request_of command.Finish g = On g.domain (act.Finish g.processor)
 request_of command.Segs g = On g.domain (act.Segs g.processor)
 request_of command.Barrier g = On g.domain (act.Barrier g.processor g.name)
 request_of command.BarrierPoll g = On g.domain (act.BarrierPoll g.processor g.name)
+request_of command.Register g = On g.domain (act.Register g.processor g.id g.priority)
+request_of command.Unregister g = On g.domain (act.Unregister g.processor g.id)
+request_of command.Chain g = On g.domain (act.Chain g.processor)
+request_of command.Notify g = On g.domain (act.Notify g.processor g.answers)
+request_of command.Install g = On g.domain (act.Install g.processor g.key g.plug)
+request_of command.Remove g = On g.domain (act.Remove g.processor g.key)
+request_of command.Lookup g = On g.domain (act.Lookup g.processor g.key)
+request_of command.Lease g = On g.domain (act.Lease g.processor g.name)
+request_of command.Read g = On g.domain (act.Read g.processor g.name g.key)
+request_of command.Release g = On g.domain (act.Release g.processor g.name)
 request_of command.State g = On g.domain act.State
 request_of command.Cleanup g = Cleanup g.domain
 
--- the first word is a command, the words behind it name what is given, and that is what the command asks for
+-- the first word is a command, the words behind it name what is given, its arguments and its pairs, and that is what the command asks for
 unfoldable pub Asks : SceneView → List (List ℕ) → Request → Type 0
 Asks s [] asked = ⊥
-Asks s (w ∷ ws) asked = (c : Command) × (given : Given) × (command_of w ≡ Some c) × AllName s given (arguments c) ws × (asked ≡ request_of c given)
+Asks s (w ∷ ws) asked = (c : Command) × (given : Given) × (command_of w ≡ Some c) × AllName s given (arguments c) (arguments_in c ws) × PairsName given (pairs_in c ws) × (asked ≡ request_of c given)
 
 -- the words ask for nothing else
 abbrev pub AskOnly : SceneView → List (List ℕ) → Request → Type 0
@@ -74,7 +96,7 @@ AskOnly s words asked = (other : Request) → Asks s words other → other ≡ a
 
 -- What is known of a request
 
--- the processor is one of the domain's, and the name is in use or not as the act wants it. A job's name may be any
+-- the processor is one of the domain's, the handler one of the sixteen, and the name is in use or not as the act wants it. A job's name may be any
 abbrev pub Fits : SceneView → ℕ → Act → Type 0
 Fits s place act.State = Unit {0}
 Fits s place (act.Look p look) = (p < s.processors_of place) × (s.kind_of place look ≡ None)
@@ -98,6 +120,16 @@ Fits s place (act.Finish p) = p < s.processors_of place
 Fits s place (act.Segs p) = p < s.processors_of place
 Fits s place (act.Barrier p ticket) = (p < s.processors_of place) × (s.kind_of place ticket ≡ None)
 Fits s place (act.BarrierPoll p ticket) = (p < s.processors_of place) × (s.kind_of place ticket ≡ Some kind.Ticket)
+Fits s place (act.Register p id priority) = (p < s.processors_of place) × (id < 16)
+Fits s place (act.Unregister p id) = (p < s.processors_of place) × (id < 16)
+Fits s place (act.Chain p) = p < s.processors_of place
+Fits s place (act.Notify p answers) = p < s.processors_of place
+Fits s place (act.Install p key plug) = p < s.processors_of place
+Fits s place (act.Remove p key) = p < s.processors_of place
+Fits s place (act.Lookup p key) = p < s.processors_of place
+Fits s place (act.Lease p lease) = (p < s.processors_of place) × (s.kind_of place lease ≡ None)
+Fits s place (act.Read p lease key) = (p < s.processors_of place) × (s.kind_of place lease ≡ Some kind.Lease)
+Fits s place (act.Release p lease) = (p < s.processors_of place) × (s.kind_of place lease ≡ Some kind.Lease)
 
 -- a new domain's name is no other's, and a domain that should do something, or be taken down, is there
 abbrev pub IsFor : SceneView → Request → Type 0

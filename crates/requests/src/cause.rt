@@ -4,7 +4,7 @@ use std::fmt;
 /// Why a line was refused that is not faulty.
 #[derive(Clone, Copy, Debug, PartialEq, Eq)]
 pub enum Cause {
-    /// 8 domains are there, or a section is parked already.
+    /// 8 domains are there, a section is parked already, or there are 15 handlers on the chain or 15 keys in the table.
     Full,
     /// No section is parked.
     Empty,
@@ -30,6 +30,12 @@ pub enum Cause {
     Period,
     /// So many jobs of the domain are queued and not finished, those of a batch that is out among them.
     Callbacks(u128),
+    /// The handler is on the chain, at whatever priority.
+    There,
+    /// The handler is not on the chain, or the key not in the table.
+    NotThere,
+    /// No slot is free for a further version of the chain or the table.
+    NoSlot,
 }
 
 impl fmt::Display for Cause {
@@ -53,6 +59,9 @@ impl fmt::Display for Cause {
             Cause::Sections(count) => write!(f, "sections {count}"),
             Cause::Period => f.write_str("period"),
             Cause::Callbacks(count) => write!(f, "callbacks {count}"),
+            Cause::There => f.write_str("there"),
+            Cause::NotThere => f.write_str("notthere"),
+            Cause::NoSlot => f.write_str("noslot"),
         }
     }
 }

@@ -1,7 +1,7 @@
 //! The table of commands.
 ghost use Rattle.std.specs.Prelude.{◌≡◌, Some};
 ghost use Rattle.lines.specs.Lines.{words_of};
-ghost use Rattle.requests.specs.Commands.{IsForm, arguments, command_of, command_word};
+ghost use Rattle.requests.specs.Commands.{IsForm, arguments, command_of, command_word, takes_pairs as takes_pairs_lem};
 
 use std::fmt;
 
@@ -31,6 +31,16 @@ pub enum Command {
     Segs,
     Barrier,
     BarrierPoll,
+    Register,
+    Unregister,
+    Chain,
+    Notify,
+    Install,
+    Remove,
+    Lookup,
+    Lease,
+    Read,
+    Release,
     Cleanup,
 }
 
@@ -57,6 +67,16 @@ pub enum Argument {
     ATicket,
     /// The name of a job. Any name will do, also one that is in use.
     AJob,
+    /// The name of a lease.
+    ALease,
+    /// The id of a handler, 0 to 15.
+    AnId,
+    /// A number of 32 bits with a sign.
+    APriority,
+    /// A number below 2^32.
+    AKey,
+    /// A number below 2^32.
+    APlug,
 }
 
 /// A row of the table of commands.
@@ -64,7 +84,7 @@ pub enum Argument {
 pub struct Row {
     /// The first word of the command's lines.
     pub word: &'static str,
-    /// What the words behind it should be.
+    /// What the words behind it should be. Behind these may stand pairs, where the command takes any.
     pub takes: &'static [Argument],
     /// A line of the command, as the help shows it.
     pub form: &'static str,
@@ -74,7 +94,7 @@ pub struct Row {
 
 impl Command {
     /// All commands, in the order of the help.
-    pub const ALL: [Command; 24] = [
+    pub const ALL: [Command; 34] = [
         Command::Domain,
         Command::Look,
         Command::Enter,
@@ -97,6 +117,16 @@ impl Command {
         Command::Segs,
         Command::Barrier,
         Command::BarrierPoll,
+        Command::Register,
+        Command::Unregister,
+        Command::Chain,
+        Command::Notify,
+        Command::Install,
+        Command::Remove,
+        Command::Lookup,
+        Command::Lease,
+        Command::Read,
+        Command::Release,
         Command::State,
         Command::Cleanup,
     ];
@@ -241,6 +271,81 @@ impl Command {
                 form: "barrier-poll NAME P B",
                 does: "tells whether all jobs of ticket B have run",
             },
+            Command::Register => Row {
+                word: "register",
+                takes: &[
+                    Argument::ADomain,
+                    Argument::AProcessor,
+                    Argument::AnId,
+                    Argument::APriority,
+                ],
+                form: "register NAME P I N",
+                does: "registers handler I on the chain, with priority N",
+            },
+            Command::Unregister => Row {
+                word: "unregister",
+                takes: &[Argument::ADomain, Argument::AProcessor, Argument::AnId],
+                form: "unregister NAME P I",
+                does: "takes handler I off the chain",
+            },
+            Command::Chain => Row {
+                word: "chain",
+                takes: &[Argument::ADomain, Argument::AProcessor],
+                form: "chain NAME P",
+                does: "shows the handlers of the chain, as they are called",
+            },
+            Command::Notify => Row {
+                word: "notify",
+                takes: &[Argument::ADomain, Argument::AProcessor],
+                form: "notify NAME P I:W..",
+                does: "calls the chain; I answers W: done, ok, stop or bad",
+            },
+            Command::Install => Row {
+                word: "install",
+                takes: &[
+                    Argument::ADomain,
+                    Argument::AProcessor,
+                    Argument::AKey,
+                    Argument::APlug,
+                ],
+                form: "install NAME P K N",
+                does: "gives key K of the table the plug N",
+            },
+            Command::Remove => Row {
+                word: "remove",
+                takes: &[Argument::ADomain, Argument::AProcessor, Argument::AKey],
+                form: "remove NAME P K",
+                does: "takes key K out of the table",
+            },
+            Command::Lookup => Row {
+                word: "lookup",
+                takes: &[Argument::ADomain, Argument::AProcessor, Argument::AKey],
+                form: "lookup NAME P K",
+                does: "finds the plug of key K",
+            },
+            Command::Lease => Row {
+                word: "lease",
+                takes: &[Argument::ADomain, Argument::AProcessor, Argument::NewName],
+                form: "lease NAME P L",
+                does: "leases the version of the table; the lease is called L",
+            },
+            Command::Read => Row {
+                word: "read",
+                takes: &[
+                    Argument::ADomain,
+                    Argument::AProcessor,
+                    Argument::ALease,
+                    Argument::AKey,
+                ],
+                form: "read NAME P L K",
+                does: "finds the plug of key K in the version of lease L",
+            },
+            Command::Release => Row {
+                word: "release",
+                takes: &[Argument::ADomain, Argument::AProcessor, Argument::ALease],
+                form: "release NAME P L",
+                does: "ends lease L on processor P",
+            },
             Command::State => Row {
                 word: "state",
                 takes: &[Argument::ADomain],
@@ -261,6 +366,13 @@ impl Command {
         ensures { result.now ≡ arguments self }
     {
         self.row().takes
+    }
+
+    /// Whether pairs may stand behind what the command takes.
+    pub fn takes_pairs(self) -> bool
+        ensures { result ≡ takes_pairs_lem self }
+    {
+        matches!(self, Command::Notify)
     }
 
     /// The command of this word; `None` where the word is no command.

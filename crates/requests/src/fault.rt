@@ -20,6 +20,8 @@ pub enum Fault {
     Number,
     /// A number that is no processor of the domain.
     Processor,
+    /// A word of `notify` that is no handler's id, a colon and an answer, or an id that is given twice.
+    Pair,
 }
 
 impl fmt::Display for Fault {
@@ -38,6 +40,7 @@ impl fmt::Display for Fault {
             Fault::Taken => f.write_str("taken"),
             Fault::Number => f.write_str("number"),
             Fault::Processor => f.write_str("processor"),
+            Fault::Pair => f.write_str("pair"),
         }
     }
 }

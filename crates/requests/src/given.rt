@@ -1,18 +1,22 @@
 //! What the words of a line name.
-ghost use Rattle.std.specs.Prelude.{◌≡◌, true, None, Some, MatchResult, unwrap_or};
+ghost use Rattle.std.specs.Prelude.{◌≡◌, pos, true, None, Some, MatchResult, unwrap_or};
 ghost use Rattle.lines.specs.Lines.{number_of};
-ghost use Rattle.requests.specs.Faults.{name_fault, number_fault, kind_fault};
+ghost use Rattle.requests.specs.Numbers.{id_of, priority_of, word32_of};
+ghost use Rattle.requests.specs.Faults.{name_fault, number_fault, kind_fault, pairs_fault, texts};
 ghost use Rattle.requests.specs.Scenes.{IsPlace};
-ghost use Rattle.requests.specs.Requests.{request_of};
+ghost use Rattle.requests.specs.Requests.{PairsName, request_of};
 ghost use Rattle.requests.specs.Given.{IsRead, needs_domain};
 
 use crate::command::{Argument, Command};
 use crate::fault::Fault;
+use crate::handler_answers::{Answer, HandlerAnswers};
+use crate::numbers::{id, priority, word32};
+use crate::pairs::answers;
 use crate::request::{Act, Request};
 use crate::scene::{Kind, Scene};
 use lines::{Name, is_name, number};
 
-/// What the words of a line name. Each argument fills one field.
+/// What the words of a line name. Each argument fills one field, and all pairs fill one.
 #[derive(Clone, Copy)]
 pub struct Given {
     /// The place of the domain.
@@ -20,6 +24,12 @@ pub struct Given {
     pub processor: u64,
     pub name: Name,
     pub number: u64,
+    /// The id of a handler.
+    pub id: u64,
+    pub priority: i32,
+    pub key: u32,
+    pub plug: u32,
+    pub answers: HandlerAnswers,
 }
 
 impl Given {
@@ -32,6 +42,13 @@ impl Given {
             processor: 0,
             name: Name::new(b"0").unwrap(),
             number: 0,
+            id: 0,
+            priority: 0,
+            key: 0,
+            plug: 0,
+            answers: HandlerAnswers {
+                by_id: [Answer::Done; 16],
+            },
         }
     }
 
@@ -52,6 +69,11 @@ impl Given {
             Argument::AHeld => self.with_name_of(Kind::Held, word, scene),
             Argument::ATicket => self.with_name_of(Kind::Ticket, word, scene),
             Argument::AJob => self.with_job(word),
+            Argument::ALease => self.with_name_of(Kind::Lease, word, scene),
+            Argument::AnId => self.with_id(word),
+            Argument::APriority => self.with_priority(word),
+            Argument::AKey => self.with_key(word),
+            Argument::APlug => self.with_plug(word),
         }
     }
 
@@ -133,6 +155,52 @@ impl Given {
         Ok(Given { name, ..self })
     }
 
+    fn with_id(self, word: &[u8]) -> Result<Given, Fault>
+        ensures { let found = id_of word.now in MatchResult result
+            (λ g. (number_fault found ≡ None) × (g ≡ record self { id = unwrap_or found 0 }))
+            (λ f. number_fault found ≡ Some f) }
+    {
+        let id = id(word).ok_or(Fault::Number)?;
+        Ok(Given { id, ..self })
+    }
+
+    fn with_priority(self, word: &[u8]) -> Result<Given, Fault>
+        ensures { let found = priority_of word.now in MatchResult result
+            (λ g. (number_fault found ≡ None) × (g ≡ record self { priority = unwrap_or found (pos 0) }))
+            (λ f. number_fault found ≡ Some f) }
+    {
+        let priority = priority(word).ok_or(Fault::Number)?;
+        Ok(Given { priority, ..self })
+    }
+
+    fn with_key(self, word: &[u8]) -> Result<Given, Fault>
+        ensures { let found = word32_of word.now in MatchResult result
+            (λ g. (number_fault found ≡ None) × (g ≡ record self { key = unwrap_or found 0 }))
+            (λ f. number_fault found ≡ Some f) }
+    {
+        let key = word32(word).ok_or(Fault::Number)?;
+        Ok(Given { key, ..self })
+    }
+
+    fn with_plug(self, word: &[u8]) -> Result<Given, Fault>
+        ensures { let found = word32_of word.now in MatchResult result
+            (λ g. (number_fault found ≡ None) × (g ≡ record self { plug = unwrap_or found 0 }))
+            (λ f. number_fault found ≡ Some f) }
+    {
+        let plug = word32(word).ok_or(Fault::Number)?;
+        Ok(Given { plug, ..self })
+    }
+
+    /// What is given with what the pairs say.
+    pub fn with_pairs(self, words: &[&[u8]]) -> Result<Given, Fault>
+        ensures { MatchResult result
+            (λ g. (pairs_fault (texts words.now) ≡ None) × (g ≡ record self { answers = g.answers }) × PairsName g (texts words.now))
+            (λ f. pairs_fault (texts words.now) ≡ Some f) }
+    {
+        let answers = answers(words).ok_or(Fault::Pair)?;
+        Ok(Given { answers, ..self })
+    }
+
     /// What the command asks for.
     pub fn asked_by(self, command: Command) -> Request
         ensures { result ≡ request_of command self }
@@ -142,6 +210,11 @@ impl Given {
             processor,
             name,
             number,
+            id,
+            priority,
+            key,
+            plug,
+            answers,
         } = self;
         let act = match command {
             Command::Domain => {
@@ -197,6 +270,34 @@ impl Given {
             Command::BarrierPoll => Act::BarrierPoll {
                 processor,
                 ticket: name,
+            },
+            Command::Register => Act::Register {
+                processor,
+                id,
+                priority,
+            },
+            Command::Unregister => Act::Unregister { processor, id },
+            Command::Chain => Act::Chain { processor },
+            Command::Notify => Act::Notify { processor, answers },
+            Command::Install => Act::Install {
+                processor,
+                key,
+                plug,
+            },
+            Command::Remove => Act::Remove { processor, key },
+            Command::Lookup => Act::Lookup { processor, key },
+            Command::Lease => Act::Lease {
+                processor,
+                lease: name,
+            },
+            Command::Read => Act::Read {
+                processor,
+                lease: name,
+                key,
+            },
+            Command::Release => Act::Release {
+                processor,
+                lease: name,
             },
             Command::State => Act::State,
             Command::Cleanup => return Request::Cleanup { domain },

@@ -1,5 +1,6 @@
 //! From the words of a line to what it asks for, or to its first fault.
-ghost use Rattle.std.specs.Prelude.{◌≡◌, ◌<◌, length, Some, None, IfOk, MatchResult};
+ghost use Rattle.std.specs.Prelude.{◌≡◌, ◌<◌, length, min, Some, None, IfOk, MatchResult};
+ghost use Rattle.requests.specs.Commands.{count_of_arguments as count_of_arguments_lem};
 ghost use Rattle.requests.specs.Faults.{texts, fault_of, words_fault, is_skipped as is_skipped_lem};
 ghost use Rattle.requests.specs.Requests.{AllName, Asks, AskOnly, IsFor};
 ghost use Rattle.requests.specs.Given.{AreOfARow, AllSuit};
@@ -31,8 +32,22 @@ pub fn parse<S: Scene>(words: &[&[u8]], scene: &S) -> Result<Request, Fault>
     ensures only { IfOk result (AskOnly (S.scene scene.now) (texts words.now)) }
 {
     let command = Command::of_word(words[0]).ok_or(Fault::Command)?;
-    let given = given_by(command.takes(), &words[1..], scene)?;
+    let behind = &words[1..];
+    let count = count_of_arguments(command, behind.len());
+    let given = given_by(command.takes(), &behind[..count], scene)?;
+    let given = given.with_pairs(&behind[count..])?;
     Ok(given.asked_by(command))
+}
+
+/// How many of so many words behind the command are its arguments. Those behind them are pairs.
+fn count_of_arguments(command: Command, count: usize) -> usize
+    ensures { result ≡ min (count_of_arguments_lem command count) count }
+{
+    if command.takes_pairs() {
+        command.takes().len().min(count)
+    } else {
+        count
+    }
 }
 
 /// What words name that should be these arguments, or the first fault.

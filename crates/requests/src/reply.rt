@@ -2,6 +2,7 @@
 ghost use Rattle.std.specs.Prelude.{◌≡◌, ◌++◌, OnOk};
 ghost use Rattle.requests.specs.Replies.{reply_text};
 
+use crate::block_ids::BlockIds;
 use crate::cause::Cause;
 use crate::command::Command;
 use crate::fault::Fault;
@@ -94,6 +95,32 @@ pub enum Reply {
     Segs(Segments),
     /// A ticket was given.
     Ticket,
+    /// The handler of this id is on the chain now.
+    Registered(u64),
+    /// The handler of this id is on the chain no more.
+    Unregistered(u64),
+    /// The handlers of these ids are on the chain, in the order in which they are called.
+    Chain(BlockIds),
+    /// What the last handler answered that was called, and how many were called.
+    Called {
+        last: u32,
+        calls: u64,
+    },
+    /// The key has its plug, from this version of the table on.
+    Installed(u64),
+    /// The key is gone, from this version of the table on.
+    Removed(u64),
+    /// The plug of the key.
+    Plug(u32),
+    /// The key has no plug.
+    NoPlug,
+    /// A lease was given: the index of its section, and its version.
+    Leased {
+        index: Index,
+        version: u64,
+    },
+    /// A lease ended.
+    Released,
     /// A domain was taken down, in which so many sections ever began, and so many ended.
     Cleaned {
         opened: u64,
@@ -106,6 +133,21 @@ pub enum Reply {
         line: u64,
         fault: Fault,
     },
+}
+
+/// A handler's answer, as it is shown: in lower hexadecimal, with four digits at least.
+#[derive(Clone, Copy)]
+struct Hexadecimal(u32);
+
+impl fmt::Display for Hexadecimal {
+    ghost use Rattle.std.specs.Prelude.{Some};
+    ghost use Rattle.requests.specs.Replies.{hexadecimal};
+
+    ghost output = { λ answer. Some (hexadecimal answer.0) };
+
+    fn fmt<W: fmt::Write>(&self, f: &mut fmt::Formatter<W>) -> fmt::Result {
+        write!(f, "{:04x}", self.0)
+    }
 }
 
 impl fmt::Display for Period {
@@ -200,6 +242,18 @@ impl fmt::Display for Reply {
             Reply::Finished(count) => writeln!(f, "finished {count}"),
             Reply::Segs(segments) => writeln!(f, "segs {segments}"),
             Reply::Ticket => writeln!(f, "ticket"),
+            Reply::Registered(id) => writeln!(f, "registered {id}"),
+            Reply::Unregistered(id) => writeln!(f, "unregistered {id}"),
+            Reply::Chain(ids) => writeln!(f, "chain{ids}"),
+            Reply::Called { last, calls } => writeln!(f, "{} calls {calls}", Hexadecimal(*last)),
+            Reply::Installed(version) => writeln!(f, "installed version {version}"),
+            Reply::Removed(version) => writeln!(f, "removed version {version}"),
+            Reply::Plug(plug) => writeln!(f, "plug {plug}"),
+            Reply::NoPlug => writeln!(f, "none"),
+            Reply::Leased { index, version } => {
+                writeln!(f, "lease index {index} version {version}")
+            }
+            Reply::Released => writeln!(f, "released"),
             Reply::Cleaned { opened, closed } => {
                 writeln!(f, "cleaned opened {opened} closed {closed}")
             }

@@ -17,6 +17,8 @@ pub enum Kind {
     Parked,
     /// A ticket. It stays until the domain is taken down.
     Ticket,
+    /// A lease of the domain's table. Any processor may read it and end it.
+    Lease,
 }
 
 /// The domains of a script, and the names in use in each, as a line finds them. A domain goes by its place, a number

@@ -1,5 +1,5 @@
 -- What the lines of callbacks do to a domain.
-use Rattle.std.proofs.Common.{◌≡◌, ℕ, zero, suc, ◌*◌, ◌<◌, List, [], ◌++◌, length, get_or, set, refl, sym, ap, ◌∙◌, subst, inl, inr, arith}
+use Rattle.std.proofs.Common.{rules, ◌≡◌, ℕ, zero, suc, ◌*◌, ◌<◌, List, [], ◌++◌, length, get_or, set, refl, sym, ap, ◌∙◌, subst, inl, inr, arith}
 use Rattle.std.specs.Prelude.{Result, Ok, Err, MatchResult, Option, Some, None, IfSome, slice_get}
 use Rattle.std.proofs.lemmas.Option.{slice_get_within, slice_get-get_or, same_Some}
 use Rattle.std.proofs.lemmas.List.{length-set, set-set, get_or-set_same, get_or_default}
@@ -12,8 +12,12 @@ use Rattle.scan.specs.Standings.{number_now}
 use Rattle.calls.specs.declared.refusals.CallRefusal.{CallRefusal}
 use Rattle.calls.specs.Lines.{some_out}
 use Rattle.domain.specs.Acting.{finishes}
+use Rattle.notify.specs.Chains.{ChainState}
+use Rattle.plugs.specs.Views.{TableState}
 use Rattle.solo.specs.declared.queued.Queued.{Queued}
 use Rattle.solo.specs.Courses.{Course, after, Does as Acts}
+use Rattle.sections.specs.Dealing.{new_writer}
+use Rattle.solo.specs.Shelf.{in_cell}
 use Rattle.solo.specs.Batches.{AreReady, jobs_of}
 use Rattle.solo.specs.Calls.{SoloView, HasSameTables, IsSameDomain, OnList, Queues, QueuesLast, QueuesNone, Takes, FinishesOut, Finishes, AreOut, IsNew, new_course}
 use Rattle.requests.specs.declared.command.Command.TheVariants as command
@@ -23,31 +27,32 @@ use Rattle.requests.specs.declared.reply.Reply.TheVariants as reply
 use Rattle.session.specs.declared.names.Token.{Token}
 use Rattle.session.specs.Parkings.{ParkingView}
 use Rattle.session.specs.Batches.{Batch, out_of, outs_of, count_in, IsEmptied, AreBatchesOf}
-use Rattle.session.specs.States.{DomainState, JobList}
-use Rattle.session.specs.Entries.{state_with, entry_with, names_of, desk_of, tokens_with, IsTokenOf, AreOf, AreTogether}
+use Rattle.session.specs.States.{ChainNow, TableNow, DomainState, JobList, chain_now, table_now}
+use Rattle.session.specs.Entries.{state_with, entry_with, names_of, desk_of, tokens_with, IsTokenOf, AreOf, AreTogether, AreUsers, IsNewChain, IsNewTable}
 use Rattle.session.specs.Scripts.{Does, RunsFirst, runs, new_domain}
 use Rattle.session.specs.Tokens.{token_at}
 use Rattle.session.proofs.Parked.{Named}
 use Rattle.session.proofs.Quiet.{KeepsOn, does_quietly, does_keeps, none_queued_keeps}
 use Rattle.session.proofs.Together.{together_on}
+use Rattle.session.proofs.Users.{users_on}
 use Rattle.session.proofs.Batches.{outs_with, outs_stay, batches_kept, batches_on, batches_out, batches_over, kept_here, kept_counted, list_there, none_kept, set_again}
 
 -- An entry goes on
 
-module _ {A : Type 0} {d d' : SoloView (List ℕ)} {tokens : List (List ℕ × Token A)} {q : ParkingView} {kept : List (Option Batch)} (h : AreTogether d tokens q × AreBatchesOf d kept) where
+module _ {A : Type 0} {d d' : SoloView (List ℕ)} {tokens : List (List ℕ × Token A)} {q : ParkingView} {kept : List (Option Batch)} {chained : ChainState} {board : TableState} (h : AreTogether d tokens q × AreBatchesOf d kept × AreUsers d chained board) where
   -- an act that begins and ends no section, finishes no job and changes no list keeps what is always true of an entry
-  pub entry_on : IsSameDomain d d' → KeepsOn d.course d'.course → AreTogether d' tokens q × AreBatchesOf d' kept
-  entry_on same on = (together_on d tokens q h.0 d' same.0 on.on, batches_on d kept h.1 d' same on.jobs)
+  pub entry_on : IsSameDomain d d' → KeepsOn d.course d'.course → AreTogether d' tokens q × AreBatchesOf d' kept × AreUsers d' chained board
+  entry_on same on = (together_on d tokens q h.0 d' same.0 on.on, batches_on d kept h.1 d' same on.jobs, users_on d d' chained board same.0 h.2)
 
   -- and so does one by which a job comes last in a list
-  pub entry_called : HasSameTables d d' → (p : ℕ) (name : List ℕ) (job : Queued) → OnList p (QueuesLast name job.cookie) d.lines d'.lines → Queues p job d.course d'.course → AreTogether d' tokens q × AreBatchesOf d' kept
+  pub entry_called : HasSameTables d d' → (p : ℕ) (name : List ℕ) (job : Queued) → OnList p (QueuesLast name job.cookie) d.lines d'.lines → Queues p job d.course d'.course → AreTogether d' tokens q × AreBatchesOf d' kept × AreUsers d' chained board
   entry_called same p name job list queues =
       let on = does_keeps h.0.all.legal tt refl queues.queues in
-      (together_on d tokens q h.0 d' same on.on, batches_kept d kept h.1 d' same (outs_stay p (QueuesLast name job.cookie) d.lines d'.lines list (ap (λ (l : JobList). l.out) list.becomes_so.3)) on.jobs)
+      (together_on d tokens q h.0 d' same on.on, batches_kept d kept h.1 d' same (outs_stay p (QueuesLast name job.cookie) d.lines d'.lines list (ap (λ (l : JobList). l.out) list.becomes_so.3)) on.jobs, users_on d d' chained board same h.2)
 
   -- a job was queued, or not
   pub entry_asked : HasSameTables d d' → (p : ℕ) (name : List ℕ) (r : Result Queued (List ℕ × CallRefusal)) → MatchResult r (λ job. OnList p (QueuesLast name job.cookie) d.lines d'.lines) (λ _. d'.lines ≡ d.lines)
-      → MatchResult r (λ job. Queues p job d.course d'.course) (λ refused. QueuesNone p refused.1 d.course d'.course) → AreTogether d' tokens q × AreBatchesOf d' kept
+      → MatchResult r (λ job. Queues p job d.course d'.course) (λ refused. QueuesNone p refused.1 d.course d'.course) → AreTogether d' tokens q × AreBatchesOf d' kept × AreUsers d' chained board
   entry_asked same p name (Ok job) list answer = entry_called same p name job list answer
   entry_asked same p name (Err refused) list answer = entry_on (same, list) (none_queued_keeps p refused.1 h.0.all.legal answer)
 
@@ -66,12 +71,12 @@ emptied_taken d d' p b b' same takes is =
     let some = given.some in
     subst (IsEmptied d') (sym is) (record { of_domain = record { tallies = given.is_of.tallies ∙ sym same.4; processor = refl; there = there }; some = omega (arith, counted, some); empty = refl })
 
-module _ {A : Type 0} {tokens : List (List ℕ × Token A)} {q : ParkingView} {kept : List (Option Batch)} (d d' : SoloView (List ℕ)) (h : AreTogether d tokens q × AreBatchesOf d kept) (same : HasSameTables d d') (p : ℕ) where
+module _ {A : Type 0} {tokens : List (List ℕ × Token A)} {q : ParkingView} {kept : List (Option Batch)} {chained : ChainState} {board : TableState} (d d' : SoloView (List ℕ)) (h : AreTogether d tokens q × AreBatchesOf d kept × AreUsers d chained board) (same : HasSameTables d d') (p : ℕ) where
   -- nothing was ready
-  pub entry_waits : Takes p 8 None d d' → AreTogether d' tokens q × AreBatchesOf d' kept
+  pub entry_waits : Takes p 8 None d d' → AreTogether d' tokens q × AreBatchesOf d' kept × AreUsers d' chained board
   entry_waits takes =
       let on = asks_keeps d d' p None h.0 takes in
-      (together_on d tokens q h.0 d' same on.on, batches_kept d kept h.1 d' same (outs_stay p _ d.lines d'.lines takes.list (takes.list.becomes_so.out ∙ sym takes.list.becomes_so.gives.none_out)) on.jobs)
+      (together_on d tokens q h.0 d' same on.on, batches_kept d kept h.1 d' same (outs_stay p _ d.lines d'.lines takes.list (takes.list.becomes_so.out ∙ sym takes.list.becomes_so.gives.none_out)) on.jobs, users_on d d' chained board same h.2)
 
   module _ (b : Batch) (takes : Takes p 8 (Some b) d d') where
     some_is : some_out (length b.entries) ≡ Some b.count
@@ -90,12 +95,13 @@ module _ {A : Type 0} {tokens : List (List ℕ × Token A)} {q : ParkingView} {k
       none_was = none_kept d kept h.1 p small o is takes.list.was takes.list.there takes.list.becomes_so.gives.none_out
 
       -- it is kept, emptied
-      pub entry_out : (b' : Batch) → b' ≡ record b { entries = [] } → AreTogether d' tokens q × AreBatchesOf d' (set kept p (Some b'))
+      pub entry_out : (b' : Batch) → b' ≡ record b { entries = [] } → AreTogether d' tokens q × AreBatchesOf d' (set kept p (Some b')) × AreUsers d' chained board
       entry_out b' left =
           let on = asks_keeps d d' p (Some b) h.0 takes in
           let count : b'.count ≡ b.count = ap (λ (x : Batch). x.count) left in (
             together_on d tokens q h.0 d' same on.on,
             batches_out d kept h.1 p small o is d' b' same on.jobs (outs_then ∙ ap (λ n. set (outs_of d.lines) p (Some n)) (sym count)) (emptied_taken d d' p b b' same takes left) (ap (λ (x : Batch). x.processor) left ∙ takes.batch.is_of.processor) (subst (λ n. AreOut p n d.course) (sym count) takes.batch.out),
+            users_on d d' chained board same h.2,
           )
 
 -- They run, and are finished at once
@@ -148,29 +154,30 @@ module _ (d d' d'' : SoloView (List ℕ)) (p : ℕ) (b b' : Batch) (takes : Take
   unfinished_ran = subst (λ n. AreOut p n d.course) takes.batch.counted takes.batch.out
 
   -- and the entry is as before
-  pub entry_ran : {A : Type 0} {tokens : List (List ℕ × Token A)} {q : ParkingView} {kept : List (Option Batch)} → AreTogether d tokens q × AreBatchesOf d kept → p < d.course.standing.processors → HasSameTables d d' → HasSameTables d' d''
-      → AreTogether d'' tokens q × AreBatchesOf d'' kept
-  entry_ran {A} {tokens} {q} {kept} h small same same' =
+  pub entry_ran : {A : Type 0} {tokens : List (List ℕ × Token A)} {q : ParkingView} {kept : List (Option Batch)} {chained : ChainState} {board : TableState} → AreTogether d tokens q × AreBatchesOf d kept × AreUsers d chained board → p < d.course.standing.processors → HasSameTables d d' → HasSameTables d' d''
+      → AreTogether d'' tokens q × AreBatchesOf d'' kept × AreUsers d'' chained board
+  entry_ran {A} {tokens} {q} {kept} {chained} {board} h small same same' =
       let (a, b1, c, e, f, s) = same in
       let (a', b1', c', e', f', s') = same' in
       let all : HasSameTables d d'' = (a' ∙ a, b1' ∙ b1, c' ∙ c, e' ∙ e, f' ∙ f, s' ∙ s) in
       let o : Option Batch = get_or kept p None in
       let inside : p < length kept = (let count = h.1.count in omega (arith, small, count)) in
       let is : o ≡ get_or kept p o = get_or_default kept p None o inside in
-      let none : o ≡ None = none_was {tokens = tokens} {q = q} d d' h same p b takes o small is in
+      let none : o ≡ None = none_was {tokens = tokens} {q = q} {chained = chained} {board = board} d d' h same p b takes o small is in
       let outs : outs_of d''.lines ≡ set (outs_of d.lines) p None = outs_with p (RunsFirst (number_now d.course.standing) b.entries) d.lines d''.lines first_ran ∙ ap (set (outs_of d.lines) p) first_ran.becomes_so.out in (
         together_on d tokens q h.0 d'' all (does_quietly h.0.all.legal tt both),
         subst (AreBatchesOf d'') (set_again d kept h.1 p small o is none) (batches_over d kept h.1 p small o is d'' (length b.entries) (runs (4 * ended_in d.course.standing.history) (length b.entries)) unfinished_ran all outs both (refl, refl, refl)),
+        users_on d d'' chained board all h.2,
       )
 
 -- What a line does
 
-module _ {A : Type 0} (own : List ℕ) (tokens : List (List ℕ × Token A)) (parked : Option Named) (d d' : SoloView (List ℕ)) (limits : Limits) (p : ℕ) where
+module _ {A : Type 0} (chain : ChainNow) (table : TableNow) (own : List ℕ) (tokens : List (List ℕ × Token A)) (parked : Option Named) (d d' : SoloView (List ℕ)) (limits : Limits) (p : ℕ) where
   abbrev pub before : DomainState
-  before = state_with own tokens parked d
+  before = state_with chain table own tokens parked d
 
   abbrev pub behind : DomainState
-  behind = state_with own tokens parked d'
+  behind = state_with chain table own tokens parked d'
 
   -- nothing was ready
 
@@ -208,7 +215,7 @@ module _ {A : Type 0} (own : List ℕ) (tokens : List (List ℕ × Token A)) (pa
 
 -- The batch that is out is over
 
-module _ {A : Type 0} {tokens : List (List ℕ × Token A)} {q : ParkingView} {kept : List (Option Batch)} (d d' : SoloView (List ℕ)) (h : AreTogether d tokens q × AreBatchesOf d kept) (p : ℕ) (small : p < d.course.standing.processors)
+module _ {A : Type 0} {tokens : List (List ℕ × Token A)} {q : ParkingView} {kept : List (Option Batch)} {chained : ChainState} {board : TableState} (d d' : SoloView (List ℕ)) (h : AreTogether d tokens q × AreBatchesOf d kept × AreUsers d chained board) (p : ℕ) (small : p < d.course.standing.processors)
     (o : Option Batch) (is : o ≡ get_or kept p o) where
   module _ (b : Batch) (out : o ≡ Some b) where
     at_place : b.processor ≡ p
@@ -224,17 +231,18 @@ module _ {A : Type 0} {tokens : List (List ℕ × Token A)} {q : ParkingView} {k
       acts_over : Acts p (finishes p b.count) d.course d'.course
       acts_over = subst (λ n. Acts n (finishes n b.count) d.course d'.course) at_place finished.finishes_are
 
-      pub entry_over : AreTogether d' tokens q × AreBatchesOf d' (set kept p None)
+      pub entry_over : AreTogether d' tokens q × AreBatchesOf d' (set kept p None) × AreUsers d' chained board
       entry_over = (
         together_on d tokens q h.0 d' same (does_quietly h.0.all.legal tt acts_over),
         batches_over d kept h.1 p small o is d' b.count (finishes p b.count) counted same (outs_with p (FinishesOut b.count) d.lines d'.lines list_over ∙ ap (set (outs_of d.lines) p) (ap (λ (l : JobList). l.out) list_over.becomes_so.1)) acts_over (refl, refl, refl),
+        users_on d d' chained board same h.2,
       )
 
-      pub over : (own : List ℕ) (limits : Limits) → Does limits (act.Finish p) (state_with own tokens q.parked d) (reply.Finished b.count) (state_with own tokens q.parked d')
+      pub over : {chain : ChainNow} {table : TableNow} (own : List ℕ) (limits : Limits) → Does limits (act.Finish p) (state_with chain table own tokens q.parked d) (reply.Finished b.count) (state_with chain table own tokens q.parked d')
       over own limits = inl (record { count = b.count; list = list_over; over = acts_over; rest = refl; reply = refl })
 
   module _ (none : o ≡ None) where
-    pub over_none : (own : List ℕ) (limits : Limits) → Does limits (act.Finish p) (state_with own tokens q.parked d) (reply.Refused command.Finish cause.NoBatch) (state_with own tokens q.parked d)
+    pub over_none : {chain : ChainNow} {table : TableNow} (own : List ℕ) (limits : Limits) → Does limits (act.Finish p) (state_with chain table own tokens q.parked d) (reply.Refused command.Finish cause.NoBatch) (state_with chain table own tokens q.parked d)
     over_none own limits = let (l, there, out) = list_there d kept h.1 p small o is in inr (
       record { list = l; there = there; none = out ∙ ap out_of none },
       record { after = refl; reply = refl },
@@ -263,14 +271,36 @@ module _ {A : Type 0} (own : List ℕ) (tokens : List (List ℕ × Token A)) (q 
     apart = subst (λ o. IfSome o (λ (named : Named). token_at named.0 tokens ≡ None)) (sym nothing_parked) tt;
   }
 
-  pub new_entry : entry_with own tokens q.parked d' ≡ record { limits = d.limits; state = new_domain d.limits own d.course.standing.processors }
-  new_entry = λ i. record {
+  pub new_entry : (s : ChainState) (b : TableState) → IsNewChain d s → IsNewTable d b → entry_with (chain_now s) (table_now b) own tokens q.parked d' ≡ record { limits = d.limits; state = new_domain d.limits own d.course.standing.processors }
+  new_entry s b chain table = λ i. record {
     limits = (same i).limits;
     state = record {
       name = own;
       names = names_of (none i);
       desk = desk_of (nothing_parked i);
       lines = (ap (λ (x : SoloView (List ℕ)). x.lines) same ∙ new.none_waits) i;
+      chain = chain_now (chain.0 i);
+      table = table_now (table.0 i);
       course = rests i;
     };
   }
+
+  -- nothing was put into its cells
+  pub users_new : (s : ChainState) (b : TableState) → IsNewChain d s → IsNewTable d b → AreUsers d s b
+  users_new s b chain table = subst (λ (x : ChainState). AreUsers d x b) (sym chain.0) (subst (λ (x : TableState). AreUsers d (record { writer = new_writer d.table 0 d.limits.slots; ids = 16; blocks = [] }) x) (sym table.0) (record {
+    chain = record {
+      here = refl;
+      cell = (chain.1, omega arith);
+      small = omega arith;
+      text = record { chain = search rules; fit = All-nil _; words_are = ap (in_cell 0) new.blank };
+    };
+    first = refl;
+    ids = refl;
+    table = record {
+      here = refl;
+      cell = (table.1, omega arith);
+      table = record { few = omega arith; rising = search rules; narrow = All-nil _ };
+      text = ap (in_cell 1) new.blank;
+    };
+    second = refl;
+  }))

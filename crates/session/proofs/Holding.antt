@@ -78,6 +78,7 @@ module _ (d d' : SoloView (List ℕ)) (later : IsLater d d') where
   token_later (token.Reading r) h = reading_later r h
   token_later (token.Held r) h = reading_later r h
   token_later (token.Ticket t) h = ticket_later t h
+  token_later (token.Lease l) h = (reading_later l.held h.0, h.1)
 
   pub tokens_later : {A : Type 0} (tokens : List (List ℕ × Token A)) → All (λ (t : List ℕ × Token A). IsTokenOf d t.1) tokens → All (λ (t : List ℕ × Token A). IsTokenOf d' t.1) tokens
   tokens_later tokens h = All-weaker (λ (t : List ℕ × Token _). IsTokenOf d t.1) (λ (t : List ℕ × Token _). IsTokenOf d' t.1) (λ t is. token_later t.1 is) tokens h
@@ -198,7 +199,7 @@ module _ {A : Type 0} (d : SoloView (List ℕ)) (tokens rest : List (List ℕ ×
 
 module _ {A : Type 0} where
   -- tokens in another order, one of them under another name
-  held_as : (d : SoloView (List ℕ)) (tokens tokens' : List (List ℕ × Token A)) (stored name : List ℕ) (t : Token A) (rest : List (List ℕ × Token A)) → AreOf d tokens
+  pub held_as : (d : SoloView (List ℕ)) (tokens tokens' : List (List ℕ × Token A)) (stored name : List ℕ) (t : Token A) (rest : List (List ℕ × Token A)) → AreOf d tokens
       → IsPermutation tokens ((stored, t) ∷ rest) → IsPermutation tokens' ((name, t) ∷ rest) → AreOf d tokens'
   held_as d tokens tokens' stored name t rest h moves moves' =
       let P : List ℕ × Token A → Type 0 = λ x. IsTokenOf d x.1 in

@@ -2,8 +2,11 @@ mod Acting
 mod Answering
 mod Batches
 mod Callbacks
+mod Changing
+mod Finding
 mod Held
 mod Holding
+mod Leasing
 mod TokenKinds
 mod Naming
 mod Parked
@@ -13,3 +16,4 @@ mod Quiet
 mod Spent
 mod Taken
 mod Together
+mod Users

@@ -1,12 +1,12 @@
 -- Who has which name after a token comes or goes.
-use Rattle.std.proofs.Common.{◌≡◌, ◌≢◌, ℕ, Bool, true, false, cond, List, [], ◌∷◌, ◌++◌, refl, sym, ap, ◌∙◌, bytes_eq}
+use Rattle.std.proofs.Common.{◌≡◌, ◌≢◌, ℕ, Bool, true, false, cond, List, [], ◌∷◌, ◌++◌, refl, sym, ap, ◌∙◌, subst, bytes_eq}
 use Rattle.std.specs.Prelude.{Some, None, option_map}
 use Rattle.std.specs.Map.{lookup}
 use Rattle.std.proofs.lemmas.Map.Made.{lookup-map_values}
 use Rattle.std.proofs.lemmas.Slice.Eq.{bytes_eq-Decides}
 use Rattle.session.specs.declared.names.Token.{Token}
 use Rattle.session.specs.Tokens.{token_at, bearer_of, Frees}
-use Rattle.session.specs.States.{Becomes, bearer_at}
+use Rattle.session.specs.States.{Names, Becomes, bearer_at}
 use Rattle.session.specs.Entries.{names_of}
 
 false_case : (b : Bool) → (b ≡ true → ⊥) → b ≡ false
@@ -58,3 +58,14 @@ changes name t tokens rest frees =
     let gone = goes name tokens rest frees in
     let come = comes name t rest frees.here in
     record { here = come.here; others = λ other apart. come.others other apart ∙ gone.others other apart }
+
+-- what had a name and has it again: every name has what it had
+stays_case : (name : List ℕ) (old new : Names) (other : List ℕ) (b : Bool) → bytes_eq other name ≡ b → bearer_at name new ≡ bearer_at name old → ((q : List ℕ) → q ≢ name → bearer_at q new ≡ bearer_at q old) → bearer_at other new ≡ bearer_at other old
+stays_case name old new other true e here others = subst (λ n. bearer_at n new ≡ bearer_at n old) (sym ((bytes_eq-Decides other name).0 e)) here
+stays_case name old new other false e here others = others other (λ is. let yes : bytes_eq other name ≡ true = (bytes_eq-Decides other name).1 is in cc)
+
+pub stays : {A : Type 0} (name : List ℕ) (t : Token A) (tokens rest : List (List ℕ × Token A)) → token_at name tokens ≡ Some t → Frees name tokens rest → (other : List ℕ) → bearer_at other (names_of (rest ++ (name, t) ∷ [])) ≡ bearer_at other (names_of tokens)
+stays name t tokens rest there frees other =
+    let back = changes name t tokens rest frees in
+    let was : bearer_at name (names_of tokens) ≡ Some (bearer_of t) = bearer_at_is name tokens ∙ ap (option_map bearer_of) there in
+    stays_case name (names_of tokens) (names_of (rest ++ (name, t) ∷ [])) other (bytes_eq other name) refl (back.here ∙ sym was) back.others

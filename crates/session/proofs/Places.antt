@@ -21,7 +21,7 @@ use Rattle.requests.specs.Requests.{Fits}
 use Rattle.session.specs.States.{State, DomainState, EntryView, states_of, kind_at, domain_place, scene_of}
 use Rattle.domain.specs.declared.domain.cleanup.Totals.{Totals}
 use Rattle.solo.specs.Cleanup.{IsTakenDown}
-use Rattle.session.specs.Scripts.{Does, Answers, IsInUse, CleansUp, CleansNone}
+use Rattle.session.specs.Scripts.{Acts, Answers, IsInUse, CleansUp, CleansNone}
 
 prefix-map : {X Y : Type 0} (p : Y → Bool) (f : X → Y) (xs : List X) → prefix_len p (map f xs) ≡ prefix_len (λ x. p (f x)) xs
 prefix-map p f [] = refl
@@ -94,19 +94,29 @@ module _ (state : State) (place : ℕ) (d : DomainState) (at : slice_get state p
   fits_there (act.Segs p) h = small p h
   fits_there (act.Barrier p name) h = (small p h.0, kind_is name _ h.1)
   fits_there (act.BarrierPoll p name) h = (small p h.0, kind_is name _ h.1)
+  fits_there (act.Register p id priority) h = (small p h.0, h.1)
+  fits_there (act.Unregister p id) h = (small p h.0, h.1)
+  fits_there (act.Chain p) h = small p h
+  fits_there (act.Notify p answers) h = small p h
+  fits_there (act.Install p key plug) h = small p h
+  fits_there (act.Remove p key) h = small p h
+  fits_there (act.Lookup p key) h = small p h
+  fits_there (act.Lease p name) h = (small p h.0, kind_is name _ h.1)
+  fits_there (act.Read p name key) h = (small p h.0, kind_is name _ h.1)
+  fits_there (act.Release p name) h = (small p h.0, kind_is name _ h.1)
 
 -- The session's answer
 
 pub same_limits : (limits : Limits) (entries : List EntryView) (k : ℕ) (e : EntryView) → k < length entries → e ≡ get_or entries k e → All (λ (x : EntryView). x.limits ≡ limits) entries → e.limits ≡ limits
 same_limits limits entries k e within is same = ap (λ (x : EntryView). x.limits) is ∙ All-get_or (λ (x : EntryView). x.limits ≡ limits) entries k e within same
 
-pub answered : (limits : Limits) (entries : List EntryView) (k : ℕ) (e e' : EntryView) (a : Act) (r : Reply) → k < length entries → e ≡ get_or entries k e → All (λ (x : EntryView). x.limits ≡ limits) entries
-    → e'.state.name ≡ e.state.name → Does e.limits a e.state r e'.state → Answers limits (states_of entries) (request.On k a) r (states_of (set entries k e'))
-answered limits entries k e e' a r within is all same does = (
+pub answered : (gives : ℕ → ℕ → ℕ → Type 0) (limits : Limits) (entries : List EntryView) (k : ℕ) (e e' : EntryView) (a : Act) (r : Reply) → k < length entries → e ≡ get_or entries k e → All (λ (x : EntryView). x.limits ≡ limits) entries
+    → e'.state.name ≡ e.state.name → Acts gives e.limits a e.state r e'.state → Answers gives limits (states_of entries) (request.On k a) r (states_of (set entries k e'))
+answered gives limits entries k e e' a r within is all same does = (
   e.state,
   e'.state,
   record { there = state_there entries k e within is; same = same; others = map-set (λ (x : EntryView). x.state) entries k e' },
-  subst (λ l. Does l a e.state r e'.state) (same_limits limits entries k e within is all) does,
+  subst (λ l. Acts gives l a e.state r e'.state) (same_limits limits entries k e within is all) does,
 )
 
 -- A domain is taken down

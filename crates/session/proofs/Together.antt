@@ -1,7 +1,7 @@
 -- A domain, its tokens and its desk, as the domain goes on.
 use Rattle.std.proofs.Common.{◌≡◌, ℕ, ◌<◌, false, List, [], ◌∷◌, ◌++◌, refl, sym, ◌∙◌, subst}
 use Rattle.std.specs.Prelude.{Option, Some, None, option_map, All, IfSome, IsPermutation, bytes_eq}
-use Rattle.std.proofs.lemmas.List.Sorted.{IsPermutation-refl}
+use Rattle.std.proofs.lemmas.List.Sorted.{IsPermutation-refl, IsPermutation-to_front}
 use Rattle.std.proofs.lemmas.List.Elements.{All-tail}
 use Rattle.std.proofs.lemmas.Map.Entries.{All-lookup}
 use Rattle.sections.specs.Views.{ReadingView}
@@ -14,7 +14,7 @@ use Rattle.session.specs.Parkings.{ParkingView}
 use Rattle.session.specs.States.{is_parked}
 use Rattle.session.specs.Entries.{IsTokenOf, IsReadingOf, AreOf, AreTogether, desk_of, tokens_with}
 use Rattle.session.proofs.Quiet.{GoesOnQuietly, quietly_none}
-use Rattle.session.proofs.Holding.{Sort, Any, as_token, IsThere, held_on, held_more_unopened, held_begun, token_of, held_less_unopened, held_ended, held_moved, held_moved_back}
+use Rattle.session.proofs.Holding.{Sort, Any, as_token, IsThere, held_on, held_more_unopened, held_begun, token_of, held_less_unopened, held_ended, held_as, held_moved, held_moved_back}
 use Rattle.session.proofs.Parked.{Named, IsApart, with_push, apart_push, with_moved, apart_gone}
 
 some_case : (parked : Option Named) (r : ReadingView) → option_map (λ (q : Named). q.1) parked ≡ Some r → (name : List ℕ) × (parked ≡ Some (name, r))
@@ -83,6 +83,15 @@ module _ {A : Type 0} (d : SoloView (List ℕ)) (tokens : List (List ℕ × Toke
     desk = h.desk ∙ sym there.0;
     apart = apart_gone p.parked tokens rest name out.frees h.apart;
   }
+
+  -- it comes back, under its name
+  pub together_back : {t : Token A} {name : List ℕ} {rest : List (List ℕ × Token A)} → TakesOut name t tokens rest → is_parked name (desk_of p.parked) ≡ false → AreTogether d (rest ++ (name, t) ∷ []) p
+  together_back {t} {name} {rest} out free =
+      let others = tokens_with p.parked rest in record {
+        all = subst (AreOf d) (sym (with_push p.parked rest (name, t))) (held_as d (tokens_with p.parked tokens) (others ++ (name, t) ∷ []) out.stored name t others h.all (all_move out) (IsPermutation-to_front others (name, t)));
+        desk = h.desk;
+        apart = apart_push p.parked rest name t free (apart_gone p.parked tokens rest name out.frees h.apart);
+      }
 
   -- it goes to the desk
   pub together_parked : {r : ReadingView} {name : List ℕ} {rest : List (List ℕ × Token A)} → TakesOut name (token.Held r) tokens rest → p.parked ≡ None → AreTogether d rest (record p { parked = Some (name, r) })

@@ -3,6 +3,7 @@ use Rattle.std.proofs.Common.{◌≡◌, ℕ, true, false, List, refl, sym, ap, 
 use Rattle.std.specs.Prelude.{Option, Some, None, option_map}
 use Rattle.sections.specs.Views.{LookView, ReadingView}
 use Rattle.calls.specs.Views.{TicketView}
+use Rattle.plugs.specs.Views.{LeaseView}
 use Rattle.requests.specs.declared.scene.Kind.{Kind}
 use Rattle.requests.specs.declared.scene.Kind.TheVariants as kind
 use Rattle.requests.specs.Faults.{same_kind}
@@ -17,6 +18,7 @@ same_as_itself kind.Reading = refl
 same_as_itself kind.Held = refl
 same_as_itself kind.Parked = refl
 same_as_itself kind.Ticket = refl
+same_as_itself kind.Lease = refl
 
 pub apart_kinds : (k given : Kind) → same_kind k given ≡ false → Some k ≡ Some given → ⊥
 apart_kinds k given other e =
@@ -45,6 +47,7 @@ module _ {A : Type 0} where
         by_kind (token.Reading r) h not = apart_kinds kind.Reading kind.Look refl h
         by_kind (token.Held r) h not = apart_kinds kind.Held kind.Look refl h
         by_kind (token.Ticket x) h not = apart_kinds kind.Ticket kind.Look refl h
+        by_kind (token.Lease x) h not = apart_kinds kind.Lease kind.Look refl h
 
     pub only_reading : kind_in name tokens ≡ Some kind.Reading → ((r : ReadingView) → t ≡ token.Reading r → ⊥) → ⊥
     only_reading is = by_kind t (found is)
@@ -54,6 +57,7 @@ module _ {A : Type 0} where
         by_kind (token.Reading r) h not = not r refl
         by_kind (token.Held r) h not = apart_kinds kind.Held kind.Reading refl h
         by_kind (token.Ticket x) h not = apart_kinds kind.Ticket kind.Reading refl h
+        by_kind (token.Lease x) h not = apart_kinds kind.Lease kind.Reading refl h
 
     pub only_held : kind_in name tokens ≡ Some kind.Held → ((r : ReadingView) → t ≡ token.Held r → ⊥) → ⊥
     only_held is = by_kind t (found is)
@@ -63,6 +67,7 @@ module _ {A : Type 0} where
         by_kind (token.Reading r) h not = apart_kinds kind.Reading kind.Held refl h
         by_kind (token.Held r) h not = not r refl
         by_kind (token.Ticket x) h not = apart_kinds kind.Ticket kind.Held refl h
+        by_kind (token.Lease x) h not = apart_kinds kind.Lease kind.Held refl h
 
     pub only_ticket : kind_in name tokens ≡ Some kind.Ticket → ((x : TicketView) → t ≡ token.Ticket x → ⊥) → ⊥
     only_ticket is = by_kind t (found is)
@@ -72,3 +77,14 @@ module _ {A : Type 0} where
         by_kind (token.Reading r) h not = apart_kinds kind.Reading kind.Ticket refl h
         by_kind (token.Held r) h not = apart_kinds kind.Held kind.Ticket refl h
         by_kind (token.Ticket x) h not = not x refl
+        by_kind (token.Lease x) h not = apart_kinds kind.Lease kind.Ticket refl h
+
+    pub only_lease : kind_in name tokens ≡ Some kind.Lease → ((x : LeaseView) → t ≡ token.Lease x → ⊥) → ⊥
+    only_lease is = by_kind t (found is)
+      where
+        by_kind : (x : Token A) → Some (kind_of (bearer_of x)) ≡ Some kind.Lease → ((y : LeaseView) → x ≡ token.Lease y → ⊥) → ⊥
+        by_kind (token.Look l) h not = apart_kinds kind.Look kind.Lease refl h
+        by_kind (token.Reading r) h not = apart_kinds kind.Reading kind.Lease refl h
+        by_kind (token.Held r) h not = apart_kinds kind.Held kind.Lease refl h
+        by_kind (token.Ticket x) h not = apart_kinds kind.Ticket kind.Lease refl h
+        by_kind (token.Lease x) h not = not x refl

@@ -1,11 +1,13 @@
 -- What a line of a script means: which reply it gets, and what it changes.
-use Rattle.std.specs.Prelude.{◌≡◌, ℕ, ◌*◌, ◌%◌, ◌<◌, ◌≤◌, Bool, true, false, MatchBool, List, [], ◌∷◌, ◌++◌, length, replicate, Option, Some, None, slice_get, slice_index, remove, slice_set, if◌then◌else◌, ◌⊎◌}
+use Rattle.std.specs.Prelude.{◌≡◌, ℕ, ◌*◌, ◌%◌, ◌<◌, ◌≤◌, Bool, true, false, MatchBool, List, [], ◌∷◌, ◌++◌, length, map, replicate, Option, Some, None, slice_get, slice_index, remove, slice_set, if◌then◌else◌, ◌⊎◌}
 use Rattle.sseq.specs.declared.index.Index.{Index}
 use Rattle.sseq.specs.declared.index.Index.TheVariants.{Zero, One}
 use Rattle.sseq.specs.declared.number.Phase.{Phase}
 use Rattle.sseq.specs.Numbers.{state_bits}
 use Rattle.sections.specs.declared.limits.Limits.{Limits}
 use Rattle.sections.specs.Calls.{IsNoCookie}
+use Rattle.sections.specs.declared.writer.Standing.TheVariants.{Blank, Current}
+use Rattle.sections.specs.Words.{locks}
 use Rattle.sections.specs.Making.{IsCount}
 use Rattle.onedom.specs.Histories.{ended_in}
 use Rattle.scan.specs.declared.progress.Progress.{Progress}
@@ -30,13 +32,31 @@ use Rattle.solo.specs.Calls as solo
 use Rattle.solo.specs.Calls.{new_course, Begins, IsOutOfSections, Ends, GivesCookie, Asks as AsksIfDone, AsksFor, ReadsNumber, OnList, QueuesLast, QueuesNone, GivesFirst, PutsOut, TakesNone, FinishesOut, Starts, StartsNone, Steps, Advances, IsAskedTooMuch}
 use Rattle.solo.specs.Cleanup.{IsTakenDown, IsInUse as IsInUseFor}
 use Rattle.solo.specs.Barriers.{AreReached}
+use Rattle.solo.specs.Versions.{leases, Visits}
+use Rattle.solo.specs.Chains.{Registers, RefusesRegister, Unregisters, RefusesUnregister}
+use Rattle.solo.specs.Tables.{Installs, IsNotInstalled, Removes, IsNotRemoved}
+use Rattle.notify.specs.declared.block.Block.{Block}
+use Rattle.notify.specs.declared.refusals.RegisterRefusal.{RegisterRefusal}
+use Rattle.notify.specs.declared.refusals.RegisterRefusal.TheVariants as register
+use Rattle.notify.specs.declared.refusals.UnregisterRefusal.{UnregisterRefusal}
+use Rattle.notify.specs.declared.refusals.UnregisterRefusal.TheVariants as unregister
+use Rattle.notify.specs.Calling.{Answers as AnswersOf}
+use Rattle.notify.specs.Chains.{ChainState}
+use Rattle.plugs.specs.declared.rows.Row.{Row}
+use Rattle.plugs.specs.declared.refusals.InstallRefusal.{InstallRefusal}
+use Rattle.plugs.specs.declared.refusals.InstallRefusal.TheVariants as install
+use Rattle.plugs.specs.declared.refusals.RemoveRefusal.{RemoveRefusal}
+use Rattle.plugs.specs.declared.refusals.RemoveRefusal.TheVariants as remove
+use Rattle.plugs.specs.Tables.{plug_of}
+use Rattle.plugs.specs.Views.{TableState}
+use Rattle.requests.specs.Pairs.{value_of}
 use Rattle.lines.specs.Lines.{words_of}
 use Rattle.requests.specs.declared.fault.Fault.{Fault}
 use Rattle.requests.specs.declared.fault.Fault.TheVariants.{Text}
 use Rattle.requests.specs.declared.command.Command.{Command}
 use Rattle.requests.specs.declared.command.Command.TheVariants as command
 use Rattle.requests.specs.declared.cause.Cause.{Cause}
-use Rattle.requests.specs.declared.cause.Cause.TheVariants.{Full, Empty, Processors, Memory, Exhausted, Running, NotACookie, Invoking, NoBatch, Sections, Period, Callbacks}
+use Rattle.requests.specs.declared.cause.Cause.TheVariants.{Full, Empty, Processors, Memory, Exhausted, Running, NotACookie, Invoking, NoBatch, Sections, Period, Callbacks, There, NotThere, NoSlot}
 use Rattle.requests.specs.declared.request.Act.{Act}
 use Rattle.requests.specs.declared.request.Act.TheVariants as act
 use Rattle.requests.specs.declared.request.Request.{Request}
@@ -48,7 +68,7 @@ use Rattle.requests.specs.Faults.{fault_of, is_skipped}
 use Rattle.requests.specs.Requests.{Asks}
 use Rattle.requests.specs.Replies.{reply_text}
 use Rattle.session.specs.OpenSections.{open_of}
-use Rattle.session.specs.States.{State, DomainState, Bearer, Look, Reading, Held, Ticket, Parked, JobList, Becomes, bearer_at, scene_of}
+use Rattle.session.specs.States.{State, DomainState, Bearer, Look, Reading, Held, Ticket, Lease, Parked, JobList, Slots, ChainNow, TableNow, chain_now, table_now, Becomes, bearer_at, scene_of}
 
 -- a job that was queued, with its name and its cookie
 abbrev pub Job : Type 0
@@ -287,7 +307,117 @@ pub record PollsBarrier (name : List ℕ) (d : DomainState) (r : Reply) (d' : Do
   pub after : d' ≡ d
   pub reply : r ≡ (if done then reply.Done else reply.NotYet)
 
--- what an act does to the domain, and its reply
+-- The chain and the table
+
+-- the chain becomes so, the domain goes on so, and nothing else of it does
+pub record ChangesChain (changes : ChainState → ChainState → Course → Course → Type 0) (d d' : DomainState) : Type 0 where
+  pub was : ChainState
+  pub is : ChainState
+  pub known : d.chain ≡ chain_now was
+  pub becomes : d'.chain ≡ chain_now is
+  pub changed : changes was is d.course d'.course
+  pub rest : d' ≡ record d { chain = d'.chain; course = d'.course }
+
+pub record ChangesTable (changes : TableState → TableState → Course → Course → Type 0) (d d' : DomainState) : Type 0 where
+  pub was : TableState
+  pub is : TableState
+  pub known : d.table ≡ table_now was
+  pub becomes : d'.table ≡ table_now is
+  pub changed : changes was is d.course d'.course
+  pub rest : d' ≡ record d { table = d'.table; course = d'.course }
+
+abbrev pub cause_of_registering : RegisterRefusal → Cause
+cause_of_registering register.There = There
+cause_of_registering register.Full = Full
+cause_of_registering register.NoSlot = NoSlot
+cause_of_registering register.Memory = Memory
+
+abbrev pub cause_of_unregistering : UnregisterRefusal → Cause
+cause_of_unregistering unregister.NotThere = NotThere
+cause_of_unregistering unregister.NoSlot = NoSlot
+
+abbrev pub cause_of_installing : InstallRefusal → Cause
+cause_of_installing install.Full = Full
+cause_of_installing install.NoSlot = NoSlot
+cause_of_installing install.Memory = Memory
+
+abbrev pub cause_of_removing : RemoveRefusal → Cause
+cause_of_removing remove.NotThere = NotThere
+cause_of_removing remove.NoSlot = NoSlot
+
+-- the block is in the chain; or there is a cause why it is not
+abbrev pub RegistersBlock : ℕ → Block → DomainState → Reply → DomainState → Type 0
+RegistersBlock p block d r d' = ChangesChain (Registers p block) d d' × (r ≡ reply.Registered block.id)
+    ⊎ (why : RegisterRefusal) × ChangesChain (RefusesRegister p block.id why) d d' × (r ≡ reply.Refused command.Register (cause_of_registering why))
+
+-- the block of this id is gone
+abbrev pub UnregistersBlock : ℕ → ℕ → DomainState → Reply → DomainState → Type 0
+UnregistersBlock p id d r d' = ChangesChain (Unregisters p id) d d' × (r ≡ reply.Unregistered id)
+    ⊎ (why : UnregisterRefusal) × ChangesChain (RefusesUnregister p id why) d d' × (r ≡ reply.Refused command.Unregister (cause_of_unregistering why))
+
+-- the key has this plug then, from this version on
+abbrev pub InstallsPlug : ℕ → ℕ → ℕ → DomainState → Reply → DomainState → Type 0
+InstallsPlug p key plug d r d' = ((version : ℕ) × ChangesTable (Installs p key plug version) d d' × (r ≡ reply.Installed version))
+    ⊎ (why : InstallRefusal) × ChangesTable (IsNotInstalled p key why) d d' × (r ≡ reply.Refused command.Install (cause_of_installing why))
+
+-- it has none then
+abbrev pub RemovesPlug : ℕ → ℕ → DomainState → Reply → DomainState → Type 0
+RemovesPlug p key d r d' = ((version : ℕ) × ChangesTable (Removes p key version) d d' × (r ≡ reply.Removed version))
+    ⊎ (why : RemoveRefusal) × ChangesTable (IsNotRemoved p key why) d d' × (r ≡ reply.Refused command.Remove (cause_of_removing why))
+
+-- a section on the processor reads what is current in the cell, and has ended, unless none may begin there
+abbrev pub ReadsCell : Limits → Command → ℕ → ℕ → Reply → DomainState → Reply → DomainState → Type 0
+ReadsCell limits c p cell given d r d' = Visits limits p cell d.course d'.course × Replies given d r d'
+    ⊎ IsOutOfSections limits p (index_now d.course.standing) d.course × IsRefused c Exhausted d r d'
+
+-- the ids of the chain's blocks
+abbrev pub ids_of : List Block → List ℕ
+ids_of blocks = map (λ b. b.id) blocks
+
+-- the handlers of its blocks were called with this value, and have given this answer
+abbrev pub CallsChain : (ℕ → ℕ → ℕ → Type 0) → Limits → ℕ → ℕ → DomainState → Reply → DomainState → Type 0
+CallsChain gives limits p value d r d' = ((last calls : ℕ) × Visits limits p 0 d.course d'.course × AnswersOf (gives value) d.chain.blocks last calls × Replies (reply.Called last calls) d r d')
+    ⊎ IsOutOfSections limits p (index_now d.course.standing) d.course × IsRefused command.Notify Exhausted d r d'
+
+abbrev pub plug_told : Option ℕ → Reply
+plug_told None = reply.NoPlug
+plug_told (Some plug) = reply.Plug plug
+
+-- a section of the index that now is begins on the processor and finds the table's version. It is held under the name, with the rows of this version
+pub record LeasesUnder (limits : Limits) (p : ℕ) (name : List ℕ) (d : DomainState) (r : Reply) (d' : DomainState) : Type 0 where
+  pub room : locks p (index_now d.course.standing) d.course.standing.history < limits.sections
+  pub section : ℕ
+  pub slot : ℕ
+  pub version : ℕ
+  pub happens : DoesAct p (leases section (index_now d.course.standing) 1 slot version) d.course d'.course
+  pub names : Becomes name (Some (Lease section d.table.rows)) d.names d'.names
+  pub rest : d' ≡ record d { names = d'.names; course = d'.course }
+  pub reply : r ≡ reply.Leased (index_now d.course.standing) version
+
+abbrev pub LeasesVersion : Limits → ℕ → List ℕ → DomainState → Reply → DomainState → Type 0
+LeasesVersion limits p name d r d' = LeasesUnder limits p name d r d'
+    ⊎ IsOutOfSections limits p (index_now d.course.standing) d.course × IsRefused command.Lease Exhausted d r d'
+
+-- the plug of the key in the rows of this lease. Nothing is done
+pub record ReadsLease (name : List ℕ) (key : ℕ) (d : DomainState) (r : Reply) (d' : DomainState) : Type 0 where
+  pub section : ℕ
+  pub rows : List Row
+  pub there : bearer_at name d.names ≡ Some (Lease section rows)
+  pub names : (other : List ℕ) → bearer_at other d'.names ≡ bearer_at other d.names
+  pub rest : d' ≡ record d { names = d'.names }
+  pub reply : r ≡ plug_told (plug_of rows key)
+
+-- the section of this lease ends on the processor, and its name is free
+pub record ReleasesLease (p : ℕ) (name : List ℕ) (d : DomainState) (r : Reply) (d' : DomainState) : Type 0 where
+  pub section : ℕ
+  pub rows : List Row
+  pub there : bearer_at name d.names ≡ Some (Lease section rows)
+  pub ends : Ends section p d.course d'.course
+  pub names : Becomes name None d.names d'.names
+  pub rest : d' ≡ record d { names = d'.names; course = d'.course }
+  pub reply : r ≡ reply.Released
+
+-- what an act does to the domain, and its reply; but for a call of the chain
 abbrev pub Does : Limits → Act → DomainState → Reply → DomainState → Type 0
 Does limits act.State d r d' = Shows d r d'
 Does limits (act.Look p name) d r d' = LooksUnder name d r d'
@@ -313,6 +443,21 @@ Does limits (act.Finish p) d r d' = Finishes p d r d'
 Does limits (act.Segs p) d r d' = TellsSegments p d r d'
 Does limits (act.Barrier p name) d r d' = StartsBarrier name d r d'
 Does limits (act.BarrierPoll p name) d r d' = PollsBarrier name d r d'
+Does limits (act.Register p id priority) d r d' = RegistersBlock p (record { id = id; priority = priority }) d r d'
+Does limits (act.Unregister p id) d r d' = UnregistersBlock p id d r d'
+Does limits (act.Chain p) d r d' = ReadsCell limits command.Chain p 0 (reply.Chain (ids_of d.chain.blocks)) d r d'
+Does limits (act.Notify p answers) d r d' = ⊥
+Does limits (act.Install p key plug) d r d' = InstallsPlug p key plug d r d'
+Does limits (act.Remove p key) d r d' = RemovesPlug p key d r d'
+Does limits (act.Lookup p key) d r d' = ReadsCell limits command.Lookup p 1 (plug_told (plug_of d.table.rows key)) d r d'
+Does limits (act.Lease p name) d r d' = LeasesVersion limits p name d r d'
+Does limits (act.Read p name key) d r d' = ReadsLease name key d r d'
+Does limits (act.Release p name) d r d' = ReleasesLease p name d r d'
+
+-- what any act does. `gives` is which result the handler of an id may give to a value
+abbrev pub Acts : (ℕ → ℕ → ℕ → Type 0) → Limits → Act → DomainState → Reply → DomainState → Type 0
+Acts gives limits (act.Notify p answers) d r d' = CallsChain gives limits p (value_of answers.by_id) d r d'
+Acts gives limits other d r d' = Does limits other d r d'
 
 -- What a script does
 
@@ -322,8 +467,12 @@ pub record GoesOn (state : State) (place : ℕ) (d d' : DomainState) (state' : S
   pub same : d'.name ≡ d.name
   pub others : state' ≡ slice_set state place d'
 
+-- the slots of a cell to which nothing was put: the first one is current
+abbrev pub new_slots : Limits → Slots
+new_slots limits = record { count = limits.slots; version = 0; current = 0; standings = Current ∷ Blank ∷ Blank ∷ Blank ∷ Blank ∷ Blank ∷ Blank ∷ Blank ∷ [] }
+
 abbrev pub new_domain : Limits → List ℕ → ℕ → DomainState
-new_domain limits name processors = record { name = name; names = []; desk = None; lines = replicate processors no_calls; course = new_course limits processors }
+new_domain limits name processors = record { name = name; names = []; desk = None; lines = replicate processors no_calls; chain = record { blocks = []; slots = new_slots limits }; table = record { rows = []; slots = new_slots limits }; course = new_course limits processors }
 
 -- a domain comes behind those that are there
 pub record Makes (limits : Limits) (state : State) (name : List ℕ) (processors : ℕ) (r : Reply) (state' : State) : Type 0 where
@@ -365,10 +514,10 @@ pub record CleansNone (state : State) (place : ℕ) (r : Reply) (state' : State)
   pub reply : r ≡ reply.Refused command.Cleanup cause
 
 -- the reply to what was asked, and the state behind it
-abbrev pub Answers : Limits → State → Request → Reply → State → Type 0
-Answers limits state (request.Domain name processors) r state' = Makes limits state name processors r state' ⊎ MakesNone state processors r state'
-Answers limits state (request.On place what) r state' = (d d' : DomainState) × GoesOn state place d d' state' × Does limits what d r d'
-Answers limits state (request.Cleanup place) r state' = CleansUp state place r state' ⊎ CleansNone state place r state'
+abbrev pub Answers : (ℕ → ℕ → ℕ → Type 0) → Limits → State → Request → Reply → State → Type 0
+Answers gives limits state (request.Domain name processors) r state' = Makes limits state name processors r state' ⊎ MakesNone state processors r state'
+Answers gives limits state (request.On place what) r state' = (d d' : DomainState) × GoesOn state place d d' state' × Acts gives limits what d r d'
+Answers gives limits state (request.Cleanup place) r state' = CleansUp state place r state' ⊎ CleansNone state place r state'
 
 -- Lines
 
@@ -383,24 +532,24 @@ pub record IsSkipped (state : State) (bytes : List ℕ) (faulty : Bool) (state' 
   pub faulty_is : faulty ≡ false
   pub after : state' ≡ state
 
-pub record IsAnswered (limits : Limits) (state : State) (words : List (List ℕ)) (bytes : List ℕ) (faulty : Bool) (state' : State) : Type 0 where
+pub record IsAnswered (gives : ℕ → ℕ → ℕ → Type 0) (limits : Limits) (state : State) (words : List (List ℕ)) (bytes : List ℕ) (faulty : Bool) (state' : State) : Type 0 where
   pub asked : Request
   pub asks : Asks (scene_of state) words asked
   pub given : Reply
-  pub answers : Answers limits state asked given state'
+  pub answers : Answers gives limits state asked given state'
   pub reply : bytes ≡ reply_text given
   pub faulty_is : faulty ≡ false
 
-abbrev pub FaultGives : Limits → State → ℕ → List (List ℕ) → Option Fault → List ℕ → Bool → State → Type 0
-FaultGives limits state number words None bytes faulty state' = IsAnswered limits state words bytes faulty state'
-FaultGives limits state number words (Some f) bytes faulty state' = IsFaulty number f state bytes faulty state'
+abbrev pub FaultGives : (ℕ → ℕ → ℕ → Type 0) → Limits → State → ℕ → List (List ℕ) → Option Fault → List ℕ → Bool → State → Type 0
+FaultGives gives limits state number words None bytes faulty state' = IsAnswered gives limits state words bytes faulty state'
+FaultGives gives limits state number words (Some f) bytes faulty state' = IsFaulty number f state bytes faulty state'
 
 -- what these words give as the line of this number: the bytes that are written, whether it is faulty, and the state behind it
-abbrev pub WordsGive : Limits → State → ℕ → List (List ℕ) → List ℕ → Bool → State → Type 0
-WordsGive limits state number words bytes faulty state' = (is_skipped words ≡ true → IsSkipped state bytes faulty state')
-    × (is_skipped words ≡ false → FaultGives limits state number words (fault_of (scene_of state) words) bytes faulty state')
+abbrev pub WordsGive : (ℕ → ℕ → ℕ → Type 0) → Limits → State → ℕ → List (List ℕ) → List ℕ → Bool → State → Type 0
+WordsGive gives limits state number words bytes faulty state' = (is_skipped words ≡ true → IsSkipped state bytes faulty state')
+    × (is_skipped words ≡ false → FaultGives gives limits state number words (fault_of (scene_of state) words) bytes faulty state')
 
 -- what a line gives, which is text or not
-abbrev pub LineGives : Limits → State → ℕ → Option (List ℕ) → List ℕ → Bool → State → Type 0
-LineGives limits state number None bytes faulty state' = IsFaulty number Text state bytes faulty state'
-LineGives limits state number (Some line) bytes faulty state' = WordsGive limits state number (words_of line) bytes faulty state'
+abbrev pub LineGives : (ℕ → ℕ → ℕ → Type 0) → Limits → State → ℕ → Option (List ℕ) → List ℕ → Bool → State → Type 0
+LineGives gives limits state number None bytes faulty state' = IsFaulty number Text state bytes faulty state'
+LineGives gives limits state number (Some line) bytes faulty state' = WordsGive gives limits state number (words_of line) bytes faulty state'

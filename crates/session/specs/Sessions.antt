@@ -10,4 +10,5 @@ module _ {A R : Type 0} where
 
   pub record IsSession (s : session.Inside A R) : Type 0 where
     pub in_range : AreInRange s.limits
+    pub cells : s.limits.cells ≡ 2
     pub same : All (λ (e : EntryView). e.limits ≡ s.limits) s.entries.items

@@ -1,21 +1,28 @@
--- The state of a script: its domains, each with the names in use there, what lies on its desk, and the list of each processor.
+-- The state of a script: its domains, each with the names in use there, what lies on its desk, the list of each processor, its chain and its table.
 use Rattle.std.specs.Prelude.{◌≡◌, ◌≢◌, ℕ, Bool, false, if◌then◌else◌, List, Option, Some, None, map, position, option_map, option_and_then, slice_get, bytes_eq}
 use Rattle.std.specs.Option.{option_map_or}
 use Rattle.std.specs.Map.{lookup}
 use Rattle.sseq.specs.declared.index.Index.{Index}
 use Rattle.sections.specs.declared.limits.Limits.{Limits}
+use Rattle.sections.specs.declared.writer.Standing.{Standing}
+use Rattle.sections.specs.WriterViews.{WriterView}
+use Rattle.notify.specs.declared.block.Block.{Block}
+use Rattle.notify.specs.Chains.{ChainState}
+use Rattle.plugs.specs.declared.rows.Row.{Row}
+use Rattle.plugs.specs.Views.{TableState}
 use Rattle.calls.specs.Lines.{Line}
 use Rattle.solo.specs.Courses.{Course}
 use Rattle.requests.specs.declared.scene.Kind.{Kind}
 use Rattle.requests.specs.declared.scene.Kind.TheVariants as kind
 use Rattle.requests.specs.Scenes.{SceneView}
 
--- what has a name: a look, which has the index that it found; an open section of this number, which ends on this processor, where it was begun; one that may end on any; or a ticket, which waits until so many jobs of each processor are finished
+-- what has a name: a look, which has the index that it found; an open section of this number, which ends on this processor, where it was begun; one that may end on any; a ticket, which waits until so many jobs of each processor are finished; or a lease, an open section that may end on any, with the rows of its version of the table
 pub data Bearer : Type 0 where
   Look : Index → Bearer
   Reading : ℕ → ℕ → Bearer
   Held : ℕ → Bearer
   Ticket : List ℕ → Bearer
+  Lease : ℕ → List Row → Bearer
 
 -- names, each with what has it. Their order means nothing
 abbrev pub Names : Type 0
@@ -30,12 +37,39 @@ pub record Parked : Type 0 where
 abbrev pub JobList : Type 0
 JobList = Line (List ℕ)
 
--- a domain: its name, the names in use there but that of the section on its desk, what lies on the desk, the list of each processor, and how far it has come
+-- how the slots of a cell stand, of which there are so many: `version` is current there, in the slot `current`
+pub record Slots : Type 0 where
+  pub count : ℕ
+  pub version : ℕ
+  pub current : ℕ
+  pub standings : List Standing
+
+-- the blocks of a chain in calling order, and the rows of a table by rising key, each with the slots of its cell
+pub record ChainNow : Type 0 where
+  pub blocks : List Block
+  pub slots : Slots
+
+pub record TableNow : Type 0 where
+  pub rows : List Row
+  pub slots : Slots
+
+abbrev pub slots_of : WriterView → Slots
+slots_of w = record { count = w.slots; version = w.version; current = w.current; standings = w.standings }
+
+abbrev pub chain_now : ChainState → ChainNow
+chain_now s = record { blocks = s.blocks; slots = slots_of s.writer }
+
+abbrev pub table_now : TableState → TableNow
+table_now s = record { rows = s.rows; slots = slots_of s.writer }
+
+-- a domain: its name, the names in use there but that of the section on its desk, what lies on the desk, the list of each processor, the chain of its first cell and the table of its second one, and how far it has come
 pub record DomainState : Type 0 where
   pub name : List ℕ
   pub names : Names
   pub desk : Option Parked
   pub lines : List JobList
+  pub chain : ChainNow
+  pub table : TableNow
   pub course : Course
 
 -- the domains, in the order in which they were made
@@ -76,6 +110,7 @@ kind_of (Look i) = kind.Look
 kind_of (Reading s p) = kind.Reading
 kind_of (Held s) = kind.Held
 kind_of (Ticket numbers) = kind.Ticket
+kind_of (Lease s rows) = kind.Lease
 
 -- the section on the desk has this name
 abbrev pub is_parked : List ℕ → Option Parked → Bool

@@ -6,12 +6,20 @@ use Rattle.session.specs.declared.names.Token.{Token}
 use Rattle.session.specs.declared.names.Token.TheVariants as token
 use Rattle.requests.specs.declared.scene.Kind.{Kind}
 use Rattle.session.specs.OpenSections.{is_index}
-use Rattle.session.specs.States.{Bearer, Look, Reading, Held, Ticket, kind_of}
+use Rattle.sections.specs.Shelves.{words_of}
+use Rattle.plugs.specs.declared.rows.Row.{Row}
+use Rattle.plugs.specs.Parts.{rows_in}
+use Rattle.plugs.specs.Views.{LeaseView}
+use Rattle.session.specs.States.{Bearer, Look, Reading, Held, Ticket, Lease, kind_of}
 
 -- `tokens` are the names with what has them, in an order that means nothing, and `room` is how many more there is memory for
 pub record NamesView (A : Type 0) : Type 0 where
   pub tokens : List (List ℕ × Token A)
   pub room : ℕ
+
+-- the rows of the version of a lease
+abbrev pub rows_of : LeaseView → List Row
+rows_of l = rows_in (words_of l.found.cell l.found.version l.found.texts)
 
 module _ {A : Type 0} where
   -- what has this name
@@ -29,6 +37,7 @@ module _ {A : Type 0} where
   bearer_of (token.Reading r) = Reading r.section r.processor
   bearer_of (token.Held h) = Held h.section
   bearer_of (token.Ticket t) = Ticket t.numbers
+  bearer_of (token.Lease l) = Lease l.held.section (rows_of l)
 
   -- of which kind it is that has this name
   abbrev pub kind_in : List ℕ → List (List ℕ × Token A) → Option Kind
@@ -47,6 +56,7 @@ module _ {A : Type 0} where
   open_index (token.Reading r) = Some r.index
   open_index (token.Held h) = Some h.index
   open_index (token.Ticket t) = None
+  open_index (token.Lease l) = Some l.held.index
 
   -- how many of the tokens are open sections of this index
   abbrev pub held_of : Index → List (List ℕ × Token A) → ℕ

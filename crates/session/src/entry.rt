@@ -1,19 +1,21 @@
 //! A domain with its name, the names in use there, its desk, and the batches that are out.
-ghost use Rattle.std.specs.Prelude.{◌≡◌, ◌<◌, [], ◌∷◌, option_map, IfOk, OnErr, bytes_eq};
+ghost use Rattle.std.specs.Prelude.{◌≡◌, ◌<◌, ◌≤◌, length, [], ◌∷◌, option_map, IfOk, OnErr, bytes_eq};
 ghost use Rattle.requests.specs.Requests.{Fits};
 ghost use Rattle.session.specs.States.{kind_at, scene_of};
 ghost use Rattle.session.specs.Entries.{AreTogether};
-ghost use Rattle.session.specs.Scripts.{Does};
+ghost use Rattle.notify.specs.Calling.{GivesAt};
+ghost use Rattle.session.specs.Scripts.{Does, Acts};
 
 use crate::batch_out::{Out, none_out};
 use crate::entry::calling::finish_all;
 use crate::names::{Names, Token, take_last};
 use crate::parking::Parking;
 use lines::Name;
+use notify::Handler;
 use requests::{Act, Cause, Command, Kind, Period, Reply, Sections};
 use scan::{Exhausted as NoMorePeriods, Progress, StartRefusal};
 use sections::{Exhausted, NotACookie};
-use solo::Solo;
+use solo::{Notifier, Plugboard, Solo};
 use sseq::state;
 use std::alloc::{AllocError, Allocator};
 use std::marker::Model;
@@ -21,7 +23,9 @@ use std::sync::Wait;
 
 mod barriers;
 mod calling;
+mod chains;
 mod cleanup;
+mod tables;
 
 /// A domain of a session. Its open sections must be ended: spend it by [`Entry::finish`].
 ///
@@ -35,6 +39,10 @@ pub struct Entry<A: Allocator> {
     parking: Parking<A>,
     /// Of each processor, in order.
     outs: Vec<Out<A>, A>,
+    /// Of the domain's first cell.
+    chain: Notifier,
+    /// Of its second one.
+    board: Plugboard,
 }
 
 impl<A: Allocator> Model for Entry<A> {
@@ -52,12 +60,21 @@ impl<A: Allocator> Model for Entry<A> {
 impl<A: Allocator> Entry<A> {
     ghost use Rattle.session.specs.Scripts.{new_domain};
     ghost use Rattle.solo.specs.Calls.{IsNew};
+    ghost use Rattle.session.specs.Entries.{IsNewChain, IsNewTable};
 
     /// A domain in which no name is in use. Nothing has happened in it.
-    pub fn new(alloc: A, name: Name, mut domain: Solo<Name, A>) -> Result<Entry<A>, AllocError>
+    pub fn new(
+        alloc: A,
+        name: Name,
+        mut domain: Solo<Name, A>,
+        chain: Notifier,
+        board: Plugboard,
+    ) -> Result<Entry<A>, AllocError>
     where
         A: Copy,
-        requires { IsNew domain.limits domain.course.standing.processors domain }
+        requires domain { IsNew domain.limits domain.course.standing.processors domain }
+        requires chain { IsNewChain domain chain }
+        requires board { IsNewTable domain board }
         ensures { IfOk result (λ e. e ≡ record { limits = domain.limits; state = new_domain domain.limits name domain.course.standing.processors }) }
     {
         let parking = Parking::new(alloc, domain.home())?;
@@ -72,6 +89,8 @@ impl<A: Allocator> Entry<A> {
             names: Names::new(alloc),
             parking,
             outs,
+            chain,
+            board,
         })
     }
 
@@ -101,6 +120,7 @@ impl<A: Allocator> Entry<A> {
             Token::Reading(_) => Some(Kind::Reading),
             Token::Held(_) => Some(Kind::Held),
             Token::Ticket(_) => Some(Kind::Ticket),
+            Token::Lease(_) => Some(Kind::Lease),
         }
     }
 
@@ -317,11 +337,17 @@ impl<A: Allocator> Entry<A> {
 impl<'a, A: Allocator> Entry<&'a A> {
     /// Does what a line asks of the domain. What it relies on is said of a scene with this domain alone. Where memory is
     /// refused, nothing is done.
-    pub fn act(&mut self, rt: &impl Wait, act: Act) -> Result<Reply, AllocError>
-        requires { Fits (scene_of (self.old.state ∷ [])) 0 act }
+    pub fn act(
+        &mut self,
+        rt: &impl Wait,
+        handlers: &[Box<dyn Handler>],
+        act: Act,
+    ) -> Result<Reply, AllocError>
+        requires fits { Fits (scene_of (self.old.state ∷ [])) 0 act }
+        requires handlers { 16 ≤ length handlers.now }
         ensures limits { self.new.limits ≡ self.old.limits }
         ensures name { self.new.state.name ≡ self.old.state.name }
-        ensures does { IfOk result (λ r. Does self.old.limits act self.old.state r self.new.state) }
+        ensures does { IfOk result (λ r. Acts (λ value id x. GivesAt (λ h y. answers h 1 value y) handlers.now id x) self.old.limits act self.old.state r self.new.state) }
         ensures err { OnErr result (self.new ≡ self.old) }
     {
         match act {
@@ -347,6 +373,30 @@ impl<'a, A: Allocator> Entry<&'a A> {
             Act::Segs { processor } => Ok(self.segs(rt, processor)),
             Act::Barrier { processor, ticket } => self.barrier(processor, ticket),
             Act::BarrierPoll { processor, ticket } => Ok(self.barrier_poll(processor, &ticket)),
+            Act::Register {
+                processor,
+                id,
+                priority,
+            } => Ok(self.register(processor, id, priority)),
+            Act::Unregister { processor, id } => Ok(self.unregister(processor, id)),
+            Act::Chain { processor } => Ok(self.show_chain(processor)),
+            Act::Notify { processor, answers } => {
+                Ok(self.notify(handlers, processor, answers.value()))
+            }
+            Act::Install {
+                processor,
+                key,
+                plug,
+            } => Ok(self.install(processor, key, plug)),
+            Act::Remove { processor, key } => Ok(self.remove(processor, key)),
+            Act::Lookup { processor, key } => Ok(self.lookup(processor, key)),
+            Act::Lease { processor, lease } => self.lease(processor, lease),
+            Act::Read {
+                processor,
+                lease,
+                key,
+            } => self.read(processor, lease, key),
+            Act::Release { processor, lease } => Ok(self.release(processor, lease)),
         }
     }
 
@@ -358,6 +408,8 @@ impl<'a, A: Allocator> Entry<&'a A> {
             names,
             parking,
             outs,
+            chain: _,
+            board: _,
         } = self;
         finish_all(rt, &mut domain, outs);
         end_all(domain, names, parking);
@@ -365,7 +417,7 @@ impl<'a, A: Allocator> Entry<&'a A> {
 }
 
 /// Ends all open sections of a domain, and drops its looks, its tickets and itself.
-fn end_all<A: Allocator>(mut domain: Solo<Name, A>, names: Names<A>, parking: Parking<A>)
+fn end_all<A: Allocator + Copy>(mut domain: Solo<Name, A>, names: Names<A>, parking: Parking<A>)
     requires { AreTogether domain names.tokens parking }
 {
     if let Some(held) = parking.close() {
@@ -382,6 +434,7 @@ fn end_all<A: Allocator>(mut domain: Solo<Name, A>, names: Names<A>, parking: Pa
                 let processor = u64::from(held.processor());
                 domain.up_read(processor, held);
             }
+            Token::Lease(lease) => domain.release(0, lease),
         }
     }
     tokens.destroy_empty();

@@ -1,6 +1,7 @@
 //! The session of a script: its domains, the tokens that have names there, and what each line does to them.
 #![tactic(auto)]
 
+mod answerer;
 mod batch_out;
 mod entry;
 mod names;
@@ -9,4 +10,5 @@ mod parking;
 mod scene;
 mod session;
 
+pub use answerer::Answerer;
 pub use session::Session;

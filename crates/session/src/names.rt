@@ -9,6 +9,7 @@ use crate::open::Open;
 use calls::Ticket;
 use indexmap::IndexMap;
 use lines::Name;
+use plugs::Lease;
 use sections::{Held, Look, Reading};
 use sseq::Index;
 use std::alloc::{AllocError, Allocator};
@@ -17,12 +18,14 @@ use std::marker::Model;
 
 mod taking;
 
-/// What has a name: a look; an open section, which its own processor ends or any may end; or the ticket of a barrier.
+/// What has a name: a look; an open section, which its own processor ends or any may end; the ticket of a barrier; or a
+/// lease, which is an open section too.
 pub enum Token<A: Allocator> {
     Look(Look),
     Reading(Reading),
     Held(Held),
     Ticket(Ticket<Name, A>),
+    Lease(Lease),
 }
 
 /// Tokens under names. To find, to add and to take out one costs the same however many there are.
@@ -143,6 +146,7 @@ impl<A: Allocator> Token<A> {
             Token::Reading(reading) => Some(reading.index()),
             Token::Held(held) => Some(held.index()),
             Token::Ticket(_) => None,
+            Token::Lease(lease) => Some(lease.index()),
         }
     }
 }

@@ -1,16 +1,19 @@
 //! The domains of a script, and what a line does to them.
-ghost use Rattle.std.specs.Prelude.{◌≡◌, ◌⊎◌, ◌++◌, ◌<◌, [], true, length, IfOk, OnErr};
+ghost use Rattle.std.specs.Prelude.{◌≡◌, ◌⊎◌, ◌++◌, ◌<◌, ◌≤◌, [], true, length, IfOk, OnErr};
+ghost use Rattle.std.specs.Option.{option_copied};
 ghost use Rattle.sections.specs.Limits.{AreInRange};
 ghost use Rattle.requests.specs.Replies.{reply_text};
 ghost use Rattle.requests.specs.Requests.{IsFor};
+ghost use Rattle.notify.specs.Calling.{GivesAt};
 ghost use Rattle.session.specs.States.{scene_of};
-ghost use Rattle.session.specs.Scripts.{Makes, MakesNone, CleansUp, CleansNone, Answers as AnswersTo};
+ghost use Rattle.session.specs.Scripts.{Makes, MakesNone, CleansUp, CleansNone, LineGives, Answers as AnswersTo};
 
 use crate::entry::Entry;
-use lines::{Answers, Name, words};
+use lines::{Name, words};
+use notify::Handler;
 use requests::{Cause, Command, Fault, Reply, Request, is_skipped, parse, push_reply};
 use sections::{Limits, MakeError};
-use solo::Solo;
+use solo::{Notifier, Plugboard, Solo};
 use std::alloc::{AllocError, Allocator};
 use std::marker::Model;
 use std::sync::Wait;
@@ -36,13 +39,17 @@ impl<'r, A: Allocator, R: Wait> Model for Session<'r, A, R> {
     ghost invariant = { IsSession };
 }
 
+/// How many ids blocks may have.
+const IDS: u64 = 16;
+
 /// How many domains a script may have.
 const MOST_DOMAINS: usize = 8;
 
 impl<'r, 'a, A: Allocator, R: Wait> Session<'r, &'a A, R> {
     /// A session without domains. Each domain that it makes has these limits.
     pub fn new(alloc: &'a A, rt: &'r R, limits: Limits) -> Session<'r, &'a A, R>
-        requires { AreInRange limits }
+        requires limits { AreInRange limits }
+        requires cells { limits.cells ≡ 2 }
         ensures { result ≡ record { limits = limits; domains = [] } }
     {
         Session {
@@ -53,15 +60,20 @@ impl<'r, 'a, A: Allocator, R: Wait> Session<'r, &'a A, R> {
         }
     }
 
-    /// Does what a line asks for.
-    fn respond(&mut self, request: Request) -> Result<Reply, AllocError>
-        requires { IsFor (scene_of self.old.domains) request }
+    /// Does what a line asks for. The handlers are those of the chains' blocks, by their ids.
+    fn respond(
+        &mut self,
+        handlers: &[Box<dyn Handler>],
+        request: Request,
+    ) -> Result<Reply, AllocError>
+        requires request { IsFor (scene_of self.old.domains) request }
+        requires handlers { 16 ≤ length handlers.now }
         ensures limits { self.new.limits ≡ self.old.limits }
-        ensures ok { IfOk result (λ r. AnswersTo self.old.limits self.old.domains request r self.new.domains) }
+        ensures ok { IfOk result (λ r. AnswersTo (λ value id x. GivesAt (λ h y. answers h 1 value y) handlers.now id x) self.old.limits self.old.domains request r self.new.domains) }
     {
         match request {
             Request::Domain { name, processors } => self.make(name, processors),
-            Request::On { domain, act } => self.entries[domain].act(self.rt, act),
+            Request::On { domain, act } => self.entries[domain].act(self.rt, handlers, act),
             Request::Cleanup { domain } => Ok(self.cleanup(domain)),
         }
     }
@@ -77,8 +89,8 @@ impl<'r, 'a, A: Allocator, R: Wait> Session<'r, &'a A, R> {
             return Ok(Reply::Refused(Command::Domain, Cause::Full));
         }
         self.entries.reserve(1)?;
-        let domain = match Solo::new(self.alloc, processors, self.limits) {
-            Ok((domain, _writers)) => domain,
+        let (domain, mut writers) = match Solo::new(self.alloc, processors, self.limits) {
+            Ok(made) => made,
             Err(MakeError::Processors) => {
                 return Ok(Reply::Refused(Command::Domain, Cause::Processors));
             }
@@ -87,7 +99,9 @@ impl<'r, 'a, A: Allocator, R: Wait> Session<'r, &'a A, R> {
             }
             Err(MakeError::Limits) => unreachable!(),
         };
-        let entry = Entry::new(self.alloc, name, domain)?;
+        let board = Plugboard::new(writers.pop().unwrap());
+        let chain = Notifier::new(writers.pop().unwrap(), IDS);
+        let entry = Entry::new(self.alloc, name, domain, chain, board)?;
         self.entries.push(entry).unwrap();
         Ok(Reply::Made {
             domain: name,
@@ -117,6 +131,37 @@ impl<'r, 'a, A: Allocator, R: Wait> Session<'r, &'a A, R> {
         }
     }
 
+    /// Runs one line, puts its reply into `reply`, or nothing where the line is skipped, and says whether the line is faulty.
+    /// `line` is `None` for a line that is no text. The handlers are those of the chains' blocks, by their ids.
+    pub(crate) fn answer(
+        &mut self,
+        handlers: &[Box<dyn Handler>],
+        number: u64,
+        line: Option<&[u8]>,
+        reply: &mut Vec<u8, &'a A>,
+    ) -> Result<bool, AllocError>
+        requires reply { reply.old.items ≡ [] }
+        requires handlers { 16 ≤ length handlers.now }
+        ensures limits { self.new.limits ≡ self.old.limits }
+        ensures gives { IfOk result (λ faulty. LineGives (λ value id x. GivesAt (λ h y. answers h 1 value y) handlers.now id x) self.old.limits self.old.domains number (option_copied line.entry) reply.new.items faulty self.new.domains) }
+    {
+        let Some(line) = line else {
+            return faulty(number, Fault::Text, reply);
+        };
+        let words = words(self.alloc, line)?;
+        if is_skipped(&words) {
+            return Ok(false);
+        }
+        match parse(&words, self) {
+            Ok(request) => {
+                let given = self.respond(handlers, request)?;
+                push_reply(reply, &given)?;
+                Ok(false)
+            }
+            Err(fault) => faulty(number, fault, reply),
+        }
+    }
+
     /// Ends all open sections, and drops the domains.
     pub fn finish(self) {
         let Session {
@@ -129,36 +174,6 @@ impl<'r, 'a, A: Allocator, R: Wait> Session<'r, &'a A, R> {
             entry.finish(rt);
         }
         entries.destroy_empty();
-    }
-}
-
-impl<'a, A: Allocator, R: Wait> Answers<&'a A> for Session<'_, &'a A, R> {
-    ghost use Rattle.std.specs.Prelude.{◌≡◌};
-    ghost use Rattle.session.specs.Scripts.{LineGives};
-
-    ghost gives = { λ s number line reply faulty s'. LineGives s.limits s.domains number line reply faulty s'.domains × (s'.limits ≡ s.limits) };
-
-    fn answer(
-        &mut self,
-        number: u64,
-        line: Option<&[u8]>,
-        reply: &mut Vec<u8, &'a A>,
-    ) -> Result<bool, AllocError> {
-        let Some(line) = line else {
-            return faulty(number, Fault::Text, reply);
-        };
-        let words = words(self.alloc, line)?;
-        if is_skipped(&words) {
-            return Ok(false);
-        }
-        match parse(&words, self) {
-            Ok(request) => {
-                let given = self.respond(request)?;
-                push_reply(reply, &given)?;
-                Ok(false)
-            }
-            Err(fault) => faulty(number, fault, reply),
-        }
     }
 }
 

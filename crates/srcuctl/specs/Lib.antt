@@ -1,3 +1,4 @@
+pub mod Handlers
 pub mod Options
 pub mod Programs
 pub mod Races

@@ -7,10 +7,10 @@ use Rattle.session.specs.States.{State}
 use Rattle.session.specs.Scripts.{LineGives}
 use Rattle.lines.specs.Runs.{IsRun, EndsEarly}
 
--- `given` is what a run of the lines of `taken` writes, from a state without domains, and `faulty` is whether one of the lines is faulty
-abbrev pub Runs : Limits → List ℕ → List ℕ → Bool → Type 0
-Runs limits taken given faulty = (after : State) × IsRun (LineGives limits) [] 1 (lines_of taken) given faulty after
+-- `given` is what a run of the lines of `taken` writes, from a state without domains, and `faulty` is whether one of the lines is faulty. `gives` is which result the handler of an id may give to a value
+abbrev pub Runs : (ℕ → ℕ → ℕ → Type 0) → Limits → List ℕ → List ℕ → Bool → Type 0
+Runs gives limits taken given faulty = (after : State) × IsRun (LineGives gives limits) [] 1 (lines_of taken) given faulty after
 
 -- `given` is what such a run has written when it ended with this error
-abbrev pub RunsInPart : Limits → List ℕ → List ℕ → RunError → Type 0
-RunsInPart limits taken given error = (after : State) × EndsEarly (LineGives limits) [] taken given error after
+abbrev pub RunsInPart : (ℕ → ℕ → ℕ → Type 0) → Limits → List ℕ → List ℕ → RunError → Type 0
+RunsInPart gives limits taken given error = (after : State) × EndsEarly (LineGives gives limits) [] taken given error after

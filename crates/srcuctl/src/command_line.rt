@@ -50,17 +50,18 @@ pub fn command<'a>(alloc: Global, of_scripts: &'a str) -> Result<Command<'a>, Er
     Ok(srcuctl)
 }
 
-/// The limits that the options of `run` set.
+/// The limits that the options of `run` set. A domain has two cells, its chain's and its table's, of four slots each.
 pub fn limits_of(matches: &ArgMatches<'_>) -> Limits
     ensures sections { SetsLimit (2 ^ 54) (one_text (found_of matches.now) (codes "sections")) result.sections }
     ensures periods { SetsLimit (2 ^ 59 - 1) (one_text (found_of matches.now) (codes "periods")) result.periods }
-    ensures cells { result.cells ≡ 0 }
+    ensures cells { result.cells ≡ 2 }
+    ensures slots { result.slots ≡ 4 }
 {
     Limits {
         sections: limit(matches, "sections", Limits::MOST_SECTIONS),
         periods: limit(matches, "periods", Limits::MOST_PERIODS),
-        cells: 0,
-        slots: 2,
+        cells: 2,
+        slots: 4,
     }
 }
 

@@ -1,10 +1,12 @@
 //! `srcuctl` drives sleepable RCU domains by a script.
 #![tactic(auto)]
 
+ghost use Rattle.std.specs.Prelude.{◌≡◌};
 ghost use Rattle.sections.specs.Limits.{AreInRange};
 ghost use Rattle.srcuctl.specs.Races.{IsInRange};
 
 mod command_line;
+mod handler;
 mod help;
 mod racing;
 #[cfg(test)]
@@ -13,6 +15,7 @@ mod script;
 mod status;
 
 use clap::error::ErrorKind;
+use handler::run_told;
 use racing::Size;
 use sections::Limits;
 use status::Ending;
@@ -23,9 +26,10 @@ use std::{env, io};
 
 /// Runs the script of standard input.
 fn run_script(rt: &(impl Wait + Input + Print + AllocGlobal), limits: Limits) -> Ending
-    requires { AreInRange limits }
+    requires limits { AreInRange limits }
+    requires cells { limits.cells ≡ 2 }
 {
-    let ended = script::run(
+    let ended = run_told(
         rt.alloc(),
         rt,
         &mut rt.reader(),

@@ -1,8 +1,11 @@
+ghost use Rattle.std.specs.Prelude.{◌≡◌};
 ghost use Rattle.sections.specs.Limits.{AreInRange};
 
+use crate::handler::{HANDLERS, ToldHandler};
 use lines::Answers;
+use notify::Handler;
 use sections::Limits;
-use session::Session;
+use session::{Answerer, Session};
 use std::alloc::{AllocError, Global};
 use std::process::Abort;
 use std::sync::Wait;
@@ -21,18 +24,33 @@ fn replies<R: Wait + AllocGlobal>(
     limits: Limits,
     lines: &[Option<&str>],
 ) -> Result<String, AllocError>
-    requires { AreInRange limits }
+    requires limits { AreInRange limits }
+    requires cells { limits.cells ≡ 2 }
 {
     let alloc = rt.alloc();
-    let mut session = Session::new(&alloc, rt, limits);
-    let given = answer_all(&alloc, &mut session, lines);
+    let mut handlers: Vec<Box<dyn Handler>> = Vec::new(alloc);
+    for id in 0..HANDLERS {
+        handlers.push(Box::new(alloc, ToldHandler::new(id))?)?;
+    }
+    let Some(handlers) = handlers.as_array::<16>() else {
+        return Err(AllocError);
+    };
+    let mut answerer = Answerer {
+        session: Session::new(&alloc, rt, limits),
+        handlers,
+    };
+    let given = answer_all(&alloc, &mut answerer, lines);
+    let Answerer {
+        session,
+        handlers: _,
+    } = answerer;
     session.finish();
     given
 }
 
 fn answer_all<'a, R: Wait>(
     alloc: &'a Global,
-    session: &mut Session<&'a Global, R>,
+    answerer: &mut Answerer<'_, '_, &'a Global, R>,
     lines: &[Option<&str>],
 ) -> Result<String, AllocError> {
     let mut given = String::new(*alloc);
@@ -40,7 +58,7 @@ fn answer_all<'a, R: Wait>(
     for line in lines {
         number = number.wrapping_add(1);
         let mut reply = Vec::new(alloc);
-        session.answer(number, line.map(|text| text.as_bytes()), &mut reply)?;
+        answerer.answer(number, line.map(|text| text.as_bytes()), &mut reply)?;
         let text = str::from_utf8(&reply).map_err(|_| AllocError)?;
         given.push_str(text)?;
     }
@@ -53,7 +71,8 @@ fn check(
     limits: Limits,
     table: &[(&str, &str)],
 ) -> Result<(), Fail>
-    requires { AreInRange limits }
+    requires limits { AreInRange limits }
+    requires cells { limits.cells ≡ 2 }
 {
     let mut lines = Vec::new(rt.alloc());
     let mut wanted = String::new(rt.alloc());
@@ -75,8 +94,8 @@ fn check(
 const AMPLE: Limits = Limits {
     sections: Limits::MOST_SECTIONS,
     periods: Limits::MOST_PERIODS,
-    cells: 0,
-    slots: 2,
+    cells: 2,
+    slots: 4,
 };
 
 #[test]
@@ -213,8 +232,8 @@ fn refuses(rt: HostRuntime) -> Result<(), Fail> {
         Limits {
             sections: 2,
             periods: 1,
-            cells: 0,
-            slots: 2,
+            cells: 2,
+            slots: 4,
         },
         &[
             ("domain a 0", "refused domain processors"),
@@ -307,8 +326,8 @@ fn refuses_to_enter(rt: HostRuntime) -> Result<(), Fail> {
     let one = Limits {
         sections: 1,
         periods: 1,
-        cells: 0,
-        slots: 2,
+        cells: 2,
+        slots: 4,
     };
     check(
         &rt,

@@ -2,12 +2,12 @@ use crate::scene::{Kind, Scene};
 use lines::Name;
 
 /// What is there in the tests: a domain `a` of 2 processors, with a look `r`, a section `s` that its own processor ends, a
-/// held section `h`, one that is parked, `p`, and a ticket `b`.
+/// held section `h`, one that is parked, `p`, a ticket `b`, and a lease `l`.
 pub struct Stage;
 
 impl Scene for Stage {
     ghost use Rattle.std.specs.Prelude.{bytes_eq, codes, Some, None, if◌then◌else◌};
-    ghost use Rattle.requests.specs.declared.scene.Kind.TheVariants.{Look, Reading, Held, Parked, Ticket};
+    ghost use Rattle.requests.specs.declared.scene.Kind.TheVariants.{Look, Reading, Held, Parked, Ticket, Lease};
 
     ghost scene = { λ _. record {
       place_of = λ w. if bytes_eq w (codes "a") then Some 0 else None;
@@ -16,7 +16,8 @@ impl Scene for Stage {
           else (if bytes_eq w (codes "s") then Some Reading
           else (if bytes_eq w (codes "h") then Some Held
           else (if bytes_eq w (codes "p") then Some Parked
-          else (if bytes_eq w (codes "b") then Some Ticket else None))));
+          else (if bytes_eq w (codes "b") then Some Ticket
+          else (if bytes_eq w (codes "l") then Some Lease else None)))));
     } };
 
     fn place_of(&self, domain: &[u8]) -> Option<usize> {
@@ -42,6 +43,8 @@ impl Scene for Stage {
             Some(Kind::Parked)
         } else if name.is(b"b") {
             Some(Kind::Ticket)
+        } else if name.is(b"l") {
+            Some(Kind::Lease)
         } else {
             None
         }

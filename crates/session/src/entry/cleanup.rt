@@ -41,6 +41,7 @@ fn drop_tokens<A: Allocator>(names: Names<A>)
             Token::Ticket(_ticket) => {}
             Token::Reading(_reading) => unreachable!(),
             Token::Held(_held) => unreachable!(),
+            Token::Lease(_lease) => unreachable!(),
         }
     }
     tokens.destroy_empty();
@@ -59,6 +60,8 @@ impl<'a, A: Allocator> Entry<&'a A> {
             names,
             parking,
             outs,
+            chain,
+            board,
         } = self;
         match domain.cleanup() {
             Ok(totals) => {
@@ -73,6 +76,8 @@ impl<'a, A: Allocator> Entry<&'a A> {
                     names,
                     parking,
                     outs,
+                    chain,
+                    board,
                 };
                 match in_use {
                     InUse::Sections(open) => Err((Cause::Sections(open), entry)),

@@ -6,6 +6,7 @@ ghost use Rattle.session.specs.Tokens.{token_at, kind_in, TakesOut};
 use super::{Names, Token};
 use calls::Ticket;
 use lines::Name;
+use plugs::Lease;
 use requests::Kind;
 use sections::{Held, Look, Reading};
 use std::alloc::Allocator;
@@ -53,6 +54,18 @@ impl<A: Allocator> Names<A> {
     {
         match self.take(name) {
             Token::Held(held) => held,
+            _other => unreachable!(),
+        }
+    }
+
+    /// Takes out the lease of this name.
+    pub fn take_lease(&mut self, name: &Name) -> Lease
+        requires { kind_in name.now self.old.tokens ≡ Some Kind.Lease }
+        ensures taken { TakesOut name.now (Token.Lease result) self.old.tokens self.new.tokens }
+        ensures room { 0 < self.old.room → 0 < self.new.room }
+    {
+        match self.take(name) {
+            Token::Lease(lease) => lease,
             _other => unreachable!(),
         }
     }

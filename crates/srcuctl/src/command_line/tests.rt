@@ -14,8 +14,8 @@ fn check(alloc: Global, words: &[&str], limits: Option<(u64, u64)>) -> Result<bo
     let wanted = limits.map(|(sections, periods)| Limits {
         sections,
         periods,
-        cells: 0,
-        slots: 2,
+        cells: 2,
+        slots: 4,
     });
     Ok(limits_by(alloc, words)? == wanted)
 }

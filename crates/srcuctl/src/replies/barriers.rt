@@ -124,8 +124,8 @@ fn counts_what_is_finished(rt: HostRuntime) -> Result<(), Fail> {
         Limits {
             sections: 1,
             periods: 1,
-            cells: 0,
-            slots: 2,
+            cells: 2,
+            slots: 4,
         },
         &[
             ("domain a 2", "made a 2"),

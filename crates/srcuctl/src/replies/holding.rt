@@ -110,8 +110,8 @@ fn refuses_more_held_sections(rt: HostRuntime) -> Result<(), Fail> {
         Limits {
             sections: 2,
             periods: 1,
-            cells: 0,
-            slots: 2,
+            cells: 2,
+            slots: 4,
         },
         &[
             ("domain a 2", "made a 2"),

@@ -43,8 +43,8 @@ fn refuses_more_periods(rt: HostRuntime) -> Result<(), Fail> {
         Limits {
             sections: 1,
             periods: 1,
-            cells: 0,
-            slots: 2,
+            cells: 2,
+            slots: 4,
         },
         &[
             ("domain a 1", "made a 1"),

@@ -1,23 +1,29 @@
+ghost use Rattle.std.specs.Prelude.{◌≡◌};
 ghost use Rattle.sections.specs.Limits.{AreInRange};
 
 use super::*;
+use crate::handler::run_told;
 use bumpalo::Bump;
+use chains::{CHAINS, CHAINS_REPLIES};
 use lines::fakes::{Reader, Writer};
 use std::alloc::{AllocError, Global};
 use std::process::Abort;
 use std::test::Fail;
+use tables::{TABLES, TABLES_REPLIES};
 
 mod barriers;
 mod callbacks;
+mod chains;
 mod holding;
 mod needs;
 mod periods;
+mod tables;
 
 const LIMITS: Limits = Limits {
     sections: 18_014_398_509_481_984,
     periods: 576_460_752_303_423_487,
-    cells: 0,
-    slots: 2,
+    cells: 2,
+    slots: 4,
 };
 
 /// A section before a grace period and one within it.
@@ -443,14 +449,12 @@ fn runs_scripts(rt: HostRuntime) -> Result<(), Fail> {
         (HELD, HELD_REPLIES, true),
         (CALLBACKS, CALLBACKS_REPLIES, false),
         (BARRIERS, BARRIERS_REPLIES, true),
+        (CHAINS, CHAINS_REPLIES, false),
+        (TABLES, TABLES_REPLIES, false),
         (FAULTS, FAULTS_REPLIES, true),
     ];
     for (script, replies, faulty) in table {
-        let mut written = Vec::new(rt.alloc());
-        let mut reader = script.as_bytes();
-        let outcome = run(rt.alloc(), &rt, &mut reader, &mut written, LIMITS);
-        assert_eq!(rt; outcome, Ok(Outcome { faulty }));
-        assert_eq!(rt; written.as_slice(), replies.as_bytes());
+        check_script(&rt, LIMITS, script, replies, faulty)?;
     }
     Ok(())
 }
@@ -467,7 +471,7 @@ fn every_read_may_fail(rt: HostRuntime) -> Result<(), Fail> {
             most: 1,
             reads,
         };
-        let outcome = run(rt.alloc(), &rt, &mut reader, &mut written, LIMITS);
+        let outcome = run_told(rt.alloc(), &rt, &mut reader, &mut written, LIMITS);
         assert_eq!(rt; outcome, Err(RunError::Read));
         let replies = first_replies(rt.alloc(), whole_lines)?;
         assert_eq!(rt; written.as_slice(), replies.as_bytes(), "after {reads}");
@@ -486,7 +490,7 @@ fn every_write_may_fail(rt: HostRuntime) -> Result<(), Fail> {
             writes,
         };
         let mut reader = STARTED.as_bytes();
-        let outcome = run(rt.alloc(), &rt, &mut reader, &mut writer, LIMITS);
+        let outcome = run_told(rt.alloc(), &rt, &mut reader, &mut writer, LIMITS);
         let ended = if writes < replies.len() {
             Err(RunError::Write)
         } else {
@@ -587,13 +591,13 @@ fn run_in(
     zeros: &[u8],
     room: usize,
 ) -> Result<Option<Ended>, AllocError> {
-    let arena = Bump::try_with_capacity(rt.alloc(), 16384)?;
+    let arena = Bump::try_with_capacity(rt.alloc(), room)?;
     arena.set_allocation_limit(Some(arena.allocated_bytes()));
     let filled = arena.chunk_capacity().saturating_sub(room).min(zeros.len());
     arena.try_alloc_slice_copy(&zeros[..filled])?;
     let mut written = Vec::new(rt.alloc());
     let mut reader = script.as_bytes();
-    let outcome = run(&arena, rt, &mut reader, &mut written, LIMITS);
+    let outcome = run_told(&arena, rt, &mut reader, &mut written, LIMITS);
     let lines = written.iter().filter(|byte| **byte == b'\n').count();
     let Some(refused) = refused_domains(rt.alloc(), &written)? else {
         return Ok(None);
@@ -616,11 +620,11 @@ fn each_allocation_refused_in_turn(rt: HostRuntime) -> Result<(), Fail> {
         script.push_str(row.line)?;
         script.push_str("\n")?;
     }
-    let zeros = vec![in rt.alloc(); 0u8; 32768]?;
+    let zeros = vec![in rt.alloc(); 0u8; 4096]?;
     let mut has_ended_early = false;
     let mut has_refused = false;
     let mut has_ended = false;
-    for room in (0..16384).step_by(16) {
+    for room in (16..36864).step_by(16) {
         match run_in(&rt, &script, &zeros, room)? {
             None => panic!(rt; "another reply, with room for {room}"),
             Some(Ended { is_early: true, .. }) => has_ended_early = true,
@@ -660,7 +664,7 @@ fn first_fault_of_two(rt: HostRuntime) -> Result<(), Fail> {
     for (script, replies) in table {
         let mut written = Vec::new(rt.alloc());
         let mut reader = script;
-        let outcome = run(rt.alloc(), &rt, &mut reader, &mut written, LIMITS);
+        let outcome = run_told(rt.alloc(), &rt, &mut reader, &mut written, LIMITS);
         assert_eq!(rt; outcome, Ok(Outcome { faulty: true }));
         assert_eq!(rt; written.as_slice(), replies.as_bytes());
     }
@@ -673,7 +677,8 @@ fn check(
     limits: Limits,
     rows: &[(&str, &str)],
 ) -> Result<(), Fail>
-    requires { AreInRange limits }
+    requires limits { AreInRange limits }
+    requires cells { limits.cells ≡ 2 }
 {
     check_run(rt, limits, rows, false)
 }
@@ -685,7 +690,8 @@ fn check_run(
     rows: &[(&str, &str)],
     faulty: bool,
 ) -> Result<(), Fail>
-    requires { AreInRange limits }
+    requires limits { AreInRange limits }
+    requires cells { limits.cells ≡ 2 }
 {
     let mut script = String::new(rt.alloc());
     let mut replies = String::new(rt.alloc());
@@ -693,9 +699,23 @@ fn check_run(
         write!(script, "{line}\n")?;
         write!(replies, "{reply}\n")?;
     }
+    check_script(rt, limits, &script, &replies, faulty)
+}
+
+/// Runs this script, and compares what is written with these replies, and whether a line is faulty.
+fn check_script(
+    rt: &(impl Abort + Wait + AllocGlobal),
+    limits: Limits,
+    script: &str,
+    replies: &str,
+    faulty: bool,
+) -> Result<(), Fail>
+    requires limits { AreInRange limits }
+    requires cells { limits.cells ≡ 2 }
+{
     let mut written = Vec::new(rt.alloc());
     let mut reader = script.as_bytes();
-    let outcome = run(rt.alloc(), rt, &mut reader, &mut written, limits);
+    let outcome = run_told(rt.alloc(), rt, &mut reader, &mut written, limits);
     assert_eq!(rt; outcome, Ok(Outcome { faulty }));
     assert_eq!(rt; written.as_slice(), replies.as_bytes());
     Ok(())

@@ -1,8 +1,9 @@
-use Rattle.std.proofs.Common.{◌≡◌, ◌∙◌, refl, sym, rules}
+use Rattle.std.proofs.Common.{◌≡◌, ◌∙◌, refl, sym, rules, arith}
 use Rattle.std.specs.Prelude.{None}
 use Rattle.session.specs.declared.names.Token.TheVariants as token
 use Rattle.session.specs.Entries.{IsReadingOf}
 use Rattle.session.proofs.Holding.{Own, Any, token_of, held_less_unopened, held_ended, taken_last}
+use Rattle.session.proofs.Leasing.{lease_ended}
 use Rattle.session.proofs.Together.{parked_is_of, held_without_parked, held_without_desk}
 use Rattle.session.proofs.entry.end_all.Goals.{in-Some, in_default}
 use Rattle.session.proofs.entry.end_all.Goals as goal
@@ -56,7 +57,24 @@ up_read-requires-in-Held-clause-held g c =
     let one : IsReadingOf d.table d.course.standing c.in-Held.held = token_of d c.loop-token.tokens.entries c.take_last.new.tokens.entries c.in-Some-take_last.ensures.last.0 c.loop-token.invariant (token.Held c.in-Held.held) (taken_last c.loop-token.tokens.entries c.take_last.new.tokens.entries (c.in-Some-take_last.ensures.last.0, c.in-Some-take_last.token) (token.Held c.in-Held.held) c.in-Some-take_last.ensures.last.1 c.in-Held.is) in
     one.of_domain.table_is
 
+pub loop-token-preserved-in-Held : goal.loop-token-preserved-in-Held
+loop-token-preserved-in-Held g c =
+    let d = c.loop-token.domain in
+    (held_ended d c.loop-token.tokens.entries c.take_last.new.tokens.entries c.in-Some-take_last.ensures.last.0 c.loop-token.invariant Any c.from-processor-in-Held.result c.in-Held.held c.up_read-in-Held.new.self (taken_last c.loop-token.tokens.entries c.take_last.new.tokens.entries (c.in-Some-take_last.ensures.last.0, c.in-Some-take_last.token) (token.Held c.in-Held.held) c.in-Some-take_last.ensures.last.1 c.in-Held.is) c.up_read-in-Held.ensures.same.0 c.up_read-in-Held.ensures.section)
+
+pub release-requires-clause-lease : goal.release-requires-clause-lease
+release-requires-clause-lease g c =
+    let d = c.loop-token.domain in
+    let one = token_of d c.loop-token.tokens.entries c.take_last.new.tokens.entries c.in-Some-take_last.ensures.last.0 c.loop-token.invariant (token.Lease c.in-Lease.lease) (taken_last c.loop-token.tokens.entries c.take_last.new.tokens.entries (c.in-Some-take_last.ensures.last.0, c.in-Some-take_last.token) (token.Lease c.in-Lease.lease) c.in-Some-take_last.ensures.last.1 c.in-Lease.is) in
+    one.0.of_domain.table_is
+
+pub release-requires-clause-processor : goal.release-requires-clause-processor
+release-requires-clause-processor g c =
+    let d = c.loop-token.domain in
+    let one = token_of d c.loop-token.tokens.entries c.take_last.new.tokens.entries c.in-Some-take_last.ensures.last.0 c.loop-token.invariant (token.Lease c.in-Lease.lease) (taken_last c.loop-token.tokens.entries c.take_last.new.tokens.entries (c.in-Some-take_last.ensures.last.0, c.in-Some-take_last.token) (token.Lease c.in-Lease.lease) c.in-Some-take_last.ensures.last.1 c.in-Lease.is) in
+    let there = one.0.of_domain.processor in omega (arith, there)
+
 pub loop-token-preserved : goal.loop-token-preserved
 loop-token-preserved g c =
     let d = c.loop-token.domain in
-    (held_ended d c.loop-token.tokens.entries c.take_last.new.tokens.entries c.in-Some-take_last.ensures.last.0 c.loop-token.invariant Any c.from-processor-in-Held.result c.in-Held.held c.up_read-in-Held.new.self (taken_last c.loop-token.tokens.entries c.take_last.new.tokens.entries (c.in-Some-take_last.ensures.last.0, c.in-Some-take_last.token) (token.Held c.in-Held.held) c.in-Some-take_last.ensures.last.1 c.in-Held.is) c.up_read-in-Held.ensures.same.0 c.up_read-in-Held.ensures.section)
+    lease_ended d c.loop-token.tokens.entries c.take_last.new.tokens.entries c.in-Some-take_last.ensures.last.0 c.in-Lease.lease c.loop-token.invariant (taken_last c.loop-token.tokens.entries c.take_last.new.tokens.entries (c.in-Some-take_last.ensures.last.0, c.in-Some-take_last.token) (token.Lease c.in-Lease.lease) c.in-Some-take_last.ensures.last.1 c.in-Lease.is) c.release.new.self 0 c.release.ensures.same.0 c.release.ensures.section

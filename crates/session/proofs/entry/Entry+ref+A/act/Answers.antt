@@ -8,3 +8,6 @@ invariant_of-self g c = entry_on c.self.invariant c.cookie.ensures.same (does_ke
 
 pub invariant_of-self-in-Ask : goal.invariant_of-self-in-Ask
 invariant_of-self-in-Ask g c = entry_on c.self-in-Ask.invariant c.ask.ensures.same (does_keeps c.self-in-Ask.invariant.0.all.legal tt refl c.ask.ensures.asks)
+
+pub returns-in-Notify-clause-does : goal.returns-in-Notify-clause-does
+returns-in-Notify-clause-does g c = rw c.in-Notify.is (rw c.value.ensures at c.notify.ensures.calls)

@@ -2,6 +2,7 @@ use Rattle.std.proofs.Common.{refl}
 use Rattle.requests.specs.declared.scene.Kind.TheVariants as kind
 use Rattle.session.specs.Entries.{AreTogether}
 use Rattle.session.proofs.Batches.{batches_on}
+use Rattle.session.proofs.Users.{users_on}
 use Rattle.session.proofs.Quiet.{keeps_jobs}
 use Rattle.session.proofs.Holding.{Own}
 use Rattle.session.proofs.Together.{it_is_of, together_without, together_begun}
@@ -29,19 +30,20 @@ invariant_of-self-in-Ok g c =
       together_begun d c.take_look-look.new.self.tokens c.self.inside.parking left c.args.name free Own c.enter.new.self c.args.processor c.take_look-look.result.index c.in-Ok.reading
           c.enter.ensures.same.0 asked.0 c.in-Ok.ensures.section.0 c.in-Ok.ensures.section.1,
       batches_on c.self.inside.domain c.self.inside.outs.items c.self.invariant.1 c.enter.new.self c.enter.ensures.same (keeps_jobs refl c.in-Ok.ensures.section.0.happens),
+      users_on c.self.inside.domain c.enter.new.self c.self.inside.chain c.self.inside.board c.enter.ensures.same.0 c.self.invariant.2,
     )
 
 pub invariant_of-self-in-Err : goal.invariant_of-self-in-Err
 invariant_of-self-in-Err g c =
     let held : AreTogether c.self.inside.domain c.reserve.new.self.tokens c.self.inside.parking = rw c.in_ok-reserve.ensures.tokens c.self.invariant.0 in
-    rw c.in-Err.ensures.section.1 (together_without c.self.inside.domain c.reserve.new.self.tokens c.self.inside.parking held c.take_look-look.ensures.taken refl, c.self.invariant.1)
+    rw c.in-Err.ensures.section.1 (together_without c.self.inside.domain c.reserve.new.self.tokens c.self.inside.parking held c.take_look-look.ensures.taken refl, c.self.invariant.1, c.self.invariant.2)
 
 pub returns-in-Ok-clause-does : goal.returns-in-Ok-clause-does
 returns-in-Ok-clause-does g c =
     rw (← c.self.view_is, c.index-index.ensures.value, c.insert.ensures, ← c.in_ok-reserve.ensures.tokens)
-    (entered c.self.inside.name c.reserve.new.self.tokens c.self.inside.parking.parked c.self.inside.domain c.enter.new.self c.enter.ensures.same.1 c.args.processor c.take_look-look.result c.in-Ok.reading c.take_look-look.ensures.taken c.in-Ok.ensures.section.0 c.in-Ok.ensures.section.1)
+    (entered _ _ c.self.inside.name c.reserve.new.self.tokens c.self.inside.parking.parked c.self.inside.domain c.enter.new.self c.enter.ensures.same.1 c.args.processor c.take_look-look.result c.in-Ok.reading c.take_look-look.ensures.taken c.in-Ok.ensures.section.0 c.in-Ok.ensures.section.1)
 
 pub returns-in-Err-clause-does : goal.returns-in-Err-clause-does
 returns-in-Err-clause-does g c =
     rw (← c.self.view_is, ← c.in_ok-reserve.ensures.tokens)
-    (entered_none c.self.inside.name c.reserve.new.self.tokens c.self.inside.parking.parked c.self.inside.domain c.enter.new.self c.args.processor c.take_look-look.result c.take_look-look.ensures.taken c.in-Err.ensures.section.0 c.in-Err.ensures.section.1)
+    (entered_none _ _ c.self.inside.name c.reserve.new.self.tokens c.self.inside.parking.parked c.self.inside.domain c.enter.new.self c.args.processor c.take_look-look.result c.take_look-look.ensures.taken c.in-Err.ensures.section.0 c.in-Err.ensures.section.1)

@@ -29,3 +29,8 @@ pub returns-in-Held : goal.returns-in-Held
 returns-in-Held g c =
     let other = sym c.has.ensures ∙ c.if-has.false in
     rw (← c.self.view_is) (known_kind c.self.inside.name c.args.name.now c.self.inside.names.tokens c.self.inside.parking.parked c.self.inside.domain (Some (token.Held c.in-Held.field-0)) other (ap (λ (t : Token _). Some t) (sym c.in-Held.is) ∙ c.in_ok-get.ensures))
+
+pub returns-in-Lease : goal.returns-in-Lease
+returns-in-Lease g c =
+    let other = sym c.has.ensures ∙ c.if-has.false in
+    rw (← c.self.view_is) (known_kind c.self.inside.name c.args.name.now c.self.inside.names.tokens c.self.inside.parking.parked c.self.inside.domain (Some (token.Lease c.in-Lease.field-0)) other (ap (λ (t : Token _). Some t) (sym c.in-Lease.is) ∙ c.in_ok-get.ensures))

@@ -4,6 +4,7 @@ use Rattle.session.specs.States.{Reading}
 use Rattle.session.specs.Entries.{AreTogether}
 use Rattle.scan.specs.Standings.{index_now}
 use Rattle.session.proofs.Batches.{batches_on}
+use Rattle.session.proofs.Users.{users_on}
 use Rattle.session.proofs.Quiet.{keeps_jobs}
 use Rattle.session.proofs.Holding.{Own}
 use Rattle.session.proofs.Together.{together_begun}
@@ -25,6 +26,7 @@ invariant_of-self-in-Ok g c =
       together_begun d c.reserve.new.self.tokens c.self.inside.parking held c.args.name free Own c.read_lock.new.self c.args.processor (index_now d.course.standing) c.in-Ok.reading
           c.read_lock.ensures.same.0 asked.0 c.in-Ok.ensures.section.0 c.in-Ok.ensures.section.1,
       batches_on c.self.inside.domain c.self.inside.outs.items c.self.invariant.1 c.read_lock.new.self c.read_lock.ensures.same (keeps_jobs refl c.in-Ok.ensures.section.0.happens),
+      users_on c.self.inside.domain c.read_lock.new.self c.self.inside.chain c.self.inside.board c.read_lock.ensures.same.0 c.self.invariant.2,
     )
 
 pub returns-in-Ok-clause-does : goal.returns-in-Ok-clause-does
@@ -32,9 +34,9 @@ returns-in-Ok-clause-does g c =
     let asked = rw (← c.self.view_is) at c.requires in
     let free = is_free c.self.inside.name c.args.name c.reserve.new.self.tokens c.self.inside.parking.parked c.self.inside.domain (rw c.in_ok-reserve.ensures.tokens asked.1) in
     rw (← c.self.view_is, c.index-index.ensures.value, c.insert.ensures, ← c.in_ok-reserve.ensures.tokens)
-    (locked c.self.inside.name c.reserve.new.self.tokens c.self.inside.parking.parked c.self.inside.domain c.read_lock.new.self c.read_lock.ensures.same.1 c.args.processor c.args.name c.in-Ok.reading free c.in-Ok.ensures.section.0 c.in-Ok.ensures.section.1)
+    (locked _ _ c.self.inside.name c.reserve.new.self.tokens c.self.inside.parking.parked c.self.inside.domain c.read_lock.new.self c.read_lock.ensures.same.1 c.args.processor c.args.name c.in-Ok.reading free c.in-Ok.ensures.section.0 c.in-Ok.ensures.section.1)
 
 pub returns-in-Err-clause-does : goal.returns-in-Err-clause-does
 returns-in-Err-clause-does g c =
     rw (← c.self.view_is, ← c.in_ok-reserve.ensures.tokens)
-    (begun_none c.self.inside.name c.reserve.new.self.tokens c.self.inside.parking.parked c.self.inside.domain c.read_lock.new.self c.args.processor command.Lock (λ s. Reading s c.args.processor) c.args.name c.in-Err.ensures.section.0 c.in-Err.ensures.section.1)
+    (begun_none _ _ c.self.inside.name c.reserve.new.self.tokens c.self.inside.parking.parked c.self.inside.domain c.read_lock.new.self c.args.processor command.Lock (λ s. Reading s c.args.processor) c.args.name c.in-Err.ensures.section.0 c.in-Err.ensures.section.1)

@@ -16,15 +16,15 @@ park-requires-clause-domain g c = (it_is_of c.self.inside.domain c.self.inside.n
 pub invariant_of-self : goal.invariant_of-self
 invariant_of-self g c =
     let none = none_parked c.self.inside.parking.parked (search rules) in
-    rw c.park.ensures (together_parked c.self.inside.domain c.self.inside.names.tokens c.self.inside.parking c.self.invariant.0 c.take_held-held.ensures none, c.self.invariant.1)
+    rw c.park.ensures (together_parked c.self.inside.domain c.self.inside.names.tokens c.self.inside.parking c.self.invariant.0 c.take_held-held.ensures none, c.self.invariant.1, c.self.invariant.2)
 
 pub returns-clause-does : goal.returns-clause-does
 returns-clause-does g c =
     let none = none_parked c.self.inside.parking.parked (search rules) in
     rw (← c.self.view_is, c.park.ensures)
-    (laid_down c.self.inside.name c.self.inside.names.tokens c.self.inside.parking.parked c.self.inside.domain c.self.inside.domain c.take_held-held.result none c.take_held-held.ensures)
+    (laid_down _ _ c.self.inside.name c.self.inside.names.tokens c.self.inside.parking.parked c.self.inside.domain c.self.inside.domain c.take_held-held.result none c.take_held-held.ensures)
 
 pub returns-then-not-is_empty-clause-does : goal.returns-then-not-is_empty-clause-does
 returns-then-not-is_empty-clause-does g c =
     let (p, there) = some_parked c.self.inside.parking.parked (search rules) in
-    rw (← c.self.view_is) (laid_none c.self.inside.name c.self.inside.names.tokens c.self.inside.parking.parked c.self.inside.domain c.self.inside.domain c.args.name p there)
+    rw (← c.self.view_is) (laid_none _ _ c.self.inside.name c.self.inside.names.tokens c.self.inside.parking.parked c.self.inside.domain c.self.inside.domain c.args.name p there)

@@ -21,3 +21,8 @@ pub unreachable-requires-in-Held : goal.unreachable-requires-in-Held
 unreachable-requires-in-Held g c =
     let closed = (closed_last c.loop-token.tokens.entries c.take_last.new.tokens.entries (c.in-Some.ensures.last.0, c.in-Some.token) c.in-Some.ensures.last.1 c.loop-token.invariant).1 in
     never_open c.in-Held._held.index (ap open_index (sym c.in-Held.is) ∙ closed)
+
+pub unreachable-requires-in-Lease : goal.unreachable-requires-in-Lease
+unreachable-requires-in-Lease g c =
+    let closed = (closed_last c.loop-token.tokens.entries c.take_last.new.tokens.entries (c.in-Some.ensures.last.0, c.in-Some.token) c.in-Some.ensures.last.1 c.loop-token.invariant).1 in
+    never_open c.in-Lease._lease.held.index (ap open_index (sym c.in-Lease.is) ∙ closed)

@@ -6,13 +6,13 @@ use Rattle.session.specs.Scripts.{new_domain}
 use Rattle.session.proofs.session.Session+ref+A+R.make.Goals as goal
 
 pub invariant_of-self : goal.invariant_of-self
-invariant_of-self g c = record { in_range = c.self.invariant.in_range; same = All-same (λ (e : EntryView). e.limits ≡ c.self.inside.limits) c.reserve.new.self.items c.self.inside.entries.items c.reserve.ensures.items c.self.invariant.same }
+invariant_of-self g c = record { in_range = c.self.invariant.in_range; cells = c.self.invariant.cells; same = All-same (λ (e : EntryView). e.limits ≡ c.self.inside.limits) c.reserve.new.self.items c.self.inside.entries.items c.reserve.ensures.items c.self.invariant.same }
 
 pub invariant_of-self-in-Err-Processors : goal.invariant_of-self-in-Err-Processors
-invariant_of-self-in-Err-Processors g c = record { in_range = c.self.invariant.in_range; same = All-same (λ (e : EntryView). e.limits ≡ c.self.inside.limits) c.reserve.new.self.items c.self.inside.entries.items c.reserve.ensures.items c.self.invariant.same }
+invariant_of-self-in-Err-Processors g c = record { in_range = c.self.invariant.in_range; cells = c.self.invariant.cells; same = All-same (λ (e : EntryView). e.limits ≡ c.self.inside.limits) c.reserve.new.self.items c.self.inside.entries.items c.reserve.ensures.items c.self.invariant.same }
 
 pub invariant_of-self-in-Err-Memory : goal.invariant_of-self-in-Err-Memory
-invariant_of-self-in-Err-Memory g c = record { in_range = c.self.invariant.in_range; same = All-same (λ (e : EntryView). e.limits ≡ c.self.inside.limits) c.reserve.new.self.items c.self.inside.entries.items c.reserve.ensures.items c.self.invariant.same }
+invariant_of-self-in-Err-Memory g c = record { in_range = c.self.invariant.in_range; cells = c.self.invariant.cells; same = All-same (λ (e : EntryView). e.limits ≡ c.self.inside.limits) c.reserve.new.self.items c.self.inside.entries.items c.reserve.ensures.items c.self.invariant.same }
 
 pub invariant_of-self-2 : goal.invariant_of-self-2
 invariant_of-self-2 g c =
@@ -22,6 +22,7 @@ invariant_of-self-2 g c =
     let pushed : c.push.new.self.items ≡ entries ++ entry ∷ [] = search rules in
     record {
       in_range = c.self.invariant.in_range;
+      cells = c.self.invariant.cells;
       same = All-same (λ (e : EntryView). e.limits ≡ limits) _ _ pushed (All-push (λ (e : EntryView). e.limits ≡ limits) entries entry c.self.invariant.same (ap (λ (e : EntryView). e.limits) c.in_ok-entry.ensures ∙ c.in-Ok.ensures.domain.limits_are));
     }
 
@@ -43,7 +44,7 @@ returns-in-Err-Memory-clause-ok g c =
     rw (← c.self.view_is, c.reserve.ensures.items) (inr (record { after = refl; cause = inr (inr (omega (arith, few, length-map c.self.inside.entries.items (λ (e : EntryView). e.state)), counted, refl)) }))
 
 pub invariant_of-self-in_err-entry : goal.invariant_of-self-in_err-entry
-invariant_of-self-in_err-entry g c = record { in_range = c.self.invariant.in_range; same = All-same (λ (e : EntryView). e.limits ≡ c.self.inside.limits) c.reserve.new.self.items c.self.inside.entries.items c.reserve.ensures.items c.self.invariant.same }
+invariant_of-self-in_err-entry g c = record { in_range = c.self.invariant.in_range; cells = c.self.invariant.cells; same = All-same (λ (e : EntryView). e.limits ≡ c.self.inside.limits) c.reserve.new.self.items c.self.inside.entries.items c.reserve.ensures.items c.self.invariant.same }
 
 -- the last return: the new domain stands behind those that were there
 pub returns-clause-ok : goal.returns-clause-ok
@@ -53,7 +54,7 @@ returns-clause-ok g c =
     let made = c.in-Ok.ensures.domain in
     let few : length entries < 8 = omega (arith, c.if-len-ge-MOST_DOMAINS.false, c.len.ensures, c.self.inside.entries.ok.0) in
     let pushed : c.push.new.self.items ≡ entries ++ entry ∷ [] = search rules in
-    let processors : c.in-Ok.domain.course.standing.processors ≡ c.args.processors = ap (λ z. z.standing.processors) made.nothing_yet in
+    let processors : c.in-Ok.made.0.course.standing.processors ≡ c.args.processors = ap (λ z. z.standing.processors) made.nothing_yet in
     let state : entry.state ≡ new_domain c.self.inside.limits c.args.name c.args.processors = ap (λ (e : EntryView). e.state) c.in_ok-entry.ensures ∙ (λ i. new_domain (made.limits_are i) c.args.name (processors i)) in
     rw (← c.self.view_is) (inl (record {
       room = omega (arith, few, length-map entries (λ (e : EntryView). e.state));

@@ -15,9 +15,9 @@ barrier_poll-requires-clause-ticket g c = named_is_of c.self.inside.domain c.sel
 pub returns-then-barrier_poll-clause-does : goal.returns-then-barrier_poll-clause-does
 returns-then-barrier_poll-clause-does g c =
     let reached = rw c.if-barrier_poll.true at c.barrier_poll.ensures.done in
-    rw (← c.self.view_is) (ticket_polled c.self.inside.name c.self.inside.names.tokens c.self.inside.parking.parked c.self.inside.domain c.barrier_poll.new.self c.args.processor c.args.name.now c.ticket-ticket.result.now true c.ticket-ticket.ensures reached c.barrier_poll.ensures.after)
+    rw (← c.self.view_is) (ticket_polled _ _ c.self.inside.name c.self.inside.names.tokens c.self.inside.parking.parked c.self.inside.domain c.barrier_poll.new.self c.args.processor c.args.name.now c.ticket-ticket.result.now true c.ticket-ticket.ensures reached c.barrier_poll.ensures.after)
 
 pub returns-clause-does : goal.returns-clause-does
 returns-clause-does g c =
     let reached = rw c.if-barrier_poll.false at c.barrier_poll.ensures.done in
-    rw (← c.self.view_is) (ticket_polled c.self.inside.name c.self.inside.names.tokens c.self.inside.parking.parked c.self.inside.domain c.barrier_poll.new.self c.args.processor c.args.name.now c.ticket-ticket.result.now false c.ticket-ticket.ensures reached c.barrier_poll.ensures.after)
+    rw (← c.self.view_is) (ticket_polled _ _ c.self.inside.name c.self.inside.names.tokens c.self.inside.parking.parked c.self.inside.domain c.barrier_poll.new.self c.args.processor c.args.name.now c.ticket-ticket.result.now false c.ticket-ticket.ensures reached c.barrier_poll.ensures.after)

@@ -1,0 +1,32 @@
+//! A session with the handlers of its chains' blocks.
+ghost use Rattle.std.specs.Prelude.{◌≡◌};
+
+use crate::session::Session;
+use lines::Answers;
+use notify::Handler;
+use std::alloc::{AllocError, Allocator};
+use std::sync::Wait;
+
+/// A session, and the handlers that are lent to it: of the chains' blocks, by their ids. It answers the lines of a script.
+pub struct Answerer<'h, 'r, A: Allocator, R: Wait> {
+    pub session: Session<'r, A, R>,
+    pub handlers: &'h [Box<dyn Handler>; 16],
+}
+
+impl<'a, A: Allocator, R: Wait> Answers<&'a A> for Answerer<'_, '_, &'a A, R> {
+    ghost use Rattle.std.specs.Prelude.{◌≡◌};
+    ghost use Rattle.notify.specs.Calling.{GivesAt};
+    ghost use Rattle.session.specs.Scripts.{LineGives};
+
+    ghost gives = { λ s number line reply faulty s'. LineGives (λ value id x. GivesAt (λ h y. (Handler-box h).answers h.value 1 value y) s.handlers.now id x) s.session.limits s.session.domains number line reply faulty s'.session.domains × (s'.session.limits ≡ s.session.limits) × (s'.handlers ≡ s.handlers) };
+
+    fn answer(
+        &mut self,
+        number: u64,
+        line: Option<&[u8]>,
+        reply: &mut Vec<u8, &'a A>,
+    ) -> Result<bool, AllocError> {
+        let handlers = self.handlers;
+        self.session.answer(handlers, number, line, reply)
+    }
+}
