@@ -13,7 +13,6 @@ use Rattle.srcuctl.specs.Programs.{Runs, RunsInPart}
 -- what answers lines has the domains of a script, and what no line changes: the limits, and the handlers, which may give such results. Each line that it answers gives what the definitions say
 module _ {S : Type 0} (answering : Answering S) (domains : S → State) (Keeps : S → Type 0) (gives : ℕ → ℕ → ℕ → Type 0) (limits : Limits)
     (each : (s : S) (number : ℕ) (line : Option (List ℕ)) (reply : List ℕ) (faulty : Bool) (s' : S) → Keeps s → answering s number line reply faulty s' → LineGives gives limits (domains s) number line reply faulty (domains s') × Keeps s') where
-
   record IsRunOf (s : S) (number : ℕ) (lines : List (List ℕ)) (written : List ℕ) (faulty : Bool) (s' : S) : Type 0 where
     run : IsRun (LineGives gives limits) (domains s) number lines written faulty (domains s')
     keeps : Keeps s'

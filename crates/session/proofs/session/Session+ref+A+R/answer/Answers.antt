@@ -24,7 +24,7 @@ returns-in-Ok-clause-gives g c =
     let answers : AnswersTo may c.args.self.now.limits c.args.self.now.domains c.in-Ok.request c.in_ok-given-in-Ok.given c.respond.new.self.domains = search rules in
     let gives = asked_gives may _ _ c.args.number _ _ _ _ _ full well asks answers text in
     subst (λ o. LineGives may c.args.self.now.limits c.args.self.now.domains c.args.number (option_copied o) c.push_reply.new.bytes.items false c.respond.new.self.domains) (sym c.in-Some.is)
-        (subst (λ w. WordsGive may c.args.self.now.limits c.args.self.now.domains c.args.number w c.push_reply.new.bytes.items false c.respond.new.self.domains) words gives)
+    (subst (λ w. WordsGive may c.args.self.now.limits c.args.self.now.domains c.args.number w c.push_reply.new.bytes.items false c.respond.new.self.domains) words gives)
 
 pub returns-clause-gives : goal.returns-clause-gives
 returns-clause-gives g c =
@@ -36,5 +36,5 @@ returns-clause-gives g c =
     let text = told.1 ∙ ap (λ l. l ++ reply_text (reply.Faulty c.args.number c.in-Err.fault)) c.requires.reply in
     let gives = fault_gives may c.args.self.now.limits c.args.self.now.domains c.args.number (texts c.deref-2.result.now) c.faulty-in-Err.new.reply.items c.in-Err.fault full wrong text in
     subst (λ o. LineGives may c.args.self.now.limits c.args.self.now.domains c.args.number (option_copied o) c.faulty-in-Err.new.reply.items b c.args.self.now.domains) (sym c.in-Some.is)
-        (subst (λ w. WordsGive may c.args.self.now.limits c.args.self.now.domains c.args.number w c.faulty-in-Err.new.reply.items b c.args.self.now.domains) words
-        (subst (λ z. WordsGive may c.args.self.now.limits c.args.self.now.domains c.args.number (texts c.deref-2.result.now) c.faulty-in-Err.new.reply.items z c.args.self.now.domains) (sym told.0) gives))) c.faulty-in-Err.ensures
+    (subst (λ w. WordsGive may c.args.self.now.limits c.args.self.now.domains c.args.number w c.faulty-in-Err.new.reply.items b c.args.self.now.domains) words
+    (subst (λ z. WordsGive may c.args.self.now.limits c.args.self.now.domains c.args.number (texts c.deref-2.result.now) c.faulty-in-Err.new.reply.items z c.args.self.now.domains) (sym told.0) gives))) c.faulty-in-Err.ensures
