@@ -104,7 +104,7 @@ pub fn wait_often<R: Wait, A: Allocator>(
 
 /// Drives so many periods in a new domain of so many processors. The `elapsed` is what the clock told, of which no clause
 /// speaks.
-pub fn run_periods<R: Wait + Clock + AllocGlobal>(
+pub fn run_periods<R: Clock + AllocGlobal>(
     rt: &R,
     processors: usize,
     periods: u64,
