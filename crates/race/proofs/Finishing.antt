@@ -203,6 +203,14 @@ module _ (g : Course) (w : Workers) (back : AreBack g w) where
       told P (Ok d) down = agrees d down
       told P (Err x) h = tt
 
+      ran_all : {X : Type 0} (P : X → Type 0) (r : Result domain.Totals X) → MatchResult r (λ d. IsTakenDown g.domain all d) P → IfSome (result_ok r) (λ d. t.finished ≡ t.queued)
+      ran_all P (Ok d) down =
+          let same = all_told g.domain all d down places (length rs) (let n = back.many in omega (arith, n, some)) behind idle_but u u_last in
+          let a = (agrees d down).queued in
+          let b = (agrees d down).finished in
+          omega (arith, same, a, b)
+      ran_all P (Err x) h = tt
+
       pub counts_are : (desk : ClosesDesk g.desk seats ended) → t.versions ≡ w.updater.versions → {X : Type 0} (P : X → Type 0) (r : Result domain.Totals X) → MatchResult r (λ d. IsTakenDown g.domain all d) P → t.domain ≡ result_ok r → AreCounts g.rounds t
       counts_are desk versions P r answer is =
           let whole = opened_closed g rs back.many back.each desk.left desk.closes in
@@ -213,5 +221,8 @@ module _ (g : Course) (w : Workers) (back : AreBack g w) where
             closed = omega (arith, whole, one, bits, opened, closed);
             versions = omega (arith, versions, fewer);
             queued = omega (arith, versions, few, queued);
+            near = let near = back.updater.near in omega (arith, versions, near, queued);
+            ran = let ran = back.updater.tells.ran in omega (arith, ran, queued, finished);
+            all_ran = subst (λ o. IfSome o (λ d. t.finished ≡ t.queued)) (sym is) (ran_all P r answer);
             domain = subst (λ o. IfSome o (Agrees t)) (sym is) (told P r answer);
           }

@@ -4,6 +4,7 @@ mod Sections
 mod Callbacks
 mod Stepping
 mod Counted
+mod Ran
 mod Updating
 mod Placing
 mod Comings

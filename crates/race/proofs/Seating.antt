@@ -92,6 +92,7 @@ new_updater g k c t new table =
           finished_are = λ few. sym (ap (finished_in c.calls.processor) own);
           others = λ q ne. ap (finished_in q) own;
         };
+        ran = omega arith;
       };
       none = (refl, refl);
     }

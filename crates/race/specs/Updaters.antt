@@ -1,5 +1,5 @@
 -- What the updater has, and what it tells of itself.
-use Rattle.std.specs.Prelude.{◌≡◌, ◌≢◌, ℕ, ◌+◌, ◌%◌, ◌^◌, ◌<◌, ◌≤◌, List}
+use Rattle.std.specs.Prelude.{◌≡◌, ◌≢◌, ℕ, zero, suc, ◌+◌, ◌%◌, ◌^◌, ◌<◌, ◌≤◌, List}
 use Rattle.sections.specs.Words.{opened_in, closed_in}
 use Rattle.calls.specs.declared.view.Deed.{Deed}
 use Rattle.calls.specs.Tallies.{queued_in, finished_in, deeds_of}
@@ -24,11 +24,12 @@ pub record TellsOf (p queued finished : ℕ) (deeds : List (Deed Unit)) : Type 0
   pub finished_are : finished_in p deeds < 2 ^ 64 → finished ≡ finished_in p deeds
   pub others : (q : ℕ) → q ≢ p → finished_in q deeds ≡ 0
 
--- What the updater counts is what its processor did: callbacks of its own that it queued and finished, and no other ones. It began no section, and ended none
+-- What the updater counts is what its processor did: callbacks of its own that it queued and finished, no more of these than of those, and no other ones. It began no section, and ended none
 pub record Tells (u : Updater) : Type 0 where
   pub opened : opened_in u.cpu.cpu.mine ≡ 0
   pub closed : closed_in u.cpu.cpu.mine ≡ 0
   pub calls : TellsOf u.cpu.calls.processor u.queued u.finished (own_deeds u.cpu.calls)
+  pub ran : u.finished ≤ u.queued
 
 -- the same processor, with so many versions more, and so many callbacks more that were queued
 pub record GoesOn (g : Course) (versions queued : ℕ) (u u' : Updater) : Type 0 where
@@ -45,12 +46,18 @@ pub record InstallsIn (g : Course) (round : ℕ) (u u' : Updater) : Type 0 where
   pub version : ℕ
   pub installs : Installs (round % 15) round version before.table before.cpu u'.table u'.cpu
 
--- at most so many versions were installed, and no more callbacks queued than that
+-- In so many rounds, one behind the other, the plug of each was installed with its key; whatever callbacks were queued meanwhile
+abbrev pub HasInstalled : Course → ℕ → Updater → Updater → Type 0
+HasInstalled g zero u u' = (queued : ℕ) × GoesOn g 0 queued u u'
+HasInstalled g (suc round) u u' = (before : Updater) × (after : Updater) × HasInstalled g round u before × InstallsIn g round before after × (queued : ℕ) × GoesOn g 0 queued after u'
+
+-- at most so many versions were installed, and a callback was queued behind each but perhaps the last
 pub record HasUpdated (g : Course) (u : Updater) : Type 0 where
   pub is : IsUpdaterOf g u
   pub tells : Tells u
   pub versions : u.versions ≤ g.rounds
   pub queued : u.queued ≤ u.versions
+  pub near : u.versions ≤ u.queued + 1
 
 -- nothing was done yet
 pub record IsNew (g : Course) (u : Updater) : Type 0 where

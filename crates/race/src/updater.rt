@@ -4,7 +4,7 @@ ghost use Rattle.calls.specs.Calls.{IsOfProcessor};
 ghost use Rattle.domain.specs.Views.{callbacks_of};
 ghost use Rattle.domain.specs.Barriers.{IsTicketOf};
 ghost use Rattle.race.specs.Courses.{IsCourse};
-ghost use Rattle.race.specs.Updaters.{IsUpdaterOf, Tells, GoesOn, InstallsIn, HasUpdated, IsNew};
+ghost use Rattle.race.specs.Updaters.{IsUpdaterOf, Tells, GoesOn, InstallsIn, HasInstalled, HasUpdated, IsNew};
 
 use crate::course::{Course, key_of};
 use domain::{AdvanceRefusal, Batch, CallRefusal, Cpu, Memory, Progress, Ticket};
@@ -110,6 +110,7 @@ fn make_rounds<R: Wait>(rt: &R, course: &Course, updater: &mut Updater) -> Resul
     requires new { IsNew course.now updater.old }
     ensures updated { HasUpdated course.now updater.new }
     ensures processor { updater.new.cpu.cpu.processor ≡ updater.old.cpu.cpu.processor }
+    ensures installed { HasInstalled course.now updater.new.versions updater.old updater.new }
     ensures all { IfOk result (λ _. (updater.new.versions ≡ course.now.rounds) × (updater.new.queued ≡ course.now.rounds)) }
 {
     for round in 0..course.rounds {
@@ -124,6 +125,7 @@ fn run<R: Wait>(rt: &R, course: &Course, updater: &mut Updater, mut batch: Batch
     requires is { IsUpdaterOf course.now updater.old }
     requires tells { Tells updater.old }
     requires batch { IsOfProcessor (callbacks_of course.now.domain) updater.old.cpu.cpu.processor batch }
+    requires queued { batch.first + batch.count ≤ updater.old.queued }
     ensures { GoesOn course.now 0 0 updater.old updater.new }
 {
     let count = batch.count() as u64;
@@ -139,6 +141,7 @@ fn take<R: Wait>(rt: &R, course: &Course, updater: &mut Updater) -> Option<Batch
     requires tells { Tells updater.old }
     ensures goes_on { GoesOn course.now 0 0 updater.old updater.new }
     ensures batch { IfSome result (IsOfProcessor (callbacks_of course.now.domain) updater.new.cpu.cpu.processor) }
+    ensures queued { IfSome result (λ batch. batch.first + batch.count ≤ updater.new.queued) }
 {
     let processor = updater.cpu.processor();
     let Ok(taken) = course.domain.take_ready(rt, &mut updater.cpu, processor, 8) else {

@@ -4,6 +4,9 @@ ghost use Rattle.std.specs.Prelude.{◌≡◌};
 use super::world::{IDS, World};
 use crate::{BAD, DONE, Handler, OK, STOP};
 use std::alloc::{AllocError, Global};
+use std::sync::Arc;
+use std::sync::atomic::AtomicU64;
+use std::sync::atomic::Ordering::SeqCst;
 use std::test::Fail;
 
 /// A handler that always gives the same result, in which the action and the value can be told.
@@ -59,5 +62,56 @@ fn stopped(rt: HostRuntime) -> Result<(), Fail> {
     assert_eq!(rt; call(rt.alloc(), &mut world, &results)?, Some((STOP, 2)));
     results[1] = BAD;
     assert_eq!(rt; call(rt.alloc(), &mut world, &results)?, Some((BAD, 1)));
+    Ok(())
+}
+
+/// Writes its digit behind those of the handlers that were called before, and gives a result.
+#[derive(Drop)]
+struct Logs {
+    digit: u64,
+    result: u32,
+    log: Arc<AtomicU64>,
+}
+
+impl Handler for Logs {
+    ghost answers = { λ h action value result. result ≡ h.result };
+
+    fn call(&self, _action: u64, _value: u64) -> u32 {
+        self.log.store(self.log.load(SeqCst).wrapping_mul(10).wrapping_add(self.digit), SeqCst);
+        self.result
+    }
+}
+
+/// The digits of the handlers in the order in which they were called, where the one of id `stopper` stops the call.
+fn log_of_call(
+    alloc: Global,
+    world: &mut World,
+    stopper: usize,
+) -> Result<u64, AllocError> {
+    let log = Arc::new(alloc, AtomicU64::new(0))?;
+    let mut handlers: Vec<Box<dyn Handler>> = Vec::new(alloc);
+    for id in 0..8usize {
+        let logs = Logs {
+            digit: id as u64,
+            result: if id == stopper { STOP } else { OK },
+            log: Arc::try_clone(&log)?,
+        };
+        handlers.push(Box::new(alloc, logs)?)?;
+    }
+    let _answer = world.view.call_chain(&mut world.cpu, &handlers, 1, 2);
+    Ok(log.load(SeqCst))
+}
+
+/// Would catch a handler that is called twice, or not at all, or before one of higher priority, or behind the stop bit.
+#[test]
+fn calls_are_logged(rt: HostRuntime) -> Result<(), Fail> {
+    let mut world = World::new(rt.alloc(), 8)?;
+    assert_eq!(rt; world.register(4, 1), Ok(()));
+    assert_eq!(rt; world.register(1, 5), Ok(()));
+    assert_eq!(rt; world.register(3, 9), Ok(()));
+    assert_eq!(rt; world.register(2, 5), Ok(()));
+    assert_eq!(rt; log_of_call(rt.alloc(), &mut world, 0)?, 3124);
+    assert_eq!(rt; log_of_call(rt.alloc(), &mut world, 1)?, 31);
+    assert_eq!(rt; log_of_call(rt.alloc(), &mut world, 4)?, 3124);
     Ok(())
 }
