@@ -1,5 +1,5 @@
 -- What a turn with a lent processor does, from what is said of it at the station.
-use Rattle.std.proofs.Common.{◌≡◌, ℕ, ◌+◌, refl, sym, ap, ◌∙◌, subst, arith, Option, Some, None, IfSome, Result, Ok, Err, MatchResult}
+use Rattle.std.proofs.Common.{◌≡◌, ℕ, ◌+◌, List, [], ◌∷◌, refl, sym, ap, ◌∙◌, subst, arith, Option, Some, None, IfSome, Result, Ok, Err, MatchResult}
 use mathlib.Core.Logic.{dite, inl, inr}
 use native.Mathlib.Decide.{dec_le, ℕ_discrete}
 use Rattle.onedom.specs.Histories.{ended_in, starts_in}
@@ -11,7 +11,7 @@ use Rattle.scan.specs.declared.refusals.AdvanceRefusal.{AdvanceRefusal}
 use Rattle.scan.specs.declared.refusals.AdvanceRefusal.TheVariants as advance
 use Rattle.scan.specs.declared.refusals.StartRefusal.{StartRefusal}
 use Rattle.scan.specs.declared.refusals.StartRefusal.TheVariants as start
-use Rattle.scan.specs.Progress.{NeedsLoaded, StepsTo, AdvancesTo, FindsExhausted, StartsTo, IsNoStart, WorksFor, with_seat, with_needs}
+use Rattle.scan.specs.Progress.{Stage, NeedsLoaded, StepsTo, AdvancesTo, AdvancesThrough, CarriesOn, FindsExhausted, StartsTo, IsNoStart, WorksFor, with_seat, with_needs}
 use Rattle.scan.specs.Stations as station
 use Rattle.scan.specs.Stations.{IsOfStation, Takes, FindsBusy, Drives, IsNotDriven}
 use Rattle.funnel.specs.Views.{FunnelView}
@@ -20,7 +20,7 @@ use Rattle.desk.specs.BayViews.{BaySeatView}
 use Rattle.desk.specs.BayCalls.{MakesSwap}
 use Rattle.domain.proofs.Staying.{seat_the_same}
 use Rattle.domain.specs.Views.{Engine, CpuView, IsSameProcessor}
-use Rattle.domain.specs.Turns.{Lends, FindsBusyIn, StepsIn, AdvancesIn, IsRefused, StartsIn, IsNotStarted}
+use Rattle.domain.specs.Turns.{Lends, FindsBusyIn, StepsIn, AdvancesIn, CarriesOnIn, IsRefused, StartsIn, IsNotStarted}
 
 -- a swap is made at one seat, so the engine is taken there
 pub took_same : (v : BaySeatView Engine) (found : Engine) (took : BaySeatView Engine) → Takes v found took → took ≡ record v { seen = took.seen }
@@ -102,6 +102,15 @@ same_stepped v w a h = same_loaded v w h.needs
 pub same_advanced : (v w : Engine) (a : Progress) → AdvancesTo LoadsRoot v a w → IsSameSeat v.needs w.needs
 same_advanced v w a h = same_loaded v w h.needs
 
+same_through : (ss : List (Stage FunnelView)) (v w : Engine) (a : Progress) → AdvancesThrough LoadsRoot ss v a w → IsSameSeat v.needs w.needs
+same_through [] v w a h = same_advanced v w a h
+same_through (s ∷ ss) v w a h =
+    let first = same_advanced v s.engine s.answer h.0 in let rest = same_through ss s.engine w a h.2 in
+    record { domain = rest.domain ∙ first.domain; shape = rest.shape ∙ first.shape; holder = rest.holder ∙ first.holder }
+
+pub same_carried : (v w : Engine) (a : Progress) → CarriesOn LoadsRoot v a w → IsSameSeat v.needs w.needs
+same_carried v w a h = same_through h.stages v w a h.through
+
 pub same_exhausted : (v w : Engine) → FindsExhausted LoadsRoot v w → IsSameSeat v.needs w.needs
 same_exhausted v w h = h.load.same
 
@@ -122,6 +131,13 @@ mine_loaded v w n =
 
 pub mine_advanced : (v w : Engine) (a : Progress) → AdvancesTo LoadsRoot v a w → w.needs.mine ≡ v.needs.mine
 mine_advanced v w a h = mine_loaded v w h.needs
+
+mine_through : (ss : List (Stage FunnelView)) (v w : Engine) (a : Progress) → AdvancesThrough LoadsRoot ss v a w → w.needs.mine ≡ v.needs.mine
+mine_through [] v w a h = mine_advanced v w a h
+mine_through (s ∷ ss) v w a h = mine_through ss s.engine w a h.2 ∙ mine_advanced v s.engine s.answer h.0
+
+pub mine_carried : (v w : Engine) (a : Progress) → CarriesOn LoadsRoot v a w → w.needs.mine ≡ v.needs.mine
+mine_carried v w a h = mine_through h.stages v w a h.through
 
 pub mine_exhausted : (v w : Engine) → FindsExhausted LoadsRoot v w → w.needs.mine ≡ v.needs.mine
 mine_exhausted v w h = h.load.mine
@@ -170,6 +186,11 @@ module _ {J : Type 0} (c c' : CpuView J) (calls : c'.calls ≡ c.calls) where
       → MatchResult r (λ a. AdvancesIn c a c') (λ why. IsRefused c why c')
   advanced (Ok a) h = lends c c' _ h calls
   advanced (Err why) h = not_driven why h
+
+  pub carried : (r : Result Progress AdvanceRefusal) → MatchResult r (λ a. Drives (WorksFor c.needs c'.needs (λ v w. CarriesOn LoadsRoot v a w)) c.turn c.cpu c'.turn c'.cpu) (λ why. IsNotDriven LoadsRoot why c.turn c.cpu c.needs c'.turn c'.cpu c'.needs)
+      → MatchResult r (λ a. CarriesOnIn c a c') (λ why. IsRefused c why c')
+  carried (Ok a) h = lends c c' _ h calls
+  carried (Err why) h = not_driven why h
 
   pub started : c'.needs ≡ c.needs → (r : Result ℕ StartRefusal) → MatchResult r (λ n. Drives (λ v w. StartsTo v n w) c.turn c.cpu c'.turn c'.cpu) (λ why. station.IsNotStarted why c.turn c.cpu c'.turn c'.cpu)
       → MatchResult r (λ n. StartsIn c n c') (λ why. IsNotStarted c why c')

@@ -11,11 +11,11 @@ use Rattle.scan.specs.declared.refusals.AdvanceRefusal.TheVariants as advance
 use Rattle.scan.specs.declared.refusals.StartRefusal.{StartRefusal}
 use Rattle.scan.specs.declared.refusals.StartRefusal.TheVariants as start
 use Rattle.domain.specs.Views.{Engine, DomainView, CpuView, IsOf, IsSameProcessor, with_cpu, with_calls}
-use Rattle.domain.specs.Turns.{StepsIn, AdvancesIn, IsRefused, StartsIn, IsNotStarted}
+use Rattle.domain.specs.Turns.{StepsIn, AdvancesIn, CarriesOnIn, IsRefused, StartsIn, IsNotStarted}
 use Rattle.domain.specs.Meetings.{IsAllOf}
 use Rattle.domain.specs.Waiting.{StartsPoll, LoadsNeed}
 use Rattle.domain.proofs.Staying.{seat_the_same, same_seat_trans}
-use Rattle.domain.proofs.Lending.{same_busy, same_lent, same_stepped, same_advanced, same_exhausted, same_started, same_still}
+use Rattle.domain.proofs.Lending.{same_busy, same_lent, same_stepped, same_advanced, same_carried, same_exhausted, same_started, same_still}
 
 module _ {J : Type 0} where
   -- behind one call and then another
@@ -74,6 +74,11 @@ module _ {J : Type 0} where
   same_advanced_in c d (Ok a) h = same_lent _ c d (λ v w. same_advanced v w a) h
   same_advanced_in c d (Err advance.Busy) h = same_busy c d h
   same_advanced_in c d (Err advance.Exhausted) h = same_lent _ c d same_exhausted h
+
+  pub same_carried_in : (c d : CpuView J) (r : Result Progress AdvanceRefusal) → MatchResult r (λ a. CarriesOnIn c a d) (λ refusal. IsRefused c refusal d) → IsSameProcessor c d
+  same_carried_in c d (Ok a) h = same_lent _ c d (λ v w. same_carried v w a) h
+  same_carried_in c d (Err advance.Busy) h = same_busy c d h
+  same_carried_in c d (Err advance.Exhausted) h = same_lent _ c d same_exhausted h
 
   pub same_started_in : (c d : CpuView J) (r : Result ℕ StartRefusal) → MatchResult r (λ n. StartsIn c n d) (λ refusal. IsNotStarted c refusal d) → IsSameProcessor c d
   same_started_in c d (Ok n) h = same_lent _ c d (λ v w. same_started v w n) h

@@ -12,9 +12,9 @@ use Rattle.sections.specs.Views as sections
 use Rattle.sections.specs.Calls.{Asks, AllClosed}
 use Rattle.scan.specs.declared.progress.Progress.{Progress}
 use Rattle.domain.specs.Views.{DomainView, CpuView, IsOf, IsSameProcessor, with_cpu}
-use Rattle.domain.specs.Turns.{AdvancesIn, FindsBusyIn, FindsExhaustedIn}
+use Rattle.domain.specs.Turns.{CarriesOnIn, FindsBusyIn, FindsExhaustedIn}
 use Rattle.domain.specs.Waiting.{StartsPoll, HasNoneOpen, HasNoted, Turns, TurnsAndPolls, RoundsThrough, Synchronizes, WaitsInVain, WaitedFor}
-use Rattle.domain.proofs.Lending.{same_busy, same_lent, same_advanced, same_exhausted, mine_lent, mine_advanced, mine_exhausted}
+use Rattle.domain.proofs.Lending.{same_busy, same_lent, same_carried, same_exhausted, mine_lent, mine_carried, mine_exhausted}
 use Rattle.domain.proofs.Staying.{still_with_cpu}
 use Rattle.domain.proofs.Sameness.{same_trans, same_polled, same_asked}
 
@@ -29,8 +29,8 @@ module _ {J : Type 0} where
     pub calls : y.calls ≡ x.calls
     pub since : IsBeginning x.cpu.seen y.cpu.seen
 
-  pub turned_advanced : (x y : CpuView J) (a : Progress) → AdvancesIn x a y → Turned x y
-  turned_advanced x y a h = record { same = same_lent _ x y (λ v w. same_advanced v w a) h; mine = h.ties.accepts.mine; asked = mine_lent _ x y (λ v w. mine_advanced v w a) h; calls = h.calls; since = h.ties.since }
+  pub turned_on : (x y : CpuView J) (a : Progress) → CarriesOnIn x a y → Turned x y
+  turned_on x y a h = record { same = same_lent _ x y (λ v w. same_carried v w a) h; mine = h.ties.accepts.mine; asked = mine_lent _ x y (λ v w. mine_carried v w a) h; calls = h.calls; since = h.ties.since }
 
   pub turned_exhausted : (x y : CpuView J) → FindsExhaustedIn x y → Turned x y
   turned_exhausted x y h = record { same = same_lent _ x y same_exhausted h; mine = h.ties.accepts.mine; asked = mine_lent _ x y mine_exhausted h; calls = h.calls; since = h.ties.since }
@@ -40,7 +40,7 @@ module _ {J : Type 0} where
 
   pub turned : (x y : CpuView J) (a : Option Progress) → Turns a x y → Turned x y
   turned x y None h = turned_busy x y h
-  turned x y (Some a) h = turned_advanced x y a h
+  turned x y (Some a) h = turned_on x y a h
 
   -- Rounds
 

@@ -8,7 +8,7 @@ use Rattle.scan.specs.declared.refusals.AdvanceRefusal.{AdvanceRefusal}
 use Rattle.scan.specs.declared.refusals.AdvanceRefusal.TheVariants as advance
 use Rattle.scan.specs.declared.refusals.StartRefusal.{StartRefusal}
 use Rattle.scan.specs.declared.refusals.StartRefusal.TheVariants as start
-use Rattle.scan.specs.Progress.{StepsTo, AdvancesTo, FindsExhausted, StartsTo, IsNoStart, with_seat, with_needs}
+use Rattle.scan.specs.Progress.{StepsTo, AdvancesTo, CarriesOn, FindsExhausted, StartsTo, IsNoStart, with_seat, with_needs}
 use Rattle.scan.specs.Stations.{IsOfStation, TakesTurn, FindsBusy}
 use Rattle.funnel.specs.Calls.{LoadsRoot}
 use Rattle.domain.specs.Views.{Engine, CpuView}
@@ -40,6 +40,10 @@ module _ {J : Type 0} where
   -- it made steps until there was an answer
   abbrev pub AdvancesIn : CpuView J → Progress → CpuView J → Type 0
   AdvancesIn c a c' = Lends (λ v w. AdvancesTo LoadsRoot v a w) c c'
+
+  -- it went on from answer to answer until it had ended a period, waited for a section, or had nothing to do
+  abbrev pub CarriesOnIn : CpuView J → Progress → CpuView J → Type 0
+  CarriesOnIn c a c' = Lends (λ v w. CarriesOn LoadsRoot v a w) c c'
 
   -- it found that a period is asked for, and that as many have ended as there may be
   abbrev pub FindsExhaustedIn : CpuView J → CpuView J → Type 0

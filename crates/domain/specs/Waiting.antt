@@ -13,7 +13,7 @@ use Rattle.funnel.specs.declared.seat.Level.{Level}
 use Rattle.funnel.specs.Calls.{LoadsRoot}
 use Rattle.funnel.specs.Calls as tree
 use Rattle.domain.specs.Views.{CpuView, with_cpu}
-use Rattle.domain.specs.Turns.{AdvancesIn, FindsBusyIn, FindsExhaustedIn}
+use Rattle.domain.specs.Turns.{CarriesOnIn, FindsBusyIn, FindsExhaustedIn}
 
 module _ {J : Type 0} where
   -- a cookie was given, and then just its number asked for
@@ -47,9 +47,9 @@ module _ {J : Type 0} where
     pub asks : calls.Asks cookie.seen cookie.changes cookie.number answer c.cpu c'.cpu
     pub rest : c' ≡ with_cpu c'.cpu c
 
-  -- a turn: the engine made steps until there was this answer; or another call had it, and there is none
+  -- a turn: the engine was taken once, and went on until it had ended a period, waited for a section, or had nothing to do; or another call had it, and there is no answer
   abbrev pub Turns : Option Progress → CpuView J → CpuView J → Type 0
-  Turns progress c c' = MatchOption progress (FindsBusyIn c c') (λ a. AdvancesIn c a c')
+  Turns progress c c' = MatchOption progress (FindsBusyIn c c') (λ a. CarriesOnIn c a c')
 
   -- a turn was tried, and then the cookie was polled, with this answer
   pub record TurnsAndPolls (answer : Bool) (cookie : sections.CookieView) (c c' : CpuView J) : Type 0 where

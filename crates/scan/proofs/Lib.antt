@@ -5,6 +5,7 @@ mod RowsOfSteps
 mod Flips
 mod Stepping
 mod Asked
+mod Carrying
 mod PlaceKept
 mod Driving
 mod ForTests

@@ -1,5 +1,5 @@
 -- What the calls of the engine do.
-use Rattle.std.specs.Prelude.{◌≡◌, ℕ, ◌+◌, ◌*◌, ◌<◌, ◌⊎◌, Bool, true, false, List, [], ◌∷◌, ◌++◌, length, count_by, codes}
+use Rattle.std.specs.Prelude.{◌≡◌, ℕ, ◌+◌, ◌*◌, ◌<◌, ◌≤◌, ◌⊎◌, Bool, true, false, List, [], ◌∷◌, ◌++◌, length, count_by, codes}
 use Rattle.sseq.specs.declared.index.Index.{Index}
 use Rattle.onedom.specs.declared.event.Maker.TheVariants.{Engine}
 use Rattle.onedom.specs.declared.event.Event.{Event}
@@ -13,7 +13,7 @@ use Rattle.scan.specs.declared.progress.Progress.{Progress}
 use Rattle.scan.specs.declared.progress.Progress.TheVariants as answer
 use Rattle.scan.specs.declared.progress.StartRefusal.{StartRefusal}
 use Rattle.scan.specs.declared.progress.StartRefusal.TheVariants as refusal
-use Rattle.scan.specs.Standings.{Standing, not_current, number_at_rest, events_of, steps_for, Says, IsAnswered, Steps, Advances, Starts, IsOutOfPeriods}
+use Rattle.scan.specs.Standings.{Standing, not_current, number_at_rest, events_of, leads_on, steps_for, Says, IsAnswered, Steps, Advances, Starts, IsOutOfPeriods}
 
 -- `seat` is the engine's seat, and `needs` are its needs. Of what is half done, `so_far` says how many steps were made; `need` is the number that was found to be asked for, where a period is wanted, and `began` how long the history was at the first load, where it is a scan
 pub record ScanView (N : Type 0) : Type 0 where
@@ -22,6 +22,11 @@ pub record ScanView (N : Type 0) : Type 0 where
   pub need : ℕ
   pub so_far : ℕ
   pub began : ℕ
+
+-- an answer, and the engine behind it
+pub record Stage (N : Type 0) : Type 0 where
+  pub answer : Progress
+  pub engine : ScanView N
 
 -- a load of a counter
 abbrev pub is_counter_load : Step → Bool
@@ -136,6 +141,20 @@ module _ {N : Type 0} where
       pub due : v.so_far < steps_for v.seat.processors a
       pub done : w.so_far ≡ 0
       pub no_need : w.need ≡ 0
+
+    -- one answer behind the other: these on the way, each of which started a period or flipped the index, and then this one
+    abbrev pub AdvancesThrough : List (Stage N) → ScanView N → Progress → ScanView N → Type 0
+    AdvancesThrough [] v a w = AdvancesTo v a w
+    AdvancesThrough (s ∷ ss) v a w = AdvancesTo v s.answer s.engine × (leads_on s.answer ≡ true) × AdvancesThrough ss s.engine a w
+
+    -- the engine carried on from answer to answer for as long as it got on by itself. The last one is that a period ended, that a scan waits for a section, or that there was nothing to do
+    pub record CarriesOn (v : ScanView N) (a : Progress) (w : ScanView N) : Type 0 where
+      pub same : IsSameEngine v.seat w.seat
+      pub stages : List (Stage N)
+      pub through : AdvancesThrough stages v a w
+      pub stops : leads_on a ≡ false
+      -- a period starts, flips and ends, each once
+      pub few : length stages ≤ 2
 
     -- a period is asked for, and as many have ended as there may be; just the need was loaded
     pub record FindsExhausted (v w : ScanView N) : Type 0 where

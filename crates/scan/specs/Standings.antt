@@ -1,5 +1,5 @@
 -- How far a domain has come, and what the engine's answers say of it.
-use Rattle.std.specs.Prelude.{◌≡◌, ◌≢◌, ℕ, ◌+◌, ◌-◌, ◌*◌, ◌<◌, ◌≤◌, List, [], ◌∷◌, ◌++◌, length}
+use Rattle.std.specs.Prelude.{◌≡◌, ◌≢◌, ℕ, ◌+◌, ◌-◌, ◌*◌, ◌<◌, ◌≤◌, List, [], ◌∷◌, ◌++◌, length, Bool, true, false}
 use Rattle.sseq.specs.declared.index.Index.{Index}
 use Rattle.sseq.specs.Indexes.{low_bit, other_index}
 use Rattle.onedom.specs.declared.event.Maker.TheVariants.{Engine}
@@ -48,6 +48,12 @@ abbrev pub events_of : Progress → List Event
 events_of (answer.Started n) = Start Engine ∷ []
 events_of (answer.Ended n) = Finish Engine ∷ []
 events_of a = []
+
+-- whether there is more to do at once behind an answer: the scans of a period that has started, or has flipped
+abbrev pub leads_on : Progress → Bool
+leads_on (answer.Started n) = true
+leads_on (answer.Flipped i) = true
+leads_on a = false
 
 -- how many atomic steps an answer takes in all, in a domain of so many processors: a scan loads two counters of each
 abbrev pub steps_for : ℕ → Progress → ℕ

@@ -5,11 +5,11 @@ ghost use Rattle.sections.specs.Words.{number_word};
 ghost use Rattle.sections.specs.declared.view.Shown.TheVariants.{To};
 ghost use Rattle.sections.specs.Calls.{Accepts, IsSeenBy};
 ghost use Rattle.sections.specs.EngineCalls.{Covers, IsTied, TiesEngine, Meets, AreInDomain, AreAllCpus, OneHasSeenAll};
-ghost use Rattle.scan.specs.Progress.{StepsTo, AdvancesTo, FindsExhausted, StartsTo, IsNoStart, WorksFor, new_engine, with_seat};
+ghost use Rattle.scan.specs.Progress.{StepsTo, AdvancesTo, CarriesOn, FindsExhausted, StartsTo, IsNoStart, WorksFor, new_engine, with_seat};
 
 use crate::place::Place;
 use crate::progress::{Exhausted, Progress, StartRefusal};
-use crate::steps::{advance_at, step_at};
+use crate::steps::{advance_at, carry_on_at, step_at};
 use sections::{Cpu, EngineSeat, Home};
 use sseq::{Needs, Number, Phase, state};
 use std::alloc::{Allocator, Global};
@@ -85,6 +85,16 @@ impl<N: Needs, A: Allocator> Engine<N, A> {
             (λ _. WorksFor needs.old needs.new (FindsExhausted N.loads) self.old self.new) }
     {
         advance_at(&mut self.seat, &mut self.place, needs)
+    }
+
+    /// Goes on from answer to answer, with these needs in place of its own, which stay as they are, until it has ended a
+    /// period, waits for a section, or has nothing to do: where nobody reads, a whole period.
+    pub(crate) fn carry_on_for(&mut self, needs: &mut N) -> Result<Progress, Exhausted>
+        ensures { MatchResult result
+            (λ answer. WorksFor needs.old needs.new (λ v w. CarriesOn N.loads v answer w) self.old self.new)
+            (λ _. WorksFor needs.old needs.new (FindsExhausted N.loads) self.old self.new) }
+    {
+        carry_on_at(&mut self.seat, &mut self.place, needs)
     }
 
     /// Starts a grace period, whether it is asked for or not, and answers the number from then on. A need that was

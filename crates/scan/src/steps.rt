@@ -3,7 +3,7 @@
 //! These functions are inlined, as those of `rows` are, and for the same reason.
 ghost use Rattle.std.specs.Prelude.{MatchResult};
 ghost use Rattle.scan.specs.Places.{viewed, IsReady};
-ghost use Rattle.scan.specs.Progress.{StepsTo, AdvancesTo, FindsExhausted};
+ghost use Rattle.scan.specs.Progress.{StepsTo, AdvancesTo, CarriesOn, FindsExhausted};
 
 use crate::needed::find_need;
 use crate::place::Place;
@@ -69,6 +69,27 @@ pub(crate) fn advance_at<N: Needs, A: Allocator>(
             let (next, answer) = go_on(seat, from);
             *place = next;
             Ok(answer)
+        }
+    }
+}
+
+/// Steps from answer to answer, for as long as there is more to do at once. Behind the end of a period there may be more
+/// too, but whoever waited for this one is to hear of it first.
+pub(crate) fn carry_on_at<N: Needs, A: Allocator>(
+    seat: &mut EngineSeat<A>,
+    place: &mut Place,
+    needs: &mut N,
+) -> Result<Progress, Exhausted>
+    requires { IsReady seat.old place.old }
+    ensures ready { IsReady seat.new place.new }
+    ensures carries { MatchResult result
+        (λ answer. CarriesOn N.loads (viewed seat.old needs.old place.old) answer (viewed seat.new needs.new place.new))
+        (λ _. FindsExhausted N.loads (viewed seat.old needs.old place.old) (viewed seat.new needs.new place.new)) }
+{
+    loop {
+        match advance_at(seat, place, needs)? {
+            Progress::Started(_) | Progress::Flipped(_) => {}
+            answer => return Ok(answer),
         }
     }
 }

@@ -1,7 +1,7 @@
 //! Driving the engine from its place: a swap that takes it, its work, a tie, and a swap that puts it back.
 ghost use Rattle.std.specs.Prelude.{◌≡◌, true, false, MatchResult};
 ghost use Rattle.desk.specs.BayCalls.{holds};
-ghost use Rattle.scan.specs.Progress.{StepsTo, AdvancesTo, StartsTo, WorksFor};
+ghost use Rattle.scan.specs.Progress.{StepsTo, AdvancesTo, CarriesOn, StartsTo, WorksFor};
 ghost use Rattle.scan.specs.Stations.{IsOfStation, FindsBusy, GivesBack, Drives, IsNotDriven, IsNotStarted};
 
 use super::Station;
@@ -76,6 +76,34 @@ impl<N: Needs, A: Allocator> StationSeat<N, A> {
             return Err(AdvanceRefusal::Busy);
         };
         let answer = engine.advance_for(needs);
+        self.give_back(station, cpu, engine);
+        match answer {
+            Ok(progress) => Ok(progress),
+            Err(Exhausted) => Err(AdvanceRefusal::Exhausted),
+        }
+    }
+
+    /// Has the engine go on from answer to answer until it has ended a period, waits for a section, or has nothing to do:
+    /// where nobody reads, a whole period, for which it is taken out, tied and put back once. Else it is as
+    /// [`StationSeat::advance`].
+    pub fn carry_on(
+        &mut self,
+        station: &Station<N, A>,
+        cpu: &mut Cpu<A>,
+        needs: &mut N,
+    ) -> Result<Progress, AdvanceRefusal>
+        requires station { self.old.bay ≡ station.now.bay }
+        requires free { holds self.old ≡ false }
+        requires cpu { cpu.old.domain ≡ self.old.domain }
+        ensures free { holds self.new ≡ false }
+        ensures carries { MatchResult result
+            (λ answer. Drives (WorksFor needs.old needs.new (λ v w. CarriesOn N.loads v answer w)) self.old cpu.old self.new cpu.new)
+            (λ refusal. IsNotDriven N.loads refusal self.old cpu.old needs.old self.new cpu.new needs.new) }
+    {
+        let Some(mut engine) = self.take(station) else {
+            return Err(AdvanceRefusal::Busy);
+        };
+        let answer = engine.carry_on_for(needs);
         self.give_back(station, cpu, engine);
         match answer {
             Ok(progress) => Ok(progress),

@@ -149,6 +149,19 @@ fn advance(
     seat.advance(station, cpu, &mut Asks(number(need)))
 }
 
+/// Has the engine go on from answer to answer, from a seat with a processor.
+fn carry_on(
+    seat: &mut StationSeat<Asks>,
+    station: &Station<Asks>,
+    cpu: &mut Cpu,
+    need: u64,
+) -> Result<Progress, AdvanceRefusal>
+    requires seat { (seat.old.bay ≡ station.now.bay) × (cpu.old.domain ≡ seat.old.domain) × (holds seat.old ≡ false) }
+    ensures seat { (seat.new.bay ≡ station.now.bay) × (cpu.new.domain ≡ seat.new.domain) × (holds seat.new ≡ false) }
+{
+    seat.carry_on(station, cpu, &mut Asks(number(need)))
+}
+
 /// Starts a period from a seat with a processor.
 fn start(
     seat: &mut StationSeat<Asks>,
@@ -185,6 +198,28 @@ fn taken_in_turn(rt: HostRuntime) -> Result<(), Fail> {
         [
             Ok(Progress::Started(number(1))),
             Ok(Progress::Flipped(Index::One)),
+            Ok(Progress::Ended(number(4))),
+            Err(AdvanceRefusal::Exhausted),
+            Ok(Progress::Idle),
+        ]
+    );
+    Ok(())
+}
+
+/// Would catch a call that puts the engine back in the middle of a period, and one that goes on behind its end: that one
+/// would find that no more may start.
+#[test]
+fn whole_period_at_once(rt: HostRuntime) -> Result<(), Fail> {
+    let (mut first, mut second, station, mut left, mut right) = two_seats(
+        rt.alloc(),
+        Asks(number(0)),
+    )?;
+    let ended = carry_on(&mut left, &station, &mut first, 8);
+    let refused = carry_on(&mut right, &station, &mut second, 8);
+    let idle = carry_on(&mut left, &station, &mut first, 4);
+    assert_eq!(rt;
+        [ended, refused, idle],
+        [
             Ok(Progress::Ended(number(4))),
             Err(AdvanceRefusal::Exhausted),
             Ok(Progress::Idle),
