@@ -1,5 +1,6 @@
 use Rattle.std.proofs.Common.{sym, subst}
 use Rattle.sections.specs.Views.{CookieView}
+use Rattle.domain.proofs.Sameness.{same_trans, same_polled}
 use Rattle.domain.proofs.Synchronizing.{HasWaited, turned, begins, turns, asks_in_vain, synchronizes, waits_in_vain, waited_for, still_none, none_in_vain}
 use Rattle.domain.proofs.domain.Domain.synchronize.Goals as goal
 
@@ -16,6 +17,11 @@ pub returns-then-poll-clause-waits : goal.returns-then-poll-clause-waits
 returns-then-poll-clause-waits g c =
     let h = turns _ _ _ _ _ c.loop.invariant.waited c.in-Ok.ensures.here (turned _ _ _ c.in-Ok.ensures.turns) in
     synchronizes _ _ _ _ _ _ _ h c.in-Ok.ensures.turns c.if-poll.ensures.asks c.poll.ensures.rest (c.poll.ensures.closed c.if-poll.true)
+
+pub returns-then-poll-clause-same : goal.returns-then-poll-clause-same
+returns-then-poll-clause-same g c =
+    let h = turns _ _ _ _ _ c.loop.invariant.waited c.in-Ok.ensures.here (turned _ _ _ c.in-Ok.ensures.turns) in
+    same_trans _ _ _ h.same (same_polled _ _ c.if-poll.ensures.asks.adds.same c.poll.ensures.rest)
 
 pub returns-then-poll-clause-still_none : goal.returns-then-poll-clause-still_none
 returns-then-poll-clause-still_none g c = still_none _ _ c.requires.none (returns-then-poll-clause-waits g c)
