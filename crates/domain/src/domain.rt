@@ -1,4 +1,6 @@
 //! A domain, and how it is made.
+ghost use Rattle.std.specs.Prelude.{◌≡◌};
+
 use calls::Calls;
 use funnel::FunnelSeat;
 use scan::Station;
@@ -40,4 +42,13 @@ impl<J, A: Allocator> Model for Domain<J, A> {
     ghost view = { view_of_domain };
 
     ghost invariant = { IsDomain };
+}
+
+impl<J, A: Allocator> Domain<J, A> {
+    /// How many processors the domain has: 1 to 64.
+    pub fn processors(&self) -> u16
+        ensures { result ≡ self.now.processors }
+    {
+        self.processors
+    }
 }

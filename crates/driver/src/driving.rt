@@ -118,13 +118,11 @@ pub fn serve<R: Wait, J: Drop, A: Allocator + Copy, F: FnMut(J)>(
     rt: &R,
     domain: &Domain<J, A>,
     cpu: &mut Cpu<J, A>,
-    processors: u16,
     stop: &Stop,
     mut work: F,
 ) -> Result<Served, (Served, ServeRefusal)>
     requires here { IsOf domain.now cpu.old }
     requires none { HasNoneOpen cpu.old }
-    requires processors { processors ≡ domain.now.processors }
     requires work { F.IsAlwaysCallable work }
     ensures here { IsOf domain.now cpu.new }
     ensures none { HasNoneOpen cpu.new }
@@ -139,6 +137,7 @@ pub fn serve<R: Wait, J: Drop, A: Allocator + Copy, F: FnMut(J)>(
     ensures stopped { IfOk result (λ _. IsStopped cpu.old cpu.new) }
     ensures finished { IfOk result (λ _. AllFinished domain.now.processors cpu.old cpu.new) }
 {
+    let processors = domain.processors();
     let served = match until_told(rt, domain, cpu, processors, stop, &mut work) {
         Ok(served) => served,
         Err(served) => return Err((served, ServeRefusal::Exhausted)),

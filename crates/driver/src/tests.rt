@@ -56,17 +56,15 @@ fn drive<R: Wait>(
     rt: &R,
     domain: &Domain<u64>,
     pool: &Pool<u64>,
-    processors: u16,
     stop: &Stop,
     jobs: (u64, u64),
 ) -> (bool, Option<Served>, u64)
-    requires pool { pool.now.domain ≡ domain.now }
-    requires many { processors ≡ domain.now.processors }
+    requires { pool.now.domain ≡ domain.now }
 {
     let (mut cpu, lent) = pool.take(rt);
     let queued = queue(rt, domain, &mut cpu, jobs.0, jobs.1);
     let mut digits: u64 = 0;
-    let served = serve(rt, domain, &mut cpu, processors, stop, |job: u64| {
+    let served = serve(rt, domain, &mut cpu, stop, |job: u64| {
         digits = digits.wrapping_mul(10).wrapping_add(job);
     });
     pool.give(rt, cpu, lent);
@@ -83,7 +81,7 @@ fn drive_in_vain<R: Wait + AllocGlobal>(
     };
     let stop = Stop::new();
     stop.give();
-    Ok(Some(drive(rt, &domain, &pool, 2, &stop, (1, 4))))
+    Ok(Some(drive(rt, &domain, &pool, &stop, (1, 4))))
 }
 
 /// Would catch a driver that stops with jobs left, that runs one twice, or in another order.
@@ -109,8 +107,8 @@ fn drive_two<R: Wait + Threads + AllocGlobal + Sync>(
     stop.give();
     let (here, there) = join(
         rt,
-        || jobs_of(drive(rt, &domain, &pool, 2, &stop, (0, 20))),
-        || jobs_of(drive(rt, &domain, &pool, 2, &stop, (0, 30))),
+        || jobs_of(drive(rt, &domain, &pool, &stop, (0, 20))),
+        || jobs_of(drive(rt, &domain, &pool, &stop, (0, 30))),
     );
     let Ok(cpus) = pool.close(rt) else {
         return Ok(None);
@@ -152,7 +150,7 @@ fn drive_until_told<R: Wait + Clock + Threads + AllocGlobal + Sync>(
     let stop = Stop::new();
     let (jobs, ()) = join(
         rt,
-        || jobs_of(drive(rt, &domain, &pool, 2, &stop, (0, 7))),
+        || jobs_of(drive(rt, &domain, &pool, &stop, (0, 7))),
         || tell(rt, &stop),
     );
     Ok(jobs)

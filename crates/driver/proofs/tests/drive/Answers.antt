@@ -5,7 +5,7 @@ use Rattle.driver.specs.Pools.{IsIdle}
 use Rattle.driver.proofs.tests.drive.Goals as goal
 
 pub queue-queued-requires : goal.queue-queued-requires
-queue-queued-requires g c = subst (λ (d : DomainView). IsIdle d c.take-cpu.result.0) c.requires.pool c.take-cpu.ensures.idle
+queue-queued-requires g c = subst (λ (d : DomainView). IsIdle d c.take-cpu.result.0) c.requires c.take-cpu.ensures.idle
 
 pub serve-served-requires-clause-here : goal.serve-served-requires-clause-here
 serve-served-requires-clause-here g c = c.queue-queued.ensures.idle.here
@@ -13,11 +13,8 @@ serve-served-requires-clause-here g c = c.queue-queued.ensures.idle.here
 pub serve-served-requires-clause-none : goal.serve-served-requires-clause-none
 serve-served-requires-clause-none g c = c.queue-queued.ensures.idle.closed
 
-pub serve-served-requires-clause-processors : goal.serve-served-requires-clause-processors
-serve-served-requires-clause-processors g c = c.requires.many
-
 pub give-requires : goal.give-requires
 give-requires g c = record {
-  idle = subst (λ (d : DomainView). IsIdle d c.serve-served.new.cpu) (sym c.requires.pool) (record { here = c.serve-served.ensures.here; closed = c.serve-served.ensures.none });
+  idle = subst (λ (d : DomainView). IsIdle d c.serve-served.new.cpu) (sym c.requires) (record { here = c.serve-served.ensures.here; closed = c.serve-served.ensures.none });
   number = c.take-cpu.ensures.number ∙ sym (c.serve-served.ensures.same.cpu.3 ∙ c.queue-queued.ensures.same);
 }
