@@ -50,6 +50,14 @@ static const struct thing *const things[] = {
 	&rwlock_all,
 	&model_put,
 	&rwlock_put,
+	&model_chain_call,
+	&rwlock_chain_call,
+	&model_chain_change,
+	&rwlock_chain_change,
+	&model_lookup,
+	&rwlock_lookup,
+	&model_install,
+	&rwlock_install,
 };
 
 static void fail(const char *what)

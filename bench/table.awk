@@ -21,7 +21,8 @@ function spread(values, count) {
 function ratios(name, size, base, base_size,    values, round, count, divisor) {
     count = 0
     for (round = 1; round <= rounds; round++) {
-        divisor = base == "" ? 1 : ns[round, base, base_size]
+        # To look at a place in `ns` makes it, and a row of it would be printed.
+        divisor = base == "" ? 1 : (round, base, base_size) in ns ? ns[round, base, base_size] : 0
         if ((round, name, size) in ns && divisor > 0)
             values[++count] = ns[round, name, size] / divisor
     }
@@ -84,8 +85,10 @@ function entry_rows() {
 
 function job_rows(size) {
     row("this domain, to queue it, " threads(size), "srcubench-call", size, "urcu-memb-call")
+    row("while one more gives out, " threads(size), "srcubench-call-given", size, "urcu-memb-call")
     row("liburcu memb, to queue it, " threads(size), "urcu-memb-call", size, "urcu-memb-call")
     row("this domain, to the end, " threads(size), "srcubench-callbacks", size, "urcu-memb-callbacks")
+    row("while one more gives out, to the end, " size, "srcubench-callbacks-given", size, "urcu-memb-callbacks")
     row("liburcu memb, to the end, " threads(size), "urcu-memb-callbacks", size, "urcu-memb-callbacks")
 }
 
@@ -101,6 +104,31 @@ function put_rows() {
     row("this domain", "srcubench-put", 1, "model-put")
     row("C11 model of it", "model-put", 1, "model-put")
     row("pthread_rwlock, no grace period", "rwlock-put", 1, "model-put")
+}
+
+function chain_rows(size) {
+    row("this domain, " threads(size), "srcubench-chain-call", size, "model-chain-call")
+    row("C11 model of it, " threads(size), "model-chain-call", size, "model-chain-call")
+    row("pthread_rwlock, " threads(size), "rwlock-chain-call", size, "model-chain-call")
+}
+
+function chain_change_rows() {
+    row("this domain", "srcubench-chain-change", 1, "model-chain-change")
+    row("C11 model of it", "model-chain-change", 1, "model-chain-change")
+    row("pthread_rwlock, no grace period", "rwlock-chain-change", 1, "model-chain-change")
+}
+
+function lookup_rows(size) {
+    row("this domain, " threads(size), "srcubench-lookup", size, "model-lookup")
+    row("this domain, by a lease, " threads(size), "srcubench-lease", size, "model-lookup")
+    row("C11 model of it, " threads(size), "model-lookup", size, "model-lookup")
+    row("pthread_rwlock, " threads(size), "rwlock-lookup", size, "model-lookup")
+}
+
+function install_rows() {
+    row("this domain", "srcubench-install", 1, "model-install")
+    row("C11 model of it", "model-install", 1, "model-install")
+    row("pthread_rwlock, no grace period", "rwlock-install", 1, "model-install")
 }
 
 function growth_row(label, name, size) {
@@ -154,6 +182,20 @@ END {
     print ""
     printf "%-44s %-28s %s\n", "a put of sixteen words and a grace period", "      ns", "ratio to the model"
     put_rows()
+    print ""
+    printf "%-44s %-28s %s\n", "a call of a chain of four handlers", "      ns", "ratio to the model"
+    for (size = 1; size <= 4; size *= 2)
+        chain_rows(size)
+    print ""
+    printf "%-44s %-28s %s\n", "a change of a chain and a grace period", "      ns", "ratio to the model"
+    chain_change_rows()
+    print ""
+    printf "%-44s %-28s %s\n", "one key of fifteen looked up", "      ns", "ratio to the model"
+    for (size = 1; size <= 4; size *= 2)
+        lookup_rows(size)
+    print ""
+    printf "%-44s %-28s %s\n", "an install and a grace period", "      ns", "ratio to the model"
+    install_rows()
     print ""
     printf "%-44s %s\n", "a pair at several threads against one at 1", "   ratio"
     for (size = 2; size <= most; size *= 2) {

@@ -1,10 +1,14 @@
 mod AllAsked
 mod Carrying
+mod Chained
 mod Drives
 mod Finds
+mod Founded
+mod Given
 mod Passes
 mod Passing
 mod Puts
 mod Rooms
 mod Sampling
+mod Tabled
 mod TwoCpus

@@ -17,8 +17,8 @@ use Rattle.domain.specs.Waiting.{HasNoneOpen}
 use Rattle.domain.specs.Calling.{CallsIn}
 use Rattle.domain.specs.Making.{new_cpu, IsMade}
 use Rattle.domain.specs.Meetings.{IsAllOf}
-use Rattle.srcubench.specs.declared.calling.JobError.{JobError}
 use Rattle.srcubench.specs.Calling.{QueuesAll, RunsBatch, RunsAll, AreOutcomes, OnEachOfNew}
+use Rattle.srcubench.specs.Founding.{EachBecomes}
 
 -- Queueing
 
@@ -48,7 +48,7 @@ pub few_taken : {J : Type 0} (k : CallsView) (p : ℕ) (c : sections.CpuView) (s
 few_taken k p c s c' s' b t = few_of t.list t.list' t.takes.gone b _ t.takes.taken_is t.takes.gives.many
 
 -- one more
-pub one_batch : (d : DomainView) (came more : ℕ) (c b c' : CpuView ℕ) → RunsAll d came c b → RunsBatch d more b c' → RunsAll d (came + more) c c'
+pub one_batch : (d : DomainView) (came more : ℕ) (c b c' : CpuView ℕ) → RunsAll d came c b → RunsBatch d b.cpu.processor more b c' → RunsAll d (came + more) c c'
 one_batch d came more c b c' before one = record { batches = more ∷ before.batches; runs = (b, before.runs, one); came = ap (λ n. n + more) before.came }
 
 pub no_batch : (d : DomainView) (c : CpuView ℕ) → RunsAll d 0 c c
@@ -61,12 +61,19 @@ pub all_ready : {bounds : _} (d : DomainView) (cpus : List (CpuView ℕ)) → Is
 all_ready d cpus made all = λ k c lt. (all.here k c lt, subst HasNoneOpen (sym (made.each k c lt)) refl)
 
 -- where there was no error, it became another one
-became : (Becomes : CpuView ℕ → Type 0) (r : Result (CpuView ℕ) JobError) → IsOk r → IfOk r Becomes → (last : CpuView ℕ) × Becomes last
+became : {J : Type 0} {E : Type 0} (Becomes : CpuView J → Type 0) (r : Result (CpuView J) E) → IsOk r → IfOk r Becomes → (last : CpuView J) × Becomes last
 became Becomes (Ok last) ok is = (last, is)
 became Becomes (Err e) ok is = absurd cc
 
-pub on_each : (Becomes : DomainView → CpuView ℕ → CpuView ℕ → Type 0) (bounds : Bounds) (d : DomainView) (cpus : List (CpuView ℕ)) (outcomes : List (Result (CpuView ℕ) JobError)) → IsMade bounds d cpus → AreOutcomes (Becomes d) cpus outcomes → All IsOk outcomes → OnEachOfNew bounds.processors Becomes
-on_each Becomes bounds d cpus outcomes made are all = record {
+-- and where there was none, each did
+pub each_became : {J : Type 0} {E : Type 0} (Becomes : CpuView J → CpuView J → Type 0) (cpus : List (CpuView J)) (outcomes : List (Result (CpuView J) E)) → AreOutcomes Becomes cpus outcomes → All IsOk outcomes → EachBecomes Becomes cpus
+each_became {E = E} Becomes cpus outcomes are all = λ k c lt.
+    let r : Result _ E = Ok c in
+    let many = are.count in
+    became (Becomes (slice_index_or cpus k c)) (slice_index_or outcomes k r) (all k r (omega (arith, lt, many))) (are.each k c r lt)
+
+pub on_each : {E : Type 0} (Becomes : DomainView → CpuView ℕ → CpuView ℕ → Type 0) (bounds : Bounds) (d : DomainView) (cpus : List (CpuView ℕ)) (outcomes : List (Result (CpuView ℕ) E)) → IsMade bounds d cpus → AreOutcomes (Becomes d) cpus outcomes → All IsOk outcomes → OnEachOfNew bounds.processors Becomes
+on_each {E = E} Becomes bounds d cpus outcomes made are all = record {
   domain = d;
   bounds = bounds;
   many = refl;
@@ -74,7 +81,7 @@ on_each Becomes bounds d cpus outcomes made are all = record {
   shape = record { processors = bounds.processors; nodes = made.nodes };
   each = λ k lt.
       let c : CpuView ℕ = new_cpu d bounds made.tree (record { processors = bounds.processors; nodes = made.nodes }) k in
-      let r : Result (CpuView ℕ) JobError = Ok c in
+      let r : Result (CpuView ℕ) E = Ok c in
       let count = made.count in
       let many = are.count in
       let there : k < length cpus = omega (arith, lt, count) in

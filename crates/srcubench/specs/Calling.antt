@@ -1,5 +1,5 @@
 -- Jobs that are queued on a processor, and come out there behind a grace period.
-use Rattle.std.specs.Prelude.{◌≡◌, ℕ, zero, suc, ◌+◌, ◌<◌, List, [], ◌∷◌, Some, length, slice_index_or, Result, IfOk}
+use Rattle.std.specs.Prelude.{◌≡◌, ℕ, zero, suc, ◌+◌, ◌<◌, List, [], ◌∷◌, Some, length, slice_index_or, Option, Some, None, Result, IfOk}
 use Rattle.atomic_table.specs.Seated.{TableId}
 use Rattle.sections.specs.declared.view.Bounds.{Bounds}
 use Rattle.funnel.specs.declared.view.Shape.{Shape}
@@ -9,28 +9,37 @@ use Rattle.domain.specs.Views.{DomainView, CpuView, callbacks_of, with_cpu, with
 use Rattle.domain.specs.Calling.{CallsIn}
 use Rattle.domain.specs.Waiting.{Synchronizes}
 use Rattle.domain.specs.Making.{new_cpu}
-use Rattle.srcubench.specs.declared.calling.JobError.{JobError}
 
 -- so many jobs were queued, one behind the other, each the number of its place
 abbrev pub QueuesAll : DomainView → ℕ → CpuView ℕ → CpuView ℕ → Type 0
 QueuesAll d zero c c' = c' ≡ c
 QueuesAll d (suc n) c c' = (between : CpuView ℕ) × (receipt : ReceiptView ℕ) × QueuesAll d n c between × CallsIn d between n receipt c'
 
--- a batch of so many jobs was taken on this processor, each after a full grace period, and was finished once all had come out
-pub record RunsBatch (d : DomainView) (many : ℕ) (c c' : CpuView ℕ) : Type 0 where
+-- a batch of so many jobs of processor p was taken, each after a full grace period, and was finished once all had come out
+pub record RunsBatch (d : DomainView) (p many : ℕ) (c c' : CpuView ℕ) : Type 0 where
   pub taken : CpuView ℕ
   pub batch : BatchView ℕ
-  pub takes : TakesIn (callbacks_of d) c.cpu.processor 8 c.cpu c.calls (Some batch) taken.cpu taken.calls
+  pub takes : TakesIn (callbacks_of d) p 8 c.cpu c.calls (Some batch) taken.cpu taken.calls
   pub no_other : taken ≡ with_calls taken.calls (with_cpu taken.cpu c)
   pub handed : AreHanded batch.entries taken.cpu.seen
   pub came : length batch.entries ≡ many
   pub finishes : FinishesIn (callbacks_of d) taken.calls (record batch { entries = [] }) c'.calls
   pub no_more : c' ≡ with_calls c'.calls taken
 
--- batches of so many jobs each were run, the last one's number first
+-- none was ready there
+pub record FindsNone (d : DomainView) (p : ℕ) (c c' : CpuView ℕ) : Type 0 where
+  pub takes : TakesIn (callbacks_of d) p 8 c.cpu c.calls None c'.cpu c'.calls
+  pub no_other : c' ≡ with_calls c'.calls (with_cpu c'.cpu c)
+
+-- so many of those that were ready there were run, or none was
+abbrev pub RunsReady : DomainView → ℕ → Option ℕ → CpuView ℕ → CpuView ℕ → Type 0
+RunsReady d p None c c' = FindsNone d p c c'
+RunsReady d p (Some many) c c' = RunsBatch d p many c c'
+
+-- batches of so many jobs each of the processor's own were run, the last one's number first
 abbrev pub RunsBatches : DomainView → List ℕ → CpuView ℕ → CpuView ℕ → Type 0
 RunsBatches d [] c c' = c' ≡ c
-RunsBatches d (many ∷ others) c c' = (between : CpuView ℕ) × RunsBatches d others c between × RunsBatch d many between c'
+RunsBatches d (many ∷ others) c c' = (between : CpuView ℕ) × RunsBatches d others c between × RunsBatch d between.cpu.processor many between c'
 
 -- how many jobs came out of such batches
 abbrev pub jobs_of : List ℕ → ℕ
@@ -52,9 +61,9 @@ pub record PassesAll (d : DomainView) (jobs : ℕ) (c c' : CpuView ℕ) : Type 0
   pub runs : RunsAll d jobs waited c'
 
 -- each of these processors, where there was no error, became another one in this way
-pub record AreOutcomes (Becomes : CpuView ℕ → CpuView ℕ → Type 0) (cpus : List (CpuView ℕ)) (outcomes : List (Result (CpuView ℕ) JobError)) : Type 0 where
+pub record AreOutcomes {J : Type 0} {E : Type 0} (Becomes : CpuView J → CpuView J → Type 0) (cpus : List (CpuView J)) (outcomes : List (Result (CpuView J) E)) : Type 0 where
   pub count : length outcomes ≡ length cpus
-  pub each : (k : ℕ) (c : CpuView ℕ) (r : Result (CpuView ℕ) JobError) → k < length cpus → IfOk (slice_index_or outcomes k r) (Becomes (slice_index_or cpus k c))
+  pub each : (k : ℕ) (c : CpuView J) (r : Result (CpuView J) E) → k < length cpus → IfOk (slice_index_or outcomes k r) (Becomes (slice_index_or cpus k c))
 
 -- each processor of a new domain of so many became another one in this way
 pub record OnEachOfNew (threads : ℕ) (Becomes : DomainView → CpuView ℕ → CpuView ℕ → Type 0) : Type 0 where

@@ -3,15 +3,18 @@ use Rattle.std.specs.Prelude.{◌≡◌, ℕ, ◌*◌, ◌^◌, ◌≤◌, List}
 use Rattle.srcubench.specs.declared.pairs.Reader.{Reader}
 use Rattle.srcubench.specs.declared.asking.Asker.{Asker}
 use Rattle.srcubench.specs.declared.work.Work.{Work}
-use Rattle.srcubench.specs.declared.work.Work.TheVariants.{Pairs, HeldPairs, QuietPeriods, DrivenPeriods, Waits, Asks, Entries, Queueing, Callbacks, Finds, Puts}
+use Rattle.srcubench.specs.declared.work.Work.TheVariants.{Pairs, HeldPairs, QuietPeriods, DrivenPeriods, Waits, Asks, Entries, Queueing, Callbacks, Given, Finds, Puts, ChainCalls, ChainChanges, Looks, Installs}
 use Rattle.srcubench.specs.Readers.{AreReadersOfOne}
 use Rattle.srcubench.specs.Asking.{AreAskersOfOne}
 use Rattle.srcubench.specs.Calling.{HaveQueued, HavePassed}
+use Rattle.srcubench.specs.Chaining.{HaveChanged, HaveCalled}
 use Rattle.srcubench.specs.Driving.{HaveDriven, HaveWaited}
 use Rattle.srcubench.specs.Finding.{AreFindersOfOne}
+use Rattle.srcubench.specs.Giving.{HaveGiven}
 use Rattle.srcubench.specs.Held.{HaveMadeHeldPairs}
 use Rattle.srcubench.specs.Periods.{HaveEnded}
 use Rattle.srcubench.specs.Putting.{HavePut}
+use Rattle.srcubench.specs.Tabling.{HaveInstalled, HaveLooked}
 
 -- there is something to do
 abbrev pub CanRun : Work → Type 0
@@ -24,8 +27,13 @@ CanRun (Asks threads asks new) = (1 ≤ asks) × (asks ≤ 2 ^ 54) × (threads �
 CanRun (Entries way batches) = (1 ≤ batches) × (batches ≤ 2 ^ 54)
 CanRun (Queueing threads jobs) = (1 ≤ threads * jobs) × (threads ≤ 2 ^ 16) × (jobs ≤ 2 ^ 40)
 CanRun (Callbacks threads jobs) = (1 ≤ threads * jobs) × (threads ≤ 2 ^ 16) × (jobs ≤ 2 ^ 40)
+CanRun (Given threads jobs ended) = (1 ≤ threads * jobs) × (threads ≤ 2 ^ 16) × (jobs ≤ 2 ^ 40)
 CanRun (Finds threads words times) = (1 ≤ times) × (words ≤ 16)
 CanRun (Puts times) = 1 ≤ times
+CanRun (ChainCalls threads times) = (1 ≤ times) × (threads ≤ 2 ^ 16)
+CanRun (ChainChanges rounds) = (1 ≤ rounds) × (rounds ≤ 2 ^ 54)
+CanRun (Looks threads leased times) = (1 ≤ times) × (threads ≤ 2 ^ 16)
+CanRun (Installs times) = 1 ≤ times
 
 -- a run has done so much of it
 abbrev pub IsDone : Work → ℕ → Type 0
@@ -38,5 +46,10 @@ IsDone (Asks threads asks new) done = (done ≡ asks) × (askers : List Asker) �
 IsDone (Entries way batches) done = done ≡ 8 * batches
 IsDone (Queueing threads jobs) done = (done ≡ threads * jobs) × HaveQueued threads jobs
 IsDone (Callbacks threads jobs) done = (done ≡ threads * jobs) × HavePassed threads jobs
+IsDone (Given threads jobs ended) done = (done ≡ threads * jobs) × HaveGiven threads jobs
 IsDone (Finds threads words times) done = (done ≡ times) × (readers : List Reader) × AreFindersOfOne threads words times readers
 IsDone (Puts times) done = (done ≡ times) × HavePut times
+IsDone (ChainCalls threads times) done = (done ≡ times) × HaveCalled threads times
+IsDone (ChainChanges rounds) done = (done ≡ 2 * rounds) × HaveChanged rounds
+IsDone (Looks threads leased times) done = (done ≡ times) × HaveLooked threads leased times
+IsDone (Installs times) done = (done ≡ times) × HaveInstalled times

@@ -2,6 +2,7 @@
 use Rattle.std.specs.Prelude.{◌≡◌, ℕ, zero, suc, ◌<◌}
 use Rattle.atomic_table.specs.Seated.{TableId}
 use Rattle.sseq.specs.declared.index.Index.{Index}
+use Rattle.scan.specs.declared.progress.Progress.{Progress}
 use Rattle.scan.specs.declared.progress.Progress.TheVariants.{Flipped, Ended}
 use Rattle.funnel.specs.declared.view.Shape.{Shape}
 use Rattle.domain.specs.Views.{DomainView, CpuView}
@@ -10,6 +11,11 @@ use Rattle.domain.specs.Waiting.{Synchronizes}
 use Rattle.domain.specs.Making.{new_cpu}
 
 module _ {J : Type 0} where
+  -- the engine had a turn, and gave some answer
+  pub record TurnsOnce (c c' : CpuView J) : Type 0 where
+    pub answer : Progress
+    pub turns : AdvancesIn c answer c'
+
   -- in three turns of the engine a period started, flipped and ended
   pub record DrivesPeriod (c c' : CpuView J) : Type 0 where
     pub started : CpuView J

@@ -1,9 +1,12 @@
 pub use Rattle.sections.specs.Calls
 pub mod Asking
 pub mod Calling
+pub mod Chaining
 pub mod Done
 pub mod Driving
 pub mod Finding
+pub mod Founding
+pub mod Giving
 pub mod Held
 pub mod Jobs
 pub mod Lists
@@ -14,3 +17,4 @@ pub mod Putting
 pub mod Readers
 pub mod Samples
 pub mod Spreads
+pub mod Tabling

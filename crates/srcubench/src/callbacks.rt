@@ -84,7 +84,7 @@ pub fn pass_together<R: Threads + Sync + Wait>(
 }
 
 /// The first error, where there is one.
-pub fn first_error(outcomes: &[Result<Cpu<u64>, JobError>]) -> Result<(), JobError>
+pub fn first_error<T, E: Copy>(outcomes: &[Result<T, E>]) -> Result<(), E>
     ensures { OnOk result (All IsOk outcomes.now) }
 {
     for outcome in outcomes {

@@ -1,10 +1,10 @@
 //! The loops through which jobs go: they are queued on a processor, and come out there behind a grace period.
-ghost use Rattle.std.specs.Prelude.{◌≡◌, ◌+◌, ◌^◌, ◌≤◌, [], length, IfOk};
+ghost use Rattle.std.specs.Prelude.{◌≡◌, ◌+◌, ◌^◌, ◌<◌, ◌≤◌, [], length, IfOk, IfSome};
 ghost use Rattle.domain.specs.Views.{IsOf};
 ghost use Rattle.domain.specs.Waiting.{HasNoneOpen};
-ghost use Rattle.srcubench.specs.Calling.{QueuesAll, RunsBatch, RunsAll, PassesAll};
+ghost use Rattle.srcubench.specs.Calling.{QueuesAll, RunsReady, RunsBatch, RunsAll, PassesAll};
 
-use domain::{Batch, CallRefusal, Cpu, Domain, PeriodsExhausted, TakeRefusal};
+use domain::{AdvanceRefusal, Batch, CallRefusal, Cpu, Domain, PeriodsExhausted, TakeRefusal};
 use std::alloc::Allocator;
 use std::error::Error;
 use std::fmt;
@@ -17,12 +17,18 @@ pub enum JobError {
     NotQueued(CallRefusal),
     /// There was no grace period.
     NotWaited(PeriodsExhausted),
+    /// The engine was refused.
+    NotDriven(AdvanceRefusal),
     /// No batch was taken.
     NotTaken(TakeRefusal),
     /// Fewer jobs were ready behind the grace period.
     TooFew,
     /// More jobs came out than went in.
     TooMany,
+    /// No thread was started.
+    NoThread,
+    /// The clock could not be read.
+    NoClock,
 }
 
 impl fmt::Display for JobError {
@@ -30,9 +36,12 @@ impl fmt::Display for JobError {
         match self {
             JobError::NotQueued(refusal) => write!(f, "{refusal}"),
             JobError::NotWaited(exhausted) => write!(f, "{exhausted}"),
+            JobError::NotDriven(refusal) => write!(f, "{refusal}"),
             JobError::NotTaken(refusal) => write!(f, "{refusal}"),
             JobError::TooFew => write!(f, "fewer jobs are ready than went in"),
             JobError::TooMany => write!(f, "more jobs came out than went in"),
+            JobError::NoThread => write!(f, "no thread could be started"),
+            JobError::NoClock => write!(f, "the clock can't be read"),
         }
     }
 }
@@ -71,22 +80,42 @@ fn run_jobs(batch: &mut Batch<u64>) -> u64
     came
 }
 
-/// Takes a batch of what is ready on this processor, runs it and finishes it. Answers how many jobs came out.
-fn run_batch<R: Wait>(rt: &R, domain: &Domain<u64>, cpu: &mut Cpu<u64>) -> Result<u64, JobError>
-    requires { IsOf domain.now cpu.old }
+/// Takes a batch of what is ready on a processor, runs it and finishes it. Answers how many jobs came out, and `None` where
+/// none was ready.
+pub fn run_ready<R: Wait>(
+    rt: &R,
+    domain: &Domain<u64>,
+    cpu: &mut Cpu<u64>,
+    processor: u16,
+) -> Result<Option<u64>, JobError>
+    requires domain { IsOf domain.now cpu.old }
+    requires processor { processor < domain.now.processors }
     ensures here { IsOf domain.now cpu.new }
-    ensures runs { IfOk result (λ came. RunsBatch domain.now came cpu.old cpu.new) }
-    ensures some { IfOk result (λ came. (1 ≤ came) × (came ≤ 8)) }
+    ensures runs { IfOk result (λ came. RunsReady domain.now processor came cpu.old cpu.new) }
+    ensures some { IfOk result (λ came. IfSome came (λ many. (1 ≤ many) × (many ≤ 8))) }
 {
-    let processor = cpu.processor();
     match domain.take_ready(rt, cpu, processor, 8) {
         Ok(Some(mut batch)) => {
             let came = run_jobs(&mut batch);
             domain.finish(rt, cpu, batch);
-            Ok(came)
+            Ok(Some(came))
         }
-        Ok(None) => Err(JobError::TooFew),
+        Ok(None) => Ok(None),
         Err(refusal) => Err(JobError::NotTaken(refusal)),
+    }
+}
+
+/// The same of what is ready on this processor, on which something has to be.
+fn run_batch<R: Wait>(rt: &R, domain: &Domain<u64>, cpu: &mut Cpu<u64>) -> Result<u64, JobError>
+    requires { IsOf domain.now cpu.old }
+    ensures here { IsOf domain.now cpu.new }
+    ensures runs { IfOk result (λ came. RunsBatch domain.now cpu.old.cpu.processor came cpu.old cpu.new) }
+    ensures some { IfOk result (λ came. (1 ≤ came) × (came ≤ 8)) }
+{
+    let processor = cpu.processor();
+    match run_ready(rt, domain, cpu, processor)? {
+        Some(came) => Ok(came),
+        None => Err(JobError::TooFew),
     }
 }
 

@@ -3,7 +3,7 @@ ghost use Rattle.std.specs.Prelude.{◌≡◌, IfOk};
 ghost use Rattle.domain.specs.Views.{IsOf};
 ghost use Rattle.domain.specs.Turns.{AdvancesIn};
 ghost use Rattle.domain.specs.Waiting.{HasNoneOpen};
-ghost use Rattle.srcubench.specs.Driving.{DrivesPeriod, DrivesPeriods, WaitsAll, HaveWaited, HaveDriven};
+ghost use Rattle.srcubench.specs.Driving.{TurnsOnce, DrivesPeriod, DrivesPeriods, WaitsAll, HaveWaited, HaveDriven};
 
 use crate::work::Timed;
 use anyhow::Result;
@@ -47,6 +47,19 @@ fn answer<A: Allocator>(domain: &Domain<(), A>, cpu: &mut Cpu<(), A>) -> Result<
         Ok(answer) => Ok(answer),
         Err(refusal) => Err(Halt::Refused(refusal)),
     }
+}
+
+/// One turn of the engine, whatever it answers.
+pub fn drive_one<J, A: Allocator>(
+    domain: &Domain<J, A>,
+    cpu: &mut Cpu<J, A>,
+) -> Result<(), AdvanceRefusal>
+    requires { IsOf domain.now cpu.old }
+    ensures here { IsOf domain.now cpu.new }
+    ensures turns { IfOk result (λ _. TurnsOnce cpu.old cpu.new) }
+{
+    domain.advance(cpu)?;
+    Ok(())
 }
 
 /// Starts a grace period, and has the engine carry it to its end: three turns of the engine.
@@ -104,7 +117,7 @@ pub fn wait_often<R: Wait, A: Allocator>(
 
 /// Drives so many periods in a new domain of so many processors. The `elapsed` is what the clock told, of which no clause
 /// speaks.
-pub fn run_periods<R: Wait + Clock + AllocGlobal>(
+pub fn run_periods<R: Clock + AllocGlobal>(
     rt: &R,
     processors: usize,
     periods: u64,

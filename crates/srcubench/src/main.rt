@@ -1,7 +1,8 @@
 //! `srcubench` measures what a pair of `read_lock` and `read_unlock` costs, on one processor and on several at once, what
 //! a held section costs that begins on one processor and ends on another, what a grace period costs with nobody
 //! reading, what it costs to ask for one, what an entry of a callback list costs, what a job costs that is queued and run
-//! behind a grace period, and what a version costs that is found or put.
+//! behind a grace period, what a version costs that is found or put, what it costs to call a notifier chain and to change
+//! one, and to look a plug up, to lease a table, and to change one.
 #![tactic(auto)]
 
 ghost use Rattle.std.specs.Prelude.{◌*◌, ◌≤◌, ◌^◌};
@@ -12,13 +13,20 @@ mod calling;
 mod command_line;
 mod driving;
 mod finding;
+mod founding;
+mod giving;
 mod held;
+mod installing;
 mod lists;
+mod looking;
+mod miss;
+mod notifying;
 mod pairs;
 mod passage;
 mod periods;
 mod putting;
 mod quiet;
+mod registering;
 mod spread;
 mod trial;
 mod work;
@@ -55,6 +63,9 @@ const WORDS: [usize; 2] = [1, 16];
 
 /// How often a version is found, and how many are put, where they are only counted.
 const COUNTED_VERSIONS: u64 = 1_000;
+
+/// How often a chain is called or a table read in each thread, and how often they are changed, where that is only counted.
+const COUNTED_READS: u64 = 1_000;
 
 /// How many batches of entries go through a list where they are only counted.
 const COUNTED_BATCHES: u64 = 100;
@@ -105,7 +116,9 @@ fn count<R: Threads + Sync + Wait + Clock + Print + AllocGlobal>(rt: &R) -> Resu
         println!(rt; "{way}: {} entries", timed.done)?;
     }
     count_jobs(rt)?;
-    count_versions(rt)
+    count_versions(rt)?;
+    count_chains(rt)?;
+    count_tables(rt)
 }
 
 /// Prints how often a version was found, and how many were put.
@@ -125,6 +138,32 @@ fn count_versions<R: Threads + Sync + Wait + Clock + Print + AllocGlobal>(rt: &R
         "put: {} versions",
         putting::run(rt, COUNTED_VERSIONS)?.done
     )?;
+    Ok(())
+}
+
+/// Prints how often a chain was called in each thread, and how often one was changed.
+fn count_chains<R: Threads + Sync + Wait + Clock + Print + AllocGlobal>(rt: &R) -> Result<()> {
+    for threads in THREADS {
+        let timed = notifying::run(rt, threads, COUNTED_READS)?;
+        println!(rt; "threads {threads}: {} calls of a chain in each", timed.done)?;
+    }
+    println!(rt;
+        "chain: {} changes",
+        registering::run(rt, COUNTED_READS)?.done
+    )?;
+    Ok(())
+}
+
+/// Prints how often a key was looked up or leased in each thread, and how often one was installed.
+fn count_tables<R: Threads + Sync + Wait + Clock + Print + AllocGlobal>(rt: &R) -> Result<()> {
+    for threads in THREADS {
+        for leased in [false, true] {
+            let timed = looking::run(rt, threads, leased, COUNTED_READS)?;
+            let looks = if leased { "leases" } else { "lookups" };
+            println!(rt; "threads {threads}: {} {looks} in each", timed.done)?;
+        }
+    }
+    println!(rt; "table: {} installs", installing::run(rt, COUNTED_READS)?.done)?;
     Ok(())
 }
 
@@ -151,6 +190,8 @@ fn count_jobs_of<R: Threads + Sync + Wait + Clock + Print + AllocGlobal>(
     println!(rt; "threads {threads}: {queued} jobs queued")?;
     let run = callbacks::run_passing(rt, threads, jobs)?.done;
     println!(rt; "threads {threads}: {run} jobs run")?;
+    let given = giving::run(rt, threads, jobs, true)?.done;
+    println!(rt; "threads {threads}: {given} jobs queued and given out by one more")?;
     Ok(())
 }
 
@@ -205,7 +246,9 @@ fn time<R: Threads + Sync + Wait + Clock + Print + AllocGlobal>(
     time_jobs(rt, 1, JOBS, repetitions)?;
     time_jobs(rt, 2, JOBS / 2, repetitions)?;
     time_jobs(rt, 4, JOBS / 4, repetitions)?;
-    time_versions(rt, pairs, repetitions)
+    time_versions(rt, pairs, repetitions)?;
+    time_chains(rt, pairs, repetitions)?;
+    time_tables(rt, pairs, repetitions)
 }
 
 /// Prints what it took to find a version and read words of it, where each thread does so many, and what a put took.
@@ -234,6 +277,54 @@ fn time_versions<R: Threads + Sync + Wait + Clock + Print + AllocGlobal>(
     Ok(())
 }
 
+/// Prints what a call of a chain took, where each thread does so many, and what a change of one took.
+fn time_chains<R: Threads + Sync + Wait + Clock + Print + AllocGlobal>(
+    rt: &R,
+    times: u64,
+    repetitions: u64,
+) -> Result<()>
+    requires some { 1 ≤ times }
+    requires few { times ≤ 2 ^ 54 }
+    requires repetitions { 1 ≤ repetitions }
+{
+    for threads in THREADS {
+        let spread = measure(rt, Work::ChainCalls { threads, times }, repetitions)?;
+        println!(rt; "srcubench-chain-call {threads} {spread}")?;
+    }
+    let rounds = times / (2 * LESS_OFTEN) + 1;
+    let spread = measure(rt, Work::ChainChanges { rounds }, repetitions)?;
+    println!(rt; "srcubench-chain-change 1 {spread}")?;
+    Ok(())
+}
+
+/// Prints what it took to look a key up and to read it through a lease, where each thread does so many, and what a change
+/// of the table took.
+fn time_tables<R: Threads + Sync + Wait + Clock + Print + AllocGlobal>(
+    rt: &R,
+    times: u64,
+    repetitions: u64,
+) -> Result<()>
+    requires some { 1 ≤ times }
+    requires repetitions { 1 ≤ repetitions }
+{
+    for threads in THREADS {
+        for leased in [false, true] {
+            let work = Work::Looks {
+                threads,
+                leased,
+                times,
+            };
+            let spread = measure(rt, work, repetitions)?;
+            let looks = if leased { "lease" } else { "lookup" };
+            println!(rt; "srcubench-{looks} {threads} {spread}")?;
+        }
+    }
+    let times = times / LESS_OFTEN + 1;
+    let spread = measure(rt, Work::Installs { times }, repetitions)?;
+    println!(rt; "srcubench-install 1 {spread}")?;
+    Ok(())
+}
+
 /// Prints what queueing a job took, and what it took from there until it was run, where each of so many threads queues so
 /// many.
 fn time_jobs<R: Threads + Sync + Wait + Clock + Print + AllocGlobal>(
@@ -251,6 +342,16 @@ fn time_jobs<R: Threads + Sync + Wait + Clock + Print + AllocGlobal>(
     println!(rt; "srcubench-call {threads} {spread}")?;
     let spread = measure(rt, Work::Callbacks { threads, jobs }, repetitions)?;
     println!(rt; "srcubench-callbacks {threads} {spread}")?;
+    for ended in [false, true] {
+        let work = Work::Given {
+            threads,
+            jobs,
+            ended,
+        };
+        let spread = measure(rt, work, repetitions)?;
+        let name = if ended { "callbacks" } else { "call" };
+        println!(rt; "srcubench-{name}-given {threads} {spread}")?;
+    }
     Ok(())
 }
 

@@ -9,7 +9,6 @@ use anyhow::Result;
 use domain::{Cpu, Domain, Limits, Writer};
 use shelf::{Shelf, Versioned};
 use std::alloc::Allocator;
-use std::sync::Wait;
 use std::time::{Clock, Instant};
 
 /// A value with the same number in each of its words.
@@ -84,7 +83,7 @@ fn shelve(writer: Writer) -> Shelf<Sixteen>
 /// Puts so many values in a new domain of one processor, whose cell has two slots: one is current, and the other is
 /// blank only behind the grace period of the put before. The `elapsed` is what the clock told, of which no clause
 /// speaks.
-pub fn run<R: Wait + Clock + AllocGlobal>(rt: &R, times: u64) -> Result<Timed>
+pub fn run<R: Clock + AllocGlobal>(rt: &R, times: u64) -> Result<Timed>
     ensures done { IfOk result (λ timed. timed.done ≡ times) }
     ensures put { IfOk result (λ _. HavePut times) }
 {

@@ -6,7 +6,10 @@ ghost use Rattle.srcubench.specs.Spreads.{IsSpreadOf};
 
 use crate::passage::Way;
 use crate::spread::{Spread, cost_of_one};
-use crate::{asking, callbacks, driving, finding, held, passage, putting, quiet, trial};
+use crate::{
+    asking, callbacks, driving, finding, giving, held, installing, looking, notifying, passage,
+    putting, quiet, registering, trial,
+};
 use anyhow::Result;
 use std::sync::Wait;
 use std::thread::Threads;
@@ -61,6 +64,13 @@ pub enum Work {
         threads: usize,
         jobs: u64,
     },
+    /// Jobs that are queued while one more thread gives them out: so many in each of so many threads, which are processors
+    /// of one domain. Its time ends when all are queued, or where `ended` says so when all are out.
+    Given {
+        threads: usize,
+        jobs: u64,
+        ended: bool,
+    },
     /// Sections in which a version is found and so many words of it are read: so many in each of so many threads, which
     /// are processors of one domain.
     Finds {
@@ -70,6 +80,28 @@ pub enum Work {
     },
     /// Values that are put, each with the grace period behind which the one before it can't be read, in one thread.
     Puts {
+        times: u64,
+    },
+    /// Calls of a notifier chain with four handlers that do nothing: so many in each of so many threads, which are
+    /// processors of one domain.
+    ChainCalls {
+        threads: usize,
+        times: u64,
+    },
+    /// Rounds in which a block of a chain of four is unregistered and registered again, each behind a grace period, in
+    /// one thread.
+    ChainChanges {
+        rounds: u64,
+    },
+    /// One key of a table of fifteen that is looked up, or read through a lease: so many times in each of so many
+    /// threads, which are processors of one domain.
+    Looks {
+        threads: usize,
+        leased: bool,
+        times: u64,
+    },
+    /// Plugs that are installed for one key of a table of fifteen, each with a grace period behind it, in one thread.
+    Installs {
         times: u64,
     },
 }
@@ -117,6 +149,11 @@ pub fn run<R: Threads + Sync + Wait + Clock + AllocGlobal>(rt: &R, work: Work) -
         Work::Entries { way, batches } => passage::run(rt, way, batches),
         Work::Queueing { threads, jobs } => callbacks::run_queueing(rt, threads, jobs),
         Work::Callbacks { threads, jobs } => callbacks::run_passing(rt, threads, jobs),
+        Work::Given {
+            threads,
+            jobs,
+            ended,
+        } => giving::run(rt, threads, jobs, ended),
         Work::Finds {
             threads,
             words,
@@ -129,6 +166,14 @@ pub fn run<R: Threads + Sync + Wait + Clock + AllocGlobal>(rt: &R, work: Work) -
             })
         }
         Work::Puts { times } => putting::run(rt, times),
+        Work::ChainCalls { threads, times } => notifying::run(rt, threads, times),
+        Work::ChainChanges { rounds } => registering::run(rt, rounds),
+        Work::Looks {
+            threads,
+            leased,
+            times,
+        } => looking::run(rt, threads, leased, times),
+        Work::Installs { times } => installing::run(rt, times),
     }
 }
 

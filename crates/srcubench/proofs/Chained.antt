@@ -1,0 +1,76 @@
+-- Chains that are registered, changed and called, one time behind the other.
+use Rattle.std.proofs.Common.{◌≡◌, ℕ, ◌+◌, List, [], ◌∷◌, All, Result, IsOk, refl, sym, ap, ◌∙◌, subst, add-one}
+use Rattle.std.specs.List.{AllZip}
+use Rattle.sections.specs.WriterViews.{WriterView}
+use Rattle.sections.specs.Dealing.{new_writer}
+use Rattle.domain.specs.Views.{DomainView, CpuView}
+use Rattle.notify.specs.Calling.{GivesAt}
+use Rattle.notify.specs.Chains.{ChainState, ChainCell}
+use Rattle.notify.specs.Reading.{Calls}
+use Rattle.srcubench.specs.Calling.{AreOutcomes}
+use Rattle.srcubench.specs.Chaining.{AnswersAny, RegistersOne, RegistersAll, ChangesTwice, ChangesOften, CallsFour, CallsOften, no_blocks, HasChain, HaveChanged, HaveCalled}
+use Rattle.srcubench.specs.Founding.{IsNew, EachBecomes}
+use Rattle.srcubench.proofs.Passes.{each_became}
+
+-- what holds of two items holds of the items of two lists
+all_zip : {X : Type 0} {Y : Type 0} (R : X → Y → Type 0) (S : X → Y → Type 0) (xs : List X) (ys : List Y) → ((x : X) (y : Y) → R x y → S x y) → AllZip R xs ys → AllZip S xs ys
+all_zip R S [] [] more zip = zip
+all_zip R S [] (y ∷ ys) more zip = zip
+all_zip R S (x ∷ xs) [] more zip = zip
+all_zip R S (x ∷ xs) (y ∷ ys) more zip = (more x y zip.0, all_zip R S xs ys more zip.1)
+
+module _ {J : Type 0} where
+  -- One more
+
+  pub one_registered : (n : ℕ) (s : ChainState) (c : CpuView J) (t : ChainState) (d : CpuView J) (s' : ChainState) (c' : CpuView J) → RegistersAll n s c t d → RegistersOne n t d s' c' → RegistersAll (n + 1) s c s' c'
+  one_registered n s c t d s' c' before one = subst (λ k. RegistersAll k s c s' c') (sym (add-one n)) (t, d, before, one)
+
+  pub one_changed : (n : ℕ) (s : ChainState) (c : CpuView J) (t : ChainState) (d : CpuView J) (s' : ChainState) (c' : CpuView J) → ChangesOften n s c t d → ChangesTwice t d s' c' → ChangesOften (n + 1) s c s' c'
+  one_changed n s c t d s' c' before one = subst (λ k. ChangesOften k s c s' c') (sym (add-one n)) (t, d, before, one)
+
+  pub one_called : (v : ChainCell) (n : ℕ) (c d c' : CpuView J) → CallsOften v n c d → CallsFour v d c' → CallsOften v (n + 1) c c'
+  one_called v n c d c' before one = subst (λ k. CallsOften v k c c') (sym (add-one n)) (d, before, one)
+
+  -- Calls
+
+  -- a call is one in the same domain
+  pub same_called : (v : ChainCell) (c c' : CpuView J) → CallsFour v c c' → c'.cpu.domain ≡ c.cpu.domain
+  same_called v c c' calls =
+      let once = calls.reads in
+      once.ends.same.0 ∙ (once.reads.loads.same.0 ∙ (once.reads.finds.adds.same.0 ∙ (once.locks.enters.adds.same.0 ∙ once.locks.looks.load.same.0)))
+
+  -- what the handlers of these boxes gave, they answered
+  pub four_called : {H : Type 0} (gives : H → ℕ → Type 0) (handlers : List H) (v : ChainCell) (c c' : CpuView J) (last count : ℕ) → last ≡ 1 → count ≡ 4 → Calls (GivesAt gives handlers) v c c' last count → CallsFour v c c'
+  four_called gives handlers v c c' last count ok four calls =
+      let all : Calls (GivesAt gives handlers) v c c' 1 4 = subst (λ (z : ℕ × ℕ). Calls (GivesAt gives handlers) v c c' z.0 z.1) (λ k. (ok k, four k)) calls in record {
+        blocks = all.blocks;
+        reads = all.reads;
+        answers = record {
+          results = all.answers.results;
+          given = all_zip (GivesAt gives handlers) AnswersAny _ all.answers.results (λ id r g. refl) all.answers.given;
+          answer = all.answers.answer;
+        };
+      }
+
+-- A new domain
+
+pub has_chain : (readers : ℕ) (d : DomainView) (cpus : List (CpuView (Unit {0}))) (first last : CpuView (Unit {0})) (w : WriterView) (s s' : ChainState) → IsNew readers d cpus first w → s ≡ no_blocks w → RegistersAll 4 s first s' last → HasChain readers d cpus s' last
+has_chain readers d cpus first last w s s' new is registers = record { first = first; writer = w; new = new; registers = subst (λ (z : ChainState). RegistersAll 4 z first s' last) is registers }
+
+pub have_changed : (rounds : ℕ) (d : DomainView) (cpus : List (CpuView (Unit {0}))) (s s' : ChainState) (c c' : CpuView (Unit {0})) → HasChain 0 d cpus s c → ChangesOften rounds s c s' c' → HaveChanged rounds
+have_changed rounds d cpus s s' c c' has changes = record { domain = d; readers = cpus; chain = s; changer = c; has = has; last_chain = s'; last = c'; changes = changes }
+
+-- the chain lies in the one cell
+the_cell : (d : DomainView) (v : ChainCell) (cell : ℕ) (w : WriterView) → v ≡ record { cell = cell; ids = 4 } → cell ≡ w.cell → w ≡ new_writer d.domain 0 2 → v ≡ record { cell = 0; ids = 4 }
+the_cell d v cell w is at pen = is ∙ ap (λ n. record { cell = n; ids = 4 }) (at ∙ ap (λ (z : WriterView). z.cell) pen)
+
+pub have_called : {E : Type 0} (threads times : ℕ) (d : DomainView) (cpus : List (CpuView (Unit {0}))) (s : ChainState) (c : CpuView (Unit {0})) (v : ChainCell) (cell : ℕ) (w : WriterView) (outcomes : List (Result (CpuView (Unit {0})) E))
+    → HasChain threads d cpus s c → v ≡ record { cell = cell; ids = 4 } → cell ≡ w.cell → w ≡ new_writer d.domain 0 2 → AreOutcomes (CallsOften v times) cpus outcomes → All IsOk outcomes → HaveCalled threads times
+have_called threads times d cpus s c v cell w outcomes has is at pen are all = record {
+  domain = d;
+  readers = cpus;
+  chain = s;
+  changer = c;
+  has = has;
+  each = subst (λ (z : ChainCell). EachBecomes (CallsOften z times) cpus) (the_cell d v cell w is at pen) (each_became (CallsOften v times) cpus outcomes are all);
+}

@@ -1,0 +1,128 @@
+//! Calls of a notifier chain: a thread for each of a domain's readers, in which four handlers are called that do nothing.
+ghost use Rattle.std.specs.Prelude.{◌≡◌, ◌^◌, ◌<◌, ◌≤◌, All, length, IfOk};
+ghost use Rattle.sections.specs.Words.{cells_in};
+ghost use Rattle.srcubench.specs.Calling.{AreOutcomes};
+ghost use Rattle.srcubench.specs.Chaining.{CallsFour, CallsOften, HaveCalled};
+
+use crate::callbacks::first_error;
+use crate::founding::{New, found};
+use crate::miss::Miss;
+use crate::registering::{BLOCKS, register_all};
+use crate::work::Timed;
+use anyhow::Result;
+use domain::Cpu;
+use notify::{Chain, ChainView, Handler, OK};
+use std::alloc::{AllocError, Global};
+use std::thread;
+use std::thread::Threads;
+use std::time::{Clock, Instant};
+
+/// A handler that does nothing but answer OK.
+#[derive(Clone, Copy, Drop)]
+struct Idle;
+
+impl Handler for Idle {
+    ghost use Rattle.std.specs.Prelude.{◌≡◌};
+
+    ghost answers = { λ h action value result. result ≡ 1 };
+
+    fn call(&self, _action: u64, _value: u64) -> u32 {
+        OK
+    }
+}
+
+/// Calls the chain. Four handlers have to be called, and the last one has to answer OK.
+fn call_once(cpu: &mut Cpu<()>, view: ChainView, handlers: &[Box<dyn Handler>]) -> Result<(), Miss>
+    requires cell { view.cell < cells_in cpu.old.cpu.domain }
+    requires handlers { view.ids ≤ length handlers.now }
+    ensures { IfOk result (λ _. CallsFour view cpu.old cpu.new) }
+{
+    let (last, count) = view.call_chain(cpu, handlers, 0, 0)?;
+    if last == OK && count == BLOCKS {
+        Ok(())
+    } else {
+        Err(Miss::Called { last, count })
+    }
+}
+
+/// Does so so many times, one behind the other.
+fn call_often(
+    cpu: &mut Cpu<()>,
+    view: ChainView,
+    handlers: &[Box<dyn Handler>],
+    times: u64,
+) -> Result<(), Miss>
+    requires cell { view.cell < cells_in cpu.old.cpu.domain }
+    requires handlers { view.ids ≤ length handlers.now }
+    ensures { IfOk result (λ _. CallsOften view times cpu.old cpu.new) }
+{
+    for _ in 0..times {
+        call_once(cpu, view, handlers)?;
+    }
+    Ok(())
+}
+
+/// Does so on this processor, with handlers of its own.
+fn call_here(
+    alloc: Global,
+    mut cpu: Cpu<()>,
+    view: ChainView,
+    times: u64,
+) -> Result<Cpu<()>, Miss>
+    requires cell { view.cell < cells_in cpu.cpu.domain }
+    requires ids { view.ids ≡ 4 }
+    ensures { IfOk result (λ last. CallsOften view times cpu last) }
+{
+    let mut handlers: Vec<Box<dyn Handler>> = Vec::new(alloc);
+    handlers.push(Box::new(alloc, Idle)?)?;
+    handlers.push(Box::new(alloc, Idle)?)?;
+    handlers.push(Box::new(alloc, Idle)?)?;
+    handlers.push(Box::new(alloc, Idle)?)?;
+    call_often(&mut cpu, view, &handlers, times)?;
+    Ok(cpu)
+}
+
+/// Has each processor do so in a thread of its own.
+fn call_together<R: Threads + Sync>(
+    rt: &R,
+    alloc: Global,
+    cpus: Vec<Cpu<()>>,
+    view: ChainView,
+    times: u64,
+) -> Result<Vec<Result<Cpu<()>, Miss>>, AllocError>
+    requires cell { All (λ c. view.cell < cells_in c.cpu.domain) cpus.items }
+    requires ids { view.ids ≡ 4 }
+    ensures { IfOk result (λ outcomes. AreOutcomes (CallsOften view times) cpus.items outcomes.items) }
+{
+    thread::map_vec(rt, cpus, &|cpu| call_here(alloc, cpu, view, times))
+}
+
+/// Calls a chain of four blocks so many times in each of so many threads. The `elapsed` is what the clock told, of which
+/// no clause speaks: from before the first thread's start until all had ended.
+pub fn run<R: Threads + Sync + Clock + AllocGlobal>(
+    rt: &R,
+    threads: usize,
+    times: u64,
+) -> Result<Timed>
+    requires { threads ≤ 2 ^ 16 }
+    ensures done { IfOk result (λ timed. timed.done ≡ times) }
+    ensures called { IfOk result (λ _. HaveCalled threads times) }
+{
+    let New {
+        domain,
+        readers,
+        mut changer,
+        writer,
+    } = found(rt.alloc(), threads)?;
+    let cell = writer.cell();
+    let (mut chain, view) = Chain::new(writer, cell, BLOCKS);
+    register_all(&domain, &mut changer, &mut chain, BLOCKS)?;
+    let start = Instant::now(rt)?;
+    let outcomes = call_together(rt, rt.alloc(), readers, view, times)?;
+    let elapsed = start.elapsed(rt)?;
+    first_error(outcomes.as_slice())?;
+    Ok(Timed {
+        done: times,
+        elapsed,
+    })
+}
