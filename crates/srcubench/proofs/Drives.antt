@@ -1,21 +1,19 @@
 -- Periods that are driven or waited for, one behind the other.
-use Rattle.std.proofs.Common.{◌≡◌, ℕ, ◌+◌, ◌-◌, ◌<◌, true, false, not, List, [], ◌∷◌, ◌++◌, All, Option, Some, length, filter, slice_index_or, refl, sym, ap, ◌∙◌, subst, append_assoc, append-nil, length-append, add-one, arith}
+use Rattle.std.proofs.Common.{◌≡◌, ℕ, ◌+◌, ◌-◌, ◌<◌, List, [], ◌∷◌, ◌++◌, All, Option, Some, length, filter, slice_index_or, refl, sym, ap, ◌∙◌, subst, append_assoc, append-nil, length-append, add-one, arith}
 use Rattle.std.proofs.lemmas.List.Elements.{All-head, All-tail}
 use Rattle.std.proofs.Math.Seq.{get_or-append_seam}
 use Rattle.std.specs.Option.{option_to_list}
-use Rattle.atomic_table.specs.Seated.{TableId}
 use Rattle.onedom.specs.declared.event.Maker.{Maker}
 use Rattle.onedom.specs.declared.event.Maker.TheVariants.{Processor}
 use Rattle.onedom.specs.declared.event.Event.{Event}
 use Rattle.onedom.specs.declared.event.Event.TheVariants.{Note, Ask}
 use Rattle.onedom.specs.Histories.{open_sections}
 use Rattle.onedom.proofs.CallerLemmas.{open_sections_plain}
-use Rattle.sections.specs.declared.view.Bounds.{Bounds}
 use Rattle.sections.specs.Words.{is_held, open_readings}
-use Rattle.funnel.specs.declared.view.Shape.{Shape}
 use Rattle.domain.specs.Views.{DomainView, CpuView, IsOf}
 use Rattle.domain.specs.Waiting.{HasNoneOpen, Synchronizes}
 use Rattle.domain.specs.Making.{new_cpu, IsMade}
+use Rattle.domain.proofs.CallerLemmas.{new_ones_are_here}
 use Rattle.srcubench.specs.Driving.{DrivesPeriod, DrivesPeriods, WaitsAll, IsNewOf}
 
 -- One more
@@ -40,18 +38,15 @@ was_last cpus rest o c whole is =
     let last : length rest ≡ length cpus - 1 = omega (arith, long, more) in
     sym (get_or-append_seam rest c [] c) ∙ (sym (ap (λ l. slice_index_or l (length rest) c) same) ∙ ap (λ k. slice_index_or cpus k c) last)
 
-new_is_of : {J : Type 0} (d : DomainView) (bounds : Bounds) (tree : TableId) (shape : Shape) (k : ℕ) → d.processors ≡ bounds.processors → k < bounds.processors → IsOf {J = J} d (new_cpu d bounds tree shape k)
-new_is_of d bounds tree shape k many there = record { domain = refl; bay = refl; home = refl; free = refl; asks = (k, refl); many = sym many; fits = record { domain = refl; seat = refl; tallies = refl; cpu = refl; there = subst (λ n. k < n) (sym many) there }; number = refl; seats = sym many; words = sym many }
-
 module _ {J : Type 0} (processors periods : ℕ) (d : DomainView) (cpus : List (CpuView J)) (c : CpuView J) (made : IsMade (record { processors = processors; sections = 1; periods = periods; cells = 0 }) d cpus) (some : 0 < length cpus) (is : c ≡ slice_index_or cpus (length cpus - 1) c) where
-  is_new : c ≡ new_cpu d (record { processors = processors; sections = 1; periods = periods; cells = 0 }) made.tree (record { processors = processors; nodes = made.nodes }) (length cpus - 1)
+  is_new : c ≡ new_cpu d (record { processors = processors; sections = 1; periods = periods; cells = 0 }) (record { processors = processors; nodes = made.nodes }) (length cpus - 1)
   is_new = is ∙ made.each (length cpus - 1) c (omega (arith, some))
 
   pub new_one : IsNewOf processors periods c
-  new_one = record { domain = d; tree = made.tree; shape = record { processors = processors; nodes = made.nodes }; number = length cpus - 1; there = (let count = made.count in omega (arith, count, some)); new = is_new }
+  new_one = record { domain = d; shape = record { processors = processors; nodes = made.nodes }; number = length cpus - 1; there = (let count = made.count in omega (arith, count, some)); new = is_new }
 
   pub of_this : IsOf d c
-  of_this = subst (λ z. IsOf d z) (sym is_new) (new_is_of d (record { processors = processors; sections = 1; periods = periods; cells = 0 }) made.tree (record { processors = processors; nodes = made.nodes }) (length cpus - 1) made.many (let count = made.count in omega (arith, count, some)))
+  of_this = subst (λ (z : CpuView J). IsOf d z) (sym is) (new_ones_are_here d cpus made (length cpus - 1) c (omega (arith, some)))
 
   pub none_open : HasNoneOpen c
   none_open = subst HasNoneOpen (sym is_new) refl

@@ -27,7 +27,7 @@ module _ {J : Type 0} (readers : ℕ) (d : DomainView) (cpus rest : List (CpuVie
   there : readers < length cpus
   there = let count = made.count in omega (arith, count)
 
-  new_each : (k : ℕ) (c : CpuView J) → k < readers → slice_index_or rest k c ≡ new_cpu d (bounds_for readers) made.tree (record { processors = readers + 1; nodes = made.nodes }) k
+  new_each : (k : ℕ) (c : CpuView J) → k < readers → slice_index_or rest k c ≡ new_cpu d (bounds_for readers) (record { processors = readers + 1; nodes = made.nodes }) k
   new_each k c lt =
       let few = many in
       let count = made.count in
@@ -38,7 +38,6 @@ module _ {J : Type 0} (readers : ℕ) (d : DomainView) (cpus rest : List (CpuVie
 
   pub is_new : (writers : List WriterView) (w : WriterView) → AreNewWriters d.domain 1 2 writers → w ≡ slice_index_or writers (length writers - 1) w → IsNew readers d rest last w
   is_new writers w new at = record {
-    tree = made.tree;
     shape = record { processors = readers + 1; nodes = made.nodes };
     count = many;
     each = new_each;

@@ -77,10 +77,9 @@ on_each {E = E} Becomes bounds d cpus outcomes made are all = record {
   domain = d;
   bounds = bounds;
   many = refl;
-  tree = made.tree;
   shape = record { processors = bounds.processors; nodes = made.nodes };
   each = λ k lt.
-      let c : CpuView ℕ = new_cpu d bounds made.tree (record { processors = bounds.processors; nodes = made.nodes }) k in
+      let c : CpuView ℕ = new_cpu d bounds (record { processors = bounds.processors; nodes = made.nodes }) k in
       let r : Result (CpuView ℕ) E = Ok c in
       let count = made.count in
       let many = are.count in

@@ -1,6 +1,5 @@
 -- Values that are put one behind the other, by a new processor.
 use Rattle.std.proofs.Common.{◌≡◌, ℕ, ◌+◌, ◌-◌, ◌<◌, List, length, slice_index_or, refl, sym, ap, ◌∙◌, subst, add-one, arith}
-use Rattle.atomic_table.specs.Seated.{TableId}
 use Rattle.sections.specs.declared.view.Bounds.{Bounds}
 use Rattle.sections.specs.WriterViews.{WriterView}
 use Rattle.sections.specs.Dealing.{new_writer, AreNewWriters}
@@ -26,7 +25,7 @@ new_pen d writers w new at =
 
 -- the processor of a new domain of one
 module _ (times : ℕ) (d : DomainView) (cpus : List (CpuView (Unit {0}))) (c : CpuView (Unit {0})) (made : IsMade (of_one times) d cpus) (some : 0 < length cpus) (is : c ≡ slice_index_or cpus (length cpus - 1) c) where
-  new_one : c ≡ new_cpu d (of_one times) made.tree (record { processors = 1; nodes = made.nodes }) 0
+  new_one : c ≡ new_cpu d (of_one times) (record { processors = 1; nodes = made.nodes }) 0
   new_one =
       let count = made.count in
       let last : length cpus - 1 ≡ 0 = omega (arith, count) in
@@ -38,7 +37,6 @@ module _ (times : ℕ) (d : DomainView) (cpus : List (CpuView (Unit {0}))) (c : 
   pub have_put : (w w' : WriterView) (c' : CpuView (Unit {0})) → w ≡ new_writer d.domain 0 2 → PutsOften times w c w' c' → HavePut times
   have_put w w' c' new puts = record {
     domain = d;
-    tree = made.tree;
     shape = record { processors = 1; nodes = made.nodes };
     last_writer = w';
     last = c';

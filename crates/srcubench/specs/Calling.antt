@@ -1,6 +1,5 @@
 -- Jobs that are queued on a processor, and come out there behind a grace period.
 use Rattle.std.specs.Prelude.{◌≡◌, ℕ, zero, suc, ◌+◌, ◌<◌, List, [], ◌∷◌, Some, length, slice_index_or, Option, Some, None, Result, IfOk}
-use Rattle.atomic_table.specs.Seated.{TableId}
 use Rattle.sections.specs.declared.view.Bounds.{Bounds}
 use Rattle.funnel.specs.declared.view.Shape.{Shape}
 use Rattle.calls.specs.Views.{BatchView, ReceiptView}
@@ -70,9 +69,8 @@ pub record OnEachOfNew (threads : ℕ) (Becomes : DomainView → CpuView ℕ →
   pub domain : DomainView
   pub bounds : Bounds
   pub many : bounds.processors ≡ threads
-  pub tree : TableId
   pub shape : Shape
-  pub each : (k : ℕ) → k < threads → (last : CpuView ℕ) × Becomes domain (new_cpu domain bounds tree shape k) last
+  pub each : (k : ℕ) → k < threads → (last : CpuView ℕ) × Becomes domain (new_cpu domain bounds shape k) last
 
 abbrev pub HaveQueued : ℕ → ℕ → Type 0
 HaveQueued threads jobs = OnEachOfNew threads (λ d. QueuesAll d jobs)

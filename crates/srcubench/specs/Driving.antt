@@ -1,6 +1,5 @@
 -- Grace periods that one processor drives through a domain, or waits for, one behind the other.
 use Rattle.std.specs.Prelude.{◌≡◌, ℕ, zero, suc, ◌<◌}
-use Rattle.atomic_table.specs.Seated.{TableId}
 use Rattle.sseq.specs.declared.index.Index.{Index}
 use Rattle.scan.specs.declared.progress.Progress.{Progress}
 use Rattle.scan.specs.declared.progress.Progress.TheVariants.{Flipped, Ended}
@@ -39,11 +38,10 @@ module _ {J : Type 0} where
   -- a processor of a new domain of so many
   pub record IsNewOf (processors periods : ℕ) (c : CpuView J) : Type 0 where
     pub domain : DomainView
-    pub tree : TableId
     pub shape : Shape
     pub number : ℕ
     pub there : number < processors
-    pub new : c ≡ new_cpu domain (record { processors = processors; sections = 1; periods = periods; cells = 0 }) tree shape number
+    pub new : c ≡ new_cpu domain (record { processors = processors; sections = 1; periods = periods; cells = 0 }) shape number
 
 pub record HaveDriven (processors periods : ℕ) : Type 0 where
   pub first : CpuView (Unit {0})

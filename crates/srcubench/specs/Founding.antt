@@ -1,6 +1,5 @@
 -- A new domain with one cell, for readers and one who changes what lies in the cell.
 use Rattle.std.specs.Prelude.{◌≡◌, ℕ, ◌+◌, ◌-◌, ◌^◌, ◌<◌, List, length, slice_index_or}
-use Rattle.atomic_table.specs.Seated.{TableId}
 use Rattle.sections.specs.declared.view.Bounds.{Bounds}
 use Rattle.sections.specs.WriterViews.{WriterView}
 use Rattle.sections.specs.Dealing.{new_writer}
@@ -15,11 +14,10 @@ bounds_for readers = record { processors = readers + 1; sections = 2 ^ 54; perio
 module _ {J : Type 0} where
   -- none of its processors has made a step. The last one is the changer's, whose writer has put nothing into the cell, which has two slots
   pub record IsNew (readers : ℕ) (d : DomainView) (cpus : List (CpuView J)) (changer : CpuView J) (writer : WriterView) : Type 0 where
-    pub tree : TableId
     pub shape : Shape
     pub count : length cpus ≡ readers
-    pub each : (k : ℕ) (c : CpuView J) → k < readers → slice_index_or cpus k c ≡ new_cpu d (bounds_for readers) tree shape k
-    pub last : changer ≡ new_cpu d (bounds_for readers) tree shape readers
+    pub each : (k : ℕ) (c : CpuView J) → k < readers → slice_index_or cpus k c ≡ new_cpu d (bounds_for readers) shape k
+    pub last : changer ≡ new_cpu d (bounds_for readers) shape readers
     pub pen : writer ≡ new_writer d.domain 0 2
 
   -- each of the processors became another one in this way

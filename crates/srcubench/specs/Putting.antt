@@ -1,6 +1,5 @@
 -- Values that are put one behind the other, each behind a grace period of the one before.
 use Rattle.std.specs.Prelude.{◌≡◌, ℕ, zero, suc, replicate}
-use Rattle.atomic_table.specs.Seated.{TableId}
 use Rattle.sections.specs.WriterViews.{WriterView}
 use Rattle.sections.specs.Dealing.{new_writer}
 use Rattle.funnel.specs.declared.view.Shape.{Shape}
@@ -25,8 +24,7 @@ module _ {J : Type 0} where
 -- by the processor of a new domain of one, into the cell there, which has two slots
 pub record HavePut (times : ℕ) : Type 0 where
   pub domain : DomainView
-  pub tree : TableId
   pub shape : Shape
   pub last_writer : WriterView
   pub last : CpuView (Unit {0})
-  pub puts : PutsOften times (new_writer domain.domain 0 2) (new_cpu domain (record { processors = 1; sections = 1; periods = times; cells = 1 }) tree shape 0) last_writer last
+  pub puts : PutsOften times (new_writer domain.domain 0 2) (new_cpu domain (record { processors = 1; sections = 1; periods = times; cells = 1 }) shape 0) last_writer last
