@@ -2,11 +2,19 @@
 
 -- a turn is made at one seat
 pub use Rattle.domain.proofs.Lending.{turn_same, took_same}
+-- what it finds is an engine of the processor's domain, and how far that had come with its work, the domain had
+pub use Rattle.domain.proofs.Answering.{engine_here, has_come}
+-- so where it finds that no more periods may start, as many have ended as may in this domain
+pub use Rattle.domain.proofs.Answering.{is_out}
 -- the engine's work is done with one seat at the tree
 pub use Rattle.domain.proofs.Lending.{same_stepped, same_advanced, same_exhausted, same_started, same_still}
 -- a beginning of a list of swaps, and of raises
 pub use Rattle.domain.proofs.Turning.{swaps_beginning_refl, swaps_beginning_trans}
 pub use Rattle.domain.proofs.Covering.{raises_beginning_refl, raises_beginning_trans}
+-- The processors of a new domain
+
+-- they are of it
+pub use Rattle.domain.proofs.Founding.{new_ones_are_here}
 -- The processor is the same
 
 -- behind each call that drives the engine, whatever its answer

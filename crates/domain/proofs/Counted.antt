@@ -1,5 +1,6 @@
 -- With all processors in hand nothing is done while the counters are added up.
 use Rattle.std.proofs.Common.{◌≡◌, ◌≢◌, ℕ, zero, suc, ◌+◌, ◌*◌, ◌/◌, ◌%◌, ◌<◌, ◌≤◌, cond, List, [], ◌∷◌, ◌++◌, map, sum, get_or, length, All, Some, None, false, refl, sym, ap, ◌∙◌, subst, arith, append_assoc, append-nil, length-append}
+use Rattle.std.specs.Prelude.{MatchOption}
 use Rattle.std.proofs.lemmas.List.{map-append}
 use Rattle.std.proofs.lemmas.List.Sums.{sum_by-cons}
 use Rattle.std.proofs.lemmas.List.Elements.{filter-append, All-head, All-tail}
@@ -27,10 +28,11 @@ use Rattle.sections.specs.EngineCalls.{IsTied, Covers}
 use Rattle.sections.specs.Words.{number_word, opened_in, closed_in, is_begin, is_end}
 use Rattle.sections.proofs.CallerLemmas.{seen_all, start_trans}
 use Rattle.scan.specs.Progress.{with_seat}
+use Rattle.funnel.specs.declared.view.Holder.TheVariants as holder
 use Rattle.desk.specs.BayViews.{BaySeatView}
 use Rattle.desk.specs.BayCalls.{holds, MakesSwap}
 use Rattle.domain.specs.Views as views
-use Rattle.domain.specs.Views.{DomainView, CpuView, IsOf}
+use Rattle.domain.specs.Views.{DomainView, CpuView, IsEngineOf, IsOf}
 use Rattle.domain.specs.Counts.{IsJoined, CountsSections, IsHistoryOf, CountsHistory, HasMet, HaveMet, AreAllThere, CountsInAll, AreDeedsOf, HasHeard, CountsCalls}
 use Rattle.scan.specs.Stations.{Takes}
 use Rattle.domain.specs.Parts.{Each, AreAllTurns, EngineCovers, CallsCover, EachBecomes, IsHeard}
@@ -275,8 +277,10 @@ module _ {J : Type 0} (d : DomainView) (c : CpuView J) (cs cs' : List (CpuView J
       domain = first_same.0 ∙ first_is.domain;
       bay = ap (λ (z : BaySeatView views.Engine). z.bay) turn_is ∙ first_is.bay;
       home = ap (λ (z : BaySeatView views.Engine). z.domain) turn_is ∙ first_is.home;
+      first = subst (λ (z : BaySeatView views.Engine). MatchOption z.first ⊥ (IsEngineOf d)) (sym turn_is) first_is.first;
       free = free;
-      asks = first_is.asks;
+      tree = first_is.tree;
+      asks = first_is.asks ∙ ap holder.Processor (sym first_same.3);
       many = first_same.1 ∙ first_is.many;
       fits = still_fits d c (record { cpu = cpu3; needs = c.needs; turn = t'; calls = c.calls }) first_same (refl, refl, refl, refl) first_is.fits;
       number = ap (λ (z : BaySeatView views.Engine). z.number) turn_is ∙ (first_is.number ∙ sym first_same.3);

@@ -40,7 +40,7 @@ module _ {J : Type 0} where
 module _ {J : Type 0} (v t u w : BaySeatView Engine) (cs cs' : List (CpuView J)) (all : AreAllTurns v cs) (first : TurnCovers v cs t) (vain : MakesSwap t None None u) (elsewhere : IsHeldElsewhere u) (again : TurnCovers u cs w) (admitted : EachBecomes (IsTurned w) cs cs') where
   -- for places where nothing stands
   abbrev nobody : CpuView J
-  nobody = new_cpu (record { domain = v.bay; bay = v.bay; tallies = v.bay; processors = 0 }) (record { processors = 0; sections = 0; periods = 0; cells = 0 }) v.bay (record { processors = 0; nodes = 0 }) 0
+  nobody = new_cpu (record { domain = v.bay; tree = v.bay; bay = v.bay; tallies = v.bay; processors = 0; periods = 0 }) (record { processors = 0; sections = 0; periods = 0; cells = 0 }) (record { processors = 0; nodes = 0 }) 0
 
   same_seat : u ≡ record v { seen = u.seen }
   same_seat = vain.same ∙ ap (λ (z : BaySeatView Engine). record z { seen = u.seen }) first.same

@@ -1,4 +1,5 @@
 mod Acting
+mod Answering
 mod Counted
 mod Counting
 mod Covering

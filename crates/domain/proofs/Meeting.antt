@@ -1,5 +1,6 @@
 -- A meeting, from its parts.
 use Rattle.std.proofs.Common.{◌≡◌, ℕ, zero, suc, ◌<◌, ◌≤◌, List, [], ◌∷◌, ◌++◌, map, get_or, length, false, Some, None, refl, sym, ap, ◌∙◌, subst, arith, append_assoc}
+use Rattle.std.specs.Prelude.{Option, MatchOption}
 use Rattle.onedom.proofs.CallerLemmas.{beginning_trans}
 use Rattle.sections.specs.declared.view.Step.{Step}
 use Rattle.sections.specs.declared.view.Step.TheVariants.{LoadIndex}
@@ -25,7 +26,7 @@ use Rattle.calls.specs.Tallies.{AreTakers}
 use Rattle.calls.specs.Views.{CallSeatView}
 use Rattle.calls.specs.Calls.{IsSameSeat}
 use Rattle.calls.specs.Meetings as tallies
-use Rattle.domain.specs.Views.{Engine, DomainView, CpuView}
+use Rattle.domain.specs.Views.{Engine, DomainView, CpuView, IsEngineOf}
 use Rattle.scan.specs.Stations.{Takes, TakesTurn}
 use Rattle.domain.specs.Meetings.{IsAllOf, EngineMeets, JoinsTree, TreeMeets, TalliesMeet, MeetsHere}
 use Rattle.domain.specs.Parts.{EngineCovers, NeedsCover, TurnCovers, EachBecomes, IsAdmitted, IsTurned, IsHeard}
@@ -144,9 +145,9 @@ module _ {J : Type 0} (d : DomainView) (c : CpuView J) (cs cs1 cs2 cs3 : List (C
 
   -- a turn's seat stays that of the domain, and does not have the engine
   pub turn_stays : (k : ℕ) (x : CpuView J) → k < length (c ∷ cs) → holds t3 ≡ false → holds (get_or (c ∷ cs) k x).turn ≡ false
-      → ((get_or after k x).turn.bay ≡ (get_or (c ∷ cs) k x).turn.bay) × ((get_or after k x).turn.domain ≡ (get_or (c ∷ cs) k x).turn.domain) × (holds (get_or after k x).turn ≡ false) × ((get_or after k x).turn.number ≡ (get_or (c ∷ cs) k x).turn.number) × ((get_or after k x).turn.seats ≡ (get_or (c ∷ cs) k x).turn.seats)
-  turn_stays zero x lt free _ = let same = turn_same c.turn e0 e2 took t3 takes.swap (swap_behind took t2 t3 cs e2 turn puts) in (ap (λ (z : BaySeatView Engine). z.bay) same, ap (λ (z : BaySeatView Engine). z.domain) same, free, ap (λ (z : BaySeatView Engine). z.number) same, ap (λ (z : BaySeatView Engine). z.seats) same)
-  turn_stays (suc k) x lt _ free = let h = other_turn k x lt in (ap (λ (z : BaySeatView Engine). z.bay) h.is, ap (λ (z : BaySeatView Engine). z.domain) h.is, h.holding ∙ free, ap (λ (z : BaySeatView Engine). z.number) h.is, ap (λ (z : BaySeatView Engine). z.seats) h.is)
+      → ((get_or after k x).turn.bay ≡ (get_or (c ∷ cs) k x).turn.bay) × ((get_or after k x).turn.domain ≡ (get_or (c ∷ cs) k x).turn.domain) × (holds (get_or after k x).turn ≡ false) × ((get_or after k x).turn.number ≡ (get_or (c ∷ cs) k x).turn.number) × ((get_or after k x).turn.seats ≡ (get_or (c ∷ cs) k x).turn.seats) × ((get_or after k x).turn.first ≡ (get_or (c ∷ cs) k x).turn.first)
+  turn_stays zero x lt free _ = let same = turn_same c.turn e0 e2 took t3 takes.swap (swap_behind took t2 t3 cs e2 turn puts) in (ap (λ (z : BaySeatView Engine). z.bay) same, ap (λ (z : BaySeatView Engine). z.domain) same, free, ap (λ (z : BaySeatView Engine). z.number) same, ap (λ (z : BaySeatView Engine). z.seats) same, ap (λ (z : BaySeatView Engine). z.first) same)
+  turn_stays (suc k) x lt _ free = let h = other_turn k x lt in (ap (λ (z : BaySeatView Engine). z.bay) h.is, ap (λ (z : BaySeatView Engine). z.domain) h.is, h.holding ∙ free, ap (λ (z : BaySeatView Engine). z.number) h.is, ap (λ (z : BaySeatView Engine). z.seats) h.is, ap (λ (z : BaySeatView Engine). z.first) h.is)
 
   -- the seats at the tally words
   pub each_accepts : (k : ℕ) (x : CpuView J) → k < length (c ∷ cs) → tallies.Accepts (get_or (c ∷ cs) k x).calls s.seen (get_or after k x).calls
@@ -172,8 +173,10 @@ module _ {J : Type 0} (d : DomainView) (c : CpuView J) (cs cs1 cs2 cs3 : List (C
       domain = j.accepts.same.0 ∙ h.domain;
       bay = t.0 ∙ h.bay;
       home = t.1 ∙ h.home;
+      first = subst (λ (z : Option Engine). MatchOption z ⊥ (IsEngineOf d)) (sym t.5) h.first;
       free = t.2;
-      asks = (h.asks.0, n.same.holder ∙ h.asks.1);
+      tree = n.same.domain ∙ h.tree;
+      asks = n.same.holder ∙ (h.asks ∙ ap Processor (sym j.accepts.same.3));
       many = j.accepts.same.1 ∙ h.many;
       fits = still_fits d (get_or (c ∷ cs) k x) (get_or after k x) j.accepts.same (same_seat k x l) h.fits;
       number = t.3 ∙ (h.number ∙ sym j.accepts.same.3);

@@ -23,22 +23,22 @@ abbrev pub idle_engine : TableId → Bounds → TableId → Shape → views.Engi
 idle_engine domain bounds tree shape = new_engine (sections_engine.new_engine domain bounds.processors bounds.periods) (funnel.new_seat tree shape Engine)
 
 -- where a new domain's engine lies, which is tied as it has done nothing
-abbrev pub new_bay : DomainView → Bounds → TableId → Shape → BayView views.Engine
-new_bay d bounds tree shape = record { bay = d.bay; domain = d.domain; seats = bounds.processors; first = idle_engine d.domain bounds tree shape }
+abbrev pub new_bay : DomainView → Bounds → Shape → BayView views.Engine
+new_bay d bounds shape = record { bay = d.bay; domain = d.domain; seats = bounds.processors; first = idle_engine d.domain bounds d.tree shape }
 
 module _ {J : Type 0} where
   -- processor k, whose seats know of nothing yet: no call is queued
-  abbrev pub new_cpu : DomainView → Bounds → TableId → Shape → ℕ → CpuView J
-  new_cpu d bounds tree shape k = record { cpu = sections.new_cpu d.domain bounds.processors bounds.sections k; needs = funnel.new_seat tree shape (Processor k); turn = new_bay_seat (new_bay d bounds tree shape) k; calls = new_seat d.domain d.tallies bounds.processors k }
+  abbrev pub new_cpu : DomainView → Bounds → Shape → ℕ → CpuView J
+  new_cpu d bounds shape k = record { cpu = sections.new_cpu d.domain bounds.processors bounds.sections k; needs = funnel.new_seat d.tree shape (Processor k); turn = new_bay_seat (new_bay d bounds shape) k; calls = new_seat d.domain d.tallies bounds.processors k }
 
   -- the processors in order, none of which has made a step
   pub record IsMade (bounds : Bounds) (d : DomainView) (cpus : List (CpuView J)) : Type 0 where
     pub count : length cpus ≡ bounds.processors
     pub many : d.processors ≡ bounds.processors
-    pub tree : TableId
+    pub limit : d.periods ≡ bounds.periods
     pub nodes : ℕ
     pub least : IsLeast bounds.processors nodes
-    pub each : (k : ℕ) (c : CpuView J) → k < length cpus → slice_index_or cpus k c ≡ new_cpu d bounds tree (record { processors = bounds.processors; nodes = nodes }) k
+    pub each : (k : ℕ) (c : CpuView J) → k < length cpus → slice_index_or cpus k c ≡ new_cpu d bounds (record { processors = bounds.processors; nodes = nodes }) k
 
   -- the first seats of each kind are those of the first processor, and so on
   abbrev pub joined : List sections_views.CpuView → List FunnelView → List (BaySeatView views.Engine) → List (CallSeatView J) → List (CpuView J)

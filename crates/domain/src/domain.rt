@@ -23,7 +23,8 @@ mod waiting;
 /// engine lies; whoever drives it has it for one call, and others that want it are told that it is busy. And it has the callbacks, whose
 /// jobs are of type `J`, a list for each processor. A domain that is dropped drops the jobs that still wait in its lists;
 /// those that came in and were not moved there yet are dropped once their processor is gone too. Contracts see the
-/// domain's table, the place, the tally words of the callbacks, and how many processors there are.
+/// domain's table, those of the tree of needs, of the place and of the tally words of the callbacks, how many processors
+/// there are, and how many grace periods may end.
 #[derive(Drop)]
 pub struct Domain<J, A: Allocator = Global> {
     pub(crate) station: Station<FunnelSeat<A>, A>,

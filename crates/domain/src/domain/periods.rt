@@ -1,7 +1,7 @@
 //! Driving grace periods.
 ghost use Rattle.std.specs.Prelude.{MatchResult};
 ghost use Rattle.domain.specs.Views.{IsOf};
-ghost use Rattle.domain.specs.Turns.{StepsIn, AdvancesIn, IsRefused, StartsIn, IsNotStarted};
+ghost use Rattle.domain.specs.Turns.{StepsIn, AdvancesIn, IsRefused, StartsIn, IsNotStarted, SaysOf, HasStarted, SaysWhy, SaysWhyNone};
 
 use crate::cpu::Cpu;
 use crate::domain::Domain;
@@ -18,6 +18,7 @@ impl<J, A: Allocator> Domain<J, A> {
         requires { IsOf self.now cpu.old }
         ensures here { IsOf self.now cpu.new }
         ensures steps { MatchResult result (λ answer. StepsIn cpu.old answer cpu.new) (λ refusal. IsRefused cpu.old refusal cpu.new) }
+        ensures says { MatchResult result (λ answer. SaysOf self.now answer cpu.old cpu.new) (λ refusal. SaysWhy self.now refusal cpu.old cpu.new) }
     {
         // The engine works with the processor's own seat at the tree: what the processor has seen there is found, and no
         // engine can load the needs of another tree.
@@ -30,6 +31,7 @@ impl<J, A: Allocator> Domain<J, A> {
         requires { IsOf self.now cpu.old }
         ensures here { IsOf self.now cpu.new }
         ensures advances { MatchResult result (λ answer. AdvancesIn cpu.old answer cpu.new) (λ refusal. IsRefused cpu.old refusal cpu.new) }
+        ensures says { MatchResult result (λ answer. SaysOf self.now answer cpu.old cpu.new) (λ refusal. SaysWhy self.now refusal cpu.old cpu.new) }
     {
         cpu.turn
             .advance(&self.station, &mut cpu.cpu, &mut cpu.needs)
@@ -42,6 +44,7 @@ impl<J, A: Allocator> Domain<J, A> {
         requires { IsOf self.now cpu.old }
         ensures here { IsOf self.now cpu.new }
         ensures starts { MatchResult result (λ n. StartsIn cpu.old n cpu.new) (λ refusal. IsNotStarted cpu.old refusal cpu.new) }
+        ensures says { MatchResult result (λ n. HasStarted self.now n cpu.new) (λ refusal. SaysWhyNone self.now refusal cpu.old cpu.new) }
     {
         cpu.turn.start(&self.station, &mut cpu.cpu)
     }

@@ -1,4 +1,5 @@
 use Rattle.std.proofs.Common.{refl}
+use Rattle.domain.proofs.Answering.{says_advanced}
 use Rattle.domain.proofs.Lending.{advanced}
 use Rattle.domain.proofs.Sameness.{same_advanced_in}
 use Rattle.domain.proofs.Staying.{still_of}
@@ -9,3 +10,6 @@ returns-clause-advances g c = rw (← c.cpu.view_is) (advanced _ _ refl c.advanc
 
 pub returns-clause-here : goal.returns-clause-here
 returns-clause-here g c = still_of _ _ _ c.requires (same_advanced_in _ _ _ (returns-clause-advances g c)) c.advance.ensures.free
+
+pub returns-clause-says : goal.returns-clause-says
+returns-clause-says g c = says_advanced _ _ c.requires _ _ (returns-clause-advances g c)

@@ -1,8 +1,12 @@
-use Rattle.std.proofs.Common.{rules, ◌≡◌, ℕ, refl, subst}
-use Rattle.funnel.specs.Calls.{Asks, IsAskedFor}
+use Rattle.std.proofs.Common.{rules, ◌≡◌, ℕ, refl, sym, subst}
+use Rattle.funnel.specs.Calls.{IsOfProcessor, Asks, IsAskedFor}
 use Rattle.std.proofs.lemmas.Result.{err_from_is_err_and}
+use Rattle.domain.specs.Views.{CpuView}
 use Rattle.domain.proofs.Acting.{queue_acts, refusal_acts}
 use Rattle.domain.proofs.domain.Domain.call.Goals as goal
+
+pub ask-requires : goal.ask-requires
+ask-requires g c = subst (λ (z : CpuView _). IsOfProcessor z.needs) (sym c.cpu.view_is) (c.args.cpu.now.cpu.processor, c.requires.asks)
 
 pub returns-clause-acts : goal.returns-clause-acts
 returns-clause-acts g c =

@@ -1,4 +1,5 @@
 use Rattle.std.proofs.Common.{refl}
+use Rattle.domain.proofs.Answering.{says_started}
 use Rattle.domain.proofs.Lending.{started}
 use Rattle.domain.proofs.Sameness.{same_started_in}
 use Rattle.domain.proofs.Staying.{still_of}
@@ -9,3 +10,6 @@ returns-clause-starts g c = rw (← c.cpu.view_is) (started _ _ refl refl c.star
 
 pub returns-clause-here : goal.returns-clause-here
 returns-clause-here g c = still_of _ _ _ c.requires (same_started_in _ _ _ (returns-clause-starts g c)) c.start.ensures.free
+
+pub returns-clause-says : goal.returns-clause-says
+returns-clause-says g c = says_started _ _ c.requires _ _ (returns-clause-starts g c)

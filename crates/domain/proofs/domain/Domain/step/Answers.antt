@@ -1,4 +1,5 @@
 use Rattle.std.proofs.Common.{refl}
+use Rattle.domain.proofs.Answering.{says_stepped}
 use Rattle.domain.proofs.Lending.{stepped}
 use Rattle.domain.proofs.Sameness.{same_stepped_in}
 use Rattle.domain.proofs.Staying.{still_of}
@@ -9,3 +10,6 @@ returns-clause-steps g c = rw (← c.cpu.view_is) (stepped _ _ refl c.step.resul
 
 pub returns-clause-here : goal.returns-clause-here
 returns-clause-here g c = still_of _ _ _ c.requires (same_stepped_in _ _ _ (returns-clause-steps g c)) c.step.ensures.free
+
+pub returns-clause-says : goal.returns-clause-says
+returns-clause-says g c = says_stepped _ _ c.requires _ _ (returns-clause-steps g c)
