@@ -1,5 +1,6 @@
 -- A section that begins and ends, and calls that open no reading: the same ones are open as before.
 use Rattle.std.proofs.Common.{◌≡◌, ℕ, ◌+◌, Bool, true, false, not, cond, ◌&&◌, eqb, List, [], ◌∷◌, ◌++◌, None, filter, length, refl, sym, ap, ◌∙◌, subst, eq-eqb, append-nil, arith}
+use Rattle.std.specs.Prelude.{MatchOption}
 use Rattle.std.proofs.lemmas.List.Elements.{filter_agree}
 use Rattle.onedom.specs.declared.event.Maker.TheVariants.{Processor}
 use Rattle.onedom.specs.declared.event.Event.{Event}
@@ -11,8 +12,9 @@ use Rattle.sections.specs.Views as sections
 use Rattle.sections.specs.Views.{ReadingView, FoundView}
 use Rattle.sections.specs.Words.{is_held, open_readings}
 use Rattle.sections.specs.Calls.{IsSameCpu, ReadLocks, Unlocks, IsHere}
+use Rattle.funnel.specs.declared.view.Holder.TheVariants as holder
 use Rattle.desk.specs.BayCalls.{holds}
-use Rattle.domain.specs.Views.{DomainView, CpuView, IsOf, Stays, IsSameProcessor, with_cpu}
+use Rattle.domain.specs.Views.{DomainView, CpuView, IsEngineOf, IsOf, Stays, IsSameProcessor, with_cpu}
 use Rattle.domain.specs.Acting.{Act, Acts, ActsAs, loads, finds, asks_for}
 use Rattle.domain.proofs.CallerLemmas.{still_fits, same_trans, same_polled}
 use Rattle.driver.specs.Pools.{IsIdle, IsLent}
@@ -138,8 +140,10 @@ module _ {J : Type 0} where
           domain = same.0 ∙ is.domain;
           bay = ap (λ z. z.bay) acts.turn ∙ is.bay;
           home = ap (λ z. z.domain) acts.turn ∙ is.home;
+          first = subst (λ z. MatchOption z.first ⊥ (IsEngineOf d)) (sym acts.turn) is.first;
           free = ap holds acts.turn ∙ is.free;
-          asks = (is.asks.0, acts.needs.same.holder ∙ is.asks.1);
+          tree = acts.needs.same.domain ∙ is.tree;
+          asks = acts.needs.same.holder ∙ (is.asks ∙ ap holder.Processor (sym same.3));
           many = same.1 ∙ is.many;
           fits = still_fits d c c' same acts.adds.same is.fits;
           number = ap (λ z. z.number) acts.turn ∙ (is.number ∙ sym same.3);
