@@ -15,6 +15,7 @@
 #include <time.h>
 
 #define MOST_THREADS 4
+#define MOST_WORKERS 8
 #define MOST_REPETITIONS 1000
 
 struct job {
@@ -24,6 +25,7 @@ struct job {
 
 const unsigned one_size[] = { 1, 0 };
 const unsigned processor_sizes[] = { 1, 2, 4, 64, 0 };
+const unsigned eight_sizes[] = { 8, 0 };
 
 static const struct thing *const things[] = {
 	&model_pair,
@@ -36,6 +38,8 @@ static const struct thing *const things[] = {
 	&urcu_memb_pair,
 	&urcu_mb_synchronize,
 	&urcu_memb_synchronize,
+	&urcu_mb_synchronize_at_once,
+	&urcu_memb_synchronize_at_once,
 	&urcu_memb_call,
 	&urcu_memb_callbacks,
 #endif
@@ -86,9 +90,9 @@ static void *run_job(void *argument)
 /* The wall time of one round, or of one of the jobs, in nanoseconds. */
 static double measure(const struct thing *thing, unsigned size, uint64_t rounds)
 {
-	pthread_t threads[MOST_THREADS];
-	struct job jobs[MOST_THREADS];
-	unsigned count = thing->sizes ? 1 : size;
+	pthread_t threads[MOST_WORKERS];
+	struct job jobs[MOST_WORKERS];
+	unsigned count = thing->workers ? thing->workers : thing->sizes ? 1 : size;
 	uint64_t each = thing->jobs ? thing->jobs / count : rounds;
 	double start;
 	double end;

@@ -18,7 +18,7 @@ struct worker {
 
 /*
  * A measured thing. It is measured at numbers of threads, each of which runs `work`; or, where `sizes` are given, at
- * those, by one thread: they are numbers of processors, and end with 0. A thing that takes longer is done so many times
+ * those, by one thread, or by so many `workers` where these are given: they are numbers of processors, and end with 0. A thing that takes longer is done so many times
  * less often. Where `jobs` are given, so many are done each time, by all threads together, and the time is divided by all
  * of them. What `prepare` set up, `clear` takes down, where it is given.
  */
@@ -29,11 +29,13 @@ struct thing {
 	void (*work)(const struct worker *worker);
 	unsigned less_often;
 	const unsigned *sizes;
+	unsigned workers;
 	uint64_t jobs;
 };
 
 extern const unsigned one_size[];
 extern const unsigned processor_sizes[];
+extern const unsigned eight_sizes[];
 
 extern const struct thing model_pair;
 extern const struct thing keeping_model_pair;
@@ -64,6 +66,8 @@ extern const struct thing urcu_mb_pair;
 extern const struct thing urcu_memb_pair;
 extern const struct thing urcu_mb_synchronize;
 extern const struct thing urcu_memb_synchronize;
+extern const struct thing urcu_mb_synchronize_at_once;
+extern const struct thing urcu_memb_synchronize_at_once;
 extern const struct thing urcu_memb_call;
 extern const struct thing urcu_memb_callbacks;
 #endif

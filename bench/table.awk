@@ -76,6 +76,12 @@ function synchronize_rows(size) {
     row("liburcu memb, " size (size == 1 ? " reader" : " readers"), "urcu-memb-synchronize", size, "urcu-mb-synchronize")
 }
 
+function synchronize_at_once_rows() {
+    row("this domain, 8 threads at once", "srcubench-synchronize-at-once", 8, "urcu-mb-synchronize-at-once")
+    row("liburcu mb, 8 threads at once", "urcu-mb-synchronize-at-once", 8, "urcu-mb-synchronize-at-once")
+    row("liburcu memb, 8 threads at once", "urcu-memb-synchronize-at-once", 8, "urcu-mb-synchronize-at-once")
+}
+
 function entry_rows() {
     row("callback list, all at once", "srcubench-list", 1, "srcubench-queue")
     row("plain queue, all at once", "srcubench-queue", 1, "srcubench-queue")
@@ -164,6 +170,7 @@ END {
     printf "%-44s %-28s %s\n", "one synchronize with nobody reading", "      ns", "ratio to liburcu mb"
     for (size = 1; size <= most; size *= 2)
         synchronize_rows(size)
+    synchronize_at_once_rows()
     print ""
     printf "%-44s %-28s %s\n", "one entry of a list", "      ns", "ratio to the queue"
     entry_rows()

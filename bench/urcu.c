@@ -124,6 +124,26 @@ const struct thing urcu_mb_synchronize = {
 	.sizes = processor_sizes,
 };
 
+const struct thing urcu_mb_synchronize_at_once = {
+	.name = "urcu-mb-synchronize-at-once",
+	.prepare = start_mb_readers,
+	.clear = stop_readers,
+	.work = synchronize_mb,
+	.less_often = 256,
+	.sizes = eight_sizes,
+	.workers = 8,
+};
+
+const struct thing urcu_memb_synchronize_at_once = {
+	.name = "urcu-memb-synchronize-at-once",
+	.prepare = start_memb_readers,
+	.clear = stop_readers,
+	.work = synchronize_memb,
+	.less_often = 256,
+	.sizes = eight_sizes,
+	.workers = 8,
+};
+
 const struct thing urcu_memb_synchronize = {
 	.name = "urcu-memb-synchronize",
 	.prepare = start_memb_readers,

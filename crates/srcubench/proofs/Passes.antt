@@ -57,7 +57,7 @@ no_batch d c = record { batches = []; runs = refl; came = refl }
 -- New processors
 
 -- no reading is open there
-pub all_ready : {bounds : _} (d : DomainView) (cpus : List (CpuView ℕ)) → IsMade bounds d cpus → IsAllOf d cpus → All (λ c. IsOf d c × HasNoneOpen c) cpus
+pub all_ready : {J : Type 0} {bounds : _} (d : DomainView) (cpus : List (CpuView J)) → IsMade bounds d cpus → IsAllOf d cpus → All (λ c. IsOf d c × HasNoneOpen c) cpus
 all_ready d cpus made all = λ k c lt. (all.here k c lt, subst HasNoneOpen (sym (made.each k c lt)) refl)
 
 -- where there was no error, it became another one
@@ -72,17 +72,17 @@ each_became {E = E} Becomes cpus outcomes are all = λ k c lt.
     let many = are.count in
     became (Becomes (slice_index_or cpus k c)) (slice_index_or outcomes k r) (all k r (omega (arith, lt, many))) (are.each k c r lt)
 
-pub on_each : {E : Type 0} (Becomes : DomainView → CpuView ℕ → CpuView ℕ → Type 0) (bounds : Bounds) (d : DomainView) (cpus : List (CpuView ℕ)) (outcomes : List (Result (CpuView ℕ) E)) → IsMade bounds d cpus → AreOutcomes (Becomes d) cpus outcomes → All IsOk outcomes → OnEachOfNew bounds.processors Becomes
-on_each {E = E} Becomes bounds d cpus outcomes made are all = record {
+pub on_each : {J : Type 0} {E : Type 0} (Becomes : DomainView → CpuView J → CpuView J → Type 0) (bounds : Bounds) (d : DomainView) (cpus : List (CpuView J)) (outcomes : List (Result (CpuView J) E)) → IsMade bounds d cpus → AreOutcomes (Becomes d) cpus outcomes → All IsOk outcomes → OnEachOfNew bounds.processors Becomes
+on_each {J = J} {E = E} Becomes bounds d cpus outcomes made are all = record {
   domain = d;
   bounds = bounds;
   many = refl;
   shape = record { processors = bounds.processors; nodes = made.nodes };
   each = λ k lt.
-      let c : CpuView ℕ = new_cpu d bounds (record { processors = bounds.processors; nodes = made.nodes }) k in
-      let r : Result (CpuView ℕ) E = Ok c in
+      let c : CpuView J = new_cpu d bounds (record { processors = bounds.processors; nodes = made.nodes }) k in
+      let r : Result (CpuView J) E = Ok c in
       let count = made.count in
       let many = are.count in
       let there : k < length cpus = omega (arith, lt, count) in
-      became (Becomes d c) (slice_index_or outcomes k r) (all k r (omega (arith, there, many))) (subst (λ (z : CpuView ℕ). IfOk (slice_index_or outcomes k r) (Becomes d z)) (made.each k c there) (are.each k c r there));
+      became (Becomes d c) (slice_index_or outcomes k r) (all k r (omega (arith, there, many))) (subst (λ (z : CpuView J). IfOk (slice_index_or outcomes k r) (Becomes d z)) (made.each k c there) (are.each k c r there));
 }

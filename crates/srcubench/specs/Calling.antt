@@ -65,12 +65,12 @@ pub record AreOutcomes {J : Type 0} {E : Type 0} (Becomes : CpuView J → CpuVie
   pub each : (k : ℕ) (c : CpuView J) (r : Result (CpuView J) E) → k < length cpus → IfOk (slice_index_or outcomes k r) (Becomes (slice_index_or cpus k c))
 
 -- each processor of a new domain of so many became another one in this way
-pub record OnEachOfNew (threads : ℕ) (Becomes : DomainView → CpuView ℕ → CpuView ℕ → Type 0) : Type 0 where
+pub record OnEachOfNew {J : Type 0} (threads : ℕ) (Becomes : DomainView → CpuView J → CpuView J → Type 0) : Type 0 where
   pub domain : DomainView
   pub bounds : Bounds
   pub many : bounds.processors ≡ threads
   pub shape : Shape
-  pub each : (k : ℕ) → k < threads → (last : CpuView ℕ) × Becomes domain (new_cpu domain bounds shape k) last
+  pub each : (k : ℕ) → k < threads → (last : CpuView J) × Becomes domain (new_cpu domain bounds shape k) last
 
 abbrev pub HaveQueued : ℕ → ℕ → Type 0
 HaveQueued threads jobs = OnEachOfNew threads (λ d. QueuesAll d jobs)

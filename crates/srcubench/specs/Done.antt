@@ -3,7 +3,7 @@ use Rattle.std.specs.Prelude.{◌≡◌, ℕ, ◌*◌, ◌^◌, ◌≤◌, List}
 use Rattle.srcubench.specs.declared.pairs.Reader.{Reader}
 use Rattle.srcubench.specs.declared.asking.Asker.{Asker}
 use Rattle.srcubench.specs.declared.work.Work.{Work}
-use Rattle.srcubench.specs.declared.work.Work.TheVariants.{Pairs, HeldPairs, QuietPeriods, DrivenPeriods, Waits, Asks, Entries, Queueing, Callbacks, Given, Finds, Puts, ChainCalls, ChainChanges, Looks, Installs}
+use Rattle.srcubench.specs.declared.work.Work.TheVariants.{Pairs, HeldPairs, QuietPeriods, DrivenPeriods, Waits, WaitsAtOnce, Asks, Entries, Queueing, Callbacks, Given, Finds, Puts, ChainCalls, ChainChanges, Looks, Installs}
 use Rattle.srcubench.specs.Readers.{AreReadersOfOne}
 use Rattle.srcubench.specs.Asking.{AreAskersOfOne}
 use Rattle.srcubench.specs.Calling.{HaveQueued, HavePassed}
@@ -15,6 +15,7 @@ use Rattle.srcubench.specs.Held.{HaveMadeHeldPairs}
 use Rattle.srcubench.specs.Periods.{HaveEnded}
 use Rattle.srcubench.specs.Putting.{HavePut}
 use Rattle.srcubench.specs.Tabling.{HaveInstalled, HaveLooked}
+use Rattle.srcubench.specs.Waiting.{HaveWaitedAtOnce}
 
 -- there is something to do
 abbrev pub CanRun : Work → Type 0
@@ -23,6 +24,7 @@ CanRun (HeldPairs pairs) = 1 ≤ pairs
 CanRun (QuietPeriods processors periods) = 1 ≤ periods
 CanRun (DrivenPeriods processors periods) = 1 ≤ periods
 CanRun (Waits processors times) = 1 ≤ times
+CanRun (WaitsAtOnce threads times) = 1 ≤ times
 CanRun (Asks threads asks new) = (1 ≤ asks) × (asks ≤ 2 ^ 54) × (threads ≤ 2 ^ 16)
 CanRun (Entries way batches) = (1 ≤ batches) × (batches ≤ 2 ^ 54)
 CanRun (Queueing threads jobs) = (1 ≤ threads * jobs) × (threads ≤ 2 ^ 16) × (jobs ≤ 2 ^ 40)
@@ -42,6 +44,7 @@ IsDone (HeldPairs pairs) done = (done ≡ pairs) × HaveMadeHeldPairs pairs
 IsDone (QuietPeriods processors periods) done = HaveEnded processors periods done
 IsDone (DrivenPeriods processors periods) done = (done ≡ periods) × HaveDriven processors periods
 IsDone (Waits processors times) done = (done ≡ times) × HaveWaited processors times
+IsDone (WaitsAtOnce threads times) done = (done ≡ times) × HaveWaitedAtOnce threads times
 IsDone (Asks threads asks new) done = (done ≡ asks) × (askers : List Asker) × AreAskersOfOne threads new asks askers
 IsDone (Entries way batches) done = done ≡ 8 * batches
 IsDone (Queueing threads jobs) done = (done ≡ threads * jobs) × HaveQueued threads jobs

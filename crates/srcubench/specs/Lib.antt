@@ -18,3 +18,4 @@ pub mod Readers
 pub mod Samples
 pub mod Spreads
 pub mod Tabling
+pub mod Waiting

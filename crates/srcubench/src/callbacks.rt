@@ -16,7 +16,7 @@ use std::thread::Threads;
 use std::time::{Clock, Duration, Instant};
 
 /// As many grace periods as there may be: how many there are is up to the threads.
-const LIMITS: Limits = Limits {
+pub const LIMITS: Limits = Limits {
     sections: 1,
     periods: Limits::MOST_PERIODS,
     cells: 0,

@@ -29,6 +29,7 @@ mod quiet;
 mod registering;
 mod spread;
 mod trial;
+mod waiting;
 mod work;
 
 use anyhow::Result;
@@ -48,6 +49,12 @@ const THREADS: [usize; 3] = [1, 2, 4];
 
 /// The numbers of processors of the domains whose grace periods are measured.
 const PROCESSORS: [usize; 4] = [1, 2, 4, 64];
+
+/// How many threads wait for grace periods at once.
+const WAITERS: usize = 8;
+
+/// How often each of them waits where waits are only counted.
+const COUNTED_WAITS: u64 = 100;
 
 /// How many pairs each thread makes where they are only counted.
 const COUNTED_PAIRS: u64 = 1_000;
@@ -72,6 +79,9 @@ const COUNTED_BATCHES: u64 = 100;
 
 /// A grace period is measured so many times less often than a pair, since it takes longer.
 const LESS_OFTEN: u64 = 4;
+
+/// A wait beside others that wait is measured so many times less often than a pair.
+const LESS_OFTEN_AT_ONCE: u64 = 256;
 
 /// An entry goes through a list so many times less often than a pair is made, since all entries lie in memory at once.
 const LESS_OFTEN_IN_LISTS: u64 = 8;
@@ -99,6 +109,8 @@ fn count<R: Threads + Sync + Wait + Clock + Print + AllocGlobal>(rt: &R) -> Resu
         let timed = driving::run_waits(rt, processors, COUNTED_PERIODS)?;
         println!(rt; "processors {processors}: {} waits", timed.done)?;
     }
+    let timed = waiting::run(rt, WAITERS, COUNTED_WAITS)?;
+    println!(rt; "threads {WAITERS}: {} waits in each at once", timed.done)?;
     for threads in THREADS {
         for new in [true, false] {
             let trial = asking::run(rt, threads, COUNTED_ASKS, new)?;
@@ -230,6 +242,12 @@ fn time<R: Threads + Sync + Wait + Clock + Print + AllocGlobal>(
         let spread = measure(rt, Work::Waits { processors, times }, repetitions)?;
         println!(rt; "srcubench-synchronize {processors} {spread}")?;
     }
+    let work = Work::WaitsAtOnce {
+        threads: WAITERS,
+        times: pairs / LESS_OFTEN_AT_ONCE + 1,
+    };
+    let spread = measure(rt, work, repetitions)?;
+    println!(rt; "srcubench-synchronize-at-once {WAITERS} {spread}")?;
     for threads in THREADS {
         for new in [true, false] {
             let asks = pairs;

@@ -8,7 +8,7 @@ use crate::passage::Way;
 use crate::spread::{Spread, cost_of_one};
 use crate::{
     asking, callbacks, driving, finding, giving, held, installing, looking, notifying, passage,
-    putting, quiet, registering, trial,
+    putting, quiet, registering, trial, waiting,
 };
 use anyhow::Result;
 use std::sync::Wait;
@@ -40,6 +40,12 @@ pub enum Work {
     /// Calls of `synchronize` by a processor of a domain of so many, in which nobody reads.
     Waits {
         processors: usize,
+        times: u64,
+    },
+    /// Calls of `synchronize`: so many in each of so many threads, which are processors of one domain, in which nobody
+    /// reads.
+    WaitsAtOnce {
+        threads: usize,
         times: u64,
     },
     /// Asks for grace periods at a tree of needs: so many in each of so many threads, each for a number that is new, or
@@ -139,6 +145,7 @@ pub fn run<R: Threads + Sync + Wait + Clock + AllocGlobal>(rt: &R, work: Work) -
             periods,
         } => driving::run_periods(rt, processors, periods),
         Work::Waits { processors, times } => driving::run_waits(rt, processors, times),
+        Work::WaitsAtOnce { threads, times } => waiting::run(rt, threads, times),
         Work::Asks { threads, asks, new } => {
             let trial = asking::run(rt, threads, asks, new)?;
             Ok(Timed {
