@@ -1,9 +1,10 @@
 -- Chains that are registered, changed and called, one time behind the other.
-use Rattle.std.proofs.Common.{◌≡◌, ℕ, ◌+◌, List, [], ◌∷◌, All, Result, IsOk, refl, sym, ap, ◌∙◌, subst, add-one}
+use Rattle.std.proofs.Common.{◌≡◌, ℕ, ◌+◌, List, [], ◌∷◌, All, map, take, Result, IsOk, refl, sym, ap, ◌∙◌, subst, add-one}
 use Rattle.std.specs.List.{AllZip}
 use Rattle.sections.specs.WriterViews.{WriterView}
 use Rattle.sections.specs.Dealing.{new_writer}
 use Rattle.domain.specs.Views.{DomainView, CpuView}
+use Rattle.notify.specs.declared.block.Block.{Block}
 use Rattle.notify.specs.Calling.{GivesAt}
 use Rattle.notify.specs.Chains.{ChainState, ChainCell}
 use Rattle.notify.specs.Reading.{Calls}
@@ -47,7 +48,7 @@ module _ {J : Type 0} where
         reads = all.reads;
         answers = record {
           results = all.answers.results;
-          given = all_zip (GivesAt gives handlers) AnswersAny _ all.answers.results (λ id r g. refl) all.answers.given;
+          given = all_zip (GivesAt gives handlers) AnswersAny (take 4 (map (λ (b : Block). b.id) all.blocks)) all.answers.results (λ id r g. refl) all.answers.given;
           answer = all.answers.answer;
         };
       }

@@ -50,7 +50,7 @@ fn answer<A: Allocator>(domain: &Domain<(), A>, cpu: &mut Cpu<(), A>) -> Result<
 }
 
 /// One turn of the engine, whatever it answers.
-pub fn drive_one<J, A: Allocator>(
+pub fn turn_once<J, A: Allocator>(
     domain: &Domain<J, A>,
     cpu: &mut Cpu<J, A>,
 ) -> Result<(), AdvanceRefusal>
@@ -79,6 +79,16 @@ pub fn drive_period<A: Allocator>(domain: &Domain<(), A>, cpu: &mut Cpu<(), A>) 
         Progress::Ended(_) => Ok(()),
         other => Err(Halt::Answered(other)),
     }
+}
+
+/// The same, for who hands on whatever stopped it.
+pub fn drive_one(domain: &Domain<()>, cpu: &mut Cpu<()>) -> Result<()>
+    requires { IsOf domain.now cpu.old }
+    ensures here { IsOf domain.now cpu.new }
+    ensures drives { IfOk result (λ _. DrivesPeriod cpu.old cpu.new) }
+{
+    drive_period(domain, cpu)?;
+    Ok(())
 }
 
 /// Drives so many grace periods, one behind the other.

@@ -8,7 +8,7 @@ ghost use Rattle.srcubench.specs.Giving.{RunsEach, GivesRound, GivesAll, HaveGiv
 
 use crate::callbacks::{first_error, queue_together};
 use crate::calling::{JobError, run_ready};
-use crate::driving::drive_one;
+use crate::driving::turn_once;
 use crate::founding::{New, found};
 use crate::work::Timed;
 use anyhow::Result;
@@ -54,7 +54,7 @@ fn give_round<R: Wait>(
     ensures gives { IfOk result (λ came. GivesRound domain.now queuers came cpu.old cpu.new) }
     ensures few { IfOk result (λ came. came ≤ 8 * queuers) }
 {
-    if let Err(refusal) = drive_one(domain, cpu) {
+    if let Err(refusal) = turn_once(domain, cpu) {
         return Err(JobError::NotDriven(refusal));
     }
     let came = run_each(rt, domain, cpu, queuers)?;

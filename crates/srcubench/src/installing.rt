@@ -3,7 +3,7 @@ ghost use Rattle.std.specs.Prelude.{◌≡◌, IfOk};
 ghost use Rattle.domain.specs.Views.{IsOf};
 ghost use Rattle.srcubench.specs.Tabling.{InstallsOne, InstallsAll, FillsUp, HaveInstalled};
 
-use crate::driving::drive_period;
+use crate::driving::drive_one;
 use crate::founding::{New, found};
 use crate::work::Timed;
 use anyhow::{Result, bail};
@@ -31,7 +31,7 @@ fn install_one(
     ensures installs { IfOk result (λ _. InstallsOne key table.old cpu.old table.new cpu.new) }
 {
     table.install(domain, cpu, key, key)?;
-    drive_period(domain, cpu)?;
+    drive_one(domain, cpu)?;
     Ok(())
 }
 

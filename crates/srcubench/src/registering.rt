@@ -3,7 +3,7 @@ ghost use Rattle.std.specs.Prelude.{◌≡◌, ◌*◌, ◌^◌, ◌<◌, ◌≤
 ghost use Rattle.domain.specs.Views.{IsOf};
 ghost use Rattle.srcubench.specs.Chaining.{RegistersOne, UnregistersOne, RegistersAll, ChangesOften, HaveChanged};
 
-use crate::driving::drive_period;
+use crate::driving::drive_one;
 use crate::founding::{New, found};
 use crate::work::Timed;
 use anyhow::Result;
@@ -32,7 +32,7 @@ fn register_one(
     ensures registers { IfOk result (λ _. RegistersOne id chain.old cpu.old chain.new cpu.new) }
 {
     chain.register(domain, cpu, id, 0)?;
-    drive_period(domain, cpu)?;
+    drive_one(domain, cpu)?;
     Ok(())
 }
 
@@ -51,7 +51,7 @@ fn unregister_one(
     ensures unregisters { IfOk result (λ _. UnregistersOne id chain.old cpu.old chain.new cpu.new) }
 {
     chain.unregister(domain, cpu, id)?;
-    drive_period(domain, cpu)?;
+    drive_one(domain, cpu)?;
     Ok(())
 }
 

@@ -2,4 +2,4 @@
 use Rattle.srcubench.proofs.giving.give_round.Goals as goal
 
 pub returns-clause-gives : goal.returns-clause-gives
-returns-clause-gives g c = record { turned = c.drive_one.new.cpu; turns = c.in_default.ensures.turns; runs = c.in_ok-came.ensures.runs }
+returns-clause-gives g c = record { turned = c.turn_once.new.cpu; turns = c.in_default.ensures.turns; runs = c.in_ok-came.ensures.runs }

@@ -11,7 +11,7 @@ pub fill-requires-clause-table : goal.fill-requires-clause-table
 fill-requires-clause-table g c = ap (λ (w : WriterView). w.domain) (c.new-table.ensures.writer ∙ c.in_ok-domain.ensures.new.pen)
 
 pub look_together-requires : goal.look_together-requires
-look_together-requires g c = reads_cell _ _ _ _ _ _ c.in_ok-domain.ensures.new c.in_ok-domain.ensures.cell c.new-table.ensures.cell
+look_together-requires g c = (c.type_bounds.sync-R, reads_cell _ _ _ _ _ _ c.in_ok-domain.ensures.new c.in_ok-domain.ensures.cell c.new-table.ensures.cell)
 
 pub returns-clause-looked : goal.returns-clause-looked
 returns-clause-looked g c =

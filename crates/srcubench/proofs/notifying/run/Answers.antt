@@ -15,10 +15,10 @@ pub register_all-requires-clause-ids : goal.register_all-requires-clause-ids
 register_all-requires-clause-ids g c = let ids = ap (λ (s : ChainState). s.ids) c.new-chain.ensures.chain in omega (arith, ids)
 
 pub call_together-requires-clause-cell : goal.call_together-requires-clause-cell
-call_together-requires-clause-cell g c = reads_cell _ _ _ _ _ _ c.in_ok-domain.ensures.new c.in_ok-domain.ensures.cell (ap (λ (v : ChainCell). v.cell) c.new-chain.ensures.view ∙ c.cell-cell.ensures)
+call_together-requires-clause-cell g c κs lives = reads_cell _ _ _ _ _ _ c.in_ok-domain.ensures.new c.in_ok-domain.ensures.cell (ap (λ (v : ChainCell). v.cell) c.new-chain.ensures.view ∙ c.cell-cell.ensures)
 
 pub call_together-requires-clause-ids : goal.call_together-requires-clause-ids
-call_together-requires-clause-ids g c = ap (λ (v : ChainCell). v.ids) c.new-chain.ensures.view
+call_together-requires-clause-ids g c κs lives = ap (λ (v : ChainCell). v.ids) c.new-chain.ensures.view
 
 pub returns-clause-called : goal.returns-clause-called
 returns-clause-called g c =
