@@ -82,7 +82,7 @@ pub fn drive_period<A: Allocator>(domain: &Domain<(), A>, cpu: &mut Cpu<(), A>) 
 }
 
 /// The same, for who hands on whatever stopped it.
-pub fn drive_one(domain: &Domain<()>, cpu: &mut Cpu<()>) -> Result<()>
+pub fn drive_one<A: Allocator>(domain: &Domain<(), A>, cpu: &mut Cpu<(), A>) -> Result<()>
     requires { IsOf domain.now cpu.old }
     ensures here { IsOf domain.now cpu.new }
     ensures drives { IfOk result (λ _. DrivesPeriod cpu.old cpu.new) }
