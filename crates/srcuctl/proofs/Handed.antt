@@ -1,5 +1,5 @@
 -- The handlers of a script, in the order of their ids.
-use Rattle.std.proofs.Common.{◌≡◌, ℕ, ◌+◌, ◌<◌, List, [], ◌∷◌, ◌++◌, length, get_or, subst, ap, arith, below_more, length-append}
+use Rattle.std.proofs.Common.{◌≡◌, ℕ, ◌+◌, ◌<◌, List, [], ◌∷◌, ◌++◌, length, get_or, subst, arith, below_more, length-append}
 use Rattle.std.proofs.lemmas.List.{get_or_append_left, get_or_push}
 use Rattle.notify.specs.Calling.{GivesAt}
 use Rattle.srcuctl.specs.Handlers.{answer_in, Gives}
@@ -10,9 +10,6 @@ module _ {H : Type 0} (gives : H → ℕ → ℕ → Type 0) where
   pub record AreHanded (handlers : List H) (count : ℕ) : Type 0 where
     pub long : length handlers ≡ count
     pub each : (id : ℕ) → id < count → (d : H) (value result : ℕ) → gives (get_or handlers id d) value result → result ≡ answer_in value id
-
-  pub none_handed : (handlers : List H) → handlers ≡ [] → AreHanded handlers 0
-  none_handed handlers none = record { long = ap length none; each = λ id within. absurd (omega arith) }
 
   -- the next one comes behind them
   pub one_more : (handlers : List H) (n : ℕ) (h : H) (handlers' : List H) → AreHanded handlers n → handlers' ≡ handlers ++ h ∷ [] → ((value result : ℕ) → gives h value result → result ≡ answer_in value n) → AreHanded handlers' (n + 1)

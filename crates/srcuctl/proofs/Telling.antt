@@ -1,7 +1,7 @@
 -- A run whose handlers give what more is known of.
 use Rattle.std.proofs.Common.{◌≡◌, ℕ, Bool, List, [], ◌∷◌, Option, Result, Ok, Err, MatchResult, ◌⊎◌, inl, inr, refl, sym, append-nil}
 use Rattle.std.specs.Prelude.{Some, None}
-use Rattle.std.specs.Io.KnownBytes.{Appends, Consumes}
+use Rattle.std.specs.Io.KnownBytes.{Appends, Consumes, IsAtEnd}
 use Rattle.std.specs.List.{AllZip}
 use Rattle.sections.specs.declared.limits.Limits.{Limits}
 use Rattle.lines.specs.Lines.{words_of}
@@ -75,7 +75,8 @@ none_given : (held : Option (List ℕ)) → Appends held held []
 none_given None = tt
 none_given (Some xs) = sym (append-nil xs)
 
--- where no line was run, the reader and the writer are as they were
-pub not_begun : (left held : Option (List ℕ)) (Part : List ℕ → List ℕ → Type 0) (why : RunError) → why ≡ error.Memory
-    → (taken : List ℕ) × (given : List ℕ) × Consumes left left taken × Appends held held given × (Part taken given ⊎ HasNotBegun taken given why)
-not_begun left held Part why cause = ([], [], none_taken left, none_given held, inr (record { none_taken = refl; none_given = refl; cause = cause }))
+-- where there is no memory, the reader and the writer are as they were
+pub not_begun : (told : ℕ → ℕ → ℕ → Type 0) (limits : Limits) (left held : Option (List ℕ)) (result : Result Outcome RunError) → result ≡ Err error.Memory
+    → (taken : List ℕ) × (given : List ℕ) × Consumes left left taken × Appends held held given
+    × MatchResult result (λ o. Runs told limits taken given o.faulty × IsAtEnd left) (λ e. RunsInPart told limits taken given e ⊎ HasNotBegun taken given e)
+not_begun told limits left held result ended_so = rw ended_so ([], [], none_taken left, none_given held, inr (record { none_taken = refl; none_given = refl; cause = refl }))
