@@ -1,7 +1,9 @@
 //! The handlers of a script.
-ghost use Rattle.std.specs.Prelude.{◌≡◌, ◌<◌};
+ghost use Rattle.std.specs.Prelude.{◌≡◌, ◌<◌, ◌⊎◌, ℕ, List, MatchResult};
+ghost use Rattle.std.specs.Io.KnownBytes.{Appends, Consumes, IsAtEnd};
 ghost use Rattle.sections.specs.Limits.{AreInRange};
-ghost use Rattle.srcuctl.specs.Handlers.{answer_in};
+ghost use Rattle.srcuctl.specs.Handlers.{answer_in, Gives};
+ghost use Rattle.srcuctl.specs.Programs.{Runs, RunsInPart, HasNotBegun};
 
 use crate::script::run;
 use lines::{Outcome, RunError};
@@ -44,8 +46,8 @@ impl Handler for ToldHandler {
     }
 }
 
-/// Runs a script with sixteen handlers that answer what its lines tell them. Where there is no memory for these, the run
-/// ends before it began.
+/// Runs a script, as [`run`] does, with sixteen handlers that answer what its lines tell them. Where there is no memory
+/// for these, the error is `Memory`: then nothing was read and nothing is written.
 pub fn run_told<A: Allocator, R: Read, W: Write>(
     alloc: A,
     rt: &(impl Wait + AllocGlobal),
@@ -55,6 +57,12 @@ pub fn run_told<A: Allocator, R: Read, W: Write>(
 ) -> Result<Outcome, RunError>
     requires limits { AreInRange limits }
     requires cells { limits.cells ≡ 2 }
+    ensures { (taken : List ℕ) × (given : List ℕ)
+        × Consumes (R.remaining reader.old) (R.remaining reader.new) taken
+        × Appends (W.contents writer.old) (W.contents writer.new) given
+        × MatchResult result
+        (λ outcome. Runs Gives limits taken given outcome.faulty × IsAtEnd (R.remaining reader.new))
+        (λ error. RunsInPart Gives limits taken given error ⊎ HasNotBegun taken given error) }
 {
     let mut handlers: Vec<Box<dyn Handler>> = Vec::new(rt.alloc());
     for id in 0..HANDLERS {

@@ -1,5 +1,7 @@
 //! A race, and the lines that tell what it came to.
-ghost use Rattle.std.specs.Prelude.{◌≡◌, true};
+ghost use Rattle.std.specs.Prelude.{◌↔◌, IsTrue, codes};
+ghost use Rattle.clap.specs.Words.{found_of, one_text};
+ghost use Rattle.srcuctl.specs.Options.{SetsNumber};
 ghost use Rattle.srcuctl.specs.Races.{IsInRange};
 
 use clap::builder::ValueParser;
@@ -52,7 +54,7 @@ pub struct Size {
 impl Size {
     /// Whether there are 1 to 63 readers and 1 to 1000 rounds.
     pub fn is_in_range(self) -> bool
-        ensures { result ≡ true → IsInRange self }
+        ensures { IsTrue result ↔ IsInRange self }
     {
         (1..=MOST_READERS).contains(&self.readers) && (1..=MOST_ROUNDS).contains(&self.rounds)
     }
@@ -82,11 +84,21 @@ pub fn command<'a>(alloc: Global) -> Result<Command<'a>, Error> {
 }
 
 /// The size that the options of `race` set. 0, which is out of range, where one is missing.
-pub fn size_of(matches: &ArgMatches<'_>) -> Size {
+pub fn size_of(matches: &ArgMatches<'_>) -> Size
+    ensures readers { SetsNumber (one_text (found_of matches.now) (codes "readers")) result.readers }
+    ensures rounds { SetsNumber (one_text (found_of matches.now) (codes "rounds")) result.rounds }
+{
     Size {
-        readers: matches.get_one::<u64>("readers").unwrap_or(0),
-        rounds: matches.get_one::<u64>("rounds").unwrap_or(0),
+        readers: number(matches, "readers"),
+        rounds: number(matches, "rounds"),
     }
+}
+
+/// The number that an option sets.
+fn number(matches: &ArgMatches<'_>, id: &str) -> u64
+    ensures { SetsNumber (one_text (found_of matches.now) id.now) result }
+{
+    matches.get_one::<u64>(id).unwrap_or(0)
 }
 
 /// Lets every reader pass.

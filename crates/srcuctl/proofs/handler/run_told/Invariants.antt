@@ -1,5 +1,6 @@
-use Rattle.std.proofs.Common.{◌≡◌, vec_len}
+use Rattle.srcuctl.proofs.Handed.{AreHanded}
+use Rattle.srcuctl.proofs.handler.run_told.OwnLists.{own-1}
 use Rattle.srcuctl.proofs.handler.run_told.Given as goal
 
 abbrev pub invariant-loop-id : goal.invariant-loop-id
-invariant-loop-id g l = vec_len l.handlers ≡ l.id
+invariant-loop-id g l = AreHanded (λ h value result. (own-1.entry h.vtable).1.answers h.value 1 value result) l.handlers.items l.id
