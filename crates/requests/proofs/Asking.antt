@@ -9,11 +9,15 @@ use Rattle.requests.specs.declared.command.Command.TheVariants as command
 use Rattle.requests.specs.declared.command.Argument.{Argument}
 use Rattle.requests.specs.declared.command.Argument.TheVariants.{NewDomain, AnyNumber, ADomain, AProcessor, AnId, APriority, AKey, APlug}
 use Rattle.requests.specs.declared.given.Given.{Given}
+use Rattle.requests.specs.declared.request.Act.TheVariants as act
 use Rattle.requests.specs.declared.request.Request.{Request}
+use Rattle.requests.specs.declared.request.Request.TheVariants.{Domain, On, Cleanup}
 use Rattle.requests.specs.declared.fault.Fault.{Fault}
 use Rattle.requests.specs.declared.fault.Fault.TheVariants as fault
 use Rattle.requests.specs.declared.handler_answers.HandlerAnswers.{HandlerAnswers}
 use Rattle.requests.specs.Commands.{arguments, arguments_in, pairs_in, count_of_arguments, command_of}
+use Rattle.lines.specs.Lines.{number_of}
+use Rattle.requests.specs.Numbers.{id_of, priority_of, word32_of}
 use Rattle.requests.specs.Pairs.{answers_of}
 use Rattle.requests.specs.Scenes.{SceneView}
 use Rattle.requests.specs.Faults.{texts, command_fault, words_fault, pairs_fault, or_else, fault_of}
@@ -27,8 +31,25 @@ rows _ = record { first = refl; apart = refl }
 
 -- what suits a command's arguments is what its request needs
 is_for : (s : SceneView) (c : Command) (g : Given) → AllSuit s g (arguments c) → IsFor s (request_of c g)
-is_for s command.Domain g h = assumption h
-is_for s _ g h = assumption h
+is_for s command.Domain g h = h.0
+is_for s command.Look g (there, (on, (new, _))) = (there, (on, new))
+is_for s command.Enter g (there, (on, (known, _))) = (there, (on, known))
+is_for s command.Lock g (there, (on, (new, _))) = (there, (on, new))
+is_for s command.Unlock g (there, (known, _)) = (there, known)
+is_for s command.Down g (there, (on, (new, _))) = (there, (on, new))
+is_for s command.Up g (there, (on, (known, _))) = (there, (on, known))
+is_for s command.Park g (there, (known, _)) = (there, known)
+is_for s command.Unpark g (there, _) = (there, tt)
+is_for s command.Barrier g (there, (on, (new, _))) = (there, (on, new))
+is_for s command.BarrierPoll g (there, (on, (known, _))) = (there, (on, known))
+is_for s command.Register g (there, (on, (low, _))) = (there, (on, low))
+is_for s command.Unregister g (there, (on, (low, _))) = (there, (on, low))
+is_for s command.Lease g (there, (on, (new, _))) = (there, (on, new))
+is_for s command.Read g (there, (on, (known, _))) = (there, (on, known))
+is_for s command.Release g (there, (on, (known, _))) = (there, (on, known))
+is_for s command.State g (there, _) = (there, tt)
+is_for s command.Cleanup g h = h.0
+is_for s _ g h = (h.0, h.1.0)
 
 -- what is given twice has the same in the field of this argument
 abbrev Agree : Given → Given → Argument → Type 0
@@ -46,10 +67,20 @@ abbrev AllAgree : Given → Given → List Argument → Type 0
 AllAgree g h [] = Unit {0}
 AllAgree g h (a ∷ rest) = Agree g h a × AllAgree g h rest
 
+found_once : {X : Type 0} (o : Option X) (x y : X) → o ≡ Some x → o ≡ Some y → x ≡ y
+found_once o x y p q = cc
+
 module _ (s : SceneView) (g h : Given) where
   agree : (a : Argument) (w : List ℕ) → Names s g a w → Names s h a w → Agree g h a
-  agree NewDomain w p q = cc
-  agree _ w p q = cc
+  agree NewDomain w p q = p ∙ sym q
+  agree AnyNumber w p q = found_once (number_of w) g.number h.number p q
+  agree ADomain w p q = found_once (s.place_of w) g.domain h.domain p q
+  agree AProcessor w p q = found_once (number_of w) g.processor h.processor p q
+  agree AnId w p q = found_once (id_of w) g.id h.id p q
+  agree APriority w p q = found_once (priority_of w) g.priority h.priority p q
+  agree AKey w p q = found_once (word32_of w) g.key h.key p q
+  agree APlug w p q = found_once (word32_of w) g.plug h.plug p q
+  agree _ w p q = p ∙ sym q
 
   all_agree : (taken : List Argument) (ws : List (List ℕ)) → AllName s g taken ws → AllName s h taken ws → AllAgree g h taken
   all_agree [] [] p q = tt
@@ -66,8 +97,40 @@ same_answers g h ws (pairs, read, is) (others, read_again, other) =
 
 -- a command's request has no field that neither one of its arguments fills nor its pairs
 same_request : (c : Command) (g h : Given) → AllAgree g h (arguments c) → g.answers ≡ h.answers → request_of c g ≡ request_of c h
-same_request command.Domain g h e d = cc
-same_request _ g h e d = cc
+same_request command.Domain g h (name, (number, _)) d = λ i. Domain (name i) (number i)
+same_request command.Look g h (domain, (processor, (name, _))) d = λ i. On (domain i) (act.Look (processor i) (name i))
+same_request command.Enter g h (domain, (processor, (name, _))) d = λ i. On (domain i) (act.Enter (processor i) (name i))
+same_request command.Lock g h (domain, (processor, (name, _))) d = λ i. On (domain i) (act.Lock (processor i) (name i))
+same_request command.Unlock g h (domain, (name, _)) d = λ i. On (domain i) (act.Unlock (name i))
+same_request command.Down g h (domain, (processor, (name, _))) d = λ i. On (domain i) (act.Down (processor i) (name i))
+same_request command.Up g h (domain, (processor, (name, _))) d = λ i. On (domain i) (act.Up (processor i) (name i))
+same_request command.Park g h (domain, (name, _)) d = λ i. On (domain i) (act.Park (name i))
+same_request command.Unpark g h (domain, _) d = λ i. On (domain i) act.Unpark
+same_request command.Get g h (domain, (processor, _)) d = λ i. On (domain i) (act.Get (processor i))
+same_request command.Ask g h (domain, (processor, _)) d = λ i. On (domain i) (act.Ask (processor i))
+same_request command.Poll g h (domain, (processor, (number, _))) d = λ i. On (domain i) (act.Poll (processor i) (number i))
+same_request command.Start g h (domain, (processor, _)) d = λ i. On (domain i) (act.Start (processor i))
+same_request command.Advance g h (domain, (processor, _)) d = λ i. On (domain i) (act.Advance (processor i))
+same_request command.Step g h (domain, (processor, _)) d = λ i. On (domain i) (act.Step (processor i))
+same_request command.Call g h (domain, (processor, (name, _))) d = λ i. On (domain i) (act.Call (processor i) (name i))
+same_request command.Run g h (domain, (processor, _)) d = λ i. On (domain i) (act.Run (processor i))
+same_request command.Batch g h (domain, (processor, _)) d = λ i. On (domain i) (act.Batch (processor i))
+same_request command.Finish g h (domain, (processor, _)) d = λ i. On (domain i) (act.Finish (processor i))
+same_request command.Segs g h (domain, (processor, _)) d = λ i. On (domain i) (act.Segs (processor i))
+same_request command.Barrier g h (domain, (processor, (name, _))) d = λ i. On (domain i) (act.Barrier (processor i) (name i))
+same_request command.BarrierPoll g h (domain, (processor, (name, _))) d = λ i. On (domain i) (act.BarrierPoll (processor i) (name i))
+same_request command.Register g h (domain, (processor, (id, (priority, _)))) d = λ i. On (domain i) (act.Register (processor i) (id i) (priority i))
+same_request command.Unregister g h (domain, (processor, (id, _))) d = λ i. On (domain i) (act.Unregister (processor i) (id i))
+same_request command.Chain g h (domain, (processor, _)) d = λ i. On (domain i) (act.Chain (processor i))
+same_request command.Notify g h (domain, (processor, _)) same = λ i. On (domain i) (act.Notify (processor i) (same i))
+same_request command.Install g h (domain, (processor, (key, (plug, _)))) d = λ i. On (domain i) (act.Install (processor i) (key i) (plug i))
+same_request command.Remove g h (domain, (processor, (key, _))) d = λ i. On (domain i) (act.Remove (processor i) (key i))
+same_request command.Lookup g h (domain, (processor, (key, _))) d = λ i. On (domain i) (act.Lookup (processor i) (key i))
+same_request command.Lease g h (domain, (processor, (name, _))) d = λ i. On (domain i) (act.Lease (processor i) (name i))
+same_request command.Read g h (domain, (processor, (name, (key, _)))) d = λ i. On (domain i) (act.Read (processor i) (name i) (key i))
+same_request command.Release g h (domain, (processor, (name, _))) d = λ i. On (domain i) (act.Release (processor i) (name i))
+same_request command.State g h (domain, _) d = λ i. On (domain i) act.State
+same_request command.Cleanup g h (domain, _) d = λ i. Cleanup (domain i)
 
 -- what the arguments name stays as it is where the answers come behind
 name_with : (s : SceneView) (g : Given) (answers : HandlerAnswers) (a : Argument) (w : List ℕ) → Names s g a w → Names s (record g { answers = answers }) a w

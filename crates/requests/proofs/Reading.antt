@@ -4,6 +4,7 @@ use borrow.Author.Tests.{tests}
 use Rattle.std.specs.Borrow.{Bor}
 use Rattle.std.specs.Prelude.{pos, Option, Some, None, is_some, unwrap_or, nat_lt, if◌then◌else◌}
 use Rattle.std.specs.List.{list_all}
+use Rattle.std.proofs.lemmas.Bool.{false≢true, true≢false}
 use Rattle.std.proofs.lemmas.Bool.Decides.{nat_tests}
 use Rattle.lines.specs.Lines.{is_name, number_of}
 use Rattle.requests.specs.declared.fault.Fault.{Fault}
@@ -13,12 +14,12 @@ use Rattle.requests.specs.declared.command.Argument.TheVariants.{NewDomain, AnyN
 use Rattle.requests.specs.declared.given.Given.{Given}
 use Rattle.requests.specs.declared.scene.Kind.{Kind}
 use Rattle.requests.specs.declared.scene.Kind.TheVariants as kind
-use Rattle.requests.specs.Numbers.{below, priority_of, word32_of}
+use Rattle.requests.specs.Numbers.{below, id_of, priority_of, word32_of}
 use Rattle.requests.specs.Scenes.{SceneView, IsPlace}
 use Rattle.requests.specs.Faults.{number_fault, processor_fault, has_kind, argument_fault, place_after, or_else, arguments_fault, words_fault, texts}
 use Rattle.requests.specs.Requests.{Names, AllName}
 use Rattle.requests.proofs.Pairing.{below_end}
-use Rattle.requests.specs.Given.{filled, Suits, AllSuit, needs_domain, may_follow, names_domain_first, fill_apart}
+use Rattle.requests.specs.Given.{Field, Domain, Processor, Name, Number, Id, Priority, Key, Plug, same_field, field_of, filled, Suits, AllSuit, needs_domain, names_domain, may_follow, names_domain_first, fill_apart}
 
 -- One word without a fault
 
@@ -57,25 +58,43 @@ processor_there : (processors : ℕ) (found : Option ℕ) → processor_fault pr
 processor_there processors None h = cc
 processor_there processors (Some p) h = (refl, below_them p processors (nat_lt p processors) refl h)
 
+no_fault : {X : Type 0} (f : Fault) → Some f ≡ None → X
+no_fault f h = cc
+
 kind_there : (named : Bool) (k : Kind) (found : Option Kind) → (if named && has_kind k found then None else Some fault.Name) ≡ None → found ≡ Some k
-kind_there false k found h = cc
-kind_there true k None h = cc
+kind_there false k found h = no_fault fault.Name h
+kind_there true k None h = no_fault fault.Name h
 kind_there true kind.Look (Some kind.Look) h = refl
 kind_there true kind.Reading (Some kind.Reading) h = refl
 kind_there true kind.Held (Some kind.Held) h = refl
 kind_there true kind.Parked (Some kind.Parked) h = refl
 kind_there true kind.Ticket (Some kind.Ticket) h = refl
 kind_there true kind.Lease (Some kind.Lease) h = refl
-kind_there true kind.Look (Some _) h = cc
-kind_there true kind.Reading (Some _) h = cc
-kind_there true kind.Held (Some _) h = cc
-kind_there true kind.Parked (Some _) h = cc
-kind_there true kind.Ticket (Some _) h = cc
-kind_there true kind.Lease (Some _) h = cc
+kind_there true kind.Look (Some _) h = no_fault fault.Name h
+kind_there true kind.Reading (Some _) h = no_fault fault.Name h
+kind_there true kind.Held (Some _) h = no_fault fault.Name h
+kind_there true kind.Parked (Some _) h = no_fault fault.Name h
+kind_there true kind.Ticket (Some _) h = no_fault fault.Name h
+kind_there true kind.Lease (Some _) h = no_fault fault.Name h
 
 -- the word, as this argument, names what is given, and it is what the argument should be
 abbrev IsKnown : SceneView → Given → Argument → List ℕ → Type 0
 IsKnown s g a w = Names s g a w × Suits s g a
+
+-- both have the same in a field
+abbrev Same : Field → Given → Given → Type 0
+Same Domain g h = g.domain ≡ h.domain
+Same Processor g h = g.processor ≡ h.processor
+Same Name g h = g.name ≡ h.name
+Same Number g h = g.number ≡ h.number
+Same Id g h = g.id ≡ h.id
+Same Priority g h = g.priority ≡ h.priority
+Same Key g h = g.key ≡ h.key
+Same Plug g h = g.plug ≡ h.plug
+
+is_not : (b : Bool) → not b ≡ true → b ≡ false
+is_not true h = cc
+is_not false h = refl
 
 module _ (s : SceneView) where
   reads : (g : Given) (a : Argument) (w : List ℕ) → argument_fault s g.domain a w ≡ None → IsKnown s (filled s g a w) a w
@@ -96,38 +115,63 @@ module _ (s : SceneView) where
   reads g AKey w h = (number_there (word32_of w) 0 h, tt)
   reads g APlug w h = (number_there (word32_of w) 0 h, tt)
 
+  -- an argument changes no field but its own
+  untouched : (f : Field) (g : Given) (a : Argument) (w : List ℕ) → same_field f (field_of a) ≡ false → Same f g (filled s g a w)
+  untouched Domain g ADomain w e = absurd (true≢false e)
+  untouched Domain g _ w e = refl
+  untouched Processor g AProcessor w e = absurd (true≢false e)
+  untouched Processor g _ w e = refl
+  untouched Name g NewDomain w e = absurd (true≢false e)
+  untouched Name g NewName w e = absurd (true≢false e)
+  untouched Name g ALook w e = absurd (true≢false e)
+  untouched Name g AReading w e = absurd (true≢false e)
+  untouched Name g AHeld w e = absurd (true≢false e)
+  untouched Name g ATicket w e = absurd (true≢false e)
+  untouched Name g AJob w e = absurd (true≢false e)
+  untouched Name g ALease w e = absurd (true≢false e)
+  untouched Name g _ w e = refl
+  untouched Number g AnyNumber w e = absurd (true≢false e)
+  untouched Number g _ w e = refl
+  untouched Id g AnId w e = absurd (true≢false e)
+  untouched Id g _ w e = refl
+  untouched Priority g APriority w e = absurd (true≢false e)
+  untouched Priority g _ w e = refl
+  untouched Key g AKey w e = absurd (true≢false e)
+  untouched Key g _ w e = refl
+  untouched Plug g APlug w e = absurd (true≢false e)
+  untouched Plug g _ w e = refl
+
+  stays_in : (g : Given) (a : Argument) (w : List ℕ) → names_domain a ≡ false → g.domain ≡ (filled s g a w).domain
+  stays_in g ADomain w e = absurd (true≢false e)
+  stays_in g _ w e = refl
+
+  module _ (g g' : Given) (v : List ℕ) (place : g.domain ≡ g'.domain) where
+    name_known : (found : Option Kind) → g.name ≡ g'.name → (g.name ≡ v) × (s.kind_of g.domain g.name ≡ found) → (g'.name ≡ v) × (s.kind_of g'.domain g'.name ≡ found)
+    name_known found e h = subst (λ m. (g'.name ≡ v) × (s.kind_of m g'.name ≡ found)) place (subst (λ n. (n ≡ v) × (s.kind_of g.domain n ≡ found)) e h)
+
+    -- what is known of a word is known of all that has the same domain, and the same in the word's field
+    known_too : (b : Argument) → Same (field_of b) g g' → IsKnown s g b v → IsKnown s g' b v
+    known_too NewDomain e h = subst (λ n. (n ≡ v) × (s.place_of n ≡ None)) e h
+    known_too AnyNumber e h = subst (λ n. (number_of v ≡ Some n) × Unit {0}) e h
+    known_too ADomain e h = subst (λ n. (s.place_of v ≡ Some n) × IsPlace s n) e h
+    known_too AProcessor e h = subst (λ m. (number_of v ≡ Some g'.processor) × (g'.processor < s.processors_of m)) place (subst (λ n. (number_of v ≡ Some n) × (n < s.processors_of g.domain)) e h)
+    known_too NewName e h = name_known None e h
+    known_too ALook e h = name_known (Some kind.Look) e h
+    known_too AReading e h = name_known (Some kind.Reading) e h
+    known_too AHeld e h = name_known (Some kind.Held) e h
+    known_too ATicket e h = name_known (Some kind.Ticket) e h
+    known_too AJob e h = subst (λ n. (n ≡ v) × Unit {0}) e h
+    known_too ALease e h = name_known (Some kind.Lease) e h
+    known_too AnId e h = subst (λ n. (id_of v ≡ Some n) × (n < 16)) e h
+    known_too APriority e h = subst (λ n. (priority_of v ≡ Some n) × Unit {0}) e h
+    known_too AKey e h = subst (λ n. (word32_of v ≡ Some n) × Unit {0}) e h
+    known_too APlug e h = subst (λ n. (word32_of v ≡ Some n) × Unit {0}) e h
+
   -- an argument behind it changes nothing of what is known of a word
   keeps : (g : Given) (b a : Argument) (v w : List ℕ) → may_follow b a ≡ true → IsKnown s g b v → IsKnown s (filled s g a w) b v
-  keeps g NewDomain NewDomain v w e h = cc
-  keeps g b NewDomain v w e h = first_of (cc, assumption h)
-  keeps g NewDomain AnyNumber v w e h = h
-  keeps g b AnyNumber v w e h = first_of (cc, assumption h)
-  keeps g NewDomain ADomain v w e h = cc
-  keeps g b ADomain v w e h = cc
-  keeps g NewDomain AProcessor v w e h = h
-  keeps g b AProcessor v w e h = first_of (cc, assumption h)
-  keeps g NewDomain NewName v w e h = cc
-  keeps g b NewName v w e h = first_of (cc, assumption h)
-  keeps g NewDomain ALook v w e h = cc
-  keeps g b ALook v w e h = first_of (cc, assumption h)
-  keeps g NewDomain AReading v w e h = cc
-  keeps g b AReading v w e h = first_of (cc, assumption h)
-  keeps g NewDomain AHeld v w e h = cc
-  keeps g b AHeld v w e h = first_of (cc, assumption h)
-  keeps g NewDomain ATicket v w e h = cc
-  keeps g b ATicket v w e h = first_of (cc, assumption h)
-  keeps g NewDomain AJob v w e h = cc
-  keeps g b AJob v w e h = first_of (cc, assumption h)
-  keeps g NewDomain ALease v w e h = cc
-  keeps g b ALease v w e h = first_of (cc, assumption h)
-  keeps g NewDomain AnId v w e h = h
-  keeps g b AnId v w e h = first_of (cc, assumption h)
-  keeps g NewDomain APriority v w e h = h
-  keeps g b APriority v w e h = first_of (cc, assumption h)
-  keeps g NewDomain AKey v w e h = h
-  keeps g b AKey v w e h = first_of (cc, assumption h)
-  keeps g NewDomain APlug v w e h = h
-  keeps g b APlug v w e h = first_of (cc, assumption h)
+  keeps g b a v w e h =
+      let (apart, stays) = both (not (same_field (field_of b) (field_of a))) (not (names_domain a)) e in
+      known_too g (filled s g a w) v (stays_in g a w (is_not (names_domain a) stays)) b (untouched (field_of b) g a w (is_not (same_field (field_of b) (field_of a)) apart)) h
 
   filled_domain : (g : Given) (a : Argument) (w : List ℕ) → (filled s g a w).domain ≡ place_after s g.domain a w
   unfolding place_after
@@ -167,8 +211,15 @@ module _ (s : SceneView) where
   -- an argument of a domain stands behind the word that names it
   needs : (place : ℕ) (a : Argument) (rest : List Argument) → IsPlace s place ⊎ (names_domain_first (a ∷ rest) ≡ true) → needs_domain a ≡ true → IsPlace s place
   needs place a rest (inl there) h = there
-  needs place NewDomain rest (inr e) h = cc
-  needs place _ rest (inr e) h = cc
+  needs place NewDomain rest (inr e) h = absurd (false≢true h)
+  needs place AnyNumber rest (inr e) h = absurd (false≢true h)
+  needs place ADomain rest (inr e) h = absurd (false≢true h)
+  needs place AJob rest (inr e) h = absurd (false≢true h)
+  needs place AnId rest (inr e) h = absurd (false≢true h)
+  needs place APriority rest (inr e) h = absurd (false≢true h)
+  needs place AKey rest (inr e) h = absurd (false≢true h)
+  needs place APlug rest (inr e) h = absurd (false≢true h)
+  needs place _ rest (inr e) h = absurd (false≢true e)
 
   ready : (g : Given) (a : Argument) (w : List ℕ) (rest : List Argument) → argument_fault s g.domain a w ≡ None → IsPlace s g.domain ⊎ (names_domain_first (a ∷ rest) ≡ true)
       → IsPlace s (filled s g a w).domain ⊎ (names_domain_first rest ≡ true)
@@ -181,7 +232,7 @@ module _ (s : SceneView) where
   ready g APriority w rest fine (inr e) = inr e
   ready g AKey w rest fine (inr e) = inr e
   ready g APlug w rest fine (inr e) = inr e
-  ready g _ w rest fine (inr e) = cc
+  ready g _ w rest fine (inr e) = absurd (false≢true e)
 
 -- so far words were read as arguments without a fault, and `rest` and `behind` are left of them
 pub record IsSoFar (s : SceneView) (start : Given) (taken : List Argument) (words : List (List ℕ)) (g : Given) (rest : List Argument) (behind : List (List ℕ)) : Type 0 where
