@@ -7,7 +7,7 @@ use Rattle.srcubench.proofs.Passes.{all_ready, on_each}
 use Rattle.srcubench.proofs.waiting.run.Goals as goal
 
 pub wait_together-requires : goal.wait_together-requires
-wait_together-requires g c κs within = all_ready _ _ c.in_ok-domain.ensures.made c.in_ok-domain.ensures.all
+wait_together-requires g c = (c.type_bounds.sync-R, all_ready _ _ c.in_ok-domain.ensures.made c.in_ok-domain.ensures.all)
 
 pub returns-clause-waited : goal.returns-clause-waited
 returns-clause-waited g c =
