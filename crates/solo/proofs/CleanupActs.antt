@@ -81,7 +81,7 @@ module _ {J : Type 0} where
 
   module _ (d : DomainView) (limits : Limits) (cpus : List (DomainCpu J)) (lay : View) (met : HaveMet d limits cpus lay) (seen : SoloView J) (seen_is : seen_first d limits cpus ≡ seen) where
     abbrev nobody : DomainCpu J
-    nobody = new_cpu d (bounds_of 0 limits) d.domain (record { processors = 0; nodes = 0 }) 0
+    nobody = new_cpu d (bounds_of 0 limits) (record { processors = 0; nodes = 0 }) 0
 
     some : 0 < length cpus
     some = met.all.some

@@ -11,9 +11,10 @@ use Rattle.funnel.specs.Histories.{greatest}
 use Rattle.funnel.specs.Calls.{IsSeenBy}
 use Rattle.desk.specs.BayCalls.{HasSeenLegal, lies}
 use Rattle.calls.specs.Tallies.{queued_in, finished_in}
-use Rattle.domain.specs.Views.{DomainView, CpuView, IsOf}
+use Rattle.domain.specs.Views.{DomainView, CpuView}
 use Rattle.domain.specs.Making.{IsMade, idle_engine, new_cpu}
 use Rattle.domain.specs.Meetings.{IsAllOf}
+use Rattle.domain.proofs.CallerLemmas.{new_ones_are_here}
 use Rattle.solo.specs.Calls.{IsNew, new_standing}
 use Rattle.solo.specs.Settling.{View, Holds, AreTogether, AskTogether, TurnTogether, TallyTogether, HaveMet}
 use Rattle.calls.specs.Lines.{no_calls}
@@ -24,10 +25,10 @@ use Rattle.solo.proofs.Hand.{first_seen}
 module _ {J : Type 0} where
   module _ (limits : Limits) (processors : ℕ) (d : DomainView) (cpus : List (CpuView J)) (made : IsMade (bounds_of processors limits) d cpus) (count : IsCount processors) (range : AreInRange limits) where
     abbrev pub engine : View
-    engine = idle_engine d.domain (bounds_of processors limits) made.tree (record { processors = processors; nodes = made.nodes })
+    engine = idle_engine d.domain (bounds_of processors limits) d.tree (record { processors = processors; nodes = made.nodes })
 
     abbrev new : ℕ → CpuView J
-    new k = new_cpu d (bounds_of processors limits) made.tree (record { processors = processors; nodes = made.nodes }) k
+    new k = new_cpu d (bounds_of processors limits) (record { processors = processors; nodes = made.nodes }) k
 
     is_new : (k : ℕ) (c : CpuView J) → k < length cpus → get_or cpus k c ≡ new k
     is_new = made.each
@@ -35,10 +36,10 @@ module _ {J : Type 0} where
     all : IsAllOf d cpus
     all = record {
       some = (let some = count.0 in let long = made.count in omega (arith, some, long));
-      here = λ k c lt. subst (λ (z : CpuView J). IsOf d z) (sym (is_new k c lt)) (record { domain = refl; bay = refl; home = refl; free = refl; asks = (k, refl); many = sym made.many; fits = record { domain = refl; seat = refl; tallies = refl; cpu = refl; there = subst (λ n. k < n) (made.count ∙ sym made.many) lt }; number = refl; seats = sym made.many; words = sym made.many });
+      here = new_ones_are_here d cpus made;
       count = λ k c lt. ap (λ (z : CpuView J). z.cpu.processors) (is_new k c lt) ∙ sym made.count;
       order = λ k c lt. ap (λ (z : CpuView J). z.cpu.processor) (is_new k c lt);
-      tree = made.tree;
+      tree = d.tree;
       shape = record { processors = processors; nodes = made.nodes };
       asks = λ k c lt. (ap (λ (z : CpuView J). z.needs.domain) (is_new k c lt), ap (λ (z : CpuView J). z.needs.shape) (is_new k c lt), ap (λ (z : CpuView J). z.needs.holder) (is_new k c lt));
       leaves = sym made.count;
