@@ -1,8 +1,10 @@
 -- What a crate above may cite of this one; the other files of proofs/ are its own.
-use Rattle.std.proofs.Common.{◌<◌, List, All, refl, sym, ◌∙◌, subst}
+use Rattle.std.proofs.Common.{List, All, refl, sym, subst}
 use Rattle.domain.specs.Views.{DomainView, CpuView, IsOf}
+use Rattle.domain.specs.Waiting.{HasNoneOpen}
 use Rattle.domain.specs.Making.{IsMade}
 use Rattle.domain.specs.Parts.{Each}
+use Rattle.domain.proofs.CallerLemmas.{new_ones_are_here}
 use Rattle.driver.specs.Pools.{IsIdle}
 -- behind a look at a list: the processor is the same
 pub use Rattle.driver.proofs.Rows.{same_itself, same_taken}
@@ -22,7 +24,7 @@ pub use Rattle.driver.proofs.Keeping.{idle_kept}
 module _ {J : Type 0} where
   -- the processors of a new domain are idle, so they may make a pool
   pub new_ones_are_idle : {bounds : _} (d : DomainView) (cpus : List (CpuView J)) → IsMade bounds d cpus → All (IsIdle d) cpus
-  new_ones_are_idle d cpus made = λ k c lt. subst (IsIdle d) (sym (made.each k c lt)) record { here = record { domain = refl; bay = refl; home = refl; free = refl; asks = (k, refl); many = sym made.many; fits = record { domain = refl; seat = refl; tallies = refl; cpu = refl; there = subst (λ n. k < n) (made.count ∙ sym made.many) lt }; number = refl; seats = sym made.many; words = sym made.many }; closed = refl }
+  new_ones_are_idle d cpus made = λ k c lt. record { here = new_ones_are_here d cpus made k c lt; closed = subst HasNoneOpen (sym (made.each k c lt)) refl }
 
   -- those that a closed pool gives are of its domain, so it may be taken down with them
   pub idle_ones_are_here : (d : DomainView) (cpus : List (CpuView J)) → All (IsIdle d) cpus → Each (IsOf d) cpus
