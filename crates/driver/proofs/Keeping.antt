@@ -1,6 +1,6 @@
 -- A section that begins and ends, and calls that open no reading: the same ones are open as before.
 use Rattle.std.proofs.Common.{◌≡◌, ℕ, ◌+◌, Bool, true, false, not, cond, ◌&&◌, eqb, List, [], ◌∷◌, ◌++◌, None, filter, length, refl, sym, ap, ◌∙◌, subst, eq-eqb, append-nil, arith}
-use Rattle.std.specs.Prelude.{MatchOption}
+use Rattle.std.specs.Prelude.{Option, Some, MatchOption}
 use Rattle.std.proofs.lemmas.List.Elements.{filter_agree}
 use Rattle.onedom.specs.declared.event.Maker.TheVariants.{Processor}
 use Rattle.onedom.specs.declared.event.Event.{Event}
@@ -14,7 +14,7 @@ use Rattle.sections.specs.Words.{is_held, open_readings}
 use Rattle.sections.specs.Calls.{IsSameCpu, ReadLocks, Unlocks, IsHere}
 use Rattle.funnel.specs.declared.view.Holder.TheVariants as holder
 use Rattle.desk.specs.BayCalls.{holds}
-use Rattle.domain.specs.Views.{DomainView, CpuView, IsEngineOf, IsOf, Stays, IsSameProcessor, with_cpu}
+use Rattle.domain.specs.Views.{Engine, DomainView, CpuView, IsEngineOf, IsOf, Stays, IsSameProcessor, with_cpu}
 use Rattle.domain.specs.Acting.{Act, Acts, ActsAs, loads, finds, asks_for}
 use Rattle.domain.proofs.CallerLemmas.{still_fits, same_trans, same_polled}
 use Rattle.driver.specs.Pools.{IsIdle, IsLent}
@@ -104,6 +104,11 @@ module _ (c begun : sections.CpuView) (r : ReadingView) (locks : ReadLocks c beg
 pub still_here : (c d : sections.CpuView) (r s : ReadingView) → IsSameCpu c d → s ≡ r → IsHere c r → IsHere d s
 still_here c d r s same is here = subst (λ (z : ReadingView). IsHere d z) (sym is) (here.0 ∙ sym same.0, here.1 ∙ sym same.3)
 
+-- an engine has one limit of periods
+one_limit : (d e : DomainView) (first : Option Engine) → MatchOption first ⊥ (IsEngineOf d) → MatchOption first ⊥ (IsEngineOf e) → d.periods ≡ e.periods
+one_limit d e None here there = absurd here
+one_limit d e (Some v) here there = sym here.2 ∙ there.2
+
 module _ {J : Type 0} where
   pub opened : (c begun : CpuView J) (r : ReadingView) → ReadLocks c.cpu begun.cpu r → begun ≡ with_cpu begun.cpu c → Stays c begun → Opens c r begun
   opened c begun r locks rest stays = record { locks = locks; rest = rest; same = same_polled c begun (same_begun c.cpu begun.cpu r locks) rest; stays = stays; here = begun_here c.cpu begun.cpu r locks }
@@ -175,9 +180,11 @@ module _ {J : Type 0} where
   one_domain : (c : CpuView J) (d e : DomainView) → IsOf d c → IsOf e c → d ≡ e
   one_domain c d e is this = λ i. record {
     domain = (sym is.domain ∙ this.domain) i;
+    tree = (sym is.tree ∙ this.tree) i;
     bay = (sym is.bay ∙ this.bay) i;
     tallies = (sym is.fits.tallies ∙ this.fits.tallies) i;
     processors = (sym is.many ∙ this.many) i;
+    periods = one_limit d e c.turn.first is.first this.first i;
   }
 
   -- so behind a call of a domain it stays of whichever it was
