@@ -10,6 +10,9 @@ use Rattle.srcubench.specs.Giving.{jobs_in, RunsEach, GivesRound, GivesAll, Have
 pub one_more : (d : DomainView) (p before : ℕ) (more : Option ℕ) (c b c' : CpuView ℕ) → RunsEach d p before c b → RunsReady d p more b c' → RunsEach d (p + 1) (before + jobs_in more) c c'
 one_more d p before more c b c' each ready = subst (λ k. RunsEach d k (before + jobs_in more) c c') (sym (add-one p)) (b, before, more, each, ready, refl)
 
+pub one_more_of : (d : DomainView) (p before came : ℕ) (more : Option ℕ) (c b c' : CpuView ℕ) → RunsEach d p before c b → RunsReady d p more b c' → came ≡ before + jobs_in more → RunsEach d (p + 1) came c c'
+one_more_of d p before came more c b c' each ready is = subst (λ n. RunsEach d (p + 1) n c c') (sym is) (one_more d p before more c b c' each ready)
+
 -- one round more
 pub one_round : (d : DomainView) (queuers came more : ℕ) (c b c' : CpuView ℕ) → queuers ≡ c.cpu.processor → GivesAll d came c b → GivesRound d queuers more b c' → GivesAll d (came + more) c c'
 one_round d queuers came more c b c' is before one = record {
