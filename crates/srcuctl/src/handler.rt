@@ -67,7 +67,9 @@ pub fn run_told<A: Allocator, R: Read, W: Write>(
     let mut handlers: Vec<Box<dyn Handler>> = Vec::new(rt.alloc());
     for id in 0..HANDLERS {
         let handler = Box::new(rt.alloc(), ToldHandler::new(id)).map_err(|_| RunError::Memory)?;
-        handlers.push(handler).map_err(|_| RunError::Memory)?;
+        if handlers.push(handler).is_err() {
+            return Err(RunError::Memory);
+        }
     }
     run(alloc, rt, reader, writer, limits, &handlers)
 }

@@ -1,5 +1,6 @@
-use Rattle.std.proofs.Common.{◌≡◌, ℕ, inl, refl, subst, rules, arith}
+use Rattle.std.proofs.Common.{◌≡◌, ℕ, Err, inl, refl, subst, rules, arith}
 use denote.Param.Object.{read_made}
+use Rattle.lines.specs.declared.error.RunError.TheVariants as error
 use Rattle.srcuctl.specs.Handlers.{answer_in, Gives}
 use Rattle.srcuctl.proofs.Handed.{AreHanded, one_more, told}
 use Rattle.srcuctl.proofs.Telling.{run_as_told, not_begun}
@@ -9,8 +10,8 @@ use Rattle.srcuctl.proofs.handler.run_told.Goals as goal
 pub returns-in_err-handler : goal.returns-in_err-handler
 returns-in_err-handler g c = not_begun Gives c.args.limits (g.R.Read.remaining c.args.reader.now) (g.W.Write.contents c.args.writer.now) _ (search rules)
 
-pub returns-in_err-map_err : goal.returns-in_err-map_err
-returns-in_err-map_err g c = not_begun Gives c.args.limits (g.R.Read.remaining c.args.reader.now) (g.W.Write.contents c.args.writer.now) _ (search rules)
+pub returns-then-is_err : goal.returns-then-is_err
+returns-then-is_err g c = not_begun Gives c.args.limits (g.R.Read.remaining c.args.reader.now) (g.W.Write.contents c.args.writer.now) (Err error.Memory) refl
 
 -- the box that was put last answers as the handler does that was made for it
 pub loop-id-preserved : goal.loop-id-preserved
