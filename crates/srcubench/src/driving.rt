@@ -127,11 +127,7 @@ pub fn wait_often<R: Wait, A: Allocator>(
 
 /// Drives so many periods in a new domain of so many processors. The `elapsed` is what the clock told, of which no clause
 /// speaks.
-pub fn run_periods<R: Clock + AllocGlobal>(
-    rt: &R,
-    processors: usize,
-    periods: u64,
-) -> Result<Timed>
+pub fn run_periods<R: Clock + AllocGlobal>(rt: &R, processors: usize, periods: u64) -> Result<Timed>
     ensures done { IfOk result (λ timed. timed.done ≡ periods) }
     ensures driven { IfOk result (λ _. HaveDriven processors periods) }
 {

@@ -18,12 +18,7 @@ const ROWS: u32 = 15;
 pub const KEY: u32 = 7;
 
 /// Installs the key as its own plug, and drives a grace period, behind which nobody reads the table that was there.
-fn install_one(
-    domain: &Domain<()>,
-    cpu: &mut Cpu<()>,
-    table: &mut Table,
-    key: u32,
-) -> Result<()>
+fn install_one(domain: &Domain<()>, cpu: &mut Cpu<()>, table: &mut Table, key: u32) -> Result<()>
     requires here { IsOf domain.now cpu.old }
     requires table { table.old.writer.domain ≡ domain.now.domain }
     ensures here { IsOf domain.now cpu.new }
@@ -36,11 +31,7 @@ fn install_one(
 }
 
 /// Installs each of the keys, from 0 on.
-fn install_all(
-    domain: &Domain<()>,
-    cpu: &mut Cpu<()>,
-    table: &mut Table,
-) -> Result<()>
+fn install_all(domain: &Domain<()>, cpu: &mut Cpu<()>, table: &mut Table) -> Result<()>
     requires here { IsOf domain.now cpu.old }
     requires table { table.old.writer.domain ≡ domain.now.domain }
     ensures here { IsOf domain.now cpu.new }
@@ -54,11 +45,7 @@ fn install_all(
 }
 
 /// Installs each of the keys. The table is full then: it refuses one more.
-pub fn fill(
-    domain: &Domain<()>,
-    cpu: &mut Cpu<()>,
-    table: &mut Table,
-) -> Result<()>
+pub fn fill(domain: &Domain<()>, cpu: &mut Cpu<()>, table: &mut Table) -> Result<()>
     requires here { IsOf domain.now cpu.old }
     requires table { table.old.writer.domain ≡ domain.now.domain }
     ensures here { IsOf domain.now cpu.new }

@@ -68,12 +68,7 @@ fn look_often(cpu: &mut Cpu<()>, view: TableView, leased: bool, times: u64) -> R
 }
 
 /// Does so on this processor.
-fn look_here(
-    mut cpu: Cpu<()>,
-    view: TableView,
-    leased: bool,
-    times: u64,
-) -> Result<Cpu<()>, Miss>
+fn look_here(mut cpu: Cpu<()>, view: TableView, leased: bool, times: u64) -> Result<Cpu<()>, Miss>
     requires { view < cells_in cpu.cpu.domain }
     ensures { IfOk result (λ last. LooksOften leased view times cpu last) }
 {

@@ -157,7 +157,10 @@ fn count_versions<R: Threads + Sync + Wait + Clock + Print + AllocGlobal>(rt: &R
 fn count_chains<R: Threads + Sync + Wait + Clock + Print + AllocGlobal>(rt: &R) -> Result<()> {
     for threads in THREADS {
         let timed = notifying::run(rt, threads, COUNTED_READS)?;
-        println!(rt; "threads {threads}: {} calls of a chain in each", timed.done)?;
+        println!(rt;
+            "threads {threads}: {} calls of a chain in each",
+            timed.done
+        )?;
     }
     println!(rt;
         "chain: {} changes",
@@ -175,7 +178,10 @@ fn count_tables<R: Threads + Sync + Wait + Clock + Print + AllocGlobal>(rt: &R) 
             println!(rt; "threads {threads}: {} {looks} in each", timed.done)?;
         }
     }
-    println!(rt; "table: {} installs", installing::run(rt, COUNTED_READS)?.done)?;
+    println!(rt;
+        "table: {} installs",
+        installing::run(rt, COUNTED_READS)?.done
+    )?;
     Ok(())
 }
 

@@ -63,12 +63,7 @@ fn call_often(
 }
 
 /// Does so on this processor, with handlers of its own.
-fn call_here(
-    alloc: Global,
-    mut cpu: Cpu<()>,
-    view: ChainView,
-    times: u64,
-) -> Result<Cpu<()>, Miss>
+fn call_here(alloc: Global, mut cpu: Cpu<()>, view: ChainView, times: u64) -> Result<Cpu<()>, Miss>
     requires cell { view.cell < cells_in cpu.cpu.domain }
     requires ids { view.ids ≡ 4 }
     ensures { IfOk result (λ last. CallsOften view times cpu last) }

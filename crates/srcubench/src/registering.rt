@@ -18,12 +18,7 @@ pub const BLOCKS: u64 = 4;
 const LAST: u64 = BLOCKS - 1;
 
 /// Registers a block of priority 0, and drives a grace period, behind which nobody reads the chain without it.
-fn register_one(
-    domain: &Domain<()>,
-    cpu: &mut Cpu<()>,
-    chain: &mut Chain,
-    id: u64,
-) -> Result<()>
+fn register_one(domain: &Domain<()>, cpu: &mut Cpu<()>, chain: &mut Chain, id: u64) -> Result<()>
     requires here { IsOf domain.now cpu.old }
     requires chain { chain.old.writer.domain ≡ domain.now.domain }
     requires id { id < chain.old.ids }
@@ -37,12 +32,7 @@ fn register_one(
 }
 
 /// Unregisters a block, and drives a grace period, behind which nobody calls it.
-fn unregister_one(
-    domain: &Domain<()>,
-    cpu: &mut Cpu<()>,
-    chain: &mut Chain,
-    id: u64,
-) -> Result<()>
+fn unregister_one(domain: &Domain<()>, cpu: &mut Cpu<()>, chain: &mut Chain, id: u64) -> Result<()>
     requires here { IsOf domain.now cpu.old }
     requires chain { chain.old.writer.domain ≡ domain.now.domain }
     requires id { id < chain.old.ids }

@@ -10,7 +10,7 @@ loop-processor-init g c = record { here = c.requires.domain; runs = (refl, refl)
 
 pub loop-processor-preserved : goal.loop-processor-preserved
 loop-processor-preserved g c = elim c.match-branch-2.branch [
-    in-Some w ↦
+  | in-Some w ↦
       let some = subst (λ (o : Option ℕ). IfSome o (λ many. (1 ≤ many) × (many ≤ 8))) w.in-Some.is c.in_ok-more.ensures.some in
       let few = some.1 in
       let was = c.loop-processor.invariant.few in
@@ -29,4 +29,4 @@ loop-processor-preserved g c = elim c.match-branch-2.branch [
         runs = one_more_of c.args.domain.now c.loop-processor.processor c.loop-processor.came c.match-branch-2.came c.in_ok-more.field-0 c.args.cpu.now c.loop-processor.cpu c.run_ready.new.cpu c.loop-processor.invariant.runs c.in_ok-more.ensures.runs (w.came-is ∙ (zero ∙ ap (λ (o : Option ℕ). c.loop-processor.came + jobs_in o) (sym w.in_default.is)));
         few = omega (arith, was, now);
       }
-  ]
+]
