@@ -230,7 +230,6 @@ fn read_update_and_drive<R: Wait + Threads + Sync>(
 ) -> ((u64, (bool, bool)), u64)
     requires readers { 0 < cells_in readers.now.domain.domain }
     requires others { others.now.domain ≡ domain.now }
-    requires many { domain.now.processors ≡ 5 }
 {
     let stop = Stop::new();
     join(
@@ -242,7 +241,7 @@ fn read_update_and_drive<R: Wait + Threads + Sync>(
             stop.give();
             told
         },
-        || jobs_of(drive(rt, domain, others, 5, &stop, (0, 0))),
+        || jobs_of(drive(rt, domain, others, &stop, (0, 0))),
     )
 }
 
