@@ -1,2 +1,3 @@
+mod Plugins
 mod Reading
 mod Starting
