@@ -1,3 +1,3 @@
-mod Plugins
+mod Leasing
 mod Reading
 mod Starting

@@ -1,9 +1,9 @@
-//! A table of plug-ins. A thread takes a lease of it, and another reads through that, while a third one changes the table.
+//! A table of plug-ins that is changed while a lease of it goes from one thread to another.
 ghost use Rattle.std.specs.Prelude.{◌≡◌, ◌<◌, Some, IfOk};
 ghost use Rattle.sections.specs.Words.{cells_in};
 ghost use Rattle.domain.specs.Views.{IsOf};
 ghost use Rattle.plugs.specs.Tables.{plug_of};
-ghost use Rattle.tour.specs.Plugins.{HasPlug, GetsAndReleases, InstallsAndLooks};
+ghost use Rattle.tour.specs.Leasing.{HasPlug, GetsAndReleases, InstallsAndLooks};
 
 use crate::config::{Old, Sign};
 use anyhow::Result;
@@ -115,8 +115,8 @@ impl fmt::Display for Leased {
     }
 }
 
-/// A thread takes a lease, and meanwhile an updater installs another plug. Behind that the lease is read on another
-/// processor, and released there.
+/// Another thread takes a lease, and this one installs another plug meanwhile. Then it has the lease, reads through it on a
+/// third processor, and releases it there.
 pub fn lend<R: Threads + Clock + Sync>(
     rt: &R,
     domain: &Domain<Old>,

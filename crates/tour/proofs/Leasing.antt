@@ -10,7 +10,7 @@ use Rattle.plugs.specs.declared.rows.Row.{Row}
 use Rattle.plugs.specs.Tables.{plug_of, IsTable, text_of, AreRead}
 use Rattle.plugs.specs.Views.{LeaseView}
 use Rattle.plugs.specs.Reading.{AreWords, Leases, Gets}
-use Rattle.tour.specs.Plugins.{HasPlug}
+use Rattle.tour.specs.Leasing.{HasPlug}
 
 same_words : (found : FoundView) (xs ys : List ℕ) → AreWords found xs → AreWords found ys → xs ≡ ys
 same_words found xs ys a b = ext_get_or 0 xs ys (a.long ∙ sym b.long) (λ i lt. let low : i < 16 = (let n = a.long in omega (arith, lt, n)) in a.each i low ∙ sym (b.each i low))
