@@ -19,7 +19,7 @@ use anyhow::Result;
 use callbacks::replace_and_serve;
 use config::{Archive, Config, Old, Sign};
 use domain::{Cpu, Domain, HeldPin, Limits, Writer};
-use plugins::lend;
+use plugins::{furnish, lend};
 use readers::{Slept, open, read_and_sleep, read_quickly};
 use shelf::{Shelf, Values};
 use std::alloc::Global;
@@ -265,8 +265,17 @@ fn show_filed<R: Threads + Wait + Clock + Print + AllocGlobal + Sync>(rt: &R) ->
 
 /// A lease of a table goes from a thread to another, in a domain of their own.
 fn show_leased<R: Threads + Clock + Print + AllocGlobal + Sync>(rt: &R) -> Result<()> {
-    let (domain, taker, reader, updater, writer) = trio(rt.alloc())?;
-    let leased = lend(rt, &domain, taker, reader, updater, writer)?;
+    let (domain, taker, mut reader, mut updater, writer) = trio(rt.alloc())?;
+    let (mut table, view) = furnish(&domain, &mut updater, writer)?;
+    let leased = lend(
+        rt,
+        &domain,
+        taker,
+        &mut reader,
+        &mut updater,
+        &mut table,
+        view,
+    )?;
     println!(rt; "{leased}")?;
     Ok(())
 }

@@ -17,7 +17,11 @@ use std::time::Clock;
 const KEY: u32 = 7;
 
 /// Takes a cell for a table, and installs two plug-ins.
-fn furnish(domain: &Domain<Old>, cpu: &mut Cpu<Old>, writer: Writer) -> Result<(Table, TableView)>
+pub fn furnish(
+    domain: &Domain<Old>,
+    cpu: &mut Cpu<Old>,
+    writer: Writer,
+) -> Result<(Table, TableView)>
     requires cpu { IsOf domain.now cpu.old }
     requires writer { writer.domain ≡ domain.now.domain }
     ensures cpu { IsOf domain.now cpu.new }
@@ -121,31 +125,33 @@ pub fn lend<R: Threads + Clock + Sync>(
     rt: &R,
     domain: &Domain<Old>,
     taker: Cpu<Old>,
-    mut reader: Cpu<Old>,
-    mut updater: Cpu<Old>,
-    writer: Writer,
+    reader: &mut Cpu<Old>,
+    updater: &mut Cpu<Old>,
+    table: &mut Table,
+    view: TableView,
 ) -> Result<Leased>
     requires taker { IsOf domain.now taker }
-    requires reader { IsOf domain.now reader }
-    requires updater { IsOf domain.now updater }
-    requires writer { (writer.domain ≡ domain.now.domain) × (writer.cell < cells_in domain.now.domain) }
+    requires reader { IsOf domain.now reader.old }
+    requires updater { IsOf domain.now updater.old × (table.old.writer.domain ≡ domain.now.domain) }
+    requires cell { view < cells_in domain.now.domain }
     ensures { IfOk result (λ l. l.behind ≡ l.before) }
 {
-    let (mut table, view) = furnish(domain, &mut updater, writer)?;
-    let looked_up = view.lookup(&mut reader, KEY)?; // in a section of its own
-    let taken_on = taker.processor();
+    let looked_up = view.lookup(reader, KEY)?; // in a section of its own
+    let (taken_on, released_on) = (taker.processor(), reader.processor());
     let taken = Sign::new();
     let (leased, changed) = join(
         rt,
         || take_lease(taker, view, &taken),
-        || {
+        || -> Result<(u64, Option<u32>)>
+            requires { IsOf domain.now updater.now × (table.now.writer.domain ≡ domain.now.domain) × (view < cells_in domain.now.domain) }
+        {
             taken.wait(rt);
-            change(domain, &mut updater, &mut table, view)
+            change(domain, updater, table, view)
         },
     );
     let (lease, before) = leased?;
     let version = lease.version();
-    let behind = read_and_release(&mut reader, lease);
+    let behind = read_and_release(reader, lease);
     let (installed, new) = changed?;
     Ok(Leased {
         looked_up,
@@ -154,7 +160,7 @@ pub fn lend<R: Threads + Clock + Sync>(
         before,
         installed,
         new,
-        released_on: reader.processor(),
+        released_on,
         behind,
     })
 }
