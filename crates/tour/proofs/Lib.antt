@@ -1,2 +1,3 @@
+mod Leasing
 mod Reading
 mod Starting

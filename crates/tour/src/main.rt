@@ -9,6 +9,7 @@ ghost use Rattle.tour.specs.Parts.{IsReady};
 
 mod callbacks;
 mod config;
+mod plugins;
 mod readers;
 #[cfg(test)]
 mod tests;
@@ -18,6 +19,7 @@ use anyhow::Result;
 use callbacks::replace_and_serve;
 use config::{Archive, Config, Old, Sign};
 use domain::{Cpu, Domain, HeldPin, Limits, Writer};
+use plugins::{furnish, lend};
 use readers::{Slept, open, read_and_sleep, read_quickly};
 use shelf::{Shelf, Values};
 use std::alloc::Global;
@@ -261,11 +263,29 @@ fn show_filed<R: Threads + Wait + Clock + Print + AllocGlobal + Sync>(rt: &R) ->
     print_slept(rt, &slept, read, &archive)
 }
 
+/// A lease of a table goes from a thread to another, in a domain of their own.
+fn show_leased<R: Threads + Clock + Print + AllocGlobal + Sync>(rt: &R) -> Result<()> {
+    let (domain, taker, mut reader, mut updater, writer) = trio(rt.alloc())?;
+    let (mut table, view) = furnish(&domain, &mut updater, writer)?;
+    let leased = lend(
+        rt,
+        &domain,
+        taker,
+        &mut reader,
+        &mut updater,
+        &mut table,
+        view,
+    )?;
+    println!(rt; "{leased}")?;
+    Ok(())
+}
+
 /// The threads' processors go with them, and are gone when they end.
 fn tour<R: Threads + Wait + Clock + Print + AllocGlobal + Sync>(rt: &R) -> Result<()> {
     show_wait(rt)?;
     show_handed(rt)?;
-    show_filed(rt)
+    show_filed(rt)?;
+    show_leased(rt)
 }
 
 fn main(rt: HostRuntime) -> Result<()> {
