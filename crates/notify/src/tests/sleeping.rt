@@ -5,7 +5,7 @@ ghost use Rattle.domain.specs.Views.{IsOf};
 
 use super::called::Fixed;
 use crate::{BAD, Chain, ChainView, DONE, Handler, OK, STOP};
-use domain::{Cpu, Domain, Limits, MakeError};
+use domain::{Cpu, Domain, Limits, MakeError, Progress};
 use std::alloc::{AllocError, Global};
 use std::sync::Arc;
 use std::sync::atomic::AtomicU64;
@@ -75,23 +75,39 @@ fn call_asleep(
     Ok(view.call_chain(&mut cpu, &handlers, 1, 2).ok())
 }
 
-/// Changes the chain twice while a handler sleeps. Tells whether one did, and whether each change was made.
+/// Whether a grace period that is asked for now waits for an open section, after some turns of the engine.
+fn is_held_up(domain: &Domain<()>, cpu: &mut Cpu<()>) -> bool
+    requires { IsOf domain.now cpu.old }
+    ensures { IsOf domain.now cpu.new }
+{
+    let mut cookie = domain.start_poll(cpu);
+    let mut waits = false;
+    for _ in 0..8 {
+        waits = matches!(domain.advance(cpu), Ok(Progress::Waiting(_)));
+    }
+    let ended = cpu.poll(&mut cookie);
+    waits && !ended
+}
+
+/// Changes the chain twice while a handler sleeps. Tells whether one did, whether each change was made, and whether a
+/// grace period waited for the call then.
 fn change_twice<R: Clock>(
     rt: &R,
     domain: &Domain<()>,
     mut cpu: Cpu<()>,
     mut chain: Chain,
     signals: &Signals,
-) -> [bool; 3]
+) -> [bool; 4]
     requires cpu { IsOf domain.now cpu }
     requires chain { (chain.writer.domain ≡ domain.now.domain) × (chain.ids ≡ 4) }
 {
     let asleep = wait_for(rt, &signals.inside, 1);
     let gone = chain.unregister(domain, &mut cpu, 2).is_ok();
+    let held_up = is_held_up(domain, &mut cpu);
     signals.changes.fetch_add(1, SeqCst);
     let came = chain.register(domain, &mut cpu, 3, 9).is_ok();
     signals.changes.fetch_add(1, SeqCst);
-    [asleep, gone, came]
+    [asleep, gone, came, held_up]
 }
 
 /// A domain of two processors, and a chain in it.
@@ -137,7 +153,7 @@ fn call_beside<R: Threads>(
     chain: Chain,
     view: ChainView,
     signals: (Arc<Signals>, Arc<Signals>),
-) -> (Result<Option<(u32, u64)>, AllocError>, [bool; 3])
+) -> (Result<Option<(u32, u64)>, AllocError>, [bool; 4])
     requires view { (view.cell < cells_in caller.cpu.domain) × (view.ids ≡ 4) }
     requires changer { IsOf domain.now changer }
     requires chain { (chain.writer.domain ≡ domain.now.domain) × (chain.ids ≡ 4) }
@@ -172,7 +188,7 @@ fn run_asleep<R: Threads>(
     rt: &R,
     host: HostRuntime,
     signals: (Arc<Signals>, Arc<Signals>),
-) -> Result<([bool; 2], Result<Option<(u32, u64)>, AllocError>, [bool; 3]), MakeError> {
+) -> Result<([bool; 2], Result<Option<(u32, u64)>, AllocError>, [bool; 4]), MakeError> {
     let (domain, caller, mut changer, mut chain, view) = two_cpus(host.alloc())?;
     let begun = begin(&domain, &mut changer, &mut chain);
     let (answer, changed) = call_beside(rt, host, &domain, caller, changer, chain, view, signals);
@@ -180,12 +196,13 @@ fn run_asleep<R: Threads>(
 }
 
 /// Would catch a call that looks at the chain again behind each handler: the one that was unregistered while it slept is
-/// called, and the one that was registered is not.
+/// called, and the one that was registered is not. Or one that calls handlers behind the end of its section: then the
+/// grace period does not wait.
 #[test]
 fn asleep(rt: HostRuntime) -> Result<(), Fail> {
     let signals = two_signals(rt.alloc())?;
     let (begun, answer, changed) = run_asleep(&rt, rt, signals)?;
-    assert_eq!(rt; (begun, changed), ([true; 2], [true; 3]));
+    assert_eq!(rt; (begun, changed), ([true; 2], [true; 4]));
     assert_eq!(rt; answer?, Some((7, 2)));
     Ok(())
 }
