@@ -1,5 +1,5 @@
 -- What calls of one processor add to the callbacks that it has counted.
-use Rattle.std.proofs.Common.{◌≡◌, ◌≢◌, ℕ, zero, suc, ◌+◌, ◌^◌, ◌<◌, ◌⊎◌, inl, inr, Bool, List, ◌++◌, refl, sym, ap, ◌∙◌, subst, arith}
+use Rattle.std.proofs.Common.{◌≡◌, ◌≢◌, ℕ, zero, suc, ◌+◌, ◌⊎◌, inl, inr, Bool, List, ◌++◌, refl, sym, ap, ◌∙◌, subst, arith}
 use mathlib.Core.Logic.{dite}
 use native.Mathlib.Decide.{ℕ_discrete}
 use Rattle.onedom.specs.declared.event.Event.{Event}
@@ -90,13 +90,9 @@ adds_act p a c c' h here quiet whose =
     }
 
 -- what is told then
-pub tells_after : (dq df q f q' f' : ℕ) (c c' : CpuView Unit) → Adds dq df c c' → TellsOf c.calls.processor q f (own_deeds c.calls) → q' ≡ q + dq → (f + df < 2 ^ 64 → f' ≡ f + df) → TellsOf c'.calls.processor q' f' (own_deeds c'.calls)
+pub tells_after : (dq df q f q' f' : ℕ) (c c' : CpuView Unit) → Adds dq df c c' → TellsOf c.calls.processor q f (own_deeds c.calls) → q' ≡ q + dq → f' ≡ f + df → TellsOf c'.calls.processor q' f' (own_deeds c'.calls)
 tells_after dq df q f q' f' c c' h was queued finished = subst (λ k. TellsOf k q' f' (own_deeds c'.calls)) (sym h.same) (record {
   queued_are = let a = h.queued_are in let b = was.queued_are in omega (arith, a, b, queued);
-  finished_are = λ few.
-      let a = h.finished_are in
-      let b = was.finished_are (omega (arith, few, a)) in
-      let n = finished (omega (arith, few, a, b)) in
-      omega (arith, a, b, n);
+  finished_are = let a = h.finished_are in let b = was.finished_are in omega (arith, a, b, finished);
   others = λ k ne. h.others k ne ∙ was.others k ne;
 })

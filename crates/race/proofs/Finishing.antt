@@ -10,9 +10,10 @@ use Rattle.sections.specs.Calls.{Unlocks}
 use Rattle.desk.specs.Views.{SeatView}
 use Rattle.desk.specs.Calls.{new_seat, AreAllSeats}
 use Rattle.domain.specs.declared.domain.cleanup.Totals as domain
-use Rattle.domain.specs.Views.{CpuView, IsOf, Stays, with_cpu}
+use Rattle.domain.specs.declared.domain.cleanup.InUse.{InUse}
+use Rattle.domain.specs.Views.{DomainView, CpuView, IsOf, Stays, with_cpu}
 use Rattle.domain.specs.Parts.{Each}
-use Rattle.domain.specs.Cleanup.{IsTakenDown}
+use Rattle.domain.specs.Cleanup.{IsTakenDown, IsRefused}
 use Rattle.plugs.specs.Views.{LeaseView}
 use Rattle.calls.specs.Tallies.{queued_in, finished_in}
 use Rattle.calls.specs.Views.{CallSeatView}
@@ -22,7 +23,7 @@ use Rattle.race.specs.declared.workers.Workers.{Workers}
 use Rattle.race.specs.declared.totals.RaceTotals.{RaceTotals}
 use Rattle.race.specs.Courses.{IsCourse}
 use Rattle.race.specs.Readers.{one_if}
-use Rattle.race.specs.Updaters.{own_deeds}
+use Rattle.race.specs.Updaters.{own_deeds, HasMadeAll}
 use Rattle.race.specs.Workers.{EachAt, IsBack, AreBack, opened_by, closed_by}
 use Rattle.race.specs.Endings.{ClosesDesk, EndsSections}
 use Rattle.race.specs.Totals.{Agrees, AreCounts}
@@ -30,7 +31,7 @@ use Rattle.race.proofs.Placing as placing
 use Rattle.race.proofs.Parting.{sum_map, sum_same}
 use Rattle.race.proofs.Stepping.{released_opens, released_closes}
 use Rattle.race.proofs.Summing.{opened_closed}
-use Rattle.race.proofs.Telling.{AreInPlace, opened_told, closed_told, queued_told, finished_told, all_told}
+use Rattle.race.proofs.Telling.{AreInPlace, opened_told, closed_told, queued_told, finished_told, seen_finished, AreKnown, known_in_use}
 
 -- The last lease
 
@@ -165,30 +166,34 @@ module _ (g : Course) (w : Workers) (back : AreBack g w) where
     idle_but : (k : ℕ) (c : CpuView Unit) → k < length rs → (get_or all k c).calls.seen ≡ []
     idle_but k c lt = idle_all k c (let n = all_long in let long = cpus_long in omega (arith, lt, n, long)) lt
 
+    pub in_use_known : (cause : InUse) (d' : DomainView) (all' : List (CpuView Unit)) → IsRefused g.domain all cause d' all' → AreKnown g.domain all
+    in_use_known cause d' all' h = known_in_use g.domain all places u cause d' all' h
+
     u_last : get_or all (length rs) u ≡ u
     u_last = ap (λ (l : List (CpuView Unit)). get_or l (length rs) u) all_are ∙ (ap (λ k. get_or (cpus ++ u ∷ []) k u) (sym cpus_long) ∙ get_or-append_seam cpus u [] u)
 
     behind : g.domain.processors ≡ length rs + 1
     behind = let n = back.many in omega (arith, n, many)
 
-    module _ (course : IsCourse g) (some : 1 ≤ g.desk.seats) (t : RaceTotals) (opened : t.opened ≡ opened_by rs) (closed : t.closed ≡ closed_by rs + ended) (queued : t.queued ≡ w.updater.queued) (finished : t.finished ≡ w.updater.finished) where
+    module _ (some : 1 ≤ g.desk.seats) (t : RaceTotals) (opened : t.opened ≡ opened_by rs) (closed : t.closed ≡ closed_by rs + ended) (queued : t.queued ≡ w.updater.queued) (finished : t.finished ≡ w.updater.finished) where
+      first : 0 < length rs
+      first = let n = back.many in omega (arith, n, some)
+
+      same_number : u.calls.processor ≡ w.updater.cpu.calls.processor
+      same_number = ap (λ (s : CallSeatView Unit). s.processor) ends.calls
+
       agrees : (d : domain.Totals) → IsTakenDown g.domain all d → Agrees t d
       agrees d down =
-          let first : 0 < length rs = (let n = back.many in omega (arith, n, some)) in
           let calls = ends.calls in
           let own = back.updater.tells.calls in
-          let p : u.calls.processor ≡ w.updater.cpu.calls.processor = ap (λ (s : CallSeatView Unit). s.processor) calls in
           let all_queued : d.queued ≡ w.updater.queued =
-          queued_told g.domain all d down places (length rs) first behind idle_but u u_last
-          ∙ (ap (λ (s : CallSeatView Unit). queued_in s.processor (own_deeds s)) calls ∙ own.queued_are) in
-          let all_finished : d.finished ≡ finished_in w.updater.cpu.calls.processor (own_deeds w.updater.cpu.calls) =
-          finished_told g.domain all d down places (length rs) first behind idle_but u u_last (λ q ne. ap (λ (s : CallSeatView Unit). finished_in q (own_deeds s)) calls ∙ own.others q (λ e. ne (e ∙ sym p)))
-          ∙ ap (λ (s : CallSeatView Unit). finished_in s.processor (own_deeds s)) calls in
-          let same = all_told g.domain all d down places (length rs) first behind idle_but u u_last in
-          let few = back.updater.queued in
-          let fewer = back.updater.versions in
-          let most = course.few in
-          let told = own.finished_are (omega (arith, all_queued, all_finished, same, few, fewer, most)) in
+          down.totals.queued
+          ∙ (queued_told g.domain all down.all down.deeds_of_all places (length rs) first behind idle_but u u_last
+          ∙ (ap (λ (s : CallSeatView Unit). queued_in s.processor (own_deeds s)) calls ∙ own.queued_are)) in
+          let all_finished : d.finished ≡ w.updater.finished =
+          down.totals.finished
+          ∙ (finished_told g.domain all down.all down.deeds_of_all places (length rs) first behind idle_but u u_last (λ q ne. ap (λ (s : CallSeatView Unit). finished_in q (own_deeds s)) calls ∙ own.others q (λ e. ne (e ∙ sym same_number)))
+          ∙ (ap (λ (s : CallSeatView Unit). finished_in s.processor (own_deeds s)) calls ∙ own.finished_are)) in
           let o = opened_told g.domain all d down places in
           let oo = opened_in_all in
           let c = closed_told g.domain all d down places in
@@ -196,22 +201,36 @@ module _ (g : Course) (w : Workers) (back : AreBack g w) where
             opened = omega (arith, o, oo, opened);
             closed = omega (arith, c, cc, closed);
             queued = omega (arith, all_queued, queued);
-            finished = omega (arith, all_finished, told, finished);
+            finished = omega (arith, all_finished, finished);
           }
 
       told : {X : Type 0} (P : X → Type 0) (r : Result domain.Totals X) → MatchResult r (λ d. IsTakenDown g.domain all d) P → IfSome (result_ok r) (Agrees t)
       told P (Ok d) down = agrees d down
       told P (Err x) h = tt
 
-      pub counts_are : (desk : ClosesDesk g.desk seats ended) → t.versions ≡ w.updater.versions → {X : Type 0} (P : X → Type 0) (r : Result domain.Totals X) → MatchResult r (λ d. IsTakenDown g.domain all d) P → t.domain ≡ result_ok r → AreCounts g.rounds t
-      counts_are desk versions P r answer is =
+      pub counts_are : (desk : ClosesDesk g.desk seats ended) → {X : Type 0} (P : X → Type 0) (r : Result domain.Totals X) → MatchResult r (λ d. IsTakenDown g.domain all d) P → t.domain ≡ result_ok r → AreCounts t
+      counts_are desk P r answer is =
           let whole = opened_closed g rs back.many back.each desk.left desk.closes in
           let one = desk.one in
-          let bits = one_bit desk.left in
-          let few = back.updater.queued in
-          let fewer = back.updater.versions in record {
+          let bits = one_bit desk.left in record {
             closed = omega (arith, whole, one, bits, opened, closed);
-            versions = omega (arith, versions, fewer);
-            queued = omega (arith, versions, few, queued);
             domain = subst (λ o. IfSome o (Agrees t)) (sym is) (told P r answer);
           }
+
+      known : {X : Type 0} (P : X → Type 0) → ((x : X) → P x → AreKnown g.domain all) → (r : Result domain.Totals X) → MatchResult r (λ d. IsTakenDown g.domain all d) P → AreKnown g.domain all
+      known P in_use (Ok d) down = record { all = down.all; of_all = down.deeds_of_all }
+      known P in_use (Err x) h = in_use x h
+
+      -- what the updater has seen finished it finished itself, so it finished all that it queued
+      finished_all : AreKnown g.domain all → HasMadeAll g w.updater → t.finished ≡ t.queued
+      finished_all deeds made =
+          let mine = seen_finished g.domain all deeds.all deeds.of_all places (length rs) first behind idle_but u u_last in
+          let seen = ap (λ (s : CallSeatView Unit). finished_in s.processor s.seen) ends.calls in
+          let own = ap (λ (s : CallSeatView Unit). finished_in s.processor (own_deeds s)) ends.calls in
+          let run = made.run in
+          let told = back.updater.tells.calls.finished_are in
+          let few = back.updater.tells.ran in
+          omega (arith, mine, seen, own, run, told, few, queued, finished)
+
+      pub finished_whatever : {X : Type 0} (P : X → Type 0) (r : Result domain.Totals X) → MatchResult r (λ d. IsTakenDown g.domain all d) P → ((x : X) → P x → AreKnown g.domain all) → HasMadeAll g w.updater → t.finished ≡ t.queued
+      finished_whatever P r answer in_use made = finished_all (known P in_use r answer) made

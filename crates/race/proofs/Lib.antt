@@ -4,7 +4,10 @@ mod Sections
 mod Callbacks
 mod Stepping
 mod Counted
+mod Ran
 mod Updating
+mod Rounds
+mod Settling
 mod Placing
 mod Comings
 mod Seating

@@ -89,9 +89,10 @@ new_updater g k c t new table =
         closed = ap closed_in new.none;
         calls = record {
           queued_are = ap (queued_in c.calls.processor) own;
-          finished_are = λ few. sym (ap (finished_in c.calls.processor) own);
+          finished_are = ap (finished_in c.calls.processor) own;
           others = λ q ne. ap (finished_in q) own;
         };
+        ran = omega arith;
       };
       none = (refl, refl);
     }

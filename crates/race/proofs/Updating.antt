@@ -1,20 +1,25 @@
 -- What each call of the updater's processor adds to what the updater tells.
-use Rattle.std.proofs.Common.{◌≡◌, ℕ, ◌+◌, ◌^◌, ◌<◌, inl, inr, List, [], ◌∷◌, ◌++◌, refl, sym, ap, ◌∙◌, append_assoc, arith}
+use Rattle.std.proofs.Common.{◌≡◌, ℕ, ◌+◌, ◌≤◌, inl, inr, Option, Some, None, IfSome, List, [], ◌∷◌, ◌++◌, refl, sym, ap, ◌∙◌, append_assoc, arith}
 use Rattle.onedom.specs.declared.event.Event.{Event}
 use Rattle.sections.specs.WriterViews.{WriterView}
 use Rattle.sections.specs.Writers.{questions}
 use Rattle.sseq.specs.Numbers.{cookie_at}
 use Rattle.onedom.specs.declared.event.Maker.TheVariants.{Processor}
 use Rattle.onedom.specs.declared.event.Event.TheVariants.{Note, Put}
+use Rattle.sections.specs.Views as sections
+use Rattle.calls.specs.Tallies.{queued_in, finished_in, deeds_of}
+use Rattle.calls.specs.Views.{CallSeatView, BatchView}
+use Rattle.calls.specs.Calls.{TakesIn, FinishesIn}
 use Rattle.calls.specs.declared.refusals.CallRefusal.{CallRefusal}
 use Rattle.calls.specs.declared.refusals.CallRefusal.TheVariants as calling
-use Rattle.domain.specs.Views.{CpuView, IsOf}
+use Rattle.domain.specs.Views.{CpuView, IsOf, callbacks_of}
 use Rattle.domain.specs.Acting.{loads, notes, takes, asks_for, finishes, ActsAs, QueuesNone}
 use Rattle.plugs.specs.Views.{TableState}
 use Rattle.plugs.specs.Changes.{Frees, Publishes, Installs, LacksSlotFor}
 use Rattle.race.specs.declared.course.Course.{Course}
 use Rattle.race.specs.declared.updater.Updater.{Updater}
-use Rattle.race.specs.Updaters.{IsUpdaterOf, Tells, GoesOn}
+use Rattle.race.specs.Updaters.{own_deeds, IsUpdaterOf, Tells, GoesOn}
+use Rattle.race.proofs.Ran.{own_queued, batch_queued, finished_before}
 use Rattle.race.proofs.Counted.{quiet_append, questions_quiet, Adds, adds_nothing, adds_act, tells_after}
 
 module _ (g : Course) (u : Updater) (is : IsUpdaterOf g u) (tells : Tells u) where
@@ -22,13 +27,14 @@ module _ (g : Course) (u : Updater) (is : IsUpdaterOf g u) (tells : Tells u) whe
   same_number : u.cpu.calls.processor ≡ u.cpu.cpu.processor
   same_number = sym is.here.fits.cpu
 
-  goes_on : (v dq df : ℕ) (u' : Updater) → IsOf g.domain u'.cpu → u'.table.writer.domain ≡ u.table.writer.domain → u'.cpu.cpu.processor ≡ u.cpu.cpu.processor → Adds dq df u.cpu u'.cpu → u'.versions ≡ u.versions + v → u'.queued ≡ u.queued + dq → (u.finished + df < 2 ^ 64 → u'.finished ≡ u.finished + df) → GoesOn g v dq u u'
-  goes_on v dq df u' here table processor adds versions queued finished = record {
+  goes_on : (v dq df : ℕ) (u' : Updater) → IsOf g.domain u'.cpu → u'.table.writer.domain ≡ u.table.writer.domain → u'.cpu.cpu.processor ≡ u.cpu.cpu.processor → Adds dq df u.cpu u'.cpu → u'.versions ≡ u.versions + v → u'.queued ≡ u.queued + dq → u'.finished ≡ u.finished + df → u'.finished ≤ u'.queued → GoesOn g v dq u u'
+  goes_on v dq df u' here table processor adds versions queued finished ran = record {
     is = record { here = here; table = table ∙ is.table };
     tells = record {
       opened = adds.opened ∙ tells.opened;
       closed = adds.closed ∙ tells.closed;
       calls = tells_after dq df u.queued u.finished u'.queued u'.finished u.cpu u'.cpu adds tells.calls queued finished;
+      ran = ran;
     };
     processor = processor;
     versions_are = versions;
@@ -38,28 +44,46 @@ module _ (g : Course) (u : Updater) (is : IsUpdaterOf g u) (tells : Tells u) whe
   -- a call that only loads
   pub after_loads : (cpu : CpuView Unit) → IsOf g.domain cpu → ActsAs loads u.cpu cpu → GoesOn g 0 0 u (record u { cpu = cpu })
   after_loads cpu here acts = goes_on 0 0 0 (record u { cpu = cpu }) here refl acts.events.same.3
-      (adds_act u.cpu.cpu.processor (loads u.cpu.cpu.processor) u.cpu cpu acts same_number (record { opened = refl; closed = refl }) (inl refl)) (omega arith) (omega arith) (λ few. omega arith)
+      (adds_act u.cpu.cpu.processor (loads u.cpu.cpu.processor) u.cpu cpu acts same_number (record { opened = refl; closed = refl }) (inl refl)) (omega arith) (omega arith) (omega arith) tells.ran
 
   -- a call that was queued
   pub after_call : (cookie : ℕ) (cpu : CpuView Unit) → IsOf g.domain cpu → ActsAs (asks_for cookie 1) u.cpu cpu → GoesOn g 0 1 u (record u { cpu = cpu; queued = u.queued + 1 })
   after_call cookie cpu here acts = goes_on 0 1 0 (record u { cpu = cpu; queued = u.queued + 1 }) here refl acts.events.same.3
-      (adds_act u.cpu.cpu.processor (asks_for cookie 1 u.cpu.cpu.processor) u.cpu cpu acts same_number (record { opened = refl; closed = refl }) (inl refl)) (omega arith) (omega arith) (λ few. omega arith)
+      (adds_act u.cpu.cpu.processor (asks_for cookie 1 u.cpu.cpu.processor) u.cpu cpu acts same_number (record { opened = refl; closed = refl }) (inl refl)) (omega arith) (omega arith) (omega arith) (let ran = tells.ran in omega (arith, ran))
 
   -- and one that was refused
   pub after_refusal : (refusal : CallRefusal) (cpu : CpuView Unit) → IsOf g.domain cpu → QueuesNone refusal u.cpu cpu → GoesOn g 0 0 u (record u { cpu = cpu })
   after_refusal calling.Exhausted cpu here acts = after_loads cpu here acts
   after_refusal calling.Memory cpu here (cookie, acts) = goes_on 0 0 0 (record u { cpu = cpu }) here refl acts.events.same.3
-      (adds_act u.cpu.cpu.processor (notes cookie u.cpu.cpu.processor) u.cpu cpu acts same_number (record { opened = refl; closed = refl }) (inl refl)) (omega arith) (omega arith) (λ few. omega arith)
+      (adds_act u.cpu.cpu.processor (notes cookie u.cpu.cpu.processor) u.cpu cpu acts same_number (record { opened = refl; closed = refl }) (inl refl)) (omega arith) (omega arith) (omega arith) tells.ran
 
   -- a look at what is ready
   pub after_take : (changes owner : ℕ) (cpu : CpuView Unit) → IsOf g.domain cpu → ActsAs (takes changes owner) u.cpu cpu → GoesOn g 0 0 u (record u { cpu = cpu })
   after_take changes owner cpu here acts = goes_on 0 0 0 (record u { cpu = cpu }) here refl acts.events.same.3
-      (adds_act u.cpu.cpu.processor (takes changes owner u.cpu.cpu.processor) u.cpu cpu acts same_number (record { opened = refl; closed = refl }) (inl refl)) (omega arith) (omega arith) (λ few. omega arith)
+      (adds_act u.cpu.cpu.processor (takes changes owner u.cpu.cpu.processor) u.cpu cpu acts same_number (record { opened = refl; closed = refl }) (inl refl)) (omega arith) (omega arith) (omega arith) tells.ran
 
   -- the end of a batch of its own
-  pub after_finish : (owner count : ℕ) (u' : Updater) → IsOf g.domain u'.cpu → ActsAs (finishes owner count) u.cpu u'.cpu → owner ≡ u.cpu.cpu.processor → u'.table ≡ u.table → u'.versions ≡ u.versions → u'.queued ≡ u.queued → (u.finished + count < 2 ^ 64 → u'.finished ≡ u.finished + count) → GoesOn g 0 0 u u'
-  after_finish owner count u' here acts own table versions queued finished = goes_on 0 0 count u' here (ap (λ (t : TableState). t.writer.domain) table) acts.events.same.3
-      (adds_act u.cpu.cpu.processor (finishes owner count u.cpu.cpu.processor) u.cpu u'.cpu acts same_number (record { opened = refl; closed = refl }) (inr own)) (omega (arith, versions)) (omega (arith, queued)) finished
+  pub after_finish : (owner count : ℕ) (u' : Updater) → IsOf g.domain u'.cpu → ActsAs (finishes owner count) u.cpu u'.cpu → owner ≡ u.cpu.cpu.processor → u'.table ≡ u.table → u'.versions ≡ u.versions → u'.queued ≡ u.queued → u'.finished ≡ u.finished + count → u'.finished ≤ u'.queued → GoesOn g 0 0 u u'
+  after_finish owner count u' here acts own table versions queued finished ran = goes_on 0 0 count u' here (ap (λ (t : TableState). t.writer.domain) table) acts.events.same.3
+      (adds_act u.cpu.cpu.processor (finishes owner count u.cpu.cpu.processor) u.cpu u'.cpu acts same_number (record { opened = refl; closed = refl }) (inr own)) (omega (arith, versions)) (omega (arith, queued)) finished ran
+
+  -- no more were finished before than the batch's first number
+  pub few_finished : (b : BatchView Unit) (s : CallSeatView Unit) → b.processor ≡ u.cpu.cpu.processor → FinishesIn (callbacks_of g.domain) u.cpu.calls b s → u.finished ≤ b.first
+  few_finished b s own h =
+      let before = finished_before (callbacks_of g.domain) u.cpu.calls b s h in
+      let mine = ap (λ k. finished_in k (own_deeds u.cpu.calls)) (own ∙ sym same_number) in
+      let told = tells.calls.finished_are in
+      omega (arith, before, mine, told)
+
+  -- the jobs of a batch of its own are among those that it has queued
+  pub few_taken : (p max : ℕ) (c : sections.CpuView) (s : CallSeatView Unit) (taken : Option (BatchView Unit)) (c' : sections.CpuView) → p ≡ u.cpu.cpu.processor → TakesIn (callbacks_of g.domain) p max c s taken c' u.cpu.calls → IfSome taken (λ b. b.first + b.count ≤ u.queued)
+  few_taken p max c s None c' is_own h = tt
+  few_taken p max c s (Some b) c' is_own h =
+      let among = batch_queued (callbacks_of g.domain) p max c s (Some b) c' u.cpu.calls h in
+      let own = own_queued p u.cpu.calls.seen in
+      let same = ap (λ k. queued_in k (deeds_of k u.cpu.calls.seen)) (same_number ∙ sym is_own) in
+      let told = tells.calls.queued_are in
+      omega (arith, among, own, same, told)
 
 -- Changes of the table
 
@@ -81,14 +105,14 @@ published text version w w' c c' h =
 module _ (g : Course) (u : Updater) (is : IsUpdaterOf g u) (tells : Tells u) where
   -- a version was installed
   pub after_install : (key plug version : ℕ) (t : TableState) (cpu : CpuView Unit) → IsOf g.domain cpu → t.writer.domain ≡ u.table.writer.domain → Installs key plug version u.table u.cpu t cpu → GoesOn g 1 0 u (record u { cpu = cpu; table = t; versions = u.versions + 1 })
-  after_install key plug version t cpu here same h = goes_on g u is tells 1 0 0 (record u { cpu = cpu; table = t; versions = u.versions + 1 }) here same (install_same h) (published _ version u.table.writer t.writer u.cpu cpu h.publishes) (omega arith) (omega arith) (λ few. omega arith)
+  after_install key plug version t cpu here same h = goes_on g u is tells 1 0 0 (record u { cpu = cpu; table = t; versions = u.versions + 1 }) here same (install_same h) (published _ version u.table.writer t.writer u.cpu cpu h.publishes) (omega arith) (omega arith) (omega arith) tells.ran
     where
       install_same : Installs key plug version u.table u.cpu t cpu → cpu.cpu.processor ≡ u.cpu.cpu.processor
       install_same i = i.publishes.puts.puts.puts.notes.adds.same.3 ∙ (i.publishes.puts.puts.puts.puts.same.3 ∙ i.publishes.claims.frees.reclaims.same.1.3)
 
   -- no slot was free
   pub after_none : (key : ℕ) (t : TableState) (cpu : CpuView Unit) → IsOf g.domain cpu → t.writer.domain ≡ u.table.writer.domain → LacksSlotFor key u.table u.cpu t cpu → GoesOn g 0 0 u (record u { cpu = cpu; table = t })
-  after_none key t cpu here same h = goes_on g u is tells 0 0 0 (record u { cpu = cpu; table = t }) here same h.none.frees.reclaims.same.1.3 (freed u.table.writer t.writer u.cpu cpu h.none.frees) (omega arith) (omega arith) (λ few. omega arith)
+  after_none key t cpu here same h = goes_on g u is tells 0 0 0 (record u { cpu = cpu; table = t }) here same h.none.frees.reclaims.same.1.3 (freed u.table.writer t.writer u.cpu cpu h.none.frees) (omega arith) (omega arith) (omega arith) tells.ran
 
 -- One step, and then another
 pub on_and_on : (g : Course) (v q w r : ℕ) (a b c : Updater) → GoesOn g v q a b → GoesOn g w r b c → GoesOn g (v + w) (q + r) a c

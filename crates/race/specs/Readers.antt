@@ -1,11 +1,11 @@
 -- What a reader has, and what it tells of itself.
-use Rattle.std.specs.Prelude.{◌≡◌, ℕ, ◌+◌, ◌^◌, ◌≤◌, List, [], Option, Some, None, count_by, is_some}
+use Rattle.std.specs.Prelude.{◌≡◌, ℕ, ◌+◌, ◌%◌, ◌^◌, ◌≤◌, List, [], Option, Some, None, count_by, is_some}
 use Rattle.sections.specs.Words.{opened_in, closed_in}
 use Rattle.desk.specs.Swaps.{Swap, swaps_of}
 use Rattle.desk.specs.Views.{SeatView}
 use Rattle.domain.specs.Views.{IsOf}
 use Rattle.plugs.specs.Views.{LeaseView}
-use Rattle.plugs.specs.Reading.{Gets}
+use Rattle.plugs.specs.Reading.{Leases, Gets}
 use Rattle.race.specs.declared.course.Course.{Course}
 use Rattle.race.specs.declared.reader.Reader.{Reader}
 
@@ -84,3 +84,14 @@ pub record HasRead (g : Course) (number : ℕ) (r : Reader) : Type 0 where
 pub record Asks (lease : LeaseView) (key : ℕ) (r r' : Reader) : Type 0 where
   pub plug : Option ℕ
   pub gets : Gets lease key plug r.cpu r'.cpu
+
+-- in this round one lease was made of the version that was there, and asked for the round's key while no other was made
+pub record ReadsIn (g : Course) (round : ℕ) (r r' : Reader) : Type 0 where
+  pub lease : LeaseView
+  pub begun : Reader
+  pub leases : Leases g.view lease r.cpu begun.cpu
+  pub opens : Opens g r begun
+  pub asked : Reader
+  pub asks : Asks lease (round % 15) begun asked
+  pub counts : Counts g 1 0 begun asked
+  pub opened : r'.opened ≡ asked.opened

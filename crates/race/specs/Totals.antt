@@ -1,5 +1,5 @@
 -- What a race tells in the end.
-use Rattle.std.specs.Prelude.{◌≡◌, ℕ, ◌*◌, ◌≤◌, IfSome}
+use Rattle.std.specs.Prelude.{◌≡◌, ℕ, ◌*◌, IfSome}
 use Rattle.domain.specs.declared.domain.cleanup.Totals as domain
 use Rattle.race.specs.declared.totals.RaceTotals.{RaceTotals}
 
@@ -10,14 +10,15 @@ pub record Agrees (t : RaceTotals) (d : domain.Totals) : Type 0 where
   pub queued : d.queued ≡ t.queued
   pub finished : d.finished ≡ t.finished
 
--- of so many rounds: each lease was released, no more callbacks were queued than versions installed, one at most in each round, and where the domain was taken down it tells the same counts
-pub record AreCounts (rounds : ℕ) (t : RaceTotals) : Type 0 where
+-- each lease was released, and where the domain was taken down it tells the same counts
+pub record AreCounts (t : RaceTotals) : Type 0 where
   pub closed : t.closed ≡ t.opened
-  pub versions : t.versions ≤ rounds
-  pub queued : t.queued ≤ t.versions
   pub domain : IfSome t.domain (Agrees t)
 
--- and each of so many readers made one lease in each round
+-- so many readers made one lease in each of so many rounds, and released as many. In each round one version was installed and one callback queued, and all of these were finished
 pub record AreTotals (readers rounds : ℕ) (t : RaceTotals) : Type 0 where
-  pub counts : AreCounts rounds t
   pub opened : t.opened ≡ readers * rounds
+  pub versions : t.versions ≡ rounds
+  pub queued : t.queued ≡ rounds
+  pub finished : t.finished ≡ rounds
+  pub counts : AreCounts t

@@ -1,5 +1,5 @@
 -- What the updater has, and what it tells of itself.
-use Rattle.std.specs.Prelude.{◌≡◌, ◌≢◌, ℕ, ◌+◌, ◌%◌, ◌^◌, ◌<◌, ◌≤◌, List}
+use Rattle.std.specs.Prelude.{◌≡◌, ◌≢◌, ℕ, zero, suc, ◌+◌, ◌%◌, ◌^◌, ◌<◌, ◌≤◌, List}
 use Rattle.sections.specs.Words.{opened_in, closed_in}
 use Rattle.calls.specs.declared.view.Deed.{Deed}
 use Rattle.calls.specs.Tallies.{queued_in, finished_in, deeds_of}
@@ -18,17 +18,18 @@ pub record IsUpdaterOf (g : Course) (u : Updater) : Type 0 where
   pub here : IsOf g.domain u.cpu
   pub table : u.table.writer.domain ≡ g.domain.domain
 
--- so many callbacks of processor p were queued, and so many finished, where so many can be told; and none of another processor was finished
+-- so many callbacks of processor p were queued, and so many finished; and none of another processor was finished
 pub record TellsOf (p queued finished : ℕ) (deeds : List (Deed Unit)) : Type 0 where
   pub queued_are : queued_in p deeds ≡ queued
-  pub finished_are : finished_in p deeds < 2 ^ 64 → finished ≡ finished_in p deeds
+  pub finished_are : finished_in p deeds ≡ finished
   pub others : (q : ℕ) → q ≢ p → finished_in q deeds ≡ 0
 
--- What the updater counts is what its processor did: callbacks of its own that it queued and finished, and no other ones. It began no section, and ended none
+-- What the updater counts is what its processor did: callbacks of its own that it queued and finished, no more of these than of those, and no other ones. It began no section, and ended none
 pub record Tells (u : Updater) : Type 0 where
   pub opened : opened_in u.cpu.cpu.mine ≡ 0
   pub closed : closed_in u.cpu.cpu.mine ≡ 0
   pub calls : TellsOf u.cpu.calls.processor u.queued u.finished (own_deeds u.cpu.calls)
+  pub ran : u.finished ≤ u.queued
 
 -- the same processor, with so many versions more, and so many callbacks more that were queued
 pub record GoesOn (g : Course) (versions queued : ℕ) (u u' : Updater) : Type 0 where
@@ -45,12 +46,34 @@ pub record InstallsIn (g : Course) (round : ℕ) (u u' : Updater) : Type 0 where
   pub version : ℕ
   pub installs : Installs (round % 15) round version before.table before.cpu u'.table u'.cpu
 
+-- it queued so many callbacks, and installed nothing
+pub record QueuesOnly (g : Course) (u u' : Updater) : Type 0 where
+  pub queued : ℕ
+  pub goes_on : GoesOn g 0 queued u u'
+
+-- the round's plug was installed with its key, and behind that nothing
+pub record MakesRound (g : Course) (round : ℕ) (u u' : Updater) : Type 0 where
+  pub installed : Updater
+  pub installs : InstallsIn g round u installed
+  pub behind : QueuesOnly g installed u'
+
+-- in so many rounds, one behind the other, the plug of each was installed with its key, and nothing else
+abbrev pub HasInstalled : Course → ℕ → Updater → Updater → Type 0
+HasInstalled g zero u u' = QueuesOnly g u u'
+HasInstalled g (suc round) u u' = (before : Updater) × (HasInstalled g round u before × MakesRound g round before u')
+
 -- at most so many versions were installed, and no more callbacks queued than that
 pub record HasUpdated (g : Course) (u : Updater) : Type 0 where
   pub is : IsUpdaterOf g u
   pub tells : Tells u
   pub versions : u.versions ≤ g.rounds
   pub queued : u.queued ≤ u.versions
+
+-- all rounds were made: in each of them a version was installed and a callback queued. The processor has seen that as many callbacks of its own are finished, by whomever
+pub record HasMadeAll (g : Course) (u : Updater) : Type 0 where
+  pub versions : u.versions ≡ g.rounds
+  pub queued : u.queued ≡ g.rounds
+  pub run : u.queued ≤ finished_in u.cpu.calls.processor u.cpu.calls.seen
 
 -- nothing was done yet
 pub record IsNew (g : Course) (u : Updater) : Type 0 where

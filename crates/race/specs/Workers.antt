@@ -11,7 +11,7 @@ use Rattle.race.specs.declared.making.Start.{Start}
 use Rattle.race.specs.Courses.{IsCourse}
 use Rattle.race.specs.Readers.{IsReaderOf, HasMade, HasRead}
 use Rattle.race.specs.Readers as readers
-use Rattle.race.specs.Updaters.{HasUpdated, IsNew}
+use Rattle.race.specs.Updaters.{HasUpdated, HasMadeAll, IsNew}
 
 -- each of these readers is so, by its place
 abbrev pub EachAt : (ℕ → Reader → Type 0) → List Reader → Type 0
@@ -55,11 +55,12 @@ pub record AreBack (g : Course) (w : Workers) : Type 0 where
   pub updater : HasUpdated g w.updater
   pub last : w.updater.cpu.cpu.processor ≡ g.desk.seats
 
--- and each reader has made all of its rounds
+-- and each of them has made all of its rounds
 pub record HaveRaced (g : Course) (w : Workers) : Type 0 where
   pub many : length w.readers.items ≡ g.desk.seats
   pub each : EachAt (HasRead g) w.readers.items
   pub updater : HasUpdated g w.updater
+  pub all : HasMadeAll g w.updater
   pub last : w.updater.cpu.cpu.processor ≡ g.desk.seats
 
 -- Threads

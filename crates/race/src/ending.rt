@@ -2,6 +2,7 @@
 ghost use Rattle.std.specs.Prelude.{◌≡◌, ◌+◌, ◌<◌, ◌≤◌, length, map, vec_capacity};
 ghost use Rattle.desk.specs.Calls.{AreAllSeats};
 ghost use Rattle.race.specs.Courses.{IsCourse};
+ghost use Rattle.race.specs.Updaters.{HasMadeAll};
 ghost use Rattle.race.specs.Workers.{EachAt, IsBack, AreBack, opened_by, closed_by, HasRoom};
 ghost use Rattle.race.specs.Endings.{ClosesDesk, EndsSections};
 ghost use Rattle.race.specs.Totals.{AreCounts};
@@ -70,8 +71,11 @@ pub fn end(course: Course, workers: Workers, parts: Parts) -> RaceTotals
     requires few { (1 ≤ course.desk.seats) × (course.desk.seats ≤ 63) }
     requires back { AreBack course workers }
     requires room { HasRoom course.desk.seats parts }
-    ensures counts { AreCounts course.rounds result }
+    ensures counts { AreCounts result }
     ensures opened { result.opened ≡ opened_by workers.readers.items }
+    ensures versions { result.versions ≡ workers.updater.versions }
+    ensures queued { result.queued ≡ workers.updater.queued }
+    ensures finished { HasMadeAll course workers.updater → result.finished ≡ result.queued }
 {
     let Workers {
         readers,

@@ -23,8 +23,8 @@ use std::thread::Threads;
 /// There are 1 to 63 readers and 1 to 1000 rounds. Each reader has a thread of its own, and passes the gate twice in each
 /// round. The call waits for all of them, and so for as long as the gate holds one up.
 ///
-/// [`Memory`] where memory was wanting, or a thread could not be started. Then, too, all threads have ended, and all
-/// leases are released.
+/// [`Memory`] where memory was wanting, a thread could not be started, or 2^59 - 1 grace periods have ended and no more may
+/// start. Then, too, all threads have ended, and all leases are released.
 pub fn race<R: Threads + Sync + Wait + AllocGlobal, G: Gate + Sync>(
     rt: &R,
     readers: usize,

@@ -1,7 +1,8 @@
 //! A thread that leases versions, reads them, and hands the leases on.
 ghost use Rattle.std.specs.Prelude.{◌≡◌, ◌+◌, ◌%◌, ◌<◌, ◌≤◌, IfSome};
 ghost use Rattle.race.specs.Courses.{IsCourse};
-ghost use Rattle.race.specs.Readers.{one_if, IsReaderOf, Tells, Opens, Counts, Releases, HasMade, HasRead, Asks};
+ghost use Rattle.race.specs.Readers.{one_if, IsReaderOf, Tells, Opens, Counts, Releases, HasMade, HasRead, Asks, ReadsIn};
+ghost use Rattle.plugs.specs.Reading.{Leases};
 
 use crate::course::{Course, key_of};
 use crate::gate::{At, Gate};
@@ -28,6 +29,7 @@ fn open(course: &Course, reader: &mut Reader) -> Lease
     requires few { reader.old.opened < 1000 }
     ensures opens { Opens course.now reader.old reader.new }
     ensures lease { result.held.domain ≡ course.now.domain.domain }
+    ensures leases { Leases course.now.view result reader.old.cpu reader.new.cpu }
 {
     let Ok(lease) = course.view.lease(&mut reader.cpu) else {
         unreachable!()
@@ -91,6 +93,7 @@ fn make_round<G: Gate>(course: &Course, gate: &G, reader: &mut Reader, round: u6
     requires made { HasMade course.now round reader.old }
     requires round { round < course.now.rounds }
     ensures made { HasMade course.now (round + 1) reader.new }
+    ensures reads { ReadsIn course.now round reader.old reader.new }
     ensures same { reader.new.cpu.cpu.processor ≡ reader.old.cpu.cpu.processor }
 {
     let mut lease = open(course, reader);

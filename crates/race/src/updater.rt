@@ -1,13 +1,14 @@
 //! The thread that installs plug-ins, queues callbacks, drives grace periods and runs what is ready.
-ghost use Rattle.std.specs.Prelude.{◌≡◌, ◌+◌, ◌<◌, ◌≤◌, IfOk, IfSome, MatchResult};
+ghost use Rattle.std.specs.Prelude.{◌≡◌, ◌+◌, ◌<◌, ◌≤◌, IfOk, IfSome, IsTrue, MatchResult};
 ghost use Rattle.calls.specs.Calls.{IsOfProcessor};
 ghost use Rattle.domain.specs.Views.{callbacks_of};
+ghost use Rattle.calls.specs.Barriers.{IsDone, number_for};
 ghost use Rattle.domain.specs.Barriers.{IsTicketOf};
 ghost use Rattle.race.specs.Courses.{IsCourse};
-ghost use Rattle.race.specs.Updaters.{IsUpdaterOf, Tells, GoesOn, InstallsIn, HasUpdated, IsNew};
+ghost use Rattle.race.specs.Updaters.{IsUpdaterOf, Tells, GoesOn, InstallsIn, HasInstalled, HasUpdated, HasMadeAll, IsNew};
 
 use crate::course::{Course, key_of};
-use domain::{AdvanceRefusal, Batch, CallRefusal, Cpu, Memory, Progress, Ticket};
+use domain::{AdvanceRefusal, Batch, Cpu, Memory, Progress, Ticket};
 use plugs::{InstallRefusal, Table};
 use std::alloc::AllocError;
 use std::sync::Wait;
@@ -26,26 +27,9 @@ pub struct Updater {
     pub finished: u64,
 }
 
-/// Why the updater makes no more rounds.
-#[derive(Clone, Copy, PartialEq, Eq)]
-enum Halt {
-    /// There may be no more grace periods, no more callbacks, or no more rows.
-    Spent,
-    /// There was not enough memory.
-    Memory,
-}
-
-impl Halt {
-    fn of_call(refusal: CallRefusal) -> Halt {
-        match refusal {
-            CallRefusal::Exhausted => Halt::Spent,
-            CallRefusal::Memory => Halt::Memory,
-        }
-    }
-}
-
-/// One turn of the engine. Where somebody else has it, that one drives it on.
-fn advance(course: &Course, updater: &mut Updater) -> Result<(), Halt>
+/// One turn of the engine. Where somebody else has it, that one drives it on. A grace period that may not start, since as
+/// many have ended as there may be, counts as memory that isn't there.
+fn advance(course: &Course, updater: &mut Updater) -> Result<(), Memory>
     requires is { IsUpdaterOf course.now updater.old }
     requires tells { Tells updater.old }
     ensures { GoesOn course.now 0 0 updater.old updater.new }
@@ -53,13 +37,18 @@ fn advance(course: &Course, updater: &mut Updater) -> Result<(), Halt>
     match course.domain.advance(&mut updater.cpu) {
         Ok(Progress::Idle | Progress::Waiting(_)) | Err(AdvanceRefusal::Busy) => yield_now(),
         Ok(_) => {}
-        Err(AdvanceRefusal::Exhausted) => return Err(Halt::Spent),
+        Err(AdvanceRefusal::Exhausted) => return Err(AllocError),
     }
     Ok(())
 }
 
 /// Installs the plug of a round. As long as no slot is free it drives the engine on.
-fn install<R: Wait>(rt: &R, course: &Course, updater: &mut Updater, round: u64) -> Result<(), Halt>
+fn install<R: Wait>(
+    rt: &R,
+    course: &Course,
+    updater: &mut Updater,
+    round: u64,
+) -> Result<(), Memory>
     requires is { IsUpdaterOf course.now updater.old }
     requires tells { Tells updater.old }
     requires few { (round < 1000) × (updater.old.versions ≤ 1000) }
@@ -81,15 +70,14 @@ fn install<R: Wait>(rt: &R, course: &Course, updater: &mut Updater, round: u64) 
         };
         match refusal {
             InstallRefusal::NoSlot => advance(course, updater)?,
-            InstallRefusal::Full => return Err(Halt::Spent),
-            InstallRefusal::Memory => return Err(Halt::Memory),
+            InstallRefusal::Full | InstallRefusal::Memory => return Err(AllocError),
         }
     }
     unreachable!()
 }
 
 /// Queues a callback.
-fn queue<R: Wait>(rt: &R, course: &Course, updater: &mut Updater) -> Result<(), Halt>
+fn queue<R: Wait>(rt: &R, course: &Course, updater: &mut Updater) -> Result<(), Memory>
     requires is { IsUpdaterOf course.now updater.old }
     requires tells { Tells updater.old }
     requires few { updater.old.queued ≤ 1000 }
@@ -97,19 +85,20 @@ fn queue<R: Wait>(rt: &R, course: &Course, updater: &mut Updater) -> Result<(), 
         (λ _. GoesOn course.now 0 1 updater.old updater.new)
         (λ _. GoesOn course.now 0 0 updater.old updater.new) }
 {
-    let Err(((), refusal)) = course.domain.call(rt, &mut updater.cpu, ()) else {
-        updater.queued += 1;
-        return Ok(());
+    let Ok(_receipt) = course.domain.call(rt, &mut updater.cpu, ()) else {
+        return Err(AllocError);
     };
-    Err(Halt::of_call(refusal))
+    updater.queued += 1;
+    Ok(())
 }
 
 /// Installs and queues in each round.
-fn make_rounds<R: Wait>(rt: &R, course: &Course, updater: &mut Updater) -> Result<(), Halt>
+fn make_rounds<R: Wait>(rt: &R, course: &Course, updater: &mut Updater) -> Result<(), Memory>
     requires course { IsCourse course.now }
     requires new { IsNew course.now updater.old }
     ensures updated { HasUpdated course.now updater.new }
     ensures processor { updater.new.cpu.cpu.processor ≡ updater.old.cpu.cpu.processor }
+    ensures installed { HasInstalled course.now updater.new.versions updater.old updater.new }
     ensures all { IfOk result (λ _. (updater.new.versions ≡ course.now.rounds) × (updater.new.queued ≡ course.now.rounds)) }
 {
     for round in 0..course.rounds {
@@ -124,12 +113,13 @@ fn run<R: Wait>(rt: &R, course: &Course, updater: &mut Updater, mut batch: Batch
     requires is { IsUpdaterOf course.now updater.old }
     requires tells { Tells updater.old }
     requires batch { IsOfProcessor (callbacks_of course.now.domain) updater.old.cpu.cpu.processor batch }
+    requires queued { batch.first + batch.count ≤ updater.old.queued }
     ensures { GoesOn course.now 0 0 updater.old updater.new }
 {
     let count = batch.count() as u64;
     while let Some(()) = batch.next() {}
     course.domain.finish(rt, &mut updater.cpu, batch);
-    updater.finished = updater.finished.saturating_add(count);
+    updater.finished += count;
 }
 
 /// Takes what is ready on the updater's own processor: callbacks are queued there alone. A batch that is out is one of
@@ -139,6 +129,7 @@ fn take<R: Wait>(rt: &R, course: &Course, updater: &mut Updater) -> Option<Batch
     requires tells { Tells updater.old }
     ensures goes_on { GoesOn course.now 0 0 updater.old updater.new }
     ensures batch { IfSome result (IsOfProcessor (callbacks_of course.now.domain) updater.new.cpu.cpu.processor) }
+    ensures queued { IfSome result (λ batch. batch.first + batch.count ≤ updater.new.queued) }
 {
     let processor = updater.cpu.processor();
     let Ok(taken) = course.domain.take_ready(rt, &mut updater.cpu, processor, 8) else {
@@ -148,7 +139,7 @@ fn take<R: Wait>(rt: &R, course: &Course, updater: &mut Updater) -> Option<Batch
 }
 
 /// One turn of the engine, and a batch of what is ready.
-fn serve<R: Wait>(rt: &R, course: &Course, updater: &mut Updater) -> Result<(), Halt>
+fn serve<R: Wait>(rt: &R, course: &Course, updater: &mut Updater) -> Result<(), Memory>
     requires is { IsUpdaterOf course.now updater.old }
     requires tells { Tells updater.old }
     ensures { GoesOn course.now 0 0 updater.old updater.new }
@@ -165,7 +156,8 @@ fn is_done(course: &Course, updater: &mut Updater, ticket: &Ticket<()>) -> bool
     requires is { IsUpdaterOf course.now updater.old }
     requires tells { Tells updater.old }
     requires ticket { IsTicketOf course.now.domain ticket.now }
-    ensures { GoesOn course.now 0 0 updater.old updater.new }
+    ensures goes_on { GoesOn course.now 0 0 updater.old updater.new }
+    ensures done { IsTrue result → IsDone ticket.now updater.new.cpu.calls.seen }
 {
     course.domain.barrier_poll(&mut updater.cpu, ticket)
 }
@@ -176,6 +168,7 @@ fn start_barrier(course: &Course, updater: &mut Updater) -> Result<Ticket<()>, M
     requires tells { Tells updater.old }
     ensures goes_on { GoesOn course.now 0 0 updater.old updater.new }
     ensures ticket { IfOk result (IsTicketOf course.now.domain) }
+    ensures covers { IfOk result (λ ticket. updater.new.queued ≤ number_for updater.new.cpu.calls.processor ticket) }
 {
     course.domain.barrier_start(&mut updater.cpu)
 }
@@ -186,11 +179,12 @@ fn settle<R: Wait>(
     course: &Course,
     updater: &mut Updater,
     ticket: &Ticket<()>,
-) -> Result<(), Halt>
+) -> Result<(), Memory>
     requires is { IsUpdaterOf course.now updater.old }
     requires tells { Tells updater.old }
     requires ticket { IsTicketOf course.now.domain ticket.now }
-    ensures { GoesOn course.now 0 0 updater.old updater.new }
+    ensures goes_on { GoesOn course.now 0 0 updater.old updater.new }
+    ensures done { IfOk result (λ _. IsDone ticket.now updater.new.cpu.calls.seen) }
 {
     for _ in rt.forever() {
         if is_done(course, updater, ticket) {
@@ -207,11 +201,9 @@ pub fn update_all<R: Wait>(rt: &R, course: &Course, updater: &mut Updater) -> Re
     requires new { IsNew course.now updater.old }
     ensures updated { HasUpdated course.now updater.new }
     ensures processor { updater.new.cpu.cpu.processor ≡ updater.old.cpu.cpu.processor }
+    ensures all { IfOk result (λ _. HasMadeAll course.now updater.new) }
 {
-    if let Err(Halt::Memory) = make_rounds(rt, course, updater) {
-        return Err(AllocError);
-    }
+    make_rounds(rt, course, updater)?;
     let ticket = start_barrier(course, updater)?;
-    let _settled = settle(rt, course, updater, &ticket);
-    Ok(())
+    settle(rt, course, updater, &ticket)
 }

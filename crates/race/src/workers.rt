@@ -133,7 +133,8 @@ fn run_in<'s, E, R: Threads + Wait, G: Gate + Sync>(
     requires course { IsCourse course.now }
     requires workers { AreNew course.now workers }
     requires room { (vec_len all ≡ 0) × (vec_len workers.readers ≤ vec_capacity all) }
-    ensures { HaveRaced course.now result.0 }
+    ensures back { AreBack course.now result.0 }
+    ensures raced { IfOk result.1 (λ _. HaveRaced course.now result.0) }
 {
     let Workers {
         mut readers,

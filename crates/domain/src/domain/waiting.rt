@@ -11,15 +11,14 @@ use scan::refusals::AdvanceRefusal;
 use scan::{Exhausted, Progress};
 use std::alloc::Allocator;
 use std::sync::Wait;
-use std::thread::yield_now;
 
 /// What a thread does behind a turn before it tries again. Where another call has the engine, that one drives the
-/// period; whoever waits for it sleeps longer and longer, so that many of them don't burn their cores. Where the engine
-/// waits for a section other threads may run. Behind any other answer there is something to do at once.
+/// period, and where the engine waits for a section, a reader is at work. Then the thread lets others run, and sleeps
+/// longer and longer, so that many of them don't burn their cores. Behind any other answer there is something to do at
+/// once.
 fn give_way<R: Wait>(rt: &R, pause: &mut Pause, turn: Option<Progress>) {
     match turn {
-        None => pause.pause(rt),
-        Some(Progress::Waiting(_)) => yield_now(),
+        None | Some(Progress::Waiting(_)) => pause.pause(rt),
         Some(_) => pause.reset(),
     }
 }

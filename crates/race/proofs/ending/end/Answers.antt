@@ -5,7 +5,7 @@ use Rattle.desk.specs.Calls.{AreAllSeats}
 use Rattle.domain.specs.Views.{CpuView}
 use Rattle.plugs.specs.Views.{LeaseView}
 use Rattle.race.specs.Endings.{ClosesDesk}
-use Rattle.race.proofs.Finishing.{all_seats, all_here, few_closed, one_at_most, counts_are}
+use Rattle.race.proofs.Finishing.{all_seats, all_here, few_closed, one_at_most, counts_are, in_use_known, finished_whatever}
 use Rattle.race.proofs.ending.end.Goals as goal
 
 pub close_desk-closed-requires-clause-seats : goal.close_desk-closed-requires-clause-seats
@@ -32,6 +32,16 @@ returns-clause-counts c =
     let ended = c.close_desk-closed.result in
     let all_are = c.push_reserved.ensures.items ∙ ap (λ (l : List (CpuView Unit)). l ++ u ∷ []) c.take_apart-parts.ensures.cpus in
     let desk = subst (λ (l : List (SeatView LeaseView)). ClosesDesk c.args.course.desk l ended) c.take_apart-parts.ensures.seats c.close_desk-closed.ensures.closes in
-    counts_are c.args.course c.args.workers c.requires.back c.requires.many ended u c.close_desk-closed.ensures.cpu c.push_reserved.new.self.items all_are c.requires.course c.requires.few.0
+    counts_are c.args.course c.args.workers c.requires.back c.requires.many ended u c.close_desk-closed.ensures.cpu c.push_reserved.new.self.items all_are c.requires.few.0
     record { opened = c.take_apart-parts.result.opened; closed = c.take_apart-parts.result.closed + ended; queued = c.args.workers.updater.queued; finished = c.args.workers.updater.finished; versions = c.args.workers.updater.versions; domain = c.ok.result }
-    c.take_apart-parts.ensures.opened (ap (λ n. n + ended) c.take_apart-parts.ensures.closed) refl refl desk refl _ c.cleanup.result c.cleanup.ensures.answer c.ok.ensures.value
+    c.take_apart-parts.ensures.opened (ap (λ n. n + ended) c.take_apart-parts.ensures.closed) refl refl desk _ c.cleanup.result c.cleanup.ensures.answer c.ok.ensures.value
+
+pub returns-clause-finished : goal.returns-clause-finished
+returns-clause-finished c =
+    let u = c.close_desk-closed.new.cpu in
+    let ended = c.close_desk-closed.result in
+    let all_are = c.push_reserved.ensures.items ∙ ap (λ (l : List (CpuView Unit)). l ++ u ∷ []) c.take_apart-parts.ensures.cpus in
+    finished_whatever c.args.course c.args.workers c.requires.back c.requires.many ended u c.close_desk-closed.ensures.cpu c.push_reserved.new.self.items all_are c.requires.few.0
+    record { opened = c.take_apart-parts.result.opened; closed = c.take_apart-parts.result.closed + ended; queued = c.args.workers.updater.queued; finished = c.args.workers.updater.finished; versions = c.args.workers.updater.versions; domain = c.ok.result }
+    c.take_apart-parts.ensures.opened (ap (λ n. n + ended) c.take_apart-parts.ensures.closed) refl refl _ c.cleanup.result c.cleanup.ensures.answer
+    (λ x h. in_use_known c.args.course c.args.workers c.requires.back c.requires.many ended u c.close_desk-closed.ensures.cpu c.push_reserved.new.self.items all_are x.0 x.1 x.2.items h)

@@ -1,6 +1,6 @@
--- In each round so far one version was installed, and one callback queued.
+-- In each round so far one version was installed with the round's plug, and one callback queued.
 use Rattle.std.proofs.Common.{◌≡◌}
-use Rattle.race.specs.Updaters.{IsUpdaterOf, Tells}
+use Rattle.race.specs.Updaters.{IsUpdaterOf, Tells, HasInstalled}
 use Rattle.race.proofs.updater.make_rounds.Given as goal
 
 abbrev pub invariant-loop-round : goal.invariant-loop-round
@@ -10,4 +10,5 @@ invariant-loop-round g l = record {
   processor : l.updater.cpu.cpu.processor ≡ l.fn.updater.cpu.cpu.processor;
   versions : l.updater.versions ≡ l.round;
   queued : l.updater.queued ≡ l.round;
+  installed : HasInstalled l.course l.round l.fn.updater l.updater;
 }

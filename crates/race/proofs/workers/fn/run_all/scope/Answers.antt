@@ -1,6 +1,5 @@
--- Who has raced is back.
-use Rattle.race.proofs.Comings.{back_of, whatever}
+-- What comes back is what the workers gave.
 use Rattle.race.proofs.workers.fn.run_all.scope.Goals as goal
 
 pub returns : goal.returns
-returns g c = (back_of c.captures.course.now c.run_in.result.0 c.run_in.ensures, whatever c.run_in.result.1 c.run_in.ensures)
+returns g c = (c.run_in.ensures.back, c.run_in.ensures.raced)
