@@ -13,7 +13,7 @@ use Rattle.calls.specs.declared.view.BatchRight.TheVariants.{NoBatch}
 use Rattle.calls.specs.declared.view.View.{View}
 use Rattle.calls.specs.Tallies.{queued_place, finished_place, word_count, deed, queued_in, finished_in, IsBeginning}
 use Rattle.calls.specs.Rule.{Books, Fits, Kept, note}
-use Rattle.calls.specs.Laws.{OneHistory, idle_seat, NeverForged, StaysQueued, StaysFinished, BarriersCover}
+use Rattle.calls.specs.Laws.{OneHistory, idle_seat, NoStepIsForged, StaysQueued, StaysFinished, BarriersCover}
 use Rattle.calls.proofs.Counting.{begins_empty, begins_itself}
 use Rattle.calls.proofs.Founding.{all_zero}
 use Rattle.calls.proofs.Loading.{queued_later, finished_later}
@@ -109,7 +109,7 @@ module _ {J : Type 0} where
       absurd (omega (arith, same))
 
 module _ {J : Type 0} where
-  pub never_forged : NeverForged J
+  pub never_forged : NoStepIsForged J
   never_forged = record {
     splits = λ plan d left right by claims splits. let r = splits (three_seats plan) (three_kept plan) refl in ⊎_elim
         (λ c. not_claimed plan _ r d 0 left by c refl refl)

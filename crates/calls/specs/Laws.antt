@@ -37,7 +37,7 @@ module _ (J : Type 0) where
   OneHistory = (plan : Plan) (s : State (Option ℕ) (View J)) → Kept plan s → HasOneHistory plan s
 
   -- no seat gets a deed of processor 0's that was not done, however that processor's seat is cut in two or joined with another
-  pub record NeverForged : Type 0 where
+  pub record NoStepIsForged : Type 0 where
     pub splits : (plan : Plan) (d : Deed J) (left right : View J) → d.by ≡ 0 → (left.seen ≡ d ∷ []) ⊎ (right.seen ≡ d ∷ []) → ¬ Splits (Kept plan) 0 idle_seat left right
     pub joins : (plan : Plan) (d : Deed J) (both spent : View J) → d.by ≡ 0 → (both.seen ≡ d ∷ []) ⊎ (spent.seen ≡ d ∷ []) → ¬ Joins (Kept plan) 0 idle_seat 2 (note idle_seat) both spent
 

@@ -1,5 +1,5 @@
 //! What holds of all callbacks, for callers and readers: the calls do nothing.
-ghost use Rattle.calls.specs.Laws.{OneHistory, NeverForged, WaitsInOrder, GivesOnce, KeepsCalls, StaysQueued, StaysFinished, BarriersCover, TotalsAreExact};
+ghost use Rattle.calls.specs.Laws.{OneHistory, NoStepIsForged, WaitsInOrder, GivesOnce, KeepsCalls, StaysQueued, StaysFinished, BarriersCover, TotalsAreExact};
 
 /// Between any two steps of any threads there is one list of what was done on the tally words, the words hold its counts,
 /// each deed in it is one that could be done, by those before it, and what each seat has seen is a beginning of it. And no split or
@@ -7,7 +7,7 @@ ghost use Rattle.calls.specs.Laws.{OneHistory, NeverForged, WaitsInOrder, GivesO
 /// processor 1 that has loaded a word.
 pub fn tallies_of_callbacks<J>()
     ensures history { OneHistory J }
-    ensures forged { NeverForged J }
+    ensures forged { NoStepIsForged J }
 {}
 
 /// What waits on a processor is just what was queued there and not given out, in its order: the calls from a number on.

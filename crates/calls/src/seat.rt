@@ -1,6 +1,4 @@
 //! A processor's seat at the tally words.
-ghost use Rattle.std.specs.Prelude.{◌≡◌};
-ghost use Rattle.calls.specs.Tallies.{most_calls};
 
 use crate::entry::Arrival;
 use crate::plays::{Place, Tallies};

@@ -4,7 +4,7 @@ ghost use Rattle.desk.specs.BayCalls.{IsNewBay, AreNewBaySeats};
 ghost use Rattle.desk.specs.BaySeats.{IsFounder, IsDealt};
 
 use atomic_table::Table;
-use plays::{OneHolds, Place, Top};
+use plays::{Board, OneHolds, Place};
 use seat::BaySeat;
 use sections::{Home, Token};
 use std::alloc::{AllocError, Allocator, Global};
@@ -19,7 +19,7 @@ mod tests;
 mod ties;
 pub(crate) mod view;
 
-pub(crate) type Floor<T, A> = Table<Option<T>, View<T>, Plan<T>, OneHolds<T>, A>;
+pub(crate) type BayTable<T, A> = Table<Option<T>, View<T>, Plan<T>, OneHolds<T>, A>;
 
 /// The word while the value lies in the bay.
 pub(crate) const THERE: u64 = 0;
@@ -40,7 +40,7 @@ pub trait Alike {
 /// Contracts see which bay it is, its domain, how many seats it has, and what lay there first.
 #[derive(Drop)]
 pub struct Bay<T: Token + Alike, A: Allocator = Global> {
-    pub(crate) table: Floor<T, A>,
+    pub(crate) table: BayTable<T, A>,
 }
 
 impl<T: Token + Alike, A: Allocator> Model for Bay<T, A> {
@@ -56,7 +56,7 @@ impl<T: Token + Alike, A: Allocator> Model for Bay<T, A> {
 }
 
 /// The bay's next seat.
-fn deal<T: Token + Alike>(top: &Top<T>, dealer: &mut Place<T>, number: usize) -> BaySeat<T>
+fn deal<T: Token + Alike>(top: &Board<T>, dealer: &mut Place<T>, number: usize) -> BaySeat<T>
     requires there { number < top.now.key.seats }
     requires dealer { IsFounder top.now.key top.now.table_id number dealer.old }
     ensures dealer { IsFounder top.now.key top.now.table_id (number + 1) dealer.new }

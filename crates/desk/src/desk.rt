@@ -7,7 +7,7 @@ ghost use Rattle.desk.specs.Swaps.{Account, lies_behind};
 ghost use Rattle.desk.specs.Calls.{IsNewDesk, AreNewSeats, AreAllSeats, Closes};
 ghost use Rattle.desk.specs.Seats.{IsFounder, IsDealt, IsGathering, IsBack, LiesAlone, desk_of};
 
-use crate::plays::{self, InTurn, Place, Top};
+use crate::plays::{self, Board, InTurn, Place};
 use crate::seat::DeskSeat;
 use crate::view::{Plan, View};
 use atomic_table::{Closed, Table};
@@ -15,14 +15,14 @@ use sections::{Home, Token};
 use std::alloc::{AllocError, Allocator, Global};
 use std::marker::Model;
 
-pub(crate) type Board<T, A> = Table<Option<T>, View<T>, Plan, InTurn<T>, A>;
+pub(crate) type DeskTable<T, A> = Table<Option<T>, View<T>, Plan, InTurn<T>, A>;
 
 /// One place for a value of one domain that must be spent. A desk must be spent too: close it with all of its seats.
 /// Contracts see which desk it is, its domain, and how many seats it has.
 ///
 /// There is one slot more than seats. The word says which slot lies on the desk, and each seat holds one of the others.
 pub struct Desk<T: Token, A: Allocator = Global> {
-    pub(crate) table: Board<T, A>,
+    pub(crate) table: DeskTable<T, A>,
 }
 
 impl<T: Token, A: Allocator> Model for Desk<T, A> {
@@ -38,7 +38,7 @@ impl<T: Token, A: Allocator> Model for Desk<T, A> {
 }
 
 /// The desk's next seat, with its slot.
-fn deal<T: Token>(top: &Top<T>, dealer: &mut Place<T>, number: usize) -> DeskSeat<T>
+fn deal<T: Token>(top: &Board<T>, dealer: &mut Place<T>, number: usize) -> DeskSeat<T>
     requires there { (number < top.now.key.seats) × (top.now.key.seats < 2 ^ 64) }
     requires dealer { IsFounder top.now.key top.now.table_id number dealer.old }
     ensures dealer { IsFounder top.now.key top.now.table_id (number + 1) dealer.new }
@@ -78,7 +78,7 @@ impl<T: Token, A: Allocator + Clone> Desk<T, A> {
 }
 
 /// The seat lays its slot down, and is over.
-fn take_back<T: Token>(top: &Top<T>, keeper: &mut Place<T>, seat: DeskSeat<T>)
+fn take_back<T: Token>(top: &Board<T>, keeper: &mut Place<T>, seat: DeskSeat<T>)
     requires desk { seat.desk ≡ top.now.table_id }
     requires keeper { (over : List (Account T)) × IsGathering top.now.table_id over keeper.old }
     ensures { IsBack top.now.table_id keeper.old seat keeper.new }

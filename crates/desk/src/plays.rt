@@ -9,7 +9,7 @@ use std::marker::PhantomData;
 
 pub(crate) type Place<T> = Seat<Option<T>, View<T>>;
 
-pub(crate) type Top<T> = Shared<Option<T>, View<T>, Plan, InTurn<T>>;
+pub(crate) type Board<T> = Shared<Option<T>, View<T>, Plan, InTurn<T>>;
 
 /// Each swap finds what the one before it left.
 pub struct InTurn<T>(PhantomData<T>);

@@ -5,7 +5,7 @@ ghost use Rattle.desk.specs.Calls.{Swaps};
 ghost use Rattle.desk.specs.Seats.{HoldsEmpty, shown};
 
 use crate::desk::Desk;
-use crate::plays::{self, Place, Top};
+use crate::plays::{self, Board, Place};
 use sections::Token;
 use std::alloc::Allocator;
 use std::marker::Model;
@@ -34,7 +34,7 @@ impl<T> Model for DeskSeat<T> {
 
 /// One swap: the slot is filled first, and goes to the desk. The slot that lay there is emptied, and is now the seat's.
 fn exchange<T: Token>(
-    top: &Top<T>,
+    top: &Board<T>,
     seat: &mut Place<T>,
     slot: usize,
     left: Option<T>,

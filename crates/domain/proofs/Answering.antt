@@ -1,6 +1,6 @@
 -- What a turn finds is an engine of the processor's domain, and what its answer says of that domain.
 use Rattle.std.proofs.Common.{◌≡◌, ℕ, Some, None, Ok, Err, sym, ap, ◌∙◌, subst}
-use Rattle.std.specs.Prelude.{Option, IfSome, MatchOption, Result, MatchResult}
+use Rattle.std.specs.Prelude.{Option, IfSome, IfOk, MatchOption, Result, MatchResult}
 use Rattle.onedom.specs.Histories.{IsRunning, IsBeginning}
 use Rattle.sections.specs.Views.{EngineView}
 use Rattle.sections.specs.EngineCalls.{IsSameEngine}
@@ -9,9 +9,9 @@ use Rattle.scan.specs.declared.refusals.AdvanceRefusal.{AdvanceRefusal}
 use Rattle.scan.specs.declared.refusals.AdvanceRefusal.TheVariants as advance
 use Rattle.scan.specs.declared.refusals.StartRefusal.{StartRefusal}
 use Rattle.scan.specs.declared.refusals.StartRefusal.TheVariants as start
-use Rattle.scan.specs.Standings.{IsOutOfPeriods}
+use Rattle.scan.specs.Standings.{IsWithin, IsOutOfPeriods}
 use Rattle.scan.specs.Progress.{NeedsLoaded, standing_of, with_needs}
-use Rattle.scan.specs.Stations.{IsOfStation}
+use Rattle.scan.specs.Stations.{IsOfStation, IsWithinLimit}
 use Rattle.funnel.specs.Views.{FunnelView}
 use Rattle.funnel.specs.Calls.{LoadsRoot}
 use Rattle.domain.specs.Views.{Engine, DomainView, CpuView, IsEngineOf, IsOf}
@@ -25,6 +25,15 @@ module _ {J : Type 0} (d : DomainView) (c : CpuView J) (is : IsOf d c) where
       go : (first : Option Engine) → MatchOption first ⊥ (IsEngineOf d) → IfSome first (λ e. IsSameEngine e.seat v.seat) → IsEngineOf d v
       go None here like = absurd here
       go (Some e) here like = (like.0 ∙ here.0, like.1 ∙ here.1, like.2 ∙ here.2)
+
+  -- the limit of the engine that lay there first is the domain's
+  pub within : (r : Result Progress AdvanceRefusal) → IfOk r (λ a. IsWithinLimit c.turn a) → IfOk r (λ a. IsWithin d.periods a)
+  within (Err refusal) h = h
+  within (Ok a) h = go c.turn.first is.first h
+    where
+      go : (first : Option Engine) → MatchOption first ⊥ (IsEngineOf d) → IfSome first (λ e. IsWithin e.seat.periods a) → IsWithin d.periods a
+      go None here most = absurd here
+      go (Some e) here most = subst (λ p. IsWithin p a) here.2 most
 
   -- how far the engine had come with its work is how far the domain had
   module _ (work : Engine → Engine → Type 0) (c' : CpuView J) (h : Lends work c c') where

@@ -15,6 +15,8 @@ pub use Rattle.domain.proofs.Covering.{raises_beginning_refl, raises_beginning_t
 
 -- they are of it
 pub use Rattle.domain.proofs.Founding.{new_ones_are_here}
+-- and no reading is open on one
+pub use Rattle.domain.proofs.Starting.{IsReady, new_ones_are_ready}
 -- The processor is the same
 
 -- behind each call that drives the engine, whatever its answer
@@ -44,6 +46,8 @@ pub use Rattle.domain.proofs.Polling.{none_at_tallies}
 pub use Rattle.domain.proofs.Founding.{writers_here}
 -- a word is loaded, a version found or put, slots are reclaimed: the same sections are open as before
 pub use Rattle.domain.proofs.Unopened.{SameOpen, same_loaded, same_found, same_put, same_reclaimed}
+-- what a call adds, where it begins and ends none: the same sections are open as before
+pub use Rattle.domain.proofs.Unopened.{same_quiet, same_plain}
 -- where none was open, none is
 pub use Rattle.domain.proofs.Unopened.{none_still}
 -- What a call adds

@@ -6,7 +6,7 @@ use Rattle.domain.specs.Making.{IsMade}
 use Rattle.domain.proofs.Founding.{new_ones_are_here}
 
 module _ {J : Type 0} where
-  -- what a test begins with
+  -- what a caller begins with
   abbrev pub IsReady : DomainView → CpuView J → Type 0
   IsReady d c = IsOf d c × HasNoneOpen c
 

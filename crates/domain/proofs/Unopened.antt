@@ -1,9 +1,9 @@
 -- Calls for versions open no section.
-use Rattle.std.proofs.Common.{◌≡◌, ℕ, zero, suc, ◌+◌, Bool, List, [], ◌∷◌, ◌++◌, refl, sym, ap, ◌∙◌, append-nil, append_assoc}
+use Rattle.std.proofs.Common.{◌≡◌, ℕ, zero, suc, ◌+◌, Bool, false, None, List, [], ◌∷◌, ◌++◌, refl, sym, ap, ◌∙◌, append-nil, append_assoc}
 use Rattle.onedom.specs.declared.event.Event.{Event}
 use Rattle.onedom.specs.declared.event.Event.TheVariants.{Ask, Find, Put, Note}
 use Rattle.onedom.specs.declared.event.Maker.TheVariants.{Processor}
-use Rattle.onedom.specs.Histories.{open_sections}
+use Rattle.onedom.specs.Histories.{open_sections, section_begun, ends}
 use Rattle.onedom.proofs.CallerLemmas.{open_sections_plain}
 use Rattle.sections.specs.declared.view.Step.{Step}
 use Rattle.sections.specs.declared.writer.Standing.{Standing}
@@ -16,6 +16,7 @@ use Rattle.sections.specs.WriterViews.{WriterView}
 use Rattle.sections.specs.Writers.{PutsSlot, Reclaims, question, questions, standing_of}
 use Rattle.domain.specs.Views.{CpuView}
 use Rattle.domain.specs.Waiting.{HasNoneOpen}
+use Rattle.domain.specs.Acting.{Act, Acts}
 use Rattle.domain.proofs.Synchronizing.{none_open}
 
 -- the same sections are open
@@ -52,3 +53,11 @@ module _ {J : Type 0} where
   -- where none was open, none is
   pub none_still : (c c' : CpuView J) → SameOpen c.cpu c'.cpu → HasNoneOpen c → HasNoneOpen c'
   none_still c c' same none = none_open c c' none same
+
+  -- a call that adds no event leaves the same sections open, and so does one whose event begins and ends none
+  module _ (p : ℕ) (a : Act) (c c' : CpuView J) (acts : Acts p a c c') where
+    pub same_quiet : a.events ≡ [] → SameOpen c.cpu c'.cpu
+    same_quiet none = ap open_sections (acts.events.mine ∙ (ap (λ l. c.cpu.mine ++ l) none ∙ append-nil c.cpu.mine))
+
+    pub same_plain : (e : Event) → a.events ≡ e ∷ [] → section_begun e ≡ None → ((s : ℕ) → ends s e ≡ false) → SameOpen c.cpu c'.cpu
+    same_plain e one none other = ap open_sections (acts.events.mine ∙ ap (λ l. c.cpu.mine ++ l) one) ∙ open_sections_plain c.cpu.mine e none other

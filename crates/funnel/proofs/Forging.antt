@@ -16,7 +16,7 @@ use Rattle.funnel.specs.declared.view.Role.TheVariants.{Bearer, Asker, Driver}
 use Rattle.funnel.specs.declared.view.Call.TheVariants.{From}
 use Rattle.funnel.specs.Histories.{value, IsOnItsWay, same_holder}
 use Rattle.funnel.specs.Rule.{AreLoads, IsUpto, StandsFor, Fits, Kept, spent, loads_by}
-use Rattle.funnel.specs.Laws.{IsAskedBelow, OneHistory, HasNoLoadMore, NeverForged}
+use Rattle.funnel.specs.Laws.{IsAskedBelow, OneHistory, HasNoLoadMore, NoStepIsForged}
 use Rattle.funnel.proofs.Climbing.{needs_climb}
 use Rattle.funnel.proofs.Asked.{holds_what_was_asked}
 use Rattle.funnel.proofs.Values.{begins_empty}
@@ -215,7 +215,7 @@ module _ (shape : Shape) (s : State (Option ℕ) View) (r : Kept shape s) (o : H
         taken_gone : length gone.loads ≤ n → HasNoLoadMore h u gone
         taken_gone = taken other gone (set_here (set state.views id both) other gone (at_below (set state.views id both) w other second))
 
-pub never_forged : NeverForged
+pub never_forged : NoStepIsForged
 never_forged shape s r id v at k u here h o is differ not = (
   (λ left right splits. (cut_left shape s r o (length left.loads) k u here h is differ id v at not left right splits (omega arith), cut_right shape s r o (length right.loads) k u here h is differ id v at not left right splits (omega arith))),
   (λ other w both gone apart there_too neither_one joins. (taken_both shape s r o (length both.loads) k u here h is differ id v at not other w both gone apart there_too neither_one joins (omega arith), taken_gone shape s r o (length gone.loads) k u here h is differ id v at not other w both gone apart there_too neither_one joins (omega arith))),

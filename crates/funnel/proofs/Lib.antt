@@ -13,5 +13,4 @@ mod Asking
 mod Seating
 mod Calling
 mod Founding
-mod Meeting
 mod Alone

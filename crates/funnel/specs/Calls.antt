@@ -89,37 +89,6 @@ pub record Ties (v o v' o' : FunnelView) : Type 0 where
   pub first : Covers v o.seen v'
   pub second : Accepts o v'.seen o'
 
--- the seat has seen what each of the others has, and did nothing but to load the root once for each
-pub record CoversAll (v : FunnelView) (others : List FunnelView) (w : FunnelView) : Type 0 where
-  pub found : List ℕ
-  pub one_each : length found ≡ length others
-  pub loads : w.loads ≡ v.loads ++ found
-  pub same : IsSameSeat v w
-  pub mine : w.mine ≡ v.mine
-  pub since : IsBeginning v.seen w.seen
-  pub covers : (k : ℕ) (d : FunnelView) → k < length others → IsBeginning (slice_index_or others k d).seen w.seen
-  pub history : IsSeenBy w
-
--- the seat made a load and no raise, and has seen just this history, which goes on from what it had seen
-pub record Joins (v : FunnelView) (all : List Raise) (w : FunnelView) : Type 0 where
-  pub accepts : Accepts v all w
-  pub since : IsBeginning v.seen all
-
--- the seat and the others have seen one history, in which each has just its own raises. The seat loaded the root once for each of the others, and each of them once
-pub record Meets (v : FunnelView) (others : List FunnelView) (v' : FunnelView) (others' : List FunnelView) : Type 0 where
-  pub found : List ℕ
-  pub one_each : length found ≡ length others
-  pub loads : v'.loads ≡ v.loads ++ found
-  pub same : IsSameSeat v v'
-  pub mine : v'.mine ≡ v.mine
-  pub since : IsBeginning v.seen v'.seen
-  pub history : IsSeenBy v'
-  pub count : length others' ≡ length others
-  pub each : (k : ℕ) (d : FunnelView) → k < length others → Joins (slice_index_or others k d) v'.seen (slice_index_or others' k d)
-
-abbrev pub AreInDomain : TableId → List FunnelView → Type 0
-AreInDomain domain others = (k : ℕ) (d : FunnelView) → k < length others → (slice_index_or others k d).domain ≡ domain
-
 abbrev pub AreOfProcessors : List FunnelView → Type 0
 AreOfProcessors seats = All IsOfProcessor seats
 

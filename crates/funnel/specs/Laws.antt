@@ -47,8 +47,8 @@ pub record HasNoLoadMore (h : Holder) (u w : View) : Type 0 where
   pub whole : loads_by h u.loads ≡ loads_by h w.loads ++ rest
 
 -- however a seat v is cut in two or takes another in, what comes of it has no load of the root that was not made: no load of a holder h that h's own seat u doesn't have, as long as there is another holder o that has a seat elsewhere. For o may have loaded the root meanwhile, more often than any cut or join can know of. So only a step on the table gives a load
-abbrev pub NeverForged : Type 0
-NeverForged = (shape : Shape) (s : State (Option ℕ) View) → Kept shape s → (id : ℕ) (v : View) → get_elem? s.views id ≡ some v → (k : ℕ) (u : View) → get_elem? s.views k ≡ some u → (h o : Holder) → StandsFor u.role h → ¬ (h ≡ o) → ¬ StandsFor v.role o
+abbrev pub NoStepIsForged : Type 0
+NoStepIsForged = (shape : Shape) (s : State (Option ℕ) View) → Kept shape s → (id : ℕ) (v : View) → get_elem? s.views id ≡ some v → (k : ℕ) (u : View) → get_elem? s.views k ≡ some u → (h o : Holder) → StandsFor u.role h → ¬ (h ≡ o) → ¬ StandsFor v.role o
     → ((left right : View) → Splits (Kept shape) id v left right → HasNoLoadMore h u left × HasNoLoadMore h u right)
     × ((other : ℕ) (w both spent : View) → ¬ (other ≡ id) → get_elem? s.views other ≡ some w → ¬ StandsFor w.role o → Joins (Kept shape) id v other w both spent → HasNoLoadMore h u both × HasNoLoadMore h u spent)
 

@@ -12,7 +12,7 @@ mod ties;
 
 pub(crate) type Nodes<A> = Table<NoSlot, View, Shape, InOneTree, A>;
 
-pub(crate) type Top = Shared<NoSlot, View, Shape, InOneTree>;
+pub(crate) type Board = Shared<NoSlot, View, Shape, InOneTree>;
 
 pub(crate) type Place = Seat<NoSlot, View>;
 

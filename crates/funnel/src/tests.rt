@@ -1,10 +1,8 @@
 ghost use Rattle.funnel.specs.Calls.{IsOfProcessor, AreOfProcessors};
 
 use super::*;
-use crate::making::nodes_for;
 use crate::view::Holder;
 use sseq::{Needs, Number};
-use std::alloc::Global;
 use std::test::Fail;
 use std::thread;
 

@@ -1,6 +1,5 @@
 //! A line and its two ends.
 ghost use Rattle.std.specs.Prelude.{◌≡◌, Some, IfOk};
-ghost use Rattle.std.specs.Arc.{arc_value};
 ghost use Rattle.crossbeam_queue.specs.SegTies.{IsSegPassOf};
 ghost use Rattle.intake.specs.Rule.{pusher_of, taker_of, founder};
 ghost use Rattle.intake.specs.Calls.{IsNew};

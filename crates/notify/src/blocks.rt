@@ -1,5 +1,5 @@
 //! The blocks of a chain, in the order in which they are called.
-ghost use Rattle.std.specs.Prelude.{◌≡◌, ◌<◌, ℕ, length, FitsSigned};
+ghost use Rattle.std.specs.Prelude.{◌<◌, ℕ, length, FitsSigned};
 ghost use Rattle.std.specs.Int.{w32};
 ghost use Rattle.notify.specs.Blocks.{HasNone, StandsAt, Inserts, Removes};
 ghost use Rattle.notify.specs.Insides.{IsKept};

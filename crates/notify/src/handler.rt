@@ -1,5 +1,5 @@
 //! What a chain calls, and in which order it does.
-ghost use Rattle.std.specs.Prelude.{◌≡◌, ◌<◌, All, length};
+ghost use Rattle.std.specs.Prelude.{◌<◌, All, length};
 ghost use Rattle.notify.specs.Calling.{GivesAt, Answers};
 
 use crate::block::Block;

@@ -1,5 +1,5 @@
 //! Where a block stands among others.
-ghost use Rattle.std.specs.Prelude.{◌≡◌, ◌≢◌, ◌<◌, ◌≤◌, All, true, false, length, take, MatchOption, IsTrue, ◌↔◌};
+ghost use Rattle.std.specs.Prelude.{◌≡◌, ◌<◌, ◌≤◌, All, true, false, length, take, MatchOption, IsTrue, ◌↔◌};
 ghost use Rattle.std.specs.List.{HoldsAt};
 ghost use Rattle.notify.specs.Blocks.{Precedes, MayPrecede, IsLower, IsChain, StandsAt, HasNone};
 

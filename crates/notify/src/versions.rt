@@ -3,7 +3,7 @@ ghost use Rattle.std.specs.Prelude.{◌≡◌, ◌<◌, length, MatchOption};
 ghost use Rattle.sections.specs.Shelves.{words_of};
 ghost use Rattle.sections.specs.Writers.{IsOwn};
 ghost use Rattle.sections.specs.Reads.{IsPinned};
-ghost use Rattle.domain.specs.Views.{IsOf, Stays, with_cpu};
+ghost use Rattle.domain.specs.Views.{IsOf, Stays};
 ghost use Rattle.notify.specs.Putting.{Fills, FindsSlot, FindsNone, Publishes};
 ghost use Rattle.notify.specs.Reading.{LoadsAll};
 

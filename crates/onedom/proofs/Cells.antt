@@ -1,16 +1,12 @@
 -- What lies in the cells, and who can read a slot.
-use Rattle.std.proofs.Common.{◌≡◌, ℕ, ◌+◌, ◌<◌, ◌≤◌, ◌≢◌, ◌&&◌, ◌↔◌, IsTrue, Bool, true, false, cond, eqb, List, [], ◌∷◌, ◌++◌, take, get_or, length, refl, sym, ap, ◌∙◌, subst, not, eq-eqb, ne_eqb, eqb-true, arith}
+use Rattle.std.proofs.Common.{◌≡◌, ℕ, ◌+◌, ◌<◌, ◌≢◌, ◌&&◌, ◌↔◌, IsTrue, Bool, true, false, eqb, List, take, get_or, length, refl, sym, ap, ◌∙◌, subst, not, eq-eqb, eqb-true, arith}
 use Rattle.std.proofs.Math.Seq.{take-length}
 use Rattle.std.proofs.lemmas.List.{take_more}
-use Rattle.std.proofs.lemmas.List.Sums.{fold_push}
-use mathlib.Core.Logic.{dite}
-use native.Mathlib.Decide.{ℕ_discrete}
-use Rattle.sseq.specs.declared.index.Index.{Index}
 use Rattle.onedom.specs.declared.event.Maker.{Maker}
 use Rattle.onedom.specs.declared.event.Event.{Event}
-use Rattle.onedom.specs.declared.event.Event.TheVariants.{Begin, End, Start, Finish, Note, Ask, Find, Put}
-use Rattle.onedom.specs.Histories.{ends, IsOpen, slot_after, slot_of, version_after, version_of, finds, finds_of, IsClear, MayFollow, IsLegal, IsBeginning}
-use Rattle.onedom.proofs.Pushes.{bit, count_push, begins_of_push, ends_of_push}
+use Rattle.onedom.specs.declared.event.Event.TheVariants.{Find}
+use Rattle.onedom.specs.Histories.{IsOpen, slot_of, finds, finds_of, IsClear}
+use Rattle.onedom.proofs.Pushes.{bit, count_push}
 
 -- Who reads a slot, among the first events
 

@@ -1,5 +1,5 @@
 //! Words that should be numbers of a range.
-ghost use Rattle.std.specs.Prelude.{◌≡◌, ◌^◌, ◌≤◌};
+ghost use Rattle.std.specs.Prelude.{◌≡◌, ◌^◌};
 ghost use Rattle.requests.specs.Numbers.{id_of, number_below as number_below_lem, priority_of, word32_of};
 
 use lines::number;

@@ -8,4 +8,5 @@ mod Asked
 mod Carrying
 mod PlaceKept
 mod Driving
+mod Limits
 mod ForTests

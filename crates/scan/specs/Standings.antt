@@ -118,6 +118,12 @@ Says (answer.Ended n) need s s' = (n ≡ number_at_rest s'.history) × ((i : Ind
 Says (answer.Waiting i) need s s' = WaitsFor i s s'
 Says answer.Step need s s' = 2 * s.processors ≤ s'.so_far → WasEmpty (not_current s.changes) s'.history
 
+-- a number that an answer tells is at most four times as much as there may be grace periods
+abbrev pub IsWithin : ℕ → Progress → Type 0
+IsWithin periods (answer.Started n) = n ≤ 4 * periods
+IsWithin periods (answer.Ended n) = n ≤ 4 * periods
+IsWithin periods a = Unit {0}
+
 -- What the engine does
 
 -- on the way to an answer the engine has made its events, behind these of others. The history is legal, and the number and the index word agree with it

@@ -1,15 +1,17 @@
 -- The engine in its place: each call that drives it takes it from there by one swap, has it work, ties it, and puts it back by one swap.
-use Rattle.std.specs.Prelude.{◌≡◌, ℕ, true, Some, None}
+use Rattle.std.specs.Prelude.{◌≡◌, ℕ, true, Some, None, IfSome}
 use Rattle.sections.specs.Views.{CpuView}
 use Rattle.sections.specs.EngineCalls.{IsSameEngine, IsTied, TiesEngine}
 use Rattle.desk.specs.BayViews.{BaySeatView}
 use Rattle.desk.specs.BayCalls.{holds, MakesSwap, IsHeldElsewhere, IsLikeFirst}
+use Rattle.scan.specs.declared.progress.Progress.{Progress}
 use Rattle.scan.specs.declared.progress.StartRefusal as engine
 use Rattle.scan.specs.declared.progress.StartRefusal.TheVariants as refused
 use Rattle.scan.specs.declared.refusals.AdvanceRefusal.{AdvanceRefusal}
 use Rattle.scan.specs.declared.refusals.AdvanceRefusal.TheVariants as advance
 use Rattle.scan.specs.declared.refusals.StartRefusal.{StartRefusal}
 use Rattle.scan.specs.declared.refusals.StartRefusal.TheVariants as start
+use Rattle.scan.specs.Standings.{IsWithin}
 use Rattle.scan.specs.Progress.{ScanView, FindsExhausted, IsNoStart, WorksFor, with_seat}
 
 module _ {N : Type 0} where
@@ -20,6 +22,10 @@ module _ {N : Type 0} where
   -- so is the engine that lay in the place first
   abbrev pub IsOfStation : BaySeatView (ScanView N) → ScanView N → Type 0
   IsOfStation t v = IsLikeFirst IsLike t v
+
+  -- a number that an answer tells is at most four times the limit of grace periods that the engine had which lay in the place first
+  abbrev pub IsWithinLimit : BaySeatView (ScanView N) → Progress → Type 0
+  IsWithinLimit t answer = IfSome t.first (λ v. IsWithin v.seat.periods answer)
 
   -- Turns
 

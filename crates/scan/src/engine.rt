@@ -5,6 +5,7 @@ ghost use Rattle.sections.specs.Words.{number_word};
 ghost use Rattle.sections.specs.declared.view.Shown.TheVariants.{To};
 ghost use Rattle.sections.specs.Calls.{Accepts, IsSeenBy};
 ghost use Rattle.sections.specs.EngineCalls.{Covers, IsTied, TiesEngine, Meets, AreInDomain, AreAllCpus, OneHasSeenAll};
+ghost use Rattle.scan.specs.Standings.{number_at_rest};
 ghost use Rattle.scan.specs.Progress.{StepsTo, AdvancesTo, CarriesOn, FindsExhausted, StartsTo, IsNoStart, WorksFor, new_engine, with_seat};
 
 use crate::place::Place;
@@ -61,11 +62,15 @@ impl<N: Needs, A: Allocator> Engine<N, A> {
 
     /// The step that [`Engine::step`] would make with these needs in place of its own, which stay as they are.
     pub(crate) fn step_for(&mut self, needs: &mut N) -> Result<Progress, Exhausted>
-        ensures { MatchResult result
+        ensures works { MatchResult result
             (λ answer. WorksFor needs.old needs.new (λ v w. StepsTo N.loads v answer w) self.old self.new)
             (λ _. WorksFor needs.old needs.new (FindsExhausted N.loads) self.old self.new) }
+        ensures most { number_at_rest self.new.seat.seen ≤ 4 * self.new.seat.periods }
     {
-        step_at(&mut self.seat, &mut self.place, needs)
+        let answer = step_at(&mut self.seat, &mut self.place, needs);
+        // For the proof: no more periods have ended than may.
+        let _number = self.number();
+        answer
     }
 
     /// Makes steps until there is an answer, which is never `Step`: those that [`Engine::step`] would make one by one,
@@ -80,21 +85,29 @@ impl<N: Needs, A: Allocator> Engine<N, A> {
 
     /// The steps that [`Engine::advance`] would make with these needs in place of its own, which stay as they are.
     pub(crate) fn advance_for(&mut self, needs: &mut N) -> Result<Progress, Exhausted>
-        ensures { MatchResult result
+        ensures works { MatchResult result
             (λ answer. WorksFor needs.old needs.new (λ v w. AdvancesTo N.loads v answer w) self.old self.new)
             (λ _. WorksFor needs.old needs.new (FindsExhausted N.loads) self.old self.new) }
+        ensures most { number_at_rest self.new.seat.seen ≤ 4 * self.new.seat.periods }
     {
-        advance_at(&mut self.seat, &mut self.place, needs)
+        let answer = advance_at(&mut self.seat, &mut self.place, needs);
+        // For the proof: no more periods have ended than may.
+        let _number = self.number();
+        answer
     }
 
     /// Goes on from answer to answer, with these needs in place of its own, which stay as they are, until it has ended a
     /// period, waits for a section, or has nothing to do: where nobody reads, a whole period.
     pub(crate) fn carry_on_for(&mut self, needs: &mut N) -> Result<Progress, Exhausted>
-        ensures { MatchResult result
+        ensures works { MatchResult result
             (λ answer. WorksFor needs.old needs.new (λ v w. CarriesOn N.loads v answer w) self.old self.new)
             (λ _. WorksFor needs.old needs.new (FindsExhausted N.loads) self.old self.new) }
+        ensures most { number_at_rest self.new.seat.seen ≤ 4 * self.new.seat.periods }
     {
-        carry_on_at(&mut self.seat, &mut self.place, needs)
+        let answer = carry_on_at(&mut self.seat, &mut self.place, needs);
+        // For the proof: no more periods have ended than may.
+        let _number = self.number();
+        answer
     }
 
     /// Starts a grace period, whether it is asked for or not, and answers the number from then on. A need that was
@@ -131,7 +144,10 @@ impl<N: Needs, A: Allocator> Engine<N, A> {
     {
         self.seat.home()
     }
+}
 
+// Loads that change nothing: for who has to show how far somebody has seen.
+impl<N: Needs, A: Allocator> Engine<N, A> {
     /// One load of the index word by the engine, which has then seen what the processor has. Both are of one domain.
     pub fn cover(&mut self, cpu: &mut Cpu<A>)
         requires { cpu.old.domain ≡ self.old.seat.domain }

@@ -1,5 +1,5 @@
 //! A domain with its name, the names in use there, its desk, and the batches that are out.
-ghost use Rattle.std.specs.Prelude.{◌≡◌, ◌<◌, ◌≤◌, length, [], ◌∷◌, option_map, IfOk, OnErr, bytes_eq};
+ghost use Rattle.std.specs.Prelude.{◌≡◌, ◌<◌, ◌≤◌, length, [], ◌∷◌, IfOk, OnErr, bytes_eq};
 ghost use Rattle.requests.specs.Requests.{Fits};
 ghost use Rattle.session.specs.States.{kind_at, scene_of};
 ghost use Rattle.session.specs.Entries.{AreTogether};

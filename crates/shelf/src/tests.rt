@@ -20,7 +20,7 @@ struct Sixteen {
 }
 
 impl Versioned for Sixteen {
-    ghost use Rattle.std.specs.Prelude.{ℕ, List, refl};
+    ghost use Rattle.std.specs.Prelude.{refl};
 
     ghost fits = { λ s. length s.words ≡ 16 };
 

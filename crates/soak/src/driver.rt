@@ -1,7 +1,6 @@
 //! The thread that drives grace periods, and takes, runs and finishes the jobs of all processors. It waits for no section
 //! and for no job.
 ghost use Rattle.std.specs.Prelude.{◌≡◌, ◌<◌, ◌≤◌, [], length};
-ghost use Rattle.domain.specs.Views.{IsOf};
 ghost use Rattle.soak.specs.Checks.{misplaced, misplaced_in};
 ghost use Rattle.soak.specs.Drivers.{IsDriving};
 

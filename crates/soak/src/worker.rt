@@ -11,7 +11,7 @@
 ghost use Rattle.std.specs.Prelude.{◌≡◌, ◌<◌, ◌==◌, ◌⊎◌, IfSome, not};
 ghost use Rattle.sections.specs.Words.{cells_in};
 ghost use Rattle.sections.specs.Calls.{IsSameCpu};
-ghost use Rattle.domain.specs.Views.{IsOf, Stays};
+ghost use Rattle.domain.specs.Views.{Stays};
 ghost use Rattle.soak.specs.Workers.{IsAtWork, StaysAtWork};
 ghost use Rattle.soak.specs.Counts.{more_if};
 ghost use Rattle.soak.specs.Checks.{judged, Checks, IsRefused, WaitsAndChecks};

@@ -1,6 +1,6 @@
 //! A new domain with one cell, for a reader in each thread and one who changes what lies in the cell. Or for one who queues
 //! jobs in each thread, and one who gives them out.
-ghost use Rattle.std.specs.Prelude.{◌≡◌, ◌^◌, ◌≤◌, All, IsOk, IfOk, OnOk};
+ghost use Rattle.std.specs.Prelude.{◌≡◌, ◌^◌, ◌≤◌, All, IfOk};
 ghost use Rattle.sections.specs.Words.{cells_in};
 ghost use Rattle.domain.specs.Views.{IsOf};
 ghost use Rattle.srcubench.specs.Founding.{IsNew};

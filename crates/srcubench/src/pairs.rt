@@ -1,5 +1,5 @@
 //! The loop that is measured.
-ghost use Rattle.std.specs.Prelude.{◌≡◌, ◌⊎◌};
+ghost use Rattle.std.specs.Prelude.{◌⊎◌};
 ghost use Rattle.srcubench.specs.Pairs.{MakesPairs, AllMade, StopsEarly, HasRoom};
 ghost use Rattle.srcubench.specs.Readers.{HasMadeAll};
 

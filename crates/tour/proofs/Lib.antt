@@ -1,3 +1,2 @@
 mod Leasing
 mod Reading
-mod Starting

@@ -11,6 +11,7 @@ use crate::tally::{see_all, see_batch_out, see_told};
 use std::alloc::Allocator;
 use std::marker::Brand;
 
+// Loads that change nothing: for who has to show how far somebody has seen.
 impl<J, A: Allocator> CallSeat<J, A> {
     /// One load by this seat, of its own queued word. It has then seen what the other has. Only processors that are there
     /// have finished batches.

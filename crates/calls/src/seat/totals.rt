@@ -1,5 +1,4 @@
 //! How many calls were queued on all processors together, and how many of these are finished.
-ghost use Rattle.std.specs.Prelude.{◌≡◌};
 ghost use Rattle.calls.specs.Totals.{SumsQueued, SumsFinished, AddsUp};
 
 use super::CallSeat;

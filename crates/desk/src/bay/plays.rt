@@ -10,7 +10,7 @@ use std::marker::PhantomData;
 
 pub(crate) type Place<T> = Seat<Option<T>, View<T>>;
 
-pub(crate) type Top<T> = Shared<Option<T>, View<T>, Plan<T>, OneHolds<T>>;
+pub(crate) type Board<T> = Shared<Option<T>, View<T>, Plan<T>, OneHolds<T>>;
 
 /// The value lies in the bay, or just one seat holds it.
 pub struct OneHolds<T>(PhantomData<T>);

@@ -8,6 +8,7 @@ use super::{Alike, Bay, plays};
 use sections::Token;
 use std::alloc::Allocator;
 
+// Loads that change nothing: for who has to show how far somebody has seen.
 impl<T: Token + Alike> BaySeat<T> {
     /// One load by this seat, which has then seen what the other has.
     pub fn cover<A: Allocator>(&mut self, other: &mut BaySeat<T>, bay: &Bay<T, A>)

@@ -8,6 +8,7 @@ ghost use Rattle.domain.specs.Acting.{loads, ActsAs};
 use super::Cpu;
 use std::alloc::Allocator;
 
+// Loads that change nothing: for who has to show how far somebody has seen.
 impl<J, A: Allocator> Cpu<J, A> {
     /// One load of the index word by this processor, which has then seen what the other has. Both are of one domain.
     pub fn cover(&mut self, other: &mut Cpu<J, A>)

@@ -74,21 +74,6 @@ impl<J: Drop, A: Allocator + Copy> Domain<J, A> {
             .take_ready(rt, &mut cpu.cpu, &mut cpu.calls, processor, max)
     }
 
-    /// One load, of the processor's own queued word. The processor has then seen that the batch is out: its jobs were
-    /// queued, and none of them is finished. The batch may be of another processor, and stays as it is. It takes no
-    /// memory and does not wait.
-    pub fn see_out(&self, cpu: &mut Cpu<J, A>, batch: &mut Batch<J, A>)
-        requires domain { IsOf self.now cpu.old }
-        requires batch { batch.old.tallies ≡ self.now.tallies }
-        ensures here { IsOf self.now cpu.new }
-        ensures out { SeesOut batch.old cpu.old.calls cpu.new.calls }
-        ensures acts { ActsAs loads cpu.old cpu.new }
-        ensures rest { cpu.new ≡ with_calls cpu.new.calls cpu.old }
-        ensures batch { batch.new ≡ batch.old }
-    {
-        cpu.calls.see_out(batch);
-    }
-
     /// The batch is over, and empty: its count is added to the finished word of its processor. Any processor of the domain
     /// may do it. It waits while another thread has that processor's list.
     pub fn finish<R: Wait>(&self, rt: &R, cpu: &mut Cpu<J, A>, batch: Batch<J, A>)
@@ -124,5 +109,23 @@ impl<J: Drop, A: Allocator + Copy> Domain<J, A> {
         ensures rest { cpu.new ≡ with_calls cpu.new.calls cpu.old }
     {
         self.calls.lens(rt, &mut cpu.calls, processor)
+    }
+}
+
+// Loads that change nothing: for who has to show how far somebody has seen.
+impl<J, A: Allocator> Domain<J, A> {
+    /// One load, of the processor's own queued word. The processor has then seen that the batch is out: its jobs were
+    /// queued, and none of them is finished. The batch may be of another processor, and stays as it is. It takes no
+    /// memory and does not wait.
+    pub fn see_out(&self, cpu: &mut Cpu<J, A>, batch: &mut Batch<J, A>)
+        requires domain { IsOf self.now cpu.old }
+        requires batch { batch.old.tallies ≡ self.now.tallies }
+        ensures here { IsOf self.now cpu.new }
+        ensures out { SeesOut batch.old cpu.old.calls cpu.new.calls }
+        ensures acts { ActsAs loads cpu.old cpu.new }
+        ensures rest { cpu.new ≡ with_calls cpu.new.calls cpu.old }
+        ensures batch { batch.new ≡ batch.old }
+    {
+        cpu.calls.see_out(batch);
     }
 }

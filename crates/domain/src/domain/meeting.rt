@@ -1,5 +1,5 @@
 //! A meeting of all processors: the first has the engine, and the others are as many as there are.
-ghost use Rattle.std.specs.Prelude.{◌≡◌, ◌≤◌, true, ◌∷◌};
+ghost use Rattle.std.specs.Prelude.{◌≡◌, ◌≤◌, ◌∷◌};
 ghost use Rattle.onedom.specs.Histories as events;
 ghost use Rattle.sections.specs.EngineCalls.{IsSeenByEngine};
 ghost use Rattle.scan.specs.Progress.{with_seat};
@@ -92,6 +92,7 @@ impl<J, A: Allocator> Domain<J, A> {
         self.cover_all(&mut engine, &mut first.needs, &mut first.turn, others);
         engine.admit(&mut first.cpu);
         admit_all(&mut engine, &mut first.needs, others);
+        // The put is a swap too. So it comes before the seats are admitted: all of them are to have seen one list, with it.
         first.turn.put(&self.station, engine);
         self.admit_turns(&mut first.turn, others);
         meet_calls(&mut first.calls, others);

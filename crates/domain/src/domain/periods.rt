@@ -1,5 +1,6 @@
 //! Driving grace periods.
-ghost use Rattle.std.specs.Prelude.{MatchResult};
+ghost use Rattle.std.specs.Prelude.{IfOk, MatchResult};
+ghost use Rattle.scan.specs.Standings.{IsWithin};
 ghost use Rattle.domain.specs.Views.{IsOf};
 ghost use Rattle.domain.specs.Turns.{StepsIn, AdvancesIn, IsRefused, StartsIn, IsNotStarted, SaysOf, HasStarted, SaysWhy, SaysWhyNone};
 
@@ -19,6 +20,7 @@ impl<J, A: Allocator> Domain<J, A> {
         ensures here { IsOf self.now cpu.new }
         ensures steps { MatchResult result (λ answer. StepsIn cpu.old answer cpu.new) (λ refusal. IsRefused cpu.old refusal cpu.new) }
         ensures says { MatchResult result (λ answer. SaysOf self.now answer cpu.old cpu.new) (λ refusal. SaysWhy self.now refusal cpu.old cpu.new) }
+        ensures within { IfOk result (λ answer. IsWithin self.now.periods answer) }
     {
         // The engine works with the processor's own seat at the tree: what the processor has seen there is found, and no
         // engine can load the needs of another tree.
@@ -32,6 +34,7 @@ impl<J, A: Allocator> Domain<J, A> {
         ensures here { IsOf self.now cpu.new }
         ensures advances { MatchResult result (λ answer. AdvancesIn cpu.old answer cpu.new) (λ refusal. IsRefused cpu.old refusal cpu.new) }
         ensures says { MatchResult result (λ answer. SaysOf self.now answer cpu.old cpu.new) (λ refusal. SaysWhy self.now refusal cpu.old cpu.new) }
+        ensures within { IfOk result (λ answer. IsWithin self.now.periods answer) }
     {
         cpu.turn
             .advance(&self.station, &mut cpu.cpu, &mut cpu.needs)

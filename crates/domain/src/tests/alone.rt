@@ -5,10 +5,7 @@ ghost use Rattle.domain.specs.Meetings.{IsAllOf};
 ghost use Rattle.domain.specs.Waiting.{HasNoneOpen};
 
 use super::calling::{Answer, HeldUp, held_up, hold_up};
-use crate::{
-    AdvanceRefusal, Cpu, Domain, Exhausted, Limits, MakeError, Number, PeriodsExhausted,
-    StartRefusal,
-};
+use crate::{Cpu, Domain, Limits, MakeError, Number, PeriodsExhausted, StartRefusal};
 use linked_list_allocator::LocalHeap;
 use std::alloc::Global;
 use std::sync::Wait;

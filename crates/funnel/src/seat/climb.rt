@@ -8,7 +8,7 @@ ghost use Rattle.funnel.specs.Histories.{IsBeginning, MayRaise};
 ghost use Rattle.funnel.specs.Plays.{Raised, FindsRoot};
 ghost use Rattle.funnel.specs.Seats.{IsPlaced, IsSeated, IsAtRest, IsInTree, HasHolder, Climbs, Covers, Accepts, IsSameSeat};
 
-use super::{Level, Place, Top};
+use super::{Board, Level, Place};
 use crate::plays;
 
 /// Where a node stands. Each node has a stride of 16 words, so that no two of them share a cache line of 64 bytes,
@@ -32,7 +32,7 @@ pub(crate) fn leaf_of(nodes: usize, processor: u16) -> usize
 }
 
 /// One `fetch_max` of the node, and what it held before.
-fn raise(top: &Top, seat: &mut Place, processor: u16, node: usize, number: u64) -> u64
+fn raise(top: &Board, seat: &mut Place, processor: u16, node: usize, number: u64) -> u64
     requires placed { IsPlaced top.now.key top.now.table_id seat.old }
     requires there { (node < top.now.key.nodes) × (node < 2 ^ 32) }
     requires role { (seat.old.me.0.role ≡ Asker processor) × (processor < top.now.key.processors) }
@@ -46,7 +46,13 @@ fn raise(top: &Top, seat: &mut Place, processor: u16, node: usize, number: u64) 
 
 /// From the leaf to the root, one `fetch_max` at each node. A node that holds the number already was raised by a call
 /// that has gone on to the parent, or is about to, so there is no more to do above it.
-pub(crate) fn climb(top: &Top, seat: &mut Place, processor: u16, leaf: usize, number: u64) -> Level
+pub(crate) fn climb(
+    top: &Board,
+    seat: &mut Place,
+    processor: u16,
+    leaf: usize,
+    number: u64,
+) -> Level
     requires placed { IsPlaced top.now.key top.now.table_id seat.old }
     requires role { (seat.old.me.0.role ≡ Asker processor) × IsInTree top.now.key processor }
     requires idle { seat.old.me.0.call ≡ Idle }
@@ -73,7 +79,7 @@ pub(crate) fn climb(top: &Top, seat: &mut Place, processor: u16, leaf: usize, nu
 }
 
 /// The root, as one load finds it.
-pub(crate) fn load_root(top: &Top, seat: &mut Place) -> u64
+pub(crate) fn load_root(top: &Board, seat: &mut Place) -> u64
     requires placed { IsPlaced top.now.key top.now.table_id seat.old }
     requires holder { HasHolder seat.old.me.0 }
     ensures placed { IsPlaced top.now.key top.now.table_id seat.new }
@@ -83,7 +89,7 @@ pub(crate) fn load_root(top: &Top, seat: &mut Place) -> u64
 }
 
 /// One load of the root by the first seat, which then covers what the second has seen.
-pub(crate) fn cover(top: &Top, first: &mut Place, second: &mut Place)
+pub(crate) fn cover(top: &Board, first: &mut Place, second: &mut Place)
     requires first { IsPlaced top.now.key top.now.table_id first.old × HasHolder first.old.me.0 }
     requires second { IsSeated top.now.table_id second.old }
     ensures placed { IsPlaced top.now.key top.now.table_id first.new }
@@ -97,7 +103,7 @@ pub(crate) fn cover(top: &Top, first: &mut Place, second: &mut Place)
 
 /// One load of the root by the first seat, which shows that it raised no node that the second has not seen. So it may
 /// see just as much as the second.
-pub(crate) fn admit(top: &Top, first: &mut Place, second: &mut Place)
+pub(crate) fn admit(top: &Board, first: &mut Place, second: &mut Place)
     requires first { IsPlaced top.now.key top.now.table_id first.old × HasHolder first.old.me.0 }
     requires rests { IsAtRest first.old.me.0 }
     requires second { IsSeated top.now.table_id second.old }

@@ -1,11 +1,12 @@
 //! How seats come to see one history.
 ghost use Rattle.std.specs.Prelude.{◌≡◌};
 ghost use Rattle.funnel.specs.Histories.{IsBeginning};
-ghost use Rattle.funnel.specs.Calls.{Covers, CoversAll, Accepts, Ties, Meets, AreInDomain};
+ghost use Rattle.funnel.specs.Calls.{Covers, Accepts, Ties};
 
 use super::{FunnelSeat, climb};
 use std::alloc::Allocator;
 
+// Loads that change nothing: for who has to show how far somebody has seen.
 impl<A: Allocator> FunnelSeat<A> {
     /// One load of the root by this seat, which has then seen what the other has.
     pub fn cover(&mut self, other: &mut FunnelSeat<A>)
@@ -35,30 +36,5 @@ impl<A: Allocator> FunnelSeat<A> {
     {
         self.cover(other);
         self.admit(other);
-    }
-
-    /// This seat has then seen what each of the others has.
-    fn cover_all(&mut self, others: &mut [FunnelSeat<A>])
-        requires { AreInDomain self.old.domain others.old }
-        ensures covers { CoversAll self.old others.old self.new }
-        ensures others { others.new ≡ others.old }
-    {
-        // For the proof: without another seat too, what this one has seen is a legal history.
-        let _seat = &self.seat;
-        for next in others.iter_mut() {
-            self.cover(next);
-        }
-    }
-
-    /// One load of the root by this seat for each of the others, and then one by each of them. All have then seen one
-    /// history, in which each has just its own raises.
-    pub fn meet(&mut self, others: &mut [FunnelSeat<A>])
-        requires { AreInDomain self.old.domain others.old }
-        ensures { Meets self.old others.old self.new others.new }
-    {
-        self.cover_all(others);
-        for next in others.iter_mut() {
-            self.admit(next);
-        }
     }
 }

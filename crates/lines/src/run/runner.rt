@@ -1,5 +1,5 @@
 //! The lines of what is read, a part at a time.
-ghost use Rattle.std.specs.Prelude.{◌≡◌, ℕ, ◌+◌, ◌||◌, Bool, false, List, [], ◌++◌, Option, Some, MatchResult};
+ghost use Rattle.std.specs.Prelude.{◌≡◌, ℕ, ◌+◌, ◌||◌, Bool, false, List, [], ◌++◌, Some, MatchResult};
 ghost use Rattle.std.specs.Io.KnownBytes.{Appends};
 ghost use Rattle.lines.specs.Lines.{lines_of};
 ghost use Rattle.lines.specs.Runs.{AnswerFails, EndsEarly, IsRun, IsSoFar};

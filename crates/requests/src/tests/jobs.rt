@@ -2,7 +2,7 @@
 ghost use Rattle.std.specs.Prelude.{◌≤◌, length};
 
 use super::{asks_for, check_faults, check_texts};
-use crate::{Act, Cause, Command, Fault, JobNames, Reply, Segments, Waiting};
+use crate::{Act, Cause, Command, JobNames, Reply, Segments, Waiting};
 use lines::Name;
 use std::test::Fail;
 

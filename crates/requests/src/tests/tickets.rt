@@ -1,6 +1,6 @@
 //! The lines of tickets, and of taking a domain down.
 use super::{asked, asks_for, check_faults, check_texts};
-use crate::{Act, Cause, Command, Fault, Reply, Request};
+use crate::{Act, Cause, Command, Reply, Request};
 use lines::Name;
 use std::test::Fail;
 

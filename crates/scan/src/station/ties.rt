@@ -8,6 +8,7 @@ use super::seat::StationSeat;
 use sseq::Needs;
 use std::alloc::Allocator;
 
+// Loads that change nothing: for who has to show how far somebody has seen.
 impl<N: Needs, A: Allocator> StationSeat<N, A> {
     /// One load by this seat, which has then seen what the other has.
     pub fn cover_seat(&mut self, other: &mut StationSeat<N, A>, station: &Station<N, A>)

@@ -1,8 +1,8 @@
 //! Driving the engine from its place: a swap that takes it, its work, a tie, and a swap that puts it back.
-ghost use Rattle.std.specs.Prelude.{◌≡◌, true, false, MatchResult};
+ghost use Rattle.std.specs.Prelude.{◌≡◌, true, false, IfOk, MatchResult};
 ghost use Rattle.desk.specs.BayCalls.{holds};
 ghost use Rattle.scan.specs.Progress.{StepsTo, AdvancesTo, CarriesOn, StartsTo, WorksFor};
-ghost use Rattle.scan.specs.Stations.{IsOfStation, FindsBusy, GivesBack, Drives, IsNotDriven, IsNotStarted};
+ghost use Rattle.scan.specs.Stations.{IsOfStation, IsWithinLimit, FindsBusy, GivesBack, Drives, IsNotDriven, IsNotStarted};
 
 use super::Station;
 use super::seat::StationSeat;
@@ -44,6 +44,7 @@ impl<N: Needs, A: Allocator> StationSeat<N, A> {
         ensures steps { MatchResult result
             (λ answer. Drives (WorksFor needs.old needs.new (λ v w. StepsTo N.loads v answer w)) self.old cpu.old self.new cpu.new)
             (λ refusal. IsNotDriven N.loads refusal self.old cpu.old needs.old self.new cpu.new needs.new) }
+        ensures within { IfOk result (λ answer. IsWithinLimit self.old answer) }
     {
         let Some(mut engine) = self.take(station) else {
             return Err(AdvanceRefusal::Busy);
@@ -71,6 +72,7 @@ impl<N: Needs, A: Allocator> StationSeat<N, A> {
         ensures advances { MatchResult result
             (λ answer. Drives (WorksFor needs.old needs.new (λ v w. AdvancesTo N.loads v answer w)) self.old cpu.old self.new cpu.new)
             (λ refusal. IsNotDriven N.loads refusal self.old cpu.old needs.old self.new cpu.new needs.new) }
+        ensures within { IfOk result (λ answer. IsWithinLimit self.old answer) }
     {
         let Some(mut engine) = self.take(station) else {
             return Err(AdvanceRefusal::Busy);
@@ -99,6 +101,7 @@ impl<N: Needs, A: Allocator> StationSeat<N, A> {
         ensures carries { MatchResult result
             (λ answer. Drives (WorksFor needs.old needs.new (λ v w. CarriesOn N.loads v answer w)) self.old cpu.old self.new cpu.new)
             (λ refusal. IsNotDriven N.loads refusal self.old cpu.old needs.old self.new cpu.new needs.new) }
+        ensures within { IfOk result (λ answer. IsWithinLimit self.old answer) }
     {
         let Some(mut engine) = self.take(station) else {
             return Err(AdvanceRefusal::Busy);

@@ -7,7 +7,7 @@ use crate::refusals::{AdvanceRefusal, Busy, StartRefusal};
 use crate::{Engine, Progress, Station, StationSeat};
 use sections::{Cpu, Limits, Made, MakeError, make};
 use sseq::{Index, Needs, Number};
-use std::alloc::{AllocError, Global};
+use std::alloc::Global;
 use std::sync::atomic::AtomicBool;
 use std::sync::atomic::Ordering::SeqCst;
 use std::test::Fail;

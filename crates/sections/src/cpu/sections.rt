@@ -87,7 +87,10 @@ impl<A: Allocator> Cpu<A> {
         top.fetch_add::<plays::Unlock>(&mut self.seat, place_of_unlock(self.processor, index), 1);
         self.settled += 1;
     }
+}
 
+// Loads that change nothing: for who has to show how far somebody has seen.
+impl<A: Allocator> Cpu<A> {
     /// One load of the index word by this processor, which has then seen what the other has. Both are of one domain.
     pub fn cover(&mut self, other: &mut Cpu<A>)
         requires { other.old.domain ≡ self.old.domain }

@@ -1,6 +1,5 @@
 //! Steps of the one that writes a cell.
-ghost use Rattle.std.specs.Prelude.{◌≡◌, ◌+◌, ◌*◌, ◌<◌};
-ghost use Rattle.onedom.specs.Histories.{version_of};
+ghost use Rattle.std.specs.Prelude.{◌≡◌, ◌*◌, ◌<◌};
 ghost use Rattle.sections.specs.Seats.{IsPlaced, IsOfProcessor};
 ghost use Rattle.sections.specs.Insides.{IsAtRest};
 ghost use Rattle.sections.specs.Pens.{IsWide, HasPen, CanWrite, PutsNext, PutsIn, StoresIn, RefreshesIn};

@@ -1,12 +1,12 @@
 //! What the engine's seat does in a grace period.
-ghost use Rattle.std.specs.Prelude.{◌≡◌, ◌+◌, ◌*◌, ◌^◌, ◌<◌, ◌≤◌};
+ghost use Rattle.std.specs.Prelude.{◌≡◌, ◌+◌, ◌*◌, ◌^◌, ◌<◌};
 ghost use Rattle.sseq.specs.declared.index.Index.{Index};
 ghost use Rattle.sseq.specs.Indexes.{low_bit, other_index};
 ghost use Rattle.onedom.specs.declared.event.Event.TheVariants.{Start, Finish};
 ghost use Rattle.onedom.specs.declared.event.Maker.TheVariants.{Engine};
 ghost use Rattle.onedom.specs.Histories.{WasEmpty};
 ghost use Rattle.sections.specs.Words.{number_word, index_word, IsIdle, IsBeforeFlip, IsFlipping, IsBehindFlip};
-ghost use Rattle.sections.specs.EngineCalls.{AddsEngineEvent, CountsUnlocks, CountsLocks, Flips, MovesOn, OpenAtStartAreClosed, IsSeenByEngine};
+ghost use Rattle.sections.specs.EngineCalls.{AddsEngineEvent, CountsUnlocks, CountsLocks, Flips, MovesOn, OpenAtStartAreClosed};
 
 use super::EngineSeat;
 use crate::board::{INDEX_PLACE, NUMBER_PLACE, place_of_lock, place_of_unlock};

@@ -10,6 +10,7 @@ use crate::cpu::Cpu;
 use crate::cpu::steps::{accept, cover, note_shown};
 use std::alloc::Allocator;
 
+// Loads that change nothing: for who has to show how far somebody has seen.
 impl<A: Allocator> EngineSeat<A> {
     /// One load of the index word by the engine, which has then seen what the processor has. Both are of one domain.
     pub fn cover(&mut self, cpu: &mut Cpu<A>)

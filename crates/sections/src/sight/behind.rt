@@ -1,7 +1,6 @@
 //! What a processor does behind all that a sight has seen.
-ghost use Rattle.std.specs.Prelude.{◌≡◌, ◌%◌, ◌<◌, ◌≤◌};
-ghost use Rattle.sections.specs.Rule.{lacking};
-ghost use Rattle.sections.specs.Sights.{sight_of, GivesCookieBehind, AsksHowFar, AsksHowFarBehind};
+ghost use Rattle.std.specs.Prelude.{◌≡◌, ◌<◌};
+ghost use Rattle.sections.specs.Sights.{GivesCookieBehind, AsksHowFar, AsksHowFarBehind};
 
 use super::Sight;
 use crate::board::NUMBER_PLACE;

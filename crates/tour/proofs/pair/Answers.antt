@@ -3,7 +3,7 @@ use Rattle.std.proofs.Common.{◌≡◌, ◌<◌, All, arith}
 use Rattle.std.proofs.lemmas.List.Elements.{All-pop}
 use Rattle.domain.specs.Views.{CpuView}
 use Rattle.tour.specs.Parts.{IsReady}
-use Rattle.tour.proofs.Starting.{new_ones_are_ready}
+use Rattle.domain.proofs.CallerLemmas.{new_ones_are_ready}
 use Rattle.sections.specs.WriterViews.{WriterView}
 use Rattle.domain.proofs.CallerLemmas.{writers_here}
 use Rattle.tour.proofs.pair.Goals as goal

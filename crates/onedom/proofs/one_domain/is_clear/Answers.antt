@@ -1,4 +1,4 @@
-use Rattle.std.proofs.Common.{◌≡◌, ◌∙◌, sym}
+use Rattle.std.proofs.Common.{◌∙◌, sym}
 use Rattle.onedom.proofs.Cells.{clear_as}
 use Rattle.onedom.proofs.one_domain.is_clear.Goals as goal
 

@@ -1,4 +1,4 @@
-use Rattle.std.proofs.Common.{◌≡◌, ℕ, length, refl, sym, subst, arith}
+use Rattle.std.proofs.Common.{◌≡◌, length, arith}
 use Rattle.onedom.proofs.Cells.{unread_on, unread_all}
 use Rattle.onedom.proofs.one_domain.is_found.Goals as goal
 

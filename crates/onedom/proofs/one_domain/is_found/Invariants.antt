@@ -1,4 +1,3 @@
-use Rattle.std.proofs.Common.{take}
 use Rattle.onedom.proofs.Cells.{IsUnreadUpto}
 use Rattle.onedom.proofs.one_domain.is_found.Given as goal
 

@@ -1,4 +1,4 @@
-use Rattle.std.proofs.Common.{◌≡◌, ◌∙◌}
+use Rattle.std.proofs.Common.{◌∙◌}
 use Rattle.onedom.specs.declared.event.Event.TheVariants.{Find}
 use Rattle.onedom.proofs.Cells.{reads}
 use Rattle.onedom.proofs.one_domain.is_reading.Goals as goal

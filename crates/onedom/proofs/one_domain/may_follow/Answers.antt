@@ -1,6 +1,5 @@
-use Rattle.std.proofs.Common.{◌≡◌, ℕ, ◌∙◌, refl, sym, subst}
+use Rattle.std.proofs.Common.{ℕ, ◌∙◌, refl, sym, subst}
 use Rattle.onedom.specs.declared.event.Event.{Event}
-use Rattle.onedom.specs.declared.event.Event.TheVariants.{Find}
 use Rattle.onedom.specs.declared.illegal.Illegal.TheVariants.{StillOpen, NotOpen, WrongFind}
 use Rattle.onedom.specs.Histories.{IsOpen, MayFollow}
 use Rattle.onedom.specs.Refusals.{IsRefusal}

@@ -1,5 +1,5 @@
 use Rattle.std.proofs.Common.{refl}
-use Rattle.domain.proofs.Answering.{says_stepped}
+use Rattle.domain.proofs.Answering.{within, says_stepped}
 use Rattle.domain.proofs.Lending.{stepped}
 use Rattle.domain.proofs.Sameness.{same_stepped_in}
 use Rattle.domain.proofs.Staying.{still_of}
@@ -13,3 +13,6 @@ returns-clause-here g c = still_of _ _ _ c.requires (same_stepped_in _ _ _ (retu
 
 pub returns-clause-says : goal.returns-clause-says
 returns-clause-says g c = says_stepped _ _ c.requires _ _ (returns-clause-steps g c)
+
+pub returns-clause-within : goal.returns-clause-within
+returns-clause-within g c = within _ _ c.requires _ c.step.ensures.within
