@@ -31,8 +31,8 @@ number_for p t = slice_index t.numbers p
 
 module _ {J : Type 0} where
   -- the receipt's call is one of those
-  abbrev pub Covers : TicketView → ReceiptView J → Type 0
-  Covers t r = r.k < number_for r.processor t
+  abbrev pub CoversReceipt : TicketView → ReceiptView J → Type 0
+  CoversReceipt t r = r.k < number_for r.processor t
 
   -- done, for one who has seen this: each finished count has reached its number
   abbrev pub IsDone : TicketView → List (Deed J) → Type 0
@@ -75,7 +75,7 @@ module _ {J : Type 0} where
 
   -- the ticket covers each receipt, of a processor that is there, whose call was queued for one who has seen this
   abbrev pub CoversAll : TicketView → ℕ → List (Deed J) → Type 0
-  CoversAll t processors seen = (r : ReceiptView J) → r.processor < processors → IsQueued r seen → Covers t r
+  CoversAll t processors seen = (r : ReceiptView J) → r.processor < processors → IsQueued r seen → CoversReceipt t r
 
   -- at a moment of the call a finished count was below its number
   pub record IsBehind (t : TicketView) (s s' : CallSeatView J) : Type 0 where
@@ -94,7 +94,7 @@ module _ {J : Type 0} where
 
   -- each receipt that the ticket covers is finished, for one who has seen this
   abbrev pub AreFinished : TicketView → List (Deed J) → Type 0
-  AreFinished t seen = (r : ReceiptView J) → Covers t r → IsFinished r seen
+  AreFinished t seen = (r : ReceiptView J) → CoversReceipt t r → IsFinished r seen
 
   -- one load of the queued word of the receipt's processor. What the one who queued the job had seen is then seen, and the load found no less than had been queued there by then
   pub record Hears (r : ReceiptView J) (s s' : CallSeatView J) : Type 0 where

@@ -13,7 +13,7 @@ use Rattle.calls.specs.declared.batch.Batch.TheInside as batch
 use Rattle.calls.specs.declared.spot.Spot.TheInside as spot
 use Rattle.calls.specs.declared.calls.Calls.TheInside as calls
 use Rattle.calls.specs.declared.barrier.Ticket.TheInside as ticket
-use Rattle.calls.specs.declared.note.Note.TheInside as note
+use Rattle.calls.specs.declared.sight.TallySight.TheInside as note
 use Rattle.calls.specs.declared.receipt.Receipt.TheInside as receipt
 use Rattle.calls.specs.Tallies.{finished_place, word_count, most_calls, queued_in, AreTrue}
 use Rattle.calls.specs.Lines.{calls_in}

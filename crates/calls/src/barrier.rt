@@ -1,5 +1,5 @@
 //! Barriers: waiting until all callbacks that were queued before are run.
-use crate::note::Note;
+use crate::sight::TallySight;
 use std::alloc::{Allocator, Global};
 use std::marker::Model;
 
@@ -12,7 +12,7 @@ mod tickets;
 pub struct Ticket<J, A: Allocator = Global> {
     pub(crate) numbers: Vec<u64, A>,
     /// It tells contracts at which tally words the barrier was started.
-    pub(crate) note: Note<J>,
+    pub(crate) note: TallySight<J>,
 }
 
 impl<J, A: Allocator> Model for Ticket<J, A> {

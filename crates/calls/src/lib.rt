@@ -9,7 +9,7 @@ mod entry;
 mod laws;
 mod list;
 mod making;
-mod note;
+mod sight;
 mod plays;
 mod receipt;
 mod refusals;
@@ -28,7 +28,7 @@ pub use laws::{
     barriers_of_callbacks, jobs_of_callbacks, tallies_of_callbacks, totals_of_callbacks,
 };
 pub use list::List;
-pub use note::Note;
+pub use sight::TallySight;
 pub use receipt::Receipt;
 pub use refusals::{CallRefusal, Memory, TakeRefusal};
 pub use seat::{CallSeat, Totals};

@@ -1,7 +1,7 @@
 //! What a caller has of a job that was queued.
 ghost use Rattle.std.specs.Prelude.{◌≡◌, ◌^◌, ◌≤◌};
 
-use crate::note::Note;
+use crate::sight::TallySight;
 use sections::Cookie;
 use std::marker::Model;
 
@@ -13,7 +13,7 @@ pub struct Receipt<J> {
     pub(crate) k: u64,
     pub(crate) cookie: Cookie,
     /// What the seat had seen by which it was queued.
-    pub(crate) note: Note<J>,
+    pub(crate) note: TallySight<J>,
 }
 
 impl<J> Model for Receipt<J> {

@@ -31,8 +31,8 @@ module _ {J : Type 0} where
     pub there : b.processor < d.processors
 
   -- a turn of the engine, with this answer
-  abbrev pub Turns : Result Progress AdvanceRefusal → CpuView J → CpuView J → Type 0
-  Turns answer c c' = MatchResult answer (λ a. AdvancesIn c a c') (λ r. IsRefused c r c')
+  abbrev pub TriesTurn : Result Progress AdvanceRefusal → CpuView J → CpuView J → Type 0
+  TriesTurn answer c c' = MatchResult answer (λ a. AdvancesIn c a c') (λ r. IsRefused c r c')
 
   -- Batches
 
@@ -83,7 +83,7 @@ module _ {J : Type 0} where
     -- one turn of the engine, with this answer, and then one look at the list of each processor
     pub record Round (d : DomainView) (f : F) (c : CpuView J) (answer : Result Progress AdvanceRefusal) (jobs : List J) (f' : F) (c' : CpuView J) : Type 0 where
       pub turned : CpuView J
-      pub turns : Turns answer c turned
+      pub turns : TriesTurn answer c turned
       pub looks : LooksAfterAll d d.processors f turned jobs f' c'
 
     -- the same, by which so many grace periods ended

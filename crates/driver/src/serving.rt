@@ -4,7 +4,7 @@ ghost use Rattle.std.specs.Mem.{FitsInMemory};
 ghost use Rattle.calls.specs.Tallies.{IsBeginning};
 ghost use Rattle.domain.specs.Views.{IsOf, IsSameProcessor};
 ghost use Rattle.domain.specs.Waiting.{HasNoneOpen};
-ghost use Rattle.driver.specs.Serving.{IsBatchOf, Turns, RunsIn, LooksAfter, LooksAfterAll, Round};
+ghost use Rattle.driver.specs.Serving.{IsBatchOf, TriesTurn, RunsIn, LooksAfter, LooksAfterAll, Round};
 
 use crate::counts::Came;
 use domain::{AdvanceRefusal, Batch, Cpu, Domain, Progress};
@@ -53,7 +53,7 @@ fn turn<J, A: Allocator>(
     ensures none { HasNoneOpen cpu.new }
     ensures later { IsBeginning cpu.old.calls.seen cpu.new.calls.seen }
     ensures same { IsSameProcessor cpu.old cpu.new }
-    ensures turns { Turns result cpu.old cpu.new }
+    ensures turns { TriesTurn result cpu.old cpu.new }
 {
     domain.advance(cpu)
 }

@@ -81,6 +81,6 @@ pub record HasRead (g : Course) (number : ℕ) (r : Reader) : Type 0 where
   pub few : r.closed ≤ g.rounds + 1
 
 -- the lease was asked for the key, and answered
-pub record Asks (lease : LeaseView) (key : ℕ) (r r' : Reader) : Type 0 where
+pub record AsksLease (lease : LeaseView) (key : ℕ) (r r' : Reader) : Type 0 where
   pub plug : Option ℕ
   pub gets : Gets lease key plug r.cpu r'.cpu

@@ -1,7 +1,7 @@
 //! A thread that leases versions, reads them, and hands the leases on.
 ghost use Rattle.std.specs.Prelude.{◌≡◌, ◌+◌, ◌%◌, ◌<◌, ◌≤◌, IfSome};
 ghost use Rattle.race.specs.Courses.{IsCourse};
-ghost use Rattle.race.specs.Readers.{one_if, IsReaderOf, Tells, Opens, Counts, Releases, HasMade, HasRead, Asks};
+ghost use Rattle.race.specs.Readers.{one_if, IsReaderOf, Tells, Opens, Counts, Releases, HasMade, HasRead, AsksLease};
 
 use crate::course::{Course, key_of};
 use crate::gate::{At, Gate};
@@ -42,7 +42,7 @@ fn read<G: Gate>(course: &Course, gate: &G, reader: &mut Reader, lease: &mut Lea
     requires tells { Tells 1 0 reader.old }
     requires lease { lease.old.held.domain ≡ course.now.domain.domain }
     ensures counts { Counts course.now 1 0 reader.old reader.new }
-    ensures asks { Asks lease.old (round % 15) reader.old reader.new }
+    ensures asks { AsksLease lease.old (round % 15) reader.old reader.new }
     ensures lease { lease.new ≡ lease.old }
 {
     let worker = usize::from(reader.cpu.processor());

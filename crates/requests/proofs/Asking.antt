@@ -21,7 +21,7 @@ use Rattle.requests.specs.Numbers.{id_of, priority_of, word32_of}
 use Rattle.requests.specs.Pairs.{answers_of}
 use Rattle.requests.specs.Scenes.{SceneView}
 use Rattle.requests.specs.Faults.{texts, command_fault, words_fault, pairs_fault, or_else, fault_of}
-use Rattle.requests.specs.Requests.{Names, AllName, PairsName, request_of, Asks, AskOnly, IsFor}
+use Rattle.requests.specs.Requests.{Names, AllName, PairsName, request_of, WordsAsk, AskOnly, IsFor}
 use Rattle.requests.specs.Given.{Suits, AllSuit, AreOfARow}
 
 -- each row names a domain before an argument of it, and each of its arguments fills a field of its own
@@ -169,8 +169,8 @@ first_word (w ∷ ws) some = refl
 -- words behind one word ask for one thing
 module _ (s : SceneView) (w : List ℕ) (ws : List (List ℕ)) (c : Command) (known : command_of w ≡ Some c) (g : Given) (asked : Request)
     (names : AllName s g (arguments c) (arguments_in c ws)) (pairs : PairsName g (pairs_in c ws)) (is : asked ≡ request_of c g) where
-  asked_once : (other : Request) → Asks s (w ∷ ws) other → other ≡ asked
-  unfolding Asks
+  asked_once : (other : Request) → WordsAsk s (w ∷ ws) other → other ≡ asked
+  unfolding WordsAsk
   asked_once other (d, k, also, others, other_pairs, that) =
       let same : d ≡ c = cc in
       let again : AllName s k (arguments c) (arguments_in c ws) = subst (λ d. AllName s k (arguments d) (arguments_in d ws)) same others in
@@ -215,15 +215,15 @@ module _ (s : SceneView) (ws rest : List (Bor (List ℕ))) (some : 0 < length ws
     fault_of_pairs f fine h = parts_fault ∙ ap (λ o. or_else o (pairs_fault (texts back))) fine ∙ h
 
     asked_of_words : (g : Given) (asked : Request) → AllName s g taken (texts front) → AllSuit s g taken → PairsName g (texts back) → asked ≡ request_of c g
-        → Asks s (texts ws) asked × IsFor s asked × AskOnly s (texts ws) asked
-    unfolding Asks
+        → WordsAsk s (texts ws) asked × IsFor s asked × AskOnly s (texts ws) asked
+    unfolding WordsAsk
     asked_of_words g asked names suits pairs h =
         let row_names : AllName s g (arguments c) (texts front) = subst (λ t. AllName s g t (texts front)) row names in
         let front_names : AllName s g (arguments c) (arguments_in c (texts rest)) = subst (AllName s g (arguments c)) front_is row_names in
         let back_names : PairsName g (pairs_in c (texts rest)) = subst (PairsName g) back_is pairs in
-        let asks : Asks s (word ws 0 ∷ texts rest) asked = (c, g, sym found ∙ e, front_names, back_names, h) in
+        let asks : WordsAsk s (word ws 0 ∷ texts rest) asked = (c, g, sym found ∙ e, front_names, back_names, h) in
         let only : AskOnly s (word ws 0 ∷ texts rest) asked = asked_once s (word ws 0) (texts rest) c (sym found ∙ e) g asked front_names back_names h in
-        (subst (λ t. Asks s t asked) (sym whole) asks, subst (IsFor s) (sym h) (is_for s c g (subst (AllSuit s g) row suits)), subst (λ t. AskOnly s t asked) (sym whole) only)
+        (subst (λ t. WordsAsk s t asked) (sym whole) asks, subst (IsFor s) (sym h) (is_for s c g (subst (AllSuit s g) row suits)), subst (λ t. AskOnly s t asked) (sym whole) only)
 
 -- The words behind the first one, and of these the arguments and the pairs, as they are cut out
 
@@ -254,7 +254,7 @@ module _ (s : SceneView) (ws : Words) (some : 0 < length ws) (o : Option Command
   first_fault = fault_of_pairs s ws (behind ws) some (take_rest ws 1) o found c e taken row (front ws count) (back ws count) front_is back_is
 
   pub is_asked : (g g' : Given) (asked : Request) → g' ≡ record g { answers = g'.answers } → AllName s g taken (texts (front ws count)) → AllSuit s g taken → PairsName g' (texts (back ws count)) → asked ≡ request_of c g'
-      → Asks s (texts ws) asked × IsFor s asked × AskOnly s (texts ws) asked
+      → WordsAsk s (texts ws) asked × IsFor s asked × AskOnly s (texts ws) asked
   is_asked g g' asked same names suits =
       asked_of_words s ws (behind ws) some (take_rest ws 1) o found c e taken row (front ws count) (back ws count) front_is back_is g' asked
       (names_as s g g' same taken (texts (front ws count)) names) (suit_as s g g' same taken suits)

@@ -86,53 +86,53 @@ request_of command.State g = On g.domain act.State
 request_of command.Cleanup g = Cleanup g.domain
 
 -- the first word is a command, the words behind it name what is given, its arguments and its pairs, and that is what the command asks for
-unfoldable pub Asks : SceneView → List (List ℕ) → Request → Type 0
-Asks s [] asked = ⊥
-Asks s (w ∷ ws) asked = (c : Command) × (given : Given) × (command_of w ≡ Some c) × AllName s given (arguments c) (arguments_in c ws) × PairsName given (pairs_in c ws) × (asked ≡ request_of c given)
+unfoldable pub WordsAsk : SceneView → List (List ℕ) → Request → Type 0
+WordsAsk s [] asked = ⊥
+WordsAsk s (w ∷ ws) asked = (c : Command) × (given : Given) × (command_of w ≡ Some c) × AllName s given (arguments c) (arguments_in c ws) × PairsName given (pairs_in c ws) × (asked ≡ request_of c given)
 
 -- the words ask for nothing else
 abbrev pub AskOnly : SceneView → List (List ℕ) → Request → Type 0
-AskOnly s words asked = (other : Request) → Asks s words other → other ≡ asked
+AskOnly s words asked = (other : Request) → WordsAsk s words other → other ≡ asked
 
 -- What is known of a request
 
 -- the processor is one of the domain's, the handler one of the sixteen, and the name is in use or not as the act wants it. A job's name may be any
-abbrev pub Fits : SceneView → ℕ → Act → Type 0
-Fits s place act.State = Unit {0}
-Fits s place (act.Look p look) = (p < s.processors_of place) × (s.kind_of place look ≡ None)
-Fits s place (act.Enter p look) = (p < s.processors_of place) × (s.kind_of place look ≡ Some kind.Look)
-Fits s place (act.Lock p section) = (p < s.processors_of place) × (s.kind_of place section ≡ None)
-Fits s place (act.Unlock section) = s.kind_of place section ≡ Some kind.Reading
-Fits s place (act.Down p section) = (p < s.processors_of place) × (s.kind_of place section ≡ None)
-Fits s place (act.Up p section) = (p < s.processors_of place) × (s.kind_of place section ≡ Some kind.Held)
-Fits s place (act.Park section) = s.kind_of place section ≡ Some kind.Held
-Fits s place act.Unpark = Unit {0}
-Fits s place (act.Get p) = p < s.processors_of place
-Fits s place (act.Ask p) = p < s.processors_of place
-Fits s place (act.Poll p cookie) = p < s.processors_of place
-Fits s place (act.Start p) = p < s.processors_of place
-Fits s place (act.Advance p) = p < s.processors_of place
-Fits s place (act.Step p) = p < s.processors_of place
-Fits s place (act.Call p job) = p < s.processors_of place
-Fits s place (act.Run p) = p < s.processors_of place
-Fits s place (act.Batch p) = p < s.processors_of place
-Fits s place (act.Finish p) = p < s.processors_of place
-Fits s place (act.Segs p) = p < s.processors_of place
-Fits s place (act.Barrier p ticket) = (p < s.processors_of place) × (s.kind_of place ticket ≡ None)
-Fits s place (act.BarrierPoll p ticket) = (p < s.processors_of place) × (s.kind_of place ticket ≡ Some kind.Ticket)
-Fits s place (act.Register p id priority) = (p < s.processors_of place) × (id < 16)
-Fits s place (act.Unregister p id) = (p < s.processors_of place) × (id < 16)
-Fits s place (act.Chain p) = p < s.processors_of place
-Fits s place (act.Notify p answers) = p < s.processors_of place
-Fits s place (act.Install p key plug) = p < s.processors_of place
-Fits s place (act.Remove p key) = p < s.processors_of place
-Fits s place (act.Lookup p key) = p < s.processors_of place
-Fits s place (act.Lease p lease) = (p < s.processors_of place) × (s.kind_of place lease ≡ None)
-Fits s place (act.Read p lease key) = (p < s.processors_of place) × (s.kind_of place lease ≡ Some kind.Lease)
-Fits s place (act.Release p lease) = (p < s.processors_of place) × (s.kind_of place lease ≡ Some kind.Lease)
+abbrev pub IsActFor : SceneView → ℕ → Act → Type 0
+IsActFor s place act.State = Unit {0}
+IsActFor s place (act.Look p look) = (p < s.processors_of place) × (s.kind_of place look ≡ None)
+IsActFor s place (act.Enter p look) = (p < s.processors_of place) × (s.kind_of place look ≡ Some kind.Look)
+IsActFor s place (act.Lock p section) = (p < s.processors_of place) × (s.kind_of place section ≡ None)
+IsActFor s place (act.Unlock section) = s.kind_of place section ≡ Some kind.Reading
+IsActFor s place (act.Down p section) = (p < s.processors_of place) × (s.kind_of place section ≡ None)
+IsActFor s place (act.Up p section) = (p < s.processors_of place) × (s.kind_of place section ≡ Some kind.Held)
+IsActFor s place (act.Park section) = s.kind_of place section ≡ Some kind.Held
+IsActFor s place act.Unpark = Unit {0}
+IsActFor s place (act.Get p) = p < s.processors_of place
+IsActFor s place (act.Ask p) = p < s.processors_of place
+IsActFor s place (act.Poll p cookie) = p < s.processors_of place
+IsActFor s place (act.Start p) = p < s.processors_of place
+IsActFor s place (act.Advance p) = p < s.processors_of place
+IsActFor s place (act.Step p) = p < s.processors_of place
+IsActFor s place (act.Call p job) = p < s.processors_of place
+IsActFor s place (act.Run p) = p < s.processors_of place
+IsActFor s place (act.Batch p) = p < s.processors_of place
+IsActFor s place (act.Finish p) = p < s.processors_of place
+IsActFor s place (act.Segs p) = p < s.processors_of place
+IsActFor s place (act.Barrier p ticket) = (p < s.processors_of place) × (s.kind_of place ticket ≡ None)
+IsActFor s place (act.BarrierPoll p ticket) = (p < s.processors_of place) × (s.kind_of place ticket ≡ Some kind.Ticket)
+IsActFor s place (act.Register p id priority) = (p < s.processors_of place) × (id < 16)
+IsActFor s place (act.Unregister p id) = (p < s.processors_of place) × (id < 16)
+IsActFor s place (act.Chain p) = p < s.processors_of place
+IsActFor s place (act.Notify p answers) = p < s.processors_of place
+IsActFor s place (act.Install p key plug) = p < s.processors_of place
+IsActFor s place (act.Remove p key) = p < s.processors_of place
+IsActFor s place (act.Lookup p key) = p < s.processors_of place
+IsActFor s place (act.Lease p lease) = (p < s.processors_of place) × (s.kind_of place lease ≡ None)
+IsActFor s place (act.Read p lease key) = (p < s.processors_of place) × (s.kind_of place lease ≡ Some kind.Lease)
+IsActFor s place (act.Release p lease) = (p < s.processors_of place) × (s.kind_of place lease ≡ Some kind.Lease)
 
 -- a new domain's name is no other's, and a domain that should do something, or be taken down, is there
 abbrev pub IsFor : SceneView → Request → Type 0
 IsFor s (Domain name processors) = s.place_of name ≡ None
-IsFor s (On place a) = IsPlace s place × Fits s place a
+IsFor s (On place a) = IsPlace s place × IsActFor s place a
 IsFor s (Cleanup place) = IsPlace s place

@@ -2,7 +2,7 @@
 ghost use Rattle.std.specs.Prelude.{◌≡◌, ◌<◌, length, min, Some, None, IfOk, MatchResult};
 ghost use Rattle.requests.specs.Commands.{count_of_arguments as count_of_arguments_lem};
 ghost use Rattle.requests.specs.Faults.{texts, fault_of, words_fault, is_skipped as is_skipped_lem};
-ghost use Rattle.requests.specs.Requests.{AllName, Asks, AskOnly, IsFor};
+ghost use Rattle.requests.specs.Requests.{AllName, WordsAsk, AskOnly, IsFor};
 ghost use Rattle.requests.specs.Given.{AreOfARow, AllSuit};
 
 use crate::command::{Argument, Command};
@@ -28,7 +28,7 @@ pub fn parse<S: Scene>(words: &[&[u8]], scene: &S) -> Result<Request, Fault>
     ensures fault { MatchResult result
         (λ _. fault_of (S.scene scene.now) (texts words.now) ≡ None)
         (λ f. fault_of (S.scene scene.now) (texts words.now) ≡ Some f) }
-    ensures asks { IfOk result (λ asked. Asks (S.scene scene.now) (texts words.now) asked × IsFor (S.scene scene.now) asked) }
+    ensures asks { IfOk result (λ asked. WordsAsk (S.scene scene.now) (texts words.now) asked × IsFor (S.scene scene.now) asked) }
     ensures only { IfOk result (AskOnly (S.scene scene.now) (texts words.now)) }
 {
     let command = Command::of_word(words[0]).ok_or(Fault::Command)?;

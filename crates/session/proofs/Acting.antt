@@ -19,8 +19,8 @@ use Rattle.requests.specs.declared.reply.Reply.TheVariants as reply
 use Rattle.requests.specs.declared.scene.Kind.{Kind}
 use Rattle.requests.specs.declared.scene.Kind.TheVariants as kind
 use Rattle.requests.specs.Faults.{same_kind}
-use Rattle.session.specs.declared.names.Token.{Token}
-use Rattle.session.specs.declared.names.Token.TheVariants as token
+use Rattle.session.specs.declared.names.NamedToken.{NamedToken}
+use Rattle.session.specs.declared.names.NamedToken.TheVariants as token
 use Rattle.session.specs.Tokens.{token_at, bearer_of, kind_in, held_of, TakesOut}
 use Rattle.session.specs.States.{Bearer, Look, Reading, Ticket, ChainNow, TableNow, Becomes, bearer_at, kind_of, is_parked}
 use Rattle.session.specs.Entries.{names_of, desk_of, state_with, tokens_with, AreOf}
@@ -36,10 +36,10 @@ kind_case true found given other h = absurd (other h)
 kind_case false found given other h = (refl, h)
 
 -- what has this name, whatever chain and table are
-abbrev kind_with : {A : Type 0} → List ℕ → List (List ℕ × Token A) → Option Named → Option Kind
+abbrev kind_with : {A : Type 0} → List ℕ → List (List ℕ × NamedToken A) → Option Named → Option Kind
 kind_with name tokens parked = if is_parked name (desk_of parked) then Some kind.Parked else option_map kind_of (bearer_at name (names_of tokens))
 
-module _ {A : Type 0} (own name : List ℕ) (tokens : List (List ℕ × Token A)) (parked : Option Named) (d : SoloView (List ℕ)) where
+module _ {A : Type 0} (own name : List ℕ) (tokens : List (List ℕ × NamedToken A)) (parked : Option Named) (d : SoloView (List ℕ)) where
   -- the name is not that of the section on the desk, and what has it is of this kind
   found_kind : (given : Option Kind) → (Some kind.Parked ≡ given → ⊥) → kind_with name tokens parked ≡ given
       → (is_parked name (desk_of parked) ≡ false) × (option_map kind_of (option_map bearer_of (token_at name tokens)) ≡ given)
@@ -47,7 +47,7 @@ module _ {A : Type 0} (own name : List ℕ) (tokens : List (List ℕ × Token A)
       let (free, is) = kind_case (is_parked name (desk_of parked)) (option_map kind_of (bearer_at name (names_of tokens))) given other h in
       (free, ap (option_map kind_of) (sym (bearer_at_is name tokens)) ∙ is)
 
-  free_case : (t : Option (Token A)) → option_map kind_of (option_map bearer_of t) ≡ None → t ≡ None
+  free_case : (t : Option (NamedToken A)) → option_map kind_of (option_map bearer_of t) ≡ None → t ≡ None
   free_case None h = refl
   free_case (Some t) h = absurd cc
 
@@ -62,28 +62,28 @@ module _ {A : Type 0} (own name : List ℕ) (tokens : List (List ℕ × Token A)
   is_not_parked h = (found_kind None never_free h).0
 
 -- what has the name is of a kind that can be used
-pub has_kind : {A : Type 0} (own name : List ℕ) (tokens : List (List ℕ × Token A)) (parked : Option Named) (d : SoloView (List ℕ)) (given : Kind) → same_kind kind.Parked given ≡ false
+pub has_kind : {A : Type 0} (own name : List ℕ) (tokens : List (List ℕ × NamedToken A)) (parked : Option Named) (d : SoloView (List ℕ)) (given : Kind) → same_kind kind.Parked given ≡ false
     → kind_with name tokens parked ≡ Some given → kind_in name tokens ≡ Some given
 has_kind own name tokens parked d given other h = (found_kind own name tokens parked d (Some given) (apart_kinds kind.Parked given other) h).1
 
 -- a thing of a kind that can be used is not on the desk
-pub is_plain : {A : Type 0} (own name : List ℕ) (tokens : List (List ℕ × Token A)) (parked : Option Named) (d : SoloView (List ℕ)) (given : Kind) → same_kind kind.Parked given ≡ false
+pub is_plain : {A : Type 0} (own name : List ℕ) (tokens : List (List ℕ × NamedToken A)) (parked : Option Named) (d : SoloView (List ℕ)) (given : Kind) → same_kind kind.Parked given ≡ false
     → kind_with name tokens parked ≡ Some given → is_parked name (desk_of parked) ≡ false
 is_plain own name tokens parked d given other h = (found_kind own name tokens parked d (Some given) (apart_kinds kind.Parked given other) h).0
 
 -- a name that is not that of the section on the desk
-pub known_kind : {A : Type 0} (own name : List ℕ) (tokens : List (List ℕ × Token A)) (parked : Option Named) (d : SoloView (List ℕ)) (o : Option (Token A)) → is_parked name (desk_of parked) ≡ false → o ≡ token_at name tokens
+pub known_kind : {A : Type 0} (own name : List ℕ) (tokens : List (List ℕ × NamedToken A)) (parked : Option Named) (d : SoloView (List ℕ)) (o : Option (NamedToken A)) → is_parked name (desk_of parked) ≡ false → o ≡ token_at name tokens
     → option_map kind_of (option_map bearer_of o) ≡ kind_with name tokens parked
 known_kind own name tokens parked d o free is =
     ap (λ t. option_map kind_of (option_map bearer_of t)) is ∙ ap (option_map kind_of) (sym (bearer_at_is name tokens))
     ∙ sym (ap (λ b. if b then Some kind.Parked else option_map kind_of (bearer_at name (names_of tokens))) free)
 
-pub there : {A : Type 0} (name : List ℕ) (tokens : List (List ℕ × Token A)) (t : Token A) → token_at name tokens ≡ Some t → bearer_at name (names_of tokens) ≡ Some (bearer_of t)
+pub there : {A : Type 0} (name : List ℕ) (tokens : List (List ℕ × NamedToken A)) (t : NamedToken A) → token_at name tokens ≡ Some t → bearer_at name (names_of tokens) ≡ Some (bearer_of t)
 there name tokens t is = bearer_at_is name tokens ∙ ap (option_map bearer_of) is
 
 -- What is done
 
-module _ {A : Type 0} (chain : ChainNow) (table : TableNow) (own : List ℕ) (tokens : List (List ℕ × Token A)) (parked : Option Named) (d d' : SoloView (List ℕ)) where
+module _ {A : Type 0} (chain : ChainNow) (table : TableNow) (own : List ℕ) (tokens : List (List ℕ × NamedToken A)) (parked : Option Named) (d d' : SoloView (List ℕ)) where
   pub looked : (p : ℕ) (name : List ℕ) (l : LookView) → token_at name tokens ≡ None → IsLookNow d l → d' ≡ d
       → Does d.limits (act.Look p name) (state_with chain table own tokens parked d) (reply.Look l.index) (state_with chain table own (tokens ++ (name, token.Look l) ∷ []) parked d')
   looked p name l free now same = record {
@@ -93,10 +93,10 @@ module _ {A : Type 0} (chain : ChainNow) (table : TableNow) (own : List ℕ) (to
   }
 
   -- names and the course go on, and no list does
-  pub on_course : (tokens' : List (List ℕ × Token A)) → d'.lines ≡ d.lines → state_with chain table own tokens' parked d' ≡ record (state_with chain table own tokens parked d) { names = names_of tokens'; course = d'.course }
+  pub on_course : (tokens' : List (List ℕ × NamedToken A)) → d'.lines ≡ d.lines → state_with chain table own tokens' parked d' ≡ record (state_with chain table own tokens parked d) { names = names_of tokens'; course = d'.course }
   on_course tokens' lines = λ i. record { name = own; names = names_of tokens'; desk = desk_of parked; lines = lines i; chain = chain; table = table; course = d'.course }
 
-  begun : d'.lines ≡ d.lines → (p : ℕ) (i : Index) (name : List ℕ) (r : ReadingView) (tokens' : List (List ℕ × Token A)) → Becomes name (Some (Reading r.section r.processor)) (names_of tokens) (names_of tokens')
+  begun : d'.lines ≡ d.lines → (p : ℕ) (i : Index) (name : List ℕ) (r : ReadingView) (tokens' : List (List ℕ × NamedToken A)) → Becomes name (Some (Reading r.section r.processor)) (names_of tokens) (names_of tokens')
       → Begins d.limits p i r.section d.course d'.course → IsReadingAt d.table p i r
       → BeginsUnder d.limits p i (λ s. Reading s p) name (state_with chain table own tokens parked d) (reply.Index r.index) (state_with chain table own tokens' parked d')
   begun lines p i name r tokens' named begins is = record {
@@ -121,7 +121,7 @@ module _ {A : Type 0} (chain : ChainNow) (table : TableNow) (own : List ℕ) (to
       → BeginsNow d.limits p c bearer name (state_with chain table own tokens parked d) (reply.Refused c cause.Exhausted) (state_with chain table own tokens parked d')
   begun_none p c bearer name full same = inr (full, record { after = ap (state_with chain table own tokens parked) same; reply = refl })
 
-  module _ {name : List ℕ} {rest : List (List ℕ × Token A)} where
+  module _ {name : List ℕ} {rest : List (List ℕ × NamedToken A)} where
     pub entered : d'.lines ≡ d.lines → (p : ℕ) (l : LookView) (r : ReadingView) → TakesOut name (token.Look l) tokens rest → Begins d.limits p l.index r.section d.course d'.course → IsReadingAt d.table p l.index r
         → Does d.limits (act.Enter p name) (state_with chain table own tokens parked d) (reply.Index r.index) (state_with chain table own (rest ++ (name, token.Reading r) ∷ []) parked d')
     entered lines p l r out begins at = record {

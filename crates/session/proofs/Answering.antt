@@ -7,14 +7,14 @@ use Rattle.requests.specs.declared.reply.Reply.{Reply}
 use Rattle.requests.specs.declared.reply.Reply.TheVariants as reply
 use Rattle.requests.specs.declared.request.Request.{Request}
 use Rattle.requests.specs.Faults.{fault_of, is_skipped}
-use Rattle.requests.specs.Requests.{Asks}
+use Rattle.requests.specs.Requests.{WordsAsk}
 use Rattle.requests.specs.Replies.{reply_text}
 use Rattle.session.specs.States.{State, scene_of}
 use Rattle.session.specs.Scripts.{Answers, WordsGive, FaultGives}
 
 module _ (gives : ℕ → ℕ → ℕ → Type 0) (limits : Limits) (state : State) (number : ℕ) (words : List (List ℕ)) (bytes : List ℕ) where
   -- it is answered
-  pub asked_gives : (state' : State) (asked : Request) (given : Reply) → is_skipped words ≡ false → fault_of (scene_of state) words ≡ None → Asks (scene_of state) words asked → Answers gives limits state asked given state' → bytes ≡ reply_text given
+  pub asked_gives : (state' : State) (asked : Request) (given : Reply) → is_skipped words ≡ false → fault_of (scene_of state) words ≡ None → WordsAsk (scene_of state) words asked → Answers gives limits state asked given state' → bytes ≡ reply_text given
       → WordsGive gives limits state number words bytes false state'
   asked_gives state' asked given full well asks answers text = (
     (λ is. absurd cc),

@@ -24,7 +24,7 @@ use Rattle.requests.specs.declared.command.Command.TheVariants as command
 use Rattle.requests.specs.declared.cause.Cause.TheVariants as cause
 use Rattle.requests.specs.declared.request.Act.TheVariants as act
 use Rattle.requests.specs.declared.reply.Reply.TheVariants as reply
-use Rattle.session.specs.declared.names.Token.{Token}
+use Rattle.session.specs.declared.names.NamedToken.{NamedToken}
 use Rattle.session.specs.Parkings.{ParkingView}
 use Rattle.session.specs.Batches.{Batch, out_of, outs_of, count_in, IsEmptied, AreBatchesOf}
 use Rattle.session.specs.States.{ChainNow, TableNow, DomainState, JobList, chain_now, table_now}
@@ -39,7 +39,7 @@ use Rattle.session.proofs.Batches.{outs_with, outs_stay, batches_kept, batches_o
 
 -- An entry goes on
 
-module _ {A : Type 0} {d d' : SoloView (List ℕ)} {tokens : List (List ℕ × Token A)} {q : ParkingView} {kept : List (Option Batch)} {chained : ChainState} {board : TableState} (h : AreTogether d tokens q × AreBatchesOf d kept × AreUsers d chained board) where
+module _ {A : Type 0} {d d' : SoloView (List ℕ)} {tokens : List (List ℕ × NamedToken A)} {q : ParkingView} {kept : List (Option Batch)} {chained : ChainState} {board : TableState} (h : AreTogether d tokens q × AreBatchesOf d kept × AreUsers d chained board) where
   -- an act that begins and ends no section, finishes no job and changes no list keeps what is always true of an entry
   pub entry_on : IsSameDomain d d' → KeepsOn d.course d'.course → AreTogether d' tokens q × AreBatchesOf d' kept × AreUsers d' chained board
   entry_on same on = (together_on d tokens q h.0 d' same.0 on.on, batches_on d kept h.1 d' same on.jobs, users_on d d' chained board same.0 h.2)
@@ -59,7 +59,7 @@ module _ {A : Type 0} {d d' : SoloView (List ℕ)} {tokens : List (List ℕ × T
 -- Jobs are taken
 
 -- what is taken of the processor is asked for quietly
-asks_keeps : (d d' : SoloView (List ℕ)) (p : ℕ) (taken : Option Batch) {A : Type 0} {tokens : List (List ℕ × Token A)} {q : ParkingView} → AreTogether d tokens q → Takes p 8 taken d d' → KeepsOn d.course d'.course
+asks_keeps : (d d' : SoloView (List ℕ)) (p : ℕ) (taken : Option Batch) {A : Type 0} {tokens : List (List ℕ × NamedToken A)} {q : ParkingView} → AreTogether d tokens q → Takes p 8 taken d d' → KeepsOn d.course d'.course
 asks_keeps d d' p taken together takes = does_keeps together.all.legal tt refl takes.asks
 
 -- the batch that was taken, emptied
@@ -71,7 +71,7 @@ emptied_taken d d' p b b' same takes is =
     let some = given.some in
     subst (IsEmptied d') (sym is) (record { of_domain = record { tallies = given.is_of.tallies ∙ sym same.4; processor = refl; there = there }; some = omega (arith, counted, some); empty = refl })
 
-module _ {A : Type 0} {tokens : List (List ℕ × Token A)} {q : ParkingView} {kept : List (Option Batch)} {chained : ChainState} {board : TableState} (d d' : SoloView (List ℕ)) (h : AreTogether d tokens q × AreBatchesOf d kept × AreUsers d chained board) (same : HasSameTables d d') (p : ℕ) where
+module _ {A : Type 0} {tokens : List (List ℕ × NamedToken A)} {q : ParkingView} {kept : List (Option Batch)} {chained : ChainState} {board : TableState} (d d' : SoloView (List ℕ)) (h : AreTogether d tokens q × AreBatchesOf d kept × AreUsers d chained board) (same : HasSameTables d d') (p : ℕ) where
   -- nothing was ready
   pub entry_waits : Takes p 8 None d d' → AreTogether d' tokens q × AreBatchesOf d' kept × AreUsers d' chained board
   entry_waits takes =
@@ -154,7 +154,7 @@ module _ (d d' d'' : SoloView (List ℕ)) (p : ℕ) (b b' : Batch) (takes : Take
   unfinished_ran = subst (λ n. AreOut p n d.course) takes.batch.counted takes.batch.out
 
   -- and the entry is as before
-  pub entry_ran : {A : Type 0} {tokens : List (List ℕ × Token A)} {q : ParkingView} {kept : List (Option Batch)} {chained : ChainState} {board : TableState} → AreTogether d tokens q × AreBatchesOf d kept × AreUsers d chained board → p < d.course.standing.processors → HasSameTables d d' → HasSameTables d' d''
+  pub entry_ran : {A : Type 0} {tokens : List (List ℕ × NamedToken A)} {q : ParkingView} {kept : List (Option Batch)} {chained : ChainState} {board : TableState} → AreTogether d tokens q × AreBatchesOf d kept × AreUsers d chained board → p < d.course.standing.processors → HasSameTables d d' → HasSameTables d' d''
       → AreTogether d'' tokens q × AreBatchesOf d'' kept × AreUsers d'' chained board
   entry_ran {A} {tokens} {q} {kept} {chained} {board} h small same same' =
       let (a, b1, c, e, f, s) = same in
@@ -172,7 +172,7 @@ module _ (d d' d'' : SoloView (List ℕ)) (p : ℕ) (b b' : Batch) (takes : Take
 
 -- What a line does
 
-module _ {A : Type 0} (chain : ChainNow) (table : TableNow) (own : List ℕ) (tokens : List (List ℕ × Token A)) (parked : Option Named) (d d' : SoloView (List ℕ)) (limits : Limits) (p : ℕ) where
+module _ {A : Type 0} (chain : ChainNow) (table : TableNow) (own : List ℕ) (tokens : List (List ℕ × NamedToken A)) (parked : Option Named) (d d' : SoloView (List ℕ)) (limits : Limits) (p : ℕ) where
   abbrev pub before : DomainState
   before = state_with chain table own tokens parked d
 
@@ -215,7 +215,7 @@ module _ {A : Type 0} (chain : ChainNow) (table : TableNow) (own : List ℕ) (to
 
 -- The batch that is out is over
 
-module _ {A : Type 0} {tokens : List (List ℕ × Token A)} {q : ParkingView} {kept : List (Option Batch)} {chained : ChainState} {board : TableState} (d d' : SoloView (List ℕ)) (h : AreTogether d tokens q × AreBatchesOf d kept × AreUsers d chained board) (p : ℕ) (small : p < d.course.standing.processors)
+module _ {A : Type 0} {tokens : List (List ℕ × NamedToken A)} {q : ParkingView} {kept : List (Option Batch)} {chained : ChainState} {board : TableState} (d d' : SoloView (List ℕ)) (h : AreTogether d tokens q × AreBatchesOf d kept × AreUsers d chained board) (p : ℕ) (small : p < d.course.standing.processors)
     (o : Option Batch) (is : o ≡ get_or kept p o) where
   module _ (b : Batch) (out : o ≡ Some b) where
     at_place : b.processor ≡ p
@@ -250,7 +250,7 @@ module _ {A : Type 0} {tokens : List (List ℕ × Token A)} {q : ParkingView} {k
 
 -- A new domain
 
-module _ {A : Type 0} (own : List ℕ) (tokens : List (List ℕ × Token A)) (q : ParkingView) (d d' : SoloView (List ℕ)) (new : IsNew d.limits d.course.standing.processors d) (same : d' ≡ d)
+module _ {A : Type 0} (own : List ℕ) (tokens : List (List ℕ × NamedToken A)) (q : ParkingView) (d d' : SoloView (List ℕ)) (new : IsNew d.limits d.course.standing.processors d) (same : d' ≡ d)
     (none : tokens ≡ []) (empty : q ≡ record { domain = d.table; parked = None }) where
   rests : d'.course ≡ new_course d.limits d.course.standing.processors
   rests = ap (λ (x : SoloView (List ℕ)). x.course) same ∙ new.nothing_yet
@@ -258,11 +258,11 @@ module _ {A : Type 0} (own : List ℕ) (tokens : List (List ℕ × Token A)) (q 
   nothing_parked : q.parked ≡ None
   nothing_parked = ap (λ (x : ParkingView). x.parked) empty
 
-  abbrev Fit : Course → Option Named → List (List ℕ × Token A) → Type 0
+  abbrev Fit : Course → Option Named → List (List ℕ × NamedToken A) → Type 0
   Fit course parked held = AreOf (record d' { course = course }) (tokens_with parked held)
 
   fresh : Fit (new_course d.limits d.course.standing.processors) None []
-  fresh = record { legal = tt; each = All-nil (λ (t : List ℕ × Token A). IsTokenOf (record d' { course = new_course d.limits d.course.standing.processors }) t.1); counted = λ i. refl }
+  fresh = record { legal = tt; each = All-nil (λ (t : List ℕ × NamedToken A). IsTokenOf (record d' { course = new_course d.limits d.course.standing.processors }) t.1); counted = λ i. refl }
 
   pub together_new : AreTogether d' tokens q
   together_new = record {

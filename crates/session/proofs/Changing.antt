@@ -32,8 +32,8 @@ use Rattle.solo.specs.Chains as chains
 use Rattle.solo.specs.Tables as tables
 use Rattle.solo.specs.Shelf.{Shelf, in_cell, with_current}
 use Rattle.solo.specs.Versions.{Puts, LacksSlot}
-use Rattle.session.specs.declared.names.Token.{Token}
-use Rattle.session.specs.declared.names.Token.TheVariants as token
+use Rattle.session.specs.declared.names.NamedToken.{NamedToken}
+use Rattle.session.specs.declared.names.NamedToken.TheVariants as token
 use Rattle.session.specs.Parkings.{ParkingView}
 use Rattle.session.specs.Batches.{Batch, AreBatchesOf}
 use Rattle.session.specs.Entries.{tokens_with, IsTokenOf, AreTogether, AreUsers}
@@ -92,18 +92,18 @@ abbrev with_shelf : SoloView (List ℕ) → Shelf → SoloView (List ℕ)
 with_shelf d shelf = record d { shelf = shelf }
 
 module _ (d : SoloView (List ℕ)) (shelf : Shelf) where
-  token_reshelved : {A : Type 0} (t : Token A) → IsTokenOf d t → IsTokenOf (with_shelf d shelf) t
+  token_reshelved : {A : Type 0} (t : NamedToken A) → IsTokenOf d t → IsTokenOf (with_shelf d shelf) t
   token_reshelved (token.Look l) h = h
   token_reshelved (token.Reading r) h = h
   token_reshelved (token.Held r) h = h
   token_reshelved (token.Ticket t) h = h
   token_reshelved (token.Lease l) h = h
 
-  together_reshelved : {A : Type 0} (tokens : List (List ℕ × Token A)) (q : ParkingView) → AreTogether d tokens q → AreTogether (with_shelf d shelf) tokens q
+  together_reshelved : {A : Type 0} (tokens : List (List ℕ × NamedToken A)) (q : ParkingView) → AreTogether d tokens q → AreTogether (with_shelf d shelf) tokens q
   together_reshelved tokens q h = record {
     all = record {
       legal = h.all.legal;
-      each = All-weaker (λ (t : List ℕ × Token _). IsTokenOf d t.1) (λ (t : List ℕ × Token _). IsTokenOf (with_shelf d shelf) t.1) (λ t is. token_reshelved t.1 is) (tokens_with q.parked tokens) h.all.each;
+      each = All-weaker (λ (t : List ℕ × NamedToken _). IsTokenOf d t.1) (λ (t : List ℕ × NamedToken _). IsTokenOf (with_shelf d shelf) t.1) (λ t is. token_reshelved t.1 is) (tokens_with q.parked tokens) h.all.each;
       counted = h.all.counted;
     };
     desk = h.desk;
@@ -128,7 +128,7 @@ other_cell : {T E : Type 0} (r : Result T E) (cell other : ℕ) (words : List �
 other_cell (Ok x) cell other words shelf shelf' apart h = ap (in_cell other) h ∙ get_or-set_other shelf cell other words blank_words apart
 other_cell (Err e) cell other words shelf shelf' apart h = ap (in_cell other) h
 
-module _ {A : Type 0} {d d' : SoloView (List ℕ)} {tokens : List (List ℕ × Token A)} {q : ParkingView} {kept : List (Option Batch)} {s : ChainState} {b : TableState} (h : AreTogether d tokens q × AreBatchesOf d kept × AreUsers d s b)
+module _ {A : Type 0} {d d' : SoloView (List ℕ)} {tokens : List (List ℕ × NamedToken A)} {q : ParkingView} {kept : List (Option Batch)} {s : ChainState} {b : TableState} (h : AreTogether d tokens q × AreBatchesOf d kept × AreUsers d s b)
     (same : IsSameDomain (record d { shelf = d'.shelf }) d') (on : KeepsOn d.course d'.course) {T E : Type 0} (r : Result T E) (words : List ℕ) where
   pub entry_chained : (s' : ChainState) → IsSameChain s s' → chains.IsCurrent d' s' → MatchResult r (λ _. d'.shelf ≡ with_current s.writer.cell words d.shelf) (λ _. d'.shelf ≡ d.shelf) → AreTogether d' tokens q × AreBatchesOf d' kept × AreUsers d' s' b
   entry_chained s' chain current shelf =

@@ -19,8 +19,8 @@ use Rattle.notify.specs.declared.block.Block.{Block}
 use Rattle.notify.specs.Blocks.{ids_text}
 use Rattle.notify.specs.Chains.{ChainState}
 use Rattle.plugs.specs.Views.{TableState}
-use Rattle.session.specs.declared.names.Token.{Token}
-use Rattle.session.specs.declared.names.Token.TheVariants as token
+use Rattle.session.specs.declared.names.NamedToken.{NamedToken}
+use Rattle.session.specs.declared.names.NamedToken.TheVariants as token
 use Rattle.session.specs.Parkings.{ParkingView}
 use Rattle.session.specs.Batches.{Batch, AreBatchesOf}
 use Rattle.requests.specs.declared.command.Command.{Command}
@@ -49,7 +49,7 @@ module _ (d : SoloView (List ℕ)) (p section : ℕ) (i : Index) (cell slot vers
 
   -- its token comes
   pub held_found : {A : Type 0} → IsLegalAfter d.course.standing.history (Begin section p i (Processor p) ∷ Find section cell slot version (Processor p) ∷ []) → p < d.course.standing.processors → (limits : Limits) → locks p i d.course.standing.history < limits.sections
-      → (tokens : List (List ℕ × Token A)) → AreOf d tokens → (name : List ℕ) (r : ReadingView) → r.section ≡ section → IsReadingAt d.table p i r → AreOf found (tokens ++ (name, token.Held r) ∷ [])
+      → (tokens : List (List ℕ × NamedToken A)) → AreOf d tokens → (name : List ℕ) (r : ReadingView) → r.section ≡ section → IsReadingAt d.table p i r → AreOf found (tokens ++ (name, token.Held r) ∷ [])
   held_found {A} follows small limits room tokens h name r numbered is =
       let begins_so : Does p (begins section i) d.course begun.course = record { follows = (follows.0, tt); come = refl } in
       let finds_so : Does p finds_it begun.course found.course = record { follows = (follows.1.0, tt); come = refl } in
@@ -57,7 +57,7 @@ module _ (d : SoloView (List ℕ)) (p section : ℕ) (i : Index) (cell slot vers
       held_on begun found (tokens ++ (name, token.Held r) ∷ []) of_begun (refl, refl, refl, refl, refl, refl) (does_quietly of_begun.legal tt finds_so)
 
 -- a domain that is as another one is held as it is
-pub held_so : {A : Type 0} (d d' : SoloView (List ℕ)) (tokens : List (List ℕ × Token A)) → AreOf d tokens → IsThere d d' → d'.course ≡ d.course → AreOf d' tokens
+pub held_so : {A : Type 0} (d d' : SoloView (List ℕ)) (tokens : List (List ℕ × NamedToken A)) → AreOf d tokens → IsThere d d' → d'.course ≡ d.course → AreOf d' tokens
 held_so d d' tokens h there same = held_on d d' tokens h there (subst (λ (c : Course). GoesOnQuietly d.course.standing c.standing) (sym same) (quietly_none d.course.standing h.legal))
 
 module _ (d d' : SoloView (List ℕ)) (p section : ℕ) (i : Index) (cell slot version : ℕ) (there : IsThere d d') (small : p < d.course.standing.processors)
@@ -77,8 +77,8 @@ module _ (d d' : SoloView (List ℕ)) (p section : ℕ) (i : Index) (cell slot v
   comes : d'.course ≡ ended.course
   comes = happens.come ∙ (λ k. record d.course { standing = record d.course.standing { history = sym (append_assoc (d.course.standing.history ++ Begin section p i (Processor p) ∷ []) (Find section cell slot version (Processor p) ∷ []) (End section p (Processor p) ∷ []) ∙ append_assoc d.course.standing.history (Begin section p i (Processor p) ∷ []) (Find section cell slot version (Processor p) ∷ End section p (Processor p) ∷ [])) k } })
 
-  module _ {A : Type 0} (limits : Limits) (room : locks p i d.course.standing.history < limits.sections) (tokens : List (List ℕ × Token A)) (h : AreOf d tokens) where
-    abbrev mine : List ℕ × Token A
+  module _ {A : Type 0} (limits : Limits) (room : locks p i d.course.standing.history < limits.sections) (tokens : List (List ℕ × NamedToken A)) (h : AreOf d tokens) where
+    abbrev mine : List ℕ × NamedToken A
     mine = ([], token.Held reading)
 
     of_found : AreOf at (tokens ++ mine ∷ [])
@@ -91,7 +91,7 @@ module _ (d d' : SoloView (List ℕ)) (p section : ℕ) (i : Index) (cell slot v
     held_visited = held_so ended d' tokens of_ended there comes
 
 -- An entry in which a section has read what is current in a cell
-pub entry_visited : {A : Type 0} {d d' : SoloView (List ℕ)} {tokens : List (List ℕ × Token A)} {q : ParkingView} {kept : List (Option Batch)} {s : ChainState} {b : TableState} {limits : Limits} {p cell : ℕ} → AreTogether d tokens q × AreBatchesOf d kept × AreUsers d s b
+pub entry_visited : {A : Type 0} {d d' : SoloView (List ℕ)} {tokens : List (List ℕ × NamedToken A)} {q : ParkingView} {kept : List (Option Batch)} {s : ChainState} {b : TableState} {limits : Limits} {p cell : ℕ} → AreTogether d tokens q × AreBatchesOf d kept × AreUsers d s b
     → IsSameDomain d d' → p < d.course.standing.processors → Visits limits p cell d.course d'.course → AreTogether d' tokens q × AreBatchesOf d' kept × AreUsers d' s b
 entry_visited {A} {d} {d'} {tokens} {q} {kept} {s} {b} {limits} {p} {cell} h same small v = (
   record {
@@ -105,7 +105,7 @@ entry_visited {A} {d} {d'} {tokens} {q} {kept} {s} {b} {limits} {p} {cell} h sam
 
 -- What a line that reads a cell does
 
-module _ {A : Type 0} (chain : ChainNow) (table : TableNow) (own : List ℕ) (tokens : List (List ℕ × Token A)) (parked : Option Named) (d d' : SoloView (List ℕ)) where
+module _ {A : Type 0} (chain : ChainNow) (table : TableNow) (own : List ℕ) (tokens : List (List ℕ × NamedToken A)) (parked : Option Named) (d d' : SoloView (List ℕ)) where
   abbrev pub before : DomainState
   before = state_with chain table own tokens parked d
 

@@ -17,8 +17,8 @@ use Rattle.solo.specs.Courses.{Course, Does, with_events}
 use Rattle.solo.specs.Calls.{SoloView, HasSameTables, Begins, Ends, IsReadingAt}
 use Rattle.solo.specs.Barriers.{IsTicketOf}
 use Rattle.calls.specs.Views.{TicketView}
-use Rattle.session.specs.declared.names.Token.{Token}
-use Rattle.session.specs.declared.names.Token.TheVariants as token
+use Rattle.session.specs.declared.names.NamedToken.{NamedToken}
+use Rattle.session.specs.declared.names.NamedToken.TheVariants as token
 use Rattle.session.specs.OpenSections.{open_of, is_index}
 use Rattle.session.specs.Tokens.{open_index, held_of}
 use Rattle.session.specs.Entries.{IsReadingOf, IsTokenOf, AreOf}
@@ -73,17 +73,17 @@ module _ (d d' : SoloView (List ℕ)) (later : IsLater d d') where
   ticket_later : (t : TicketView) → IsTicketOf d t → IsTicketOf d' t
   ticket_later t h = (h.0 ∙ sym later.there.4, h.1 ∙ sym later.processors)
 
-  token_later : {A : Type 0} (t : Token A) → IsTokenOf d t → IsTokenOf d' t
+  token_later : {A : Type 0} (t : NamedToken A) → IsTokenOf d t → IsTokenOf d' t
   token_later (token.Look l) h = h ∙ sym later.there.0
   token_later (token.Reading r) h = reading_later r h
   token_later (token.Held r) h = reading_later r h
   token_later (token.Ticket t) h = ticket_later t h
   token_later (token.Lease l) h = (reading_later l.held h.0, h.1)
 
-  pub tokens_later : {A : Type 0} (tokens : List (List ℕ × Token A)) → All (λ (t : List ℕ × Token A). IsTokenOf d t.1) tokens → All (λ (t : List ℕ × Token A). IsTokenOf d' t.1) tokens
-  tokens_later tokens h = All-weaker (λ (t : List ℕ × Token _). IsTokenOf d t.1) (λ (t : List ℕ × Token _). IsTokenOf d' t.1) (λ t is. token_later t.1 is) tokens h
+  pub tokens_later : {A : Type 0} (tokens : List (List ℕ × NamedToken A)) → All (λ (t : List ℕ × NamedToken A). IsTokenOf d t.1) tokens → All (λ (t : List ℕ × NamedToken A). IsTokenOf d' t.1) tokens
+  tokens_later tokens h = All-weaker (λ (t : List ℕ × NamedToken _). IsTokenOf d t.1) (λ (t : List ℕ × NamedToken _). IsTokenOf d' t.1) (λ t is. token_later t.1 is) tokens h
 
-module _ {A : Type 0} (d d' : SoloView (List ℕ)) (tokens : List (List ℕ × Token A)) (h : AreOf d tokens) where
+module _ {A : Type 0} (d d' : SoloView (List ℕ)) (tokens : List (List ℕ × NamedToken A)) (h : AreOf d tokens) where
   -- no section begins or ends
   pub held_on : IsThere d d' → GoesOnQuietly d.course.standing d'.course.standing → AreOf d' tokens
   held_on there on = record {
@@ -96,10 +96,10 @@ module _ {A : Type 0} (d d' : SoloView (List ℕ)) (tokens : List (List ℕ × T
   held_same same = subst (λ (x : SoloView (List ℕ)). AreOf x tokens) (sym same) h
 
 -- a token comes that is no open section
-pub held_more_unopened : {A : Type 0} (d : SoloView (List ℕ)) (tokens : List (List ℕ × Token A)) (name : List ℕ) (t : Token A) → AreOf d tokens → IsTokenOf d t → open_index t ≡ None → AreOf d (tokens ++ (name, t) ∷ [])
+pub held_more_unopened : {A : Type 0} (d : SoloView (List ℕ)) (tokens : List (List ℕ × NamedToken A)) (name : List ℕ) (t : NamedToken A) → AreOf d tokens → IsTokenOf d t → open_index t ≡ None → AreOf d (tokens ++ (name, t) ∷ [])
 held_more_unopened d tokens name t h is none = record {
   legal = h.legal;
-  each = All-push (λ (x : List ℕ × Token _). IsTokenOf d x.1) tokens (name, t) h.each is;
+  each = All-push (λ (x : List ℕ × NamedToken _). IsTokenOf d x.1) tokens (name, t) h.each is;
   counted = λ i.
       let more = held_more i tokens name t in
       let nothing : ◌≡◌ {A = ℕ} (if is_index i (open_index t) then 1 else 0) 0 = ap (λ o. if is_index i o then 1 else 0) none in
@@ -111,7 +111,7 @@ pub data Sort : Type 0 where
   Own : Sort
   Any : Sort
 
-abbrev pub as_token : {A : Type 0} → Sort → ReadingView → Token A
+abbrev pub as_token : {A : Type 0} → Sort → ReadingView → NamedToken A
 as_token Own r = token.Reading r
 as_token Any r = token.Held r
 
@@ -129,7 +129,7 @@ reading_as A Any d r h = h
 
 module _ {A : Type 0} where
   -- a section begins, and its token comes
-  pub held_begun : (sort : Sort) (limits : Limits) (p : ℕ) (i : Index) (d d' : SoloView (List ℕ)) (tokens : List (List ℕ × Token A)) (name : List ℕ) (r : ReadingView)
+  pub held_begun : (sort : Sort) (limits : Limits) (p : ℕ) (i : Index) (d d' : SoloView (List ℕ)) (tokens : List (List ℕ × NamedToken A)) (name : List ℕ) (r : ReadingView)
       → AreOf d tokens → IsThere d d' → p < d.course.standing.processors → Begins limits p i r.section d.course d'.course → IsReadingAt d.table p i r → AreOf d' (tokens ++ (name, as_token sort r) ∷ [])
   held_begun sort limits p i d d' tokens name r h there small begins is =
       let before = d.course.standing.history in
@@ -138,7 +138,7 @@ module _ {A : Type 0} where
       let same : d'.course.standing.history ≡ before ++ e ∷ [] = ap (λ (x : Course). x.standing.history) begins.happens.come in
       let here = open_begun r.section p i (Processor p) before h.legal begins.happens.follows.0 in record {
         legal = later.legal;
-        each = All-push (λ (t : List ℕ × Token A). IsTokenOf d' t.1) tokens (name, as_token sort r) (tokens_later d d' later tokens h.each) (is_as A sort d' r (record {
+        each = All-push (λ (t : List ℕ × NamedToken A). IsTokenOf d' t.1) tokens (name, as_token sort r) (tokens_later d d' later tokens h.each) (is_as A sort d' r (record {
           of_domain = record { table_is = is.table_is ∙ sym there.0; processor = subst (λ n. r.processor < n) (sym later.processors) (subst (λ n. n < d.course.standing.processors) (sym is.processor) small) };
           begun = subst (λ l. 0 < begins_of r.section l) (sym same) here.0;
           index = ap (index_of r.section) same ∙ (index_of_begun r.section p i (Processor p) before ∙ sym is.index);
@@ -151,20 +151,20 @@ module _ {A : Type 0} where
 -- A token that is taken out
 
 -- the last one
-pub taken_last : {A : Type 0} (tokens rest : List (List ℕ × Token A)) (p : List ℕ × Token A) (t : Token A) → tokens ≡ rest ++ p ∷ [] → p.1 ≡ t → IsPermutation tokens ((p.0, t) ∷ rest)
+pub taken_last : {A : Type 0} (tokens rest : List (List ℕ × NamedToken A)) (p : List ℕ × NamedToken A) (t : NamedToken A) → tokens ≡ rest ++ p ∷ [] → p.1 ≡ t → IsPermutation tokens ((p.0, t) ∷ rest)
 taken_last tokens rest p t whole is =
-    subst (λ (x : Token _). IsPermutation tokens ((p.0, x) ∷ rest)) is (subst (λ l. IsPermutation l (p ∷ rest)) (sym whole) (IsPermutation-to_front rest p))
+    subst (λ (x : NamedToken _). IsPermutation tokens ((p.0, x) ∷ rest)) is (subst (λ l. IsPermutation l (p ∷ rest)) (sym whole) (IsPermutation-to_front rest p))
 
-module _ {A : Type 0} (d : SoloView (List ℕ)) (tokens rest : List (List ℕ × Token A)) (stored : List ℕ) (h : AreOf d tokens) where
-  module _ (t : Token A) (moves : IsPermutation tokens ((stored, t) ∷ rest)) where
-    all_moved : All (λ (x : List ℕ × Token A). IsTokenOf d x.1) ((stored, t) ∷ rest)
-    all_moved = All-permutation (λ (x : List ℕ × Token A). IsTokenOf d x.1) tokens ((stored, t) ∷ rest) moves h.each
+module _ {A : Type 0} (d : SoloView (List ℕ)) (tokens rest : List (List ℕ × NamedToken A)) (stored : List ℕ) (h : AreOf d tokens) where
+  module _ (t : NamedToken A) (moves : IsPermutation tokens ((stored, t) ∷ rest)) where
+    all_moved : All (λ (x : List ℕ × NamedToken A). IsTokenOf d x.1) ((stored, t) ∷ rest)
+    all_moved = All-permutation (λ (x : List ℕ × NamedToken A). IsTokenOf d x.1) tokens ((stored, t) ∷ rest) moves h.each
 
     pub token_of : IsTokenOf d t
-    token_of = All-head (λ (x : List ℕ × Token A). IsTokenOf d x.1) (stored, t) rest all_moved
+    token_of = All-head (λ (x : List ℕ × NamedToken A). IsTokenOf d x.1) (stored, t) rest all_moved
 
-    rest_of : All (λ (x : List ℕ × Token A). IsTokenOf d x.1) rest
-    rest_of = All-tail (λ (x : List ℕ × Token A). IsTokenOf d x.1) (stored, t) rest all_moved
+    rest_of : All (λ (x : List ℕ × NamedToken A). IsTokenOf d x.1) rest
+    rest_of = All-tail (λ (x : List ℕ × NamedToken A). IsTokenOf d x.1) (stored, t) rest all_moved
 
     -- it is no open section
     pub held_less_unopened : open_index t ≡ None → AreOf d rest
@@ -199,10 +199,10 @@ module _ {A : Type 0} (d : SoloView (List ℕ)) (tokens rest : List (List ℕ ×
 
 module _ {A : Type 0} where
   -- tokens in another order, one of them under another name
-  pub held_as : (d : SoloView (List ℕ)) (tokens tokens' : List (List ℕ × Token A)) (stored name : List ℕ) (t : Token A) (rest : List (List ℕ × Token A)) → AreOf d tokens
+  pub held_as : (d : SoloView (List ℕ)) (tokens tokens' : List (List ℕ × NamedToken A)) (stored name : List ℕ) (t : NamedToken A) (rest : List (List ℕ × NamedToken A)) → AreOf d tokens
       → IsPermutation tokens ((stored, t) ∷ rest) → IsPermutation tokens' ((name, t) ∷ rest) → AreOf d tokens'
   held_as d tokens tokens' stored name t rest h moves moves' =
-      let P : List ℕ × Token A → Type 0 = λ x. IsTokenOf d x.1 in
+      let P : List ℕ × NamedToken A → Type 0 = λ x. IsTokenOf d x.1 in
       let all = All-permutation P tokens ((stored, t) ∷ rest) moves h.each in
       let one : IsTokenOf d t = All-head P (stored, t) rest all in
       record {
@@ -216,9 +216,9 @@ module _ {A : Type 0} where
       }
 
 -- a token goes to the front, under this name
-pub held_moved : {A : Type 0} (d : SoloView (List ℕ)) (tokens rest : List (List ℕ × Token A)) (stored name : List ℕ) (t : Token A) → AreOf d tokens → IsPermutation tokens ((stored, t) ∷ rest) → AreOf d ((name, t) ∷ rest)
+pub held_moved : {A : Type 0} (d : SoloView (List ℕ)) (tokens rest : List (List ℕ × NamedToken A)) (stored name : List ℕ) (t : NamedToken A) → AreOf d tokens → IsPermutation tokens ((stored, t) ∷ rest) → AreOf d ((name, t) ∷ rest)
 held_moved d tokens rest stored name t h moves = held_as d tokens ((name, t) ∷ rest) stored name t rest h moves (IsPermutation-refl ((name, t) ∷ rest))
 
 -- the first token goes behind the others
-pub held_moved_back : {A : Type 0} (d : SoloView (List ℕ)) (tokens : List (List ℕ × Token A)) (x : List ℕ × Token A) → AreOf d (x ∷ tokens) → AreOf d (tokens ++ x ∷ [])
+pub held_moved_back : {A : Type 0} (d : SoloView (List ℕ)) (tokens : List (List ℕ × NamedToken A)) (x : List ℕ × NamedToken A) → AreOf d (x ∷ tokens) → AreOf d (tokens ++ x ∷ [])
 held_moved_back d tokens x h = held_as d (x ∷ tokens) (tokens ++ x ∷ []) x.0 x.0 x.1 tokens h (IsPermutation-refl (x ∷ tokens)) (IsPermutation-to_front tokens x)

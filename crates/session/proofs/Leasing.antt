@@ -19,8 +19,8 @@ use Rattle.requests.specs.declared.command.Command.TheVariants as command
 use Rattle.requests.specs.declared.cause.Cause.TheVariants as cause
 use Rattle.requests.specs.declared.request.Act.TheVariants as act
 use Rattle.requests.specs.declared.reply.Reply.TheVariants as reply
-use Rattle.session.specs.declared.names.Token.{Token}
-use Rattle.session.specs.declared.names.Token.TheVariants as token
+use Rattle.session.specs.declared.names.NamedToken.{NamedToken}
+use Rattle.session.specs.declared.names.NamedToken.TheVariants as token
 use Rattle.session.specs.Tokens.{token_at, rows_of, TakesOut}
 use Rattle.session.specs.Parkings.{ParkingView}
 use Rattle.session.specs.States.{Lease, ChainNow, TableNow, Becomes, is_parked}
@@ -35,9 +35,9 @@ use Rattle.session.proofs.Finding.{found, held_found, held_so}
 
 module _ {A : Type 0} (d : SoloView (List ℕ)) where
   -- a lease is an open section, as a held one is
-  as_held : (l : LeaseView) (name : List ℕ) (rest : List (List ℕ × Token A)) → AreOf d ((name, token.Lease l) ∷ rest) → AreOf d ((name, token.Held l.held) ∷ rest)
+  as_held : (l : LeaseView) (name : List ℕ) (rest : List (List ℕ × NamedToken A)) → AreOf d ((name, token.Lease l) ∷ rest) → AreOf d ((name, token.Held l.held) ∷ rest)
   as_held l name rest h =
-      let P : List ℕ × Token A → Type 0 = λ x. IsTokenOf d x.1 in
+      let P : List ℕ × NamedToken A → Type 0 = λ x. IsTokenOf d x.1 in
       let one : IsTokenOf {A = A} d (token.Lease l) = All-head P (name, token.Lease l) rest h.each in record {
         legal = h.legal;
         each = All-cons P (name, token.Held l.held) rest one.0 (All-tail P (name, token.Lease l) rest h.each);
@@ -45,11 +45,11 @@ module _ {A : Type 0} (d : SoloView (List ℕ)) where
       }
 
   -- it ends
-  pub lease_ended : (tokens rest : List (List ℕ × Token A)) (stored : List ℕ) (l : LeaseView) → AreOf d tokens → IsPermutation tokens ((stored, token.Lease l) ∷ rest) → (d' : SoloView (List ℕ)) (p : ℕ) → IsThere d d' → Ends l.held.section p d.course d'.course → AreOf d' rest
+  pub lease_ended : (tokens rest : List (List ℕ × NamedToken A)) (stored : List ℕ) (l : LeaseView) → AreOf d tokens → IsPermutation tokens ((stored, token.Lease l) ∷ rest) → (d' : SoloView (List ℕ)) (p : ℕ) → IsThere d d' → Ends l.held.section p d.course d'.course → AreOf d' rest
   lease_ended tokens rest stored l h moves d' p there ends =
       held_ended d ((stored, token.Held l.held) ∷ rest) rest stored (as_held l stored rest (held_moved d tokens rest stored stored (token.Lease l) h moves)) Any p l.held d' (IsPermutation-refl ((stored, token.Held l.held) ∷ rest)) there ends
 
-  pub together_released : (tokens : List (List ℕ × Token A)) (q : ParkingView) → AreTogether d tokens q → (l : LeaseView) {name : List ℕ} {rest : List (List ℕ × Token A)} → TakesOut name (token.Lease l) tokens rest → (d' : SoloView (List ℕ)) (p : ℕ) → IsThere d d' → Ends l.held.section p d.course d'.course → AreTogether d' rest q
+  pub together_released : (tokens : List (List ℕ × NamedToken A)) (q : ParkingView) → AreTogether d tokens q → (l : LeaseView) {name : List ℕ} {rest : List (List ℕ × NamedToken A)} → TakesOut name (token.Lease l) tokens rest → (d' : SoloView (List ℕ)) (p : ℕ) → IsThere d d' → Ends l.held.section p d.course d'.course → AreTogether d' rest q
   together_released tokens q h l {name} {rest} out d' p there ends = record {
     all = lease_ended (tokens_with q.parked tokens) (tokens_with q.parked rest) out.stored l h.all (with_moved q.parked tokens rest (out.stored, token.Lease l) out.moves) d' p there ends;
     desk = h.desk ∙ sym there.0;
@@ -63,10 +63,10 @@ pub rows_are : (l : LeaseView) (rows : List Row) → HoldsRows l rows → rows_o
 rows_are l rows h = ap rows_in h.text ∙ read_back rows h.table
 
 -- a held section is a lease where it has rows
-as_lease : {A : Type 0} (d : SoloView (List ℕ)) (tokens : List (List ℕ × Token A)) (name : List ℕ) (l : LeaseView) → HoldsRows l (rows_of l) → AreOf d (tokens ++ (name, token.Held l.held) ∷ []) → AreOf d (tokens ++ (name, token.Lease l) ∷ [])
+as_lease : {A : Type 0} (d : SoloView (List ℕ)) (tokens : List (List ℕ × NamedToken A)) (name : List ℕ) (l : LeaseView) → HoldsRows l (rows_of l) → AreOf d (tokens ++ (name, token.Held l.held) ∷ []) → AreOf d (tokens ++ (name, token.Lease l) ∷ [])
 as_lease {A} d tokens name l rows h =
-    let P : List ℕ × Token A → Type 0 = λ x. IsTokenOf d x.1 in
-    let x : List ℕ × Token A = (name, token.Held l.held) in
+    let P : List ℕ × NamedToken A → Type 0 = λ x. IsTokenOf d x.1 in
+    let x : List ℕ × NamedToken A = (name, token.Held l.held) in
     let each = All-permutation P (tokens ++ x ∷ []) (x ∷ tokens) (IsPermutation-to_front tokens x) h.each in record {
       legal = h.legal;
       each = All-push P tokens (name, token.Lease l) (All-tail P x tokens each) (All-head P x tokens each, rows);
@@ -80,18 +80,18 @@ module _ (d d' : SoloView (List ℕ)) (p cell : ℕ) (l : LeaseView) (there : Is
   comes_so : d'.course ≡ at.course
   comes_so = leases.happens.come ∙ (λ k. record d.course { standing = record d.course.standing { history = sym (append_assoc d.course.standing.history (Begin l.held.section p (index_now d.course.standing) (Processor p) ∷ []) (Find l.held.section cell leases.slot l.found.version (Processor p) ∷ [])) k } })
 
-  held_leased : {A : Type 0} (tokens : List (List ℕ × Token A)) (name : List ℕ) → AreOf d tokens → AreOf d' (tokens ++ (name, token.Lease l) ∷ [])
+  held_leased : {A : Type 0} (tokens : List (List ℕ × NamedToken A)) (name : List ℕ) → AreOf d tokens → AreOf d' (tokens ++ (name, token.Lease l) ∷ [])
   held_leased tokens name h = as_lease d' tokens name l (subst (HoldsRows l) (sym (rows_are l rows holds)) holds)
       (held_so at d' (tokens ++ (name, token.Held l.held) ∷ []) (held_found d p l.held.section (index_now d.course.standing) cell leases.slot l.found.version leases.happens.follows small d.limits leases.room tokens h name l.held refl leases.reading) there comes_so)
 
-  pub together_leased : {A : Type 0} (tokens : List (List ℕ × Token A)) (q : ParkingView) → AreTogether d tokens q → (name : List ℕ) → is_parked name (desk_of q.parked) ≡ false → AreTogether d' (tokens ++ (name, token.Lease l) ∷ []) q
+  pub together_leased : {A : Type 0} (tokens : List (List ℕ × NamedToken A)) (q : ParkingView) → AreTogether d tokens q → (name : List ℕ) → is_parked name (desk_of q.parked) ≡ false → AreTogether d' (tokens ++ (name, token.Lease l) ∷ []) q
   together_leased tokens q h name free = record {
     all = subst (AreOf d') (sym (with_push q.parked tokens (name, token.Lease l))) (held_leased (tokens_with q.parked tokens) name h.all);
     desk = h.desk ∙ sym there.0;
     apart = apart_push q.parked tokens name (token.Lease l) free h.apart;
   }
 
-module _ {A : Type 0} (chain : ChainNow) (table : TableNow) (own : List ℕ) (tokens : List (List ℕ × Token A)) (parked : Option Named) (d d' : SoloView (List ℕ)) where
+module _ {A : Type 0} (chain : ChainNow) (table : TableNow) (own : List ℕ) (tokens : List (List ℕ × NamedToken A)) (parked : Option Named) (d d' : SoloView (List ℕ)) where
   pub leased : d'.lines ≡ d.lines → (p cell : ℕ) (name : List ℕ) (l : LeaseView) → cell ≡ 1 → token_at name tokens ≡ None → Leases d.limits d.table p cell l d.course d'.course → HoldsRows l table.rows
       → Does d.limits (act.Lease p name) (state_with chain table own tokens parked d) (reply.Leased l.held.index l.found.version) (state_with chain table own (tokens ++ (name, token.Lease l) ∷ []) parked d')
   leased lines p cell name l second free leases holds = inl (record {
@@ -109,7 +109,7 @@ module _ {A : Type 0} (chain : ChainNow) (table : TableNow) (own : List ℕ) (to
   not_leased p name full same = inr (full, record { after = ap (state_with chain table own tokens parked) same; reply = refl })
 
   -- it is read, and comes back under its name
-  pub lease_read : {name : List ℕ} {rest : List (List ℕ × Token A)} (p key : ℕ) (l : LeaseView) (plug : Option ℕ) → TakesOut name (token.Lease l) tokens rest → plug ≡ plug_of (rows_of l) key → d' ≡ d
+  pub lease_read : {name : List ℕ} {rest : List (List ℕ × NamedToken A)} (p key : ℕ) (l : LeaseView) (plug : Option ℕ) → TakesOut name (token.Lease l) tokens rest → plug ≡ plug_of (rows_of l) key → d' ≡ d
       → Does d.limits (act.Read p name key) (state_with chain table own tokens parked d) (plug_told plug) (state_with chain table own (rest ++ (name, token.Lease l) ∷ []) parked d')
   lease_read {name} {rest} p key l plug out is same = record {
     section = l.held.section;
@@ -122,7 +122,7 @@ module _ {A : Type 0} (chain : ChainNow) (table : TableNow) (own : List ℕ) (to
 
 -- Leases that end
 
-pub released : {A : Type 0} (chain : ChainNow) (table : TableNow) (own : List ℕ) (tokens : List (List ℕ × Token A)) (parked : Option Named) (d d' : SoloView (List ℕ)) {name : List ℕ} {rest : List (List ℕ × Token A)} → d'.lines ≡ d.lines → (p : ℕ) (l : LeaseView) → TakesOut name (token.Lease l) tokens rest → Ends l.held.section p d.course d'.course
+pub released : {A : Type 0} (chain : ChainNow) (table : TableNow) (own : List ℕ) (tokens : List (List ℕ × NamedToken A)) (parked : Option Named) (d d' : SoloView (List ℕ)) {name : List ℕ} {rest : List (List ℕ × NamedToken A)} → d'.lines ≡ d.lines → (p : ℕ) (l : LeaseView) → TakesOut name (token.Lease l) tokens rest → Ends l.held.section p d.course d'.course
     → Does d.limits (act.Release p name) (state_with chain table own tokens parked d) reply.Released (state_with chain table own rest parked d')
 released {A} chain table own tokens parked d d' {name} {rest} lines p l out ends = record {
   section = l.held.section;

@@ -4,7 +4,7 @@ use Rattle.std.specs.Prelude.{Some, None, option_map}
 use Rattle.std.specs.Map.{lookup}
 use Rattle.std.proofs.lemmas.Map.Made.{lookup-map_values}
 use Rattle.std.proofs.lemmas.Slice.Eq.{bytes_eq-Decides}
-use Rattle.session.specs.declared.names.Token.{Token}
+use Rattle.session.specs.declared.names.NamedToken.{NamedToken}
 use Rattle.session.specs.Tokens.{token_at, bearer_of, Frees}
 use Rattle.session.specs.States.{Names, Becomes, bearer_at}
 use Rattle.session.specs.Entries.{names_of}
@@ -19,7 +19,7 @@ other_bytes name other apart = false_case (bytes_eq other name) (λ e. apart ((b
 pub same_bytes : (name : List ℕ) → bytes_eq name name ≡ true
 same_bytes name = (bytes_eq-Decides name name).1 refl
 
-pub bearer_at_is : {A : Type 0} (name : List ℕ) (tokens : List (List ℕ × Token A)) → bearer_at name (names_of tokens) ≡ option_map bearer_of (token_at name tokens)
+pub bearer_at_is : {A : Type 0} (name : List ℕ) (tokens : List (List ℕ × NamedToken A)) → bearer_at name (names_of tokens) ≡ option_map bearer_of (token_at name tokens)
 bearer_at_is name tokens = lookup-map_values bearer_of (bytes_eq name) tokens
 
 module _ {X : Type 0} (test : List ℕ → Bool) (k : List ℕ) (v : X) where
@@ -37,7 +37,7 @@ module _ {X : Type 0} (test : List ℕ → Bool) (k : List ℕ) (v : X) where
   lookup_before miss (e ∷ xs) = ap (λ o. cond (test e.0) (Some e.1) o) (lookup_before miss xs)
 
 -- a free name comes into use
-pub comes : {A : Type 0} (name : List ℕ) (t : Token A) (tokens : List (List ℕ × Token A)) → token_at name tokens ≡ None → Becomes name (Some (bearer_of t)) (names_of tokens) (names_of (tokens ++ (name, t) ∷ []))
+pub comes : {A : Type 0} (name : List ℕ) (t : NamedToken A) (tokens : List (List ℕ × NamedToken A)) → token_at name tokens ≡ None → Becomes name (Some (bearer_of t)) (names_of tokens) (names_of (tokens ++ (name, t) ∷ []))
 comes name t tokens free = record {
   here = bearer_at_is name (tokens ++ (name, t) ∷ []) ∙ ap (option_map bearer_of) (lookup_behind (bytes_eq name) name t (same_bytes name) tokens free);
   others = λ other apart. bearer_at_is other (tokens ++ (name, t) ∷ [])
@@ -45,7 +45,7 @@ comes name t tokens free = record {
 }
 
 -- a name is free again
-pub goes : {A : Type 0} (name : List ℕ) (tokens rest : List (List ℕ × Token A)) → Frees name tokens rest → Becomes name None (names_of tokens) (names_of rest)
+pub goes : {A : Type 0} (name : List ℕ) (tokens rest : List (List ℕ × NamedToken A)) → Frees name tokens rest → Becomes name None (names_of tokens) (names_of rest)
 goes name tokens rest frees = record {
   here = bearer_at_is name rest ∙ ap (option_map bearer_of) frees.here;
   others = λ other apart. bearer_at_is other rest
@@ -53,7 +53,7 @@ goes name tokens rest frees = record {
 }
 
 -- a name goes from one token to another
-pub changes : {A : Type 0} (name : List ℕ) (t : Token A) (tokens rest : List (List ℕ × Token A)) → Frees name tokens rest → Becomes name (Some (bearer_of t)) (names_of tokens) (names_of (rest ++ (name, t) ∷ []))
+pub changes : {A : Type 0} (name : List ℕ) (t : NamedToken A) (tokens rest : List (List ℕ × NamedToken A)) → Frees name tokens rest → Becomes name (Some (bearer_of t)) (names_of tokens) (names_of (rest ++ (name, t) ∷ []))
 changes name t tokens rest frees =
     let gone = goes name tokens rest frees in
     let come = comes name t rest frees.here in
@@ -64,7 +64,7 @@ stays_case : (name : List ℕ) (old new : Names) (other : List ℕ) (b : Bool) �
 stays_case name old new other true e here others = subst (λ n. bearer_at n new ≡ bearer_at n old) (sym ((bytes_eq-Decides other name).0 e)) here
 stays_case name old new other false e here others = others other (λ is. let yes : bytes_eq other name ≡ true = (bytes_eq-Decides other name).1 is in cc)
 
-pub stays : {A : Type 0} (name : List ℕ) (t : Token A) (tokens rest : List (List ℕ × Token A)) → token_at name tokens ≡ Some t → Frees name tokens rest → (other : List ℕ) → bearer_at other (names_of (rest ++ (name, t) ∷ [])) ≡ bearer_at other (names_of tokens)
+pub stays : {A : Type 0} (name : List ℕ) (t : NamedToken A) (tokens rest : List (List ℕ × NamedToken A)) → token_at name tokens ≡ Some t → Frees name tokens rest → (other : List ℕ) → bearer_at other (names_of (rest ++ (name, t) ∷ [])) ≡ bearer_at other (names_of tokens)
 stays name t tokens rest there frees other =
     let back = changes name t tokens rest frees in
     let was : bearer_at name (names_of tokens) ≡ Some (bearer_of t) = bearer_at_is name tokens ∙ ap (option_map bearer_of) there in

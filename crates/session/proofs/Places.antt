@@ -17,7 +17,7 @@ use Rattle.requests.specs.declared.command.Command.TheVariants as command
 use Rattle.requests.specs.declared.reply.Reply.{Reply}
 use Rattle.requests.specs.declared.reply.Reply.TheVariants as reply
 use Rattle.requests.specs.declared.scene.Kind.{Kind}
-use Rattle.requests.specs.Requests.{Fits}
+use Rattle.requests.specs.Requests.{IsActFor}
 use Rattle.session.specs.States.{State, DomainState, EntryView, states_of, kind_at, domain_place, scene_of}
 use Rattle.domain.specs.declared.domain.cleanup.Totals.{Totals}
 use Rattle.solo.specs.Cleanup.{IsTakenDown}
@@ -71,7 +71,7 @@ module _ (state : State) (place : ℕ) (d : DomainState) (at : slice_get state p
   kind_is name k h = sym (kind_there name) ∙ h
 
   -- what an act can rely on there
-  pub fits_there : (a : Act) → Fits (scene_of state) place a → Fits (scene_of (d ∷ [])) 0 a
+  pub fits_there : (a : Act) → IsActFor (scene_of state) place a → IsActFor (scene_of (d ∷ [])) 0 a
   fits_there act.State h = h
   fits_there (act.Look p name) h = (small p h.0, kind_is name _ h.1)
   fits_there (act.Enter p name) h = (small p h.0, kind_is name _ h.1)

@@ -12,8 +12,8 @@ use Rattle.onedom.specs.declared.event.Event.{Event}
 use Rattle.onedom.specs.Histories.{index_of, open_sections}
 use Rattle.domain.specs.Cleanup.{open_count}
 use Rattle.solo.specs.Calls.{SoloView}
-use Rattle.session.specs.declared.names.Token.{Token}
-use Rattle.session.specs.declared.names.Token.TheVariants as token
+use Rattle.session.specs.declared.names.NamedToken.{NamedToken}
+use Rattle.session.specs.declared.names.NamedToken.TheVariants as token
 use Rattle.session.specs.OpenSections.{open_of, is_index}
 use Rattle.session.specs.Tokens.{open_index, held_of}
 use Rattle.session.specs.Parkings.{ParkingView}
@@ -29,17 +29,17 @@ pub never_open : (i : Index) → ◌≡◌ {A = Option Index} (Some i) None → 
 never_open i e = absurd cc
 
 -- the last token, and those before it
-pub closed_last : {A : Type 0} (tokens rest : List (List ℕ × Token A)) (p : List ℕ × Token A) → tokens ≡ rest ++ p ∷ [] → AreClosed tokens → AreClosed rest × (open_index p.1 ≡ None)
+pub closed_last : {A : Type 0} (tokens rest : List (List ℕ × NamedToken A)) (p : List ℕ × NamedToken A) → tokens ≡ rest ++ p ∷ [] → AreClosed tokens → AreClosed rest × (open_index p.1 ≡ None)
 closed_last tokens rest p whole closed =
     let moves = subst (λ l. IsPermutation l (p ∷ rest)) (sym whole) (IsPermutation-to_front rest p) in
-    let all = All-permutation (λ (t : List ℕ × Token _). open_index t.1 ≡ None) tokens (p ∷ rest) moves closed in
-    (All-tail (λ (t : List ℕ × Token _). open_index t.1 ≡ None) p rest all, All-head (λ (t : List ℕ × Token _). open_index t.1 ≡ None) p rest all)
+    let all = All-permutation (λ (t : List ℕ × NamedToken _). open_index t.1 ≡ None) tokens (p ∷ rest) moves closed in
+    (All-tail (λ (t : List ℕ × NamedToken _). open_index t.1 ≡ None) p rest all, All-head (λ (t : List ℕ × NamedToken _). open_index t.1 ≡ None) p rest all)
 
 same_as_itself : (i : Index) → same_index i i ≡ true
 same_as_itself Zero = refl
 same_as_itself One = refl
 
-module _ {A : Type 0} (t : List ℕ × Token A) (tokens : List (List ℕ × Token A)) (none : (i : Index) → held_of i (t ∷ tokens) ≡ 0) where
+module _ {A : Type 0} (t : List ℕ × NamedToken A) (tokens : List (List ℕ × NamedToken A)) (none : (i : Index) → held_of i (t ∷ tokens) ≡ 0) where
   rest_none : (i : Index) → held_of i tokens ≡ 0
   rest_none i =
       let less = held_less i (t ∷ tokens) tokens t.0 t.1 (IsPermutation-refl (t ∷ tokens)) in
@@ -56,11 +56,11 @@ module _ {A : Type 0} (t : List ℕ × Token A) (tokens : List (List ℕ × Toke
   first_closed : open_index t.1 ≡ None
   first_closed = closed_case (open_index t.1) refl
 
-none_held : {A : Type 0} (tokens : List (List ℕ × Token A)) → ((i : Index) → held_of i tokens ≡ 0) → AreClosed tokens
-none_held [] none = All-nil (λ (t : List ℕ × Token _). open_index t.1 ≡ None)
-none_held (t ∷ tokens) none = All-cons (λ (x : List ℕ × Token _). open_index x.1 ≡ None) t tokens (first_closed t tokens none) (none_held tokens (rest_none t tokens none))
+none_held : {A : Type 0} (tokens : List (List ℕ × NamedToken A)) → ((i : Index) → held_of i tokens ≡ 0) → AreClosed tokens
+none_held [] none = All-nil (λ (t : List ℕ × NamedToken _). open_index t.1 ≡ None)
+none_held (t ∷ tokens) none = All-cons (λ (x : List ℕ × NamedToken _). open_index x.1 ≡ None) t tokens (first_closed t tokens none) (none_held tokens (rest_none t tokens none))
 
-none_with : {A : Type 0} (parked : Option Named) (tokens : List (List ℕ × Token A)) → ((i : Index) → held_of i (tokens_with parked tokens) ≡ 0) → AreClosed tokens × (parked ≡ None)
+none_with : {A : Type 0} (parked : Option Named) (tokens : List (List ℕ × NamedToken A)) → ((i : Index) → held_of i (tokens_with parked tokens) ≡ 0) → AreClosed tokens × (parked ≡ None)
 none_with None tokens none = (none_held tokens none, refl)
 none_with (Some p) tokens none = absurd (never_open p.1.index (first_closed (p.0, token.Held p.1) tokens none))
 
@@ -100,7 +100,7 @@ module _ (d : SoloView (List ℕ)) (kept : List (Option Batch)) (h : AreBatchesO
 
 -- The domain was taken down
 
-pub are_spent : {A : Type 0} (d : SoloView (List ℕ)) (tokens : List (List ℕ × Token A)) (q : ParkingView) (kept : List (Option Batch)) → AreTogether d tokens q → AreBatchesOf d kept → open_count d.course.standing.history ≡ 0 → sum d.course.queued ≡ sum d.course.finished → AreSpent tokens q kept
+pub are_spent : {A : Type 0} (d : SoloView (List ℕ)) (tokens : List (List ℕ × NamedToken A)) (q : ParkingView) (kept : List (Option Batch)) → AreTogether d tokens q → AreBatchesOf d kept → open_count d.course.standing.history ≡ 0 → sum d.course.queued ≡ sum d.course.finished → AreSpent tokens q kept
 are_spent d tokens q kept together of_batches closed run =
     let (none, empty) = none_with q.parked tokens (λ i. together.all.counted i ∙ none_open i d.course.standing.history closed) in
     record { closed = none; empty = empty; finished = none_out d kept of_batches run }

@@ -7,8 +7,8 @@ use Rattle.std.proofs.lemmas.Map.Entries.{All-lookup}
 use Rattle.sections.specs.Views.{ReadingView}
 use Rattle.sseq.specs.declared.index.Index.{Index}
 use Rattle.solo.specs.Calls.{SoloView, Begins, Ends, IsReadingAt}
-use Rattle.session.specs.declared.names.Token.{Token}
-use Rattle.session.specs.declared.names.Token.TheVariants as token
+use Rattle.session.specs.declared.names.NamedToken.{NamedToken}
+use Rattle.session.specs.declared.names.NamedToken.TheVariants as token
 use Rattle.session.specs.Tokens.{token_at, open_index, TakesOut}
 use Rattle.session.specs.Parkings.{ParkingView}
 use Rattle.session.specs.States.{is_parked}
@@ -25,7 +25,7 @@ none_case : (parked : Option Named) → option_map (λ (q : Named). q.1) parked 
 none_case None none = refl
 none_case (Some q) none = absurd cc
 
-module _ {A : Type 0} (d : SoloView (List ℕ)) (tokens : List (List ℕ × Token A)) (p : ParkingView) (h : AreTogether d tokens p) where
+module _ {A : Type 0} (d : SoloView (List ℕ)) (tokens : List (List ℕ × NamedToken A)) (p : ParkingView) (h : AreTogether d tokens p) where
   -- tokens that stay
 
   module _ (d' : SoloView (List ℕ)) where
@@ -45,7 +45,7 @@ module _ {A : Type 0} (d : SoloView (List ℕ)) (tokens : List (List ℕ × Toke
 
   module _ (name : List ℕ) (free : is_parked name (desk_of p.parked) ≡ false) where
     -- it is no open section
-    pub together_with : (t : Token A) → IsTokenOf d t → open_index t ≡ None → AreTogether d (tokens ++ (name, t) ∷ []) p
+    pub together_with : (t : NamedToken A) → IsTokenOf d t → open_index t ≡ None → AreTogether d (tokens ++ (name, t) ∷ []) p
     together_with t is none = record {
       all = subst (AreOf d) (sym (with_push p.parked tokens (name, t))) (held_more_unopened d (tokens_with p.parked tokens) name t h.all is none);
       desk = h.desk;
@@ -62,7 +62,7 @@ module _ {A : Type 0} (d : SoloView (List ℕ)) (tokens : List (List ℕ × Toke
 
   -- a token that goes
 
-  module _ {t : Token A} {name : List ℕ} {rest : List (List ℕ × Token A)} (out : TakesOut name t tokens rest) where
+  module _ {t : NamedToken A} {name : List ℕ} {rest : List (List ℕ × NamedToken A)} (out : TakesOut name t tokens rest) where
     all_move : IsPermutation (tokens_with p.parked tokens) ((out.stored, t) ∷ tokens_with p.parked rest)
     all_move = with_moved p.parked tokens rest (out.stored, t) out.moves
 
@@ -77,7 +77,7 @@ module _ {A : Type 0} (d : SoloView (List ℕ)) (tokens : List (List ℕ × Toke
       apart = apart_gone p.parked tokens rest name out.frees h.apart;
     }
 
-  pub together_ended : (sort : Sort) (r : ReadingView) {name : List ℕ} {rest : List (List ℕ × Token A)} → TakesOut name (as_token sort r) tokens rest → (d' : SoloView (List ℕ)) (q : ℕ) → IsThere d d' → Ends r.section q d.course d'.course → AreTogether d' rest p
+  pub together_ended : (sort : Sort) (r : ReadingView) {name : List ℕ} {rest : List (List ℕ × NamedToken A)} → TakesOut name (as_token sort r) tokens rest → (d' : SoloView (List ℕ)) (q : ℕ) → IsThere d d' → Ends r.section q d.course d'.course → AreTogether d' rest p
   together_ended sort r {name} {rest} out d' q there ends = record {
     all = held_ended d (tokens_with p.parked tokens) (tokens_with p.parked rest) out.stored h.all sort q r d' (all_move out) there ends;
     desk = h.desk ∙ sym there.0;
@@ -85,7 +85,7 @@ module _ {A : Type 0} (d : SoloView (List ℕ)) (tokens : List (List ℕ × Toke
   }
 
   -- it comes back, under its name
-  pub together_back : {t : Token A} {name : List ℕ} {rest : List (List ℕ × Token A)} → TakesOut name t tokens rest → is_parked name (desk_of p.parked) ≡ false → AreTogether d (rest ++ (name, t) ∷ []) p
+  pub together_back : {t : NamedToken A} {name : List ℕ} {rest : List (List ℕ × NamedToken A)} → TakesOut name t tokens rest → is_parked name (desk_of p.parked) ≡ false → AreTogether d (rest ++ (name, t) ∷ []) p
   together_back {t} {name} {rest} out free =
       let others = tokens_with p.parked rest in record {
         all = subst (AreOf d) (sym (with_push p.parked rest (name, t))) (held_as d (tokens_with p.parked tokens) (others ++ (name, t) ∷ []) out.stored name t others h.all (all_move out) (IsPermutation-to_front others (name, t)));
@@ -94,7 +94,7 @@ module _ {A : Type 0} (d : SoloView (List ℕ)) (tokens : List (List ℕ × Toke
       }
 
   -- it goes to the desk
-  pub together_parked : {r : ReadingView} {name : List ℕ} {rest : List (List ℕ × Token A)} → TakesOut name (token.Held r) tokens rest → p.parked ≡ None → AreTogether d rest (record p { parked = Some (name, r) })
+  pub together_parked : {r : ReadingView} {name : List ℕ} {rest : List (List ℕ × NamedToken A)} → TakesOut name (token.Held r) tokens rest → p.parked ≡ None → AreTogether d rest (record p { parked = Some (name, r) })
   together_parked {r} {name} {rest} out none = record {
     all = held_moved d tokens rest out.stored name (token.Held r) (subst (λ o. AreOf d (tokens_with o tokens)) none h.all) out.moves;
     desk = h.desk;
@@ -134,12 +134,12 @@ module _ {A : Type 0} (d : SoloView (List ℕ)) (tokens : List (List ℕ × Toke
   held_without_desk none = subst (λ o. AreOf d (tokens_with o tokens)) (none_case p.parked none) h.all
 
 -- what holds of all tokens holds of those under names
-pub each_named : {A : Type 0} (P : List ℕ × Token A → Type 0) (parked : Option Named) (tokens : List (List ℕ × Token A)) → All P (tokens_with parked tokens) → All P tokens
+pub each_named : {A : Type 0} (P : List ℕ × NamedToken A → Type 0) (parked : Option Named) (tokens : List (List ℕ × NamedToken A)) → All P (tokens_with parked tokens) → All P tokens
 each_named P None tokens h = h
 each_named P (Some q) tokens h = All-tail P (q.0, token.Held q.1) tokens h
 
 -- what has a name is of this domain
-pub named_is_of : {A : Type 0} (d : SoloView (List ℕ)) (tokens : List (List ℕ × Token A)) (p : ParkingView) → AreTogether d tokens p → (name : List ℕ) (t : Token A) → token_at name tokens ≡ Some t → IsTokenOf d t
+pub named_is_of : {A : Type 0} (d : SoloView (List ℕ)) (tokens : List (List ℕ × NamedToken A)) (p : ParkingView) → AreTogether d tokens p → (name : List ℕ) (t : NamedToken A) → token_at name tokens ≡ Some t → IsTokenOf d t
 named_is_of d tokens p h name t there =
-    let each = each_named (λ (x : List ℕ × Token _). IsTokenOf d x.1) p.parked tokens h.all.each in
+    let each = each_named (λ (x : List ℕ × NamedToken _). IsTokenOf d x.1) p.parked tokens h.all.each in
     subst (λ o. IfSome o (IsTokenOf d)) there (All-lookup (IsTokenOf d) (bytes_eq name) tokens each)

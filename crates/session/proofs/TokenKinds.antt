@@ -7,8 +7,8 @@ use Rattle.plugs.specs.Views.{LeaseView}
 use Rattle.requests.specs.declared.scene.Kind.{Kind}
 use Rattle.requests.specs.declared.scene.Kind.TheVariants as kind
 use Rattle.requests.specs.Faults.{same_kind}
-use Rattle.session.specs.declared.names.Token.{Token}
-use Rattle.session.specs.declared.names.Token.TheVariants as token
+use Rattle.session.specs.declared.names.NamedToken.{NamedToken}
+use Rattle.session.specs.declared.names.NamedToken.TheVariants as token
 use Rattle.session.specs.States.{kind_of}
 use Rattle.session.specs.Tokens.{token_at, bearer_of, kind_in}
 
@@ -27,22 +27,22 @@ apart_kinds k given other e =
     absurd cc
 
 module _ {A : Type 0} where
-  abbrev kind_at : Option (Token A) → Option Kind
+  abbrev kind_at : Option (NamedToken A) → Option Kind
   kind_at t = option_map kind_of (option_map bearer_of t)
 
   -- something has the name
-  pub none_there : (name : List ℕ) (tokens : List (List ℕ × Token A)) {k : Kind} → kind_in name tokens ≡ Some k → None ≡ token_at name tokens → ⊥
+  pub none_there : (name : List ℕ) (tokens : List (List ℕ × NamedToken A)) {k : Kind} → kind_in name tokens ≡ Some k → None ≡ token_at name tokens → ⊥
   none_there name tokens {k} is none = let no : ◌≡◌ {A = Option Kind} None (Some k) = ap kind_at none ∙ is in absurd cc
 
   -- what has the name is of this kind, and so of no other
-  module _ (name : List ℕ) (tokens : List (List ℕ × Token A)) (t : Token A) (there : token_at name tokens ≡ Some t) where
+  module _ (name : List ℕ) (tokens : List (List ℕ × NamedToken A)) (t : NamedToken A) (there : token_at name tokens ≡ Some t) where
     found : {k : Kind} → kind_in name tokens ≡ Some k → Some (kind_of (bearer_of t)) ≡ Some k
     found is = sym (ap kind_at there) ∙ is
 
     pub only_look : kind_in name tokens ≡ Some kind.Look → ((l : LookView) → t ≡ token.Look l → ⊥) → ⊥
     only_look is = by_kind t (found is)
       where
-        by_kind : (x : Token A) → Some (kind_of (bearer_of x)) ≡ Some kind.Look → ((l : LookView) → x ≡ token.Look l → ⊥) → ⊥
+        by_kind : (x : NamedToken A) → Some (kind_of (bearer_of x)) ≡ Some kind.Look → ((l : LookView) → x ≡ token.Look l → ⊥) → ⊥
         by_kind (token.Look l) h not = not l refl
         by_kind (token.Reading r) h not = apart_kinds kind.Reading kind.Look refl h
         by_kind (token.Held r) h not = apart_kinds kind.Held kind.Look refl h
@@ -52,7 +52,7 @@ module _ {A : Type 0} where
     pub only_reading : kind_in name tokens ≡ Some kind.Reading → ((r : ReadingView) → t ≡ token.Reading r → ⊥) → ⊥
     only_reading is = by_kind t (found is)
       where
-        by_kind : (x : Token A) → Some (kind_of (bearer_of x)) ≡ Some kind.Reading → ((r : ReadingView) → x ≡ token.Reading r → ⊥) → ⊥
+        by_kind : (x : NamedToken A) → Some (kind_of (bearer_of x)) ≡ Some kind.Reading → ((r : ReadingView) → x ≡ token.Reading r → ⊥) → ⊥
         by_kind (token.Look l) h not = apart_kinds kind.Look kind.Reading refl h
         by_kind (token.Reading r) h not = not r refl
         by_kind (token.Held r) h not = apart_kinds kind.Held kind.Reading refl h
@@ -62,7 +62,7 @@ module _ {A : Type 0} where
     pub only_held : kind_in name tokens ≡ Some kind.Held → ((r : ReadingView) → t ≡ token.Held r → ⊥) → ⊥
     only_held is = by_kind t (found is)
       where
-        by_kind : (x : Token A) → Some (kind_of (bearer_of x)) ≡ Some kind.Held → ((r : ReadingView) → x ≡ token.Held r → ⊥) → ⊥
+        by_kind : (x : NamedToken A) → Some (kind_of (bearer_of x)) ≡ Some kind.Held → ((r : ReadingView) → x ≡ token.Held r → ⊥) → ⊥
         by_kind (token.Look l) h not = apart_kinds kind.Look kind.Held refl h
         by_kind (token.Reading r) h not = apart_kinds kind.Reading kind.Held refl h
         by_kind (token.Held r) h not = not r refl
@@ -72,7 +72,7 @@ module _ {A : Type 0} where
     pub only_ticket : kind_in name tokens ≡ Some kind.Ticket → ((x : TicketView) → t ≡ token.Ticket x → ⊥) → ⊥
     only_ticket is = by_kind t (found is)
       where
-        by_kind : (x : Token A) → Some (kind_of (bearer_of x)) ≡ Some kind.Ticket → ((y : TicketView) → x ≡ token.Ticket y → ⊥) → ⊥
+        by_kind : (x : NamedToken A) → Some (kind_of (bearer_of x)) ≡ Some kind.Ticket → ((y : TicketView) → x ≡ token.Ticket y → ⊥) → ⊥
         by_kind (token.Look l) h not = apart_kinds kind.Look kind.Ticket refl h
         by_kind (token.Reading r) h not = apart_kinds kind.Reading kind.Ticket refl h
         by_kind (token.Held r) h not = apart_kinds kind.Held kind.Ticket refl h
@@ -82,7 +82,7 @@ module _ {A : Type 0} where
     pub only_lease : kind_in name tokens ≡ Some kind.Lease → ((x : LeaseView) → t ≡ token.Lease x → ⊥) → ⊥
     only_lease is = by_kind t (found is)
       where
-        by_kind : (x : Token A) → Some (kind_of (bearer_of x)) ≡ Some kind.Lease → ((y : LeaseView) → x ≡ token.Lease y → ⊥) → ⊥
+        by_kind : (x : NamedToken A) → Some (kind_of (bearer_of x)) ≡ Some kind.Lease → ((y : LeaseView) → x ≡ token.Lease y → ⊥) → ⊥
         by_kind (token.Look l) h not = apart_kinds kind.Look kind.Lease refl h
         by_kind (token.Reading r) h not = apart_kinds kind.Reading kind.Lease refl h
         by_kind (token.Held r) h not = apart_kinds kind.Held kind.Lease refl h

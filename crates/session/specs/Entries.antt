@@ -9,8 +9,8 @@ use Rattle.sections.specs.Words.{cells_in}
 use Rattle.scan.specs.Standings.{Standing}
 use Rattle.solo.specs.Calls.{SoloView, IsOf}
 use Rattle.solo.specs.Barriers.{IsTicketOf}
-use Rattle.session.specs.declared.names.Token.{Token}
-use Rattle.session.specs.declared.names.Token.TheVariants as token
+use Rattle.session.specs.declared.names.NamedToken.{NamedToken}
+use Rattle.session.specs.declared.names.NamedToken.TheVariants as token
 use Rattle.session.specs.declared.entry.Entry.TheInside as entry
 use Rattle.session.specs.OpenSections.{open_of}
 use Rattle.notify.specs.Chains.{ChainState}
@@ -48,10 +48,10 @@ pub record AreUsers (d : SoloView (List ℕ)) (s : ChainState) (b : TableState) 
   pub second : b.writer.cell ≡ 1
 
 module _ {A : Type 0} where
-  abbrev pub names_of : List (List ℕ × Token A) → Names
+  abbrev pub names_of : List (List ℕ × NamedToken A) → Names
   names_of tokens = map (λ t. (t.0, bearer_of t.1)) tokens
 
-  abbrev pub state_with : ChainNow → TableNow → List ℕ → List (List ℕ × Token A) → Option (List ℕ × ReadingView) → SoloView (List ℕ) → DomainState
+  abbrev pub state_with : ChainNow → TableNow → List ℕ → List (List ℕ × NamedToken A) → Option (List ℕ × ReadingView) → SoloView (List ℕ) → DomainState
   state_with chain table name tokens parked d = record {
     name = name;
     names = names_of tokens;
@@ -62,16 +62,16 @@ module _ {A : Type 0} where
     course = d.course;
   }
 
-  abbrev pub entry_with : ChainNow → TableNow → List ℕ → List (List ℕ × Token A) → Option (List ℕ × ReadingView) → SoloView (List ℕ) → EntryView
+  abbrev pub entry_with : ChainNow → TableNow → List ℕ → List (List ℕ × NamedToken A) → Option (List ℕ × ReadingView) → SoloView (List ℕ) → EntryView
   entry_with chain table name tokens parked d = record { limits = d.limits; state = state_with chain table name tokens parked d }
 
   -- all tokens: those under names, and the section that is parked
-  abbrev pub tokens_with : Option (List ℕ × ReadingView) → List (List ℕ × Token A) → List (List ℕ × Token A)
+  abbrev pub tokens_with : Option (List ℕ × ReadingView) → List (List ℕ × NamedToken A) → List (List ℕ × NamedToken A)
   tokens_with None tokens = tokens
   tokens_with (Some p) tokens = (p.0, token.Held p.1) ∷ tokens
 
   -- the token is of this domain
-  abbrev pub IsTokenOf : SoloView (List ℕ) → Token A → Type 0
+  abbrev pub IsTokenOf : SoloView (List ℕ) → NamedToken A → Type 0
   IsTokenOf d (token.Look l) = l.domain ≡ d.table
   IsTokenOf d (token.Reading r) = IsReadingOf d.table d.course.standing r
   IsTokenOf d (token.Held h) = IsReadingOf d.table d.course.standing h
@@ -79,23 +79,23 @@ module _ {A : Type 0} where
   IsTokenOf d (token.Lease l) = IsReadingOf d.table d.course.standing l.held × tables.HoldsRows l (rows_of l)
 
   -- all tokens are of the domain, and as many of them are open sections of an index as sections of it are open
-  pub record AreOf (d : SoloView (List ℕ)) (tokens : List (List ℕ × Token A)) : Type 0 where
+  pub record AreOf (d : SoloView (List ℕ)) (tokens : List (List ℕ × NamedToken A)) : Type 0 where
     pub legal : IsLegal d.course.standing.history
-    pub each : All (λ (t : List ℕ × Token A). IsTokenOf d t.1) tokens
+    pub each : All (λ (t : List ℕ × NamedToken A). IsTokenOf d t.1) tokens
     pub counted : (i : Index) → held_of i tokens ≡ open_of i d.course.standing.history
 
   -- a domain, the tokens under names there, and its desk: that is of this domain, and the name of what lies there is no other token's
-  pub record AreTogether (d : SoloView (List ℕ)) (tokens : List (List ℕ × Token A)) (p : ParkingView) : Type 0 where
+  pub record AreTogether (d : SoloView (List ℕ)) (tokens : List (List ℕ × NamedToken A)) (p : ParkingView) : Type 0 where
     pub all : AreOf d (tokens_with p.parked tokens)
     pub desk : p.domain ≡ d.table
     pub apart : IfSome p.parked (λ named. token_at named.0 tokens ≡ None)
 
   -- no token is an open section
-  abbrev pub AreClosed : List (List ℕ × Token A) → Type 0
-  AreClosed tokens = All (λ (t : List ℕ × Token A). open_index t.1 ≡ None) tokens
+  abbrev pub AreClosed : List (List ℕ × NamedToken A) → Type 0
+  AreClosed tokens = All (λ (t : List ℕ × NamedToken A). open_index t.1 ≡ None) tokens
 
   -- nothing is left that has to be spent: no token is an open section, nothing is parked, and no batch is out
-  pub record AreSpent (tokens : List (List ℕ × Token A)) (p : ParkingView) (kept : List (Option Batch)) : Type 0 where
+  pub record AreSpent (tokens : List (List ℕ × NamedToken A)) (p : ParkingView) (kept : List (Option Batch)) : Type 0 where
     pub closed : AreClosed tokens
     pub empty : p.parked ≡ None
     pub finished : All (λ o. o ≡ None) kept

@@ -65,7 +65,7 @@ use Rattle.requests.specs.declared.reply.Segments.{Segments}
 use Rattle.requests.specs.declared.reply.Reply.{Reply}
 use Rattle.requests.specs.declared.reply.Reply.TheVariants as reply
 use Rattle.requests.specs.Faults.{fault_of, is_skipped}
-use Rattle.requests.specs.Requests.{Asks}
+use Rattle.requests.specs.Requests.{WordsAsk}
 use Rattle.requests.specs.Replies.{reply_text}
 use Rattle.session.specs.OpenSections.{open_of}
 use Rattle.session.specs.States.{State, DomainState, Bearer, Look, Reading, Held, Ticket, Lease, Parked, JobList, Slots, ChainNow, TableNow, chain_now, table_now, Becomes, bearer_at, scene_of}
@@ -534,7 +534,7 @@ pub record IsSkipped (state : State) (bytes : List ℕ) (faulty : Bool) (state' 
 
 pub record IsAnswered (gives : ℕ → ℕ → ℕ → Type 0) (limits : Limits) (state : State) (words : List (List ℕ)) (bytes : List ℕ) (faulty : Bool) (state' : State) : Type 0 where
   pub asked : Request
-  pub asks : Asks (scene_of state) words asked
+  pub asks : WordsAsk (scene_of state) words asked
   pub given : Reply
   pub answers : Answers gives limits state asked given state'
   pub reply : bytes ≡ reply_text given

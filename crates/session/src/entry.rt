@@ -1,6 +1,6 @@
 //! A domain with its name, the names in use there, its desk, and the batches that are out.
 ghost use Rattle.std.specs.Prelude.{◌≡◌, ◌<◌, ◌≤◌, length, [], ◌∷◌, IfOk, OnErr, bytes_eq};
-ghost use Rattle.requests.specs.Requests.{Fits};
+ghost use Rattle.requests.specs.Requests.{IsActFor};
 ghost use Rattle.session.specs.States.{kind_at, scene_of};
 ghost use Rattle.session.specs.Entries.{AreTogether};
 ghost use Rattle.notify.specs.Calling.{GivesAt};
@@ -8,7 +8,7 @@ ghost use Rattle.session.specs.Scripts.{Does, Acts};
 
 use crate::batch_out::{Out, none_out};
 use crate::entry::calling::finish_all;
-use crate::names::{Names, Token, take_last};
+use crate::names::{Names, NamedToken, take_last};
 use crate::parking::Parking;
 use lines::Name;
 use notify::Handler;
@@ -116,17 +116,17 @@ impl<A: Allocator> Entry<A> {
             return Some(Kind::Parked);
         }
         match self.names.get(name)? {
-            Token::Look(_) => Some(Kind::Look),
-            Token::Reading(_) => Some(Kind::Reading),
-            Token::Held(_) => Some(Kind::Held),
-            Token::Ticket(_) => Some(Kind::Ticket),
-            Token::Lease(_) => Some(Kind::Lease),
+            NamedToken::Look(_) => Some(Kind::Look),
+            NamedToken::Reading(_) => Some(Kind::Reading),
+            NamedToken::Held(_) => Some(Kind::Held),
+            NamedToken::Ticket(_) => Some(Kind::Ticket),
+            NamedToken::Lease(_) => Some(Kind::Lease),
         }
     }
 
     /// Reads the index word on a processor, and gives the look the name.
     fn look(&mut self, processor: u64, name: Name) -> Result<Reply, AllocError>
-        requires { Fits (scene_of (self.old.state ∷ [])) 0 (Act.Look processor name) }
+        requires { IsActFor (scene_of (self.old.state ∷ [])) 0 (Act.Look processor name) }
         ensures limits { self.new.limits ≡ self.old.limits }
         ensures name { self.new.state.name ≡ self.old.state.name }
         ensures does { IfOk result (λ r. Does self.old.limits (Act.Look processor name) self.old.state r self.new.state) }
@@ -135,7 +135,7 @@ impl<A: Allocator> Entry<A> {
         self.names.reserve()?;
         let look = self.domain.look(processor);
         let index = look.index();
-        self.names.insert(name, Token::Look(look));
+        self.names.insert(name, NamedToken::Look(look));
         Ok(Reply::Look(index))
     }
 
@@ -143,7 +143,7 @@ impl<A: Allocator> Entry<A> {
     /// is refused, the name is free. The look's own place would do for the section, but the map doesn't say so: hence
     /// the room.
     fn enter(&mut self, processor: u64, name: Name) -> Result<Reply, AllocError>
-        requires { Fits (scene_of (self.old.state ∷ [])) 0 (Act.Enter processor name) }
+        requires { IsActFor (scene_of (self.old.state ∷ [])) 0 (Act.Enter processor name) }
         ensures limits { self.new.limits ≡ self.old.limits }
         ensures name { self.new.state.name ≡ self.old.state.name }
         ensures does { IfOk result (λ r. Does self.old.limits (Act.Enter processor name) self.old.state r self.new.state) }
@@ -154,7 +154,7 @@ impl<A: Allocator> Entry<A> {
         match self.domain.enter(processor, look) {
             Ok(reading) => {
                 let index = reading.index();
-                self.names.insert(name, Token::Reading(reading));
+                self.names.insert(name, NamedToken::Reading(reading));
                 Ok(Reply::Index(index))
             }
             Err(Exhausted) => Ok(Reply::Refused(Command::Enter, Cause::Exhausted)),
@@ -164,7 +164,7 @@ impl<A: Allocator> Entry<A> {
     /// Begins a section on a processor, and gives it the name; refused, with nothing done, where the processor has
     /// begun as many of its index as it may.
     fn lock(&mut self, processor: u64, name: Name) -> Result<Reply, AllocError>
-        requires { Fits (scene_of (self.old.state ∷ [])) 0 (Act.Lock processor name) }
+        requires { IsActFor (scene_of (self.old.state ∷ [])) 0 (Act.Lock processor name) }
         ensures limits { self.new.limits ≡ self.old.limits }
         ensures name { self.new.state.name ≡ self.old.state.name }
         ensures does { IfOk result (λ r. Does self.old.limits (Act.Lock processor name) self.old.state r self.new.state) }
@@ -174,7 +174,7 @@ impl<A: Allocator> Entry<A> {
         match self.domain.read_lock(processor) {
             Ok(reading) => {
                 let index = reading.index();
-                self.names.insert(name, Token::Reading(reading));
+                self.names.insert(name, NamedToken::Reading(reading));
                 Ok(Reply::Index(index))
             }
             Err(Exhausted) => Ok(Reply::Refused(Command::Lock, Cause::Exhausted)),
@@ -183,7 +183,7 @@ impl<A: Allocator> Entry<A> {
 
     /// Ends the section of this name, which is then free.
     fn unlock(&mut self, name: Name) -> Reply
-        requires { Fits (scene_of (self.old.state ∷ [])) 0 (Act.Unlock name) }
+        requires { IsActFor (scene_of (self.old.state ∷ [])) 0 (Act.Unlock name) }
         ensures limits { self.new.limits ≡ self.old.limits }
         ensures name { self.new.state.name ≡ self.old.state.name }
         ensures does { Does self.old.limits (Act.Unlock name) self.old.state result self.new.state }
@@ -196,7 +196,7 @@ impl<A: Allocator> Entry<A> {
     /// Begins a section on a processor that any processor may end, and gives it the name; refused, with nothing done,
     /// where the processor has begun as many of its index as it may.
     fn down(&mut self, processor: u64, name: Name) -> Result<Reply, AllocError>
-        requires { Fits (scene_of (self.old.state ∷ [])) 0 (Act.Down processor name) }
+        requires { IsActFor (scene_of (self.old.state ∷ [])) 0 (Act.Down processor name) }
         ensures limits { self.new.limits ≡ self.old.limits }
         ensures name { self.new.state.name ≡ self.old.state.name }
         ensures does { IfOk result (λ r. Does self.old.limits (Act.Down processor name) self.old.state r self.new.state) }
@@ -206,7 +206,7 @@ impl<A: Allocator> Entry<A> {
         match self.domain.down_read(processor) {
             Ok(held) => {
                 let index = held.index();
-                self.names.insert(name, Token::Held(held));
+                self.names.insert(name, NamedToken::Held(held));
                 Ok(Reply::Index(index))
             }
             Err(Exhausted) => Ok(Reply::Refused(Command::Down, Cause::Exhausted)),
@@ -215,7 +215,7 @@ impl<A: Allocator> Entry<A> {
 
     /// Ends the held section of this name on a processor. The name is then free.
     fn up(&mut self, processor: u64, name: Name) -> Reply
-        requires { Fits (scene_of (self.old.state ∷ [])) 0 (Act.Up processor name) }
+        requires { IsActFor (scene_of (self.old.state ∷ [])) 0 (Act.Up processor name) }
         ensures limits { self.new.limits ≡ self.old.limits }
         ensures name { self.new.state.name ≡ self.old.state.name }
         ensures does { Does self.old.limits (Act.Up processor name) self.old.state result self.new.state }
@@ -227,7 +227,7 @@ impl<A: Allocator> Entry<A> {
 
     /// Puts the held section of this name on the desk; refused, with nothing done, where another one lies there.
     fn park(&mut self, name: Name) -> Reply
-        requires { Fits (scene_of (self.old.state ∷ [])) 0 (Act.Park name) }
+        requires { IsActFor (scene_of (self.old.state ∷ [])) 0 (Act.Park name) }
         ensures limits { self.new.limits ≡ self.old.limits }
         ensures name { self.new.state.name ≡ self.old.state.name }
         ensures does { Does self.old.limits (Act.Park name) self.old.state result self.new.state }
@@ -252,7 +252,7 @@ impl<A: Allocator> Entry<A> {
             return Ok(Reply::Refused(Command::Unpark, Cause::Empty));
         };
         let (name, held) = parked;
-        self.names.insert(name, Token::Held(held));
+        self.names.insert(name, NamedToken::Held(held));
         Ok(Reply::Took(name))
     }
 
@@ -343,7 +343,7 @@ impl<'a, A: Allocator> Entry<&'a A> {
         handlers: &[Box<dyn Handler>],
         act: Act,
     ) -> Result<Reply, AllocError>
-        requires fits { Fits (scene_of (self.old.state ∷ [])) 0 act }
+        requires fits { IsActFor (scene_of (self.old.state ∷ [])) 0 act }
         requires handlers { 16 ≤ length handlers.now }
         ensures limits { self.new.limits ≡ self.old.limits }
         ensures name { self.new.state.name ≡ self.old.state.name }
@@ -427,14 +427,14 @@ fn end_all<A: Allocator + Copy>(mut domain: Solo<Name, A>, names: Names<A>, park
     let mut tokens = names.into_tokens();
     while let Some(token) = take_last(&mut tokens) {
         match token {
-            Token::Look(_look) => {}
-            Token::Ticket(_ticket) => {}
-            Token::Reading(reading) => domain.read_unlock(reading),
-            Token::Held(held) => {
+            NamedToken::Look(_look) => {}
+            NamedToken::Ticket(_ticket) => {}
+            NamedToken::Reading(reading) => domain.read_unlock(reading),
+            NamedToken::Held(held) => {
                 let processor = u64::from(held.processor());
                 domain.up_read(processor, held);
             }
-            Token::Lease(lease) => domain.release(0, lease),
+            NamedToken::Lease(lease) => domain.release(0, lease),
         }
     }
     tokens.destroy_empty();

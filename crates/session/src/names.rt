@@ -20,7 +20,7 @@ mod taking;
 
 /// What has a name: a look; an open section, which its own processor ends or any may end; the ticket of a barrier; or a
 /// lease, which is an open section too.
-pub enum Token<A: Allocator> {
+pub enum NamedToken<A: Allocator> {
     Look(Look),
     Reading(Reading),
     Held(Held),
@@ -29,7 +29,7 @@ pub enum Token<A: Allocator> {
 }
 
 /// Tokens under names. To find, to add and to take out one costs the same however many there are.
-pub type Tokens<A> = IndexMap<Name, Token<A>, BuildHasherDefault<FoldHasher>, A>;
+pub type Tokens<A> = IndexMap<Name, NamedToken<A>, BuildHasherDefault<FoldHasher>, A>;
 
 /// The names in use in a domain, each with its token, and how many of these are open sections of each index. Open
 /// sections must be ended: spend it by [`Names::into_tokens`].
@@ -64,7 +64,7 @@ impl<A: Allocator> Names<A> {
     }
 
     /// What has the name.
-    pub fn get(&self, name: &Name) -> Option<&Token<A>>
+    pub fn get(&self, name: &Name) -> Option<&NamedToken<A>>
         ensures { option_copied result ≡ token_at name.now self.now.tokens }
     {
         self.tokens.get(name)
@@ -89,7 +89,7 @@ impl<A: Allocator> Names<A> {
     }
 
     /// Gives a free name to a token. There must be room.
-    pub fn insert(&mut self, name: Name, token: Token<A>)
+    pub fn insert(&mut self, name: Name, token: NamedToken<A>)
         requires free { token_at name self.old.tokens ≡ None }
         requires room { 0 < self.old.room }
         ensures { self.new.tokens ≡ self.old.tokens ++ (name, token) ∷ [] }
@@ -105,7 +105,7 @@ impl<A: Allocator> Names<A> {
     }
 
     /// Takes a token out. Its name is then free, and there is no less room than there was.
-    pub fn remove(&mut self, name: &Name) -> Option<Token<A>>
+    pub fn remove(&mut self, name: &Name) -> Option<NamedToken<A>>
         ensures token { result ≡ token_at name.now self.old.tokens }
         ensures frees { Frees name.now self.old.tokens self.new.tokens }
         ensures others { IfSome result (λ t. (stored : List ℕ) × IsPermutation self.old.tokens ((stored, t) ∷ self.new.tokens)) }
@@ -127,7 +127,7 @@ impl<A: Allocator> Names<A> {
 }
 
 /// Takes the last token out, or `None` where there is none.
-pub fn take_last<A: Allocator>(tokens: &mut Tokens<A>) -> Option<Token<A>>
+pub fn take_last<A: Allocator>(tokens: &mut Tokens<A>) -> Option<NamedToken<A>>
     ensures none { IfNone result (tokens.new.entries ≡ []) }
     ensures last { IfSome result (λ t. (name : List ℕ) × (tokens.old.entries ≡ tokens.new.entries ++ (name, t) ∷ [])) }
     ensures fewer { IfSome result (λ t. length tokens.new.entries < length tokens.old.entries) }
@@ -136,17 +136,17 @@ pub fn take_last<A: Allocator>(tokens: &mut Tokens<A>) -> Option<Token<A>>
     Some(token)
 }
 
-impl<A: Allocator> Token<A> {
+impl<A: Allocator> NamedToken<A> {
     /// The index of the open section that this stands for.
     fn open_index(&self) -> Option<Index>
         ensures { result ≡ open_index self.now }
     {
         match self {
-            Token::Look(_) => None,
-            Token::Reading(reading) => Some(reading.index()),
-            Token::Held(held) => Some(held.index()),
-            Token::Ticket(_) => None,
-            Token::Lease(lease) => Some(lease.index()),
+            NamedToken::Look(_) => None,
+            NamedToken::Reading(reading) => Some(reading.index()),
+            NamedToken::Held(held) => Some(held.index()),
+            NamedToken::Ticket(_) => None,
+            NamedToken::Lease(lease) => Some(lease.index()),
         }
     }
 }

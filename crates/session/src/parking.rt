@@ -1,4 +1,7 @@
 //! The desk of a domain, where one held section can be parked under its name.
+//!
+//! One thread drives a session, so an `Option` would hold the section as well. The desk is there so that `park` and
+//! `unpark` make the swaps that threads make who hand a section over.
 ghost use Rattle.std.specs.Prelude.{◌≡◌, None, Some, option_map, is_none, IfOk};
 ghost use Rattle.session.specs.Parkings.{index_of_parked};
 ghost use Rattle.session.specs.States.{is_parked};

@@ -219,7 +219,7 @@ no_puts (answer.Waiting i) = refl
 no_puts answer.Step = refl
 
 -- the engine of the domain was found and worked with the first processor, was left tied to it, and then all have met
-pub record Turn (J : Type 0) : Type 1 where
+pub record EngineTurn (J : Type 0) : Type 1 where
   pub d : DomainView
   pub limits : Limits
   pub cpus : List (DomainCpu J)
@@ -237,7 +237,7 @@ pub record Turn (J : Type 0) : Type 1 where
   pub loaded : GoesOn [] was.needs lends.worked.needs
 
 module _ {J : Type 0} where
-  module _ (t : Turn J) where
+  module _ (t : EngineTurn J) where
     abbrev nobody : DomainCpu J
     nobody = t.was
 
@@ -648,14 +648,14 @@ module _ {J : Type 0} where
 
   module _ (d : DomainView) (limits : Limits) (cpus : List (DomainCpu J)) (lay : View) (was now : DomainCpu J) (d' : DomainView) (cpus' : List (DomainCpu J)) (met : HaveMet d limits cpus lay) (is : was ≡ get_or cpus 0 was) (all : IsAllOf d' cpus') (meets : MeetsHere (set cpus 0 now) cpus')
       (seen : SoloView J) (seen_is : seen_first d limits cpus ≡ seen) where
-    abbrev a_turn : (work : View → View → Type 0) (h : Lends work was now) → GoesOn [] was.needs h.worked.needs → Turn J
+    abbrev a_turn : (work : View → View → Type 0) (h : Lends work was now) → GoesOn [] was.needs h.worked.needs → EngineTurn J
     a_turn work h on = record { d = d; limits = limits; cpus = cpus; v = lay; was = was; now = now; d' = d'; cpus' = cpus'; met = met; is = is; all = all; meets = meets; work = work; lends = h; loaded = on }
 
     abbrev seen' : SoloView J
     seen' = seen_first d' limits cpus'
 
     module _ (work : View → View → Type 0) (h : Lends work was now) (on : GoesOn [] was.needs h.worked.needs) where
-      abbrev t : Turn J
+      abbrev t : EngineTurn J
       t = a_turn work h on
 
       told_first : seen ≡ before t

@@ -4,7 +4,7 @@ ghost use Rattle.calls.specs.declared.view.Act.TheVariants.{LoadQueued, LoadFini
 ghost use Rattle.calls.specs.Tallies.{word_count, most_calls, queued_in, AreTakers, IsBeginning, AreTrue};
 ghost use Rattle.calls.specs.Calls.{Does};
 
-use crate::note::Note;
+use crate::sight::TallySight;
 use crate::plays;
 use crate::seat::CallSeat;
 use crate::tally::count_finished;
@@ -35,7 +35,7 @@ impl<J, A: Allocator> CallSeat<J, A> {
     }
 
     /// The same, by a seat that has then seen all that is noted.
-    pub(super) fn load_behind(&mut self, processor: usize, note: &mut Note<J>) -> u64
+    pub(super) fn load_behind(&mut self, processor: usize, note: &mut TallySight<J>) -> u64
         requires there { processor < self.old.processors }
         requires note { note.old.tallies ≡ self.old.tallies }
         ensures does { Does (LoadQueued processor result) self.old self.new }
@@ -69,12 +69,12 @@ impl<J, A: Allocator> CallSeat<J, A> {
     }
 
     /// Notes what this seat has seen.
-    pub(crate) fn note(&mut self) -> Note<J>
+    pub(crate) fn note(&mut self) -> TallySight<J>
         ensures same { self.new ≡ self.old }
         ensures note { result ≡ record { tallies = self.old.tallies; seen = self.old.seen } }
     {
         let top = &self.table.shared;
         let seat = top.split_seat::<plays::GiveNote>(&mut self.seat);
-        Note { seat }
+        TallySight { seat }
     }
 }

@@ -5,7 +5,7 @@ ghost use Rattle.calls.specs.Meetings.{Covers, Accepts, SeesOut};
 
 use super::CallSeat;
 use crate::batch::Batch;
-use crate::note::Note;
+use crate::sight::TallySight;
 use crate::plays;
 use crate::tally::{see_all, see_batch_out, see_told};
 use std::alloc::Allocator;
@@ -58,7 +58,7 @@ impl<J, A: Allocator> CallSeat<J, A> {
     }
 
     /// One load, by a seat that has then seen all that is noted.
-    fn see(&mut self, note: &mut Note<J>)
+    fn see(&mut self, note: &mut TallySight<J>)
         requires { note.old.tallies ≡ self.old.tallies }
         ensures { Covers self.old note.old.seen self.new }
     {
@@ -69,7 +69,7 @@ impl<J, A: Allocator> CallSeat<J, A> {
     }
 
     /// One load, by a seat that has then seen just what is noted.
-    fn see_just(&mut self, note: &mut Note<J>)
+    fn see_just(&mut self, note: &mut TallySight<J>)
         requires tallies { note.old.tallies ≡ self.old.tallies }
         requires since { IsBeginning self.old.seen note.old.seen }
         ensures { Accepts self.old note.old.seen self.new }

@@ -6,7 +6,7 @@ ghost use Rattle.session.specs.Scripts.{IsInUse};
 
 use super::Entry;
 use crate::batch_out::Out;
-use crate::names::{Names, Token, take_last};
+use crate::names::{Names, NamedToken, take_last};
 use crate::parking::Parking;
 use requests::Cause;
 use solo::{InUse, Totals};
@@ -37,11 +37,11 @@ fn drop_tokens<A: Allocator>(names: Names<A>)
     let mut tokens = names.into_tokens();
     while let Some(token) = take_last(&mut tokens) {
         match token {
-            Token::Look(_look) => {}
-            Token::Ticket(_ticket) => {}
-            Token::Reading(_reading) => unreachable!(),
-            Token::Held(_held) => unreachable!(),
-            Token::Lease(_lease) => unreachable!(),
+            NamedToken::Look(_look) => {}
+            NamedToken::Ticket(_ticket) => {}
+            NamedToken::Reading(_reading) => unreachable!(),
+            NamedToken::Held(_held) => unreachable!(),
+            NamedToken::Lease(_lease) => unreachable!(),
         }
     }
     tokens.destroy_empty();

@@ -1,11 +1,11 @@
 //! The table of plug-ins, and leases of its versions under names.
 ghost use Rattle.std.specs.Prelude.{◌≡◌, ◌<◌, [], ◌∷◌, IfOk, OnErr};
-ghost use Rattle.requests.specs.Requests.{Fits};
+ghost use Rattle.requests.specs.Requests.{IsActFor};
 ghost use Rattle.session.specs.States.{scene_of};
 ghost use Rattle.session.specs.Scripts.{Does, plug_told, cause_of_installing, cause_of_removing};
 
 use super::Entry;
-use crate::names::Token;
+use crate::names::NamedToken;
 use lines::Name;
 use plugs::{InstallRefusal, RemoveRefusal};
 use requests::{Act, Cause, Command, Reply};
@@ -85,7 +85,7 @@ impl<'a, A: Allocator> Entry<&'a A> {
 
     /// Leases the version that is current, and gives the lease the name; refused as `lookup` is.
     pub(super) fn lease(&mut self, processor: u64, name: Name) -> Result<Reply, AllocError>
-        requires { Fits (scene_of (self.old.state ∷ [])) 0 (Act.Lease processor name) }
+        requires { IsActFor (scene_of (self.old.state ∷ [])) 0 (Act.Lease processor name) }
         ensures limits { self.new.limits ≡ self.old.limits }
         ensures name { self.new.state.name ≡ self.old.state.name }
         ensures does { IfOk result (λ r. Does self.old.limits (Act.Lease processor name) self.old.state r self.new.state) }
@@ -96,7 +96,7 @@ impl<'a, A: Allocator> Entry<&'a A> {
             Ok(lease) => {
                 let index = lease.index();
                 let version = lease.version();
-                self.names.insert(name, Token::Lease(lease));
+                self.names.insert(name, NamedToken::Lease(lease));
                 Ok(Reply::Leased { index, version })
             }
             Err(Exhausted) => Ok(Reply::Refused(Command::Lease, Cause::Exhausted)),
@@ -106,7 +106,7 @@ impl<'a, A: Allocator> Entry<&'a A> {
     /// The plug of a key in the version of a lease. The lease is taken out and laid back: its own place would do, but the
     /// map does not say so, hence the room.
     pub(super) fn read(&mut self, processor: u64, name: Name, key: u32) -> Result<Reply, AllocError>
-        requires { Fits (scene_of (self.old.state ∷ [])) 0 (Act.Read processor name key) }
+        requires { IsActFor (scene_of (self.old.state ∷ [])) 0 (Act.Read processor name key) }
         ensures limits { self.new.limits ≡ self.old.limits }
         ensures name { self.new.state.name ≡ self.old.state.name }
         ensures does { IfOk result (λ r. Does self.old.limits (Act.Read processor name key) self.old.state r self.new.state) }
@@ -115,13 +115,13 @@ impl<'a, A: Allocator> Entry<&'a A> {
         self.names.reserve()?;
         let mut lease = self.names.take_lease(&name);
         let plug = self.domain.read(processor, &mut lease, key);
-        self.names.insert(name, Token::Lease(lease));
+        self.names.insert(name, NamedToken::Lease(lease));
         Ok(told(plug))
     }
 
     /// Ends the section of a lease on a processor. Its name is then free.
     pub(super) fn release(&mut self, processor: u64, name: Name) -> Reply
-        requires { Fits (scene_of (self.old.state ∷ [])) 0 (Act.Release processor name) }
+        requires { IsActFor (scene_of (self.old.state ∷ [])) 0 (Act.Release processor name) }
         ensures limits { self.new.limits ≡ self.old.limits }
         ensures name { self.new.state.name ≡ self.old.state.name }
         ensures does { Does self.old.limits (Act.Release processor name) self.old.state result self.new.state }

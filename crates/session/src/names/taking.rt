@@ -3,7 +3,7 @@
 ghost use Rattle.std.specs.Prelude.{◌≡◌, ◌<◌, Some};
 ghost use Rattle.session.specs.Tokens.{token_at, kind_in, TakesOut};
 
-use super::{Names, Token};
+use super::{Names, NamedToken};
 use calls::Ticket;
 use lines::Name;
 use plugs::Lease;
@@ -13,7 +13,7 @@ use std::alloc::Allocator;
 
 impl<A: Allocator> Names<A> {
     /// Takes out what has this name. The name is then free, and there is no less room than there was.
-    fn take(&mut self, name: &Name) -> Token<A>
+    fn take(&mut self, name: &Name) -> NamedToken<A>
         requires { (k : Kind) × (kind_in name.now self.old.tokens ≡ Some k) }
         ensures taken { TakesOut name.now result self.old.tokens self.new.tokens }
         ensures room { 0 < self.old.room → 0 < self.new.room }
@@ -27,11 +27,11 @@ impl<A: Allocator> Names<A> {
     /// Takes out the look of this name.
     pub fn take_look(&mut self, name: &Name) -> Look
         requires { kind_in name.now self.old.tokens ≡ Some Kind.Look }
-        ensures taken { TakesOut name.now (Token.Look result) self.old.tokens self.new.tokens }
+        ensures taken { TakesOut name.now (NamedToken.Look result) self.old.tokens self.new.tokens }
         ensures room { 0 < self.old.room → 0 < self.new.room }
     {
         match self.take(name) {
-            Token::Look(look) => look,
+            NamedToken::Look(look) => look,
             _other => unreachable!(),
         }
     }
@@ -39,10 +39,10 @@ impl<A: Allocator> Names<A> {
     /// Takes out the reading of this name.
     pub fn take_reading(&mut self, name: &Name) -> Reading
         requires { kind_in name.now self.old.tokens ≡ Some Kind.Reading }
-        ensures { TakesOut name.now (Token.Reading result) self.old.tokens self.new.tokens }
+        ensures { TakesOut name.now (NamedToken.Reading result) self.old.tokens self.new.tokens }
     {
         match self.take(name) {
-            Token::Reading(reading) => reading,
+            NamedToken::Reading(reading) => reading,
             _other => unreachable!(),
         }
     }
@@ -50,10 +50,10 @@ impl<A: Allocator> Names<A> {
     /// Takes out the held section of this name.
     pub fn take_held(&mut self, name: &Name) -> Held
         requires { kind_in name.now self.old.tokens ≡ Some Kind.Held }
-        ensures { TakesOut name.now (Token.Held result) self.old.tokens self.new.tokens }
+        ensures { TakesOut name.now (NamedToken.Held result) self.old.tokens self.new.tokens }
     {
         match self.take(name) {
-            Token::Held(held) => held,
+            NamedToken::Held(held) => held,
             _other => unreachable!(),
         }
     }
@@ -61,11 +61,11 @@ impl<A: Allocator> Names<A> {
     /// Takes out the lease of this name.
     pub fn take_lease(&mut self, name: &Name) -> Lease
         requires { kind_in name.now self.old.tokens ≡ Some Kind.Lease }
-        ensures taken { TakesOut name.now (Token.Lease result) self.old.tokens self.new.tokens }
+        ensures taken { TakesOut name.now (NamedToken.Lease result) self.old.tokens self.new.tokens }
         ensures room { 0 < self.old.room → 0 < self.new.room }
     {
         match self.take(name) {
-            Token::Lease(lease) => lease,
+            NamedToken::Lease(lease) => lease,
             _other => unreachable!(),
         }
     }
@@ -73,13 +73,13 @@ impl<A: Allocator> Names<A> {
     /// The ticket of this name, which keeps it.
     pub fn ticket(&self, name: &Name) -> &Ticket<Name, A>
         requires { kind_in name.now self.now.tokens ≡ Some Kind.Ticket }
-        ensures { token_at name.now self.now.tokens ≡ Some (Token.Ticket result.now) }
+        ensures { token_at name.now self.now.tokens ≡ Some (NamedToken.Ticket result.now) }
     {
         let Some(token) = self.get(name) else {
             unreachable!()
         };
         match token {
-            Token::Ticket(ticket) => ticket,
+            NamedToken::Ticket(ticket) => ticket,
             _other => unreachable!(),
         }
     }

@@ -5,7 +5,7 @@ use Rattle.requests.specs.declared.reply.Reply.TheVariants as reply
 use Rattle.std.specs.Option.{option_copied}
 use Rattle.lines.specs.Lines.{words_of}
 use Rattle.requests.specs.Faults.{texts, is_skipped, fault_of}
-use Rattle.requests.specs.Requests.{Asks}
+use Rattle.requests.specs.Requests.{WordsAsk}
 use Rattle.requests.specs.Replies.{reply_text}
 use Rattle.session.specs.States.{scene_of}
 use Rattle.session.specs.Scripts.{LineGives, WordsGive}
@@ -20,7 +20,7 @@ returns-in-Ok-clause-gives g c =
     let text : c.push_reply.new.bytes.items ≡ reply_text c.in_ok-given-in-Ok.given = search rules in
     let full : is_skipped (texts c.deref-2.result.now) ≡ false = search rules in
     let well : fault_of (scene_of c.args.self.now.domains) (texts c.deref-2.result.now) ≡ None = search rules in
-    let asks : Asks (scene_of c.args.self.now.domains) (texts c.deref-2.result.now) c.in-Ok.request = search rules in
+    let asks : WordsAsk (scene_of c.args.self.now.domains) (texts c.deref-2.result.now) c.in-Ok.request = search rules in
     let answers : AnswersTo may c.args.self.now.limits c.args.self.now.domains c.in-Ok.request c.in_ok-given-in-Ok.given c.respond.new.self.domains = search rules in
     let gives = asked_gives may _ _ c.args.number _ _ _ _ _ full well asks answers text in
     subst (λ o. LineGives may c.args.self.now.limits c.args.self.now.domains c.args.number (option_copied o) c.push_reply.new.bytes.items false c.respond.new.self.domains) (sym c.in-Some.is)

@@ -4,11 +4,11 @@ use std::marker::Model;
 
 /// What its giver had seen of what was done on the tally words. It makes no steps, and has no bytes.
 #[derive(Drop)]
-pub struct Note<J> {
+pub struct TallySight<J> {
     pub(crate) seat: Place<J>,
 }
 
-impl<J> Model for Note<J> {
+impl<J> Model for TallySight<J> {
     ghost use Rattle.calls.specs.Views.{NoteView};
 
     ghost Value = { NoteView J };
