@@ -12,7 +12,7 @@ use crate::pause::Pause;
 use crate::refusals::ServeRefusal;
 use crate::serving::round;
 use crate::stop::Stop;
-use domain::{Cpu, Domain, Ticket};
+use domain::{Cpu, Domain, PeriodsExhausted, Ticket};
 use std::alloc::Allocator;
 use std::sync::Wait;
 
@@ -101,6 +101,43 @@ fn until_done<R: Wait, J: Drop, A: Allocator + Copy, F: FnMut(J)>(
         }
     }
     unreachable!()
+}
+
+/// Waits until a barrier is done (the second half of `srcu_barrier`), and does meanwhile what it waits for: rounds as those
+/// of [`serve`], until the job of each call that the ticket covers was handed to `work`, or to another driver's, and its
+/// batch is finished. So a program of one thread needs no other one. Beside these jobs it runs whatever is ready.
+///
+/// Answers how many grace periods it ended and how many jobs it ran, also where it ends early, as no more grace periods
+/// may start. Then no batch of it is out, and jobs that the ticket covers may be left.
+pub fn barrier<R: Wait, J: Drop, A: Allocator + Copy, F: FnMut(J)>(
+    rt: &R,
+    domain: &Domain<J, A>,
+    cpu: &mut Cpu<J, A>,
+    ticket: &Ticket<J, A>,
+    mut work: F,
+) -> Result<Served, (Served, PeriodsExhausted)>
+    requires here { IsOf domain.now cpu.old }
+    requires none { HasNoneOpen cpu.old }
+    requires ticket { IsTicketOf domain.now ticket.now }
+    requires work { F.IsAlwaysCallable work }
+    ensures here { IsOf domain.now cpu.new }
+    ensures none { HasNoneOpen cpu.new }
+    ensures same { IsSameProcessor cpu.old cpu.new }
+
+    // It polled, made rounds, and did nothing else: each batch that it took it ran and finished.
+    ensures works { MatchResult result
+        (λ served. (last : F) × Works (λ p x q. F.step p x tt q) domain.now work cpu.old served last cpu.new)
+        (λ ended. (last : F) × Works (λ p x q. F.step p x tt q) domain.now work cpu.old ended.0 last cpu.new) }
+
+    // The job of each receipt that the ticket covers was given out, and its batch is finished.
+    ensures done { IfOk result (λ _. IsDone ticket.now cpu.new.calls.seen × AreFinished ticket.now cpu.new.calls.seen) }
+{
+    let processors = domain.processors();
+    let none = Served::nothing();
+    match until_done(rt, domain, cpu, processors, ticket, none, &mut work) {
+        Ok(served) => Ok(served),
+        Err(served) => Err((served, PeriodsExhausted)),
+    }
 }
 
 /// Carries grace periods and runs callbacks until it is told to stop, and then until all that was queued by then on any

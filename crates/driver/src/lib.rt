@@ -15,7 +15,7 @@ mod stop;
 mod tests;
 
 pub use counts::Served;
-pub use driving::serve;
+pub use driving::{barrier, serve};
 pub use pool::{Lent, Pool};
 pub use reading::read;
 pub use refusals::ServeRefusal;
