@@ -15,4 +15,4 @@ pub returns-clause-says : goal.returns-clause-says
 returns-clause-says g c = says_advanced _ _ c.requires _ _ (returns-clause-advances g c)
 
 pub returns-clause-within : goal.returns-clause-within
-returns-clause-within g c = within _ _ c.requires _ c.advance.ensures.within
+returns-clause-within g c = within _ _ (rw (← c.cpu.view_is) at c.requires) _ c.advance.ensures.within
