@@ -9,11 +9,11 @@ mod entry;
 mod laws;
 mod list;
 mod making;
-mod sight;
 mod plays;
 mod receipt;
 mod refusals;
 mod seat;
+mod sight;
 mod spot;
 mod tally;
 #[cfg(test)]
@@ -28,8 +28,8 @@ pub use laws::{
     barriers_of_callbacks, jobs_of_callbacks, tallies_of_callbacks, totals_of_callbacks,
 };
 pub use list::List;
-pub use sight::TallySight;
 pub use receipt::Receipt;
 pub use refusals::{CallRefusal, Memory, TakeRefusal};
 pub use seat::{CallSeat, Totals};
+pub use sight::TallySight;
 pub use spot::Spot;

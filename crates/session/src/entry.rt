@@ -8,7 +8,7 @@ ghost use Rattle.session.specs.Scripts.{Does, Acts};
 
 use crate::batch_out::{Out, none_out};
 use crate::entry::calling::finish_all;
-use crate::names::{Names, NamedToken, take_last};
+use crate::names::{NamedToken, Names, take_last};
 use crate::parking::Parking;
 use lines::Name;
 use notify::Handler;

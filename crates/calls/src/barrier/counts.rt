@@ -4,9 +4,9 @@ ghost use Rattle.calls.specs.declared.view.Act.TheVariants.{LoadQueued, LoadFini
 ghost use Rattle.calls.specs.Tallies.{word_count, most_calls, queued_in, AreTakers, IsBeginning, AreTrue};
 ghost use Rattle.calls.specs.Calls.{Does};
 
-use crate::sight::TallySight;
 use crate::plays;
 use crate::seat::CallSeat;
+use crate::sight::TallySight;
 use crate::tally::count_finished;
 use std::alloc::Allocator;
 use std::marker::Brand;

@@ -5,8 +5,8 @@ ghost use Rattle.calls.specs.Meetings.{Covers, Accepts, SeesOut};
 
 use super::CallSeat;
 use crate::batch::Batch;
-use crate::sight::TallySight;
 use crate::plays;
+use crate::sight::TallySight;
 use crate::tally::{see_all, see_batch_out, see_told};
 use std::alloc::Allocator;
 use std::marker::Brand;

@@ -6,7 +6,7 @@ ghost use Rattle.session.specs.Scripts.{IsInUse};
 
 use super::Entry;
 use crate::batch_out::Out;
-use crate::names::{Names, NamedToken, take_last};
+use crate::names::{NamedToken, Names, take_last};
 use crate::parking::Parking;
 use requests::Cause;
 use solo::{InUse, Totals};

@@ -3,7 +3,7 @@
 ghost use Rattle.std.specs.Prelude.{◌≡◌, ◌<◌, Some};
 ghost use Rattle.session.specs.Tokens.{token_at, kind_in, TakesOut};
 
-use super::{Names, NamedToken};
+use super::{NamedToken, Names};
 use calls::Ticket;
 use lines::Name;
 use plugs::Lease;
