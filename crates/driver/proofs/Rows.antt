@@ -114,9 +114,12 @@ module _ {J : Type 0} where
     pub works_from_none : (d : DomainView) (f : F) (c : CpuView J) (s : Served) → WorksFrom step d s f c s f c
     works_from_none d f c s = record { steps = zero; ended = 0; done = []; row = (refl, refl, refl, refl); periods_told = λ n count. more_none s.periods n count; jobs_told = λ n count. more_none s.jobs n count }
 
+    from_none : (told n : ℕ) → IsCount told (0 + n) → IsCount told n
+    from_none told n count = λ lt. let is = count (omega (arith, lt)) in omega (arith, is)
+
     -- counts that go on from nothing are those of all
     pub works_of_all : (d : DomainView) (before : Served) (f g : F) (c x : CpuView J) (s : Served) → before.periods ≡ 0 → before.jobs ≡ 0 → WorksFrom step d before f c s g x → Works step d f c s g x
-    works_of_all d before f g c x s p j w = record { steps = w.steps; ended = w.ended; done = w.done; row = w.row; periods_told = w.periods_told 0 (λ lt. p); jobs_told = w.jobs_told 0 (λ lt. j) }
+    works_of_all d before f g c x s p j w = record { steps = w.steps; ended = w.ended; done = w.done; row = w.row; periods_told = from_none s.periods w.ended (w.periods_told 0 (λ lt. p)); jobs_told = from_none s.jobs (length w.done) (w.jobs_told 0 (λ lt. j)) }
 
     -- One more round
 
