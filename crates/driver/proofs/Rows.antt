@@ -1,6 +1,6 @@
 -- Rows of what a driver does, one more thing at a time.
-use Rattle.std.proofs.Common.{◌≡◌, ℕ, zero, suc, ◌+◌, inl, inr, ◌≤◌, Option, Some, Result, List, [], ◌∷◌, ◌++◌, length, refl, sym, ap, ◌∙◌, subst, append-nil, append_assoc, add-one, length-append, arith}
-use Rattle.std.proofs.lemmas.List.{length-map}
+use Rattle.std.proofs.Common.{◌≡◌, ℕ, zero, suc, ◌+◌, inl, inr, ◌≤◌, Option, Some, Result, Err, List, [], ◌∷◌, ◌++◌, length, refl, sym, ap, ◌∙◌, subst, append-nil, append_assoc, add-one, length-append, arith}
+use Rattle.std.proofs.lemmas.List.{length-map, nil_from_length}
 use Rattle.std.specs.List.{FoldsTo}
 use Rattle.onedom.specs.Histories.{open_sections}
 use Rattle.onedom.proofs.CallerLemmas.{open_sections_plain}
@@ -10,12 +10,13 @@ use Rattle.calls.specs.Views.{BatchView, ListView}
 use Rattle.sections.specs.Calls.{IsSameCpu}
 use Rattle.calls.specs.Calls.{IsSameSeat, TakesIn, IsTaken}
 use Rattle.scan.specs.declared.refusals.AdvanceRefusal.{AdvanceRefusal}
+use Rattle.scan.specs.declared.refusals.AdvanceRefusal.TheVariants as advance
 use Rattle.domain.specs.Views.{DomainView, CpuView, IsSameProcessor, callbacks_of, with_cpu, with_calls}
 use Rattle.domain.specs.Waiting.{HasNoneOpen}
 use Rattle.domain.proofs.CallerLemmas.{none_still, same_trans, same_polled, same_finished}
 use Rattle.driver.specs.declared.counts.Served.{Served}
 use Rattle.driver.specs.Counts.{IsCount, periods_in}
-use Rattle.driver.specs.Serving.{jobs_of, LooksAfter, LooksAfterAll, Round, Counts, Row, Works, WorksFrom}
+use Rattle.driver.specs.Serving.{jobs_of, LooksAfter, LooksAfterAll, Round, Counts, Row, Works, WorksFrom, EndsInVain, EndsInVainFrom}
 
 module _ {J : Type 0} where
   -- no reading is opened where jobs are taken
@@ -185,3 +186,47 @@ module _ {J : Type 0} where
           periods_told = λ lt. let is = v.periods_told w.ended w.periods_told (omega (arith, lt)) in omega (arith, is);
           jobs_told = subst (λ (k : ℕ). IsCount t.jobs k) (sym (length-append (w.done ++ []) v.done ∙ ap (λ (l : List J). length l + length v.done) (append-nil w.done))) told;
         }
+
+    -- A last round in vain
+
+    still_counted : (told a m : ℕ) → m ≡ 0 → IsCount told (a + m) → IsCount told a
+    still_counted told a m none count = λ lt. let is = count (omega (arith, lt, none)) in omega (arith, is, none)
+
+    vain : (d : DomainView) (g h : F) (x y : CpuView J) (answer : Result Progress AdvanceRefusal) (n : ℕ) → Rounded d g x answer n h y → n ≡ 0 → answer ≡ Err advance.Exhausted → Round step d g x (Err advance.Exhausted) [] h y
+    vain d g h x y answer n r none is = subst (λ (js : List J). Round step d g x (Err advance.Exhausted) js h y) (nil_from_length r.0 (r.1 ∙ none)) (subst (λ (a : Result Progress AdvanceRefusal). Round step d g x a r.0 h y) is r.2)
+
+    pub vain_on : (d : DomainView) (f g h : F) (c x y : CpuView J) (s t : Served) (answer : Result Progress AdvanceRefusal) (n : ℕ) → Works step d f c s g x → Rounded d g x answer n h y → ((k : ℕ) → IsCount s.periods k → IsCount t.periods (k + periods_in answer)) → ((k : ℕ) → IsCount s.jobs k → IsCount t.jobs (k + n)) → n ≡ 0 → answer ≡ Err advance.Exhausted → EndsInVain step d f c t h y
+    vain_on d f g h c x y s t answer n w r p j none is = record {
+      work = g;
+      between = x;
+      before = record {
+        steps = w.steps;
+        ended = w.ended;
+        done = w.done;
+        row = w.row;
+        periods_told = still_counted t.periods w.ended (periods_in answer) (ap periods_in is) (p w.ended w.periods_told);
+        jobs_told = still_counted t.jobs (length w.done) n none (j (length w.done) w.jobs_told);
+      };
+      round = vain d g h x y answer n r none is;
+    }
+
+    pub vain_from_on : (d : DomainView) (before : Served) (f g h : F) (c x y : CpuView J) (s t : Served) (answer : Result Progress AdvanceRefusal) (n : ℕ) → WorksFrom step d before f c s g x → Rounded d g x answer n h y → ((k : ℕ) → IsCount s.periods k → IsCount t.periods (k + periods_in answer)) → ((k : ℕ) → IsCount s.jobs k → IsCount t.jobs (k + n)) → n ≡ 0 → answer ≡ Err advance.Exhausted → EndsInVainFrom step d before f c t h y
+    vain_from_on d before f g h c x y s t answer n w r p j none is = record {
+      work = g;
+      between = x;
+      before = record {
+        steps = w.steps;
+        ended = w.ended;
+        done = w.done;
+        row = w.row;
+        periods_told = λ k count. still_counted t.periods (k + w.ended) (periods_in answer) (ap periods_in is) (p (k + w.ended) (w.periods_told k count));
+        jobs_told = λ k count. still_counted t.jobs (k + length w.done) n none (j (k + length w.done) (w.jobs_told k count));
+      };
+      round = vain d g h x y answer n r none is;
+    }
+
+    pub vain_of_all : (d : DomainView) (before : Served) (f g : F) (c x : CpuView J) (s : Served) → before.periods ≡ 0 → before.jobs ≡ 0 → EndsInVainFrom step d before f c s g x → EndsInVain step d f c s g x
+    vain_of_all d before f g c x s p j v = record { work = v.work; between = v.between; before = works_of_all d before f v.work c v.between s p j v.before; round = v.round }
+
+    pub vain_both : (d : DomainView) (f g h : F) (c x y z : CpuView J) (s t : Served) → Works step d f c s g x → Counts step g x 0 [] g y → EndsInVainFrom step d s g y t h z → EndsInVain step d f c t h z
+    vain_both d f g h c x y z s t w r v = record { work = v.work; between = v.between; before = works_both d f g v.work c x y v.between s t w r v.before; round = v.round }

@@ -1,5 +1,5 @@
 -- What a driver does: rounds of one turn of the engine, and then one look at the list of each processor, whose jobs it runs that are ready.
-use Rattle.std.specs.Prelude.{◌≡◌, ℕ, zero, suc, ◌+◌, ◌<◌, ◌⊎◌, All, List, [], ◌++◌, map, Some, None, Result, MatchResult, Bool, length}
+use Rattle.std.specs.Prelude.{◌≡◌, ℕ, zero, suc, ◌+◌, ◌<◌, ◌⊎◌, All, List, [], ◌++◌, map, Some, None, Result, Err, MatchResult, Bool, length}
 use Rattle.std.specs.List.{FoldsTo}
 use Rattle.sections.specs.Calls.{AllClosed}
 use Rattle.scan.specs.declared.progress.Progress.{Progress}
@@ -10,6 +10,7 @@ use Rattle.calls.specs.Calls.{TakesIn, TakesNothingIn, FinishesIn, AreHanded}
 use Rattle.calls.specs.Tallies.{IsBeginning}
 use Rattle.calls.specs.Barriers.{Starts, Polls, IsDone, IsQueued, IsFinished}
 use Rattle.scan.specs.declared.refusals.AdvanceRefusal.{AdvanceRefusal}
+use Rattle.scan.specs.declared.refusals.AdvanceRefusal.TheVariants as advance
 use Rattle.driver.specs.declared.counts.Served.{Served}
 use Rattle.driver.specs.Counts.{periods_in, IsCount}
 use Rattle.domain.specs.Views.{DomainView, CpuView, callbacks_of, with_calls}
@@ -133,6 +134,22 @@ module _ {J : Type 0} where
       pub row : Row d steps f c ended done f' c'
       pub periods_told : (n : ℕ) → IsCount before.periods n → IsCount served.periods (n + ended)
       pub jobs_told : (n : ℕ) → IsCount before.jobs n → IsCount served.jobs (n + length done)
+
+    -- Ends
+
+    -- first this, and then a last round in vain: its turn of the engine found that no more grace periods may start, and no job was run
+    pub record LastInVain (first : F → CpuView J → Type 0) (d : DomainView) (f' : F) (c' : CpuView J) : Type 0 where
+      pub work : F
+      pub between : CpuView J
+      pub before : first work between
+      pub round : Round d work between (Err advance.Exhausted) [] f' c'
+
+    -- a row of rounds with these counts, and then a last one in vain
+    abbrev pub EndsInVain : DomainView → F → CpuView J → Served → F → CpuView J → Type 0
+    EndsInVain d f c served f' c' = LastInVain (λ g x. Works d f c served g x) d f' c'
+
+    abbrev pub EndsInVainFrom : DomainView → Served → F → CpuView J → Served → F → CpuView J → Type 0
+    EndsInVainFrom d before f c served f' c' = LastInVain (λ g x. WorksFrom d before f c served g x) d f' c'
 
   -- at a moment of the call a barrier was started, which is done now: what was queued on any processor by that moment was given out, and its batch is finished
   pub record IsStopped (c c' : CpuView J) : Type 0 where

@@ -1,11 +1,12 @@
 //! A driver: a thread that carries grace periods and runs callbacks.
-ghost use Rattle.std.specs.Prelude.{◌≡◌, IfOk, MatchResult};
+ghost use Rattle.std.specs.Prelude.{◌≡◌, IfOk, IfErr, MatchResult};
 ghost use Rattle.calls.specs.Barriers.{IsDone, AreFinished};
 ghost use Rattle.calls.specs.Tallies.{IsBeginning};
 ghost use Rattle.domain.specs.Views.{IsOf, IsSameProcessor};
 ghost use Rattle.domain.specs.Waiting.{HasNoneOpen};
 ghost use Rattle.domain.specs.Barriers.{IsTicketOf};
-ghost use Rattle.driver.specs.Serving.{Works, WorksFrom, IsStopped, AllFinished};
+ghost use Rattle.driver.specs.Serving.{Works, WorksFrom, EndsInVain, EndsInVainFrom, IsStopped, AllFinished};
+ghost use Rattle.driver.specs.declared.refusals.ServeRefusal.TheVariants as refusals;
 
 use crate::counts::Served;
 use crate::pause::Pause;
@@ -36,6 +37,7 @@ fn until_told<R: Wait, J: Drop, A: Allocator + Copy, F: FnMut(J)>(
     ensures works { MatchResult result
         (λ served. Works (λ p x q. F.step p x tt q) domain.now work.old cpu.old served work.new cpu.new)
         (λ served. Works (λ p x q. F.step p x tt q) domain.now work.old cpu.old served work.new cpu.new) }
+    ensures vain { IfErr result (λ served. EndsInVain (λ p x q. F.step p x tt q) domain.now work.old cpu.old served work.new cpu.new) }
     ensures work { F.IsAlwaysCallable work.new }
 {
     let mut served = Served::nothing();
@@ -81,6 +83,7 @@ fn until_done<R: Wait, J: Drop, A: Allocator + Copy, F: FnMut(J)>(
     ensures works { MatchResult result
         (λ served. WorksFrom (λ p x q. F.step p x tt q) domain.now before work.old cpu.old served work.new cpu.new)
         (λ served. WorksFrom (λ p x q. F.step p x tt q) domain.now before work.old cpu.old served work.new cpu.new) }
+    ensures vain { IfErr result (λ served. EndsInVainFrom (λ p x q. F.step p x tt q) domain.now before work.old cpu.old served work.new cpu.new) }
     ensures done { IfOk result (λ _. IsDone ticket.now cpu.new.calls.seen × AreFinished ticket.now cpu.new.calls.seen) }
 {
     let mut served = before;
@@ -129,6 +132,9 @@ pub fn barrier<R: Wait, J: Drop, A: Allocator + Copy, F: FnMut(J)>(
         (λ served. (last : F) × Works (λ p x q. F.step p x tt q) domain.now work cpu.old served last cpu.new)
         (λ ended. (last : F) × Works (λ p x q. F.step p x tt q) domain.now work cpu.old ended.0 last cpu.new) }
 
+    // Where it ends early, its last round's turn of the engine found that no more may start, and no job was run in it.
+    ensures vain { IfErr result (λ ended. (last : F) × EndsInVain (λ p x q. F.step p x tt q) domain.now work cpu.old ended.0 last cpu.new) }
+
     // The job of each receipt that the ticket covers was given out, and its batch is finished.
     ensures done { IfOk result (λ _. IsDone ticket.now cpu.new.calls.seen × AreFinished ticket.now cpu.new.calls.seen) }
 {
@@ -169,6 +175,9 @@ pub fn serve<R: Wait, J: Drop, A: Allocator + Copy, F: FnMut(J)>(
     ensures works { MatchResult result
         (λ served. (last : F) × Works (λ p x q. F.step p x tt q) domain.now work cpu.old served last cpu.new)
         (λ ended. (last : F) × Works (λ p x q. F.step p x tt q) domain.now work cpu.old ended.0 last cpu.new) }
+
+    // Where it ends as no more may start, its last round's turn of the engine found that, and no job was run in it.
+    ensures vain { IfErr result (λ ended. ended.1 ≡ refusals.Exhausted → (last : F) × EndsInVain (λ p x q. F.step p x tt q) domain.now work cpu.old ended.0 last cpu.new) }
 
     // What was queued when it was told to stop is finished.
     ensures stopped { IfOk result (λ _. IsStopped cpu.old cpu.new) }

@@ -5,8 +5,8 @@ use std::fmt;
 /// Why [`serve`](crate::serve) ended before it had done all that it was asked for. No batch that it took is out.
 #[derive(Clone, Copy, Debug, PartialEq, Eq)]
 pub enum ServeRefusal {
-    /// A grace period is asked for, but as many have ended as `Limits.periods` allows, and no job is ready. Jobs that
-    /// wait for it are never given out.
+    /// A grace period is asked for, but as many have ended as `Limits.periods` allows, and the round that found it ran no
+    /// job. Jobs that wait for it are never given out.
     Exhausted = 1,
     /// It was told to stop, and there was no memory to note how many jobs were queued by then. Jobs may be left.
     Memory = 2,

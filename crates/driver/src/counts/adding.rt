@@ -1,5 +1,6 @@
 //! Adding up what rounds came to.
-ghost use Rattle.std.specs.Prelude.{◌≡◌, ℕ, ◌+◌};
+ghost use Rattle.std.specs.Prelude.{◌≡◌, ℕ, ◌+◌, ◌↔◌, true, Err};
+ghost use Rattle.scan.specs.declared.refusals.AdvanceRefusal.TheVariants as advance;
 ghost use Rattle.driver.specs.Counts.{IsCount, periods_in};
 
 use super::{Came, Served};
@@ -41,9 +42,10 @@ impl Served {
 }
 
 impl Came {
-    /// Whether there is nothing more that could be done: a grace period is asked for that may not start, and no job was
-    /// ready.
-    pub fn is_end(&self) -> bool {
+    /// Whether the round was in vain: a grace period is asked for that may not start, and no job was run.
+    pub fn is_end(&self) -> bool
+        ensures { result ≡ true ↔ (self.now.jobs ≡ 0) × (self.now.answer ≡ Err advance.Exhausted) }
+    {
         self.jobs == 0 && self.answer == Err(AdvanceRefusal::Exhausted)
     }
 

@@ -4,7 +4,7 @@ use Rattle.calls.proofs.CallerLemmas.{queued_later}
 use Rattle.domain.specs.Views.{CpuView}
 use Rattle.domain.proofs.CallerLemmas.{same_trans, same_finished}
 use Rattle.driver.specs.Serving.{Works}
-use Rattle.driver.proofs.Rows.{works_both}
+use Rattle.driver.proofs.Rows.{works_both, vain_both}
 use Rattle.driver.proofs.driving.serve.Goals as goal
 
 pub returns-in_default-clause-works : goal.returns-in_default-clause-works
@@ -29,3 +29,6 @@ returns-in-Ok-until_done-clause-same g c = same_trans c.args.cpu.now c.barrier_s
 
 pub returns-clause-same : goal.returns-clause-same
 returns-clause-same g c = same_trans c.args.cpu.now c.barrier_start.new.cpu c.until_done.new.cpu (same_trans c.args.cpu.now c.until_told.new.cpu c.barrier_start.new.cpu c.until_told.ensures.same (same_finished c.until_told.new.cpu c.barrier_start.new.cpu c.barrier_start.ensures.same c.barrier_start.ensures.rest)) c.until_done.ensures.same
+
+pub returns-clause-vain : goal.returns-clause-vain
+returns-clause-vain g c = λ _. (c.until_done.new.work, vain_both (λ p x q. goal.F-step g p x tt q) c.args.domain.now c.args.work c.until_told.new.work c.until_done.new.work c.args.cpu.now c.until_told.new.cpu c.barrier_start.new.cpu c.until_done.new.cpu c.in-Ok.served c.in-Err-until_done.served c.in-Ok.ensures.works record { ticket = c.in-Ok-barrier_start.ticket; loads = inl c.in-Ok-barrier_start.ensures.starts; rest = c.in-Ok-barrier_start.ensures.rest; none = (refl, refl, refl) } c.in-Err-until_done.ensures.vain)

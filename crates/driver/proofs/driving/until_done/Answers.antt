@@ -2,7 +2,7 @@
 use Rattle.std.proofs.Common.{inr, refl}
 use Rattle.calls.proofs.CallerLemmas.{begins_itself, begins_on}
 use Rattle.domain.proofs.CallerLemmas.{none_at_tallies, same_trans, same_finished}
-use Rattle.driver.proofs.Rows.{same_itself, works_from_none, works_from_on, counts_from_on}
+use Rattle.driver.proofs.Rows.{same_itself, works_from_none, works_from_on, counts_from_on, vain_from_on}
 use Rattle.driver.proofs.driving.until_done.Goals as goal
 
 pub loop-init : goal.loop-init
@@ -64,3 +64,6 @@ returns-then-barrier_poll-clause-same g c = same_trans _ _ _ c.loop.invariant.1.
 
 pub returns-then-is_end-clause-same : goal.returns-then-is_end-clause-same
 returns-then-is_end-clause-same g c = same_trans _ _ _ (same_trans _ _ _ c.loop.invariant.1.same (same_finished c.loop.cpu c.barrier_poll.new.cpu c.barrier_poll.ensures.same c.barrier_poll.ensures.rest)) c.round-came.ensures.same
+
+pub returns-then-is_end-clause-vain : goal.returns-then-is_end-clause-vain
+returns-then-is_end-clause-vain g c = vain_from_on (λ p x q. goal.F-step g p x tt q) c.args.domain.now c.args.before _ _ _ _ c.barrier_poll.new.cpu _ c.loop.served c.and-served.result c.round-came.result.answer c.round-came.result.jobs (counts_from_on (λ p x q. goal.F-step g p x tt q) c.args.domain.now c.args.before _ _ _ c.loop.cpu c.barrier_poll.new.cpu c.loop.served c.loop.invariant.1.works record { ticket = c.args.ticket.now; loads = inr (c.barrier_poll.result, c.barrier_poll.ensures.polls); rest = c.barrier_poll.ensures.rest; none = (refl, refl, refl) }) c.round-came.ensures.round c.and-served.ensures.periods c.and-served.ensures.jobs (c.is_end.ensures.0 c.if-is_end.true).0 (c.is_end.ensures.0 c.if-is_end.true).1

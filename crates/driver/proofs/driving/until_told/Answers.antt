@@ -1,7 +1,7 @@
 -- One more round.
 use Rattle.calls.proofs.CallerLemmas.{begins_itself, begins_on}
 use Rattle.domain.proofs.CallerLemmas.{same_trans}
-use Rattle.driver.proofs.Rows.{same_itself, works_none, works_on}
+use Rattle.driver.proofs.Rows.{same_itself, works_none, works_on, vain_on}
 use Rattle.driver.proofs.driving.until_told.Goals as goal
 
 pub loop-init : goal.loop-init
@@ -60,3 +60,6 @@ returns-then-is_end-clause-same g c = same_trans _ _ _ c.loop.invariant.1.same c
 
 pub returns-then-is_given-clause-same : goal.returns-then-is_given-clause-same
 returns-then-is_given-clause-same g c = same_trans _ _ _ c.loop.invariant.1.same c.round-came.ensures.same
+
+pub returns-then-is_end-clause-vain : goal.returns-then-is_end-clause-vain
+returns-then-is_end-clause-vain g c = vain_on (λ p x q. goal.F-step g p x tt q) c.args.domain.now _ _ _ _ _ _ c.loop.served c.and-served.result c.round-came.result.answer c.round-came.result.jobs c.loop.invariant.1.works c.round-came.ensures.round c.and-served.ensures.periods c.and-served.ensures.jobs (c.is_end.ensures.0 c.if-is_end.true).0 (c.is_end.ensures.0 c.if-is_end.true).1
