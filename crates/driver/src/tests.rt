@@ -95,6 +95,39 @@ fn runs_what_waits_before_it_stops(rt: HostRuntime) -> Result<(), Fail> {
     Ok(())
 }
 
+/// What a barrier came to behind jobs of its own thread, and the digits of the jobs that it ran, in their order.
+fn wait_for_own<R: Wait + AllocGlobal>(
+    rt: &R,
+) -> Result<Option<(bool, Option<Served>, u64)>, MakeError> {
+    let (domain, cpus) = made(rt.alloc(), 2)?;
+    let Ok(pool) = Pool::new(rt, rt.alloc(), &domain, cpus) else {
+        return Ok(None);
+    };
+    let (mut cpu, lent) = pool.take(rt);
+    let queued = queue(rt, &domain, &mut cpu, 1, 4);
+    let mut digits: u64 = 0;
+    let served = match domain.barrier_start(&mut cpu) {
+        Ok(ticket) => barrier(rt, &domain, &mut cpu, &ticket, |job: u64| {
+            digits = digits.wrapping_mul(10).wrapping_add(job);
+        })
+        .ok(),
+        Err(_) => None,
+    };
+    pool.give(rt, cpu, lent);
+    Ok(Some((queued, served, digits)))
+}
+
+/// Would catch a barrier that waits for another thread to drive and to run the jobs, and one that is done too early.
+#[test]
+fn a_barrier_runs_what_it_waits_for(rt: HostRuntime) -> Result<(), Fail> {
+    let served = Served {
+        periods: 1,
+        jobs: 3,
+    };
+    assert_eq!(rt; wait_for_own(&rt)?, Some((true, Some(served), 123)));
+    Ok(())
+}
+
 /// What two drivers came to that run at once.
 fn drive_two<R: Wait + Threads + AllocGlobal + Sync>(
     rt: &R,
