@@ -1,4 +1,3 @@
-mod Counting
 mod Moving
 mod Starting
 mod Working

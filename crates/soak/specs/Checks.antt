@@ -1,24 +1,26 @@
 -- What a thread counts of what it found.
-use Rattle.std.specs.Prelude.{◌≡◌, ℕ, ◌+◌, ◌==◌, ◌&&◌, nat_lt, not, Bool, List, [], ◌∷◌, if◌then◌else◌}
+use Rattle.std.specs.Prelude.{◌≡◌, ℕ, ◌%◌, ◌==◌, ◌&&◌, nat_lt, not, Bool, slice_index_or, slice_set}
 use Rattle.sections.specs.Views.{CookieView}
 use Rattle.sections.specs.Calls.{GivesCookie}
 use Rattle.domain.specs.Views.{CpuView}
 use Rattle.domain.specs.Waiting.{Polls, Synchronizes}
-use Rattle.calls.specs.declared.entry.Entry.{Entry}
 use Rattle.soak.specs.declared.counts.Counts.{Counts}
+use Rattle.soak.specs.declared.driving.Ran.{Ran}
 use Rattle.soak.specs.declared.worker.Job.{Job}
 use Rattle.soak.specs.declared.worker.Sight.{Sight}
 use Rattle.soak.specs.declared.worker.Worker.{Worker}
 use Rattle.soak.specs.Counts.{one_more, more_if}
 
--- 0 where the job is the one whose turn it is on this processor, else 1
-abbrev pub misplaced : ℕ → ℕ → Job → ℕ
-misplaced processor turn job = if (job.processor == processor) && (job.number == turn) then 0 else 1
+-- the number of the job whose turn it is on this job's processor
+abbrev pub turn_of : Job → Ran → ℕ
+turn_of job r = slice_index_or r.turns (job.processor % 7) 0
 
--- how many of these jobs are not the ones whose turn it is, one after another from this turn on
-abbrev pub misplaced_in : ℕ → ℕ → List (Entry Job) → ℕ
-misplaced_in processor turn [] = 0
-misplaced_in processor turn (e ∷ es) = misplaced processor turn e.job + misplaced_in processor (one_more turn) es
+-- one job more was run, also of its processor, and one more was misplaced where it was not its turn
+abbrev pub behind : Job → Ran → Ran
+behind job r = record {
+  turns = slice_set r.turns (job.processor % 7) (one_more (turn_of job r));
+  counts = record r.counts { run = one_more r.counts.run; misplaced = more_if (not (job.number == turn_of job r)) r.counts.misplaced };
+}
 
 -- one version more was too old where its age was two or more, and of several pieces where one of its words is not its number
 abbrev pub judged : Sight → Counts → Counts

@@ -1,6 +1,6 @@
 pub mod Checks
 pub mod Counts
-pub mod Drivers
 pub mod Outcomes
 pub mod Starts
+pub mod Updaters
 pub mod Workers

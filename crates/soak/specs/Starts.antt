@@ -1,14 +1,16 @@
 -- What a run begins with.
-use Rattle.std.specs.Prelude.{◌≡◌, ◌<◌, ◌≤◌, vec_len, vec_capacity}
+use Rattle.std.specs.Prelude.{◌≡◌, ◌+◌, ◌<◌, ◌≤◌, vec_len, vec_capacity}
+use Rattle.driver.specs.Pools.{IsIdle}
 use Rattle.soak.specs.declared.run.Start.{Start}
 use Rattle.soak.specs.Workers.{AreAllAtWork}
-use Rattle.soak.specs.Drivers.{IsDriving}
+use Rattle.soak.specs.Updaters.{IsUpdating}
 
--- seven workers and the driver are at one domain and its desk, and there is room for what is taken from the workers in the end
+-- seven workers, the driver and the updater are at one domain and its desk, and there is room for what is taken from the workers in the end
 pub record IsPrepared (s : Start) : Type 0 where
   pub many : vec_len s.workers ≡ 7
   pub all : AreAllAtWork s.domain s.desk s.workers.items
-  pub driver : IsDriving s.domain s.driver
+  pub driver : IsIdle s.domain s.driver
+  pub updater : IsUpdating s.domain s.updater
   pub home : s.desk.domain ≡ s.domain.domain
-  pub cpus : (vec_len s.parts.cpus ≡ 0) × (vec_len s.workers < vec_capacity s.parts.cpus)
+  pub cpus : (vec_len s.parts.cpus ≡ 0) × (vec_len s.workers + 1 < vec_capacity s.parts.cpus)
   pub seats : (vec_len s.parts.seats ≡ 0) × (vec_len s.workers ≤ vec_capacity s.parts.seats)

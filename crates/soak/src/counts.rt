@@ -29,7 +29,7 @@ pub struct Counts {
     pub left: u64,
     /// Calls that were refused, as for want of memory.
     pub refused: u64,
-    /// Jobs that came out of their order, or twice.
+    /// Jobs that came out of their order, or twice; and one where the driver told another number than was counted.
     pub misplaced: u64,
     /// Waits that came back too early: a cookie was not done then, or a job not run.
     pub early: u64,

@@ -1,4 +1,4 @@
-//! `soak` has eight threads do all that a domain is for, at once and for as long as one likes: they open, hold, hand over
+//! `soak` has nine threads do all that a domain is for, at once and for as long as one likes: they open, hold, hand over
 //! and close sections, ask and wait for grace periods, queue jobs and run them, and wait for barriers. In the end the
 //! domain is taken down, and what it then tells is compared with what the threads counted.
 #![tactic(auto)]
@@ -9,12 +9,13 @@ ghost use Rattle.soak.specs.Outcomes.{IsExact};
 
 mod command_line;
 mod counts;
-mod driver;
+mod driving;
 mod outcome;
 mod run;
 mod signs;
 #[cfg(test)]
 mod tests;
+mod updating;
 mod worker;
 
 use anyhow::Result;

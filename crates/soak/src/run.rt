@@ -1,27 +1,35 @@
-//! A whole run: a domain is made, eight threads are at work in it, and it is taken down.
-ghost use Rattle.std.specs.Prelude.{◌≡◌, ◌<◌, ◌≤◌, vec_len, vec_capacity, All, IfOk};
+//! A whole run: a domain is made, nine threads are at work in it, and it is taken down.
+ghost use Rattle.std.specs.Prelude.{◌≡◌, ◌+◌, ◌<◌, ◌≤◌, vec_len, vec_capacity, All, IfOk};
 ghost use Rattle.std.specs.Thread.{IsSync};
 ghost use Rattle.sections.specs.Words.{cells_in};
 ghost use Rattle.desk.specs.Calls.{AreAllSeats};
 ghost use Rattle.domain.specs.Views.{IsOf};
 ghost use Rattle.domain.specs.Parts.{Each};
 ghost use Rattle.soak.specs.Workers.{IsAtWork, StaysAtWork, AreAllAtWork};
-ghost use Rattle.soak.specs.Drivers.{IsDriving};
+ghost use Rattle.driver.specs.Pools.{IsIdle};
+ghost use Rattle.soak.specs.Updaters.{IsUpdating};
 ghost use Rattle.soak.specs.Starts.{IsPrepared};
 
 use crate::counts::{Counts, count};
-use crate::driver::{Deadline, Driver, PROCESSORS, Replaced, drive};
+use crate::driving::{Driver, drive};
 use crate::outcome::Outcome;
 use crate::signs::{AGES, Signs, WORKERS};
+use crate::updating::{Deadline, Replaced, Updater, update};
 use crate::worker::{Job, Length, Worker, work};
 use anyhow::Result;
 use desk::{Desk, DeskSeat};
-use domain::{Cpu, Domain, Held, Limits};
+use domain::{Cpu, Domain, Held, Limits, Progress};
 use std::alloc::Global;
 use std::sync::Wait;
 use std::thread;
 use std::thread::{Threads, join};
 use std::time::{Clock, Instant};
+
+/// How many processors the domain has: one for each thread.
+const PROCESSORS: u16 = 9;
+
+/// How many turns of the engine are enough for all grace periods that are still asked for in the end.
+const TURNS: u32 = 64;
 
 const LIMITS: Limits = Limits {
     sections: Limits::MOST_SECTIONS,
@@ -75,7 +83,7 @@ fn work_all<R: Threads + Sync + Wait + Clock>(
         ensures { StaysAtWork domain.entry.now desk.entry.now worker.entry.now worker.exit.now }
     { work(rt, domain, desk, signs, length, worker) };
     thread::for_each_mut(rt, workers.as_mut_slice(), WORKERS, &part);
-    signs.set_over();
+    signs.stop().give();
     workers
 }
 
@@ -95,10 +103,10 @@ pub fn take_apart(
     desk: &Desk<Held>,
 ) -> Parts
     requires all { AreAllAtWork domain.now desk.now workers.items }
-    requires cpus { (vec_len parts.cpus ≡ 0) × (vec_len workers < vec_capacity parts.cpus) }
+    requires cpus { (vec_len parts.cpus ≡ 0) × (vec_len workers + 1 < vec_capacity parts.cpus) }
     requires seats { (vec_len parts.seats ≡ 0) × (vec_len workers ≤ vec_capacity parts.seats) }
     ensures cpus { Each (IsOf domain.now) result.cpus.items }
-    ensures room { vec_len result.cpus < vec_capacity result.cpus }
+    ensures room { vec_len result.cpus + 1 < vec_capacity result.cpus }
     ensures seats { AreAllSeats desk.now result.seats.items }
 {
     while let Some(worker) = workers.pop() {
@@ -109,13 +117,32 @@ pub fn take_apart(
     parts
 }
 
-/// Closes the desk, and takes the domain down.
-pub fn end(domain: Domain<Job>, desk: Desk<Held>, parts: Parts, mut driver: Driver) -> Outcome
+/// Turns of the engine until it rests. No section is open any more, so each of them gets on.
+fn rest(domain: &Domain<Job>, cpu: &mut Cpu<Job>)
+    requires { IsOf domain.now cpu.old }
+    ensures { IsOf domain.now cpu.new }
+{
+    for _ in 0..TURNS {
+        if let Ok(Progress::Idle) = domain.advance(cpu) {
+            break;
+        }
+    }
+}
+
+/// Closes the desk, and takes the domain down once its engine rests.
+pub fn end(
+    domain: Domain<Job>,
+    desk: Desk<Held>,
+    parts: Parts,
+    mut driver: Driver,
+    updater: Updater,
+) -> Outcome
     requires cpus { Each (IsOf domain) parts.cpus.items }
-    requires room { vec_len parts.cpus < vec_capacity parts.cpus }
+    requires room { vec_len parts.cpus + 1 < vec_capacity parts.cpus }
     requires seats { AreAllSeats desk parts.seats.items }
     requires home { desk.domain ≡ domain.domain }
-    requires driver { IsDriving domain driver }
+    requires driver { IsOf domain driver.cpu }
+    requires updater { IsOf domain updater.cpu }
 {
     let mut cpus = parts.cpus;
     let mut counts = parts.counts.plus(driver.counts);
@@ -123,7 +150,9 @@ pub fn end(domain: Domain<Job>, desk: Desk<Held>, parts: Parts, mut driver: Driv
         driver.cpu.up_read(held);
         count(&mut counts.left);
     }
+    rest(&domain, &mut driver.cpu);
     cpus.push_reserved(driver.cpu);
+    cpus.push_reserved(updater.cpu);
     match domain.cleanup(cpus) {
         Ok(totals) => Outcome {
             counts,
@@ -141,18 +170,20 @@ pub struct Start {
     pub domain: Domain<Job>,
     pub desk: Desk<Held>,
     pub workers: Vec<Worker>,
-    pub driver: Driver,
+    pub driver: Cpu<Job>,
+    pub updater: Updater,
     pub parts: Parts,
 }
 
-/// Makes a domain, a desk and the workers. Memory is taken before the desk is made, for all that comes: a desk must be
-/// closed with its seats.
+/// Makes a domain, a desk, the workers, and who drives and who puts versions. Memory is taken before the desk is made, for
+/// all that comes: a desk must be closed with its seats.
 pub fn prepare(alloc: Global) -> Result<Start>
     ensures { IfOk result IsPrepared }
 {
     let processors = usize::from(PROCESSORS);
     let (domain, mut cpus, mut writers) = Domain::<Job>::new(alloc, processors, LIMITS)?;
-    let mut cpu = cpus.pop().unwrap();
+    let mut updating = cpus.pop().unwrap();
+    let driver = cpus.pop().unwrap();
     let writer = writers.pop().unwrap();
     let room = Vec::with_capacity(alloc, WORKERS)?;
     let parts = Parts {
@@ -160,38 +191,61 @@ pub fn prepare(alloc: Global) -> Result<Start>
         seats: Vec::with_capacity(alloc, WORKERS)?,
         counts: Counts::new(),
     };
-    let (desk, seats) = Desk::new(alloc, WORKERS, cpu.home())?;
+    let (desk, seats) = Desk::new(alloc, WORKERS, updating.home())?;
     let workers = seat_all(cpus, seats, room, &domain, &desk);
-    let driver = Driver {
-        cpu,
+    let updater = Updater {
+        cpu: updating,
         writer,
-        turns: [0; PROCESSORS as usize],
         replaced: [Replaced::NONE; AGES],
-        counts: Counts::new(),
     };
     Ok(Start {
         domain,
         desk,
         workers,
         driver,
+        updater,
         parts,
     })
 }
 
-/// Has the workers and the driver do their parts at once.
+/// Has the driver and the updater each do its part, at once.
+fn serve_and_update<R: Threads + Sync + Wait + Clock>(
+    rt: &R,
+    domain: &Domain<Job>,
+    driver: Cpu<Job>,
+    updater: Updater,
+    signs: &Signs,
+    deadline: Deadline,
+) -> (Driver, Updater)
+    requires driver { IsIdle domain.now driver }
+    requires updater { IsUpdating domain.now updater }
+    ensures driver { IsIdle domain.now result.0.cpu }
+    ensures updater { IsUpdating domain.now result.1 }
+{
+    join(
+        rt,
+        || drive(rt, domain, driver, signs),
+        || update(rt, domain, updater, signs, deadline),
+    )
+}
+
+/// Has all threads do their parts at once.
 fn soak<R: Threads + Sync + Wait + Clock>(
     rt: &R,
     domain: &Domain<Job>,
     desk: &Desk<Held>,
     workers: Vec<Worker>,
-    driver: Driver,
+    driver: Cpu<Job>,
+    updater: Updater,
     deadline: Deadline,
-) -> (Vec<Worker>, Driver)
+) -> (Vec<Worker>, (Driver, Updater))
     requires all { AreAllAtWork domain.now desk.now workers.items }
-    requires driver { IsDriving domain.now driver }
+    requires driver { IsIdle domain.now driver }
+    requires updater { IsUpdating domain.now updater }
     ensures all { AreAllAtWork domain.now desk.now result.0.items }
     ensures as_many { vec_len result.0 ≡ vec_len workers }
-    ensures driver { IsDriving domain.now result.1 }
+    ensures driver { IsIdle domain.now result.1.0.cpu }
+    ensures updater { IsUpdating domain.now result.1.1 }
 {
     let signs = Signs::new();
     let length = deadline.length;
@@ -201,7 +255,10 @@ fn soak<R: Threads + Sync + Wait + Clock>(
             requires { IsSync R.row × AreAllAtWork domain.now desk.now workers.items }
             ensures { AreAllAtWork domain.entry.now desk.entry.now result.items × (vec_len result ≡ vec_len workers) }
         { work_all(rt, domain, desk, &signs, length, workers) },
-        || drive(rt, domain, driver, &signs, deadline),
+        || -> (Driver, Updater)
+            requires { IsSync R.row × (IsIdle domain.now driver × IsUpdating domain.now updater) }
+            ensures { IsIdle domain.entry.now result.0.cpu × IsUpdating domain.entry.now result.1 }
+        { serve_and_update(rt, domain, driver, updater, &signs, deadline) },
     )
 }
 
@@ -217,9 +274,10 @@ pub fn run<R: Threads + Sync + Wait + Clock + AllocGlobal>(
         desk,
         workers,
         driver,
+        updater,
         parts,
     } = prepare(rt.alloc())?;
-    let (workers, driver) = soak(rt, &domain, &desk, workers, driver, deadline);
+    let (workers, (driver, updater)) = soak(rt, &domain, &desk, workers, driver, updater, deadline);
     let parts = take_apart(workers, parts, &domain, &desk);
-    Ok(end(domain, desk, parts, driver))
+    Ok(end(domain, desk, parts, driver, updater))
 }

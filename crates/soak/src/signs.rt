@@ -1,8 +1,10 @@
 //! What the threads tell each other beside the domain.
+use driver::Stop;
 use std::sync::atomic::Ordering::SeqCst;
 use std::sync::atomic::{AtomicBool, AtomicU64};
 
-/// How many threads read, queue and wait. Each has a processor; one more thread has the last processor, and drives.
+/// How many threads read, queue and wait. Each has a processor. Two more threads have the last ones: one drives, and one
+/// puts versions.
 pub const WORKERS: usize = 7;
 
 /// For how many versions the ages are kept: more than there are slots, so none is forgotten while somebody reads it.
@@ -19,8 +21,8 @@ pub struct Signs {
     run: [AtomicU64; WORKERS],
     /// 1 from when the workers are to come to an end.
     ending: AtomicU64,
-    /// 1 from when no worker is left.
-    over: AtomicU64,
+    /// Given when no worker is left.
+    stop: Stop,
     /// How old the last versions are, each at its number modulo [`AGES`]: 0 until it is replaced, 1 from then on, and 2 behind
     /// the next grace period.
     ages: [AtomicU64; AGES],
@@ -41,7 +43,7 @@ impl Signs {
                 AtomicU64::new(0),
             ],
             ending: AtomicU64::new(0),
-            over: AtomicU64::new(0),
+            stop: Stop::new(),
             ages: [
                 AtomicU64::new(0),
                 AtomicU64::new(0),
@@ -93,14 +95,9 @@ impl Signs {
         self.ending.load(SeqCst) != 0
     }
 
-    /// Tells that no worker is left.
-    pub fn set_over(&self) {
-        self.over.store(1, SeqCst);
-    }
-
-    /// Whether no worker is left.
-    pub fn is_over(&self) -> bool {
-        self.over.load(SeqCst) != 0
+    /// The sign that no worker is left.
+    pub fn stop(&self) -> &Stop {
+        &self.stop
     }
 
     /// So many jobs of this processor were run.

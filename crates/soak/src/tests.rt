@@ -1,18 +1,20 @@
 ghost use Rattle.soak.specs.Workers.{IsAtWork, StaysAtWork};
-ghost use Rattle.soak.specs.Drivers.{IsDriving};
+ghost use Rattle.driver.specs.Pools.{IsIdle};
+ghost use Rattle.soak.specs.Updaters.{IsUpdating};
 
 use crate::command_line::length_of;
 use crate::counts::{Counts, count};
-use crate::driver::{Deadline, Driver, take_all};
+use crate::driving::{Driver, drive};
 use crate::outcome::Outcome;
 use crate::run::{Start, end, prepare, run, take_apart};
 use crate::signs::Signs;
+use crate::updating::{Deadline, Updater};
 use crate::worker::{
     Job, Length, Worker, check_done, hand_on, meet, queue, read, wait_for_jobs, wait_for_period,
 };
 use anyhow::Result;
 use desk::Desk;
-use domain::{Domain, Held, InUse, Totals};
+use domain::{Cpu, Domain, Held, InUse, Totals};
 use std::process::{Abort, ExitCode};
 use std::sync::Wait;
 use std::test::Fail;
@@ -44,7 +46,7 @@ fn some_totals() -> Totals {
 /// thread, a job that is lost, doubled or out of its order, a wait that is too short or never ends, and totals that are
 /// not what was done.
 #[test]
-fn eight_threads_make_rounds(rt: HostRuntime) -> Result<(), Fail> {
+fn nine_threads_make_rounds(rt: HostRuntime) -> Result<(), Fail> {
     for (rounds, opened, queued, waited, barriers) in [(48, 672, 336, 21, 28), (0, 0, 0, 0, 7)] {
         let Outcome { counts, totals } = run(&rt, Length::Rounds(rounds))?;
         let Ok(totals) = totals else {
@@ -70,16 +72,16 @@ fn eight_threads_make_rounds(rt: HostRuntime) -> Result<(), Fail> {
 }
 
 /// Puts a version of several pieces, and says that it is too old.
-fn put_torn(domain: &Domain<Job>, driver: &mut Driver, signs: &Signs)
-    requires { IsDriving domain.now driver.old }
-    ensures { IsDriving domain.now driver.new }
+fn put_torn(domain: &Domain<Job>, updater: &mut Updater, signs: &Signs)
+    requires { IsUpdating domain.now updater.old }
+    ensures { IsUpdating domain.now updater.new }
 {
-    let Some(mut slot) = driver.writer.blank() else {
+    let Some(mut slot) = updater.writer.blank() else {
         return;
     };
-    driver.writer.set(&mut driver.cpu, &mut slot, 0, 7);
-    driver.writer.put_and_ask(domain, &mut driver.cpu, slot);
-    signs.set_age(driver.writer.version(), 2);
+    updater.writer.set(&mut updater.cpu, &mut slot, 0, 7);
+    updater.writer.put_and_ask(domain, &mut updater.cpu, slot);
+    signs.set_age(updater.writer.version(), 2);
 }
 
 /// All that the checks look for, each once, but for a wait that is too short: one where not all jobs were run, and one
@@ -90,23 +92,24 @@ fn go_wrong<R: Wait>(
     desk: &Desk<Held>,
     signs: &Signs,
     worker: &mut Worker,
-    driver: &mut Driver,
-)
+    driver: Cpu<Job>,
+) -> Driver
     requires worker { IsAtWork domain.now desk.now worker.old }
-    requires driver { IsDriving domain.now driver.old }
+    requires driver { IsIdle domain.now driver }
     ensures worker { StaysAtWork domain.now desk.now worker.old worker.new }
-    ensures driver { IsDriving domain.now driver.new }
+    ensures driver { IsIdle domain.now result.cpu }
 {
-    put_torn(domain, driver, signs);
     read(domain, desk, signs, worker);
     worker.counts.queued = 1; // as if a job had been lost
     queue(rt, domain, desk, worker);
     wait_for_period(rt, domain, desk, worker);
-    take_all(rt, domain, driver, signs);
+    signs.stop().give();
+    let driver = drive(rt, domain, driver, signs);
     wait_for_jobs(rt, domain, desk, signs, worker);
     let mut cookie = worker.cpu.cookie();
     check_done(domain, desk, worker, &mut cookie);
     hand_on(domain, desk, worker); // nobody comes to the desk
+    driver
 }
 
 fn run_wrongly<R: Wait + AllocGlobal>(rt: &R) -> Result<Outcome> {
@@ -114,15 +117,17 @@ fn run_wrongly<R: Wait + AllocGlobal>(rt: &R) -> Result<Outcome> {
         domain,
         desk,
         mut workers,
-        mut driver,
+        driver,
+        mut updater,
         parts,
     } = prepare(rt.alloc())?;
     let signs = Signs::new();
     let mut worker = workers.pop().unwrap();
-    go_wrong(rt, &domain, &desk, &signs, &mut worker, &mut driver);
+    put_torn(&domain, &mut updater, &signs);
+    let driver = go_wrong(rt, &domain, &desk, &signs, &mut worker, driver);
     workers.push_reserved(worker);
     let parts = take_apart(workers, parts, &domain, &desk);
-    Ok(end(domain, desk, parts, driver))
+    Ok(end(domain, desk, parts, driver, updater))
 }
 
 /// Would catch a worker that waits for nobody, or never finds the others.

@@ -7,7 +7,8 @@
 //! by a thread that is between the two. That one doesn't wait before its own `take`, which finds the section, unless
 //! another thread has taken it. Hence each section is closed by a thread that doesn't wait. So each grace period ends,
 //! and whoever waits for one drives it. A barrier waits for jobs besides, which the driver runs; the driver waits for no
-//! section and no job, and goes on until no worker is left.
+//! section and no job, and goes on until no worker is left. It would end early where no more grace periods may start, which
+//! no run comes to.
 ghost use Rattle.std.specs.Prelude.{◌≡◌, ◌<◌, ◌==◌, ◌⊎◌, IfSome, not};
 ghost use Rattle.sections.specs.Words.{cells_in};
 ghost use Rattle.sections.specs.Calls.{IsSameCpu};

@@ -2,6 +2,7 @@
 #![tactic(auto)]
 
 ghost use Rattle.std.specs.Prelude.{◌≡◌, ◌<◌, IfOk};
+ghost use Rattle.std.specs.Thread.{IsSync};
 ghost use Rattle.sections.specs.Words.{cells_in};
 ghost use Rattle.sections.specs.Reads.{IsPinned};
 ghost use Rattle.domain.specs.Views.{IsOf};
@@ -16,9 +17,10 @@ mod tests;
 mod updaters;
 
 use anyhow::Result;
-use callbacks::replace_and_serve;
+use callbacks::{replace_twice, work};
 use config::{Archive, Config, Old, Sign};
 use domain::{Cpu, Domain, HeldPin, Limits, Writer};
+use driver::Stop;
 use plugins::{furnish, lend};
 use readers::{Slept, open, read_and_sleep, read_quickly};
 use shelf::{Shelf, Values};
@@ -189,6 +191,38 @@ fn hand_over<R: Threads + Wait + Sync>(
     })
 }
 
+/// An updater that doesn't wait, and a driver beside it, which is told to stop behind that. Answers how many callbacks ran,
+/// and what is read in the end.
+fn replace_and_work<R: Threads + Wait + Clock + Sync>(
+    rt: &R,
+    domain: &Domain<Old>,
+    updater: Cpu<Old>,
+    driver: Cpu<Old>,
+    shelf: Shelf<Config>,
+    configs: &Values<Config>,
+    archive: &Archive,
+    sign: &Sign,
+) -> Result<(u64, Config)>
+    requires updater { IsReady domain.now updater × (shelf.domain ≡ domain.now.domain) }
+    requires driver { IsReady domain.now driver }
+    requires cell { configs.now < cells_in domain.now.domain }
+{
+    let stop = Stop::new();
+    let (ran, read) = join(
+        rt,
+        || work(rt, domain, driver, &stop, archive),
+        || -> Result<Config>
+            requires { IsReady domain.now updater × (shelf.domain ≡ domain.now.domain) × (configs.now < cells_in domain.now.domain) }
+        {
+            sign.wait(rt);
+            let read = replace_twice(rt, domain, updater, shelf, configs, archive);
+            stop.give(); // also where a call was refused, or the driver would go on
+            read
+        },
+    );
+    Ok((ran?, read?))
+}
+
 /// A reader sleeps in a section, while an updater replaces the configuration twice and doesn't wait: callbacks run once
 /// nobody reads what it replaced. Answers how many ran, and what was read in the end.
 fn call_back<R: Threads + Wait + Clock + Sync>(
@@ -196,26 +230,25 @@ fn call_back<R: Threads + Wait + Clock + Sync>(
     domain: &Domain<Old>,
     reader: Cpu<Old>,
     updater: Cpu<Old>,
+    driver: Cpu<Old>,
     shelf: Shelf<Config>,
     configs: &Values<Config>,
     archive: &Archive,
-) -> Result<(Slept, usize, Config)>
+) -> Result<(Slept, u64, Config)>
     requires reader { configs.now < cells_in reader.cpu.domain }
     requires updater { IsReady domain.now updater × (shelf.domain ≡ domain.now.domain) }
+    requires driver { IsReady domain.now driver }
     requires cell { configs.now < cells_in domain.now.domain }
 {
     let sign = Sign::new();
-    let (slept, served) = join(
+    let (slept, worked) = join(
         rt,
         || read_and_sleep(rt, reader, configs, &sign, archive),
-        || -> Result<(usize, Config)>
-            requires { IsReady domain.now updater × (shelf.domain ≡ domain.now.domain) × (configs.now < cells_in domain.now.domain) }
-        {
-            sign.wait(rt);
-            replace_and_serve(rt, domain, updater, shelf, configs, archive)
-        },
+        || -> Result<(u64, Config)>
+            requires { IsSync R.row × (IsReady domain.now updater × (IsReady domain.now driver × ((shelf.domain ≡ domain.now.domain) × (configs.now < cells_in domain.now.domain)))) }
+        { replace_and_work(rt, domain, updater, driver, shelf, configs, archive, &sign) },
     );
-    let (ran, read) = served?;
+    let (ran, read) = worked?;
     Ok((slept?, ran, read))
 }
 
@@ -255,10 +288,12 @@ fn show_handed<R: Threads + Wait + Print + AllocGlobal + Sync>(rt: &R) -> Result
 
 /// Callbacks run behind what an updater replaced, in a domain of their own.
 fn show_filed<R: Threads + Wait + Clock + Print + AllocGlobal + Sync>(rt: &R) -> Result<()> {
-    let (domain, reader, mut updater, writer) = pair(rt.alloc())?;
+    let (domain, reader, mut updater, driver, writer) = trio(rt.alloc())?;
     let (shelf, configs) = shelve(&domain, &mut updater, writer, 3)?;
     let archive = Archive::new();
-    let (slept, ran, read) = call_back(rt, &domain, reader, updater, shelf, &configs, &archive)?;
+    let (slept, ran, read) = call_back(
+        rt, &domain, reader, updater, driver, shelf, &configs, &archive,
+    )?;
     println!(rt; "callbacks that ran: {ran}")?;
     print_slept(rt, &slept, read, &archive)
 }

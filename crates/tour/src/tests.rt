@@ -6,7 +6,7 @@ ghost use Rattle.domain.specs.Views.{IsOf, Stays};
 ghost use Rattle.tour.specs.Parts.{IsReady};
 
 use super::*;
-use callbacks::{replace_and_call, run_ready};
+use callbacks::replace_and_call;
 use domain::{AdvanceRefusal, Exhausted, Index, NotACookie, Number, Progress, StartRefusal};
 use std::test::Fail;
 
@@ -138,6 +138,30 @@ fn by_hand(rt: HostRuntime) -> Result<(), Fail> {
         ((4, true), [Ok(number(5)), Err(StartRefusal::Running)])
     );
     Ok(())
+}
+
+/// Takes the callbacks of a processor that are ready, and runs them. Answers how many there were.
+fn run_ready<R: Wait>(
+    rt: &R,
+    domain: &Domain<Old>,
+    cpu: &mut Cpu<Old>,
+    processor: u16,
+    archive: &Archive,
+) -> Result<usize>
+    requires domain { IsOf domain.now cpu.old }
+    requires processor { processor < domain.now.processors }
+    ensures { IsOf domain.now cpu.new }
+{
+    let Some(mut batch) = domain.take_ready(rt, cpu, processor, 8)? else { // srcu_invoke_callbacks, by a thread of yours
+        return Ok(0); // nothing is ready here
+    };
+    let count = batch.count(); // from 1 to 8
+    while let Some(old) = batch.next() {
+        archive.file(old); // each job once, the first one first: nobody reads this version any more
+    }
+    domain.finish(rt, cpu, batch); // code that loses a batch, or finishes one with jobs left in it, is refused
+
+    Ok(count)
 }
 
 /// What is told of a replacement while a section is open: what the period's last steps answer, how many callbacks run

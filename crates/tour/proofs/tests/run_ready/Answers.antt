@@ -2,7 +2,7 @@
 use Rattle.std.proofs.Common.{◌≡◌, ◌+◌, length, sym, ap, ◌∙◌, add-one, arith}
 use Rattle.calls.specs.Views.{BatchView}
 use Rattle.tour.specs.declared.config.Old.{Old}
-use Rattle.tour.proofs.callbacks.run_ready.Goals as goal
+use Rattle.tour.proofs.tests.run_ready.Goals as goal
 
 pub loop-old-init : goal.loop-old-init
 loop-old-init g c =

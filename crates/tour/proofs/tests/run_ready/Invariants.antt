@@ -1,6 +1,6 @@
 -- The batch stays one of this domain's, and the processor is used at the end alone.
 use Rattle.std.proofs.Common.{◌≡◌, ◌<◌, length}
-use Rattle.tour.proofs.callbacks.run_ready.Given as goal
+use Rattle.tour.proofs.tests.run_ready.Given as goal
 
 abbrev pub invariant-loop-old : goal.invariant-loop-old
 invariant-loop-old g l = record {

@@ -1,0 +1,130 @@
+//! The thread that puts versions, and tells how old those are that it replaced. It drives grace periods too, and waits for
+//! nobody.
+ghost use Rattle.std.specs.Prelude.{◌≡◌, ◌<◌};
+ghost use Rattle.soak.specs.Updaters.{IsUpdating};
+
+use crate::signs::{AGES, Signs};
+use crate::worker::{Job, Length};
+use domain::{Cpu, Domain, Writer};
+use std::sync::Wait;
+use std::time::{Clock, Duration, Instant};
+
+/// A version that was replaced.
+#[derive(Clone, Copy)]
+pub struct Replaced {
+    pub version: u64,
+    /// The number of the cookie behind which it is one older.
+    pub cookie: u64,
+    /// 0 where there is none.
+    pub age: u64,
+}
+
+impl Replaced {
+    pub const NONE: Replaced = Replaced {
+        version: 0,
+        cookie: 0,
+        age: 0,
+    };
+}
+
+/// What the thread has.
+#[derive(Drop)]
+pub struct Updater {
+    pub cpu: Cpu<Job>,
+    pub writer: Writer,
+    /// The last versions that were replaced, each at its number modulo [`AGES`].
+    pub replaced: [Replaced; AGES],
+}
+
+/// When the workers are to come to an end.
+#[derive(Clone, Copy)]
+pub struct Deadline {
+    pub start: Instant,
+    pub length: Length,
+}
+
+impl Deadline {
+    /// Whether it is past. Where the clock can't be read, too.
+    pub fn is_past<R: Clock>(self, rt: &R) -> bool {
+        let Length::Seconds(seconds) = self.length else {
+            return false;
+        };
+        match self.start.elapsed(rt) {
+            Ok(elapsed) => elapsed >= Duration::from_secs(seconds),
+            Err(_) => true,
+        }
+    }
+}
+
+/// Puts a version, if a slot is free: its number stands in its first and in its last word. The one that was there is one
+/// old then.
+fn put_next(domain: &Domain<Job>, updater: &mut Updater, signs: &Signs)
+    requires { IsUpdating domain.now updater.old }
+    ensures { IsUpdating domain.now updater.new }
+{
+    updater.writer.reclaim(&mut updater.cpu);
+    let Some(mut slot) = updater.writer.blank() else {
+        return;
+    };
+    let before = updater.writer.version();
+    let version = before.saturating_add(1);
+    updater.writer.set(&mut updater.cpu, &mut slot, 0, version);
+    updater.writer.set(&mut updater.cpu, &mut slot, 15, version);
+    signs.set_age(version, 0);
+    let cookie = updater.writer.put_and_ask(domain, &mut updater.cpu, slot);
+    signs.set_age(before, 1);
+    updater.replaced[before as usize % AGES] = Replaced {
+        version: before,
+        cookie,
+        age: 1,
+    };
+}
+
+/// A version that was replaced is one older behind its grace period.
+fn age(domain: &Domain<Job>, updater: &mut Updater, place: usize, signs: &Signs)
+    requires updater { IsUpdating domain.now updater.old }
+    requires place { place < 16 }
+    ensures { IsUpdating domain.now updater.new }
+{
+    let replaced = updater.replaced[place];
+    if replaced.age == 1 && updater.cpu.poll_number(replaced.cookie) == Ok(true) {
+        signs.set_age(replaced.version, 2);
+        updater.replaced[place] = Replaced { age: 2, ..replaced };
+    }
+}
+
+/// The same for each of them.
+fn age_all(domain: &Domain<Job>, updater: &mut Updater, signs: &Signs)
+    requires { IsUpdating domain.now updater.old }
+    ensures { IsUpdating domain.now updater.new }
+{
+    for place in 0..AGES {
+        age(domain, updater, place, signs);
+    }
+}
+
+/// Puts versions until no worker is left. Tells the workers when they are to come to an end.
+pub fn update<R: Wait + Clock>(
+    rt: &R,
+    domain: &Domain<Job>,
+    mut updater: Updater,
+    signs: &Signs,
+    deadline: Deadline,
+) -> Updater
+    requires { IsUpdating domain.now updater }
+    ensures { IsUpdating domain.now result }
+{
+    for _ in rt.forever() {
+        if signs.stop().is_given() {
+            break;
+        }
+        if deadline.is_past(rt) {
+            signs.end();
+        }
+        // A driver sleeps where a section is open: so periods end as fast as they can, and two threads drive them.
+        let _turn = domain.advance(&mut updater.cpu);
+        age_all(domain, &mut updater, signs);
+        put_next(domain, &mut updater, signs);
+    }
+    updater
+}
