@@ -5,7 +5,8 @@
  *
  * prints a line for each thing and each size: its name, the size, and the median, the least and the most of the
  * repetitions in nanoseconds. A thing is measured in 1, 2, 4 threads up to MOST, or at the sizes that it gives. As `srcubench` does, it looks at the clock before the threads are started
- * and after all have ended, and divides by the rounds of one thread, or by the jobs of all.
+ * and after all have ended, and divides by the rounds of one thread, or by the jobs of all. Behind that come the times from
+ * the end of a section to its callback (delays.c).
  */
 #include "peers.h"
 
@@ -70,7 +71,7 @@ static void fail(const char *what)
 	exit(2);
 }
 
-static double nanoseconds_now(void)
+double nanoseconds_now(void)
 {
 	struct timespec now;
 
@@ -121,6 +122,16 @@ static int compare(const void *left, const void *right)
 	return (a > b) - (a < b);
 }
 
+void sort_samples(double *samples, unsigned count)
+{
+	qsort(samples, count, sizeof samples[0], compare);
+}
+
+void report_samples(const char *name, unsigned size, double median, double least, double most)
+{
+	printf("%s %u median %.2f least %.2f most %.2f\n", name, size, median, least, most);
+}
+
 static void report(const struct thing *thing, unsigned size, uint64_t most_rounds, unsigned repetitions)
 {
 	double samples[MOST_REPETITIONS];
@@ -128,9 +139,8 @@ static void report(const struct thing *thing, unsigned size, uint64_t most_round
 
 	for (unsigned i = 0; i < repetitions; i++)
 		samples[i] = measure(thing, size, rounds);
-	qsort(samples, repetitions, sizeof samples[0], compare);
-	printf("%s %u median %.2f least %.2f most %.2f\n", thing->name, size,
-	       samples[repetitions / 2], samples[0], samples[repetitions - 1]);
+	sort_samples(samples, repetitions);
+	report_samples(thing->name, size, samples[repetitions / 2], samples[0], samples[repetitions - 1]);
 }
 
 static void report_sizes(const struct thing *thing, uint64_t rounds, unsigned repetitions, unsigned most)
@@ -167,5 +177,8 @@ int main(int count, char **words)
 	most = (unsigned)number_up_to(words[3], MOST_THREADS);
 	for (unsigned i = 0; i < sizeof things / sizeof things[0]; i++)
 		report_sizes(things[i], rounds, repetitions, most);
+#ifdef WITH_LIBURCU
+	report_delays();
+#endif
 	return 0;
 }

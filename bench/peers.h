@@ -61,7 +61,14 @@ extern const struct thing rwlock_chain_call;
 extern const struct thing rwlock_chain_change;
 extern const struct thing rwlock_lookup;
 extern const struct thing rwlock_install;
+/* The clock, in nanoseconds; how samples are put in order, and how a line of them is printed. */
+double nanoseconds_now(void);
+void sort_samples(double *samples, unsigned count);
+void report_samples(const char *name, unsigned size, double median, double least, double most);
+
 #ifdef WITH_LIBURCU
+/* Measures and prints what takes the same time whatever the rounds are. */
+void report_delays(void);
 extern const struct thing urcu_mb_pair;
 extern const struct thing urcu_memb_pair;
 extern const struct thing urcu_mb_synchronize;

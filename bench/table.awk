@@ -95,7 +95,15 @@ function job_rows(size) {
     row("liburcu memb, to queue it, " threads(size), "urcu-memb-call", size, "urcu-memb-call")
     row("this domain, to the end, " threads(size), "srcubench-callbacks", size, "urcu-memb-callbacks")
     row("while one more gives out, to the end, " size, "srcubench-callbacks-given", size, "urcu-memb-callbacks")
+    row("while a driver runs them, to the end, " size, "servebench-callbacks", size, "urcu-memb-callbacks")
     row("liburcu memb, to the end, " threads(size), "urcu-memb-callbacks", size, "urcu-memb-callbacks")
+}
+
+function delay_rows() {
+    row("a driver, median", "servebench-delay", 1, "urcu-memb-delay")
+    row("liburcu memb, median", "urcu-memb-delay", 1, "urcu-memb-delay")
+    row("a driver, 99 of 100", "servebench-delay-late", 1, "urcu-memb-delay-late")
+    row("liburcu memb, 99 of 100", "urcu-memb-delay-late", 1, "urcu-memb-delay-late")
 }
 
 function find_rows(words, size,    finds) {
@@ -178,6 +186,9 @@ END {
     printf "%-44s %-28s %s\n", "one of 20000 callbacks", "      ns", "ratio to liburcu memb"
     for (size = 1; size <= 4; size *= 2)
         job_rows(size)
+    print ""
+    printf "%-44s %-28s %s\n", "from the last section\047s end to the job", "      ns", "ratio to liburcu memb"
+    delay_rows()
     print ""
     printf "%-44s %-28s %s\n", "a version found, and one word of it", "      ns", "ratio to the model"
     for (size = 1; size <= 4; size *= 2)
