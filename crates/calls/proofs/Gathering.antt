@@ -1,10 +1,7 @@
 -- What follows where calls were moved to a list before something else is done with it.
-use Rattle.std.proofs.Common.{◌≡◌, ℕ, ◌+◌, ◌≤◌, List, [], ◌∷◌, ◌++◌, Option, Some, None, length, refl, sym, ap, ◌∙◌, subst, arith}
-use Rattle.std.specs.Prelude.{IsSome}
-use Rattle.std.specs.Arc.{arc_value}
-use Rattle.segs.specs.MarkedList.{Mark, lens, numbers}
+use Rattle.std.proofs.Common.{◌≡◌, ℕ, ◌+◌, ◌≤◌, List, [], ◌∷◌, ◌++◌, Option, Some, length, sym, ap, ◌∙◌, subst, arith}
+use Rattle.segs.specs.MarkedList.{lens, numbers}
 use Rattle.sections.specs.Views.{CpuView}
-use Rattle.calls.specs.declared.entry.Entry.{Entry}
 use Rattle.calls.specs.declared.view.Act.{Act}
 use Rattle.calls.specs.declared.view.Deed.{Deed}
 use Rattle.calls.specs.declared.view.Known.{Known}
@@ -12,8 +9,8 @@ use Rattle.calls.specs.declared.view.Plan.{Plan}
 use Rattle.calls.specs.declared.list.List.TheInside as list
 use Rattle.calls.specs.Lines.{count_out, gathered, line_in}
 use Rattle.calls.specs.Tallies.{deed, deeds_of, queued_in, AreTakers, IsBeginning}
-use Rattle.calls.specs.Seats.{Place, SeesList, known_in, next_known}
-use Rattle.calls.specs.Views.{CallSeatView, ListView, BatchView, ListKey, key_of, next_of, IsListIn}
+use Rattle.calls.specs.Seats.{Place, SeesList, known_in}
+use Rattle.calls.specs.Views.{CallSeatView, ListView, BatchView, key_of, next_of, IsListIn}
 use Rattle.calls.specs.Meetings.{Covers}
 use Rattle.calls.specs.Calls.{Does, MovesAll, Came, Gathers, TakesReady, Takes, FindsLens}
 use Rattle.calls.specs.Insides.{view_of_list, IsList}

@@ -1,14 +1,10 @@
 -- The loads of a meeting keep the rule of the tally words, and are no deeds.
-use Rattle.std.proofs.Common.{◌≡◌, ℕ, ◌+◌, ◌<◌, ◌==◌, List, [], ◌∷◌, ◌++◌, Option, length, get_or, set, refl, sym, ap, ◌∙◌, subst, append-nil, length-append, arith}
-use Rattle.std.proofs.lemmas.List.Elements.{filter-append}
+use Rattle.std.proofs.Common.{◌≡◌, ℕ, ◌<◌, List, [], Option, get_or, set, refl, sym, ap, ◌∙◌, subst, arith}
 use lib.Seq.{set-get_or}
 use lib.ListN.{get_elem?}
 use mathlib.Core.Option.{none, some}
 use Rattle.atomic_table.specs.Table.{State, step, stepped, keeps, Allows}
-use Rattle.segs.specs.MarkedList.{Mark}
-use Rattle.calls.specs.declared.entry.Entry.{Entry}
 use Rattle.calls.specs.declared.view.Plan.{Plan}
-use Rattle.calls.specs.declared.view.Deed.{Deed}
 use Rattle.calls.specs.declared.view.Who.{Who}
 use Rattle.calls.specs.declared.view.Who.TheVariants.{Caller}
 use Rattle.calls.specs.declared.view.ListRight.{ListRight}
@@ -17,7 +13,7 @@ use Rattle.calls.specs.declared.view.Known.{Known}
 use Rattle.calls.specs.declared.view.BatchRight.{BatchRight}
 use Rattle.calls.specs.declared.view.BatchRight.TheVariants.{OfBatch}
 use Rattle.calls.specs.declared.view.View.{View}
-use Rattle.calls.specs.Tallies.{queued_place, queued_in, deeds_of, AreTakers, IsBeginning, AreTrueAfter, AreTrue}
+use Rattle.calls.specs.Tallies.{queued_place, queued_in, deeds_of, AreTakers, IsBeginning}
 use Rattle.calls.specs.Lines.{count_out, line_in}
 use Rattle.calls.specs.Rule.{Books, Makes, IsThere, HasList, IsCalling, HasBatch, Fits, Kept}
 use Rattle.calls.specs.Plays.{Sat, FindsAll, found_all, IsAdmitted, admitted, IsOut, found_out, right_counted, found_list}

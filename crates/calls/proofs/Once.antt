@@ -1,22 +1,22 @@
 -- Each call is given out once, in its order: what waits on a processor is what was queued there and not given out.
 use Rattle.std.proofs.Common.{◌≡◌, ◌≢◌, ℕ, zero, suc, ◌+◌, ◌-◌, ◌<◌, ◌≤◌, ◌==◌, Bool, true, false, if◌then◌else◌, cond, List, [], ◌∷◌, ◌++◌, Some, None, map, length, take, drop, refl, sym, ap, ◌∙◌, subst, eq-eqb, ne_eqb, append_assoc, append-nil, arith}
-use Rattle.std.proofs.Math.Seq.{drop-append_seam, take-append_seam, drop-length, get_or-append_seam}
+use Rattle.std.proofs.Math.Seq.{drop-append_seam, take-append_seam, get_or-append_seam}
 use Rattle.std.specs.Prelude.{slice_get}
 use Rattle.std.proofs.lemmas.Option.{slice_get-get_or, slice_get_within, get_or_from_slice_get}
 use Rattle.std.proofs.lemmas.List.{length-append, length-drop, drop-drop, drop-append-le, take-append-drop, get_or_append_left}
 use mathlib.Core.Logic.{dite}
 use native.Mathlib.Decide.{ℕ_discrete}
-use Rattle.segs.specs.MarkedList.{Mark, Done, Next, marked, remarked, advanced, assigned, reached, next_becomes, number_given, awaited}
+use Rattle.segs.specs.MarkedList.{Mark, Done, Next, marked, remarked, advanced, reached, next_becomes, number_given, awaited}
 use Rattle.calls.specs.declared.entry.Entry.{Entry}
 use Rattle.calls.specs.declared.view.Act.{Act}
 use Rattle.calls.specs.declared.view.Act.TheVariants.{Queue, Take, Finish, LoadQueued, LoadFinished}
 use Rattle.calls.specs.declared.view.Deed.{Deed}
 use Rattle.calls.specs.declared.view.Known.{Known}
-use Rattle.calls.specs.Lines.{Line, count_out, some_out, no_calls, with_call, with_moved, all_moved, gathered, with_taken, with_none_out, last_number, readied, many_ready, next_line, line_in, call_of, calls_in}
-use Rattle.calls.specs.Tallies.{deed, is_queue, queued_by, queued_in, finished_by, finished_in, given_out, deeds_of, IsBeginning, IsTrueOf, AreTrueAfter, AreTrue}
+use Rattle.calls.specs.Lines.{Line, count_out, some_out, with_call, with_moved, all_moved, gathered, with_taken, with_none_out, last_number, readied, many_ready, next_line, line_in, call_of, calls_in}
+use Rattle.calls.specs.Tallies.{deed, is_queue, queued_in, finished_by, finished_in, given_out, deeds_of, IsBeginning, IsTrueOf, AreTrueAfter, AreTrue}
 use Rattle.calls.specs.Rule.{IsThere}
 use Rattle.calls.specs.Laws.{WaitsInOrder, GivesOnce, KeepsCalls}
-use Rattle.calls.proofs.Counting.{queued_push, finished_push}
+use Rattle.calls.proofs.Counting.{finished_push}
 use Rattle.calls.proofs.Counting.{true_beginning}
 use Rattle.calls.proofs.Lining.{count_some_out, line_push, few_ready, gathered_long, gathered_next}
 

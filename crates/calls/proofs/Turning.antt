@@ -1,15 +1,15 @@
 -- A list is the one of its processor behind each step that is made with it.
-use Rattle.std.proofs.Common.{◌≡◌, ℕ, zero, suc, ◌+◌, ◌<◌, ◌≤◌, ◌↔◌, IsTrue, Bool, true, false, List, [], ◌∷◌, ◌++◌, Option, Some, None, length, refl, sym, ap, ◌∙◌, subst, arith}
+use Rattle.std.proofs.Common.{◌≡◌, ℕ, zero, suc, ◌+◌, ◌↔◌, IsTrue, Bool, true, false, List, [], ◌∷◌, ◌++◌, Option, Some, None, length, refl, sym, ap, ◌∙◌, subst, arith}
 use Rattle.std.specs.Prelude.{IsSome}
 use Rattle.std.specs.Arc.{arc_value}
 use Rattle.atomic_table.specs.Seated.{TableId}
 use Rattle.sections.specs.Views.{CpuView}
 use Rattle.sections.specs.Sights.{SightView, AsksHowFarBehind}
-use Rattle.segs.specs.MarkedList.{Mark, Done, marked, MarkedList}
+use Rattle.segs.specs.MarkedList.{Done, marked, MarkedList}
 use Rattle.calls.specs.declared.entry.Entry.{Entry}
 use Rattle.calls.specs.declared.view.Plan.{Plan}
 use Rattle.calls.specs.declared.view.Act.{Act}
-use Rattle.calls.specs.declared.view.Act.TheVariants.{Take, Finish}
+use Rattle.calls.specs.declared.view.Act.TheVariants.{Take}
 use Rattle.calls.specs.declared.view.Deed.{Deed}
 use Rattle.calls.specs.declared.view.Known.{Known}
 use Rattle.calls.specs.declared.view.Who.TheVariants.{Caller}
@@ -17,11 +17,11 @@ use Rattle.calls.specs.declared.view.ListRight.TheVariants.{NoList, OfList}
 use Rattle.calls.specs.declared.view.BatchRight.TheVariants.{NoBatch, OfBatch}
 use Rattle.calls.specs.declared.list.List.TheInside as list
 use Rattle.calls.specs.declared.seat.CallSeat.TheInside as seat
-use Rattle.calls.specs.Lines.{count_out, some_out, line_in, gathered}
-use Rattle.calls.specs.Tallies.{is_queue, deed, deeds_of, queued_in, finished_in, given_out, AreTakers, IsBeginning}
+use Rattle.calls.specs.Lines.{count_out, some_out}
+use Rattle.calls.specs.Tallies.{is_queue, deed, deeds_of, queued_in, AreTakers}
 use Rattle.calls.specs.Rule.{IsThere, list_seat, batch_seat}
-use Rattle.calls.specs.Plays.{Does as DoesThere, batch_of, line_taken, known_taken, known_finished}
-use Rattle.calls.specs.Seats.{Place, IsPlaced, IsKnown, TakesOne, FinishesBatch, SeesList, IsBatchSeat, known_in, next_known, first_known}
+use Rattle.calls.specs.Plays.{Does as DoesThere, batch_of}
+use Rattle.calls.specs.Seats.{Place, IsPlaced, IsKnown, TakesOne, FinishesBatch, SeesList, IsBatchSeat, known_in, first_known}
 use Rattle.calls.specs.Waiting.{GoesOut}
 use Rattle.calls.specs.Calls.{Does, GivesOut}
 use Rattle.calls.specs.Meetings.{Covers}
@@ -30,7 +30,7 @@ use Rattle.calls.proofs.Counting.{queued_still, same_queued}
 use Rattle.calls.proofs.Lining.{count_some_out}
 use Rattle.calls.proofs.Steps.{there_taken, there_finished}
 use Rattle.calls.proofs.Keeping.{goes_on_asked, rest_waiting}
-use Rattle.calls.proofs.Listing.{IsMoved, moves, IsFed, list_from, batch_seat_is, taken_is_known}
+use Rattle.calls.proofs.Listing.{IsMoved, moves, list_from, batch_seat_is, taken_is_known}
 use Rattle.calls.proofs.Once.{next_calls, same_calls, calls_unqueued}
 use Rattle.calls.proofs.Arriving.{intake_as}
 

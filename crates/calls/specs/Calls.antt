@@ -1,5 +1,5 @@
 -- What the calls of a list, of a batch and of all callbacks do.
-use Rattle.std.specs.Prelude.{◌≡◌, ℕ, ◌+◌, ◌<◌, ◌≤◌, ◌⊎◌, min, true, List, [], ◌∷◌, ◌++◌, All, Option, Some, None, IsSome, MatchOption, length, slice_index_or, take, drop}
+use Rattle.std.specs.Prelude.{◌≡◌, ℕ, ◌+◌, ◌<◌, ◌≤◌, true, List, [], ◌∷◌, ◌++◌, All, Option, Some, None, IsSome, MatchOption, length, slice_index_or, take, drop}
 use Rattle.atomic_table.specs.Seated.{TableId}
 use Rattle.onedom.specs.declared.event.Maker.{Maker}
 use Rattle.onedom.specs.declared.event.Event.{Event}
@@ -8,7 +8,7 @@ use Rattle.onedom.specs.Histories.{IsBeginning}
 use Rattle.sections.specs.Views.{CpuView, CookieView}
 use Rattle.sections.specs.Calls.{EndsWithNote}
 use Rattle.sections.specs.Sights.{SightView, GivesCookieBehind, AsksHowFar}
-use Rattle.segs.specs.MarkedList.{Mark, Done, marked, lens, numbers}
+use Rattle.segs.specs.MarkedList.{Done, marked, lens, numbers}
 use Rattle.calls.specs.declared.view.Act.{Act}
 use Rattle.calls.specs.declared.view.Act.TheVariants.{Queue, Take, Finish}
 use Rattle.calls.specs.declared.view.Deed.{Deed}

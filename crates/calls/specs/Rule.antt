@@ -1,9 +1,8 @@
 -- The rule of the tally words: there is one list of what was done on them, the words hold its counts, and each seat knows a beginning of it, with all that it did itself. A list knows exactly what waits in it, and how many are finished and out; the one batch that is out knows these counts too. And whoever has the right of a call knows that it is the one of its number.
-use Rattle.std.specs.Prelude.{◌≡◌, ℕ, ◌+◌, ◌<◌, ◌≤◌, ◌⊎◌, List, [], ◌∷◌, ◌++◌, Option, Some, None, length, slice_index, slice_get}
+use Rattle.std.specs.Prelude.{◌≡◌, ℕ, ◌+◌, ◌<◌, ◌≤◌, ◌⊎◌, List, [], Option, Some, None, length, slice_index, slice_get}
 use mathlib.Core.Option.{some}
 use lib.ListN.{get_elem?}
 use Rattle.atomic_table.specs.Table.{State}
-use Rattle.segs.specs.MarkedList.{Mark}
 use Rattle.calls.specs.declared.entry.Entry.{Entry}
 use Rattle.calls.specs.declared.view.Plan.{Plan}
 use Rattle.calls.specs.declared.view.Deed.{Deed}

@@ -17,7 +17,7 @@ use Rattle.funnel.specs.Histories as tree
 use Rattle.funnel.specs.Calls as funnel
 use Rattle.funnel.specs.Calls.{IsSeenBy, IsSameSeat}
 use Rattle.desk.specs.Swaps as swaps
-use Rattle.desk.specs.Swaps.{Swap, swaps_of}
+use Rattle.desk.specs.Swaps.{swaps_of}
 use Rattle.desk.specs.BayViews.{BaySeatView}
 use Rattle.desk.specs.BayCalls as desk
 use Rattle.desk.specs.BayCalls.{holds}

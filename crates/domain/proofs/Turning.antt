@@ -1,5 +1,5 @@
 -- Lists of turns, one a beginning of another.
-use Rattle.std.proofs.Common.{◌≡◌, List, [], ◌++◌, sym, ap, ◌∙◌, append-nil}
+use Rattle.std.proofs.Common.{List, [], ◌++◌, sym, ap, ◌∙◌, append-nil}
 use Rattle.std.proofs.lemmas.List.{append_assoc}
 use Rattle.desk.specs.Swaps.{Swap, IsBeginning}
 use Rattle.domain.specs.Views.{Engine}

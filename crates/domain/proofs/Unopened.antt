@@ -1,7 +1,7 @@
 -- Calls for versions open no section.
 use Rattle.std.proofs.Common.{◌≡◌, ℕ, zero, suc, ◌+◌, Bool, false, None, List, [], ◌∷◌, ◌++◌, refl, sym, ap, ◌∙◌, append-nil, append_assoc}
 use Rattle.onedom.specs.declared.event.Event.{Event}
-use Rattle.onedom.specs.declared.event.Event.TheVariants.{Ask, Find, Put, Note}
+use Rattle.onedom.specs.declared.event.Event.TheVariants.{Ask, Find, Put}
 use Rattle.onedom.specs.declared.event.Maker.TheVariants.{Processor}
 use Rattle.onedom.specs.Histories.{open_sections, section_begun, ends}
 use Rattle.onedom.proofs.CallerLemmas.{open_sections_plain}

@@ -1,5 +1,5 @@
 -- What waiting for a barrier is.
-use Rattle.std.specs.Prelude.{◌≡◌, ℕ, ◌+◌, ◌<◌, List, [], ◌∷◌, ◌++◌, true, false, length}
+use Rattle.std.specs.Prelude.{◌≡◌, ℕ, ◌+◌, List, [], ◌∷◌, ◌++◌, true, false, length}
 use Rattle.calls.specs.declared.view.Act.{Act}
 use Rattle.calls.specs.Views.{CallSeatView, TicketView, ReceiptView}
 use Rattle.calls.specs.Barriers.{Loads, Polls, finished_loads}

@@ -1,5 +1,5 @@
 -- No answer tells a number beyond the limit.
-use Rattle.std.proofs.Common.{◌≡◌, ℕ, ◌*◌, ◌<◌, ◌≤◌, List, [], ◌∷◌, Some, None, ◌∙◌, subst, arith}
+use Rattle.std.proofs.Common.{ℕ, ◌*◌, ◌≤◌, List, [], ◌∷◌, Some, None, ◌∙◌, subst, arith}
 use Rattle.std.specs.Prelude.{Option, IfSome}
 use Rattle.sections.specs.EngineCalls.{IsSameEngine}
 use Rattle.desk.specs.BayViews.{BaySeatView}

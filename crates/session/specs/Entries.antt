@@ -14,7 +14,7 @@ use Rattle.session.specs.declared.names.NamedToken.TheVariants as token
 use Rattle.session.specs.declared.entry.Entry.TheInside as entry
 use Rattle.session.specs.OpenSections.{open_of}
 use Rattle.notify.specs.Chains.{ChainState}
-use Rattle.plugs.specs.Views.{TableState, LeaseView}
+use Rattle.plugs.specs.Views.{TableState}
 use Rattle.solo.specs.Chains as chains
 use Rattle.solo.specs.Tables as tables
 use Rattle.session.specs.Tokens.{token_at, rows_of, bearer_of, open_index, held_of}

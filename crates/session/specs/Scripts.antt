@@ -68,7 +68,7 @@ use Rattle.requests.specs.Faults.{fault_of, is_skipped}
 use Rattle.requests.specs.Requests.{WordsAsk}
 use Rattle.requests.specs.Replies.{reply_text}
 use Rattle.session.specs.OpenSections.{open_of}
-use Rattle.session.specs.States.{State, DomainState, Bearer, Look, Reading, Held, Ticket, Lease, Parked, JobList, Slots, ChainNow, TableNow, chain_now, table_now, Becomes, bearer_at, scene_of}
+use Rattle.session.specs.States.{State, DomainState, Bearer, Look, Reading, Held, Ticket, Lease, Parked, JobList, Slots, chain_now, table_now, Becomes, bearer_at, scene_of}
 
 -- a job that was queued, with its name and its cookie
 abbrev pub Job : Type 0

@@ -23,7 +23,7 @@ use Rattle.calls.specs.Meetings.{Covers}
 use Rattle.calls.proofs.CallerLemmas.{begins_itself, begins_on, queued_later, finished_later, same_queued, true_beginning, called_here, taken_here, finish_here, moved_all}
 use Rattle.scan.specs.Standings.{number_now}
 use Rattle.segs.specs.MarkedList.{count_done, lens, numbers}
-use Rattle.calls.specs.Lines.{Line, line_in, some_out, gathered, with_moved, with_call, with_none_out, readied}
+use Rattle.calls.specs.Lines.{Line, line_in, some_out, with_moved, with_call, with_none_out, readied}
 use Rattle.domain.specs.Views.{callbacks_of}
 use Rattle.domain.specs.Waiting.{LoadsNeed}
 use Rattle.domain.specs.Calling.{CallsIn, RefusesCall}
@@ -32,7 +32,7 @@ use Rattle.domain.specs.Acting.{Act, loads, notes, takes, asks_for, finishes, Ac
 use Rattle.solo.specs.declared.queued.Queued.{Queued}
 use Rattle.solo.specs.Refusals.{IsQueuedAs}
 use Rattle.solo.specs.Calls as call
-use Rattle.solo.specs.Calls.{SoloView, OnList, Queues, QueuesNone, QueuesLast, AreOut, IsGiven, GivesFirst, PutsOut, entries_taken, Takes, TakesNone, HasOut, Finishes, FinishesOut, TellsLens}
+use Rattle.solo.specs.Calls.{OnList, Queues, QueuesNone, QueuesLast, AreOut, IsGiven, GivesFirst, PutsOut, entries_taken, Takes, TakesNone, HasOut, Finishes, FinishesOut, TellsLens}
 use Rattle.solo.specs.Courses.{Does as CourseDoes, more_at}
 use Rattle.solo.specs.Batches.{AreReady}
 use Rattle.solo.specs.Insides.{in_one, list_in}

@@ -1,15 +1,7 @@
 -- Periods that are driven or waited for, one behind the other.
-use Rattle.std.proofs.Common.{◌≡◌, ℕ, ◌+◌, ◌-◌, ◌<◌, List, [], ◌∷◌, ◌++◌, All, Option, Some, length, filter, slice_index_or, refl, sym, ap, ◌∙◌, subst, append_assoc, append-nil, length-append, add-one, arith}
-use Rattle.std.proofs.lemmas.List.Elements.{All-head, All-tail}
+use Rattle.std.proofs.Common.{◌≡◌, ℕ, ◌+◌, ◌-◌, ◌<◌, List, [], ◌∷◌, ◌++◌, Option, Some, length, slice_index_or, refl, sym, ap, ◌∙◌, subst, length-append, add-one, arith}
 use Rattle.std.proofs.Math.Seq.{get_or-append_seam}
 use Rattle.std.specs.Option.{option_to_list}
-use Rattle.onedom.specs.declared.event.Maker.{Maker}
-use Rattle.onedom.specs.declared.event.Maker.TheVariants.{Processor}
-use Rattle.onedom.specs.declared.event.Event.{Event}
-use Rattle.onedom.specs.declared.event.Event.TheVariants.{Note, Ask}
-use Rattle.onedom.specs.Histories.{open_sections}
-use Rattle.onedom.proofs.CallerLemmas.{open_sections_plain}
-use Rattle.sections.specs.Words.{is_held, open_readings}
 use Rattle.domain.specs.Views.{DomainView, CpuView, IsOf}
 use Rattle.domain.specs.Waiting.{HasNoneOpen, Synchronizes}
 use Rattle.domain.specs.Making.{new_cpu, IsMade}

@@ -11,7 +11,6 @@ use Rattle.sections.specs.Views.{CpuView, ReadingView, FoundView}
 use Rattle.sections.specs.Calls.{IsSameCpu, IsHere, ReadLocks, new_cpu, AreNew}
 use Rattle.sections.specs.Reads.{ReadsWord}
 use Rattle.srcubench.specs.declared.pairs.Reader.{Reader}
-use Rattle.srcubench.specs.Pairs.{HasRoom}
 use Rattle.srcubench.specs.Finding.{ReadsWords, LooksUp, FindsOnce, FindsOften, FindsAll, StopsFinding, CanFind, HasFoundAll, HaveFoundAll, AreFindersOfOne}
 use Rattle.srcubench.proofs.Rooms.{bit_small}
 

@@ -1,11 +1,11 @@
 -- The readers, the changer and the writer of a new domain.
-use Rattle.std.proofs.Common.{◌≡◌, ℕ, ◌+◌, ◌-◌, ◌<◌, List, [], ◌∷◌, ◌++◌, All, Option, Some, length, slice_index_or, refl, sym, ap, ◌∙◌, subst, length-append, arith}
+use Rattle.std.proofs.Common.{◌≡◌, ℕ, ◌+◌, ◌-◌, ◌<◌, List, [], ◌∷◌, ◌++◌, All, Option, Some, length, slice_index_or, sym, ap, ◌∙◌, subst, length-append, arith}
 use Rattle.std.proofs.lemmas.List.{get_or_append_left}
 use Rattle.std.proofs.Math.Seq.{get_or-append_seam}
 use Rattle.std.specs.Option.{option_to_list}
 use Rattle.sections.specs.Words.{cells_in}
 use Rattle.sections.specs.WriterViews.{WriterView}
-use Rattle.sections.specs.Dealing.{new_writer, AreNewWriters}
+use Rattle.sections.specs.Dealing.{AreNewWriters}
 use Rattle.domain.specs.Views.{DomainView, CpuView, IsOf}
 use Rattle.domain.specs.Making.{new_cpu, IsMade}
 use Rattle.domain.specs.Meetings.{IsAllOf}

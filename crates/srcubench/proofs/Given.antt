@@ -1,10 +1,8 @@
 -- Jobs that are given out, one round behind the other.
-use Rattle.std.proofs.Common.{◌≡◌, ℕ, ◌+◌, ◌*◌, List, [], ◌∷◌, Option, Some, None, refl, sym, ap, subst, add-one}
-use Rattle.sections.specs.WriterViews.{WriterView}
+use Rattle.std.proofs.Common.{◌≡◌, ℕ, ◌+◌, [], ◌∷◌, Option, refl, sym, ap, subst, add-one}
 use Rattle.domain.specs.Views.{DomainView, CpuView}
-use Rattle.srcubench.specs.Calling.{QueuesAll, RunsReady}
-use Rattle.srcubench.specs.Founding.{IsNew, EachBecomes}
-use Rattle.srcubench.specs.Giving.{jobs_in, RunsEach, GivesRound, GivesAll, HaveGiven}
+use Rattle.srcubench.specs.Calling.{RunsReady}
+use Rattle.srcubench.specs.Giving.{jobs_in, RunsEach, GivesRound, GivesAll}
 
 -- one processor more
 pub one_more : (d : DomainView) (p before : ℕ) (more : Option ℕ) (c b c' : CpuView ℕ) → RunsEach d p before c b → RunsReady d p more b c' → RunsEach d (p + 1) (before + jobs_in more) c c'

@@ -1,8 +1,7 @@
 -- Jobs that go in and come out.
-use Rattle.std.proofs.Common.{◌≡◌, ℕ, zero, suc, ◌+◌, ◌<◌, ◌≤◌, min, not, List, [], ◌∷◌, ◌++◌, All, Some, Result, Ok, Err, IsOk, IfOk, length, slice_index_or, filter, refl, sym, ap, ◌∙◌, subst, add-one, arith}
+use Rattle.std.proofs.Common.{◌≡◌, ℕ, zero, suc, ◌+◌, ◌<◌, ◌≤◌, min, not, List, [], ◌∷◌, All, Some, Result, Ok, Err, IsOk, IfOk, length, slice_index_or, filter, refl, sym, ap, ◌∙◌, subst, add-one, arith}
 use Rattle.std.proofs.Math.Nat.{min-le_left}
 use Rattle.onedom.specs.declared.event.Maker.TheVariants.{Processor}
-use Rattle.onedom.specs.declared.event.Event.{Event}
 use Rattle.onedom.specs.declared.event.Event.TheVariants.{Note}
 use Rattle.onedom.specs.Histories.{open_sections}
 use Rattle.onedom.proofs.CallerLemmas.{open_sections_plain}

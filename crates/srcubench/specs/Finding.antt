@@ -1,5 +1,5 @@
 -- Sections that find a version and read words of it.
-use Rattle.std.specs.Prelude.{◌≡◌, ℕ, zero, suc, ◌<◌, ◌≤◌, List, length, slice_index_or}
+use Rattle.std.specs.Prelude.{◌≡◌, ℕ, zero, suc, ◌<◌, List, length, slice_index_or}
 use Rattle.atomic_table.specs.Seated.{TableId}
 use Rattle.sections.specs.Words.{cells_in}
 use Rattle.sections.specs.Views.{CpuView, ReadingView, FoundView}

@@ -17,7 +17,7 @@ use Rattle.requests.specs.declared.request.Act.TheVariants as act
 use Rattle.requests.specs.declared.request.Request.{Request}
 use Rattle.requests.specs.declared.request.Request.TheVariants as request
 use Rattle.session.specs.States.{DomainState, State, scene_of}
-use Rattle.session.specs.Scripts.{Acts, Answers, FaultGives, WordsGive, LineGives}
+use Rattle.session.specs.Scripts.{Acts, Answers, FaultGives, LineGives}
 use Rattle.srcuctl.specs.Programs.{Runs, RunsInPart, HasNotBegun}
 use Rattle.srcuctl.proofs.Programs.{ended}
 

@@ -1,4 +1,4 @@
-use Rattle.std.proofs.Common.{◌≡◌, ℕ, ap, sym, ◌∙◌, subst, arith}
+use Rattle.std.proofs.Common.{◌∙◌, arith}
 use Rattle.calls.proofs.Steps.{queues_here}
 use Rattle.calls.proofs.Seating.{queued_there}
 use Rattle.calls.proofs.tally.add_queued.Goals as goal

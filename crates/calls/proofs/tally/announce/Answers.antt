@@ -1,4 +1,3 @@
-use Rattle.std.proofs.Common.{sym, ap, ◌∙◌, subst}
 use Rattle.calls.proofs.Seating.{some_words}
 use Rattle.calls.proofs.Sharing.{announces}
 use Rattle.calls.proofs.tally.announce.Goals as goal

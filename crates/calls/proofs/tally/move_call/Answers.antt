@@ -1,9 +1,5 @@
-use Rattle.std.proofs.Common.{◌≡◌, ℕ, [], refl, sym, ap, ◌∙◌, subst}
-use Rattle.calls.specs.declared.view.ListRight.{ListRight}
-use Rattle.calls.specs.declared.view.ListRight.TheVariants.{OfList}
-use Rattle.calls.specs.declared.view.View.{View}
-use Rattle.calls.specs.Rule.{list_seat, known_moved, moving}
-use Rattle.calls.specs.Seats.{known_in}
+use Rattle.std.proofs.Common.{refl, ap, ◌∙◌}
+use Rattle.calls.specs.Rule.{moving}
 use Rattle.calls.proofs.Seating.{some_words}
 use Rattle.calls.proofs.Sharing.{moves_call}
 use Rattle.calls.proofs.tally.move_call.Goals as goal

@@ -1,6 +1,5 @@
 use Rattle.std.proofs.Common.{◌≡◌, ℕ, List, [], ap, sym, ◌∙◌, subst, arith}
 use Rattle.calls.specs.declared.view.ListRight.{ListRight}
-use Rattle.calls.specs.declared.view.ListRight.TheVariants.{OfList}
 use Rattle.calls.specs.declared.view.Deed.{Deed}
 use Rattle.calls.specs.Tallies.{queued_in}
 use Rattle.calls.specs.Rule.{list_seat}

@@ -1,4 +1,4 @@
-use Rattle.std.proofs.Common.{◌≡◌, ℕ, List, [], Option, ap, sym, ◌∙◌, subst, arith}
+use Rattle.std.proofs.Common.{ℕ, [], ap, sym, ◌∙◌, subst, arith}
 use Rattle.calls.specs.declared.view.Act.TheVariants.{Take}
 use Rattle.calls.specs.declared.view.ListRight.{ListRight}
 use Rattle.calls.specs.declared.view.BatchRight.{BatchRight}

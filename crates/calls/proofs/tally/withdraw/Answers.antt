@@ -1,4 +1,4 @@
-use Rattle.std.proofs.Common.{sym, ap, ◌∙◌, subst}
+use Rattle.std.proofs.Common.{ap}
 use Rattle.calls.proofs.Seating.{some_words}
 use Rattle.calls.proofs.Sharing.{withdraws}
 use Rattle.calls.proofs.tally.withdraw.Goals as goal

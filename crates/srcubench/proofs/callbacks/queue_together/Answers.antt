@@ -1,5 +1,5 @@
 -- Each processor is the domain's.
-use Rattle.std.proofs.Common.{◌≡◌, ℕ, sym, subst}
+use Rattle.std.proofs.Common.{ℕ, sym, subst}
 use Rattle.std.proofs.lemmas.List.Elements.{All-get_or}
 use Rattle.domain.specs.Views.{CpuView, IsOf}
 use Rattle.srcubench.proofs.callbacks.queue_together.Goals as goal

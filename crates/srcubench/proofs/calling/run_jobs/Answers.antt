@@ -1,5 +1,5 @@
 -- One more came out, and is in the batch no more.
-use Rattle.std.proofs.Common.{◌≡◌, ℕ, ◌+◌, List, [], length, refl, sym, ap, ◌∙◌, add-one, arith}
+use Rattle.std.proofs.Common.{◌≡◌, ℕ, ◌+◌, List, length, refl, sym, ap, ◌∙◌, add-one, arith}
 use Rattle.calls.specs.declared.entry.Entry.{Entry}
 use Rattle.calls.specs.Views.{BatchView}
 use Rattle.srcubench.proofs.calling.run_jobs.Goals as goal

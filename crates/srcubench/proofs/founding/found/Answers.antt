@@ -1,5 +1,4 @@
 -- The last processor was taken out, and the others stand as they did.
-use Rattle.std.proofs.Common.{◌≡◌, List, ◌∷◌, [], ◌++◌, Option, Some, ap, ◌∙◌}
 use Rattle.srcubench.proofs.Drives.{was_last}
 use Rattle.srcubench.proofs.Founded.{whole_of, is_new, others_here, changer_here}
 use Rattle.srcubench.proofs.founding.found.Goals as goal

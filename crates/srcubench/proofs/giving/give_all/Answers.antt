@@ -1,6 +1,5 @@
 -- One round more.
-use Rattle.std.proofs.Common.{◌≤◌, refl, subst, arith}
-use Rattle.srcubench.specs.Giving.{GivesAll}
+use Rattle.std.proofs.Common.{arith}
 use Rattle.srcubench.proofs.Given.{no_round, one_round}
 use Rattle.srcubench.proofs.giving.give_all.Goals as goal
 

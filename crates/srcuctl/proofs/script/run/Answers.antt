@@ -1,4 +1,4 @@
-use Rattle.std.proofs.Common.{◌≡◌, rules, ap, ◌∙◌}
+use Rattle.std.proofs.Common.{◌≡◌, ap, ◌∙◌}
 use Rattle.notify.specs.Calling.{GivesAt}
 use Rattle.session.specs.Scripts.{LineGives}
 use Rattle.srcuctl.proofs.Programs.{ended}

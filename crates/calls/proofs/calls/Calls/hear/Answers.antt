@@ -1,4 +1,4 @@
-use Rattle.std.proofs.Common.{◌∷◌, ap, sym, ◌∙◌, subst, arith}
+use Rattle.std.proofs.Common.{ap, sym, ◌∙◌, arith}
 use Rattle.calls.specs.Views.{CallsView, NoteView, ReceiptView}
 use Rattle.calls.proofs.Loading.{queued_later, same_many, receipt_inside}
 use Rattle.calls.proofs.Once.{call_stays}

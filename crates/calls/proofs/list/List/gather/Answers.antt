@@ -1,9 +1,6 @@
-use Rattle.std.proofs.Common.{◌≡◌, ℕ, ◌+◌, ◌<◌, ◌≤◌, length, refl, sym, ap, ◌∙◌, subst, arith}
+use Rattle.std.proofs.Common.{ℕ, ◌≤◌, sym, ap, ◌∙◌, arith}
 use Rattle.calls.specs.Tallies.{queued_in}
 use Rattle.calls.specs.Seats.{known_in}
-use Rattle.calls.specs.Views.{next_of}
-use Rattle.calls.proofs.Lining.{length_moved}
-use Rattle.calls.proofs.Listing.{list_from}
 use Rattle.calls.proofs.Turning.{seat_saw, seat_covers}
 use Rattle.calls.proofs.Arriving.{came_none, came_more, came_same, moved_next}
 use Rattle.calls.proofs.list.List.gather.Goals as goal

@@ -1,4 +1,4 @@
-use Rattle.std.proofs.Common.{◌≡◌, ℕ, List, refl, ap, sym, ◌∙◌, subst}
+use Rattle.std.proofs.Common.{◌≡◌, ap, sym, ◌∙◌, subst}
 use Rattle.segs.specs.MarkedList.{lens, numbers}
 use Rattle.calls.specs.Meetings.{Covers}
 use Rattle.calls.specs.Views.{CallSeatView, ListView}

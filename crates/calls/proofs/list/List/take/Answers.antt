@@ -1,5 +1,4 @@
-use Rattle.std.proofs.Common.{rules, ◌≡◌, ℕ, List, Some, None, refl, ap, sym, ◌∙◌, subst}
-use Rattle.calls.specs.Seats.{known_in}
+use Rattle.std.proofs.Common.{rules, refl, ap, sym, ◌∙◌}
 use Rattle.calls.proofs.Listing.{none_out, is_out}
 use Rattle.calls.proofs.Turning.{seat_saw, seat_covers}
 use Rattle.calls.proofs.Gathering.{list_saw, saw_same, saw_was, takes_behind}

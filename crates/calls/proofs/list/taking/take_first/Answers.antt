@@ -1,7 +1,7 @@
-use Rattle.std.proofs.Common.{◌≡◌, ℕ, min, List, ap, sym, ◌∙◌}
+use Rattle.std.proofs.Common.{ℕ, min, List, ap, ◌∙◌}
 use Rattle.segs.specs.MarkedList.{Mark, assigned, advanced, reached, count_done}
 use Rattle.calls.specs.declared.entry.Entry.{Entry}
-use Rattle.calls.specs.Lines.{last_number, readied}
+use Rattle.calls.specs.Lines.{readied}
 use Rattle.calls.specs.Waiting.{wrapped}
 use Rattle.calls.proofs.Wrapping.{count_done_wrapped}
 use Rattle.calls.proofs.Listing.{entries_advanced, last_remarked, goes_out}

@@ -1,4 +1,4 @@
-use Rattle.std.proofs.Common.{rules, ◌≡◌, ℕ, ◌+◌, ◌<◌, List, [], ◌∷◌, ◌++◌, Option, Some, refl, ap, sym, ◌∙◌, subst, arith}
+use Rattle.std.proofs.Common.{◌≡◌, ℕ, ◌+◌, ◌<◌, List, [], ◌∷◌, ◌++◌, Some, refl, ap, sym, ◌∙◌, subst, arith}
 use Rattle.std.specs.Prelude.{slice_get}
 use Rattle.atomic_table.specs.Seated.{TableId}
 use Rattle.intake.specs.Views.{InletView}
@@ -16,7 +16,6 @@ use Rattle.calls.specs.Seats.{IsPlaced, IsAboutTo}
 use Rattle.calls.specs.Views.{NoteView, ListKey}
 use Rattle.calls.specs.Arrivals.{GoesOn, IsGiven}
 use Rattle.calls.specs.Insides.{IsIntake, IsReceipt}
-use Rattle.calls.specs.Calls.{Does}
 use Rattle.calls.proofs.Counting.{queued_here, same_queued}
 use Rattle.calls.proofs.Keeping.{goes_on_noted, given_noted}
 use Rattle.calls.proofs.Once.{calls_counted, calls_here, call_found, same_calls}

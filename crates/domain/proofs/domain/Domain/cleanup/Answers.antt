@@ -1,4 +1,4 @@
-use Rattle.std.proofs.Common.{◌≡◌, ◌<◌, ◌∷◌, List, length, Ok, Err, refl, sym, ap, ◌∙◌, subst, arith}
+use Rattle.std.proofs.Common.{◌≡◌, List, length, sym, ap, subst, arith}
 use Rattle.domain.specs.Views.{CpuView, IsOf}
 use Rattle.domain.specs.Parts.{Each}
 use Rattle.domain.specs.Counts.{AreAllThere}

@@ -1,4 +1,4 @@
-use Rattle.std.proofs.Common.{◌≡◌, ◌<◌, ◌∷◌, List, length, sym, ap, ◌∙◌, subst, arith}
+use Rattle.std.proofs.Common.{◌≡◌, ◌∷◌, List, sym, ap, ◌∙◌, subst}
 use Rattle.calls.specs.Tallies as deeds
 use Rattle.calls.specs.Views.{CallSeatView}
 use Rattle.calls.proofs.CallerLemmas.{begins_on}

@@ -1,4 +1,4 @@
-use Rattle.std.proofs.Common.{◌≡◌, ◌≤◌, ℕ, ◌<◌, List, ◌∷◌, Some, None, sym, ap, ◌∙◌, subst, arith}
+use Rattle.std.proofs.Common.{◌≡◌, ◌≤◌, ℕ, List, ◌∷◌, Some, None, sym, ap, ◌∙◌, subst, arith}
 use Rattle.onedom.specs.Histories.{IsBeginning}
 use Rattle.onedom.proofs.CallerLemmas.{beginning_trans}
 use Rattle.sections.specs.declared.view.Shown.TheVariants.{To}

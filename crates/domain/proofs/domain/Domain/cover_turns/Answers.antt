@@ -1,8 +1,7 @@
-use Rattle.std.proofs.Common.{◌≡◌, ◌<◌, List, get_or, length, refl, sym, ap, ◌∙◌}
-use Rattle.desk.specs.BayViews.{BaySeatView}
-use Rattle.domain.specs.Views.{Engine, CpuView, DomainView}
+use Rattle.std.proofs.Common.{◌<◌, List, get_or, length, refl, ap, ◌∙◌}
+use Rattle.domain.specs.Views.{CpuView}
 use Rattle.domain.proofs.Rows.{still}
-use Rattle.domain.proofs.Covering.{turn_none, turn_next, turn_all}
+use Rattle.domain.proofs.Covering.{turn_none, turn_next}
 use Rattle.domain.proofs.domain.Domain.cover_turns.Goals as goal
 
 pub loop-other-init : goal.loop-other-init

@@ -1,4 +1,4 @@
-use Rattle.std.proofs.Common.{rules, ◌≡◌, ◌<◌, ◌∷◌, List, length, refl, sym, ap, ◌∙◌, subst, arith}
+use Rattle.std.proofs.Common.{rules, ◌≡◌, ◌∷◌, List, sym, subst, arith}
 use Rattle.domain.specs.Views.{CpuView, IsOf}
 use Rattle.domain.specs.Parts.{Each}
 use Rattle.domain.specs.Counts.{AreAllThere}

@@ -1,4 +1,3 @@
-use Rattle.std.proofs.Common.{◌+◌, ◌^◌, ◌≤◌, arith}
 use Rattle.domain.proofs.Counting.{sections_counted}
 use Rattle.domain.proofs.domain.counting.count_sections.Goals as goal
 

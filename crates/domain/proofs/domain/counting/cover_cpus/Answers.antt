@@ -1,4 +1,4 @@
-use Rattle.std.proofs.Common.{◌≡◌, ◌<◌, List, get_or, length, refl, sym, ap, ◌∙◌, subst}
+use Rattle.std.proofs.Common.{◌<◌, List, get_or, length, refl, ap, ◌∙◌}
 use Rattle.scan.specs.Progress.{with_seat}
 use Rattle.domain.specs.Views.{Engine, CpuView}
 use Rattle.domain.proofs.Rows.{still}

@@ -1,9 +1,8 @@
-use Rattle.std.proofs.Common.{◌≡◌, ◌<◌, ◌≤◌, List, get_or, length, refl, sym, ap, ◌∙◌, subst, arith}
+use Rattle.std.proofs.Common.{◌<◌, List, get_or, length, refl, sym, ap, ◌∙◌}
 use Rattle.calls.specs.Views.{CallSeatView}
 use Rattle.domain.specs.Views.{CpuView}
-use Rattle.domain.specs.Parts.{CallsCover}
 use Rattle.domain.proofs.Rows.{still}
-use Rattle.domain.proofs.Counted.{calls_none, calls_next, calls_all}
+use Rattle.domain.proofs.Counted.{calls_none, calls_next}
 use Rattle.domain.proofs.domain.tallies.cover_calls.Goals as goal
 
 pub loop-other-init : goal.loop-other-init

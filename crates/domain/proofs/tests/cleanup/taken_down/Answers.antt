@@ -1,6 +1,6 @@
 -- Both were pushed, and come back.
 use Rattle.std.proofs.Common.{◌≡◌, List, [], ◌∷◌, ◌++◌, ap, sym, ◌∙◌, subst}
-use Rattle.std.proofs.lemmas.List.Elements.{All-cons, All-nil, All-pop}
+use Rattle.std.proofs.lemmas.List.Elements.{All-cons, All-nil}
 use Rattle.domain.specs.Views.{CpuView, IsOf}
 use Rattle.domain.specs.Parts.{Each}
 use Rattle.domain.proofs.tests.cleanup.taken_down.Goals as goal
