@@ -14,6 +14,8 @@ pub use Rattle.driver.proofs.Rows.{same_itself, same_taken}
 pub use Rattle.driver.proofs.Keeping.{kept_loading, kept_finding, kept_asking}
 -- so does each call that makes no event, or one that neither begins nor ends a section
 pub use Rattle.driver.proofs.Keeping.{kept_quiet, kept_plain}
+-- and one that leaves the same sections open, as a value that is read (`same_read`, `rest_read`, `open_read` of shelf)
+pub use Rattle.driver.proofs.Keeping.{kept_open}
 -- so does nothing at all, and one thing behind another
 pub use Rattle.driver.proofs.Keeping.{kept_itself, kept_trans}
 -- behind a call of a domain a processor stays of whichever it was

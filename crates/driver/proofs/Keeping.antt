@@ -16,7 +16,7 @@ use Rattle.funnel.specs.declared.view.Holder.TheVariants as holder
 use Rattle.desk.specs.BayCalls.{holds}
 use Rattle.domain.specs.Views.{Engine, DomainView, CpuView, IsEngineOf, IsOf, Stays, IsSameProcessor, with_cpu}
 use Rattle.domain.specs.Acting.{Act, Acts, ActsAs, loads, finds, asks_for}
-use Rattle.domain.proofs.CallerLemmas.{still_fits, same_trans, same_polled}
+use Rattle.domain.proofs.CallerLemmas.{SameOpen, still_fits, same_trans, same_polled}
 use Rattle.driver.specs.Pools.{IsIdle, IsLent}
 use Rattle.driver.specs.Works.{Opens, Closes, IsKept}
 
@@ -173,6 +173,10 @@ module _ {J : Type 0} where
 
   pub kept_asking : (cookie queued : ℕ) (c c' : CpuView J) → ActsAs (asks_for cookie queued) c c' → IsKept c c'
   kept_asking cookie queued c c' acts = kept_plain c c' acts _ refl refl (λ s. refl)
+
+  -- or as whatever changes nothing but the seat at the domain's words, and leaves the same sections open
+  pub kept_open : (c c' : CpuView J) → IsSameCpu c.cpu c'.cpu → c' ≡ with_cpu c'.cpu c → SameOpen c.cpu c'.cpu → Stays c c' → IsKept c c'
+  kept_open c c' same rest still stays = record { same = same_polled c c' same rest; stays = stays; readings = ap (filter is_reading) still }
 
   -- Domains
 

@@ -1,12 +1,13 @@
 -- For the proofs of callers: what was put is read.
 use Rattle.std.proofs.Common.{◌≡◌, ℕ, ◌<◌, List, length, get_or, sym, ap, ◌∙◌, arith, ext_get_or}
+use Rattle.onedom.specs.Histories.{open_sections}
 use Rattle.sections.specs.Shelves.{words_of}
 use Rattle.sections.specs.Views.{ReadingView, FoundView}
 use Rattle.sections.specs.Calls.{IsSameCpu}
 use Rattle.sections.specs.WriterViews.{WriterView}
-use Rattle.domain.specs.Views.{CpuView}
+use Rattle.domain.specs.Views.{CpuView, with_cpu}
 use Rattle.domain.specs.Waiting.{HasNoneOpen}
-use Rattle.domain.proofs.CallerLemmas.{same_put, same_reclaimed, none_still}
+use Rattle.domain.proofs.CallerLemmas.{SameOpen, same_found, same_put, same_reclaimed, none_still}
 use Rattle.shelf.specs.Reading.{AreWords, Loads, Reads}
 use Rattle.shelf.specs.Replacing.{Replaces, FindsNone}
 
@@ -33,3 +34,11 @@ module _ {J : Type 0} where
 
   pub same_read : {T : Type 0} (value : List ℕ → T) (cell : ℕ) (r : ReadingView) (c c' : CpuView J) (x : T) → Reads value cell r c c' x → IsSameCpu c.cpu c'.cpu
   same_read value cell r c c' x h = let f = h.finds.adds.same in let l = h.loads.loads.same in (l.0 ∙ f.0, l.1 ∙ f.1, l.2 ∙ f.2, l.3 ∙ f.3)
+
+  -- it opens no section and closes none
+  pub open_read : {T : Type 0} (value : List ℕ → T) (cell : ℕ) (r : ReadingView) (c c' : CpuView J) (x : T) → Reads value cell r c c' x → SameOpen c.cpu c'.cpu
+  open_read value cell r c c' x h = ap open_sections h.loads.loads.mine ∙ same_found cell r h.found c.cpu h.between.cpu h.finds
+
+  -- and changes nothing but the processor's seat at the domain's words
+  pub rest_read : {T : Type 0} (value : List ℕ → T) (cell : ℕ) (r : ReadingView) (c c' : CpuView J) (x : T) → Reads value cell r c c' x → c' ≡ with_cpu c'.cpu c
+  rest_read value cell r c c' x h = h.loads.loads.rest ∙ ap (λ (z : CpuView J). with_cpu c'.cpu z) h.only

@@ -1,5 +1,5 @@
 -- The words of a version are loaded, one behind the other.
-use Rattle.std.proofs.Common.{◌≡◌, ◌≢◌, ℕ, ◌+◌, ◌<◌, ◌≤◌, List, length, replicate, get_or, set, refl, sym, ap, ◌∙◌, subst, arith, get_or-set_same, get_or-set_other}
+use Rattle.std.proofs.Common.{◌≡◌, ◌≢◌, ℕ, ◌+◌, ◌<◌, ◌≤◌, List, length, replicate, get_or, set, refl, sym, ap, ◌∙◌, arith, get_or-set_same, get_or-set_other}
 use Rattle.std.proofs.lemmas.List.{length-set}
 use mathlib.Core.Logic.{dite}
 use native.Mathlib.Decide.{ℕ_discrete}
@@ -11,7 +11,7 @@ use Rattle.sections.specs.Calls.{IsSameCpu}
 use Rattle.sections.specs.Reads.{ReadsWord}
 use Rattle.sections.proofs.CallerLemmas.{start_refl, start_trans}
 use Rattle.domain.specs.Views.{CpuView, with_cpu}
-use Rattle.shelf.specs.Reading.{AreWords, Covers, LoadsAll}
+use Rattle.shelf.specs.Reading.{Covers, LoadsAll}
 
 module _ {J : Type 0} where
   -- so far these are the words of the version, and behind the first of them the section is covered

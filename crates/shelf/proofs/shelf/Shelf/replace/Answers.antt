@@ -1,5 +1,5 @@
 -- What was freed, filled and put, one behind the other.
-use Rattle.std.proofs.Common.{ℕ, ◌<◌, List, ap, ◌∙◌, sym, subst}
+use Rattle.std.proofs.Common.{ℕ, ◌<◌, List, ap, ◌∙◌, subst}
 use Rattle.onedom.specs.declared.event.Event.{Event}
 use Rattle.onedom.specs.Histories.{IsBeginning, IsClear}
 use Rattle.sections.specs.Shelves.{slot_words}
