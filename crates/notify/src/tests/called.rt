@@ -23,12 +23,11 @@ impl Handler for Fixed {
     }
 }
 
+/// What a call answers: the last result, and how many handlers were called.
+type Called = Option<(u32, u64)>;
+
 /// What a call answers where the handler of each id gives the result at its place.
-fn call(
-    alloc: Global,
-    world: &mut World,
-    results: &[u32; 16],
-) -> Result<Option<(u32, u64)>, AllocError> {
+fn call(alloc: Global, world: &mut World, results: &[u32; 16]) -> Result<Called, AllocError> {
     let mut handlers: Vec<Box<dyn Handler>> = Vec::new(alloc);
     for result in results {
         handlers.push(Box::new(alloc, Fixed { result: *result })?)?;
@@ -36,32 +35,51 @@ fn call(
     Ok(world.view.call_chain(&mut world.cpu, &handlers, 1, 2).ok())
 }
 
+/// What a call answers before three blocks are registered and behind that, and whether each was.
+fn call_three(alloc: Global, world: &mut World) -> Result<([bool; 3], [Called; 2]), AllocError> {
+    let mut results = [DONE; 16];
+    results[1] = OK;
+    results[3] = 7;
+    let before = call(alloc, world, &results)?;
+    let first = world.register(1, 5).is_ok();
+    let second = world.register(2, 5).is_ok();
+    let third = world.register(3, 2).is_ok();
+    let behind = call(alloc, world, &results)?;
+    Ok(([first, second, third], [before, behind]))
+}
+
 /// Would catch a call of nobody, in another order, of another id's handler, or one that is counted wrong.
 #[test]
 fn all_are_called(rt: HostRuntime) -> Result<(), Fail> {
     let mut world = World::new(rt.alloc(), 8)?;
-    let mut results = [DONE; 16];
-    results[1] = OK;
-    results[3] = 7;
-    assert_eq!(rt; call(rt.alloc(), &mut world, &results)?, Some((DONE, 0)));
-    assert_eq!(rt; world.register(1, 5), Ok(()));
-    assert_eq!(rt; world.register(2, 5), Ok(()));
-    assert_eq!(rt; world.register(3, 2), Ok(()));
-    assert_eq!(rt; call(rt.alloc(), &mut world, &results)?, Some((7, 3)));
+    let (registered, called) = call_three(rt.alloc(), &mut world)?;
+    drop(world);
+    assert_eq!(rt; registered, [true; 3]);
+    assert_eq!(rt; called, [Some((DONE, 0)), Some((7, 3))]);
     Ok(())
+}
+
+/// What a call of two blocks answers that the second one stops, and one that the first one does, and whether both were
+/// registered.
+fn stop_two(alloc: Global, world: &mut World) -> Result<([bool; 2], [Called; 2]), AllocError> {
+    let first = world.register(1, 5).is_ok();
+    let second = world.register(2, 5).is_ok();
+    let mut results = [OK; 16];
+    results[2] = STOP;
+    let by_second = call(alloc, world, &results)?;
+    results[1] = BAD;
+    let by_first = call(alloc, world, &results)?;
+    Ok(([first, second], [by_second, by_first]))
 }
 
 /// Would catch a call that goes on behind a result with the stop bit, or that ends at another one.
 #[test]
 fn stopped(rt: HostRuntime) -> Result<(), Fail> {
     let mut world = World::new(rt.alloc(), 8)?;
-    assert_eq!(rt; world.register(1, 5), Ok(()));
-    assert_eq!(rt; world.register(2, 5), Ok(()));
-    let mut results = [OK; 16];
-    results[2] = STOP;
-    assert_eq!(rt; call(rt.alloc(), &mut world, &results)?, Some((STOP, 2)));
-    results[1] = BAD;
-    assert_eq!(rt; call(rt.alloc(), &mut world, &results)?, Some((BAD, 1)));
+    let (registered, called) = stop_two(rt.alloc(), &mut world)?;
+    drop(world);
+    assert_eq!(rt; registered, [true; 2]);
+    assert_eq!(rt; called, [Some((STOP, 2)), Some((BAD, 1))]);
     Ok(())
 }
 

@@ -6,6 +6,16 @@ use super::world::World;
 use std::sync::Wait;
 use std::test::Fail;
 
+type Installed = Result<u64, InstallRefusal>;
+
+/// What installs answer while a lease is there, what a lookup does, what the lease says, and what an install answers then.
+type Told = (
+    [Installed; 2],
+    Option<u32>,
+    (u64, Option<u32>, Option<u32>),
+    Installed,
+);
+
 /// Three versions, in a cell of four slots, and a lease of the first.
 fn leased(world: &mut World) -> Option<Lease>
     ensures same { world.new ≡ world.old }
@@ -19,7 +29,7 @@ fn leased(world: &mut World) -> Option<Lease>
 }
 
 /// What one more is answered: at once, and behind as many turns as a grace period takes where nobody reads.
-fn held_up(world: &mut World) -> [Result<u64, InstallRefusal>; 2]
+fn held_up(world: &mut World) -> [Installed; 2]
     ensures { world.new ≡ world.old }
 {
     let at_once = world.install(4, 40);
@@ -44,11 +54,21 @@ fn told(world: &mut World, lease: Lease) -> (u64, Option<u32>, Option<u32>)
 }
 
 /// What one more is answered a turn after the lease has ended.
-fn let_go(world: &mut World) -> Result<u64, InstallRefusal>
+fn let_go(world: &mut World) -> Installed
     ensures { world.new ≡ world.old }
 {
     world.drive();
     world.install(4, 40)
+}
+
+/// What is told while a lease is there and behind its end: as above, and what a key of the last version is answered
+/// meanwhile. `None` where no section begins.
+fn lease_and_change(world: &mut World) -> Option<Told> {
+    let lease = leased(world)?;
+    let meanwhile = held_up(world);
+    let new = world.lookup(3);
+    let read = told(world, lease);
+    Some((meanwhile, new, read, let_go(world)))
 }
 
 /// Would catch a lease that reads the version which is current, a slot that is used again while a lease reads it, and
@@ -56,14 +76,12 @@ fn let_go(world: &mut World) -> Result<u64, InstallRefusal>
 #[test]
 fn leases_keep(rt: HostRuntime) -> Result<(), Fail> {
     let mut world = World::new(rt.alloc(), 4)?;
-    let Some(lease) = leased(&mut world) else {
-        assert!(rt; false, "a section begins");
-        return Ok(());
-    };
+    let told = lease_and_change(&mut world);
+    drop(world);
     let none = Err(InstallRefusal::NoSlot);
-    assert_eq!(rt; held_up(&mut world), [none, none]);
-    assert_eq!(rt; world.lookup(3), Some(30));
-    assert_eq!(rt; told(&mut world, lease), (1, Some(10), None));
-    assert_eq!(rt; let_go(&mut world), Ok(4));
+    assert_eq!(rt;
+        told,
+        Some(([none, none], Some(30), (1, Some(10), None), Ok(4)))
+    );
     Ok(())
 }
