@@ -16,8 +16,8 @@ abbrev pub turn_of : Job → Ran → ℕ
 turn_of job r = slice_index_or r.turns (job.processor % 7) 0
 
 -- one job more was run, also of its processor, and one more was misplaced where it was not its turn
-abbrev pub behind : Job → Ran → Ran
-behind job r = record {
+abbrev pub counted : Job → Ran → Ran
+counted job r = record {
   turns = slice_set r.turns (job.processor % 7) (one_more (turn_of job r));
   counts = record r.counts { run = one_more r.counts.run; misplaced = more_if (not (job.number == turn_of job r)) r.counts.misplaced };
 }

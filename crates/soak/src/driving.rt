@@ -3,7 +3,7 @@
 ghost use Rattle.std.specs.Prelude.{◌≡◌};
 ghost use Rattle.driver.specs.Pools.{IsIdle};
 ghost use Rattle.soak.specs.Counts.{one_more};
-ghost use Rattle.soak.specs.Checks.{behind, turn_of};
+ghost use Rattle.soak.specs.Checks.{counted, turn_of};
 
 use crate::counts::{Counts, count};
 use crate::signs::{Signs, WORKERS};
@@ -31,7 +31,7 @@ struct Ran {
 /// of that processor were run.
 fn run(ran: &mut Ran, job: &Job) -> u64
     ensures answer { result ≡ one_more (turn_of job.now ran.old) }
-    ensures ran { ran.new ≡ behind job.now ran.old }
+    ensures ran { ran.new ≡ counted job.now ran.old }
 {
     let place = usize::from(job.processor) % WORKERS;
     let turn = ran.turns[place];

@@ -175,29 +175,50 @@ pub struct Start {
     pub parts: Parts,
 }
 
-/// Makes a domain, a desk, the workers, and who drives and who puts versions. Memory is taken before the desk is made, for
-/// all that comes: a desk must be closed with its seats.
-pub fn prepare(alloc: Global) -> Result<Start>
-    ensures { IfOk result IsPrepared }
+/// Room for the workers, and for what is taken from them in the end.
+fn make_room(alloc: Global) -> Result<(Vec<Worker>, Parts)>
+    ensures workers { IfOk result (λ r. (vec_len r.0 ≡ 0) × (vec_capacity r.0 ≡ 7)) }
+    ensures cpus { IfOk result (λ r. (vec_len r.1.cpus ≡ 0) × (vec_capacity r.1.cpus ≡ 9)) }
+    ensures seats { IfOk result (λ r. (vec_len r.1.seats ≡ 0) × (vec_capacity r.1.seats ≡ 7)) }
 {
-    let processors = usize::from(PROCESSORS);
-    let (domain, mut cpus, mut writers) = Domain::<Job>::new(alloc, processors, LIMITS)?;
-    let mut updating = cpus.pop().unwrap();
-    let driver = cpus.pop().unwrap();
-    let writer = writers.pop().unwrap();
-    let room = Vec::with_capacity(alloc, WORKERS)?;
+    let workers = Vec::with_capacity(alloc, WORKERS)?;
     let parts = Parts {
-        cpus: Vec::with_capacity(alloc, processors)?,
+        cpus: Vec::with_capacity(alloc, usize::from(PROCESSORS))?,
         seats: Vec::with_capacity(alloc, WORKERS)?,
         counts: Counts::new(),
     };
-    let (desk, seats) = Desk::new(alloc, WORKERS, updating.home())?;
-    let workers = seat_all(cpus, seats, room, &domain, &desk);
+    Ok((workers, parts))
+}
+
+/// Makes a domain, the processors of the workers, that of the driver, and who puts versions.
+fn found(alloc: Global) -> Result<(Domain<Job>, Vec<Cpu<Job>>, Cpu<Job>, Updater)>
+    ensures workers { IfOk result (λ r. (vec_len r.1 ≡ 7) × Each (IsOf r.0) r.1.items) }
+    ensures driver { IfOk result (λ r. IsIdle r.0 r.2) }
+    ensures updater { IfOk result (λ r. IsUpdating r.0 r.3) }
+    ensures cell { IfOk result (λ r. 0 < cells_in r.0.domain) }
+{
+    let processors = usize::from(PROCESSORS);
+    let (domain, mut cpus, mut writers) = Domain::<Job>::new(alloc, processors, LIMITS)?;
+    let updating = cpus.pop().unwrap();
+    let driver = cpus.pop().unwrap();
+    let writer = writers.pop().unwrap();
     let updater = Updater {
         cpu: updating,
         writer,
         replaced: [Replaced::NONE; AGES],
     };
+    Ok((domain, cpus, driver, updater))
+}
+
+/// Makes all that a run begins with. The desk comes last: it must be closed with its seats, so nothing may be refused behind
+/// it.
+pub fn prepare(alloc: Global) -> Result<Start>
+    ensures { IfOk result IsPrepared }
+{
+    let (room, parts) = make_room(alloc)?;
+    let (domain, cpus, driver, mut updater) = found(alloc)?;
+    let (desk, seats) = Desk::new(alloc, WORKERS, updater.cpu.home())?;
+    let workers = seat_all(cpus, seats, room, &domain, &desk);
     Ok(Start {
         domain,
         desk,
