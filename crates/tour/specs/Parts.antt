@@ -1,8 +1,8 @@
--- What each part of the tour begins with, and what it does.
+-- What an updater does that waits, and the words of a configuration.
 use Rattle.std.specs.Prelude.{ℕ, List, ◌∷◌, replicate}
 use Rattle.sections.specs.WriterViews.{WriterView}
-use Rattle.domain.specs.Views.{DomainView, CpuView, IsOf}
-use Rattle.domain.specs.Waiting.{HasNoneOpen, WaitedFor}
+use Rattle.domain.specs.Views.{CpuView}
+use Rattle.domain.specs.Waiting.{WaitedFor}
 use Rattle.shelf.specs.Replacing.{Replaces}
 
 -- the sixteen words of the configuration of this number
@@ -10,10 +10,6 @@ abbrev pub text_of : ℕ → List ℕ
 text_of number = number ∷ number ∷ replicate 14 0
 
 module _ {J : Type 0} where
-  -- a processor of this domain with no section open
-  abbrev pub IsReady : DomainView → CpuView J → Type 0
-  IsReady d c = IsOf d c × HasNoneOpen c
-
   -- a version with these words was put, and behind that a moment was noted: no section that was open then is open now
   pub record ReplacesAndWaits (text : List ℕ) (w : WriterView) (c c' : CpuView J) : Type 0 where
     pub between : CpuView J

@@ -1,7 +1,7 @@
 //! An updater that doesn't wait, and a driver, which runs the callbacks of what was replaced.
 ghost use Rattle.std.specs.Prelude.{◌≡◌, ◌<◌};
 ghost use Rattle.sections.specs.Words.{cells_in};
-ghost use Rattle.tour.specs.Parts.{IsReady};
+ghost use Rattle.driver.specs.Pools.{IsIdle};
 
 use crate::config::{Archive, Config, Old};
 use crate::readers::read_once;
@@ -22,9 +22,9 @@ pub fn replace_and_call<R: Wait>(
     old: Old,
     number: u64,
 ) -> Result<()>
-    requires cpu { IsReady domain.now cpu.old }
+    requires cpu { IsIdle domain.now cpu.old }
     requires shelf { shelf.old.domain ≡ domain.now.domain }
-    ensures cpu { IsReady domain.now cpu.new }
+    ensures cpu { IsIdle domain.now cpu.new }
     ensures shelf { shelf.new.domain ≡ domain.now.domain }
 {
     shelf.replace(domain, cpu, &Config::new(number))?;
@@ -45,7 +45,7 @@ pub fn replace_twice<R: Wait>(
     configs: &Values<Config>,
     archive: &Archive,
 ) -> Result<Config>
-    requires cpu { IsReady domain.now cpu }
+    requires cpu { IsIdle domain.now cpu }
     requires shelf { shelf.domain ≡ domain.now.domain }
     requires cell { configs.now < cells_in domain.now.domain }
 {
@@ -65,7 +65,7 @@ pub fn work<R: Wait>(
     stop: &Stop,
     archive: &Archive,
 ) -> Result<u64>
-    requires { IsReady domain.now cpu }
+    requires { IsIdle domain.now cpu }
 {
     match serve(rt, domain, &mut cpu, stop, |old| archive.file(old)) {
         Ok(served) => Ok(served.jobs),

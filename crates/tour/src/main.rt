@@ -6,14 +6,12 @@ ghost use Rattle.std.specs.Thread.{IsSync};
 ghost use Rattle.sections.specs.Words.{cells_in};
 ghost use Rattle.sections.specs.Reads.{IsPinned};
 ghost use Rattle.domain.specs.Views.{IsOf};
-ghost use Rattle.tour.specs.Parts.{IsReady};
+ghost use Rattle.driver.specs.Pools.{IsIdle};
 
 mod callbacks;
 mod config;
 mod plugins;
 mod readers;
-#[cfg(test)]
-mod tests;
 mod updaters;
 
 use anyhow::Result;
@@ -21,7 +19,7 @@ use callbacks::{replace_twice, work};
 use config::{Archive, Config, Old, Sign};
 use domain::{Cpu, Domain, HeldPin, Limits, Writer};
 use driver::Stop;
-use plugins::{furnish, lend};
+use plugins::{Leased, furnish, lend};
 use readers::{Slept, open, read_and_sleep, read_quickly};
 use shelf::{Shelf, Values};
 use std::alloc::Global;
@@ -41,25 +39,14 @@ const LIMITS: Limits = Limits {
     slots: 4,
 };
 
-/// A domain, its two processors, and the writer of its cell. A processor is a value: whichever thread owns it works with
+/// A domain, its three processors, and the writer of its cell. A processor is a value: whichever thread owns it works with
 /// it.
-fn pair(alloc: Global) -> Result<(Domain<Old>, Cpu<Old>, Cpu<Old>, Writer)>
-    ensures cpus { IfOk result (λ r. IsReady r.0 r.1 × IsReady r.0 r.2) }
-    ensures writer { IfOk result (λ r. (r.3.domain ≡ r.0.domain) × (r.3.cell < cells_in r.0.domain)) }
-{
-    let (domain, mut cpus, mut writers) = Domain::new(alloc, 2, LIMITS)?; // init_srcu_struct
-
-    let second = cpus.pop().unwrap();
-    let first = cpus.pop().unwrap();
-    Ok((domain, first, second, writers.pop().unwrap()))
-}
-
-/// A domain, its three processors, and the writer of its cell.
 fn trio(alloc: Global) -> Result<(Domain<Old>, Cpu<Old>, Cpu<Old>, Cpu<Old>, Writer)>
-    ensures cpus { IfOk result (λ r. IsReady r.0 r.1 × IsReady r.0 r.2 × IsReady r.0 r.3) }
+    ensures cpus { IfOk result (λ r. IsIdle r.0 r.1 × IsIdle r.0 r.2 × IsIdle r.0 r.3) }
     ensures writer { IfOk result (λ r. (r.4.domain ≡ r.0.domain) × (r.4.cell < cells_in r.0.domain)) }
 {
-    let (domain, mut cpus, mut writers) = Domain::new(alloc, 3, LIMITS)?;
+    let (domain, mut cpus, mut writers) = Domain::new(alloc, 3, LIMITS)?; // init_srcu_struct
+
     let third = cpus.pop().unwrap();
     let second = cpus.pop().unwrap();
     let first = cpus.pop().unwrap();
@@ -73,9 +60,9 @@ fn shelve(
     writer: Writer,
     number: u64,
 ) -> Result<(Shelf<Config>, Values<Config>)>
-    requires cpu { IsReady domain.now cpu.old }
+    requires cpu { IsIdle domain.now cpu.old }
     requires writer { writer.domain ≡ domain.now.domain }
-    ensures cpu { IsReady domain.now cpu.new }
+    ensures cpu { IsIdle domain.now cpu.new }
     ensures cell { IfOk result (λ r. (r.0.domain ≡ domain.now.domain) × (r.1 ≡ writer.cell)) }
 {
     let (mut shelf, configs) = Shelf::new(writer);
@@ -94,7 +81,7 @@ fn wait<R: Threads + Wait + Clock + Sync>(
     archive: &Archive,
 ) -> Result<Slept>
     requires reader { configs.now < cells_in reader.cpu.domain }
-    requires updater { IsReady domain.now updater × (shelf.domain ≡ domain.now.domain) }
+    requires updater { IsIdle domain.now updater × (shelf.domain ≡ domain.now.domain) }
 {
     let sign = Sign::new();
     let old = Old { number: 1 };
@@ -102,7 +89,7 @@ fn wait<R: Threads + Wait + Clock + Sync>(
         rt,
         || read_and_sleep(rt, reader, configs, &sign, archive),
         || -> Result<Cpu<Old>>
-            requires { IsReady domain.now updater × (shelf.domain ≡ domain.now.domain) }
+            requires { IsIdle domain.now updater × (shelf.domain ≡ domain.now.domain) }
         {
             sign.wait(rt);
             replace(rt, domain, updater, shelf, archive, old, 2)
@@ -203,8 +190,8 @@ fn replace_and_work<R: Threads + Wait + Clock + Sync>(
     archive: &Archive,
     sign: &Sign,
 ) -> Result<(u64, Config)>
-    requires updater { IsReady domain.now updater × (shelf.domain ≡ domain.now.domain) }
-    requires driver { IsReady domain.now driver }
+    requires updater { IsIdle domain.now updater × (shelf.domain ≡ domain.now.domain) }
+    requires driver { IsIdle domain.now driver }
     requires cell { configs.now < cells_in domain.now.domain }
 {
     let stop = Stop::new();
@@ -212,7 +199,7 @@ fn replace_and_work<R: Threads + Wait + Clock + Sync>(
         rt,
         || work(rt, domain, driver, &stop, archive),
         || -> Result<Config>
-            requires { IsReady domain.now updater × (shelf.domain ≡ domain.now.domain) × (configs.now < cells_in domain.now.domain) }
+            requires { IsIdle domain.now updater × (shelf.domain ≡ domain.now.domain) × (configs.now < cells_in domain.now.domain) }
         {
             sign.wait(rt);
             let read = replace_twice(rt, domain, updater, shelf, configs, archive);
@@ -236,8 +223,8 @@ fn call_back<R: Threads + Wait + Clock + Sync>(
     archive: &Archive,
 ) -> Result<(Slept, u64, Config)>
     requires reader { configs.now < cells_in reader.cpu.domain }
-    requires updater { IsReady domain.now updater × (shelf.domain ≡ domain.now.domain) }
-    requires driver { IsReady domain.now driver }
+    requires updater { IsIdle domain.now updater × (shelf.domain ≡ domain.now.domain) }
+    requires driver { IsIdle domain.now driver }
     requires cell { configs.now < cells_in domain.now.domain }
 {
     let sign = Sign::new();
@@ -245,7 +232,7 @@ fn call_back<R: Threads + Wait + Clock + Sync>(
         rt,
         || read_and_sleep(rt, reader, configs, &sign, archive),
         || -> Result<(u64, Config)>
-            requires { IsSync R.row × (IsReady domain.now updater × (IsReady domain.now driver × ((shelf.domain ≡ domain.now.domain) × (configs.now < cells_in domain.now.domain)))) }
+            requires { IsSync R.row × (IsIdle domain.now updater × (IsIdle domain.now driver × ((shelf.domain ≡ domain.now.domain) × (configs.now < cells_in domain.now.domain)))) }
         { replace_and_work(rt, domain, updater, driver, shelf, configs, archive, &sign) },
     );
     let (ran, read) = worked?;
@@ -268,41 +255,63 @@ fn print_slept<R: Print + AllocGlobal>(
     Ok(())
 }
 
-/// A reader sleeps while an updater waits, in a domain of their own.
-fn show_wait<R: Threads + Wait + Clock + Print + AllocGlobal + Sync>(rt: &R) -> Result<()> {
-    let (domain, reader, mut updater, writer) = pair(rt.alloc())?;
+// What owns a domain stands apart from what prints: a statement costs the prover a walk over all that is still to be dropped.
+
+/// A reader sleeps while an updater waits, in a domain of their own. Answers what was filed, and what the reader found.
+fn wait_apart<R: Threads + Wait + Clock + AllocGlobal + Sync>(rt: &R) -> Result<(Archive, Slept)> {
+    let (domain, reader, mut updater, _, writer) = trio(rt.alloc())?;
     let (shelf, configs) = shelve(&domain, &mut updater, writer, 1)?;
     let archive = Archive::new();
     let slept = wait(rt, &domain, reader, updater, shelf, &configs, &archive)?;
+    Ok((archive, slept))
+}
+
+/// Prints what `wait_apart` answers.
+fn show_wait<R: Threads + Wait + Clock + Print + AllocGlobal + Sync>(rt: &R) -> Result<()> {
+    let (archive, slept) = wait_apart(rt)?;
     print_slept(rt, &slept, slept.another, &archive)
 }
 
 /// A section goes from a thread to another, in a domain of their own.
-fn show_handed<R: Threads + Wait + Print + AllocGlobal + Sync>(rt: &R) -> Result<()> {
+fn hand_over_apart<R: Threads + Wait + AllocGlobal + Sync>(rt: &R) -> Result<Handed> {
     let (domain, opener, reader, mut updater, writer) = trio(rt.alloc())?;
     let (shelf, configs) = shelve(&domain, &mut updater, writer, 2)?;
-    let handed = hand_over(rt, &domain, opener, reader, updater, shelf, &configs)?;
+    hand_over(rt, &domain, opener, reader, updater, shelf, &configs)
+}
+
+/// Prints what `hand_over_apart` answers.
+fn show_handed<R: Threads + Wait + Print + AllocGlobal + Sync>(rt: &R) -> Result<()> {
+    let handed = hand_over_apart(rt)?;
     println!(rt; "{handed}")?;
     Ok(())
 }
 
-/// Callbacks run behind what an updater replaced, in a domain of their own.
-fn show_filed<R: Threads + Wait + Clock + Print + AllocGlobal + Sync>(rt: &R) -> Result<()> {
+/// Callbacks run behind what an updater replaced, in a domain of their own. Answers what was filed, what the reader found,
+/// how many ran, and what was read in the end.
+fn call_back_apart<R: Threads + Wait + Clock + AllocGlobal + Sync>(
+    rt: &R,
+) -> Result<(Archive, Slept, u64, Config)> {
     let (domain, reader, mut updater, driver, writer) = trio(rt.alloc())?;
     let (shelf, configs) = shelve(&domain, &mut updater, writer, 3)?;
     let archive = Archive::new();
     let (slept, ran, read) = call_back(
         rt, &domain, reader, updater, driver, shelf, &configs, &archive,
     )?;
+    Ok((archive, slept, ran, read))
+}
+
+/// Prints what `call_back_apart` answers.
+fn show_filed<R: Threads + Wait + Clock + Print + AllocGlobal + Sync>(rt: &R) -> Result<()> {
+    let (archive, slept, ran, read) = call_back_apart(rt)?;
     println!(rt; "callbacks that ran: {ran}")?;
     print_slept(rt, &slept, read, &archive)
 }
 
 /// A lease of a table goes from a thread to another, in a domain of their own.
-fn show_leased<R: Threads + Clock + Print + AllocGlobal + Sync>(rt: &R) -> Result<()> {
+fn lend_apart<R: Threads + Clock + AllocGlobal + Sync>(rt: &R) -> Result<Leased> {
     let (domain, taker, mut reader, mut updater, writer) = trio(rt.alloc())?;
     let (mut table, view) = furnish(&domain, &mut updater, writer)?;
-    let leased = lend(
+    lend(
         rt,
         &domain,
         taker,
@@ -310,7 +319,12 @@ fn show_leased<R: Threads + Clock + Print + AllocGlobal + Sync>(rt: &R) -> Resul
         &mut updater,
         &mut table,
         view,
-    )?;
+    )
+}
+
+/// Prints what `lend_apart` answers.
+fn show_leased<R: Threads + Clock + Print + AllocGlobal + Sync>(rt: &R) -> Result<()> {
+    let leased = lend_apart(rt)?;
     println!(rt; "{leased}")?;
     Ok(())
 }

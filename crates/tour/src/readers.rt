@@ -3,10 +3,12 @@ ghost use Rattle.std.specs.Prelude.{◌≡◌, ◌<◌, IfOk};
 ghost use Rattle.sections.specs.Words.{cells_in};
 ghost use Rattle.sections.specs.Calls.{IsSameCpu};
 ghost use Rattle.sections.specs.Reads.{IsPinned};
+ghost use Rattle.driver.specs.Works.{IsKept};
 
 use crate::config::{Archive, Config, LOOKS, Old, Sign};
 use anyhow::Result;
-use domain::{Cpu, HeldPin};
+use domain::{Cpu, HeldPin, Reading};
+use driver::read;
 use shelf::Values;
 use std::fmt;
 use std::thread::sleep;
@@ -110,13 +112,24 @@ pub fn read_and_sleep<R: Clock>(
     })
 }
 
-/// Reads in so many sections. Answers whether a whole version was there in each of them.
+/// Reads the configuration in a section that is open already.
+fn read_inside(cpu: &mut Cpu<Old>, section: &mut Reading, configs: &Values<Config>) -> Config
+    requires here { section.old.domain ≡ cpu.old.cpu.domain }
+    requires cell { configs.now < cells_in cpu.old.cpu.domain }
+    ensures kept { IsKept cpu.old cpu.new }
+    ensures section { section.new ≡ section.old }
+{
+    configs.read(cpu, section)
+}
+
+/// Reads in so many sections, each of which closes itself. Answers whether a whole version was there in each of them.
 pub fn read_quickly(mut cpu: Cpu<Old>, configs: &Values<Config>, times: u32) -> Result<bool>
     requires { configs.now < cells_in cpu.cpu.domain }
 {
     let mut whole = true;
     for _ in 0..times {
-        whole &= read_once(&mut cpu, configs)?.is_whole();
+        let config = read(&mut cpu, |cpu, section| read_inside(cpu, section, configs))?;
+        whole &= config.is_whole();
     }
     Ok(whole)
 }

@@ -3,12 +3,13 @@ ghost use Rattle.std.specs.Prelude.{◌≡◌, ◌<◌, IfOk};
 ghost use Rattle.sections.specs.Words.{cells_in};
 ghost use Rattle.sections.specs.Reads.{IsPinned};
 ghost use Rattle.domain.specs.Views.{IsOf};
-ghost use Rattle.tour.specs.Parts.{IsReady, ReplacesAndWaits, text_of};
+ghost use Rattle.driver.specs.Pools.{IsIdle};
+ghost use Rattle.tour.specs.Parts.{ReplacesAndWaits, text_of};
 
 use crate::config::{Archive, Config, Old};
 use crate::readers::read_once;
 use anyhow::Result;
-use domain::{AdvanceRefusal, Cpu, Domain, HeldPin};
+use domain::{AdvanceRefusal, Cookie, Cpu, Domain, HeldPin};
 use shelf::{Shelf, Values};
 use std::sync::Wait;
 
@@ -22,7 +23,7 @@ pub fn replace<R: Wait>(
     old: Old,
     number: u64,
 ) -> Result<Cpu<Old>>
-    requires cpu { IsReady domain.now cpu }
+    requires cpu { IsIdle domain.now cpu }
     requires shelf { shelf.domain ≡ domain.now.domain }
     ensures { IfOk result (λ c. ReplacesAndWaits (text_of number) shelf cpu c) }
 {
@@ -44,6 +45,30 @@ pub struct Polled {
     pub late: bool,
     /// What a section reads in the end.
     pub new: Config,
+}
+
+/// Polls until the cookie is done, and drives the period on. Answers what one more poll says then.
+fn poll_on<R: Wait>(
+    rt: &R,
+    domain: &Domain<Old>,
+    cpu: &mut Cpu<Old>,
+    cookie: &mut Cookie,
+) -> Result<bool>
+    requires cpu { IsOf domain.now cpu.old }
+    requires cookie { cookie.old.domain ≡ domain.now.domain }
+    ensures { IsOf domain.now cpu.new }
+{
+    for _ in rt.forever() {
+        if cpu.poll(cookie) {
+            break;
+        }
+        match domain.advance(cpu) {
+            Ok(_) | Err(AdvanceRefusal::Busy) => {} // there is no kthread: any thread drives the period on
+            Err(exhausted) => return Err(exhausted.into()),
+        }
+    }
+
+    Ok(cpu.poll(cookie)) // true: the period is over, and nobody reads what was there before
 }
 
 /// Replaces the configuration while somebody reads it in a section that another thread opened. Closes that section, and
@@ -69,16 +94,7 @@ pub fn replace_and_poll<R: Wait>(
     let read = configs.load_held(&mut cpu, &mut version);
     cpu.up_read(version.into_held()); // srcu_up_read: opened there, closed here
 
-    for _ in rt.forever() {
-        if cpu.poll(&mut cookie) {
-            break;
-        }
-        match domain.advance(&mut cpu) {
-            Ok(_) | Err(AdvanceRefusal::Busy) => {} // there is no kthread: any thread drives the period on
-            Err(exhausted) => return Err(exhausted.into()),
-        }
-    }
-    let late = cpu.poll(&mut cookie); // true: the period is over, and nobody reads the old one
+    let late = poll_on(rt, domain, &mut cpu, &mut cookie)?;
     replaced?;
     let new = read_once(&mut cpu, configs)?;
     Ok(Polled {

@@ -1,17 +1,17 @@
--- All are ready, and so each that was taken out.
+-- All are idle, and so each that was taken out.
 use Rattle.std.proofs.Common.{◌≡◌, ◌<◌, All, arith}
 use Rattle.std.proofs.lemmas.List.Elements.{All-pop}
 use Rattle.domain.specs.Views.{CpuView}
-use Rattle.tour.specs.Parts.{IsReady}
-use Rattle.domain.proofs.CallerLemmas.{new_ones_are_ready}
+use Rattle.driver.specs.Pools.{IsIdle}
+use Rattle.driver.proofs.CallerLemmas.{new_ones_are_idle}
 use Rattle.sections.specs.WriterViews.{WriterView}
 use Rattle.domain.proofs.CallerLemmas.{writers_here}
 use Rattle.tour.proofs.trio.Goals as goal
 
 pub returns-clause-cpus : goal.returns-clause-cpus
 returns-clause-cpus c =
-    let P : CpuView _ → Type 0 = IsReady c.in_ok-domain.domain in
-    let all : All P c.in_ok-domain.cpus.items = new_ones_are_ready _ _ c.in_ok-domain.ensures.made in
+    let P : CpuView _ → Type 0 = IsIdle c.in_ok-domain.domain in
+    let all : All P c.in_ok-domain.cpus.items = new_ones_are_idle _ _ c.in_ok-domain.ensures.made in
     let third = All-pop P _ _ _ c.pop.ensures.items all in
     let second = All-pop P _ _ _ c.pop-2.ensures.items third.0 in
     let first = All-pop P _ _ _ c.pop-3.ensures.items second.0 in (

@@ -1,7 +1,7 @@
 -- A cookie and a poll leave the processor in its domain, and the cookie is of that.
 use Rattle.std.proofs.Common.{sym, ap, ◌∙◌}
-use Rattle.tour.proofs.Reading.{begun_here}
-use Rattle.tour.proofs.tests.poll_round_a_period.Goals as goal
+use Rattle.steps.proofs.Reading.{begun_here}
+use Rattle.steps.proofs.periods.poll_round_a_period.Goals as goal
 
 pub poll-early-requires : goal.poll-early-requires
 poll-early-requires c =
@@ -12,7 +12,7 @@ pub read_unlock-requires : goal.read_unlock-requires
 read_unlock-requires c = begun_here _ _ _ c.in_ok-section.ensures.locks
 
 pub start-started-requires : goal.start-started-requires
-start-started-requires c = c.poll-early.ensures.stays _ (c.cookie-cookie.ensures.stays _ c.requires)
+start-started-requires c = c.poll-early.ensures.stays _ (c.cookie-cookie.ensures.stays _ c.requires.updater)
 
 pub advance-flipped-requires : goal.advance-flipped-requires
 advance-flipped-requires c = c.start-started.ensures.here
@@ -23,4 +23,4 @@ advance-ended-requires c = c.advance-flipped.ensures.here
 pub poll-late-requires : goal.poll-late-requires
 poll-late-requires c =
     let given = c.cookie-cookie.ensures.gives.cookie_is in
-    ap (λ k. k.domain) (c.poll-early.ensures.cookie ∙ given) ∙ (c.requires.domain ∙ sym c.advance-ended.ensures.here.domain)
+    ap (λ k. k.domain) (c.poll-early.ensures.cookie ∙ given) ∙ (c.requires.updater.domain ∙ sym c.advance-ended.ensures.here.domain)

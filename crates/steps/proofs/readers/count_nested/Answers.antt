@@ -1,7 +1,7 @@
 -- Each section is of the processor that began it.
 use Rattle.std.proofs.Common.{false}
-use Rattle.tour.proofs.Reading.{begun_here, same_locked, still_here}
-use Rattle.tour.proofs.tests.count_nested.Goals as goal
+use Rattle.steps.proofs.Reading.{begun_here, same_locked, still_here}
+use Rattle.steps.proofs.readers.count_nested.Goals as goal
 
 pub read_unlock-requires : goal.read_unlock-requires
 read_unlock-requires c =

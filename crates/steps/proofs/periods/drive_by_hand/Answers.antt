@@ -1,7 +1,7 @@
 -- Each call leaves the processor in its domain, and the cookie was given there.
 use Rattle.std.proofs.Common.{sym, ap, ◌∙◌}
-use Rattle.tour.proofs.Reading.{begun_here}
-use Rattle.tour.proofs.tests.drive_by_hand.Goals as goal
+use Rattle.steps.proofs.Reading.{begun_here}
+use Rattle.steps.proofs.periods.drive_by_hand.Goals as goal
 
 pub start_poll-cookie-requires : goal.start_poll-cookie-requires
 start_poll-cookie-requires c = c.requires
@@ -21,14 +21,17 @@ advance-waiting-requires c = c.advance-flipped.ensures.here
 pub read_unlock-requires : goal.read_unlock-requires
 read_unlock-requires c = begun_here _ _ _ c.in_ok-section.ensures.locks
 
+pub poll-early-requires : goal.poll-early-requires
+poll-early-requires c = ap (λ k. k.domain) c.start_poll-cookie.ensures.starts.gives.cookie_is ∙ (c.requires.domain ∙ sym c.advance-waiting.ensures.here.domain)
+
 pub advance-ended-requires : goal.advance-ended-requires
-advance-ended-requires c = c.advance-waiting.ensures.here
+advance-ended-requires c = c.poll-early.ensures.stays _ c.advance-waiting.ensures.here
 
 pub advance-idle-requires : goal.advance-idle-requires
 advance-idle-requires c = c.advance-ended.ensures.here
 
 pub poll-done-requires : goal.poll-done-requires
-poll-done-requires c = ap (λ k. k.domain) c.start_poll-cookie.ensures.starts.gives.cookie_is ∙ (c.requires.domain ∙ sym c.advance-idle.ensures.here.domain)
+poll-done-requires c = ap (λ k. k.domain) (c.poll-early.ensures.cookie ∙ c.start_poll-cookie.ensures.starts.gives.cookie_is) ∙ (c.requires.domain ∙ sym c.advance-idle.ensures.here.domain)
 
 pub start-again-requires : goal.start-again-requires
 start-again-requires c = c.poll-done.ensures.stays _ c.advance-idle.ensures.here

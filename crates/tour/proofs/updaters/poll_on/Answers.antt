@@ -1,0 +1,18 @@
+-- The processor stays in its domain, and the cookie is one of that.
+use Rattle.std.proofs.Common.{sym, ap, ◌∙◌}
+use Rattle.tour.proofs.updaters.poll_on.Goals as goal
+
+pub loop-init : goal.loop-init
+loop-init g c = record { here = c.requires.cpu; cookie = c.requires.cookie }
+
+pub poll-requires : goal.poll-requires
+poll-requires g c = c.loop.invariant.cookie ∙ sym c.loop.invariant.here.domain
+
+pub advance-requires : goal.advance-requires
+advance-requires g c = c.poll.ensures.stays _ c.loop.invariant.here
+
+pub loop-preserved : goal.loop-preserved
+loop-preserved g c = record {
+  here = c.advance.ensures.here;
+  cookie = ap (λ k. k.domain) c.poll.ensures.cookie ∙ c.loop.invariant.cookie;
+}
