@@ -4,9 +4,16 @@ use Rattle.sections.specs.declared.limits.Limits.{Limits}
 use Rattle.sections.specs.declared.limits.MakeError.{MakeError}
 use Rattle.sections.specs.declared.limits.MakeError.TheVariants as refused
 
+-- the most processors that a domain may have, and the most sections of one index that each of them may begin: together they begin no more than 2 ^ 60
+abbrev pub most_processors : ℕ
+most_processors = 256
+
+abbrev pub most_sections : ℕ
+most_sections = 2 ^ 52
+
 pub record AreInRange (limits : Limits) : Type 0 where
   pub some_sections : 1 ≤ limits.sections
-  pub sections : limits.sections ≤ 2 ^ 54
+  pub sections : limits.sections ≤ most_sections
   pub some_periods : 1 ≤ limits.periods
   pub periods : limits.periods < 2 ^ 59
   pub cells : limits.cells ≤ 4

@@ -7,7 +7,7 @@ use Rattle.sections.specs.declared.limits.MakeError.{MakeError}
 use Rattle.sections.specs.declared.limits.MakeError.TheVariants as refused
 use Rattle.sections.specs.declared.view.Role.TheVariants.{Driver}
 use Rattle.sections.specs.declared.view.Right.TheVariants.{Nothing, Undealt}
-use Rattle.sections.specs.Limits.{AreInRange}
+use Rattle.sections.specs.Limits.{AreInRange, most_processors}
 use Rattle.sections.specs.Words.{word_count}
 use Rattle.sections.specs.Rule.{AreSmall, founder}
 use Rattle.sections.specs.Seats.{DomainSeat}
@@ -15,14 +15,14 @@ use Rattle.sections.specs.Views.{CpuView, EngineView}
 use Rattle.sections.specs.Calls.{AreNew}
 use Rattle.sections.specs.EngineCalls.{new_engine}
 
--- a domain has 1 to 64 processors
+-- a domain may have so many processors
 abbrev pub IsCount : ℕ → Type 0
-IsCount processors = (1 ≤ processors) × (processors ≤ 64)
+IsCount processors = (1 ≤ processors) × (processors ≤ most_processors)
 
 -- in a domain of these bounds no counter comes near 2 ^ 64
 pub record IsSmall (bounds : Bounds) : Type 0 where
   pub some : 1 ≤ bounds.processors
-  pub processors : bounds.processors ≤ 256
+  pub processors : bounds.processors ≤ most_processors
   pub words : AreSmall bounds
   pub cells : bounds.cells ≤ 4
 

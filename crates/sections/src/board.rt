@@ -14,6 +14,7 @@
 //! and the places of a processor's counters don't depend on how many cells there are. One word more for each cell, at the
 //! very end, lets the number of words tell how many cells there are.
 ghost use Rattle.std.specs.Prelude.{◌≡◌, ◌<◌, ◌≤◌};
+ghost use Rattle.sections.specs.Limits.{most_processors};
 ghost use Rattle.sections.specs.Words.{lock_place, unlock_place, cell_place, word_place, word_count, cells_in};
 ghost use Rattle.sections.specs.Pens.{IsWide};
 ghost use Rattle.sections.specs.Rule.{Kept, founder};
@@ -45,7 +46,7 @@ pub(crate) fn place_of_unlock(processor: u16, index: Index) -> usize
 
 /// How many words a domain has.
 pub(crate) fn words_of(bounds: Bounds) -> usize
-    requires { (bounds.processors ≤ 256) × (bounds.cells ≤ 4) }
+    requires { (bounds.processors ≤ most_processors) × (bounds.cells ≤ 4) }
     ensures { result ≡ word_count bounds.processors bounds.cells }
 {
     16 * bounds.processors + 145 * bounds.cells + 32

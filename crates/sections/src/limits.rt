@@ -7,12 +7,12 @@ use std::fmt;
 
 /// How many processors a domain may have, at most. With [`Limits::MOST_SECTIONS`] on each of them no more than 2^60
 /// sections of one index are ever begun, and no more of them end.
-pub const MOST_PROCESSORS: usize = 64;
+pub const MOST_PROCESSORS: usize = 256;
 
 /// The limits of a domain. Each is checked when the domain is made.
 #[derive(Clone, Copy, Debug, PartialEq, Eq)]
 pub struct Limits {
-    /// How many sections of one index a processor may ever begin: 1 to 2^54.
+    /// How many sections of one index a processor may ever begin: 1 to 2^52.
     pub sections: u64,
     /// How many grace periods there may ever be: 1 to 2^59 - 1.
     pub periods: u64,
@@ -23,8 +23,8 @@ pub struct Limits {
 }
 
 impl Limits {
-    /// The most sections of one index that a processor may ever begin, 2^54.
-    pub const MOST_SECTIONS: u64 = 18_014_398_509_481_984;
+    /// The most sections of one index that a processor may ever begin, 2^52.
+    pub const MOST_SECTIONS: u64 = 4_503_599_627_370_496;
     /// The most grace periods of a domain, 2^59 - 1.
     pub const MOST_PERIODS: u64 = 576_460_752_303_423_487;
 

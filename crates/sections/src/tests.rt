@@ -418,18 +418,18 @@ fn held_goes_to_another_thread(rt: HostRuntime) -> Result<(), Fail> {
     Ok(())
 }
 
-/// Whether one section of index 0 was begun and ended on each of 64 processors.
+/// Whether one section of index 0 was begun and ended on each of 256 processors.
 fn once_on_each(engine: &mut EngineSeat) -> bool
-    requires { engine.old.processors ≡ 64 }
+    requires { engine.old.processors ≡ 256 }
 {
     let mut once = true;
-    for processor in 0..64 {
+    for processor in 0..256 {
         once &= counted(engine, processor, Index::Zero) == (1, 1);
     }
     once
 }
 
-/// Would catch counters that two of 64 processors share, and a processor that is not dealt.
+/// Would catch counters that two of 256 processors share, and a processor that is not dealt.
 #[test]
 fn most_processors(rt: HostRuntime) -> Result<(), Fail> {
     let Made {
@@ -437,7 +437,7 @@ fn most_processors(rt: HostRuntime) -> Result<(), Fail> {
         mut engine,
         ..
     } = make(rt.alloc(), MOST_PROCESSORS, limits(1))?;
-    assert_eq!(rt; (cpus.len(), engine.processors()), (64, 64));
+    assert_eq!(rt; (cpus.len(), engine.processors()), (256, 256));
     for (k, cpu) in cpus.iter_mut().enumerate() {
         assert_eq!(rt; begin_and_end(cpu), Some((Index::Zero, k as u16, 1, 0)));
     }
@@ -547,7 +547,7 @@ fn refusal(alloc: Global, processors: usize, limits: Limits) -> Option<MakeError
 #[test]
 fn refuses_to_make(rt: HostRuntime) {
     let most = Limits {
-        sections: 1 << 54,
+        sections: 1 << 52,
         periods: (1 << 59) - 1,
         cells: 0,
         slots: 2,
@@ -561,7 +561,7 @@ fn refuses_to_make(rt: HostRuntime) {
         no_sections,
         no_periods,
         Limits {
-            sections: (1 << 54) + 1,
+            sections: (1 << 52) + 1,
             ..most
         },
         Limits {
@@ -581,7 +581,7 @@ fn refuses_to_make(rt: HostRuntime) {
             );
         }
     }
-    for processors in [0, 65] {
+    for processors in [0, 257] {
         for limits in [most, no_sections, no_periods] {
             assert_eq!(rt;
                 (limits, refusal(rt.alloc(), processors, limits)),

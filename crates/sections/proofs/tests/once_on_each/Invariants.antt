@@ -3,4 +3,4 @@ use Rattle.std.proofs.Common.{◌≡◌}
 use Rattle.sections.proofs.tests.once_on_each.Given as goal
 
 abbrev pub invariant-loop-processor : goal.invariant-loop-processor
-invariant-loop-processor l = l.engine.processors ≡ 64
+invariant-loop-processor l = l.engine.processors ≡ 256
