@@ -24,20 +24,42 @@ fn ask_at(seats: &mut [FunnelSeat], processor: usize, asked: u64) -> Option<Leve
 /// Would catch a call that stops too soon or too late, or that starts at another leaf.
 #[test]
 fn levels(rt: HostRuntime) -> Result<(), Fail> {
-    let (mut seats, mut engine) = make(rt.alloc(), 64)?;
-    let calls = [
-        (0, 4, 3, false, 4),
-        (1, 4, 1, true, 4),
-        (4, 4, 2, true, 4),
-        (16, 8, 3, false, 8),
-        (0, 8, 3, true, 8),
+    let trees = [
+        (
+            64,
+            [
+                (0, 4, 3, false, 4),
+                (1, 4, 1, true, 4),
+                (4, 4, 2, true, 4),
+                (16, 8, 3, false, 8),
+                (0, 8, 3, true, 8),
+            ],
+        ),
+        (
+            256,
+            [
+                (0, 4, 4, false, 4),
+                (64, 4, 4, true, 4),
+                (1, 4, 1, true, 4),
+                (16, 4, 3, true, 4),
+                (255, 8, 4, false, 8),
+            ],
+        ),
     ];
-    for (processor, asked, nodes, found, root) in calls {
-        let level = ask_at(seats.as_mut_slice(), processor, asked);
-        assert_eq!(rt;
-            (processor, level, engine.root_need()),
-            (processor, Some(Level { nodes, found }), number(root))
-        );
+    for (processors, calls) in trees {
+        let (mut seats, mut engine) = make(rt.alloc(), processors)?;
+        for (processor, asked, nodes, found, root) in calls {
+            let level = ask_at(seats.as_mut_slice(), processor, asked);
+            assert_eq!(rt;
+                (processors, processor, level, engine.root_need()),
+                (
+                    processors,
+                    processor,
+                    Some(Level { nodes, found }),
+                    number(root)
+                )
+            );
+        }
     }
     Ok(())
 }
