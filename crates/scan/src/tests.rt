@@ -54,7 +54,7 @@ fn new_domain(
 /// Would catch an answer that no clause tells apart from another, and a period that does not get on.
 #[test]
 fn advances(rt: HostRuntime) -> Result<(), Fail> {
-    for processors in [1, 2, 64] {
+    for processors in [1, 2, 256] {
         let (_cpus, mut engine) = new_domain(rt.alloc(), processors, 1, 4)?;
         for answer in [
             Progress::Started(number(1)),
