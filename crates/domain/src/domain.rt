@@ -46,7 +46,7 @@ impl<J, A: Allocator> Model for Domain<J, A> {
 }
 
 impl<J, A: Allocator> Domain<J, A> {
-    /// How many processors the domain has: 1 to 64.
+    /// How many processors the domain has: 1 to 256.
     pub fn processors(&self) -> u16
         ensures { result ≡ self.now.processors }
     {

@@ -80,18 +80,18 @@ fn new_in_little_room(rt: HostRuntime) -> Result<(), Fail> {
     panic!(rt; "it never fits")
 }
 
-/// The numbers of the last two of 64 processors, and a period that the last one holds up.
+/// The numbers of the last two of 256 processors, and a period that the last one holds up.
 fn hold_up_by_the_last<R: AllocGlobal>(rt: &R) -> Result<((u16, u16), Option<HeldUp>), MakeError> {
-    let (domain, mut driver, mut last) = last_two(rt.alloc(), 64, SCARCE)?;
+    let (domain, mut driver, mut last) = last_two(rt.alloc(), 256, SCARCE)?;
     let numbers = (driver.processor(), last.processor());
     Ok((numbers, hold_up(&domain, &mut driver, &mut last)))
 }
 
-/// Would catch a processor that is not dealt or that a scan leaves out, as where it goes over 63 of 64.
+/// Would catch a processor that is not dealt or that a scan leaves out, as where it goes over 255 of 256.
 #[test]
-fn sixty_four(rt: HostRuntime) -> Result<(), Fail> {
+fn most_processors(rt: HostRuntime) -> Result<(), Fail> {
     let (numbers, period) = hold_up_by_the_last(&rt)?;
-    assert_eq!(rt; (numbers, period), ((62, 63), Some(held_up())));
+    assert_eq!(rt; (numbers, period), ((254, 255), Some(held_up())));
     Ok(())
 }
 
@@ -172,7 +172,7 @@ fn what_is_not_made(rt: HostRuntime) -> Result<(), Fail> {
             ..AMPLE
         },
         Limits {
-            sections: (1 << 54) + 1,
+            sections: (1 << 52) + 1,
             ..AMPLE
         },
         Limits {
@@ -185,14 +185,14 @@ fn what_is_not_made(rt: HostRuntime) -> Result<(), Fail> {
         },
         Limits { cells: 5, ..AMPLE },
     ];
-    for processors in [1, 64] {
+    for processors in [1, 256] {
         assert_eq!(rt; refusal(rt.alloc(), processors, AMPLE), None);
         for limits in wrong {
             let refused = refusal(rt.alloc(), processors, limits);
             assert_eq!(rt; (limits, refused), (limits, Some(MakeError::Limits)));
         }
     }
-    for processors in [0, 65, usize::MAX] {
+    for processors in [0, 257, usize::MAX] {
         for limits in [AMPLE, SCARCE, Limits { cells: 5, ..AMPLE }] {
             let refused = refusal(rt.alloc(), processors, limits);
             assert_eq!(rt; (limits, refused), (limits, Some(MakeError::Processors)));
