@@ -5,6 +5,7 @@ use mathlib.Core.Logic.{dite}
 use native.Mathlib.Decide.{ℕ_discrete}
 use Rattle.atomic_table.specs.Seated.{TableId}
 use Rattle.sections.specs.declared.limits.Limits.{Limits}
+use Rattle.sections.specs.Limits.{most_processors}
 use Rattle.sections.specs.Calls.{IsSameCpu}
 use Rattle.funnel.specs.declared.view.Holder.TheVariants.{Processor}
 use Rattle.funnel.specs.Histories.{greatest}
@@ -127,8 +128,8 @@ module _ {J : Type 0} where
           by_place [] m inside = absurd (omega (arith, inside))
           by_place (c ∷ rest) m inside = let many = (m.all.here p c inside).many in let count = m.all.count p c inside in omega (arith, many, count, inside)
 
-      -- there are at most 64, so that the number of each has room
-      pub in_room : p < 64
+      -- there are so few that the number of each has room
+      pub in_room : p < most_processors
       in_room = let inside = placed in let all = met.together.hold.all in let most = met.together.hold.count.1 in omega (arith, all, most, inside)
 
       module _ {was : CpuView J} (is : was ≡ get_or cpus p was) where

@@ -46,7 +46,7 @@ impl<J, A: Allocator> Model for Solo<J, A> {
 
 impl<J: Drop, A: Allocator> Solo<J, A> {
     /// A domain in which nothing has happened, and the writers of its cells, in order; refused where it can't have so many
-    /// processors (1 to 64), or memory is.
+    /// processors (1 to 256), or memory is.
     pub fn new(
         alloc: A,
         processors: u64,
