@@ -8,7 +8,7 @@ pub enum Cause {
     Full,
     /// No section is parked.
     Empty,
-    /// A domain has 1 to 64 processors.
+    /// A domain has 1 to 256 processors.
     Processors,
     /// There was no memory for the domain, the job or the ticket.
     Memory,

@@ -143,7 +143,7 @@ impl Command {
                 word: "domain",
                 takes: &[Argument::NewDomain, Argument::AnyNumber],
                 form: "domain NAME N",
-                does: "makes a domain of N processors (1 to 64)",
+                does: "makes a domain of N processors (1 to 256)",
             },
             Command::Look => Row {
                 word: "look",

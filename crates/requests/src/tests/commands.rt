@@ -5,7 +5,7 @@ use std::test::Fail;
 
 /// The table as the help of the command line shows it.
 const HELP: &str = "
-  domain NAME N         makes a domain of N processors (1 to 64)
+  domain NAME N         makes a domain of N processors (1 to 256)
   look NAME P R         reads the current index on processor P, a look called R
   enter NAME P R        begins a section of that index on processor P, called R
   lock NAME P S         a look and a section at once; the section is called S
