@@ -1,10 +1,11 @@
 -- When all workers are back, what they counted is what the domain tells.
-use Rattle.std.proofs.Common.{◌≡◌, ℕ, ◌+◌, ◌<◌, ◌≤◌, List, [], ◌∷◌, ◌++◌, Option, Some, None, is_some, IfSome, map, length, get_or, sum_by, refl, sym, ap, ◌∙◌, subst, arith, length-append, Result, Ok, Err, MatchResult}
+use Rattle.std.proofs.Common.{◌≡◌, ℕ, ◌+◌, ◌*◌, ◌<◌, ◌≤◌, List, [], ◌∷◌, ◌++◌, Option, Some, None, is_some, IfSome, map, length, get_or, sum_by, refl, sym, ap, ◌∙◌, subst, arith, length-append, Result, Ok, Err, MatchResult}
 use Rattle.std.proofs.lemmas.List.{length-map, get_or-map}
 use Rattle.std.proofs.lemmas.List.Sums.{sum_by_push, sum_by-le}
 use Rattle.std.proofs.Math.Seq.{get_or-append_seam}
 use Rattle.std.specs.Result.{result_ok}
 use Rattle.onedom.proofs.CallerLemmas.{bit}
+use Rattle.sections.specs.Limits.{most_processors}
 use Rattle.sections.specs.Words.{opened_in, closed_in}
 use Rattle.sections.specs.Calls.{Unlocks}
 use Rattle.desk.specs.Views.{SeatView}
@@ -56,12 +57,12 @@ one_at_most (Some x) = omega arith
 
 -- Sums of what is left
 
-pub few_opened : (g : Course) (rs : List Reader) → IsCourse g → EachAt (IsBack g) rs → length rs ≤ 63 → opened_by rs ≤ 63000
+pub few_opened : (g : Course) (rs : List Reader) → IsCourse g → EachAt (IsBack g) rs → length rs < most_processors → opened_by rs ≤ 1000 * most_processors
 few_opened g rs course each few =
     let all = sum_by-le (λ (r : Reader). r.opened) 1000 rs (λ i d lt. let n = (each i d lt).opened in let most = course.few in omega (arith, n, most)) in
     omega (arith, all, few)
 
-pub few_closed : (g : Course) (rs : List Reader) → IsCourse g → EachAt (IsBack g) rs → length rs ≤ 63 → closed_by rs ≤ 63063
+pub few_closed : (g : Course) (rs : List Reader) → IsCourse g → EachAt (IsBack g) rs → length rs < most_processors → closed_by rs ≤ 1001 * most_processors
 few_closed g rs course each few =
     let all = sum_by-le (λ (r : Reader). r.closed) 1001 rs (λ i d lt. let n = (each i d lt).closed in let most = course.few in omega (arith, n, most)) in
     omega (arith, all, few)

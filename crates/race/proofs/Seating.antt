@@ -1,6 +1,7 @@
 -- Each processor gets the seat of its number.
 use Rattle.std.proofs.Common.{◌≡◌, ℕ, ◌+◌, ◌-◌, ◌^◌, ◌<◌, List, [], ◌++◌, Option, Some, None, option_to_list, IfSome, length, get_or, reverse, refl, sym, ap, ◌∙◌, subst, arith, append-nil}
 use Rattle.std.proofs.lemmas.List.{get_or-reverse, length-reverse}
+use Rattle.sections.specs.Limits.{most_sections}
 use Rattle.sections.specs.Words.{opened_in, closed_in}
 use Rattle.desk.specs.Views.{SeatView}
 use Rattle.desk.specs.Calls.{new_seat}
@@ -70,7 +71,7 @@ in_order g rs back is h i d lt =
 
 -- What a new domain gives
 
-pub made_cpus : (g : Course) (bounds : Bounds) (cpus : List (CpuView Unit)) → IsMade bounds g.domain cpus → Parts.Each (IsOf g.domain) cpus → bounds.sections ≡ 2 ^ 54 → EachCpu (IsNewCpu g) cpus
+pub made_cpus : (g : Course) (bounds : Bounds) (cpus : List (CpuView Unit)) → IsMade bounds g.domain cpus → Parts.Each (IsOf g.domain) cpus → bounds.sections ≡ most_sections → EachCpu (IsNewCpu g) cpus
 made_cpus g bounds cpus made here limit k c lt =
     let is = made.each k c lt in record {
       here = here k c lt;

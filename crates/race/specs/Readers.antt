@@ -1,5 +1,6 @@
 -- What a reader has, and what it tells of itself.
-use Rattle.std.specs.Prelude.{◌≡◌, ℕ, ◌+◌, ◌^◌, ◌≤◌, List, [], Option, Some, None, count_by, is_some}
+use Rattle.std.specs.Prelude.{◌≡◌, ℕ, ◌+◌, ◌≤◌, List, [], Option, Some, None, count_by, is_some}
+use Rattle.sections.specs.Limits.{most_sections}
 use Rattle.sections.specs.Words.{opened_in, closed_in}
 use Rattle.desk.specs.Swaps.{Swap, swaps_of}
 use Rattle.desk.specs.Views.{SeatView}
@@ -28,7 +29,7 @@ one_if None = 0
 -- a processor of the domain, whose limit of sections is the most that there may be, and a seat of the same number at the desk, for leases of the domain
 pub record IsReaderOf (g : Course) (r : Reader) : Type 0 where
   pub here : IsOf g.domain r.cpu
-  pub limit : r.cpu.cpu.sections ≡ 2 ^ 54
+  pub limit : r.cpu.cpu.sections ≡ most_sections
   pub desk : r.seat.desk ≡ g.desk.desk
   pub home : r.seat.domain ≡ g.domain.domain
   pub number : r.seat.number ≡ r.cpu.cpu.processor

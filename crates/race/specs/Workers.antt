@@ -1,5 +1,6 @@
 -- All workers of a race, and how they come back.
-use Rattle.std.specs.Prelude.{◌≡◌, ℕ, ◌+◌, ◌^◌, ◌<◌, ◌≤◌, List, [], length, sum_by, slice_index_or, vec_len, vec_capacity}
+use Rattle.std.specs.Prelude.{◌≡◌, ℕ, ◌+◌, ◌<◌, ◌≤◌, List, [], length, sum_by, slice_index_or, vec_len, vec_capacity}
+use Rattle.sections.specs.Limits.{most_sections}
 use Rattle.domain.specs.Views.{CpuView, IsOf}
 use Rattle.race.specs.declared.course.Course.{Course}
 use Rattle.race.specs.declared.reader.Reader.{Reader}
@@ -24,7 +25,7 @@ EachCpu P cpus = (i : ℕ) (d : CpuView Unit) → i < length cpus → P i (slice
 -- the processor of this number has done nothing yet
 pub record IsNewCpu (g : Course) (number : ℕ) (c : CpuView Unit) : Type 0 where
   pub here : IsOf g.domain c
-  pub limit : c.cpu.sections ≡ 2 ^ 54
+  pub limit : c.cpu.sections ≡ most_sections
   pub number_is : c.cpu.processor ≡ number
   pub none : c.cpu.mine ≡ []
   pub idle : c.calls.seen ≡ []

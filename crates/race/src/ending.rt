@@ -1,5 +1,6 @@
 //! How a race ends.
 ghost use Rattle.std.specs.Prelude.{◌≡◌, ◌+◌, ◌<◌, ◌≤◌, length, map, vec_capacity};
+ghost use Rattle.sections.specs.Limits.{most_processors};
 ghost use Rattle.desk.specs.Calls.{AreAllSeats};
 ghost use Rattle.race.specs.Courses.{IsCourse};
 ghost use Rattle.race.specs.Workers.{EachAt, IsBack, AreBack, opened_by, closed_by, HasRoom};
@@ -27,7 +28,7 @@ struct Sums {
 fn take_apart(course: &Course, readers: Vec<Reader>, parts: Parts) -> Sums
     requires course { IsCourse course.now }
     requires each { EachAt (IsBack course.now) readers.items }
-    requires few { length readers.items ≤ 63 }
+    requires few { length readers.items < most_processors }
     requires room { HasRoom (length readers.items) parts }
     ensures cpus { result.parts.cpus.items ≡ map (λ r. r.cpu) readers.items }
     ensures room { length readers.items < vec_capacity result.parts.cpus }
@@ -67,7 +68,7 @@ fn close_desk(desk: Desk<Lease>, seats: Vec<DeskSeat<Lease>>, cpu: &mut Cpu<()>)
 pub fn end(course: Course, workers: Workers, parts: Parts) -> RaceTotals
     requires course { IsCourse course }
     requires many { course.domain.processors ≡ course.desk.seats + 1 }
-    requires few { (1 ≤ course.desk.seats) × (course.desk.seats ≤ 63) }
+    requires few { (1 ≤ course.desk.seats) × (course.desk.seats < most_processors) }
     requires back { AreBack course workers }
     requires room { HasRoom course.desk.seats parts }
     ensures counts { AreCounts course.rounds result }

@@ -1,5 +1,6 @@
 //! What a race begins with.
-ghost use Rattle.std.specs.Prelude.{◌≡◌, ◌≤◌, IfOk, vec_len, vec_capacity};
+ghost use Rattle.std.specs.Prelude.{◌≡◌, ◌<◌, ◌≤◌, IfOk, vec_len, vec_capacity};
+ghost use Rattle.sections.specs.Limits.{most_processors};
 ghost use Rattle.desk.specs.Calls.{AreNewSeats};
 ghost use Rattle.race.specs.Courses.{IsCourse};
 ghost use Rattle.race.specs.Workers.{EachAt, IsNewReader, EachCpu, IsNewCpu, IsPrepared};
@@ -65,7 +66,7 @@ fn seat_all(
 /// Makes a domain, a desk and the workers. Memory is taken before the desk is made, for all that comes: a desk must be
 /// closed with its seats.
 pub fn prepare(alloc: Global, many: usize, rounds: u64) -> Result<Start, Memory>
-    requires many { (1 ≤ many) × (many ≤ 63) }
+    requires many { (1 ≤ many) × (many < most_processors) }
     requires rounds { rounds ≤ 1000 }
     ensures { IfOk result (IsPrepared many rounds) }
 {

@@ -1,5 +1,6 @@
 //! A whole race.
-ghost use Rattle.std.specs.Prelude.{◌≤◌, IfOk};
+ghost use Rattle.std.specs.Prelude.{◌<◌, ◌≤◌, IfOk};
+ghost use Rattle.sections.specs.Limits.{most_processors};
 ghost use Rattle.race.specs.Totals.{AreTotals};
 
 use crate::ending::end;
@@ -20,7 +21,7 @@ use std::thread::Threads;
 /// free for a version it drives grace periods, and after its rounds too, and runs callbacks, until all of them are
 /// finished.
 ///
-/// There are 1 to 63 readers and 1 to 1000 rounds. Each reader has a thread of its own, and passes the gate twice in each
+/// There are 1 to 255 readers and 1 to 1000 rounds. Each reader has a thread of its own, and passes the gate twice in each
 /// round. The call waits for all of them, and so for as long as the gate holds one up.
 ///
 /// [`Memory`] where memory was wanting, or a thread could not be started. Then, too, all threads have ended, and all
@@ -31,7 +32,7 @@ pub fn race<R: Threads + Sync + Wait + AllocGlobal, G: Gate + Sync>(
     rounds: u64,
     gate: &G,
 ) -> Result<RaceTotals, Memory>
-    requires readers { (1 ≤ readers) × (readers ≤ 63) }
+    requires readers { (1 ≤ readers) × (readers < most_processors) }
     requires rounds { (1 ≤ rounds) × (rounds ≤ 1000) }
     ensures { IfOk result (AreTotals readers rounds) }
 {

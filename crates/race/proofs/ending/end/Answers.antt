@@ -1,5 +1,6 @@
 -- The seats and the processors are those of all workers, so what these counted is what the domain tells.
-use Rattle.std.proofs.Common.{◌+◌, ◌≤◌, ◌∷◌, [], ◌++◌, List, length, refl, sym, ap, ◌∙◌, subst, arith}
+use Rattle.std.proofs.Common.{◌+◌, ◌<◌, ◌∷◌, [], ◌++◌, List, length, refl, sym, ap, ◌∙◌, subst, arith}
+use Rattle.sections.specs.Limits.{most_processors}
 use Rattle.desk.specs.Views.{SeatView}
 use Rattle.desk.specs.Calls.{AreAllSeats}
 use Rattle.domain.specs.Views.{CpuView}
@@ -13,7 +14,7 @@ close_desk-closed-requires-clause-seats c = subst (λ (l : List (SeatView LeaseV
 
 pub overflow_add-closed : goal.overflow_add-closed
 overflow_add-closed c =
-    let few : length c.args.workers.readers.items ≤ 63 = (let many = c.requires.back.many in let most = c.requires.few.1 in omega (arith, many, most)) in
+    let few : length c.args.workers.readers.items < most_processors = (let many = c.requires.back.many in let most = c.requires.few.1 in omega (arith, many, most)) in
     let all = few_closed c.args.course c.args.workers.readers.items c.requires.course c.requires.back.each few in
     let closed = c.take_apart-parts.ensures.closed in
     let one = c.close_desk-closed.ensures.closes.one in

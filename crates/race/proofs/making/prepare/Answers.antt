@@ -2,6 +2,7 @@
 use Rattle.std.proofs.Common.{◌≡◌, ◌<◌, ◌+◌, vec_len, length, refl, sym, ap, ◌∙◌, subst, arith}
 use Rattle.std.proofs.lemmas.List.Elements.{All-pop}
 use Rattle.sections.specs.declared.limits.Limits.{Limits}
+use Rattle.sections.specs.Limits.{most_sections}
 use Rattle.sections.specs.Making.{bounds_of}
 use Rattle.sections.specs.WriterViews.{WriterView}
 use Rattle.domain.proofs.CallerLemmas.{writers_here}
@@ -11,7 +12,7 @@ use Rattle.race.proofs.Seating.{popped, made_cpus, new_updater}
 use Rattle.race.proofs.making.prepare.Goals as goal
 
 abbrev limits : Limits
-limits = record { sections = 18014398509481984; periods = 576460752303423487; cells = 1; slots = 4 }
+limits = record { sections = most_sections; periods = 576460752303423487; cells = 1; slots = 4 }
 
 pub seat_all-readers-requires-clause-course : goal.seat_all-readers-requires-clause-course
 seat_all-readers-requires-clause-course c =
