@@ -46,14 +46,14 @@ function token_name() {
 
 function processor() {
     if (chance(faults))
-        return chance(50) ? bad_number() : one_of("2,3,7,63,64,18446744073709551615")
+        return chance(50) ? bad_number() : one_of("2,3,7,63,64,255,256,18446744073709551615")
     return below(chance(50) ? 2 : most_processors)
 }
 
 function processors() {
     if (chance(faults))
         return bad_number()
-    return chance(20) ? one_of("0,65,66,256,18446744073709551615") : 1 + below(most_processors)
+    return chance(20) ? one_of("0,257,258,512,18446744073709551615") : 1 + below(most_processors)
 }
 
 function cookie() {
@@ -190,7 +190,7 @@ BEGIN {
     faults = one_of("0,1,5,20")
     domains = one_of("1,2,3,12")
     tokens = one_of("1,3,8,30")
-    most_processors = one_of("2,2,5,64")
+    most_processors = one_of("2,2,5,64,256")
     long_names = chance(20)
     printf "#%s\n", chance(70) ? options() : ""
     for (i = 0; i < domains && chance(90); i++)

@@ -1,6 +1,7 @@
 //! The command line.
 ghost use Rattle.std.specs.Prelude.{◌≡◌, ◌-◌, ◌^◌, codes};
 ghost use Rattle.clap.specs.Words.{found_of, one_text};
+ghost use Rattle.sections.specs.Limits.{most_sections};
 ghost use Rattle.srcuctl.specs.Options.{SetsLimit};
 
 use crate::racing;
@@ -17,7 +18,7 @@ const VERSION: &str = "0.1.0";
 
 const OF_SECTIONS: &str = "\
 How many sections of one index a processor may begin:
-1 to 18014398509481984 (2^54); if left out, the most";
+1 to 4503599627370496 (2^52); if left out, the most";
 
 const OF_PERIODS: &str = "\
 How many grace periods a domain may have:
@@ -52,7 +53,7 @@ pub fn command<'a>(alloc: Global, of_scripts: &'a str) -> Result<Command<'a>, Er
 
 /// The limits that the options of `run` set. A domain has two cells, its chain's and its table's, of four slots each.
 pub fn limits_of(matches: &ArgMatches<'_>) -> Limits
-    ensures sections { SetsLimit (2 ^ 54) (one_text (found_of matches.now) (codes "sections")) result.sections }
+    ensures sections { SetsLimit most_sections (one_text (found_of matches.now) (codes "sections")) result.sections }
     ensures periods { SetsLimit (2 ^ 59 - 1) (one_text (found_of matches.now) (codes "periods")) result.periods }
     ensures cells { result.cells ≡ 2 }
     ensures slots { result.slots ≡ 4 }

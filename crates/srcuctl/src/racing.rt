@@ -8,6 +8,7 @@ use clap::builder::ValueParser;
 use clap::{Arg, ArgMatches, Command, Error};
 use lines::RunError;
 use race::{At, Gate, RaceTotals, race};
+use sections::MOST_PROCESSORS;
 use std::alloc::{AllocGlobal, Global};
 use std::io::Write;
 use std::sync::Wait;
@@ -16,7 +17,7 @@ use std::thread::Threads;
 #[cfg(test)]
 mod tests;
 
-const OF_READERS: &str = "How many threads read: 1 to 63";
+const OF_READERS: &str = "How many threads read: 1 to 255";
 
 const OF_ROUNDS: &str = "How many rounds each thread makes: 1 to 1000";
 
@@ -39,9 +40,10 @@ In the end there are five lines, each a word and a count:
 The status is 0, or 2 where writing failed, memory ran out, or a thread could
 not be started.";
 
-/// How many readers and rounds there are at most.
-const MOST_READERS: u64 = 63;
+/// How many readers there are at most: each has a processor, and the updater has one.
+const MOST_READERS: u64 = MOST_PROCESSORS as u64 - 1;
 
+/// How many rounds there are at most.
 const MOST_ROUNDS: u64 = 1000;
 
 /// How large a race is.
@@ -52,7 +54,7 @@ pub struct Size {
 }
 
 impl Size {
-    /// Whether there are 1 to 63 readers and 1 to 1000 rounds.
+    /// Whether there are 1 to 255 readers and 1 to 1000 rounds.
     pub fn is_in_range(self) -> bool
         ensures { IsTrue result ↔ IsInRange self }
     {

@@ -237,7 +237,7 @@ fn refuses(rt: HostRuntime) -> Result<(), Fail> {
         },
         &[
             ("domain a 0", "refused domain processors"),
-            ("domain a 65", "refused domain processors"),
+            ("domain a 257", "refused domain processors"),
             ("domain a 18446744073709551615", "refused domain processors"),
             ("domain a 2", "made a 2"),
             ("lock a 1 s", "index 0"),

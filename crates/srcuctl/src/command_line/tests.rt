@@ -20,7 +20,7 @@ fn check(alloc: Global, words: &[&str], limits: Option<(u64, u64)>) -> Result<bo
     Ok(limits_by(alloc, words)? == wanted)
 }
 
-const MOST: (u64, u64) = (18_014_398_509_481_984, 576_460_752_303_423_487);
+const MOST: (u64, u64) = (4_503_599_627_370_496, 576_460_752_303_423_487);
 
 #[test]
 fn options_set_limits(rt: HostRuntime) -> Result<(), Fail> {
@@ -33,14 +33,14 @@ fn options_set_limits(rt: HostRuntime) -> Result<(), Fail> {
             Some((20, 7)),
         ),
         (
-            &["srcuctl", "run", "--sections", "18014398509481984"],
+            &["srcuctl", "run", "--sections", "4503599627370496"],
             Some(MOST),
         ),
         (
             &["srcuctl", "run", "--periods", "576460752303423487"],
             Some(MOST),
         ),
-        (&["srcuctl", "run", "--sections", "18014398509481985"], None),
+        (&["srcuctl", "run", "--sections", "4503599627370497"], None),
         (&["srcuctl", "run", "--periods", "576460752303423488"], None),
         (
             &["srcuctl", "run", "--sections", "18446744073709551617"],
@@ -85,7 +85,7 @@ Usage: srcuctl run [OPTIONS]
 
 Options:
       --sections <N>  How many sections of one index a processor may begin:
-                      1 to 18014398509481984 (2^54); if left out, the most
+                      1 to 4503599627370496 (2^52); if left out, the most
       --periods <N>   How many grace periods a domain may have:
                       1 to 576460752303423487 (2^59 - 1); if left out, the most
   -h, --help          Print help
@@ -100,7 +100,7 @@ Has threads use one table of plug-ins at once, and tells their counts
 Usage: srcuctl race --readers <R> --rounds <N>
 
 Options:
-      --readers <R>  How many threads read: 1 to 63
+      --readers <R>  How many threads read: 1 to 255
       --rounds <N>   How many rounds each thread makes: 1 to 1000
   -h, --help         Print help
 
@@ -140,9 +140,9 @@ fn race_by(alloc: Global, options: [&str; 4]) -> Result<Option<(u64, u64)>, Erro
 fn options_set_a_race(rt: HostRuntime) -> Result<(), Fail> {
     let rows = [
         (["--readers", "2", "--rounds", "3"], Some((2, 3))),
-        (["--rounds", "1000", "--readers", "63"], Some((63, 1000))),
+        (["--rounds", "1000", "--readers", "255"], Some((255, 1000))),
         (["--readers", "1", "--rounds", "1"], Some((1, 1))),
-        (["--readers", "64", "--rounds", "1"], None),
+        (["--readers", "256", "--rounds", "1"], None),
         (["--readers", "1", "--rounds", "1001"], None),
         (["--readers", "0", "--rounds", "1"], None),
         (["--readers", "1", "--rounds", "0"], None),

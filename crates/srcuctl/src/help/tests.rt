@@ -6,7 +6,7 @@ fn shows_each_command(rt: HostRuntime) -> Result<(), Fail> {
     let text = of_scripts(rt.alloc())?;
     assert!(rt;
         text.contains(
-            "\n\n  domain NAME N         makes a domain of N processors (1 to 64)\n  look NAME P R "
+            "\n\n  domain NAME N         makes a domain of N processors (1 to 256)\n  look NAME P R "
         )
     );
     for command in Command::ALL {

@@ -142,7 +142,7 @@ fn each_processor_does_each_line(rt: HostRuntime) -> Result<(), Fail> {
         }
     }
     let mut rows = Vec::new(rt.alloc());
-    push_rows(rt.alloc(), &mut rows, &LINES, 64, 63)?;
+    push_rows(rt.alloc(), &mut rows, &LINES, 256, 255)?;
     check_rows(&rt, &rows)
 }
 

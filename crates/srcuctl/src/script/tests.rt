@@ -20,7 +20,7 @@ mod periods;
 mod tables;
 
 const LIMITS: Limits = Limits {
-    sections: 18_014_398_509_481_984,
+    sections: 4_503_599_627_370_496,
     periods: 576_460_752_303_423_487,
     cells: 2,
     slots: 4,
@@ -53,7 +53,7 @@ const STARTED_REPLIES: [&str; 8] = [
 const TWO_READERS: &str = "\
 # Two readers of one domain, and a grace period from its start to its end.
 #
-# A domain has a name and up to 64 processors. Each line below gets one reply.
+# A domain has a name and up to 256 processors. Each line below gets one reply.
 domain web 2
 
 # A section is begun on a processor and has a name. Its index says which of the
@@ -128,7 +128,7 @@ lock web zero b
 lock web 0 averyveryverylongname
 # Refusals are no faults: what was asked can't be done, and nothing changes.
 domain db 0
-domain db 65
+domain db 257
 start web 0
 start web 0
 # Domains don't know of each other.

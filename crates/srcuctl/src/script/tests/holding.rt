@@ -72,3 +72,23 @@ fn ends_on_the_other_processor(rt: HostRuntime) -> Result<(), Fail> {
         ],
     )
 }
+
+/// Would catch a processor from 64 on that is not dealt, that a scan leaves out, or whose need stays below the root.
+#[test]
+fn most_processors(rt: HostRuntime) -> Result<(), Fail> {
+    check(
+        &rt,
+        LIMITS,
+        &[
+            ("domain a 256", "made a 256"),
+            ("down a 255 x", "index 0"),
+            ("ask a 128", "cookie 4"),
+            ("advance a 0", "started 1"),
+            ("advance a 0", "flipped 1"),
+            ("advance a 0", "waiting 0"),
+            ("up a 0 x", "closed"),
+            ("advance a 64", "ended 4"),
+            ("domain b 257", "refused domain processors"),
+        ],
+    )
+}
