@@ -27,7 +27,7 @@ static struct processor holders[2];
 static struct cell cell;
 static struct table table = { processors };
 static struct cpu cpus[MOST_PROCESSORS];
-static const uint64_t most_sections = (uint64_t)1 << 54;
+static const uint64_t most_sections = (uint64_t)1 << 52;
 
 /* As `read_lock` and `read_unlock`: the index is loaded, and two counters go up by one. */
 static void make_pairs(const struct worker *worker)

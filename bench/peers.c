@@ -172,7 +172,7 @@ int main(int count, char **words)
 
 	if (count != 4)
 		fail("usage: peers ROUNDS REPETITIONS MOST");
-	rounds = number_up_to(words[1], 1ull << 54);
+	rounds = number_up_to(words[1], 1ull << 52);
 	repetitions = (unsigned)number_up_to(words[2], MOST_REPETITIONS);
 	most = (unsigned)number_up_to(words[3], MOST_THREADS);
 	for (unsigned i = 0; i < sizeof things / sizeof things[0]; i++)

@@ -1,5 +1,6 @@
 -- A new domain with one cell, for readers and one who changes what lies in the cell.
 use Rattle.std.specs.Prelude.{◌≡◌, ℕ, ◌+◌, ◌-◌, ◌^◌, ◌<◌, List, length, slice_index_or}
+use Rattle.sections.specs.Limits.{most_sections}
 use Rattle.sections.specs.declared.view.Bounds.{Bounds}
 use Rattle.sections.specs.WriterViews.{WriterView}
 use Rattle.sections.specs.Dealing.{new_writer}
@@ -9,7 +10,7 @@ use Rattle.domain.specs.Making.{new_cpu}
 
 -- a processor for each reader and one for who changes, with as many sections and grace periods as there may be, and one cell
 abbrev pub bounds_for : ℕ → Bounds
-bounds_for readers = record { processors = readers + 1; sections = 2 ^ 54; periods = 2 ^ 59 - 1; cells = 1 }
+bounds_for readers = record { processors = readers + 1; sections = most_sections; periods = 2 ^ 59 - 1; cells = 1 }
 
 module _ {J : Type 0} where
   -- none of its processors has made a step. The last one is the changer's, whose writer has put nothing into the cell, which has two slots
