@@ -7,7 +7,7 @@ ghost use Rattle.domain.specs.Views.{Stays, with_cpu};
 ghost use Rattle.domain.specs.Acting.{loads, ends, ActsAs};
 ghost use Rattle.plugs.specs.Reading.{Gets};
 
-use crate::rows::Rows;
+use crate::rows::plug_in;
 use crate::words::load_all_held;
 use domain::{Cpu, HeldPin, Index};
 use sections::Token;
@@ -69,8 +69,7 @@ impl Lease {
         ensures stays { Stays cpu.old cpu.new }
         ensures acts { ActsAs loads cpu.old cpu.new }
     {
-        let words = load_all_held(cpu, &mut self.pin);
-        Rows::read(&words).get(key)
+        plug_in(&load_all_held(cpu, &mut self.pin), key)
     }
 }
 

@@ -1,7 +1,7 @@
 //! The rows of a table, and the sixteen words in which they lie.
-ghost use Rattle.std.specs.Prelude.{◌≡◌, ◌≤◌, ◌↔◌, [], IsTrue, All, length, slice_index};
-ghost use Rattle.plugs.specs.Tables.{plug_of, IsNarrow, Rises, IsFull, Maps, Unmaps, row_word, text_of, AreRead};
-ghost use Rattle.plugs.specs.Parts.{IsFirstFrom, IsBetween, row_at, rows_in};
+ghost use Rattle.std.specs.Prelude.{◌≡◌, ◌≤◌, ◌↔◌, [], IsTrue, length, slice_index};
+ghost use Rattle.plugs.specs.Tables.{plug_of, IsFull, Maps, Unmaps, row_word, text_of};
+ghost use Rattle.plugs.specs.Parts.{IsFirstFrom, IsBetween, IsText, ReadsPlug, row_at, rows_in};
 
 use arrayvec::ArrayVec;
 use std::marker::Model;
@@ -27,8 +27,7 @@ impl Row {
     }
 
     fn of_word(word: u64) -> Row
-        ensures row { result ≡ row_at word }
-        ensures narrow { IsNarrow result }
+        ensures { result ≡ row_at word }
     {
         Row {
             key: (word / ABOVE) as u32,
@@ -125,25 +124,6 @@ impl Rows {
         }
         words
     }
-
-    /// The table that has these words, and no rows where none has.
-    pub fn read(words: &[u64; 16]) -> Rows
-        ensures { AreRead words.now result }
-    {
-        if words[0] > MOST_ROWS as u64 {
-            return Rows::new();
-        }
-        let rows = rows_of(words);
-        if !rise(rows.as_slice()) {
-            return Rows::new();
-        }
-        let rows = Rows { rows };
-        if rows.text() == *words {
-            rows
-        } else {
-            Rows::new()
-        }
-    }
 }
 
 /// The place of the first row whose key is not below this one.
@@ -158,28 +138,49 @@ fn place_of(rows: &[Row], key: u32) -> usize
     rows.len()
 }
 
-/// Whether each row has a larger key than the one before it.
-fn rise(rows: &[Row]) -> bool
-    ensures { IsTrue result ↔ Rises rows.now }
+/// The plug of the key in the table that has these words, and none where they are those of no table. The words are read
+/// where they lie: each of them is the word of one row, so all that may be wrong is how many they are, their order, and
+/// what stands behind them.
+pub fn plug_in(words: &[u64; 16], key: u32) -> Option<u32>
+    ensures { ReadsPlug words.now key result }
 {
-    for place in 1..rows.len() {
-        if rows[place - 1].key >= rows[place].key {
+    if !is_text(words) {
+        return None;
+    }
+    look_in(words, key)
+}
+
+/// Whether these are the words of a table.
+fn is_text(words: &[u64; 16]) -> bool
+    ensures { IsTrue result ↔ IsText words.now }
+{
+    if words[0] > MOST_ROWS as u64 {
+        return false;
+    }
+    let count = words[0] as usize;
+    for place in 1..count {
+        if words[place] / ABOVE >= words[place + 1] / ABOVE {
+            return false;
+        }
+    }
+    for place in count + 1..16 {
+        if words[place] != 0 {
             return false;
         }
     }
     true
 }
 
-/// The rows that the words behind the first one are: as many as that says.
-fn rows_of(words: &[u64; 16]) -> ArrayVec<Row, MOST_ROWS>
+/// The plug of the key in the rows that the words behind the first one are: as many as that says.
+fn look_in(words: &[u64; 16], key: u32) -> Option<u32>
     requires { slice_index words.now 0 ≤ 15 }
-    ensures rows { result.items ≡ rows_in words.now }
-    ensures narrow { All IsNarrow result.items }
+    ensures { result ≡ plug_of (rows_in words.now) key }
 {
-    let used = &words[1..=words[0] as usize];
-    let mut rows = ArrayVec::new();
-    for word in used {
-        rows.push(Row::of_word(*word));
+    for word in &words[1..=words[0] as usize] {
+        let Row { key: own, plug } = Row::of_word(*word);
+        if own == key {
+            return Some(plug);
+        }
     }
-    rows
+    None
 }

@@ -4,10 +4,10 @@ ghost use Rattle.sections.specs.Words.{cells_in};
 ghost use Rattle.sections.specs.Calls.{LooksInVain};
 ghost use Rattle.domain.specs.Views.{Stays, with_cpu};
 ghost use Rattle.domain.specs.Acting.{loads, ActsAs};
-ghost use Rattle.plugs.specs.Reading.{FindsRows, LooksUp, Leases};
+ghost use Rattle.plugs.specs.Reading.{FindsPlug, LooksUp, Leases};
 
 use crate::lease::Lease;
-use crate::rows::Rows;
+use crate::rows::plug_in;
 use crate::words::load_all;
 use domain::{Cpu, Exhausted, Reading};
 use std::alloc::Allocator;
@@ -57,9 +57,9 @@ impl TableView {
         let Ok(mut reading) = cpu.read_lock() else {
             return Err(Exhausted);
         };
-        let rows = rows_there(cpu, &mut reading, self.cell);
+        let plug = plug_there(cpu, &mut reading, self.cell, key);
         cpu.read_unlock(reading);
-        Ok(rows.get(key))
+        Ok(plug)
     }
 
     /// A held section with the version that it finds, no older than any that the processor has seen. It takes no memory
@@ -80,15 +80,20 @@ impl TableView {
     }
 }
 
-/// The rows of the version that is current in the cell.
-fn rows_there<J, A: Allocator>(cpu: &mut Cpu<J, A>, reading: &mut Reading, cell: usize) -> Rows
+/// The plug of the key in the version that is current in the cell.
+fn plug_there<J, A: Allocator>(
+    cpu: &mut Cpu<J, A>,
+    reading: &mut Reading,
+    cell: usize,
+    key: u32,
+) -> Option<u32>
     requires here { reading.old.domain ≡ cpu.old.cpu.domain }
     requires cell { cell < cells_in cpu.old.cpu.domain }
-    ensures finds { FindsRows cell reading.old result cpu.old cpu.new }
+    ensures finds { FindsPlug cell key reading.old result cpu.old cpu.new }
     ensures reading { reading.new ≡ reading.old }
     ensures rest { cpu.new ≡ with_cpu cpu.new.cpu cpu.old }
     ensures stays { Stays cpu.old cpu.new }
 {
     let mut pin = cpu.find(reading, cell);
-    Rows::read(&load_all(cpu, &mut pin))
+    plug_in(&load_all(cpu, &mut pin), key)
 }
