@@ -81,8 +81,8 @@ module _ {H : Type 0} (says : H → ℕ → Type 0) (handlers : List H) (blocks 
     }
 
   -- all were called
-  pub answers_all : (place last : ℕ) → place ≡ length blocks → AnsweredTo says handlers blocks place last → Answers (GivesAt says handlers) blocks last (length blocks)
-  answers_all place last all h = subst (λ n. Answers (GivesAt says handlers) blocks last n) all (record {
+  pub answers_all : (place last n : ℕ) → place ≡ length blocks → place ≡ n → AnsweredTo says handlers blocks place last → Answers (GivesAt says handlers) blocks last n
+  answers_all place last n all is h = subst (λ k. Answers (GivesAt says handlers) blocks last k) is (record {
     results = h.results;
     given = h.given;
     answer = record {

@@ -1,12 +1,12 @@
 -- The blocks of a chain, one behind the other.
-use Rattle.std.proofs.Common.{ℕ, ◌+◌, ◌<◌, ◌≤◌, List, All, length, take, get_or, sym, ap, ◌∙◌, subst, arith, add-one, pos}
+use Rattle.std.proofs.Common.{◌≡◌, ℕ, ◌+◌, ◌<◌, ◌≤◌, List, All, length, map, take, get_or, sym, ap, ◌∙◌, subst, arith, add-one, pos}
 use Rattle.std.specs.List.{AllPairs}
-use Rattle.std.proofs.lemmas.List.{length-take, get_or-take}
+use Rattle.std.proofs.lemmas.List.{length-map, length-take, get_or-map, get_or-take}
 use Rattle.std.proofs.lemmas.List.Elements.{All-more, All-from_get_or}
 use Rattle.std.proofs.lemmas.List.Quantifiers.{all_pairs_push}
 use Rattle.std.proofs.Math.Seq.{take-suc}
 use Rattle.notify.specs.declared.block.Block.{Block}
-use Rattle.notify.specs.Blocks.{Precedes, IsChain}
+use Rattle.notify.specs.Blocks.{Precedes, IsChain, block_at}
 
 -- a block that is read where there is none
 abbrev pub blank : Block
@@ -29,3 +29,11 @@ module _ (ids : ℕ) (xs : List Block) (i : ℕ) (there : i < length xs) where
 
   pub chain_known : IsChain ids xs → (get_or xs i blank).id < ids
   chain_known h = h.known i blank there
+
+-- a block that is read of its word, where it lies
+module _ (used : List ℕ) (i : ℕ) (lt : i < length used) where
+  pub there_too : i < length (map block_at used)
+  there_too = let n = length-map used block_at in omega (arith, n, lt)
+
+  pub same_block : get_or (map block_at used) i blank ≡ block_at (get_or used i 0)
+  same_block = get_or-map block_at used i 0 blank lt

@@ -7,5 +7,6 @@ mod Inserting
 mod Lists
 mod Loading
 mod Pairs
+mod Reading
 mod Searching
 mod Texts

@@ -1,13 +1,14 @@
 -- The words of a chain are read as that chain.
-use Rattle.std.proofs.Common.{◌≡◌, ℕ, ◌+◌, ◌-◌, ◌*◌, ◌/◌, ◌%◌, ◌^◌, ◌<◌, ◌≤◌, ℤ, pos, negsuc, List, [], ◌∷◌, ◌++◌, All, length, map, take, drop, min, replicate, get_or, FitsSigned, w32, refl, sym, ap, ◌∙◌, subst, arith, suc, cond}
+use Rattle.std.proofs.Common.{◌≡◌, ℕ, ◌+◌, ◌-◌, ◌*◌, ◌/◌, ◌%◌, ◌^◌, ◌<◌, ◌≤◌, ℤ, pos, negsuc, List, [], ◌∷◌, ◌++◌, All, length, map, take, drop, min, replicate, get_or, get_or-drop, FitsSigned, w32, refl, sym, ap, ◌∙◌, subst, arith, suc, cond}
 use mathlib.Core.Logic.{dite}
+use Rattle.std.proofs.Math.Seq.{drop-append_seam}
 use Rattle.std.proofs.Math.IntN.{sub_ℕ}
 use Rattle.std.proofs.Math.Decide.{dec_lt}
 use Rattle.std.proofs.lemmas.Bool.{le-ltb, lt-ltb}
-use Rattle.std.proofs.lemmas.List.{length-map, length-take}
+use Rattle.std.proofs.lemmas.List.{length-map, length-take, length-drop, length-replicate, take-append-drop, get_or-replicate, get_or_past}
 use Rattle.std.proofs.lemmas.List.Elements.{All-head, All-tail, All-map, All-take, All-drop, All-from_get_or}
 use Rattle.notify.specs.declared.block.Block.{Block}
-use Rattle.notify.specs.Blocks.{raised, lowered, word_of, block_at, text_of, blocks_in, HaveBits, IsTextOf}
+use Rattle.notify.specs.Blocks.{raised, lowered, word_of, block_at, text_of, blocks_in, HaveBits, EndsAt, IsChain, IsTextOf}
 
 -- a difference of two numbers, where it is no negative one, and where it is
 sub_ge : (a b : ℕ) → b ≤ a → sub_ℕ a b ≡ pos (a - b)
@@ -66,9 +67,6 @@ text_round bs few low fits =
     least : (n : ℕ) → n ≤ 15 → min n 15 ≡ n
     least n h = omega (arith, h)
 
-pub few_in : (words : List ℕ) → length (blocks_in words) ≤ 15
-few_in words = let m = length-map (take (min (get_or words 0 0) 15) (drop 1 words)) block_at in let t = length-take (min (get_or words 0 0) 15) (drop 1 words) in omega (arith, m, t)
-
 pub bits_in : (words : List ℕ) → ((i : ℕ) → get_or words i 0 < 2 ^ 64) → HaveBits (blocks_in words)
 bits_in words h = All-map (λ b. FitsSigned w32 b.priority) block_at (take (min (get_or words 0 0) 15) (drop 1 words)) (All-take (λ w. FitsSigned w32 (block_at w).priority) (min (get_or words 0 0) 15) (drop 1 words) (All-drop (λ w. FitsSigned w32 (block_at w).priority) 1 words each))
   where
@@ -81,3 +79,112 @@ bits_in words h = All-map (λ b. FitsSigned w32 b.priority) block_at (take (min 
 -- where the blocks that are in the words aren't those of a chain with these words, no others are
 pub read_none : (ids : ℕ) (words : List ℕ) → ids ≤ 2 ^ 32 → ¬ IsTextOf ids words (blocks_in words) → (bs : List Block) → ¬ IsTextOf ids words bs
 read_none ids words small none bs t = none (subst (IsTextOf ids words) (sym (ap blocks_in t.words_are ∙ text_round bs t.chain.few (λ k d lt. let h = t.chain.known k d lt in omega (arith, h, small)) t.fit)) t)
+
+-- Words are looked at where they lie
+
+raised_lowered : (n : ℕ) → n < 2 ^ 32 → raised (lowered n) ≡ n
+raised_lowered n h = dite (dec_lt n (2 ^ 31))
+    (λ lt. ap raised (sub_lt n (2 ^ 31) lt) ∙ below n lt)
+    (λ ge. ap raised (sub_ge n (2 ^ 31) (omega (arith, ge))) ∙ above n (omega (arith, ge)))
+  where
+    below : (m : ℕ) → m < 2 ^ 31 → 2 ^ 31 - (2 ^ 31 - suc m + 1) ≡ m
+    below m lt = omega (arith, lt)
+
+    above : (m : ℕ) → 2 ^ 31 ≤ m → m - 2 ^ 31 + 2 ^ 31 ≡ m
+    above m ge = omega (arith, ge)
+
+-- each word is that of one block
+word_round : (w : ℕ) → w < 2 ^ 64 → word_of (block_at w) ≡ w
+word_round w h = ap (λ n. n * 2 ^ 32 + w % 2 ^ 32) (raised_lowered (w / 2 ^ 32) (upper w h)) ∙ whole w
+  where
+    upper : (n : ℕ) → n < 2 ^ 64 → n / 2 ^ 32 < 2 ^ 32
+    upper n lt = omega (arith, lt)
+
+    whole : (n : ℕ) → n / 2 ^ 32 * 2 ^ 32 + n % 2 ^ 32 ≡ n
+    whole n = omega arith
+
+words_round : (ws : List ℕ) → All (λ w. w < 2 ^ 64) ws → map word_of (map block_at ws) ≡ ws
+words_round [] small = refl
+words_round (w ∷ ws) small = λ i. word_round w (All-head (λ x. x < 2 ^ 64) w ws small) i ∷ words_round ws (All-tail (λ x. x < 2 ^ 64) w ws small) i
+
+zeros_are : (ws : List ℕ) → All (λ w. w ≡ 0) ws → ws ≡ replicate (length ws) 0
+zeros_are [] zeros = refl
+zeros_are (w ∷ ws) zeros = λ i. All-head (λ x. x ≡ 0) w ws zeros i ∷ zeros_are ws (All-tail (λ x. x ≡ 0) w ws zeros) i
+
+zero_at : (n i : ℕ) → ◌≡◌ {A = ℕ} (get_or (replicate n 0) i 0) 0
+zero_at n i = dite (dec_lt i n) (λ lt. get_or-replicate n i 0 0 lt) (λ ge. get_or_past {X = ℕ} (replicate n 0) i 0 (let l = length-replicate {A = ℕ} n 0 in omega (arith, l, ge)))
+
+-- the number of blocks, their words, and what stands behind them
+abbrev pub used_in : List ℕ → List ℕ
+used_in words = take (get_or words 0 0) (drop 1 words)
+
+abbrev pub rest_in : List ℕ → List ℕ
+rest_in words = drop (get_or words 0 0 + 1) words
+
+cut : (words : List ℕ) → 0 < length words → words ≡ (get_or words 0 0 ∷ used_in words) ++ rest_in words
+cut [] some = absurd (omega (arith, some))
+cut (w ∷ ws) some = ap (λ l. w ∷ l) (sym (take-append-drop w ws) ∙ ap (λ n. take w ws ++ drop n (w ∷ ws)) (let e : suc w ≡ w + 1 = omega arith in e))
+
+module _ (words : List ℕ) (long : length words ≡ 16) (few : get_or words 0 0 ≤ 15) where
+  pub used_blocks : blocks_in words ≡ map block_at (used_in words)
+  used_blocks = ap (λ n. map block_at (take n (drop 1 words))) (least (get_or words 0 0) few)
+    where
+      least : (n : ℕ) → n ≤ 15 → min n 15 ≡ n
+      least n h = omega (arith, h)
+
+  -- as the body cuts them off
+  pub used_cut : (n : ℕ) → n ≡ get_or words 0 0 + 1 - 1 → take n (drop 1 words) ≡ used_in words
+  used_cut n is = ap (λ k. take k (drop 1 words)) (is ∙ (let e : get_or words 0 0 + 1 - 1 ≡ get_or words 0 0 = omega arith in e))
+
+  used_long : length (used_in words) ≡ get_or words 0 0
+  used_long = let t = length-take (get_or words 0 0) (drop 1 words) in let d = length-drop 1 words in omega (arith, t, d, long, few)
+
+  -- they are a text where the blocks in them are those of a chain and zeros stand behind
+  pub text_of_used : (ids : ℕ) → ((i : ℕ) → get_or words i 0 < 2 ^ 64) → IsChain ids (map block_at (used_in words)) → EndsAt (get_or words 0 0) words → IsTextOf ids words (blocks_in words)
+  text_of_used ids small chain behind = record {
+    chain = subst (IsChain ids) (sym used_blocks) chain;
+    fit = bits_in words small;
+    words_are = cut words (omega (arith, long)) ∙ same ∙ ap text_of (sym used_blocks);
+  }
+    where
+      each : All (λ w. w < 2 ^ 64) (used_in words)
+      each = All-take (λ w. w < 2 ^ 64) (get_or words 0 0) (drop 1 words) (All-drop (λ w. w < 2 ^ 64) 1 words (All-from_get_or (λ w. w < 2 ^ 64) words 0 (λ k lt. small k)))
+
+      zeros : All {X = ℕ} (λ w. w ≡ 0) (rest_in words)
+      zeros = All-from_get_or (λ w. w ≡ 0) (rest_in words) 0 (λ k lt. let d = length-drop (get_or words 0 0 + 1) words in get_or-drop (get_or words 0 0 + 1) words k 0 ∙ behind (get_or words 0 0 + 1 + k) (omega arith) (omega (arith, d, long, lt)))
+
+      made : map word_of (map block_at (used_in words)) ≡ used_in words
+      made = words_round (used_in words) each
+
+      counted : length (map block_at (used_in words)) ≡ get_or words 0 0
+      counted = length-map (used_in words) block_at ∙ used_long
+
+      left : length (rest_in words) ≡ 15 - get_or words 0 0
+      left = let d = length-drop (get_or words 0 0 + 1) words in omega (arith, d, long, few)
+
+      back : 16 - length (length (map block_at (used_in words)) ∷ map word_of (map block_at (used_in words))) ≡ 15 - get_or words 0 0
+      back = let m = length-map (map block_at (used_in words)) word_of in let n = counted in omega (arith, m, n)
+
+      same : (get_or words 0 0 ∷ used_in words) ++ rest_in words ≡ text_of (map block_at (used_in words))
+      same = λ i. (sym counted i ∷ sym made i) ++ ((zeros_are (rest_in words) zeros ∙ ap (λ n. replicate n 0) (left ∙ sym back)) i)
+
+  -- and where they are a text, zeros stand behind
+  pub zeros_behind : (ids : ℕ) → IsTextOf ids words (blocks_in words) → EndsAt (get_or words 0 0) words
+  zeros_behind ids t i gt lt =
+      ap (λ j. get_or words j 0) (let e : i ≡ get_or words 0 0 + 1 + (i - (get_or words 0 0 + 1)) = omega (arith, gt) in e)
+      ∙ (sym (get_or-drop (get_or words 0 0 + 1) words (i - (get_or words 0 0 + 1)) 0)
+      ∙ (ap (λ (l : List ℕ). get_or l (i - (get_or words 0 0 + 1)) 0) (rest_is (blocks_in words) (ap (λ n. n + 1) counted) t.words_are)
+      ∙ zero_at (16 - length (length (blocks_in words) ∷ map word_of (blocks_in words))) (i - (get_or words 0 0 + 1))))
+    where
+      counted : get_or words 0 0 ≡ length (blocks_in words)
+      counted = ap (λ l. get_or l 0 0) t.words_are
+
+      long_text : (bs : List Block) → length bs + 1 ≡ length (length bs ∷ map word_of bs)
+      long_text bs = let m = length-map bs word_of in omega (arith, m)
+
+      rest_is : (bs : List Block) → get_or words 0 0 + 1 ≡ length bs + 1 → words ≡ text_of bs → rest_in words ≡ replicate (16 - length (length bs ∷ map word_of bs)) 0
+      rest_is bs n is = (λ k. drop (n k) (is k)) ∙ (ap (λ k. drop k (text_of bs)) (long_text bs) ∙ drop-append_seam (length bs ∷ map word_of bs) (replicate (16 - length (length bs ∷ map word_of bs)) 0))
+
+-- the first word of a text is the number of its blocks
+pub few_blocks : (ids : ℕ) (words : List ℕ) → IsTextOf ids words (blocks_in words) → get_or words 0 0 ≤ 15
+few_blocks ids words t = let f = t.chain.few in let e = ap (λ l. get_or l 0 0) t.words_are in omega (arith, f, e)

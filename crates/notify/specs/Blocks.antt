@@ -82,6 +82,10 @@ ids_text blocks = padded 15 (map (λ b. b.id) blocks)
 abbrev pub blocks_in : List ℕ → List Block
 blocks_in words = map block_at (take (min (slice_index_or words 0 0) 15) (drop 1 words))
 
+-- zeros stand behind this place
+abbrev pub EndsAt : ℕ → List ℕ → Type 0
+EndsAt n words = (i : ℕ) → n < i → i < 16 → slice_index_or words i 0 ≡ 0
+
 -- each priority has 32 bits, with a sign
 abbrev pub HaveBits : List Block → Type 0
 HaveBits blocks = All (λ b. FitsSigned w32 b.priority) blocks

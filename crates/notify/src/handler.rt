@@ -1,8 +1,9 @@
 //! What a chain calls, and in which order it does.
-ghost use Rattle.std.specs.Prelude.{◌<◌, All, length};
+ghost use Rattle.std.specs.Prelude.{◌<◌, All, length, map};
+ghost use Rattle.notify.specs.Blocks.{block_at};
 ghost use Rattle.notify.specs.Calling.{GivesAt, Answers};
 
-use crate::block::Block;
+use crate::text::block;
 
 /// A handler did nothing (`NOTIFY_DONE`).
 pub const DONE: u32 = 0;
@@ -31,25 +32,26 @@ pub trait Handler: Drop {
         ensures { answers self.now action value result };
 }
 
-/// Calls the handlers of the blocks, in their order, up to the first result that has [`STOP_BIT`]. What it gives is the
+/// Calls the handlers of the blocks that have these words, in their order, up to the first result that has [`STOP_BIT`]. What it gives is the
 /// last result, 0 where there is none, and how many were called.
 pub(crate) fn call_all(
-    blocks: &[Block],
+    used: &[u64],
     handlers: &[Box<dyn Handler>],
     action: u64,
     value: u64,
 ) -> (u32, u64)
-    requires { All (λ b. b.id < length handlers.now) blocks.now }
-    ensures { Answers (GivesAt (λ h r. answers h action value r) handlers.now) blocks.now result.0 result.1 }
+    requires { All (λ b. b.id < length handlers.now) (map block_at used.now) }
+    ensures { Answers (GivesAt (λ h r. answers h action value r) handlers.now) (map block_at used.now) result.0 result.1 }
 {
     let mut last = DONE;
-    for (place, block) in blocks.iter().enumerate() {
+    for (place, word) in used.iter().enumerate() {
+        let block = block(*word);
         last = call_one(&handlers[block.id as usize], action, value);
         if last & STOP_BIT != 0 {
             return (last, place as u64 + 1);
         }
     }
-    (last, blocks.len() as u64)
+    (last, used.len() as u64)
 }
 
 fn call_one(handler: &Box<dyn Handler>, action: u64, value: u64) -> u32

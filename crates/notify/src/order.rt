@@ -1,9 +1,10 @@
 //! Where a block stands among others.
-ghost use Rattle.std.specs.Prelude.{◌≡◌, ◌<◌, ◌≤◌, All, true, false, length, take, MatchOption, IsTrue, ◌↔◌};
+ghost use Rattle.std.specs.Prelude.{◌≡◌, ◌<◌, ◌≤◌, All, true, false, length, map, take, MatchOption, IsTrue, ◌↔◌};
 ghost use Rattle.std.specs.List.{HoldsAt};
-ghost use Rattle.notify.specs.Blocks.{Precedes, MayPrecede, IsLower, IsChain, StandsAt, HasNone};
+ghost use Rattle.notify.specs.Blocks.{Precedes, MayPrecede, IsLower, IsChain, StandsAt, HasNone, block_at};
 
 use crate::block::Block;
+use crate::text::block;
 
 /// Where the block of this id stands.
 pub(crate) fn place_of(blocks: &[Block], id: u64) -> Option<usize>
@@ -46,25 +47,26 @@ pub(crate) fn count_before(blocks: &[Block], block: Block) -> usize
     blocks.len()
 }
 
-/// Whether the block may stand behind all of these.
-fn comes_behind(before: &[Block], block: Block) -> bool
-    ensures { IsTrue result ↔ All (λ b. Precedes b block) before.now }
+/// Whether the block may stand behind all that have these words.
+fn comes_behind(before: &[u64], behind: Block) -> bool
+    ensures { IsTrue result ↔ All (λ b. Precedes b behind) (map block_at before.now) }
 {
-    for other in before {
-        if !precedes(*other, block) {
+    for word in before {
+        if !precedes(block(*word), behind) {
             return false;
         }
     }
     true
 }
 
-/// Whether these are the blocks of a chain whose ids are below `ids`.
-pub(crate) fn is_chain(blocks: &[Block], ids: u64) -> bool
-    requires { length blocks.now ≤ 15 }
-    ensures { IsTrue result ↔ IsChain ids blocks.now }
+/// Whether these are the words of a chain's blocks, whose ids are below `ids`.
+pub(crate) fn is_chain(used: &[u64], ids: u64) -> bool
+    requires { length used.now ≤ 15 }
+    ensures { IsTrue result ↔ IsChain ids (map block_at used.now) }
 {
-    for (place, block) in blocks.iter().enumerate() {
-        if block.id >= ids || !comes_behind(&blocks[..place], *block) {
+    for (place, word) in used.iter().enumerate() {
+        let block = block(*word);
+        if block.id >= ids || !comes_behind(&used[..place], block) {
             return false;
         }
     }

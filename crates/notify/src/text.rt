@@ -1,9 +1,8 @@
 //! The sixteen words of a version.
-ghost use Rattle.std.specs.Prelude.{◌≡◌, ◌+◌, ◌*◌, ◌^◌, ◌<◌, ◌≤◌, IsTrue, ◌↔◌, All, length};
-ghost use Rattle.notify.specs.Blocks.{word_of, text_of, block_at, blocks_in, ids_text, HaveBits, IsTextOf, AreRead};
+ghost use Rattle.std.specs.Prelude.{◌≡◌, ◌+◌, ◌*◌, ◌^◌, ◌<◌, ◌≤◌, IsTrue, ◌↔◌, All, length, map};
+ghost use Rattle.notify.specs.Blocks.{word_of, text_of, block_at, blocks_in, ids_text, EndsAt, IsTextOf, AreRead};
 
 use crate::block::Block;
-use crate::blocks::Blocks;
 use crate::order::is_chain;
 
 /// The word of a block: its priority, raised so that it is no negative number, above its id.
@@ -15,7 +14,7 @@ fn word(block: Block) -> u64
 }
 
 /// The block that has this word.
-fn block(word: u64) -> Block
+pub(crate) fn block(word: u64) -> Block
     ensures { result ≡ block_at word }
 {
     Block {
@@ -38,48 +37,51 @@ pub(crate) fn text(blocks: &[Block]) -> [u64; 16]
     words
 }
 
-/// The ids of the blocks, and zeros.
-pub(crate) fn ids(blocks: &[Block]) -> [u64; 15]
-    requires { length blocks.now ≤ 15 }
-    ensures { result ≡ ids_text blocks.now }
+/// The ids of the blocks that have these words, and zeros.
+pub(crate) fn ids(used: &[u64]) -> [u64; 15]
+    requires { length used.now ≤ 15 }
+    ensures { result ≡ ids_text (map block_at used.now) }
 {
     let mut ids = [0; 15];
-    for (place, block) in blocks.iter().enumerate() {
-        ids[place] = block.id;
+    for (place, word) in used.iter().enumerate() {
+        ids[place] = block(*word).id;
     }
     ids
 }
 
-/// The blocks whose words these are, if they are blocks.
-fn decode(words: &[u64; 16]) -> Blocks
-    ensures { result.items ≡ blocks_in words.now }
-{
-    let count = words[0].min(15) as usize;
-    let mut blocks = Blocks::new();
-    for word in &words[1..=count] {
-        blocks.push(block(*word));
-    }
-    blocks
-}
-
-/// Whether these are the words of a chain of these blocks.
-fn is_text_of(words: &[u64; 16], blocks: &[Block], ids: u64) -> bool
-    requires few { length blocks.now ≤ 15 }
-    requires ids { ids ≤ 2 ^ 32 }
-    requires fit { HaveBits blocks.now }
-    ensures { IsTrue result ↔ IsTextOf ids words.now blocks.now }
-{
-    is_chain(blocks, ids) && text(blocks) == *words
-}
-
-/// What sixteen words are read as: the chain whose text they are, and no blocks where there is none.
-pub(crate) fn read(words: &[u64; 16], ids: u64) -> Blocks
+/// Whether these are the words of a chain whose ids are below `ids`.
+fn is_text(words: &[u64; 16], ids: u64) -> bool
     requires { ids ≤ 2 ^ 32 }
-    ensures { AreRead ids words.now result.items }
+    ensures { IsTrue result ↔ IsTextOf ids words.now (blocks_in words.now) }
 {
-    let blocks = decode(words);
-    if is_text_of(words, blocks.as_slice(), ids) {
-        return blocks;
+    if words[0] > 15 {
+        return false;
     }
-    Blocks::new()
+    let count = words[0] as usize;
+    is_chain(&words[1..=count], ids) && ends_at(words, count)
+}
+
+/// Whether zeros stand behind this place.
+fn ends_at(words: &[u64; 16], count: usize) -> bool
+    requires { count ≤ 15 }
+    ensures { IsTrue result ↔ EndsAt count words.now }
+{
+    for place in count + 1..16 {
+        if words[place] != 0 {
+            return false;
+        }
+    }
+    true
+}
+
+/// The words of the blocks as which sixteen words are read: those of the chain whose text they are, and none where there
+/// is no such chain. They are read where they lie: each of them is the word of one block.
+pub(crate) fn read(words: &[u64; 16], ids: u64) -> &[u64]
+    requires { ids ≤ 2 ^ 32 }
+    ensures { AreRead ids words.now (map block_at result.now) }
+{
+    if is_text(words, ids) {
+        return &words[1..=words[0] as usize];
+    }
+    &words[..0]
 }

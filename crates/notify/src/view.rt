@@ -3,9 +3,8 @@ ghost use Rattle.std.specs.Prelude.{◌≡◌, ◌^◌, ◌<◌, ◌≤◌, leng
 ghost use Rattle.sections.specs.Words.{cells_in};
 ghost use Rattle.domain.specs.Views.{Stays};
 ghost use Rattle.notify.specs.Calling.{GivesAt};
-ghost use Rattle.notify.specs.Reading.{Reads, Lists, Calls, IsRefused};
+ghost use Rattle.notify.specs.Reading.{FindsWords, Lists, Calls, IsRefused};
 
-use crate::blocks::Blocks;
 use crate::handler::{Handler, call_all};
 use crate::text::{ids, read};
 use crate::versions::load_all;
@@ -53,9 +52,10 @@ impl ChainView {
         ensures stays { Stays cpu.old cpu.new }
     {
         let mut reading = cpu.read_lock()?;
-        let blocks = self.read(cpu, &mut reading);
+        let words = self.find(cpu, &mut reading);
         cpu.read_unlock(reading);
-        Ok((ids(blocks.as_slice()), blocks.len()))
+        let used = read(&words, self.ids);
+        Ok((ids(used), used.len()))
     }
 
     /// Calls the handlers of one version's blocks, in their order (`srcu_notifier_call_chain`), up to the first result
@@ -78,22 +78,21 @@ impl ChainView {
         ensures stays { Stays cpu.old cpu.new }
     {
         let mut reading = cpu.read_lock()?;
-        let blocks = self.read(cpu, &mut reading);
-        let answer = call_all(blocks.as_slice(), handlers, action, value);
+        let words = self.find(cpu, &mut reading);
+        let answer = call_all(read(&words, self.ids), handlers, action, value);
         cpu.read_unlock(reading);
         Ok(answer)
     }
 
-    /// The blocks of the version that is current, in the reading's section.
-    fn read<J, A: Allocator>(&self, cpu: &mut Cpu<J, A>, reading: &mut Reading) -> Blocks
+    /// The words of the version that is current, in the reading's section.
+    fn find<J, A: Allocator>(&self, cpu: &mut Cpu<J, A>, reading: &mut Reading) -> [u64; 16]
         requires here { reading.old.domain ≡ cpu.old.cpu.domain }
         requires cell { self.now.cell < cells_in cpu.old.cpu.domain }
-        ensures reads { Reads self.now reading.old cpu.old cpu.new result.items }
+        ensures finds { FindsWords self.now.cell reading.old cpu.old cpu.new result }
         ensures reading { reading.new ≡ reading.old }
         ensures stays { Stays cpu.old cpu.new }
     {
         let mut pin = cpu.find(reading, self.cell);
-        let words = load_all(cpu, &mut pin);
-        read(&words, self.ids)
+        load_all(cpu, &mut pin)
     }
 }
