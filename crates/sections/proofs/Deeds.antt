@@ -49,7 +49,7 @@ maker_at log changes seat_of reached holder engine j r mine m h g = stands_at lo
 goes_on_refl : (a : Moment) → GoesOn a a
 goes_on_refl a = record { history = beginning_refl a.history; changes = omega arith }
 
-goes_on_trans : (a b c : Moment) → GoesOn a b → GoesOn b c → GoesOn a c
+pub goes_on_trans : (a b c : Moment) → GoesOn a b → GoesOn b c → GoesOn a c
 goes_on_trans a b c h g = record { history = beginning_trans h.history g.history; changes = (let x = h.changes in let y = g.changes in omega (arith, x, y)) }
 
 -- time goes by

@@ -92,7 +92,7 @@ found_counts h s c x v f = let e : Event = Find s c x v f.by in
     let d = count_cons (finds s c x) e f.after in
     let one : bit (finds s c x e) ≡ 1 = ap bit (ap (λ b. b && (eqb c c && eqb x x)) (eq-eqb s s refl) ∙ (ap (λ b. b && eqb x x) (eq-eqb c c refl) ∙ eq-eqb x x refl)) in omega (arith, a, d, one)
 
-found_version : (h : List Event) (s c x v : ℕ) → IsLegal h → HasFound h s c x v → v ≤ version_of c h
+pub found_version : (h : List Event) (s c x v : ℕ) → IsLegal h → HasFound h s c x v → v ≤ version_of c h
 found_version h s c x v legal f = let e : Event = Find s c x v f.by in let parts = subst IsLegal f.whole legal in
     let split = (legal_after_append [] f.before (e ∷ f.after) parts).1.0 in let up = versions_up c f.before (e ∷ f.after) parts in
     let whole = ap (version_of c) f.whole in let is = split.2 in omega (arith, up, whole, is)

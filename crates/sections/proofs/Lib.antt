@@ -17,6 +17,7 @@ mod CpuViews
 mod Staying
 mod Meeting
 mod Pinning
+mod Wholes
 mod Entering
 mod Putting
 mod EngineViews

@@ -18,7 +18,7 @@ abbrev pub maker_of : View → ℕ × Role × List Event
 maker_of v = (v.processors, v.role, v.mine)
 
 module _ {A : Type 0} {c : cpu.Inside A} (i : IsCpu c) {s : DomainSeat} (table : s.table_id ≡ c.seat.table_id) (bare : s.me.1 ≡ []) (rests : IsAtRest s.me.0) where
-  stays : s.me.0.processors ≡ c.seat.me.0.processors → s.me.0.role ≡ c.seat.me.0.role → ((k : Index) → locks c.processor k s.me.0.mine ≡ locks c.processor k c.seat.me.0.mine) → length (open_readings s.me.0.mine) ≡ length (open_readings c.seat.me.0.mine)
+  pub stays : s.me.0.processors ≡ c.seat.me.0.processors → s.me.0.role ≡ c.seat.me.0.role → ((k : Index) → locks c.processor k s.me.0.mine ≡ locks c.processor k c.seat.me.0.mine) → length (open_readings s.me.0.mine) ≡ length (open_readings c.seat.me.0.mine)
       → IsCpu (record c { seat = s })
   stays processors role begun unclosed = record {
     placed = record { seated = table ∙ i.placed.seated; wide = i.placed.wide; cells = i.placed.cells; bare = bare; sized = processors ∙ i.placed.sized };

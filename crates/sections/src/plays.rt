@@ -2,6 +2,7 @@
 ghost use Rattle.std.specs.Prelude.{ℕ, true, false};
 ghost use Rattle.sections.specs.Rule.{lacking, bearer, informed, shower, hearing, noting, regaining, spent, dealer, dealt, pen_dealer, pen_dealt};
 ghost use Rattle.sections.specs.Plays.{looked, admitted, began, ended, noted, asked, counted_unlocks, counted_locks, found, loaded, put, refreshed, stored, started, flipped, moved_on, finished};
+ghost use Rattle.sections.specs.Pins.{loaded_next};
 ghost use Rattle.sections.specs.Sights.{asked_how_far};
 
 use crate::board::NoSlot;
@@ -100,6 +101,13 @@ pub(crate) struct LoadPayload;
 
 impl Play<NoSlot, View> for LoadPayload {
     ghost then = { loaded };
+}
+
+/// Load of a further word of a slot that an open section has found, by a seat that has seen this itself.
+pub(crate) struct LoadNext;
+
+impl Play<NoSlot, View> for LoadNext {
+    ghost then = { loaded_next };
 }
 
 /// Store to a cell.

@@ -1,9 +1,9 @@
 //! Reading versions: what a section finds in a cell stays as it is until the section ends.
 ghost use Rattle.std.specs.Prelude.{◌≡◌, ◌<◌};
 ghost use Rattle.sections.specs.Words.{cells_in};
-ghost use Rattle.sections.specs.Reads.{Finds, IsPinned, ReadsWord};
+ghost use Rattle.sections.specs.Reads.{Finds, IsPinned, ReadsWord, ReadsWords};
 
-use super::pinning::{find_in, word_in};
+use super::pinning::{find_in, word_in, words_in};
 use super::{Cpu, Held, Reading};
 use crate::board::DomainSeat;
 use crate::token::Token;
@@ -169,6 +169,27 @@ impl<A: Allocator> Cpu<A> {
         )
     }
 
+    /// Loads the sixteen words of the version that the pin found, as as many calls of [`Cpu::word`] would. But the section's
+    /// right is lent once for all of them. The pin stays as it is.
+    pub fn words(&mut self, pin: &mut Pin<'_>) -> [u64; 16]
+        requires here { pin.old.reading.now.domain ≡ self.old.domain }
+        requires pinned { IsPinned pin.old.reading.now pin.old.found }
+        ensures reads { ReadsWords pin.old.reading.now pin.old.found result self.old self.new }
+        ensures same { (pin.new.reading.now ≡ pin.old.reading.now) × (pin.new.found ≡ pin.old.found) }
+        ensures same_reference { pin.new.reading.ghost_name ≡ pin.old.reading.ghost_name }
+    {
+        let reading = &mut *pin.reading;
+        let found = &mut pin.found;
+        words_in(
+            &*self.table,
+            &mut self.seat,
+            &mut reading.seat,
+            &mut found.seat,
+            found.cell,
+            found.slot,
+        )
+    }
+
     /// As [`Cpu::find`], in a held section.
     pub fn find_down<'a>(&mut self, held: &'a mut Held, cell: usize) -> DownPin<'a>
         requires here { held.old.domain ≡ self.old.domain }
@@ -212,6 +233,26 @@ impl<A: Allocator> Cpu<A> {
         )
     }
 
+    /// As [`Cpu::words`], in a held section that is lent, on any processor of the domain.
+    pub fn words_down(&mut self, pin: &mut DownPin<'_>) -> [u64; 16]
+        requires here { pin.old.held.now.domain ≡ self.old.domain }
+        requires pinned { IsPinned pin.old.held.now pin.old.found }
+        ensures reads { ReadsWords pin.old.held.now pin.old.found result self.old self.new }
+        ensures same { (pin.new.held.now ≡ pin.old.held.now) × (pin.new.found ≡ pin.old.found) }
+        ensures same_reference { pin.new.held.ghost_name ≡ pin.old.held.ghost_name }
+    {
+        let held = &mut *pin.held;
+        let found = &mut pin.found;
+        words_in(
+            &*self.table,
+            &mut self.seat,
+            &mut held.seat,
+            &mut found.seat,
+            found.cell,
+            found.slot,
+        )
+    }
+
     /// As [`Cpu::find`], in a held section, which the pin then owns. It may go to another thread with it.
     pub fn find_held(&mut self, held: Held, cell: usize) -> HeldPin
         requires here { held.domain ≡ self.old.domain }
@@ -251,6 +292,25 @@ impl<A: Allocator> Cpu<A> {
             found.cell,
             found.slot,
             place,
+        )
+    }
+
+    /// As [`Cpu::words`], in a held section, on any processor of the domain.
+    pub fn words_held(&mut self, pin: &mut HeldPin) -> [u64; 16]
+        requires here { pin.old.held.domain ≡ self.old.domain }
+        requires pinned { IsPinned pin.old.held pin.old.found }
+        ensures reads { ReadsWords pin.old.held pin.old.found result self.old self.new }
+        ensures same { (pin.new.held ≡ pin.old.held) × (pin.new.found ≡ pin.old.found) }
+    {
+        let held = &mut pin.held;
+        let found = &mut pin.found;
+        words_in(
+            &*self.table,
+            &mut self.seat,
+            &mut held.seat,
+            &mut found.seat,
+            found.cell,
+            found.slot,
         )
     }
 }
