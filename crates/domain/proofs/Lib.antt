@@ -9,6 +9,7 @@ mod Gathering
 mod Joining
 mod Judging
 mod Lending
+mod Loading
 mod Meeting
 mod Polling
 mod Preparing

@@ -11,5 +11,6 @@ pub mod Counts
 pub mod Cleanup
 pub mod Making
 pub mod Acting
+pub mod Reading
 pub mod Writers
 pub mod Insides

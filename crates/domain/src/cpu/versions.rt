@@ -4,6 +4,7 @@ ghost use Rattle.sections.specs.Words.{cells_in};
 ghost use Rattle.sections.specs.Reads.{Finds, IsPinned, ReadsWord};
 ghost use Rattle.domain.specs.Views.{Stays, with_cpu};
 ghost use Rattle.domain.specs.Acting.{loads, finds, ActsAs};
+ghost use Rattle.domain.specs.Reading.{LoadsAll};
 
 use super::Cpu;
 use sections::{DownPin, Held, HeldPin, Pin, Reading};
@@ -42,6 +43,19 @@ impl<J, A: Allocator> Cpu<J, A> {
         self.cpu.word(pin, place)
     }
 
+    /// Loads the sixteen words of the version that the pin found, as as many calls of [`Cpu::word`] would, in less time. The
+    /// pin stays as it is.
+    pub fn words(&mut self, pin: &mut Pin<'_>) -> [u64; 16]
+        requires here { pin.old.reading.now.domain ≡ self.old.cpu.domain }
+        requires pinned { IsPinned pin.old.reading.now pin.old.found }
+        ensures loads { LoadsAll pin.old.reading.now pin.old.found result self.old self.new }
+        ensures same { (pin.new.reading.now ≡ pin.old.reading.now) × (pin.new.found ≡ pin.old.found) }
+        ensures same_reference { pin.new.reading.ghost_name ≡ pin.old.reading.ghost_name }
+        ensures stays { Stays self.old self.new }
+    {
+        self.cpu.words(pin)
+    }
+
     /// As [`Cpu::find`], in a held section.
     pub fn find_down<'a>(&mut self, held: &'a mut Held, cell: usize) -> DownPin<'a>
         requires here { held.old.domain ≡ self.old.cpu.domain }
@@ -72,6 +86,18 @@ impl<J, A: Allocator> Cpu<J, A> {
         self.cpu.word_down(pin, place)
     }
 
+    /// As [`Cpu::words`], in a held section that is lent, on any processor of the domain.
+    pub fn words_down(&mut self, pin: &mut DownPin<'_>) -> [u64; 16]
+        requires here { pin.old.held.now.domain ≡ self.old.cpu.domain }
+        requires pinned { IsPinned pin.old.held.now pin.old.found }
+        ensures loads { LoadsAll pin.old.held.now pin.old.found result self.old self.new }
+        ensures same { (pin.new.held.now ≡ pin.old.held.now) × (pin.new.found ≡ pin.old.found) }
+        ensures same_reference { pin.new.held.ghost_name ≡ pin.old.held.ghost_name }
+        ensures stays { Stays self.old self.new }
+    {
+        self.cpu.words_down(pin)
+    }
+
     /// As [`Cpu::find`], in a held section, which the pin then owns. It may go to another thread with it.
     pub fn find_held(&mut self, held: Held, cell: usize) -> HeldPin
         requires here { held.domain ≡ self.old.cpu.domain }
@@ -98,5 +124,16 @@ impl<J, A: Allocator> Cpu<J, A> {
         ensures acts { ActsAs loads self.old self.new }
     {
         self.cpu.word_held(pin, place)
+    }
+
+    /// As [`Cpu::words`], in a held section that the pin owns, on any processor of the domain.
+    pub fn words_held(&mut self, pin: &mut HeldPin) -> [u64; 16]
+        requires here { pin.old.held.domain ≡ self.old.cpu.domain }
+        requires pinned { IsPinned pin.old.held pin.old.found }
+        ensures loads { LoadsAll pin.old.held pin.old.found result self.old self.new }
+        ensures same { (pin.new.held ≡ pin.old.held) × (pin.new.found ≡ pin.old.found) }
+        ensures stays { Stays self.old self.new }
+    {
+        self.cpu.words_held(pin)
     }
 }
