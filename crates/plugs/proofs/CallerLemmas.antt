@@ -2,6 +2,7 @@
 use Rattle.std.proofs.Common.{◌≡◌, ℕ, ◌<◌, Option, List, get_or, sym, ap, ◌∙◌, arith, ext_get_or}
 use Rattle.sections.specs.Shelves.{words_of}
 use Rattle.sections.specs.Views.{ReadingView, FoundView}
+use Rattle.sections.specs.Reads.{AreWords}
 use Rattle.sections.specs.WriterViews.{WriterView}
 use Rattle.domain.specs.Views.{CpuView}
 use Rattle.domain.specs.Waiting.{HasNoneOpen}
@@ -11,7 +12,7 @@ use Rattle.plugs.specs.Parts.{rows_in}
 use Rattle.plugs.specs.Tables.{plug_of, IsTable, text_of}
 use Rattle.plugs.specs.Views.{LeaseView}
 use Rattle.plugs.specs.Changes.{Publishes, FindsNone}
-use Rattle.plugs.specs.Reading.{AreWords, LoadsRows, LooksUp, Gets}
+use Rattle.plugs.specs.Reading.{LoadsRows, LooksUp, Gets}
 use Rattle.plugs.proofs.Texts.{text_long, read_back as rows_out}
 
 -- the version has the text of this table

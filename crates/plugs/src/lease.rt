@@ -8,7 +8,6 @@ ghost use Rattle.domain.specs.Acting.{loads, ends, ActsAs};
 ghost use Rattle.plugs.specs.Reading.{Gets};
 
 use crate::rows::plug_in;
-use crate::words::load_all_held;
 use domain::{Cpu, HeldPin, Index};
 use sections::Token;
 use std::alloc::Allocator;
@@ -69,7 +68,7 @@ impl Lease {
         ensures stays { Stays cpu.old cpu.new }
         ensures acts { ActsAs loads cpu.old cpu.new }
     {
-        plug_in(&load_all_held(cpu, &mut self.pin), key)
+        plug_in(&cpu.words_held(&mut self.pin), key)
     }
 }
 

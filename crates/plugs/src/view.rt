@@ -8,7 +8,6 @@ ghost use Rattle.plugs.specs.Reading.{FindsPlug, LooksUp, Leases};
 
 use crate::lease::Lease;
 use crate::rows::plug_in;
-use crate::words::load_all;
 use domain::{Cpu, Exhausted, Reading};
 use std::alloc::Allocator;
 use std::marker::Model;
@@ -95,5 +94,5 @@ fn plug_there<J, A: Allocator>(
     ensures stays { Stays cpu.old cpu.new }
 {
     let mut pin = cpu.find(reading, cell);
-    plug_in(&load_all(cpu, &mut pin), key)
+    plug_in(&cpu.words(&mut pin), key)
 }

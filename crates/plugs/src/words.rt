@@ -1,13 +1,11 @@
-//! The sixteen words of a version: how they get into a slot, and how a section loads them.
+//! The sixteen words of a version: how they get into a slot.
 ghost use Rattle.std.specs.Prelude.{◌≡◌, ◌<◌, length, MatchOption};
 ghost use Rattle.sections.specs.Shelves.{words_of};
 ghost use Rattle.sections.specs.Writers.{IsOwn};
-ghost use Rattle.sections.specs.Reads.{IsPinned};
 ghost use Rattle.domain.specs.Views.{IsOf, Stays};
 ghost use Rattle.plugs.specs.Changes.{Fills, FindsNone, Claims, Puts};
-ghost use Rattle.plugs.specs.Reading.{LoadsAll};
 
-use domain::{Cpu, Domain, HeldPin, Pin, Slot, Writer};
+use domain::{Cpu, Domain, Slot, Writer};
 use std::alloc::Allocator;
 
 /// Makes blank what nobody can read any more, and gives a blank slot out. None where there is none, or 2^54 versions
@@ -63,35 +61,4 @@ fn fill<J, A: Allocator>(
     for place in 0..16 {
         writer.set(cpu, slot, place, words[place]);
     }
-}
-
-/// Loads the sixteen words of the version that the pin found.
-pub fn load_all<J, A: Allocator>(cpu: &mut Cpu<J, A>, pin: &mut Pin<'_>) -> [u64; 16]
-    requires here { pin.old.reading.now.domain ≡ cpu.old.cpu.domain }
-    requires pinned { IsPinned pin.old.reading.now pin.old.found }
-    ensures loads { LoadsAll pin.old.reading.now pin.old.found result cpu.old cpu.new }
-    ensures same { (pin.new.reading.now ≡ pin.old.reading.now) × (pin.new.found ≡ pin.old.found) }
-    ensures same_reference { pin.new.reading.ghost_name ≡ pin.old.reading.ghost_name }
-    ensures stays { Stays cpu.old cpu.new }
-{
-    let mut words = [0; 16];
-    for place in 0..16 {
-        words[place] = cpu.word(pin, place);
-    }
-    words
-}
-
-/// The same for a pin that owns its section, on any processor of the domain.
-pub fn load_all_held<J, A: Allocator>(cpu: &mut Cpu<J, A>, pin: &mut HeldPin) -> [u64; 16]
-    requires here { pin.old.held.domain ≡ cpu.old.cpu.domain }
-    requires pinned { IsPinned pin.old.held pin.old.found }
-    ensures loads { LoadsAll pin.old.held pin.old.found result cpu.old cpu.new }
-    ensures same { (pin.new.held ≡ pin.old.held) × (pin.new.found ≡ pin.old.found) }
-    ensures stays { Stays cpu.old cpu.new }
-{
-    let mut words = [0; 16];
-    for place in 0..16 {
-        words[place] = cpu.word_held(pin, place);
-    }
-    words
 }

@@ -1,7 +1,7 @@
 -- The version was found, its words were loaded, and the plug is that of the key in their rows.
 use Rattle.std.proofs.Common.{subst}
 use Rattle.sections.specs.Views.{ReadingView}
-use Rattle.plugs.specs.Reading.{LoadsAll}
+use Rattle.domain.specs.Reading.{LoadsAll}
 use Rattle.plugs.proofs.view.plug_there.Goals as goal
 
 pub returns-clause-finds : goal.returns-clause-finds
@@ -13,8 +13,8 @@ returns-clause-finds g c = record {
     finds = c.find-pin.ensures.finds;
     acts = c.find-pin.ensures.acts;
     loads = record {
-      words = c.load_all.result;
-      loads = subst (λ (r : ReadingView). LoadsAll r c.find-pin.result.found c.load_all.result c.find-pin.new.self c.load_all.new.cpu) c.find-pin.ensures.reading c.load_all.ensures.loads;
+      words = c.words.result;
+      loads = subst (λ (r : ReadingView). LoadsAll r c.find-pin.result.found c.words.result c.find-pin.new.self c.words.new.self) c.find-pin.ensures.reading c.words.ensures.loads;
       read = c.plug_in.ensures.read;
     };
   };
