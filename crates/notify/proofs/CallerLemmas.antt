@@ -5,7 +5,7 @@ use Rattle.sections.specs.Shelves.{words_of}
 use Rattle.sections.specs.Views.{FoundView}
 use Rattle.notify.specs.declared.block.Block.{Block}
 use Rattle.notify.specs.Blocks.{word_of, text_of, blocks_in, IsTextOf, AreRead}
-use Rattle.notify.specs.Reading.{AreWords}
+use Rattle.sections.specs.Reads.{AreWords}
 use Rattle.notify.proofs.Texts.{text_round}
 
 -- the words that were put are those of sixteen places

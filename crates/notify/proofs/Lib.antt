@@ -1,11 +1,9 @@
-mod Acting
 mod Answering
 pub mod CallerLemmas
 mod Chains
 mod Filling
 mod Inserting
 mod Lists
-mod Loading
 mod Pairs
 mod Reading
 mod Searching

@@ -1,13 +1,11 @@
-//! The words of a version: stored in a slot, put, and loaded.
+//! The words of a version: stored in a slot, and put.
 ghost use Rattle.std.specs.Prelude.{◌≡◌, ◌<◌, length, MatchOption};
 ghost use Rattle.sections.specs.Shelves.{words_of};
 ghost use Rattle.sections.specs.Writers.{IsOwn};
-ghost use Rattle.sections.specs.Reads.{IsPinned};
 ghost use Rattle.domain.specs.Views.{IsOf, Stays};
 ghost use Rattle.notify.specs.Putting.{Fills, FindsSlot, FindsNone, Publishes};
-ghost use Rattle.notify.specs.Reading.{LoadsAll};
 
-use domain::{Cpu, Domain, Pin, Slot, Writer};
+use domain::{Cpu, Domain, Slot, Writer};
 use std::alloc::Allocator;
 
 /// A slot that nobody can read. `None` where no slot is blank, also behind a look at all that are retired, or where 2^54
@@ -63,20 +61,4 @@ fn fill<J, A: Allocator>(
     for place in 0..16 {
         writer.set(cpu, slot, place, words[place]);
     }
-}
-
-/// Loads the sixteen words of the version that the pin found.
-pub(crate) fn load_all<J, A: Allocator>(cpu: &mut Cpu<J, A>, pin: &mut Pin<'_>) -> [u64; 16]
-    requires here { pin.old.reading.now.domain ≡ cpu.old.cpu.domain }
-    requires pinned { IsPinned pin.old.reading.now pin.old.found }
-    ensures loads { LoadsAll pin.old.reading.now pin.old.found result cpu.old cpu.new }
-    ensures same { (pin.new.reading.now ≡ pin.old.reading.now) × (pin.new.found ≡ pin.old.found) }
-    ensures same_reference { pin.new.reading.ghost_name ≡ pin.old.reading.ghost_name }
-    ensures stays { Stays cpu.old cpu.new }
-{
-    let mut words = [0; 16];
-    for place in 0..16 {
-        words[place] = cpu.word(pin, place);
-    }
-    words
 }

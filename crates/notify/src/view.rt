@@ -7,7 +7,6 @@ ghost use Rattle.notify.specs.Reading.{FindsWords, Lists, Calls, IsRefused};
 
 use crate::handler::{Handler, call_all};
 use crate::text::{ids, read};
-use crate::versions::load_all;
 use domain::{Cpu, Exhausted, Reading};
 use std::alloc::Allocator;
 use std::marker::Model;
@@ -93,6 +92,6 @@ impl ChainView {
         ensures stays { Stays cpu.old cpu.new }
     {
         let mut pin = cpu.find(reading, self.cell);
-        load_all(cpu, &mut pin)
+        cpu.words(&mut pin)
     }
 }
