@@ -4,11 +4,12 @@ use Rattle.onedom.specs.Histories.{open_sections}
 use Rattle.sections.specs.Shelves.{words_of}
 use Rattle.sections.specs.Views.{ReadingView, FoundView}
 use Rattle.sections.specs.Calls.{IsSameCpu}
+use Rattle.sections.specs.Reads.{AreWords}
 use Rattle.sections.specs.WriterViews.{WriterView}
 use Rattle.domain.specs.Views.{CpuView, with_cpu}
 use Rattle.domain.specs.Waiting.{HasNoneOpen}
 use Rattle.domain.proofs.CallerLemmas.{SameOpen, same_found, same_put, same_reclaimed, none_still}
-use Rattle.shelf.specs.Reading.{AreWords, Loads, Reads}
+use Rattle.shelf.specs.Reading.{Loads, Reads}
 use Rattle.shelf.specs.Replacing.{Replaces, FindsNone}
 
 -- a version has the same words each time

@@ -1,3 +1,2 @@
 mod Filling
-mod Loading
 pub mod CallerLemmas

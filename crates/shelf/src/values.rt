@@ -3,7 +3,7 @@ ghost use Rattle.std.specs.Prelude.{◌≡◌, ◌<◌};
 ghost use Rattle.sections.specs.Words.{cells_in};
 ghost use Rattle.sections.specs.Reads.{Finds, IsPinned};
 ghost use Rattle.domain.specs.Views.{Stays, with_cpu};
-ghost use Rattle.shelf.specs.Reading.{Reads, Loads, LoadsAll};
+ghost use Rattle.shelf.specs.Reading.{Reads, Loads};
 
 use crate::versioned::Versioned;
 use domain::{Cpu, Held, HeldPin, Pin, Reading};
@@ -78,7 +78,7 @@ impl<T: Versioned> Values<T> {
         ensures same_reference { pin.new.reading.ghost_name ≡ pin.old.reading.ghost_name }
         ensures stays { Stays cpu.old cpu.new }
     {
-        T::decode(&load_all(cpu, pin))
+        T::decode(&cpu.words(pin))
     }
 
     /// As [`Values::find`], in a held section, which the pin then owns. It may go to another thread.
@@ -103,37 +103,6 @@ impl<T: Versioned> Values<T> {
         ensures same { (pin.new.held ≡ pin.old.held) × (pin.new.found ≡ pin.old.found) }
         ensures stays { Stays cpu.old cpu.new }
     {
-        T::decode(&load_all_held(cpu, pin))
+        T::decode(&cpu.words_held(pin))
     }
-}
-
-/// Loads the sixteen words of the version that the pin found.
-fn load_all<J, A: Allocator>(cpu: &mut Cpu<J, A>, pin: &mut Pin<'_>) -> [u64; 16]
-    requires here { pin.old.reading.now.domain ≡ cpu.old.cpu.domain }
-    requires pinned { IsPinned pin.old.reading.now pin.old.found }
-    ensures loads { LoadsAll pin.old.reading.now pin.old.found result cpu.old cpu.new }
-    ensures same { (pin.new.reading.now ≡ pin.old.reading.now) × (pin.new.found ≡ pin.old.found) }
-    ensures same_reference { pin.new.reading.ghost_name ≡ pin.old.reading.ghost_name }
-    ensures stays { Stays cpu.old cpu.new }
-{
-    let mut words = [0; 16];
-    for place in 0..16 {
-        words[place] = cpu.word(pin, place);
-    }
-    words
-}
-
-/// The same for a pin that owns its section.
-fn load_all_held<J, A: Allocator>(cpu: &mut Cpu<J, A>, pin: &mut HeldPin) -> [u64; 16]
-    requires here { pin.old.held.domain ≡ cpu.old.cpu.domain }
-    requires pinned { IsPinned pin.old.held pin.old.found }
-    ensures loads { LoadsAll pin.old.held pin.old.found result cpu.old cpu.new }
-    ensures same { (pin.new.held ≡ pin.old.held) × (pin.new.found ≡ pin.old.found) }
-    ensures stays { Stays cpu.old cpu.new }
-{
-    let mut words = [0; 16];
-    for place in 0..16 {
-        words[place] = cpu.word_held(pin, place);
-    }
-    words
 }
