@@ -9,7 +9,8 @@ use Rattle.domain.specs.Views.{CpuView}
 use Rattle.plugs.specs.declared.rows.Row.{Row}
 use Rattle.plugs.specs.Tables.{plug_of, IsTable, text_of, AreRead}
 use Rattle.plugs.specs.Views.{LeaseView}
-use Rattle.plugs.specs.Reading.{AreWords, Gets}
+use Rattle.sections.specs.Reads.{AreWords}
+use Rattle.plugs.specs.Reading.{Gets}
 use Rattle.tour.specs.Leasing.{HasPlug, GetsAndReleases}
 
 same_words : (found : FoundView) (xs ys : List ℕ) → AreWords found xs → AreWords found ys → xs ≡ ys

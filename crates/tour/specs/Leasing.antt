@@ -7,7 +7,8 @@ use Rattle.plugs.specs.declared.rows.Row.{Row}
 use Rattle.plugs.specs.Tables.{plug_of, AreRead}
 use Rattle.plugs.specs.Views.{TableState, LeaseView}
 use Rattle.plugs.specs.Changes.{Installs}
-use Rattle.plugs.specs.Reading.{AreWords, LooksUp, Gets}
+use Rattle.sections.specs.Reads.{AreWords}
+use Rattle.plugs.specs.Reading.{LooksUp, Gets}
 
 -- the words of the version that was found are read as a table in which the key has this plug
 pub record HasPlug (found : FoundView) (key : ℕ) (plug : Option ℕ) : Type 0 where
