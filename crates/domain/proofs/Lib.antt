@@ -4,6 +4,7 @@ mod Counted
 mod Counting
 mod Covering
 mod ForThreads
+mod Filling
 mod Founding
 mod Gathering
 mod Joining

@@ -13,4 +13,5 @@ pub mod Making
 pub mod Acting
 pub mod Reading
 pub mod Writers
+pub mod Publishing
 pub mod Insides

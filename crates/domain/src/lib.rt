@@ -5,6 +5,7 @@
 mod cpu;
 mod domain;
 mod pause;
+mod publishing;
 #[cfg(test)]
 mod tests;
 mod writer;
@@ -13,6 +14,7 @@ pub use calls::{Batch, CallRefusal, Entry, Memory, Receipt, TakeRefusal, Ticket}
 pub use cpu::Cpu;
 pub use domain::Domain;
 pub use domain::cleanup::{InUse, Totals};
+pub use publishing::{claim, publish};
 pub use scan::refusals::{AdvanceRefusal, StartRefusal};
 pub use scan::{Exhausted as PeriodsExhausted, Progress};
 pub use sections::{

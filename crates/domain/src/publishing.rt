@@ -1,0 +1,67 @@
+//! Sixteen words as the next version of a cell: a slot is claimed, filled and put.
+ghost use Rattle.std.specs.Prelude.{◌≡◌, ◌<◌, length, MatchOption};
+ghost use Rattle.sections.specs.Shelves.{words_of};
+ghost use Rattle.sections.specs.Writers.{IsOwn};
+ghost use Rattle.domain.specs.Views.{IsOf, Stays};
+ghost use Rattle.domain.specs.Publishing.{Fills, FindsNone, Claims, Puts};
+
+use crate::cpu::Cpu;
+use crate::domain::Domain;
+use crate::writer::Writer;
+use sections::Slot;
+use std::alloc::Allocator;
+
+/// Makes blank what nobody can read any more, and gives a blank slot out. None where there is none, or 2^54 versions
+/// were put.
+pub fn claim<J, A: Allocator>(writer: &mut Writer, cpu: &mut Cpu<J, A>) -> Option<Slot>
+    requires here { cpu.old.cpu.domain ≡ writer.old.domain }
+    ensures claims { MatchOption result
+        (FindsNone writer.old cpu.old writer.new cpu.new)
+        (λ s. Claims s writer.old cpu.old writer.new cpu.new) }
+    ensures same { (writer.new.domain ≡ writer.old.domain) × (writer.new.cell ≡ writer.old.cell) }
+    ensures stays { Stays cpu.old cpu.new }
+{
+    writer.reclaim(cpu);
+    writer.blank()
+}
+
+/// Fills the slot with these words and puts it as the next version, and asks for the grace period of the slot that was
+/// current. The answer is the number of its cookie. It takes no memory and does not wait.
+pub fn publish<J, A: Allocator>(
+    writer: &mut Writer,
+    domain: &Domain<J, A>,
+    cpu: &mut Cpu<J, A>,
+    mut slot: Slot,
+    words: &[u64; 16],
+) -> u64
+    requires domain { IsOf domain.now cpu.old }
+    requires here { writer.old.domain ≡ domain.now.domain }
+    requires own { IsOwn writer.old slot }
+    requires long { (length writer.old.words ≡ 128) × (slot.slot < 8) }
+    ensures here { IsOf domain.now cpu.new }
+    ensures same { (writer.new.domain ≡ writer.old.domain) × (writer.new.cell ≡ writer.old.cell) }
+    ensures puts { (h : Puts slot.slot words.now writer.old cpu.old writer.new cpu.new) × (h.cookie ≡ result) }
+    ensures has { words_of writer.old.cell writer.new.version cpu.new.cpu.texts ≡ words.now }
+{
+    fill(writer, cpu, &mut slot, words);
+    writer.put_and_ask(domain, cpu, slot)
+}
+
+/// Stores sixteen words in the slot.
+fn fill<J, A: Allocator>(
+    writer: &mut Writer,
+    cpu: &mut Cpu<J, A>,
+    slot: &mut Slot,
+    words: &[u64; 16],
+)
+    requires here { cpu.old.cpu.domain ≡ writer.old.domain }
+    requires own { IsOwn writer.old slot.old }
+    requires long { (length writer.old.words ≡ 128) × (slot.old.slot < 8) }
+    ensures fills { Fills slot.old.slot words.now writer.old writer.new }
+    ensures cpu { cpu.new ≡ cpu.old }
+    ensures slot { slot.new ≡ slot.old }
+{
+    for place in 0..16 {
+        writer.set(cpu, slot, place, words[place]);
+    }
+}
