@@ -10,7 +10,8 @@ use Rattle.domain.specs.Views.{CpuView, with_cpu}
 use Rattle.domain.specs.Waiting.{HasNoneOpen}
 use Rattle.domain.proofs.CallerLemmas.{SameOpen, same_found, same_put, same_reclaimed, none_still}
 use Rattle.shelf.specs.Reading.{Loads, Reads}
-use Rattle.shelf.specs.Replacing.{Replaces, FindsNone}
+use Rattle.domain.specs.Publishing.{FindsNone}
+use Rattle.shelf.specs.Replacing.{Replaces}
 
 -- a version has the same words each time
 pub same_words : (f : FoundView) (a b : List ℕ) → AreWords f a → AreWords f b → a ≡ b
@@ -24,7 +25,7 @@ module _ {J : Type 0} where
   -- replacing opens no section, whether a slot was free or not
   pub none_replaced : (text : List ℕ) (cookie : ℕ) (w w' : WriterView) (c c' : CpuView J) → Replaces text cookie w c w' c' → HasNoneOpen c → HasNoneOpen c'
   none_replaced text cookie w w' c c' h none =
-      none_still h.at c' (same_put h.slot cookie h.filled w' h.at.cpu c'.cpu h.puts.puts) (none_still c h.at (same_reclaimed w h.freed c.cpu h.at.cpu h.frees.reclaims) none)
+      none_still h.at c' (same_put h.slot.slot h.puts.cookie h.puts.filled w' h.at.cpu c'.cpu h.puts.puts.puts) (none_still c h.at (same_reclaimed w h.claims.freed c.cpu h.at.cpu h.claims.frees.reclaims) none)
 
   pub none_refused : (w w' : WriterView) (c c' : CpuView J) → FindsNone w c w' c' → HasNoneOpen c → HasNoneOpen c'
   none_refused w w' c c' h none = none_still c c' (same_reclaimed w w' c.cpu c'.cpu h.frees.reclaims) none

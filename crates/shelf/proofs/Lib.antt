@@ -1,2 +1,2 @@
-mod Filling
+mod Putting
 pub mod CallerLemmas

@@ -1,41 +1,15 @@
 -- What replacing a value does.
-use Rattle.std.specs.Prelude.{◌≡◌, ◌≢◌, ℕ, ◌^◌, ◌<◌, ◌≤◌, ◌⊎◌, List, slice_set}
-use Rattle.onedom.specs.Histories.{IsBeginning, IsClear}
-use Rattle.sections.specs.declared.writer.Standing.TheVariants.{Blank, Out}
-use Rattle.sections.specs.Shelves.{slot_words}
-use Rattle.sections.specs.WriterViews.{WriterView}
-use Rattle.sections.specs.Writers.{standing_of, IsSameWriter, Reclaims, NoneBlank}
-use Rattle.domain.specs.Views.{CpuView, with_cpu}
-use Rattle.domain.specs.Writers.{PutsAndAsks}
-
--- the slot has these words then, and nothing else has changed. Nobody can read it in what the writer has then seen
-pub record Fills (slot : ℕ) (text : List ℕ) (w w' : WriterView) : Type 0 where
-  pub same : IsSameWriter w w'
-  pub standings : w'.standings ≡ w.standings
-  pub text_is : slot_words slot w'.words ≡ text
-  pub others : (x : ℕ) → x ≢ slot → slot_words x w'.words ≡ slot_words x w.words
-  pub since : IsBeginning w.seen w'.seen
-  pub clear : IsClear w'.seen w.cell slot
+use Rattle.std.specs.Prelude.{◌≡◌, ℕ, List}
+use Rattle.sections.specs.WriterViews.{WriterView, SlotView}
+use Rattle.domain.specs.Views.{CpuView}
+use Rattle.domain.specs.Publishing.{Claims, Puts}
 
 module _ {J : Type 0} where
-  -- what nobody can read any more became blank
-  pub record Frees (w : WriterView) (c : CpuView J) (w' : WriterView) (c' : CpuView J) : Type 0 where
-    pub reclaims : Reclaims w c.cpu w' c'.cpu
-    pub rest : c' ≡ with_cpu c'.cpu c
-
-  -- then a blank slot was filled with these words and put, and just the cookie was asked for with which the slot that was current is retired
+  -- a blank slot was claimed, filled with these words and put, and just the cookie was asked for with which the slot that was current is retired
   pub record Replaces (text : List ℕ) (cookie : ℕ) (w : WriterView) (c : CpuView J) (w' : WriterView) (c' : CpuView J) : Type 0 where
-    pub freed : WriterView
+    pub slot : SlotView
+    pub claimed : WriterView
     pub at : CpuView J
-    pub frees : Frees w c freed at
-    pub slot : ℕ
-    pub there : slot < w.slots
-    pub blank : standing_of freed slot ≡ Blank
-    pub filled : WriterView
-    pub fills : Fills slot text (record freed { standings = slice_set freed.standings slot Out }) filled
-    pub puts : PutsAndAsks slot cookie filled at w' c'
-
-  -- no slot was blank then, or as many versions were put as there may be; nothing was put
-  pub record FindsNone (w : WriterView) (c : CpuView J) (w' : WriterView) (c' : CpuView J) : Type 0 where
-    pub frees : Frees w c w' c'
-    pub none : (2 ^ 54 ≤ w'.version) ⊎ NoneBlank w'
+    pub claims : Claims slot w c claimed at
+    pub puts : Puts slot.slot text claimed at w' c'
+    pub cookie_is : puts.cookie ≡ cookie

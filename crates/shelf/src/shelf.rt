@@ -1,13 +1,13 @@
 //! The writer of a cell, for values of one type.
-ghost use Rattle.std.specs.Prelude.{◌≡◌, ◌<◌, length, IfOk, MatchResult};
+ghost use Rattle.std.specs.Prelude.{◌≡◌, IfOk, MatchResult};
 ghost use Rattle.sections.specs.Shelves.{words_of};
-ghost use Rattle.sections.specs.Writers.{IsOwn};
 ghost use Rattle.domain.specs.Views.{IsOf};
-ghost use Rattle.shelf.specs.Replacing.{Fills, Replaces, FindsNone};
+ghost use Rattle.domain.specs.Publishing.{FindsNone};
+ghost use Rattle.shelf.specs.Replacing.{Replaces};
 
 use crate::values::Values;
 use crate::versioned::Versioned;
-use domain::{Cpu, Domain, Slot, Writer};
+use domain::{Cpu, Domain, Writer, claim, publish};
 use std::alloc::Allocator;
 use std::error::Error;
 use std::fmt;
@@ -79,30 +79,9 @@ impl<T: Versioned> Shelf<T> {
             (λ _. FindsNone self.old cpu.old self.new cpu.new) }
         ensures has { IfOk result (λ _. words_of self.old.cell self.new.version cpu.new.cpu.texts ≡ T.text value.now) }
     {
-        self.writer.reclaim(cpu);
-        let Some(mut slot) = self.writer.blank() else {
+        let Some(slot) = claim(&mut self.writer, cpu) else {
             return Err(NoSlot);
         };
-        fill(&mut self.writer, cpu, &mut slot, &value.encode());
-        Ok(self.writer.put_and_ask(domain, cpu, slot))
-    }
-}
-
-/// Stores sixteen words in the slot.
-fn fill<J, A: Allocator>(
-    writer: &mut Writer,
-    cpu: &mut Cpu<J, A>,
-    slot: &mut Slot,
-    words: &[u64; 16],
-)
-    requires here { cpu.old.cpu.domain ≡ writer.old.domain }
-    requires own { IsOwn writer.old slot.old }
-    requires long { (length writer.old.words ≡ 128) × (slot.old.slot < 8) }
-    ensures fills { Fills slot.old.slot words.now writer.old writer.new }
-    ensures cpu { cpu.new ≡ cpu.old }
-    ensures slot { slot.new ≡ slot.old }
-{
-    for place in 0..16 {
-        writer.set(cpu, slot, place, words[place]);
+        Ok(publish(&mut self.writer, domain, cpu, slot, &value.encode()))
     }
 }
