@@ -11,7 +11,8 @@ use Rattle.plugs.specs.declared.rows.Row.{Row}
 use Rattle.plugs.specs.Parts.{rows_in}
 use Rattle.plugs.specs.Tables.{plug_of, IsTable, text_of}
 use Rattle.plugs.specs.Views.{LeaseView}
-use Rattle.plugs.specs.Changes.{Publishes, FindsNone}
+use Rattle.domain.specs.Publishing.{FindsNone}
+use Rattle.plugs.specs.Changes.{Publishes}
 use Rattle.plugs.specs.Reading.{LoadsRows, LooksUp, Gets}
 use Rattle.plugs.proofs.Texts.{text_long, read_back as rows_out}
 

@@ -1,6 +1,5 @@
 mod Looking
 mod Changing
 mod Texts
-mod Filling
 mod Fresh
 pub mod CallerLemmas

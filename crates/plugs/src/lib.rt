@@ -9,7 +9,6 @@ mod table;
 #[cfg(test)]
 mod tests;
 mod view;
-mod words;
 
 pub use lease::{Lease, release};
 pub use refusals::{InstallRefusal, RemoveRefusal};

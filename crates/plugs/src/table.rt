@@ -8,8 +8,7 @@ ghost use Rattle.plugs.specs.Changes.{Installs, IsNotInstalled, Removes, IsNotRe
 use crate::refusals::{InstallRefusal, RemoveRefusal};
 use crate::rows::Rows;
 use crate::view::TableView;
-use crate::words::{claim, publish};
-use domain::{Cpu, Domain, Writer};
+use domain::{Cpu, Domain, Writer, claim, publish};
 use std::alloc::Allocator;
 use std::marker::Model;
 
@@ -73,7 +72,8 @@ impl Table {
             return Err(InstallRefusal::NoSlot);
         };
         self.rows.insert(key, plug);
-        Ok(publish(&mut self.writer, domain, cpu, slot, &self.rows.text()))
+        publish(&mut self.writer, domain, cpu, slot, &self.rows.text());
+        Ok(self.writer.version())
     }
 
     /// The key has no plug from then on. The table is put as in [`Table::install`], which takes no memory either and does
@@ -100,6 +100,7 @@ impl Table {
             return Err(RemoveRefusal::NoSlot);
         };
         self.rows.remove(key);
-        Ok(publish(&mut self.writer, domain, cpu, slot, &self.rows.text()))
+        publish(&mut self.writer, domain, cpu, slot, &self.rows.text());
+        Ok(self.writer.version())
     }
 }
