@@ -1,7 +1,6 @@
 mod Answering
 pub mod CallerLemmas
 mod Chains
-mod Filling
 mod Inserting
 mod Lists
 mod Pairs

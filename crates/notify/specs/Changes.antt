@@ -2,6 +2,8 @@
 use Rattle.std.specs.Prelude.{◌≡◌, ℕ, ◌<◌, List, length}
 use Rattle.sections.specs.WriterViews.{WriterView, SlotView}
 use Rattle.domain.specs.Views.{CpuView}
+use Rattle.domain.specs.Publishing as publishing
+use Rattle.domain.specs.Publishing.{Claims, FindsNone}
 use Rattle.notify.specs.declared.block.Block.{Block}
 use Rattle.notify.specs.declared.refusals.RegisterRefusal.{RegisterRefusal}
 use Rattle.notify.specs.declared.refusals.RegisterRefusal.TheVariants as register
@@ -9,7 +11,6 @@ use Rattle.notify.specs.declared.refusals.UnregisterRefusal.{UnregisterRefusal}
 use Rattle.notify.specs.declared.refusals.UnregisterRefusal.TheVariants as unregister
 use Rattle.notify.specs.Blocks.{text_of, StandsAt, HasNone, Inserts, Removes}
 use Rattle.notify.specs.Chains.{ChainState}
-use Rattle.notify.specs.Putting.{FindsSlot, FindsNone, Publishes}
 
 -- the same chain, in the same cell
 pub record IsSameChain (s s' : ChainState) : Type 0 where
@@ -28,8 +29,8 @@ module _ {J : Type 0} where
     pub slot : SlotView
     pub given : WriterView
     pub at : CpuView J
-    pub finds : FindsSlot slot s.writer c given at
-    pub publishes : Publishes slot.slot (text_of s'.blocks) given at s'.writer c'
+    pub finds : Claims slot s.writer c given at
+    pub publishes : publishing.Puts slot.slot (text_of s'.blocks) given at s'.writer c'
 
   -- the block is in the chain, in its place, and all blocks are the next version
   pub record Registers (block : Block) (s : ChainState) (c : CpuView J) (s' : ChainState) (c' : CpuView J) : Type 0 where

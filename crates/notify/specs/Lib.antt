@@ -2,6 +2,5 @@ pub mod Blocks
 pub mod Calling
 pub mod Chains
 pub mod Insides
-pub mod Putting
 pub mod Changes
 pub mod Reading

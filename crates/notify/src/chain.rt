@@ -10,9 +10,8 @@ use crate::blocks::{Blocks, enter, leave};
 use crate::order::place_of;
 use crate::refusals::{RegisterRefusal, UnregisterRefusal};
 use crate::text::text;
-use crate::versions::{free_slot, publish};
 use crate::view::ChainView;
-use domain::{Cpu, Domain, Writer};
+use domain::{Cpu, Domain, Writer, claim, publish};
 use std::alloc::Allocator;
 use std::marker::Model;
 
@@ -79,7 +78,7 @@ impl Chain {
         if self.blocks.is_full() {
             return Err(RegisterRefusal::Full);
         }
-        let Some(slot) = free_slot(&mut self.writer, cpu) else {
+        let Some(slot) = claim(&mut self.writer, cpu) else {
             return Err(RegisterRefusal::NoSlot);
         };
         enter(&mut self.blocks, Block { id, priority });
@@ -109,7 +108,7 @@ impl Chain {
         let Some(place) = place_of(self.blocks.as_slice(), id) else {
             return Err(UnregisterRefusal::NotThere);
         };
-        let Some(slot) = free_slot(&mut self.writer, cpu) else {
+        let Some(slot) = claim(&mut self.writer, cpu) else {
             return Err(UnregisterRefusal::NoSlot);
         };
         leave(&mut self.blocks, place);

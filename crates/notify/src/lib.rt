@@ -11,7 +11,6 @@ mod refusals;
 #[cfg(test)]
 mod tests;
 mod text;
-mod versions;
 mod view;
 
 pub use chain::Chain;

@@ -4,7 +4,7 @@ use Rattle.std.proofs.lemmas.Int.{to_z-of_z}
 use Rattle.sections.specs.Shelves.{words_of}
 use Rattle.notify.specs.declared.block.Block.{Block}
 use Rattle.notify.specs.Blocks.{text_of, Inserts}
-use Rattle.notify.specs.Putting.{Publishes}
+use Rattle.domain.specs.Publishing.{Puts}
 use Rattle.notify.proofs.Inserting.{small_ids, kept_text}
 use Rattle.notify.proofs.Searching.{not_found}
 use Rattle.notify.proofs.chain.Chain.register.Goals as goal
@@ -30,10 +30,10 @@ returns-clause-registers g c =
       inserts = subst (λ (p : ℤ). Inserts (record { id = c.args.id; priority = p }) c.self.inside.blocks.items c.enter.new.blocks.items) (to_z-of_z w32 c.args.priority c.ranges.priority) (c.enter.ensures.inserts c.self.inside.ids c.self.invariant);
       puts = record {
         slot = c.in-Some.slot;
-        given = c.free_slot.new.writer;
-        at = c.free_slot.new.cpu;
-        finds = c.in-Some.ensures.finds;
-        publishes = subst (λ (l : List ℕ). Publishes c.in-Some.slot.slot l c.free_slot.new.writer c.free_slot.new.cpu c.publish.new.writer c.publish.new.cpu) (c.text-words.ensures ∙ ap text_of c.as_slice-2.ensures.value) c.publish.ensures.publishes;
+        given = c.claim.new.writer;
+        at = c.claim.new.cpu;
+        finds = c.in-Some.ensures.claims;
+        publishes = subst (λ (l : List ℕ). Puts c.in-Some.slot.slot l c.claim.new.writer c.claim.new.cpu c.publish.new.writer c.publish.new.cpu) (c.text-words.ensures ∙ ap text_of c.as_slice-2.ensures.value) c.publish.ensures.puts.0;
       };
     })
 

@@ -3,7 +3,7 @@ use Rattle.std.proofs.Common.{◌<◌, List, ℕ, All, ◌^◌, sym, ap, ◌∙�
 use Rattle.sections.specs.Shelves.{words_of}
 use Rattle.notify.specs.declared.block.Block.{Block}
 use Rattle.notify.specs.Blocks.{text_of, StandsAt}
-use Rattle.notify.specs.Putting.{Publishes}
+use Rattle.domain.specs.Publishing.{Puts}
 use Rattle.notify.proofs.Inserting.{small_ids, kept_text}
 use Rattle.notify.proofs.chain.Chain.unregister.Goals as goal
 
@@ -18,11 +18,11 @@ returns-clause-unregisters g c =
     rw (← c.self.view_is) (record {
       removes = c.leave.ensures.removes c.args.id (subst (StandsAt c.in-Some.place c.args.id) c.as_slice.ensures.value c.in-Some.ensures);
       puts = record {
-        slot = c.in-Some-free_slot.slot;
-        given = c.free_slot.new.writer;
-        at = c.free_slot.new.cpu;
-        finds = c.in-Some-free_slot.ensures.finds;
-        publishes = subst (λ (l : List ℕ). Publishes c.in-Some-free_slot.slot.slot l c.free_slot.new.writer c.free_slot.new.cpu c.publish.new.writer c.publish.new.cpu) (c.text-words.ensures ∙ ap text_of c.as_slice-2.ensures.value) c.publish.ensures.publishes;
+        slot = c.in-Some-claim.slot;
+        given = c.claim.new.writer;
+        at = c.claim.new.cpu;
+        finds = c.in-Some-claim.ensures.claims;
+        publishes = subst (λ (l : List ℕ). Puts c.in-Some-claim.slot.slot l c.claim.new.writer c.claim.new.cpu c.publish.new.writer c.publish.new.cpu) (c.text-words.ensures ∙ ap text_of c.as_slice-2.ensures.value) c.publish.ensures.puts.0;
       };
     })
 
