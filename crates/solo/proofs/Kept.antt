@@ -14,7 +14,7 @@ use Rattle.notify.specs.declared.refusals.RegisterRefusal.TheVariants as registe
 use Rattle.notify.specs.declared.refusals.UnregisterRefusal.{UnregisterRefusal}
 use Rattle.notify.specs.declared.refusals.UnregisterRefusal.TheVariants as unregister
 use Rattle.notify.specs.Chains.{ChainState, ChainCell}
-use Rattle.notify.specs.Putting.{Frees, FindsSlot, Publishes}
+use Rattle.domain.specs.Publishing.{Frees, Claims, Puts}
 use Rattle.notify.specs.Changes.{Registers, RefusesRegister, Unregisters, RefusesUnregister}
 use Rattle.notify.specs.Reading.{ReadsOnce, Lists, Calls, IsRefused}
 
@@ -38,7 +38,7 @@ module _ {J : Type 0} where
   pub by_freeing : {w w' : WriterView} {c d : CpuView J} → Frees w c w' d → IsKept c d
   by_freeing {w} {w'} {c} {d} h = record { cpu = h.reclaims.same.1; needs = (stays c.needs d.needs (ap (λ (x : CpuView J). x.needs) h.rest)).same }
 
-  pub by_putting : {slot : SlotView} {words : List ℕ} {w given w' : WriterView} {c at d : CpuView J} → FindsSlot slot w c given at → Publishes slot.slot words given at w' d → IsKept c d
+  pub by_putting : {slot : SlotView} {words : List ℕ} {w given w' : WriterView} {c at d : CpuView J} → Claims slot w c given at → Puts slot.slot words given at w' d → IsKept c d
   by_putting {slot} {words} {w} {given} {w'} {c} {at} {d} finds publishes = kept_on c at d (by_freeing finds.frees)
       (kept_on at publishes.acts.between d (by_act _ _ at publishes.acts.between publishes.acts.put) (by_act _ _ publishes.acts.between d publishes.acts.next))
 

@@ -9,7 +9,7 @@ use Rattle.sections.specs.Writers.{questions}
 use Rattle.sections.specs.WriterViews.{WriterView, SlotView}
 use Rattle.domain.specs.Views.{CpuView}
 use Rattle.domain.specs.Acting.{Act, ActsAs, puts, asks_for}
-use Rattle.notify.specs.Putting.{Frees as FreesHere, FindsSlot, FindsNone, Publishes}
+use Rattle.domain.specs.Publishing.{Frees as FreesHere, Claims, FindsNone, Puts as Publishes}
 use Rattle.solo.specs.Calls.{IsSameDomain}
 use Rattle.solo.specs.Shelf.{in_cell, with_current}
 use Rattle.solo.specs.Settling.{HaveMet}
@@ -55,7 +55,7 @@ module _ {J : Type 0} where
 
     -- A version was put
 
-    module _ (w w' : WriterView) (words : List ℕ) {slot : SlotView} {given : WriterView} {at : CpuView J} (finds : FindsSlot slot w t.was given at) (publishes : Publishes slot.slot words given at w' t.now) where
+    module _ (w w' : WriterView) (words : List ℕ) {slot : SlotView} {given : WriterView} {at : CpuView J} (finds : Claims slot w t.was given at) (publishes : Publishes slot.slot words given at w' t.now) where
       at_here : at.cpu.processor ≡ t.p
       at_here = (freed w finds.freed at finds.frees).events.same.3 ∙ first_here t
 

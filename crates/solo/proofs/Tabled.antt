@@ -14,7 +14,6 @@ use Rattle.scan.specs.Standings.{index_now}
 use Rattle.domain.specs.Views.{CpuView}
 use Rattle.domain.specs.Acting as doing
 use Rattle.domain.specs.Acting.{Act, ActsAs, loads}
-use Rattle.notify.specs.Putting as put
 use Rattle.plugs.specs.declared.rows.Row.{Row}
 use Rattle.plugs.specs.declared.refusals.InstallRefusal.{InstallRefusal}
 use Rattle.plugs.specs.declared.refusals.InstallRefusal.TheVariants as install
@@ -40,38 +39,21 @@ use Rattle.solo.proofs.Putting.{SaysBut, lacks, lacks_says, are_put, put_says, t
 use Rattle.solo.proofs.Visiting.{Reads, step, first_here, seen_before, found_words, words_found, visit_says, refused_says}
 
 module _ {J : Type 0} where
-  -- A version is put as a chain's is
-
-  finds_of : {slot : SlotView} {w w' : WriterView} {c d : CpuView J} → plugs.Claims slot w c w' d → put.FindsSlot slot w c w' d
-  finds_of h = record { freed = h.freed; frees = record { reclaims = h.frees.reclaims; rest = h.frees.rest }; gives = h.gives }
-
-  publishes_of : {slot : ℕ} {words : List ℕ} {w w' : WriterView} {c d : CpuView J} → plugs.Puts slot words w c w' d → put.Publishes slot words w c w' d
-  publishes_of h = record {
-    filled = h.filled;
-    fills = record { same = h.fills.same; standings = h.fills.standings; words_are = h.fills.text_is; others = h.fills.others; since = h.fills.since; clear = h.fills.clear };
-    cookie = h.cookie;
-    puts = h.puts;
-    acts = h.acts;
-  }
-
-  none_of : {w w' : WriterView} {c d : CpuView J} → plugs.FindsNone w c w' d → put.FindsNone w c w' d
-  none_of h = record { frees = record { reclaims = h.frees.reclaims; rest = h.frees.rest }; none = h.none }
-
   -- The processor is the same
 
   by_publishing : {text : List ℕ} {version : ℕ} {w w' : WriterView} {c d : CpuView J} → plugs.Publishes text version w c w' d → IsKept c d
-  by_publishing h = by_putting (finds_of h.claims) (publishes_of h.puts)
+  by_publishing h = by_putting h.claims h.puts
 
   pub by_install : (key plug : ℕ) (s s' : TableState) (c d : CpuView J) (r : Result ℕ InstallRefusal) → MatchResult r (λ v. plugs.Installs key plug v s c s' d) (λ e. plugs.IsNotInstalled key e s c s' d) → IsKept c d
   by_install key plug s s' c d (Ok v) h = by_publishing h.publishes
   by_install key plug s s' c d (Err install.Full) h = by_itself c d h.2
-  by_install key plug s s' c d (Err install.NoSlot) h = by_freeing (none_of h.none).frees
+  by_install key plug s s' c d (Err install.NoSlot) h = by_freeing h.none.frees
   by_install key plug s s' c d (Err install.Memory) h = absurd h
 
   pub by_remove : (key : ℕ) (s s' : TableState) (c d : CpuView J) (r : Result ℕ RemoveRefusal) → MatchResult r (λ v. plugs.Removes key v s c s' d) (λ e. plugs.IsNotRemoved key e s c s' d) → IsKept c d
   by_remove key s s' c d (Ok v) h = by_publishing h.publishes
   by_remove key s s' c d (Err remove.NotThere) h = by_itself c d h.2
-  by_remove key s s' c d (Err remove.NoSlot) h = by_freeing (none_of h.none).frees
+  by_remove key s s' c d (Err remove.NoSlot) h = by_freeing h.none.frees
 
   pub by_lookup : (cell key : ℕ) (c d : CpuView J) (r : Result (Option ℕ) Exhausted) → MatchResult r (λ plug. LooksUp cell key plug c d) (λ _. LooksInVain c.cpu d.cpu) → IfErr r (λ _. ActsAs loads c d) → IsKept c d
   by_lookup cell key c d (Ok plug) h acts = kept_on c h.begun d (by_act _ _ c h.begun h.acts)
@@ -113,14 +95,14 @@ module _ {J : Type 0} where
 
         published : (it : Type 0) → it → IsTable s'.rows → SaysBut t (it × ShelfIs s s' × IsCurrent (meeting.s' t) s')
         published it what table =
-            let said = put_says t s.writer s'.writer (text_of s'.rows) (finds_of h.claims) (publishes_of h.puts) was.cell.1 has_now it what in record {
+            let said = put_says t s.writer s'.writer (text_of s'.rows) h.claims h.puts was.cell.1 has_now it what in record {
               met = said.met;
               same = said.same;
-              what = (said.what.0, said.what.1, current_now said.same table (there t s.writer s'.writer (text_of s'.rows) (finds_of h.claims) (publishes_of h.puts) was.cell.1 has_now));
+              what = (said.what.0, said.what.1, current_now said.same table (there t s.writer s'.writer (text_of s'.rows) h.claims h.puts was.cell.1 has_now));
             }
 
         puts_are : Puts t.p s.writer s'.writer t.s.course (meeting.s' t).course
-        puts_are = are_put t s.writer s'.writer (text_of s'.rows) (finds_of h.claims) (publishes_of h.puts)
+        puts_are = are_put t s.writer s'.writer (text_of s'.rows) h.claims h.puts
 
       pub install_says : (key plug : ℕ) (r : Result ℕ InstallRefusal) → MatchResult r (λ v. plugs.Installs key plug v s t.was s' t.now) (λ e. plugs.IsNotInstalled key e s t.was s' t.now) → IfOk r (λ v. words_of s.writer.cell v t.now.cpu.texts ≡ text_of s'.rows)
           → SaysBut t (MatchResult r (λ v. Installs t.p key plug v s s' t.s.course (meeting.s' t).course) (λ e. IsNotInstalled t.p key e s s' t.s.course (meeting.s' t).course) × Shelved r × IsCurrent (meeting.s' t) s')
@@ -129,7 +111,7 @@ module _ {J : Type 0} where
           let it = nothing_says t _ h.2 (λ course. (h.0, (h.1, course))) in
           record { met = it.met; same = it.same; what = (it.what.0, it.what.1, current_kept it.same it.what.1 (ap (λ x. x.rows) h.1)) }
       install_says key plug (Err install.NoSlot) h has =
-          let it = lacks_says t s.writer s'.writer (none_of h.none) _ (h.room, record { lacks = lacks t s.writer s'.writer (none_of h.none); rows = h.rows }) in
+          let it = lacks_says t s.writer s'.writer h.none _ (h.room, record { lacks = lacks t s.writer s'.writer h.none; rows = h.rows }) in
           record { met = it.met; same = it.same; what = (it.what.0, it.what.1, current_kept it.same it.what.1 h.rows) }
       install_says key plug (Err install.Memory) h has = absurd h
 
@@ -140,7 +122,7 @@ module _ {J : Type 0} where
           let it = nothing_says t _ h.2 (λ course. (h.0, (h.1, course))) in
           record { met = it.met; same = it.same; what = (it.what.0, it.what.1, current_kept it.same it.what.1 (ap (λ x. x.rows) h.1)) }
       remove_says key (Err remove.NoSlot) h has =
-          let it = lacks_says t s.writer s'.writer (none_of h.none) _ (h.there, record { lacks = lacks t s.writer s'.writer (none_of h.none); rows = h.rows }) in
+          let it = lacks_says t s.writer s'.writer h.none _ (h.there, record { lacks = lacks t s.writer s'.writer h.none; rows = h.rows }) in
           record { met = it.met; same = it.same; what = (it.what.0, it.what.1, current_kept it.same it.what.1 h.rows) }
 
     -- Reads
