@@ -11,7 +11,8 @@ use Rattle.calls.specs.declared.refusals.CallRefusal.TheVariants as calling
 use Rattle.domain.specs.Views.{CpuView, IsOf}
 use Rattle.domain.specs.Acting.{loads, notes, takes, asks_for, finishes, ActsAs, QueuesNone}
 use Rattle.plugs.specs.Views.{TableState}
-use Rattle.plugs.specs.Changes.{Frees, Publishes, Installs, LacksSlotFor}
+use Rattle.domain.specs.Publishing.{Frees}
+use Rattle.plugs.specs.Changes.{Publishes, Installs, LacksSlotFor}
 use Rattle.race.specs.declared.course.Course.{Course}
 use Rattle.race.specs.declared.updater.Updater.{Updater}
 use Rattle.race.specs.Updaters.{IsUpdaterOf, Tells, GoesOn}
