@@ -9,4 +9,4 @@ mod tests;
 
 pub use index::Index;
 pub use needs::Needs;
-pub use number::{Number, Phase, completed, is_done, snap, state};
+pub use number::{COMPLETED, Number, Phase, completed, is_done, snap, state};

@@ -1,6 +1,6 @@
 //! The number of a domain (`srcu_gp_seq`): how many grace periods have ended, and where the running one stands.
 ghost use Rattle.std.specs.Prelude.{◌≡◌, ◌+◌, ◌*◌, ◌/◌, ◌%◌, ◌^◌, ◌<◌, ◌≤◌, ◌↔◌, SomeIff, IsTrue};
-ghost use Rattle.sseq.specs.Numbers.{IsNumber, state_bits, periods_ended, cookie_at};
+ghost use Rattle.sseq.specs.Numbers.{IsNumber, state_bits, periods_ended, cookie_at, IsDoneAt};
 
 use std::fmt;
 use std::marker::Model;
@@ -166,10 +166,14 @@ pub fn snap(number: Number) -> u64
     (number.value + 7) / 4 * 4
 }
 
-/// Whether a cookie is done (`rcu_seq_done`): the number has reached it. Numbers do not wrap here, so they are
-/// compared as they are.
+/// The number of the completed cookie, which is done in every domain and at every number
+/// (`SRCU_GET_STATE_COMPLETED`). No other cookie has it: they are multiples of four.
+pub const COMPLETED: u64 = 1;
+
+/// Whether a cookie is done (`rcu_seq_done`): the number has reached it, or it is the completed one. Numbers do not wrap
+/// here, so they are compared as they are.
 pub fn is_done(number: Number, cookie: u64) -> bool
-    ensures { IsTrue result ↔ (cookie ≤ number) }
+    ensures { IsTrue result ↔ IsDoneAt number cookie }
 {
-    number.value >= cookie
+    cookie == COMPLETED || number.value >= cookie
 }

@@ -33,7 +33,7 @@ fn done_at(value: u64, cookie: u64) -> Option<bool> {
     Some(is_done(Number::new(value)?, cookie))
 }
 
-// A cookie is done from its own number on.
+// A cookie is done from its own number on, and the completed one always.
 #[test]
 fn cookies_of_numbers(rt: HostRuntime) {
     for (value, cookie, done) in [
@@ -42,6 +42,9 @@ fn cookies_of_numbers(rt: HostRuntime) {
         (2, 4, false),
         (4, 4, true),
         (9, 8, true),
+        (0, COMPLETED, true),
+        (2, COMPLETED, true),
+        (0, 2, false),
     ] {
         assert_eq!(rt;
             (value, cookie, done_at(value, cookie)),
