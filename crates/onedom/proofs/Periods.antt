@@ -3,6 +3,7 @@ use Rattle.std.proofs.Common.{◌≡◌, ℕ, ◌+◌, ◌*◌, ◌<◌, ◌≤�
 use Rattle.std.proofs.Math.Seq.{take-length}
 use Rattle.std.proofs.lemmas.List.{take_more}
 use Rattle.sseq.specs.declared.index.Index.{Index}
+use Rattle.sseq.proofs.CallerLemmas.{reached}
 use Rattle.onedom.specs.declared.event.Maker.{Maker}
 use Rattle.onedom.specs.declared.event.Event.{Event}
 use Rattle.onedom.specs.declared.event.Event.TheVariants.{Begin, End, Start, Finish, Note, Ask, Find, Put}
@@ -208,8 +209,8 @@ law before between after cookie asked giver asker legal le s is_open still =
     let upto : IsLegal mid = legal_beginning (beginning_append mid (Ask asked true asker ∷ after)) legal in
     let first : IsLegal before = legal_beginning (beginning_append before (Note cookie giver ∷ between)) upto in
     let given : cookie ≡ cookie_after before = legal_split before (Note cookie giver) between upto in
-    let done : asked ≤ 4 * ended_in mid = (legal_split mid (Ask asked true asker) after legal).1.0 refl in
     let later : 4 * (starts_in before + 1) ≤ cookie_after before = cookie_is_later before first in
+    let done : asked ≤ 4 * ended_in mid = reached (4 * ended_in mid) asked (λ one. omega (arith, given, later, le, one)) ((legal_split mid (Ask asked true asker) after legal).1.0 refl) in
     let one = (one_period before first).0 in
     let k : Outlasts s (starts_in before) mid = along_after (λ h. Outlasts s (starts_in before) h) (outlasts_step s (starts_in before)) before (Note cookie giver ∷ between) upto
     (record { begun = is_open.0; few_ended = λ _. one; at_start = λ _ more. absurd (omega (arith, more)) }) in

@@ -3,6 +3,7 @@ use Rattle.std.specs.Prelude.{◌≡◌, ◌≢◌, ℕ, ◌+◌, ◌*◌, ◌%�
 use Rattle.std.specs.List.{filter_map}
 use Rattle.sseq.specs.declared.index.Index.{Index}
 use Rattle.sseq.specs.declared.index.Index.TheVariants.{Zero}
+use Rattle.sseq.specs.Numbers.{IsCookieNumber, IsDoneAt}
 use Rattle.onedom.specs.declared.event.Maker.{Maker}
 use Rattle.onedom.specs.declared.event.Maker.TheVariants.{Processor, Engine}
 use Rattle.onedom.specs.declared.event.Event.{Event}
@@ -104,9 +105,9 @@ pub record WasEmpty (i : Index) (history : List Event) : Type 0 where
 abbrev pub cookie_after : List Event → ℕ
 cookie_after history = 4 * (ended_in history + (if nat_lt (ended_in history) (starts_in history) then 2 else 1))
 
--- as many grace periods have ended as the cookie waits for
+-- as many grace periods have ended as the cookie waits for. The completed cookie waits for none
 abbrev pub IsDone : ℕ → List Event → Type 0
-IsDone cookie history = cookie ≤ 4 * ended_in history
+IsDone cookie history = IsDoneAt (4 * ended_in history) cookie
 
 -- Versions
 
@@ -172,7 +173,7 @@ MayFollow history (End s q by) = IsOpen history s
 MayFollow history (Start by) = ¬ IsRunning history
 MayFollow history (Finish by) = IsRunning history × ((s : ℕ) → WasOpenAtStart history s → ¬ IsOpen history s)
 MayFollow history (Note cookie by) = cookie ≡ cookie_after history
-MayFollow history (Ask cookie done by) = (cookie % 4 ≡ 0) × (IsTrue done ↔ IsDone cookie history)
+MayFollow history (Ask cookie done by) = IsCookieNumber cookie × (IsTrue done ↔ IsDone cookie history)
 MayFollow history (Find s cell slot version by) = IsOpen history s × (slot ≡ slot_of cell history) × (version ≡ version_of cell history)
 MayFollow history (Put cell slot version by) = IsClear history cell slot × (version ≡ version_of cell history + 1)
 

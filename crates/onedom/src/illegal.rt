@@ -17,7 +17,8 @@ pub enum Illegal {
     StillOpen = 5,
     /// The cookie is not the one that is given now.
     WrongCookie = 6,
-    /// The answer is not the one that the cookie gets now, or this is no cookie: not a multiple of four.
+    /// The answer is not the one that the cookie gets now, or this is no cookie: neither a multiple of
+    /// four nor 1.
     WrongPoll = 7,
     /// That is not the slot and the version that are current in the cell.
     WrongFind = 8,

@@ -2,9 +2,11 @@
 ghost use Rattle.std.specs.Prelude.{◌≡◌, ℕ, ◌+◌, ◌%◌, ◌<◌, ◌≤◌, ◌↔◌, [], ◌∷◌, ◌++◌, length, IfOk, IfErr, OnOk, OnErr, MatchOption, IsTrue, true};
 ghost use Rattle.onedom.specs.Histories.{begins, ends, is_start, is_finish, begins_of, ends_of, starts_in, ended_in, IsOpen, IsRunning, IsBeforeLastStart, WasOpenAtStart, cookie_after, IsDone, slot_after, slot_of, version_after, version_of, finds, finds_of, IsClear, MayFollow, IsLegal};
 ghost use Rattle.onedom.specs.Refusals.{IsRefusal};
+ghost use Rattle.sseq.specs.Numbers.{IsCookieNumber};
 
 use crate::event::Event;
 use crate::illegal::Illegal;
+use sseq::COMPLETED;
 use std::alloc::{AllocError, Allocator};
 use std::marker::Model;
 
@@ -163,8 +165,11 @@ fn is_given_now(history: &[Event], cookie: u64) -> bool
 
 // Whether this is a cookie, and `done` the answer that it gets now.
 fn is_answer(history: &[Event], cookie: u64, done: bool) -> bool
-    ensures { IsTrue result ↔ (cookie % 4 ≡ 0) × (IsTrue done ↔ IsDone cookie history.now) }
+    ensures { IsTrue result ↔ IsCookieNumber cookie × (IsTrue done ↔ IsDone cookie history.now) }
 {
+    if cookie == COMPLETED {
+        return done;
+    }
     cookie % 4 == 0 && done == (cookie / 4 <= ended_in(history) as u64)
 }
 

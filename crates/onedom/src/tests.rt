@@ -189,11 +189,14 @@ fn cookies_given(rt: HostRuntime) -> Result<(), Fail> {
     Ok(())
 }
 
-// Only multiples of four are cookies. 0 is done at once, and any other once its period has ended.
+// Only multiples of four are cookies, and 1, which is done always. 0 is done at once, and any other once its period has
+// ended.
 #[test]
 fn answers_to_cookies(rt: HostRuntime) -> Result<(), Fail> {
     let wrong = Err(Illegal::WrongPoll);
     let steps = [
+        (ask(1, true), Ok(())),
+        (ask(1, false), wrong),
         (ask(0, true), Ok(())),
         (ask(0, false), wrong),
         (ask(4, false), Ok(())),
@@ -207,16 +210,21 @@ fn answers_to_cookies(rt: HostRuntime) -> Result<(), Fail> {
         (ask(4, false), wrong),
         (ask(4, true), Ok(())),
         (ask(2, true), wrong),
+        (ask(1, false), wrong),
+        (ask(1, true), Ok(())),
+        (ask(5, true), wrong),
         (ask(8, true), wrong),
         (ask(8, false), Ok(())),
     ];
     let accepted = [
+        ask(1, true),
         ask(0, true),
         ask(4, false),
         ask(u64::MAX - 3, false),
         START,
         FINISH,
         ask(4, true),
+        ask(1, true),
         ask(8, false),
     ];
     let mut domain = OneDomain::new(rt.alloc());
@@ -228,6 +236,7 @@ fn answers_to_cookies(rt: HostRuntime) -> Result<(), Fail> {
     assert_eq!(rt; legal(rt.alloc(), &accepted), Ok(true));
     assert_eq!(rt; legal(rt.alloc(), &[ask(4, true)]), Ok(false));
     assert_eq!(rt; legal(rt.alloc(), &[ask(6, false)]), Ok(false));
+    assert_eq!(rt; legal(rt.alloc(), &[ask(1, false)]), Ok(false));
     Ok(())
 }
 
