@@ -1,5 +1,5 @@
 -- From what a step tells a seat to what a caller of a processor sees.
-use Rattle.std.proofs.Common.{◌≡◌, ℕ, ◌+◌, ◌*◌, ◌%◌, ◌^◌, ◌<◌, ◌≤◌, ◌≢◌, ◌==◌, if◌then◌else◌, Bool, true, false, nat_le, eqb, List, [], ◌∷◌, ◌++◌, None, All, Contains, zero, suc, ⊎_elim, length, length-append, filter, not, ◌&&◌, get_or, set, refl, sym, ap, ◌∙◌, subst, eq-eqb, ne_eqb, leb-true, le-leb, append_assoc, arith, get_or-set_other, get_or-set_same}
+use Rattle.std.proofs.Common.{◌≡◌, ℕ, ◌+◌, ◌*◌, ◌%◌, ◌^◌, ◌<◌, ◌≤◌, ◌≢◌, ◌==◌, if◌then◌else◌, Bool, true, false, eqb, List, [], ◌∷◌, ◌++◌, None, All, Contains, zero, suc, ⊎_elim, length, length-append, filter, not, ◌&&◌, get_or, set, refl, sym, ap, ◌∙◌, subst, eq-eqb, ne_eqb, append_assoc, arith, get_or-set_other, get_or-set_same}
 use Rattle.std.proofs.lemmas.List.Elements.{All-head, All-tail, filter_agree, Contains-append_left, Contains-append_right, Contains-append_cases}
 use mathlib.Core.Logic.{dite}
 use native.Mathlib.Decide.{ℕ_discrete}
@@ -13,7 +13,7 @@ use Rattle.onedom.specs.declared.event.Event.{Event}
 use Rattle.onedom.specs.declared.event.Event.TheVariants.{Begin, End, Note, Ask}
 use Rattle.onedom.specs.Histories.{begins, ends, section_begun, IsOpen, begins_of, ends_of, index_of, MayFollow, IsLegal, made_by, open_sections, IsBeginning}
 use Rattle.onedom.specs.Laws.{times}
-use Rattle.onedom.proofs.CallerLemmas.{law, index_kept, bit, let_in, kept_out, made_by_own, same_maker_refl, index_of_begun, begins_of_push, no_ends, legal_after_append, ends_of_made, ends_of_push, begins_grow, beginning_push, beginning_made_by, times_kept, times_gone, without, filter_twice, times_open, open_sections_begun, open_sections_ended, open_sections_plain}
+use Rattle.onedom.proofs.CallerLemmas.{law, index_kept, bit, let_in, kept_out, made_by_own, same_maker_refl, index_of_begun, begins_of_push, no_ends, legal_after_append, ends_of_made, ends_of_push, begins_grow, beginning_empty, beginning_push, beginning_made_by, times_kept, times_gone, without, filter_twice, times_open, open_sections_begun, open_sections_ended, open_sections_plain}
 use Rattle.sections.specs.declared.view.Role.{Role}
 use Rattle.sections.specs.declared.view.Role.TheVariants.{Cpu, Driver}
 use Rattle.sections.specs.declared.view.Right.{Right}
@@ -27,7 +27,8 @@ use Rattle.sections.specs.Plays.{Owns, IsSound, Sees, Adds, FindsNumber}
 use Rattle.sections.specs.Insides.{IsAtRest, section_of}
 use Rattle.sections.specs.Views.{CpuView, ReadingView}
 use Rattle.sections.specs.Calls.{IsHistoryOf, Loads, AddsEvent, EndsWithBegin, HasBegun, Unlocks, Notes, Asks, EndsWithNote, AllClosed}
-use Rattle.sseq.specs.Numbers.{periods_ended, cookie_at}
+use Rattle.sseq.specs.Numbers.{periods_ended, cookie_at, done_at}
+use Rattle.sseq.proofs.CallerLemmas.{done_true, done_is}
 use Rattle.sections.proofs.Deeds.{cpu_makes}
 use Rattle.sections.proofs.Counters.{locks_push, locks_here, elsewhere, index_low, index_number_same}
 
@@ -310,7 +311,7 @@ notes_from number d d' n limit p v w w' same sized is cut found a = subst (λ (z
 }
 
 -- somebody asks after one
-pub asks_from : (number cookie : ℕ) (answer : Bool) (d d' : TableId) (n limit p : ℕ) (v o j w : View) → d' ≡ d → v.processors ≡ n → v.role ≡ Cpu p → j ≡ informed v o → FindsNumber number w → answer ≡ nat_le cookie number
+pub asks_from : (number cookie : ℕ) (answer : Bool) (d d' : TableId) (n limit p : ℕ) (v o j w : View) → d' ≡ d → v.processors ≡ n → v.role ≡ Cpu p → j ≡ informed v o → FindsNumber number w → answer ≡ done_at number cookie
     → Adds j (Ask cookie answer (Processor p)) w → Asks o.seen o.changes cookie answer (seen_as d n limit p v) (seen_as d' n limit p w)
 asks_from number cookie answer d d' n limit p v o j w same sized is joined found told h =
     let adds = adds_event (Ask cookie answer (Processor p)) d d' n limit p v o j w same sized is joined h in record {
@@ -318,12 +319,12 @@ asks_from number cookie answer d d' n limit p v o j w same sized is joined found
       adds = adds;
       current = found.current;
       since = let le = number_grows v.changes w.changes adds.later in let now = found.current in omega (arith, le, now);
-      answer_is = ((λ t. leb-true cookie number (sym told ∙ t)), (λ le. told ∙ le-leb cookie number le));
+      answer_is = ((λ t. done_true number cookie (sym told ∙ t)), (λ done. told ∙ done_is number cookie done));
       small = found.room;
     }
 
 -- the same with nothing handed in
-pub asks_alone : (number cookie : ℕ) (answer : Bool) (d d' : TableId) (n limit p : ℕ) (v w : View) → d' ≡ d → v.processors ≡ n → v.role ≡ Cpu p → FindsNumber number w → answer ≡ nat_le cookie number
+pub asks_alone : (number cookie : ℕ) (answer : Bool) (d d' : TableId) (n limit p : ℕ) (v w : View) → d' ≡ d → v.processors ≡ n → v.role ≡ Cpu p → FindsNumber number w → answer ≡ done_at number cookie
     → Adds v (Ask cookie answer (Processor p)) w → Asks v.seen v.changes cookie answer (seen_as d n limit p v) (seen_as d' n limit p w)
 asks_alone number cookie answer d d' n limit p v w same sized is found told h =
     let adds = adds_alone (Ask cookie answer (Processor p)) d d' n limit p v w (lacking w) same sized is refl h in record {
@@ -331,9 +332,20 @@ asks_alone number cookie answer d d' n limit p v w same sized is found told h =
       adds = adds;
       current = found.current;
       since = let le = number_grows v.changes w.changes h.later in let now = found.current in omega (arith, le, now);
-      answer_is = ((λ t. leb-true cookie number (sym told ∙ t)), (λ le. told ∙ le-leb cookie number le));
+      answer_is = ((λ t. done_true number cookie (sym told ∙ t)), (λ done. told ∙ done_is number cookie done));
       small = found.room;
     }
+
+-- what is known alone is more than what nobody has seen
+pub asks_unheard : {c d : CpuView} (cookie : ℕ) (answer : Bool) → Asks c.seen c.changes cookie answer c d → Asks [] 0 cookie answer c d
+asks_unheard cookie answer a = record {
+  number = a.number;
+  adds = record { same = a.adds.same; before = a.adds.before; seen = a.adds.seen; since = a.adds.since; later = a.adds.later; covers = beginning_empty a.adds.before; not_before = omega arith; mine = a.adds.mine; steps = a.adds.steps; texts = a.adds.texts; history = a.adds.history };
+  current = a.current;
+  since = a.since;
+  answer_is = a.answer_is;
+  small = a.small;
+}
 
 -- an event that neither begins nor ends a section
 pub locks_told : (p : ℕ) (i : Index) (e : Event) (mine after : List Event) → locks_at p i e ≡ false → after ≡ mine ++ e ∷ [] → locks p i after ≡ locks p i mine

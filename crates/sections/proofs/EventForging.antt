@@ -1,5 +1,5 @@
 -- No seat can claim an event that it did not make, a load of the number among them.
-use Rattle.std.proofs.Common.{◌≡◌, ℕ, zero, suc, ◌<◌, ◌≤◌, ◌≢◌, Bool, true, false, cond, List, [], ◌∷◌, ◌++◌, All, Option, map, length, take, set, refl, sym, ap, ◌∙◌, subst, ⊎_elim, length-append, arith}
+use Rattle.std.proofs.Common.{◌≡◌, inr, ℕ, zero, suc, ◌<◌, ◌≤◌, ◌≢◌, Bool, true, false, cond, List, [], ◌∷◌, ◌++◌, All, Option, map, length, take, set, refl, sym, ap, ◌∙◌, subst, ⊎_elim, length-append, arith}
 use Rattle.std.proofs.lemmas.List.{take-map, take-append-le}
 use Rattle.std.proofs.lemmas.List.Elements.{All-nil, filter_map-append}
 use Rattle.std.proofs.Math.Seq.{take-length}
@@ -71,7 +71,7 @@ longer q (suc k) log = longer q k log ++ question q ∷ []
 
 -- whoever asks after cookie 0 is told that it is done
 may_ask : (q : ℕ) (log : List Event) → MayFollow log (question q)
-may_ask q log = (refl, ((λ _. omega arith), (λ _. refl)))
+may_ask q log = (inr refl, ((λ _. inr (omega arith)), (λ _. refl)))
 
 longer_long : (q k : ℕ) (log : List Event) → k ≤ length (longer q k log)
 longer_long q zero log = omega arith

@@ -14,6 +14,8 @@ mod EngineSteps
 mod Sharing
 mod Seating
 mod CpuViews
+mod Polling
+mod Finds
 mod Staying
 mod Meeting
 mod Pinning

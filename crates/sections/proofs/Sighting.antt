@@ -1,5 +1,5 @@
 -- What a processor does behind all that a sight has seen.
-use Rattle.std.proofs.Common.{◌≡◌, ℕ, ◌*◌, ◌<◌, ◌≤◌, true, false, List, [], ◌∷◌, ◌++◌, refl, sym, ap, ◌∙◌, subst, append_assoc, arith}
+use Rattle.std.proofs.Common.{◌≡◌, ℕ, ◌*◌, ◌<◌, ◌≤◌, inr, true, false, List, [], ◌∷◌, ◌++◌, refl, sym, ap, ◌∙◌, subst, append_assoc, arith}
 use mathlib.Core.Option.{none}
 use Rattle.atomic_table.specs.Table.{step, Allows}
 use Rattle.sseq.specs.Numbers.{periods_ended}
@@ -25,7 +25,7 @@ pub asks_how_far : (bounds : Bounds) (slots id : ℕ) (me : Sat) (p : ℕ) → m
     → Allows (Kept bounds) slots id me number_place (λ x. x) (asked_how_far (step slots number_place 0 0 none) me)
 asks_how_far bounds slots id me p sized is lt = tells_here bounds slots id me p (λ n. Ask (4 * periods_ended n) true (Processor p)) (asked_how_far (step slots number_place 0 0 none) me) sized is lt
     (λ n. record { by = refl; no_start = refl; no_finish = refl; no_lock = λ _ _. refl; no_unlock = λ _ _ _. refl; no_end = λ _. refl; maker = λ m lt. lt; no_put = refl })
-    (λ s r. let number = r.words.number in let ended = r.words.reaches.ended in (omega arith, ((λ _. omega (arith, number, ended)), (λ _. refl))))
+    (λ s r. let number = r.words.number in let ended = r.words.reaches.ended in (inr (omega arith), ((λ _. inr (omega (arith, number, ended))), (λ _. refl))))
     (λ n w found right adds. (refl, right, found, λ q is'. subst (λ (z : ℕ). Adds me.0 (Ask (4 * periods_ended n) true (Processor z)) w) (same_cpu p q (sym is ∙ is')) adds))
 
 -- an event that is no Begin and no End opens and closes nothing

@@ -1,5 +1,5 @@
 -- Each step of a processor keeps the rule.
-use Rattle.std.proofs.Common.{length-set, ◌≡◌, ℕ, ◌+◌, ◌*◌, ◌%◌, ◌^◌, ◌<◌, ◌≤◌, ◌≢◌, Bool, true, false, cond, eqb, ltb, ◌&&◌, nat_le, List, [], ◌∷◌, ◌++◌, All, Option, None, get_or, set, refl, sym, ap, ◌∙◌, subst, eq-eqb, ne_eqb, lt-ltb, le-ltb, leb-true, le-leb, arith}
+use Rattle.std.proofs.Common.{length-set, ◌≡◌, ℕ, ◌+◌, ◌*◌, ◌%◌, ◌^◌, ◌<◌, ◌≤◌, ◌≢◌, Bool, true, false, cond, eqb, ltb, ◌&&◌, ⊎_elim, inl, inr, List, [], ◌∷◌, ◌++◌, All, Option, None, get_or, set, refl, sym, ap, ◌∙◌, subst, eq-eqb, ne_eqb, lt-ltb, le-ltb, arith}
 use Rattle.std.proofs.lemmas.List.Elements.{All-nil, All-head}
 use mathlib.Core.Logic.{dite}
 use mathlib.Core.Option.{none, some}
@@ -9,9 +9,10 @@ use lib.Seq.{set-get_or}
 use Rattle.std.proofs.Math.Nat.{mul-le-mul_left}
 use Rattle.atomic_table.specs.Table.{State, step, keeps, stepped, Allows}
 use Rattle.sseq.specs.declared.index.Index.{Index}
+use Rattle.sseq.proofs.CallerLemmas.{done_true, done_is}
 use Rattle.sseq.specs.declared.index.Index.TheVariants.{Zero, One}
 use Rattle.sseq.specs.Indexes.{index_number, same_index}
-use Rattle.sseq.specs.Numbers.{cookie_at}
+use Rattle.sseq.specs.Numbers.{cookie_at, IsCookieNumber, done_at}
 use Rattle.onedom.specs.declared.event.Maker.{Maker}
 use Rattle.onedom.specs.declared.event.Maker.TheVariants.{Processor}
 use Rattle.onedom.specs.declared.event.Event.{Event}
@@ -58,9 +59,15 @@ note_follows n changes log is r = let a = r.started in let b = r.ended in dite (
     (λ busy. let x : factor (eqb (n % 4) 0) ≡ 2 = ap factor (ne_eqb (n % 4) 0 (λ h. omega (arith, is, busy, h))) in
     let y : more (ltb (ended_in log) (starts_in log)) ≡ 2 = ap more (lt-ltb (ended_in log) (starts_in log) (omega (arith, a, b, busy))) in omega (arith, is, busy, b, x, y))
 
-pub ask_follows : (cookie n changes : ℕ) (log : List Event) → cookie % 4 ≡ 0 → n ≡ number_word changes → Reaches changes log → MayFollow log (Ask cookie (nat_le cookie n) (Processor 0))
+pub ask_follows : (cookie n changes : ℕ) (log : List Event) → IsCookieNumber cookie → n ≡ number_word changes → Reaches changes log → MayFollow log (Ask cookie (done_at n cookie) (Processor 0))
 ask_follows cookie n changes log whole is r = let b = r.ended in
-    (whole, ((λ t. let le = leb-true cookie n t in omega (arith, whole, is, b, le)), (λ done. le-leb cookie n (omega (arith, is, b, done)))))
+    (
+      whole,
+      (
+        (λ t. ⊎_elim (λ one. inl one) (λ le. ⊎_elim (λ one. inl one) (λ four. inr (omega (arith, four, is, b, le))) whole) (done_true n cookie t)),
+        (λ done. done_is n cookie (⊎_elim (λ one. inl one) (λ le. inr (omega (arith, is, b, le))) done)),
+      ),
+    )
 
 -- a number for a new section, of either kind
 fresh_as : (held : Bool) (history : List Event) → (s : ℕ) × (begins_of s history ≡ 0) × (is_held s ≡ held)
@@ -554,8 +561,8 @@ module _ (bounds : Bounds) where
       (λ s r. note_follows (get_or s.words number_place 0) r.changes r.log r.words.number r.words.reaches)
       (λ n w found right adds. (refl, right, found, λ q is'. subst (λ (z : ℕ). Adds me.0 (Note (cookie_at n) (Processor z)) w) (same_cpu p q (sym is ∙ is')) adds))
 
-  pub asks_here : (slots id : ℕ) (me : Sat) (p cookie : ℕ) → me.0.processors ≡ bounds.processors → me.0.role ≡ Cpu p → p < bounds.processors → cookie % 4 ≡ 0 → Allows (Kept bounds) slots id me number_place (λ x. x) (asked cookie (step slots number_place 0 0 none) me)
-  asks_here slots id me p cookie sized is lt whole = tells_here slots id me p (λ n. Ask cookie (nat_le cookie n) (Processor p)) (asked cookie (step slots number_place 0 0 none) me) sized is lt
+  pub asks_here : (slots id : ℕ) (me : Sat) (p cookie : ℕ) → me.0.processors ≡ bounds.processors → me.0.role ≡ Cpu p → p < bounds.processors → IsCookieNumber cookie → Allows (Kept bounds) slots id me number_place (λ x. x) (asked cookie (step slots number_place 0 0 none) me)
+  asks_here slots id me p cookie sized is lt whole = tells_here slots id me p (λ n. Ask cookie (done_at n cookie) (Processor p)) (asked cookie (step slots number_place 0 0 none) me) sized is lt
       (λ n. record { by = refl; no_start = refl; no_finish = refl; no_lock = λ _ _. refl; no_unlock = λ _ _ _. refl; no_end = λ _. refl; maker = λ m lt. lt; no_put = refl })
       (λ s r. ask_follows cookie (get_or s.words number_place 0) r.changes r.log whole r.words.number r.words.reaches)
-      (λ n w found right adds. (refl, right, found, λ q is'. subst (λ (z : ℕ). Adds me.0 (Ask cookie (nat_le cookie n) (Processor z)) w) (same_cpu p q (sym is ∙ is')) adds))
+      (λ n w found right adds. (refl, right, found, λ q is'. subst (λ (z : ℕ). Adds me.0 (Ask cookie (done_at n cookie) (Processor z)) w) (same_cpu p q (sym is ∙ is')) adds))

@@ -1,9 +1,9 @@
 -- What the calls of a processor do.
-use Rattle.std.specs.Prelude.{◌≡◌, ◌≢◌, ℕ, ◌%◌, ◌<◌, ◌^◌, ◌+◌, ◌≤◌, ◌⊎◌, ◌↔◌, Bool, IsTrue, List, [], ◌∷◌, ◌++◌, All, Contains, true, false, length, slice_index_or}
+use Rattle.std.specs.Prelude.{◌≡◌, ℕ, ◌<◌, ◌^◌, ◌+◌, ◌≤◌, ◌⊎◌, ◌↔◌, Bool, IsTrue, List, [], ◌∷◌, ◌++◌, All, Contains, true, false, length, slice_index_or}
 use Rattle.atomic_table.specs.Seated.{TableId}
 use Rattle.sseq.specs.declared.index.Index.{Index}
 use Rattle.sseq.specs.Indexes.{low_bit}
-use Rattle.sseq.specs.Numbers.{cookie_at}
+use Rattle.sseq.specs.Numbers.{cookie_at, IsCookieNumber, IsDoneAt}
 use Rattle.onedom.specs.declared.event.Maker.{Maker}
 use Rattle.onedom.specs.declared.event.Maker.TheVariants.{Processor}
 use Rattle.onedom.specs.declared.event.Event.{Event}
@@ -138,13 +138,13 @@ pub record GivesCookie (c d : CpuView) (cookie : CookieView) : Type 0 where
   pub notes : Notes number c d
   pub cookie_is : cookie ≡ record { domain = c.domain; number = cookie_at number; seen = d.seen; changes = d.changes }
 
--- one load found the number, which was that of what is then seen, and the answer is whether it has reached the cookie
+-- one load found the number, which was that of what is then seen, and the answer is whether the cookie is done there
 pub record Asks (other : List Event) (reached cookie : ℕ) (answer : Bool) (c d : CpuView) : Type 0 where
   pub number : ℕ
   pub adds : AddsEvent other reached (Ask cookie answer (Processor c.processor)) c d
   pub current : number ≡ number_word d.changes
   pub since : number_word c.changes ≤ number
-  pub answer_is : IsTrue answer ↔ (cookie ≤ number)
+  pub answer_is : IsTrue answer ↔ IsDoneAt number cookie
   pub small : number + 4 ≤ 2 ^ 61
 
 -- the last thing that was seen is that the cookie was given
@@ -155,7 +155,7 @@ pub record EndsWithNote (number : ℕ) (seen : List Event) : Type 0 where
 
 -- a number that no cookie has
 abbrev pub IsNoCookie : ℕ → Type 0
-IsNoCookie number = number % 4 ≢ 0
+IsNoCookie number = ¬ IsCookieNumber number
 
 -- no section that was open then is open now
 abbrev pub AllClosed : List Event → List Event → Type 0

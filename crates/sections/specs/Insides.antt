@@ -1,5 +1,6 @@
 -- How the fields of a processor, of the engine's seat and of what they give out are seen, and what is always true of them.
-use Rattle.std.specs.Prelude.{◌≡◌, ℕ, ◌+◌, ◌*◌, ◌%◌, ◌^◌, ◌<◌, ◌≤◌, true, false, [], length, slice_index}
+use Rattle.std.specs.Prelude.{◌≡◌, ℕ, ◌+◌, ◌*◌, ◌%◌, ◌^◌, ◌<◌, ◌≤◌, true, false, List, [], length, slice_index, Option, None, Some}
+use Rattle.atomic_table.specs.Seated.{TableId}
 use Rattle.std.specs.Arc.{arc_value}
 use Rattle.sseq.specs.declared.index.Index.{Index}
 use Rattle.sseq.specs.Indexes.{index_number}
@@ -16,10 +17,11 @@ use Rattle.sections.specs.declared.cpu.Cookie.TheInside as cookie
 use Rattle.sections.specs.declared.engine.EngineSeat.TheInside as engine
 use Rattle.sections.specs.Words.{is_held, open_readings, locks, number_word}
 use Rattle.sections.specs.Rule.{steps_of, token}
-use Rattle.sections.specs.Seats.{IsPlaced}
+use Rattle.onedom.specs.declared.event.Event.{Event}
+use Rattle.sections.specs.Seats.{DomainSeat, IsPlaced}
 use Rattle.sections.specs.Plays.{IsSound}
 use Rattle.sections.specs.Calls.{EndsWithBegin, EndsWithNote}
-use Rattle.sections.specs.Views.{CpuView, EngineView, LookView, ReadingView, CookieView}
+use Rattle.sections.specs.Views.{CpuView, EngineView, LookView, ReadingView, CookieView, no_domain}
 
 abbrev pub section_of : Right → ℕ
 section_of Nothing = 0
@@ -58,15 +60,38 @@ pub record IsHeld (r : held.Inside) : Type 0 where
   pub begun : EndsWithBegin (view_of_held r)
   pub kind : is_held (section_of r.seat.me.0.right) ≡ true
 
-abbrev pub view_of_cookie : cookie.Inside → CookieView
-view_of_cookie k = record { domain = k.seat.table_id; number = k.number; seen = k.seat.me.0.seen; changes = k.seat.me.0.changes }
+-- what a cookie's seat tells. The completed one has none
+abbrev pub domain_of : Option DomainSeat → TableId
+domain_of None = no_domain
+domain_of (Some s) = s.table_id
 
-pub record IsCookie (k : cookie.Inside) : Type 0 where
-  pub bare : k.seat.me.1 ≡ []
-  pub plain : k.seat.me.0 ≡ token k.seat.me.0.seen k.seat.me.0.changes k.seat.me.0.texts Nothing
-  pub given : EndsWithNote k.number k.seat.me.0.seen
-  pub whole : k.number % 4 ≡ 0
-  pub small : k.number ≤ 2 ^ 61
+abbrev pub seen_of : Option DomainSeat → List Event
+seen_of None = []
+seen_of (Some s) = s.me.0.seen
+
+abbrev pub changes_of : Option DomainSeat → ℕ
+changes_of None = 0
+changes_of (Some s) = s.me.0.changes
+
+abbrev pub cookie_with : ℕ → Option DomainSeat → CookieView
+cookie_with number seat = record { domain = domain_of seat; number = number; seen = seen_of seat; changes = changes_of seat }
+
+abbrev pub view_of_cookie : cookie.Inside → CookieView
+view_of_cookie k = cookie_with k.number k.seat
+
+pub record IsGiven (number : ℕ) (s : DomainSeat) : Type 0 where
+  pub bare : s.me.1 ≡ []
+  pub plain : s.me.0 ≡ token s.me.0.seen s.me.0.changes s.me.0.texts Nothing
+  pub given : EndsWithNote number s.me.0.seen
+  pub whole : number % 4 ≡ 0
+  pub small : number ≤ 2 ^ 61
+
+abbrev pub IsCookieAt : ℕ → Option DomainSeat → Type 0
+IsCookieAt number None = number ≡ 1
+IsCookieAt number (Some s) = IsGiven number s
+
+abbrev pub IsCookie : cookie.Inside → Type 0
+IsCookie k = IsCookieAt k.number k.seat
 
 module _ {A : Type 0} where
   abbrev pub view_of_cpu : cpu.Inside A → CpuView

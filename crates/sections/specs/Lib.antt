@@ -24,3 +24,5 @@ pub mod Laws
 pub mod Making
 pub mod Sights
 pub mod SightInsides
+pub mod Sets
+pub mod SetInsides

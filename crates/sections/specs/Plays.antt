@@ -1,8 +1,8 @@
 -- What each step on a domain's table tells the seat that makes it.
-use Rattle.std.specs.Prelude.{◌≡◌, ℕ, ◌+◌, ◌*◌, ◌/◌, ◌%◌, ◌^◌, ◌<◌, ◌≤◌, nat_le, Bool, List, [], ◌∷◌, ◌++◌, length, All, Option, slice_set}
+use Rattle.std.specs.Prelude.{◌≡◌, ℕ, ◌+◌, ◌*◌, ◌/◌, ◌%◌, ◌^◌, ◌<◌, ◌≤◌, Bool, List, [], ◌∷◌, ◌++◌, length, All, Option, slice_set}
 use Rattle.atomic_table.specs.Table.{Me, Step as TableStep}
 use Rattle.sseq.specs.declared.index.Index.{Index}
-use Rattle.sseq.specs.Numbers.{cookie_at}
+use Rattle.sseq.specs.Numbers.{cookie_at, done_at}
 use Rattle.onedom.specs.declared.event.Maker.{Maker}
 use Rattle.onedom.specs.declared.event.Maker.TheVariants.{Processor, Engine}
 use Rattle.onedom.specs.declared.event.Event.{Event}
@@ -137,7 +137,7 @@ noted st m n m' = (m'.1 ≡ m.1) × (m'.0.right ≡ m.0.right) × FindsNumber n 
 
 -- load of the number: somebody asks after this cookie
 abbrev pub asked : ℕ → TableStep (Option ℕ) → Sat → ℕ → Sat → Type 0
-asked cookie st m n m' = (m'.1 ≡ m.1) × (m'.0.right ≡ m.0.right) × FindsNumber n m'.0 × ((p : ℕ) → m.0.role ≡ Cpu p → Adds m.0 (Ask cookie (nat_le cookie n) (Processor p)) m'.0)
+asked cookie st m n m' = (m'.1 ≡ m.1) × (m'.0.right ≡ m.0.right) × FindsNumber n m'.0 × ((p : ℕ) → m.0.role ≡ Cpu p → Adds m.0 (Ask cookie (done_at n cookie) (Processor p)) m'.0)
 
 -- Counters
 -- Nobody but the engine changes the words, so it finds as many changes as it has made

@@ -1,5 +1,5 @@
 -- What the steps do to the seats that they are made with.
-use Rattle.std.specs.Prelude.{◌≡◌, ℕ, ◌<◌, ◌≤◌, nat_le, Bool, [], ◌∷◌, ◌++◌, Option}
+use Rattle.std.specs.Prelude.{◌≡◌, ℕ, ◌<◌, ◌≤◌, Bool, [], ◌∷◌, ◌++◌, Option}
 use Rattle.atomic_table.specs.Seated.{TableId}
 use Rattle.atomic_table.specs.declared.shared.Seat.{Seat}
 use Rattle.sseq.specs.declared.index.Index.{Index}
@@ -17,7 +17,7 @@ use Rattle.sections.specs.declared.view.Shown.TheVariants.{To}
 use Rattle.sections.specs.Shelves.{IsStart}
 use Rattle.sections.specs.Rule.{steps_of, IsMaker, lacking, bearer, mark}
 use Rattle.sections.specs.Plays.{IsSound, Adds, IsIndexWord, FindsNumber}
-use Rattle.sseq.specs.Numbers.{cookie_at}
+use Rattle.sseq.specs.Numbers.{cookie_at, done_at}
 
 abbrev pub DomainSeat : Type 0
 DomainSeat = Seat (Option ℕ) View
@@ -49,14 +49,14 @@ pub record NotesNumber (seat : DomainSeat) (number : ℕ) (seat' : DomainSeat) :
   pub finds : FindsNumber number seat'.me.0
   pub adds : (p : ℕ) → seat.me.0.role ≡ Cpu p → Adds seat.me.0 (Note (cookie_at number) (Processor p)) seat'.me.0
 
--- the number was loaded, and who asked was told whether it has reached the cookie
+-- the number was loaded, and who asked was told whether the cookie is done there
 pub record AsksNumber (cookie : ℕ) (seat : DomainSeat) (answer : Bool) (seat' : DomainSeat) : Type 0 where
   pub number : ℕ
   pub same_table : seat'.table_id ≡ seat.table_id
   pub bare : seat'.me.1 ≡ seat.me.1
   pub right : seat'.me.0.right ≡ seat.me.0.right
   pub finds : FindsNumber number seat'.me.0
-  pub answer_is : answer ≡ nat_le cookie number
+  pub answer_is : answer ≡ done_at number cookie
   pub adds : (p : ℕ) → seat.me.0.role ≡ Cpu p → Adds seat.me.0 (Ask cookie answer (Processor p)) seat'.me.0
 
 -- after one load of the index word, w has seen what v and o have, and else is as v was

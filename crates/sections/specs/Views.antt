@@ -1,5 +1,5 @@
 -- What a caller knows of a processor, of the engine's seat, and of what they give out.
-use Rattle.std.specs.Prelude.{ℕ, List}
+use Rattle.std.specs.Prelude.{◌≡◌, ℕ, ◌⊎◌, List, []}
 use Rattle.atomic_table.specs.Seated.{TableId}
 use Rattle.sseq.specs.declared.index.Index.{Index}
 use Rattle.onedom.specs.declared.event.Event.{Event}
@@ -44,11 +44,23 @@ pub record ReadingView : Type 0 where
   pub seen : List Event
   pub changes : ℕ
 
+-- a cookie that was given, or the completed one, which alone has the number 1: that is of no domain, and nothing was seen when it was made
 pub record CookieView : Type 0 where
   pub domain : TableId
   pub number : ℕ
   pub seen : List Event
   pub changes : ℕ
+
+-- the table of no domain: each of those has words
+abbrev pub no_domain : TableId
+no_domain = record { words = 0; slots = 0; views_name = 0; atom = 0; block = 0; offset = 0; slot_names = [] }
+
+abbrev pub completed_cookie : CookieView
+completed_cookie = record { domain = no_domain; number = 1; seen = []; changes = 0 }
+
+-- in this domain one may ask after the cookie: it was given there, or it is the completed one
+abbrev pub IsKnownIn : TableId → CookieView → Type 0
+IsKnownIn domain k = (k.number ≡ 1) ⊎ (k.domain ≡ domain)
 
 -- what a section found: `version` of `cell` lies in `slot`. `texts` are the words of the versions that were put in the history that was seen
 pub record FoundView : Type 0 where

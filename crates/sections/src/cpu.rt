@@ -107,11 +107,13 @@ impl Model for Held {
 }
 
 /// The number that the domain has once a full grace period has gone by that was still to start when the cookie was
-/// given (`get_state_synchronize_srcu`). Any processor of the domain may ask after it, as often as it likes.
+/// given (`get_state_synchronize_srcu`). Any processor of the domain may ask after it, as often as it likes. The completed
+/// one is done from the beginning, and any processor of any domain may ask after it.
 #[derive(Drop)]
 pub struct Cookie {
     pub(crate) number: u64,
-    pub(crate) seat: DomainSeat,
+    /// What was seen when it was given. The completed one was given by nobody.
+    pub(crate) seat: Option<DomainSeat>,
 }
 
 impl Model for Cookie {
@@ -126,17 +128,17 @@ impl Model for Cookie {
     ghost invariant = { IsCookie };
 }
 
-/// This number is no cookie: it is not a multiple of four. Nothing was done.
+/// This number is no cookie: it is neither a multiple of four nor 1. Nothing was done.
 #[derive(Clone, Copy, Debug, PartialEq, Eq)]
 pub struct NotACookie;
 
 impl fmt::Display for NotACookie {
     ghost use Rattle.std.specs.Prelude.{Some, codes};
 
-    ghost output = { λ _. Some (codes "a cookie is a multiple of four") };
+    ghost output = { λ _. Some (codes "a cookie is a multiple of four or 1") };
 
     fn fmt<W: fmt::Write>(&self, f: &mut fmt::Formatter<W>) -> fmt::Result {
-        f.write_str("a cookie is a multiple of four")
+        f.write_str("a cookie is a multiple of four or 1")
     }
 }
 

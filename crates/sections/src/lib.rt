@@ -9,6 +9,7 @@ mod laws;
 mod limits;
 mod making;
 mod plays;
+mod set;
 mod sight;
 #[cfg(test)]
 mod tests;
@@ -22,6 +23,7 @@ pub use engine::EngineSeat;
 pub use laws::{steps_of_a_domain, sums_of_a_domain, totals_of_a_domain, words_of_a_domain};
 pub use limits::{Limits, MOST_PROCESSORS, MakeError};
 pub use making::{Made, make};
+pub use set::{CookieSet, MOST_MEMBERS, SetFull};
 pub use sight::Sight;
 pub use token::{Home, Token};
 pub use writer::{Slot, Standing, Writer};

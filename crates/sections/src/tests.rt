@@ -515,15 +515,38 @@ fn behind_a_sight(rt: HostRuntime) -> Result<(), Fail> {
 #[test]
 fn polls_numbers(rt: HostRuntime) -> Result<(), Fail> {
     let (mut first, _, _) = meet_in_new_domain(rt.alloc())?;
-    for (number, done) in [(0, true), (4, false), (8, false), (u64::MAX - 3, false)] {
+    for (number, done) in [
+        (0, true),
+        (1, true),
+        (4, false),
+        (8, false),
+        (u64::MAX - 3, false),
+    ] {
         assert_eq!(rt; (number, first.poll_number(number)), (number, Ok(done)));
     }
-    for number in [1, 2, 3, 5, 6, 7, u64::MAX] {
+    for number in [2, 3, 5, 6, 7, u64::MAX] {
         assert_eq!(rt;
             (number, first.poll_number(number)),
             (number, Err(NotACookie))
         );
     }
+    Ok(())
+}
+
+/// Would catch a completed cookie that is of one domain alone, and one that is taken for a cookie that was given.
+#[test]
+fn completed_in_each_domain(rt: HostRuntime) -> Result<(), Fail> {
+    let (mut first, mut second, mut engine) = meet_in_new_domain(rt.alloc())?;
+    let (mut other, _, _) = meet_in_new_domain(rt.alloc())?;
+    let mut completed = Cookie::completed();
+    let mut copy = second.copy_cookie(&mut completed);
+    engine.add_start();
+    let here = first.poll(&mut completed);
+    let there = other.poll(&mut completed);
+    let copied = other.poll(&mut copy);
+    assert_eq!(rt; (here, there, copied), (true, true, true));
+    assert_eq!(rt; (copy.number(), copy.is_completed()), (1, true));
+    assert!(rt; !first.cookie().is_completed());
     Ok(())
 }
 

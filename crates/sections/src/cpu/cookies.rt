@@ -1,11 +1,12 @@
 //! Cookies: how a processor learns that a grace period has gone by, without waiting for it.
 ghost use Rattle.std.specs.Prelude.{◌≡◌, IsTrue, MatchResult};
 ghost use Rattle.sections.specs.Calls.{Notes, GivesCookie, Asks, IsNoCookie, AllClosed};
+ghost use Rattle.sections.specs.Views.{IsKnownIn};
 
 use super::steps::{ask_number, note_number};
 use super::{Cookie, Cpu, NotACookie};
 use crate::plays;
-use sseq::{Number, snap};
+use sseq::{COMPLETED, Number, snap};
 use std::alloc::Allocator;
 use std::marker::Brand;
 
@@ -28,29 +29,32 @@ impl<A: Allocator> Cpu<A> {
         let seat = top.split_seat::<plays::GiveToken>(&mut self.seat);
         Cookie {
             number: snap(number),
-            seat,
+            seat: Some(seat),
         }
     }
 
     /// Whether the cookie is done (`poll_state_synchronize_srcu`): then no section is open that was open when it was
-    /// given. It never waits. The cookie stays as it is.
+    /// given. It never waits. The cookie stays as it is. The completed one tells nothing, and is done.
     pub fn poll(&mut self, cookie: &mut Cookie) -> bool
-        requires { cookie.old.domain ≡ self.old.domain }
+        requires { IsKnownIn self.old.domain cookie.old }
         ensures asks { Asks cookie.old.seen cookie.old.changes cookie.old.number result self.old self.new }
         ensures cookie { cookie.new ≡ cookie.old }
         ensures closed { IsTrue result → AllClosed cookie.old.seen self.new.seen }
     {
         let top = &self.table.shared;
-        let token = top.split_seat::<plays::GiveToken>(&mut cookie.seat);
+        let Some(given) = &mut cookie.seat else {
+            return ask_number::<Brand>(top, &mut self.seat, COMPLETED);
+        };
+        let token = top.split_seat::<plays::GiveToken>(given);
         top.join_seat::<plays::TakeToken>(&mut self.seat, token);
         ask_number::<Brand>(top, &mut self.seat, cookie.number)
     }
 
-    /// The same for a cookie's number. What is no multiple of four is refused, with no step.
+    /// The same for a cookie's number. What is neither a multiple of four nor 1 is refused, with no step.
     pub fn poll_number(&mut self, cookie: u64) -> Result<bool, NotACookie>
         ensures { MatchResult result (λ b. Asks self.old.seen self.old.changes cookie b self.old self.new) (λ _. IsNoCookie cookie × (self.new ≡ self.old)) }
     {
-        if cookie % 4 != 0 {
+        if cookie % 4 != 0 && cookie != COMPLETED {
             return Err(NotACookie);
         }
         Ok(ask_number::<Brand>(&self.table.shared, &mut self.seat, cookie))

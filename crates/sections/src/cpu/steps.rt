@@ -1,5 +1,6 @@
 //! Steps on a seat, which several calls share.
-ghost use Rattle.std.specs.Prelude.{◌≡◌, ◌%◌, ◌<◌, ◌≤◌, true, false};
+ghost use Rattle.std.specs.Prelude.{◌≡◌, ◌<◌, ◌≤◌, true, false};
+ghost use Rattle.sseq.specs.Numbers.{IsCookieNumber};
 ghost use Rattle.onedom.specs.Histories.{IsBeginning};
 ghost use Rattle.sections.specs.declared.view.Role.TheVariants.{Cpu};
 ghost use Rattle.sections.specs.Words.{locks};
@@ -10,7 +11,7 @@ ghost use Rattle.sections.specs.Insides.{IsAtRest};
 use crate::board::{Board, DomainSeat, INDEX_PLACE, NUMBER_PLACE, place_of_lock};
 use crate::plays;
 use crate::plays::Asked;
-use sseq::{Index, Number};
+use sseq::{COMPLETED, Index, Number};
 
 /// Adds 1 to the processor's lock counter of the index, and cuts off a token with the right to end the section.
 pub(crate) fn begin_section(
@@ -56,14 +57,15 @@ pub(crate) fn note_number(top: &Board, seat: &mut DomainSeat) -> Number
     Number::new(found).unwrap()
 }
 
-/// Loads the number, and tells whether the cookie is done.
+/// Loads the number, and tells whether the cookie is done. The completed one is, whatever the number.
 pub(crate) fn ask_number<Q: Asked>(top: &Board, seat: &mut DomainSeat, cookie: u64) -> bool
-    requires cookie { (cookie ≡ Q.cookie) × (cookie % 4 ≡ 0) }
+    requires cookie { (cookie ≡ Q.cookie) × IsCookieNumber cookie }
     requires placed { IsPlaced top.now.key top.now.table_id seat.old }
     requires role { IsOfProcessor top.now.key.processors seat.old.me.0 }
     ensures { AsksNumber cookie seat.old result seat.new }
 {
-    top.load::<plays::AskNumber<Q>>(seat, NUMBER_PLACE) >= cookie
+    let found = top.load::<plays::AskNumber<Q>>(seat, NUMBER_PLACE);
+    cookie == COMPLETED || found >= cookie
 }
 
 /// One load of the index word by the first seat, which then covers what the second has seen.

@@ -1,6 +1,7 @@
 //! What a processor does behind all that a sight has seen.
 ghost use Rattle.std.specs.Prelude.{◌≡◌, ◌<◌};
-ghost use Rattle.sections.specs.Sights.{GivesCookieBehind, AsksHowFar, AsksHowFarBehind};
+ghost use Rattle.sections.specs.Views.{IsKnownIn};
+ghost use Rattle.sections.specs.Sights.{sight_of, GivesCookieBehind, AsksHowFar, AsksHowFarBehind};
 
 use super::Sight;
 use crate::board::NUMBER_PLACE;
@@ -40,7 +41,7 @@ impl<A: Allocator> Cpu<A> {
         sight.seat = top.split_seat::<plays::GiveToken>(&mut self.seat);
         Cookie {
             number: snap(number),
-            seat,
+            seat: Some(seat),
         }
     }
 
@@ -74,6 +75,18 @@ impl<A: Allocator> Cpu<A> {
         Number::new(number).unwrap()
     }
 
+    /// A sight that goes as far as this processor has seen. No step is made; one load, which tells nothing.
+    pub fn sight(&mut self) -> Sight
+        ensures sight { result ≡ sight_of self.old }
+        ensures same { self.new ≡ self.old }
+    {
+        let seat = self
+            .table
+            .shared
+            .split_seat::<plays::GiveToken>(&mut self.seat);
+        Sight { seat }
+    }
+
     /// A second sight like this one. No step is made; one load, which tells nothing.
     pub fn copy_sight(&self, sight: &mut Sight) -> Sight
         requires { sight.old.domain ≡ self.now.domain }
@@ -89,17 +102,17 @@ impl<A: Allocator> Cpu<A> {
 
     /// A second cookie like this one. No step is made; one load, which tells nothing.
     pub fn copy_cookie(&self, cookie: &mut Cookie) -> Cookie
-        requires { cookie.old.domain ≡ self.now.domain }
+        requires { IsKnownIn self.now.domain cookie.old }
         ensures copy { result ≡ cookie.old }
         ensures same { cookie.new ≡ cookie.old }
     {
-        let seat = self
-            .table
-            .shared
-            .split_seat::<plays::GiveToken>(&mut cookie.seat);
+        let Some(given) = &mut cookie.seat else {
+            return Cookie::completed();
+        };
+        let seat = self.table.shared.split_seat::<plays::GiveToken>(given);
         Cookie {
             number: cookie.number,
-            seat,
+            seat: Some(seat),
         }
     }
 }

@@ -1,4 +1,4 @@
-use Rattle.std.proofs.Common.{rules, ◌≡◌, ◌<◌, true, false, length, get_or, refl, sym, ap, ◌∙◌, subst}
+use Rattle.std.proofs.Common.{rules, ◌≡◌, ◌<◌, true, false, length, get_or, inr, refl, sym, ap, ◌∙◌, subst}
 use Rattle.sections.specs.declared.writer.Standing.{Standing}
 use Rattle.sections.specs.declared.writer.Standing.TheVariants.{Blank, Retired}
 use Rattle.sections.specs.Words.{cells_in}
@@ -26,7 +26,7 @@ join_seat-requires g c = rw c.deref-table.ensures (
 pub ask_number-done-requires-clause-cookie : goal.ask_number-done-requires-clause-cookie
 ask_number-done-requires-clause-cookie g c =
     let at : (c.args.slot < c.self.inside.slots) × (get_or c.self.inside.standings c.args.slot Blank ≡ Retired c.args.number) = subst (λ (z : WriterView). (c.args.slot < z.slots) × (standing_of z c.args.slot ≡ Retired c.args.number)) (sym c.self.view_is) c.requires.slot in
-    let r : IsRetired c.self.inside.seat.me.0.seen c.self.inside.cell c.args.slot c.args.number = subst (λ (t : Standing). Stands c.self.inside.seat.me.0.seen c.self.inside.cell c.args.slot t) at.1 (c.self.invariant.stands c.args.slot at.0) in (refl, r.multiple)
+    let r : IsRetired c.self.inside.seat.me.0.seen c.self.inside.cell c.args.slot c.args.number = subst (λ (t : Standing). Stands c.self.inside.seat.me.0.seen c.self.inside.cell c.args.slot t) at.1 (c.self.invariant.stands c.args.slot at.0) in (refl, inr r.multiple)
 
 pub ask_number-done-requires-clause-role : goal.ask_number-done-requires-clause-role
 ask_number-done-requires-clause-role g c = rw c.deref-table.ensures (c.cpu.inside.processor, ap (λ m. m.0.role) c.join_seat.ensures.2 ∙ c.cpu.invariant.role, c.cpu.invariant.there)
