@@ -1,4 +1,4 @@
-use Rattle.std.proofs.Common.{◌≡◌, ℕ, ◌+◌, ◌<◌, List, [], ◌∷◌, ◌++◌, Some, refl, ap, sym, ◌∙◌, subst, arith}
+use Rattle.std.proofs.Common.{◌≡◌, ℕ, ◌+◌, ◌<◌, List, [], ◌∷◌, ◌++◌, Some, inr, refl, ap, sym, ◌∙◌, subst, arith}
 use Rattle.std.specs.Prelude.{slice_get}
 use Rattle.atomic_table.specs.Seated.{TableId}
 use Rattle.intake.specs.Views.{InletView}
@@ -21,6 +21,9 @@ use Rattle.calls.proofs.Keeping.{goes_on_noted, given_noted}
 use Rattle.calls.proofs.Once.{calls_counted, calls_here, call_found, same_calls}
 use Rattle.calls.proofs.Arriving.{intake_as, intake_later, intake_pushed, follows_in}
 use Rattle.calls.proofs.seat.CallSeat.queue.Goals as goal
+
+pub copy_cookie-copy-requires : goal.copy_cookie-copy-requires
+copy_cookie-copy-requires g c = let note = c.cookie_behind-cookie.ensures in inr (ap (λ (k : CookieView). k.domain) note.cookie_is ∙ sym note.adds.same.0)
 
 pub push-requires : goal.push-requires
 push-requires g c =
