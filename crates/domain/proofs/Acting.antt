@@ -1,6 +1,6 @@
 -- Calls of a processor act: from what a call says of its seats to its act.
 use Rattle.std.proofs.Common.{◌≡◌, ◌≢◌, ℕ, suc, ◌+◌, ◌*◌, ◌≤◌, cond, if◌then◌else◌, map, inl, inr, Bool, true, false, List, [], ◌∷◌, ◌++◌, refl, sym, ap, ◌∙◌, subst, append-nil, append_assoc, arith, eq-eqb, ne_eqb}
-use Rattle.std.specs.Prelude.{Option, Some, None, Result, Ok, Err, MatchResult}
+use Rattle.std.specs.Prelude.{Option, Some, None, MatchOption, Result, Ok, Err, MatchResult}
 use Rattle.std.proofs.lemmas.List.{map-append}
 use mathlib.Core.Logic.{dite}
 use native.Mathlib.Decide.{ℕ_discrete}
@@ -16,6 +16,8 @@ use Rattle.sections.specs.declared.cpu.Exhausted.{Exhausted}
 use Rattle.sections.specs.declared.cpu.NotACookie.{NotACookie}
 use Rattle.sections.specs.Views as sections
 use Rattle.sections.specs.Views.{LookView, ReadingView, CookieView, FoundView}
+use Rattle.sections.specs.Sights.{SightView}
+use Rattle.sections.specs.Sets.{MemberView, polled, PollsOne}
 use Rattle.sections.specs.WriterViews.{WriterView}
 use Rattle.sections.specs.Writers.{PutsSlot}
 use Rattle.sections.specs.Reads.{Finds}
@@ -293,6 +295,15 @@ module _ {J : Type 0} (c c' : CpuView J) (rest : c' ≡ with_cpu c'.cpu c) where
   pub poll_acts : (cookie : ℕ) (taken : Result Bool NotACookie) → MatchResult taken (λ done. Asks c.cpu.seen c.cpu.changes cookie done c.cpu c'.cpu) (λ _. IsNoCookie cookie × (c'.cpu ≡ c.cpu)) → MatchResult taken (λ done. ActsAs (asks_whether cookie done) c c') (λ _. ActsAs loads c c')
   poll_acts cookie (Ok done) h = ask_acts h.adds
   poll_acts cookie (Err x) h = still h.1
+
+  -- of a member that was found done before, nothing is asked
+  member_acts : (X Y Z : Type 0) (k : CookieView) (done : Bool) (found : Option SightView) → MatchOption found (Asks k.seen k.changes k.number done c.cpu c'.cpu × X) (λ _. Y × Z × (c'.cpu ≡ c.cpu))
+      → MatchOption found (ActsAs (asks_whether k.number done) c c') (λ _. ActsAs loads c c')
+  member_acts X Y Z k done None h = ask_acts h.0.adds
+  member_acts X Y Z k done (Some s) h = still h.2
+
+  pub set_acts : (done : Bool) (m m' : MemberView) → PollsOne done m c.cpu m' c'.cpu → MatchOption m.found (ActsAs (asks_whether m.cookie.number done) c c') (λ _. ActsAs loads c c')
+  set_acts done m m' h = member_acts (m' ≡ polled done m c'.cpu) (done ≡ true) (m' ≡ m) m.cookie done m.found h
 
   -- Versions
 

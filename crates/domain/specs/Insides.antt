@@ -1,8 +1,10 @@
 -- How the fields of a domain and of its processors are seen, and what is always true of them.
-use Rattle.std.specs.Prelude.{◌≡◌, ◌≤◌}
+use Rattle.std.specs.Prelude.{◌≡◌, ◌≤◌, List}
 use Rattle.domain.specs.declared.cpu.Cpu.TheInside as cpu
 use Rattle.domain.specs.declared.domain.Domain.TheInside as domain
 use Rattle.domain.specs.declared.writer.Writer.TheInside as writer
+use Rattle.domain.specs.declared.set.CookieSet.TheInside as set
+use Rattle.sections.specs.Sets.{MemberView}
 use Rattle.sections.specs.WriterViews.{WriterView}
 use Rattle.domain.specs.Views.{CpuView, DomainView}
 
@@ -17,6 +19,9 @@ module _ {J A : Type 0} where
   pub record IsDomain (d : domain.Inside J A) : Type 0 where
     pub count : d.processors ≡ d.calls.processors
     pub some : 1 ≤ d.processors
+
+abbrev pub view_of_set : set.Inside → List MemberView
+view_of_set s = s.set
 
 abbrev pub view_of_writer : writer.Inside → WriterView
 view_of_writer w = w.writer

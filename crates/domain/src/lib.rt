@@ -6,6 +6,7 @@ mod cpu;
 mod domain;
 mod pause;
 mod publishing;
+mod set;
 #[cfg(test)]
 mod tests;
 mod writer;
@@ -19,7 +20,8 @@ pub use scan::refusals::{AdvanceRefusal, StartRefusal};
 pub use scan::{Exhausted as PeriodsExhausted, Progress};
 pub use sections::{
     Cookie, DownPin, Exhausted, Found, Held, HeldPin, Home, Limits, Look, MOST_PROCESSORS,
-    MakeError, NotACookie, Pin, Reading, Slot, Standing,
+    MOST_MEMBERS, MakeError, NotACookie, Pin, Reading, SetFull, Slot, Standing,
 };
+pub use set::CookieSet;
 pub use sseq::{Index, Number};
 pub use writer::Writer;

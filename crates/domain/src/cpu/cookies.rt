@@ -2,6 +2,7 @@
 ghost use Rattle.std.specs.Prelude.{◌≡◌, IsTrue, MatchResult};
 ghost use Rattle.sseq.specs.Numbers.{cookie_at};
 ghost use Rattle.sections.specs.Calls.{Notes, GivesCookie, Asks, IsNoCookie, AllClosed};
+ghost use Rattle.sections.specs.Views.{IsKnownIn};
 ghost use Rattle.domain.specs.Views.{Stays, with_cpu};
 ghost use Rattle.domain.specs.Acting.{loads, notes, asks_whether, ActsAs};
 
@@ -35,9 +36,9 @@ impl<J, A: Allocator> Cpu<J, A> {
     }
 
     /// Whether the cookie is done (`poll_state_synchronize_srcu`): then no section is open that was open when it was
-    /// given. It never waits. The cookie stays as it is.
+    /// given. It never waits. The cookie stays as it is. The completed one is done in every domain.
     pub fn poll(&mut self, cookie: &mut Cookie) -> bool
-        requires { cookie.old.domain ≡ self.old.cpu.domain }
+        requires { IsKnownIn self.old.cpu.domain cookie.old }
         ensures asks { Asks cookie.old.seen cookie.old.changes cookie.old.number result self.old.cpu self.new.cpu }
         ensures cookie { cookie.new ≡ cookie.old }
         ensures closed { IsTrue result → AllClosed cookie.old.seen self.new.cpu.seen }
@@ -48,7 +49,7 @@ impl<J, A: Allocator> Cpu<J, A> {
         self.cpu.poll(cookie)
     }
 
-    /// The same for a cookie's number. What is no multiple of four is refused, with no step.
+    /// The same for a cookie's number. What is neither a multiple of four nor 1 is refused, with no step.
     pub fn poll_number(&mut self, cookie: u64) -> Result<bool, NotACookie>
         ensures asks { MatchResult result (λ b. Asks self.old.cpu.seen self.old.cpu.changes cookie b self.old.cpu self.new.cpu) (λ _. IsNoCookie cookie × (self.new.cpu ≡ self.old.cpu)) }
         ensures rest { self.new ≡ with_cpu self.new.cpu self.old }

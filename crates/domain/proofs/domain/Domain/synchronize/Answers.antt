@@ -1,4 +1,4 @@
-use Rattle.std.proofs.Common.{sym, subst}
+use Rattle.std.proofs.Common.{inr, sym, ◌∙◌, subst}
 use Rattle.sections.specs.Views.{CookieView}
 use Rattle.domain.proofs.Sameness.{same_trans, same_polled}
 use Rattle.domain.proofs.Synchronizing.{HasWaited, turned, begins, turns, asks_in_vain, synchronizes, waits_in_vain, waited_for, still_none, none_in_vain}
@@ -6,6 +6,9 @@ use Rattle.domain.proofs.domain.Domain.synchronize.Goals as goal
 
 pub loop-init : goal.loop-init
 loop-init g c = record { can = (tt, tt); waited = begins _ _ _ _ c.start_poll-cookie.ensures.here c.start_poll-cookie.ensures.starts }
+
+pub poll-requires : goal.poll-requires
+poll-requires g c = let h = turns _ _ _ _ _ c.loop.invariant.waited c.in-Ok.ensures.here (turned _ _ _ c.in-Ok.ensures.turns) in inr (h.of_domain ∙ sym h.same.cpu.0)
 
 pub returns-in-Err-clause-waits : goal.returns-in-Err-clause-waits
 returns-in-Err-clause-waits g c = waits_in_vain _ _ _ _ _ c.loop.invariant.waited c.in-Err.ensures.turns
