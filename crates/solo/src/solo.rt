@@ -182,7 +182,7 @@ impl<J: Drop, A: Allocator> Solo<J, A> {
     }
 
     /// Whether the cookie of this number is done, as a processor finds it (`poll_state_synchronize_srcu`); refused,
-    /// with nothing done, where the number is no multiple of four.
+    /// with nothing done, where the number is neither a multiple of four nor 1.
     pub fn poll(&mut self, processor: u64, cookie: u64) -> Result<bool, NotACookie>
         requires { processor < self.old.course.standing.processors }
         ensures same { IsSameDomain self.old self.new }

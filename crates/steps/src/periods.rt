@@ -17,8 +17,8 @@ fn poll_by_number(updater: &mut Cpu<u64>) -> (u64, [Polled; 3])
 {
     let number = updater.cookie().number(); // a plain number, as the kernel's cookies are
     let done = updater.poll_number(number); // Ok(false)
-    let always = updater.poll_number(0); // Ok(true): get_completed_synchronize_srcu
-    let refused = updater.poll_number(1); // Err(NotACookie)
+    let always = updater.poll_number(1); // Ok(true): get_completed_synchronize_srcu
+    let refused = updater.poll_number(2); // Err(NotACookie)
 
     (number, [done, always, refused])
 }
@@ -28,7 +28,7 @@ pub fn show_numbers<R: Print>(rt: &R, updater: &mut Cpu<u64>) -> Result<()>
     ensures { Stays updater.old updater.new }
 {
     let (number, polled) = poll_by_number(updater);
-    println!(rt; "a cookie's number: {number}; of that, of 0 and of 1: {polled:?}")?;
+    println!(rt; "a cookie's number: {number}; of that, of 1 and of 2: {polled:?}")?;
     Ok(())
 }
 

@@ -1,5 +1,5 @@
 -- Each call leaves the processor in its domain, and the cookie was given there.
-use Rattle.std.proofs.Common.{sym, ap, ◌∙◌}
+use Rattle.std.proofs.Common.{inr, sym, ap, ◌∙◌}
 use Rattle.steps.proofs.Reading.{begun_here}
 use Rattle.steps.proofs.periods.drive_by_hand.Goals as goal
 
@@ -22,7 +22,7 @@ pub read_unlock-requires : goal.read_unlock-requires
 read_unlock-requires c = begun_here _ _ _ c.in_ok-section.ensures.locks
 
 pub poll-early-requires : goal.poll-early-requires
-poll-early-requires c = ap (λ k. k.domain) c.start_poll-cookie.ensures.starts.gives.cookie_is ∙ (c.requires.domain ∙ sym c.advance-waiting.ensures.here.domain)
+poll-early-requires c = inr (ap (λ k. k.domain) c.start_poll-cookie.ensures.starts.gives.cookie_is ∙ (c.requires.domain ∙ sym c.advance-waiting.ensures.here.domain))
 
 pub advance-ended-requires : goal.advance-ended-requires
 advance-ended-requires c = c.poll-early.ensures.stays _ c.advance-waiting.ensures.here
@@ -31,7 +31,7 @@ pub advance-idle-requires : goal.advance-idle-requires
 advance-idle-requires c = c.advance-ended.ensures.here
 
 pub poll-done-requires : goal.poll-done-requires
-poll-done-requires c = ap (λ k. k.domain) (c.poll-early.ensures.cookie ∙ c.start_poll-cookie.ensures.starts.gives.cookie_is) ∙ (c.requires.domain ∙ sym c.advance-idle.ensures.here.domain)
+poll-done-requires c = inr (ap (λ k. k.domain) (c.poll-early.ensures.cookie ∙ c.start_poll-cookie.ensures.starts.gives.cookie_is) ∙ (c.requires.domain ∙ sym c.advance-idle.ensures.here.domain))
 
 pub start-again-requires : goal.start-again-requires
 start-again-requires c = c.poll-done.ensures.stays _ c.advance-idle.ensures.here

@@ -1,12 +1,12 @@
 -- A cookie and a poll leave the processor in its domain, and the cookie is of that.
-use Rattle.std.proofs.Common.{sym, ap, ◌∙◌}
+use Rattle.std.proofs.Common.{inr, sym, ap, ◌∙◌}
 use Rattle.steps.proofs.Reading.{begun_here}
 use Rattle.steps.proofs.periods.poll_round_a_period.Goals as goal
 
 pub poll-early-requires : goal.poll-early-requires
 poll-early-requires c =
     let gives = c.cookie-cookie.ensures.gives in
-    ap (λ k. k.domain) gives.cookie_is ∙ sym gives.notes.adds.same.0
+    inr (ap (λ k. k.domain) gives.cookie_is ∙ sym gives.notes.adds.same.0)
 
 pub read_unlock-requires : goal.read_unlock-requires
 read_unlock-requires c = begun_here _ _ _ c.in_ok-section.ensures.locks
@@ -23,4 +23,4 @@ advance-ended-requires c = c.advance-flipped.ensures.here
 pub poll-late-requires : goal.poll-late-requires
 poll-late-requires c =
     let given = c.cookie-cookie.ensures.gives.cookie_is in
-    ap (λ k. k.domain) (c.poll-early.ensures.cookie ∙ given) ∙ (c.requires.updater.domain ∙ sym c.advance-ended.ensures.here.domain)
+    inr (ap (λ k. k.domain) (c.poll-early.ensures.cookie ∙ given) ∙ (c.requires.updater.domain ∙ sym c.advance-ended.ensures.here.domain))

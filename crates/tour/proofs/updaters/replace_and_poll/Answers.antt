@@ -1,12 +1,12 @@
 -- Each call leaves the processor in its domain, and the cookie was given there.
-use Rattle.std.proofs.Common.{sym, ap, ◌∙◌}
+use Rattle.std.proofs.Common.{inr, sym, ap, ◌∙◌}
 use Rattle.sections.specs.Views.{ReadingView}
 use Rattle.tour.proofs.updaters.replace_and_poll.Goals as goal
 
 pub poll-early-requires : goal.poll-early-requires
 poll-early-requires g c =
     let gives = c.start_poll-cookie.ensures.starts.gives in
-    ap (λ k. k.domain) gives.cookie_is ∙ sym gives.notes.adds.same.0
+    inr (ap (λ k. k.domain) gives.cookie_is ∙ sym gives.notes.adds.same.0)
 
 pub up_read-requires : goal.up_read-requires
 up_read-requires g c =
