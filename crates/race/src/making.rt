@@ -3,7 +3,7 @@ ghost use Rattle.std.specs.Prelude.{◌≡◌, ◌<◌, ◌≤◌, IfOk, vec_len
 ghost use Rattle.sections.specs.Limits.{most_processors};
 ghost use Rattle.desk.specs.Calls.{AreNewSeats};
 ghost use Rattle.race.specs.Courses.{IsCourse};
-ghost use Rattle.race.specs.Workers.{EachAt, IsNewReader, EachCpu, IsNewCpu, IsPrepared};
+ghost use Rattle.race.specs.Workers.{EachAt, IsNewReader, EachCpu, IsNewCpu, HasRoom, IsPrepared};
 
 use crate::course::Course;
 use crate::reader::Reader;
@@ -63,6 +63,19 @@ fn seat_all(
     readers
 }
 
+/// Room for what comes.
+fn rooms(alloc: Global, many: usize) -> Result<(Vec<Reader>, Parts), AllocError>
+    ensures readers { IfOk result (λ r. (vec_len r.0 ≡ 0) × (many ≤ vec_capacity r.0)) }
+    ensures parts { IfOk result (λ r. HasRoom many r.1) }
+{
+    let room = Vec::with_capacity(alloc, many)?;
+    let parts = Parts {
+        cpus: Vec::with_capacity(alloc, many + 1)?,
+        seats: Vec::with_capacity(alloc, many)?,
+    };
+    Ok((room, parts))
+}
+
 /// Makes a domain, a desk and the workers. Memory is taken before the desk is made, for all that comes: a desk must be
 /// closed with its seats.
 pub fn prepare(alloc: Global, many: usize, rounds: u64) -> Result<Start, Memory>
@@ -70,17 +83,13 @@ pub fn prepare(alloc: Global, many: usize, rounds: u64) -> Result<Start, Memory>
     requires rounds { rounds ≤ 1000 }
     ensures { IfOk result (IsPrepared many rounds) }
 {
+    let (room, parts) = rooms(alloc, many)?;
     let Ok((domain, mut cpus, mut writers)) = Domain::<()>::new(alloc, many + 1, LIMITS) else {
         return Err(AllocError);
     };
     let mut cpu = cpus.pop().unwrap();
-    let (table, view) = Table::new(writers.pop().unwrap());
-    let room = Vec::with_capacity(alloc, many)?;
-    let parts = Parts {
-        cpus: Vec::with_capacity(alloc, many + 1)?,
-        seats: Vec::with_capacity(alloc, many)?,
-    };
     let (desk, seats) = Desk::new(alloc, many, cpu.home())?;
+    let (table, view) = Table::new(writers.pop().unwrap());
     let course = Course {
         domain,
         desk,

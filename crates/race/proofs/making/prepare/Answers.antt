@@ -55,13 +55,7 @@ returns c =
     let dealt = c.in_ok-desk.ensures.seats.count in
     let seats = c.in_ok-desk.ensures.desk.1 in
     let as_many = c.seat_all-readers.ensures.as_many in
-    let number = cpu.number_is in
-    let for_cpus = c.in_ok-with_capacity.ensures in
-    let for_seats = c.in_ok-with_capacity-2.ensures in
-    let room_there = for_cpus.exact in
-    let room_at_desk = for_seats.exact in
-    let none_there = for_cpus.len in
-    let none_at_desk = for_seats.len in record {
+    let number = cpu.number_is in record {
       course = record {
         home = c.in_ok-desk.ensures.desk.0 ∙ (c.home.ensures.home ∙ last.here.domain);
         cell = omega (arith, cells, cell, low);
@@ -76,8 +70,5 @@ returns c =
         updater = new_updater course (length c.pop.new.self.items) c.home.new.self c.new-table.result.0 cpu (ap (λ (w : WriterView). w.domain) c.new-table.ensures.writer ∙ writer.0);
         last = omega (arith, number, count, cpus_long, rest_long, one, seats);
       };
-      room = record {
-        cpus = (omega (arith, none_there), omega (arith, room_there));
-        seats = (omega (arith, none_at_desk), omega (arith, room_at_desk));
-      };
+      room = c.in_ok-room.ensures.parts;
     }
