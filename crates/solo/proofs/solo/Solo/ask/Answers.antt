@@ -2,11 +2,7 @@ use Rattle.std.proofs.Common.{refl}
 use Rattle.solo.proofs.Hand.{in_items, lent, all_there}
 use Rattle.domain.specs.Acting.{asks_for}
 use Rattle.solo.proofs.Acted.{Hand, hand_of, does, same_domain, have_met}
-use Rattle.solo.proofs.solo.Solo.ask.Given.{Over}
 use Rattle.solo.proofs.solo.Solo.ask.Goals as goal
-
-abbrev hand : (g : Over) → goal.After-drop-cookie-inside g → Hand g.row.J.Denot
-hand g c = hand_of c.args.processor c.start_poll-cookie.new.cpu c.self.invariant.met c.self.view_is c.requires c.index_mut-cpu.ensures.value c.settle.ensures.all c.settle.ensures.meets
 
 pub index_mut-cpu-requires : goal.index_mut-cpu-requires
 index_mut-cpu-requires g c = in_items c.self.invariant.met c.self.view_is c.requires _ c.self.inside.members.cpus.ok.0
@@ -18,10 +14,16 @@ pub settle-requires : goal.settle-requires
 settle-requires g c = all_there c.self.invariant.met c.self.view_is c.requires c.index_mut-cpu.ensures.value c.start_poll-cookie.ensures.acts c.start_poll-cookie.ensures.here
 
 pub invariant_of-self : goal.invariant_of-self
-invariant_of-self g c = record { engine = c.settle.ensures.meets.left; met = have_met (hand g c) (asks_for c.start_poll-cookie.result.number 0) c.start_poll-cookie.ensures.acts }
+invariant_of-self g c =
+    let hand : Hand g.row.J.Denot = hand_of c.args.processor c.start_poll-cookie.new.cpu c.self.invariant.met c.self.view_is c.requires c.index_mut-cpu.ensures.value c.settle.ensures.all c.settle.ensures.meets in
+    record { engine = c.settle.ensures.meets.left; met = have_met hand (asks_for c.start_poll-cookie.result.number 0) c.start_poll-cookie.ensures.acts }
 
 pub returns-clause-same : goal.returns-clause-same
-returns-clause-same g c = same_domain (hand g c) (asks_for c.start_poll-cookie.result.number 0) c.start_poll-cookie.ensures.acts refl refl
+returns-clause-same g c =
+    let hand : Hand g.row.J.Denot = hand_of c.args.processor c.start_poll-cookie.new.cpu c.self.invariant.met c.self.view_is c.requires c.index_mut-cpu.ensures.value c.settle.ensures.all c.settle.ensures.meets in
+    same_domain hand (asks_for c.start_poll-cookie.result.number 0) c.start_poll-cookie.ensures.acts refl refl
 
 pub returns-clause-asks : goal.returns-clause-asks
-returns-clause-asks g c = rw c.number.ensures.value (does (hand g c) (asks_for c.start_poll-cookie.result.number 0) c.start_poll-cookie.ensures.acts)
+returns-clause-asks g c =
+    let hand : Hand g.row.J.Denot = hand_of c.args.processor c.start_poll-cookie.new.cpu c.self.invariant.met c.self.view_is c.requires c.index_mut-cpu.ensures.value c.settle.ensures.all c.settle.ensures.meets in
+    rw c.number.ensures.value (does hand (asks_for c.start_poll-cookie.result.number 0) c.start_poll-cookie.ensures.acts)

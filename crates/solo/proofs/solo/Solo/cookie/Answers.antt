@@ -2,11 +2,7 @@ use Rattle.std.proofs.Common.{refl}
 use Rattle.solo.proofs.Hand.{in_items, all_here}
 use Rattle.domain.specs.Acting.{notes}
 use Rattle.solo.proofs.Acted.{Hand, hand_of, does, same_domain, have_met}
-use Rattle.solo.proofs.solo.Solo.cookie.Given.{Over}
 use Rattle.solo.proofs.solo.Solo.cookie.Goals as goal
-
-abbrev hand : (g : Over) → goal.After-drop-cookie-inside g → Hand g.row.J.Denot
-hand g c = hand_of c.args.processor c.cookie-cookie.new.self c.self.invariant.met c.self.view_is c.requires c.index_mut.ensures.value c.settle.ensures.all c.settle.ensures.meets
 
 pub index_mut-requires : goal.index_mut-requires
 index_mut-requires g c = in_items c.self.invariant.met c.self.view_is c.requires _ c.self.inside.members.cpus.ok.0
@@ -15,10 +11,16 @@ pub settle-requires : goal.settle-requires
 settle-requires g c = all_here c.self.invariant.met c.self.view_is c.requires c.index_mut.ensures.value c.cookie-cookie.ensures.acts c.cookie-cookie.ensures.stays
 
 pub invariant_of-self : goal.invariant_of-self
-invariant_of-self g c = record { engine = c.settle.ensures.meets.left; met = have_met (hand g c) (notes c.cookie-cookie.result.number) c.cookie-cookie.ensures.acts }
+invariant_of-self g c =
+    let hand : Hand g.row.J.Denot = hand_of c.args.processor c.cookie-cookie.new.self c.self.invariant.met c.self.view_is c.requires c.index_mut.ensures.value c.settle.ensures.all c.settle.ensures.meets in
+    record { engine = c.settle.ensures.meets.left; met = have_met hand (notes c.cookie-cookie.result.number) c.cookie-cookie.ensures.acts }
 
 pub returns-clause-same : goal.returns-clause-same
-returns-clause-same g c = same_domain (hand g c) (notes c.cookie-cookie.result.number) c.cookie-cookie.ensures.acts refl refl
+returns-clause-same g c =
+    let hand : Hand g.row.J.Denot = hand_of c.args.processor c.cookie-cookie.new.self c.self.invariant.met c.self.view_is c.requires c.index_mut.ensures.value c.settle.ensures.all c.settle.ensures.meets in
+    same_domain hand (notes c.cookie-cookie.result.number) c.cookie-cookie.ensures.acts refl refl
 
 pub returns-clause-cookie : goal.returns-clause-cookie
-returns-clause-cookie g c = rw c.number.ensures.value (does (hand g c) (notes c.cookie-cookie.result.number) c.cookie-cookie.ensures.acts)
+returns-clause-cookie g c =
+    let hand : Hand g.row.J.Denot = hand_of c.args.processor c.cookie-cookie.new.self c.self.invariant.met c.self.view_is c.requires c.index_mut.ensures.value c.settle.ensures.all c.settle.ensures.meets in
+    rw c.number.ensures.value (does hand (notes c.cookie-cookie.result.number) c.cookie-cookie.ensures.acts)
