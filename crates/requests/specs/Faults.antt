@@ -6,10 +6,10 @@ use Rattle.requests.specs.declared.fault.Fault.{Fault}
 use Rattle.requests.specs.declared.fault.Fault.TheVariants as fault
 use Rattle.requests.specs.declared.command.Command.{Command}
 use Rattle.requests.specs.declared.command.Argument.{Argument}
-use Rattle.requests.specs.declared.command.Argument.TheVariants.{NewDomain, AnyNumber, ADomain, AProcessor, NewName, ALook, AReading, AHeld, ATicket, AJob, ALease, AnId, APriority, AKey, APlug}
+use Rattle.requests.specs.declared.command.Argument.TheVariants.{NewDomain, AnyNumber, ADomain, AProcessor, NewName, ALook, AReading, AHeld, ATicket, AJob, ALease, AnId, APriority, AKey, APlug, NewSet, ASet}
 use Rattle.requests.specs.declared.scene.Kind.{Kind}
 use Rattle.requests.specs.declared.scene.Kind.TheVariants.{Look, Reading, Held, Parked, Ticket, Lease}
-use Rattle.requests.specs.Commands.{command_of, arguments, arguments_in, pairs_in}
+use Rattle.requests.specs.Commands.{command_of, arguments, takes_members, fits_members, arguments_in, behind_in}
 use Rattle.requests.specs.Numbers.{id_of, priority_of, word32_of}
 use Rattle.requests.specs.Pairs.{pairs_of}
 use Rattle.requests.specs.Scenes.{SceneView}
@@ -79,6 +79,10 @@ has_kind kind (Some other) = same_kind kind other
 abbrev pub kind_fault : Kind → List ℕ → Option Kind → Option Fault
 kind_fault kind w found = if is_name w && has_kind kind found then None else Some fault.Name
 
+-- the fault of a word that should name a set, the one at this place
+abbrev pub set_fault : List ℕ → Option ℕ → Option Fault
+set_fault w place = if is_name w && is_some place then None else Some fault.Name
+
 -- what is wrong with the word that should be this argument, where the words before it have named the domain at this place
 unfoldable pub argument_fault : SceneView → ℕ → Argument → List ℕ → Option Fault
 argument_fault s place NewDomain w = new_name_fault w (is_some (s.place_of w))
@@ -96,6 +100,8 @@ argument_fault s place AnId w = number_fault (id_of w)
 argument_fault s place APriority w = number_fault (priority_of w)
 argument_fault s place AKey w = number_fault (word32_of w)
 argument_fault s place APlug w = number_fault (word32_of w)
+argument_fault s place NewSet w = new_name_fault w (is_some (s.set_of w))
+argument_fault s place ASet w = set_fault w (s.set_of w)
 
 -- The words of a line
 
@@ -122,11 +128,30 @@ words_fault s taken ws = if length ws == length taken then arguments_fault s 0 t
 abbrev pub pairs_fault : List (List ℕ) → Option Fault
 pairs_fault ws = if is_some (pairs_of ws) then None else Some fault.Pair
 
+-- a member is a domain and one of its processors
+abbrev pub member_arguments : List Argument
+member_arguments = ADomain ∷ AProcessor ∷ []
+
+-- the first fault of words that should be members, two words each
+unfoldable pub members_fault : SceneView → List (List ℕ) → Option Fault
+members_fault s [] = None
+members_fault s (d ∷ []) = Some fault.Words
+members_fault s (d ∷ p ∷ ws) = or_else (words_fault s member_arguments (d ∷ p ∷ [])) (members_fault s ws)
+
+-- the fault of words behind a command's arguments, which should be members, or else pairs
+abbrev pub behind_fault : SceneView → Bool → List (List ℕ) → Option Fault
+behind_fault s true ws = members_fault s ws
+behind_fault s false ws = pairs_fault ws
+
+-- the fault of words that are the arguments of a command and its members: another number of words than such a command's
+abbrev pub count_fault : Bool → Option Fault
+count_fault fits = if fits then None else Some fault.Words
+
 abbrev pub command_fault : SceneView → Option Command → List (List ℕ) → Option Fault
 command_fault s None ws = Some fault.Command
-command_fault s (Some c) ws = or_else (words_fault s (arguments c) (arguments_in c ws)) (pairs_fault (pairs_in c ws))
+command_fault s (Some c) ws = or_else (count_fault (fits_members c (length ws))) (or_else (words_fault s (arguments c) (arguments_in c ws)) (behind_fault s (takes_members c) (behind_in c ws)))
 
--- what is wrong with the words of a line: the first of a fault of the command, of the number of words, of each argument, and of the pairs
+-- what is wrong with the words of a line: the first of a fault of the command, of the number of words, of each argument, and of the pairs or members
 unfoldable pub fault_of : SceneView → List (List ℕ) → Option Fault
 fault_of s [] = None
 fault_of s (w ∷ ws) = command_fault s (command_of w) ws

@@ -1,14 +1,15 @@
 -- How the words of a line are read, one by one.
-use Rattle.std.specs.Prelude.{◌≡◌, ℕ, ◌<◌, pos, not, ◌&&◌, ◌||◌, Bool, true, false, List, [], ◌∷◌, Some, None, Result, MatchResult, unwrap_or}
+use Rattle.std.specs.Prelude.{◌≡◌, ℕ, ◌<◌, pos, not, ◌&&◌, ◌||◌, Bool, true, false, List, [], ◌∷◌, Some, None, Result, MatchResult, All, unwrap_or}
 use Rattle.std.specs.List.{list_all}
 use Rattle.lines.specs.Lines.{number_of}
 use Rattle.requests.specs.declared.fault.Fault.{Fault}
 use Rattle.requests.specs.declared.command.Argument.{Argument}
-use Rattle.requests.specs.declared.command.Argument.TheVariants.{NewDomain, AnyNumber, ADomain, AProcessor, NewName, ALook, AReading, AHeld, ATicket, AJob, ALease, AnId, APriority, AKey, APlug}
+use Rattle.requests.specs.declared.command.Argument.TheVariants.{NewDomain, AnyNumber, ADomain, AProcessor, NewName, ALook, AReading, AHeld, ATicket, AJob, ALease, AnId, APriority, AKey, APlug, NewSet, ASet}
 use Rattle.requests.specs.declared.given.Given.{Given}
 use Rattle.requests.specs.declared.scene.Kind.TheVariants as kind
-use Rattle.requests.specs.Scenes.{SceneView, IsPlace}
+use Rattle.requests.specs.Scenes.{SceneView, IsPlace, IsSetPlace}
 use Rattle.requests.specs.Faults.{argument_fault}
+use Rattle.requests.specs.Requests.{IsMemberIn}
 use Rattle.requests.specs.Numbers.{id_of, priority_of, word32_of}
 
 -- what is given with one word more, which is this argument
@@ -28,6 +29,8 @@ filled s g AnId w = record g { id = unwrap_or (id_of w) 0 }
 filled s g APriority w = record g { priority = unwrap_or (priority_of w) (pos 0) }
 filled s g AKey w = record g { key = unwrap_or (word32_of w) 0 }
 filled s g APlug w = record g { plug = unwrap_or (word32_of w) 0 }
+filled s g NewSet w = record g { name = w }
+filled s g ASet w = record g { set = unwrap_or (s.set_of w) g.set }
 
 -- the word is read as this argument, or has this fault
 abbrev pub IsRead : SceneView → Given → Argument → List ℕ → Result Given Fault → Type 0
@@ -52,10 +55,17 @@ Suits s g AnId = g.id < 16
 Suits s g APriority = Unit {0}
 Suits s g AKey = Unit {0}
 Suits s g APlug = Unit {0}
+Suits s g NewSet = s.set_of g.name ≡ None
+Suits s g ASet = IsSetPlace s g.set
 
 abbrev pub AllSuit : SceneView → Given → List Argument → Type 0
 AllSuit s g [] = Unit {0}
 AllSuit s g (a ∷ rest) = Suits s g a × AllSuit s g rest
+
+-- what is given is what the words behind a command's arguments should be
+abbrev pub BehindSuits : SceneView → Bool → Given → Type 0
+BehindSuits s true g = All (IsMemberIn s) g.members
+BehindSuits s false g = Unit {0}
 
 -- the argument is one of a domain, which a word before it has named
 abbrev pub needs_domain : Argument → Bool
@@ -74,6 +84,8 @@ needs_domain AnId = false
 needs_domain APriority = false
 needs_domain AKey = false
 needs_domain APlug = false
+needs_domain NewSet = false
+needs_domain ASet = false
 
 -- the fields of what is given that an argument fills
 pub data Field : Type 0 where
@@ -85,6 +97,7 @@ pub data Field : Type 0 where
   Priority : Field
   Key : Field
   Plug : Field
+  Set : Field
 
 abbrev pub same_field : Field → Field → Bool
 same_field Domain Domain = true
@@ -95,6 +108,7 @@ same_field Id Id = true
 same_field Priority Priority = true
 same_field Key Key = true
 same_field Plug Plug = true
+same_field Set Set = true
 same_field _ _ = false
 
 -- the field that an argument fills
@@ -114,6 +128,8 @@ field_of AnId = Id
 field_of APriority = Priority
 field_of AKey = Key
 field_of APlug = Plug
+field_of NewSet = Name
+field_of ASet = Set
 
 abbrev pub names_domain : Argument → Bool
 names_domain a = same_field (field_of a) Domain

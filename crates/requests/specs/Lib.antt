@@ -7,5 +7,6 @@ pub mod Faults
 pub mod Requests
 pub mod Given
 pub mod JobNames
+pub mod Members
 pub mod BlockIds
 pub mod Replies

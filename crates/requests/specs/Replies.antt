@@ -99,6 +99,7 @@ words_text (reply.Plug plug) = codes "plug " ++ decimal plug
 words_text reply.NoPlug = codes "none"
 words_text (reply.Leased i version) = codes "lease index " ++ index_text i ++ codes " version " ++ decimal version
 words_text reply.Released = codes "released"
+words_text (reply.Set numbers) = codes "set" ++ ids_text numbers
 words_text (reply.Cleaned opened closed) = codes "cleaned opened " ++ decimal opened ++ codes " closed " ++ decimal closed
 words_text (reply.Refused c why) = codes "refused " ++ command_word c ++ codes " " ++ cause_text why
 words_text (reply.Faulty n f) = codes "line " ++ decimal n ++ codes ": " ++ fault_word f

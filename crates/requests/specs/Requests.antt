@@ -1,21 +1,22 @@
 -- What the words of a line ask for, and what is known of it.
-use Rattle.std.specs.Prelude.{◌≡◌, ℕ, ◌<◌, List, [], ◌∷◌, Some, None}
+use Rattle.std.specs.Prelude.{◌≡◌, ℕ, ◌<◌, Bool, true, false, List, [], ◌∷◌, All, Some, None}
 use Rattle.lines.specs.Lines.{number_of}
 use Rattle.requests.specs.declared.command.Command.{Command}
 use Rattle.requests.specs.declared.command.Command.TheVariants as command
 use Rattle.requests.specs.declared.command.Argument.{Argument}
-use Rattle.requests.specs.declared.command.Argument.TheVariants.{NewDomain, AnyNumber, ADomain, AProcessor, NewName, ALook, AReading, AHeld, ATicket, AJob, ALease, AnId, APriority, AKey, APlug}
+use Rattle.requests.specs.declared.command.Argument.TheVariants.{NewDomain, AnyNumber, ADomain, AProcessor, NewName, ALook, AReading, AHeld, ATicket, AJob, ALease, AnId, APriority, AKey, APlug, NewSet, ASet}
 use Rattle.requests.specs.declared.given.Given.{Given}
 use Rattle.requests.specs.declared.handler_answers.Answer.{Answer}
+use Rattle.requests.specs.declared.members.Member.{Member}
 use Rattle.requests.specs.declared.scene.Kind.TheVariants as kind
 use Rattle.requests.specs.declared.request.Act.{Act}
 use Rattle.requests.specs.declared.request.Act.TheVariants as act
 use Rattle.requests.specs.declared.request.Request.{Request}
-use Rattle.requests.specs.declared.request.Request.TheVariants.{Domain, On, Cleanup}
-use Rattle.requests.specs.Commands.{command_of, arguments, arguments_in, pairs_in}
+use Rattle.requests.specs.declared.request.Request.TheVariants.{Domain, On, Set, SetPoll, Cleanup}
+use Rattle.requests.specs.Commands.{command_of, arguments, takes_members, arguments_in, behind_in}
 use Rattle.requests.specs.Numbers.{id_of, priority_of, word32_of}
 use Rattle.requests.specs.Pairs.{pairs_of, answers_of}
-use Rattle.requests.specs.Scenes.{SceneView, IsPlace}
+use Rattle.requests.specs.Scenes.{SceneView, IsPlace, IsSetPlace}
 
 -- What is asked
 
@@ -36,6 +37,8 @@ Names s g AnId w = id_of w ≡ Some g.id
 Names s g APriority w = priority_of w ≡ Some g.priority
 Names s g AKey w = word32_of w ≡ Some g.key
 Names s g APlug w = word32_of w ≡ Some g.plug
+Names s g NewSet w = g.name ≡ w
+Names s g ASet w = s.set_of w ≡ Some g.set
 
 -- each of the words, as the argument at its place, names what is given
 abbrev pub AllName : SceneView → Given → List Argument → List (List ℕ) → Type 0
@@ -47,6 +50,17 @@ AllName s g (a ∷ rest) (w ∷ ws) = Names s g a w × AllName s g rest ws
 -- the words, as pairs, name what is given
 abbrev pub PairsName : Given → List (List ℕ) → Type 0
 PairsName g ws = (pairs : List (ℕ × Answer)) × (pairs_of ws ≡ Some pairs) × (g.answers.by_id ≡ answers_of pairs)
+
+-- the words, two for each, name these members
+abbrev pub MembersName : SceneView → List Member → List (List ℕ) → Type 0
+MembersName s [] [] = Unit {0}
+MembersName s (m ∷ ms) (d ∷ p ∷ ws) = (s.place_of d ≡ Some m.domain) × (number_of p ≡ Some m.processor) × MembersName s ms ws
+MembersName s _ _ = ⊥
+
+-- the words behind a command's arguments, as members, or else as pairs, name what is given
+abbrev pub BehindNames : SceneView → Bool → Given → List (List ℕ) → Type 0
+BehindNames s true g ws = MembersName s g.members ws
+BehindNames s false g ws = PairsName g ws
 
 -- what a command asks for, of what is given
 abbrev pub request_of : Command → Given → Request
@@ -82,13 +96,15 @@ request_of command.Lookup g = On g.domain (act.Lookup g.processor g.key)
 request_of command.Lease g = On g.domain (act.Lease g.processor g.name)
 request_of command.Read g = On g.domain (act.Read g.processor g.name g.key)
 request_of command.Release g = On g.domain (act.Release g.processor g.name)
+request_of command.Set g = Set g.name g.members
+request_of command.SetPoll g = SetPoll g.set
 request_of command.State g = On g.domain act.State
 request_of command.Cleanup g = Cleanup g.domain
 
--- the first word is a command, the words behind it name what is given, its arguments and its pairs, and that is what the command asks for
+-- the first word is a command, the words behind it name what is given, its arguments and its pairs or members, and that is what the command asks for
 unfoldable pub WordsAsk : SceneView → List (List ℕ) → Request → Type 0
 WordsAsk s [] asked = ⊥
-WordsAsk s (w ∷ ws) asked = (c : Command) × (given : Given) × (command_of w ≡ Some c) × AllName s given (arguments c) (arguments_in c ws) × PairsName given (pairs_in c ws) × (asked ≡ request_of c given)
+WordsAsk s (w ∷ ws) asked = (c : Command) × (given : Given) × (command_of w ≡ Some c) × AllName s given (arguments c) (arguments_in c ws) × BehindNames s (takes_members c) given (behind_in c ws) × (asked ≡ request_of c given)
 
 -- the words ask for nothing else
 abbrev pub AskOnly : SceneView → List (List ℕ) → Request → Type 0
@@ -131,8 +147,14 @@ IsActFor s place (act.Lease p lease) = (p < s.processors_of place) × (s.kind_of
 IsActFor s place (act.Read p lease key) = (p < s.processors_of place) × (s.kind_of place lease ≡ Some kind.Lease)
 IsActFor s place (act.Release p lease) = (p < s.processors_of place) × (s.kind_of place lease ≡ Some kind.Lease)
 
--- a new domain's name is no other's, and a domain that should do something, or be taken down, is there
+-- the member's domain is there, and its processor is one of the domain's
+abbrev pub IsMemberIn : SceneView → Member → Type 0
+IsMemberIn s m = IsPlace s m.domain × (m.processor < s.processors_of m.domain)
+
+-- a new domain's name is no other's, and a domain that should do something, or be taken down, is there. So are a new set's name, the domains of its members, and a set that is asked after
 abbrev pub IsFor : SceneView → Request → Type 0
 IsFor s (Domain name processors) = s.place_of name ≡ None
 IsFor s (On place a) = IsPlace s place × IsActFor s place a
+IsFor s (Set name members) = (s.set_of name ≡ None) × All (IsMemberIn s) members
+IsFor s (SetPoll place) = IsSetPlace s place
 IsFor s (Cleanup place) = IsPlace s place

@@ -4,7 +4,7 @@ use std::fmt;
 /// Why a line was refused that is not faulty.
 #[derive(Clone, Copy, Debug, PartialEq, Eq)]
 pub enum Cause {
-    /// 8 domains are there, a section is parked already, or there are 15 handlers on the chain or 15 keys in the table.
+    /// 8 domains are there, or 8 sets, a section is parked already, or there are 15 handlers on the chain or 15 keys in the table.
     Full,
     /// No section is parked.
     Empty,

@@ -1,7 +1,7 @@
 //! The table of commands.
 ghost use Rattle.std.specs.Prelude.{◌≡◌, Some};
 ghost use Rattle.lines.specs.Lines.{words_of};
-ghost use Rattle.requests.specs.Commands.{IsForm, arguments, command_of, command_word, takes_pairs as takes_pairs_lem};
+ghost use Rattle.requests.specs.Commands.{IsForm, arguments, command_of, command_word, takes_pairs as takes_pairs_lem, takes_members as takes_members_lem};
 
 use std::fmt;
 
@@ -41,6 +41,8 @@ pub enum Command {
     Lease,
     Read,
     Release,
+    Set,
+    SetPoll,
     Cleanup,
 }
 
@@ -77,6 +79,10 @@ pub enum Argument {
     AKey,
     /// A number below 2^32.
     APlug,
+    /// A name that no set has.
+    NewSet,
+    /// The name of a set.
+    ASet,
 }
 
 /// A row of the table of commands.
@@ -84,7 +90,7 @@ pub enum Argument {
 pub struct Row {
     /// The first word of the command's lines.
     pub word: &'static str,
-    /// What the words behind it should be. Behind these may stand pairs, where the command takes any.
+    /// What the words behind it should be. Behind these stand pairs or members, where the command takes any.
     pub takes: &'static [Argument],
     /// A line of the command, as the help shows it.
     pub form: &'static str,
@@ -94,7 +100,7 @@ pub struct Row {
 
 impl Command {
     /// All commands, in the order of the help.
-    pub const ALL: [Command; 34] = [
+    pub const ALL: [Command; 36] = [
         Command::Domain,
         Command::Look,
         Command::Enter,
@@ -127,6 +133,8 @@ impl Command {
         Command::Lease,
         Command::Read,
         Command::Release,
+        Command::Set,
+        Command::SetPoll,
         Command::State,
         Command::Cleanup,
     ];
@@ -346,6 +354,18 @@ impl Command {
                 form: "release NAME P L",
                 does: "ends lease L on processor P",
             },
+            Command::Set => Row {
+                word: "set",
+                takes: &[Argument::NewSet],
+                form: "set K NAME P..",
+                does: "asks in each domain, on its processor; K has the cookies",
+            },
+            Command::SetPoll => Row {
+                word: "set-poll",
+                takes: &[Argument::ASet],
+                form: "set-poll K",
+                does: "tells whether all cookies of set K are done",
+            },
             Command::State => Row {
                 word: "state",
                 takes: &[Argument::ADomain],
@@ -373,6 +393,14 @@ impl Command {
         ensures { result ≡ takes_pairs_lem self }
     {
         matches!(self, Command::Notify)
+    }
+
+    /// Whether members stand behind what the command takes: from one to eight, each two words, which name a domain and one of
+    /// its processors.
+    pub fn takes_members(self) -> bool
+        ensures { result ≡ takes_members_lem self }
+    {
+        matches!(self, Command::Set)
     }
 
     /// The command of this word; `None` where the word is no command.

@@ -10,13 +10,14 @@ ghost use Rattle.requests.specs.Given.{IsRead, needs_domain};
 use crate::command::{Argument, Command};
 use crate::fault::Fault;
 use crate::handler_answers::{Answer, HandlerAnswers};
+use crate::members::Members;
 use crate::numbers::{id, priority, word32};
 use crate::pairs::answers;
 use crate::request::{Act, Request};
 use crate::scene::{Kind, Scene};
 use lines::{Name, is_name, number};
 
-/// What the words of a line name. Each argument fills one field, and all pairs fill one.
+/// What the words of a line name. Each argument fills one field, all pairs fill one, and so do all members.
 #[derive(Clone, Copy)]
 pub struct Given {
     /// The place of the domain.
@@ -30,6 +31,9 @@ pub struct Given {
     pub key: u32,
     pub plug: u32,
     pub answers: HandlerAnswers,
+    /// The place of the set.
+    pub set: usize,
+    pub members: Members,
 }
 
 impl Given {
@@ -49,6 +53,8 @@ impl Given {
             answers: HandlerAnswers {
                 by_id: [Answer::Done; 16],
             },
+            set: 0,
+            members: Members::new(),
         }
     }
 
@@ -74,6 +80,8 @@ impl Given {
             Argument::APriority => self.with_priority(word),
             Argument::AKey => self.with_key(word),
             Argument::APlug => self.with_plug(word),
+            Argument::NewSet => self.with_new_set(word, scene),
+            Argument::ASet => self.with_set(word, scene),
         }
     }
 
@@ -191,6 +199,28 @@ impl Given {
         Ok(Given { plug, ..self })
     }
 
+    #[tactic(auto, unfolding(crate::specs::Faults::argument_fault))]
+    fn with_new_set<S: Scene>(self, word: &[u8], scene: &S) -> Result<Given, Fault>
+        ensures { IsRead (S.scene scene.now) self Argument.NewSet word.now result }
+    {
+        let name = Name::new(word).ok_or(Fault::Name)?;
+        match scene.set_of(word) {
+            Some(_) => Err(Fault::Taken),
+            None => Ok(Given { name, ..self }),
+        }
+    }
+
+    #[tactic(auto, unfolding(crate::specs::Faults::argument_fault))]
+    fn with_set<S: Scene>(self, word: &[u8], scene: &S) -> Result<Given, Fault>
+        ensures { IsRead (S.scene scene.now) self Argument.ASet word.now result }
+    {
+        if !is_name(word) {
+            return Err(Fault::Name);
+        }
+        let set = scene.set_of(word).ok_or(Fault::Name)?;
+        Ok(Given { set, ..self })
+    }
+
     /// What is given with what the pairs say.
     pub fn with_pairs(self, words: &[&[u8]]) -> Result<Given, Fault>
         ensures { MatchResult result
@@ -215,6 +245,8 @@ impl Given {
             key,
             plug,
             answers,
+            set,
+            members,
         } = self;
         let act = match command {
             Command::Domain => {
@@ -299,6 +331,8 @@ impl Given {
                 processor,
                 lease: name,
             },
+            Command::Set => return Request::Set { name, members },
+            Command::SetPoll => return Request::SetPoll { set },
             Command::State => Act::State,
             Command::Cleanup => return Request::Cleanup { domain },
         };

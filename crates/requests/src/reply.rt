@@ -74,9 +74,9 @@ pub enum Reply {
     Took(Name),
     /// The number of the cookie that was given.
     Cookie(u64),
-    /// The cookie is done, or the ticket.
+    /// The cookie is done, or the ticket, or all cookies of a set.
     Done,
-    /// The cookie is not done, or the ticket.
+    /// The cookie is not done, or the ticket, or one of the cookies of a set.
     NotYet,
     /// What the engine answered.
     Progress(Progress),
@@ -121,6 +121,8 @@ pub enum Reply {
     },
     /// A lease ended.
     Released,
+    /// A set was made, of the cookies of these numbers, in order.
+    Set(BlockIds),
     /// A domain was taken down, in which so many sections ever began, and so many ended.
     Cleaned {
         opened: u64,
@@ -254,6 +256,7 @@ impl fmt::Display for Reply {
                 writeln!(f, "lease index {index} version {version}")
             }
             Reply::Released => writeln!(f, "released"),
+            Reply::Set(numbers) => writeln!(f, "set{numbers}"),
             Reply::Cleaned { opened, closed } => {
                 writeln!(f, "cleaned opened {opened} closed {closed}")
             }

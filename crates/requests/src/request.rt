@@ -1,5 +1,6 @@
 //! What a line without fault asks for.
 use crate::handler_answers::HandlerAnswers;
+use crate::members::Members;
 use lines::Name;
 
 /// What a line asks for.
@@ -9,6 +10,10 @@ pub enum Request {
     Domain { name: Name, processors: u64 },
     /// That the domain at this place does something.
     On { domain: usize, act: Act },
+    /// A new set of this name, of the cookies that its members are given. Each asks for its grace period.
+    Set { name: Name, members: Members },
+    /// To tell whether all cookies of the set at this place are done.
+    SetPoll { set: usize },
     /// That the domain at this place is taken down.
     Cleanup { domain: usize },
 }

@@ -21,14 +21,18 @@ pub enum Kind {
     Lease,
 }
 
-/// The domains of a script, and the names in use in each, as a line finds them. A domain goes by its place, a number
-/// that is the scene's own. Contracts see the three answers as functions, all of one moment.
+/// The domains of a script, the names in use in each, and the sets of cookies, as a line finds them. A domain and a set
+/// go by their places, numbers that are the scene's own. Contracts see the four answers as functions, all of one moment.
 pub trait Scene {
     ghost scene: { Self → SceneView };
 
     /// The place of the domain of this name, or `None` where no domain has it.
     fn place_of(&self, domain: &[u8]) -> Option<usize>
         ensures { result ≡ (scene self.now).place_of domain.now };
+
+    /// The place of the set of this name, or `None` where no set has it.
+    fn set_of(&self, set: &[u8]) -> Option<usize>
+        ensures { result ≡ (scene self.now).set_of set.now };
 
     /// How many processors the domain at this place has.
     fn processors_of(&self, place: usize) -> u64

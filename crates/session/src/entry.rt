@@ -25,7 +25,10 @@ mod barriers;
 mod calling;
 mod chains;
 mod cleanup;
+mod sets;
 mod tables;
+
+pub use sets::place_of;
 
 /// A domain of a session. Its open sections must be ended: spend it by [`Entry::finish`].
 ///

@@ -9,6 +9,7 @@ mod open;
 mod parking;
 mod scene;
 mod session;
+mod sets;
 
 pub use answerer::Answerer;
 pub use session::Session;

@@ -1,4 +1,5 @@
 //! What is there when a line is read.
+use crate::entry::place_of;
 use crate::session::Session;
 use lines::Name;
 use requests::{Kind, Scene};
@@ -11,7 +12,11 @@ impl<A: Allocator, R: Wait> Scene for Session<'_, A, R> {
     ghost scene = { λ s. scene_of s.domains };
 
     fn place_of(&self, domain: &[u8]) -> Option<usize> {
-        self.entries.iter().position(|entry| entry.is_named(domain))
+        place_of(&self.entries, domain)
+    }
+
+    fn set_of(&self, set: &[u8]) -> Option<usize> {
+        self.sets.as_slice().iter().position(|known| known.is_named(set))
     }
 
     fn processors_of(&self, place: usize) -> u64 {

@@ -9,6 +9,8 @@ ghost use Rattle.session.specs.States.{scene_of};
 ghost use Rattle.session.specs.Scripts.{Makes, MakesNone, CleansUp, CleansNone, LineGives, Answers as AnswersTo};
 
 use crate::entry::Entry;
+use crate::sets::NamedSet;
+use arrayvec::ArrayVec;
 use lines::{Name, words};
 use notify::Handler;
 use requests::{Cause, Command, Fault, Reply, Request, is_skipped, parse, push_reply};
@@ -25,7 +27,11 @@ pub struct Session<'r, A: Allocator, R: Wait> {
     rt: &'r R,
     limits: Limits,
     pub(crate) entries: Vec<Entry<A>, A>,
+    /// Each cookie of theirs is of a domain that is there.
+    pub(crate) sets: ArrayVec<NamedSet, MOST_SETS>,
 }
+
+mod sets;
 
 impl<'r, A: Allocator, R: Wait> Model for Session<'r, A, R> {
     ghost use Rattle.session.specs.States.{SessionView};
@@ -45,6 +51,9 @@ const IDS: u64 = 16;
 /// How many domains a script may have.
 const MOST_DOMAINS: usize = 8;
 
+/// How many sets a script may have.
+const MOST_SETS: usize = 8;
+
 impl<'r, 'a, A: Allocator, R: Wait> Session<'r, &'a A, R> {
     /// A session without domains. Each domain that it makes has these limits.
     pub fn new(alloc: &'a A, rt: &'r R, limits: Limits) -> Session<'r, &'a A, R>
@@ -57,6 +66,7 @@ impl<'r, 'a, A: Allocator, R: Wait> Session<'r, &'a A, R> {
             rt,
             limits,
             entries: Vec::new(alloc),
+            sets: ArrayVec::new(),
         }
     }
 
@@ -74,6 +84,8 @@ impl<'r, 'a, A: Allocator, R: Wait> Session<'r, &'a A, R> {
         match request {
             Request::Domain { name, processors } => self.make(name, processors),
             Request::On { domain, act } => self.entries[domain].act(self.rt, handlers, act),
+            Request::Set { name, members } => Ok(self.make_set(name, members)),
+            Request::SetPoll { set } => Ok(self.poll_set(set)),
             Request::Cleanup { domain } => Ok(self.cleanup(domain)),
         }
     }
@@ -118,11 +130,15 @@ impl<'r, 'a, A: Allocator, R: Wait> Session<'r, &'a A, R> {
             ⊎ CleansNone self.old.domains place result self.new.domains }
     {
         let entry = self.entries.remove(place);
+        let name = entry.name();
         match entry.cleanup() {
-            Ok(totals) => Reply::Cleaned {
-                opened: totals.opened,
-                closed: totals.closed,
-            },
+            Ok(totals) => {
+                self.sets.retain(|set| !set.is_of(name.as_bytes()));
+                Reply::Cleaned {
+                    opened: totals.opened,
+                    closed: totals.closed,
+                }
+            }
             Err((cause, entry)) => {
                 // Its own room is still there.
                 self.entries.insert(place, entry).unwrap();
@@ -169,6 +185,7 @@ impl<'r, 'a, A: Allocator, R: Wait> Session<'r, &'a A, R> {
             rt,
             limits: _,
             mut entries,
+            sets: _,
         } = self;
         while let Some(entry) = entries.pop() {
             entry.finish(rt);

@@ -20,6 +20,7 @@ mod barriers;
 mod calling;
 mod chains;
 mod cleanup;
+mod sets;
 mod tables;
 
 /// A domain that one thread drives. After each call that made a step its processors and its engine meet, so that all

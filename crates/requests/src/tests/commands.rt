@@ -37,6 +37,8 @@ const HELP: &str = "
   lease NAME P L        leases the version of the table; the lease is called L
   read NAME P L K       finds the plug of key K in the version of lease L
   release NAME P L      ends lease L on processor P
+  set K NAME P..        asks in each domain, on its processor; K has the cookies
+  set-poll K            tells whether all cookies of set K are done
   state NAME            shows where the domain stands
   cleanup NAME          takes the domain down, where nothing of it is in use";
 
@@ -88,6 +90,8 @@ fn words_of_commands(rt: HostRuntime) -> Result<(), Fail> {
         lease            Some(Lease)
         read             Some(Read)
         release          Some(Release)
+        set              Some(Set)
+        set-poll         Some(SetPoll)
         cleanup          Some(Cleanup)
         loc              None
         locks            None
@@ -106,6 +110,10 @@ fn words_of_commands(rt: HostRuntime) -> Result<(), Fail> {
         lookups          None
         leases           None
         released         None
+        sets             None
+        set-             None
+        setpoll          None
+        set_poll         None
         LOCK             None
         frob             None";
     for row in table.as_bytes().split(|byte| *byte == b'\n') {

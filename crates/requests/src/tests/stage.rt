@@ -2,7 +2,7 @@ use crate::scene::{Kind, Scene};
 use lines::Name;
 
 /// What is there in the tests: a domain `a` of 2 processors, with a look `r`, a section `s` that its own processor ends, a
-/// held section `h`, one that is parked, `p`, a ticket `b`, and a lease `l`.
+/// held section `h`, one that is parked, `p`, a ticket `b`, and a lease `l`; and a set `k`.
 pub struct Stage;
 
 impl Scene for Stage {
@@ -11,6 +11,7 @@ impl Scene for Stage {
 
     ghost scene = { λ _. record {
       place_of = λ w. if bytes_eq w (codes "a") then Some 0 else None;
+      set_of = λ w. if bytes_eq w (codes "k") then Some 0 else None;
       processors_of = λ _. 2;
       kind_of = λ _ w. if bytes_eq w (codes "r") then Some Look
           else (if bytes_eq w (codes "s") then Some Reading
@@ -22,6 +23,14 @@ impl Scene for Stage {
 
     fn place_of(&self, domain: &[u8]) -> Option<usize> {
         if domain == b"a".as_slice() {
+            Some(0)
+        } else {
+            None
+        }
+    }
+
+    fn set_of(&self, set: &[u8]) -> Option<usize> {
+        if set == b"k".as_slice() {
             Some(0)
         } else {
             None
