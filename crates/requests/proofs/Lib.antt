@@ -1,6 +1,7 @@
 mod Reading
 mod Asking
 mod Padding
+mod Joining
 mod Values
 mod Pairing
 mod Hexadecimal

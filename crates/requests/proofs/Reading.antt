@@ -10,20 +10,20 @@ use Rattle.lines.specs.Lines.{is_name, number_of}
 use Rattle.requests.specs.declared.fault.Fault.{Fault}
 use Rattle.requests.specs.declared.fault.Fault.TheVariants as fault
 use Rattle.requests.specs.declared.command.Argument.{Argument}
-use Rattle.requests.specs.declared.command.Argument.TheVariants.{NewDomain, AnyNumber, ADomain, AProcessor, NewName, ALook, AReading, AHeld, ATicket, AJob, ALease, AnId, APriority, AKey, APlug}
+use Rattle.requests.specs.declared.command.Argument.TheVariants.{NewDomain, AnyNumber, ADomain, AProcessor, NewName, ALook, AReading, AHeld, ATicket, AJob, ALease, AnId, APriority, AKey, APlug, NewSet, ASet}
 use Rattle.requests.specs.declared.given.Given.{Given}
 use Rattle.requests.specs.declared.scene.Kind.{Kind}
 use Rattle.requests.specs.declared.scene.Kind.TheVariants as kind
 use Rattle.requests.specs.Numbers.{below, id_of, priority_of, word32_of}
-use Rattle.requests.specs.Scenes.{SceneView, IsPlace}
+use Rattle.requests.specs.Scenes.{SceneView, IsPlace, IsSetPlace}
 use Rattle.requests.specs.Faults.{number_fault, processor_fault, has_kind, argument_fault, place_after, or_else, arguments_fault, words_fault, texts}
 use Rattle.requests.specs.Requests.{Names, AllName}
 use Rattle.requests.proofs.Pairing.{below_end}
-use Rattle.requests.specs.Given.{Field, Domain, Processor, Name, Number, Id, Priority, Key, Plug, same_field, field_of, filled, Suits, AllSuit, needs_domain, names_domain, may_follow, names_domain_first, fill_apart}
+use Rattle.requests.specs.Given.{Field, Domain, Processor, Name, Number, Id, Priority, Key, Plug, Set, same_field, field_of, filled, Suits, AllSuit, needs_domain, names_domain, may_follow, names_domain_first, fill_apart}
 
 -- One word without a fault
 
-both : (a b : Bool) → (a && b) ≡ true → (a ≡ true) × (b ≡ true)
+pub both : (a b : Bool) → (a && b) ≡ true → (a ≡ true) × (b ≡ true)
 both true b h = (refl, h)
 both false b h = cc
 
@@ -40,6 +40,11 @@ domain_there : (named : Bool) (found : Option ℕ) (other : ℕ) → (if not nam
 domain_there true None other h = cc
 domain_there true (Some place) other h = refl
 domain_there false found other h = cc
+
+set_there : (named : Bool) (found : Option ℕ) (other : ℕ) → (if named && is_some found then None else Some fault.Name) ≡ None → found ≡ Some (unwrap_or found other)
+set_there true None other h = cc
+set_there true (Some place) other h = refl
+set_there false found other h = cc
 
 number_there : {N : Type 0} (found : Option N) (other : N) → number_fault found ≡ None → found ≡ Some (unwrap_or found other)
 number_there None other h = cc
@@ -91,6 +96,7 @@ Same Id g h = g.id ≡ h.id
 Same Priority g h = g.priority ≡ h.priority
 Same Key g h = g.key ≡ h.key
 Same Plug g h = g.plug ≡ h.plug
+Same Set g h = g.set ≡ h.set
 
 is_not : (b : Bool) → not b ≡ true → b ≡ false
 is_not true h = cc
@@ -114,6 +120,8 @@ module _ (s : SceneView) where
   reads g APriority w h = (number_there (priority_of w) (pos 0) h, tt)
   reads g AKey w h = (number_there (word32_of w) 0 h, tt)
   reads g APlug w h = (number_there (word32_of w) 0 h, tt)
+  reads g NewSet w h = (refl, new_name_none (is_name w) (s.set_of w) h)
+  reads g ASet w h = let there = set_there (is_name w) (s.set_of w) g.set h in (there, (w, there))
 
   -- an argument changes no field but its own
   untouched : (f : Field) (g : Given) (a : Argument) (w : List ℕ) → same_field f (field_of a) ≡ false → Same f g (filled s g a w)
@@ -129,6 +137,7 @@ module _ (s : SceneView) where
   untouched Name g ATicket w e = absurd (true≢false e)
   untouched Name g AJob w e = absurd (true≢false e)
   untouched Name g ALease w e = absurd (true≢false e)
+  untouched Name g NewSet w e = absurd (true≢false e)
   untouched Name g _ w e = refl
   untouched Number g AnyNumber w e = absurd (true≢false e)
   untouched Number g _ w e = refl
@@ -140,6 +149,8 @@ module _ (s : SceneView) where
   untouched Key g _ w e = refl
   untouched Plug g APlug w e = absurd (true≢false e)
   untouched Plug g _ w e = refl
+  untouched Set g ASet w e = absurd (true≢false e)
+  untouched Set g _ w e = refl
 
   stays_in : (g : Given) (a : Argument) (w : List ℕ) → names_domain a ≡ false → g.domain ≡ (filled s g a w).domain
   stays_in g ADomain w e = absurd (true≢false e)
@@ -166,6 +177,8 @@ module _ (s : SceneView) where
     known_too APriority e h = subst (λ n. (priority_of v ≡ Some n) × Unit {0}) e h
     known_too AKey e h = subst (λ n. (word32_of v ≡ Some n) × Unit {0}) e h
     known_too APlug e h = subst (λ n. (word32_of v ≡ Some n) × Unit {0}) e h
+    known_too NewSet e h = subst (λ n. (n ≡ v) × (s.set_of n ≡ None)) e h
+    known_too ASet e h = subst (λ n. (s.set_of v ≡ Some n) × IsSetPlace s n) e h
 
   -- an argument behind it changes nothing of what is known of a word
   keeps : (g : Given) (b a : Argument) (v w : List ℕ) → may_follow b a ≡ true → IsKnown s g b v → IsKnown s (filled s g a w) b v
@@ -219,6 +232,8 @@ module _ (s : SceneView) where
   needs place APriority rest (inr e) h = absurd (false≢true h)
   needs place AKey rest (inr e) h = absurd (false≢true h)
   needs place APlug rest (inr e) h = absurd (false≢true h)
+  needs place NewSet rest (inr e) h = absurd (false≢true h)
+  needs place ASet rest (inr e) h = absurd (false≢true h)
   needs place _ rest (inr e) h = absurd (false≢true e)
 
   ready : (g : Given) (a : Argument) (w : List ℕ) (rest : List Argument) → argument_fault s g.domain a w ≡ None → IsPlace s g.domain ⊎ (names_domain_first (a ∷ rest) ≡ true)
@@ -232,6 +247,8 @@ module _ (s : SceneView) where
   ready g APriority w rest fine (inr e) = inr e
   ready g AKey w rest fine (inr e) = inr e
   ready g APlug w rest fine (inr e) = inr e
+  ready g NewSet w rest fine (inr e) = inr e
+  ready g ASet w rest fine (inr e) = inr e
   ready g _ w rest fine (inr e) = absurd (false≢true e)
 
 -- so far words were read as arguments without a fault, and `rest` and `behind` are left of them

@@ -63,7 +63,7 @@ module _ {A : Type 0} where
   }
 
   abbrev pub entry_with : ChainNow → TableNow → List ℕ → List (List ℕ × NamedToken A) → Option (List ℕ × ReadingView) → SoloView (List ℕ) → EntryView
-  entry_with chain table name tokens parked d = record { limits = d.limits; state = state_with chain table name tokens parked d }
+  entry_with chain table name tokens parked d = record { limits = d.limits; table = d.table; state = state_with chain table name tokens parked d }
 
   -- all tokens: those under names, and the section that is parked
   abbrev pub tokens_with : Option (List ℕ × ReadingView) → List (List ℕ × NamedToken A) → List (List ℕ × NamedToken A)

@@ -1,5 +1,6 @@
 -- What a line of a script means: which reply it gets, and what it changes.
-use Rattle.std.specs.Prelude.{◌≡◌, ℕ, ◌*◌, ◌%◌, ◌<◌, ◌≤◌, Bool, true, false, MatchBool, List, [], ◌∷◌, ◌++◌, length, map, replicate, Option, Some, None, slice_get, slice_index, remove, slice_set, if◌then◌else◌, ◌⊎◌}
+use Rattle.std.specs.Prelude.{◌≡◌, ℕ, ◌*◌, ◌%◌, ◌<◌, ◌≤◌, Bool, true, false, MatchBool, List, [], ◌∷◌, ◌++◌, length, map, filter, replicate, Option, Some, None, slice_get, slice_index, remove, slice_set, if◌then◌else◌, ◌⊎◌, not, bytes_eq}
+use Rattle.std.specs.List.{list_all, list_any}
 use Rattle.sseq.specs.declared.index.Index.{Index}
 use Rattle.sseq.specs.declared.index.Index.TheVariants.{Zero, One}
 use Rattle.sseq.specs.declared.number.Phase.{Phase}
@@ -59,6 +60,7 @@ use Rattle.requests.specs.declared.cause.Cause.{Cause}
 use Rattle.requests.specs.declared.cause.Cause.TheVariants.{Full, Empty, Processors, Memory, Exhausted, Running, NotACookie, Invoking, NoBatch, Sections, Period, Callbacks, There, NotThere, NoSlot}
 use Rattle.requests.specs.declared.request.Act.{Act}
 use Rattle.requests.specs.declared.request.Act.TheVariants as act
+use Rattle.requests.specs.declared.members.Member.{Member as Asked}
 use Rattle.requests.specs.declared.request.Request.{Request}
 use Rattle.requests.specs.declared.request.Request.TheVariants as request
 use Rattle.requests.specs.declared.reply.Segments.{Segments}
@@ -68,7 +70,7 @@ use Rattle.requests.specs.Faults.{fault_of, is_skipped}
 use Rattle.requests.specs.Requests.{WordsAsk}
 use Rattle.requests.specs.Replies.{reply_text}
 use Rattle.session.specs.OpenSections.{open_of}
-use Rattle.session.specs.States.{State, DomainState, Bearer, Look, Reading, Held, Ticket, Lease, Parked, JobList, Slots, chain_now, table_now, Becomes, bearer_at, scene_of}
+use Rattle.session.specs.States.{State, Domains, DomainState, SetState, Member, domain_place, Bearer, Look, Reading, Held, Ticket, Lease, Parked, JobList, Slots, chain_now, table_now, Becomes, bearer_at, scene_of}
 
 -- a job that was queued, with its name and its cookie
 abbrev pub Job : Type 0
@@ -462,10 +464,10 @@ Acts gives limits other d r d' = Does limits other d r d'
 -- What a script does
 
 -- the domain at the place goes on, with its name, and no other does
-pub record GoesOn (state : State) (place : ℕ) (d d' : DomainState) (state' : State) : Type 0 where
-  pub there : slice_get state place ≡ Some d
+pub record GoesOn (domains : Domains) (place : ℕ) (d d' : DomainState) (domains' : Domains) : Type 0 where
+  pub there : slice_get domains place ≡ Some d
   pub same : d'.name ≡ d.name
-  pub others : state' ≡ slice_set state place d'
+  pub others : domains' ≡ slice_set domains place d'
 
 -- the slots of a cell to which nothing was put: the first one is current
 abbrev pub new_slots : Limits → Slots
@@ -475,18 +477,18 @@ abbrev pub new_domain : Limits → List ℕ → ℕ → DomainState
 new_domain limits name processors = record { name = name; names = []; desk = None; lines = replicate processors no_calls; chain = record { blocks = []; slots = new_slots limits }; table = record { rows = []; slots = new_slots limits }; course = new_course limits processors }
 
 -- a domain comes behind those that are there
-pub record Makes (limits : Limits) (state : State) (name : List ℕ) (processors : ℕ) (r : Reply) (state' : State) : Type 0 where
-  pub room : length state < 8
+pub record Makes (limits : Limits) (domains : Domains) (name : List ℕ) (processors : ℕ) (r : Reply) (domains' : Domains) : Type 0 where
+  pub room : length domains < 8
   pub count : IsCount processors
-  pub after : state' ≡ state ++ new_domain limits name processors ∷ []
+  pub after : domains' ≡ domains ++ new_domain limits name processors ∷ []
   pub reply : r ≡ reply.Made name processors
 
 -- no domain comes: eight are there, or else it can't have so many processors, or else there was no memory
-pub record MakesNone (state : State) (processors : ℕ) (r : Reply) (state' : State) : Type 0 where
-  pub after : state' ≡ state
-  pub cause : ((8 ≤ length state) × (r ≡ reply.Refused command.Domain Full))
-      ⊎ (length state < 8) × (¬ IsCount processors) × (r ≡ reply.Refused command.Domain Processors)
-      ⊎ (length state < 8) × IsCount processors × (r ≡ reply.Refused command.Domain Memory)
+pub record MakesNone (domains : Domains) (processors : ℕ) (r : Reply) (domains' : Domains) : Type 0 where
+  pub after : domains' ≡ domains
+  pub cause : ((8 ≤ length domains) × (r ≡ reply.Refused command.Domain Full))
+      ⊎ (length domains < 8) × (¬ IsCount processors) × (r ≡ reply.Refused command.Domain Processors)
+      ⊎ (length domains < 8) × IsCount processors × (r ≡ reply.Refused command.Domain Memory)
 
 -- why a domain is in use: the first cause that holds
 abbrev pub IsInUse : Course → Cause → Type 0
@@ -495,28 +497,96 @@ IsInUse c Period = IsInUseFor c busy.Period
 IsInUse c (Callbacks n) = IsInUseFor c (busy.Callbacks n)
 IsInUse c other = ⊥
 
--- the domain at the place isn't in use, and goes, with all names there. The others stay in their order
+-- a cookie of the set is of the domain of this name
+abbrev pub has_cookie_of : List ℕ → SetState → Bool
+has_cookie_of name set = list_any (λ m. bytes_eq m.domain name) set.members
+
+-- the domain at the place isn't in use, and goes, with all names there, and so does each set that has a cookie of it. The other domains and sets stay in their order
 pub record CleansUp (state : State) (place : ℕ) (r : Reply) (state' : State) : Type 0 where
   pub domain : DomainState
   pub totals : Totals
-  pub there : slice_get state place ≡ Some domain
+  pub there : slice_get state.domains place ≡ Some domain
   pub taken_down : IsTakenDown domain.course totals
-  pub gone : state' ≡ remove state place
+  pub gone : state'.domains ≡ remove state.domains place
+  pub sets : state'.sets ≡ filter (λ k. not (has_cookie_of domain.name k)) state.sets
   pub reply : r ≡ reply.Cleaned totals.opened totals.closed
 
 -- it is in use for this cause, and nothing is done
 pub record CleansNone (state : State) (place : ℕ) (r : Reply) (state' : State) : Type 0 where
   pub domain : DomainState
-  pub there : slice_get state place ≡ Some domain
+  pub there : slice_get state.domains place ≡ Some domain
   pub cause : Cause
   pub in_use : IsInUse domain.course cause
   pub after : state' ≡ state
   pub reply : r ≡ reply.Refused command.Cleanup cause
 
+-- Sets
+
+-- on a processor of the domain at the place the cookie of this number is given and asked for. It is the member's, which nobody has found done yet
+pub record AsksAt (domains : Domains) (asked : Asked) (m : Member) (domains' : Domains) : Type 0 where
+  pub domain : DomainState
+  pub after : DomainState
+  pub goes_on : GoesOn domains asked.domain domain after domains'
+  pub asks : AsksFor asked.processor m.cookie domain.course after.course
+  pub rest : after ≡ record domain { course = after.course }
+  pub is : m ≡ record { domain = domain.name; processor = asked.processor; cookie = m.cookie; found = false }
+
+-- the same in each of the places, in this order
+abbrev pub AskInTurn : Domains → List Asked → List Member → Domains → Type 0
+AskInTurn domains [] [] domains' = domains' ≡ domains
+AskInTurn domains (a ∷ asked) (m ∷ members) domains' = (between : Domains) × AsksAt domains a m between × AskInTurn between asked members domains'
+AskInTurn domains _ _ domains' = ⊥
+
+-- a set comes behind those that are there
+pub record MakesSet (state : State) (name : List ℕ) (asked : List Asked) (r : Reply) (state' : State) : Type 0 where
+  pub room : length state.sets < 8
+  pub members : List Member
+  pub ask : AskInTurn state.domains asked members state'.domains
+  pub sets : state'.sets ≡ state.sets ++ record { name = name; members = members } ∷ []
+  pub reply : r ≡ reply.Set (map (λ m. m.cookie) members)
+
+-- eight are there, and nothing is done
+pub record MakesNoSet (state : State) (r : Reply) (state' : State) : Type 0 where
+  pub full : length state.sets ≡ 8
+  pub after : state' ≡ state
+  pub reply : r ≡ reply.Refused command.Set Full
+
+-- the member is asked after on its processor of the domain of this name, and was found done, or not
+pub record AsksAfter (domains : Domains) (m m' : Member) (domains' : Domains) : Type 0 where
+  pub place : ℕ
+  pub domain : DomainState
+  pub after : DomainState
+  pub there : domain_place m.domain domains ≡ Some place
+  pub goes_on : GoesOn domains place domain after domains'
+  pub asks : AsksIfDone m.processor m.cookie m'.found domain.course after.course
+  pub rest : after ≡ record domain { course = after.course }
+  pub is : m' ≡ record m { found = m'.found }
+
+-- where it was found done before, nothing is done
+abbrev pub PollsOne : Domains → Member → Member → Domains → Type 0
+PollsOne domains m m' domains' = if m.found then (m' ≡ m) × (domains' ≡ domains) else AsksAfter domains m m' domains'
+
+-- each member, in order
+abbrev pub PollInTurn : Domains → List Member → List Member → Domains → Type 0
+PollInTurn domains [] [] domains' = domains' ≡ domains
+PollInTurn domains (m ∷ members) (m' ∷ members') domains' = (between : Domains) × PollsOne domains m m' between × PollInTurn between members members' domains'
+PollInTurn domains _ _ domains' = ⊥
+
+-- the set at the place was found done where each of its members was, by now or before
+pub record PollsSet (state : State) (place : ℕ) (r : Reply) (state' : State) : Type 0 where
+  pub set : SetState
+  pub members : List Member
+  pub there : slice_get state.sets place ≡ Some set
+  pub poll : PollInTurn state.domains set.members members state'.domains
+  pub sets : state'.sets ≡ slice_set state.sets place (record set { members = members })
+  pub reply : r ≡ (if list_all (λ m. m.found) members then reply.Done else reply.NotYet)
+
 -- the reply to what was asked, and the state behind it
 abbrev pub Answers : (ℕ → ℕ → ℕ → Type 0) → Limits → State → Request → Reply → State → Type 0
-Answers gives limits state (request.Domain name processors) r state' = Makes limits state name processors r state' ⊎ MakesNone state processors r state'
-Answers gives limits state (request.On place what) r state' = (d d' : DomainState) × GoesOn state place d d' state' × Acts gives limits what d r d'
+Answers gives limits state (request.Domain name processors) r state' = (Makes limits state.domains name processors r state'.domains ⊎ MakesNone state.domains processors r state'.domains) × (state'.sets ≡ state.sets)
+Answers gives limits state (request.On place what) r state' = (d d' : DomainState) × GoesOn state.domains place d d' state'.domains × Acts gives limits what d r d' × (state'.sets ≡ state.sets)
+Answers gives limits state (request.Set name asked) r state' = MakesSet state name asked r state' ⊎ MakesNoSet state r state'
+Answers gives limits state (request.SetPoll place) r state' = PollsSet state place r state'
 Answers gives limits state (request.Cleanup place) r state' = CleansUp state place r state' ⊎ CleansNone state place r state'
 
 -- Lines

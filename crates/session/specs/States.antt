@@ -1,7 +1,8 @@
--- The state of a script: its domains, each with the names in use there, what lies on its desk, the list of each processor, its chain and its table.
-use Rattle.std.specs.Prelude.{◌≡◌, ◌≢◌, ℕ, Bool, false, if◌then◌else◌, List, Option, Some, None, map, position, option_map, option_and_then, slice_get, bytes_eq}
+-- The state of a script: its domains, each with the names in use there, what lies on its desk, the list of each processor, its chain and its table; and its sets of cookies.
+use Rattle.std.specs.Prelude.{◌≡◌, ◌≢◌, ℕ, Bool, false, if◌then◌else◌, List, [], ◌∷◌, Option, Some, None, map, position, option_map, option_and_then, slice_get, bytes_eq}
 use Rattle.std.specs.Option.{option_map_or}
 use Rattle.std.specs.Map.{lookup}
+use Rattle.atomic_table.specs.Seated.{TableId}
 use Rattle.sseq.specs.declared.index.Index.{Index}
 use Rattle.sections.specs.declared.limits.Limits.{Limits}
 use Rattle.sections.specs.declared.writer.Standing.{Standing}
@@ -73,20 +74,46 @@ pub record DomainState : Type 0 where
   pub course : Course
 
 -- the domains, in the order in which they were made
-abbrev pub State : Type 0
-State = List DomainState
+abbrev pub Domains : Type 0
+Domains = List DomainState
+
+-- a cookie of a set: the name of its domain, the processor on which it is asked after, its number, and whether it was found done
+pub record Member : Type 0 where
+  pub domain : List ℕ
+  pub processor : ℕ
+  pub cookie : ℕ
+  pub found : Bool
+
+pub record SetState : Type 0 where
+  pub name : List ℕ
+  pub members : List Member
+
+-- the domains, and the sets, in the order in which they were made
+pub record State : Type 0 where
+  pub domains : Domains
+  pub sets : List SetState
+
+-- there is no domain and no set
+abbrev pub nothing_yet : State
+nothing_yet = record { domains = []; sets = [] }
 
 -- the limits that hold for each domain of a script, and its state
 pub record SessionView : Type 0 where
   pub limits : Limits
-  pub domains : State
+  pub state : State
 
+-- `table` tells which cookies are of the domain
 pub record EntryView : Type 0 where
   pub limits : Limits
+  pub table : TableId
   pub state : DomainState
 
-abbrev pub states_of : List EntryView → State
+abbrev pub states_of : List EntryView → Domains
 states_of entries = map (λ e. e.state) entries
+
+-- it is the same domain, of as many processors
+abbrev pub IsSameHome : EntryView → EntryView → Type 0
+IsSameHome e e' = (e'.table ≡ e.table) × (e'.state.course.standing.processors ≡ e.state.course.standing.processors)
 
 -- Names
 
@@ -102,8 +129,12 @@ pub record Becomes (name : List ℕ) (bearer : Option Bearer) (names names' : Na
 -- Places
 
 -- the place of the domain of this name
-unfoldable pub domain_place : List ℕ → State → Option ℕ
-domain_place w state = position (λ d. bytes_eq d.name w) state
+unfoldable pub domain_place : List ℕ → Domains → Option ℕ
+domain_place w domains = position (λ d. bytes_eq d.name w) domains
+
+-- the place of the set of this name
+abbrev pub set_place : List ℕ → List SetState → Option ℕ
+set_place w sets = position (λ k. bytes_eq k.name w) sets
 
 abbrev pub kind_of : Bearer → Kind
 kind_of (Look i) = kind.Look
@@ -121,10 +152,19 @@ is_parked name (Some p) = bytes_eq p.name name
 abbrev pub kind_at : List ℕ → DomainState → Option Kind
 kind_at name d = if is_parked name d.desk then Some kind.Parked else option_map kind_of (bearer_at name d.names)
 
+-- what is there, of these domains and sets
+abbrev pub scene_with : Domains → List SetState → SceneView
+scene_with domains sets = record {
+  place_of = λ w. domain_place w domains;
+  set_of = λ w. set_place w sets;
+  processors_of = λ place. option_map_or (λ d. d.course.standing.processors) (slice_get domains place) 0;
+  kind_of = λ place name. option_and_then (λ d. kind_at name d) (slice_get domains place);
+}
+
 -- what is there when a line is read
 abbrev pub scene_of : State → SceneView
-scene_of state = record {
-  place_of = λ w. domain_place w state;
-  processors_of = λ place. option_map_or (λ d. d.course.standing.processors) (slice_get state place) 0;
-  kind_of = λ place name. option_and_then (λ d. kind_at name d) (slice_get state place);
-}
+scene_of state = scene_with state.domains state.sets
+
+-- a scene with this domain alone
+abbrev pub scene_alone : DomainState → SceneView
+scene_alone d = scene_with (d ∷ []) []

@@ -1,7 +1,7 @@
 //! A domain with its name, the names in use there, its desk, and the batches that are out.
 ghost use Rattle.std.specs.Prelude.{◌≡◌, ◌<◌, ◌≤◌, length, [], ◌∷◌, IfOk, OnErr, bytes_eq};
 ghost use Rattle.requests.specs.Requests.{IsActFor};
-ghost use Rattle.session.specs.States.{kind_at, scene_of};
+ghost use Rattle.session.specs.States.{kind_at, scene_alone, IsSameHome};
 ghost use Rattle.session.specs.Entries.{AreTogether};
 ghost use Rattle.notify.specs.Calling.{GivesAt};
 ghost use Rattle.session.specs.Scripts.{Does, Acts};
@@ -78,7 +78,7 @@ impl<A: Allocator> Entry<A> {
         requires domain { IsNew domain.limits domain.course.standing.processors domain }
         requires chain { IsNewChain domain chain }
         requires board { IsNewTable domain board }
-        ensures { IfOk result (λ e. e ≡ record { limits = domain.limits; state = new_domain domain.limits name domain.course.standing.processors }) }
+        ensures { IfOk result (λ e. e ≡ record { limits = domain.limits; table = domain.table; state = new_domain domain.limits name domain.course.standing.processors }) }
     {
         let parking = Parking::new(alloc, domain.home())?;
         let Ok(outs) = none_out(alloc, domain.processors()) else {
@@ -129,8 +129,9 @@ impl<A: Allocator> Entry<A> {
 
     /// Reads the index word on a processor, and gives the look the name.
     fn look(&mut self, processor: u64, name: Name) -> Result<Reply, AllocError>
-        requires { IsActFor (scene_of (self.old.state ∷ [])) 0 (Act.Look processor name) }
+        requires { IsActFor (scene_alone self.old.state) 0 (Act.Look processor name) }
         ensures limits { self.new.limits ≡ self.old.limits }
+        ensures home { IsSameHome self.old self.new }
         ensures name { self.new.state.name ≡ self.old.state.name }
         ensures does { IfOk result (λ r. Does self.old.limits (Act.Look processor name) self.old.state r self.new.state) }
         ensures err { OnErr result (self.new ≡ self.old) }
@@ -146,8 +147,9 @@ impl<A: Allocator> Entry<A> {
     /// is refused, the name is free. The look's own place would do for the section, but the map doesn't say so: hence
     /// the room.
     fn enter(&mut self, processor: u64, name: Name) -> Result<Reply, AllocError>
-        requires { IsActFor (scene_of (self.old.state ∷ [])) 0 (Act.Enter processor name) }
+        requires { IsActFor (scene_alone self.old.state) 0 (Act.Enter processor name) }
         ensures limits { self.new.limits ≡ self.old.limits }
+        ensures home { IsSameHome self.old self.new }
         ensures name { self.new.state.name ≡ self.old.state.name }
         ensures does { IfOk result (λ r. Does self.old.limits (Act.Enter processor name) self.old.state r self.new.state) }
         ensures err { OnErr result (self.new ≡ self.old) }
@@ -167,8 +169,9 @@ impl<A: Allocator> Entry<A> {
     /// Begins a section on a processor, and gives it the name; refused, with nothing done, where the processor has
     /// begun as many of its index as it may.
     fn lock(&mut self, processor: u64, name: Name) -> Result<Reply, AllocError>
-        requires { IsActFor (scene_of (self.old.state ∷ [])) 0 (Act.Lock processor name) }
+        requires { IsActFor (scene_alone self.old.state) 0 (Act.Lock processor name) }
         ensures limits { self.new.limits ≡ self.old.limits }
+        ensures home { IsSameHome self.old self.new }
         ensures name { self.new.state.name ≡ self.old.state.name }
         ensures does { IfOk result (λ r. Does self.old.limits (Act.Lock processor name) self.old.state r self.new.state) }
         ensures err { OnErr result (self.new ≡ self.old) }
@@ -186,8 +189,9 @@ impl<A: Allocator> Entry<A> {
 
     /// Ends the section of this name, which is then free.
     fn unlock(&mut self, name: Name) -> Reply
-        requires { IsActFor (scene_of (self.old.state ∷ [])) 0 (Act.Unlock name) }
+        requires { IsActFor (scene_alone self.old.state) 0 (Act.Unlock name) }
         ensures limits { self.new.limits ≡ self.old.limits }
+        ensures home { IsSameHome self.old self.new }
         ensures name { self.new.state.name ≡ self.old.state.name }
         ensures does { Does self.old.limits (Act.Unlock name) self.old.state result self.new.state }
     {
@@ -199,8 +203,9 @@ impl<A: Allocator> Entry<A> {
     /// Begins a section on a processor that any processor may end, and gives it the name; refused, with nothing done,
     /// where the processor has begun as many of its index as it may.
     fn down(&mut self, processor: u64, name: Name) -> Result<Reply, AllocError>
-        requires { IsActFor (scene_of (self.old.state ∷ [])) 0 (Act.Down processor name) }
+        requires { IsActFor (scene_alone self.old.state) 0 (Act.Down processor name) }
         ensures limits { self.new.limits ≡ self.old.limits }
+        ensures home { IsSameHome self.old self.new }
         ensures name { self.new.state.name ≡ self.old.state.name }
         ensures does { IfOk result (λ r. Does self.old.limits (Act.Down processor name) self.old.state r self.new.state) }
         ensures err { OnErr result (self.new ≡ self.old) }
@@ -218,8 +223,9 @@ impl<A: Allocator> Entry<A> {
 
     /// Ends the held section of this name on a processor. The name is then free.
     fn up(&mut self, processor: u64, name: Name) -> Reply
-        requires { IsActFor (scene_of (self.old.state ∷ [])) 0 (Act.Up processor name) }
+        requires { IsActFor (scene_alone self.old.state) 0 (Act.Up processor name) }
         ensures limits { self.new.limits ≡ self.old.limits }
+        ensures home { IsSameHome self.old self.new }
         ensures name { self.new.state.name ≡ self.old.state.name }
         ensures does { Does self.old.limits (Act.Up processor name) self.old.state result self.new.state }
     {
@@ -230,8 +236,9 @@ impl<A: Allocator> Entry<A> {
 
     /// Puts the held section of this name on the desk; refused, with nothing done, where another one lies there.
     fn park(&mut self, name: Name) -> Reply
-        requires { IsActFor (scene_of (self.old.state ∷ [])) 0 (Act.Park name) }
+        requires { IsActFor (scene_alone self.old.state) 0 (Act.Park name) }
         ensures limits { self.new.limits ≡ self.old.limits }
+        ensures home { IsSameHome self.old self.new }
         ensures name { self.new.state.name ≡ self.old.state.name }
         ensures does { Does self.old.limits (Act.Park name) self.old.state result self.new.state }
     {
@@ -246,6 +253,7 @@ impl<A: Allocator> Entry<A> {
     /// Takes the section that lies on the desk back under its name; refused, with nothing done, where none does.
     fn unpark(&mut self) -> Result<Reply, AllocError>
         ensures limits { self.new.limits ≡ self.old.limits }
+        ensures home { IsSameHome self.old self.new }
         ensures name { self.new.state.name ≡ self.old.state.name }
         ensures does { IfOk result (λ r. Does self.old.limits Act.Unpark self.old.state r self.new.state) }
         ensures err { OnErr result (self.new ≡ self.old) }
@@ -263,6 +271,7 @@ impl<A: Allocator> Entry<A> {
     fn poll(&mut self, processor: u64, cookie: u64) -> Reply
         requires { processor < self.old.state.course.standing.processors }
         ensures limits { self.new.limits ≡ self.old.limits }
+        ensures home { IsSameHome self.old self.new }
         ensures name { self.new.state.name ≡ self.old.state.name }
         ensures does { Does self.old.limits (Act.Poll processor cookie) self.old.state result self.new.state }
     {
@@ -276,6 +285,7 @@ impl<A: Allocator> Entry<A> {
     /// Starts a grace period; refused where one runs, or as many have ended as may.
     fn start(&mut self) -> Reply
         ensures limits { self.new.limits ≡ self.old.limits }
+        ensures home { IsSameHome self.old self.new }
         ensures name { self.new.state.name ≡ self.old.state.name }
         ensures does { Does self.old.limits (Act.Start 0) self.old.state result self.new.state }
     {
@@ -289,6 +299,7 @@ impl<A: Allocator> Entry<A> {
     /// Lets the engine work until it has an answer; refused where a grace period is asked for and as many have ended as may.
     fn advance(&mut self) -> Reply
         ensures limits { self.new.limits ≡ self.old.limits }
+        ensures home { IsSameHome self.old self.new }
         ensures name { self.new.state.name ≡ self.old.state.name }
         ensures does { Does self.old.limits (Act.Advance 0) self.old.state result self.new.state }
     {
@@ -301,6 +312,7 @@ impl<A: Allocator> Entry<A> {
     /// Lets the engine make one step; refused as `advance` is.
     fn step(&mut self) -> Reply
         ensures limits { self.new.limits ≡ self.old.limits }
+        ensures home { IsSameHome self.old self.new }
         ensures name { self.new.state.name ≡ self.old.state.name }
         ensures does { Does self.old.limits (Act.Step 0) self.old.state result self.new.state }
     {
@@ -313,6 +325,7 @@ impl<A: Allocator> Entry<A> {
     /// Where the domain stands, as processor 0 finds it.
     fn show(&mut self) -> Reply
         ensures limits { self.new.limits ≡ self.old.limits }
+        ensures home { IsSameHome self.old self.new }
         ensures name { self.new.state.name ≡ self.old.state.name }
         ensures does { Does self.old.limits Act.State self.old.state result self.new.state }
     {
@@ -346,9 +359,10 @@ impl<'a, A: Allocator> Entry<&'a A> {
         handlers: &[Box<dyn Handler>],
         act: Act,
     ) -> Result<Reply, AllocError>
-        requires fits { IsActFor (scene_of (self.old.state ∷ [])) 0 act }
+        requires fits { IsActFor (scene_alone self.old.state) 0 act }
         requires handlers { 16 ≤ length handlers.now }
         ensures limits { self.new.limits ≡ self.old.limits }
+        ensures home { IsSameHome self.old self.new }
         ensures name { self.new.state.name ≡ self.old.state.name }
         ensures does { IfOk result (λ r. Acts (λ value id x. GivesAt (λ h y. answers h 1 value y) handlers.now id x) self.old.limits act self.old.state r self.new.state) }
         ensures err { OnErr result (self.new ≡ self.old) }

@@ -1,6 +1,6 @@
 -- All processors in one hand: how the domain is seen, and what an act of one of them leaves as it was.
 use Rattle.std.proofs.Common.{◌≡◌, ℕ, ◌<◌, List, [], ◌∷◌, length, get_or, set, sym, ap, ◌∙◌, subst, arith, length-set, get_or-set_other, get_or-set_same}
-use Rattle.std.specs.Prelude.{Option, Some, Result, Ok, Err, MatchResult}
+use Rattle.std.specs.Prelude.{Option, Some, Result, Ok, Err, MatchResult, MatchOption, None}
 use mathlib.Core.Logic.{dite}
 use native.Mathlib.Decide.{ℕ_discrete}
 use Rattle.atomic_table.specs.Seated.{TableId}
@@ -25,6 +25,10 @@ use Rattle.solo.specs.Insides.{queued_on, finished_on, lines_on, seen_as, seen_w
 pub either : {T E K : Type 0} {P : T → Type 0} {Q : E → Type 0} (r : Result T E) → MatchResult r P Q → ((x : T) → P x → K) → ((e : E) → Q e → K) → K
 either (Ok x) h ok err = ok x h
 either (Err e) h ok err = err e h
+
+pub either_way : {T K : Type 0} {N : Type 0} {S : T → Type 0} (o : Option T) → MatchOption o N S → (N → K) → ((x : T) → S x → K) → K
+either_way None h none some = none h
+either_way (Some x) h none some = some x h
 
 module _ {J : Type 0} where
   with_lying : (d : DomainView) (limits : Limits) (asked : ℕ) (queued finished : List ℕ) (lines : List (Line J)) (lay : Option View) (v : View) → lay ≡ Some v → seen_with d limits asked queued finished lines lay ≡ seen_as d.tallies limits asked queued finished lines v

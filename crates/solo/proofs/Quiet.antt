@@ -1,6 +1,6 @@
 -- What the calls of a processor for sections, cookies and the number say of the domain in one hand, beside their acts.
 use Rattle.std.proofs.Common.{◌≡◌, ℕ, ◌<◌, ◌≤◌, Bool, false, List, refl, sym, ap, ◌∙◌, subst, arith}
-use Rattle.std.specs.Prelude.{Result, Ok, Err, MatchResult}
+use Rattle.std.specs.Prelude.{Option, Some, None, MatchOption, Result, Ok, Err, MatchResult}
 use Rattle.sseq.specs.declared.index.Index.{Index}
 use Rattle.sseq.specs.Indexes.{low_bit}
 use Rattle.sseq.specs.Numbers.{cookie_at}
@@ -10,6 +10,7 @@ use Rattle.onedom.specs.Histories.{made_by, cookie_after}
 use Rattle.sections.specs.Words.{index_word, number_word, locks}
 use Rattle.sections.specs.Views as sections
 use Rattle.sections.specs.Views.{LookView, ReadingView}
+use Rattle.sections.specs.Sights.{SightView}
 use Rattle.sections.specs.declared.cpu.Exhausted.{Exhausted}
 use Rattle.sections.specs.declared.cpu.NotACookie.{NotACookie}
 use Rattle.sections.specs.Calls.{Begins as Starts, IsSameCpu, Looks, LooksAndBegins, Enters, LooksInVain, IsExhausted, Notes, Asks, IsNoCookie}
@@ -124,3 +125,9 @@ module _ {J : Type 0} where
         → Says t (MatchResult taken (λ done. call.Asks t.p cookie done t.s.course (s' t).course) (λ _. IsNoCookie cookie × (s' t ≡ t.s)))
     poll_says cookie (Ok done) h did = says_does t (asks_whether cookie done) did refl refl
     poll_says cookie (Err x) h did = says t loads did refl refl _ (h.0, still t did)
+
+    -- asked after once, or found done before
+    pub member_says : (found : Option SightView) (cookie : ℕ) (done : Bool) → MatchOption found (ActsAs (asks_whether cookie done) t.was t.now) (λ _. Loaded)
+        → Says t (MatchOption found (call.Asks t.p cookie done t.s.course (s' t).course) (λ _. s' t ≡ t.s))
+    member_says None cookie done did = says_does t (asks_whether cookie done) did refl refl
+    member_says (Some sight) cookie done did = says t loads did refl refl _ (still t did)

@@ -13,3 +13,4 @@ pub mod Chains
 pub mod Notifiers
 pub mod Tables
 pub mod Plugboards
+pub mod Sets

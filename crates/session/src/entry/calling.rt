@@ -2,6 +2,7 @@
 ghost use Rattle.std.specs.Prelude.{◌≡◌, ◌<◌};
 ghost use Rattle.solo.specs.Calls.{HasSameTables};
 ghost use Rattle.session.specs.Batches.{AreBatchesOf};
+ghost use Rattle.session.specs.States.{IsSameHome};
 ghost use Rattle.session.specs.Scripts.{Does, cause_of_taking};
 
 use super::Entry;
@@ -49,6 +50,7 @@ impl<'a, A: Allocator> Entry<&'a A> {
     pub(super) fn call(&mut self, rt: &impl Wait, processor: u64, name: Name) -> Reply
         requires { processor < self.old.state.course.standing.processors }
         ensures limits { self.new.limits ≡ self.old.limits }
+        ensures home { IsSameHome self.old self.new }
         ensures name { self.new.state.name ≡ self.old.state.name }
         ensures does { Does self.old.limits (Act.Call processor name) self.old.state result self.new.state }
     {
@@ -69,6 +71,7 @@ impl<'a, A: Allocator> Entry<&'a A> {
     pub(super) fn run(&mut self, rt: &impl Wait, processor: u64) -> Reply
         requires { processor < self.old.state.course.standing.processors }
         ensures limits { self.new.limits ≡ self.old.limits }
+        ensures home { IsSameHome self.old self.new }
         ensures name { self.new.state.name ≡ self.old.state.name }
         ensures does { Does self.old.limits (Act.Run processor) self.old.state result self.new.state }
     {
@@ -87,6 +90,7 @@ impl<'a, A: Allocator> Entry<&'a A> {
     pub(super) fn take_batch(&mut self, rt: &impl Wait, processor: u64) -> Reply
         requires { processor < self.old.state.course.standing.processors }
         ensures limits { self.new.limits ≡ self.old.limits }
+        ensures home { IsSameHome self.old self.new }
         ensures name { self.new.state.name ≡ self.old.state.name }
         ensures does { Does self.old.limits (Act.Batch processor) self.old.state result self.new.state }
     {
@@ -105,6 +109,7 @@ impl<'a, A: Allocator> Entry<&'a A> {
     pub(super) fn finish_batch(&mut self, rt: &impl Wait, processor: u64) -> Reply
         requires { processor < self.old.state.course.standing.processors }
         ensures limits { self.new.limits ≡ self.old.limits }
+        ensures home { IsSameHome self.old self.new }
         ensures name { self.new.state.name ≡ self.old.state.name }
         ensures does { Does self.old.limits (Act.Finish processor) self.old.state result self.new.state }
     {
@@ -121,6 +126,7 @@ impl<'a, A: Allocator> Entry<&'a A> {
     pub(super) fn segs(&mut self, rt: &impl Wait, processor: u64) -> Reply
         requires { processor < self.old.state.course.standing.processors }
         ensures limits { self.new.limits ≡ self.old.limits }
+        ensures home { IsSameHome self.old self.new }
         ensures name { self.new.state.name ≡ self.old.state.name }
         ensures does { Does self.old.limits (Act.Segs processor) self.old.state result self.new.state }
     {

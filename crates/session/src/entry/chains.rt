@@ -1,6 +1,7 @@
 //! The chain: blocks are registered, and their handlers called.
 ghost use Rattle.std.specs.Prelude.{◌≡◌, ◌<◌, ◌≤◌, length};
 ghost use Rattle.notify.specs.Calling.{GivesAt};
+ghost use Rattle.session.specs.States.{IsSameHome};
 ghost use Rattle.session.specs.Scripts.{Does, CallsChain, cause_of_registering, cause_of_unregistering};
 
 use super::Entry;
@@ -40,6 +41,7 @@ impl<'a, A: Allocator> Entry<&'a A> {
         requires processor { processor < self.old.state.course.standing.processors }
         requires id { id < 16 }
         ensures limits { self.new.limits ≡ self.old.limits }
+        ensures home { IsSameHome self.old self.new }
         ensures name { self.new.state.name ≡ self.old.state.name }
         ensures does { Does self.old.limits (Act.Register processor id priority) self.old.state result self.new.state }
     {
@@ -57,6 +59,7 @@ impl<'a, A: Allocator> Entry<&'a A> {
         requires processor { processor < self.old.state.course.standing.processors }
         requires id { id < 16 }
         ensures limits { self.new.limits ≡ self.old.limits }
+        ensures home { IsSameHome self.old self.new }
         ensures name { self.new.state.name ≡ self.old.state.name }
         ensures does { Does self.old.limits (Act.Unregister processor id) self.old.state result self.new.state }
     {
@@ -70,6 +73,7 @@ impl<'a, A: Allocator> Entry<&'a A> {
     pub(super) fn show_chain(&mut self, processor: u64) -> Reply
         requires { processor < self.old.state.course.standing.processors }
         ensures limits { self.new.limits ≡ self.old.limits }
+        ensures home { IsSameHome self.old self.new }
         ensures name { self.new.state.name ≡ self.old.state.name }
         ensures does { Does self.old.limits (Act.Chain processor) self.old.state result self.new.state }
     {
@@ -92,6 +96,7 @@ impl<'a, A: Allocator> Entry<&'a A> {
         requires processor { processor < self.old.state.course.standing.processors }
         requires handlers { 16 ≤ length handlers.now }
         ensures limits { self.new.limits ≡ self.old.limits }
+        ensures home { IsSameHome self.old self.new }
         ensures name { self.new.state.name ≡ self.old.state.name }
         ensures calls { CallsChain (λ v id x. GivesAt (λ h y. answers h 1 v y) handlers.now id x) self.old.limits processor value self.old.state result self.new.state }
     {

@@ -1,7 +1,7 @@
 //! The table of plug-ins, and leases of its versions under names.
 ghost use Rattle.std.specs.Prelude.{◌≡◌, ◌<◌, [], ◌∷◌, IfOk, OnErr};
 ghost use Rattle.requests.specs.Requests.{IsActFor};
-ghost use Rattle.session.specs.States.{scene_of};
+ghost use Rattle.session.specs.States.{scene_alone, IsSameHome};
 ghost use Rattle.session.specs.Scripts.{Does, plug_told, cause_of_installing, cause_of_removing};
 
 use super::Entry;
@@ -48,6 +48,7 @@ impl<'a, A: Allocator> Entry<&'a A> {
     pub(super) fn install(&mut self, processor: u64, key: u32, plug: u32) -> Reply
         requires { processor < self.old.state.course.standing.processors }
         ensures limits { self.new.limits ≡ self.old.limits }
+        ensures home { IsSameHome self.old self.new }
         ensures name { self.new.state.name ≡ self.old.state.name }
         ensures does { Does self.old.limits (Act.Install processor key plug) self.old.state result self.new.state }
     {
@@ -61,6 +62,7 @@ impl<'a, A: Allocator> Entry<&'a A> {
     pub(super) fn remove(&mut self, processor: u64, key: u32) -> Reply
         requires { processor < self.old.state.course.standing.processors }
         ensures limits { self.new.limits ≡ self.old.limits }
+        ensures home { IsSameHome self.old self.new }
         ensures name { self.new.state.name ≡ self.old.state.name }
         ensures does { Does self.old.limits (Act.Remove processor key) self.old.state result self.new.state }
     {
@@ -74,6 +76,7 @@ impl<'a, A: Allocator> Entry<&'a A> {
     pub(super) fn lookup(&mut self, processor: u64, key: u32) -> Reply
         requires { processor < self.old.state.course.standing.processors }
         ensures limits { self.new.limits ≡ self.old.limits }
+        ensures home { IsSameHome self.old self.new }
         ensures name { self.new.state.name ≡ self.old.state.name }
         ensures does { Does self.old.limits (Act.Lookup processor key) self.old.state result self.new.state }
     {
@@ -85,8 +88,9 @@ impl<'a, A: Allocator> Entry<&'a A> {
 
     /// Leases the version that is current, and gives the lease the name; refused as `lookup` is.
     pub(super) fn lease(&mut self, processor: u64, name: Name) -> Result<Reply, AllocError>
-        requires { IsActFor (scene_of (self.old.state ∷ [])) 0 (Act.Lease processor name) }
+        requires { IsActFor (scene_alone self.old.state) 0 (Act.Lease processor name) }
         ensures limits { self.new.limits ≡ self.old.limits }
+        ensures home { IsSameHome self.old self.new }
         ensures name { self.new.state.name ≡ self.old.state.name }
         ensures does { IfOk result (λ r. Does self.old.limits (Act.Lease processor name) self.old.state r self.new.state) }
         ensures err { OnErr result (self.new ≡ self.old) }
@@ -106,8 +110,9 @@ impl<'a, A: Allocator> Entry<&'a A> {
     /// The plug of a key in the version of a lease. The lease is taken out and laid back: its own place would do, but the
     /// map does not say so, hence the room.
     pub(super) fn read(&mut self, processor: u64, name: Name, key: u32) -> Result<Reply, AllocError>
-        requires { IsActFor (scene_of (self.old.state ∷ [])) 0 (Act.Read processor name key) }
+        requires { IsActFor (scene_alone self.old.state) 0 (Act.Read processor name key) }
         ensures limits { self.new.limits ≡ self.old.limits }
+        ensures home { IsSameHome self.old self.new }
         ensures name { self.new.state.name ≡ self.old.state.name }
         ensures does { IfOk result (λ r. Does self.old.limits (Act.Read processor name key) self.old.state r self.new.state) }
         ensures err { OnErr result (self.new ≡ self.old) }
@@ -121,8 +126,9 @@ impl<'a, A: Allocator> Entry<&'a A> {
 
     /// Ends the section of a lease on a processor. Its name is then free.
     pub(super) fn release(&mut self, processor: u64, name: Name) -> Reply
-        requires { IsActFor (scene_of (self.old.state ∷ [])) 0 (Act.Release processor name) }
+        requires { IsActFor (scene_alone self.old.state) 0 (Act.Release processor name) }
         ensures limits { self.new.limits ≡ self.old.limits }
+        ensures home { IsSameHome self.old self.new }
         ensures name { self.new.state.name ≡ self.old.state.name }
         ensures does { Does self.old.limits (Act.Release processor name) self.old.state result self.new.state }
     {

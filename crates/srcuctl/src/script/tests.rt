@@ -17,6 +17,7 @@ mod chains;
 mod holding;
 mod needs;
 mod periods;
+mod sets;
 mod tables;
 
 const LIMITS: Limits = Limits {

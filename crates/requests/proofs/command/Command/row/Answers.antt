@@ -2,12 +2,12 @@
 use Rattle.std.proofs.Common.{ℕ, ◌+◌, length, sym, ap}
 use Rattle.std.specs.Prelude.{Some, if◌then◌else◌}
 use Rattle.requests.specs.declared.command.Command.{Command}
-use Rattle.requests.specs.Commands.{arguments, command_word, takes_pairs}
+use Rattle.requests.specs.Commands.{arguments, command_word, takes_pairs, takes_members}
 use Rattle.requests.proofs.command.Command.row.Goals as goal
 
 -- how many words stand behind the first one in a line of the command
 abbrev words_behind : Command → ℕ
-words_behind c = length (arguments c) + (if takes_pairs c then 1 else 0)
+words_behind c = length (arguments c) + (if takes_pairs c then 1 else 0) + (if takes_members c then 2 else 0)
 
 pub returns-in-Domain : goal.returns-in-Domain
 returns-in-Domain c =
@@ -167,6 +167,16 @@ returns-in-Read c =
 pub returns-in-Release : goal.returns-in-Release
 returns-in-Release c =
     let is = sym c.in-Release.is in
+    record { word = ap command_word is; found = ap Some is; takes = ap arguments is; form = (ap command_word is, ap words_behind is) }
+
+pub returns-in-Set : goal.returns-in-Set
+returns-in-Set c =
+    let is = sym c.in-Set.is in
+    record { word = ap command_word is; found = ap Some is; takes = ap arguments is; form = (ap command_word is, ap words_behind is) }
+
+pub returns-in-SetPoll : goal.returns-in-SetPoll
+returns-in-SetPoll c =
+    let is = sym c.in-SetPoll.is in
     record { word = ap command_word is; found = ap Some is; takes = ap arguments is; form = (ap command_word is, ap words_behind is) }
 
 pub returns-in-State : goal.returns-in-State
