@@ -4,6 +4,7 @@ pub mod Batches
 pub mod Insides
 pub mod OpenSections
 pub mod States
+pub mod Sets
 pub mod Scripts
 pub mod Entries
 pub mod Sessions

@@ -1,6 +1,6 @@
 -- What a line of a script means: which reply it gets, and what it changes.
 use Rattle.std.specs.Prelude.{◌≡◌, ℕ, ◌*◌, ◌%◌, ◌<◌, ◌≤◌, Bool, true, false, MatchBool, List, [], ◌∷◌, ◌++◌, length, map, filter, replicate, Option, Some, None, slice_get, slice_index, remove, slice_set, if◌then◌else◌, ◌⊎◌, not, bytes_eq}
-use Rattle.std.specs.List.{list_all, list_any}
+use Rattle.std.specs.List.{list_all}
 use Rattle.sseq.specs.declared.index.Index.{Index}
 use Rattle.sseq.specs.declared.index.Index.TheVariants.{Zero, One}
 use Rattle.sseq.specs.declared.number.Phase.{Phase}
@@ -70,7 +70,7 @@ use Rattle.requests.specs.Faults.{fault_of, is_skipped}
 use Rattle.requests.specs.Requests.{WordsAsk}
 use Rattle.requests.specs.Replies.{reply_text}
 use Rattle.session.specs.OpenSections.{open_of}
-use Rattle.session.specs.States.{State, Domains, DomainState, SetState, Member, domain_place, Bearer, Look, Reading, Held, Ticket, Lease, Parked, JobList, Slots, chain_now, table_now, Becomes, bearer_at, scene_of}
+use Rattle.session.specs.States.{State, Domains, DomainState, SetState, Member, has_cookie_of, domain_place, Bearer, Look, Reading, Held, Ticket, Lease, Parked, JobList, Slots, chain_now, table_now, Becomes, bearer_at, scene_of}
 
 -- a job that was queued, with its name and its cookie
 abbrev pub Job : Type 0
@@ -496,10 +496,6 @@ IsInUse c (Sections n) = IsInUseFor c (busy.Sections n)
 IsInUse c Period = IsInUseFor c busy.Period
 IsInUse c (Callbacks n) = IsInUseFor c (busy.Callbacks n)
 IsInUse c other = ⊥
-
--- a cookie of the set is of the domain of this name
-abbrev pub has_cookie_of : List ℕ → SetState → Bool
-has_cookie_of name set = list_any (λ m. bytes_eq m.domain name) set.members
 
 -- the domain at the place isn't in use, and goes, with all names there, and so does each set that has a cookie of it. The other domains and sets stay in their order
 pub record CleansUp (state : State) (place : ℕ) (r : Reply) (state' : State) : Type 0 where

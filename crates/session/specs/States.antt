@@ -1,6 +1,7 @@
 -- The state of a script: its domains, each with the names in use there, what lies on its desk, the list of each processor, its chain and its table; and its sets of cookies.
 use Rattle.std.specs.Prelude.{◌≡◌, ◌≢◌, ℕ, Bool, false, if◌then◌else◌, List, [], ◌∷◌, Option, Some, None, map, position, option_map, option_and_then, slice_get, bytes_eq}
 use Rattle.std.specs.Option.{option_map_or}
+use Rattle.std.specs.List.{list_any}
 use Rattle.std.specs.Map.{lookup}
 use Rattle.atomic_table.specs.Seated.{TableId}
 use Rattle.sseq.specs.declared.index.Index.{Index}
@@ -87,6 +88,10 @@ pub record Member : Type 0 where
 pub record SetState : Type 0 where
   pub name : List ℕ
   pub members : List Member
+
+-- a cookie of the set is of the domain of this name
+abbrev pub has_cookie_of : List ℕ → SetState → Bool
+has_cookie_of name set = list_any (λ m. bytes_eq m.domain name) set.members
 
 -- the domains, and the sets, in the order in which they were made
 pub record State : Type 0 where

@@ -18,7 +18,7 @@ impl<'a, A: Allocator, R: Wait> Answers<&'a A> for Answerer<'_, '_, &'a A, R> {
     ghost use Rattle.notify.specs.Calling.{GivesAt};
     ghost use Rattle.session.specs.Scripts.{LineGives};
 
-    ghost gives = { λ s number line reply faulty s'. LineGives (λ value id x. GivesAt (λ h y. (Handler-box h).answers h.value 1 value y) s.handlers.now id x) s.session.limits s.session.domains number line reply faulty s'.session.domains × (s'.session.limits ≡ s.session.limits) × (s'.handlers ≡ s.handlers) };
+    ghost gives = { λ s number line reply faulty s'. LineGives (λ value id x. GivesAt (λ h y. (Handler-box h).answers h.value 1 value y) s.handlers.now id x) s.session.limits s.session.state number line reply faulty s'.session.state × (s'.session.limits ≡ s.session.limits) × (s'.handlers ≡ s.handlers) };
 
     fn answer(
         &mut self,

@@ -9,7 +9,7 @@ use std::sync::Wait;
 impl<A: Allocator, R: Wait> Scene for Session<'_, A, R> {
     ghost use Rattle.session.specs.States.{scene_of};
 
-    ghost scene = { λ s. scene_of s.domains };
+    ghost scene = { λ s. scene_of s.state };
 
     fn place_of(&self, domain: &[u8]) -> Option<usize> {
         place_of(&self.entries, domain)

@@ -5,7 +5,7 @@ ghost use Rattle.sections.specs.Limits.{AreInRange};
 ghost use Rattle.requests.specs.Replies.{reply_text};
 ghost use Rattle.requests.specs.Requests.{IsFor};
 ghost use Rattle.notify.specs.Calling.{GivesAt};
-ghost use Rattle.session.specs.States.{scene_of};
+ghost use Rattle.session.specs.States.{scene_of, nothing_yet};
 ghost use Rattle.session.specs.Scripts.{Makes, MakesNone, CleansUp, CleansNone, LineGives, Answers as AnswersTo};
 
 use crate::entry::Entry;
@@ -59,7 +59,7 @@ impl<'r, 'a, A: Allocator, R: Wait> Session<'r, &'a A, R> {
     pub fn new(alloc: &'a A, rt: &'r R, limits: Limits) -> Session<'r, &'a A, R>
         requires limits { AreInRange limits }
         requires cells { limits.cells ≡ 2 }
-        ensures { result ≡ record { limits = limits; domains = [] } }
+        ensures { result ≡ record { limits = limits; state = nothing_yet } }
     {
         Session {
             alloc,
@@ -76,10 +76,10 @@ impl<'r, 'a, A: Allocator, R: Wait> Session<'r, &'a A, R> {
         handlers: &[Box<dyn Handler>],
         request: Request,
     ) -> Result<Reply, AllocError>
-        requires request { IsFor (scene_of self.old.domains) request }
+        requires request { IsFor (scene_of self.old.state) request }
         requires handlers { 16 ≤ length handlers.now }
         ensures limits { self.new.limits ≡ self.old.limits }
-        ensures ok { IfOk result (λ r. AnswersTo (λ value id x. GivesAt (λ h y. answers h 1 value y) handlers.now id x) self.old.limits self.old.domains request r self.new.domains) }
+        ensures ok { IfOk result (λ r. AnswersTo (λ value id x. GivesAt (λ h y. answers h 1 value y) handlers.now id x) self.old.limits self.old.state request r self.new.state) }
     {
         match request {
             Request::Domain { name, processors } => self.make(name, processors),
@@ -93,8 +93,9 @@ impl<'r, 'a, A: Allocator, R: Wait> Session<'r, &'a A, R> {
     /// Makes a domain, unless a cause stands against it. Where memory for the session is refused, nothing is done.
     fn make(&mut self, name: Name, processors: u64) -> Result<Reply, AllocError>
         ensures limits { self.new.limits ≡ self.old.limits }
-        ensures ok { IfOk result (λ r. Makes self.old.limits self.old.domains name processors r self.new.domains
-            ⊎ MakesNone self.old.domains processors r self.new.domains) }
+        ensures ok { IfOk result (λ r. Makes self.old.limits self.old.state.domains name processors r self.new.state.domains
+            ⊎ MakesNone self.old.state.domains processors r self.new.state.domains) }
+        ensures sets { self.new.state.sets ≡ self.old.state.sets }
         ensures err { OnErr result (self.new ≡ self.old) }
     {
         if self.entries.len() >= MOST_DOMAINS {
@@ -124,10 +125,10 @@ impl<'r, 'a, A: Allocator, R: Wait> Session<'r, &'a A, R> {
     /// Takes the domain at a place down, which is then gone, and so are all names in it; refused, with nothing done, where
     /// it is in use.
     fn cleanup(&mut self, place: usize) -> Reply
-        requires { place < length self.old.domains }
+        requires { place < length self.old.state.domains }
         ensures limits { self.new.limits ≡ self.old.limits }
-        ensures cleans { CleansUp self.old.domains place result self.new.domains
-            ⊎ CleansNone self.old.domains place result self.new.domains }
+        ensures cleans { CleansUp self.old.state place result self.new.state
+            ⊎ CleansNone self.old.state place result self.new.state }
     {
         let entry = self.entries.remove(place);
         let name = entry.name();
@@ -159,7 +160,7 @@ impl<'r, 'a, A: Allocator, R: Wait> Session<'r, &'a A, R> {
         requires reply { reply.old.items ≡ [] }
         requires handlers { 16 ≤ length handlers.now }
         ensures limits { self.new.limits ≡ self.old.limits }
-        ensures gives { IfOk result (λ faulty. LineGives (λ value id x. GivesAt (λ h y. answers h 1 value y) handlers.now id x) self.old.limits self.old.domains number (option_copied line.entry) reply.new.items faulty self.new.domains) }
+        ensures gives { IfOk result (λ faulty. LineGives (λ value id x. GivesAt (λ h y. answers h 1 value y) handlers.now id x) self.old.limits self.old.state number (option_copied line.entry) reply.new.items faulty self.new.state) }
     {
         let Some(line) = line else {
             return faulty(number, Fault::Text, reply);

@@ -1,12 +1,17 @@
 //! Sets of cookies, and where each cookie is asked after.
-ghost use Rattle.std.specs.Prelude.{◌≡◌, ◌<◌, ◌≤◌, [], ◌∷◌, ◌++◌, length};
+ghost use Rattle.std.specs.Prelude.{◌≡◌, ◌<◌, ◌↔◌, [], ◌∷◌, ◌++◌, length, All, IsTrue, bytes_eq, slice_get, Some};
+ghost use Rattle.std.specs.List.{list_any};
+ghost use Rattle.sections.specs.Sets.{unfound, IsDoneThere};
+ghost use Rattle.session.specs.States.{has_cookie_of};
+ghost use Rattle.session.specs.Sets.{set_of};
 
 use arrayvec::ArrayVec;
 use domain::CookieSet;
 use lines::Name;
 use sections::{Cookie, MOST_MEMBERS};
+use std::marker::Model;
 
-/// Where a member of a set is asked after.
+/// Where a cookie of a set is asked after.
 #[derive(Clone, Copy)]
 pub struct Place {
     /// The name of its domain.
@@ -14,7 +19,7 @@ pub struct Place {
     pub processor: u64,
 }
 
-/// What fills a place where no member is.
+/// What fills a place where no cookie is asked after.
 impl Default for Place {
     fn default() -> Self {
         Place {
@@ -29,8 +34,19 @@ impl Default for Place {
 pub struct NamedSet {
     name: Name,
     pub(crate) set: CookieSet,
-    /// Of each member, in order.
+    /// Of each cookie, in order.
     places: ArrayVec<Place, MOST_MEMBERS>,
+}
+
+impl Model for NamedSet {
+    ghost use Rattle.std.specs.Prelude.{◌≡◌, length};
+    ghost use Rattle.session.specs.Sets.{SetView};
+
+    ghost Value = { SetView };
+
+    ghost view = { λ k. record { name = k.name; places = k.places.items; members = k.set } };
+
+    ghost invariant = { λ k. length k.places.items ≡ length k.set };
 }
 
 /// What fills a place where no set is.
@@ -41,8 +57,10 @@ impl Default for NamedSet {
 }
 
 impl NamedSet {
-    /// A set without members.
-    pub fn new(name: Name) -> NamedSet {
+    /// A set without cookies.
+    pub fn new(name: Name) -> NamedSet
+        ensures { result ≡ record { name = name; places = []; members = [] } }
+    {
         NamedSet {
             name,
             set: CookieSet::new(),
@@ -51,30 +69,49 @@ impl NamedSet {
     }
 
     /// Whether the set has this name.
-    pub fn is_named(&self, word: &[u8]) -> bool {
+    pub fn is_named(&self, word: &[u8]) -> bool
+        ensures { result ≡ bytes_eq self.now.name word.now }
+    {
         self.name.is(word)
     }
 
-    /// Takes a member in, which is asked after there. It has fewer than eight.
-    pub fn add(&mut self, place: Place, cookie: Cookie) {
+    /// Takes a cookie in, which is asked after there. It has fewer than eight.
+    pub fn add(&mut self, place: Place, cookie: Cookie)
+        requires { length self.old.members < 8 }
+        ensures { self.new ≡ record self.old { places = self.old.places ++ place ∷ []; members = self.old.members ++ unfound cookie ∷ [] } }
+    {
         let Ok(_place) = self.set.add(cookie) else {
             unreachable!()
         };
         self.places.push(place);
     }
 
-    /// How many members it has.
-    pub fn len(&self) -> usize {
-        self.places.len()
+    /// How many cookies it has.
+    pub fn len(&self) -> usize
+        ensures { result ≡ length self.now.members }
+    {
+        self.set.len()
     }
 
-    /// Where the member at this place is asked after.
-    pub fn place(&self, at: usize) -> Place {
+    /// Where the cookie at this place is asked after.
+    pub fn place(&self, at: usize) -> Place
+        requires { at < length self.now.members }
+        ensures { slice_get self.now.places at ≡ Some result }
+    {
         self.places.as_slice()[at]
     }
 
-    /// Whether a member is of the domain of this name.
-    pub fn is_of(&self, domain: &[u8]) -> bool {
+    /// Whether each cookie was found done.
+    pub fn done(&self) -> bool
+        ensures { IsTrue result ↔ All IsDoneThere self.now.members }
+    {
+        self.set.done()
+    }
+
+    /// Whether a cookie is of the domain of this name.
+    pub fn is_of(&self, domain: &[u8]) -> bool
+        ensures { result ≡ has_cookie_of domain.now (set_of self.now) }
+    {
         self.places
             .as_slice()
             .iter()
