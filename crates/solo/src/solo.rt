@@ -176,10 +176,7 @@ impl<J: Drop, A: Allocator> Solo<J, A> {
         ensures asks { AsksFor processor result self.old.course self.new.course }
         ensures small { result ≤ 2 ^ 61 }
     {
-        let cpu = &mut self.members.cpus[processor as usize];
-        let cookie = self.members.domain.start_poll(cpu);
-        self.members.settle();
-        cookie.number()
+        self.start_poll(processor).number()
     }
 
     /// Whether the cookie of this number is done, as a processor finds it (`poll_state_synchronize_srcu`); refused,

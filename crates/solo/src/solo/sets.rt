@@ -9,7 +9,7 @@ use domain::CookieSet;
 use sections::Cookie;
 use std::alloc::Allocator;
 
-impl<J: Drop, A: Allocator + Copy> Solo<J, A> {
+impl<J: Drop, A: Allocator> Solo<J, A> {
     /// Gives a processor a cookie of now, and asks for a grace period up to it, from the processor's leaf of the tree upward
     /// (`start_poll_synchronize_srcu`). The engine starts one once it finds the need.
     pub fn start_poll(&mut self, processor: u64) -> Cookie
