@@ -1,6 +1,6 @@
 -- Words that are read as members, two by two.
 use Rattle.std.proofs.Common.{◌≡◌, ℕ, ◌+◌, ◌-◌, ◌*◌, ◌<◌, ◌≤◌, List, [], ◌∷◌, ◌++◌, length, take, drop, get_or, set, arith, true, false, refl, sym, ap, ◌∙◌, append_assoc, subst}
-use Rattle.std.specs.Prelude.{Option, Some, None, replicate, All, ◌==◌}
+use Rattle.std.specs.Prelude.{Some, None, replicate, All, ◌==◌}
 use Rattle.std.specs.Borrow.{Bor}
 use Rattle.std.proofs.lemmas.List.{append-nil, length-append, take_rest, length-set, drop-replicate, drop-set-lt, drop-drop}
 use Rattle.std.proofs.lemmas.Bool.{true≢false, eqb-true}

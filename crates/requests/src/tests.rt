@@ -1,6 +1,7 @@
 mod chains;
 mod commands;
 mod jobs;
+mod sets;
 mod stage;
 mod tables;
 mod tickets;

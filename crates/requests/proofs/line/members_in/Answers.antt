@@ -1,8 +1,7 @@
-use Rattle.std.proofs.Common.{ap, sym, ◌∙◌, rules, length, arith}
+use Rattle.std.proofs.Common.{sym, ◌∙◌}
 use Rattle.std.proofs.lemmas.Result.{err_from_is_err_and}
-use Rattle.std.proofs.lemmas.List.{length-map}
 use Rattle.requests.specs.Faults.{texts}
-use Rattle.requests.proofs.Joining.{word, two_words, one_word, no_word, none_read, room_left, wrong_member, one_more_member, all_read, half_left}
+use Rattle.requests.proofs.Joining.{word, two_words, one_word, no_word, none_read, wrong_member, one_more_member, all_read, half_left}
 use Rattle.requests.proofs.line.members_in.Goals as goal
 
 pub loop-left-init : goal.loop-left-init
