@@ -271,9 +271,10 @@ module _ {A : Type 0} (own : List ℕ) (tokens : List (List ℕ × NamedToken A)
     apart = subst (λ o. IfSome o (λ (named : Named). token_at named.0 tokens ≡ None)) (sym nothing_parked) tt;
   }
 
-  pub new_entry : (s : ChainState) (b : TableState) → IsNewChain d s → IsNewTable d b → entry_with (chain_now s) (table_now b) own tokens q.parked d' ≡ record { limits = d.limits; state = new_domain d.limits own d.course.standing.processors }
+  pub new_entry : (s : ChainState) (b : TableState) → IsNewChain d s → IsNewTable d b → entry_with (chain_now s) (table_now b) own tokens q.parked d' ≡ record { limits = d.limits; table = d.table; state = new_domain d.limits own d.course.standing.processors }
   new_entry s b chain table = λ i. record {
     limits = (same i).limits;
+    table = (same i).table;
     state = record {
       name = own;
       names = names_of (none i);

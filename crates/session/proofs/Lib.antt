@@ -3,6 +3,7 @@ mod Answering
 mod Batches
 mod Callbacks
 mod Changing
+mod Cookies
 mod Finding
 mod Held
 mod Holding

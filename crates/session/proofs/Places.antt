@@ -1,6 +1,6 @@
 -- Places of domains, and what is there.
 use Rattle.std.proofs.Common.{◌≡◌, ℕ, ◌+◌, ◌<◌, zero, suc, Bool, true, false, cond, not, List, [], ◌∷◌, length, map, get_or, set, refl, sym, ap, ◌∙◌, subst, arith}
-use Rattle.std.specs.Prelude.{Option, Some, None, nat_lt, insert, remove, take, drop, slice_get, option_map, option_and_then, position, bytes_eq, All}
+use Rattle.std.specs.Prelude.{Option, Some, None, nat_lt, filter, insert, remove, take, drop, slice_get, option_map, option_and_then, position, bytes_eq, All}
 use Rattle.std.specs.Option.{option_map_or}
 use Rattle.std.specs.List.{prefix_len, position_or_len}
 use Rattle.std.proofs.lemmas.Option.{slice_get-map, slice_get_read}
@@ -18,7 +18,7 @@ use Rattle.requests.specs.declared.reply.Reply.{Reply}
 use Rattle.requests.specs.declared.reply.Reply.TheVariants as reply
 use Rattle.requests.specs.declared.scene.Kind.{Kind}
 use Rattle.requests.specs.Requests.{IsActFor}
-use Rattle.session.specs.States.{State, DomainState, EntryView, states_of, kind_at, domain_place, scene_of}
+use Rattle.session.specs.States.{Domains, DomainState, SetState, EntryView, states_of, kind_at, domain_place, set_place, has_cookie_of, scene_with, scene_alone}
 use Rattle.domain.specs.declared.domain.cleanup.Totals.{Totals}
 use Rattle.solo.specs.Cleanup.{IsTakenDown}
 use Rattle.session.specs.Scripts.{Acts, Answers, IsInUse, CleansUp, CleansNone}
@@ -27,7 +27,7 @@ prefix-map : {X Y : Type 0} (p : Y → Bool) (f : X → Y) (xs : List X) → pre
 prefix-map p f [] = refl
 prefix-map p f (x ∷ xs) = ap (λ n. cond (p (f x)) (1 + n) 0) (prefix-map p f xs)
 
-position-map : {X Y : Type 0} (p : Y → Bool) (f : X → Y) (xs : List X) → position p (map f xs) ≡ position (λ x. p (f x)) xs
+pub position-map : {X Y : Type 0} (p : Y → Bool) (f : X → Y) (xs : List X) → position p (map f xs) ≡ position (λ x. p (f x)) xs
 position-map p f xs =
     ap (λ n. cond (nat_lt n (length (map f xs))) (Some n) None) (prefix-map (λ y. not (p y)) f xs)
     ∙ ap (λ m. cond (nat_lt (position_or_len (λ x. p (f x)) xs) m) (Some (position_or_len (λ x. p (f x)) xs)) None) (length-map xs f)
@@ -47,9 +47,13 @@ pub domain_place_within : (w : List ℕ) (entries : List EntryView) (k : ℕ) �
 domain_place_within w entries k h = position_within (λ e. bytes_eq e.state.name w) entries k (domain_place_is w entries ∙ h)
 
 -- there is a domain at the place of a name
-pub place_within : (w : List ℕ) (state : State) (k : ℕ) → domain_place w state ≡ Some k → k < length state
+pub place_within : (w : List ℕ) (domains : Domains) (k : ℕ) → domain_place w domains ≡ Some k → k < length domains
 unfolding domain_place
-place_within w state k h = position_within (λ (d : DomainState). bytes_eq d.name w) state k h
+place_within w domains k h = position_within (λ (d : DomainState). bytes_eq d.name w) domains k h
+
+-- and a set at the place of a set's
+pub set_within : (w : List ℕ) (sets : List SetState) (k : ℕ) → set_place w sets ≡ Some k → k < length sets
+set_within w sets k h = position_within (λ (s : SetState). bytes_eq s.name w) sets k h
 
 -- the state of an entry is where the entry is
 pub state_there : (entries : List EntryView) (k : ℕ) (e : EntryView) → k < length entries → e ≡ get_or entries k e → slice_get (states_of entries) k ≡ Some e.state
@@ -57,21 +61,21 @@ state_there entries k e h is = slice_get-map (λ (x : EntryView). x.state) entri
 
 -- What is there at a place
 
-module _ (state : State) (place : ℕ) (d : DomainState) (at : slice_get state place ≡ Some d) where
-  pub processors_there : (scene_of state).processors_of place ≡ d.course.standing.processors
+module _ (domains : Domains) (sets : List SetState) (place : ℕ) (d : DomainState) (at : slice_get domains place ≡ Some d) where
+  pub processors_there : (scene_with domains sets).processors_of place ≡ d.course.standing.processors
   processors_there = ap (λ o. option_map_or (λ (x : DomainState). x.course.standing.processors) o 0) at
 
-  pub kind_there : (name : List ℕ) → (scene_of state).kind_of place name ≡ kind_at name d
+  pub kind_there : (name : List ℕ) → (scene_with domains sets).kind_of place name ≡ kind_at name d
   kind_there name = ap (option_and_then (λ (x : DomainState). kind_at name x)) at
 
-  small : (p : ℕ) → p < (scene_of state).processors_of place → p < d.course.standing.processors
+  small : (p : ℕ) → p < (scene_with domains sets).processors_of place → p < d.course.standing.processors
   small p h = subst (λ n. p < n) processors_there h
 
-  kind_is : (name : List ℕ) (k : Option Kind) → (scene_of state).kind_of place name ≡ k → kind_at name d ≡ k
+  kind_is : (name : List ℕ) (k : Option Kind) → (scene_with domains sets).kind_of place name ≡ k → kind_at name d ≡ k
   kind_is name k h = sym (kind_there name) ∙ h
 
   -- what an act can rely on there
-  pub fits_there : (a : Act) → IsActFor (scene_of state) place a → IsActFor (scene_of (d ∷ [])) 0 a
+  pub fits_there : (a : Act) → IsActFor (scene_with domains sets) place a → IsActFor (scene_alone d) 0 a
   fits_there act.State h = h
   fits_there (act.Look p name) h = (small p h.0, kind_is name _ h.1)
   fits_there (act.Enter p name) h = (small p h.0, kind_is name _ h.1)
@@ -110,13 +114,14 @@ module _ (state : State) (place : ℕ) (d : DomainState) (at : slice_get state p
 pub same_limits : (limits : Limits) (entries : List EntryView) (k : ℕ) (e : EntryView) → k < length entries → e ≡ get_or entries k e → All (λ (x : EntryView). x.limits ≡ limits) entries → e.limits ≡ limits
 same_limits limits entries k e within is same = ap (λ (x : EntryView). x.limits) is ∙ All-get_or (λ (x : EntryView). x.limits ≡ limits) entries k e within same
 
-pub answered : (gives : ℕ → ℕ → ℕ → Type 0) (limits : Limits) (entries : List EntryView) (k : ℕ) (e e' : EntryView) (a : Act) (r : Reply) → k < length entries → e ≡ get_or entries k e → All (λ (x : EntryView). x.limits ≡ limits) entries
-    → e'.state.name ≡ e.state.name → Acts gives e.limits a e.state r e'.state → Answers gives limits (states_of entries) (request.On k a) r (states_of (set entries k e'))
-answered gives limits entries k e e' a r within is all same does = (
+pub answered : (gives : ℕ → ℕ → ℕ → Type 0) (limits : Limits) (entries : List EntryView) (sets : List SetState) (k : ℕ) (e e' : EntryView) (a : Act) (r : Reply) → k < length entries → e ≡ get_or entries k e → All (λ (x : EntryView). x.limits ≡ limits) entries
+    → e'.state.name ≡ e.state.name → Acts gives e.limits a e.state r e'.state → Answers gives limits (record { domains = states_of entries; sets = sets }) (request.On k a) r (record { domains = states_of (set entries k e'); sets = sets })
+answered gives limits entries sets k e e' a r within is all same does = (
   e.state,
   e'.state,
   record { there = state_there entries k e within is; same = same; others = map-set (λ (x : EntryView). x.state) entries k e' },
   subst (λ l. Acts gives l a e.state r e'.state) (same_limits limits entries k e within is all) does,
+  refl,
 )
 
 -- A domain is taken down
@@ -136,8 +141,9 @@ limits_without limits entries k same =
     All-append P (take k entries) (drop (suc k) entries) (All-take P k entries same) (All-drop P (suc k) entries same)
 
 module _ (entries : List EntryView) (k : ℕ) (e : EntryView) (within : k < length entries) (is : e ≡ get_or entries k e) where
-  pub cleaned : (totals : Totals) → IsTakenDown e.state.course totals → CleansUp (states_of entries) k (reply.Cleaned totals.opened totals.closed) (states_of (remove entries k))
-  cleaned totals down = record { domain = e.state; totals = totals; there = state_there entries k e within is; taken_down = down; gone = states_without entries k; reply = refl }
+  pub cleaned : (sets sets' : List SetState) (totals : Totals) → IsTakenDown e.state.course totals → sets' ≡ filter (λ (s : SetState). not (has_cookie_of e.state.name s)) sets
+      → CleansUp (record { domains = states_of entries; sets = sets }) k (reply.Cleaned totals.opened totals.closed) (record { domains = states_of (remove entries k); sets = sets' })
+  cleaned sets sets' totals down kept = record { domain = e.state; totals = totals; there = state_there entries k e within is; taken_down = down; gone = states_without entries k; sets = kept; reply = refl }
 
-  pub not_cleaned : (why : Cause) → IsInUse e.state.course why → CleansNone (states_of entries) k (reply.Refused command.Cleanup why) (states_of entries)
-  not_cleaned why in_use = record { domain = e.state; there = state_there entries k e within is; cause = why; in_use = in_use; after = refl; reply = refl }
+  pub not_cleaned : (sets : List SetState) (why : Cause) → IsInUse e.state.course why → CleansNone (record { domains = states_of entries; sets = sets }) k (reply.Refused command.Cleanup why) (record { domains = states_of entries; sets = sets })
+  not_cleaned sets why in_use = record { domain = e.state; there = state_there entries k e within is; cause = why; in_use = in_use; after = refl; reply = refl }

@@ -1,5 +1,5 @@
 -- What a line of a script means: which reply it gets, and what it changes.
-use Rattle.std.specs.Prelude.{◌≡◌, ℕ, ◌*◌, ◌%◌, ◌<◌, ◌≤◌, Bool, true, false, MatchBool, List, [], ◌∷◌, ◌++◌, length, map, filter, replicate, Option, Some, None, slice_get, slice_index, remove, slice_set, if◌then◌else◌, ◌⊎◌, not, bytes_eq}
+use Rattle.std.specs.Prelude.{◌≡◌, ℕ, ◌*◌, ◌%◌, ◌<◌, ◌≤◌, Bool, true, false, MatchBool, List, [], ◌∷◌, ◌++◌, length, map, filter, replicate, Option, Some, None, slice_get, slice_index, remove, slice_set, if◌then◌else◌, ◌⊎◌, not}
 use Rattle.std.specs.List.{list_all}
 use Rattle.sseq.specs.declared.index.Index.{Index}
 use Rattle.sseq.specs.declared.index.Index.TheVariants.{Zero, One}
@@ -560,7 +560,7 @@ pub record AsksAfter (domains : Domains) (m m' : Member) (domains' : Domains) : 
 
 -- where it was found done before, nothing is done
 abbrev pub PollsOne : Domains → Member → Member → Domains → Type 0
-PollsOne domains m m' domains' = if m.found then (m' ≡ m) × (domains' ≡ domains) else AsksAfter domains m m' domains'
+PollsOne domains m m' domains' = MatchBool m.found ((m' ≡ m) × (domains' ≡ domains)) (AsksAfter domains m m' domains')
 
 -- each member, in order
 abbrev pub PollInTurn : Domains → List Member → List Member → Domains → Type 0

@@ -3,7 +3,7 @@ use Rattle.std.specs.Prelude.{◌≡◌, All}
 use Rattle.sections.specs.Limits.{AreInRange}
 use Rattle.session.specs.declared.session.Session.TheInside as session
 use Rattle.session.specs.States.{EntryView, SessionView, states_of}
-use Rattle.session.specs.Sets.{SetView, sets_of, homes_of, AreHere}
+use Rattle.session.specs.Sets.{sets_of, AreAllHere}
 
 module _ {A R : Type 0} where
   abbrev pub view_of_session : session.Inside A R → SessionView
@@ -13,4 +13,4 @@ module _ {A R : Type 0} where
     pub in_range : AreInRange s.limits
     pub cells : s.limits.cells ≡ 2
     pub same : All (λ (e : EntryView). e.limits ≡ s.limits) s.entries.items
-    pub here : All (λ (k : SetView). AreHere (homes_of s.entries.items) k.places k.members) s.sets.items
+    pub here : AreAllHere s.entries.items s.sets.items

@@ -1,5 +1,5 @@
 -- How a set of a session is seen, and where its cookies are asked after.
-use Rattle.std.specs.Prelude.{◌≡◌, ℕ, ◌<◌, List, [], ◌∷◌, map, find, Option, Some, is_some, slice_get, bytes_eq}
+use Rattle.std.specs.Prelude.{◌≡◌, ℕ, ◌<◌, List, [], ◌∷◌, All, map, find, Some, is_some, slice_get, bytes_eq}
 use Rattle.atomic_table.specs.Seated.{TableId}
 use Rattle.sections.specs.declared.limits.Limits.{Limits}
 use Rattle.sections.specs.Sets.{MemberView}
@@ -53,8 +53,13 @@ AreHere homes [] [] = Unit {0}
 AreHere homes (p ∷ places) (m ∷ members) = IsHere homes p m × AreHere homes places members
 AreHere homes _ _ = ⊥
 
--- a domain is at the place, and the processor is one of it
+-- so are all cookies of all sets
+abbrev pub AreAllHere : List EntryView → List SetView → Type 0
+AreAllHere entries sets = All (λ k. AreHere (homes_of entries) k.places k.members) sets
+
+-- a domain is at the place, the first one of its name, and the processor is one of it
 pub record IsAskable (homes : List Home) (a : Asked) : Type 0 where
   pub home : Home
   pub there : slice_get homes a.domain ≡ Some home
+  pub first : find (λ h. bytes_eq h.name home.name) homes ≡ Some home
   pub small : a.processor < home.processors

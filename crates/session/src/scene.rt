@@ -16,7 +16,10 @@ impl<A: Allocator, R: Wait> Scene for Session<'_, A, R> {
     }
 
     fn set_of(&self, set: &[u8]) -> Option<usize> {
-        self.sets.as_slice().iter().position(|known| known.is_named(set))
+        self.sets
+            .as_slice()
+            .iter()
+            .position(|known| known.is_named(set))
     }
 
     fn processors_of(&self, place: usize) -> u64 {

@@ -1,14 +1,18 @@
 //! Sets of cookies, and where each cookie is asked after.
-ghost use Rattle.std.specs.Prelude.{◌≡◌, ◌<◌, ◌↔◌, [], ◌∷◌, ◌++◌, length, All, IsTrue, bytes_eq, slice_get, Some};
+ghost use Rattle.std.specs.Prelude.{◌≡◌, ◌<◌, [], ◌∷◌, ◌++◌, length, MatchOption, bytes_eq, slice_get, Some};
 ghost use Rattle.std.specs.List.{list_any};
-ghost use Rattle.sections.specs.Sets.{unfound, IsDoneThere};
-ghost use Rattle.session.specs.States.{has_cookie_of};
+ghost use Rattle.sections.specs.Sets.{unfound, IsPlacedIn, member_at, cookies_of};
+ghost use Rattle.solo.specs.Calls.{Asks};
+ghost use Rattle.solo.specs.Sets.{PollsMember};
+ghost use Rattle.session.specs.States.{IsSameHome, has_cookie_of};
 ghost use Rattle.session.specs.Sets.{set_of};
 
+use crate::entry::Entry;
 use arrayvec::ArrayVec;
 use domain::CookieSet;
 use lines::Name;
 use sections::{Cookie, MOST_MEMBERS};
+use std::alloc::Allocator;
 use std::marker::Model;
 
 /// Where a cookie of a set is asked after.
@@ -33,7 +37,7 @@ impl Default for Place {
 #[derive(Drop)]
 pub struct NamedSet {
     name: Name,
-    pub(crate) set: CookieSet,
+    set: CookieSet,
     /// Of each cookie, in order.
     places: ArrayVec<Place, MOST_MEMBERS>,
 }
@@ -101,11 +105,21 @@ impl NamedSet {
         self.places.as_slice()[at]
     }
 
-    /// Whether each cookie was found done.
-    pub fn done(&self) -> bool
-        ensures { IsTrue result ↔ All IsDoneThere self.now.members }
+    /// Whether the cookie at this place is done, as a processor of its domain finds it; where it was found done before,
+    /// nothing has changed.
+    pub fn poll<A: Allocator>(&mut self, at: usize, processor: u64, entry: &mut Entry<&A>) -> bool
+        requires processor { processor < entry.old.state.course.standing.processors }
+        requires member { IsPlacedIn entry.old.table at (cookies_of self.old.members) }
+        ensures set { self.new ≡ record self.old { members = self.new.members } }
+        ensures polls { PollsMember at result self.old.members self.new.members }
+        ensures limits { entry.new.limits ≡ entry.old.limits }
+        ensures home { IsSameHome entry.old entry.new }
+        ensures rest { entry.new.state ≡ record entry.old.state { course = entry.new.state.course } }
+        ensures answer { MatchOption (member_at at self.old.members).found
+            (Asks processor (member_at at self.old.members).cookie.number result entry.old.state.course entry.new.state.course)
+            (λ _. entry.new ≡ entry.old) }
     {
-        self.set.done()
+        entry.poll_member(processor, &mut self.set, at)
     }
 
     /// Whether a cookie is of the domain of this name.

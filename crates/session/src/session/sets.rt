@@ -17,10 +17,15 @@ use std::sync::Wait;
 
 /// Gives a cookie on each of these processors, and asks for its grace period, in order. The set gets the cookies. The answer
 /// is their numbers.
-fn ask_in_turn<A: Allocator>(entries: &mut [Entry<&A>], asked: &[Member], made: &mut NamedSet) -> BlockIds
+fn ask_in_turn<A: Allocator>(
+    entries: &mut [Entry<&A>],
+    asked: &[Member],
+    made: &mut NamedSet,
+) -> BlockIds
     requires few { length asked.now ≤ 8 }
     requires there { All (IsAskable (homes_of entries.old)) asked.now }
-    requires empty { made.old.members ≡ [] }
+    requires places { made.old.places ≡ [] }
+    requires members { made.old.members ≡ [] }
     ensures asks { AskInTurn (states_of entries.old) asked.now (members_of made.new.places made.new.members) (states_of entries.new) }
     ensures numbers { result ≡ map (λ m. m.cookie) (members_of made.new.places made.new.members) }
     ensures homes { homes_of entries.new ≡ homes_of entries.old }
@@ -42,21 +47,26 @@ fn ask_in_turn<A: Allocator>(entries: &mut [Entry<&A>], asked: &[Member], made: 
     BlockIds::new(&numbers[..asked.len()])
 }
 
-/// Asks after each cookie of the set that was not found done yet, in order.
-fn poll_in_turn<A: Allocator>(entries: &mut [Entry<&A>], set: &mut NamedSet)
+/// Asks after each cookie of the set that was not found done yet, in order, and tells whether now each was.
+fn poll_in_turn<A: Allocator>(entries: &mut [Entry<&A>], set: &mut NamedSet) -> bool
     requires { AreHere (homes_of entries.old) set.old.places set.old.members }
+    ensures done { result ≡ list_all (λ m. m.found) (members_of set.new.places set.new.members) }
     ensures polls { PollInTurn (states_of entries.old) (members_of set.old.places set.old.members) (members_of set.new.places set.new.members) (states_of entries.new) }
     ensures homes { homes_of entries.new ≡ homes_of entries.old }
     ensures here { AreHere (homes_of entries.old) set.new.places set.new.members }
     ensures name { set.new.name ≡ set.old.name }
 {
+    let mut done = true;
     for member in 0..set.len() {
         let place = set.place(member);
         let Some(domain) = place_of(entries, place.domain.as_bytes()) else {
             unreachable!()
         };
-        entries[domain].poll_member(place.processor, &mut set.set, member);
+        if !set.poll(member, place.processor, &mut entries[domain]) {
+            done = false;
+        }
     }
+    done
 }
 
 impl<'r, 'a, A: Allocator, R: Wait> Session<'r, &'a A, R> {
@@ -82,8 +92,7 @@ impl<'r, 'a, A: Allocator, R: Wait> Session<'r, &'a A, R> {
         ensures limits { self.new.limits ≡ self.old.limits }
         ensures polls { PollsSet self.old.state at result self.new.state }
     {
-        poll_in_turn(&mut self.entries, &mut self.sets[at]);
-        if self.sets[at].done() {
+        if poll_in_turn(&mut self.entries, &mut self.sets[at]) {
             return Reply::Done;
         }
         Reply::NotYet

@@ -1,5 +1,6 @@
 use Rattle.std.proofs.Common.{◌∙◌, sym, arith}
 use Rattle.session.specs.States.{states_of}
+use Rattle.session.specs.Sets.{sets_of}
 use Rattle.session.proofs.Places.{domain_place_within, state_there, kind_there}
 use Rattle.session.proofs.scene.SessionScene.kind_of.Goals as goal
 
@@ -11,4 +12,4 @@ returns g c =
     let there = rw (← c.self.view_is) at c.requires in
     let entries = c.self.inside.entries.items in
     let within = domain_place_within there.0 entries c.args.place there.1 in
-    rw (← c.self.view_is) (c.kind_of.ensures ∙ sym (kind_there (states_of entries) c.args.place c.index.result.now.state (state_there entries c.args.place c.index.result.now within c.index.ensures) c.args.name.now))
+    rw (← c.self.view_is) (c.kind_of.ensures ∙ sym (kind_there (states_of entries) (sets_of c.self.inside.sets.items) c.args.place c.index.result.now.state (state_there entries c.args.place c.index.result.now within c.index.ensures) c.args.name.now))
