@@ -16,7 +16,7 @@ use Rattle.requests.specs.declared.request.Act.{Act}
 use Rattle.requests.specs.declared.request.Act.TheVariants as act
 use Rattle.requests.specs.declared.request.Request.{Request}
 use Rattle.requests.specs.declared.request.Request.TheVariants as request
-use Rattle.session.specs.States.{DomainState, State, scene_of}
+use Rattle.session.specs.States.{DomainState, State, nothing_yet, scene_of}
 use Rattle.session.specs.Scripts.{Acts, Answers, FaultGives, LineGives}
 use Rattle.srcuctl.specs.Programs.{Runs, RunsInPart, HasNotBegun}
 use Rattle.srcuctl.proofs.Programs.{ended}
@@ -37,7 +37,9 @@ module _ (may told : ℕ → ℕ → ℕ → Type 0) (only : (value id result : 
 
   answers_told : (state : State) (asked : Request) (r : Reply) (state' : State) → Answers may limits state asked r state' → Answers told limits state asked r state'
   answers_told state (request.Domain name processors) r state' done = done
-  answers_told state (request.On place what) r state' (d, d', on, did) = (d, d', on, acts_told what d r d' did)
+  answers_told state (request.On place what) r state' (d, d', on, did, sets) = (d, d', on, acts_told what d r d' did, sets)
+  answers_told state (request.Set name asked) r state' done = done
+  answers_told state (request.SetPoll place) r state' done = done
   answers_told state (request.Cleanup place) r state' done = done
 
   words_told : (state : State) (number : ℕ) (words : List (List ℕ)) (fault : Option Fault) (reply : List ℕ) (faulty : Bool) (state' : State) → FaultGives may limits state number words fault reply faulty state' → FaultGives told limits state number words fault reply faulty state'
@@ -62,9 +64,9 @@ pub run_as_told : (may told : ℕ → ℕ → ℕ → Type 0) (limits : Limits) 
     → MatchResult result (λ o. Runs may limits taken given o.faulty × AtEnd) (λ e. RunsInPart may limits taken given e)
     → MatchResult result (λ o. Runs told limits taken given o.faulty × AtEnd) (λ e. RunsInPart told limits taken given e ⊎ HasNotBegun taken given e)
 run_as_told may told limits taken given AtEnd (Ok o) only ((after, run), at_end) =
-    ended (LineGives may limits) (λ s. s) (λ _. Unit {0}) told limits [] taken given after AtEnd (Ok o) (run, at_end) refl tt
+    ended (LineGives may limits) (λ s. s) (λ _. Unit {0}) told limits nothing_yet taken given after AtEnd (Ok o) (run, at_end) refl tt
     (λ s number line reply faulty s' _ gave. (line_told may told only limits s number line reply faulty s' gave, tt))
-run_as_told may told limits taken given AtEnd (Err e) only (after, early) = inl (ended (LineGives may limits) (λ s. s) (λ _. Unit {0}) told limits [] taken given after AtEnd (Err e) early refl tt
+run_as_told may told limits taken given AtEnd (Err e) only (after, early) = inl (ended (LineGives may limits) (λ s. s) (λ _. Unit {0}) told limits nothing_yet taken given after AtEnd (Err e) early refl tt
     (λ s number line reply faulty s' _ gave. (line_told may told only limits s number line reply faulty s' gave, tt)))
 
 none_taken : (left : Option (List ℕ)) → Consumes left left []

@@ -12,9 +12,9 @@ returns g c =
       read,
       wrote,
       ended
-          (λ s number line reply faulty s'. LineGives (λ value id x. GivesAt (λ h y. (g.dyn-1.0.entry h.vtable).1.answers h.value 1 value y) s.handlers.now id x) s.session.limits s.session.domains number line reply faulty s'.session.domains × (s'.session.limits ≡ s.session.limits) × (s'.handlers ≡ s.handlers))
-          (λ a. a.session.domains) (λ a. (a.session.limits ≡ c.args.limits) × (a.handlers.now ≡ c.args.handlers.now))
+          (λ s number line reply faulty s'. LineGives (λ value id x. GivesAt (λ h y. (g.dyn-1.0.entry h.vtable).1.answers h.value 1 value y) s.handlers.now id x) s.session.limits s.session.state number line reply faulty s'.session.state × (s'.session.limits ≡ s.session.limits) × (s'.handlers ≡ s.handlers))
+          (λ a. a.session.state) (λ a. (a.session.limits ≡ c.args.limits) × (a.handlers.now ≡ c.args.handlers.now))
           (λ value id x. GivesAt (λ h y. (g.dyn-1.0.entry h.vtable).1.answers h.value 1 value y) c.args.handlers.now id x) c.args.limits
-          _ taken given c.run_lines-outcome.new.answerer _ c.run_lines-outcome.result how (ap (λ z. z.domains) c.new.ensures) (ap (λ z. z.limits) c.new.ensures, c.in-Some.ensures.cases.same)
+          _ taken given c.run_lines-outcome.new.answerer _ c.run_lines-outcome.result how (ap (λ z. z.state) c.new.ensures) (ap (λ z. z.limits) c.new.ensures, c.in-Some.ensures.cases.same)
           (λ s number line reply faulty s' k done. (rw (← k.0) (rw (← k.1) done.0), (done.1 ∙ k.0, ap (λ h. h.now) done.2 ∙ k.1))),
     )

@@ -6,7 +6,7 @@ use std::test::Fail;
 /// another domain, and a set that outlives a domain of its cookies. The status is 1.
 #[test]
 fn a_set_of_two_domains(rt: HostRuntime) -> Result<(), Fail> {
-    check(
+    check_run(
         &rt,
         LIMITS,
         &[
@@ -31,6 +31,7 @@ fn a_set_of_two_domains(rt: HostRuntime) -> Result<(), Fail> {
             ("cleanup b", "cleaned opened 0 closed 0"),
             ("set-poll k", "line 20: name"),
         ],
+        true,
     )
 }
 
@@ -38,7 +39,7 @@ fn a_set_of_two_domains(rt: HostRuntime) -> Result<(), Fail> {
 /// that passes. A set's name is no name of a domain or in one.
 #[test]
 fn first_faults(rt: HostRuntime) -> Result<(), Fail> {
-    check(
+    check_run(
         &rt,
         LIMITS,
         &[
@@ -72,6 +73,7 @@ fn first_faults(rt: HostRuntime) -> Result<(), Fail> {
             ("set-poll b", "line 28: name"),
             ("state a", "state a number 0 idle index 0 open 1 0 need 4"),
         ],
+        true,
     )
 }
 
@@ -79,15 +81,21 @@ fn first_faults(rt: HostRuntime) -> Result<(), Fail> {
 /// cookies goes. Eight cookies are of one set, of one processor and of several.
 #[test]
 fn eight_sets_of_eight(rt: HostRuntime) -> Result<(), Fail> {
-    check(
+    check_run(
         &rt,
         LIMITS,
         &[
             ("domain a 8", "made a 8"),
             ("domain b 1", "made b 1"),
             ("domain c 1", "made c 1"),
-            ("set k1 a 0 a 1 a 2 a 3 a 4 a 5 a 6 a 7", "set 4 4 4 4 4 4 4 4"),
-            ("set k2 a 0 a 0 a 0 a 0 a 0 a 0 a 0 a 0", "set 4 4 4 4 4 4 4 4"),
+            (
+                "set k1 a 0 a 1 a 2 a 3 a 4 a 5 a 6 a 7",
+                "set 4 4 4 4 4 4 4 4",
+            ),
+            (
+                "set k2 a 0 a 0 a 0 a 0 a 0 a 0 a 0 a 0",
+                "set 4 4 4 4 4 4 4 4",
+            ),
             ("set k3 a 7", "set 4"),
             ("set k4 a 0 b 0", "set 4 4"),
             ("set k5 b 0", "set 4"),
@@ -119,5 +127,6 @@ fn eight_sets_of_eight(rt: HostRuntime) -> Result<(), Fail> {
             ("set-poll k5", "done"),
             ("set-poll k5", "done"),
         ],
+        true,
     )
 }
