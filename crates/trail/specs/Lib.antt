@@ -1,0 +1,4 @@
+pub mod Views
+pub mod Calls
+pub mod Rule
+pub mod Insides

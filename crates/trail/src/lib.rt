@@ -1,0 +1,14 @@
+//! A lock round one value that keeps a trail: contracts see each state in which the value was left there. And a stock, behind
+//! such a lock, of values that come and go.
+#![tactic(auto)]
+
+
+
+
+
+mod trail;
+mod view;
+
+
+
+pub use trail::{Lies, Loan, Sight, Trail};
