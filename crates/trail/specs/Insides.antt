@@ -1,11 +1,13 @@
 -- How the fields of a lock, of a loan and of a sight are seen, and what is always true of them.
-use Rattle.std.specs.Prelude.{◌≡◌, List, [], ◌∷◌, Option, None, true, false}
+use Rattle.std.specs.Prelude.{◌≡◌, ℕ, List, [], ◌∷◌, Option, None, true, false}
 use Rattle.atomic_table.specs.Seated.{TableId}
 use Rattle.trail.specs.declared.view.View.{View}
 use Rattle.trail.specs.declared.trail.Trail.TheInside as trail
 use Rattle.trail.specs.declared.trail.Loan.TheInside as loan
 use Rattle.trail.specs.declared.trail.Sight.TheInside as sight
-use Rattle.trail.specs.Views.{TrailView, SightView}
+use Rattle.trail.specs.declared.stock.Stock.TheInside as stock
+use Rattle.trail.specs.declared.stock.Out.TheInside as out
+use Rattle.trail.specs.Views.{TrailView, SightView, StockView}
 use Rattle.trail.specs.Rule.{word_count}
 
 module _ {T K E A : Type 0} where
@@ -33,3 +35,9 @@ module _ {K E : Type 0} where
 
   abbrev pub IsSight : sight.Inside K E → Type 0
   IsSight s = (v : View K E) × (s.badge.views ≡ v ∷ []) × (v.has ≡ false)
+
+abbrev pub view_of_stock : {X K A : Type 0} → stock.Inside X K A → StockView K
+view_of_stock s = record { lock = s.trail.lock; key = s.trail.key; count = s.count }
+
+abbrev pub view_of_out : {K : Type 0} → out.Inside K → SightView ℕ
+view_of_out o = o.sight

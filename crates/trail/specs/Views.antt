@@ -11,3 +11,9 @@ pub record TrailView (K : Type 0) : Type 0 where
 pub record SightView (E : Type 0) : Type 0 where
   pub lock : TableId
   pub seen : List E
+
+-- which stock it is, the key that each value of it fits, and how many were put in at first
+pub record StockView (K : Type 0) : Type 0 where
+  pub lock : TableId
+  pub key : K
+  pub count : ℕ

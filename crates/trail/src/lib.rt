@@ -2,13 +2,13 @@
 //! such a lock, of values that come and go.
 #![tactic(auto)]
 
-
-
-
-
+mod shelf;
+mod stock;
+#[cfg(test)]
+mod tests;
 mod trail;
 mod view;
 
-
-
+pub use shelf::Stocked;
+pub use stock::{Out, Stock};
 pub use trail::{Lies, Loan, Sight, Trail};
