@@ -4,7 +4,7 @@
 
 mod counts;
 mod driving;
-mod idle;
+mod home;
 mod pause;
 mod pool;
 mod reading;
@@ -16,7 +16,7 @@ mod tests;
 
 pub use counts::Served;
 pub use driving::{barrier, serve};
-pub use pool::{Lent, Pool};
+pub use pool::{AtHome, Lent, Pool, Slip};
 pub use reading::read;
 pub use refusals::ServeRefusal;
 pub use serving::run_batch;

@@ -61,13 +61,13 @@ fn drive<R: Wait>(
 ) -> (bool, Option<Served>, u64)
     requires { pool.now.domain ≡ domain.now }
 {
-    let (mut cpu, lent) = pool.take(rt);
-    let queued = queue(rt, domain, &mut cpu, jobs.0, jobs.1);
+    let mut lent = pool.take(rt);
+    let queued = queue(rt, domain, &mut lent.cpu, jobs.0, jobs.1);
     let mut digits: u64 = 0;
-    let served = serve(rt, domain, &mut cpu, stop, |job: u64| {
+    let served = serve(rt, domain, &mut lent.cpu, stop, |job: u64| {
         digits = digits.wrapping_mul(10).wrapping_add(job);
     });
-    pool.give(rt, cpu, lent);
+    pool.give(rt, lent);
     (queued, served.ok(), digits)
 }
 
@@ -76,9 +76,10 @@ fn drive_in_vain<R: Wait + AllocGlobal>(
     rt: &R,
 ) -> Result<Option<(bool, Option<Served>, u64)>, MakeError> {
     let (domain, cpus) = made(rt.alloc(), 2)?;
-    let Ok(pool) = Pool::new(rt, rt.alloc(), &domain, cpus) else {
+    let Ok(mut pool) = Pool::new(rt.alloc(), &domain) else {
         return Ok(None);
     };
+    pool.fill(rt, cpus);
     let stop = Stop::new();
     stop.give();
     Ok(Some(drive(rt, &domain, &pool, &stop, (1, 4))))
@@ -100,20 +101,21 @@ fn wait_for_own<R: Wait + AllocGlobal>(
     rt: &R,
 ) -> Result<Option<(bool, Option<Served>, u64)>, MakeError> {
     let (domain, cpus) = made(rt.alloc(), 2)?;
-    let Ok(pool) = Pool::new(rt, rt.alloc(), &domain, cpus) else {
+    let Ok(mut pool) = Pool::new(rt.alloc(), &domain) else {
         return Ok(None);
     };
-    let (mut cpu, lent) = pool.take(rt);
-    let queued = queue(rt, &domain, &mut cpu, 1, 4);
+    pool.fill(rt, cpus);
+    let mut lent = pool.take(rt);
+    let queued = queue(rt, &domain, &mut lent.cpu, 1, 4);
     let mut digits: u64 = 0;
-    let served = match domain.barrier_start(&mut cpu) {
-        Ok(ticket) => barrier(rt, &domain, &mut cpu, &ticket, |job: u64| {
+    let served = match domain.barrier_start(&mut lent.cpu) {
+        Ok(ticket) => barrier(rt, &domain, &mut lent.cpu, &ticket, |job: u64| {
             digits = digits.wrapping_mul(10).wrapping_add(job);
         })
         .ok(),
         Err(_) => None,
     };
-    pool.give(rt, cpu, lent);
+    pool.give(rt, lent);
     Ok(Some((queued, served, digits)))
 }
 
@@ -133,9 +135,10 @@ fn drive_two<R: Wait + Threads + AllocGlobal + Sync>(
     rt: &R,
 ) -> Result<Option<(u64, Option<Totals>)>, MakeError> {
     let (domain, cpus) = made(rt.alloc(), 2)?;
-    let Ok(pool) = Pool::new(rt, rt.alloc(), &domain, cpus) else {
+    let Ok(mut pool) = Pool::new(rt.alloc(), &domain) else {
         return Ok(None);
     };
+    pool.fill(rt, cpus);
     let stop = Stop::new();
     stop.give();
     let (here, there) = join(
@@ -177,9 +180,10 @@ fn drive_until_told<R: Wait + Clock + Threads + AllocGlobal + Sync>(
     rt: &R,
 ) -> Result<u64, MakeError> {
     let (domain, cpus) = made(rt.alloc(), 2)?;
-    let Ok(pool) = Pool::new(rt, rt.alloc(), &domain, cpus) else {
+    let Ok(mut pool) = Pool::new(rt.alloc(), &domain) else {
         return Ok(0);
     };
+    pool.fill(rt, cpus);
     let stop = Stop::new();
     let (jobs, ()) = join(
         rt,

@@ -36,7 +36,7 @@ module _ {K E : Type 0} where
   abbrev pub IsSight : sight.Inside K E → Type 0
   IsSight s = (v : View K E) × (s.badge.views ≡ v ∷ []) × (v.has ≡ false)
 
-abbrev pub view_of_stock : {X K A : Type 0} → stock.Inside X K A → StockView K
+abbrev pub view_of_stock : {X K M A : Type 0} → stock.Inside X K M A → StockView K
 view_of_stock s = record { lock = s.trail.lock; key = s.trail.key; count = s.count }
 
 abbrev pub view_of_out : {K : Type 0} → out.Inside K → SightView ℕ

@@ -10,16 +10,16 @@ use std::sync::Wait;
 use std::thread::yield_now;
 
 /// Values that threads take for a while and give back, behind one lock. Contracts see which stock it is, its key, which each
-/// value fits, and how many values were put in at first. How many are at home at a moment is seen by whoever comes to it.
+/// value fits by the rule M, and how many values were put in at first. How many are at home at a moment is seen by whoever comes to it.
 ///
 /// The calls that take a value out and put it back can't drop one: the type of the values need not be one that may be.
 #[derive(Drop)]
-pub struct Stock<X: Stocked<K>, K, A: Allocator = Global> {
-    pub(crate) trail: Trail<Shelf<X, A>, K, usize, A>,
+pub struct Stock<X: Stocked<K, M>, K, M, A: Allocator = Global> {
+    pub(crate) trail: Trail<Shelf<X, M, A>, K, usize, A>,
     pub(crate) count: usize,
 }
 
-impl<X: Stocked<K>, K, A: Allocator> Model for Stock<X, K, A> {
+impl<X: Stocked<K, M>, K, M, A: Allocator> Model for Stock<X, K, M, A> {
     ghost use Rattle.trail.specs.Views.{StockView};
 
     ghost Value = { StockView K };
@@ -47,21 +47,19 @@ impl<K> Model for Out<K> {
     ghost view = { view_of_out };
 }
 
-impl<X: Stocked<K> + Drop, K, A: Allocator + Copy> Stock<X, K, A> {
+impl<X: Stocked<K, M> + Drop, K, M, A: Allocator + Copy> Stock<X, K, M, A> {
     /// A stock in which nothing is. `other` gives the memory for a moment, `alloc` for good.
-    pub fn new<B: Allocator>(alloc: A, other: B, key: &K) -> Result<Stock<X, K, A>, AllocError>
+    pub fn new<B: Allocator>(alloc: A, other: B, key: &K) -> Result<Stock<X, K, M, A>, AllocError>
         ensures { IfOk result (λ stock. (stock.key ≡ key.now) × (stock.count ≡ 0)) }
     {
-        let shelf = Shelf {
-            items: Vec::new(alloc),
-        };
+        let shelf = Shelf::of(Vec::new(alloc));
         let trail = Trail::new(alloc, other, shelf, key)?;
         Ok(Stock { trail, count: 0 })
     }
 
     /// Takes all values out for good, where as many are at home as were put in at first. Else the stock comes back as it was,
     /// with what was seen of it.
-    pub fn close<R: Wait>(self, rt: &R) -> Result<Vec<X, A>, (Stock<X, K, A>, Sight<K, usize>)>
+    pub fn close<R: Wait>(self, rt: &R) -> Result<Vec<X, A>, (Stock<X, K, M, A>, Sight<K, usize>)>
         ensures { MatchResult result
             (λ items. AreAll (X.fits self.key) self items.items)
             (λ back. (back.0 ≡ self) × IsMissing self back.1) }
@@ -71,17 +69,15 @@ impl<X: Stocked<K> + Drop, K, A: Allocator + Copy> Stock<X, K, A> {
             let sight = self.trail.put_back(shelf, loan);
             return Err((self, sight));
         }
-        let Shelf { items } = shelf;
-        let none = Shelf {
-            items: Vec::new(*items.allocator()),
-        };
-        self.trail.put_back(none, loan);
+        let Shelf { items, marker: _ } = shelf;
+        let none = Vec::new(*items.allocator());
+        self.trail.put_back(Shelf::of(none), loan);
         Ok(items)
     }
 }
 
 // No value is dropped here.
-impl<X: Stocked<K>, K, A: Allocator> Stock<X, K, A> {
+impl<X: Stocked<K, M>, K, M, A: Allocator> Stock<X, K, M, A> {
     /// Puts these in, in the place of those that are at home, which come out.
     pub fn fill<R: Wait>(&mut self, rt: &R, items: Vec<X, A>) -> (Vec<X, A>, Sight<K, usize>)
         requires { All (X.fits self.old.key) items.items }
@@ -90,9 +86,12 @@ impl<X: Stocked<K>, K, A: Allocator> Stock<X, K, A> {
         ensures home { AreHome self.old (length items.items) result.1 }
     {
         let (shelf, loan) = self.trail.take(rt);
-        let Shelf { items: before } = shelf;
+        let Shelf {
+            items: before,
+            marker: _,
+        } = shelf;
         self.count = items.len();
-        let sight = self.trail.put_back(Shelf { items }, loan);
+        let sight = self.trail.put_back(Shelf::of(items), loan);
         (before, sight)
     }
 
@@ -114,7 +113,7 @@ impl<X: Stocked<K>, K, A: Allocator> Stock<X, K, A> {
 
     /// Waits until there is room for one more on the shelf, and takes the shelf. There is room for all that were put in at
     /// first, so it waits for the lock alone where the one was taken from here.
-    fn take_shelf<R: Wait>(&self, rt: &R) -> (Shelf<X, A>, Loan<Shelf<X, A>, K, usize>)
+    fn take_shelf<R: Wait>(&self, rt: &R) -> (Shelf<X, M, A>, Loan<Shelf<X, M, A>, K, usize>)
         ensures fits { All (X.fits self.now.key) result.0.items.items }
         ensures room { vec_len result.0.items < vec_capacity result.0.items }
         ensures lock { result.1.lock ≡ self.now.lock }

@@ -13,14 +13,17 @@ struct Number {
     value: u64,
 }
 
-impl Stocked<u64> for Number {
+/// The rule: it has the parity of the key.
+struct Parity;
+
+impl Stocked<u64, Parity> for Number {
     ghost use Rattle.std.specs.Prelude.{◌≡◌, ◌%◌};
 
     ghost fits = { λ key n. n.value % 2 ≡ key };
 }
 
 /// Even numbers.
-type Evens<A> = Stock<Number, u64, A>;
+type Evens<A> = Stock<Number, u64, Parity, A>;
 
 /// A stock in which nothing is.
 fn empty<A: Allocator + Copy>(alloc: A, other: Global) -> Result<Evens<A>, AllocError>

@@ -1,17 +1,16 @@
 //! Taking processors and giving them back.
-ghost use Rattle.std.specs.Prelude.{◌≡◌, All, IfSome, MatchResult, length};
-ghost use Rattle.driver.specs.Pools.{IsIdle, IsLent};
+ghost use Rattle.std.specs.Prelude.{◌≡◌, All, IfOk, MatchResult, length};
+ghost use Rattle.driver.specs.Pools.{IsIdle, IsOut, NoneAtHome, OneMoreAtHome, AreAllHome, OneIsOut};
 
-use super::Pool;
-use crate::idle::Idle;
+use super::{AtHome, Pool};
 use domain::{Cpu, Domain};
-use keep::Keep;
-use std::alloc::Allocator;
-use std::marker::Model;
+use std::alloc::{AllocError, Allocator, Global};
+use std::marker::{Model, PhantomData};
 use std::sync::Wait;
 use std::sync::atomic::AtomicU64;
 use std::sync::atomic::Ordering::SeqCst;
 use std::time::Duration;
+use trail::{Out, Stock};
 
 /// A sleep looks at the low 32 bits of its word.
 const WORD: u64 = 1 << 32;
@@ -19,71 +18,77 @@ const WORD: u64 = 1 << 32;
 /// How long a thread sleeps at most before it looks again: a millisecond.
 const LONGEST: u64 = 1_000;
 
-/// A processor of a pool is out. It can't be dropped: it ends in [`Pool::give`], and nobody but this module sees what is in
-/// it. Contracts see the processor's number.
-pub struct Lent {
+/// A processor of a pool is out. It can't be dropped, and nobody but this module sees what is in it. Contracts see the pool,
+/// and the processor's number.
+pub struct Slip<J, A: Allocator = Global> {
     processor: u16,
+    out: Out<Domain<J, A>>,
 }
 
-impl Model for Lent {
-    ghost use Rattle.std.specs.Prelude.{ℕ};
+impl<J, A: Allocator> Model for Slip<J, A> {
+    ghost use Rattle.driver.specs.Pools.{SlipView};
 
-    ghost Value = { ℕ };
+    ghost Value = { SlipView };
 
-    ghost use Rattle.driver.specs.PoolInsides.{view_of_lent};
+    ghost use Rattle.driver.specs.PoolInsides.{view_of_slip};
 
-    ghost view = { view_of_lent };
+    ghost view = { view_of_slip };
+}
+
+/// A processor that a pool has lent. It can't be dropped: it ends in [`Pool::give`], at the pool that lent it.
+pub struct Lent<J, A: Allocator = Global> {
+    /// The processor, to be used as any other.
+    pub cpu: Cpu<J, A>,
+    /// Which one it is, and whose.
+    pub slip: Slip<J, A>,
 }
 
 impl<'a, J: Drop, A: Allocator + Copy> Pool<'a, J, A> {
-    /// A pool of these processors of a domain, on each of which no reading is open. `alloc` gives the memory. Where there
-    /// is not enough, they come back.
-    pub fn new<R: Wait>(
-        rt: &R,
-        alloc: A,
-        domain: &'a Domain<J, A>,
-        cpus: Vec<Cpu<J, A>, A>,
-    ) -> Result<Pool<'a, J, A>, Vec<Cpu<J, A>, A>>
-        requires { All (IsIdle domain.now) cpus.items }
-        ensures { MatchResult result
-            (λ pool. (pool.domain ≡ domain.entry.now) × (pool.count ≡ length cpus.items))
-            (λ back. back.items ≡ cpus.items) }
+    /// A pool of this domain with no processor. `alloc` gives the memory, which no other call takes.
+    pub fn new(alloc: A, domain: &'a Domain<J, A>) -> Result<Pool<'a, J, A>, AllocError>
+        ensures { IfOk result (λ pool. (pool.domain ≡ domain.entry.now) × (pool.count ≡ 0)) }
     {
-        let count = cpus.len();
-        let Ok(keep) = Keep::new(alloc, alloc, Idle::none(alloc, domain), domain) else {
-            return Err(cpus);
-        };
-        let (none, loan) = keep.take(rt);
-        keep.put_back(none.with(cpus), loan);
+        let stock = Stock::new(alloc, alloc, domain)?;
         Ok(Pool {
-            keep,
-            count,
+            stock,
             given: AtomicU64::new(0),
+            marker: PhantomData,
         })
     }
 
-    /// Takes a processor out, if one is there. `None` where all are out. It waits for the lock alone, which others have for
-    /// a few steps.
-    pub fn try_take<R: Wait>(&self, rt: &R) -> Option<(Cpu<J, A>, Lent)>
-        ensures { IfSome result (λ taken. IsLent self.now.domain taken.0 taken.1) }
+    /// Puts these processors in, on each of which no reading is open, and counts them. Those that were at home come out: none
+    /// of a new pool.
+    pub fn fill<R: Wait>(&mut self, rt: &R, cpus: Vec<Cpu<J, A>, A>) -> Vec<Cpu<J, A>, A>
+        requires { All (IsIdle self.old.domain) cpus.items }
+        ensures count { self.new ≡ record self.old { count = length cpus.items } }
+        ensures before { All (IsIdle self.old.domain) result.items }
     {
-        let (mut idle, loan) = self.keep.take(rt);
-        let taken = idle.pop();
-        self.keep.put_back(idle, loan);
-        let cpu = taken?;
+        let (before, _home) = self.stock.fill(rt, cpus);
+        before
+    }
+
+    /// Takes a processor out, if one is at home. Else all are out, and it tells at which moment. It waits for the lock alone,
+    /// which others have for a few steps.
+    pub fn try_take<R: Wait>(&self, rt: &R) -> Result<Lent<J, A>, AtHome<J, A>>
+        ensures { MatchResult result (λ lent. IsOut self.now lent.cpu lent.slip) (λ home. NoneAtHome self.now home) }
+    {
+        let (cpu, out) = self.stock.try_take(rt)?;
         let processor = cpu.processor();
-        Some((cpu, Lent { processor }))
+        Ok(Lent {
+            cpu,
+            slip: Slip { processor, out },
+        })
     }
 
     /// Takes a processor out, and waits until one is there. Who comes first need not be served first.
-    pub fn take<R: Wait>(&self, rt: &R) -> (Cpu<J, A>, Lent)
-        ensures { IsLent self.now.domain result.0 result.1 }
+    pub fn take<R: Wait>(&self, rt: &R) -> Lent<J, A>
+        ensures { IsOut self.now result.cpu result.slip }
     {
         for _ in rt.forever() {
             // Before the look: one that is given back behind it ends the sleep at once.
             let given = self.given.load(SeqCst);
-            if let Some(taken) = self.try_take(rt) {
-                return taken;
+            if let Ok(lent) = self.try_take(rt) {
+                return lent;
             }
             let length = Duration::from_micros(LONGEST);
             self.given.park_timeout(rt, (given % WORD) as u32, length);
@@ -91,33 +96,45 @@ impl<'a, J: Drop, A: Allocator + Copy> Pool<'a, J, A> {
         unreachable!()
     }
 
-    /// Gives a processor back. No reading may be open on it, and it is the one that was taken with this. It takes no
-    /// memory, as there is room for all.
-    pub fn give<R: Wait>(&self, rt: &R, cpu: Cpu<J, A>, lent: Lent)
-        requires { IsLent self.now.domain cpu lent }
+    /// Gives a processor back to the pool that lent it. No reading may be open on it. It takes no memory, as there is room for
+    /// all.
+    pub fn give<R: Wait>(&self, rt: &R, lent: Lent<J, A>) -> AtHome<J, A>
+        requires { IsOut self.now lent.cpu lent.slip }
+        ensures { OneMoreAtHome self.now result }
     {
-        let Lent { processor: _ } = lent;
-        let (mut idle, loan) = self.keep.take(rt);
-        idle.push(cpu);
-        self.keep.put_back(idle, loan);
+        let Lent { cpu, slip } = lent;
+        let Slip { processor: _, out } = slip;
+        let home = self.stock.give(rt, cpu, out);
         self.given.fetch_add(1, SeqCst);
         self.given.wake_one();
+        home
     }
 
     /// Takes all processors out for good, as for [`Domain::cleanup`]. It is refused where one is out, and the pool comes
     /// back as it was.
-    pub fn close<R: Wait>(self, rt: &R) -> Result<Vec<Cpu<J, A>, A>, Pool<'a, J, A>>
+    pub fn close<R: Wait>(
+        self,
+        rt: &R,
+    ) -> Result<Vec<Cpu<J, A>, A>, (Pool<'a, J, A>, AtHome<J, A>)>
         ensures { MatchResult result
-            (λ cpus. All (IsIdle self.entry.domain) cpus.items × (length cpus.items ≡ self.entry.count))
-            (λ pool. pool ≡ self.entry) }
+            (λ cpus. AreAllHome self.entry cpus.items)
+            (λ back. (back.0 ≡ self.entry) × OneIsOut self.entry back.1) }
     {
-        let (idle, loan) = self.keep.take(rt);
-        if idle.len() != self.count {
-            self.keep.put_back(idle, loan);
-            return Err(self);
+        let Pool {
+            stock,
+            given,
+            marker,
+        } = self;
+        match stock.close(rt) {
+            Ok(cpus) => Ok(cpus),
+            Err((stock, home)) => Err((
+                Pool {
+                    stock,
+                    given,
+                    marker,
+                },
+                home,
+            )),
         }
-        let (cpus, none) = idle.take_all();
-        self.keep.put_back(none, loan);
-        Ok(cpus)
     }
 }

@@ -1,10 +1,10 @@
 //! Work on a processor that is lent.
-ghost use Rattle.std.specs.Prelude.{IfSome};
+ghost use Rattle.std.specs.Prelude.{MatchResult};
 ghost use Rattle.std.specs.Fn.{FnOnceTakesAtMut};
-ghost use Rattle.driver.specs.Pools.{IsIdle, IsLent};
+ghost use Rattle.driver.specs.Pools.{IsIdle, IsOut, NoneAtHome};
 ghost use Rattle.driver.specs.Works.{LeavesIdle, RunsOnOne};
 
-use super::{Lent, Pool};
+use super::{AtHome, Lent, Pool};
 use domain::Cpu;
 use std::sync::Wait;
 
@@ -17,35 +17,38 @@ impl<'a, J: Drop> Pool<'a, J> {
         requires leaves { LeavesIdle F.FnOnce work self.now.domain }
         ensures { RunsOnOne F.FnOnce work self.now.domain result }
     {
-        let (cpu, lent) = self.take(rt);
-        self.work_on(rt, cpu, lent, work)
+        let lent = self.take(rt);
+        self.work_on(rt, lent, work)
     }
 
-    /// The same where a processor is there. `None` where all are out. Then the work is not run.
-    pub fn try_with<R: Wait, T, F: FnOnce(&mut Cpu<J>) -> T>(&self, rt: &R, work: F) -> Option<T>
+    /// The same where a processor is at home. Else all are out, the work is not run, and it tells at which moment.
+    pub fn try_with<R: Wait, T, F: FnOnce(&mut Cpu<J>) -> T>(
+        &self,
+        rt: &R,
+        work: F,
+    ) -> Result<T, AtHome<J>>
         requires may { (c : _) → IsIdle self.now.domain c → FnOnceTakesAtMut F.FnOnce work c }
         requires leaves { LeavesIdle F.FnOnce work self.now.domain }
-        ensures { IfSome result (λ answer. RunsOnOne F.FnOnce work self.now.domain answer) }
+        ensures { MatchResult result (λ answer. RunsOnOne F.FnOnce work self.now.domain answer) (λ home. NoneAtHome self.now home) }
     {
-        let (cpu, lent) = self.try_take(rt)?;
-        Some(self.work_on(rt, cpu, lent, work))
+        let lent = self.try_take(rt)?;
+        Ok(self.work_on(rt, lent, work))
     }
 
     /// Runs the work on this processor, which was taken, and gives it back.
     fn work_on<R: Wait, T, F: FnOnce(&mut Cpu<J>) -> T>(
         &self,
         rt: &R,
-        mut cpu: Cpu<J>,
-        lent: Lent,
+        mut lent: Lent<J>,
         work: F,
     ) -> T
-        requires lent { IsLent self.now.domain cpu lent }
-        requires may { FnOnceTakesAtMut F.FnOnce work cpu }
+        requires lent { IsOut self.now lent.cpu lent.slip }
+        requires may { FnOnceTakesAtMut F.FnOnce work lent.cpu }
         requires leaves { LeavesIdle F.FnOnce work self.now.domain }
         ensures { RunsOnOne F.FnOnce work self.now.domain result }
     {
-        let answer = work(&mut cpu);
-        self.give(rt, cpu, lent);
+        let answer = work(&mut lent.cpu);
+        self.give(rt, lent);
         answer
     }
 }

@@ -55,9 +55,10 @@ fn come_and_end<R: Wait + Threads + AllocGlobal + Sync>(
     rt: &R,
 ) -> Result<Option<(u64, Option<Totals>)>, MakeError> {
     let (domain, cpus) = made(rt.alloc(), 3)?;
-    let Ok(pool) = Pool::new(rt, rt.alloc(), &domain, cpus) else {
+    let Ok(mut pool) = Pool::new(rt.alloc(), &domain) else {
         return Ok(None);
     };
+    pool.fill(rt, cpus);
     let came = come_all(rt, &domain, &pool);
     let Ok(cpus) = pool.close(rt) else {
         return Ok(None);
@@ -77,19 +78,20 @@ fn sixteen_threads_at_three_processors(rt: HostRuntime) -> Result<(), Fail> {
 
 /// Whether one is refused while the only one is out, and whether the pool can't be closed then.
 fn try_twice<R: Wait>(rt: &R, pool: &Pool<u64>) -> (bool, bool) {
-    let (cpu, lent) = pool.take(rt);
+    let lent = pool.take(rt);
     let refused = pool.try_with(rt, |cpu| cpu.processor());
-    pool.give(rt, cpu, lent);
+    pool.give(rt, lent);
     let behind = pool.try_with(rt, |cpu| cpu.processor());
-    (refused.is_none(), behind == Some(0))
+    (refused.is_err(), behind.ok() == Some(0))
 }
 
 /// Whether one is refused while the only one is out, and there again behind that.
 fn take_the_last<R: Wait + AllocGlobal>(rt: &R) -> Result<Option<(bool, bool)>, MakeError> {
     let (domain, cpus) = made(rt.alloc(), 1)?;
-    let Ok(pool) = Pool::new(rt, rt.alloc(), &domain, cpus) else {
+    let Ok(mut pool) = Pool::new(rt.alloc(), &domain) else {
         return Ok(None);
     };
+    pool.fill(rt, cpus);
     Ok(Some(try_twice(rt, &pool)))
 }
 
@@ -144,9 +146,10 @@ fn look_within<R: Wait + AllocGlobal>(
     rt: &R,
 ) -> Result<Option<(Option<(u64, u64)>, u64)>, MakeError> {
     let (domain, cpus) = made(rt.alloc(), 1)?;
-    let Ok(pool) = Pool::new(rt, rt.alloc(), &domain, cpus) else {
+    let Ok(mut pool) = Pool::new(rt.alloc(), &domain) else {
         return Ok(None);
     };
+    pool.fill(rt, cpus);
     Ok(Some(pool.with(rt, |cpu| (look_twice(cpu).ok(), cpu.open_here()))))
 }
 
@@ -254,12 +257,14 @@ fn use_at_once<R: Wait + Threads + AllocGlobal + Sync>(
     let Ok(rest) = cpus.split_off(at) else {
         return Ok(None);
     };
-    let Ok(readers) = Pool::new(rt, rt.alloc(), &domain, cpus) else {
+    let Ok(mut readers) = Pool::new(rt.alloc(), &domain) else {
         return Ok(None);
     };
-    let Ok(others) = Pool::new(rt, rt.alloc(), &domain, rest) else {
+    readers.fill(rt, cpus);
+    let Ok(mut others) = Pool::new(rt.alloc(), &domain) else {
         return Ok(None);
     };
+    others.fill(rt, rest);
     Ok(Some(read_update_and_drive(rt, &domain, &readers, &others)))
 }
 

@@ -130,9 +130,10 @@ fn wait_and_end<R: Wait + Clock + Threads + AllocGlobal + Sync>(
     rt: &R,
 ) -> Result<Option<(u64, Option<Totals>)>, MakeError> {
     let (domain, cpus) = made(rt.alloc(), THREADS + 1)?;
-    let Ok(pool) = Pool::new(rt, rt.alloc(), &domain, cpus) else {
+    let Ok(mut pool) = Pool::new(rt.alloc(), &domain) else {
         return Ok(None);
     };
+    pool.fill(rt, cpus);
     let signs = Signs::new();
     let (waited, ()) = join(
         rt,
