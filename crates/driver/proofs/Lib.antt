@@ -1,3 +1,4 @@
 pub mod CallerLemmas
 mod Keeping
 mod Rows
+mod Ending

@@ -16,6 +16,7 @@ use Rattle.domain.specs.Waiting.{HasNoneOpen}
 use Rattle.domain.proofs.CallerLemmas.{none_still, same_trans, same_polled, same_finished}
 use Rattle.driver.specs.declared.counts.Served.{Served}
 use Rattle.driver.specs.Counts.{IsCount, periods_in}
+use Rattle.driver.specs.Signs.{MayPoll}
 use Rattle.driver.specs.Serving.{jobs_of, LooksAfter, LooksAfterAll, Round, Counts, Row, Works, WorksFrom, EndsInVain, EndsInVainFrom}
 
 module _ {J : Type 0} where
@@ -172,19 +173,29 @@ module _ {J : Type 0} where
 
     -- Both parts
 
-    pub works_both : (d : DomainView) (f g h : F) (c x y z : CpuView J) (s t : Served) → Works step d f c s g x → Counts step g x 0 [] g y → WorksFrom step d s g y t h z → Works step d f c t h z
-    works_both d f g h c x y z s t w r v =
-        let one : Row step d 1 g x 0 [] g y = record { so_far = 0; front = []; work = g; between = x; before = (refl, refl, refl, refl); ended = 0; more = []; next = inr r; periods_are = refl; jobs_are = refl } in
-        let noted = rows_on d 1 w.ended 0 w.done [] f g g c x y (w.steps, w.row) one in
-        let all = rows_on d v.steps (w.ended + 0) v.ended (w.done ++ []) v.done f g h c y z noted v.row in
-        let told = v.jobs_told (length w.done) w.jobs_told in
+    -- a sign is looked at behind that, and its ticket polled, if there is one
+    pub works_polled : (d : DomainView) (f g : F) (c x y : CpuView J) (s : Served) → Works step d f c s g x → MayPoll x y → Works step d f c s g y
+    works_polled d f g c x y s w (inl same) = subst (λ (z : CpuView J). Works step d f c s g z) (sym same) w
+    works_polled d f g c x y s w (inr p) = record {
+      steps = suc w.steps;
+      ended = w.ended;
+      done = w.done;
+      row = record { so_far = w.ended; front = w.done; work = g; between = x; before = w.row; ended = 0; more = []; next = inr record { ticket = p.ticket; loads = inr (p.done, p.polls); rest = p.rest; none = (refl, refl, refl) }; periods_are = omega arith; jobs_are = sym (append-nil w.done) };
+      periods_told = w.periods_told;
+      jobs_told = w.jobs_told;
+    }
+
+    -- counts that go on from those of the first part are those of both
+    pub works_then : (d : DomainView) (f g h : F) (c x z : CpuView J) (s t : Served) → Works step d f c s g x → WorksFrom step d s g x t h z → Works step d f c t h z
+    works_then d f g h c x z s t w v =
+        let all = rows_on d v.steps w.ended v.ended w.done v.done f g h c x z (w.steps, w.row) v.row in
         record {
           steps = all.0;
-          ended = (w.ended + 0) + v.ended;
-          done = (w.done ++ []) ++ v.done;
+          ended = w.ended + v.ended;
+          done = w.done ++ v.done;
           row = all.1;
-          periods_told = λ lt. let is = v.periods_told w.ended w.periods_told (omega (arith, lt)) in omega (arith, is);
-          jobs_told = subst (λ (k : ℕ). IsCount t.jobs k) (sym (length-append (w.done ++ []) v.done ∙ ap (λ (l : List J). length l + length v.done) (append-nil w.done))) told;
+          periods_told = v.periods_told w.ended w.periods_told;
+          jobs_told = subst (λ (k : ℕ). IsCount t.jobs k) (sym (length-append w.done v.done)) (v.jobs_told (length w.done) w.jobs_told);
         }
 
     -- A last round in vain
@@ -228,5 +239,6 @@ module _ {J : Type 0} where
     pub vain_of_all : (d : DomainView) (before : Served) (f g : F) (c x : CpuView J) (s : Served) → before.periods ≡ 0 → before.jobs ≡ 0 → EndsInVainFrom step d before f c s g x → EndsInVain step d f c s g x
     vain_of_all d before f g c x s p j v = record { work = v.work; between = v.between; before = works_of_all d before f v.work c v.between s p j v.before; round = v.round }
 
-    pub vain_both : (d : DomainView) (f g h : F) (c x y z : CpuView J) (s t : Served) → Works step d f c s g x → Counts step g x 0 [] g y → EndsInVainFrom step d s g y t h z → EndsInVain step d f c t h z
-    vain_both d f g h c x y z s t w r v = record { work = v.work; between = v.between; before = works_both d f g v.work c x y v.between s t w r v.before; round = v.round }
+    pub vain_then : (d : DomainView) (f g h : F) (c x z : CpuView J) (s t : Served) → Works step d f c s g x → EndsInVainFrom step d s g x t h z → EndsInVain step d f c t h z
+    vain_then d f g h c x z s t w v = record { work = v.work; between = v.between; before = works_then d f g v.work c x v.between s t w v.before; round = v.round }
+

@@ -1,6 +1,8 @@
 pub mod Counts
 pub mod Pools
 pub mod PoolInsides
-pub mod Refusals
 pub mod Serving
+pub mod Signs
+pub mod SignInsides
+pub mod GiveRefusals
 pub mod Works

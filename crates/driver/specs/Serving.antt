@@ -151,14 +151,18 @@ module _ {J : Type 0} where
     abbrev pub EndsInVainFrom : DomainView → Served → F → CpuView J → Served → F → CpuView J → Type 0
     EndsInVainFrom d before f c served f' c' = LastInVain (λ g x. WorksFrom d before f c served g x) d f' c'
 
-  -- at a moment of the call a barrier was started, which is done now: what was queued on any processor by that moment was given out, and its batch is finished
-  pub record IsStopped (c c' : CpuView J) : Type 0 where
-    pub ticket : TicketView
+  -- at a moment of the call a barrier was started, and this is its ticket
+  pub record HasStarted (c : CpuView J) (ticket : TicketView) (c' : CpuView J) : Type 0 where
     pub told : CallSeatView J
     pub noted : CallSeatView J
     pub since : IsBeginning c.calls.seen told.seen
     pub starts : Starts told ticket noted
     pub until : IsBeginning noted.seen c'.calls.seen
+
+  -- and it is done now: what was queued on any processor by that moment was given out, and its batch is finished
+  pub record IsStopped (c c' : CpuView J) : Type 0 where
+    pub ticket : TicketView
+    pub started : HasStarted c ticket c'
     pub done : IsDone ticket c'.calls.seen
 
   -- the job of each receipt whose queueing the processor had seen was given out, and its batch is finished

@@ -1,33 +1,43 @@
 //! A driver: a thread that carries grace periods and runs callbacks.
 ghost use Rattle.std.specs.Prelude.{◌≡◌, IfOk, IfErr, MatchResult};
-ghost use Rattle.calls.specs.Barriers.{IsDone, AreFinished};
+ghost use Rattle.calls.specs.Barriers.{CoversAll, IsDone, AreFinished};
 ghost use Rattle.calls.specs.Tallies.{IsBeginning};
 ghost use Rattle.domain.specs.Views.{IsOf, IsSameProcessor};
 ghost use Rattle.domain.specs.Waiting.{HasNoneOpen};
 ghost use Rattle.domain.specs.Barriers.{IsTicketOf};
-ghost use Rattle.driver.specs.Serving.{Works, WorksFrom, EndsInVain, EndsInVainFrom, IsStopped, AllFinished};
-ghost use Rattle.driver.specs.declared.refusals.ServeRefusal.TheVariants as refusals;
+ghost use Rattle.driver.specs.Serving.{Works, WorksFrom, EndsInVain, EndsInVainFrom, HasStarted, IsStopped, AllFinished};
+ghost use Rattle.driver.specs.Signs.{IsServed};
 
 use crate::counts::Served;
 use crate::pause::Pause;
-use crate::refusals::ServeRefusal;
 use crate::serving::round;
-use crate::stop::Stop;
+use crate::stop::{Stop, Told};
 use domain::{Cpu, Domain, PeriodsExhausted, Ticket};
-use std::alloc::Allocator;
+use std::alloc::{Allocator, Global};
 use std::sync::Wait;
 
-/// Rounds until the sign is given, which is looked at behind each round. `Err` where no more grace periods may start.
+/// What a driver came to that was told to stop.
+#[derive(Drop)]
+pub struct Stopped<J, A: Allocator = Global> {
+    /// What it did.
+    pub served: Served,
+    /// What the sign told it.
+    pub told: Told<J, A>,
+}
+
+/// Rounds until the sign is given and its ticket is done, which is polled behind each round. `Err` where no more grace
+/// periods may start.
 fn until_told<R: Wait, J: Drop, A: Allocator + Copy, F: FnMut(J)>(
     rt: &R,
     domain: &Domain<J, A>,
     cpu: &mut Cpu<J, A>,
     processors: u16,
-    stop: &Stop,
+    stop: &Stop<J, A>,
     work: &mut F,
-) -> Result<Served, Served>
+) -> Result<Stopped<J, A>, Served>
     requires here { IsOf domain.now cpu.old }
     requires none { HasNoneOpen cpu.old }
+    requires stop { stop.now.domain ≡ domain.now }
     requires processors { processors ≡ domain.now.processors }
     requires work { F.IsAlwaysCallable work.old }
     ensures here { IsOf domain.now cpu.new }
@@ -35,9 +45,10 @@ fn until_told<R: Wait, J: Drop, A: Allocator + Copy, F: FnMut(J)>(
     ensures later { IsBeginning cpu.old.calls.seen cpu.new.calls.seen }
     ensures same { IsSameProcessor cpu.old cpu.new }
     ensures works { MatchResult result
-        (λ served. Works (λ p x q. F.step p x tt q) domain.now work.old cpu.old served work.new cpu.new)
+        (λ stopped. Works (λ p x q. F.step p x tt q) domain.now work.old cpu.old stopped.served work.new cpu.new)
         (λ served. Works (λ p x q. F.step p x tt q) domain.now work.old cpu.old served work.new cpu.new) }
     ensures vain { IfErr result (λ served. EndsInVain (λ p x q. F.step p x tt q) domain.now work.old cpu.old served work.new cpu.new) }
+    ensures told { IfOk result (λ stopped. IsServed stop.now stopped.told cpu.new.calls.seen) }
     ensures work { F.IsAlwaysCallable work.new }
 {
     let mut served = Served::nothing();
@@ -48,11 +59,58 @@ fn until_told<R: Wait, J: Drop, A: Allocator + Copy, F: FnMut(J)>(
         if came.is_end() {
             return Err(served);
         }
-        if stop.is_given() {
-            return Ok(served);
+        if let Some(told) = stop.poll(rt, domain, cpu) {
+            return Ok(Stopped { served, told });
         }
         if came.is_rest() {
             pause.sleep_until(rt, stop);
+        } else {
+            pause.reset();
+        }
+    }
+    unreachable!()
+}
+
+/// Rounds until there is memory for a barrier of its own, which is tried before each round. `Err` where no more grace periods
+/// may start. Goes on from these counts.
+fn until_started<R: Wait, J: Drop, A: Allocator + Copy, F: FnMut(J)>(
+    rt: &R,
+    domain: &Domain<J, A>,
+    cpu: &mut Cpu<J, A>,
+    processors: u16,
+    before: Served,
+    work: &mut F,
+) -> Result<(Served, Ticket<J, A>), Served>
+    requires here { IsOf domain.now cpu.old }
+    requires none { HasNoneOpen cpu.old }
+    requires processors { processors ≡ domain.now.processors }
+    requires work { F.IsAlwaysCallable work.old }
+    ensures here { IsOf domain.now cpu.new }
+    ensures none { HasNoneOpen cpu.new }
+    ensures later { IsBeginning cpu.old.calls.seen cpu.new.calls.seen }
+    ensures same { IsSameProcessor cpu.old cpu.new }
+    ensures works { MatchResult result
+        (λ started. WorksFrom (λ p x q. F.step p x tt q) domain.now before work.old cpu.old started.0 work.new cpu.new)
+        (λ served. WorksFrom (λ p x q. F.step p x tt q) domain.now before work.old cpu.old served work.new cpu.new) }
+    ensures vain { IfErr result (λ served. EndsInVainFrom (λ p x q. F.step p x tt q) domain.now before work.old cpu.old served work.new cpu.new) }
+    ensures ticket { IfOk result (λ started. IsTicketOf domain.now started.1) }
+    ensures starts { IfOk result (λ started. HasStarted cpu.old started.1 cpu.new) }
+    ensures covers { IfOk result (λ started. CoversAll started.1 domain.now.processors cpu.old.calls.seen) }
+    ensures work { F.IsAlwaysCallable work.new }
+{
+    let mut served = before;
+    let mut pause = Pause::new();
+    for _ in rt.forever() {
+        if let Ok(ticket) = domain.barrier_start(cpu) {
+            return Ok((served, ticket));
+        }
+        let came = round(rt, domain, cpu, processors, work);
+        served = served.and(&came);
+        if came.is_end() {
+            return Err(served);
+        }
+        if came.is_rest() {
+            pause.sleep(rt);
         } else {
             pause.reset();
         }
@@ -146,26 +204,28 @@ pub fn barrier<R: Wait, J: Drop, A: Allocator + Copy, F: FnMut(J)>(
     }
 }
 
-/// Carries grace periods and runs callbacks until it is told to stop, and then until all that was queued by then on any
-/// processor is finished (`srcu_advance_state`, `srcu_invoke_callbacks`). A round is one turn of the engine and one look
-/// at each processor's list: what is ready there, at most eight jobs, is taken out, each job is handed to `work`, the
-/// first one first, and the batch is finished. Behind a round that found nothing to do it sleeps, each time twice as
-/// long, up to a millisecond.
+/// Carries grace periods and runs callbacks until it is told to stop, and then until each job is finished whose queueing had
+/// been seen by whoever told it, or by the driver itself (`srcu_advance_state`, `srcu_invoke_callbacks`). A round is one turn
+/// of the engine and one look at each processor's list: what is ready there, at most eight jobs, is taken out, each job is
+/// handed to `work`, the first one first, and the batch is finished. Behind a round that found nothing to do it sleeps, each
+/// time twice as long, up to a millisecond.
 ///
 /// Several threads may do so in one domain, each with a processor of its own: where one has the engine or a batch, the
-/// others go on. A section that stays open holds it up, and so does a batch that somebody else took and keeps.
+/// others go on. A section that stays open holds it up, and so does a batch that somebody else took and keeps. Where there is
+/// no memory for a barrier of its own, it makes rounds until there is.
 ///
-/// Answers how many grace periods it ended and how many jobs it ran, also where it ends early. Then no batch of it is
-/// out, and jobs may be left.
+/// Answers how many grace periods it ended and how many jobs it ran, also where it ends early, as no more grace periods may
+/// start. Then no batch of it is out, and jobs may be left.
 pub fn serve<R: Wait, J: Drop, A: Allocator + Copy, F: FnMut(J)>(
     rt: &R,
     domain: &Domain<J, A>,
     cpu: &mut Cpu<J, A>,
-    stop: &Stop,
+    stop: &Stop<J, A>,
     mut work: F,
-) -> Result<Served, (Served, ServeRefusal)>
+) -> Result<Stopped<J, A>, (Served, PeriodsExhausted)>
     requires here { IsOf domain.now cpu.old }
     requires none { HasNoneOpen cpu.old }
+    requires stop { stop.now.domain ≡ domain.now }
     requires work { F.IsAlwaysCallable work }
     ensures here { IsOf domain.now cpu.new }
     ensures none { HasNoneOpen cpu.new }
@@ -173,26 +233,30 @@ pub fn serve<R: Wait, J: Drop, A: Allocator + Copy, F: FnMut(J)>(
 
     // It made rounds and nothing else: each batch that it took it ran and finished.
     ensures works { MatchResult result
-        (λ served. (last : F) × Works (λ p x q. F.step p x tt q) domain.now work cpu.old served last cpu.new)
+        (λ stopped. (last : F) × Works (λ p x q. F.step p x tt q) domain.now work cpu.old stopped.served last cpu.new)
         (λ ended. (last : F) × Works (λ p x q. F.step p x tt q) domain.now work cpu.old ended.0 last cpu.new) }
 
-    // Where it ends as no more may start, its last round's turn of the engine found that, and no job was run in it.
-    ensures vain { IfErr result (λ ended. ended.1 ≡ refusals.Exhausted → (last : F) × EndsInVain (λ p x q. F.step p x tt q) domain.now work cpu.old ended.0 last cpu.new) }
+    // Where it ends early, its last round's turn of the engine found that no more may start, and no job was run in it.
+    ensures vain { IfErr result (λ ended. (last : F) × EndsInVain (λ p x q. F.step p x tt q) domain.now work cpu.old ended.0 last cpu.new) }
 
-    // What was queued when it was told to stop is finished.
+    // It was told to stop, and each job is finished whose queueing the one who told it had seen.
+    ensures told { IfOk result (λ stopped. IsServed stop.now stopped.told cpu.new.calls.seen) }
+
+    // So is each one whose queueing it had seen itself, as a barrier was started in the call, which is done.
     ensures stopped { IfOk result (λ _. IsStopped cpu.old cpu.new) }
     ensures finished { IfOk result (λ _. AllFinished domain.now.processors cpu.old cpu.new) }
 {
     let processors = domain.processors();
-    let served = match until_told(rt, domain, cpu, processors, stop, &mut work) {
-        Ok(served) => served,
-        Err(served) => return Err((served, ServeRefusal::Exhausted)),
+    let Stopped { served, told } = match until_told(rt, domain, cpu, processors, stop, &mut work) {
+        Ok(stopped) => stopped,
+        Err(served) => return Err((served, PeriodsExhausted)),
     };
-    let Ok(ticket) = domain.barrier_start(cpu) else {
-        return Err((served, ServeRefusal::Memory));
+    let (served, ticket) = match until_started(rt, domain, cpu, processors, served, &mut work) {
+        Ok(started) => started,
+        Err(served) => return Err((served, PeriodsExhausted)),
     };
     match until_done(rt, domain, cpu, processors, &ticket, served, &mut work) {
-        Ok(served) => Ok(served),
-        Err(served) => Err((served, ServeRefusal::Exhausted)),
+        Ok(served) => Ok(Stopped { served, told }),
+        Err(served) => Err((served, PeriodsExhausted)),
     }
 }

@@ -10,14 +10,15 @@ mod pool;
 mod reading;
 mod refusals;
 mod serving;
+mod sign;
 mod stop;
 #[cfg(test)]
 mod tests;
 
 pub use counts::Served;
-pub use driving::{barrier, serve};
+pub use driving::{Stopped, barrier, serve};
 pub use pool::{AtHome, Lent, Pool, Slip};
 pub use reading::read;
-pub use refusals::ServeRefusal;
+pub use refusals::GiveRefusal;
 pub use serving::run_batch;
-pub use stop::Stop;
+pub use stop::{Stop, Told};

@@ -1,5 +1,6 @@
 //! Sleeps that grow while there is nothing to do.
 use crate::stop::Stop;
+use std::alloc::Allocator;
 use std::sync::Wait;
 use std::sync::atomic::AtomicU64;
 use std::time::Duration;
@@ -34,7 +35,7 @@ impl Pause {
     }
 
     /// Sleeps, or until the sign is given.
-    pub fn sleep_until<R: Wait>(&mut self, rt: &R, stop: &Stop) {
+    pub fn sleep_until<R: Wait, J, A: Allocator>(&mut self, rt: &R, stop: &Stop<J, A>) {
         stop.sleep(rt, self.next());
     }
 

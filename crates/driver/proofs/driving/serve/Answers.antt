@@ -1,34 +1,36 @@
--- First the rounds until it was told to stop, then the barrier's start, then the rounds until it is done.
-use Rattle.std.proofs.Common.{inl, refl, sym, subst, arith}
-use Rattle.calls.proofs.CallerLemmas.{queued_later}
-use Rattle.domain.specs.Views.{CpuView}
-use Rattle.domain.proofs.CallerLemmas.{same_trans, same_finished}
-use Rattle.driver.specs.Serving.{Works}
-use Rattle.driver.proofs.Rows.{works_both, vain_both}
+-- First the rounds until it was told to stop, then those until a barrier of its own is started, then those until that is done.
+use Rattle.std.proofs.Common.{arith}
+use Rattle.calls.proofs.CallerLemmas.{begins_on, queued_later}
+use Rattle.driver.proofs.Rows.{works_then, vain_then}
+use Rattle.driver.proofs.Ending.{done_later, started_later, started_earlier}
 use Rattle.driver.proofs.driving.serve.Goals as goal
 
-pub returns-in_default-clause-works : goal.returns-in_default-clause-works
-returns-in_default-clause-works g c = (c.until_told.new.work, subst (λ (z : CpuView g.row.J.Denot). Works (λ p x q. goal.F-step g p x tt q) c.args.domain.now c.args.work c.args.cpu.now c.in-Ok.served c.until_told.new.work z) (sym c.in_default.ensures.starts) c.in-Ok.ensures.works)
+pub returns-in-Err-until_started-clause-works : goal.returns-in-Err-until_started-clause-works
+returns-in-Err-until_started-clause-works g c = (c.until_started.new.work, works_then (λ p x q. goal.F-step g p x tt q) c.args.domain.now c.args.work c.until_told.new.work c.until_started.new.work c.args.cpu.now c.until_told.new.cpu c.until_started.new.cpu c.in-Ok.stopped.served c.in-Err-until_started.served c.in-Ok.ensures.works c.in-Err-until_started.ensures.works)
+
+pub returns-in-Err-until_started-clause-vain : goal.returns-in-Err-until_started-clause-vain
+returns-in-Err-until_started-clause-vain g c = (c.until_started.new.work, vain_then (λ p x q. goal.F-step g p x tt q) c.args.domain.now c.args.work c.until_told.new.work c.until_started.new.work c.args.cpu.now c.until_told.new.cpu c.until_started.new.cpu c.in-Ok.stopped.served c.in-Err-until_started.served c.in-Ok.ensures.works c.in-Err-until_started.ensures.vain)
 
 pub returns-in-Ok-until_done-clause-works : goal.returns-in-Ok-until_done-clause-works
-returns-in-Ok-until_done-clause-works g c = (c.until_done.new.work, works_both (λ p x q. goal.F-step g p x tt q) c.args.domain.now c.args.work c.until_told.new.work c.until_done.new.work c.args.cpu.now c.until_told.new.cpu c.barrier_start.new.cpu c.until_done.new.cpu c.in-Ok.served c.in-Ok-until_done.served c.in-Ok.ensures.works record { ticket = c.in-Ok-barrier_start.ticket; loads = inl c.in-Ok-barrier_start.ensures.starts; rest = c.in-Ok-barrier_start.ensures.rest; none = (refl, refl, refl) } c.in-Ok-until_done.ensures.works)
+returns-in-Ok-until_done-clause-works g c = (c.until_done.new.work, works_then (λ p x q. goal.F-step g p x tt q) c.args.domain.now c.args.work c.until_started.new.work c.until_done.new.work c.args.cpu.now c.until_started.new.cpu c.until_done.new.cpu c.in-Ok-until_started.started.0 c.in-Ok-until_done.served (works_then (λ p x q. goal.F-step g p x tt q) c.args.domain.now c.args.work c.until_told.new.work c.until_started.new.work c.args.cpu.now c.until_told.new.cpu c.until_started.new.cpu c.in-Ok.stopped.served c.in-Ok-until_started.started.0 c.in-Ok.ensures.works c.in-Ok-until_started.ensures.works) c.in-Ok-until_done.ensures.works)
+
+pub returns-in-Ok-until_done-clause-told : goal.returns-in-Ok-until_done-clause-told
+returns-in-Ok-until_done-clause-told g c = let w = c.in-Ok.ensures.told in record { word = w.word; says = w.says; done = done_later w.word _ _ (begins_on c.until_started.ensures.later c.until_done.ensures.later) w.done }
+
+pub returns-in-Ok-until_done-clause-stopped : goal.returns-in-Ok-until_done-clause-stopped
+returns-in-Ok-until_done-clause-stopped g c = record {
+  ticket = c.in-Ok-until_started.started.1;
+  started = started_later c.args.cpu.now c.until_started.new.cpu c.until_done.new.cpu _ (started_earlier c.args.cpu.now c.until_told.new.cpu c.until_started.new.cpu _ c.until_told.ensures.later c.in-Ok-until_started.ensures.starts) c.until_done.ensures.later;
+  done = c.in-Ok-until_done.ensures.done.0;
+}
 
 pub returns-in-Ok-until_done-clause-finished : goal.returns-in-Ok-until_done-clause-finished
 returns-in-Ok-until_done-clause-finished g c = λ r lt queued.
-    let more = queued_later r.processor c.in-Ok.ensures.later in
-    c.in-Ok-until_done.ensures.done.1 r (c.in-Ok-barrier_start.ensures.covers r lt (omega (arith, queued, more)))
+    let more = queued_later r.processor c.until_told.ensures.later in
+    c.in-Ok-until_done.ensures.done.1 r (c.in-Ok-until_started.ensures.covers r lt (omega (arith, queued, more)))
 
 pub returns-clause-works : goal.returns-clause-works
-returns-clause-works g c = (c.until_done.new.work, works_both (λ p x q. goal.F-step g p x tt q) c.args.domain.now c.args.work c.until_told.new.work c.until_done.new.work c.args.cpu.now c.until_told.new.cpu c.barrier_start.new.cpu c.until_done.new.cpu c.in-Ok.served c.in-Err-until_done.served c.in-Ok.ensures.works record { ticket = c.in-Ok-barrier_start.ticket; loads = inl c.in-Ok-barrier_start.ensures.starts; rest = c.in-Ok-barrier_start.ensures.rest; none = (refl, refl, refl) } c.in-Err-until_done.ensures.works)
-
-pub returns-in_default-clause-same : goal.returns-in_default-clause-same
-returns-in_default-clause-same g c = same_trans c.args.cpu.now c.until_told.new.cpu c.barrier_start.new.cpu c.until_told.ensures.same (same_finished c.until_told.new.cpu c.barrier_start.new.cpu c.barrier_start.ensures.same c.barrier_start.ensures.rest)
-
-pub returns-in-Ok-until_done-clause-same : goal.returns-in-Ok-until_done-clause-same
-returns-in-Ok-until_done-clause-same g c = same_trans c.args.cpu.now c.barrier_start.new.cpu c.until_done.new.cpu (same_trans c.args.cpu.now c.until_told.new.cpu c.barrier_start.new.cpu c.until_told.ensures.same (same_finished c.until_told.new.cpu c.barrier_start.new.cpu c.barrier_start.ensures.same c.barrier_start.ensures.rest)) c.until_done.ensures.same
-
-pub returns-clause-same : goal.returns-clause-same
-returns-clause-same g c = same_trans c.args.cpu.now c.barrier_start.new.cpu c.until_done.new.cpu (same_trans c.args.cpu.now c.until_told.new.cpu c.barrier_start.new.cpu c.until_told.ensures.same (same_finished c.until_told.new.cpu c.barrier_start.new.cpu c.barrier_start.ensures.same c.barrier_start.ensures.rest)) c.until_done.ensures.same
+returns-clause-works g c = (c.until_done.new.work, works_then (λ p x q. goal.F-step g p x tt q) c.args.domain.now c.args.work c.until_started.new.work c.until_done.new.work c.args.cpu.now c.until_started.new.cpu c.until_done.new.cpu c.in-Ok-until_started.started.0 c.in-Err-until_done.served (works_then (λ p x q. goal.F-step g p x tt q) c.args.domain.now c.args.work c.until_told.new.work c.until_started.new.work c.args.cpu.now c.until_told.new.cpu c.until_started.new.cpu c.in-Ok.stopped.served c.in-Ok-until_started.started.0 c.in-Ok.ensures.works c.in-Ok-until_started.ensures.works) c.in-Err-until_done.ensures.works)
 
 pub returns-clause-vain : goal.returns-clause-vain
-returns-clause-vain g c = λ _. (c.until_done.new.work, vain_both (λ p x q. goal.F-step g p x tt q) c.args.domain.now c.args.work c.until_told.new.work c.until_done.new.work c.args.cpu.now c.until_told.new.cpu c.barrier_start.new.cpu c.until_done.new.cpu c.in-Ok.served c.in-Err-until_done.served c.in-Ok.ensures.works record { ticket = c.in-Ok-barrier_start.ticket; loads = inl c.in-Ok-barrier_start.ensures.starts; rest = c.in-Ok-barrier_start.ensures.rest; none = (refl, refl, refl) } c.in-Err-until_done.ensures.vain)
+returns-clause-vain g c = (c.until_done.new.work, vain_then (λ p x q. goal.F-step g p x tt q) c.args.domain.now c.args.work c.until_started.new.work c.until_done.new.work c.args.cpu.now c.until_started.new.cpu c.until_done.new.cpu c.in-Ok-until_started.started.0 c.in-Err-until_done.served (works_then (λ p x q. goal.F-step g p x tt q) c.args.domain.now c.args.work c.until_told.new.work c.until_started.new.work c.args.cpu.now c.until_told.new.cpu c.until_started.new.cpu c.in-Ok.stopped.served c.in-Ok-until_started.started.0 c.in-Ok.ensures.works c.in-Ok-until_started.ensures.works) c.in-Err-until_done.ensures.vain)

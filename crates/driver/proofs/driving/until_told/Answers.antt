@@ -1,7 +1,7 @@
--- One more round.
+-- One more round, and a look at the sign.
 use Rattle.calls.proofs.CallerLemmas.{begins_itself, begins_on}
-use Rattle.domain.proofs.CallerLemmas.{same_trans}
-use Rattle.driver.proofs.Rows.{same_itself, works_none, works_on, vain_on}
+use Rattle.domain.proofs.CallerLemmas.{none_at_tallies, same_trans, same_finished}
+use Rattle.driver.proofs.Rows.{same_itself, works_none, works_on, works_polled, vain_on}
 use Rattle.driver.proofs.driving.until_told.Goals as goal
 
 pub loop-init : goal.loop-init
@@ -22,24 +22,36 @@ round-came-requires-clause-work g c = c.loop.invariant.0
 pub returns-then-is_end-clause-later : goal.returns-then-is_end-clause-later
 returns-then-is_end-clause-later g c = begins_on c.loop.invariant.1.later c.round-came.ensures.later
 
+pub returns-then-is_end-clause-same : goal.returns-then-is_end-clause-same
+returns-then-is_end-clause-same g c = same_trans _ _ _ c.loop.invariant.1.same c.round-came.ensures.same
+
 pub returns-then-is_end-clause-works : goal.returns-then-is_end-clause-works
 returns-then-is_end-clause-works g c = works_on (λ p x q. goal.F-step g p x tt q) c.args.domain.now _ _ _ _ _ _ c.loop.served c.and-served.result c.round-came.result.answer c.round-came.result.jobs c.loop.invariant.1.works c.round-came.ensures.round c.and-served.ensures.periods c.and-served.ensures.jobs
 
-pub returns-then-is_given-clause-later : goal.returns-then-is_given-clause-later
-returns-then-is_given-clause-later g c = begins_on c.loop.invariant.1.later c.round-came.ensures.later
+pub returns-then-is_end-clause-vain : goal.returns-then-is_end-clause-vain
+returns-then-is_end-clause-vain g c = vain_on (λ p x q. goal.F-step g p x tt q) c.args.domain.now _ _ _ _ _ _ c.loop.served c.and-served.result c.round-came.result.answer c.round-came.result.jobs c.loop.invariant.1.works c.round-came.ensures.round c.and-served.ensures.periods c.and-served.ensures.jobs (c.is_end.ensures.0 c.if-is_end.true).0 (c.is_end.ensures.0 c.if-is_end.true).1
 
-pub returns-then-is_given-clause-works : goal.returns-then-is_given-clause-works
-returns-then-is_given-clause-works g c = works_on (λ p x q. goal.F-step g p x tt q) c.args.domain.now _ _ _ _ _ _ c.loop.served c.and-served.result c.round-came.result.answer c.round-came.result.jobs c.loop.invariant.1.works c.round-came.ensures.round c.and-served.ensures.periods c.and-served.ensures.jobs
+pub returns-in-Some-poll-clause-none : goal.returns-in-Some-poll-clause-none
+returns-in-Some-poll-clause-none g c = none_at_tallies c.round-came.new.cpu c.poll.new.cpu c.round-came.ensures.none c.poll.ensures.rest
+
+pub returns-in-Some-poll-clause-later : goal.returns-in-Some-poll-clause-later
+returns-in-Some-poll-clause-later g c = begins_on (begins_on c.loop.invariant.1.later c.round-came.ensures.later) c.poll.ensures.later
+
+pub returns-in-Some-poll-clause-same : goal.returns-in-Some-poll-clause-same
+returns-in-Some-poll-clause-same g c = same_trans _ _ _ (same_trans _ _ _ c.loop.invariant.1.same c.round-came.ensures.same) (same_finished c.round-came.new.cpu c.poll.new.cpu c.poll.ensures.same c.poll.ensures.rest)
+
+pub returns-in-Some-poll-clause-works : goal.returns-in-Some-poll-clause-works
+returns-in-Some-poll-clause-works g c = works_polled (λ p x q. goal.F-step g p x tt q) c.args.domain.now _ _ _ c.round-came.new.cpu c.poll.new.cpu c.and-served.result (works_on (λ p x q. goal.F-step g p x tt q) c.args.domain.now _ _ _ _ _ _ c.loop.served c.and-served.result c.round-came.result.answer c.round-came.result.jobs c.loop.invariant.1.works c.round-came.ensures.round c.and-served.ensures.periods c.and-served.ensures.jobs) c.poll.ensures.polled
 
 pub loop-preserved-then-is_rest : goal.loop-preserved-then-is_rest
 loop-preserved-then-is_rest g c = (
   c.round-came.ensures.work,
   record {
-    here = c.round-came.ensures.here;
-    still = c.round-came.ensures.none;
-    later = begins_on c.loop.invariant.1.later c.round-came.ensures.later;
-    same = same_trans _ _ _ c.loop.invariant.1.same c.round-came.ensures.same;
-    works = works_on (λ p x q. goal.F-step g p x tt q) c.args.domain.now _ _ _ _ _ _ c.loop.served c.and-served.result c.round-came.result.answer c.round-came.result.jobs c.loop.invariant.1.works c.round-came.ensures.round c.and-served.ensures.periods c.and-served.ensures.jobs;
+    here = c.poll.ensures.here;
+    still = none_at_tallies c.round-came.new.cpu c.poll.new.cpu c.round-came.ensures.none c.poll.ensures.rest;
+    later = begins_on (begins_on c.loop.invariant.1.later c.round-came.ensures.later) c.poll.ensures.later;
+    same = same_trans _ _ _ (same_trans _ _ _ c.loop.invariant.1.same c.round-came.ensures.same) (same_finished c.round-came.new.cpu c.poll.new.cpu c.poll.ensures.same c.poll.ensures.rest);
+    works = works_polled (λ p x q. goal.F-step g p x tt q) c.args.domain.now _ _ _ c.round-came.new.cpu c.poll.new.cpu c.and-served.result (works_on (λ p x q. goal.F-step g p x tt q) c.args.domain.now _ _ _ _ _ _ c.loop.served c.and-served.result c.round-came.result.answer c.round-came.result.jobs c.loop.invariant.1.works c.round-came.ensures.round c.and-served.ensures.periods c.and-served.ensures.jobs) c.poll.ensures.polled;
   },
 )
 
@@ -47,19 +59,10 @@ pub loop-preserved : goal.loop-preserved
 loop-preserved g c = (
   c.round-came.ensures.work,
   record {
-    here = c.round-came.ensures.here;
-    still = c.round-came.ensures.none;
-    later = begins_on c.loop.invariant.1.later c.round-came.ensures.later;
-    same = same_trans _ _ _ c.loop.invariant.1.same c.round-came.ensures.same;
-    works = works_on (λ p x q. goal.F-step g p x tt q) c.args.domain.now _ _ _ _ _ _ c.loop.served c.and-served.result c.round-came.result.answer c.round-came.result.jobs c.loop.invariant.1.works c.round-came.ensures.round c.and-served.ensures.periods c.and-served.ensures.jobs;
+    here = c.poll.ensures.here;
+    still = none_at_tallies c.round-came.new.cpu c.poll.new.cpu c.round-came.ensures.none c.poll.ensures.rest;
+    later = begins_on (begins_on c.loop.invariant.1.later c.round-came.ensures.later) c.poll.ensures.later;
+    same = same_trans _ _ _ (same_trans _ _ _ c.loop.invariant.1.same c.round-came.ensures.same) (same_finished c.round-came.new.cpu c.poll.new.cpu c.poll.ensures.same c.poll.ensures.rest);
+    works = works_polled (λ p x q. goal.F-step g p x tt q) c.args.domain.now _ _ _ c.round-came.new.cpu c.poll.new.cpu c.and-served.result (works_on (λ p x q. goal.F-step g p x tt q) c.args.domain.now _ _ _ _ _ _ c.loop.served c.and-served.result c.round-came.result.answer c.round-came.result.jobs c.loop.invariant.1.works c.round-came.ensures.round c.and-served.ensures.periods c.and-served.ensures.jobs) c.poll.ensures.polled;
   },
 )
-
-pub returns-then-is_end-clause-same : goal.returns-then-is_end-clause-same
-returns-then-is_end-clause-same g c = same_trans _ _ _ c.loop.invariant.1.same c.round-came.ensures.same
-
-pub returns-then-is_given-clause-same : goal.returns-then-is_given-clause-same
-returns-then-is_given-clause-same g c = same_trans _ _ _ c.loop.invariant.1.same c.round-came.ensures.same
-
-pub returns-then-is_end-clause-vain : goal.returns-then-is_end-clause-vain
-returns-then-is_end-clause-vain g c = vain_on (λ p x q. goal.F-step g p x tt q) c.args.domain.now _ _ _ _ _ _ c.loop.served c.and-served.result c.round-came.result.answer c.round-came.result.jobs c.loop.invariant.1.works c.round-came.ensures.round c.and-served.ensures.periods c.and-served.ensures.jobs (c.is_end.ensures.0 c.if-is_end.true).0 (c.is_end.ensures.0 c.if-is_end.true).1
