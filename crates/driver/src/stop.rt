@@ -3,6 +3,7 @@ ghost use Rattle.std.specs.Prelude.{◌≡◌, ◌↔◌, true, IfOk, IfSome, Is
 ghost use Rattle.calls.specs.Calls.{IsSameSeat};
 ghost use Rattle.calls.specs.Tallies.{IsBeginning};
 ghost use Rattle.domain.specs.Views.{IsOf, with_calls};
+ghost use Rattle.domain.specs.Acting.{loads, ActsAs};
 ghost use Rattle.driver.specs.Signs.{Word, Says, SaysGiven, Gives, IsServed, MayPoll};
 ghost use Rattle.driver.specs.GiveRefusals.{IsRefusedBy};
 
@@ -68,6 +69,7 @@ impl<J, A: Allocator + Copy> Stop<J, A> {
         ensures here { IsOf domain.now cpu.new }
         ensures same { IsSameSeat cpu.old.calls cpu.new.calls }
         ensures rest { cpu.new ≡ with_calls cpu.new.calls cpu.old }
+        ensures acts { ActsAs loads cpu.old cpu.new }
         ensures gives { MatchResult result (λ told. Gives self.now cpu.old told cpu.new) (λ refusal. IsRefusedBy self.now refusal) }
     {
         let Ok(ticket) = domain.barrier_start(cpu) else {

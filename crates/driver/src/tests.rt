@@ -4,9 +4,10 @@ ghost use Rattle.driver.specs.Pools.{IsIdle};
 
 mod lending;
 mod sharing;
+mod telling;
 
 use super::*;
-use domain::{Cpu, Domain, Limits, MakeError, Totals};
+use domain::{Cpu, Domain, Limits, MakeError, PeriodsExhausted, Totals};
 use std::alloc::Global;
 use std::sync::Wait;
 use std::test::Fail;
@@ -28,6 +29,32 @@ fn made(alloc: Global, processors: usize) -> Result<(Domain<u64>, Vec<Cpu<u64>>)
 {
     let (domain, cpus, _) = Domain::new(alloc, processors, LIMITS)?;
     Ok((domain, cpus))
+}
+
+/// A pool of these.
+fn pool_of<'a, R: Wait + AllocGlobal>(
+    rt: &R,
+    domain: &'a Domain<u64>,
+    cpus: Vec<Cpu<u64>>,
+) -> Result<Pool<'a, u64>, MakeError>
+    requires { All (IsIdle domain.now) cpus.items }
+    ensures { IfOk result (λ pool. pool.domain ≡ domain.entry.now) }
+{
+    let Ok(mut pool) = Pool::new(rt.alloc(), domain) else {
+        return Err(MakeError::Memory);
+    };
+    pool.fill(rt, cpus);
+    Ok(pool)
+}
+
+/// A sign for its drivers.
+fn sign_of<R: AllocGlobal>(rt: &R, domain: &Domain<u64>) -> Result<Stop<u64>, MakeError>
+    ensures { IfOk result (λ stop. stop.domain ≡ domain.now) }
+{
+    match Stop::new(rt.alloc(), domain) {
+        Ok(stop) => Ok(stop),
+        Err(_) => Err(MakeError::Memory),
+    }
 }
 
 /// Takes the domain of a pool down.
@@ -56,10 +83,11 @@ fn drive<R: Wait>(
     rt: &R,
     domain: &Domain<u64>,
     pool: &Pool<u64>,
-    stop: &Stop,
+    stop: &Stop<u64>,
     jobs: (u64, u64),
 ) -> (bool, Option<Served>, u64)
-    requires { pool.now.domain ≡ domain.now }
+    requires pool { pool.now.domain ≡ domain.now }
+    requires stop { stop.now.domain ≡ domain.now }
 {
     let mut lent = pool.take(rt);
     let queued = queue(rt, domain, &mut lent.cpu, jobs.0, jobs.1);
@@ -68,7 +96,15 @@ fn drive<R: Wait>(
         digits = digits.wrapping_mul(10).wrapping_add(job);
     });
     pool.give(rt, lent);
-    (queued, served.ok(), digits)
+    (queued, served_by(served), digits)
+}
+
+/// What a driver did that came to its end.
+fn served_by(came: Result<Stopped<u64>, (Served, PeriodsExhausted)>) -> Option<Served> {
+    match came {
+        Ok(stopped) => Some(stopped.served),
+        Err(_) => None,
+    }
 }
 
 /// A driver that was told to stop before it began.
@@ -76,12 +112,9 @@ fn drive_in_vain<R: Wait + AllocGlobal>(
     rt: &R,
 ) -> Result<Option<(bool, Option<Served>, u64)>, MakeError> {
     let (domain, cpus) = made(rt.alloc(), 2)?;
-    let Ok(mut pool) = Pool::new(rt.alloc(), &domain) else {
-        return Ok(None);
-    };
-    pool.fill(rt, cpus);
-    let stop = Stop::new();
-    stop.give();
+    let pool = pool_of(rt, &domain, cpus)?;
+    let stop = sign_of(rt, &domain)?;
+    stop.give_alone(rt);
     Ok(Some(drive(rt, &domain, &pool, &stop, (1, 4))))
 }
 
@@ -101,10 +134,7 @@ fn wait_for_own<R: Wait + AllocGlobal>(
     rt: &R,
 ) -> Result<Option<(bool, Option<Served>, u64)>, MakeError> {
     let (domain, cpus) = made(rt.alloc(), 2)?;
-    let Ok(mut pool) = Pool::new(rt.alloc(), &domain) else {
-        return Ok(None);
-    };
-    pool.fill(rt, cpus);
+    let pool = pool_of(rt, &domain, cpus)?;
     let mut lent = pool.take(rt);
     let queued = queue(rt, &domain, &mut lent.cpu, 1, 4);
     let mut digits: u64 = 0;
@@ -135,12 +165,9 @@ fn drive_two<R: Wait + Threads + AllocGlobal + Sync>(
     rt: &R,
 ) -> Result<Option<(u64, Option<Totals>)>, MakeError> {
     let (domain, cpus) = made(rt.alloc(), 2)?;
-    let Ok(mut pool) = Pool::new(rt.alloc(), &domain) else {
-        return Ok(None);
-    };
-    pool.fill(rt, cpus);
-    let stop = Stop::new();
-    stop.give();
+    let pool = pool_of(rt, &domain, cpus)?;
+    let stop = sign_of(rt, &domain)?;
+    stop.give_alone(rt);
     let (here, there) = join(
         rt,
         || jobs_of(drive(rt, &domain, &pool, &stop, (0, 20))),
@@ -171,20 +198,17 @@ fn two_drivers(rt: HostRuntime) -> Result<(), Fail> {
 }
 
 /// Sleeps a while, and then tells the others to stop.
-fn tell<R: Clock>(rt: &R, stop: &Stop) {
+fn tell<R: Wait + Clock>(rt: &R, stop: &Stop<u64>) {
     sleep(rt, Duration::from_millis(5));
-    stop.give();
+    stop.give_alone(rt);
 }
 
 fn drive_until_told<R: Wait + Clock + Threads + AllocGlobal + Sync>(
     rt: &R,
 ) -> Result<u64, MakeError> {
     let (domain, cpus) = made(rt.alloc(), 2)?;
-    let Ok(mut pool) = Pool::new(rt.alloc(), &domain) else {
-        return Ok(0);
-    };
-    pool.fill(rt, cpus);
-    let stop = Stop::new();
+    let pool = pool_of(rt, &domain, cpus)?;
+    let stop = sign_of(rt, &domain)?;
     let (jobs, ()) = join(
         rt,
         || jobs_of(drive(rt, &domain, &pool, &stop, (0, 7))),

@@ -2,9 +2,10 @@
 ghost use Rattle.std.specs.Prelude.{◌≡◌, ◌<◌};
 ghost use Rattle.std.specs.Thread.{IsSync};
 ghost use Rattle.sections.specs.Words.{cells_in};
+ghost use Rattle.driver.specs.Pools.{IsIdle, IsLent};
 ghost use Rattle.driver.specs.Works.{IsKept};
 
-use super::{drive, end, jobs_of, made, queue};
+use super::{drive, end, jobs_of, made, pool_of, queue, sign_of};
 use crate::{Pool, Stop, read};
 use domain::{Cpu, Domain, Exhausted, MakeError, Reading, Totals};
 use std::sync::Wait;
@@ -55,10 +56,7 @@ fn come_and_end<R: Wait + Threads + AllocGlobal + Sync>(
     rt: &R,
 ) -> Result<Option<(u64, Option<Totals>)>, MakeError> {
     let (domain, cpus) = made(rt.alloc(), 3)?;
-    let Ok(mut pool) = Pool::new(rt.alloc(), &domain) else {
-        return Ok(None);
-    };
-    pool.fill(rt, cpus);
+    let pool = pool_of(rt, &domain, cpus)?;
     let came = come_all(rt, &domain, &pool);
     let Ok(cpus) = pool.close(rt) else {
         return Ok(None);
@@ -88,10 +86,7 @@ fn try_twice<R: Wait>(rt: &R, pool: &Pool<u64>) -> (bool, bool) {
 /// Whether one is refused while the only one is out, and there again behind that.
 fn take_the_last<R: Wait + AllocGlobal>(rt: &R) -> Result<Option<(bool, bool)>, MakeError> {
     let (domain, cpus) = made(rt.alloc(), 1)?;
-    let Ok(mut pool) = Pool::new(rt.alloc(), &domain) else {
-        return Ok(None);
-    };
-    pool.fill(rt, cpus);
+    let pool = pool_of(rt, &domain, cpus)?;
     Ok(Some(try_twice(rt, &pool)))
 }
 
@@ -146,10 +141,7 @@ fn look_within<R: Wait + AllocGlobal>(
     rt: &R,
 ) -> Result<Option<(Option<(u64, u64)>, u64)>, MakeError> {
     let (domain, cpus) = made(rt.alloc(), 1)?;
-    let Ok(mut pool) = Pool::new(rt.alloc(), &domain) else {
-        return Ok(None);
-    };
-    pool.fill(rt, cpus);
+    let pool = pool_of(rt, &domain, cpus)?;
     Ok(Some(pool.with(rt, |cpu| (look_twice(cpu).ok(), cpu.open_here()))))
 }
 
@@ -224,27 +216,43 @@ fn read_and_update<R: Wait + Threads + Sync>(
     )
 }
 
+/// Gives the sign by this processor, or by none.
+fn tell<R: Wait>(rt: &R, domain: &Domain<u64>, stop: &Stop<u64>, cpu: &mut Cpu<u64>) -> bool
+    requires idle { IsIdle domain.now cpu.old }
+    requires stop { stop.now.domain ≡ domain.now }
+    ensures { IsLent domain.now cpu.new cpu.old.cpu.processor }
+{
+    let given = stop.give(rt, domain, cpu).is_ok();
+    if !given {
+        stop.give_alone(rt);
+    }
+    given
+}
+
 /// The same, with a driver at the other pool that is told to stop in the end.
 fn read_update_and_drive<R: Wait + Threads + Sync>(
     rt: &R,
     domain: &Domain<u64>,
     readers: &Pool<u64>,
     others: &Pool<u64>,
+    stop: &Stop<u64>,
 ) -> ((u64, (bool, bool)), u64)
     requires readers { 0 < cells_in readers.now.domain.domain }
     requires others { others.now.domain ≡ domain.now }
+    requires stop { stop.now.domain ≡ domain.now }
 {
-    let stop = Stop::new();
     join(
         rt,
         || -> (u64, (bool, bool))
-            requires { IsSync R.row × (0 < cells_in readers.now.domain.domain) × (others.now.domain ≡ domain.now) }
+            requires { IsSync R.row × (0 < cells_in readers.now.domain.domain) × ((others.now.domain ≡ domain.now) × (stop.now.domain ≡ domain.now)) }
         {
             let told = read_and_update(rt, domain, readers, others);
-            stop.give();
+            let _given = others.with(rt, |cpu| tell(rt, domain, stop, cpu));
             told
         },
-        || jobs_of(drive(rt, domain, others, &stop, (0, 0))),
+        ||
+            requires { (others.now.domain ≡ domain.now) × (stop.now.domain ≡ domain.now) }
+        { jobs_of(drive(rt, domain, others, stop, (0, 0))) },
     )
 }
 
@@ -257,15 +265,12 @@ fn use_at_once<R: Wait + Threads + AllocGlobal + Sync>(
     let Ok(rest) = cpus.split_off(at) else {
         return Ok(None);
     };
-    let Ok(mut readers) = Pool::new(rt.alloc(), &domain) else {
-        return Ok(None);
-    };
-    readers.fill(rt, cpus);
-    let Ok(mut others) = Pool::new(rt.alloc(), &domain) else {
-        return Ok(None);
-    };
-    others.fill(rt, rest);
-    Ok(Some(read_update_and_drive(rt, &domain, &readers, &others)))
+    let readers = pool_of(rt, &domain, cpus)?;
+    let others = pool_of(rt, &domain, rest)?;
+    let stop = sign_of(rt, &domain)?;
+    Ok(Some(read_update_and_drive(
+        rt, &domain, &readers, &others, &stop,
+    )))
 }
 
 /// Would catch a section that stays open, a job that is lost, and threads that wait for each other.

@@ -2,7 +2,7 @@
 ghost use Rattle.std.specs.Prelude.{◌≡◌};
 ghost use Rattle.driver.specs.Works.{IsKept};
 
-use super::{end, made};
+use super::{end, made, pool_of};
 use crate::{Pool, read};
 use domain::{Cpu, Domain, MakeError, Reading, Totals};
 use std::sync::Wait;
@@ -43,7 +43,7 @@ impl Signs {
 }
 
 /// Looks until a sign is at this number. Answers whether it came to that.
-fn look_for<R: Clock>(rt: &R, sign: &AtomicU64, number: u64) -> bool {
+pub(super) fn look_for<R: Clock>(rt: &R, sign: &AtomicU64, number: u64) -> bool {
     for _ in 0..LOOKS {
         if sign.load(SeqCst) >= number {
             return true;
@@ -130,10 +130,7 @@ fn wait_and_end<R: Wait + Clock + Threads + AllocGlobal + Sync>(
     rt: &R,
 ) -> Result<Option<(u64, Option<Totals>)>, MakeError> {
     let (domain, cpus) = made(rt.alloc(), THREADS + 1)?;
-    let Ok(mut pool) = Pool::new(rt.alloc(), &domain) else {
-        return Ok(None);
-    };
-    pool.fill(rt, cpus);
+    let pool = pool_of(rt, &domain, cpus)?;
     let signs = Signs::new();
     let (waited, ()) = join(
         rt,
