@@ -179,11 +179,24 @@ fn give_twice<R: Wait>(
     (before, behind && first.is_ok(), again)
 }
 
+/// The same, on a processor of the pool.
+fn give_on<R: Wait>(
+    rt: &R,
+    domain: &Domain<u64>,
+    pool: &Pool<u64>,
+    stop: &Stop<u64>,
+) -> (bool, bool, bool)
+    requires pool { pool.now.domain ≡ domain.now }
+    requires stop { stop.now.domain ≡ domain.now }
+{
+    pool.with(rt, |cpu| give_twice(rt, domain, stop, cpu))
+}
+
 fn give_in_a_pool<R: Wait + AllocGlobal>(rt: &R) -> Result<(bool, bool, bool), MakeError> {
     let (domain, cpus) = made(rt.alloc(), 1)?;
     let pool = pool_of(rt, &domain, cpus)?;
     let stop = sign_of(rt, &domain)?;
-    Ok(pool.with(rt, |cpu| give_twice(rt, &domain, &stop, cpu)))
+    Ok(give_on(rt, &domain, &pool, &stop))
 }
 
 /// Would catch a sign that is given at once, or never, or twice.
