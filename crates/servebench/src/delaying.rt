@@ -110,23 +110,24 @@ fn delay_beside<R: Threads + Sync + Wait + Clock + AllocGlobal>(
     rt: &R,
     domain: &Domain<u64>,
     pool: &Pool<u64>,
+    stop: &Stop<u64>,
     reader: Cpu<u64>,
     start: Instant,
     times: usize,
 ) -> (Result<u64, Miss>, Result<Vec<u64>>)
     requires pool { pool.now.domain ≡ domain.now }
+    requires stop { stop.now.domain ≡ domain.now }
     requires reader { IsOf domain.now reader }
 {
     let ran = AtomicU64::new(0);
-    let stop = Stop::new();
     join(
         rt,
-        || serve_on(rt, domain, pool, &stop, |_job: u64| note(rt, &ran, start)),
+        || serve_on(rt, domain, pool, stop, |_job: u64| note(rt, &ran, start)),
         || -> Result<Vec<u64>>
             requires { IsSync R.row × ((pool.now.domain ≡ domain.now) × IsOf domain.now reader) }
         {
             let delays = delay_often(rt, domain, pool, reader, &ran, start, times);
-            stop.give();
+            stop.give_alone(rt);
             delays
         },
     )
@@ -138,11 +139,15 @@ pub fn run<R: Threads + Sync + Wait + Clock + AllocGlobal>(
     times: usize,
 ) -> Result<Vec<u64>> {
     let (domain, reader, cpus) = found(rt.alloc(), 2)?;
-    let Ok(pool) = Pool::new(rt, rt.alloc(), &domain, cpus) else {
+    let Ok(mut pool) = Pool::new(rt.alloc(), &domain) else {
+        return Err(Miss::Memory.into());
+    };
+    pool.fill(rt, cpus);
+    let Ok(stop) = Stop::new(rt.alloc(), &domain) else {
         return Err(Miss::Memory.into());
     };
     let start = Instant::now(rt)?;
-    let (served, delays) = delay_beside(rt, &domain, &pool, reader, start, times);
+    let (served, delays) = delay_beside(rt, &domain, &pool, &stop, reader, start, times);
     served?;
     delays
 }

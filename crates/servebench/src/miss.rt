@@ -1,5 +1,5 @@
 //! Why a run measured nothing.
-use driver::ServeRefusal;
+use domain::PeriodsExhausted;
 use std::error::Error;
 use std::fmt;
 
@@ -9,7 +9,7 @@ pub enum Miss {
     /// There was no memory.
     Memory,
     /// The driver ended early.
-    NotServed(ServeRefusal),
+    NotServed(PeriodsExhausted),
     /// Another number of jobs was queued, or run, than should have been.
     Jobs { queued: u64, run: u64 },
     /// No section was begun.

@@ -1,7 +1,7 @@
 //! Jobs that are queued by some threads, while a driver runs them in one more.
 ghost use Rattle.std.specs.Prelude.{◌≡◌, ◌≤◌};
 ghost use Rattle.std.specs.Thread.{IsSync};
-ghost use Rattle.driver.specs.Pools.{IsIdle};
+ghost use Rattle.driver.specs.Pools.{IsIdle, IsLent};
 
 use crate::found;
 use crate::miss::Miss;
@@ -63,19 +63,39 @@ pub fn serve_on<R: Wait, F: FnMut(u64)>(
     rt: &R,
     domain: &Domain<u64>,
     pool: &Pool<u64>,
-    stop: &Stop,
+    stop: &Stop<u64>,
     work: F,
 ) -> Result<u64, Miss>
     requires pool { pool.now.domain ≡ domain.now }
+    requires stop { stop.now.domain ≡ domain.now }
     requires work { F.IsAlwaysCallable work }
 {
-    let (mut cpu, lent) = pool.take(rt);
-    let served = serve(rt, domain, &mut cpu, stop, work);
-    pool.give(rt, cpu, lent);
+    let mut lent = pool.take(rt);
+    let served = serve(rt, domain, &mut lent.cpu, stop, work);
+    pool.give(rt, lent);
     match served {
-        Ok(served) => Ok(served.jobs),
+        Ok(stopped) => Ok(stopped.served.jobs),
         Err((_, refusal)) => Err(Miss::NotServed(refusal)),
     }
+}
+
+/// Gives the sign by this processor, which has to have seen the jobs, or by none.
+fn give<R: Wait>(rt: &R, domain: &Domain<u64>, stop: &Stop<u64>, cpu: &mut Cpu<u64>)
+    requires idle { IsIdle domain.now cpu.old }
+    requires stop { stop.now.domain ≡ domain.now }
+    ensures { IsLent domain.now cpu.new cpu.old.cpu.processor }
+{
+    if stop.give(rt, domain, cpu).is_err() {
+        stop.give_alone(rt);
+    }
+}
+
+/// The same on a processor of the pool.
+pub fn tell<R: Wait>(rt: &R, domain: &Domain<u64>, pool: &Pool<u64>, stop: &Stop<u64>)
+    requires pool { pool.now.domain ≡ domain.now }
+    requires stop { stop.now.domain ≡ domain.now }
+{
+    pool.with(rt, |cpu| give(rt, domain, stop, cpu));
 }
 
 /// Queues so many jobs in each of so many threads, while a driver runs them: to run one is to do nothing, as the driver
@@ -84,21 +104,22 @@ fn queue_and_serve<R: Wait + Threads + Sync>(
     rt: &R,
     domain: &Domain<u64>,
     pool: &Pool<u64>,
+    stop: &Stop<u64>,
     threads: usize,
     jobs: u64,
 ) -> (Result<u64, Miss>, u64)
     requires pool { pool.now.domain ≡ domain.now }
+    requires stop { stop.now.domain ≡ domain.now }
     requires threads { threads ≤ 4 }
 {
-    let stop = Stop::new();
     join(
         rt,
-        || serve_on(rt, domain, pool, &stop, |_job: u64| {}),
+        || serve_on(rt, domain, pool, stop, |_job: u64| {}),
         ||
-            requires { IsSync R.row × ((pool.now.domain ≡ domain.now) × (threads ≤ 4)) }
+            requires { IsSync R.row × ((pool.now.domain ≡ domain.now) × (stop.now.domain ≡ domain.now) × (threads ≤ 4)) }
         {
             let queued = queue_all(rt, domain, pool, threads, jobs);
-            stop.give();
+            tell(rt, domain, pool, stop);
             queued
         },
     )
@@ -114,11 +135,15 @@ pub fn run<R: Threads + Sync + Wait + Clock + AllocGlobal>(
     requires { threads ≤ 4 }
 {
     let (domain, _, cpus) = found(rt.alloc(), threads + 1)?;
-    let Ok(pool) = Pool::new(rt, rt.alloc(), &domain, cpus) else {
+    let Ok(mut pool) = Pool::new(rt.alloc(), &domain) else {
+        return Err(Miss::Memory.into());
+    };
+    pool.fill(rt, cpus);
+    let Ok(stop) = Stop::new(rt.alloc(), &domain) else {
         return Err(Miss::Memory.into());
     };
     let start = Instant::now(rt)?;
-    let (run, queued) = queue_and_serve(rt, &domain, &pool, threads, jobs);
+    let (run, queued) = queue_and_serve(rt, &domain, &pool, &stop, threads, jobs);
     let elapsed = start.elapsed(rt)?;
     let run = run?;
     let all = jobs.saturating_mul(threads as u64);
