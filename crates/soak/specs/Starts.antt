@@ -5,12 +5,13 @@ use Rattle.soak.specs.declared.run.Start.{Start}
 use Rattle.soak.specs.Workers.{AreAllAtWork}
 use Rattle.soak.specs.Updaters.{IsUpdating}
 
--- seven workers, the driver and the updater are at one domain and its desk, and there is room for what is taken from the workers in the end
+-- seven workers, the driver and the updater are at one domain and its desk, the sign is for its drivers, and there is room for what is taken from the workers in the end
 pub record IsPrepared (s : Start) : Type 0 where
   pub many : vec_len s.workers ≡ 7
   pub all : AreAllAtWork s.domain s.desk s.workers.items
   pub driver : IsIdle s.domain s.driver
   pub updater : IsUpdating s.domain s.updater
   pub home : s.desk.domain ≡ s.domain.domain
+  pub stop : s.stop.domain ≡ s.domain
   pub cpus : (vec_len s.parts.cpus ≡ 0) × (vec_len s.workers + 1 < vec_capacity s.parts.cpus)
   pub seats : (vec_len s.parts.seats ≡ 0) × (vec_len s.workers ≤ vec_capacity s.parts.seats)

@@ -9,7 +9,7 @@ use crate::counts::{Counts, count};
 use crate::signs::{Signs, WORKERS};
 use crate::worker::Job;
 use domain::{Cpu, Domain};
-use driver::serve;
+use driver::{Stop, serve};
 use std::sync::Wait;
 
 /// What the thread has in the end.
@@ -46,19 +46,26 @@ fn run(ran: &mut Ran, job: &Job) -> u64
 
 /// Serves the domain until no worker is left, and all jobs are run. How many there were it counts itself, and what the
 /// driver tells has to be the same.
-pub fn drive<R: Wait>(rt: &R, domain: &Domain<Job>, mut cpu: Cpu<Job>, signs: &Signs) -> Driver
-    requires { IsIdle domain.now cpu }
+pub fn drive<R: Wait>(
+    rt: &R,
+    domain: &Domain<Job>,
+    mut cpu: Cpu<Job>,
+    signs: &Signs,
+    stop: &Stop<Job>,
+) -> Driver
+    requires idle { IsIdle domain.now cpu }
+    requires stop { stop.now.domain ≡ domain.now }
     ensures { IsIdle domain.now result.cpu }
 {
     let mut ran = Ran {
         turns: [0; WORKERS],
         counts: Counts::new(),
     };
-    let served = serve(rt, domain, &mut cpu, signs.stop(), |job: Job| {
+    let served = serve(rt, domain, &mut cpu, stop, |job: Job| {
         signs.set_run(job.processor, run(&mut ran, &job));
     });
     match served {
-        Ok(served) if served.jobs == ran.counts.run => {}
+        Ok(stopped) if stopped.served.jobs == ran.counts.run => {}
         Ok(_) => count(&mut ran.counts.misplaced),
         Err(_) => count(&mut ran.counts.refused),
     }

@@ -19,6 +19,7 @@ use crate::worker::{Job, Length, Worker, work};
 use anyhow::Result;
 use desk::{Desk, DeskSeat};
 use domain::{Cpu, Domain, Held, Limits, Progress};
+use driver::Stop;
 use std::alloc::Global;
 use std::sync::Wait;
 use std::thread;
@@ -71,6 +72,7 @@ fn work_all<R: Threads + Sync + Wait + Clock>(
     domain: &Domain<Job>,
     desk: &Desk<Held>,
     signs: &Signs,
+    stop: &Stop<Job>,
     length: Length,
     mut workers: Vec<Worker>,
 ) -> Vec<Worker>
@@ -83,7 +85,7 @@ fn work_all<R: Threads + Sync + Wait + Clock>(
         ensures { StaysAtWork domain.entry.now desk.entry.now worker.entry.now worker.exit.now }
     { work(rt, domain, desk, signs, length, worker) };
     thread::for_each_mut(rt, workers.as_mut_slice(), WORKERS, &part);
-    signs.stop().give();
+    stop.give_alone(rt);
     workers
 }
 
@@ -169,6 +171,8 @@ pub fn end(
 pub struct Start {
     pub domain: Domain<Job>,
     pub desk: Desk<Held>,
+    /// Given when no worker is left.
+    pub stop: Stop<Job>,
     pub workers: Vec<Worker>,
     pub driver: Cpu<Job>,
     pub updater: Updater,
@@ -217,11 +221,13 @@ pub fn prepare(alloc: Global) -> Result<Start>
 {
     let (room, parts) = make_room(alloc)?;
     let (domain, cpus, driver, mut updater) = found(alloc)?;
+    let stop = Stop::new(alloc, &domain)?;
     let (desk, seats) = Desk::new(alloc, WORKERS, updater.cpu.home())?;
     let workers = seat_all(cpus, seats, room, &domain, &desk);
     Ok(Start {
         domain,
         desk,
+        stop,
         workers,
         driver,
         updater,
@@ -236,8 +242,10 @@ fn serve_and_update<R: Threads + Sync + Wait + Clock>(
     driver: Cpu<Job>,
     updater: Updater,
     signs: &Signs,
+    stop: &Stop<Job>,
     deadline: Deadline,
 ) -> (Driver, Updater)
+    requires stop { stop.now.domain ≡ domain.now }
     requires driver { IsIdle domain.now driver }
     requires updater { IsUpdating domain.now updater }
     ensures driver { IsIdle domain.now result.0.cpu }
@@ -245,8 +253,8 @@ fn serve_and_update<R: Threads + Sync + Wait + Clock>(
 {
     join(
         rt,
-        || drive(rt, domain, driver, signs),
-        || update(rt, domain, updater, signs, deadline),
+        || drive(rt, domain, driver, signs, stop),
+        || update(rt, domain, updater, signs, stop, deadline),
     )
 }
 
@@ -255,11 +263,13 @@ fn soak<R: Threads + Sync + Wait + Clock>(
     rt: &R,
     domain: &Domain<Job>,
     desk: &Desk<Held>,
+    stop: &Stop<Job>,
     workers: Vec<Worker>,
     driver: Cpu<Job>,
     updater: Updater,
     deadline: Deadline,
 ) -> (Vec<Worker>, (Driver, Updater))
+    requires stop { stop.now.domain ≡ domain.now }
     requires all { AreAllAtWork domain.now desk.now workers.items }
     requires driver { IsIdle domain.now driver }
     requires updater { IsUpdating domain.now updater }
@@ -275,11 +285,11 @@ fn soak<R: Threads + Sync + Wait + Clock>(
         || -> Vec<Worker>
             requires { IsSync R.row × AreAllAtWork domain.now desk.now workers.items }
             ensures { AreAllAtWork domain.entry.now desk.entry.now result.items × (vec_len result ≡ vec_len workers) }
-        { work_all(rt, domain, desk, &signs, length, workers) },
+        { work_all(rt, domain, desk, &signs, stop, length, workers) },
         || -> (Driver, Updater)
-            requires { IsSync R.row × (IsIdle domain.now driver × IsUpdating domain.now updater) }
+            requires { IsSync R.row × ((stop.now.domain ≡ domain.now) × (IsIdle domain.now driver × IsUpdating domain.now updater)) }
             ensures { IsIdle domain.entry.now result.0.cpu × IsUpdating domain.entry.now result.1 }
-        { serve_and_update(rt, domain, driver, updater, &signs, deadline) },
+        { serve_and_update(rt, domain, driver, updater, &signs, stop, deadline) },
     )
 }
 
@@ -293,12 +303,15 @@ pub fn run<R: Threads + Sync + Wait + Clock + AllocGlobal>(
     let Start {
         domain,
         desk,
+        stop,
         workers,
         driver,
         updater,
         parts,
     } = prepare(rt.alloc())?;
-    let (workers, (driver, updater)) = soak(rt, &domain, &desk, workers, driver, updater, deadline);
+    let (workers, (driver, updater)) = soak(
+        rt, &domain, &desk, &stop, workers, driver, updater, deadline,
+    );
     let parts = take_apart(workers, parts, &domain, &desk);
     Ok(end(domain, desk, parts, driver, updater))
 }

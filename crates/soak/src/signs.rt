@@ -1,5 +1,4 @@
 //! What the threads tell each other beside the domain.
-use driver::Stop;
 use std::sync::atomic::Ordering::SeqCst;
 use std::sync::atomic::{AtomicBool, AtomicU64};
 
@@ -21,8 +20,6 @@ pub struct Signs {
     run: [AtomicU64; WORKERS],
     /// 1 from when the workers are to come to an end.
     ending: AtomicU64,
-    /// Given when no worker is left.
-    stop: Stop,
     /// How old the last versions are, each at its number modulo [`AGES`]: 0 until it is replaced, 1 from then on, and 2 behind
     /// the next grace period.
     ages: [AtomicU64; AGES],
@@ -43,7 +40,6 @@ impl Signs {
                 AtomicU64::new(0),
             ],
             ending: AtomicU64::new(0),
-            stop: Stop::new(),
             ages: [
                 AtomicU64::new(0),
                 AtomicU64::new(0),
@@ -93,11 +89,6 @@ impl Signs {
     /// Whether the workers are to come to an end.
     pub fn is_ending(&self) -> bool {
         self.ending.load(SeqCst) != 0
-    }
-
-    /// The sign that no worker is left.
-    pub fn stop(&self) -> &Stop {
-        &self.stop
     }
 
     /// So many jobs of this processor were run.

@@ -15,6 +15,7 @@ use crate::worker::{
 use anyhow::Result;
 use desk::Desk;
 use domain::{Cpu, Domain, Held, InUse, Totals};
+use driver::Stop;
 use std::process::{Abort, ExitCode};
 use std::sync::Wait;
 use std::test::Fail;
@@ -91,9 +92,11 @@ fn go_wrong<R: Wait>(
     domain: &Domain<Job>,
     desk: &Desk<Held>,
     signs: &Signs,
+    stop: &Stop<Job>,
     worker: &mut Worker,
     driver: Cpu<Job>,
 ) -> Driver
+    requires stop { stop.now.domain ≡ domain.now }
     requires worker { IsAtWork domain.now desk.now worker.old }
     requires driver { IsIdle domain.now driver }
     ensures worker { StaysAtWork domain.now desk.now worker.old worker.new }
@@ -103,8 +106,8 @@ fn go_wrong<R: Wait>(
     worker.counts.queued = 1; // as if a job had been lost
     queue(rt, domain, desk, worker);
     wait_for_period(rt, domain, desk, worker);
-    signs.stop().give();
-    let driver = drive(rt, domain, driver, signs);
+    stop.give_alone(rt);
+    let driver = drive(rt, domain, driver, signs, stop);
     wait_for_jobs(rt, domain, desk, signs, worker);
     let mut cookie = worker.cpu.cookie();
     check_done(domain, desk, worker, &mut cookie);
@@ -116,6 +119,7 @@ fn run_wrongly<R: Wait + AllocGlobal>(rt: &R) -> Result<Outcome> {
     let Start {
         domain,
         desk,
+        stop,
         mut workers,
         driver,
         mut updater,
@@ -124,7 +128,7 @@ fn run_wrongly<R: Wait + AllocGlobal>(rt: &R) -> Result<Outcome> {
     let signs = Signs::new();
     let mut worker = workers.pop().unwrap();
     put_torn(&domain, &mut updater, &signs);
-    let driver = go_wrong(rt, &domain, &desk, &signs, &mut worker, driver);
+    let driver = go_wrong(rt, &domain, &desk, &signs, &stop, &mut worker, driver);
     workers.push_reserved(worker);
     let parts = take_apart(workers, parts, &domain, &desk);
     Ok(end(domain, desk, parts, driver, updater))

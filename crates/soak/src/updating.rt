@@ -6,6 +6,7 @@ ghost use Rattle.soak.specs.Updaters.{IsUpdating};
 use crate::signs::{AGES, Signs};
 use crate::worker::{Job, Length};
 use domain::{Cpu, Domain, Writer};
+use driver::Stop;
 use std::sync::Wait;
 use std::time::{Clock, Duration, Instant};
 
@@ -109,13 +110,14 @@ pub fn update<R: Wait + Clock>(
     domain: &Domain<Job>,
     mut updater: Updater,
     signs: &Signs,
+    stop: &Stop<Job>,
     deadline: Deadline,
 ) -> Updater
     requires { IsUpdating domain.now updater }
     ensures { IsUpdating domain.now result }
 {
     for _ in rt.forever() {
-        if signs.stop().is_given() {
+        if stop.is_given(rt).0 {
             break;
         }
         if deadline.is_past(rt) {

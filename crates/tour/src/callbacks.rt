@@ -62,13 +62,14 @@ pub fn work<R: Wait>(
     rt: &R,
     domain: &Domain<Old>,
     mut cpu: Cpu<Old>,
-    stop: &Stop,
+    stop: &Stop<Old>,
     archive: &Archive,
 ) -> Result<u64>
-    requires { IsIdle domain.now cpu }
+    requires idle { IsIdle domain.now cpu }
+    requires stop { stop.now.domain ≡ domain.now }
 {
     match serve(rt, domain, &mut cpu, stop, |old| archive.file(old)) {
-        Ok(served) => Ok(served.jobs),
+        Ok(stopped) => Ok(stopped.served.jobs),
         Err((_, refusal)) => Err(refusal.into()),
     }
 }

@@ -189,21 +189,22 @@ fn replace_and_work<R: Threads + Wait + Clock + Sync>(
     configs: &Values<Config>,
     archive: &Archive,
     sign: &Sign,
+    stop: &Stop<Old>,
 ) -> Result<(u64, Config)>
     requires updater { IsIdle domain.now updater × (shelf.domain ≡ domain.now.domain) }
     requires driver { IsIdle domain.now driver }
+    requires stop { stop.now.domain ≡ domain.now }
     requires cell { configs.now < cells_in domain.now.domain }
 {
-    let stop = Stop::new();
     let (ran, read) = join(
         rt,
-        || work(rt, domain, driver, &stop, archive),
+        || work(rt, domain, driver, stop, archive),
         || -> Result<Config>
             requires { IsIdle domain.now updater × (shelf.domain ≡ domain.now.domain) × (configs.now < cells_in domain.now.domain) }
         {
             sign.wait(rt);
             let read = replace_twice(rt, domain, updater, shelf, configs, archive);
-            stop.give(); // also where a call was refused, or the driver would go on
+            stop.give_alone(rt); // also where a call was refused, or the driver would go on
             read
         },
     );
@@ -221,10 +222,12 @@ fn call_back<R: Threads + Wait + Clock + Sync>(
     shelf: Shelf<Config>,
     configs: &Values<Config>,
     archive: &Archive,
+    stop: &Stop<Old>,
 ) -> Result<(Slept, u64, Config)>
     requires reader { configs.now < cells_in reader.cpu.domain }
     requires updater { IsIdle domain.now updater × (shelf.domain ≡ domain.now.domain) }
     requires driver { IsIdle domain.now driver }
+    requires stop { stop.now.domain ≡ domain.now }
     requires cell { configs.now < cells_in domain.now.domain }
 {
     let sign = Sign::new();
@@ -232,8 +235,12 @@ fn call_back<R: Threads + Wait + Clock + Sync>(
         rt,
         || read_and_sleep(rt, reader, configs, &sign, archive),
         || -> Result<(u64, Config)>
-            requires { IsSync R.row × (IsIdle domain.now updater × (IsIdle domain.now driver × ((shelf.domain ≡ domain.now.domain) × (configs.now < cells_in domain.now.domain)))) }
-        { replace_and_work(rt, domain, updater, driver, shelf, configs, archive, &sign) },
+            requires { IsSync R.row × (IsIdle domain.now updater × (IsIdle domain.now driver × ((shelf.domain ≡ domain.now.domain) × ((stop.now.domain ≡ domain.now) × (configs.now < cells_in domain.now.domain))))) }
+        {
+            replace_and_work(
+                rt, domain, updater, driver, shelf, configs, archive, &sign, stop,
+            )
+        },
     );
     let (ran, read) = worked?;
     Ok((slept?, ran, read))
@@ -294,8 +301,9 @@ fn call_back_apart<R: Threads + Wait + Clock + AllocGlobal + Sync>(
     let (domain, reader, mut updater, driver, writer) = trio(rt.alloc())?;
     let (shelf, configs) = shelve(&domain, &mut updater, writer, 3)?;
     let archive = Archive::new();
+    let stop = Stop::new(rt.alloc(), &domain)?;
     let (slept, ran, read) = call_back(
-        rt, &domain, reader, updater, driver, shelf, &configs, &archive,
+        rt, &domain, reader, updater, driver, shelf, &configs, &archive, &stop,
     )?;
     Ok((archive, slept, ran, read))
 }

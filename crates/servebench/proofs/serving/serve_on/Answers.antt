@@ -5,13 +5,16 @@ use Rattle.driver.specs.Pools.{IsIdle}
 use Rattle.servebench.proofs.serving.serve_on.Goals as goal
 
 pub serve-served-requires-clause-here : goal.serve-served-requires-clause-here
-serve-served-requires-clause-here g c = (subst (λ (d : DomainView). IsIdle d c.take-cpu.result.0) c.requires.pool c.take-cpu.ensures.idle).here
+serve-served-requires-clause-here g c = (subst (λ (d : DomainView). IsIdle d c.take-lent.result.cpu) c.requires.pool c.take-lent.ensures.lent.idle).here
 
 pub serve-served-requires-clause-none : goal.serve-served-requires-clause-none
-serve-served-requires-clause-none g c = c.take-cpu.ensures.idle.closed
+serve-served-requires-clause-none g c = c.take-lent.ensures.lent.idle.closed
 
 pub give-requires : goal.give-requires
 give-requires g c = record {
-  idle = subst (λ (d : DomainView). IsIdle d c.serve-served.new.cpu) (sym c.requires.pool) (record { here = c.serve-served.ensures.here; closed = c.serve-served.ensures.none });
-  number = c.take-cpu.ensures.number ∙ sym c.serve-served.ensures.same.cpu.3;
+  pool = c.take-lent.ensures.pool;
+  lent = record {
+    idle = subst (λ (d : DomainView). IsIdle d c.serve-served.new.cpu) (sym c.requires.pool) (record { here = c.serve-served.ensures.here; closed = c.serve-served.ensures.none });
+    number = c.take-lent.ensures.lent.number ∙ sym c.serve-served.ensures.same.cpu.3;
+  };
 }

@@ -33,6 +33,7 @@ returns c =
         writes = updater.writes;
       };
       home = c.in_ok-desk.ensures.desk.0 ∙ (c.home.ensures.home ∙ updater.here.domain);
+      stop = c.in_ok-stop.ensures;
       cpus = (omega (arith, none_there), omega (arith, room_there, workers, long, new, seven));
       seats = (omega (arith, none_at_desk), omega (arith, room_at_desk, workers, long, new, seven));
     }
