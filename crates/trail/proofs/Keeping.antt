@@ -100,35 +100,45 @@ module _ {T K E : Type 0} (fits : K → T → Type 0) (state : T → E) (goes : 
       let full : get_or (set s.words lock_place 1) lock_place 0 ≢ 0 = λ e. absurd (omega (arith, one, e)) in
       dite (ℕ_discrete (get_or s.words lock_place 0) 0)
       (λ free.
-          let w : View K E = record { key = Some key; has = true; seen = log; told = [] } in
-          let t = g.home free in
-          let nobody : (id : ℕ) (v : View K E) → get_elem? s.views id ≡ some v → v.has ≡ true → ⊥ = λ id v at has. (g.held id v at has).1 free in
-          let last : (id : ℕ) (v : View K E) → get_elem? (s.views ++ w ∷ []) id ≡ some v → v.has ≡ true → id ≡ length s.views =
-            among s.views w (λ id v. v.has ≡ true → id ≡ length s.views) (λ id v at has. absurd (nobody id v at has)) (λ _. refl) in
-          (w, takes 0 (Some t.0), t.1, record {
-            wide = length-set s.words lock_place 1 ∙ g.wide;
-            newest = g.newest;
-            before = g.before;
-            row = g.row;
-            earlier = among s.views w (λ _ v. IsEarlier v.seen log × IsEarlier v.told log) g.earlier (whole log, at_first log);
-            held = among s.views w (λ _ v. v.has ≡ true → (v.seen ≡ log) × (get_or (set s.words lock_place 1) lock_place 0 ≢ 0)) (λ id v at has. absurd (nobody id v at has)) (λ _. (refl, full));
-            one = λ i j v x ati atj hasv hasx. last i v ati hasv ∙ sym (last j x atj hasx);
-            home = λ e. absurd (full e);
-          }, λ _. record { value = t.0; slot = refl; fit = t.2; has = refl; before = g.before; seen = ap (λ e. e ∷ g.before) t.3 }))
+      let w : View K E = record { key = Some key; has = true; seen = log; told = [] } in
+      let t = g.home free in
+      let nobody : (id : ℕ) (v : View K E) → get_elem? s.views id ≡ some v → v.has ≡ true → ⊥ = λ id v at has. (g.held id v at has).1 free in
+      let last : (id : ℕ) (v : View K E) → get_elem? (s.views ++ w ∷ []) id ≡ some v → v.has ≡ true → id ≡ length s.views =
+      among s.views w (λ id v. v.has ≡ true → id ≡ length s.views) (λ id v at has. absurd (nobody id v at has)) (λ _. refl) in (
+        w,
+        takes 0 (Some t.0),
+        t.1,
+        record {
+          wide = length-set s.words lock_place 1 ∙ g.wide;
+          newest = g.newest;
+          before = g.before;
+          row = g.row;
+          earlier = among s.views w (λ _ v. IsEarlier v.seen log × IsEarlier v.told log) g.earlier (whole log, at_first log);
+          held = among s.views w (λ _ v. v.has ≡ true → (v.seen ≡ log) × (get_or (set s.words lock_place 1) lock_place 0 ≢ 0)) (λ id v at has. absurd (nobody id v at has)) (λ _. (refl, full));
+          one = λ i j v x ati atj hasv hasx. last i v ati hasv ∙ sym (last j x atj hasx);
+          home = λ e. absurd (full e);
+        },
+        λ _. record { value = t.0; slot = refl; fit = t.2; has = refl; before = g.before; seen = ap (λ e. e ∷ g.before) t.3 },
+      ))
       (λ taken.
-          let w : View K E = record { key = Some key; has = false; seen = log; told = [] } in
-          let still : (id : ℕ) (v : View K E) → get_elem? (s.views ++ w ∷ []) id ≡ some v → v.has ≡ true → get_elem? s.views id ≡ some v =
-            among s.views w (λ id v. v.has ≡ true → get_elem? s.views id ≡ some v) (λ id v at _. at) (λ e. absurd (false≢true e)) in
-          (w, keeps, tt, record {
-            wide = length-set s.words lock_place 1 ∙ g.wide;
-            newest = g.newest;
-            before = g.before;
-            row = g.row;
-            earlier = among s.views w (λ _ v. IsEarlier v.seen log × IsEarlier v.told log) g.earlier (whole log, at_first log);
-            held = λ id v at has. ((g.held id v (still id v at has) has).0, full);
-            one = λ i j v x ati atj hasv hasx. g.one i j v x (still i v ati hasv) (still j x atj hasx) hasv hasx;
-            home = λ e. absurd (full e);
-          }, λ e. absurd (taken e)))
+      let w : View K E = record { key = Some key; has = false; seen = log; told = [] } in
+      let still : (id : ℕ) (v : View K E) → get_elem? (s.views ++ w ∷ []) id ≡ some v → v.has ≡ true → get_elem? s.views id ≡ some v =
+      among s.views w (λ id v. v.has ≡ true → get_elem? s.views id ≡ some v) (λ id v at _. at) (λ e. absurd (false≢true e)) in (
+        w,
+        keeps,
+        tt,
+        record {
+          wide = length-set s.words lock_place 1 ∙ g.wide;
+          newest = g.newest;
+          before = g.before;
+          row = g.row;
+          earlier = among s.views w (λ _ v. IsEarlier v.seen log × IsEarlier v.told log) g.earlier (whole log, at_first log);
+          held = λ id v at has. ((g.held id v (still id v at has) has).0, full);
+          one = λ i j v x ati atj hasv hasx. g.one i j v x (still i v ati hasv) (still j x atj hasx) hasv hasx;
+          home = λ e. absurd (full e);
+        },
+        λ e. absurd (taken e),
+      ))
 
   -- the value lies there again
   left : (key : K) (id : ℕ) (v : View K E) (value : T) → v.has ≡ true → fits key value → IsLeft goes v.seen (state value)
@@ -139,19 +149,24 @@ module _ {T K E : Type 0} (fits : K → T → Type 0) (state : T → E) (goes : 
       let all = (g.held id v at has).0 in
       let same = newest_is goes_on.0 g.newest goes_on.1 g.before v.seen goes_on.2 all in
       let nobody : (j : ℕ) (u : View K E) → get_elem? (set s.views id w) j ≡ some u → u.has ≡ true → ⊥ =
-        changed s.views id w (λ _ u. u.has ≡ true → ⊥) (λ j u other atj hasu. other (g.one j id u v atj at hasu has)) false≢true in
-      (w, gives, tt, record {
-        wide = length-set s.words lock_place 0 ∙ g.wide;
-        newest = state value;
-        before = log;
-        row = (subst (λ e. goes e (state value)) same goes_on.3, g.row);
-        earlier = changed s.views id w (λ _ u. IsEarlier u.seen (state value ∷ log) × IsEarlier u.told (state value ∷ log))
-            (λ j u _ atj. (grows u.seen log (state value) (g.earlier j u atj).0, grows u.told log (state value) (g.earlier j u atj).1))
-            (([], ap (λ l. state value ∷ l) (sym all)), grows v.told log (state value) (g.earlier id v at).1);
-        held = λ j u atj hasu. absurd (nobody j u atj hasu);
-        one = λ i j u x ati atj hasu hasx. absurd (nobody i u ati hasu);
-        home = λ _. (value, set_here s.homes 0 (some (Some value)) (omega (arith, wide)), fit, refl);
-      }, λ x is. record { slot = refl; has = refl; seen = ap (λ y. state y ∷ v.seen) (same_value value x _ refl is) })
+      changed s.views id w (λ _ u. u.has ≡ true → ⊥) (λ j u other atj hasu. other (g.one j id u v atj at hasu has)) false≢true in (
+        w,
+        gives,
+        tt,
+        record {
+          wide = length-set s.words lock_place 0 ∙ g.wide;
+          newest = state value;
+          before = log;
+          row = (subst (λ e. goes e (state value)) same goes_on.3, g.row);
+          earlier = changed s.views id w (λ _ u. IsEarlier u.seen (state value ∷ log) × IsEarlier u.told (state value ∷ log))
+              (λ j u _ atj. (grows u.seen log (state value) (g.earlier j u atj).0, grows u.told log (state value) (g.earlier j u atj).1))
+              (([], ap (λ l. state value ∷ l) (sym all)), grows v.told log (state value) (g.earlier id v at).1);
+          held = λ j u atj hasu. absurd (nobody j u atj hasu);
+          one = λ i j u x ati atj hasu hasx. absurd (nobody i u ati hasu);
+          home = λ _. (value, set_here s.homes 0 (some (Some value)) (omega (arith, wide)), fit, refl);
+        },
+        λ x is. record { slot = refl; has = refl; seen = ap (λ y. state y ∷ v.seen) (same_value value x _ refl is) },
+      )
 
   pub releases : (key : K) (n id : ℕ) (m : Me (Option T) (View K E)) (v : View K E) (value : T) → n ≡ 1 → m ≡ (v, (0, Some value) ∷ []) → v.has ≡ true → fits key value → IsLeft goes v.seen (state value)
       → Allows (Kept (fits key) state goes) n id m lock_place (λ _. 0) (λ _. releases_as state m)
@@ -168,17 +183,22 @@ module _ {T K E : Type 0} (fits : K → T → Type 0) (state : T → E) (goes : 
       let long = g.wide in
       let word = get_or-set_same s.words lock_place (get_or s.words lock_place 0) 0 (omega (arith, long)) in
       let still : (j : ℕ) (u : View K E) → get_elem? (set s.views id w) j ≡ some u → u.has ≡ true → get_elem? s.views j ≡ some u =
-        changed s.views id w (λ j u. u.has ≡ true → get_elem? s.views j ≡ some u) (λ j u _ atj _. atj) (λ e. absurd (false≢true (sym none ∙ e))) in
-      (w, keeps, tt, record {
-        wide = length-set s.words lock_place (get_or s.words lock_place 0) ∙ g.wide;
-        newest = g.newest;
-        before = g.before;
-        row = g.row;
-        earlier = changed s.views id w (λ _ u. IsEarlier u.seen log × IsEarlier u.told log) (λ j u _ atj. g.earlier j u atj) (whole log, at_first log);
-        held = λ j u atj hasu. let h = g.held j u (still j u atj hasu) hasu in (h.0, λ e. h.1 (sym word ∙ e));
-        one = λ i j u x ati atj hasu hasx. g.one i j u x (still i u ati hasu) (still j x atj hasx) hasu hasx;
-        home = λ e. g.home (sym word ∙ e);
-      }, record { slot = refl; has = refl; newest = g.newest; before = g.before; seen = refl; row = g.row; covers = (g.earlier id v at).0; hears = (g.earlier id v at).1 })
+      changed s.views id w (λ j u. u.has ≡ true → get_elem? s.views j ≡ some u) (λ j u _ atj _. atj) (λ e. absurd (false≢true (sym none ∙ e))) in (
+        w,
+        keeps,
+        tt,
+        record {
+          wide = length-set s.words lock_place (get_or s.words lock_place 0) ∙ g.wide;
+          newest = g.newest;
+          before = g.before;
+          row = g.row;
+          earlier = changed s.views id w (λ _ u. IsEarlier u.seen log × IsEarlier u.told log) (λ j u _ atj. g.earlier j u atj) (whole log, at_first log);
+          held = λ j u atj hasu. let h = g.held j u (still j u atj hasu) hasu in (h.0, λ e. h.1 (sym word ∙ e));
+          one = λ i j u x ati atj hasu hasx. g.one i j u x (still i u ati hasu) (still j x atj hasx) hasu hasx;
+          home = λ e. g.home (sym word ∙ e);
+        },
+        record { slot = refl; has = refl; newest = g.newest; before = g.before; seen = refl; row = g.row; covers = (g.earlier id v at).0; hears = (g.earlier id v at).1 },
+      )
 
   -- one seat is told what another had seen
   pub informs : (key : K) (id : ℕ) (v : View K E) (other : ℕ) (w : View K E) → v.has ≡ false → Joins (Kept (fits key) state goes) id v other w (informed v w) spent
@@ -190,13 +210,13 @@ module _ {T K E : Type 0} (fits : K → T → Type 0) (state : T → E) (goes : 
         | inr is ↦ is.1
       ] in
       let fine : (j : ℕ) (u : View K E) → get_elem? (set (set s.views id both) other spent) j ≡ some u → IsEarlier u.seen log × IsEarlier u.told log =
-        changed (set s.views id both) other spent (λ _ u. IsEarlier u.seen log × IsEarlier u.told log)
-          (λ j u _ atj. changed s.views id both (λ _ x. IsEarlier x.seen log × IsEarlier x.told log) (λ k x _ atk. g.earlier k x atk) ((g.earlier id v at).0, (g.earlier other w there).0) j u atj)
-          (at_first log, at_first log) in
+      changed (set s.views id both) other spent (λ _ u. IsEarlier u.seen log × IsEarlier u.told log)
+      (λ j u _ atj. changed s.views id both (λ _ x. IsEarlier x.seen log × IsEarlier x.told log) (λ k x _ atk. g.earlier k x atk) ((g.earlier id v at).0, (g.earlier other w there).0) j u atj)
+      (at_first log, at_first log) in
       let still : (j : ℕ) (u : View K E) → get_elem? (set (set s.views id both) other spent) j ≡ some u → u.has ≡ true → get_elem? s.views j ≡ some u =
-        changed (set s.views id both) other spent (λ j u. u.has ≡ true → get_elem? s.views j ≡ some u)
-          (λ j u _ atj. changed s.views id both (λ k x. x.has ≡ true → get_elem? s.views k ≡ some x) (λ k x _ atk _. atk) (λ e. absurd (false≢true (sym none ∙ e))) j u atj)
-          (λ e. absurd (false≢true e)) in
+      changed (set s.views id both) other spent (λ j u. u.has ≡ true → get_elem? s.views j ≡ some u)
+      (λ j u _ atj. changed s.views id both (λ k x. x.has ≡ true → get_elem? s.views k ≡ some x) (λ k x _ atk _. atk) (λ e. absurd (false≢true (sym none ∙ e))) j u atj)
+      (λ e. absurd (false≢true e)) in
       record {
         wide = g.wide;
         newest = g.newest;

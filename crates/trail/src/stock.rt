@@ -37,7 +37,6 @@ pub struct Out<K> {
 
 impl<K> Model for Out<K> {
     ghost use Rattle.trail.specs.Views.{SightView};
-
     ghost use Rattle.std.specs.Prelude.{ℕ};
 
     ghost Value = { SightView ℕ };
