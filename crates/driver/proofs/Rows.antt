@@ -241,4 +241,3 @@ module _ {J : Type 0} where
 
     pub vain_then : (d : DomainView) (f g h : F) (c x z : CpuView J) (s t : Served) → Works step d f c s g x → EndsInVainFrom step d s g x t h z → EndsInVain step d f c t h z
     vain_then d f g h c x z s t w v = record { work = v.work; between = v.between; before = works_then d f g v.work c x v.between s t w v.before; round = v.round }
-

@@ -112,10 +112,7 @@ impl<'a, J: Drop, A: Allocator + Copy> Pool<'a, J, A> {
 
     /// Takes all processors out for good, as for [`Domain::cleanup`]. It is refused where one is out, and the pool comes
     /// back as it was.
-    pub fn close<R: Wait>(
-        self,
-        rt: &R,
-    ) -> Result<Vec<Cpu<J, A>, A>, (Pool<'a, J, A>, AtHome<J, A>)>
+    pub fn close<R: Wait>(self, rt: &R) -> Result<Vec<Cpu<J, A>, A>, (Pool<'a, J, A>, AtHome<J, A>)>
         ensures { MatchResult result
             (λ cpus. AreAllHome self.entry cpus.items)
             (λ back. (back.0 ≡ self.entry) × OneIsOut self.entry back.1) }

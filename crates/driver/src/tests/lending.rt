@@ -268,9 +268,7 @@ fn use_at_once<R: Wait + Threads + AllocGlobal + Sync>(
     let readers = pool_of(rt, &domain, cpus)?;
     let others = pool_of(rt, &domain, rest)?;
     let stop = sign_of(rt, &domain)?;
-    Ok(Some(read_update_and_drive(
-        rt, &domain, &readers, &others, &stop,
-    )))
+    Ok(Some(read_update_and_drive(rt, &domain, &readers, &others, &stop)))
 }
 
 /// Would catch a section that stays open, a job that is lost, and threads that wait for each other.
