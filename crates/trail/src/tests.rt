@@ -67,7 +67,7 @@ fn take_all<R: Wait>(rt: &R, stock: &Evens<Global>) -> Option<(u64, u64, bool, u
             stock.give(rt, third, more);
             false
         }
-        Err(_) => true,
+        Err(_sight) => true,
     };
     stock.give(rt, first, out);
     stock.give(rt, second, other);
@@ -77,7 +77,7 @@ fn take_all<R: Wait>(rt: &R, stock: &Evens<Global>) -> Option<(u64, u64, bool, u
             stock.give(rt, again, out);
             Some((values.0, values.1, is_none, value))
         }
-        Err(_) => None,
+        Err(_sight) => None,
     }
 }
 
@@ -121,7 +121,7 @@ fn turn<R: Wait>(rt: &R, stock: &Evens<Global>) -> bool
                 even &= number.value % 2 == 0;
                 stock.give(rt, number, out);
             }
-            Err(_) => yield_now(),
+            Err(_sight) => yield_now(),
         }
     }
     even
@@ -150,7 +150,10 @@ fn new_in_little_room(rt: HostRuntime) -> Result<(), Fail> {
         let heap = LocalHeap::new(rt.alloc(), 16 + 8 * room)?;
         if let Ok(stock) = empty(&heap, rt.alloc()) {
             assert!(rt; room > 0 && heap.used() > 0);
-            drop(stock);
+            let Ok(none) = stock.close(&rt) else {
+                panic!(rt; "nothing is out");
+            };
+            drop(none);
             assert_eq!(rt; heap.used(), 0);
             return Ok(());
         }
