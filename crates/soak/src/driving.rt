@@ -65,9 +65,12 @@ pub fn drive<R: Wait>(
         signs.set_run(job.processor, run(&mut ran, &job));
     });
     match served {
-        Ok(stopped) if stopped.served.jobs == ran.counts.run => {}
-        Ok(_) => count(&mut ran.counts.misplaced),
-        Err(_) => count(&mut ran.counts.refused),
+        Ok(stopped) => {
+            if stopped.served.jobs != ran.counts.run {
+                count(&mut ran.counts.misplaced);
+            }
+        }
+        Err(_exhausted) => count(&mut ran.counts.refused),
     }
     Driver {
         cpu,
