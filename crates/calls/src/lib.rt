@@ -16,8 +16,6 @@ mod seat;
 mod sight;
 mod spot;
 mod tally;
-#[cfg(test)]
-mod tests;
 mod view;
 
 pub use barrier::Ticket;

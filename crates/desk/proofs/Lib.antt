@@ -7,7 +7,7 @@ mod Dealing
 mod Emptying
 mod Closing
 mod Forging
-mod Seating
+pub mod Seating
 mod Holders
 mod Growing
 mod BaySharing

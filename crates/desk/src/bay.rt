@@ -14,8 +14,6 @@ use view::{Plan, View};
 
 pub(crate) mod plays;
 pub(crate) mod seat;
-#[cfg(test)]
-mod tests;
 mod ties;
 pub(crate) mod view;
 

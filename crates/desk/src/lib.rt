@@ -7,8 +7,6 @@ mod desk;
 mod laws;
 mod plays;
 mod seat;
-#[cfg(test)]
-mod tests;
 mod view;
 
 pub use bay::seat::BaySeat;

@@ -3,7 +3,6 @@ mod Answering
 mod Counted
 mod Counting
 mod Covering
-mod ForThreads
 mod Filling
 mod Founding
 mod Gathering
@@ -14,10 +13,10 @@ mod Loading
 mod Meeting
 mod Polling
 mod Preparing
-mod Queueing
-mod Rows
-mod Sameness
-mod Starting
+pub mod Queueing
+pub mod Rows
+pub mod Sameness
+pub mod Starting
 mod Staying
 mod Synchronizing
 mod Turning

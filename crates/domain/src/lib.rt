@@ -7,8 +7,6 @@ mod domain;
 mod pause;
 mod publishing;
 mod set;
-#[cfg(test)]
-mod tests;
 mod writer;
 
 pub use calls::{Batch, CallRefusal, Entry, Memory, Receipt, TakeRefusal, Ticket};

@@ -1,4 +1,4 @@
 pub mod CallerLemmas
-mod Keeping
+pub mod Keeping
 mod Rows
 mod Ending

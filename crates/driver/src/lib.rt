@@ -12,8 +12,6 @@ mod refusals;
 mod serving;
 mod sign;
 mod stop;
-#[cfg(test)]
-mod tests;
 
 pub use counts::Served;
 pub use driving::{Stopped, barrier, serve};

@@ -8,8 +8,6 @@ mod chain;
 mod handler;
 mod order;
 mod refusals;
-#[cfg(test)]
-mod tests;
 mod text;
 mod view;
 

@@ -5,8 +5,6 @@ mod event;
 mod illegal;
 mod laws;
 mod one_domain;
-#[cfg(test)]
-mod tests;
 
 pub use event::{Event, Maker};
 pub use illegal::Illegal;

@@ -6,8 +6,6 @@ mod lease;
 mod refusals;
 mod rows;
 mod table;
-#[cfg(test)]
-mod tests;
 mod view;
 
 pub use lease::{Lease, release};

@@ -8,8 +8,6 @@ mod gate;
 mod making;
 mod racing;
 mod reader;
-#[cfg(test)]
-mod tests;
 mod totals;
 mod updater;
 mod workers;

@@ -15,8 +15,6 @@ mod pairs;
 mod reply;
 mod request;
 mod scene;
-#[cfg(test)]
-mod tests;
 
 pub use block_ids::BlockIds;
 pub use cause::Cause;

@@ -9,4 +9,3 @@ mod Carrying
 mod PlaceKept
 mod Driving
 mod Limits
-mod ForTests

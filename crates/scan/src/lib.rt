@@ -11,8 +11,6 @@ mod rows;
 mod scanning;
 mod station;
 mod steps;
-#[cfg(test)]
-mod tests;
 mod tied;
 
 pub use engine::Engine;

@@ -11,8 +11,6 @@ mod making;
 mod plays;
 mod set;
 mod sight;
-#[cfg(test)]
-mod tests;
 mod token;
 mod view;
 mod writer;

@@ -3,8 +3,6 @@
 #![tactic(auto)]
 
 mod shelf;
-#[cfg(test)]
-mod tests;
 mod values;
 mod versioned;
 

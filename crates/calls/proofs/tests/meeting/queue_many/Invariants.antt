@@ -1,8 +1,0 @@
--- It stays the same processor and its seat.
-use Rattle.calls.specs.Calls.{FitsIn}
-use Rattle.calls.proofs.tests.meeting.queue_many.Given as goal
-
-abbrev pub invariant-loop-job : goal.invariant-loop-job
-invariant-loop-job g l = record {
-  fits : FitsIn l.calls l.cpu l.seat;
-}

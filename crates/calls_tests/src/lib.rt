@@ -1,0 +1,5 @@
+//! The tests of calls.
+#![tactic(auto)]
+
+#[cfg(test)]
+mod tests;

@@ -1,5 +1,0 @@
-use Rattle.desk.proofs.Seating.{new_seats}
-use Rattle.desk.proofs.tests.new_in_little_room.Goals as goal
-
-pub close-nothing-requires : goal.close-nothing-requires
-close-nothing-requires g c = record { seats = new_seats _ _ c.in-Ok.ensures.seats }

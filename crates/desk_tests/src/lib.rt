@@ -1,0 +1,5 @@
+//! The tests of desk.
+#![tactic(auto)]
+
+#[cfg(test)]
+mod tests;

@@ -1,0 +1,5 @@
+//! The tests of domain.
+#![tactic(auto)]
+
+#[cfg(test)]
+mod tests;

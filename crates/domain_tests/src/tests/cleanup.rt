@@ -1,0 +1,147 @@
+//! Domains that are taken down, and others that are in use.
+ghost use Rattle.std.specs.Prelude.{◌≡◌, ◌<◌, IfOk};
+ghost use Rattle.domain.specs.Views.{IsOf};
+
+use super::calling::{HeldUp, drive, held_up, hold_up};
+use domain::{Cpu, Domain, InUse, Limits, MakeError, Number, Progress, Totals};
+use std::alloc::Global;
+use std::process::Abort;
+use std::sync::{Arc, Wait};
+use std::test::Fail;
+
+const LIMITS: Limits = Limits {
+    sections: Limits::MOST_SECTIONS,
+    periods: Limits::MOST_PERIODS,
+    cells: 0,
+    slots: 2,
+};
+
+/// A new domain of one processor.
+fn single<J: Drop>(alloc: Global) -> Result<(Domain<J>, Cpu<J>), MakeError>
+    ensures { IfOk result (λ r. IsOf r.0 r.1) }
+{
+    let (domain, mut cpus, _) = Domain::<J>::new(alloc, 1, LIMITS)?;
+    let cpu = cpus.pop().unwrap();
+    Ok((domain, cpu))
+}
+
+/// A new domain of so many processors, and the last two of them.
+fn last_two(
+    alloc: Global,
+    processors: usize,
+) -> Result<(Domain<u64>, Cpu<u64>, Cpu<u64>), MakeError>
+    requires { 1 < processors }
+    ensures { IfOk result (λ r. IsOf r.0 r.1 × IsOf r.0 r.2) }
+{
+    let (domain, mut cpus, _) = Domain::<u64>::new(alloc, processors, LIMITS)?;
+    let last = cpus.pop().unwrap();
+    let other = cpus.pop().unwrap();
+    Ok((domain, other, last))
+}
+
+/// Hands in these two processors, and the domain is in use.
+fn refused<R: Abort>(
+    rt: &R,
+    alloc: Global,
+    domain: Domain<u64>,
+    first: Cpu<u64>,
+    second: Cpu<u64>,
+) -> (InUse, Domain<u64>, Cpu<u64>, Cpu<u64>)
+    requires { IsOf domain first × IsOf domain second }
+    ensures same { result.1 ≡ domain }
+    ensures here { IsOf result.1 result.2 × IsOf result.1 result.3 }
+{
+    let mut cpus = Vec::with_capacity(alloc, 2).expect(rt, "there is room");
+    cpus.push_reserved(first);
+    cpus.push_reserved(second);
+    let Err((cause, domain, mut cpus)) = domain.cleanup(cpus) else {
+        panic!(rt; "it is in use");
+    };
+    let second = cpus.pop().unwrap();
+    let first = cpus.pop().unwrap();
+    (cause, domain, first, second)
+}
+
+/// Hands in these two processors, and the domain is taken down.
+fn taken_down<R: Abort>(
+    rt: &R,
+    alloc: Global,
+    domain: Domain<u64>,
+    first: Cpu<u64>,
+    second: Cpu<u64>,
+) -> Totals
+    requires { IsOf domain first × IsOf domain second }
+{
+    let mut cpus = Vec::with_capacity(alloc, 2).expect(rt, "there is room");
+    cpus.push_reserved(first);
+    cpus.push_reserved(second);
+    domain.cleanup(cpus).ok().expect(rt, "it is not in use")
+}
+
+fn number(value: u64) -> Number {
+    Number::new(value).unwrap_or(Number::zero())
+}
+
+/// Hands in two of three processors. Tells the cause, and a period behind that.
+fn hand_in_too_few<R: Abort + AllocGlobal>(rt: &R) -> Result<(InUse, Option<HeldUp>), MakeError> {
+    let (domain, first, second) = last_two(rt.alloc(), 3)?;
+    let (cause, domain, mut first, mut second) = refused(rt, rt.alloc(), domain, first, second);
+    Ok((cause, hold_up(&domain, &mut first, &mut second)))
+}
+
+/// Would catch a cleanup that does not miss a processor, and a domain or processors that are not of use behind a refusal.
+#[test]
+fn one_of_three_is_missing(rt: HostRuntime) -> Result<(), Fail> {
+    let (cause, period) = hand_in_too_few(&rt)?;
+    assert_eq!(rt; (cause, period), (InUse::Missing(1), Some(held_up())));
+    Ok(())
+}
+
+/// Hands in both processors while a section is held, and once it is closed.
+fn hand_in_with_a_section<R: Abort + AllocGlobal>(rt: &R) -> Result<(InUse, Totals), MakeError> {
+    let (domain, mut first, second) = last_two(rt.alloc(), 2)?;
+    let Ok(held) = first.down_read() else {
+        panic!(rt; "there is room");
+    };
+    let (cause, domain, first, mut second) = refused(rt, rt.alloc(), domain, first, second);
+    second.up_read(held);
+    let totals = taken_down(rt, rt.alloc(), domain, first, second);
+    Ok((cause, totals))
+}
+
+/// Would catch a cleanup that forgets a section which is held elsewhere, or that counts those that are closed, and totals
+/// of one processor.
+#[test]
+fn a_held_section_is_open(rt: HostRuntime) -> Result<(), Fail> {
+    let (cause, totals) = hand_in_with_a_section(&rt)?;
+    assert_eq!(rt; cause, InUse::Sections(1));
+    assert_eq!(rt;
+        totals,
+        Totals {
+            opened: 1,
+            closed: 1,
+            queued: 0,
+            finished: 0,
+            periods: 0,
+        }
+    );
+    Ok(())
+}
+
+/// Would catch a domain that keeps a job when it is dropped, or drops one before: a job that may be given out by then, and
+/// one that still waits for its grace period. Each of them has the counted value.
+#[test]
+fn drops_what_waits(rt: HostRuntime) -> Result<(), Fail> {
+    let counted = Arc::new(rt.alloc(), 7u64)?;
+    let (domain, mut cpu) = single::<Arc<u64>>(rt.alloc())?;
+    let ready = domain.call(&rt, &mut cpu, counted.clone()?).is_ok();
+    let period = drive(&domain, &mut cpu);
+    let waiting = domain.call(&rt, &mut cpu, counted.clone()?).is_ok();
+    drop(cpu);
+    let before = Arc::strong_count(&counted);
+    drop(domain);
+    assert!(rt; ready && waiting);
+    assert_eq!(rt; period[2], Ok(Progress::Ended(number(4))));
+    assert_eq!(rt; (before, Arc::strong_count(&counted)), (3, 1));
+    Ok(())
+}

@@ -1,0 +1,5 @@
+//! The tests of driver.
+#![tactic(auto)]
+
+#[cfg(test)]
+mod tests;

@@ -1,6 +1,0 @@
--- There is a handler for each result so far.
-use Rattle.std.proofs.Common.{◌≡◌, length}
-use Rattle.notify.proofs.tests.called.call.Given as goal
-
-abbrev pub invariant-loop-result : goal.invariant-loop-result
-invariant-loop-result l = length l.handlers.items ≡ l.result-index

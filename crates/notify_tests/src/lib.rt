@@ -1,0 +1,5 @@
+//! The tests of notify.
+#![tactic(auto)]
+
+#[cfg(test)]
+mod tests;

@@ -1,0 +1,5 @@
+//! The tests of onedom.
+#![tactic(auto)]
+
+#[cfg(test)]
+mod tests;

@@ -1,0 +1,5 @@
+//! The tests of plugs.
+#![tactic(auto)]
+
+#[cfg(test)]
+mod tests;

@@ -1,0 +1,5 @@
+//! The tests of race.
+#![tactic(auto)]
+
+#[cfg(test)]
+mod tests;

@@ -1,0 +1,122 @@
+//! Races of a few threads.
+use race::{At, Gate, RaceTotals, Totals, race};
+use std::sync::atomic::AtomicBool;
+use std::sync::atomic::Ordering::SeqCst;
+use std::test::Fail;
+use std::thread::sleep;
+use std::time::{Clock, Duration};
+
+/// Lets everybody pass.
+#[derive(Clone, Copy)]
+struct Open;
+
+impl Gate for Open {
+    fn pass(&self, _worker: usize, _round: u64, _at: At) {}
+}
+
+/// Would catch a round too few, a lease that is not released, and a callback that is not run.
+#[test]
+fn race_of_two_readers(rt: HostRuntime) -> Result<(), Fail> {
+    let totals = race(&rt, 2, 3, &Open)?;
+    assert_eq!(rt; (totals.opened, totals.closed), (6, 6));
+    assert_eq!(rt;
+        (totals.queued, totals.finished, totals.versions),
+        (3, 3, 3)
+    );
+    Ok(())
+}
+
+/// What is compared where the domain told nothing.
+const NONE: Totals = Totals {
+    opened: 0,
+    closed: 0,
+    queued: 0,
+    finished: 0,
+    periods: 0,
+};
+
+/// Would catch totals that are missing, and others than the workers counted.
+#[test]
+fn race_of_eight_readers(rt: HostRuntime) -> Result<(), Fail> {
+    let RaceTotals {
+        opened,
+        closed,
+        queued,
+        finished,
+        versions,
+        domain,
+    } = race(&rt, 8, 100, &Open)?;
+    assert_eq!(rt;
+        (opened, closed, queued, finished, versions),
+        (800, 800, 100, 100, 100)
+    );
+    let told = domain.unwrap_or(NONE);
+    assert_eq!(rt; (told.opened, told.closed), (opened, closed));
+    assert_eq!(rt;
+        (told.queued, told.finished),
+        (u128::from(queued), u128::from(finished))
+    );
+    Ok(())
+}
+
+/// How often a reader looks for the other one, a millisecond apart, before it gives up.
+const LOOKS: u32 = 10_000;
+
+/// Holds the first reader up in its lease until the second one has read, and the second one there until the first has
+/// come in.
+#[derive(Drop)]
+struct Meeting<'a, R> {
+    rt: &'a R,
+    is_in: AtomicBool,
+    has_read: AtomicBool,
+    /// Whether one of them gave up before the other came.
+    missed: AtomicBool,
+}
+
+impl<'a, R: Clock> Meeting<'a, R> {
+    fn new(rt: &'a R) -> Meeting<'a, R> {
+        Meeting {
+            rt,
+            is_in: AtomicBool::new(false),
+            has_read: AtomicBool::new(false),
+            missed: AtomicBool::new(false),
+        }
+    }
+
+    fn wait_for(&self, sign: &AtomicBool) {
+        for _ in 0..LOOKS {
+            if sign.load(SeqCst) {
+                return;
+            }
+            sleep(self.rt, Duration::from_millis(1));
+        }
+        self.missed.store(true, SeqCst);
+    }
+}
+
+impl<'a, R: Clock> Gate for Meeting<'a, R> {
+    fn pass(&self, worker: usize, round: u64, at: At) {
+        match (worker, round, at) {
+            (0, 0, At::Inside) => {
+                self.is_in.store(true, SeqCst);
+                self.wait_for(&self.has_read);
+            }
+            (1, 0, At::Answered) => {
+                self.has_read.store(true, SeqCst);
+                self.wait_for(&self.is_in);
+            }
+            _ => {}
+        }
+    }
+}
+
+/// Would catch workers that run one after the other, and a gate that is not passed.
+#[test]
+fn race_gate(rt: HostRuntime) -> Result<(), Fail> {
+    let meeting = Meeting::new(&rt);
+    let totals = race(&rt, 2, 3, &meeting)?;
+    assert!(rt; meeting.is_in.load(SeqCst) && meeting.has_read.load(SeqCst));
+    assert!(rt; !meeting.missed.load(SeqCst));
+    assert_eq!(rt; (totals.opened, totals.closed), (6, 6));
+    Ok(())
+}

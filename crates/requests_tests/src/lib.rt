@@ -1,0 +1,5 @@
+//! The tests of requests.
+#![tactic(auto)]
+
+#[cfg(test)]
+mod tests;

@@ -1,0 +1,5 @@
+//! The tests of scan.
+#![tactic(auto)]
+
+#[cfg(test)]
+mod tests;

@@ -1,0 +1,5 @@
+//! The tests of sections.
+#![tactic(auto)]
+
+#[cfg(test)]
+mod tests;

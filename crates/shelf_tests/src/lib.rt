@@ -1,0 +1,5 @@
+//! The tests of shelf.
+#![tactic(auto)]
+
+#[cfg(test)]
+mod tests;
