@@ -6,8 +6,8 @@ mod lending;
 mod sharing;
 mod telling;
 
-use driver::{Served, Stopped, barrier, serve, Pool, Stop};
 use domain::{Cpu, Domain, Limits, MakeError, PeriodsExhausted, Totals};
+use driver::{Pool, Served, Stop, Stopped, barrier, serve};
 use std::alloc::Global;
 use std::sync::Wait;
 use std::test::Fail;

@@ -107,6 +107,8 @@ impl<T: Keyed<K> + Drop, K, A: Allocator> Keep<T, K, A> {
         let shared = &self.table.shared;
         for _ in rt.forever() {
             let (found, mut seat) = shared.swap_new_seat::<Guard<T, K>>(LOCK, 1);
+            // The word before the slot: who has changed the word from 0 to 1 is alone at the slot. The other way round two
+            // threads could both look into the slot, and one of them would find nothing there.
             if found == 0 {
                 let value = shared.exchange(&mut seat, 0, None).unwrap();
                 return (value, Loan { seat });
@@ -123,6 +125,8 @@ impl<T: Keyed<K> + Drop, K, A: Allocator> Keep<T, K, A> {
     {
         let Loan { mut seat } = loan;
         let shared = &self.table.shared;
+        // The slot before the word: a thread that finds the word at 0 takes what lies in the slot, and the value has to be
+        // there by then.
         drop(shared.exchange(&mut seat, 0, Some(value)));
         shared.store::<Release>(&mut seat, LOCK, 0);
     }

@@ -1,5 +1,5 @@
-use onedom::{Event, Maker, Illegal, Memory, OneDomain, legal};
 use linked_list_allocator::LocalHeap;
+use onedom::{Event, Illegal, Maker, Memory, OneDomain, legal};
 use sseq::Index;
 use std::alloc::AllocError;
 use std::test::Fail;

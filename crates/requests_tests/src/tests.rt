@@ -6,13 +6,13 @@ mod stage;
 mod tables;
 mod tickets;
 
-use stage::Stage;
+use lines::{Name, words};
 use requests::{
     Act, Cause, Command, Fault, Period, Reply, Request, Sections, is_skipped, parse, push_reply,
 };
-use lines::{Name, words};
 use scan::Progress;
 use sseq::{Index, Number, Phase};
+use stage::Stage;
 use std::process::Abort;
 use std::test::Fail;
 

@@ -96,6 +96,11 @@ fn finish_scan<A: Allocator>(
         begun += seat.locks(processor, index);
     }
     begun += seat.locks(last, index);
+    // All unlock counters were loaded before the first of these. Counters only grow, and a section begins before it ends:
+    //
+    //   sum of the unlock loads <= sections ended by then <= sections begun by then <= sum of the lock loads.
+    //
+    // So where the sums are equal, no section of the index was open when the last unlock counter was loaded.
     if ended == begun {
         leave_passed(seat)
     } else {

@@ -60,14 +60,13 @@ note_follows n changes log is r = let a = r.started in let b = r.ended in dite (
     let y : more (ltb (ended_in log) (starts_in log)) ≡ 2 = ap more (lt-ltb (ended_in log) (starts_in log) (omega (arith, a, b, busy))) in omega (arith, is, busy, b, x, y))
 
 pub ask_follows : (cookie n changes : ℕ) (log : List Event) → IsCookieNumber cookie → n ≡ number_word changes → Reaches changes log → MayFollow log (Ask cookie (done_at n cookie) (Processor 0))
-ask_follows cookie n changes log whole is r = let b = r.ended in
-    (
-      whole,
-      (
-        (λ t. ⊎_elim (λ one. inl one) (λ le. ⊎_elim (λ one. inl one) (λ four. inr (omega (arith, four, is, b, le))) whole) (done_true n cookie t)),
-        (λ done. done_is n cookie (⊎_elim (λ one. inl one) (λ le. inr (omega (arith, is, b, le))) done)),
-      ),
-    )
+ask_follows cookie n changes log whole is r = let b = r.ended in (
+  whole,
+  (
+    (λ t. ⊎_elim (λ one. inl one) (λ le. ⊎_elim (λ one. inl one) (λ four. inr (omega (arith, four, is, b, le))) whole) (done_true n cookie t)),
+    (λ done. done_is n cookie (⊎_elim (λ one. inl one) (λ le. inr (omega (arith, is, b, le))) done)),
+  ),
+)
 
 -- a number for a new section, of either kind
 fresh_as : (held : Bool) (history : List Event) → (s : ℕ) × (begins_of s history ≡ 0) × (is_held s ≡ held)

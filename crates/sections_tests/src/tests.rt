@@ -8,9 +8,12 @@ ghost use Rattle.sections.specs.EngineCalls.{IsSameEngine, IsSeenByEngine};
 
 mod shelf;
 
-use sections::{Cookie, Cpu, Exhausted, Held, NotACookie, EngineSeat, sums_of_a_domain, Limits, MOST_PROCESSORS, MakeError, Made, make};
 use bumpalo::Bump;
 use linked_list_allocator::LocalHeap;
+use sections::{
+    Cookie, Cpu, EngineSeat, Exhausted, Held, Limits, MOST_PROCESSORS, Made, MakeError, NotACookie,
+    make, sums_of_a_domain,
+};
 use sseq::{Index, Number};
 use std::alloc::Global;
 use std::sync::atomic::AtomicBool;

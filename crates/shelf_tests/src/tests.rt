@@ -4,8 +4,8 @@ ghost use Rattle.sections.specs.Words.{cells_in};
 ghost use Rattle.sections.specs.Calls.{IsSameCpu};
 ghost use Rattle.domain.specs.Views.{IsOf};
 
-use shelf::{NoSlot, Shelf, Values, Versioned};
 use domain::{Cpu, Domain, Limits, MakeError};
+use shelf::{NoSlot, Shelf, Values, Versioned};
 use std::alloc::Global;
 use std::sync::Wait;
 use std::sync::atomic::AtomicBool;

@@ -41,6 +41,7 @@ impl<T: Token + Alike> BaySeat<T> {
         ensures alike { IfSome result (λ x. IsLikeFirst T.like self.old x) }
     {
         let top = &bay.table.shared;
+        // The word before the slot: whoever swaps OUT in and finds THERE is alone at the slot.
         if top.swap::<plays::Take<T>>(&mut self.seat, 0, OUT) == OUT {
             return None;
         }
@@ -59,6 +60,7 @@ impl<T: Token + Alike> BaySeat<T> {
         ensures lies { lies self.new ≡ Some value }
     {
         let top = &bay.table.shared;
+        // The slot before the word: whoever finds THERE takes what lies in the slot, and would find nothing.
         let nothing = top.exchange(&mut self.seat, SLOT, Some(value));
         let None = nothing else { unreachable!() };
         top.swap::<plays::PutBack>(&mut self.seat, 0, THERE);

@@ -30,6 +30,8 @@ fn count_index<A: Allocator>(
     let mut begun = 0;
     let mut ended = 0;
     for processor in 0..processors {
+        // Locks before unlocks would be wrong in a scan. Here all processors are in one hand, so no section begins or ends
+        // between the two loads.
         begun += cpu.locks(processor, index);
         ended += cpu.unlocks(processor, index);
     }

@@ -4,8 +4,8 @@ ghost use Rattle.desk.specs.Calls.{new_seat};
 ghost use Rattle.domain.specs.Views.{IsOf};
 ghost use Rattle.domain.specs.Waiting.{HasNoneOpen};
 
-use domain::{AdvanceRefusal, Cpu, Domain, Held, Home, Index, Limits, MakeError, Number, Progress};
 use desk::{Desk, DeskSeat};
+use domain::{AdvanceRefusal, Cpu, Domain, Held, Home, Index, Limits, MakeError, Number, Progress};
 use std::alloc::{AllocError, Global};
 use std::process::Abort;
 use std::sync::Wait;

@@ -6,8 +6,8 @@ ghost use Rattle.driver.specs.Pools.{IsIdle, IsLent};
 ghost use Rattle.driver.specs.Works.{IsKept};
 
 use super::{drive, end, jobs_of, made, pool_of, queue, sign_of};
-use driver::{Pool, Stop, read};
 use domain::{Cpu, Domain, Exhausted, MakeError, Reading, Totals};
+use driver::{Pool, Stop, read};
 use std::sync::Wait;
 use std::test::Fail;
 use std::thread::{Threads, for_each_mut, join};

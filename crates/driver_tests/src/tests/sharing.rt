@@ -3,8 +3,8 @@ ghost use Rattle.std.specs.Prelude.{◌≡◌};
 ghost use Rattle.driver.specs.Works.{IsKept};
 
 use super::{end, made, pool_of};
-use driver::{Pool, read};
 use domain::{Cpu, Domain, MakeError, Reading, Totals};
+use driver::{Pool, read};
 use std::sync::Wait;
 use std::sync::atomic::AtomicU64;
 use std::sync::atomic::Ordering::SeqCst;

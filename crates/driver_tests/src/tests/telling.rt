@@ -6,8 +6,8 @@ ghost use Rattle.driver.specs.Works.{IsKept};
 
 use super::sharing::look_for;
 use super::{made, pool_of, queue, served_by, sign_of};
-use driver::{GiveRefusal, Pool, Stop, read, serve};
 use domain::{Cpu, Domain, MakeError, Reading};
+use driver::{GiveRefusal, Pool, Stop, read, serve};
 use std::sync::Wait;
 use std::sync::atomic::AtomicU64;
 use std::sync::atomic::Ordering::SeqCst;

@@ -4,8 +4,8 @@ ghost use Rattle.sections.specs.Words.{cells_in};
 ghost use Rattle.domain.specs.Views.{IsOf};
 
 use super::called::Fixed;
-use notify::{BAD, Chain, ChainView, DONE, Handler, OK, STOP};
 use domain::{Cpu, Domain, Limits, MakeError, Progress};
+use notify::{BAD, Chain, ChainView, DONE, Handler, OK, STOP};
 use std::alloc::{AllocError, Global};
 use std::sync::Arc;
 use std::sync::atomic::AtomicU64;

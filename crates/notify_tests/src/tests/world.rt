@@ -3,8 +3,8 @@ ghost use Rattle.std.specs.Prelude.{◌≡◌, ◌<◌, IfOk};
 ghost use Rattle.sections.specs.Words.{cells_in};
 ghost use Rattle.domain.specs.Views.{IsOf, Stays};
 
-use notify::{Chain, ChainView, RegisterRefusal, UnregisterRefusal};
 use domain::{Cpu, Domain, Limits, MakeError, Writer};
+use notify::{Chain, ChainView, RegisterRefusal, UnregisterRefusal};
 use std::alloc::Global;
 use std::marker::Model;
 use std::sync::Wait;

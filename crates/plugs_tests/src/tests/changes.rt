@@ -1,7 +1,7 @@
 //! Installing, removing and looking up. The calls stand where the world is lent, and what they told is compared where it is
 //! gone.
-use plugs::{InstallRefusal, RemoveRefusal};
 use super::world::World;
+use plugs::{InstallRefusal, RemoveRefusal};
 use std::sync::Wait;
 use std::test::Fail;
 

@@ -1,8 +1,8 @@
 //! Leases, while the table is changed.
 ghost use Rattle.std.specs.Prelude.{◌≡◌, IfSome};
 
-use plugs::{Lease, release, InstallRefusal};
 use super::world::World;
+use plugs::{InstallRefusal, Lease, release};
 use std::sync::Wait;
 use std::test::Fail;
 

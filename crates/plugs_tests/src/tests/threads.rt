@@ -4,10 +4,10 @@ ghost use Rattle.sections.specs.Words.{cells_in};
 ghost use Rattle.desk.specs.Calls.{new_seat};
 ghost use Rattle.domain.specs.Views.{IsOf};
 
-use plugs::{Lease, release, Table, TableView};
 use super::world::drive_on;
 use desk::{Desk, DeskSeat};
 use domain::{Cpu, Domain, Home, Limits, MakeError};
+use plugs::{Lease, Table, TableView, release};
 use std::alloc::{AllocError, Global};
 use std::process::Abort;
 use std::sync::Wait;

@@ -3,8 +3,8 @@ ghost use Rattle.std.specs.Prelude.{◌≡◌, ◌<◌, IfOk, IfSome};
 ghost use Rattle.sections.specs.Words.{cells_in};
 ghost use Rattle.domain.specs.Views.{IsOf, Stays};
 
-use plugs::{Lease, release, InstallRefusal, RemoveRefusal, Table, TableView};
 use domain::{Cpu, Domain, Limits, MakeError, Writer};
+use plugs::{InstallRefusal, Lease, RemoveRefusal, Table, TableView, release};
 use std::alloc::Global;
 use std::marker::Model;
 use std::sync::Wait;

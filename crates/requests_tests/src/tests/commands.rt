@@ -1,6 +1,6 @@
 //! The table of commands.
-use requests::Command;
 use lines::words;
+use requests::Command;
 use std::test::Fail;
 
 /// The table as the help of the command line shows it.

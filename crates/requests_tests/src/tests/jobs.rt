@@ -2,8 +2,8 @@
 ghost use Rattle.std.specs.Prelude.{◌≤◌, length};
 
 use super::{asks_for, check_faults, check_texts};
-use requests::{Act, Cause, Command, JobNames, Reply, Segments, Waiting};
 use lines::Name;
+use requests::{Act, Cause, Command, JobNames, Reply, Segments, Waiting};
 use std::test::Fail;
 
 /// Would catch a job's name that has to be new, or one that has to be there.

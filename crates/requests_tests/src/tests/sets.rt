@@ -1,7 +1,7 @@
 //! The lines of sets.
 use super::{asked, check_faults, check_texts};
-use requests::{BlockIds, Cause, Command, Fault, Member, Members, Reply, Request};
 use lines::Name;
+use requests::{BlockIds, Cause, Command, Fault, Member, Members, Reply, Request};
 use std::test::Fail;
 
 /// Would catch half a pair or a ninth one that counts, a member that is read before the set's name or behind another one, and

@@ -1,5 +1,5 @@
-use requests::{Kind, Scene};
 use lines::Name;
+use requests::{Kind, Scene};
 
 /// What is there in the tests: a domain `a` of 2 processors, with a look `r`, a section `s` that its own processor ends, a
 /// held section `h`, one that is parked, `p`, a ticket `b`, and a lease `l`; and a set `k`.

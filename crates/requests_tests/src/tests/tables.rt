@@ -1,7 +1,7 @@
 //! The lines of the table.
 use super::{asks_for, check_faults, check_texts};
-use requests::{Act, Cause, Command, Reply};
 use lines::Name;
+use requests::{Act, Cause, Command, Reply};
 use sseq::Index;
 use std::test::Fail;
 

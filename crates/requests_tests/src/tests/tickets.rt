@@ -1,7 +1,7 @@
 //! The lines of tickets, and of taking a domain down.
 use super::{asked, asks_for, check_faults, check_texts};
-use requests::{Act, Cause, Command, Reply, Request};
 use lines::Name;
+use requests::{Act, Cause, Command, Reply, Request};
 use std::test::Fail;
 
 /// Would catch a ticket's name that may be in use, whatever has it.

@@ -60,6 +60,8 @@ impl<A: Allocator> Cpu<A> {
         if self.begun[current.place()] == self.limit {
             return Err(Exhausted);
         }
+        // The index may be stale by now: a flip may have come between the load and this step. The section still counts
+        // with the index that it has, and scans of either index come again before a period ends: see the crate `scan`.
         let seat = begin_section(top, &mut self.seat, self.processor, current);
         self.begun[current.place()] += 1;
         Ok(Reading {

@@ -27,8 +27,12 @@ impl Writer {
         } = slot;
         let table = &*cpu.table;
         let word = 16 * (self.version + 1) + slot as u64;
+        // The cell before the cookie: each section that found the old slot had begun before the cookie was taken, so the
+        // slot's period waits for it. With the cookie first, a section that begins after it could still find the old slot,
+        // and read it while it is written.
         put_in(table, &mut cpu.seat, &mut self.seat, self.cell, slot, word);
         let cookie = snap(note_number(&table.shared, &mut cpu.seat));
+        // The writer's seat has then seen the load of the cookie too, so its next step comes after it.
         refresh_in(table, &mut cpu.seat, &mut self.seat, self.cell);
         let retired = self.current;
         self.standings[retired] = Standing::Retired(cookie);

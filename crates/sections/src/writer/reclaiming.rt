@@ -35,7 +35,10 @@ impl Writer {
         let top = &table.shared;
         let told = top.split_seat::<plays::Show>(&mut self.seat);
         top.join_seat::<plays::TakeToken>(&mut cpu.seat, told);
+        // The answer before the slot is blank: a blank slot may be written, and only the answer says that nobody reads it.
         let done = ask_number::<Brand>(top, &mut cpu.seat, number);
+        // The writer's seat has then seen what the answer saw. Else its next store could stand before the end of a section
+        // that found this slot.
         refresh_in(table, &mut cpu.seat, &mut self.seat, self.cell);
         if done {
             self.standings[slot] = Standing::Blank;

@@ -3,7 +3,7 @@ ghost use Rattle.std.specs.Prelude.{◌≡◌, ◌<◌, IfOk};
 ghost use Rattle.sections.specs.Words.{cells_in};
 ghost use Rattle.sections.specs.Calls.{IsSameCpu};
 
-use sections::{Cpu, Held, Reading, EngineSeat, Limits, MakeError, Made, make, Writer};
+use sections::{Cpu, EngineSeat, Held, Limits, Made, MakeError, Reading, Writer, make};
 use std::alloc::Global;
 use std::test::Fail;
 
