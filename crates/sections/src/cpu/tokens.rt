@@ -32,7 +32,7 @@ impl Cookie {
     pub fn is_completed(&self) -> bool
         ensures { IsTrue result ↔ (self.now ≡ completed_cookie) }
     {
-        self.number == COMPLETED
+        COMPLETED == self.number
     }
 
     /// The number of the domain at which it is done: a multiple of four, or 1 for the completed one, and at most 2^61, so
