@@ -7,11 +7,14 @@ use std::marker::Model;
 
 mod handing;
 
+/// A processor's list behind its lock.
+pub(crate) type Lock<J, A> = Keep<List<J, A>, Spot<J>, A>;
+
 /// The callbacks of a domain: a list for each processor, behind a lock of its own. The threads share it by reference.
 /// Contracts see the domain, the tally words, and how many processors there are.
 #[derive(Drop)]
 pub struct Calls<J, A: Allocator = Global> {
-    pub(crate) lists: Vec<Keep<List<J, A>, Spot<J>, A>, A>,
+    pub(crate) lists: Vec<Lock<J, A>, A>,
 }
 
 impl<J, A: Allocator> Model for Calls<J, A> {

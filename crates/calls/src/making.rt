@@ -1,10 +1,10 @@
 //! New callbacks.
-ghost use Rattle.std.specs.Prelude.{◌≡◌, ◌+◌, ◌<◌, ◌≤◌, ◌^◌, IfOk};
+ghost use Rattle.std.specs.Prelude.{◌≡◌, ◌+◌, ◌<◌, ◌≤◌, ◌^◌, IfOk, vec_len, vec_capacity};
 ghost use Rattle.std.specs.Arc.{arc_value};
-ghost use Rattle.calls.specs.Calls.{AreMade};
+ghost use Rattle.calls.specs.Calls.{AreMade, new_seat};
 ghost use Rattle.calls.specs.Making.{NewTable, IsDealer, AreSights, IsDealt};
 
-use crate::calls::Calls;
+use crate::calls::{Calls, Lock};
 use crate::list::List;
 use crate::plays::{self, Place, Tallies};
 use crate::refusals::Memory;
@@ -23,12 +23,13 @@ use std::sync::Arc;
 fn new_table<J, A: Allocator + Copy>(
     alloc: A,
     plan: Plan,
-) -> Result<(Tallies<J, A>, Place<J>), Memory>
+) -> Result<(Arc<Tallies<J, A>, A>, Place<J>), Memory>
     requires { plan.processors < 2 ^ 16 }
-    ensures { IfOk result (λ t. NewTable plan t.0.shared.key t.0.shared.table_id t.1) }
+    ensures { IfOk result (λ t. let shared = (arc_value t.0).shared in NewTable plan shared.key shared.table_id t.1) }
 {
     let words = vec![in alloc; 0u64; 32 * plan.processors + 16]?;
-    Table::of_words(alloc, words.as_slice(), &plan)
+    let (table, dealer) = Table::of_words(alloc, words.as_slice(), &plan)?;
+    Ok((Arc::new(alloc, table)?, dealer))
 }
 
 /// How far the engine's seat has seen: for who queues, for the list what was queued, and for who takes something out.
@@ -81,7 +82,50 @@ fn deal<J: Drop, A: Allocator + Copy>(
     Ok((seat, list))
 }
 
-/// The seats and the locks of all processors.
+/// The next processor's seat, and its list behind a lock.
+fn deal_locked<J: Drop, A: Allocator + Copy, B: Allocator>(
+    alloc: A,
+    engine: &mut EngineSeat<B>,
+    table: &Arc<Tallies<J, A>, A>,
+    dealer: &mut Place<J>,
+    spot: &Spot<J>,
+) -> Result<(CallSeat<J, A>, Lock<J, A>), Memory>
+    requires there { spot.now.processor < (arc_value table.now).shared.key.processors }
+    requires dealer { let shared = (arc_value table.now).shared in
+        IsDealer shared.key shared.table_id spot.now.processor dealer.old }
+    requires spot { (spot.now.tallies ≡ (arc_value table.now).shared.table_id) × (spot.now.domain ≡ engine.old.domain) }
+    ensures seat { let shared = (arc_value table.now).shared in IfOk result (λ d.
+        d.0 ≡ new_seat spot.now.domain shared.table_id shared.key.processors spot.now.processor) }
+    ensures lock { IfOk result (λ d. d.1.key ≡ spot.now) }
+    ensures dealer { let shared = (arc_value table.now).shared in IfOk result (λ _.
+        IsDealer shared.key shared.table_id (spot.now.processor + 1) dealer.new) }
+    ensures same { engine.new ≡ engine.old }
+{
+    let sights = Sights {
+        seat: engine.sight(),
+        given: engine.sight(),
+        list: engine.sight(),
+    };
+    let (seat, list) = deal(alloc, table, dealer, spot, sights)?;
+    let lock = Keep::new(alloc, alloc, list, spot)?;
+    Ok((seat, lock))
+}
+
+/// Room for the seats and the locks of so many processors.
+fn rooms<J: Drop, A: Allocator + Copy>(
+    alloc: A,
+    processors: usize,
+) -> Result<(Vec<CallSeat<J, A>, A>, Vec<Lock<J, A>, A>), Memory>
+    ensures seats { IfOk result (λ r. (vec_len r.0 ≡ 0) × (processors ≤ vec_capacity r.0)) }
+    ensures locks { IfOk result (λ r. (vec_len r.1 ≡ 0) × (processors ≤ vec_capacity r.1)) }
+{
+    let seats = Vec::with_capacity(alloc, processors)?;
+    let locks = Vec::with_capacity(alloc, processors)?;
+    Ok((seats, locks))
+}
+
+/// The seats and the locks of all processors. Memory for these is taken first, so that there is little to give back where
+/// there is none.
 fn build<J: Drop, A: Allocator + Copy, B: Allocator>(
     alloc: A,
     engine: &mut EngineSeat<B>,
@@ -94,10 +138,8 @@ fn build<J: Drop, A: Allocator + Copy, B: Allocator>(
     let plan = Plan {
         processors: processors as usize,
     };
+    let (mut seats, mut lists) = rooms(alloc, plan.processors)?;
     let (table, mut dealer) = new_table(alloc, plan)?;
-    let table = Arc::new(alloc, table)?;
-    let mut seats = Vec::with_capacity(alloc, plan.processors)?;
-    let mut lists = Vec::with_capacity(alloc, plan.processors)?;
     let mut spot = Spot {
         home: engine.home(),
         seat: table.shared.split_seat::<plays::GiveList>(&mut dealer),
@@ -105,14 +147,9 @@ fn build<J: Drop, A: Allocator + Copy, B: Allocator>(
     };
     for processor in 0..processors {
         spot.processor = processor;
-        let sights = Sights {
-            seat: engine.sight(),
-            given: engine.sight(),
-            list: engine.sight(),
-        };
-        let (seat, list) = deal(alloc, &table, &mut dealer, &spot, sights)?;
-        seats.push(seat)?;
-        lists.push(Keep::new(alloc, alloc, list, &spot)?)?;
+        let (seat, lock) = deal_locked(alloc, engine, &table, &mut dealer, &spot)?;
+        seats.push_reserved(seat);
+        lists.push_reserved(lock);
     }
     Ok((Calls { lists }, seats))
 }

@@ -1,4 +1,5 @@
 //! A processor's seat at the tally words.
+ghost use Rattle.std.specs.Prelude.{◌≡◌};
 
 use crate::entry::Arrival;
 use crate::plays::{Place, Tallies};
@@ -41,6 +42,15 @@ impl<J, A: Allocator> Model for CallSeat<J, A> {
     ghost view = { view_of_seat };
 
     ghost invariant = { IsCallSeat };
+}
+
+impl<J, A: Allocator> CallSeat<J, A> {
+    /// The number of the seat's processor, from 0.
+    pub fn processor(&self) -> u16
+        ensures { result ≡ self.now.processor }
+    {
+        self.processor
+    }
 }
 
 /// How many calls a processor may ever queue, 2^54.

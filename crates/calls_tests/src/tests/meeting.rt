@@ -33,7 +33,7 @@ pub(super) fn fits(calls: &Calls<u64>, cpu: &Cpu, seat: &CallSeat<u64>) -> bool
     ensures { IsTrue result → FitsIn calls.now cpu.now seat.now }
 {
     let _ = calls;
-    cpu.processor() == seat.processor
+    cpu.processor() == seat.processor()
 }
 
 /// Queues so many jobs. Tells whether each got its number, and the cookie of the first period.

@@ -1,4 +1,5 @@
-//! A call that comes in while another thread has the processor's list.
+//! A call that comes in while another thread has the processor's list, and a look at the list, which waits.
+ghost use Rattle.std.specs.Prelude.{◌<◌};
 ghost use Rattle.calls.specs.Calls.{FitsIn};
 
 use super::meeting::{fits, pair};
@@ -14,9 +15,12 @@ use std::time::{Clock, Duration};
 /// How often a thread looks for what another one does, with a sleep of a millisecond behind each look.
 const LOOKS: u32 = 10_000;
 
-/// Waits until the other thread has come so far, for some seconds. Tells whether it came.
-fn wait_for<R: Clock>(rt: &R, step: &AtomicU64, least: u64) -> bool {
-    for _ in 0..LOOKS {
+/// The same, for what the other one is not to do.
+const FEW_LOOKS: u32 = 50;
+
+/// Waits until the other thread has come so far, for so many looks. Tells whether it came.
+fn wait_for<R: Clock>(rt: &R, step: &AtomicU64, least: u64, looks: u32) -> bool {
+    for _ in 0..looks {
         if step.load(SeqCst) >= least {
             return true;
         }
@@ -25,19 +29,27 @@ fn wait_for<R: Clock>(rt: &R, step: &AtomicU64, least: u64) -> bool {
     false
 }
 
-/// Has the list of processor 1 until a call there has answered. Tells whether it did.
-fn hold<R: Wait, C: Clock>(rt: &R, clock: &C, calls: &Calls<u64>, step: &AtomicU64) -> bool {
-    let Some(lock) = calls.lists.get(1) else {
-        return false;
-    };
-    let (list, loan) = lock.take(rt);
-    step.store(1, SeqCst);
-    let answered = wait_for(clock, step, 2);
-    lock.put_back(list, loan);
-    answered
+/// Has the list of this processor until a call there has answered, and a little longer. Tells whether it did, and nobody
+/// looked at the list meanwhile.
+fn hold<R: Wait, C: Clock>(
+    rt: &R,
+    clock: &C,
+    calls: &Calls<u64>,
+    processor: u16,
+    step: &AtomicU64,
+) -> bool
+    requires { processor < calls.now.processors }
+{
+    calls.hold_list(rt, processor, || {
+        step.store(1, SeqCst);
+        wait_for(clock, step, 2, LOOKS) && !wait_for(clock, step, 3, FEW_LOOKS)
+    })
 }
 
-/// Queues a job once the other thread has the list. Tells its number.
+/// What the second thread finds: the number of its job, how many jobs are in each segment of the list, and the two numbers.
+type Found = (u64, [usize; 4], [u64; 2]);
+
+/// Queues a job once the other thread has the list, and then looks at the list.
 fn call_meanwhile<R: Wait, C: Clock>(
     rt: &R,
     clock: &C,
@@ -45,15 +57,18 @@ fn call_meanwhile<R: Wait, C: Clock>(
     mut cpu: Cpu,
     mut seat: CallSeat<u64>,
     step: &AtomicU64,
-) -> Option<u64>
+) -> Option<Found>
     requires { FitsIn calls.now cpu seat }
 {
-    if !wait_for(clock, step, 1) {
+    if !wait_for(clock, step, 1, LOOKS) {
         return None;
     }
     let receipt = calls.call(rt, &mut cpu, &mut seat, 7).ok()?;
     step.store(2, SeqCst);
-    Some(receipt.k())
+    let processor = seat.processor();
+    let (lens, numbers) = calls.lens(rt, &mut seat, processor).ok()?;
+    step.store(3, SeqCst);
+    Some((receipt.k(), lens, numbers))
 }
 
 /// One thread has the list while another queues a job.
@@ -64,26 +79,29 @@ fn call_beside<R: Threads + Wait + Sync>(
     cpu: Cpu,
     seat: CallSeat<u64>,
     step: &AtomicU64,
-) -> (bool, Option<u64>)
+) -> (bool, Option<Found>)
     requires { FitsIn calls.now cpu seat }
 {
+    let processor = seat.processor();
     join(
         rt,
-        || hold(rt, &clock, calls, step),
+        ||
+            requires { processor < calls.now.processors }
+        { hold(rt, &clock, calls, processor, step) },
         ||
             requires { FitsIn calls.now cpu seat }
         { call_meanwhile(rt, &clock, calls, cpu, seat, step) },
     )
 }
 
-/// Would catch a call that waits for the lock of its processor's list.
+/// Would catch a call that waits for the lock of its processor's list, and a list that isn't held.
 #[test]
 fn intake_unlocked(rt: HostRuntime) -> Result<(), Fail> {
     let (calls, _, (cpu, seat)) = pair(rt.alloc())?;
     assert!(rt; fits(&calls, &cpu, &seat));
     let step = AtomicU64::new(0);
-    let (answered, number) = call_beside(&rt, rt, &calls, cpu, seat, &step);
+    let (answered, found) = call_beside(&rt, rt, &calls, cpu, seat, &step);
     assert!(rt; answered);
-    assert_eq!(rt; number, Some(0));
+    assert_eq!(rt; found, Some((0, [0, 1, 0, 0], [4, 0])));
     Ok(())
 }
