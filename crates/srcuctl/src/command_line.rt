@@ -10,9 +10,6 @@ use clap::{Arg, ArgMatches, Command, Error};
 use sections::Limits;
 use std::alloc::Global;
 
-#[cfg(test)]
-mod tests;
-
 /// What `--version` writes behind the program's name.
 const VERSION: &str = "0.1.0";
 

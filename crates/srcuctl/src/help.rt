@@ -3,9 +3,6 @@ use requests::{Command, Row};
 use std::alloc::{AllocError, Allocator};
 use std::fmt::Write;
 
-#[cfg(test)]
-mod tests;
-
 const BEFORE_LINES: &str = "\
 A script has a line for each thing that a domain should do:
 

@@ -9,8 +9,6 @@ mod command_line;
 mod handler;
 mod help;
 mod racing;
-#[cfg(test)]
-mod replies;
 mod script;
 mod status;
 
