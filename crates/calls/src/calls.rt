@@ -7,7 +7,7 @@ use std::marker::Model;
 
 mod handing;
 
-/// A processor's list behind its lock.
+/// A processor's list in its lock.
 pub(crate) type Lock<J, A> = Keep<List<J, A>, Spot<J>, A>;
 
 /// The callbacks of a domain: a list for each processor, behind a lock of its own. The threads share it by reference.

@@ -82,7 +82,7 @@ fn deal<J: Drop, A: Allocator + Copy>(
     Ok((seat, list))
 }
 
-/// The next processor's seat, and its list behind a lock.
+/// The next processor's seat, and its list in a lock.
 fn deal_locked<J: Drop, A: Allocator + Copy, B: Allocator>(
     alloc: A,
     engine: &mut EngineSeat<B>,

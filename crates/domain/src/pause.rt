@@ -40,7 +40,7 @@ impl Pause {
             yield_now();
             return;
         }
-        // A fresh word, which no other thread knows: nobody wakes this one early, and the sleep lasts its time.
+        // The word is fresh, so no other thread can wake this one: the sleep lasts its time.
         AtomicU64::new(0).park_timeout(rt, 0, Duration::from_micros(self.micros));
         self.micros = self.micros.saturating_mul(2).min(LONGEST);
     }

@@ -11,7 +11,7 @@ use crate::writer::Writer;
 use sections::Slot;
 use std::alloc::Allocator;
 
-/// Makes blank what nobody can read any more, and gives a blank slot out. None where there is none, or 2^54 versions
+/// Makes blank what no section can read any more, and gives a blank slot out. None where there is none, or 2^54 versions
 /// were put.
 pub fn claim<J, A: Allocator>(writer: &mut Writer, cpu: &mut Cpu<J, A>) -> Option<Slot>
     requires here { cpu.old.cpu.domain ≡ writer.old.domain }

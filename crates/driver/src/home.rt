@@ -1,4 +1,4 @@
-//! Processors that nobody has.
+//! Processors that are at home.
 use domain::{Cpu, Domain};
 use std::alloc::Allocator;
 use trail::Stocked;

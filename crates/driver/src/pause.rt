@@ -41,7 +41,7 @@ impl Pause {
 
     /// Sleeps where nobody wakes it.
     pub fn sleep<R: Wait>(&mut self, rt: &R) {
-        // A fresh word, which no other thread knows: nobody wakes this one early, and the sleep lasts its time.
+        // The word is fresh, so no other thread can wake this one: the sleep lasts its time.
         AtomicU64::new(0).park_timeout(rt, 0, self.next());
     }
 }

@@ -105,9 +105,9 @@ impl<J: Drop, A: Allocator + Copy> Calls<J, A> {
         lens
     }
 
-    /// Keeps a processor's list out of its lock while `work` runs, and answers what `work` does. The list is nobody's
-    /// meanwhile, and goes back as it was. Whoever takes, finishes or counts jobs of that processor waits until then, so
-    /// `work` must not do it itself; `call` waits for nobody's list.
+    /// Keeps a processor's list out of its lock while `work` runs, and answers what `work` does. The list goes back as it
+    /// was. Whoever takes, finishes or counts jobs of that processor waits until then, so `work` must not do it itself.
+    /// `call` takes no lock.
     pub fn hold_list<R: Wait, T, F: FnOnce() -> T>(&self, rt: &R, processor: u16, work: F) -> T
         requires there { processor < self.now.processors }
         requires work { F.pre work }
