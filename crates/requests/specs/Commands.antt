@@ -1,5 +1,5 @@
 -- The table of commands.
-use Rattle.std.specs.Prelude.{◌≡◌, ℕ, ◌+◌, ◌%◌, ◌==◌, ◌&&◌, ◌||◌, not, nat_lt, length, Bool, true, false, List, [], ◌∷◌, take, drop, find, Option, codes, bytes_eq, if◌then◌else◌}
+use Rattle.std.specs.Prelude.{◌≡◌, ℕ, ◌+◌, ◌%◌, ◌==◌, ◌&&◌, ◌||◌, not, nat_lt, length, Bool, true, false, List, [], ◌∷◌, take, drop, find, Option, Some, slice_get, codes, bytes_eq, if◌then◌else◌}
 use Rattle.requests.specs.declared.command.Command.{Command}
 use Rattle.requests.specs.declared.command.Command.TheVariants as command
 use Rattle.requests.specs.declared.command.Argument.{Argument}
@@ -91,5 +91,4 @@ behind_in c ws = drop (count_of_arguments c (length ws)) ws
 
 -- a line of the command as the help shows it: its word, one for each argument, one for its pairs, and two for its members
 abbrev pub IsForm : Command → List (List ℕ) → Type 0
-IsForm c [] = ⊥
-IsForm c (w ∷ ws) = (w ≡ command_word c) × (length ws ≡ length (arguments c) + (if takes_pairs c then 1 else 0) + (if takes_members c then 2 else 0))
+IsForm c ws = (slice_get ws 0 ≡ Some (command_word c)) × (length ws ≡ 1 + length (arguments c) + (if takes_pairs c then 1 else 0) + (if takes_members c then 2 else 0))

@@ -98,6 +98,241 @@ pub struct Row {
     pub does: &'static str,
 }
 
+/// The rows of the table, in the order in which the commands are declared.
+static ROWS: [Row; 36] = [
+    Row {
+        word: "domain",
+        takes: &[Argument::NewDomain, Argument::AnyNumber],
+        form: "domain NAME N",
+        does: "makes a domain of N processors (1 to 256)",
+    },
+    Row {
+        word: "state",
+        takes: &[Argument::ADomain],
+        form: "state NAME",
+        does: "shows where the domain stands",
+    },
+    Row {
+        word: "look",
+        takes: &[Argument::ADomain, Argument::AProcessor, Argument::NewName],
+        form: "look NAME P R",
+        does: "reads the current index on processor P, a look called R",
+    },
+    Row {
+        word: "enter",
+        takes: &[Argument::ADomain, Argument::AProcessor, Argument::ALook],
+        form: "enter NAME P R",
+        does: "begins a section of that index on processor P, called R",
+    },
+    Row {
+        word: "lock",
+        takes: &[Argument::ADomain, Argument::AProcessor, Argument::NewName],
+        form: "lock NAME P S",
+        does: "a look and a section at once; the section is called S",
+    },
+    Row {
+        word: "unlock",
+        takes: &[Argument::ADomain, Argument::AReading],
+        form: "unlock NAME S",
+        does: "ends a section of `lock` or `enter` where it began",
+    },
+    Row {
+        word: "down",
+        takes: &[Argument::ADomain, Argument::AProcessor, Argument::NewName],
+        form: "down NAME P S",
+        does: "begins a section on processor P that any may end",
+    },
+    Row {
+        word: "up",
+        takes: &[Argument::ADomain, Argument::AProcessor, Argument::AHeld],
+        form: "up NAME P S",
+        does: "ends a section of `down` on processor P",
+    },
+    Row {
+        word: "park",
+        takes: &[Argument::ADomain, Argument::AHeld],
+        form: "park NAME S",
+        does: "puts a section of `down` on the domain's desk",
+    },
+    Row {
+        word: "unpark",
+        takes: &[Argument::ADomain],
+        form: "unpark NAME",
+        does: "takes what lies on the domain's desk",
+    },
+    Row {
+        word: "get",
+        takes: &[Argument::ADomain, Argument::AProcessor],
+        form: "get NAME P",
+        does: "gives a cookie",
+    },
+    Row {
+        word: "ask",
+        takes: &[Argument::ADomain, Argument::AProcessor],
+        form: "ask NAME P",
+        does: "gives a cookie, and asks for its grace period",
+    },
+    Row {
+        word: "poll",
+        takes: &[Argument::ADomain, Argument::AProcessor, Argument::AnyNumber],
+        form: "poll NAME P C",
+        does: "tells whether a grace period has gone by since cookie C",
+    },
+    Row {
+        word: "start",
+        takes: &[Argument::ADomain, Argument::AProcessor],
+        form: "start NAME P",
+        does: "starts a grace period",
+    },
+    Row {
+        word: "advance",
+        takes: &[Argument::ADomain, Argument::AProcessor],
+        form: "advance NAME P",
+        does: "lets the engine work until it has an answer",
+    },
+    Row {
+        word: "step",
+        takes: &[Argument::ADomain, Argument::AProcessor],
+        form: "step NAME P",
+        does: "lets the engine make one step",
+    },
+    Row {
+        word: "call",
+        takes: &[Argument::ADomain, Argument::AProcessor, Argument::AJob],
+        form: "call NAME P J",
+        does: "queues job J on processor P, to run after a grace period",
+    },
+    Row {
+        word: "run",
+        takes: &[Argument::ADomain, Argument::AProcessor],
+        form: "run NAME P",
+        does: "runs the first ready jobs of processor P, up to 8",
+    },
+    Row {
+        word: "batch",
+        takes: &[Argument::ADomain, Argument::AProcessor],
+        form: "batch NAME P",
+        does: "takes those jobs out as a batch, and runs none yet",
+    },
+    Row {
+        word: "finish",
+        takes: &[Argument::ADomain, Argument::AProcessor],
+        form: "finish NAME P",
+        does: "runs the jobs of processor P's batch, and ends it",
+    },
+    Row {
+        word: "segs",
+        takes: &[Argument::ADomain, Argument::AProcessor],
+        form: "segs NAME P",
+        does: "shows how many jobs of processor P wait, and for what",
+    },
+    Row {
+        word: "barrier",
+        takes: &[Argument::ADomain, Argument::AProcessor, Argument::NewName],
+        form: "barrier NAME P B",
+        does: "gives a ticket B for the jobs that are queued by now",
+    },
+    Row {
+        word: "barrier-poll",
+        takes: &[Argument::ADomain, Argument::AProcessor, Argument::ATicket],
+        form: "barrier-poll NAME P B",
+        does: "tells whether all jobs of ticket B have run",
+    },
+    Row {
+        word: "register",
+        takes: &[
+            Argument::ADomain,
+            Argument::AProcessor,
+            Argument::AnId,
+            Argument::APriority,
+        ],
+        form: "register NAME P I N",
+        does: "registers handler I on the chain, with priority N",
+    },
+    Row {
+        word: "unregister",
+        takes: &[Argument::ADomain, Argument::AProcessor, Argument::AnId],
+        form: "unregister NAME P I",
+        does: "takes handler I off the chain",
+    },
+    Row {
+        word: "chain",
+        takes: &[Argument::ADomain, Argument::AProcessor],
+        form: "chain NAME P",
+        does: "shows the handlers of the chain, as they are called",
+    },
+    Row {
+        word: "notify",
+        takes: &[Argument::ADomain, Argument::AProcessor],
+        form: "notify NAME P I:W..",
+        does: "calls the chain; I answers W: done, ok, stop or bad",
+    },
+    Row {
+        word: "install",
+        takes: &[
+            Argument::ADomain,
+            Argument::AProcessor,
+            Argument::AKey,
+            Argument::APlug,
+        ],
+        form: "install NAME P K N",
+        does: "gives key K of the table the plug N",
+    },
+    Row {
+        word: "remove",
+        takes: &[Argument::ADomain, Argument::AProcessor, Argument::AKey],
+        form: "remove NAME P K",
+        does: "takes key K out of the table",
+    },
+    Row {
+        word: "lookup",
+        takes: &[Argument::ADomain, Argument::AProcessor, Argument::AKey],
+        form: "lookup NAME P K",
+        does: "finds the plug of key K",
+    },
+    Row {
+        word: "lease",
+        takes: &[Argument::ADomain, Argument::AProcessor, Argument::NewName],
+        form: "lease NAME P L",
+        does: "leases the version of the table; the lease is called L",
+    },
+    Row {
+        word: "read",
+        takes: &[
+            Argument::ADomain,
+            Argument::AProcessor,
+            Argument::ALease,
+            Argument::AKey,
+        ],
+        form: "read NAME P L K",
+        does: "finds the plug of key K in the version of lease L",
+    },
+    Row {
+        word: "release",
+        takes: &[Argument::ADomain, Argument::AProcessor, Argument::ALease],
+        form: "release NAME P L",
+        does: "ends lease L on processor P",
+    },
+    Row {
+        word: "set",
+        takes: &[Argument::NewSet],
+        form: "set K NAME P..",
+        does: "asks in each domain, on its processor; K has the cookies",
+    },
+    Row {
+        word: "set-poll",
+        takes: &[Argument::ASet],
+        form: "set-poll K",
+        does: "tells whether all cookies of set K are done",
+    },
+    Row {
+        word: "cleanup",
+        takes: &[Argument::ADomain],
+        form: "cleanup NAME",
+        does: "takes the domain down, where nothing of it is in use",
+    },
+];
+
 impl Command {
     /// All commands, in the order of the help.
     pub const ALL: [Command; 36] = [
@@ -146,239 +381,7 @@ impl Command {
         ensures takes { result.takes.now ≡ arguments self }
         ensures form { IsForm self (words_of result.form.now) }
     {
-        match self {
-            Command::Domain => Row {
-                word: "domain",
-                takes: &[Argument::NewDomain, Argument::AnyNumber],
-                form: "domain NAME N",
-                does: "makes a domain of N processors (1 to 256)",
-            },
-            Command::Look => Row {
-                word: "look",
-                takes: &[Argument::ADomain, Argument::AProcessor, Argument::NewName],
-                form: "look NAME P R",
-                does: "reads the current index on processor P, a look called R",
-            },
-            Command::Enter => Row {
-                word: "enter",
-                takes: &[Argument::ADomain, Argument::AProcessor, Argument::ALook],
-                form: "enter NAME P R",
-                does: "begins a section of that index on processor P, called R",
-            },
-            Command::Lock => Row {
-                word: "lock",
-                takes: &[Argument::ADomain, Argument::AProcessor, Argument::NewName],
-                form: "lock NAME P S",
-                does: "a look and a section at once; the section is called S",
-            },
-            Command::Unlock => Row {
-                word: "unlock",
-                takes: &[Argument::ADomain, Argument::AReading],
-                form: "unlock NAME S",
-                does: "ends a section of `lock` or `enter` where it began",
-            },
-            Command::Down => Row {
-                word: "down",
-                takes: &[Argument::ADomain, Argument::AProcessor, Argument::NewName],
-                form: "down NAME P S",
-                does: "begins a section on processor P that any may end",
-            },
-            Command::Up => Row {
-                word: "up",
-                takes: &[Argument::ADomain, Argument::AProcessor, Argument::AHeld],
-                form: "up NAME P S",
-                does: "ends a section of `down` on processor P",
-            },
-            Command::Park => Row {
-                word: "park",
-                takes: &[Argument::ADomain, Argument::AHeld],
-                form: "park NAME S",
-                does: "puts a section of `down` on the domain's desk",
-            },
-            Command::Unpark => Row {
-                word: "unpark",
-                takes: &[Argument::ADomain],
-                form: "unpark NAME",
-                does: "takes what lies on the domain's desk",
-            },
-            Command::Get => Row {
-                word: "get",
-                takes: &[Argument::ADomain, Argument::AProcessor],
-                form: "get NAME P",
-                does: "gives a cookie",
-            },
-            Command::Ask => Row {
-                word: "ask",
-                takes: &[Argument::ADomain, Argument::AProcessor],
-                form: "ask NAME P",
-                does: "gives a cookie, and asks for its grace period",
-            },
-            Command::Poll => Row {
-                word: "poll",
-                takes: &[Argument::ADomain, Argument::AProcessor, Argument::AnyNumber],
-                form: "poll NAME P C",
-                does: "tells whether a grace period has gone by since cookie C",
-            },
-            Command::Start => Row {
-                word: "start",
-                takes: &[Argument::ADomain, Argument::AProcessor],
-                form: "start NAME P",
-                does: "starts a grace period",
-            },
-            Command::Advance => Row {
-                word: "advance",
-                takes: &[Argument::ADomain, Argument::AProcessor],
-                form: "advance NAME P",
-                does: "lets the engine work until it has an answer",
-            },
-            Command::Step => Row {
-                word: "step",
-                takes: &[Argument::ADomain, Argument::AProcessor],
-                form: "step NAME P",
-                does: "lets the engine make one step",
-            },
-            Command::Call => Row {
-                word: "call",
-                takes: &[Argument::ADomain, Argument::AProcessor, Argument::AJob],
-                form: "call NAME P J",
-                does: "queues job J on processor P, to run after a grace period",
-            },
-            Command::Run => Row {
-                word: "run",
-                takes: &[Argument::ADomain, Argument::AProcessor],
-                form: "run NAME P",
-                does: "runs the first ready jobs of processor P, up to 8",
-            },
-            Command::Batch => Row {
-                word: "batch",
-                takes: &[Argument::ADomain, Argument::AProcessor],
-                form: "batch NAME P",
-                does: "takes those jobs out as a batch, and runs none yet",
-            },
-            Command::Finish => Row {
-                word: "finish",
-                takes: &[Argument::ADomain, Argument::AProcessor],
-                form: "finish NAME P",
-                does: "runs the jobs of processor P's batch, and ends it",
-            },
-            Command::Segs => Row {
-                word: "segs",
-                takes: &[Argument::ADomain, Argument::AProcessor],
-                form: "segs NAME P",
-                does: "shows how many jobs of processor P wait, and for what",
-            },
-            Command::Barrier => Row {
-                word: "barrier",
-                takes: &[Argument::ADomain, Argument::AProcessor, Argument::NewName],
-                form: "barrier NAME P B",
-                does: "gives a ticket B for the jobs that are queued by now",
-            },
-            Command::BarrierPoll => Row {
-                word: "barrier-poll",
-                takes: &[Argument::ADomain, Argument::AProcessor, Argument::ATicket],
-                form: "barrier-poll NAME P B",
-                does: "tells whether all jobs of ticket B have run",
-            },
-            Command::Register => Row {
-                word: "register",
-                takes: &[
-                    Argument::ADomain,
-                    Argument::AProcessor,
-                    Argument::AnId,
-                    Argument::APriority,
-                ],
-                form: "register NAME P I N",
-                does: "registers handler I on the chain, with priority N",
-            },
-            Command::Unregister => Row {
-                word: "unregister",
-                takes: &[Argument::ADomain, Argument::AProcessor, Argument::AnId],
-                form: "unregister NAME P I",
-                does: "takes handler I off the chain",
-            },
-            Command::Chain => Row {
-                word: "chain",
-                takes: &[Argument::ADomain, Argument::AProcessor],
-                form: "chain NAME P",
-                does: "shows the handlers of the chain, as they are called",
-            },
-            Command::Notify => Row {
-                word: "notify",
-                takes: &[Argument::ADomain, Argument::AProcessor],
-                form: "notify NAME P I:W..",
-                does: "calls the chain; I answers W: done, ok, stop or bad",
-            },
-            Command::Install => Row {
-                word: "install",
-                takes: &[
-                    Argument::ADomain,
-                    Argument::AProcessor,
-                    Argument::AKey,
-                    Argument::APlug,
-                ],
-                form: "install NAME P K N",
-                does: "gives key K of the table the plug N",
-            },
-            Command::Remove => Row {
-                word: "remove",
-                takes: &[Argument::ADomain, Argument::AProcessor, Argument::AKey],
-                form: "remove NAME P K",
-                does: "takes key K out of the table",
-            },
-            Command::Lookup => Row {
-                word: "lookup",
-                takes: &[Argument::ADomain, Argument::AProcessor, Argument::AKey],
-                form: "lookup NAME P K",
-                does: "finds the plug of key K",
-            },
-            Command::Lease => Row {
-                word: "lease",
-                takes: &[Argument::ADomain, Argument::AProcessor, Argument::NewName],
-                form: "lease NAME P L",
-                does: "leases the version of the table; the lease is called L",
-            },
-            Command::Read => Row {
-                word: "read",
-                takes: &[
-                    Argument::ADomain,
-                    Argument::AProcessor,
-                    Argument::ALease,
-                    Argument::AKey,
-                ],
-                form: "read NAME P L K",
-                does: "finds the plug of key K in the version of lease L",
-            },
-            Command::Release => Row {
-                word: "release",
-                takes: &[Argument::ADomain, Argument::AProcessor, Argument::ALease],
-                form: "release NAME P L",
-                does: "ends lease L on processor P",
-            },
-            Command::Set => Row {
-                word: "set",
-                takes: &[Argument::NewSet],
-                form: "set K NAME P..",
-                does: "asks in each domain, on its processor; K has the cookies",
-            },
-            Command::SetPoll => Row {
-                word: "set-poll",
-                takes: &[Argument::ASet],
-                form: "set-poll K",
-                does: "tells whether all cookies of set K are done",
-            },
-            Command::State => Row {
-                word: "state",
-                takes: &[Argument::ADomain],
-                form: "state NAME",
-                does: "shows where the domain stands",
-            },
-            Command::Cleanup => Row {
-                word: "cleanup",
-                takes: &[Argument::ADomain],
-                form: "cleanup NAME",
-                does: "takes the domain down, where nothing of it is in use",
-            },
-        }
+        ROWS[self as usize]
     }
 
     /// What the words behind the command should be.
