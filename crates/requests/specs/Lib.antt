@@ -10,3 +10,4 @@ pub mod JobNames
 pub mod Members
 pub mod BlockIds
 pub mod Replies
+pub mod Families

@@ -1,5 +1,7 @@
 //! Replies.
-ghost use Rattle.std.specs.Prelude.{◌≡◌, ◌++◌, OnOk};
+ghost use Rattle.std.specs.Prelude.{◌≡◌, ◌++◌, true, Some, OnOk};
+ghost use Rattle.std.specs.Fmt.{DisplaysOnOk};
+ghost use Rattle.requests.specs.Families.{is_of_periods, is_of_sections, is_of_jobs, is_of_chains, is_of_tables};
 ghost use Rattle.requests.specs.Replies.{reply_text};
 
 use crate::block_ids::BlockIds;
@@ -210,6 +212,28 @@ impl fmt::Display for Segments {
     }
 }
 
+/// What the engine answered, as it is shown.
+#[derive(Clone, Copy)]
+struct Answered<'a>(&'a Progress);
+
+impl<'a> fmt::Display for Answered<'a> {
+    ghost use Rattle.std.specs.Prelude.{Some};
+    ghost use Rattle.requests.specs.Replies.{progress_text};
+
+    ghost output = { λ answered. Some (progress_text answered.0.now) };
+
+    fn fmt<W: fmt::Write>(&self, f: &mut fmt::Formatter<W>) -> fmt::Result {
+        match self.0 {
+            Progress::Idle => write!(f, "idle"),
+            Progress::Started(number) => write!(f, "started {number}"),
+            Progress::Flipped(index) => write!(f, "flipped {index}"),
+            Progress::Ended(number) => write!(f, "ended {number}"),
+            Progress::Waiting(index) => write!(f, "waiting {index}"),
+            Progress::Step => write!(f, "step"),
+        }
+    }
+}
+
 impl fmt::Display for Reply {
     ghost use Rattle.std.specs.Prelude.{Some};
     ghost use Rattle.requests.specs.Replies.{reply_text};
@@ -218,36 +242,114 @@ impl fmt::Display for Reply {
 
     fn fmt<W: fmt::Write>(&self, f: &mut fmt::Formatter<W>) -> fmt::Result {
         match self {
+            Reply::Made { .. }
+            | Reply::State { .. }
+            | Reply::Cookie(_)
+            | Reply::Done
+            | Reply::NotYet
+            | Reply::Set(_)
+            | Reply::Cleaned { .. } => self.write_of_periods(f),
+            Reply::Look(_) | Reply::Index(_) | Reply::Closed | Reply::Parked | Reply::Took(_) =>
+                self.write_of_sections(f),
+            Reply::Progress(progress) => writeln!(f, "{}", Answered(progress)),
+            Reply::Queued { .. }
+            | Reply::Ran(_)
+            | Reply::TookJobs(_)
+            | Reply::Finished(_)
+            | Reply::Segs(_)
+            | Reply::Ticket => self.write_of_jobs(f),
+            Reply::Registered(_)
+            | Reply::Unregistered(_)
+            | Reply::Chain(_)
+            | Reply::Called { .. } => self.write_of_chains(f),
+            Reply::Installed(_)
+            | Reply::Removed(_)
+            | Reply::Plug(_)
+            | Reply::NoPlug
+            | Reply::Leased { .. }
+            | Reply::Released => self.write_of_tables(f),
+            Reply::Refused(command, cause) => writeln!(f, "refused {command} {cause}"),
+            Reply::Faulty { line, fault } => writeln!(f, "line {line}: {fault}"),
+        }
+    }
+}
+
+// A match over all replies at once takes the prover very long: so each family of them is written by itself.
+impl Reply {
+    /// Writes a reply that tells of a domain, cookies or a set.
+    fn write_of_periods<W: fmt::Write>(&self, f: &mut fmt::Formatter<W>) -> fmt::Result
+        requires { is_of_periods self.now ≡ true }
+        ensures { DisplaysOnOk W.write_str_gives f.old result (Some (reply_text self.now)) f.new }
+    {
+        match self {
             Reply::Made { domain, processors } => writeln!(f, "made {domain} {processors}"),
             Reply::State {
                 domain,
                 period,
                 sections,
             } => writeln!(f, "state {domain} {period} {sections}"),
+            Reply::Cookie(cookie) => writeln!(f, "cookie {cookie}"),
+            Reply::Done => writeln!(f, "done"),
+            Reply::NotYet => writeln!(f, "not yet"),
+            Reply::Set(numbers) => writeln!(f, "set{numbers}"),
+            Reply::Cleaned { opened, closed } => {
+                writeln!(f, "cleaned opened {opened} closed {closed}")
+            }
+            _ => unreachable!(),
+        }
+    }
+
+    /// Writes a reply that tells of a look or a section.
+    fn write_of_sections<W: fmt::Write>(&self, f: &mut fmt::Formatter<W>) -> fmt::Result
+        requires { is_of_sections self.now ≡ true }
+        ensures { DisplaysOnOk W.write_str_gives f.old result (Some (reply_text self.now)) f.new }
+    {
+        match self {
             Reply::Look(index) => writeln!(f, "look {index}"),
             Reply::Index(index) => writeln!(f, "index {index}"),
             Reply::Closed => writeln!(f, "closed"),
             Reply::Parked => writeln!(f, "parked"),
             Reply::Took(section) => writeln!(f, "took {section}"),
-            Reply::Cookie(cookie) => writeln!(f, "cookie {cookie}"),
-            Reply::Done => writeln!(f, "done"),
-            Reply::NotYet => writeln!(f, "not yet"),
-            Reply::Progress(Progress::Idle) => writeln!(f, "idle"),
-            Reply::Progress(Progress::Started(number)) => writeln!(f, "started {number}"),
-            Reply::Progress(Progress::Flipped(index)) => writeln!(f, "flipped {index}"),
-            Reply::Progress(Progress::Ended(number)) => writeln!(f, "ended {number}"),
-            Reply::Progress(Progress::Waiting(index)) => writeln!(f, "waiting {index}"),
-            Reply::Progress(Progress::Step) => writeln!(f, "step"),
+            _ => unreachable!(),
+        }
+    }
+
+    /// Writes a reply that tells of jobs, or of a ticket for them.
+    fn write_of_jobs<W: fmt::Write>(&self, f: &mut fmt::Formatter<W>) -> fmt::Result
+        requires { is_of_jobs self.now ≡ true }
+        ensures { DisplaysOnOk W.write_str_gives f.old result (Some (reply_text self.now)) f.new }
+    {
+        match self {
             Reply::Queued { k, cookie } => writeln!(f, "queued {k} cookie {cookie}"),
             Reply::Ran(jobs) => writeln!(f, "ran{jobs}"),
             Reply::TookJobs(jobs) => writeln!(f, "took{jobs}"),
             Reply::Finished(count) => writeln!(f, "finished {count}"),
             Reply::Segs(segments) => writeln!(f, "segs {segments}"),
             Reply::Ticket => writeln!(f, "ticket"),
+            _ => unreachable!(),
+        }
+    }
+
+    /// Writes a reply that tells of a chain.
+    fn write_of_chains<W: fmt::Write>(&self, f: &mut fmt::Formatter<W>) -> fmt::Result
+        requires { is_of_chains self.now ≡ true }
+        ensures { DisplaysOnOk W.write_str_gives f.old result (Some (reply_text self.now)) f.new }
+    {
+        match self {
             Reply::Registered(id) => writeln!(f, "registered {id}"),
             Reply::Unregistered(id) => writeln!(f, "unregistered {id}"),
             Reply::Chain(ids) => writeln!(f, "chain{ids}"),
             Reply::Called { last, calls } => writeln!(f, "{} calls {calls}", Hexadecimal(*last)),
+            _ => unreachable!(),
+        }
+    }
+
+    /// Writes a reply that tells of a table, or of a lease of it.
+    fn write_of_tables<W: fmt::Write>(&self, f: &mut fmt::Formatter<W>) -> fmt::Result
+        requires { is_of_tables self.now ≡ true }
+        ensures { DisplaysOnOk W.write_str_gives f.old result (Some (reply_text self.now)) f.new }
+    {
+        match self {
             Reply::Installed(version) => writeln!(f, "installed version {version}"),
             Reply::Removed(version) => writeln!(f, "removed version {version}"),
             Reply::Plug(plug) => writeln!(f, "plug {plug}"),
@@ -256,12 +358,7 @@ impl fmt::Display for Reply {
                 writeln!(f, "lease index {index} version {version}")
             }
             Reply::Released => writeln!(f, "released"),
-            Reply::Set(numbers) => writeln!(f, "set{numbers}"),
-            Reply::Cleaned { opened, closed } => {
-                writeln!(f, "cleaned opened {opened} closed {closed}")
-            }
-            Reply::Refused(command, cause) => writeln!(f, "refused {command} {cause}"),
-            Reply::Faulty { line, fault } => writeln!(f, "line {line}: {fault}"),
+            _ => unreachable!(),
         }
     }
 }
