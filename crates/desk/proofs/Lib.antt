@@ -16,4 +16,4 @@ mod Baying
 mod BayDealing
 mod BayTurns
 mod BayForging
-mod BothTied
+pub mod BothTied

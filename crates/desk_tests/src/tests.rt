@@ -1,6 +1,7 @@
 ghost use Rattle.std.specs.Prelude.{◌≡◌, IfOk, IfSome};
 ghost use Rattle.desk.specs.Swaps.{lies_behind};
 ghost use Rattle.desk.specs.Calls.{new_seat};
+ghost use Rattle.sections.specs.Calls.{IsHere};
 
 mod bay;
 
@@ -100,17 +101,24 @@ fn begin<R: Abort>(rt: &R, cpu: &mut Cpu) -> Reading
     }
 }
 
-/// Would catch a value that is dropped, kept or given back twice: each section is known to be the one that was put.
-#[test]
-fn one_seat(rt: HostRuntime) -> Result<(), Fail> {
-    let (mut cpu, _, mut engine) = new_domain(rt.alloc())?;
-    let (desk, mut seat) = sole(rt.alloc(), engine.home())?;
+/// Opens two sections, has them lie on the desk in turn, and closes it while the first one lies there. Gives both back, the
+/// first one first: each swap is known to find just what was put before.
+fn swap_in_turn<R: Abort + Alloc>(
+    rt: &R,
+    cpu: &mut Cpu,
+    desk: Desk<Reading>,
+    mut seat: DeskSeat<Reading>,
+) -> (Reading, Reading)
+    requires sole { (desk.seats ≡ 1) × (seat ≡ new_seat desk 0) }
+    requires domain { cpu.old.domain ≡ desk.domain }
+    ensures { IsHere cpu.new result.0 × IsHere cpu.new result.1 }
+{
     let nothing = seat.take(&desk);
     let None = nothing else { unreachable!() };
-    let first = begin(&rt, &mut cpu);
+    let first = begin(rt, cpu);
     let nothing = seat.put(&desk, first);
     let None = nothing else { unreachable!() };
-    let second = begin(&rt, &mut cpu);
+    let second = begin(rt, cpu);
     let found = seat.put(&desk, second);
     let Some(first) = found else { unreachable!() };
     let found = seat.take(&desk);
@@ -119,8 +127,17 @@ fn one_seat(rt: HostRuntime) -> Result<(), Fail> {
     let None = nothing else { unreachable!() };
     let nothing = seat.put(&desk, first);
     let None = nothing else { unreachable!() };
-    let found = close_sole(&rt, desk, seat);
+    let found = close_sole(rt, desk, seat);
     let Some(first) = found else { unreachable!() };
+    (first, second)
+}
+
+/// Would catch a value that is dropped, kept or given back twice: each section is known to be the one that was put.
+#[test]
+fn one_seat(rt: HostRuntime) -> Result<(), Fail> {
+    let (mut cpu, _, mut engine) = new_domain(rt.alloc())?;
+    let (desk, seat) = sole(rt.alloc(), engine.home())?;
+    let (first, second) = swap_in_turn(&rt, &mut cpu, desk, seat);
     assert_eq!(rt; cpu.open_here(), 2);
     cpu.read_unlock(first);
     cpu.read_unlock(second);
