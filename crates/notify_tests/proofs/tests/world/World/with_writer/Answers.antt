@@ -12,6 +12,6 @@ invariant_of-result c =
       c.requires.here,
       ap (λ (s : ChainState). s.writer.domain) chain ∙ c.requires.writer.0,
       ap (λ (s : ChainState). s.ids) chain,
-      subst (λ n. n < cells_in domain.domain) (sym is) c.requires.writer.1,
+      subst (λ n. n < cells_in c.args.domain.domain) (sym is) c.requires.writer.1,
       ap (λ (v : ChainCell). v.ids) view,
     )
