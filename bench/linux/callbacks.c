@@ -1,6 +1,8 @@
 /* Jobs on the lists of Linux's callbacks, their batches, and barriers. */
 #include "harness.h"
 
+#define MOST_RUNS 1000
+
 struct job {
 	struct rcu_head head;
 	char name[NAME_SIZE];
@@ -55,7 +57,7 @@ void call(struct domain *domain, int processor, const char *name)
 }
 
 /* Whether the work of a processor's callbacks is to run. A timer that is pending has run out then. */
-bool has_fired(struct srcu_data *data)
+static bool has_fired(struct srcu_data *data)
 {
 	bool is_pending;
 
@@ -67,6 +69,16 @@ bool has_fired(struct srcu_data *data)
 	is_pending = data->work.pending;
 	data->work.pending = false;
 	return is_pending;
+}
+
+/* Runs what a processor has ready, also what becomes so meanwhile. */
+void run_work_of(struct srcu_data *data)
+{
+	for (int runs = 0; has_fired(data); runs++) {
+		if (runs == MOST_RUNS)
+			fail("the work of a processor does not end");
+		data->work.func(&data->work);
+	}
 }
 
 /* Lets each barrier go on that waits, until none gets on. */
@@ -91,12 +103,8 @@ static void settle_barriers(struct domain *domain)
 const char *run_all(struct domain *domain, int first, int last)
 {
 	*ran = 0;
-	for (int processor = first; processor <= last; processor++) {
-		struct srcu_data *data = per_cpu_ptr(domain->srcu.sda, processor);
-
-		while (has_fired(data))
-			data->work.func(&data->work);
-	}
+	for (int processor = first; processor <= last; processor++)
+		run_work_of(per_cpu_ptr(domain->srcu.sda, processor));
 	settle_barriers(domain);
 	return ran;
 }

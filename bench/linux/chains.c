@@ -4,6 +4,7 @@
 #include <linux/notifier.h>
 
 #define BLOCKS 16
+#define MOST_DRIVES 100 /* a change that has not come back by then never does */
 
 struct block {
 	struct notifier_block block;
@@ -77,8 +78,7 @@ static void drive(struct srcu_struct *srcu)
 	for_each_possible_cpu(processor) {
 		struct srcu_data *data = per_cpu_ptr(srcu->sda, processor);
 
-		while (has_fired(data))
-			data->work.func(&data->work);
+		run_work_of(data);
 	}
 }
 
@@ -87,11 +87,14 @@ int unregister_block(struct domain *domain, int id)
 {
 	struct task *changer = make_task(domain, CHANGER, run_unregister);
 	int processor = shim_cpu;
+	int drives = 0;
 	int found;
 
 	changer->what = &block_of(domain, id)->block;
 	resume(changer);
 	while (!changer->over) {
+		if (drives++ == MOST_DRIVES)
+			fail("a change of a chain does not come back");
 		drive(&chain_of(domain)->head.srcu);
 		shim_cpu = processor;
 		resume(changer);

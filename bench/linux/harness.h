@@ -105,7 +105,7 @@ unsigned long number_of(struct domain *domain);
 const char *step(struct domain *domain, int processor);
 
 /* callbacks.c */
-bool has_fired(struct srcu_data *data);
+void run_work_of(struct srcu_data *data);
 void call(struct domain *domain, int processor, const char *name);
 const char *run_all(struct domain *domain, int first, int last);
 const char *take_batch(struct domain *domain, int processor);

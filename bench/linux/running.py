@@ -4,8 +4,8 @@ import os, selectors, subprocess, tempfile, time
 
 from comparing import LINUX, PROGRAM, Difference, Pair
 
-AT_ONCE = 24  # so many scripts are under way at once, so that none waits for the scheduler alone
-SECONDS = 120  # a side that doesn't reply for so long hangs
+AT_ONCE = 8  # so many scripts are under way at once, so that none waits for the scheduler alone
+SECONDS = 60  # a side that doesn't reply for so long hangs
 
 
 class Setting:

@@ -66,13 +66,13 @@ WRONG = {
         tree("__srcu_read_lock", r"idx = (READ_ONCE.*);", r"static int old; idx = old; old = \1;"),
     ],
     "the index of a section is looked up again behind its count": [
-        tree("__srcu_read_lock", r"return idx;", "return READ_ONCE(ssp->srcu_idx) \\& 0x1;"),
+        tree("__srcu_read_lock", r"return idx;", "return READ_ONCE(ssp->srcu_idx) & 0x1;"),
     ],
     "an unlock on the opener's processor": [
         tree("__srcu_read_unlock", r"this_cpu_inc\(", "shim_cpu = shim_opener; this_cpu_inc("),
     ],
-    "list's advance left out of a call": [tree("srcu_gp_start_if_needed", r"\brcu_segcblist_advance\(", "(void)(")],
-    "list's advance left out of a run": [tree("srcu_invoke_callbacks", r"\brcu_segcblist_advance\(", "(void)(")],
+    "list's advance left out of a call": [tree("srcu_gp_start_if_needed", r"\brcu_segcblist_advance\((?=&)", "(void)(")],
+    "list's advance left out of a run": [tree("srcu_invoke_callbacks", r"\brcu_segcblist_advance\((?=&)", "(void)(")],
     "callbacks a period early": [tree("srcu_invoke_callbacks", r"(rcu_seq_current\(.*?srcu_gp_seq\))\);", r"\1 + 4);")],
     "a callback joins the last segment, whatever its number": [
         segments("rcu_segcblist_accelerate", r"ULONG_CMP_LT\(rsclp->gp_seq\[i\], seq\)", "0"),
@@ -80,7 +80,9 @@ WRONG = {
     "a snap that adds 4": [numbers("rcu_seq_snap", r"return s;", "return s + 4;")],
     "the cookie of the running period": [numbers("rcu_seq_snap", r"2 \* RCU_SEQ_STATE_MASK", "RCU_SEQ_STATE_MASK")],
     "a poll that is always true": [tree("poll_state_synchronize_srcu", r"return false;", "return true;")],
-    "a need that the tree doesn't pass on": [tree("srcu_funnel_gp_start", r"snp = snp->srcu_parent", "snp = NULL")],
+    "a leaf that forgets its second processor": [
+        tree("srcu_funnel_gp_start", r"(if )\(snp == snp_leaf && snp_seq == s\)", r"\1(0)"),
+    ],
     "a barrier that skips a processor": [
         tree("srcu_barrier", r"(srcu_barrier_one_cpu\(ssp, per_cpu_ptr\(ssp->sda, cpu\)\);)", r"if (cpu) \1"),
     ],
