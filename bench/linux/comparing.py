@@ -90,8 +90,10 @@ class Domain:
 def shape_of(words, reply):
     """What kind of line it was, and what it did: the reply without numbers and names."""
     parts = reply.split()
-    if words[0] == "poll" or words[0] == "barrier-poll" or parts[0] == "refused":
+    if words[0] in ("poll", "barrier-poll"):
         return f"{words[0]}: {reply}"
+    if parts[0] == "refused":
+        return f"{words[0]}: refused {parts[2]}"
     if words[0] in ("run", "runall", "batch"):
         return f"{words[0]}: {'jobs' if len(parts) > 1 else 'none'}"
     if words[0] == "notify":
@@ -469,6 +471,13 @@ class Pair:
             self.count(TURN if linux == "not yet" else LATER_BARRIER)
         self.compared(words, program)
 
+    def do_segs(self, words):
+        """For an example: how jobs wait is not compared."""
+        domain = self.domain_of(words)
+        self.processor(domain, words[2])
+        yield from self.ask_linux(" ".join(words))
+        yield from self.ask_program(" ".join(words))
+
     def do_settled(self, words):
         """A line of ours alone: no job and no barrier may be late any more, on either side, where nothing is due or open."""
         domain = self.domain_of(words)
@@ -486,6 +495,8 @@ class Pair:
     def do_cleanup(self, words):
         domain = self.domain_of(words)
         is_at_rest, is_running = domain.is_at_rest(), domain.number % 4
+        if self.size == "grow":
+            self.tally.sizes[(yield from self.ask_linux(f"size {domain.name}"))] += 1
         linux = yield from self.ask_linux(" ".join(words))
         program = yield from self.ask_program(" ".join(words))
         del self.domains[domain.name]
@@ -567,4 +578,5 @@ class Tally:
 
     def __init__(self):
         self.scripts = 0
-        self.lines, self.intended, self.sizes = collections.Counter(), collections.Counter(), collections.Counter()
+        self.lines, self.intended = collections.Counter(), collections.Counter()
+        self.sizes = collections.Counter()  # how far Linux's domains have grown when they are taken down

@@ -2,7 +2,7 @@
 
 import os, selectors, subprocess, tempfile, time
 
-from comparing import LINUX, PROGRAM, Difference, Pair
+from comparing import LINUX, PROGRAM, Difference, Pair, Tally
 
 AT_ONCE = 8  # so many scripts are under way at once, so that none waits for the scheduler alone
 SECONDS = 60  # a side that doesn't reply for so long hangs
@@ -149,6 +149,12 @@ def run_all(sessions, at_once=AT_ONCE):
         finally:
             for session in waiting:
                 session.close()
+
+
+def run_one(setting, processors, lines):
+    """Runs one script of these lines, and returns its session."""
+    (session,) = run_all([Session(setting, Tally(), "", processors, lambda pair: iter(lines))])
+    return session
 
 
 def smaller(lines, shows, fewest=1):

@@ -52,7 +52,7 @@ ANSWERS = ["done", "ok", "ok", "stop", "bad"]
 class Writer:
     """One script: the seed and the replies decide all of it."""
 
-    def __init__(self, seed):
+    def __init__(self, seed, size):
         self.random = random.Random(seed)
         count = self.random.choice([1, 1, 1, 2, 2, 3])
         self.sizes = [self.random.choice(SIZES) for _ in range(count)]
@@ -67,12 +67,16 @@ class Writer:
         self.weights = dict(WEIGHTS)
         for kind in self.random.choice(STRESSES):
             self.weights[kind] *= 4
+        self.count = LINES
+        if size == "grow":  # a domain has grown after eight periods
+            self.count, self.crowd = 2 * LINES, min(self.crowd, 1)
+            self.weights["advance"] *= 3
 
     def lines(self, pair):
         for at, size in enumerate(self.sizes):
             yield self.domain("abc"[at], size)
         kinds, weights = list(self.weights), list(self.weights.values())
-        for _ in range(LINES):
+        for _ in range(self.count):
             domain = self.random.choice(list(pair.domains.values()))
             for _ in range(20):
                 kind = self.random.choices(kinds, weights)[0]
