@@ -324,8 +324,10 @@ class Pair:
 
     # Callbacks and barriers.
 
-    def see_list(self, domain, processor):
-        """Asks the program how many jobs of the processor have no number."""
+    def see_list(self, domain, processor, is_called=False):
+        """Asks the program how many jobs of the processor have no number. Only a call can leave one without."""
+        if not is_called and not domain.jobs[processor].unnumbered:
+            return
         reply = yield from self.ask_program(f"segs {domain.name} {processor}")
         domain.jobs[processor].unnumbered = int(reply.split()[-1])
 
@@ -339,7 +341,7 @@ class Pair:
         self.expect(given, program)
         self.compared(words, program)
         self.asked(domain, program)
-        yield from self.see_list(domain, processor)
+        yield from self.see_list(domain, processor, is_called=True)
         jobs.names.append(words[3])
         jobs.cookies.append(domain.cookies[-1])
         jobs.stayed.append(jobs.unnumbered > 0)
@@ -347,7 +349,10 @@ class Pair:
     def run_here(self, domain, processor):
         """Lets the program run what is ready on a processor, in batches until one is empty. Returns the names."""
         jobs = domain.jobs[processor]
-        count = (len(jobs.names) - jobs.taken[PROGRAM]) // 8 + 2
+        waiting = len(jobs.names) - jobs.taken[PROGRAM]
+        if not waiting:
+            return []
+        count = waiting // 8 + 2
         replies = yield from self.ask_program(*[f"run {domain.name} {processor}"] * count)
         batches = [reply.split() for reply in replies]
         if any(batch[0] != "ran" for batch in batches):
