@@ -39,7 +39,7 @@ class Jobs:
 
     def __init__(self):
         self.names, self.cookies = [], []
-        self.stayed = []  # whether the job had no number behind its call
+        self.stayed = []  # whether the job had no number after its call
         self.taken = {LINUX: 0, PROGRAM: 0}
         self.finished = {LINUX: 0, PROGRAM: 0}
         self.batch_is_out = False
@@ -140,8 +140,7 @@ class Pair:
         replies = yield side, lines
         self.replies[side] += zip(lines, replies)
         for reply in replies:
-            if " warned of " in reply:
-                raise Difference("Linux warns")
+            self.check(" warned of " not in reply, "Linux warns")
         return replies if len(lines) > 1 else replies[0]
 
     def ask_linux(self, line):
@@ -153,9 +152,16 @@ class Pair:
     def compared(self, words, reply):
         self.tally.lines[shape_of(words, reply)] += 1
 
-    def expect(self, linux, program, why=""):
-        if linux != program:
-            raise Difference(why or f"{linux} in Linux is {program} here")
+    def expect(self, linux, program):
+        self.check(linux == program, f"{linux} in Linux is {program} here")
+
+    def check(self, is_so, why):
+        if not is_so:
+            raise Difference(why)
+
+    def check_replies(self, linux, program, *wanted):
+        """Where the replies are meant to differ, each side has one of its own."""
+        self.check((linux, program) == wanted, f"{linux} in Linux and {program} here are not {' and '.join(wanted)}")
 
     def both(self, words):
         """A line that both sides run alike. Returns the reply."""
@@ -183,7 +189,7 @@ class Pair:
         given, started, number = reply.partition(" started ")
         if started:
             first, second = yield from self.ask_program(*[f"step {domain.name} {processor}"] * 2)
-            self.expect(f"step, started {number}", f"{first}, {second}")
+            self.check((first, second) == ("step", f"started {number}"), f"the start of {number} is {first}, {second} here")
             self.note_number(domain, second)
             self.count(AT_ONCE)
         return given
@@ -204,7 +210,8 @@ class Pair:
         linux_rest, _, linux_need = linux.rpartition(" ")
         self.expect(linux_rest, rest)
         # A period of `start` is one that nobody asked for here, and in Linux one is asked for.
-        self.expect(int(linux_need), max(int(need), domain.need_of_start), "the needs differ")
+        wanted = max(int(need), domain.need_of_start)
+        self.check(int(linux_need) == wanted, f"the need in Linux is {linux_need}, and not {wanted}")
         self.compared(words, program)
 
     def begin(self, words, kind):
@@ -279,11 +286,11 @@ class Pair:
         # As Linux compares: modulo 2^64, so that what is half of it ahead is behind.
         modular = "done" if (domain.number - cookie) % (2 * HALF) < HALF else "not yet"
         if cookie == 1 and not self.has_completed:
-            self.expect((linux, program), (modular, "done"))
+            self.check_replies(linux, program, modular, "done")
             if linux != program:
                 self.count(COMPLETED)
         elif cookie % 4 and cookie != 1:
-            self.expect((linux, program), (modular, "refused poll not-a-cookie"))
+            self.check_replies(linux, program, modular, "refused poll not-a-cookie")
             self.count(NO_COOKIE)
         elif linux != program and (linux, program) == ("done", "not yet") and cookie - domain.number >= HALF:
             self.count(FAR)
@@ -307,7 +314,7 @@ class Pair:
         linux = yield from self.ask_linux(line)
         if linux.startswith("started"):  # the look at the need and the start are one step there, and two here
             first, program = yield from self.ask_program(line, line)
-            self.expect("step", first)
+            self.check(first == "step", f"the look before {linux} is {first} here")
         else:
             program = yield from self.ask_program(line)
         self.expect(linux, program)
@@ -355,27 +362,19 @@ class Pair:
         count = waiting // 8 + 2
         replies = yield from self.ask_program(*[f"run {domain.name} {processor}"] * count)
         batches = [reply.split() for reply in replies]
-        if any(batch[0] != "ran" for batch in batches):
-            raise Difference("a run is refused here")
+        self.check(all(batch[0] == "ran" for batch in batches), "a run is refused here")
         if sum(len(batch) > 1 for batch in batches) > 1:
             self.count(EIGHT)
         return [name for batch in batches for name in batch[1:]]
 
-    def compare_lists(self, domain, processors):
-        """What Linux has run, and the program has not, has to be a job that had no number behind its call."""
-        for processor in processors:
-            jobs = domain.jobs[processor]
-            if jobs.taken[PROGRAM] > jobs.taken[LINUX]:
-                raise Difference("a job runs earlier here")
-            for i in range(jobs.taken[PROGRAM], jobs.taken[LINUX]):
-                if not jobs.stayed[i]:
-                    raise Difference(f"the job {jobs.names[i]} runs later here")
-            jobs.finish()
-
-    def count_late(self, domain, processor, before):
-        """Counts the jobs that Linux has run in this line, and the program has not."""
-        jobs = domain.jobs[processor]
-        self.count(LATER_JOB, max(0, jobs.taken[LINUX] - max(before, jobs.taken[PROGRAM])))
+    def compare_list(self, jobs, before):
+        """What Linux has run, and the program has not, has to be a job that had no number after its call."""
+        here, there = jobs.taken[PROGRAM], jobs.taken[LINUX]
+        self.check(here <= there, "a job runs earlier here")
+        for i in range(here, there):
+            self.check(jobs.stayed[i], f"the job {jobs.names[i]} runs later here")
+        self.count(LATER_JOB, max(0, there - max(before, here)))
+        jobs.finish()
 
     def do_run(self, words):
         domain = self.domain_of(words)
@@ -387,15 +386,14 @@ class Pair:
         linux = yield from self.ask_linux(" ".join(words))
         if jobs.batch_is_out:
             program = yield from self.ask_program(" ".join(words))
-            self.expect((linux, program), ("ran", "refused run invoking"))
+            self.check_replies(linux, program, "ran", "refused run invoking")
             self.compared(words, program)
             return
         jobs.take(LINUX, linux.split()[1:])
         names = yield from self.run_here(domain, processor)
         jobs.take(PROGRAM, names)
         self.compared(words, linux)
-        self.compare_lists(domain, [processor])
-        self.count_late(domain, processor, before)
+        self.compare_list(jobs, before)
         yield from self.see_list(domain, processor)
 
     def do_runall(self, words):
@@ -411,11 +409,9 @@ class Pair:
             names = [name for name in names if name not in own]
             here = yield from self.run_here(domain, processor)
             jobs.take(PROGRAM, here)
-            self.compare_lists(domain, [processor])
-            self.count_late(domain, processor, before)
+            self.compare_list(jobs, before)
             yield from self.see_list(domain, processor)
-        if names:
-            raise Difference(f"Linux runs {' '.join(names)}")
+        self.check(not names, f"Linux runs {' '.join(names)}")
 
     def do_batch(self, words):
         domain = self.domain_of(words)
@@ -466,12 +462,10 @@ class Pair:
             side: all(domain.jobs[processor].finished[side] >= count for processor, count in ticket.before.items())
             for side in (LINUX, PROGRAM)
         }
-        if program != ("done" if are_finished[PROGRAM] else "not yet"):
-            raise Difference("the ticket here says otherwise than the jobs")
-        if linux == "done" and not are_finished[LINUX]:
-            raise Difference("the barrier in Linux is over before the jobs")
-        if linux == "not yet" and are_finished[LINUX] and (not ticket.is_behind or domain.is_drained):
-            raise Difference("the barrier in Linux is not over behind the jobs")
+        may_wait = ticket.is_behind and not domain.is_drained
+        self.check((program == "done") == are_finished[PROGRAM], "the ticket here says otherwise than the jobs")
+        self.check(linux != "done" or are_finished[LINUX], "the barrier in Linux is over before its jobs")
+        self.check(linux == "done" or may_wait or not are_finished[LINUX], "the barrier in Linux is not over after its jobs")
         if linux != program:
             self.count(TURN if linux == "not yet" else LATER_BARRIER)
         self.compared(words, program)
@@ -489,11 +483,9 @@ class Pair:
         if domain.names or domain.number % 4 or domain.need > domain.number:
             raise Skipped
         for side in (LINUX, PROGRAM):
-            if domain.unfinished(side):
-                raise Difference(f"{side} keeps jobs though nothing is due or open")
+            self.check(not domain.unfinished(side), f"{side} keeps jobs though nothing is due or open")
         domain.is_drained = True
-        return
-        yield
+        yield from ()
 
     # Taking down.
 
@@ -506,22 +498,19 @@ class Pair:
         program = yield from self.ask_program(" ".join(words))
         del self.domains[domain.name]
         self.compared(words, program)
-        parts = program.split()
-        if parts[0] == "cleaned" and parts[2] != parts[4]:
-            raise Difference("not all that was opened is closed")
+        outcome = " ".join(program.split()[:3] if program.startswith("refused") else program.split()[:1])
         if is_at_rest:
-            self.expect(linux, parts[0])
+            self.check_replies(linux, outcome, "cleaned", "cleaned")
         elif domain.is_open():
-            self.expect((linux, parts[:3]), ("leaked", "refused cleanup sections".split()))
+            self.check_replies(linux, outcome, "leaked", "refused cleanup sections")
         elif is_running:
-            self.expect("refused cleanup period", program)
+            self.check_replies("", outcome, "", "refused cleanup period")
             self.count(PERIOD)
         elif domain.unfinished(PROGRAM):
-            self.expect("refused cleanup callbacks".split(), parts[:3])
-            if domain.unfinished(LINUX):
-                self.expect("leaked", linux)
+            wanted = "leaked" if domain.unfinished(LINUX) else linux
+            self.check_replies(linux, outcome, wanted, "refused cleanup callbacks")
         else:
-            self.expect("cleaned", parts[0])
+            self.check_replies("", outcome, "", "cleaned")
             if linux == "leaked":
                 self.count(UNMET)
 

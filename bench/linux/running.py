@@ -5,7 +5,7 @@ import os, selectors, subprocess, tempfile, time
 from comparing import LINUX, PROGRAM, Difference, Pair, Tally
 
 AT_ONCE = 8  # so many scripts are under way at once, so that none waits for the scheduler alone
-SECONDS = 60  # a side that doesn't reply for so long hangs
+SECONDS = 300  # a side that does not reply for so long hangs, on a machine with other work too
 
 
 class Setting:
@@ -83,11 +83,13 @@ class Session:
         self.wanted, self.replies, self.since = len(lines), [], time.monotonic()
         return True
 
-    def receive(self):
-        """Takes what has come. Returns whether the script is still under way."""
-        lines = self.sides[self.asked].read()
+    def hear(self, side):
+        """Takes what has come from a side. Returns whether the script is still under way."""
+        if side is not self.sides[self.asked]:
+            return self.end(f"a side ends before it is asked: {side.said()}")
+        lines = side.read()
         if lines is None:
-            said = self.sides[self.asked].said()
+            said = side.said()
             return self.end(f"{self.asked} ends before its reply{said and ': ' + said}")
         self.replies += lines
         return len(self.replies) < self.wanted or self.go_on(self.replies)
@@ -102,52 +104,56 @@ class Session:
             side.close()
 
 
+class Watch:
+    """The sessions that are under way."""
+
+    def __init__(self, selector):
+        self.selector, self.sessions = selector, []
+
+    def begin(self, session):
+        """Returns whether the session is under way: one may end before its first request."""
+        for side in session.sides.values():
+            self.selector.register(side.process.stdout, selectors.EVENT_READ, (session, side))
+        self.sessions.append(session)
+        return session.go_on()
+
+    def leave(self, session):
+        for side in session.sides.values():
+            self.selector.unregister(side.process.stdout)
+        self.sessions.remove(session)
+        session.close()
+        return session
+
+    def ended(self):
+        """Waits until something has come, and returns the sessions that have ended by it."""
+        heard = {}
+        for key, _ in self.selector.select(timeout=1):
+            session, side = key.data
+            if session not in heard:
+                heard[session] = session.hear(side)
+        late = time.monotonic() - SECONDS
+        for session in self.sessions:
+            if session not in heard and session.since < late:
+                heard[session] = session.end(f"{session.asked} doesn't reply")
+        return [session for session, is_under_way in heard.items() if not is_under_way]
+
+
 def run_all(sessions, at_once=AT_ONCE):
     """Runs the sessions that the iterator makes, some at once, and yields each that has ended."""
     sessions = iter(sessions)
     with selectors.DefaultSelector() as selector:
-        waiting = set()
-
-        def watch(session):
-            for side in session.sides.values():
-                selector.register(side.process.stdout, selectors.EVENT_READ, (session, side))
-            waiting.add(session)
-
-        def leave(session):
-            for side in session.sides.values():
-                selector.unregister(side.process.stdout)
-            waiting.discard(session)
-            session.close()
-            return session
-
+        watch = Watch(selector)
         try:
-            is_more = True
-            while is_more or waiting:
-                while is_more and len(waiting) < at_once:
-                    session = next(sessions, None)
-                    is_more = session is not None
-                    if is_more:
-                        watch(session)
-                        if not session.go_on():
-                            yield leave(session)
-                ended = []
-                for key, _ in selector.select(timeout=1):
-                    session, side = key.data
-                    if session in ended:
-                        continue
-                    if side is not session.sides[session.asked]:  # it speaks unasked: it has ended
-                        session.end(f"a side ends before it is asked: {side.said()}")
-                        ended.append(session)
-                    elif not session.receive():
-                        ended.append(session)
-                for session in list(waiting):
-                    if session not in ended and time.monotonic() - session.since > SECONDS:
-                        session.end(f"{session.asked} doesn't reply")
-                        ended.append(session)
-                for session in ended:
-                    yield leave(session)
+            while True:
+                while len(watch.sessions) < at_once and (session := next(sessions, None)):
+                    if not watch.begin(session):
+                        yield watch.leave(session)
+                if not watch.sessions:
+                    return
+                for session in watch.ended():
+                    yield watch.leave(session)
         finally:
-            for session in waiting:
+            for session in watch.sessions:
                 session.close()
 
 
