@@ -69,8 +69,8 @@ def download(version, folder):
         run(["apt-get", "download", package], cwd=folder)
     except (Trouble, OSError) as error:
         raise Trouble(
-            f"{error}\n{package} can't be had: it needs a Debian system, its lists (`apt-get update` as root), and for 6.12 on"
-            " Debian 12 the suite bookworm-security or bookworm-backports.\nOr give an unpacked kernel: --linux FOLDER"
+            f"{error}\n{package} can't be had: it takes Debian, its lists (`apt-get update` as root), and for 6.12 on Debian 12"
+            " the suite bookworm-security.\nOr give an unpacked kernel: --linux FOLDER"
         )
     return max(glob.glob(f"{folder}/{package}_*.deb"), key=os.path.getmtime)
 
@@ -100,7 +100,7 @@ def take(source):
         package = download(source, f"{OUT}/package")
         shutil.rmtree(tree, ignore_errors=True)
         unpack(package, source, tree)
-        os.remove(package)
+        shutil.rmtree(f"{OUT}/package")
     return tree
 
 

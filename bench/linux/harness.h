@@ -33,7 +33,7 @@
 		exit(2);                          \
 	} while (0)
 
-/* Linux's code runs in tasks with stacks of their own. A task stops before what `stop` names, and goes on when it is resumed. */
+/* Linux's code runs in tasks with stacks of their own. A task stops before what `stop` names, until it is resumed. */
 enum task_kind { READER, ENGINE, BARRIER, INVOKER, CHANGER };
 enum stop { NOWHERE, AT_LOAD, AT_FLIP, AT_LOCK, AT_COUNT, AT_WAIT };
 
