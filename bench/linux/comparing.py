@@ -20,6 +20,7 @@ FAR = "a number that is far ahead counts as done in Linux"
 COMPLETED = "the completed cookie is not known to Linux 6.1"
 UNMET = "a cleanup with a need that is not met leaks in Linux"
 PERIOD = "a cleanup in a period is refused here"
+READY = "a cleanup with jobs that are ready is refused here, and Linux runs them"
 SLOTS = "a change of a chain waits for a slot here"
 FULL = "a sixteenth handler is refused here"
 
@@ -78,6 +79,12 @@ class Domain:
 
     def unfinished(self, side):
         return sum(len(jobs.names) - jobs.finished[side] for jobs in self.jobs.values())
+
+    def are_ready(self):
+        """Whether each job that waits in Linux is one that it may run at any time."""
+        waiting = [cookie for jobs in self.jobs.values() for cookie in jobs.cookies[jobs.taken[LINUX] :]]
+        is_out = any(jobs.batch_is_out for jobs in self.jobs.values())
+        return not is_out and all(cookie <= self.number for cookie in waiting)
 
     def is_at_rest(self):
         has_jobs = self.unfinished(LINUX) or self.unfinished(PROGRAM)
@@ -417,9 +424,9 @@ class Pair:
         domain = self.domain_of(words)
         processor = self.processor(domain, words[2])
         jobs = domain.jobs[processor]
-        is_level = jobs.taken[LINUX] == jobs.taken[PROGRAM] and not jobs.unnumbered
-        if self.size != "big" or jobs.batch_is_out or not is_level or len(jobs.names) - jobs.taken[LINUX] > 8:
-            raise Skipped
+        waiting = jobs.stayed[min(jobs.taken.values()) :]
+        if self.size != "big" or jobs.batch_is_out or any(waiting) or len(waiting) > 8:
+            raise Skipped  # both sides have to take the same jobs, since both finish what they took
         reply = yield from self.both(words)
         names = reply.split()[1:]
         for side in (LINUX, PROGRAM):
@@ -507,8 +514,10 @@ class Pair:
             self.check_replies("", outcome, "", "refused cleanup period")
             self.count(PERIOD)
         elif domain.unfinished(PROGRAM):
-            wanted = "leaked" if domain.unfinished(LINUX) else linux
+            may_run = domain.unfinished(LINUX) and domain.are_ready()
+            wanted = linux if may_run or not domain.unfinished(LINUX) else "leaked"
             self.check_replies(linux, outcome, wanted, "refused cleanup callbacks")
+            self.count(READY, may_run and linux == "cleaned")
         else:
             self.check_replies("", outcome, "", "cleaned")
             if linux == "leaked":
