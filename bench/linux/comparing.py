@@ -132,14 +132,15 @@ class Pair:
         """Runs a line on both sides. Returns whether it could be run."""
         words = line.split()
         self.line, self.replies = line, {LINUX: [], PROGRAM: []}
+        is_run = True
         try:
             yield from getattr(self, "do_" + words[0].replace("-", "_"))(words)
         except Skipped:
-            return False
+            is_run = False
         finally:
-            if self.replies[LINUX] or self.replies[PROGRAM]:
+            if is_run:
                 self.done.append((line, self.replies))
-        return True
+        return is_run
 
     # The two sides.
 
