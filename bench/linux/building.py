@@ -167,12 +167,22 @@ def compile_all(tree, folder, fanout):
     return f"{folder}/harness"
 
 
+def is_current(program, tree):
+    """Whether the program was built since what it is made of was changed."""
+    if not os.path.isfile(program):
+        return False
+    inputs = [*glob.glob(f"{HERE}/*.[ch]"), f"{HERE}/building.py", *(f"{tree}/{name}" for name in TAKEN)]
+    return all(os.path.getmtime(it) < os.path.getmtime(program) for it in inputs)
+
+
 def build(tree, fanout, name="", edits=()):
-    """Builds the harness with this kernel, and returns the program."""
+    """Builds the harness with this kernel, if it isn't there, and returns the program."""
     folder = f"{OUT}/build/{name_of(tree)}-{fanout}{name and '-' + name}"
     if edits:
         copy_edited(tree, f"{folder}-source", edits)
         tree = f"{folder}-source"
+    elif is_current(f"{folder}/harness", tree):
+        return f"{folder}/harness"
     lay_out(tree, folder)
     return compile_all(tree, folder, fanout)
 
