@@ -1,10 +1,9 @@
 -- What a poll knows of its cookie, which was given in a domain or is the completed one, and what the step on the number tells.
-use Rattle.std.proofs.Common.{◌≡◌, ℕ, ⊎_elim, Bool, List, [], Option, None, Some, refl, sym, ap, ◌∙◌, subst, arith}
+use Rattle.std.proofs.Common.{◌≡◌, ℕ, ⊎_elim, Bool, Option, None, Some, sym, ap, ◌∙◌, subst, arith}
 use Rattle.atomic_table.specs.Seated.{TableId}
 use Rattle.sseq.specs.Numbers.{done_at}
 use Rattle.onedom.specs.declared.event.Maker.TheVariants.{Processor}
 use Rattle.onedom.specs.declared.event.Event.TheVariants.{Ask}
-use Rattle.sections.specs.declared.view.View.{View}
 use Rattle.sections.specs.declared.view.Role.TheVariants.{Cpu}
 use Rattle.sections.specs.Plays.{Adds, FindsNumber}
 use Rattle.sections.specs.Seats.{DomainSeat, AsksNumber}

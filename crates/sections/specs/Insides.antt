@@ -14,6 +14,7 @@ use Rattle.sections.specs.declared.cpu.Look.TheInside as look
 use Rattle.sections.specs.declared.cpu.Reading.TheInside as reading
 use Rattle.sections.specs.declared.cpu.Held.TheInside as held
 use Rattle.sections.specs.declared.cpu.Cookie.TheInside as cookie
+use Rattle.sections.specs.declared.cpu.Given.TheInside as given
 use Rattle.sections.specs.declared.engine.EngineSeat.TheInside as engine
 use Rattle.sections.specs.Words.{is_held, open_readings, locks, number_word}
 use Rattle.sections.specs.Rule.{steps_of, token}
@@ -92,6 +93,12 @@ IsCookieAt number (Some s) = IsGiven number s
 
 abbrev pub IsCookie : cookie.Inside → Type 0
 IsCookie k = IsCookieAt k.number k.seat
+
+abbrev pub view_of_given : given.Inside → CookieView
+view_of_given k = cookie_with k.number (Some k.seat)
+
+abbrev pub is_given : given.Inside → Type 0
+is_given k = IsGiven k.number k.seat
 
 module _ {A : Type 0} where
   abbrev pub view_of_cpu : cpu.Inside A → CpuView

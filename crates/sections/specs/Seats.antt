@@ -108,6 +108,10 @@ IsOfProcessor processors v = (p : ℕ) × (v.role ≡ Cpu p) × (p < processors)
 abbrev pub IsOfMaker : View → Type 0
 IsOfMaker v = (m : Maker) × IsMaker v.role m
 
+-- it is a seat at the table that has no right
+abbrev pub IsFreeAt : TableId → DomainSeat → Type 0
+IsFreeAt table s = (s.table_id ≡ table) × (s.me.1 ≡ []) × (s.me.0.right ≡ Nothing)
+
 -- the same seat at the same table
 pub record IsSameSeat (seat seat' : DomainSeat) : Type 0 where
   pub table : seat'.table_id ≡ seat.table_id

@@ -1,5 +1,6 @@
 -- Several cookies at once, each of some domain.
-use Rattle.std.specs.Prelude.{◌≡◌, ℕ, ◌<◌, Bool, true, List, length, map, [], ◌∷◌, ◌++◌, Option, None, Some, MatchOption, if◌then◌else◌, slice_index_or, slice_set}
+use Rattle.std.specs.Prelude.{◌≡◌, ℕ, ◌<◌, Bool, true, IsTrue, List, length, map, [], ◌∷◌, ◌++◌, Option, None, Some, MatchOption, if◌then◌else◌, eqb, slice_index_or, slice_set}
+use Rattle.std.specs.Option.{is_some}
 use Rattle.atomic_table.specs.Seated.{TableId}
 use Rattle.onedom.specs.declared.event.Maker.{Maker}
 use Rattle.onedom.specs.declared.event.Event.{Event}
@@ -7,7 +8,7 @@ use Rattle.onedom.specs.declared.event.Event.TheVariants.{Ask}
 use Rattle.onedom.specs.Histories.{IsLegal, IsBeginning}
 use Rattle.sections.specs.Views.{CpuView, CookieView, completed_cookie, IsKnownIn}
 use Rattle.sections.specs.Sights.{SightView, sight_of}
-use Rattle.sections.specs.Calls.{Asks, AllClosed}
+use Rattle.sections.specs.Calls.{Asks, AllClosed, Hears}
 
 -- a cookie in a set, and how far the processor had then seen that found it done, if one did
 pub record MemberView : Type 0 where
@@ -49,6 +50,19 @@ pub record IsDoneThere (m : MemberView) : Type 0 where
   pub sight : SightView
   pub found : m.found ≡ Some sight
   pub done : IsFoundDone m.cookie sight
+
+-- whether somebody found the member done
+abbrev pub is_found : MemberView → Bool
+is_found m = is_some m.found
+
+-- what a member brings to a processor: how far it was seen where it was found done. The completed cookie brings nothing
+abbrev pub brought_by : MemberView → Option SightView
+brought_by m = if eqb m.cookie.number 1 then None else m.found
+
+-- one load of the index word, after which the processor has seen what the member brings; where that is nothing, nothing is done. If the member was found done, no section is open now that was open when its cookie was given
+pub record CatchesUp (m : MemberView) (c c' : CpuView) : Type 0 where
+  pub hears : MatchOption (brought_by m) (c' ≡ c) (λ s. Hears c s.seen s.changes c')
+  pub closed : IsTrue (is_found m) → AllClosed m.cookie.seen c'.seen
 
 -- after this answer of a poll the member was found done, or stays as it is
 abbrev pub polled : Bool → MemberView → CpuView → MemberView

@@ -9,6 +9,7 @@ use std::sync::Arc;
 
 mod cookies;
 mod counting;
+mod given_cookies;
 mod holding;
 mod home;
 pub(crate) mod pinning;
@@ -126,6 +127,27 @@ impl Model for Cookie {
     ghost view = { view_of_cookie };
 
     ghost invariant = { IsCookie };
+}
+
+/// A cookie that a processor gave, so never the completed one. It takes 8 bytes where a [`Cookie`] takes 16, for whoever
+/// keeps many.
+#[derive(Drop)]
+pub struct Given {
+    pub(crate) number: u64,
+    /// What was seen when it was given.
+    pub(crate) seat: DomainSeat,
+}
+
+impl Model for Given {
+    ghost use Rattle.sections.specs.Views.{CookieView};
+
+    ghost Value = { CookieView };
+
+    ghost use Rattle.sections.specs.Insides.{view_of_given, is_given};
+
+    ghost view = { view_of_given };
+
+    ghost invariant = { is_given };
 }
 
 /// This number is no cookie: it is neither a multiple of four nor 1. Nothing was done.

@@ -16,7 +16,7 @@ mod view;
 mod writer;
 
 pub use cpu::pins::{DownPin, Found, HeldPin, Pin};
-pub use cpu::{Cookie, Cpu, Exhausted, Held, Look, NotACookie, Reading};
+pub use cpu::{Cookie, Cpu, Exhausted, Given, Held, Look, NotACookie, Reading};
 pub use engine::EngineSeat;
 pub use laws::{steps_of_a_domain, sums_of_a_domain, totals_of_a_domain, words_of_a_domain};
 pub use limits::{Limits, MOST_PROCESSORS, MakeError};

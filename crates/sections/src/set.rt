@@ -1,8 +1,9 @@
 //! Several cookies at once, possibly of several domains.
 ghost use Rattle.std.specs.Prelude.{◌≡◌, ◌<◌, ◌≤◌, ◌↔◌, [], ◌∷◌, ◌++◌, length, All, IsTrue, MatchResult};
+ghost use Rattle.std.specs.List.{list_all};
 ghost use Rattle.sections.specs.Views.{IsKnownIn};
 ghost use Rattle.sections.specs.Calls.{IsSameCpu};
-ghost use Rattle.sections.specs.Sets.{unfound, cookies_of, IsPlacedIn, IsDoneThere, PollsOne, PollsMember};
+ghost use Rattle.sections.specs.Sets.{unfound, cookies_of, IsPlacedIn, member_at, is_found, IsDoneThere, PollsOne, PollsMember, CatchesUp};
 
 use crate::cpu::{Cookie, Cpu};
 use crate::sight::Sight;
@@ -60,6 +61,22 @@ impl Member {
         }
         self.found = Some(cpu.sight());
         true
+    }
+
+    fn catch_up<A: Allocator>(&mut self, cpu: &mut Cpu<A>)
+        requires { IsKnownIn cpu.old.domain self.old.cookie }
+        ensures catches { CatchesUp self.old cpu.old cpu.new }
+        ensures member { self.new ≡ self.old }
+        ensures same { IsSameCpu cpu.old cpu.new }
+    {
+        // Whoever found the completed cookie done may be of another domain.
+        if self.cookie.is_completed() {
+            return;
+        }
+        let Some(sight) = &mut self.found else {
+            return;
+        };
+        cpu.catch_up(sight);
     }
 }
 
@@ -142,10 +159,23 @@ impl CookieSet {
         self.members[place].poll(cpu)
     }
 
+    /// Shows a processor what was seen when the cookie at this place was found done. The processor then knows that every
+    /// section is closed that was open when the cookie was given. One load of the index word. No step is made where the
+    /// cookie was not found done, and none for the completed one.
+    pub fn catch_up<A: Allocator>(&mut self, place: usize, cpu: &mut Cpu<A>)
+        requires { IsPlacedIn cpu.old.domain place (cookies_of self.old) }
+        ensures catches { CatchesUp (member_at place self.old) cpu.old cpu.new }
+        ensures set { self.new ≡ self.old }
+        ensures same { IsSameCpu cpu.old cpu.new }
+    {
+        self.members[place].catch_up(cpu);
+    }
+
     /// Whether each cookie was found done. Then, for each of them, somebody has asked after its number in its own domain
     /// since it was given, and was told so; and no section is open there that was open when it was given.
     pub fn done(&self) -> bool
-        ensures { IsTrue result ↔ All IsDoneThere self.now }
+        ensures found { result ≡ list_all is_found self.now }
+        ensures done { IsTrue result ↔ All IsDoneThere self.now }
     {
         for member in self.members.as_slice() {
             if member.found.is_none() {

@@ -11,8 +11,8 @@ mod shelf;
 use bumpalo::Bump;
 use linked_list_allocator::LocalHeap;
 use sections::{
-    Cookie, Cpu, EngineSeat, Exhausted, Held, Limits, MOST_PROCESSORS, Made, MakeError, NotACookie,
-    make, sums_of_a_domain,
+    Cookie, CookieSet, Cpu, EngineSeat, Exhausted, Held, Limits, MOST_PROCESSORS, Made, MakeError,
+    NotACookie, make, sums_of_a_domain,
 };
 use sseq::{Index, Number};
 use std::alloc::Global;
@@ -492,7 +492,7 @@ fn tell_by_a_sight(
 {
     let mut sight = engine.sight();
     let mut cookie = first.cookie_behind(&mut sight);
-    let mut copy = second.copy_cookie(&mut cookie);
+    let copy = second.copy_given(&mut cookie);
     let before = [
         cookie.number(),
         copy.number(),
@@ -500,7 +500,7 @@ fn tell_by_a_sight(
     ];
     drive(engine)?;
     let behind = second.how_far(&mut sight).get();
-    let done = first.poll(&mut copy);
+    let done = first.poll(&mut copy.into_cookie());
     let newer = first.cookie_behind(&mut sight);
     Some((before, behind, done, newer.number()))
 }
@@ -539,17 +539,63 @@ fn polls_numbers(rt: HostRuntime) -> Result<(), Fail> {
 /// Would catch a completed cookie that is of one domain alone, and one that is taken for a cookie that was given.
 #[test]
 fn completed_in_each_domain(rt: HostRuntime) -> Result<(), Fail> {
-    let (mut first, mut second, mut engine) = meet_in_new_domain(rt.alloc())?;
+    let (mut first, _, mut engine) = meet_in_new_domain(rt.alloc())?;
     let (mut other, _, _) = meet_in_new_domain(rt.alloc())?;
     let mut completed = Cookie::completed();
-    let mut copy = second.copy_cookie(&mut completed);
     engine.add_start();
     let here = first.poll(&mut completed);
     let there = other.poll(&mut completed);
-    let copied = other.poll(&mut copy);
-    assert_eq!(rt; (here, there, copied), (true, true, true));
-    assert_eq!(rt; (copy.number(), copy.is_completed()), (1, true));
+    assert_eq!(rt; (here, there), (true, true));
+    assert_eq!(rt; (completed.number(), completed.is_completed()), (1, true));
     assert!(rt; !first.cookie().is_completed());
+    Ok(())
+}
+
+/// Polls a cookie of a set on the first processor before a period and after it, and shows the second what that found:
+/// both answers, whether the set is done, and what the second is told then.
+fn find_for_another(
+    first: &mut Cpu,
+    second: &mut Cpu,
+    engine: &mut EngineSeat,
+) -> Option<([bool; 3], Result<bool, NotACookie>)>
+    requires domain { (first.old.domain ≡ engine.old.domain) × (second.old.domain ≡ engine.old.domain) }
+    requires new { (engine.old.changes ≡ 0) × (engine.old.periods ≡ 2) × (engine.old.processors ≡ 2) }
+{
+    let mut set = CookieSet::new();
+    let Ok(place) = set.add(first.cookie()) else {
+        unreachable!()
+    };
+    let early = set.poll_member(place, first);
+    set.catch_up(place, second);
+    drive(engine)?;
+    let late = set.poll_member(place, first);
+    set.catch_up(place, second);
+    Some(([early, late, set.done()], second.poll_number(4)))
+}
+
+/// Would catch a member that is done too soon or never, and what was found done but is not known to the other processor.
+#[test]
+fn found_for_another(rt: HostRuntime) -> Result<(), Fail> {
+    let (mut first, mut second, mut engine) = meet_in_new_domain(rt.alloc())?;
+    let told = find_for_another(&mut first, &mut second, &mut engine);
+    assert_eq!(rt; told, Some(([false, true, true], Ok(true))));
+    Ok(())
+}
+
+/// Would catch a processor that takes over what was seen in another domain.
+#[test]
+fn completed_found_elsewhere(rt: HostRuntime) -> Result<(), Fail> {
+    let (mut first, _, _) = meet_in_new_domain(rt.alloc())?;
+    let (mut other, _, _) = meet_in_new_domain(rt.alloc())?;
+    let mut set = CookieSet::new();
+    let Ok(place) = set.add(Cookie::completed()) else {
+        unreachable!()
+    };
+    assert_eq!(rt; (place, set.len(), set.done()), (0, 1, false));
+    let found = set.poll_member(place, &mut other);
+    set.catch_up(place, &mut first);
+    assert_eq!(rt; (found, set.done()), (true, true));
+    assert_eq!(rt; first.poll_number(4), Ok(false));
     Ok(())
 }
 

@@ -5,7 +5,7 @@ ghost use Rattle.onedom.specs.Histories.{IsBeginning};
 ghost use Rattle.sections.specs.declared.view.Role.TheVariants.{Cpu};
 ghost use Rattle.sections.specs.Words.{locks};
 ghost use Rattle.sections.specs.declared.view.Right.TheVariants.{Nothing};
-ghost use Rattle.sections.specs.Seats.{IsPlaced, BeginsSection, NotesNumber, AsksNumber, Covers, Accepts, NotesShown, IsOfProcessor, IsOfMaker, IsSameSeat};
+ghost use Rattle.sections.specs.Seats.{IsPlaced, BeginsSection, NotesNumber, AsksNumber, Covers, Accepts, NotesShown, IsOfProcessor, IsOfMaker, IsFreeAt, IsSameSeat};
 ghost use Rattle.sections.specs.Insides.{IsAtRest};
 
 use crate::board::{Board, DomainSeat, INDEX_PLACE, NUMBER_PLACE, place_of_lock};
@@ -71,7 +71,7 @@ pub(crate) fn ask_number<Q: Asked>(top: &Board, seat: &mut DomainSeat, cookie: u
 /// One load of the index word by the first seat, which then covers what the second has seen.
 pub(crate) fn cover(top: &Board, first: &mut DomainSeat, second: &mut DomainSeat)
     requires first { IsPlaced top.now.key top.now.table_id first.old × IsAtRest first.old.me.0 }
-    requires second { IsPlaced top.now.key top.now.table_id second.old × IsAtRest second.old.me.0 }
+    requires second { IsFreeAt top.now.table_id second.old }
     requires maker { IsOfMaker first.old.me.0 }
     ensures placed { IsPlaced top.now.key top.now.table_id first.new }
     ensures first { Covers first.old.me.0 second.old.me.0 first.new.me.0 }

@@ -30,7 +30,8 @@ impl Cookie {
 
     /// Whether it is the completed one.
     pub fn is_completed(&self) -> bool
-        ensures { IsTrue result ↔ (self.now ≡ completed_cookie) }
+        ensures completed { IsTrue result ↔ (self.now ≡ completed_cookie) }
+        ensures number { IsTrue result ↔ (self.now.number ≡ 1) }
     {
         COMPLETED == self.number
     }

@@ -1,12 +1,12 @@
 //! What a processor does behind all that a sight has seen.
 ghost use Rattle.std.specs.Prelude.{◌≡◌, ◌<◌};
-ghost use Rattle.sections.specs.Views.{IsKnownIn};
+ghost use Rattle.sections.specs.Calls.{Hears};
 ghost use Rattle.sections.specs.Sights.{sight_of, GivesCookieBehind, AsksHowFar, AsksHowFarBehind};
 
 use super::Sight;
 use crate::board::NUMBER_PLACE;
-use crate::cpu::steps::note_number;
-use crate::cpu::{Cookie, Cpu};
+use crate::cpu::steps::{cover, note_number};
+use crate::cpu::{Cpu, Given};
 use crate::engine::EngineSeat;
 use crate::plays;
 use sseq::{Number, snap};
@@ -29,7 +29,7 @@ impl<A: Allocator> EngineSeat<A> {
 impl<A: Allocator> Cpu<A> {
     /// A cookie of now, as [`Cpu::cookie`] gives, behind all that the sight has seen too. The sight then goes as far as
     /// this processor. So cookies that are given behind one sight don't fall, whichever processors gave them.
-    pub fn cookie_behind(&mut self, sight: &mut Sight) -> Cookie
+    pub fn cookie_behind(&mut self, sight: &mut Sight) -> Given
         requires { sight.old.domain ≡ self.old.domain }
         ensures { GivesCookieBehind sight.old self.old self.new result sight.new }
     {
@@ -39,9 +39,9 @@ impl<A: Allocator> Cpu<A> {
         let number = note_number(top, &mut self.seat);
         let seat = top.split_seat::<plays::GiveToken>(&mut self.seat);
         sight.seat = top.split_seat::<plays::GiveToken>(&mut self.seat);
-        Cookie {
+        Given {
             number: snap(number),
-            seat: Some(seat),
+            seat,
         }
     }
 
@@ -101,18 +101,27 @@ impl<A: Allocator> Cpu<A> {
     }
 
     /// A second cookie like this one. No step is made; one load, which tells nothing.
-    pub fn copy_cookie(&self, cookie: &mut Cookie) -> Cookie
-        requires { IsKnownIn self.now.domain cookie.old }
-        ensures copy { result ≡ cookie.old }
-        ensures same { cookie.new ≡ cookie.old }
+    pub fn copy_given(&self, given: &mut Given) -> Given
+        requires { given.old.domain ≡ self.now.domain }
+        ensures copy { result ≡ given.old }
+        ensures same { given.new ≡ given.old }
     {
-        let Some(given) = &mut cookie.seat else {
-            return Cookie::completed();
-        };
-        let seat = self.table.shared.split_seat::<plays::GiveToken>(given);
-        Cookie {
-            number: cookie.number,
-            seat: Some(seat),
+        let seat = self
+            .table
+            .shared
+            .split_seat::<plays::GiveToken>(&mut given.seat);
+        Given {
+            number: given.number,
+            seat,
         }
+    }
+
+    /// One load of the index word, after which this processor has seen what the sight has. Both are of one domain.
+    pub(crate) fn catch_up(&mut self, sight: &mut Sight)
+        requires { sight.old.domain ≡ self.old.domain }
+        ensures hears { Hears self.old sight.old.seen sight.old.changes self.new }
+        ensures same { sight.new ≡ sight.old }
+    {
+        cover(&self.table.shared, &mut self.seat, &mut sight.seat);
     }
 }

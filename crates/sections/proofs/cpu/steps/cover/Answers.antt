@@ -7,10 +7,10 @@ use Rattle.sections.proofs.Seating.{some_words, covers_from}
 use Rattle.sections.proofs.cpu.steps.cover.Goals as goal
 
 pub split_seat-token-requires : goal.split_seat-token-requires
-split_seat-token-requires c = (c.requires.second.0.seated, some_words _ _ _ c.requires.second.0.wide, gives_token _ _ _)
+split_seat-token-requires c = (c.requires.second.0, some_words _ _ _ c.requires.first.0.wide, gives_token _ _ _)
 
 pub join_seat-requires : goal.join_seat-requires
-join_seat-requires c = (c.requires.first.0.seated, c.split_seat-token.ensures.3 ∙ c.requires.second.0.seated, ap (λ m. m.1) c.split_seat-token.ensures.4, some_words _ _ _ c.requires.first.0.wide, takes_token _ _ _ _ _)
+join_seat-requires c = (c.requires.first.0.seated, c.split_seat-token.ensures.3 ∙ c.requires.second.0, ap (λ m. m.1) c.split_seat-token.ensures.4, some_words _ _ _ c.requires.first.0.wide, takes_token _ _ _ _ _)
 
 pub load-requires : goal.load-requires
 load-requires c = (c.join_seat.ensures.0 ∙ c.requires.first.0.seated, some_words _ _ _ c.requires.first.0.wide, looks _ _ _ _ c.requires.maker.0 (subst (λ (z : Role). IsMaker z c.requires.maker.0) (sym (ap (λ m. m.0.role) c.join_seat.ensures.2)) c.requires.maker.1) (ap (λ m. m.0.processors) c.join_seat.ensures.2 ∙ c.requires.first.0.sized))
@@ -18,4 +18,4 @@ load-requires c = (c.join_seat.ensures.0 ∙ c.requires.first.0.seated, some_wor
 pub returns-clause-first : goal.returns-clause-first
 returns-clause-first c =
     let joined = ap (λ m. m.0) c.join_seat.ensures.2 ∙ ap (λ m. informed c.args.first.now.me.0 m.0) c.split_seat-token.ensures.4 in
-    covers_from c.load.result c.args.first.now.me.0 c.args.second.now.me.0 _ _ c.requires.second.1.free joined c.load.ensures.2.1 c.load.ensures.2.2 c.load.ensures.2.4
+    covers_from c.load.result c.args.first.now.me.0 c.args.second.now.me.0 _ _ c.requires.second.2 joined c.load.ensures.2.1 c.load.ensures.2.2 c.load.ensures.2.4

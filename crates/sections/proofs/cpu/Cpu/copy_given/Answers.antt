@@ -1,11 +1,9 @@
-use Rattle.std.proofs.Common.{rules, ◌≡◌, ◌∙◌}
+use Rattle.std.proofs.Common.{rules, ◌≡◌}
 use Rattle.sections.specs.Words.{word_count}
 use Rattle.sections.proofs.Sharing.{gives_token}
 use Rattle.sections.proofs.Seating.{some_words}
-use Rattle.sections.proofs.Polling.{given_there}
-use Rattle.sections.proofs.cpu.Cpu.copy_cookie.Goals as goal
+use Rattle.sections.proofs.cpu.Cpu.copy_given.Goals as goal
 
 pub split_seat-seat-requires : goal.split_seat-seat-requires
 split_seat-seat-requires g c = let wide : c.deref.result.now.shared.table_id.words ≡ word_count c.deref.result.now.shared.key.processors c.deref.result.now.shared.key.cells = search rules in
-    let home = given_there c.in-Some.given c.args.cookie.now c.args.self.now.domain c.cookie.view_is c.in-Some.is c.cookie.invariant c.requires in
-    (home ∙ search rules, some_words _ _ _ wide, gives_token _ _ _)
+    (search rules, some_words _ _ _ wide, gives_token _ _ _)
