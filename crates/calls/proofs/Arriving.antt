@@ -5,7 +5,7 @@ use Rattle.std.proofs.lemmas.List.Elements.{All-head, All-tail, All-push, All-we
 use Rattle.atomic_table.specs.Seated.{TableId}
 use Rattle.onedom.proofs.CallerLemmas.{beginning_refl, beginning_trans}
 use Rattle.sections.specs.Sights.{SightView}
-use Rattle.intake.specs.Views.{InletView}
+use Rattle.intake.specs.Views.{LazyInletView}
 use Rattle.intake.specs.Rule.{MayFollow}
 use Rattle.calls.specs.declared.entry.Entry.{Entry}
 use Rattle.calls.specs.declared.entry.Arrival.{Arrival}
@@ -44,7 +44,7 @@ module _ {J : Type 0} where
   entries_push [] x = refl
   entries_push (y ∷ ys) x = ap (λ z. y.entry ∷ z) (entries_push ys x)
 
-module _ {J A : Type 0} {t : TableId} {p : ℕ} {inlet : InletView (Arrival J) ListKey A} {sight : SightView} {cs : List (Entry J)} where
+module _ {J : Type 0} {t : TableId} {p : ℕ} {inlet : LazyInletView (Arrival J) ListKey} {sight : SightView} {cs : List (Entry J)} where
   -- the same calls, as another one says it
   pub intake_as : {t' : TableId} {cs' : List (Entry J)} → IsIntake t p inlet sight cs → t' ≡ t → cs' ≡ cs → IsIntake t' p inlet sight cs'
   intake_as h table calls = subst (λ (z : TableId × List (Entry J)). IsIntake z.0 p inlet sight z.1) (λ i. (sym table i, sym calls i)) h
@@ -101,7 +101,7 @@ module _ {J : Type 0} where
 
 -- A call that comes in
 
-module _ {J A : Type 0} {t : TableId} {p : ℕ} {inlet : InletView (Arrival J) ListKey A} {sight : SightView} {cs : List (Entry J)} where
+module _ {J : Type 0} {t : TableId} {p : ℕ} {inlet : LazyInletView (Arrival J) ListKey} {sight : SightView} {cs : List (Entry J)} where
   -- it may be pushed, with the right of the call that comes next
   pub follows_in : IsIntake t p inlet sight cs → (queued : ℕ) → length cs ≡ queued → (x : Arrival J) → IsCallPlace t p queued x.entry x.call → GoesOn sight x.sight → IsGiven x.sight x.entry → MayFollow Follows inlet.key inlet.pushed x
   follows_in h queued many x call on given =
@@ -114,8 +114,8 @@ module _ {J A : Type 0} {t : TableId} {p : ℕ} {inlet : InletView (Arrival J) L
       }
 
   -- and was pushed
-  pub intake_pushed : IsIntake t p inlet sight cs → (x : Arrival J) (inlet' : InletView (Arrival J) ListKey A) (sight' : SightView) → inlet' ≡ record inlet { pushed = inlet.pushed ++ x ∷ [] } → x.sight ≡ sight' → GoesOn sight sight' → IsIntake t p inlet' sight' (cs ++ x.entry ∷ [])
-  intake_pushed h x inlet' sight' is same on = subst (λ (z : InletView (Arrival J) ListKey A). IsIntake t p z sight' (cs ++ x.entry ∷ [])) (sym is) record {
+  pub intake_pushed : IsIntake t p inlet sight cs → (x : Arrival J) (inlet' : LazyInletView (Arrival J) ListKey) (sight' : SightView) → inlet' ≡ record inlet { pushed = inlet.pushed ++ x ∷ [] } → x.sight ≡ sight' → GoesOn sight sight' → IsIntake t p inlet' sight' (cs ++ x.entry ∷ [])
+  intake_pushed h x inlet' sight' is same on = subst (λ (z : LazyInletView (Arrival J) ListKey). IsIntake t p z sight' (cs ++ x.entry ∷ [])) (sym is) record {
     key = (intake_later h on).key;
     pushed = entries_push inlet.pushed x ∙ ap (λ z. z ++ x.entry ∷ []) h.pushed;
     before = All-push (λ (y : Arrival J). GoesOn y.sight sight') inlet.pushed x (intake_later h on).before (subst (λ (z : SightView). GoesOn z sight') (sym same) (goes_on_refl sight'));

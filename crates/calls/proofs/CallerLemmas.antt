@@ -29,5 +29,7 @@ pub use Rattle.calls.proofs.Counting.{true_beginning}
 
 -- a processor's deeds tell how many calls it has queued
 pub use Rattle.calls.proofs.Counting.{same_queued}
+-- and a look queues none
+pub use Rattle.calls.proofs.Gathering.{looked_queued}
 -- where no other processor that is there did anything while a seat added the tally words up, its sums are those of what it has then seen. It is also a clause of `totals_of_callbacks`, which anyone may call
 pub use Rattle.calls.proofs.Totalling.{totals_exact}

@@ -1,8 +1,10 @@
 -- What follows where calls were moved to a list before something else is done with it.
-use Rattle.std.proofs.Common.{◌≡◌, ℕ, ◌+◌, ◌≤◌, List, [], ◌∷◌, ◌++◌, Option, Some, length, sym, ap, ◌∙◌, subst, arith}
+use Rattle.std.proofs.Common.{◌≡◌, ℕ, ◌+◌, ◌<◌, ◌≤◌, List, [], ◌∷◌, ◌++◌, Option, Some, Result, Ok, Err, length, refl, sym, ap, ◌∙◌, subst, arith}
+use Rattle.std.specs.Prelude.{OnErr, IsErr, MatchResult}
 use Rattle.segs.specs.MarkedList.{lens, numbers}
 use Rattle.sections.specs.Views.{CpuView}
 use Rattle.calls.specs.declared.view.Act.{Act}
+use Rattle.calls.specs.declared.view.Act.TheVariants.{LoadQueued}
 use Rattle.calls.specs.declared.view.Deed.{Deed}
 use Rattle.calls.specs.declared.view.Known.{Known}
 use Rattle.calls.specs.declared.view.Plan.{Plan}
@@ -12,24 +14,53 @@ use Rattle.calls.specs.Tallies.{deed, deeds_of, queued_in, AreTakers, IsBeginnin
 use Rattle.calls.specs.Seats.{Place, SeesList, known_in}
 use Rattle.calls.specs.Views.{CallSeatView, ListView, BatchView, key_of, next_of, IsListIn}
 use Rattle.calls.specs.Meetings.{Covers}
-use Rattle.calls.specs.Calls.{Does, MovesAll, Came, Gathers, TakesReady, Takes, FindsLens}
+use Rattle.calls.specs.Calls.{Does, LooksAt, MovesAll, Came, Gathers, Looks, LacksRoom, TakesReady, Takes, FindsLens}
 use Rattle.calls.specs.Insides.{view_of_list, IsList}
 use Rattle.calls.proofs.Lining.{gathered_long}
-use Rattle.calls.proofs.Loading.{begins_on}
+use Rattle.calls.proofs.Counting.{deeds_own, queued_still, same_queued}
+use Rattle.calls.proofs.Loading.{begins_on, goes_on, queued_later}
 use Rattle.calls.proofs.Listing.{list_from}
 
+-- what is so is so where something failed
+pub on_err : {A E : Type 0} (r : Result A E) {P : Type 0} → P → OnErr r P
+on_err (Ok x) h = tt
+on_err (Err e) h = h
+
+pub failed : {A E : Type 0} (r : Result A E) (K : A → Type 0) {P : Type 0} → IsErr r → P → MatchResult r K (λ _. P)
+failed (Ok x) K is h = cc
+failed (Err e) K is h = h
+
 module _ {J : Type 0} where
-  -- a seat that covers more, and then still more
-  pub covers_behind : (s m t : CallSeatView J) (a : List (Deed J)) → Covers s a m → Covers m m.seen t → Covers s s.seen t
-  covers_behind s m t a h k =
+  -- a load that is a deed, and then one that is none: the seat has looked
+  pub looks_at : (p n : ℕ) (s m t : CallSeatView J) → Does (LoadQueued p n) s m → Covers m m.seen t → LooksAt p s t
+  looks_at p n s m t d k =
+      let act : Act J = LoadQueued p n in
+      let by : m.processor ≡ s.processor = d.same.2 in record {
+        found = n;
+        same = (ap (λ (z : CallSeatView J). z.tallies) k.same ∙ d.same.0, ap (λ (z : CallSeatView J). z.processors) k.same ∙ d.same.1, ap (λ (z : CallSeatView J). z.processor) k.same ∙ by, ap (λ (z : CallSeatView J). z.domain) k.same ∙ d.same.3);
+        since = begins_on (goes_on act s m d) k.since;
+        own = subst (λ (q : ℕ). deeds_of q t.seen ≡ deeds_of q m.seen) by k.own ∙ (ap (deeds_of s.processor) d.seen ∙ (deeds_own s.processor d.before (deed s.processor act) refl ∙ ap (λ l. l ++ deed s.processor act ∷ []) d.own));
+        loads = k.loads;
+        takers = subst (λ (q : ℕ). AreTakers q t.seen) d.same.1 k.takers;
+      }
+
+  -- a look queues nothing
+  pub looked_queued : (p : ℕ) (s t : CallSeatView J) → LooksAt p s t → queued_in s.processor t.seen ≡ queued_in s.processor s.seen
+  looked_queued p s t h =
+      let act : Act J = LoadQueued p h.found in
+      same_queued s.processor t.seen (s.seen ++ deed s.processor act ∷ []) (h.own ∙ sym (deeds_own s.processor s.seen (deed s.processor act) refl)) ∙ queued_still s.processor s.seen s.processor act refl
+
+  -- a look behind a load that is no deed
+  pub looks_behind : (p : ℕ) (s m t : CallSeatView J) (a : List (Deed J)) → Covers s a m → LooksAt p m t → LooksAt p s t
+  looks_behind p s m t a h k =
       let by : m.processor ≡ s.processor = ap (λ (z : CallSeatView J). z.processor) h.same in
       let many : m.processors ≡ s.processors = ap (λ (z : CallSeatView J). z.processors) h.same in record {
-        same = k.same ∙ (λ i. record (h.same i) { seen = t.seen });
+        found = k.found;
+        same = (k.same.0 ∙ ap (λ (z : CallSeatView J). z.tallies) h.same, k.same.1 ∙ many, k.same.2 ∙ by, k.same.3 ∙ ap (λ (z : CallSeatView J). z.domain) h.same);
         since = begins_on h.since k.since;
-        own = subst (λ (p : ℕ). deeds_of p t.seen ≡ deeds_of p m.seen) by k.own ∙ h.own;
-        covers = begins_on h.since k.since;
+        own = subst (λ (q : ℕ). deeds_of q t.seen ≡ deeds_of q m.seen ++ deed q (LoadQueued p k.found) ∷ []) by k.own ∙ ap (λ l. l ++ deed s.processor (LoadQueued p k.found) ∷ []) h.own;
         loads = k.loads;
-        takers = subst (λ (n : ℕ). AreTakers n t.seen) many k.takers;
+        takers = subst (λ (q : ℕ). AreTakers q t.seen) many k.takers;
       }
 
   -- a deed behind a load that is no deed
@@ -124,15 +155,36 @@ module _ {J A : Type 0} (l : list.Inside J A) (plan : Plan) (found : ℕ) (seat 
     entries = ap (λ (z : Known J). z.waiting) knows ∙ (h.there.waiting_is ∙ ap (λ (z : Known J). (gathered z.moved (line_in l.processor seat'.me.0.seen)).waiting) (sym knows));
   }
 
-module _ {J : Type 0} where
-  -- lens behind what was moved
-  pub finds_behind : (l m : ListView J) (s t : CallSeatView J) (found : List ℕ × List ℕ) (l' : ListView J) (s' : CallSeatView J) → Gathers l s m t → next_of m ≡ queued_in l.processor t.seen → l' ≡ record m { counted = l'.counted } → Covers t t.seen s' → IsListIn s'.seen l' → found ≡ (lens l'.entries, numbers l'.entries) → FindsLens l s found l' s'
-  finds_behind l m s t found l' s' g next saw covers there is =
-      let p : l'.processor ≡ l.processor = ap (λ (z : ListView J). z.processor) saw ∙ ap (λ (z : ListView J). z.processor) g.came.is in
-      let after : next_of l' ≡ next_of m = ap (λ (z : ListView J). next_of z) saw in record {
-        covers = covers_behind s t s' s.seen g.covers covers;
-        same = ap key_of saw ∙ came_key l m g.came;
-        is = there;
-        all = subst (λ (q : ℕ). MovesAll q l'.moved s.seen s'.seen) p (moves_all_in l' s.seen t.seen s'.seen g.covers.since covers.since there (after ∙ (next ∙ ap (λ (q : ℕ). queued_in q t.seen) (sym p))));
+module _ {J : Type 0} (l m : ListView J) (s t : CallSeatView J) (l' : ListView J) (s' : CallSeatView J) (g : Gathers l s m t) (k : Looks m t l' s') where
+  here : m.processor ≡ l.processor
+  here = ap (λ (z : ListView J). z.processor) g.came.is
+
+  looked : LooksAt l.processor s s'
+  looked = looks_behind l.processor s t s' s.seen g.covers (subst (λ (q : ℕ). LooksAt q t s') here k.looks)
+
+  -- a look behind what was moved finds that one more had been queued
+  pub lacks_behind : next_of m < queued_in l.processor t.seen → LacksRoom l s l' s'
+  lacks_behind less = record {
+    came = record {
+      came = g.came.came;
+      is = k.list ∙ (λ i. record (g.came.is i) { counted = l'.counted; given = ap (λ (z : ListView J). z.given) (sym k.list) i });
+    };
+    looks = looked;
+    is = k.is;
+    short =
+        let after : next_of l' ≡ next_of m = ap (λ (z : ListView J). next_of z) k.list in
+        let later = queued_later l.processor k.looks.since in
+        omega (arith, after, later, less);
+  }
+
+  -- and what the list is, where all were moved
+  pub finds_behind : (found : List ℕ × List ℕ) → next_of m ≡ queued_in l.processor t.seen → found ≡ (lens l'.entries, numbers l'.entries) → FindsLens l s found l' s'
+  finds_behind found next is =
+      let p : l'.processor ≡ l.processor = ap (λ (z : ListView J). z.processor) k.list ∙ here in
+      let after : next_of l' ≡ next_of m = ap (λ (z : ListView J). next_of z) k.list in record {
+        looks = looked;
+        same = ap key_of k.list ∙ came_key l m g.came;
+        is = k.is;
+        all = subst (λ (q : ℕ). MovesAll q l'.moved s.seen s'.seen) p (moves_all_in l' s.seen t.seen s'.seen g.covers.since k.looks.since k.is (after ∙ (next ∙ ap (λ (q : ℕ). queued_in q t.seen) (sym p))));
         found_is = is;
       }

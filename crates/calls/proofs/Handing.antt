@@ -1,5 +1,5 @@
 -- What a call learns of a list when it has its lock.
-use Rattle.std.proofs.Common.{◌≡◌, ℕ, ◌<◌, List, [], ◌∷◌, Option, Some, None, Result, Ok, Err, length, ap, sym, ◌∙◌, subst}
+use Rattle.std.proofs.Common.{◌≡◌, ℕ, ◌+◌, ◌<◌, ◌≤◌, List, [], ◌∷◌, Option, Some, None, Result, Ok, Err, length, ap, sym, ◌∙◌, subst, arith}
 use Rattle.std.specs.Prelude.{slice_index_or, MatchResult, IfOk, IfSome, IsSome}
 use Rattle.atomic_table.specs.Seated.{TableId}
 use Rattle.sections.specs.Views.{CpuView}
@@ -10,13 +10,14 @@ use Rattle.calls.specs.declared.refusals.CallRefusal.{CallRefusal}
 use Rattle.calls.specs.declared.refusals.CallRefusal.TheVariants.{Exhausted, Memory}
 use Rattle.calls.specs.declared.refusals.TakeRefusal.{TakeRefusal}
 use Rattle.calls.specs.declared.refusals.TakeRefusal.TheVariants.{Invoking, Memory as NoMemory}
-use Rattle.calls.specs.Views.{CallSeatView, ListKey, ListView, BatchView, CallsView, key_of, ReceiptView}
+use Rattle.calls.specs.Views.{CallSeatView, ListKey, ListView, BatchView, CallsView, key_of, next_of, IsListIn, ReceiptView}
 use Rattle.segs.specs.MarkedList.{Mark, lens, numbers}
 use Rattle.calls.specs.declared.view.Deed.{Deed}
-use Rattle.calls.specs.Lines.{gathered, line_in}
-use Rattle.calls.specs.Meetings.{Covers}
-use Rattle.calls.specs.Calls.{IsSameSeat, Queues, IsCause, Refuses, MovesAll, Came, Gathers, IsTaken, TakesAll, TakesNothing, FindsOut, FindsLens, IsListOf, IsOfProcessor, QueuesIn, RefusesIn, TakesIn, InvokesIn, TakesNothingIn, FindsLensIn}
+use Rattle.calls.specs.Lines.{count_out, gathered, line_in}
+use Rattle.calls.specs.Tallies.{queued_in, finished_in}
+use Rattle.calls.specs.Calls.{IsSameSeat, Queues, IsCause, Refuses, LooksAt, MovesAll, Came, LacksRoom, IsTaken, TakesAll, TakesNothing, FindsOut, FindsLens, IsListOf, IsOfProcessor, QueuesIn, RefusesIn, TakesIn, InvokesIn, LacksRoomIn, TakesNothingIn, FindsLensIn}
 use Rattle.calls.specs.Insides.{AreOfDomain}
+use Rattle.calls.proofs.Lining.{gathered_long}
 
 -- it is that of the processor whose lock it was
 pub behind_lock : {J : Type 0} (domain tallies : TableId) (locks : List (KeepView ListKey)) (k : CallsView) (p : ℕ) (lock : KeepView ListKey) (l : ListView J)
@@ -42,7 +43,7 @@ module _ {J : Type 0} where
   same_key_taken max l c s (Err e) l' c' s' h = nothing_same_key l c s e l' c' s' h
 
   -- and so do lens
-  pub same_key_found : {E : Type 0} (l : ListView J) (s : CallSeatView J) (r : Result (List ℕ × List ℕ) E) (l' : ListView J) (s' : CallSeatView J) → MatchResult r (λ found. FindsLens l s found l' s') (λ _. Gathers l s l' s') → key_of l' ≡ key_of l
+  pub same_key_found : {E : Type 0} (l : ListView J) (s : CallSeatView J) (r : Result (List ℕ × List ℕ) E) (l' : ListView J) (s' : CallSeatView J) → MatchResult r (λ found. FindsLens l s found l' s') (λ _. LacksRoom l s l' s') → key_of l' ≡ key_of l
   same_key_found l s (Ok t) l' s' h = h.same
   same_key_found l s (Err e) l' s' h = came_same_key l l' h.came
 
@@ -64,12 +65,9 @@ module _ {J : Type 0} where
   same_pushed c s job (Ok r) c' s' h = (h.note.adds.same, h.tally.same)
   same_pushed c s job (Err e) c' s' h = (cause_same c s e.1 c' h.cause, still_seat s s' h.seat)
 
-  covered_same : (s t : CallSeatView J) (seen : List (Deed J)) → Covers s seen t → IsSameSeat s t
-  covered_same s t seen h = (ap (λ z. z.tallies) h.same, ap (λ z. z.processors) h.same, ap (λ z. z.processor) h.same, ap (λ z. z.domain) h.same)
-
   nothing_same : (l : ListView J) (c : CpuView) (s : CallSeatView J) (why : TakeRefusal) (l' : ListView J) (c' : CpuView) (s' : CallSeatView J) → TakesNothing l c s why l' c' s' → IsSameCpu c c' × IsSameSeat s s'
-  nothing_same l c s Invoking l' c' s' h = (still_same c c' h.cpu, covered_same s s' s.seen h.covers)
-  nothing_same l c s NoMemory l' c' s' h = (still_same c c' h.0, covered_same s s' s.seen h.1.covers)
+  nothing_same l c s Invoking l' c' s' h = (still_same c c' h.cpu, h.looks.same)
+  nothing_same l c s NoMemory l' c' s' h = (still_same c c' h.0, h.1.looks.same)
 
   pub same_taken : (max : ℕ) (l : ListView J) (c : CpuView) (s : CallSeatView J) (r : Result (Option (BatchView J)) TakeRefusal) (l' : ListView J) (c' : CpuView) (s' : CallSeatView J) → Takings max l c s r l' c' s' → IsSameCpu c c' × IsSameSeat s s'
   same_taken max l c s (Ok t) l' c' s' h = (h.takes.gives.asks.adds.same, h.takes.gives.tally.same)
@@ -89,13 +87,30 @@ module _ {J : Type 0} where
   pub out_in_list : (k : CallsView) (p : ℕ) (l : ListView J) (c : CpuView) (s : CallSeatView J) (l' : ListView J) (c' : CpuView) (s' : CallSeatView J) → IsListOf k p l → FindsOut l c s l' c' s' → InvokesIn p c s c' s'
   out_in_list k p l c s l' c' s' of h = record {
     cpu = h.cpu;
-    covers = h.covers;
+    looks = subst (λ (z : ℕ). LooksAt z s s') (ap (λ (z : ListKey). z.processor) of) h.looks;
     out = subst (λ (z : ℕ). IsSome (line_in z s'.seen).out) (ap (λ (z : ListKey). z.processor) of) (subst (λ (o : Option ℕ). IsSome o) h.is.out h.invoking);
   }
 
+  -- there was a call that was not moved to the list
+  room_in_list : (k : CallsView) (p : ℕ) (l : ListView J) (s : CallSeatView J) (l' : ListView J) (s' : CallSeatView J) → IsListOf k p l → LacksRoom l s l' s' → LacksRoomIn p s s'
+  room_in_list k p l s l' s' of h =
+      let same : l.processor ≡ p = ap (λ (z : ListKey). z.processor) of in
+      let after : l'.processor ≡ p = ap (λ (z : ListKey). z.processor) (came_same_key l l' h.came) ∙ same in
+      let there : IsListIn s'.seen l' = h.is in
+      let few : l'.moved ≤ length (line_in p s'.seen).coming = subst (λ (q : ℕ). l'.moved ≤ length (line_in q s'.seen).coming) after there.few in
+      let fin : l'.finished ≡ finished_in p s'.seen = there.finished ∙ ap (λ (q : ℕ). finished_in q s'.seen) after in
+      let out : count_out l'.out ≡ count_out (line_in p s'.seen).out = ap count_out there.out ∙ ap (λ (q : ℕ). count_out (line_in q s'.seen).out) after in
+      let long : length l'.entries ≡ length (line_in p s'.seen).waiting + l'.moved = ap length there.entries ∙ (ap (λ (q : ℕ). length (gathered l'.moved (line_in q s'.seen)).waiting) after ∙ gathered_long l'.moved (line_in p s'.seen) few) in
+      let short : next_of l' < queued_in p s'.seen = subst (λ (q : ℕ). next_of l' < queued_in q s'.seen) same h.short in record {
+        looks = subst (λ (z : ℕ). LooksAt z s s') same h.looks;
+        moved = l'.moved;
+        few = few;
+        short = omega (arith, fin, out, long, short);
+      }
+
   nothing_in_list : (k : CallsView) (p : ℕ) (l : ListView J) (c : CpuView) (s : CallSeatView J) (why : TakeRefusal) (l' : ListView J) (c' : CpuView) (s' : CallSeatView J) → IsListOf k p l → TakesNothing l c s why l' c' s' → TakesNothingIn p c s why c' s'
   nothing_in_list k p l c s Invoking l' c' s' of h = out_in_list k p l c s l' c' s' of h
-  nothing_in_list k p l c s NoMemory l' c' s' of h = (h.0, h.1.covers)
+  nothing_in_list k p l c s NoMemory l' c' s' of h = (h.0, room_in_list k p l s l' s' of h.1)
 
   -- what was taken of the list is so of that of the processor
   pub taken_in_list : (k : CallsView) (p max : ℕ) (l : ListView J) (c : CpuView) (s : CallSeatView J) (r : Result (Option (BatchView J)) TakeRefusal) (l' : ListView J) (c' : CpuView) (s' : CallSeatView J) → IsListOf k p l
@@ -108,16 +123,16 @@ module _ {J : Type 0} where
   lens_in_list k p l s found l' s' of h =
       let same : l.processor ≡ p = ap (λ (z : ListKey). z.processor) of in
       let after : l'.processor ≡ p = ap (λ (z : ListKey). z.processor) h.same ∙ same in record {
-        covers = h.covers;
+        looks = subst (λ (z : ℕ). LooksAt z s s') same h.looks;
         moved = l'.moved;
         all = subst (λ (q : ℕ). MovesAll q l'.moved s.seen s'.seen) same h.all;
         found_is = h.found_is ∙ (ap (λ (z : List (Entry J × Mark)). (lens z, numbers z)) h.is.entries ∙ ap (λ (q : ℕ). (lens (gathered l'.moved (line_in q s'.seen)).waiting, numbers (gathered l'.moved (line_in q s'.seen)).waiting)) after);
       }
 
   pub found_in_list : {E : Type 0} (k : CallsView) (p : ℕ) (l : ListView J) (s : CallSeatView J) (r : Result (List ℕ × List ℕ) E) (l' : ListView J) (s' : CallSeatView J) → IsListOf k p l
-      → MatchResult r (λ found. FindsLens l s found l' s') (λ _. Gathers l s l' s') → MatchResult r (λ found. FindsLensIn p s found s') (λ _. Covers s s.seen s')
+      → MatchResult r (λ found. FindsLens l s found l' s') (λ _. LacksRoom l s l' s') → MatchResult r (λ found. FindsLensIn p s found s') (λ _. LacksRoomIn p s s')
   found_in_list k p l s (Ok found) l' s' of h = lens_in_list k p l s found l' s' of h
-  found_in_list k p l s (Err e) l' s' of h = h.covers
+  found_in_list k p l s (Err e) l' s' of h = room_in_list k p l s l' s' of h
 
   -- a job that was queued is one at these tally words
   pub queued_in_calls : (k : CallsView) (c : CpuView) (s : CallSeatView J) (job : J) (r : Result (ReceiptView J) (J × CallRefusal)) (c' : CpuView) (s' : CallSeatView J) → s.tallies ≡ k.tallies

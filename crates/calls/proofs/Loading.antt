@@ -20,7 +20,7 @@ module _ {J : Type 0} where
   pub same_count : (p : ℕ) (act : Act J) (v w : View J) → DoesThere p act v w → is_queue act ≡ false → queued_in p w.seen ≡ queued_in p v.seen
   same_count p act v w d none = ap (queued_in p) d.seen ∙ (queued_still p d.before p act none ∙ same_queued p d.before v.seen d.own)
 
-pub strides : (words n : ℕ) → words ≡ 32 * n + 16 → words / 32 ≡ n
+pub strides : (words n : ℕ) → words ≡ 16 * n + 8 → words / 16 ≡ n
 strides words n e = omega (arith, e)
 
 -- Beginnings

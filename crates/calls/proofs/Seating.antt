@@ -16,10 +16,10 @@ use Rattle.calls.specs.Plays.{Sat, Does, FindsAll}
 pub some_words : (words n p : ℕ) → words ≡ word_count n → p < n → 0 < words
 some_words words n p wide lt = omega (arith, wide, lt)
 
-pub queued_there : (words n p : ℕ) → words ≡ word_count n → p < n → 32 * p + 16 < words
+pub queued_there : (words n p : ℕ) → words ≡ word_count n → p < n → 16 * p + 8 < words
 queued_there words n p wide lt = omega (arith, wide, lt)
 
-pub finished_there : (words n p : ℕ) → words ≡ word_count n → p < n → 32 * p + 32 < words
+pub finished_there : (words n p : ℕ) → words ≡ word_count n → p < n → 16 * p + 16 < words
 finished_there words n p wide lt = omega (arith, wide, lt)
 
 -- what there is

@@ -10,7 +10,7 @@ use Rattle.sections.specs.Calls.{EndsWithNote}
 use Rattle.sections.specs.Sights.{SightView, GivesCookieBehind, AsksHowFar}
 use Rattle.segs.specs.MarkedList.{Done, marked, lens, numbers}
 use Rattle.calls.specs.declared.view.Act.{Act}
-use Rattle.calls.specs.declared.view.Act.TheVariants.{Queue, Take, Finish}
+use Rattle.calls.specs.declared.view.Act.TheVariants.{Queue, Take, Finish, LoadQueued}
 use Rattle.calls.specs.declared.view.Deed.{Deed}
 use Rattle.calls.specs.declared.entry.Entry.{Entry}
 use Rattle.calls.specs.declared.refusals.CallRefusal.{CallRefusal}
@@ -18,8 +18,8 @@ use Rattle.calls.specs.declared.refusals.CallRefusal.TheVariants.{Exhausted, Mem
 use Rattle.calls.specs.declared.refusals.TakeRefusal.{TakeRefusal}
 use Rattle.calls.specs.declared.refusals.TakeRefusal.TheVariants.{Invoking, Memory as NoMemory}
 use Rattle.calls.specs.Lines.{some_out, line_in, gathered, with_moved, all_moved, readied, many_ready, calls_in}
-use Rattle.calls.specs.Tallies.{deed, most_calls, queued_in, given_out, deeds_of, AreTrue, IsBeginning as IsBeginningOf}
-use Rattle.calls.specs.Views.{CallSeatView, ListView, BatchView, CallsView, key_of, IsListIn, ReceiptView}
+use Rattle.calls.specs.Tallies.{deed, most_calls, queued_in, given_out, deeds_of, AreTakers, AreTrue, IsBeginning as IsBeginningOf}
+use Rattle.calls.specs.Views.{CallSeatView, ListView, BatchView, CallsView, key_of, next_of, IsListIn, ReceiptView}
 use Rattle.calls.specs.Meetings.{Covers}
 
 -- Tallies
@@ -37,6 +37,15 @@ module _ {J : Type 0} where
     pub own : deeds_of s.processor before ≡ deeds_of s.processor s.seen
     pub seen : t.seen ≡ before ++ deed s.processor act ∷ []
     pub loads : AreTrue t.seen
+
+  -- the seat loaded the queued word of this processor: its one new deed. What it has then seen is as true, and all batches there were finished by processors that are there
+  pub record LooksAt (p : ℕ) (s t : CallSeatView J) : Type 0 where
+    pub found : ℕ
+    pub same : IsSameSeat s t
+    pub since : IsBeginningOf s.seen t.seen
+    pub own : deeds_of s.processor t.seen ≡ deeds_of s.processor s.seen ++ deed s.processor (LoadQueued p found) ∷ []
+    pub loads : AreTrue t.seen
+    pub takers : AreTakers s.processors t.seen
 
 -- Grace periods
 
@@ -124,6 +133,20 @@ module _ {J : Type 0} where
     pub came : Came l l'
     pub covers : Covers s s.seen s'
 
+  -- the seat looked at the list, which is there, for one who has seen all that it then has, as it was and as it is
+  pub record Looks (l : ListView J) (s : CallSeatView J) (l' : ListView J) (s' : CallSeatView J) : Type 0 where
+    pub looks : LooksAt l.processor s s'
+    pub list : l' ≡ record l { counted = l'.counted }
+    pub was : IsListIn s'.seen l
+    pub is : IsListIn s'.seen l'
+
+  -- some were moved, and one more had been queued that was not
+  pub record LacksRoom (l : ListView J) (s : CallSeatView J) (l' : ListView J) (s' : CallSeatView J) : Type 0 where
+    pub came : Came l l'
+    pub looks : LooksAt l.processor s s'
+    pub is : IsListIn s'.seen l'
+    pub short : next_of l' < queued_in l.processor s'.seen
+
   -- Taking
 
   pub record MayTake (l : ListView J) (c : CpuView) (s : CallSeatView J) : Type 0 where
@@ -179,22 +202,22 @@ module _ {J : Type 0} where
     pub came : Came l gathered
     pub takes : Takes max gathered c s taken l' c' s'
 
-  -- a batch is out: one load by the seat found it so
+  -- a batch is out: the seat looked, and found it so
   pub record FindsOut (l : ListView J) (c : CpuView) (s : CallSeatView J) (l' : ListView J) (c' : CpuView) (s' : CallSeatView J) : Type 0 where
     pub invoking : IsInvoking l
     pub list : l' ≡ record l { counted = l'.counted }
     pub cpu : c' ≡ c
-    pub covers : Covers s s.seen s'
+    pub looks : LooksAt l.processor s s'
     pub is : IsListIn s'.seen l
 
-  -- why nothing was taken: a batch is out; or there was no memory for one that was to be moved, and the seat has made a load
+  -- why nothing was taken: a batch is out; or there was no memory for one that was to be moved
   abbrev pub TakesNothing : ListView J → CpuView → CallSeatView J → TakeRefusal → ListView J → CpuView → CallSeatView J → Type 0
   TakesNothing l c s Invoking l' c' s' = FindsOut l c s l' c' s'
-  TakesNothing l c s NoMemory l' c' s' = (c' ≡ c) × Gathers l s l' s'
+  TakesNothing l c s NoMemory l' c' s' = (c' ≡ c) × LacksRoom l s l' s'
 
-  -- the list was found so, by a load of the seat, after all that had been queued at a moment of the call were moved
+  -- the seat looked, and found the list so, after all that had been queued at a moment of the call were moved
   pub record FindsLens (l : ListView J) (s : CallSeatView J) (found : List ℕ × List ℕ) (l' : ListView J) (s' : CallSeatView J) : Type 0 where
-    pub covers : Covers s s.seen s'
+    pub looks : LooksAt l.processor s s'
     pub same : IsSameList l l'
     pub is : IsListIn s'.seen l'
     pub all : MovesAll l.processor l'.moved s.seen s'.seen
@@ -255,20 +278,27 @@ module _ {J : Type 0} where
     pub list' : ListView J
     pub takes : Takes max list c s taken list' c' s'
 
-  -- a batch of this processor is out: one load by the seat found it so
+  -- a batch of this processor is out: the seat looked there, and found it so
   pub record InvokesIn (p : ℕ) (c : CpuView) (s : CallSeatView J) (c' : CpuView) (s' : CallSeatView J) : Type 0 where
     pub cpu : c' ≡ c
-    pub covers : Covers s s.seen s'
+    pub looks : LooksAt p s s'
     pub out : IsSome (line_in p s'.seen).out
 
-  -- why nothing was taken: a batch of this processor is out; or there was no memory for a call that was to be moved, and the seat has made a load
+  -- the seat looked there. So many of those that came in were moved, and with those that were given out and those that wait they are fewer than were queued on the processor
+  pub record LacksRoomIn (p : ℕ) (s s' : CallSeatView J) : Type 0 where
+    pub looks : LooksAt p s s'
+    pub moved : ℕ
+    pub few : moved ≤ length (line_in p s'.seen).coming
+    pub short : given_out p s'.seen + length (line_in p s'.seen).waiting + moved < queued_in p s'.seen
+
+  -- why nothing was taken: a batch of this processor is out; or there was no memory for a call that was to be moved
   abbrev pub TakesNothingIn : ℕ → CpuView → CallSeatView J → TakeRefusal → CpuView → CallSeatView J → Type 0
   TakesNothingIn p c s Invoking c' s' = InvokesIn p c s c' s'
-  TakesNothingIn p c s NoMemory c' s' = (c' ≡ c) × Covers s s.seen s'
+  TakesNothingIn p c s NoMemory c' s' = (c' ≡ c) × LacksRoomIn p s s'
 
-  -- this processor's list was found so, after all that had been queued at a moment of the call were moved
+  -- the seat looked at this processor's list, and found it so, after all that had been queued at a moment of the call were moved
   pub record FindsLensIn (p : ℕ) (s : CallSeatView J) (found : List ℕ × List ℕ) (s' : CallSeatView J) : Type 0 where
-    pub covers : Covers s s.seen s'
+    pub looks : LooksAt p s s'
     pub moved : ℕ
     pub all : MovesAll p moved s.seen s'.seen
     pub found_is : found ≡ (lens (gathered moved (line_in p s'.seen)).waiting, numbers (gathered moved (line_in p s'.seen)).waiting)

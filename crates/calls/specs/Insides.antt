@@ -4,7 +4,7 @@ use Rattle.std.specs.Arc.{arc_value}
 use Rattle.atomic_table.specs.Seated.{TableId}
 use Rattle.keep.specs.Views.{KeepView}
 use Rattle.sections.specs.Sights.{SightView}
-use Rattle.intake.specs.Views.{InletView}
+use Rattle.intake.specs.Views.{LazyInletView}
 use Rattle.calls.specs.declared.entry.Entry.{Entry}
 use Rattle.calls.specs.declared.entry.Arrival.{Arrival}
 use Rattle.calls.specs.declared.seat.CallSeat.TheInside as seat
@@ -23,9 +23,9 @@ use Rattle.calls.specs.Views.{CallSeatView, ListKey, ListView, BatchView, NoteVi
 use Rattle.calls.specs.Arrivals.{GoesOn, entries_in}
 use Rattle.calls.specs.Barriers.{IsQueued, IsCallOf}
 
-module _ {J A : Type 0} where
+module _ {J : Type 0} where
   -- the end of a processor's line at which these calls came in. The sight goes as far as all who queued them
-  pub record IsIntake (tallies : TableId) (p : ℕ) (inlet : InletView (Arrival J) ListKey A) (sight : SightView) (calls : List (Entry J)) : Type 0 where
+  pub record IsIntake (tallies : TableId) (p : ℕ) (inlet : LazyInletView (Arrival J) ListKey) (sight : SightView) (calls : List (Entry J)) : Type 0 where
     pub key : inlet.key ≡ Some record { domain = sight.domain; tallies = tallies; processor = p }
     pub pushed : entries_in inlet.pushed ≡ calls
     pub before : All (λ (y : Arrival J). GoesOn y.sight sight) inlet.pushed

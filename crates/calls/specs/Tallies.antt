@@ -1,5 +1,5 @@
 -- What was done on the tally words of a domain, and what the words then hold.
--- Processor p has word 32 p + 16 as its queued word and word 32 p + 32 as its finished word, so that any two of them are 128 bytes apart. Word 0, which every split and join of seats loads, is nobody's, and nobody writes it.
+-- Processor p has word 16 p + 8 as its queued word and word 16 p + 16 as its finished word, so that any two of them are 64 bytes apart. Word 0, which every split and join of seats loads, is nobody's, and nobody writes it.
 use Rattle.std.specs.Prelude.{◌≡◌, ℕ, ◌+◌, ◌*◌, ◌<◌, ◌≤◌, ◌==◌, Bool, true, false, List, [], ◌∷◌, ◌++◌, Some, None, length, filter, if◌then◌else◌}
 use Rattle.calls.specs.declared.view.Act.{Act}
 use Rattle.calls.specs.declared.view.Act.TheVariants.{Queue, Take, Finish, LoadQueued, LoadFinished}
@@ -7,13 +7,13 @@ use Rattle.calls.specs.declared.view.Deed.{Deed}
 use Rattle.calls.specs.Lines.{count_out, line_in}
 
 abbrev pub queued_place : ℕ → ℕ
-queued_place p = 32 * p + 16
+queued_place p = 16 * p + 8
 
 abbrev pub finished_place : ℕ → ℕ
-finished_place p = 32 * p + 32
+finished_place p = 16 * p + 16
 
 abbrev pub word_count : ℕ → ℕ
-word_count processors = 32 * processors + 16
+word_count processors = 16 * processors + 8
 
 -- the most calls that a processor ever queues, 2 ^ 54
 abbrev pub most_calls : ℕ

@@ -1,6 +1,6 @@
 //! What waits in a processor's list, and how it comes in.
 use crate::plays::Place;
-use sections::{Cookie, Sight};
+use sections::{Given, Sight};
 
 mod turn;
 
@@ -8,7 +8,7 @@ mod turn;
 #[derive(Drop)]
 pub struct Entry<J> {
     pub job: J,
-    pub cookie: Cookie,
+    pub cookie: Given,
 }
 
 /// A job on its way to the list of its processor.

@@ -2,7 +2,7 @@
 use crate::entry::{Arrival, Entry};
 use crate::plays::Place;
 use crate::spot::Spot;
-use intake::Outlet;
+use intake::LazyOutlet;
 use keep::Keyed;
 use sections::{Sight, Token};
 use segs::SegList;
@@ -23,7 +23,7 @@ mod taking;
 pub struct List<J, A: Allocator = Global> {
     pub(crate) waiting: SegList<Option<Entry<J>>, A>,
     /// Calls come out of the line here.
-    pub(crate) outlet: Outlet<Arrival<J>, Spot<J>, A>,
+    pub(crate) outlet: LazyOutlet<Arrival<J>, Spot<J>, A>,
     /// As far as the one had seen who queued the last call that was moved here.
     pub(crate) given: Sight,
     /// As far as all who took something out of the list had seen then.

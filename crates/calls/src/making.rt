@@ -12,7 +12,7 @@ use crate::seat::CallSeat;
 use crate::spot::Spot;
 use crate::view::Plan;
 use atomic_table::Table;
-use intake::open;
+use intake::open_lazily;
 use keep::Keep;
 use sections::{EngineSeat, Sight};
 use segs::SegList;
@@ -27,7 +27,7 @@ fn new_table<J, A: Allocator + Copy>(
     requires { plan.processors < 2 ^ 16 }
     ensures { IfOk result (λ t. let shared = (arc_value t.0).shared in NewTable plan shared.key shared.table_id t.1) }
 {
-    let words = vec![in alloc; 0u64; 32 * plan.processors + 16]?;
+    let words = vec![in alloc; 0u64; 16 * plan.processors + 8]?;
     let (table, dealer) = Table::of_words(alloc, words.as_slice(), &plan)?;
     Ok((Arc::new(alloc, table)?, dealer))
 }
@@ -57,7 +57,7 @@ fn deal<J: Drop, A: Allocator + Copy>(
         IsDealt shared.key shared.table_id spot.now.domain spot.now.processor d.0 d.1
         × IsDealer shared.key shared.table_id (spot.now.processor + 1) dealer.new) }
 {
-    let (inlet, outlet) = open(alloc, spot)?;
+    let (inlet, outlet) = open_lazily(alloc, spot)?;
     let table = Arc::try_clone(table)?;
     let mut seat = table.shared.split_seat::<plays::Deal>(dealer);
     let right = table.shared.split_seat::<plays::GiveList>(&mut seat);

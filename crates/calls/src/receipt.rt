@@ -2,7 +2,7 @@
 ghost use Rattle.std.specs.Prelude.{◌≡◌, ◌^◌, ◌≤◌};
 
 use crate::sight::TallySight;
-use sections::Cookie;
+use sections::{Cookie, Given};
 use std::marker::Model;
 
 /// A job was queued. Its type keeps that a job was queued on the processor with this number and this cookie, as the seat
@@ -11,7 +11,7 @@ use std::marker::Model;
 pub struct Receipt<J> {
     pub(crate) processor: u16,
     pub(crate) k: u64,
-    pub(crate) cookie: Cookie,
+    pub(crate) cookie: Given,
     /// What the seat had seen by which it was queued.
     pub(crate) note: TallySight<J>,
 }
@@ -55,6 +55,6 @@ impl<J> Receipt<J> {
     pub fn into_cookie(self) -> Cookie
         ensures { result ≡ self.cookie }
     {
-        self.cookie
+        self.cookie.into_cookie()
     }
 }

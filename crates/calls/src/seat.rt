@@ -4,7 +4,7 @@ ghost use Rattle.std.specs.Prelude.{◌≡◌};
 use crate::entry::Arrival;
 use crate::plays::{Place, Tallies};
 use crate::spot::Spot;
-use intake::Inlet;
+use intake::LazyInlet;
 use sections::Sight;
 use std::alloc::{Allocator, Global};
 use std::marker::Model;
@@ -27,7 +27,7 @@ pub struct CallSeat<J, A: Allocator = Global> {
     /// How many calls were queued here.
     pub(crate) queued: u64,
     /// Calls come in here.
-    pub(crate) inlet: Inlet<Arrival<J>, Spot<J>, A>,
+    pub(crate) inlet: LazyInlet<Arrival<J>, Spot<J>, A>,
     /// As far as all who queued here had seen then.
     pub(crate) sight: Sight,
 }

@@ -11,14 +11,14 @@ use crate::plays::{self, Board, Calling, Counting, Place, Taking};
 pub(crate) fn place_of_queued(processor: u16) -> usize
     ensures { result ≡ queued_place processor }
 {
-    32 * processor as usize + 16
+    16 * processor as usize + 8
 }
 
 /// Where the finished word of a processor stands.
 pub(crate) fn place_of_finished(processor: u16) -> usize
     ensures { result ≡ finished_place processor }
 {
-    32 * processor as usize + 32
+    16 * processor as usize + 16
 }
 
 /// Announces a call, which comes next on the seat's processor. Gives its right.

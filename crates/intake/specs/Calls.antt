@@ -1,13 +1,13 @@
 -- What the calls of the ends of a line do.
-use Rattle.std.specs.Prelude.{◌≡◌, List, [], ◌∷◌, ◌++◌, Some}
+use Rattle.std.specs.Prelude.{◌≡◌, List, [], ◌∷◌, ◌++◌, Option}
 use Rattle.intake.specs.Rule.{IsBeginning, MayFollow}
-use Rattle.intake.specs.Views.{InletView, OutletView, FrontView}
+use Rattle.intake.specs.Views.{InletView, OutletView, FrontView, LazyInletView, LazyOutletView}
 
 module _ {T K A : Type 0} where
   -- the two ends of a new line with this key
-  pub record IsNew (key : K) (inlet : InletView T K A) (outlet : OutletView T K A) : Type 0 where
-    pub inlet_is : inlet ≡ record { line = outlet.line; key = Some key; pushed = [] }
-    pub outlet_is : outlet ≡ record { line = outlet.line; key = Some key; taken = []; heard = [] }
+  pub record IsNew (key : Option K) (inlet : InletView T K A) (outlet : OutletView T K A) : Type 0 where
+    pub inlet_is : inlet ≡ record { line = outlet.line; key = key; pushed = [] }
+    pub outlet_is : outlet ≡ record { line = outlet.line; key = key; taken = []; heard = [] }
 
   abbrev pub Pushes : InletView T K A → T → InletView T K A → Type 0
   Pushes i x j = j ≡ record i { pushed = i.pushed ++ x ∷ [] }
@@ -26,3 +26,13 @@ module _ {T K A : Type 0} where
   pub record Compares (i : InletView T K A) (f : FrontView T A) (j : InletView T K A) : Type 0 where
     pub same : j ≡ i
     pub begins : IsBeginning f.seen i.pushed
+
+-- The same of a line whose queue is made at the first push
+
+module _ {T K : Type 0} where
+  abbrev pub PushesLazily : LazyInletView T K → T → LazyInletView T K → Type 0
+  PushesLazily i x j = j ≡ record i { pushed = i.pushed ++ x ∷ [] }
+
+  pub record PopsLazily (follows : K → List T → T → Type 0) (o : LazyOutletView T K) (x : T) (p : LazyOutletView T K) : Type 0 where
+    pub is : p ≡ record o { taken = o.taken ++ x ∷ [] }
+    pub follows_is : MayFollow follows o.key o.taken x

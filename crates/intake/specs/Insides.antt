@@ -1,5 +1,5 @@
 -- How the fields of the ends of a line are seen, and what is always true of them.
-use Rattle.std.specs.Prelude.{◌≡◌, Option, None}
+use Rattle.std.specs.Prelude.{◌≡◌, Option, Some, None}
 use Rattle.std.specs.Arc.{arc_value}
 use Rattle.crossbeam_queue.specs.SegTies.{IsSegPassOf}
 use Rattle.intake.specs.declared.view.Role.{Role}
@@ -7,7 +7,10 @@ use Rattle.intake.specs.declared.view.Role.TheVariants.{Nobody, Founder, Pusher,
 use Rattle.intake.specs.declared.inlet.Inlet.TheInside as inlet
 use Rattle.intake.specs.declared.outlet.Outlet.TheInside as outlet
 use Rattle.intake.specs.declared.front.Front.TheInside as front
-use Rattle.intake.specs.Views.{InletView, OutletView, FrontView}
+use Rattle.intake.specs.declared.lazy.LazyInlet.TheInside as lazy_inlet
+use Rattle.intake.specs.declared.lazy.LazyOutlet.TheInside as lazy_outlet
+use Rattle.intake.specs.Views.{InletView, OutletView, FrontView, LazyInletView, LazyOutletView}
+use Rattle.intake.specs.Lazily.{pushed_in, taken_in, IsInStage, IsOfKey}
 
 -- the key of an end
 abbrev pub key_in : {K : Type 0} → Role K → Option K
@@ -38,3 +41,15 @@ module _ {T K A : Type 0} where
     pub no_hand : f.pass.me.hand ≡ None
     pub no_spare : f.pass.me.spare ≡ None
     pub role : f.pass.me.view.client.role ≡ Nobody
+
+  abbrev pub view_of_lazy_inlet : lazy_inlet.Inside T K A → LazyInletView T K
+  view_of_lazy_inlet i = record { key = Some (arc_value i.place).key; pushed = pushed_in i.inlet }
+
+  abbrev pub IsLazyInlet : lazy_inlet.Inside T K A → Type 0
+  IsLazyInlet i = IsInStage (arc_value i.place) i.giver i.inlet
+
+  abbrev pub view_of_lazy_outlet : lazy_outlet.Inside T K A → LazyOutletView T K
+  view_of_lazy_outlet o = record { key = Some (arc_value o.place).key; taken = taken_in o.outlet }
+
+  abbrev pub IsLazyOutlet : lazy_outlet.Inside T K A → Type 0
+  IsLazyOutlet o = IsOfKey (arc_value o.place).key o.outlet

@@ -2,4 +2,5 @@ pub mod Rule
 pub mod Plays
 pub mod Views
 pub mod Calls
+pub mod Lazily
 pub mod Insides

@@ -4,6 +4,7 @@
 mod front;
 mod inlet;
 mod item;
+mod lazy;
 mod line;
 mod outlet;
 mod plays;
@@ -14,5 +15,6 @@ mod view;
 pub use front::Front;
 pub use inlet::Inlet;
 pub use item::Item;
+pub use lazy::{LazyInlet, LazyOutlet, open_lazily};
 pub use line::{Refused, open};
 pub use outlet::Outlet;

@@ -37,14 +37,11 @@ impl<T: Item<K> + Drop, K, A: Allocator> Drop for Line<T, K, A> {
 fn part<T: Item<K>, K, A: Allocator, N: Naming<K>>(
     queue: &Queue<T, K, A>,
     pass: &mut Pass<T, K, A>,
-    key: &K,
 ) -> Pass<T, K, A>
-    requires key { N.key ≡ Some key.now }
     requires pass { IsSegPassOf queue.now pass.old × (pass.old.me.view.client ≡ founder) }
     ensures pusher { IsSegPassOf queue.now pass.new × (pass.new.me.view.client ≡ pusher_of N.key) }
     ensures taker { IsSegPassOf queue.now result × (result.me.view.client ≡ taker_of N.key) }
 {
-    let _ = key;
     queue.another::<Part<N>>(pass)
 }
 
@@ -53,10 +50,21 @@ pub fn open<T: Item<K> + Drop, K, A: Allocator + Copy>(
     alloc: A,
     key: &K,
 ) -> Result<(Inlet<T, K, A>, Outlet<T, K, A>), Refused>
-    ensures { IfOk result (λ r. IsNew key.now r.0 r.1) }
+    ensures { IfOk result (λ r. IsNew (Some key.now) r.0 r.1) }
 {
+    open_of::<T, K, A, Brand, K>(alloc, key)
+}
+
+/// The same with the key that the proof has from a value.
+pub(crate) fn open_of<T: Item<K> + Drop, K, A: Allocator + Copy, N: Naming<K>, W>(
+    alloc: A,
+    whose: &W,
+) -> Result<(Inlet<T, K, A>, Outlet<T, K, A>), Refused>
+    ensures { IfOk result (λ r. IsNew N.key r.0 r.1) }
+{
+    let _ = whose;
     let (queue, mut pushing) = Queue::with_rule(alloc)?;
-    let taking = part::<T, K, A, Brand>(&queue, &mut pushing, key);
+    let taking = part::<T, K, A, N>(&queue, &mut pushing);
     let line = Arc::new(alloc, Line { queue })?;
     let other = Arc::try_clone(&line)?;
     Ok((

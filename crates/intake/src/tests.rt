@@ -173,3 +173,77 @@ fn empty<R: Wait>(rt: &R, outlet: &mut Outlet<Numbered, u64>) -> u64 {
     }
     taken
 }
+
+/// A new line whose queue is made at the first push.
+fn lazy_line<A: Allocator + Copy>(
+    alloc: A,
+) -> Result<(LazyInlet<Numbered, u64, A>, LazyOutlet<Numbered, u64, A>), Refused>
+    ensures inlet { IfOk result (λ r. (r.0.key ≡ Some 7) × (length r.0.pushed ≡ 0)) }
+    ensures outlet { IfOk result (λ r. (r.1.key ≡ Some 7) × (length r.1.taken ≡ 0)) }
+{
+    open_lazily(alloc, &FIRST)
+}
+
+/// Pushes as long as there is room. Tells how many were.
+fn push_lazily<R: Wait, A: Allocator + Copy>(rt: &R, inlet: &mut LazyInlet<Numbered, u64, A>) -> u64
+    requires { (inlet.old.key ≡ Some 7) × (length inlet.old.pushed ≡ 0) }
+{
+    for pushed in 0..COUNT {
+        let number = FIRST + pushed;
+        if inlet.push(rt, Numbered { number }).is_err() {
+            return pushed;
+        }
+    }
+    COUNT
+}
+
+/// Takes so many values out, each of which has the number of its turn.
+fn take_lazily<R: Wait, A: Allocator>(rt: &R, outlet: &mut LazyOutlet<Numbered, u64, A>) -> u64
+    requires { (outlet.old.key ≡ Some 7) × (length outlet.old.taken ≡ 0) }
+{
+    for taken in 0..COUNT {
+        let Numbered { number } = outlet.wait(rt);
+        prove!(number == FIRST + taken);
+    }
+    COUNT
+}
+
+/// Would catch a second end that never comes to the taker, and a value that is lost or comes twice: the taker waits before
+/// there is a queue.
+#[test]
+fn lazy_threads(rt: HostRuntime) -> Result<(), Fail> {
+    let (mut inlet, mut outlet) = lazy_line(rt.alloc())?;
+    let (taken, pushed) = join(
+        &rt,
+        || take_lazily(&rt, &mut outlet),
+        || push_lazily(&rt, &mut inlet),
+    );
+    assert_eq!(rt; (taken, pushed), (COUNT, COUNT));
+    Ok(())
+}
+
+/// Would catch a line that takes its queue's memory before the first push, one that can't be used again once there was no
+/// memory for the queue, and values or a queue that are not dropped with the line.
+#[test]
+fn lazy_in_little_room(rt: HostRuntime) -> Result<(), Fail> {
+    let mut refused = false;
+    let mut served = false;
+    for room in 0..200 {
+        let heap = LocalHeap::new(rt.alloc(), 256 + 16 * room)?;
+        let (mut inlet, outlet) = lazy_line(&heap)?;
+        assert!(rt; heap.used() <= 160);
+        let before = heap.used();
+        let pushed = push_lazily(&rt, &mut inlet);
+        if pushed == 0 {
+            assert_eq!(rt; heap.used(), before);
+            refused = true;
+        } else {
+            served = true;
+        }
+        drop(outlet);
+        drop(inlet);
+        assert_eq!(rt; heap.used(), 0);
+    }
+    assert!(rt; refused && served);
+    Ok(())
+}

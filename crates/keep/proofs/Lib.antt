@@ -1,1 +1,2 @@
 mod Locking
+mod Passing

@@ -1,14 +1,14 @@
--- The rule of a lock with one word in use and one slot. The word stands 128 bytes from either end of its table's words, so that locks which lie side by side share no line.
+-- The rule of a lock with one word in use and one slot. Seven words stand before the word and seven behind it, so that a line of 64 bytes holds no other lock's word.
 use Rattle.std.specs.Prelude.{◌≡◌, ℕ, ◌∷◌, [], Option, Some, slice_index, length}
 use mathlib.Core.Option.{some}
 use lib.ListN.{get_elem?}
 use Rattle.atomic_table.specs.Table.{State, Me}
 
 abbrev pub lock_place : ℕ
-lock_place = 16
+lock_place = 7
 
 abbrev pub word_count : ℕ
-word_count = 32
+word_count = 15
 
 module _ {T V : Type 0} where
   -- where the word is 0, the value is at home and fits

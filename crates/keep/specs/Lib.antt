@@ -1,3 +1,4 @@
 pub mod Guarding
+pub mod Passing
 pub mod Views
 pub mod Insides

@@ -9,11 +9,11 @@ use std::marker::{Model, PhantomData};
 use std::sync::Wait;
 use std::thread::yield_now;
 
-/// How many words the table has: 256 bytes.
-const WORDS: usize = 32;
+/// How many words the table has: 120 bytes.
+const WORDS: usize = 15;
 
-/// Where the word stands: 128 bytes from the first and from behind the last one.
-const LOCK: usize = 16;
+/// Where the word stands: seven words before it and seven after it, so that a cache line of 64 bytes holds no other lock's.
+const LOCK: usize = 7;
 
 /// A value that has a key. Which one, contracts alone see.
 pub trait Keyed<K> {

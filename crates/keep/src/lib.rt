@@ -1,8 +1,10 @@
 //! A lock round one value, of which contracts keep knowing something while nobody has it: which key fits it.
 #![tactic(auto)]
 
+mod handover;
 mod keep;
 #[cfg(test)]
 mod tests;
 
+pub use handover::{Fitting, Giver, Handover};
 pub use keep::{Keep, Keyed, Loan};

@@ -19,7 +19,7 @@ impl<J, A: Allocator> CallSeat<J, A> {
         ensures there { self.now.processor < self.now.processors }
         ensures loads { AreTrue self.now.seen }
     {
-        self.table.word_count() / 32
+        self.table.word_count() / 16
     }
 
     /// How many calls of a processor were queued: one load of its queued word.
@@ -31,7 +31,7 @@ impl<J, A: Allocator> CallSeat<J, A> {
         // For the proof: all words have places, so this one is no larger than a place may be.
         let _words = self.table.word_count();
         let top = &self.table.shared;
-        top.load::<plays::CountQueued>(&mut self.seat, 32 * processor + 16)
+        top.load::<plays::CountQueued>(&mut self.seat, 16 * processor + 8)
     }
 
     /// The same, by a seat that has then seen all that is noted.
@@ -48,7 +48,7 @@ impl<J, A: Allocator> CallSeat<J, A> {
         let top = &self.table.shared;
         let copy = top.split_seat::<plays::GiveNote>(&mut note.seat);
         top.join_seat::<plays::TakeNote>(&mut self.seat, copy);
-        let place = 32 * processor + 16;
+        let place = 16 * processor + 8;
         top.load::<plays::CountQueued>(&mut self.seat, place)
     }
 
@@ -65,7 +65,7 @@ impl<J, A: Allocator> CallSeat<J, A> {
         // For the proof, as above.
         let _words = self.table.word_count();
         let top = &self.table.shared;
-        count_finished::<J, Brand>(top, &mut self.seat, 32 * processor + 32)
+        count_finished::<J, Brand>(top, &mut self.seat, 16 * processor + 16)
     }
 
     /// Notes what this seat has seen.

@@ -1,8 +1,7 @@
 //! The calls of a domain's callbacks. But for `call`, they lock a processor's list, and hand on to it.
 ghost use Rattle.std.specs.Prelude.{◌≡◌, ◌<◌, All, IfOk, IfSome, MatchResult};
 ghost use Rattle.sections.specs.Calls.{IsSameCpu, AllClosed};
-ghost use Rattle.calls.specs.Calls.{IsSameSeat, IsOfProcessor, FitsIn, QueuesIn, RefusesIn, MayTakeIn, TakesIn, AreHanded, TakesNothingIn, MayFinishIn, FinishesIn, FindsLensIn};
-ghost use Rattle.calls.specs.Meetings.{Covers};
+ghost use Rattle.calls.specs.Calls.{IsSameSeat, IsOfProcessor, FitsIn, QueuesIn, RefusesIn, MayTakeIn, TakesIn, AreHanded, TakesNothingIn, MayFinishIn, FinishesIn, LacksRoomIn, FindsLensIn};
 
 use super::Calls;
 use crate::batch::Batch;
@@ -16,7 +15,7 @@ use std::sync::Wait;
 impl<J: Drop, A: Allocator + Copy> Calls<J, A> {
     /// Queues a job on this processor (`call_srcu`). It is given out after a full grace period that starts later. Where it
     /// is refused, the job comes back. No lock is touched; the handle is for the queue at which jobs come in.
-    pub fn call<R: Wait, B: Allocator, C: Allocator>(
+    pub fn call<R: Wait, B: Allocator, C: Allocator + Copy>(
         &self,
         rt: &R,
         cpu: &mut Cpu<B>,
@@ -85,8 +84,8 @@ impl<J: Drop, A: Allocator + Copy> Calls<J, A> {
 
     /// How many entries of a processor are done, wait for the first and for the second number, and have none yet; and
     /// the two numbers, 0 where there is none. What is out isn't counted. All calls that are counted as queued are moved to
-    /// the list first; where there is no memory for one, nothing is answered, and nothing is lost. One more load by the seat
-    /// shows that this is the processor's list. It waits while another thread has the list.
+    /// the list first; where there is no memory for one, nothing is answered, and nothing is lost. A load by the seat, which
+    /// is a deed of its own, shows that this is the processor's list. It waits while another thread has the list.
     pub fn lens<R: Wait, C: Allocator>(
         &self,
         rt: &R,
@@ -96,7 +95,7 @@ impl<J: Drop, A: Allocator + Copy> Calls<J, A> {
         requires { (processor < self.now.processors) × (seat.old.tallies ≡ self.now.tallies) }
         ensures found { MatchResult result
             (λ found. FindsLensIn processor seat.old found seat.new)
-            (λ _. Covers seat.old seat.old.seen seat.new) }
+            (λ _. LacksRoomIn processor seat.old seat.new) }
     {
         let lock = &self.lists[processor as usize];
         let (mut list, loan) = lock.take(rt);

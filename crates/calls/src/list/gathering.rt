@@ -1,8 +1,8 @@
 //! How calls come out of their line and into the list.
-ghost use Rattle.std.specs.Prelude.{◌≡◌, ◌<◌, MatchResult, OnOk};
+ghost use Rattle.std.specs.Prelude.{◌≡◌, ◌<◌, MatchResult, OnErr, OnOk};
 ghost use Rattle.calls.specs.Tallies.{word_count, queued_in};
 ghost use Rattle.calls.specs.Views.{next_of};
-ghost use Rattle.calls.specs.Calls.{MayLook, MovesOne, Gathers, FindsLens};
+ghost use Rattle.calls.specs.Calls.{MayLook, MovesOne, Gathers, Looks, LacksRoom, FindsLens};
 
 use super::List;
 use crate::entry::Arrival;
@@ -26,6 +26,7 @@ impl<J: Drop, A: Allocator> List<J, A> {
         requires { MayLook self.old seat.old }
         ensures gathers { Gathers self.old seat.old self.new seat.new }
         ensures all { OnOk result (next_of self.new ≡ queued_in self.old.processor seat.new.seen) }
+        ensures short { OnErr result (next_of self.new < queued_in self.old.processor seat.new.seen) }
     {
         let top = &seat.table.shared;
         let counted = see_list::<J, Brand>(top, &mut seat.seat, &mut self.seat, self.processor);
@@ -57,10 +58,23 @@ impl<J: Drop, A: Allocator> List<J, A> {
         Ok(())
     }
 
+    /// The seat looks at the list. It loads the queued word of the list's processor, which is a deed of its own, and then once
+    /// more, which shows the list as it then is.
+    pub(super) fn look<C: Allocator>(&mut self, seat: &mut CallSeat<J, C>)
+        requires { MayLook self.old seat.old }
+        ensures { Looks self.old seat.old self.new seat.new }
+    {
+        // For the proof: so many processors have words here, and the list's is one of them.
+        let _processors = seat.processors();
+        seat.load_queued(self.processor as usize);
+        let top = &seat.table.shared;
+        see_list::<J, Brand>(top, &mut seat.seat, &mut self.seat, self.processor);
+    }
+
     /// How many entries are done, wait for the first and for the second number, and have none yet; and the two numbers,
     /// 0 where there is none. What is out isn't counted. All calls that are counted as queued are moved first; where there is
-    /// no memory for one, nothing is answered, and nothing is lost. The seat then makes one more load: so this is the list of
-    /// its processor, as it then is.
+    /// no memory for one, nothing is answered, and nothing is lost. The seat then looks: so this is the list of its
+    /// processor, as it then is.
     pub fn lens<R: Wait, C: Allocator>(
         &mut self,
         rt: &R,
@@ -69,11 +83,11 @@ impl<J: Drop, A: Allocator> List<J, A> {
         requires { MayLook self.old seat.old }
         ensures found { MatchResult result
             (λ found. FindsLens self.old seat.old found self.new seat.new)
-            (λ _. Gathers self.old seat.old self.new seat.new) }
+            (λ _. LacksRoom self.old seat.old self.new seat.new) }
     {
-        self.gather(rt, seat)?;
-        let top = &seat.table.shared;
-        see_list::<J, Brand>(top, &mut seat.seat, &mut self.seat, self.processor);
+        let gathered = self.gather(rt, seat);
+        self.look(seat);
+        gathered?;
         Ok((self.waiting.lens(), self.waiting.numbers()))
     }
 }

@@ -11,7 +11,7 @@ use crate::batch::Batch;
 use crate::entry::Entry;
 use crate::refusals::TakeRefusal;
 use crate::seat::CallSeat;
-use crate::tally::{add_finished, see_list, take_out};
+use crate::tally::{add_finished, take_out};
 use sections::Cpu;
 use segs::SegList;
 use smallvec::SmallVec;
@@ -51,7 +51,7 @@ fn take_first<J: Drop, A: Allocator + Copy>(
 impl<J: Drop, A: Allocator + Copy> List<J, A> {
     /// Takes out what is ready: at most `max` jobs and at most eight, the first ones first. `None` where nothing is.
     /// Any processor of the domain may do it. All calls that are counted as queued are moved to the list first. It is refused
-    /// where a batch is out, as one load by the seat finds, and then nothing is moved; and where there was no memory for one
+    /// where a batch is out, as the seat finds, which looks, and then nothing is moved; and where there was no memory for one
     /// that was to be moved.
     pub fn take<R: Wait, B: Allocator, C: Allocator>(
         &mut self,
@@ -73,13 +73,15 @@ impl<J: Drop, A: Allocator + Copy> List<J, A> {
         ensures closed { IfOk result (λ taken. IfSome taken (λ batch. All (λ e. AllClosed e.cookie.seen cpu.new.seen) batch.entries)) }
     {
         if self.out {
-            let top = &seat.table.shared;
-            see_list::<J, Brand>(top, &mut seat.seat, &mut self.seat, self.processor);
+            self.look(seat);
             return Err(TakeRefusal::Invoking);
         }
         match self.gather(rt, seat) {
             Ok(()) => Ok(self.take_ready(cpu, seat, max)),
-            Err(_) => Err(TakeRefusal::Memory),
+            Err(_) => {
+                self.look(seat);
+                Err(TakeRefusal::Memory)
+            }
         }
     }
 

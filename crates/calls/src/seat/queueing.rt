@@ -12,7 +12,7 @@ use std::alloc::Allocator;
 use std::marker::Brand;
 use std::sync::Wait;
 
-impl<J: Drop, A: Allocator> CallSeat<J, A> {
+impl<J: Drop, A: Allocator + Copy> CallSeat<J, A> {
     /// Queues a job (`call_srcu`) on the seat's processor, with no lock. Where it is refused, the job comes back.
     pub(crate) fn queue<R: Wait, B: Allocator>(
         &mut self,
@@ -31,7 +31,7 @@ impl<J: Drop, A: Allocator> CallSeat<J, A> {
         // The cookie is of now, before the job can be seen: a later one would only make it wait longer, but one that is
         // taken behind the push could come after the job was given out.
         let mut cookie = cpu.cookie_behind(&mut self.sight);
-        let copy = cpu.copy_cookie(&mut cookie);
+        let copy = cpu.copy_given(&mut cookie);
         let sight = cpu.copy_sight(&mut self.sight);
         let entry = Entry { job, cookie };
         let top = &self.table.shared;

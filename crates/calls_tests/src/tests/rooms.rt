@@ -130,24 +130,29 @@ fn fill_without_room<R: Wait + Abort + AllocGlobal>(
     Ok((refused, lens))
 }
 
-/// Queues a hundred jobs, while there is no room in the heap and then while there is. Tells which job was refused each time,
-/// and the list behind it.
+/// Queues a hundred jobs: while there is no room in the heap, then one while there is, and the same again with the rest. Tells
+/// which job was refused each time, and the list after it.
 fn fill_by_turns<R: Wait + Abort + AllocGlobal>(
     rt: &R,
     heap: &LocalHeap,
     calls: &Calls<u64, &LocalHeap>,
     cpu: &mut Cpu,
     seat: &mut CallSeat<u64, &LocalHeap>,
-) -> Result<([u64; 2], [Lens; 2]), AllocError>
+) -> Result<([u64; 4], [Lens; 3]), AllocError>
     requires { FitsIn calls.now cpu.old seat.old }
 {
-    let (some, none) = fill_without_room(rt, heap, calls, cpu, seat, 0)?;
+    let (none, empty) = fill_without_room(rt, heap, calls, cpu, seat, 0)?;
+    let one = fill(rt, calls, cpu, seat, none, 1);
+    let (some, full) = fill_without_room(rt, heap, calls, cpu, seat, one)?;
     let all = fill(rt, calls, cpu, seat, some, 100);
-    Ok(([some, all], [none, calls.lens(rt, seat, 0)]))
+    Ok((
+        [none, one, some, all],
+        [empty, full, calls.lens(rt, seat, 0)],
+    ))
 }
 
-/// Would catch a refused job that stays, or that is counted; a list that loses what it has no room for; and a processor that
-/// takes no more jobs once one was refused.
+/// Would catch a refused job that stays, or that is counted, and a list that loses what it has no room for. Would catch a list
+/// that wants room where nothing came in, and a processor that takes no more jobs once its first one was refused.
 #[test]
 fn call_in_little_room(rt: HostRuntime) -> Result<(), Fail> {
     let (mut cpu, mut engine) = new_domain(rt.alloc())?;
@@ -156,9 +161,13 @@ fn call_in_little_room(rt: HostRuntime) -> Result<(), Fail> {
     let (refused, lens) = fill_by_turns(&rt, &heap, &calls, &mut cpu, &mut seat)?;
     drop(calls);
     drop(seat);
-    assert!(rt; refused[0] > 0 && refused[0] < 100);
-    assert!(rt; lens[0].is_err());
-    assert_eq!(rt; (refused[1], lens[1]), (100, Ok(([0, 100, 0, 0], [4, 0]))));
+    let [none, one, some, all] = refused;
+    assert_eq!(rt; (none, one, all), (0, 1, 100));
+    assert!(rt; some > 1 && some < 100);
+    let [empty, full, last] = lens;
+    assert_eq!(rt; empty, Ok(([0; 4], [0; 2])));
+    assert!(rt; full.is_err());
+    assert_eq!(rt; last, Ok(([0, 100, 0, 0], [4, 0])));
     assert_eq!(rt; heap.used(), 0);
     Ok(())
 }

@@ -2,5 +2,5 @@
 use Rattle.std.specs.Prelude.{Some}
 use Rattle.intake.proofs.line.open.Given as goal
 
-abbrev pub ghosts-part : goal.ghosts-part
-ghosts-part g a = record { key = Some a.key.now }
+abbrev pub ghosts-open_of : goal.ghosts-open_of
+ghosts-open_of g a = record { key = Some a.whose.now }

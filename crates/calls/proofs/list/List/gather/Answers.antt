@@ -1,7 +1,9 @@
 use Rattle.std.proofs.Common.{ℕ, ◌≤◌, sym, ap, ◌∙◌, arith}
 use Rattle.calls.specs.Tallies.{queued_in}
 use Rattle.calls.specs.Seats.{known_in}
+use Rattle.calls.specs.Views.{ListView}
 use Rattle.calls.proofs.Turning.{seat_saw, seat_covers}
+use Rattle.calls.proofs.Gathering.{on_err}
 use Rattle.calls.proofs.Arriving.{came_none, came_more, came_same, moved_next}
 use Rattle.calls.proofs.list.List.gather.Goals as goal
 
@@ -28,6 +30,17 @@ returns-in_err-move_one-clause-gathers g c = record {
   came = came_same _ _ _ c.loop.invariant.came c.in_err-move_one.ensures;
   covers = rw (← c.seat.view_is) (seat_covers c.seat.inside c.see_list-counted.new.seat c.seat.invariant _ c.self.inside.processor _ _ c.see_list-counted.new.list (ap (λ t. t.shared.key) c.deref.ensures) c.see_list-counted.ensures);
 }
+
+pub returns-in_err-move_one-clause-short : goal.returns-in_err-move_one-clause-short
+returns-in_err-move_one-clause-short g c =
+    let v = c.self.invariant in
+    let h = c.see_list-counted.ensures in
+    let next = c.loop.invariant.next in
+    let same = ap (λ (l : ListView g.row.J.Denot). Rattle.calls.specs.Views.next_of l) c.in_err-move_one.ensures in
+    let lt = c.loop-test.true in
+    let counted = h.counted in
+    let on = ap (λ (p : ℕ). queued_in p c.see_list-counted.new.seat.me.0.seen) (ap (λ l. l.processor) c.self.view_is) in
+    on_err c.from_residual.result (omega (arith, next, same, lt, counted, on))
 
 pub loop-preserved : goal.loop-preserved
 loop-preserved g c =

@@ -1,25 +1,9 @@
-use Rattle.std.proofs.Common.{rules, refl, ap, sym, ◌∙◌}
+use Rattle.std.proofs.Common.{rules, refl, ap, sym, ◌∙◌, subst}
+use Rattle.calls.specs.Views.{ListView}
+use Rattle.calls.specs.Calls.{IsInvoking}
 use Rattle.calls.proofs.Listing.{none_out, is_out}
-use Rattle.calls.proofs.Turning.{seat_saw, seat_covers}
-use Rattle.calls.proofs.Gathering.{list_saw, saw_same, saw_was, takes_behind}
+use Rattle.calls.proofs.Gathering.{takes_behind, lacks_behind}
 use Rattle.calls.proofs.list.List.take.Goals as goal
-
-pub invariant_of-self : goal.invariant_of-self
-invariant_of-self g c = list_saw c.self.inside _ _ _ _ c.see_list.new.list c.see_list.ensures c.self.invariant
-
-pub invariant_of-seat : goal.invariant_of-seat
-invariant_of-seat g c = seat_saw c.seat.inside c.see_list.new.seat c.seat.invariant _ c.self.inside.processor _ _ c.see_list.new.list (ap (λ t. t.shared.key) c.deref.ensures) c.see_list.ensures
-
-pub returns-then-self-clause-takes : goal.returns-then-self-clause-takes
-returns-then-self-clause-takes g c =
-    let h = c.see_list.ensures in
-    rw (← c.self.view_is, ← c.seat.view_is) (record {
-      invoking = is_out c.self.inside.out _ c.self.invariant.out c.if-self.true;
-      list = saw_same c.self.inside _ _ _ _ c.see_list.new.list h;
-      cpu = refl;
-      covers = seat_covers c.seat.inside c.see_list.new.seat c.seat.invariant _ c.self.inside.processor _ _ c.see_list.new.list (ap (λ t. t.shared.key) c.deref.ensures) h;
-      is = saw_was c.self.inside _ _ _ _ c.see_list.new.list h;
-    })
 
 pub take_ready-requires : goal.take_ready-requires
 take_ready-requires g c =
@@ -38,3 +22,15 @@ returns-in-Ok-clause-takes g c =
       came = g1.came;
       takes = takes_behind _ c.args.self.now c.gather.new.self c.args.cpu.now c.args.seat.now c.gather.new.seat _ _ _ _ g1 c.in-Ok.ensures.all c.take_ready.ensures.takes;
     }
+
+pub returns-then-self-clause-takes : goal.returns-then-self-clause-takes
+returns-then-self-clause-takes g c = record {
+  invoking = subst (λ (l : ListView g.row.J.Denot). IsInvoking l) c.self.view_is (is_out c.self.inside.out _ c.self.invariant.out c.if-self.true);
+  list = c.look.ensures.list;
+  cpu = refl;
+  looks = c.look.ensures.looks;
+  is = c.look.ensures.was;
+}
+
+pub returns-in-Err-clause-takes : goal.returns-in-Err-clause-takes
+returns-in-Err-clause-takes g c = (refl, lacks_behind c.args.self.now c.gather.new.self c.args.seat.now c.gather.new.seat c.look-in-Err.new.self c.look-in-Err.new.seat c.gather.ensures.gathers c.look-in-Err.ensures c.in-Err.ensures.short)

@@ -1,7 +1,7 @@
-use Rattle.std.proofs.Common.{◌≡◌, ℕ, ◌+◌, ◌<◌, List, [], ◌∷◌, ◌++◌, Some, inr, refl, ap, sym, ◌∙◌, subst, arith}
+use Rattle.std.proofs.Common.{◌≡◌, ℕ, ◌+◌, ◌<◌, List, [], ◌∷◌, ◌++◌, Some, refl, ap, sym, ◌∙◌, subst, arith}
 use Rattle.std.specs.Prelude.{slice_get}
 use Rattle.atomic_table.specs.Seated.{TableId}
-use Rattle.intake.specs.Views.{InletView}
+use Rattle.intake.specs.Views.{LazyInletView}
 use Rattle.sections.specs.Views.{CookieView}
 use Rattle.sections.specs.Sights.{SightView, GivesCookieBehind}
 use Rattle.calls.specs.declared.entry.Entry.{Entry}
@@ -22,19 +22,19 @@ use Rattle.calls.proofs.Once.{calls_counted, calls_here, call_found, same_calls}
 use Rattle.calls.proofs.Arriving.{intake_as, intake_later, intake_pushed, follows_in}
 use Rattle.calls.proofs.seat.CallSeat.queue.Goals as goal
 
-pub copy_cookie-copy-requires : goal.copy_cookie-copy-requires
-copy_cookie-copy-requires g c = let note = c.cookie_behind-cookie.ensures in inr (ap (λ (k : CookieView). k.domain) note.cookie_is ∙ sym note.adds.same.0)
+pub copy_given-copy-requires : goal.copy_given-copy-requires
+copy_given-copy-requires g c = let note = c.cookie_behind-cookie.ensures in ap (λ (k : CookieView). k.domain) note.cookie_is ∙ sym note.adds.same.0
 
 pub push-requires : goal.push-requires
 push-requires g c =
     let v = c.self.invariant in
     let p : ℕ = c.self.inside.processor in
-    let k : CookieView = c.copy_cookie-copy.new.cookie in
+    let k : CookieView = c.copy_given-copy.new.given in
     let e : Entry g.row.J.Denot = record { job = c.args.job; cookie = k } in
     let a = c.announce-call.ensures in
     let t : SightView = c.cookie_behind-cookie.new.sight in
     let domain = c.requires.domain ∙ ap (λ s. s.domain) (sym c.self.view_is) in
-    let note : GivesCookieBehind c.self.inside.sight c.args.cpu.now c.cookie_behind-cookie.new.self k t = subst (λ (z : CookieView). GivesCookieBehind c.self.inside.sight c.args.cpu.now c.cookie_behind-cookie.new.self z t) (sym c.copy_cookie-copy.ensures.same) c.cookie_behind-cookie.ensures in
+    let note : GivesCookieBehind c.self.inside.sight c.args.cpu.now c.cookie_behind-cookie.new.self k t = subst (λ (z : CookieView). GivesCookieBehind c.self.inside.sight c.args.cpu.now c.cookie_behind-cookie.new.self z t) (sym c.copy_given-copy.ensures.same) c.cookie_behind-cookie.ensures in
     let on : GoesOn c.self.inside.sight t = goes_on_noted _ _ _ _ k domain note in
     follows_in v.intake (queued_in p c.self.inside.seat.me.0.seen) (calls_counted p c.self.inside.seat.me.0.seen) (record { entry = e; sight = c.copy_sight-sight.result; call = c.announce-call.result }) a.call_is
     (subst (λ (z : SightView). GoesOn c.self.inside.sight z) (sym c.copy_sight-sight.ensures.copy) on)
@@ -44,12 +44,12 @@ pub withdraw-requires-clause-call : goal.withdraw-requires-clause-call
 withdraw-requires-clause-call g c =
     let v = c.self.invariant in
     let p : ℕ = c.self.inside.processor in
-    let k : CookieView = c.copy_cookie-copy.new.cookie in
+    let k : CookieView = c.copy_given-copy.new.given in
     let e : Entry g.row.J.Denot = record { job = c.args.job; cookie = k } in
     let a = c.announce-call.ensures in
     let t : SightView = c.cookie_behind-cookie.new.sight in
     let domain = c.requires.domain ∙ ap (λ s. s.domain) (sym c.self.view_is) in
-    let note : GivesCookieBehind c.self.inside.sight c.args.cpu.now c.cookie_behind-cookie.new.self k t = subst (λ (z : CookieView). GivesCookieBehind c.self.inside.sight c.args.cpu.now c.cookie_behind-cookie.new.self z t) (sym c.copy_cookie-copy.ensures.same) c.cookie_behind-cookie.ensures in
+    let note : GivesCookieBehind c.self.inside.sight c.args.cpu.now c.cookie_behind-cookie.new.self k t = subst (λ (z : CookieView). GivesCookieBehind c.self.inside.sight c.args.cpu.now c.cookie_behind-cookie.new.self z t) (sym c.copy_given-copy.ensures.same) c.cookie_behind-cookie.ensures in
     let on : GoesOn c.self.inside.sight t = goes_on_noted _ _ _ _ k domain note in
     let about : IsAboutTo p c.deref.result.now.shared.key e c.announce-call.new.seat.me.0 = record { who = ap (λ m. m.0.who) a.me ∙ v.rests.who; there = subst (λ z. p < z.shared.key.processors) (sym c.deref.ensures) v.rests.there; calling = ap (λ m. m.0.list) a.me; no_batch = ap (λ m. m.0.batch) a.me ∙ v.rests.no_batch } in
     let x = c.in-Err.ensures.0 in
@@ -61,12 +61,12 @@ pub invariant_of-self : goal.invariant_of-self
 invariant_of-self g c =
     let v = c.self.invariant in
     let p : ℕ = c.self.inside.processor in
-    let k : CookieView = c.copy_cookie-copy.new.cookie in
+    let k : CookieView = c.copy_given-copy.new.given in
     let e : Entry g.row.J.Denot = record { job = c.args.job; cookie = k } in
     let a = c.announce-call.ensures in
     let t : SightView = c.cookie_behind-cookie.new.sight in
     let domain = c.requires.domain ∙ ap (λ s. s.domain) (sym c.self.view_is) in
-    let note : GivesCookieBehind c.self.inside.sight c.args.cpu.now c.cookie_behind-cookie.new.self k t = subst (λ (z : CookieView). GivesCookieBehind c.self.inside.sight c.args.cpu.now c.cookie_behind-cookie.new.self z t) (sym c.copy_cookie-copy.ensures.same) c.cookie_behind-cookie.ensures in
+    let note : GivesCookieBehind c.self.inside.sight c.args.cpu.now c.cookie_behind-cookie.new.self k t = subst (λ (z : CookieView). GivesCookieBehind c.self.inside.sight c.args.cpu.now c.cookie_behind-cookie.new.self z t) (sym c.copy_given-copy.ensures.same) c.cookie_behind-cookie.ensures in
     let on : GoesOn c.self.inside.sight t = goes_on_noted _ _ _ _ k domain note in
     let w = c.withdraw.ensures in
     let seen : c.withdraw.new.seat.me.0.seen ≡ c.self.inside.seat.me.0.seen = ap (λ m. m.0.seen) w.me ∙ ap (λ m. m.0.seen) a.me in record {
@@ -75,19 +75,19 @@ invariant_of-self g c =
       loads = subst (λ (l : List (Deed g.row.J.Denot)). AreTrue l) (sym seen) v.loads;
       queued = v.queued ∙ ap (queued_in p) (sym seen);
       few = v.few;
-      intake = subst (λ (z : InletView (Arrival g.row.J.Denot) ListKey g.row.A.Denot × SightView). IsIntake c.withdraw.new.seat.table_id p z.0 z.1 (calls_in p c.withdraw.new.seat.me.0.seen)) (λ i. (sym c.in-Err.ensures.1 i, sym c.copy_sight-sight.ensures.same i)) (intake_later (intake_as v.intake (w.table ∙ a.table) (ap (calls_in p) seen)) on);
+      intake = subst (λ (z : LazyInletView (Arrival g.row.J.Denot) ListKey × SightView). IsIntake c.withdraw.new.seat.table_id p z.0 z.1 (calls_in p c.withdraw.new.seat.me.0.seen)) (λ i. (sym c.in-Err.ensures.1 i, sym c.copy_sight-sight.ensures.same i)) (intake_later (intake_as v.intake (w.table ∙ a.table) (ap (calls_in p) seen)) on);
     }
 
 pub add_queued-k-requires-clause-calling : goal.add_queued-k-requires-clause-calling
 add_queued-k-requires-clause-calling g c =
     let v = c.self.invariant in
     let p : ℕ = c.self.inside.processor in
-    let k : CookieView = c.copy_cookie-copy.new.cookie in
+    let k : CookieView = c.copy_given-copy.new.given in
     let e : Entry g.row.J.Denot = record { job = c.args.job; cookie = k } in
     let a = c.announce-call.ensures in
     let t : SightView = c.cookie_behind-cookie.new.sight in
     let domain = c.requires.domain ∙ ap (λ s. s.domain) (sym c.self.view_is) in
-    let note : GivesCookieBehind c.self.inside.sight c.args.cpu.now c.cookie_behind-cookie.new.self k t = subst (λ (z : CookieView). GivesCookieBehind c.self.inside.sight c.args.cpu.now c.cookie_behind-cookie.new.self z t) (sym c.copy_cookie-copy.ensures.same) c.cookie_behind-cookie.ensures in
+    let note : GivesCookieBehind c.self.inside.sight c.args.cpu.now c.cookie_behind-cookie.new.self k t = subst (λ (z : CookieView). GivesCookieBehind c.self.inside.sight c.args.cpu.now c.cookie_behind-cookie.new.self z t) (sym c.copy_given-copy.ensures.same) c.cookie_behind-cookie.ensures in
     let on : GoesOn c.self.inside.sight t = goes_on_noted _ _ _ _ k domain note in
     let about : IsAboutTo p c.deref.result.now.shared.key e c.announce-call.new.seat.me.0 = record { who = ap (λ m. m.0.who) a.me ∙ v.rests.who; there = subst (λ z. p < z.shared.key.processors) (sym c.deref.ensures) v.rests.there; calling = ap (λ m. m.0.list) a.me; no_batch = ap (λ m. m.0.batch) a.me ∙ v.rests.no_batch } in
     (e, about)
@@ -96,12 +96,12 @@ pub invariant_of-self-2 : goal.invariant_of-self-2
 invariant_of-self-2 g c =
     let v = c.self.invariant in
     let p : ℕ = c.self.inside.processor in
-    let k : CookieView = c.copy_cookie-copy.new.cookie in
+    let k : CookieView = c.copy_given-copy.new.given in
     let e : Entry g.row.J.Denot = record { job = c.args.job; cookie = k } in
     let a = c.announce-call.ensures in
     let t : SightView = c.cookie_behind-cookie.new.sight in
     let domain = c.requires.domain ∙ ap (λ s. s.domain) (sym c.self.view_is) in
-    let note : GivesCookieBehind c.self.inside.sight c.args.cpu.now c.cookie_behind-cookie.new.self k t = subst (λ (z : CookieView). GivesCookieBehind c.self.inside.sight c.args.cpu.now c.cookie_behind-cookie.new.self z t) (sym c.copy_cookie-copy.ensures.same) c.cookie_behind-cookie.ensures in
+    let note : GivesCookieBehind c.self.inside.sight c.args.cpu.now c.cookie_behind-cookie.new.self k t = subst (λ (z : CookieView). GivesCookieBehind c.self.inside.sight c.args.cpu.now c.cookie_behind-cookie.new.self z t) (sym c.copy_given-copy.ensures.same) c.cookie_behind-cookie.ensures in
     let on : GoesOn c.self.inside.sight t = goes_on_noted _ _ _ _ k domain note in
     let about : IsAboutTo p c.deref.result.now.shared.key e c.announce-call.new.seat.me.0 = record { who = ap (λ m. m.0.who) a.me ∙ v.rests.who; there = subst (λ z. p < z.shared.key.processors) (sym c.deref.ensures) v.rests.there; calling = ap (λ m. m.0.list) a.me; no_batch = ap (λ m. m.0.batch) a.me ∙ v.rests.no_batch } in
     let q = c.add_queued-k.ensures.queues e about in
@@ -127,12 +127,12 @@ pub invariant_of-result : goal.invariant_of-result
 invariant_of-result g c =
     let v = c.self.invariant in
     let p : ℕ = c.self.inside.processor in
-    let k : CookieView = c.copy_cookie-copy.new.cookie in
+    let k : CookieView = c.copy_given-copy.new.given in
     let e : Entry g.row.J.Denot = record { job = c.args.job; cookie = k } in
     let a = c.announce-call.ensures in
     let t : SightView = c.cookie_behind-cookie.new.sight in
     let domain = c.requires.domain ∙ ap (λ s. s.domain) (sym c.self.view_is) in
-    let note : GivesCookieBehind c.self.inside.sight c.args.cpu.now c.cookie_behind-cookie.new.self k t = subst (λ (z : CookieView). GivesCookieBehind c.self.inside.sight c.args.cpu.now c.cookie_behind-cookie.new.self z t) (sym c.copy_cookie-copy.ensures.same) c.cookie_behind-cookie.ensures in
+    let note : GivesCookieBehind c.self.inside.sight c.args.cpu.now c.cookie_behind-cookie.new.self k t = subst (λ (z : CookieView). GivesCookieBehind c.self.inside.sight c.args.cpu.now c.cookie_behind-cookie.new.self z t) (sym c.copy_given-copy.ensures.same) c.cookie_behind-cookie.ensures in
     let on : GoesOn c.self.inside.sight t = goes_on_noted _ _ _ _ k domain note in
     let about : IsAboutTo p c.deref.result.now.shared.key e c.announce-call.new.seat.me.0 = record { who = ap (λ m. m.0.who) a.me ∙ v.rests.who; there = subst (λ z. p < z.shared.key.processors) (sym c.deref.ensures) v.rests.there; calling = ap (λ m. m.0.list) a.me; no_batch = ap (λ m. m.0.batch) a.me ∙ v.rests.no_batch } in
     let q = c.add_queued-k.ensures.queues e about in
@@ -141,8 +141,8 @@ invariant_of-result g c =
     let held : c.add_queued-k.result ≡ queued_in p c.self.inside.seat.me.0.seen = q.own ∙ ap (queued_in p) seen in
     let before = same_queued p q.does.before c.self.inside.seat.me.0.seen own in
     let more = ap (queued_in p) q.does.seen ∙ queued_here p e q.does.before in
-    let r : CookieView = c.copy_cookie-copy.result in
-    let one : k ≡ r = c.copy_cookie-copy.ensures.same ∙ sym c.copy_cookie-copy.ensures.copy in
+    let r : CookieView = c.copy_given-copy.result in
+    let one : k ≡ r = c.copy_given-copy.ensures.same ∙ sym c.copy_given-copy.ensures.copy in
     let table = c.add_queued-k.ensures.placed.seated ∙ ap (λ z. z.shared.table_id) c.deref.ensures in
     let wide = v.placed.wide in
     let there = v.rests.there in
@@ -157,12 +157,12 @@ pub returns : goal.returns
 returns g c =
     let v = c.self.invariant in
     let p : ℕ = c.self.inside.processor in
-    let k : CookieView = c.copy_cookie-copy.new.cookie in
+    let k : CookieView = c.copy_given-copy.new.given in
     let e : Entry g.row.J.Denot = record { job = c.args.job; cookie = k } in
     let a = c.announce-call.ensures in
     let t : SightView = c.cookie_behind-cookie.new.sight in
     let domain = c.requires.domain ∙ ap (λ s. s.domain) (sym c.self.view_is) in
-    let note : GivesCookieBehind c.self.inside.sight c.args.cpu.now c.cookie_behind-cookie.new.self k t = subst (λ (z : CookieView). GivesCookieBehind c.self.inside.sight c.args.cpu.now c.cookie_behind-cookie.new.self z t) (sym c.copy_cookie-copy.ensures.same) c.cookie_behind-cookie.ensures in
+    let note : GivesCookieBehind c.self.inside.sight c.args.cpu.now c.cookie_behind-cookie.new.self k t = subst (λ (z : CookieView). GivesCookieBehind c.self.inside.sight c.args.cpu.now c.cookie_behind-cookie.new.self z t) (sym c.copy_given-copy.ensures.same) c.cookie_behind-cookie.ensures in
     let on : GoesOn c.self.inside.sight t = goes_on_noted _ _ _ _ k domain note in
     let about : IsAboutTo p c.deref.result.now.shared.key e c.announce-call.new.seat.me.0 = record { who = ap (λ m. m.0.who) a.me ∙ v.rests.who; there = subst (λ z. p < z.shared.key.processors) (sym c.deref.ensures) v.rests.there; calling = ap (λ m. m.0.list) a.me; no_batch = ap (λ m. m.0.batch) a.me ∙ v.rests.no_batch } in
     let q = c.add_queued-k.ensures.queues e about in
@@ -171,8 +171,8 @@ returns g c =
     let held : c.add_queued-k.result ≡ queued_in p c.self.inside.seat.me.0.seen = q.own ∙ ap (queued_in p) seen in
     let before = same_queued p q.does.before c.self.inside.seat.me.0.seen own in
     let more = ap (queued_in p) q.does.seen ∙ queued_here p e q.does.before in
-    let r : CookieView = c.copy_cookie-copy.result in
-    let one : k ≡ r = c.copy_cookie-copy.ensures.same ∙ sym c.copy_cookie-copy.ensures.copy in
+    let r : CookieView = c.copy_given-copy.result in
+    let one : k ≡ r = c.copy_given-copy.ensures.same ∙ sym c.copy_given-copy.ensures.copy in
     let over : c.add_queued-k.result < queued_in p c.add_queued-k.new.seat.me.0.seen = omega (arith, more, before, held) in
     rw (c.note.ensures.same, ← c.self.view_is) (record {
       behind = c.self.inside.sight;

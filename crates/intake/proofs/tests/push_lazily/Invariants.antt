@@ -1,0 +1,9 @@
+-- As many were pushed as the count says.
+use Rattle.std.specs.Prelude.{◌≡◌, length, Some}
+use Rattle.intake.proofs.tests.push_lazily.Given as goal
+
+abbrev pub invariant-loop-pushed : goal.invariant-loop-pushed
+invariant-loop-pushed g l = record {
+  key : l.inlet.key ≡ Some 7;
+  pushed : length l.inlet.pushed ≡ l.pushed;
+}
