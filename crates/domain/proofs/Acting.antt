@@ -17,11 +17,11 @@ use Rattle.sections.specs.declared.cpu.NotACookie.{NotACookie}
 use Rattle.sections.specs.Views as sections
 use Rattle.sections.specs.Views.{LookView, ReadingView, CookieView, FoundView}
 use Rattle.sections.specs.Sights.{SightView}
-use Rattle.sections.specs.Sets.{MemberView, polled, PollsOne}
+use Rattle.sections.specs.Sets.{MemberView, polled, PollsOne, brought_by, CatchesUp}
 use Rattle.sections.specs.WriterViews.{WriterView}
 use Rattle.sections.specs.Writers.{PutsSlot}
 use Rattle.sections.specs.Reads.{Finds}
-use Rattle.sections.specs.Calls.{IsSameCpu, Loads, AddsEvent, Begins, LooksAndBegins, LooksInVain, IsExhausted, Enters, GivesCookie, Asks, IsNoCookie, Accepts, Ties}
+use Rattle.sections.specs.Calls.{IsSameCpu, Loads, AddsEvent, Begins, LooksAndBegins, LooksInVain, IsExhausted, Enters, GivesCookie, Asks, IsNoCookie, Accepts, Ties, Hears as HearsCpu}
 use Rattle.funnel.specs.declared.view.Holder.{Holder}
 use Rattle.funnel.specs.declared.view.Holder.TheVariants as holder
 use Rattle.funnel.specs.declared.view.Raise.{Raise}
@@ -44,7 +44,7 @@ use Rattle.calls.specs.declared.view.Deed.{Deed}
 use Rattle.calls.specs.Lines.{Line, with_call, gathered, with_taken, with_none_out, next_line, line_from}
 use Rattle.calls.specs.Tallies.{deed, queued_in, finished_in, deeds_of}
 use Rattle.calls.specs.Views.{CallSeatView, ListKey, CallsView, BatchView, TicketView, ReceiptView}
-use Rattle.calls.specs.Calls.{Does, IsCause, QueuesIn, RefusesIn, TakesIn, TakesNothingIn, FinishesIn, FindsLensIn}
+use Rattle.calls.specs.Calls.{Does, IsCause, QueuesIn, RefusesIn, TakesIn, TakesNothingIn, FinishesIn, LooksAt, LacksRoomIn, FindsLensIn}
 use Rattle.calls.specs.Barriers as barriers
 use Rattle.calls.specs.Barriers.{queued_loads, finished_loads, Hears}
 use Rattle.calls.specs.Meetings.{Covers, SeesOut}
@@ -305,6 +305,14 @@ module _ {J : Type 0} (c c' : CpuView J) (rest : c' ≡ with_cpu c'.cpu c) where
   pub set_acts : (done : Bool) (m m' : MemberView) → PollsOne done m c.cpu m' c'.cpu → MatchOption m.found (ActsAs (asks_whether m.cookie.number done) c c') (λ _. ActsAs loads c c')
   set_acts done m m' h = member_acts (m' ≡ polled done m c'.cpu) (done ≡ true) (m' ≡ m) m.cookie done m.found h
 
+  -- a processor that catches up with a member loads at most
+  brings_acts : (brought : Option SightView) → MatchOption brought (c'.cpu ≡ c.cpu) (λ s. HearsCpu c.cpu s.seen s.changes c'.cpu) → ActsAs loads c c'
+  brings_acts None h = still h
+  brings_acts (Some s) h = loads_once h.looks
+
+  pub catch_acts : {m : MemberView} → CatchesUp m c.cpu c'.cpu → ActsAs loads c c'
+  catch_acts {m} h = brings_acts (brought_by m) h.hears
+
   -- Versions
 
   pub find_acts : {cell : ℕ} {r : ReadingView} {f : FoundView} → Finds cell r c.cpu c'.cpu f → ActsAs (finds r.section cell f) c c'
@@ -338,13 +346,13 @@ module _ {J : Type 0} (c c' : CpuView J) (rest : c' ≡ with_calls c'.calls c) w
   pub out_acts : {b : BatchView J} → SeesOut b c.calls c'.calls → ActsAs loads c c'
   out_acts h = loads_deeds [] (adds_seen h.moment c.calls c'.calls h.covers) nothing_done
 
-  -- one load
-  pub covers_acts : Covers c.calls c.calls.seen c'.calls → ActsAs loads c c'
-  covers_acts h = loads_deeds [] (adds_seen c.calls.seen c.calls c'.calls h) nothing_done
+  -- a queued word is loaded
+  pub looks_acts : {p : ℕ} → LooksAt p c.calls c'.calls → ActsAs loads c c'
+  looks_acts {p} h = loads_deeds (deed c.calls.processor (LoadQueued p h.found) ∷ []) (record { same = h.same; since = h.since; own = h.own }) (record { queued = λ q. refl; finished = λ q. refl; lists = λ q l. refl })
 
-  pub lens_acts : {E : Type 0} (p : ℕ) (r : Result (List ℕ × List ℕ) E) → MatchResult r (λ found. FindsLensIn p c.calls found c'.calls) (λ _. Covers c.calls c.calls.seen c'.calls) → ActsAs loads c c'
-  lens_acts p (Ok found) h = covers_acts h.covers
-  lens_acts p (Err e) h = covers_acts h
+  pub lens_acts : {E : Type 0} (p : ℕ) (r : Result (List ℕ × List ℕ) E) → MatchResult r (λ found. FindsLensIn p c.calls found c'.calls) (λ _. LacksRoomIn p c.calls c'.calls) → ActsAs loads c c'
+  lens_acts p (Ok found) h = looks_acts h.looks
+  lens_acts p (Err e) h = looks_acts h.looks
 
   pub hear_acts : {r : ReceiptView J} → Hears r c.calls c'.calls → ActsAs loads c c'
   hear_acts {r} h = loads_deeds _ (adds_deed (LoadQueued r.processor h.found) c.calls c'.calls h.does) (record { queued = λ q. refl; finished = λ q. refl; lists = λ q l. refl })
@@ -387,8 +395,8 @@ module _ {J : Type 0} (c c' : CpuView J) (rest : c' ≡ with_calls c'.calls (wit
   pub take_acts : (k : CallsView) (processor most : ℕ) (r : Result (Option (BatchView J)) TakeRefusal) → MatchResult r (λ taken. TakesIn k processor most c.cpu c.calls taken c'.cpu c'.calls) (λ refusal. TakesNothingIn processor c.cpu c.calls refusal c'.cpu c'.calls)
       → MatchResult r (λ _. ActsAs (takes c'.cpu.changes processor) c c') (λ _. ActsAs loads c c')
   take_acts k processor most (Ok taken) h = takes_out k processor most taken h
-  take_acts k processor most (Err refused.Invoking) h = covers_acts c c' (with_calls_alone h.cpu) h.covers
-  take_acts k processor most (Err refused.Memory) h = covers_acts c c' (with_calls_alone h.0) h.1
+  take_acts k processor most (Err refused.Invoking) h = looks_acts c c' (with_calls_alone h.cpu) h.looks
+  take_acts k processor most (Err refused.Memory) h = looks_acts c c' (with_calls_alone h.0) h.1.looks
 
 -- The root is loaded
 

@@ -1,6 +1,7 @@
 -- What a turn finds is an engine of the processor's domain, and what its answer says of that domain.
-use Rattle.std.proofs.Common.{◌≡◌, ℕ, Some, None, Ok, Err, sym, ap, ◌∙◌, subst}
+use Rattle.std.proofs.Common.{◌≡◌, ℕ, List, [], ◌∷◌, Some, None, Ok, Err, sym, ap, ◌∙◌, subst}
 use Rattle.std.specs.Prelude.{Option, IfSome, IfOk, MatchOption, Result, MatchResult}
+use Rattle.onedom.specs.declared.event.Event.{Event}
 use Rattle.onedom.specs.Histories.{IsRunning, IsBeginning}
 use Rattle.sections.specs.Views.{EngineView}
 use Rattle.sections.specs.EngineCalls.{IsSameEngine}
@@ -9,13 +10,18 @@ use Rattle.scan.specs.declared.refusals.AdvanceRefusal.{AdvanceRefusal}
 use Rattle.scan.specs.declared.refusals.AdvanceRefusal.TheVariants as advance
 use Rattle.scan.specs.declared.refusals.StartRefusal.{StartRefusal}
 use Rattle.scan.specs.declared.refusals.StartRefusal.TheVariants as start
-use Rattle.scan.specs.Standings.{IsWithin, IsOutOfPeriods}
-use Rattle.scan.specs.Progress.{NeedsLoaded, standing_of, with_needs}
+use Rattle.scan.specs.Standings.{Standing, IsAnswered, IsWithin, IsOutOfPeriods}
+use Rattle.scan.specs.Progress.{Stage, NeedsLoaded, AdvancesThrough, standing_of, with_needs}
 use Rattle.scan.specs.Stations.{IsOfStation, IsWithinLimit}
 use Rattle.funnel.specs.Views.{FunnelView}
 use Rattle.funnel.specs.Calls.{LoadsRoot}
 use Rattle.domain.specs.Views.{Engine, DomainView, CpuView, IsEngineOf, IsOf}
-use Rattle.domain.specs.Turns.{Lends, StepsIn, AdvancesIn, FindsExhaustedIn, IsRefused, StartsIn, IsNotStarted, HasCome, SaysOf, HasStarted, IsOut, SaysWhy, SaysWhyNone}
+use Rattle.domain.specs.Turns.{Lends, StepsIn, AdvancesIn, CarriesOnIn, FindsExhaustedIn, IsRefused, StartsIn, IsNotStarted, HasCome, SaysOf, SaysAtLast, HasStarted, IsOut, SaysWhy, SaysWhyNone}
+
+-- the last of several answers
+last_answered : (ss : List (Stage FunnelView)) (v w : Engine) (a : Progress) → AdvancesThrough LoadsRoot ss v a w → (before : Standing) × (others : List Event) × (need : ℕ) × IsAnswered others need a before (standing_of w)
+last_answered [] v w a h = (standing_of v, h.goes_on.others, h.needs.need, h.answered)
+last_answered (s ∷ ss) v w a h = last_answered ss s.engine w a h.2
 
 module _ {J : Type 0} (d : DomainView) (c : CpuView J) (is : IsOf d c) where
   -- one that is like the engine that lay there first is of the domain too
@@ -88,6 +94,17 @@ module _ {J : Type 0} (d : DomainView) (c : CpuView J) (is : IsOf d c) where
       load = loaded h.worked h.found h.needs h.works.needs;
     }
     says_advanced (Err refusal) h = why refusal h
+
+    pub says_carried : (r : Result Progress AdvanceRefusal) → MatchResult r (λ a. CarriesOnIn c a c') (λ refusal. IsRefused c refusal c') → MatchResult r (λ a. SaysAtLast d a c') (λ refusal. SaysWhy d refusal c c')
+    says_carried (Ok a) h = let last = last_answered h.works.stages _ h.worked a h.works.through in record {
+      before = last.0;
+      at = standing_of h.worked;
+      here = has_come _ c' h h.works.same;
+      others = last.1;
+      need = last.2;
+      answered = last.3;
+    }
+    says_carried (Err refusal) h = why refusal h
 
     -- the engine started none, and did nothing
     still_there : (worked found : Engine) → worked ≡ with_needs c.needs found → IsSameEngine found.seat worked.seat

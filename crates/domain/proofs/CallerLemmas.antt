@@ -20,7 +20,7 @@ pub use Rattle.domain.proofs.Starting.{IsReady, new_ones_are_ready}
 -- The processor is the same
 
 -- behind each call that drives the engine, whatever its answer
-pub use Rattle.domain.proofs.Sameness.{same_stepped_in, same_advanced_in, same_started_in}
+pub use Rattle.domain.proofs.Sameness.{same_stepped_in, same_advanced_in, same_carried_in, same_started_in}
 -- behind `start_poll`, and behind `need`
 pub use Rattle.domain.proofs.Sameness.{same_asked, same_need}
 -- behind a call at its seat at the domain's words, as `take_ready`, and at its seat at the tally words, as `finish`
@@ -44,12 +44,18 @@ pub use Rattle.domain.proofs.Polling.{none_at_tallies}
 
 -- the writers of a new domain are of it, each of one of its cells
 pub use Rattle.domain.proofs.Founding.{writers_here}
--- a word is loaded, a version found or put, slots are reclaimed: the same sections are open as before
-pub use Rattle.domain.proofs.Unopened.{SameOpen, same_loaded, same_found, same_put, same_reclaimed}
+-- a word or all words are loaded, a version found or put, slots are reclaimed: the same sections are open as before
+pub use Rattle.domain.proofs.Unopened.{SameOpen, same_loaded, same_all_loaded, same_found, same_put, same_reclaimed}
 -- what a call adds, where it begins and ends none: the same sections are open as before
 pub use Rattle.domain.proofs.Unopened.{same_quiet, same_plain}
 -- where none was open, none is
 pub use Rattle.domain.proofs.Unopened.{none_still}
+-- a section that begins: the processor is the same, also where none could begin, and the section is of it as long as that is so
+pub use Rattle.domain.proofs.Enclosed.{same_begun, same_locked, begun_here, still_here}
+-- where a reading ends behind its beginning, those are open that were before
+pub use Rattle.domain.proofs.Enclosed.{closed_again}
+-- no reading is open behind one that began and ended, where a held section begins, where any section ends, and where none could begin
+pub use Rattle.domain.proofs.Enclosed.{none_enclosed, none_held, none_ended, none_looked}
 -- What a call adds
 
 -- a seat at the tree that is as it was, and one that loaded twice

@@ -3,6 +3,7 @@ mod Answering
 mod Counted
 mod Counting
 mod Covering
+mod Enclosed
 mod Filling
 mod Founding
 mod Gathering

@@ -14,6 +14,7 @@ module _ {J : Type 0} (c c' : CpuView J) (rest : c' ≡ with_cpu c'.cpu c) where
     words_are = h.words_are;
     same = h.same;
     mine = h.mine;
+    steps = h.steps;
     since = h.since;
     later = h.later;
     texts = h.texts_since;

@@ -15,6 +15,7 @@ use Rattle.sections.specs.Reads.{Finds}
 use Rattle.sections.specs.WriterViews.{WriterView}
 use Rattle.sections.specs.Writers.{PutsSlot, Reclaims, question, questions, standing_of}
 use Rattle.domain.specs.Views.{CpuView}
+use Rattle.domain.specs.Reading.{LoadsAll}
 use Rattle.domain.specs.Waiting.{HasNoneOpen}
 use Rattle.domain.specs.Acting.{Act, Acts}
 use Rattle.domain.proofs.Synchronizing.{none_open}
@@ -50,6 +51,10 @@ pub same_reclaimed : (w w' : WriterView) (c c' : sections.CpuView) → Reclaims 
 same_reclaimed w w' c c' h = ap open_sections h.mine ∙ asked_all c.processor h.done w w.slots c.mine
 
 module _ {J : Type 0} where
+  -- all words of a version are loaded
+  pub same_all_loaded : {r : ReadingView} {f : FoundView} {words : List ℕ} (c c' : CpuView J) → LoadsAll r f words c c' → SameOpen c.cpu c'.cpu
+  same_all_loaded c c' h = ap open_sections h.mine
+
   -- where none was open, none is
   pub none_still : (c c' : CpuView J) → SameOpen c.cpu c'.cpu → HasNoneOpen c → HasNoneOpen c'
   none_still c c' same none = none_open c c' none same

@@ -1,10 +1,10 @@
 -- What is read of a version in one section, all of it at once.
-use Rattle.std.specs.Prelude.{◌≡◌, ℕ, ◌≤◌, List}
+use Rattle.std.specs.Prelude.{◌≡◌, ℕ, ◌≤◌, List, ◌++◌}
 use Rattle.onedom.specs.Histories.{IsBeginning}
 use Rattle.sections.specs.Shelves.{IsStart}
 use Rattle.sections.specs.Views.{ReadingView, FoundView}
 use Rattle.sections.specs.Calls.{IsSameCpu, IsSeenBy}
-use Rattle.sections.specs.Reads.{AreWords}
+use Rattle.sections.specs.Reads.{AreWords, word_loads}
 use Rattle.domain.specs.Views.{CpuView, with_cpu}
 use Rattle.domain.specs.Acting as doing
 use Rattle.domain.specs.Acting.{ActsAs}
@@ -18,11 +18,12 @@ module _ {J : Type 0} where
     pub texts : IsStart f.texts c.cpu.texts
     pub history : IsSeenBy c.cpu
 
-  -- the sixteen words were loaded in the section that found the version, and nothing was done; what is then seen goes on from what was seen before
+  -- the sixteen words were loaded one after the other in the section that found the version, and nothing else was done; what is then seen goes on from what was seen before
   pub record LoadsAll (r : ReadingView) (f : FoundView) (words : List ℕ) (c c' : CpuView J) : Type 0 where
     pub words_are : AreWords f words
     pub same : IsSameCpu c.cpu c'.cpu
     pub mine : c'.cpu.mine ≡ c.cpu.mine
+    pub steps : c'.cpu.steps ≡ c.cpu.steps ++ word_loads f.cell f.version 0 words
     pub since : IsBeginning c.cpu.seen c'.cpu.seen
     pub later : c.cpu.changes ≤ c'.cpu.changes
     pub texts : IsStart c.cpu.texts c'.cpu.texts

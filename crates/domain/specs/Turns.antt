@@ -88,6 +88,15 @@ module _ {J : Type 0} where
     pub answered : IsAnswered others need a before at
     pub load : ¬ IsRunning before.history → before.so_far ≡ 0 → LoadsRoot c.needs need c'.needs
 
+  -- the same of the last of several answers, before which the need may have been loaded
+  pub record SaysAtLast (d : DomainView) (a : Progress) (c' : CpuView J) : Type 0 where
+    pub before : Standing
+    pub at : Standing
+    pub here : HasCome d at c'
+    pub others : List Event
+    pub need : ℕ
+    pub answered : IsAnswered others need a before at
+
   -- it came there by the start of a grace period, asked for or not, behind these events of others, and n is the number then
   pub record HasStarted (d : DomainView) (n : ℕ) (c : CpuView J) : Type 0 where
     pub before : Standing

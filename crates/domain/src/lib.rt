@@ -17,7 +17,7 @@ pub use publishing::{claim, publish};
 pub use scan::refusals::{AdvanceRefusal, StartRefusal};
 pub use scan::{Exhausted as PeriodsExhausted, Progress};
 pub use sections::{
-    Cookie, DownPin, Exhausted, Found, Held, HeldPin, Home, Limits, Look, MOST_MEMBERS,
+    Cookie, DownPin, Exhausted, Found, Given, Held, HeldPin, Home, Limits, Look, MOST_MEMBERS,
     MOST_PROCESSORS, MakeError, NotACookie, Pin, Reading, SetFull, Slot, Standing,
 };
 pub use set::CookieSet;

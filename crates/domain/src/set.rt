@@ -1,6 +1,7 @@
 //! Several cookies at once, lent processors of their domains.
 ghost use Rattle.std.specs.Prelude.{◌≡◌, ◌<◌, ◌≤◌, ◌↔◌, [], ◌∷◌, ◌++◌, length, All, IsTrue, MatchOption, MatchResult};
-ghost use Rattle.sections.specs.Sets.{unfound, cookies_of, IsPlacedIn, member_at, IsDoneThere, PollsMember};
+ghost use Rattle.std.specs.List.{list_all};
+ghost use Rattle.sections.specs.Sets.{unfound, cookies_of, IsPlacedIn, member_at, is_found, IsDoneThere, PollsMember, CatchesUp};
 ghost use Rattle.domain.specs.Views.{Stays, with_cpu};
 ghost use Rattle.domain.specs.Acting.{loads, asks_whether, ActsAs};
 
@@ -68,10 +69,25 @@ impl CookieSet {
         self.set.poll_member(place, &mut cpu.cpu)
     }
 
+    /// Shows a processor what was seen when the cookie at this place was found done. The processor then knows that every
+    /// section is closed that was open when the cookie was given. It loads at most. A cookie that was not found done
+    /// shows nothing, and neither does the completed one.
+    pub fn catch_up<J, A: Allocator>(&mut self, place: usize, cpu: &mut Cpu<J, A>)
+        requires { IsPlacedIn cpu.old.cpu.domain place (cookies_of self.old) }
+        ensures catches { CatchesUp (member_at place self.old) cpu.old.cpu cpu.new.cpu }
+        ensures set { self.new ≡ self.old }
+        ensures rest { cpu.new ≡ with_cpu cpu.new.cpu cpu.old }
+        ensures stays { Stays cpu.old cpu.new }
+        ensures acts { ActsAs loads cpu.old cpu.new }
+    {
+        self.set.catch_up(place, &mut cpu.cpu);
+    }
+
     /// Whether each cookie was found done. Then, for each of them, somebody has asked after its number in its own domain
     /// since it was given, and was told so; and no section is open there that was open when it was given.
     pub fn done(&self) -> bool
-        ensures { IsTrue result ↔ All IsDoneThere self.now }
+        ensures found { result ≡ list_all is_found self.now }
+        ensures done { IsTrue result ↔ All IsDoneThere self.now }
     {
         self.set.done()
     }

@@ -1,8 +1,8 @@
 //! Callbacks: a job is queued on a processor, and given out after a full grace period.
 ghost use Rattle.std.specs.Prelude.{◌≡◌, ◌<◌, All, IfOk, IfSome, MatchResult};
 ghost use Rattle.sections.specs.Calls.{IsSameCpu, AllClosed};
-ghost use Rattle.calls.specs.Meetings.{Covers, SeesOut};
-ghost use Rattle.calls.specs.Calls.{IsSameSeat, IsOfProcessor, TakesIn, TakesNothingIn, AreHanded, FinishesIn, FindsLensIn};
+ghost use Rattle.calls.specs.Meetings.{SeesOut};
+ghost use Rattle.calls.specs.Calls.{IsSameSeat, IsOfProcessor, TakesIn, TakesNothingIn, AreHanded, FinishesIn, LacksRoomIn, FindsLensIn};
 ghost use Rattle.domain.specs.Views.{IsOf, IsSameProcessor, callbacks_of, with_cpu, with_calls};
 ghost use Rattle.domain.specs.Calling.{CallsIn, RefusesCall, MayFinish};
 ghost use Rattle.domain.specs.Acting.{loads, takes, asks_for, finishes, ActsAs, QueuesNone};
@@ -103,7 +103,7 @@ impl<J: Drop, A: Allocator + Copy> Domain<J, A> {
         ensures here { IsOf self.now cpu.new }
         ensures found { MatchResult result
             (λ found. FindsLensIn processor cpu.old.calls found cpu.new.calls)
-            (λ _. Covers cpu.old.calls cpu.old.calls.seen cpu.new.calls) }
+            (λ _. LacksRoomIn processor cpu.old.calls cpu.new.calls) }
         ensures acts { ActsAs loads cpu.old cpu.new }
         ensures same { IsSameSeat cpu.old.calls cpu.new.calls }
         ensures rest { cpu.new ≡ with_calls cpu.new.calls cpu.old }

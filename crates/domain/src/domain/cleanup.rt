@@ -76,10 +76,15 @@ fn judge(totals: Totals, number: Number) -> Result<Totals, InUse>
     Ok(totals)
 }
 
-/// Whether the processor of this number is among these.
-fn is_among<J, A: Allocator>(cpus: &[Cpu<J, A>], processor: u16) -> bool
+/// Whether the processor of this number is among these. It is looked for at this place first.
+fn is_among<J, A: Allocator>(cpus: &[Cpu<J, A>], place: usize, processor: u16) -> bool
     ensures { result ≡ is_there processor cpus.now }
 {
+    if let Some(cpu) = cpus.get(place) {
+        if cpu.processor() == processor {
+            return true;
+        }
+    }
     cpus.iter().any(|cpu| cpu.processor() == processor)
 }
 
@@ -91,7 +96,9 @@ impl<J, A: Allocator> Domain<J, A> {
     {
         let mut missing = 0;
         for processor in 0..self.processors {
-            if !is_among(cpus, processor) {
+            // Where they are in order, as mostly, those below it that are not missing stand before it.
+            let place = usize::from(processor - missing);
+            if !is_among(cpus, place, processor) {
                 missing += 1;
             }
         }

@@ -2,7 +2,7 @@
 ghost use Rattle.std.specs.Prelude.{IfOk, MatchResult};
 ghost use Rattle.scan.specs.Standings.{IsWithin};
 ghost use Rattle.domain.specs.Views.{IsOf};
-ghost use Rattle.domain.specs.Turns.{StepsIn, AdvancesIn, IsRefused, StartsIn, IsNotStarted, SaysOf, HasStarted, SaysWhy, SaysWhyNone};
+ghost use Rattle.domain.specs.Turns.{StepsIn, AdvancesIn, CarriesOnIn, IsRefused, StartsIn, IsNotStarted, SaysOf, SaysAtLast, HasStarted, SaysWhy, SaysWhyNone};
 
 use crate::cpu::Cpu;
 use crate::domain::Domain;
@@ -38,6 +38,21 @@ impl<J, A: Allocator> Domain<J, A> {
     {
         cpu.turn
             .advance(&self.station, &mut cpu.cpu, &mut cpu.needs)
+    }
+
+    /// Drives grace periods for one turn (`process_srcu`): the engine goes on from answer to answer until it has ended a
+    /// period, waits for a section, or has nothing to do, so the answer is `Ended`, `Waiting` or `Idle`. It is out
+    /// meanwhile, and is tied and put back once: a quiet period costs two swaps, and not two for each answer. After the end
+    /// of a period it is put back, since that may be what another call waits for. Refusals are as for [`Domain::advance`].
+    pub fn drive(&self, cpu: &mut Cpu<J, A>) -> Result<Progress, AdvanceRefusal>
+        requires { IsOf self.now cpu.old }
+        ensures here { IsOf self.now cpu.new }
+        ensures drives { MatchResult result (λ answer. CarriesOnIn cpu.old answer cpu.new) (λ refusal. IsRefused cpu.old refusal cpu.new) }
+        ensures says { MatchResult result (λ answer. SaysAtLast self.now answer cpu.new) (λ refusal. SaysWhy self.now refusal cpu.old cpu.new) }
+        ensures within { IfOk result (λ answer. IsWithin self.now.periods answer) }
+    {
+        cpu.turn
+            .carry_on(&self.station, &mut cpu.cpu, &mut cpu.needs)
     }
 
     /// Starts a grace period, whether it is asked for or not, and answers the number from then on (`srcu_gp_start`). The

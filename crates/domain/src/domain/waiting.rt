@@ -1,7 +1,7 @@
 //! Waiting for a grace period.
 ghost use Rattle.std.specs.Prelude.{IfOk, MatchResult};
 ghost use Rattle.domain.specs.Views.{IsOf, IsSameProcessor};
-ghost use Rattle.domain.specs.Turns.{CarriesOnIn, FindsExhaustedIn, IsRefused};
+ghost use Rattle.domain.specs.Turns.{FindsExhaustedIn};
 ghost use Rattle.domain.specs.Waiting.{HasNoneOpen, Turns, Synchronizes, WaitsInVain, WaitedFor};
 
 use crate::cpu::Cpu;
@@ -24,26 +24,13 @@ fn give_way<R: Wait>(rt: &R, pause: &mut Pause, turn: Option<Progress>) {
 }
 
 impl<J, A: Allocator> Domain<J, A> {
-    /// Has the engine go on from answer to answer until it has ended a period, waits for a section, or has nothing to do.
-    /// It is out meanwhile, and is tied and put back once: a quiet period costs two swaps, and not two for each answer.
-    /// Behind the end of a period it is put back, since that may be what this call waits for. Else it is as
-    /// [`Domain::advance`].
-    fn carry_on(&self, cpu: &mut Cpu<J, A>) -> Result<Progress, AdvanceRefusal>
-        requires { IsOf self.now cpu.old }
-        ensures here { IsOf self.now cpu.new }
-        ensures carries { MatchResult result (λ answer. CarriesOnIn cpu.old answer cpu.new) (λ refusal. IsRefused cpu.old refusal cpu.new) }
-    {
-        cpu.turn
-            .carry_on(&self.station, &mut cpu.cpu, &mut cpu.needs)
-    }
-
     /// One turn with the engine, and its last answer. `None` where another call has it.
     fn turn(&self, cpu: &mut Cpu<J, A>) -> Result<Option<Progress>, Exhausted>
         requires { IsOf self.now cpu.old }
         ensures here { IsOf self.now cpu.new }
         ensures turns { MatchResult result (λ turn. Turns turn cpu.old cpu.new) (λ _. FindsExhaustedIn cpu.old cpu.new) }
     {
-        match self.carry_on(cpu) {
+        match self.drive(cpu) {
             Ok(answer) => Ok(Some(answer)),
             Err(AdvanceRefusal::Busy) => Ok(None),
             Err(AdvanceRefusal::Exhausted) => Err(Exhausted),

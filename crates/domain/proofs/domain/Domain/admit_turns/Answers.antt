@@ -1,8 +1,9 @@
-use Rattle.std.proofs.Common.{refl, sym, ap, ◌∙◌, ◌≡◌, arith}
+use Rattle.std.proofs.Common.{refl, sym, ap, ◌∙◌, ◌≡◌, ◌<◌, length, subst, arith}
 use Rattle.desk.specs.Swaps as swaps
 use Rattle.desk.specs.BayViews.{BaySeatView}
+use Rattle.desk.specs.BayCalls.{Accepts}
 use Rattle.domain.specs.Views.{Engine, CpuView, DomainView}
-use Rattle.domain.proofs.Rows.{goes_none, item_has}
+use Rattle.domain.proofs.Rows.{goes_none, goes_next, item_has}
 use Rattle.domain.proofs.domain.Domain.admit_turns.Goals as goal
 
 pub loop-other-init : goal.loop-other-init
@@ -24,3 +25,19 @@ admit_seat-requires-clause-covered g c =
     let inside = c.loop-other-test.true in
     let long = c.loop-other.auto.others in
     rw (v.turn) (item_has _ (λ (z : CpuView _). swaps.IsBeginning z.turn.seen c.args.turn.now.seen) _ _ _ _ _ v.goes (omega (arith, inside, long)) c.other.view_is c.requires.covered)
+
+pub loop-other-preserved : goal.loop-other-preserved
+loop-other-preserved g c =
+    let v = c.loop-other.invariant in
+    let at = c.loop-other-test.true in
+    let long = c.loop-other.auto.others in
+    let inside : c.loop-other.other-index < length c.loop-other.others = omega (arith, at, long) in
+    record {
+      turn = c.admit_seat.ensures.stays ∙ v.turn;
+      goes = goes_next _ _ _ _ _ _ _ v.goes inside c.other.view_is (record {
+        cpu = refl;
+        needs = refl;
+        turn = subst (λ (z : BaySeatView Engine). Accepts c.other.inside.turn z.seen c.admit_seat.new.other) v.turn c.admit_seat.ensures.accepts;
+        calls = refl;
+      });
+    }

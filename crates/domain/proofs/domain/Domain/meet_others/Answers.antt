@@ -1,8 +1,10 @@
 use Rattle.std.proofs.Common.{◌≡◌, ℕ, ◌≤◌, List, ◌∷◌, ap, sym, ◌∙◌, subst, Some, None}
+use Rattle.onedom.specs.Histories as events
 use Rattle.sections.specs.declared.view.Shown.TheVariants.{To}
 use Rattle.sections.specs.Views as sections
 use Rattle.sections.specs.Calls as calls
 use Rattle.funnel.specs.Views.{FunnelView}
+use Rattle.funnel.specs.Histories as tree
 use Rattle.desk.specs.BayViews.{BaySeatView}
 use Rattle.desk.specs.BayCalls.{MakesSwap}
 use Rattle.scan.specs.Progress.{with_seat}
@@ -51,6 +53,16 @@ admit_all-requires-clause-domain g c =
     let h = c.cover_all.ensures in
     subst (λ (z : Engine × List (CpuView _)). Each (λ x. (x.cpu.domain ≡ z.0.seat.domain) × (x.needs.domain ≡ c.cover_all.new.needs.domain)) z.1) (λ i. (sym c.admit.ensures.engine i, sym h.others i))
     (others_here _ _ _ all _ _ c.take_at_once-engine.ensures.takes c.take_at_once-engine.ensures.takes.domain c.cover.new.self _ _ c.cover.ensures.engine c.root_need.ensures c.cover_all.new.engine _ _ h.engine h.needs h.turn)
+
+pub admit_all-requires-clause-events : goal.admit_all-requires-clause-events
+admit_all-requires-clause-events g c =
+    let h = c.cover_all.ensures in
+    subst (λ (z : Engine × List (CpuView _)). Each (λ x. events.IsBeginning x.cpu.seen z.0.seat.seen × (x.cpu.changes ≤ z.0.seat.changes)) z.1) (λ i. (sym c.admit.ensures.engine i, sym h.others i)) h.engine.covers
+
+pub admit_all-requires-clause-raises : goal.admit_all-requires-clause-raises
+admit_all-requires-clause-raises g c =
+    let h = c.cover_all.ensures in
+    subst (λ (l : List (CpuView _)). Each (λ x. tree.IsBeginning x.needs.seen c.cover_all.new.needs.seen) l) (sym h.others) h.needs.covers
 
 pub put-requires-clause-station : goal.put-requires-clause-station
 put-requires-clause-station g c =
