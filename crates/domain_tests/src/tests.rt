@@ -2,5 +2,8 @@ mod alone;
 mod barriers;
 mod calling;
 mod cleanup;
+mod driving;
 mod jobs;
+mod sets;
 mod threads;
+mod versions;

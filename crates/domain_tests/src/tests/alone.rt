@@ -5,7 +5,7 @@ ghost use Rattle.domain.specs.Meetings.{IsAllOf};
 ghost use Rattle.domain.specs.Waiting.{HasNoneOpen};
 
 use super::calling::{Answer, HeldUp, held_up, hold_up};
-use domain::{Cpu, Domain, Limits, MakeError, Number, PeriodsExhausted, StartRefusal};
+use domain::{CookieSet, Cpu, Domain, Limits, MakeError, Number, PeriodsExhausted, StartRefusal};
 use linked_list_allocator::LocalHeap;
 use std::alloc::Global;
 use std::sync::Wait;
@@ -155,6 +155,37 @@ fn synchronizes_alone(rt: HostRuntime) -> Result<(), Fail> {
         (waited, last),
         (Some((answers, numbers, [false, true])), 8)
     );
+    Ok(())
+}
+
+/// Polls a cookie of a set before a grace period and after it, and shows the reader what that found. Tells both answers,
+/// and whether the set is done.
+fn find_for_another<R: Wait>(
+    rt: &R,
+    domain: &Domain<()>,
+    reader: &mut Cpu<()>,
+    updater: &mut Cpu<()>,
+) -> [bool; 3]
+    requires reader { IsOf domain.now reader.old }
+    requires updater { IsOf domain.now updater.old × HasNoneOpen updater.old }
+{
+    let mut set = CookieSet::new();
+    let Ok(place) = set.add(updater.cookie()) else {
+        unreachable!()
+    };
+    let early = set.poll_member(place, updater);
+    let driven = domain.synchronize(rt, updater).is_ok();
+    let late = set.poll_member(place, updater);
+    set.catch_up(place, reader);
+    [early, driven && late, set.done()]
+}
+
+/// Would catch a set that is done too soon or never.
+#[test]
+fn finds_for_another(rt: HostRuntime) -> Result<(), Fail> {
+    let (domain, mut reader, mut updater) = last_two(rt.alloc(), 2, AMPLE)?;
+    let told = find_for_another(&rt, &domain, &mut reader, &mut updater);
+    assert_eq!(rt; told, [false, true, true]);
     Ok(())
 }
 

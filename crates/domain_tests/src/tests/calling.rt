@@ -113,11 +113,12 @@ fn queue_until_refused<R: Wait, A: Allocator + Copy>(
 }
 
 /// Would catch a refused job that is lost or that stays queued, one for which a grace period is asked, and a domain that
-/// takes no more jobs behind it. Memory is asked for once for many jobs, so some are queued before.
+/// takes no more jobs after it. The first job takes memory for many, so some are queued where there is no more.
 #[test]
 fn gives_the_job_back(rt: HostRuntime) -> Result<(), Fail> {
     let heap = LocalHeap::new(rt.alloc(), 64 * 1024)?;
     let (domain, mut cpu) = single(&heap)?;
+    let before = domain.call(&rt, &mut cpu, 0).is_ok();
     let full = stuff(rt.alloc(), &heap)?;
     let (many, first) = queue_until_refused(&rt, &domain, &mut cpu);
     let _period = drive(&domain, &mut cpu);
@@ -131,10 +132,12 @@ fn gives_the_job_back(rt: HostRuntime) -> Result<(), Fail> {
     let then = (domain.need(&mut cpu).get(), domain.lens(&rt, &mut cpu, 0));
     drop(domain);
     drop(cpu);
+    let all = many.wrapping_add(1);
+    assert!(rt; before && many > 0);
     assert_eq!(rt; first, Some((many, CallRefusal::Memory)));
     assert_eq!(rt; again, Some((777, CallRefusal::Memory)));
-    assert_eq!(rt; (need, queued), (4, Some(many)));
-    assert_eq!(rt; then, (8, Ok(([0, many as usize, 1, 0], [4, 8]))));
+    assert_eq!(rt; (need, queued), (4, Some(all)));
+    assert_eq!(rt; then, (8, Ok(([0, all as usize, 1, 0], [4, 8]))));
     assert_eq!(rt; heap.used(), 0);
     Ok(())
 }

@@ -97,6 +97,30 @@ fn one_of_three_is_missing(rt: HostRuntime) -> Result<(), Fail> {
     Ok(())
 }
 
+/// Hands in the last two of four processors, and then all of another domain, each time the last one first.
+fn hand_in_from_the_last<R: Abort + AllocGlobal>(rt: &R) -> Result<(InUse, Totals), MakeError> {
+    let (domain, other, last) = last_two(rt.alloc(), 4)?;
+    let (cause, _, _, _) = refused(rt, rt.alloc(), domain, last, other);
+    let (domain, other, last) = last_two(rt.alloc(), 2)?;
+    let totals = taken_down(rt, rt.alloc(), domain, last, other);
+    Ok((cause, totals))
+}
+
+/// Would catch a cleanup that looks for a processor only at the place that it has where all are handed in in order.
+#[test]
+fn any_order_will_do(rt: HostRuntime) -> Result<(), Fail> {
+    let (cause, totals) = hand_in_from_the_last(&rt)?;
+    let nothing = Totals {
+        opened: 0,
+        closed: 0,
+        queued: 0,
+        finished: 0,
+        periods: 0,
+    };
+    assert_eq!(rt; (cause, totals), (InUse::Missing(2), nothing));
+    Ok(())
+}
+
 /// Hands in both processors while a section is held, and once it is closed.
 fn hand_in_with_a_section<R: Abort + AllocGlobal>(rt: &R) -> Result<(InUse, Totals), MakeError> {
     let (domain, mut first, second) = last_two(rt.alloc(), 2)?;
@@ -143,5 +167,32 @@ fn drops_what_waits(rt: HostRuntime) -> Result<(), Fail> {
     assert!(rt; ready && waiting);
     assert_eq!(rt; period[2], Ok(Progress::Ended(number(4))));
     assert_eq!(rt; (before, Arc::strong_count(&counted)), (3, 1));
+    Ok(())
+}
+
+/// Would catch a text that is another cause's, and a count that isn't told.
+#[test]
+fn texts_of_causes(rt: HostRuntime) -> Result<(), Fail> {
+    let one = format!(in rt.alloc();
+        "{}; {}; {}; {}",
+        InUse::Missing(1),
+        InUse::Sections(1),
+        InUse::Callbacks(1),
+        InUse::Period
+    )?;
+    assert_eq!(rt;
+        one.as_str(),
+        "1 processor was not handed in; 1 section is open; 1 callback is not finished; a grace period runs"
+    );
+    let more = format!(in rt.alloc();
+        "{}; {}; {}",
+        InUse::Missing(2),
+        InUse::Sections(3),
+        InUse::Callbacks(4)
+    )?;
+    assert_eq!(rt;
+        more.as_str(),
+        "2 processors were not handed in; 3 sections are open; 4 callbacks are not finished"
+    );
     Ok(())
 }

@@ -1,0 +1,107 @@
+//! Cookies in a set: of two domains, completed ones, too many, and one of a domain that is gone.
+ghost use Rattle.std.specs.Prelude.{IfOk};
+ghost use Rattle.sections.specs.Sets.{IsPlacedIn, cookies_of};
+ghost use Rattle.domain.specs.Views.{IsOf};
+
+use super::calling::drive;
+use domain::{Cookie, CookieSet, Cpu, Domain, Limits, MakeError};
+use std::alloc::Global;
+use std::test::Fail;
+
+const LIMITS: Limits = Limits {
+    sections: Limits::MOST_SECTIONS,
+    periods: Limits::MOST_PERIODS,
+    cells: 0,
+    slots: 2,
+};
+
+/// A new domain and its processor.
+fn single(alloc: Global) -> Result<(Domain<()>, Cpu<()>), MakeError>
+    ensures { IfOk result (λ r. IsOf r.0 r.1) }
+{
+    let (domain, mut cpus, _) = Domain::<()>::new(alloc, 1, LIMITS)?;
+    let cpu = cpus.pop().unwrap();
+    Ok((domain, cpu))
+}
+
+/// What is told of both members, each asked after in its own domain, and whether the set is done.
+fn poll_both(set: &mut CookieSet, web: &mut Cpu<()>, db: &mut Cpu<()>) -> [bool; 3]
+    requires web { IsPlacedIn web.old.cpu.domain 0 (cookies_of set.old) }
+    requires db { IsPlacedIn db.old.cpu.domain 1 (cookies_of set.old) }
+{
+    let first = set.poll_member(0, web);
+    let second = set.poll_member(1, db);
+    [first, second, set.done()]
+}
+
+/// The same before both periods, after the first domain's, and after both.
+fn poll_thrice(alloc: Global) -> Result<[[bool; 3]; 3], MakeError> {
+    let (web, mut web_cpu) = single(alloc)?;
+    let (db, mut db_cpu) = single(alloc)?;
+    let mut set = CookieSet::new();
+    let _ = set.add(web.start_poll(&mut web_cpu));
+    let _ = set.add(db.start_poll(&mut db_cpu));
+    let early = poll_both(&mut set, &mut web_cpu, &mut db_cpu);
+    let _ = drive(&web, &mut web_cpu);
+    let between = poll_both(&mut set, &mut web_cpu, &mut db_cpu);
+    let _ = drive(&db, &mut db_cpu);
+    let late = poll_both(&mut set, &mut web_cpu, &mut db_cpu);
+    Ok([early, between, late])
+}
+
+/// Would catch a set that is done after one of its members, a member that is asked after in another domain, and one that is
+/// no longer done when it is asked after again.
+#[test]
+fn of_two_domains(rt: HostRuntime) -> Result<(), Fail> {
+    let polls = [
+        [false, false, false],
+        [true, false, false],
+        [true, true, true],
+    ];
+    assert_eq!(rt; poll_thrice(rt.alloc())?, polls);
+    Ok(())
+}
+
+/// Would catch a set that takes seven or nine, loses the cookie that it refuses, or is done before it has asked.
+#[test]
+fn eight_completed_ones(rt: HostRuntime) -> Result<(), Fail> {
+    let (_domain, mut cpu) = single(rt.alloc())?;
+    let mut set = CookieSet::new();
+    assert!(rt; set.done());
+    for place in 0..8 {
+        assert_eq!(rt; set.add(Cookie::completed()).ok(), Some(place));
+    }
+    let Err((refused, _)) = set.add(Cookie::completed()) else {
+        panic!(rt; "there is no room");
+    };
+    assert!(rt; refused.is_completed() && set.len() == 8 && !set.done());
+    for place in 0..8 {
+        assert!(rt; set.poll_member(place, &mut cpu));
+    }
+    assert!(rt; set.done());
+    Ok(())
+}
+
+/// Whether a set is done whose members' domain is taken down, where each was found done and where none was; and whether the
+/// domain went.
+fn outlives(alloc: Global, is_asked: bool) -> Result<(bool, bool), Fail> {
+    let (domain, mut cpu) = single(alloc)?;
+    let mut set = CookieSet::new();
+    let _ = set.add(domain.start_poll(&mut cpu));
+    let _ = drive(&domain, &mut cpu);
+    if is_asked {
+        set.poll_member(0, &mut cpu);
+    }
+    let mut cpus = Vec::with_capacity(alloc, 1)?;
+    cpus.push_reserved(cpu);
+    let is_gone = domain.cleanup(cpus).is_ok();
+    Ok((is_gone, set.done()))
+}
+
+/// Would catch a set that forgets what it found with the domain, and one that takes a domain that is gone for a done member.
+#[test]
+fn outlives_its_domain(rt: HostRuntime) -> Result<(), Fail> {
+    assert_eq!(rt; outlives(rt.alloc(), true)?, (true, true));
+    assert_eq!(rt; outlives(rt.alloc(), false)?, (true, false));
+    Ok(())
+}
