@@ -1,108 +1,23 @@
--- A section that begins and ends, and calls that open no reading: the same ones are open as before.
-use Rattle.std.proofs.Common.{◌≡◌, ℕ, ◌+◌, Bool, true, false, not, cond, ◌&&◌, eqb, List, [], ◌∷◌, ◌++◌, None, filter, length, refl, sym, ap, ◌∙◌, subst, eq-eqb, append-nil, arith}
+-- Work in a section, and calls that open no reading: the same ones are open as before.
+use Rattle.std.proofs.Common.{◌≡◌, ℕ, Bool, false, not, List, [], ◌∷◌, ◌++◌, None, filter, length, refl, sym, ap, ◌∙◌, subst, append-nil}
 use Rattle.std.specs.Prelude.{Option, Some, MatchOption}
-use Rattle.std.proofs.lemmas.List.Elements.{filter_agree}
 use Rattle.onedom.specs.declared.event.Maker.TheVariants.{Processor}
 use Rattle.onedom.specs.declared.event.Event.{Event}
-use Rattle.onedom.specs.declared.event.Event.TheVariants.{Begin}
-use Rattle.onedom.specs.Histories.{ends, ends_of, made_by, section_begun, open_sections}
-use Rattle.onedom.specs.Laws.{times}
-use Rattle.onedom.proofs.CallerLemmas.{bit, let_in, kept_out, no_ends, begins_of_made, ends_of_made, times_cons, times_kept, times_open_le, filter_twice, open_sections_begun, open_sections_ended, open_sections_plain}
-use Rattle.sections.specs.Views as sections
+use Rattle.onedom.specs.Histories.{ends, section_begun}
+use Rattle.onedom.proofs.CallerLemmas.{open_sections_plain}
 use Rattle.sections.specs.Views.{ReadingView, FoundView}
 use Rattle.sections.specs.Words.{is_held, open_readings}
-use Rattle.sections.specs.Calls.{IsSameCpu, ReadLocks, Unlocks, IsHere}
+use Rattle.sections.specs.Calls.{IsSameCpu, ReadLocks}
 use Rattle.funnel.specs.declared.view.Holder.TheVariants as holder
 use Rattle.desk.specs.BayCalls.{holds}
 use Rattle.domain.specs.Views.{Engine, DomainView, CpuView, IsEngineOf, IsOf, Stays, IsSameProcessor, with_cpu}
 use Rattle.domain.specs.Acting.{Act, Acts, ActsAs, loads, finds, asks_for}
-use Rattle.domain.proofs.CallerLemmas.{SameOpen, still_fits, same_trans, same_polled}
+use Rattle.domain.proofs.CallerLemmas.{SameOpen, still_fits, same_trans, same_polled, same_begun, begun_here, closed_again}
 use Rattle.driver.specs.Pools.{IsIdle, IsLent}
 use Rattle.driver.specs.Works.{Opens, Closes, IsKept}
 
--- Lists of sections
-
--- a list is as it was without a number that doesn't stand there
-none_of : (s : ℕ) (xs : List ℕ) → times s xs ≡ 0 → filter (λ u. not (eqb u s)) xs ≡ xs
-none_of s [] none = refl
-none_of s (x ∷ xs) none = go (eqb x s) refl (times_cons s x xs) (λ left. none_of s xs left)
-  where
-    go : (b : Bool) → eqb x s ≡ b → times s (x ∷ xs) ≡ bit (eqb x s) + times s xs → (times s xs ≡ 0 → filter (λ u. not (eqb u s)) xs ≡ xs)
-        → cond (not b) (x ∷ filter (λ u. not (eqb u s)) xs) (filter (λ u. not (eqb u s)) xs) ≡ x ∷ xs
-    go true is c r = let one : bit (eqb x s) ≡ 1 = ap bit is in absurd (omega (arith, none, c, one))
-    go false is c r = let zero : bit (eqb x s) ≡ 0 = ap bit is in ap (λ l. x ∷ l) (r (omega (arith, none, c, zero)))
-
-filter_past : (p q : ℕ → Bool) (xs : List ℕ) → filter p (filter q xs) ≡ filter q (filter p xs)
-filter_past p q xs = filter_twice q p xs ∙ (filter_agree (λ x. q x && p x) (λ x. p x && q x) (λ x. and_past (q x) (p x)) xs ∙ sym (filter_twice p q xs))
-  where
-    and_past : (a b : Bool) → (a && b) ≡ (b && a)
-    and_past true true = refl
-    and_past true false = refl
-    and_past false true = refl
-    and_past false false = refl
-
 abbrev is_reading : ℕ → Bool
 is_reading s = not (is_held s)
-
--- without a number that was put behind those of a list, they are left
-without_last : (s : ℕ) (xs : List ℕ) → times s xs ≡ 0 → filter (λ u. not (eqb u s)) (xs ++ s ∷ []) ≡ xs
-without_last s xs none = kept_out (λ u. not (eqb u s)) xs s (ap not (eq-eqb s s refl)) ∙ none_of s xs none
-
--- A section
-
-module _ (c begun : sections.CpuView) (r : ReadingView) (locks : ReadLocks c begun r) where
-  -- among the processor's own events the section is new
-  own_before : made_by (Processor locks.between.processor) locks.between.seen ≡ c.mine
-  own_before = sym locks.looks.load.history.own ∙ locks.looks.load.mine
-
-  not_begun : times locks.enters.section (open_sections c.mine) ≡ 0
-  not_begun =
-      let s = locks.enters.section in
-      let new = locks.enters.fresh in
-      let own = begins_of_made (Processor locks.between.processor) s locks.between.seen in
-      let most = times_open_le s (made_by (Processor locks.between.processor) locks.between.seen) in
-      subst (λ l. times s (open_sections l) ≡ 0) own_before (omega (arith, new, own, most))
-
-  not_ended : ends_of locks.enters.section c.mine ≡ 0
-  not_ended =
-      let s = locks.enters.section in
-      let none = no_ends s locks.between.seen locks.looks.load.history.legal locks.enters.fresh in
-      let own = ends_of_made (Processor locks.between.processor) s locks.between.seen in
-      subst (λ l. ends_of s l ≡ 0) own_before (omega (arith, none, own))
-
-  -- so it stands behind those that were open
-  one_more : open_readings begun.mine ≡ open_readings c.mine ++ locks.enters.section ∷ []
-  one_more =
-      ap open_readings (locks.enters.adds.mine ∙ ap (λ l. l ++ Begin locks.enters.section locks.between.processor locks.look.index (Processor locks.between.processor) ∷ []) locks.looks.load.mine)
-      ∙ (ap (filter is_reading) (open_sections_begun c.mine locks.enters.section locks.between.processor locks.look.index (Processor locks.between.processor) not_ended)
-      ∙ let_in is_reading (open_sections c.mine) locks.enters.section (ap not locks.enters.kind))
-
-  -- and where it ends, those are open that were before
-  pub closed_again : (worked d : sections.CpuView) → open_readings worked.mine ≡ open_readings begun.mine → Unlocks r worked d → open_readings d.mine ≡ open_readings c.mine
-  closed_again worked d same ends =
-      let s = locks.enters.section in
-      let is : r.section ≡ s = ap (λ (z : ReadingView). z.section) locks.enters.reading in
-      let left : open_readings d.mine ≡ filter (λ u. not (eqb u r.section)) (open_readings worked.mine) =
-      ap open_readings ends.mine
-      ∙ (ap (filter is_reading) (open_sections_ended worked.mine r.section worked.processor (Processor worked.processor))
-      ∙ filter_past is_reading (λ u. not (eqb u r.section)) (open_sections worked.mine)) in
-      let none : times s (open_readings c.mine) ≡ 0 = times_kept s is_reading (open_sections c.mine) (ap not locks.enters.kind) ∙ not_begun in
-      left
-      ∙ (ap (λ l. filter (λ u. not (eqb u r.section)) l) (same ∙ one_more)
-      ∙ (ap (λ k. filter (λ u. not (eqb u k)) (open_readings c.mine ++ s ∷ [])) is ∙ without_last s (open_readings c.mine) none))
-
-  pub same_begun : IsSameCpu c begun
-  same_begun = let one = locks.looks.load.same in let two = locks.enters.adds.same in (two.0 ∙ one.0, two.1 ∙ one.1, two.2 ∙ one.2, two.3 ∙ one.3)
-
-  pub begun_here : IsHere begun r
-  begun_here =
-      let is = locks.enters.reading in
-      let same = locks.enters.adds.same in
-      (ap (λ (z : ReadingView). z.domain) is ∙ sym same.0, ap (λ (z : ReadingView). z.processor) is ∙ sym same.3)
-
--- and so it is of the processor as long as that is the same
-pub still_here : (c d : sections.CpuView) (r s : ReadingView) → IsSameCpu c d → s ≡ r → IsHere c r → IsHere d s
-still_here c d r s same is here = subst (λ (z : ReadingView). IsHere d z) (sym is) (here.0 ∙ sym same.0, here.1 ∙ sym same.3)
 
 -- an engine has one limit of periods
 one_limit : (d e : DomainView) (first : Option Engine) → MatchOption first ⊥ (IsEngineOf d) → MatchOption first ⊥ (IsEngineOf e) → d.periods ≡ e.periods

@@ -14,7 +14,7 @@ use Rattle.scan.specs.declared.refusals.AdvanceRefusal.TheVariants as advance
 use Rattle.driver.specs.declared.counts.Served.{Served}
 use Rattle.driver.specs.Counts.{periods_in, IsCount}
 use Rattle.domain.specs.Views.{DomainView, CpuView, callbacks_of, with_calls}
-use Rattle.domain.specs.Turns.{AdvancesIn, IsRefused}
+use Rattle.domain.specs.Turns.{CarriesOnIn, IsRefused}
 
 -- Turns
 
@@ -31,9 +31,9 @@ module _ {J : Type 0} where
     pub tallies : b.tallies ≡ d.tallies
     pub there : b.processor < d.processors
 
-  -- a turn of the engine, with this answer
+  -- a turn of the engine, as far as it got by itself, with this answer
   abbrev pub TriesTurn : Result Progress AdvanceRefusal → CpuView J → CpuView J → Type 0
-  TriesTurn answer c c' = MatchResult answer (λ a. AdvancesIn c a c') (λ r. IsRefused c r c')
+  TriesTurn answer c c' = MatchResult answer (λ a. CarriesOnIn c a c') (λ r. IsRefused c r c')
 
   -- Batches
 

@@ -42,7 +42,7 @@ pub fn run_batch<R: Wait, J: Drop, A: Allocator + Copy, F: FnMut(J)>(
     domain.finish(rt, cpu, batch);
 }
 
-/// One turn of the engine.
+/// One turn of the engine, as far as it gets.
 fn turn<J, A: Allocator>(
     domain: &Domain<J, A>,
     cpu: &mut Cpu<J, A>,
@@ -55,7 +55,7 @@ fn turn<J, A: Allocator>(
     ensures same { IsSameProcessor cpu.old cpu.new }
     ensures turns { TriesTurn result cpu.old cpu.new }
 {
-    domain.advance(cpu)
+    domain.drive(cpu)
 }
 
 /// Takes what is ready on a processor, runs it and finishes it. Answers how many jobs there were, from 0 to 8.

@@ -3,7 +3,8 @@ use Rattle.std.proofs.Common.{refl, subst}
 use Rattle.sections.specs.Views.{ReadingView}
 use Rattle.sections.specs.Calls.{Unlocks}
 use Rattle.driver.specs.Works.{Opens, Closes, MayGive}
-use Rattle.driver.proofs.Keeping.{opened, still_here, kept_closed}
+use Rattle.domain.proofs.CallerLemmas.{still_here}
+use Rattle.driver.proofs.Keeping.{opened, kept_closed}
 use Rattle.driver.proofs.reading.read.Goals as goal
 
 pub read_unlock-requires : goal.read_unlock-requires
