@@ -3,9 +3,14 @@ use Rattle.std.proofs.Common.{◌≡◌, ℕ, ◌-◌, ◌^◌, ◌≤◌, inl, 
 use Rattle.std.proofs.lemmas.List.{length-map, length-replicate}
 use Rattle.sections.specs.Shelves.{words_of}
 use Rattle.sections.specs.Views.{FoundView}
+use Rattle.domain.specs.Views.{CpuView}
+use Rattle.domain.specs.Waiting.{HasNoneOpen}
+use Rattle.domain.proofs.CallerLemmas.{same_all_loaded, same_found, none_enclosed, none_looked}
 use Rattle.notify.specs.declared.block.Block.{Block}
 use Rattle.notify.specs.Blocks.{word_of, text_of, blocks_in, IsTextOf, AreRead}
 use Rattle.sections.specs.Reads.{AreWords}
+use Rattle.notify.specs.Chains.{ChainCell}
+use Rattle.notify.specs.Reading.{ReadsOnce, IsRefused}
 use Rattle.notify.proofs.Texts.{text_round}
 
 -- the words that were put are those of sixteen places
@@ -32,3 +37,13 @@ module _ (ids : ℕ) (small : ids ≤ 2 ^ 32) where
       same : words ≡ words_of f.cell f.version f.texts
       same = ext_get_or 0 words (words_of f.cell f.version f.texts) (are.long ∙ sym (ap length t.words_are ∙ text_long put t.chain.few))
           (λ i lt. are.each i (let n = are.long in omega (arith, lt, n)))
+
+module _ {J : Type 0} where
+  -- a chain is read and called in a section of its own, so none is open behind it where none was; nor behind a refusal
+  pub none_called : {v : ChainCell} {blocks : List Block} (c c' : CpuView J) → ReadsOnce v c c' blocks → HasNoneOpen c → HasNoneOpen c'
+  none_called c c' h none =
+      let found = same_found _ h.reading h.reads.found h.begun.cpu h.reads.between.cpu h.reads.finds in
+      none_enclosed c h.begun h.behind c' h.reading h.locks (same_all_loaded h.reads.between h.behind h.reads.loads ∙ found) h.ends none
+
+  pub none_refused : (c c' : CpuView J) → IsRefused c c' → HasNoneOpen c → HasNoneOpen c'
+  none_refused c c' h none = none_looked c c' h.looks none

@@ -2,5 +2,6 @@
 mod called;
 mod changes;
 mod sleeping;
+mod texts;
 mod words;
 mod world;

@@ -6,14 +6,15 @@ use Rattle.sections.specs.Reads.{AreWords}
 use Rattle.sections.specs.WriterViews.{WriterView}
 use Rattle.domain.specs.Views.{CpuView}
 use Rattle.domain.specs.Waiting.{HasNoneOpen}
-use Rattle.domain.proofs.CallerLemmas.{same_put, same_reclaimed, none_still}
+use Rattle.sections.specs.Calls.{Unlocks}
+use Rattle.domain.proofs.CallerLemmas.{same_all_loaded, same_found, same_put, same_reclaimed, none_still, none_enclosed, none_held, none_ended}
 use Rattle.plugs.specs.declared.rows.Row.{Row}
 use Rattle.plugs.specs.Parts.{rows_in}
 use Rattle.plugs.specs.Tables.{plug_of, IsTable, text_of}
 use Rattle.plugs.specs.Views.{LeaseView}
 use Rattle.domain.specs.Publishing.{FindsNone}
 use Rattle.plugs.specs.Changes.{Publishes}
-use Rattle.plugs.specs.Reading.{LoadsRows, LooksUp, Gets}
+use Rattle.plugs.specs.Reading.{LoadsRows, LooksUp, Leases, Gets}
 use Rattle.plugs.proofs.Texts.{text_long, read_back as rows_out}
 
 -- the version has the text of this table
@@ -48,3 +49,19 @@ module _ {J : Type 0} where
 
   pub none_refused : (w w' : WriterView) (c c' : CpuView J) → FindsNone w c w' c' → HasNoneOpen c → HasNoneOpen c'
   none_refused w w' c c' h none = none_still c c' (same_reclaimed w w' c.cpu c'.cpu h.frees.reclaims) none
+
+  -- a look in a section of its own leaves none open where none was; where it is refused, `none_looked` of domain says so
+  pub none_looked_up : {cell key : ℕ} {plug : Option ℕ} (c c' : CpuView J) → LooksUp cell key plug c c' → HasNoneOpen c → HasNoneOpen c'
+  none_looked_up c c' h none =
+      let found = same_found _ h.reading h.finds.found h.begun.cpu h.finds.at.cpu h.finds.finds in
+      none_enclosed c h.begun h.at c' h.reading h.locks (same_all_loaded h.finds.at h.at h.finds.loads.loads ∙ found) h.ends none
+
+  -- and so does a lease that begins, is read, and is released
+  pub none_leased : {cell : ℕ} {lease : LeaseView} (c c' : CpuView J) → Leases cell lease c c' → HasNoneOpen c → HasNoneOpen c'
+  none_leased c c' h none = none_still h.begun c' (same_found _ _ _ h.begun.cpu c'.cpu h.finds) (none_held c h.begun _ h.downs none)
+
+  pub none_got : {lease : LeaseView} {key : ℕ} {plug : Option ℕ} (c c' : CpuView J) → Gets lease key plug c c' → HasNoneOpen c → HasNoneOpen c'
+  none_got c c' h none = none_still c c' (same_all_loaded c c' h.loads.loads) none
+
+  pub none_released : (held : ReadingView) (c c' : CpuView J) → Unlocks held c.cpu c'.cpu → HasNoneOpen c → HasNoneOpen c'
+  none_released held c c' ends none = none_ended held c c' ends none

@@ -1,0 +1,37 @@
+//! What a caller reads, and the numbers of answers.
+use notify::{BAD, DONE, OK, RegisterRefusal, STOP, STOP_BIT, UnregisterRefusal};
+use std::test::Fail;
+
+/// The numbers of `linux/notifier.h`. Would catch a bad answer that stops no call.
+#[test]
+fn numbers_of_answers(rt: HostRuntime) -> Result<(), Fail> {
+    assert_eq!(rt; (DONE, OK, STOP_BIT), (0, 1, 0x8000));
+    assert_eq!(rt; (STOP, BAD), (0x8001, 0x8002));
+    Ok(())
+}
+
+/// Would catch a text that is another refusal's.
+#[test]
+fn texts_of_refusals(rt: HostRuntime) -> Result<(), Fail> {
+    let registers = format!(in rt.alloc();
+        "{}; {}; {}; {}",
+        RegisterRefusal::There,
+        RegisterRefusal::Full,
+        RegisterRefusal::NoSlot,
+        RegisterRefusal::Memory
+    )?;
+    assert_eq!(rt;
+        registers.as_str(),
+        "the id is in the chain; the chain is full; no slot of the cell is free; out of memory"
+    );
+    let unregisters = format!(in rt.alloc();
+        "{}; {}",
+        UnregisterRefusal::NotThere,
+        UnregisterRefusal::NoSlot
+    )?;
+    assert_eq!(rt;
+        unregisters.as_str(),
+        "the id is not in the chain; no slot of the cell is free"
+    );
+    Ok(())
+}
