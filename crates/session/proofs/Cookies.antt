@@ -6,7 +6,7 @@ use Rattle.std.specs.List.{list_any, list_all, position_or_len, refill}
 use Rattle.std.proofs.lemmas.Option.{slice_get_within, slice_get-map, slice_get_read, same_Some, get_or_from_slice_get}
 use Rattle.std.proofs.lemmas.List.{length-map, map-append, take_more, take_more_set, set-get_or, map-set, drop-set-lt}
 use Rattle.std.proofs.lemmas.List.Elements.{All-filter, filter_passes}
-use Rattle.std.proofs.lemmas.List.Folds.{find_at, list_all-append}
+use Rattle.std.proofs.lemmas.List.Folds.{find_at}
 use Rattle.indexmap.proofs.SetLemmas.{map-remove}
 use Rattle.std.proofs.lemmas.List.Quantifiers.{position-Some}
 use Rattle.std.proofs.lemmas.Slice.Eq.{bytes_eq-Decides}
@@ -15,7 +15,7 @@ use Rattle.sections.specs.declared.limits.Limits.{Limits}
 use Rattle.sections.specs.Views.{CpuView, CookieView}
 use Rattle.sections.specs.Sights.{SightView}
 use Rattle.sections.specs.Calls.{Asks}
-use Rattle.sections.specs.Sets.{MemberView, cookies_of, polled, PollsOne as MemberPolls}
+use Rattle.sections.specs.Sets.{MemberView, cookies_of, is_found, polled, PollsOne as MemberPolls}
 use Rattle.requests.specs.declared.members.Member.{Member as Asked}
 use Rattle.solo.specs.Calls.{AsksFor, Asks as AsksIfDone}
 use Rattle.session.specs.declared.sets.Place.{Place}
@@ -297,7 +297,7 @@ asked_here homes a askable e k same of_table = record {
 -- Asking after members
 
 -- the answer tells whether the member was found done, by now or before
-pub found_is : (done : Bool) (m m' : MemberView) (c c' : CpuView) → MemberPolls done m c m' c' → is_some m'.found ≡ done
+found_is : (done : Bool) (m m' : MemberView) (c c' : CpuView) → MemberPolls done m c m' c' → is_some m'.found ≡ done
 found_is done m m' c c' polls = by_found m.found refl polls
   where
     by_answer : (b : Bool) (o : Option SightView) → m.found ≡ None → m' ≡ polled b m c' → is_some m'.found ≡ b
@@ -411,25 +411,7 @@ module _ (before : Domains) (entries entries' : List EntryView) where
         subst (λ (z : List Member × List Member). PollInTurn before z.0 z.1 (states_of entries')) (λ j. (sym one_more j, sym one_polled j))
         (poll_more before (states_of entries) (states_of entries') (take i (members_of places first)) (take i (members_of places members)) (member_of p m) (member_of p m') did next)
 
-    -- all were found done by now, or not
-    pub done_turn : (so_far : Bool) → so_far ≡ list_all (λ (x : Member). x.found) (take i (members_of places members))
-        → (is_some m'.found ≡ true → so_far ≡ list_all (λ (x : Member). x.found) (take (i + 1) (members_of places (set members i m'))))
-        × (is_some m'.found ≡ false → false ≡ list_all (λ (x : Member). x.found) (take (i + 1) (members_of places (set members i m'))))
-    done_turn so_far is =
-        let both : list_all (λ (x : Member). x.found) (take (i + 1) (members_of places (set members i m'))) ≡ (so_far && (is_some m'.found && true)) =
-        ap (list_all (λ (x : Member). x.found)) one_polled ∙ (list_all-append (λ (x : Member). x.found) (take i (members_of places members)) (member_of p m' ∷ []) ∙ ap (λ (b : Bool). b && (is_some m'.found && true)) (sym is)) in (
-          λ found. sym (both ∙ (ap (λ (b : Bool). so_far && (b && true)) found ∙ and_true so_far)),
-          λ not_found. sym (both ∙ (ap (λ (b : Bool). so_far && (b && true)) not_found ∙ and_false so_far)),
-        )
-      where
-        and_true : (b : Bool) → (b && (true && true)) ≡ b
-        and_true true = refl
-        and_true false = refl
-
-        and_false : (b : Bool) → (b && (false && true)) ≡ false
-        and_false true = refl
-        and_false false = refl
-
+    -- what is left to be asked after stays as it is
     pub left_turn : drop i members ≡ drop i first → drop (i + 1) (set members i m') ≡ drop (i + 1) first
     left_turn left = drop-set-lt (i + 1) members i m' (omega arith) ∙ (ap (λ (n : ℕ). drop n members) more ∙ (sym (drop_again members i) ∙ (ap (drop 1) left ∙ (drop_again first i ∙ ap (λ (n : ℕ). drop n first) (sym more)))))
       where
@@ -461,3 +443,10 @@ module _ (entries : List EntryView) (homes : List Home) (p : Place) (m : MemberV
 -- what is written back is as long as what was there
 pub refilled : {X : Type 0} (xs ws : List X) → length ws ≡ length xs → refill (length xs) xs ws ≡ ws
 refilled xs ws same = ap (λ (rest : List _). take (length xs) (ws ++ rest)) (drop_of_length-le xs (omega (arith, same))) ∙ (ap (take (length xs)) (append-nil ws) ∙ take_all (length xs) ws (omega (arith, same)))
+
+-- all members of a set were found done where all of its cookies were
+pub all_found : (places : List Place) (members : List MemberView) → length places ≡ length members → list_all is_found members ≡ list_all (λ (m : Member). m.found) (members_of places members)
+all_found [] [] long = refl
+all_found [] (m ∷ members) long = absurd (omega (arith, long))
+all_found (p ∷ places) [] long = absurd (omega (arith, long))
+all_found (p ∷ places) (m ∷ members) long = ap (λ (b : Bool). is_found m && b) (all_found places members (omega (arith, long)))

@@ -1,11 +1,11 @@
 //! Sets of cookies, and where each cookie is asked after.
 ghost use Rattle.std.specs.Prelude.{◌≡◌, ◌<◌, [], ◌∷◌, ◌++◌, length, MatchOption, bytes_eq, slice_get, Some};
-ghost use Rattle.std.specs.List.{list_any};
+ghost use Rattle.std.specs.List.{list_any, list_all};
 ghost use Rattle.sections.specs.Sets.{unfound, IsPlacedIn, member_at, cookies_of};
 ghost use Rattle.solo.specs.Calls.{Asks};
 ghost use Rattle.solo.specs.Sets.{PollsMember};
 ghost use Rattle.session.specs.States.{IsSameHome, has_cookie_of};
-ghost use Rattle.session.specs.Sets.{set_of};
+ghost use Rattle.session.specs.Sets.{set_of, members_of};
 
 use crate::entry::Entry;
 use arrayvec::ArrayVec;
@@ -120,6 +120,13 @@ impl NamedSet {
             (λ _. entry.new ≡ entry.old) }
     {
         entry.poll_member(processor, &mut self.set, at)
+    }
+
+    /// Whether each cookie was found done.
+    pub fn is_done(&self) -> bool
+        ensures { result ≡ list_all (λ m. m.found) (members_of self.now.places self.now.members) }
+    {
+        self.set.done()
     }
 
     /// Whether a cookie is of the domain of this name.

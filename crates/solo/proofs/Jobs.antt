@@ -18,9 +18,8 @@ use Rattle.calls.specs.declared.refusals.TakeRefusal.TheVariants as take_refusal
 use Rattle.calls.specs.declared.view.Act.TheVariants.{Queue, Take, Finish}
 use Rattle.calls.specs.Tallies.{deed, queued_in, finished_in, deeds_of, IsBeginning, AreTrue}
 use Rattle.calls.specs.Views.{CallSeatView, ListKey, ListView, BatchView, ReceiptView}
-use Rattle.calls.specs.Calls.{Does, IsHanded, AreHanded, IsTaken, GivesOut, TakesIn, InvokesIn, TakesNothingIn, FinishesIn, FindsLensIn, MovesAll}
-use Rattle.calls.specs.Meetings.{Covers}
-use Rattle.calls.proofs.CallerLemmas.{begins_itself, begins_on, queued_later, finished_later, same_queued, true_beginning, called_here, taken_here, finish_here, moved_all}
+use Rattle.calls.specs.Calls.{Does, IsHanded, AreHanded, IsTaken, GivesOut, TakesIn, InvokesIn, LacksRoomIn, TakesNothingIn, FinishesIn, FindsLensIn, MovesAll}
+use Rattle.calls.proofs.CallerLemmas.{begins_itself, begins_on, queued_later, finished_later, same_queued, looked_queued, true_beginning, called_here, taken_here, finish_here, moved_all}
 use Rattle.scan.specs.Standings.{number_now}
 use Rattle.segs.specs.MarkedList.{count_done, lens, numbers}
 use Rattle.calls.specs.Lines.{Line, line_in, some_out, with_moved, with_call, with_none_out, readied}
@@ -322,10 +321,10 @@ module _ {J : Type 0} where
     found_lens : (found : List ℕ × List ℕ) → FindsLensIn t.p t.was.calls found t.now.calls → TellsLens t.p t.s.lines found
     found_lens found h =
         let same : line_in t.p t.now.calls.seen ≡ line_in t.p t.met.deeds = sym (line_now t loads did t.p t.inside) ∙ line_quiet t loads did refl t.p t.inside in
-        let queued = subst (λ q. queued_in q t.was.calls.seen ≡ queued_in q t.now.calls.seen) (own_number t) (sym (same_queued t.was.calls.processor t.now.calls.seen t.was.calls.seen h.covers.own)) in
-        let all = gathered_whole (line_in t.p t.now.calls.seen) h.moved (moved_all t.p h.moved t.was.calls.seen t.now.calls.seen h.covers.loads h.all queued) in
+        let queued = subst (λ q. queued_in q t.was.calls.seen ≡ queued_in q t.now.calls.seen) (own_number t) (sym (looked_queued t.p t.was.calls t.now.calls h.looks)) in
+        let all = gathered_whole (line_in t.p t.now.calls.seen) h.moved (moved_all t.p h.moved t.was.calls.seen t.now.calls.seen h.looks.loads h.all queued) in
         record { list = list_in t.p t.met.deeds; there = line_found t t.p t.inside; told_is = h.found_is ∙ ap (λ (k : Line J). (lens k.waiting, numbers k.waiting)) (all ∙ ap in_one same) }
 
-    pub lens_says : {E : Type 0} (r : Result (List ℕ × List ℕ) E) → MatchResult r (λ found. FindsLensIn t.p t.was.calls found t.now.calls) (λ _. Covers t.was.calls t.was.calls.seen t.now.calls) → Says t ((s' t ≡ t.s) × IfOk r (TellsLens t.p t.s.lines))
+    pub lens_says : {E : Type 0} (r : Result (List ℕ × List ℕ) E) → MatchResult r (λ found. FindsLensIn t.p t.was.calls found t.now.calls) (λ _. LacksRoomIn t.p t.was.calls t.now.calls) → Says t ((s' t ≡ t.s) × IfOk r (TellsLens t.p t.s.lines))
     lens_says (Ok found) h = says t loads did refl refl _ (still t did, found_lens found h)
     lens_says (Err e) h = says t loads did refl refl _ (still t did, tt)

@@ -56,17 +56,14 @@ fn poll_in_turn<A: Allocator>(entries: &mut [Entry<&A>], set: &mut NamedSet) -> 
     ensures here { AreHere (homes_of entries.old) set.new.places set.new.members }
     ensures name { set.new.name ≡ set.old.name }
 {
-    let mut done = true;
     for member in 0..set.len() {
         let place = set.place(member);
         let Some(domain) = place_of(entries, place.domain.as_bytes()) else {
             unreachable!()
         };
-        if !set.poll(member, place.processor, &mut entries[domain]) {
-            done = false;
-        }
+        set.poll(member, place.processor, &mut entries[domain]);
     }
-    done
+    set.is_done()
 }
 
 impl<'r, 'a, A: Allocator, R: Wait> Session<'r, &'a A, R> {

@@ -1,6 +1,5 @@
-use Rattle.std.proofs.Common.{◌≡◌, ℕ, ◌+◌, ◌<◌, Bool, List, length, get_or, set, take, drop, inr, sym, ap, ◌∙◌, subst, arith}
-use Rattle.std.specs.Prelude.{Some, slice_get, is_some}
-use Rattle.std.specs.List.{list_all}
+use Rattle.std.proofs.Common.{◌≡◌, ℕ, ◌+◌, ◌<◌, List, length, get_or, set, take, drop, inr, sym, ap, ◌∙◌, subst, arith}
+use Rattle.std.specs.Prelude.{Some, slice_get}
 use Rattle.std.proofs.lemmas.Option.{get_or_from_slice_get}
 use Rattle.std.proofs.lemmas.List.{length-map, length-set, take_all, get_or_default}
 use Rattle.sections.specs.Views.{CookieView, completed_cookie}
@@ -9,9 +8,8 @@ use Rattle.session.specs.declared.sets.Place.{Place}
 use Rattle.session.specs.States.{DomainState, EntryView, Member, states_of, domain_place}
 use Rattle.session.specs.Sets.{SetView, member_of, members_of, Home, home_of, homes_of, IsHere, AreHere}
 use Rattle.session.specs.Scripts.{PollsOne, PollInTurn}
-use Rattle.session.proofs.Cookies.{same_home, homes_stay, inside, at_home, as_many, members_long, here_at, here_still, cookie_read, somewhere, home_found, found_is, poll_one, poll_turn, done_turn, left_turn}
+use Rattle.session.proofs.Cookies.{same_home, homes_stay, inside, at_home, as_many, members_long, here_at, here_still, cookie_read, somewhere, home_found, poll_one, poll_turn, left_turn}
 use Rattle.session.proofs.session.sets.poll_in_turn.Goals as goal
-use Rattle.session.proofs.session.sets.poll_in_turn.Goals.{then-not-poll, else-not-poll}
 
 pub unreachable-requires : goal.unreachable-requires
 unreachable-requires g c =
@@ -164,11 +162,6 @@ loop-member-preserved g c =
     poll_one entries k e e' p m m' c.poll.result did.polls.0 did.polls.1 within is (sym at) name did.rest polls.polls did.answer in
     let so_polled : PollInTurn before (take i (members_of now.places first)) (take i (members_of now.places now.members)) (states_of entries) =
     subst (λ (z : List Place). PollInTurn before (take i (members_of z first)) (take i (members_of now.places now.members)) (states_of entries)) (sym so_far.places) so_far.polls in
-    let found : is_some m'.found ≡ c.poll.result = found_is c.poll.result m m' did.polls.0 did.polls.1 polls.polls in
-    let all_found : List Member → Bool = list_all (λ (x : Member). x.found) in
-    let turn = done_turn before entries (set entries k e') now.places first now.members i p m m' many lt p_is m_is c.loop-member.done so_far.done in
-    let back : all_found (take (i + 1) (members_of now.places (set now.members i m'))) ≡ all_found (take (i + 1) (members_of new.places new.members)) =
-    λ j. all_found (take (i + 1) (members_of (sym places j) (sym members j))) in
     record {
       polls = subst (λ (z : List Place × List Place × List MemberView). PollInTurn before (take (i + 1) (members_of z.0 first)) (take (i + 1) (members_of z.1 z.2)) (states_of (set entries k e'))) (λ j. (so_far.places j, sym places j, sym members j))
           (poll_turn before entries (set entries k e') now.places first now.members i p m m' many lt p_is m_is (sym long) so_far.left so_polled one);
@@ -178,18 +171,10 @@ loop-member-preserved g c =
       here = subst (λ (z : List Place). AreHere homes z new.members) (sym places) (here_still homes now.places now.members new.members polls.cookies so_far.here);
       left = ap (drop (i + 1)) members ∙ left_turn before entries (set entries k e') now.places first now.members i p m m' many lt p_is m_is so_far.left;
       long = ap length members ∙ (length-set now.members i m' ∙ long);
-      done = elim c.if-not-poll.branch [ then-not-poll w ↦ w.done-is ∙ (turn.1 (found ∙ w.if-not-poll.true) ∙ back) | else-not-poll w ↦ w.done-is ∙ (turn.0 (found ∙ w.if-not-poll.false) ∙ back) ];
     }
 
 pub returns-clause-done : goal.returns-clause-done
-returns-clause-done g c =
-    let now = c.loop-member.set in
-    let so_far = c.loop-member.invariant in
-    let over = c.loop-member-test.false in
-    let count = c.len-member-end.ensures in
-    let long = so_far.long in
-    let all = members_long now.places now.members (as_many (homes_of c.args.entries.now) now.places now.members so_far.here) in
-    so_far.done ∙ ap (list_all (λ (x : Member). x.found)) (take_all c.loop-member.member (members_of now.places now.members) (omega arith))
+returns-clause-done g c = c.is_done.ensures
 
 pub returns-clause-polls : goal.returns-clause-polls
 returns-clause-polls g c =

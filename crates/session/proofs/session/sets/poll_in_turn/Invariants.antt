@@ -1,5 +1,4 @@
 use Rattle.std.proofs.Common.{◌≡◌, length, take, drop}
-use Rattle.std.specs.List.{list_all}
 use Rattle.session.specs.States.{states_of}
 use Rattle.session.specs.Sets.{members_of, homes_of, AreHere}
 use Rattle.session.specs.Scripts.{PollInTurn}
@@ -14,5 +13,4 @@ invariant-loop-member g l = record {
   here : AreHere (homes_of l.initial.entries) l.set.places l.set.members;
   left : drop l.member l.set.members ≡ drop l.member l.initial.set.members;
   long : length l.set.members ≡ length l.initial.set.members;
-  done : l.done ≡ list_all (λ m. m.found) (take l.member (members_of l.set.places l.set.members));
 }
