@@ -7,6 +7,7 @@ ghost use Rattle.domain.specs.Views.{IsOf};
 mod jobs;
 mod periods;
 mod readers;
+mod sets;
 
 use anyhow::Result;
 use domain::{Cpu, Domain, Limits, MakeError};
@@ -50,5 +51,6 @@ fn show<R: Print + Wait>(
 
 fn main(rt: HostRuntime) -> Result<()> {
     let (domain, mut first, mut second) = pair(rt.alloc())?;
-    show(&rt, &domain, &mut first, &mut second)
+    show(&rt, &domain, &mut first, &mut second)?;
+    sets::show(&rt)
 }

@@ -62,7 +62,7 @@ fn poll_on<R: Wait>(
         if cpu.poll(cookie) {
             break;
         }
-        match domain.advance(cpu) {
+        match domain.drive(cpu) {
             Ok(_) | Err(AdvanceRefusal::Busy) => {} // there is no kthread: any thread drives the period on
             Err(exhausted) => return Err(exhausted.into()),
         }

@@ -1,6 +1,6 @@
 -- Each call leaves the processor in its domain, and the cookie was given there.
 use Rattle.std.proofs.Common.{inr, sym, ap, ◌∙◌}
-use Rattle.steps.proofs.Reading.{begun_here}
+use Rattle.domain.proofs.CallerLemmas.{begun_here}
 use Rattle.steps.proofs.periods.drive_by_hand.Goals as goal
 
 pub start_poll-cookie-requires : goal.start_poll-cookie-requires

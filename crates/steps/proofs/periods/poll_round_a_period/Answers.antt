@@ -1,6 +1,6 @@
 -- A cookie and a poll leave the processor in its domain, and the cookie is of that.
 use Rattle.std.proofs.Common.{inr, sym, ap, ◌∙◌}
-use Rattle.steps.proofs.Reading.{begun_here}
+use Rattle.domain.proofs.CallerLemmas.{begun_here}
 use Rattle.steps.proofs.periods.poll_round_a_period.Goals as goal
 
 pub poll-early-requires : goal.poll-early-requires
