@@ -94,6 +94,61 @@ fn reads_200_bytes_of_a_line(rt: HostRuntime) -> Result<(), Fail> {
     Ok(())
 }
 
+/// So many empty lines, and then one of 200 bytes, one of 201 and one of 2.
+fn long_lines(alloc: Global, empty: usize) -> Result<Vec<u8>, AllocError> {
+    let mut input = Vec::new(alloc);
+    for _ in 0..empty {
+        input.push(b'\n')?;
+    }
+    for count in [200, 201, 2] {
+        for _ in 0..count {
+            input.push(b'x')?;
+        }
+        input.push(b'\n')?;
+    }
+    Ok(input)
+}
+
+/// Runs these lines, of which a read gives so many bytes at most.
+fn read_long_lines<H: Wait + AllocGlobal>(
+    rt: &H,
+    empty: usize,
+    most: usize,
+) -> Result<(bool, Vec<u8>), AllocError> {
+    let input = long_lines(rt.alloc(), empty)?;
+    let rest = input.as_slice();
+    let reads = usize::MAX;
+    let mut written = Vec::new(rt.alloc());
+    let outcome = run(rt, Reader { rest, most, reads }, &mut written);
+    Ok((outcome == Ok(Outcome { faulty: true }), written))
+}
+
+// Would catch a line that is cut or is too long where a read ends in it: at each of its bytes, and before its line feed.
+#[test]
+fn line_200(rt: HostRuntime) -> Result<(), Fail> {
+    let replies = b"1 200\n2 no text\n3 2\n".as_slice();
+    for most in 1..410 {
+        let (is_told, written) = read_long_lines(&rt, 0, most)?;
+        assert!(rt; is_told && written.as_slice() == replies, "{most}");
+    }
+    Ok(())
+}
+
+// The same where the buffer ends in it, into which a read puts 4096 bytes at most.
+#[test]
+fn line_200_at_the_end_of_the_buffer(rt: HostRuntime) -> Result<(), Fail> {
+    for empty in CHUNK - 410..CHUNK + 1 {
+        let (is_told, written) = read_long_lines(&rt, empty, CHUNK)?;
+        let (first, second, third) = (empty + 1, empty + 2, empty + 3);
+        let replies = format!(in rt.alloc(); "{first} 200\n{second} no text\n{third} 2\n")?;
+        assert!(rt;
+            is_told && written.as_slice() == replies.as_bytes(),
+            "{empty}"
+        );
+    }
+    Ok(())
+}
+
 #[test]
 fn a_failed_read_ends_the_run(rt: HostRuntime) -> Result<(), Fail> {
     let outputs: [&[u8]; 7] = [b"", b"", b"", b"1 2\n", b"1 2\n", b"1 2\n", b"1 2\n"];
