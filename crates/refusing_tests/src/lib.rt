@@ -1,0 +1,5 @@
+//! Each allocation refused in turn.
+#![tactic(auto)]
+
+#[cfg(test)]
+mod tests;

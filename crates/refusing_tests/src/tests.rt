@@ -1,0 +1,5 @@
+mod calling;
+mod making;
+mod serving;
+mod taking;
+mod versions;
