@@ -56,7 +56,11 @@ impl Ending {
         let _ = match self {
             Ending::Ran(_) | Ending::Raced => Ok(()),
             Ending::Stopped(error) => eprintln!(rt; "srcuctl: {error}"),
-            Ending::Answered(error) => error.print(rt),
+            Ending::Answered(error) => match error.kind() {
+                // `clap` begins this text with another word.
+                ErrorKind::OutOfMemory => eprintln!(rt; "srcuctl: {}", RunError::Memory),
+                _ => error.print(rt),
+            },
             Ending::Unread(error) => eprintln!(rt; "srcuctl: {error}"),
         };
     }
