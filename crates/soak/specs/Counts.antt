@@ -26,6 +26,7 @@ sum_of c d = record {
   waited = plus c.waited d.waited;
   barriers = plus c.barriers d.barriers;
   left = plus c.left d.left;
+  again = plus c.again d.again;
   refused = plus c.refused d.refused;
   misplaced = plus c.misplaced d.misplaced;
   early = plus c.early d.early;

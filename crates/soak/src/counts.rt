@@ -27,7 +27,9 @@ pub struct Counts {
     pub barriers: u64,
     /// Sections that lay on the desk when all had come to an end.
     pub left: u64,
-    /// Calls that were refused, as for want of memory.
+    /// Calls that were refused, as for want of memory, and were made again.
+    pub again: u64,
+    /// Calls that were refused and not made again, or were refused again.
     pub refused: u64,
     /// Jobs that came out of their order, or twice; and one where the driver told another number than was counted.
     pub misplaced: u64,
@@ -53,6 +55,7 @@ impl Counts {
             waited: 0,
             barriers: 0,
             left: 0,
+            again: 0,
             refused: 0,
             misplaced: 0,
             early: 0,
@@ -76,6 +79,7 @@ impl Counts {
             waited: self.waited.saturating_add(other.waited),
             barriers: self.barriers.saturating_add(other.barriers),
             left: self.left.saturating_add(other.left),
+            again: self.again.saturating_add(other.again),
             refused: self.refused.saturating_add(other.refused),
             misplaced: self.misplaced.saturating_add(other.misplaced),
             early: self.early.saturating_add(other.early),
@@ -103,6 +107,7 @@ impl fmt::Display for Counts {
         writeln!(f, "waits for a grace period: {}", self.waited)?;
         writeln!(f, "barriers: {}", self.barriers)?;
         writeln!(f, "sections left on the desk: {}", self.left)?;
+        writeln!(f, "calls made again: {}", self.again)?;
         writeln!(f, "calls refused: {}", self.refused)?;
         writeln!(f, "jobs misplaced: {}", self.misplaced)?;
         writeln!(f, "waits that were too short: {}", self.early)?;

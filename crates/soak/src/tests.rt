@@ -65,7 +65,7 @@ fn nine_threads_make_rounds(rt: HostRuntime) -> Result<(), Fail> {
             (counts.polled, counts.waited, counts.barriers),
             (queued, waited, barriers)
         );
-        assert_eq!(rt; (counts.left, counts.refused), (0, 0));
+        assert_eq!(rt; (counts.left, counts.again, counts.refused), (0, 0, 0));
         assert_eq!(rt; (counts.misplaced, counts.early), (0, 0));
         assert_eq!(rt; (counts.stale, counts.torn), (0, 0));
     }
@@ -213,7 +213,8 @@ fn prints_an_outcome(rt: HostRuntime) -> Result<(), Fail> {
     count(&mut counts.early);
     let text =
         "workers that met all others: 7\nsections opened: 2\nsections closed: 2\njobs queued: 1\njobs run: 1\ncookies polled: 0\n\
-        waits for a grace period: 0\nbarriers: 0\nsections left on the desk: 0\ncalls refused: 0\n\
+        waits for a grace period: 0\nbarriers: 0\nsections left on the desk: 0\ncalls made again: 0\n\
+        calls refused: 0\n\
         jobs misplaced: 0\nwaits that were too short: 1\nversions that were too old: 0\n\
         versions of several pieces: 0";
     assert_eq!(rt; format!(in rt.alloc(); "{counts}")?.as_str(), text);

@@ -9,9 +9,10 @@
 //! and whoever waits for one drives it. A barrier waits for jobs besides, which the driver runs; the driver waits for no
 //! section and no job, and goes on until no worker is left. It would end early where no more grace periods may start, which
 //! no run comes to.
-ghost use Rattle.std.specs.Prelude.{◌≡◌, ◌<◌, ◌==◌, ◌⊎◌, IfSome, not};
+ghost use Rattle.std.specs.Prelude.{◌≡◌, ◌<◌, ◌==◌, ◌⊎◌, IfOk, IfSome, not};
 ghost use Rattle.sections.specs.Words.{cells_in};
 ghost use Rattle.sections.specs.Calls.{IsSameCpu};
+ghost use Rattle.domain.specs.Barriers.{IsTicketOf};
 ghost use Rattle.domain.specs.Views.{Stays};
 ghost use Rattle.soak.specs.Workers.{IsAtWork, StaysAtWork};
 ghost use Rattle.soak.specs.Counts.{more_if};
@@ -20,7 +21,7 @@ ghost use Rattle.soak.specs.Checks.{judged, Checks, IsRefused, WaitsAndChecks};
 use crate::counts::{Counts, count};
 use crate::signs::Signs;
 use desk::{Desk, DeskSeat};
-use domain::{Cookie, Cpu, Domain, Held, Reading};
+use domain::{Cookie, Cpu, Domain, Held, Memory, Reading, Ticket};
 use std::sync::Wait;
 use std::thread::{sleep, yield_now};
 use std::time::{Clock, Duration};
@@ -163,7 +164,27 @@ fn take_back(domain: &Domain<Job>, desk: &Desk<Held>, worker: &mut Worker)
     close(domain, desk, worker, found);
 }
 
-/// Queues a job.
+/// Queues a job, and counts it. Gives the job back if it is refused.
+fn call<R: Wait>(
+    rt: &R,
+    domain: &Domain<Job>,
+    desk: &Desk<Held>,
+    worker: &mut Worker,
+    job: Job,
+) -> Option<Job>
+    requires { IsAtWork domain.now desk.now worker.old }
+    ensures { StaysAtWork domain.now desk.now worker.old worker.new }
+{
+    match domain.call(rt, &mut worker.cpu, job) {
+        Ok(_receipt) => {
+            count(&mut worker.counts.queued);
+            None
+        }
+        Err((job, _)) => Some(job),
+    }
+}
+
+/// Queues a job. If memory is refused, the job has come back, and is queued again.
 pub fn queue<R: Wait>(rt: &R, domain: &Domain<Job>, desk: &Desk<Held>, worker: &mut Worker)
     requires { IsAtWork domain.now desk.now worker.old }
     ensures { StaysAtWork domain.now desk.now worker.old worker.new }
@@ -172,9 +193,12 @@ pub fn queue<R: Wait>(rt: &R, domain: &Domain<Job>, desk: &Desk<Held>, worker: &
         processor: worker.cpu.processor(),
         number: worker.counts.queued,
     };
-    match domain.call(rt, &mut worker.cpu, job) {
-        Ok(_receipt) => count(&mut worker.counts.queued),
-        Err(_) => count(&mut worker.counts.refused),
+    let Some(job) = call(rt, domain, desk, worker, job) else {
+        return;
+    };
+    count(&mut worker.counts.again);
+    if call(rt, domain, desk, worker, job).is_some() {
+        count(&mut worker.counts.refused);
     }
 }
 
@@ -234,6 +258,23 @@ fn check_run(counts: &mut Counts, run: u64)
     }
 }
 
+/// Starts a barrier. If memory is refused, it tries once more.
+fn start_barrier(
+    domain: &Domain<Job>,
+    desk: &Desk<Held>,
+    worker: &mut Worker,
+) -> Result<Ticket<Job>, Memory>
+    requires { IsAtWork domain.now desk.now worker.old }
+    ensures stays { StaysAtWork domain.now desk.now worker.old worker.new }
+    ensures ticket { IfOk result (λ ticket. IsTicketOf domain.now ticket) }
+{
+    if let Ok(ticket) = domain.barrier_start(&mut worker.cpu) {
+        return Ok(ticket);
+    }
+    count(&mut worker.counts.again);
+    domain.barrier_start(&mut worker.cpu)
+}
+
 /// Waits until all jobs are run that this thread queued.
 pub fn wait_for_jobs<R: Wait>(
     rt: &R,
@@ -245,7 +286,7 @@ pub fn wait_for_jobs<R: Wait>(
     requires { IsAtWork domain.now desk.now worker.old }
     ensures { StaysAtWork domain.now desk.now worker.old worker.new }
 {
-    let Ok(ticket) = domain.barrier_start(&mut worker.cpu) else {
+    let Ok(ticket) = start_barrier(domain, desk, worker) else {
         count(&mut worker.counts.refused);
         return;
     };

@@ -11,7 +11,7 @@ use Rattle.sections.specs.Views.{CpuView, ReadingView, FoundView}
 use Rattle.sections.specs.Calls.{IsSameCpu, IsHere, ReadLocks, new_cpu, AreNew}
 use Rattle.sections.specs.Reads.{ReadsWord}
 use Rattle.srcubench.specs.declared.pairs.Reader.{Reader}
-use Rattle.srcubench.specs.Finding.{ReadsWords, LooksUp, FindsOnce, FindsOften, FindsAll, StopsFinding, CanFind, HasFoundAll, HaveFoundAll, AreFindersOfOne}
+use Rattle.srcubench.specs.Finding.{ReadsWords, ReadsSome, LooksUp, FindsOnce, FindsOften, FindsAll, StopsFinding, CanFind, HasFoundAll, HaveFoundAll, AreFindersOfOne}
 use Rattle.srcubench.proofs.Rooms.{bit_small}
 
 -- The same processor
@@ -26,8 +26,12 @@ pub same_words : (n : ℕ) (r : ReadingView) (f : FoundView) (c d : CpuView) →
 same_words zero r f c d is = same_still c d is
 same_words (suc n) r f c d (between, word, before, reads) = same_then c between d (same_words n r f c between before) reads.load.same
 
+same_some : (n : ℕ) (r : ReadingView) (f : FoundView) (c d : CpuView) → ReadsSome n r f c d → IsSameCpu c d
+same_some n r f c d (inl one) = same_words n r f c d one
+same_some n r f c d (inr (all, words, reads)) = reads.same
+
 pub same_look : (n : ℕ) (r : ReadingView) (c d : CpuView) → LooksUp n r c d → IsSameCpu c d
-same_look n r c d looks = same_then c looks.between d looks.finds.adds.same (same_words n r looks.found looks.between d looks.reads)
+same_look n r c d looks = same_then c looks.between d looks.finds.adds.same (same_some n r looks.found looks.between d looks.reads)
 
 pub same_once : (n : ℕ) (c d : CpuView) → FindsOnce n c d → IsSameCpu c d
 same_once n c d once =
@@ -54,6 +58,10 @@ mine_of_words : (n : ℕ) (r : ReadingView) (f : FoundView) (c d : CpuView) → 
 mine_of_words zero r f c d is = ap (λ (z : CpuView). z.mine) is
 mine_of_words (suc n) r f c d (between, word, before, reads) = reads.load.mine ∙ mine_of_words n r f c between before
 
+mine_of_some : (n : ℕ) (r : ReadingView) (f : FoundView) (c d : CpuView) → ReadsSome n r f c d → d.mine ≡ c.mine
+mine_of_some n r f c d (inl one) = mine_of_words n r f c d one
+mine_of_some n r f c d (inr (all, words, reads)) = reads.mine
+
 -- each such section is one at most of an index
 locks_of_once : (p : ℕ) (i : Index) (n : ℕ) (c d : CpuView) → FindsOnce n c d → locks p i d.mine ≤ locks p i c.mine + 1
 locks_of_once p i n c d once =
@@ -63,7 +71,7 @@ locks_of_once p i n c d once =
     let find : Event = Find once.reading.section 0 looks.found.slot looks.found.version (Processor once.begun.processor) in
     let end : Event = End once.reading.section once.looked.processor (Processor once.looked.processor) in
     let begun : locks p i once.begun.mine ≡ locks p i (c.mine ++ begin ∷ []) = ap (locks p i) (begins.enters.adds.mine ∙ ap (λ l. l ++ begin ∷ []) begins.looks.load.mine) in
-    let looked : locks p i once.looked.mine ≡ locks p i (once.begun.mine ++ find ∷ []) = ap (locks p i) (mine_of_words n once.reading looks.found looks.between once.looked looks.reads ∙ looks.finds.adds.mine) in
+    let looked : locks p i once.looked.mine ≡ locks p i (once.begun.mine ++ find ∷ []) = ap (locks p i) (mine_of_some n once.reading looks.found looks.between once.looked looks.reads ∙ looks.finds.adds.mine) in
     let ended : locks p i d.mine ≡ locks p i (once.looked.mine ++ end ∷ []) = ap (locks p i) once.ends.mine in
     let a = count_push (locks_at p i) c.mine begin in
     let b = count_push (locks_at p i) once.begun.mine find in

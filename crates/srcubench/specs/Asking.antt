@@ -39,3 +39,12 @@ pub record AreAskersOfOne (threads : ℕ) (new : Bool) (asks : ℕ) (askers : Li
   pub shape : Shape
   pub count : length askers ≡ threads
   pub each : (k : ℕ) (a : Asker) → k < threads → HasAskedAll new asks (new_seat domain shape (Processor k)) (slice_index_or askers k a)
+
+-- so did one processor of a new tree of so many
+pub record HasAskedAlone (processors : ℕ) (new : Bool) (asks : ℕ) : Type 0 where
+  pub domain : TableId
+  pub nodes : ℕ
+  pub number : ℕ
+  pub there : number < processors
+  pub last : FunnelView
+  pub calls : AsksAll new asks (new_seat domain (record { processors = processors; nodes = nodes }) (Processor number)) last

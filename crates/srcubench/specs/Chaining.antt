@@ -1,4 +1,4 @@
--- A notifier chain of four blocks: how it is registered, changed and called.
+-- A notifier chain: how its blocks are registered, changed and called.
 use Rattle.std.specs.Prelude.{◌≡◌, ℕ, zero, suc, pos, List, []}
 use Rattle.sections.specs.WriterViews.{WriterView}
 use Rattle.domain.specs.Views.{DomainView, CpuView}
@@ -46,42 +46,42 @@ module _ {J : Type 0} where
 
   -- Calls
 
-  -- in one section a version of the chain was found, the handlers of four blocks were called, and the last one answered OK
-  abbrev pub CallsFour : ChainCell → CpuView J → CpuView J → Type 0
-  CallsFour v c c' = Calls AnswersAny v c c' 1 4
+  -- in one section a version of the chain was found, the handlers of so many blocks were called, and the last one answered OK
+  abbrev pub CallsOnce : ℕ → ChainCell → CpuView J → CpuView J → Type 0
+  CallsOnce blocks v c c' = Calls AnswersAny v c c' 1 blocks
 
   -- so many times, one behind the other
-  abbrev pub CallsOften : ChainCell → ℕ → CpuView J → CpuView J → Type 0
-  CallsOften v zero c c' = c' ≡ c
-  CallsOften v (suc n) c c' = (between : CpuView J) × CallsOften v n c between × CallsFour v between c'
+  abbrev pub CallsOften : ℕ → ChainCell → ℕ → CpuView J → CpuView J → Type 0
+  CallsOften blocks v zero c c' = c' ≡ c
+  CallsOften blocks v (suc n) c c' = (between : CpuView J) × CallsOften blocks v n c between × CallsOnce blocks v between c'
 
--- a chain of four ids with no blocks, to be put by this writer
-abbrev pub no_blocks : WriterView → ChainState
-no_blocks w = record { writer = w; ids = 4; blocks = [] }
+-- a chain of so many ids with no blocks, to be put by this writer
+abbrev pub no_blocks : ℕ → WriterView → ChainState
+no_blocks ids w = record { writer = w; ids = ids; blocks = [] }
 
--- four blocks were registered in a new domain with so many readers
-pub record HasChain (readers : ℕ) (d : DomainView) (cpus : List (CpuView (Unit {0}))) (chain : ChainState) (changer : CpuView (Unit {0})) : Type 0 where
+-- so many blocks were registered in a new domain with so many readers
+pub record HasChain (readers blocks : ℕ) (d : DomainView) (cpus : List (CpuView (Unit {0}))) (chain : ChainState) (changer : CpuView (Unit {0})) : Type 0 where
   pub first : CpuView (Unit {0})
   pub writer : WriterView
   pub new : IsNew readers d cpus first writer
-  pub registers : RegistersAll 4 (no_blocks writer) first chain changer
+  pub registers : RegistersAll blocks (no_blocks blocks writer) first chain changer
 
--- and then the last of them went and came so many times
+-- four were, and then the last of them went and came so many times
 pub record HaveChanged (rounds : ℕ) : Type 0 where
   pub domain : DomainView
   pub readers : List (CpuView (Unit {0}))
   pub chain : ChainState
   pub changer : CpuView (Unit {0})
-  pub has : HasChain 0 domain readers chain changer
+  pub has : HasChain 0 4 domain readers chain changer
   pub last_chain : ChainState
   pub last : CpuView (Unit {0})
   pub changes : ChangesOften rounds chain changer last_chain last
 
--- and then each reader called the chain so many times
-pub record HaveCalled (threads times : ℕ) : Type 0 where
+-- so many were, and then each reader called the chain so many times
+pub record HaveCalled (threads blocks times : ℕ) : Type 0 where
   pub domain : DomainView
   pub readers : List (CpuView (Unit {0}))
   pub chain : ChainState
   pub changer : CpuView (Unit {0})
-  pub has : HasChain threads domain readers chain changer
-  pub each : EachBecomes (CallsOften (record { cell = 0; ids = 4 }) times) readers
+  pub has : HasChain threads blocks domain readers chain changer
+  pub each : EachBecomes (CallsOften blocks (record { cell = 0; ids = blocks }) times) readers

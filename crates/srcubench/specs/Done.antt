@@ -3,9 +3,9 @@ use Rattle.std.specs.Prelude.{◌≡◌, ℕ, ◌*◌, ◌^◌, ◌≤◌, List}
 use Rattle.srcubench.specs.declared.pairs.Reader.{Reader}
 use Rattle.srcubench.specs.declared.asking.Asker.{Asker}
 use Rattle.srcubench.specs.declared.work.Work.{Work}
-use Rattle.srcubench.specs.declared.work.Work.TheVariants.{Pairs, HeldPairs, QuietPeriods, DrivenPeriods, Waits, WaitsAtOnce, Asks, Entries, Queueing, Callbacks, Given, Finds, Puts, ChainCalls, ChainChanges, Looks, Installs}
+use Rattle.srcubench.specs.declared.work.Work.TheVariants.{Pairs, HeldPairs, QuietPeriods, DrivenPeriods, Waits, WaitsAtOnce, Asks, AsksAlone, Entries, Queueing, Callbacks, Given, Finds, Puts, ChainCalls, ChainChanges, Looks, Installs}
 use Rattle.srcubench.specs.Readers.{AreReadersOfOne}
-use Rattle.srcubench.specs.Asking.{AreAskersOfOne}
+use Rattle.srcubench.specs.Asking.{AreAskersOfOne, HasAskedAlone}
 use Rattle.srcubench.specs.Calling.{HaveQueued, HavePassed}
 use Rattle.srcubench.specs.Chaining.{HaveChanged, HaveCalled}
 use Rattle.srcubench.specs.Driving.{HaveDriven, HaveWaited}
@@ -26,13 +26,14 @@ CanRun (DrivenPeriods processors periods) = 1 ≤ periods
 CanRun (Waits processors times) = 1 ≤ times
 CanRun (WaitsAtOnce threads times) = 1 ≤ times
 CanRun (Asks threads asks new) = (1 ≤ asks) × (asks ≤ 2 ^ 54) × (threads ≤ 2 ^ 16)
+CanRun (AsksAlone processors asks new) = (1 ≤ asks) × (asks ≤ 2 ^ 54) × (1 ≤ processors) × (processors ≤ 2 ^ 16)
 CanRun (Entries way batches) = (1 ≤ batches) × (batches ≤ 2 ^ 54)
 CanRun (Queueing threads jobs) = (1 ≤ threads * jobs) × (threads ≤ 2 ^ 16) × (jobs ≤ 2 ^ 40)
 CanRun (Callbacks threads jobs) = (1 ≤ threads * jobs) × (threads ≤ 2 ^ 16) × (jobs ≤ 2 ^ 40)
 CanRun (Given threads jobs ended) = (1 ≤ threads * jobs) × (threads ≤ 2 ^ 16) × (jobs ≤ 2 ^ 40)
 CanRun (Finds threads words times) = (1 ≤ times) × (words ≤ 16)
 CanRun (Puts times) = 1 ≤ times
-CanRun (ChainCalls threads times) = (1 ≤ times) × (threads ≤ 2 ^ 16)
+CanRun (ChainCalls threads blocks times) = (1 ≤ times) × (threads ≤ 2 ^ 16) × (blocks ≤ 15)
 CanRun (ChainChanges rounds) = (1 ≤ rounds) × (rounds ≤ 2 ^ 54)
 CanRun (Looks threads leased times) = (1 ≤ times) × (threads ≤ 2 ^ 16)
 CanRun (Installs times) = 1 ≤ times
@@ -46,13 +47,14 @@ IsDone (DrivenPeriods processors periods) done = (done ≡ periods) × HaveDrive
 IsDone (Waits processors times) done = (done ≡ times) × HaveWaited processors times
 IsDone (WaitsAtOnce threads times) done = (done ≡ times) × HaveWaitedAtOnce threads times
 IsDone (Asks threads asks new) done = (done ≡ asks) × (askers : List Asker) × AreAskersOfOne threads new asks askers
+IsDone (AsksAlone processors asks new) done = (done ≡ asks) × HasAskedAlone processors new asks
 IsDone (Entries way batches) done = done ≡ 8 * batches
 IsDone (Queueing threads jobs) done = (done ≡ threads * jobs) × HaveQueued threads jobs
 IsDone (Callbacks threads jobs) done = (done ≡ threads * jobs) × HavePassed threads jobs
 IsDone (Given threads jobs ended) done = (done ≡ threads * jobs) × HaveGiven threads jobs
 IsDone (Finds threads words times) done = (done ≡ times) × (readers : List Reader) × AreFindersOfOne threads words times readers
 IsDone (Puts times) done = (done ≡ times) × HavePut times
-IsDone (ChainCalls threads times) done = (done ≡ times) × HaveCalled threads times
+IsDone (ChainCalls threads blocks times) done = (done ≡ times) × HaveCalled threads blocks times
 IsDone (ChainChanges rounds) done = (done ≡ 2 * rounds) × HaveChanged rounds
 IsDone (Looks threads leased times) done = (done ≡ times) × HaveLooked threads leased times
 IsDone (Installs times) done = (done ≡ times) × HaveInstalled times

@@ -1,9 +1,10 @@
 -- Sections that find a version and read words of it.
-use Rattle.std.specs.Prelude.{◌≡◌, ℕ, zero, suc, ◌<◌, List, length, slice_index_or}
+use Rattle.std.specs.Prelude.{◌≡◌, ℕ, zero, suc, ◌<◌, ◌⊎◌, List, length, slice_index_or}
 use Rattle.atomic_table.specs.Seated.{TableId}
 use Rattle.sections.specs.Words.{cells_in}
 use Rattle.sections.specs.Views.{CpuView, ReadingView, FoundView}
 use Rattle.sections.specs.Calls.{ReadLocks, Unlocks, LooksInVain, new_cpu}
+use Rattle.sections.specs.Reads as reads
 use Rattle.sections.specs.Reads.{Finds, ReadsWord}
 use Rattle.srcubench.specs.declared.pairs.Reader.{Reader}
 use Rattle.srcubench.specs.Pairs.{HasRoom}
@@ -13,12 +14,16 @@ abbrev pub ReadsWords : ℕ → ReadingView → FoundView → CpuView → CpuVie
 ReadsWords zero r f c d = d ≡ c
 ReadsWords (suc n) r f c d = (between : CpuView) × (word : ℕ) × ReadsWords n r f c between × ReadsWord r f n word between d
 
+-- so many words of the version were loaded, all sixteen by one call
+abbrev pub ReadsSome : ℕ → ReadingView → FoundView → CpuView → CpuView → Type 0
+ReadsSome n r f c d = ReadsWords n r f c d ⊎ ((n ≡ 16) × (words : List ℕ) × reads.ReadsWords r f words c d)
+
 -- what is current in the first cell was found in the section, and then so many of its words were loaded
 pub record LooksUp (words : ℕ) (r : ReadingView) (c d : CpuView) : Type 0 where
   pub found : FoundView
   pub between : CpuView
   pub finds : Finds 0 r c between found
-  pub reads : ReadsWords words r found between d
+  pub reads : ReadsSome words r found between d
 
 -- a section was begun, that was done in it, and it was ended
 pub record FindsOnce (words : ℕ) (c d : CpuView) : Type 0 where

@@ -1,7 +1,8 @@
 //! Asking for grace periods: a new tree of needs, and a thread for each of its processors.
 ghost use Rattle.std.specs.Prelude.{◌≡◌, ◌*◌, ◌+◌, ◌^◌, ◌≤◌, true, false, All, IfOk};
-ghost use Rattle.srcubench.specs.Asking.{asked_number, CanAsk, AsksAll, HasAskedAll, HaveAskedAll, AreAskersOfOne};
+ghost use Rattle.srcubench.specs.Asking.{asked_number, CanAsk, AsksAll, HasAskedAll, HaveAskedAll, AreAskersOfOne, HasAskedAlone};
 
+use crate::work::Timed;
 use anyhow::Result;
 use funnel::FunnelSeat;
 use sseq::Number;
@@ -97,4 +98,28 @@ pub fn run<R: Threads + Sync + Clock + AllocGlobal>(
     let askers = ask_at_once(rt, seats, asks, new)?;
     let elapsed = start.elapsed(rt)?;
     Ok(Trial { askers, elapsed })
+}
+
+/// Has one processor of a new tree of so many ask so many times, while no other asks. Its `elapsed` is what the clock told,
+/// of which no clause speaks.
+pub fn run_alone<R: Clock + AllocGlobal>(
+    rt: &R,
+    processors: usize,
+    asks: u64,
+    new: bool,
+) -> Result<Timed>
+    requires few { asks ≤ 2 ^ 54 }
+    requires processors { (1 ≤ processors) × (processors ≤ 2 ^ 16) }
+    ensures done { IfOk result (λ timed. timed.done ≡ asks) }
+    ensures asked { IfOk result (λ _. HasAskedAlone processors new asks) }
+{
+    let (mut seats, _engine) = funnel::make(rt.alloc(), processors)?;
+    let mut needs = seats.pop().unwrap();
+    let start = Instant::now(rt)?;
+    make_asks(&mut needs, asks, new);
+    let elapsed = start.elapsed(rt)?;
+    Ok(Timed {
+        done: asks,
+        elapsed,
+    })
 }

@@ -23,7 +23,8 @@ pub const LIMITS: Limits = Limits {
     slots: 2,
 };
 
-/// Room for a list of some ten thousand jobs and for one of half the size, from which it grew. In bytes.
+/// Room for a list of some ten thousand jobs and for one of half the size, from which it grew; and for a domain of as many
+/// processors as there may be. In bytes.
 const HEAP: usize = 16 * 1024 * 1024;
 
 /// Queues so many jobs on this processor.
@@ -154,4 +155,14 @@ pub fn measure_memory<R: Wait + AllocGlobal>(rt: &R, jobs: u64) -> Result<usize>
     let before = heap.used();
     queue_all(rt, &domain, &mut cpu, jobs)?;
     Ok(heap.used().saturating_sub(before))
+}
+
+/// How many bytes of a heap a new domain of so many processors takes, with what each processor holds: no job was queued.
+pub fn measure_domain<R: AllocGlobal>(rt: &R, processors: usize) -> Result<usize> {
+    let heap = LocalHeap::new(rt.alloc(), HEAP)?;
+    let (domain, cpus, _) = Domain::<u64, &LocalHeap>::new(&heap, processors, LIMITS)?;
+    let used = heap.used();
+    drop(cpus);
+    drop(domain);
+    Ok(used)
 }

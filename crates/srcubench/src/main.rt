@@ -48,7 +48,7 @@ use work::{Work, measure};
 const THREADS: [usize; 3] = [1, 2, 4];
 
 /// The numbers of processors of the domains whose grace periods are measured.
-const PROCESSORS: [usize; 4] = [1, 2, 4, 64];
+const PROCESSORS: [usize; 5] = [1, 2, 4, 64, 256];
 
 /// How many threads wait for grace periods at once.
 const WAITERS: usize = 8;
@@ -70,6 +70,9 @@ const WORDS: [usize; 2] = [1, 16];
 
 /// How often a version is found, and how many are put, where they are only counted.
 const COUNTED_VERSIONS: u64 = 1_000;
+
+/// How many blocks a chain has that is called.
+const BLOCKS: [u64; 2] = [4, 15];
 
 /// How often a chain is called or a table read in each thread, and how often they are changed, where that is only counted.
 const COUNTED_READS: u64 = 1_000;
@@ -102,12 +105,7 @@ fn count<R: Threads + Sync + Wait + Clock + Print + AllocGlobal>(rt: &R) -> Resu
     }
     println!(rt; "held: {} pairs", held::run(rt, COUNTED_PAIRS)?.done)?;
     for processors in PROCESSORS {
-        let timed = quiet::run(rt, processors, COUNTED_PERIODS)?;
-        println!(rt; "processors {processors}: {} quiet periods", timed.done)?;
-        let timed = driving::run_periods(rt, processors, COUNTED_PERIODS)?;
-        println!(rt; "processors {processors}: {} periods driven", timed.done)?;
-        let timed = driving::run_waits(rt, processors, COUNTED_PERIODS)?;
-        println!(rt; "processors {processors}: {} waits", timed.done)?;
+        count_by_processors(rt, processors)?;
     }
     let timed = waiting::run(rt, WAITERS, COUNTED_WAITS)?;
     println!(rt; "threads {WAITERS}: {} waits in each at once", timed.done)?;
@@ -133,6 +131,30 @@ fn count<R: Threads + Sync + Wait + Clock + Print + AllocGlobal>(rt: &R) -> Resu
     count_tables(rt)
 }
 
+/// Prints how many grace periods a domain of so many processors had, and how often one of them waited or asked for one.
+fn count_by_processors<R: Wait + Clock + Print + AllocGlobal>(
+    rt: &R,
+    processors: usize,
+) -> Result<()>
+    requires { (1 ≤ processors) × (processors ≤ 2 ^ 16) }
+{
+    let timed = quiet::run(rt, processors, COUNTED_PERIODS)?;
+    println!(rt; "processors {processors}: {} quiet periods", timed.done)?;
+    let timed = driving::run_periods(rt, processors, COUNTED_PERIODS)?;
+    println!(rt; "processors {processors}: {} periods driven", timed.done)?;
+    let timed = driving::run_waits(rt, processors, COUNTED_PERIODS)?;
+    println!(rt; "processors {processors}: {} waits", timed.done)?;
+    for new in [true, false] {
+        let timed = asking::run_alone(rt, processors, COUNTED_ASKS, new)?;
+        let numbers = if new { "new" } else { "known" };
+        println!(rt;
+            "processors {processors}: {} asks by one, {numbers} numbers",
+            timed.done
+        )?;
+    }
+    Ok(())
+}
+
 /// Prints how often a version was found, and how many were put.
 fn count_versions<R: Threads + Sync + Wait + Clock + Print + AllocGlobal>(rt: &R) -> Result<()> {
     for threads in THREADS {
@@ -156,11 +178,13 @@ fn count_versions<R: Threads + Sync + Wait + Clock + Print + AllocGlobal>(rt: &R
 /// Prints how often a chain was called in each thread, and how often one was changed.
 fn count_chains<R: Threads + Sync + Wait + Clock + Print + AllocGlobal>(rt: &R) -> Result<()> {
     for threads in THREADS {
-        let timed = notifying::run(rt, threads, COUNTED_READS)?;
-        println!(rt;
-            "threads {threads}: {} calls of a chain in each",
-            timed.done
-        )?;
+        for blocks in BLOCKS {
+            let timed = notifying::run(rt, threads, blocks, COUNTED_READS)?;
+            println!(rt;
+                "threads {threads}: {} calls of a chain of {blocks} in each",
+                timed.done
+            )?;
+        }
     }
     println!(rt;
         "chain: {} changes",
@@ -185,13 +209,17 @@ fn count_tables<R: Threads + Sync + Wait + Clock + Print + AllocGlobal>(rt: &R) 
     Ok(())
 }
 
-/// Prints how many jobs were queued, how many came out, and how many bytes the queued ones took.
+/// Prints how many jobs were queued, how many came out, how many bytes the queued ones took, and what a domain takes before.
 fn count_jobs<R: Threads + Sync + Wait + Clock + Print + AllocGlobal>(rt: &R) -> Result<()> {
     count_jobs_of(rt, 1, JOBS)?;
     count_jobs_of(rt, 2, JOBS / 2)?;
     count_jobs_of(rt, 4, JOBS / 4)?;
     let bytes = callbacks::measure_memory(rt, JOBS)?;
     println!(rt; "memory: {bytes} bytes for {JOBS} queued jobs")?;
+    for processors in [1, 64, 256] {
+        let bytes = callbacks::measure_domain(rt, processors)?;
+        println!(rt; "memory: {bytes} bytes for a domain of {processors} processors")?;
+    }
     Ok(())
 }
 
@@ -230,23 +258,8 @@ fn time<R: Threads + Sync + Wait + Clock + Print + AllocGlobal>(
     }
     let spread = measure(rt, Work::HeldPairs { pairs }, repetitions)?;
     println!(rt; "srcubench-held 1 {spread}")?;
-    let periods = pairs / LESS_OFTEN + 1;
     for processors in PROCESSORS {
-        let work = Work::QuietPeriods {
-            processors,
-            periods,
-        };
-        let spread = measure(rt, work, repetitions)?;
-        println!(rt; "srcubench-quiet-period {processors} {spread}")?;
-        let work = Work::DrivenPeriods {
-            processors,
-            periods,
-        };
-        let spread = measure(rt, work, repetitions)?;
-        println!(rt; "srcubench-domain-period {processors} {spread}")?;
-        let times = periods;
-        let spread = measure(rt, Work::Waits { processors, times }, repetitions)?;
-        println!(rt; "srcubench-synchronize {processors} {spread}")?;
+        time_by_processors(rt, processors, pairs, repetitions)?;
     }
     let work = Work::WaitsAtOnce {
         threads: WAITERS,
@@ -273,6 +286,47 @@ fn time<R: Threads + Sync + Wait + Clock + Print + AllocGlobal>(
     time_versions(rt, pairs, repetitions)?;
     time_chains(rt, pairs, repetitions)?;
     time_tables(rt, pairs, repetitions)
+}
+
+/// Prints what a grace period took in a domain of so many processors without a reader, and what it took one of them to wait
+/// or to ask for one.
+fn time_by_processors<R: Threads + Sync + Wait + Clock + Print + AllocGlobal>(
+    rt: &R,
+    processors: usize,
+    asks: u64,
+    repetitions: u64,
+) -> Result<()>
+    requires processors { (1 ≤ processors) × (processors ≤ 2 ^ 16) }
+    requires asks { (1 ≤ asks) × (asks ≤ 2 ^ 54) }
+    requires repetitions { 1 ≤ repetitions }
+{
+    let periods = asks / LESS_OFTEN + 1;
+    let work = Work::QuietPeriods {
+        processors,
+        periods,
+    };
+    let spread = measure(rt, work, repetitions)?;
+    println!(rt; "srcubench-quiet-period {processors} {spread}")?;
+    let work = Work::DrivenPeriods {
+        processors,
+        periods,
+    };
+    let spread = measure(rt, work, repetitions)?;
+    println!(rt; "srcubench-domain-period {processors} {spread}")?;
+    let times = periods;
+    let spread = measure(rt, Work::Waits { processors, times }, repetitions)?;
+    println!(rt; "srcubench-synchronize {processors} {spread}")?;
+    for new in [true, false] {
+        let work = Work::AsksAlone {
+            processors,
+            asks,
+            new,
+        };
+        let spread = measure(rt, work, repetitions)?;
+        let numbers = if new { "new" } else { "known" };
+        println!(rt; "srcubench-ask-{numbers}-alone {processors} {spread}")?;
+    }
+    Ok(())
 }
 
 /// Prints what it took to find a version and read words of it, where each thread does so many, and what a put took.
@@ -312,8 +366,15 @@ fn time_chains<R: Threads + Sync + Wait + Clock + Print + AllocGlobal>(
     requires repetitions { 1 ≤ repetitions }
 {
     for threads in THREADS {
-        let spread = measure(rt, Work::ChainCalls { threads, times }, repetitions)?;
-        println!(rt; "srcubench-chain-call {threads} {spread}")?;
+        for blocks in BLOCKS {
+            let work = Work::ChainCalls {
+                threads,
+                blocks,
+                times,
+            };
+            let spread = measure(rt, work, repetitions)?;
+            println!(rt; "srcubench-chain-call-{blocks} {threads} {spread}")?;
+        }
     }
     let rounds = times / (2 * LESS_OFTEN) + 1;
     let spread = measure(rt, Work::ChainChanges { rounds }, repetitions)?;

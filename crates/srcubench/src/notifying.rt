@@ -1,13 +1,13 @@
-//! Calls of a notifier chain: a thread for each of a domain's readers, in which four handlers are called that do nothing.
+//! Calls of a notifier chain: a thread for each of a domain's readers, in which handlers are called that do nothing.
 ghost use Rattle.std.specs.Prelude.{◌≡◌, ◌^◌, ◌<◌, ◌≤◌, All, length, IfOk};
 ghost use Rattle.sections.specs.Words.{cells_in};
 ghost use Rattle.srcubench.specs.Calling.{AreOutcomes};
-ghost use Rattle.srcubench.specs.Chaining.{CallsFour, CallsOften, HaveCalled};
+ghost use Rattle.srcubench.specs.Chaining.{CallsOnce, CallsOften, HaveCalled};
 
 use crate::callbacks::first_error;
 use crate::founding::{New, found};
 use crate::miss::Miss;
-use crate::registering::{BLOCKS, register_all};
+use crate::registering::register_all;
 use crate::work::Timed;
 use anyhow::Result;
 use domain::Cpu;
@@ -31,14 +31,19 @@ impl Handler for Idle {
     }
 }
 
-/// Calls the chain. Four handlers have to be called, and the last one has to answer OK.
-fn call_once(cpu: &mut Cpu<()>, view: ChainView, handlers: &[Box<dyn Handler>]) -> Result<(), Miss>
+/// Calls the chain. So many handlers have to be called, and the last one has to answer OK.
+fn call_once(
+    cpu: &mut Cpu<()>,
+    view: ChainView,
+    handlers: &[Box<dyn Handler>],
+    blocks: u64,
+) -> Result<(), Miss>
     requires cell { view.cell < cells_in cpu.old.cpu.domain }
     requires handlers { view.ids ≤ length handlers.now }
-    ensures { IfOk result (λ _. CallsFour view cpu.old cpu.new) }
+    ensures { IfOk result (λ _. CallsOnce blocks view cpu.old cpu.new) }
 {
     let (last, count) = view.call_chain(cpu, handlers, 0, 0)?;
-    if last == OK && count == BLOCKS {
+    if last == OK && count == blocks {
         Ok(())
     } else {
         Err(Miss::Called { last, count })
@@ -50,30 +55,36 @@ fn call_often(
     cpu: &mut Cpu<()>,
     view: ChainView,
     handlers: &[Box<dyn Handler>],
+    blocks: u64,
     times: u64,
 ) -> Result<(), Miss>
     requires cell { view.cell < cells_in cpu.old.cpu.domain }
     requires handlers { view.ids ≤ length handlers.now }
-    ensures { IfOk result (λ _. CallsOften view times cpu.old cpu.new) }
+    ensures { IfOk result (λ _. CallsOften blocks view times cpu.old cpu.new) }
 {
     for _ in 0..times {
-        call_once(cpu, view, handlers)?;
+        call_once(cpu, view, handlers, blocks)?;
     }
     Ok(())
 }
 
-/// Does so on this processor, with handlers of its own.
-fn call_here(alloc: Global, mut cpu: Cpu<()>, view: ChainView, times: u64) -> Result<Cpu<()>, Miss>
+/// Does so on this processor, with so many handlers of its own.
+fn call_here(
+    alloc: Global,
+    mut cpu: Cpu<()>,
+    view: ChainView,
+    blocks: u64,
+    times: u64,
+) -> Result<Cpu<()>, Miss>
     requires cell { view.cell < cells_in cpu.cpu.domain }
-    requires ids { view.ids ≡ 4 }
-    ensures { IfOk result (λ last. CallsOften view times cpu last) }
+    requires ids { view.ids ≡ blocks }
+    ensures { IfOk result (λ last. CallsOften blocks view times cpu last) }
 {
     let mut handlers: Vec<Box<dyn Handler>> = Vec::new(alloc);
-    handlers.push(Box::new(alloc, Idle)?)?;
-    handlers.push(Box::new(alloc, Idle)?)?;
-    handlers.push(Box::new(alloc, Idle)?)?;
-    handlers.push(Box::new(alloc, Idle)?)?;
-    call_often(&mut cpu, view, &handlers, times)?;
+    for _ in 0..blocks {
+        handlers.push(Box::new(alloc, Idle)?)?;
+    }
+    call_often(&mut cpu, view, &handlers, blocks, times)?;
     Ok(cpu)
 }
 
@@ -83,25 +94,28 @@ fn call_together<R: Threads + Sync>(
     alloc: Global,
     cpus: Vec<Cpu<()>>,
     view: ChainView,
+    blocks: u64,
     times: u64,
 ) -> Result<Vec<Result<Cpu<()>, Miss>>, AllocError>
     requires cell { All (λ c. view.cell < cells_in c.cpu.domain) cpus.items }
-    requires ids { view.ids ≡ 4 }
-    ensures { IfOk result (λ outcomes. AreOutcomes (CallsOften view times) cpus.items outcomes.items) }
+    requires ids { view.ids ≡ blocks }
+    ensures { IfOk result (λ outcomes. AreOutcomes (CallsOften blocks view times) cpus.items outcomes.items) }
 {
-    thread::map_vec(rt, cpus, &|cpu| call_here(alloc, cpu, view, times))
+    thread::map_vec(rt, cpus, &|cpu| call_here(alloc, cpu, view, blocks, times))
 }
 
-/// Calls a chain of four blocks so many times in each of so many threads. The `elapsed` is what the clock told, of which
+/// Calls a chain of so many blocks so many times in each of so many threads. The `elapsed` is what the clock told, of which
 /// no clause speaks: from before the first thread's start until all had ended.
 pub fn run<R: Threads + Sync + Clock + AllocGlobal>(
     rt: &R,
     threads: usize,
+    blocks: u64,
     times: u64,
 ) -> Result<Timed>
-    requires { threads ≤ 2 ^ 16 }
+    requires threads { threads ≤ 2 ^ 16 }
+    requires blocks { blocks ≤ 15 }
     ensures done { IfOk result (λ timed. timed.done ≡ times) }
-    ensures called { IfOk result (λ _. HaveCalled threads times) }
+    ensures called { IfOk result (λ _. HaveCalled threads blocks times) }
 {
     let New {
         domain,
@@ -110,10 +124,10 @@ pub fn run<R: Threads + Sync + Clock + AllocGlobal>(
         writer,
     } = found(rt.alloc(), threads)?;
     let cell = writer.cell();
-    let (mut chain, view) = Chain::new(writer, cell, BLOCKS);
-    register_all(&domain, &mut changer, &mut chain, BLOCKS)?;
+    let (mut chain, view) = Chain::new(writer, cell, blocks);
+    register_all(&domain, &mut changer, &mut chain, blocks)?;
     let start = Instant::now(rt)?;
-    let outcomes = call_together(rt, rt.alloc(), readers, view, times)?;
+    let outcomes = call_together(rt, rt.alloc(), readers, view, blocks, times)?;
     let elapsed = start.elapsed(rt)?;
     first_error(outcomes.as_slice())?;
     Ok(Timed {

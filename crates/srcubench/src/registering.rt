@@ -11,10 +11,10 @@ use domain::{Cpu, Domain};
 use notify::Chain;
 use std::time::{Clock, Instant};
 
-/// How many blocks a chain has that is called. Their ids are the numbers below.
-pub const BLOCKS: u64 = 4;
+/// How many blocks the chain has. Their ids are the numbers below.
+const BLOCKS: u64 = 4;
 
-/// The block that goes and comes: the last one that is called.
+/// The block that goes and comes: the last one.
 const LAST: u64 = BLOCKS - 1;
 
 /// Registers a block of priority 0, and drives a grace period, behind which nobody reads the chain without it.

@@ -55,6 +55,13 @@ pub enum Work {
         asks: u64,
         new: bool,
     },
+    /// Asks for grace periods by one processor of a tree of needs of so many, each for a number that is new, or each for
+    /// the same, which is there.
+    AsksAlone {
+        processors: usize,
+        asks: u64,
+        new: bool,
+    },
     /// Batches of entries that go through a list or a queue.
     Entries {
         way: Way,
@@ -88,10 +95,11 @@ pub enum Work {
     Puts {
         times: u64,
     },
-    /// Calls of a notifier chain with four handlers that do nothing: so many in each of so many threads, which are
+    /// Calls of a notifier chain with so many handlers that do nothing: so many in each of so many threads, which are
     /// processors of one domain.
     ChainCalls {
         threads: usize,
+        blocks: u64,
         times: u64,
     },
     /// Rounds in which a block of a chain of four is unregistered and registered again, each behind a grace period, in
@@ -153,6 +161,11 @@ pub fn run<R: Threads + Sync + Wait + Clock + AllocGlobal>(rt: &R, work: Work) -
                 elapsed: trial.elapsed,
             })
         }
+        Work::AsksAlone {
+            processors,
+            asks,
+            new,
+        } => asking::run_alone(rt, processors, asks, new),
         Work::Entries { way, batches } => passage::run(rt, way, batches),
         Work::Queueing { threads, jobs } => callbacks::run_queueing(rt, threads, jobs),
         Work::Callbacks { threads, jobs } => callbacks::run_passing(rt, threads, jobs),
@@ -173,7 +186,11 @@ pub fn run<R: Threads + Sync + Wait + Clock + AllocGlobal>(rt: &R, work: Work) -
             })
         }
         Work::Puts { times } => putting::run(rt, times),
-        Work::ChainCalls { threads, times } => notifying::run(rt, threads, times),
+        Work::ChainCalls {
+            threads,
+            blocks,
+            times,
+        } => notifying::run(rt, threads, blocks, times),
         Work::ChainChanges { rounds } => registering::run(rt, rounds),
         Work::Looks {
             threads,

@@ -14,8 +14,8 @@ call_once-requires-clause-cell g c = subst (λ (t : TableId). c.args.view.cell <
 
 pub loop-preserved : goal.loop-preserved
 loop-preserved g c = record {
-  calls = one_called c.args.view c.loop.counter c.args.cpu.now c.loop.cpu c.call_once.new.cpu c.loop.invariant.calls c.in_ok-call_once.ensures;
-  domain = same_called c.args.view c.loop.cpu c.call_once.new.cpu c.in_ok-call_once.ensures ∙ c.loop.invariant.domain;
+  calls = one_called c.args.blocks c.args.view c.loop.counter c.args.cpu.now c.loop.cpu c.call_once.new.cpu c.loop.invariant.calls c.in_ok-call_once.ensures;
+  domain = same_called c.args.blocks c.args.view c.loop.cpu c.call_once.new.cpu c.in_ok-call_once.ensures ∙ c.loop.invariant.domain;
 }
 
 pub returns : goal.returns
@@ -23,4 +23,4 @@ returns g c =
     let test = c.loop-test.false in
     let end = c.loop.auto.counter-end in
     let all : c.loop.counter ≡ c.args.times = omega (arith, test, end) in
-    subst (λ n. CallsOften c.args.view n c.args.cpu.now c.loop.cpu) all c.loop.invariant.calls
+    subst (λ n. CallsOften c.args.blocks c.args.view n c.args.cpu.now c.loop.cpu) all c.loop.invariant.calls

@@ -5,6 +5,6 @@ use Rattle.srcubench.proofs.notifying.call_often.Given as goal
 
 abbrev pub invariant-loop : goal.invariant-loop
 invariant-loop g l = record {
-  calls : CallsOften l.view l.counter l.initial.cpu l.cpu;
+  calls : CallsOften l.blocks l.view l.counter l.initial.cpu l.cpu;
   domain : l.cpu.cpu.domain ≡ l.initial.cpu.cpu.domain;
 }

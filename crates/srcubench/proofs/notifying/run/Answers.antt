@@ -23,5 +23,5 @@ call_together-requires-clause-ids g c κs lives = ap (λ (v : ChainCell). v.ids)
 pub returns-clause-called : goal.returns-clause-called
 returns-clause-called g c =
     let none = subst (λ (l : List (Result (CpuView (Unit {0})) Miss)). All IsOk l) c.as_slice.ensures.value c.in_ok-first_error.ensures in
-    let has = has_chain _ _ _ _ _ _ _ _ c.in_ok-domain.ensures.new c.new-chain.ensures.chain c.in_ok-register_all.ensures.registers in
-    have_called _ _ _ _ _ _ _ _ _ _ has c.new-chain.ensures.view c.cell-cell.ensures c.in_ok-domain.ensures.new.pen c.in_ok-outcomes.ensures none
+    let has = has_chain _ _ _ _ _ _ _ _ _ c.in_ok-domain.ensures.new c.new-chain.ensures.chain c.in_ok-register_all.ensures.registers in
+    have_called _ _ _ _ _ _ _ _ _ _ _ has c.new-chain.ensures.view c.cell-cell.ensures c.in_ok-domain.ensures.new.pen c.in_ok-outcomes.ensures none

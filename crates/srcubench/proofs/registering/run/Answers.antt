@@ -16,5 +16,5 @@ change_often-requires-clause-ids g c = c.register_all.ensures.same.1 ∙ ap (λ 
 
 pub returns-clause-changed : goal.returns-clause-changed
 returns-clause-changed g c =
-    let has = has_chain _ _ _ _ _ _ _ _ c.in_ok-domain.ensures.new c.new-chain.ensures.chain c.in_ok-register_all.ensures.registers in
+    let has = has_chain _ _ _ _ _ _ _ _ _ c.in_ok-domain.ensures.new c.new-chain.ensures.chain c.in_ok-register_all.ensures.registers in
     have_changed _ _ _ _ _ _ _ has c.in_ok-change_often.ensures
