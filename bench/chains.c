@@ -1,6 +1,6 @@
 /*
- * A notifier chain of four handlers that do nothing but answer OK: as versions of a domain in C11, whose words are the
- * handlers, and as a plain array under a lock that readers share.
+ * A notifier chain of four handlers, or of fifteen, that do nothing but answer OK: as versions of a domain in C11, whose
+ * words are the handlers, and as a plain array under a lock that readers share.
  */
 #include "shelf.h"
 
@@ -8,7 +8,7 @@
 #include <stdlib.h>
 #include <string.h>
 
-#define BLOCKS 4
+#define FOUR 4
 #define MOST_BLOCKS 15
 #define OK 1u
 #define STOP_BIT 0x8000u
@@ -31,6 +31,9 @@ static _Alignas(STRIDE) pthread_rwlock_t lock = PTHREAD_RWLOCK_INITIALIZER;
 static _Alignas(STRIDE) struct block blocks[MOST_BLOCKS];
 static unsigned block_count;
 
+/* How many handlers a call has to call. */
+static unsigned called;
+
 static unsigned answer_ok(uint64_t action, uint64_t value)
 {
 	(void)action;
@@ -39,9 +42,9 @@ static unsigned answer_ok(uint64_t action, uint64_t value)
 }
 
 /* Ours looks at each answer, too. */
-static void expect_four(struct answer answer)
+static void expect_all(struct answer answer)
 {
-	if (answer.last != OK || answer.count != BLOCKS)
+	if (answer.last != OK || answer.count != called)
 		abort();
 }
 
@@ -57,10 +60,21 @@ static void put_handlers(unsigned count)
 	put_words(words);
 }
 
-static void prepare_model(unsigned size)
+static void prepare_model(unsigned size, unsigned count)
 {
 	prepare_processors(size);
-	put_handlers(BLOCKS);
+	put_handlers(count);
+	called = count;
+}
+
+static void prepare_model_of_four(unsigned size)
+{
+	prepare_model(size, FOUR);
+}
+
+static void prepare_model_of_fifteen(unsigned size)
+{
+	prepare_model(size, MOST_BLOCKS);
 }
 
 /* In a section the version is found, and the handlers that its words are get called. */
@@ -86,14 +100,14 @@ static void call_versions(const struct worker *worker)
 	struct processor *own = processor_of(worker);
 
 	for (uint64_t round = 0; round < worker->rounds; round++)
-		expect_four(call_version(own));
+		expect_all(call_version(own));
 }
 
 /* The last block goes and comes, by turns. */
 static void change_versions(const struct worker *worker)
 {
 	for (uint64_t round = 0; round < worker->rounds; round++)
-		put_handlers(round % 2 == 0 ? BLOCKS - 1 : BLOCKS);
+		put_handlers(round % 2 == 0 ? FOUR - 1 : FOUR);
 }
 
 /* The lock */
@@ -120,12 +134,24 @@ static void remove_block(unsigned place)
 	pthread_rwlock_unlock(&lock);
 }
 
-static void prepare_blocks(unsigned size)
+static void prepare_blocks(unsigned count)
+{
+	block_count = 0;
+	for (unsigned i = 0; i < count; i++)
+		insert_block((struct block){ 0, answer_ok });
+	called = count;
+}
+
+static void prepare_four_blocks(unsigned size)
 {
 	(void)size;
-	block_count = 0;
-	for (unsigned i = 0; i < BLOCKS; i++)
-		insert_block((struct block){ 0, answer_ok });
+	prepare_blocks(FOUR);
+}
+
+static void prepare_fifteen_blocks(unsigned size)
+{
+	(void)size;
+	prepare_blocks(MOST_BLOCKS);
 }
 
 static struct answer call_blocks(void)
@@ -144,36 +170,50 @@ static struct answer call_blocks(void)
 static void call_locked(const struct worker *worker)
 {
 	for (uint64_t round = 0; round < worker->rounds; round++)
-		expect_four(call_blocks());
+		expect_all(call_blocks());
 }
 
 static void change_locked(const struct worker *worker)
 {
 	for (uint64_t round = 0; round < worker->rounds; round++) {
 		if (round % 2 == 0)
-			remove_block(BLOCKS - 1);
+			remove_block(FOUR - 1);
 		else
 			insert_block((struct block){ 0, answer_ok });
 	}
 }
 
-const struct thing model_chain_call = {
-	.name = "model-chain-call",
-	.prepare = prepare_model,
+const struct thing model_chain_call_four = {
+	.name = "model-chain-call-4",
+	.prepare = prepare_model_of_four,
 	.work = call_versions,
 	.less_often = 1,
 };
 
-const struct thing rwlock_chain_call = {
-	.name = "rwlock-chain-call",
-	.prepare = prepare_blocks,
+const struct thing rwlock_chain_call_four = {
+	.name = "rwlock-chain-call-4",
+	.prepare = prepare_four_blocks,
+	.work = call_locked,
+	.less_often = 8,
+};
+
+const struct thing model_chain_call_fifteen = {
+	.name = "model-chain-call-15",
+	.prepare = prepare_model_of_fifteen,
+	.work = call_versions,
+	.less_often = 1,
+};
+
+const struct thing rwlock_chain_call_fifteen = {
+	.name = "rwlock-chain-call-15",
+	.prepare = prepare_fifteen_blocks,
 	.work = call_locked,
 	.less_often = 8,
 };
 
 const struct thing model_chain_change = {
 	.name = "model-chain-change",
-	.prepare = prepare_model,
+	.prepare = prepare_model_of_four,
 	.work = change_versions,
 	.less_often = 4,
 	.sizes = one_size,
@@ -181,7 +221,7 @@ const struct thing model_chain_change = {
 
 const struct thing rwlock_chain_change = {
 	.name = "rwlock-chain-change",
-	.prepare = prepare_blocks,
+	.prepare = prepare_four_blocks,
 	.work = change_locked,
 	.less_often = 4,
 	.sizes = one_size,

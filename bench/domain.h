@@ -9,7 +9,7 @@
 
 #include <stdatomic.h>
 
-#define MOST_PROCESSORS 64
+#define MOST_PROCESSORS 256
 
 struct word {
 	_Alignas(STRIDE) _Atomic uint64_t value;

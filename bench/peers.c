@@ -25,7 +25,7 @@ struct job {
 };
 
 const unsigned one_size[] = { 1, 0 };
-const unsigned processor_sizes[] = { 1, 2, 4, 64, 0 };
+const unsigned processor_sizes[] = { 1, 2, 4, 64, 256, 0 };
 const unsigned eight_sizes[] = { 8, 0 };
 
 static const struct thing *const things[] = {
@@ -55,8 +55,10 @@ static const struct thing *const things[] = {
 	&rwlock_all,
 	&model_put,
 	&rwlock_put,
-	&model_chain_call,
-	&rwlock_chain_call,
+	&model_chain_call_four,
+	&rwlock_chain_call_four,
+	&model_chain_call_fifteen,
+	&rwlock_chain_call_fifteen,
 	&model_chain_change,
 	&rwlock_chain_change,
 	&model_lookup,

@@ -1,4 +1,5 @@
-# Writes one random script: a comment with the options to run it with, and then lines of every kind, well and faulty.
+# Writes one random script: a comment with the options to run it with, and then lines of every kind, well and faulty; those of
+# sets only where `sets` is 1.
 # The seed decides all of it, with every awk: the numbers come from a generator of its own.
 
 function below(bound) {
@@ -77,6 +78,15 @@ function priority() {
     return one_of("-5,-1,0,0,5,5,9,-2147483648,2147483647")
 }
 
+# The processors whose cookies make a set: from one to eight, each with its domain.
+function members(    all, count) {
+    all = ""
+    count = chance(faults) ? one_of("0,9,12") : 1 + below(chance(80) ? 3 : 8)
+    while (count-- > 0)
+        all = all " " domain_name() " " processor()
+    return chance(faults) ? all " " domain_name() : all
+}
+
 # A key, or a plug: a number of 32 bits.
 function word_of_32_bits() {
     if (chance(faults))
@@ -104,6 +114,10 @@ function words_of(command) {
         return command " " domain_name() " " token_name()
     if (command == "look" || command == "enter" || command == "lock" || command == "down" || command == "up" || command == "call" || command ~ /^barrier/)
         return command " " domain_name() " " processor() " " token_name()
+    if (command == "set")
+        return command " " token_name() members()
+    if (command == "set-poll")
+        return command " " token_name()
     if (command == "poll")
         return command " " domain_name() " " processor() " " cookie()
     if (command == "register")
@@ -186,6 +200,8 @@ BEGIN {
     acting = "look,enter,lock,lock,unlock,unlock,down,down,up,up,park,park,unpark,unpark,get,ask,poll,poll,state,domain" \
         ",call,call,call,call,run,run,run,batch,finish,segs,barrier,barrier-poll,barrier-poll,cleanup" \
         ",register,register,unregister,chain,notify,notify,install,install,remove,lookup,lease,read,release,release"
+    if (sets)
+        acting = acting ",set,set,set-poll,set-poll,set-poll"
     driving = "start,advance,advance,step,step,step"
     faults = one_of("0,1,5,20")
     domains = one_of("1,2,3,12")

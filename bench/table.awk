@@ -70,6 +70,17 @@ function ask_rows(size) {
     row("one shared word, known number, " threads(size), "shared-max-known", size, "shared-max-known")
 }
 
+# One thread alone at a tree of many processors, beside the word that one thread raises.
+function ask_alone_row(label, name, size, base) {
+    if ((1, name, size) in ns)
+        printf "%-44s %-28s %s\n", label ", " processors(size), ratios(name, size, ""), ratios(name, size, base, 1)
+}
+
+function ask_alone_rows(size) {
+    ask_alone_row("tree of needs, new number", "srcubench-ask-new-alone", size, "shared-max-new")
+    ask_alone_row("tree of needs, known number", "srcubench-ask-known-alone", size, "shared-max-known")
+}
+
 function synchronize_rows(size) {
     row("this domain, " processors(size), "srcubench-synchronize", size, "urcu-mb-synchronize")
     row("liburcu mb, " size (size == 1 ? " reader" : " readers"), "urcu-mb-synchronize", size, "urcu-mb-synchronize")
@@ -120,10 +131,11 @@ function put_rows() {
     row("pthread_rwlock, no grace period", "rwlock-put", 1, "model-put")
 }
 
-function chain_rows(size) {
-    row("this domain, " threads(size), "srcubench-chain-call", size, "model-chain-call")
-    row("C11 model of it, " threads(size), "model-chain-call", size, "model-chain-call")
-    row("pthread_rwlock, " threads(size), "rwlock-chain-call", size, "model-chain-call")
+function chain_rows(blocks, size,    calls) {
+    calls = "chain-call-" blocks
+    row("this domain, " threads(size), "srcubench-" calls, size, "model-" calls)
+    row("C11 model of it, " threads(size), "model-" calls, size, "model-" calls)
+    row("pthread_rwlock, " threads(size), "rwlock-" calls, size, "model-" calls)
 }
 
 function chain_change_rows() {
@@ -174,6 +186,8 @@ END {
     printf "%-44s %-28s %s\n", "asking for one", "      ns", "ratio to the shared word"
     for (size = 1; size <= most; size *= 2)
         ask_rows(size)
+    for (size = 1; size <= most; size *= 2)
+        ask_alone_rows(size)
     print ""
     printf "%-44s %-28s %s\n", "one synchronize with nobody reading", "      ns", "ratio to liburcu mb"
     for (size = 1; size <= most; size *= 2)
@@ -203,7 +217,11 @@ END {
     print ""
     printf "%-44s %-28s %s\n", "a call of a chain of four handlers", "      ns", "ratio to the model"
     for (size = 1; size <= 4; size *= 2)
-        chain_rows(size)
+        chain_rows(4, size)
+    print ""
+    printf "%-44s %-28s %s\n", "a call of a chain of fifteen handlers", "      ns", "ratio to the model"
+    for (size = 1; size <= 4; size *= 2)
+        chain_rows(15, size)
     print ""
     printf "%-44s %-28s %s\n", "a change of a chain and a grace period", "      ns", "ratio to the model"
     chain_change_rows()

@@ -8,7 +8,7 @@
 #include <pthread.h>
 #include <stdlib.h>
 
-#define MOST_READERS 64
+#define MOST_READERS 256
 
 /* Readers that are registered, and sleep until they are told to leave. */
 static pthread_t readers[MOST_READERS];
