@@ -56,7 +56,7 @@ use Rattle.domain.specs.Acting.{Act, makes, loads, begins, ends, notes, asks_whe
 -- At the domain's words
 
 -- no event was made
-made_none : (c c' : sections.CpuView) → IsSameCpu c c' → c'.mine ≡ c.mine → IsBeginning c.seen c'.seen → c.changes ≤ c'.changes → MakesEvents [] c c'
+pub made_none : (c c' : sections.CpuView) → IsSameCpu c c' → c'.mine ≡ c.mine → IsBeginning c.seen c'.seen → c.changes ≤ c'.changes → MakesEvents [] c c'
 made_none c c' same mine since later = record { same = same; others = []; since = subst (λ l. IsBeginning l c'.seen) (sym (append-nil c.seen)) since; mine = mine ∙ sym (append-nil c.mine); later = later }
 
 loads_make : (l : Step) (c c' : sections.CpuView) → Loads l c c' → MakesEvents [] c c'
@@ -196,7 +196,7 @@ module _ {J : Type 0} where
   }
 
 module _ {J : Type 0} where
-  rows_count : (by : ℕ) (found : List (List ℕ)) → CountsNothing {J = J} (map (deed by) (rows_of_loads found))
+  pub rows_count : (by : ℕ) (found : List (List ℕ)) → CountsNothing {J = J} (map (deed by) (rows_of_loads found))
   rows_count by [] = nothing_done
   rows_count by (ns ∷ more) = subst (λ l. CountsNothing l) (sym (map-append (deed by) (finished_loads 0 ns) (rows_of_loads more)))
       (both_count (map (deed by) (finished_loads 0 ns)) (map (deed by) (rows_of_loads more)) (finished_loads_count by 0 ns) (rows_count by more))
@@ -334,7 +334,7 @@ module _ {J : Type 0} (c c' : CpuView J) (rest : c' ≡ with_calls c'.calls c) w
     turn = ap (λ (x : CpuView J). x.turn) rest;
   }
 
-  loads_deeds : (deeds : List (Deed J)) → Adds deeds c.calls c'.calls → CountsNothing deeds → ActsAs loads c c'
+  pub loads_deeds : (deeds : List (Deed J)) → Adds deeds c.calls c'.calls → CountsNothing deeds → ActsAs loads c c'
   loads_deeds deeds adds none = does_deeds c.cpu.processor 0 0 None deeds adds (counts_nothing c.cpu.processor [] 0 deeds none)
 
   pub finish_acts : (k : CallsView) (b : BatchView J) → FinishesIn k c.calls b c'.calls → ActsAs (finishes b.processor b.count) c c'

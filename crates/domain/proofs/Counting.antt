@@ -48,11 +48,11 @@ loads_and_loads many much c d e h n = record {
 
 -- Sums
 
-sum_next : (f : ℕ → ℕ) (m : ℕ) → sum_below f (m + 1) ≡ sum_below f m + f m
+pub sum_next : (f : ℕ → ℕ) (m : ℕ) → sum_below f (m + 1) ≡ sum_below f m + f m
 sum_next f m = let next : m + 1 ≡ suc m = omega arith in ap (sum_below f) next
 
 -- the first ones are no more than all
-first_ones : (f : ℕ → ℕ) (m n : ℕ) → m ≤ n → sum_below f m ≤ sum_below f n
+pub first_ones : (f : ℕ → ℕ) (m n : ℕ) → m ≤ n → sum_below f m ≤ sum_below f n
 first_ones f m zero le = let none : m ≡ 0 = omega (arith, le) in subst (λ k. sum_below f k ≤ sum_below f 0) (sym none) (omega arith)
 first_ones f m (suc n) le = dite (ℕ_discrete m (suc n))
     (λ e. subst (λ k. sum_below f k ≤ sum_below f (suc n)) (sym e) (omega arith))

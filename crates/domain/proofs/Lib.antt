@@ -1,5 +1,6 @@
 mod Acting
 mod Answering
+mod BegunBetween
 mod Counted
 mod Counting
 mod Covering
@@ -10,6 +11,7 @@ mod Gathering
 mod Joining
 mod Judging
 mod Lending
+mod Limited
 mod Loading
 mod Meeting
 mod Polling
@@ -22,4 +24,5 @@ mod Staying
 mod Synchronizing
 mod Turning
 mod Unopened
+mod Watchers
 pub mod CallerLemmas

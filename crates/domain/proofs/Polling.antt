@@ -18,7 +18,7 @@ module _ {J : Type 0} where
   begins_on {a} h k = record { rest = h.rest ++ k.rest; whole = k.whole ∙ (ap (λ l. l ++ k.rest) h.whole ∙ append_assoc a h.rest k.rest) }
 
   -- some loads and then others
-  loads_on : (a b : List (Act J)) (s m t : CallSeatView J) → Loads a s m → Loads b m t → Loads (a ++ b) s t
+  pub loads_on : (a b : List (Act J)) (s m t : CallSeatView J) → Loads a s m → Loads b m t → Loads (a ++ b) s t
   loads_on a b s m t h k =
       let p : ℕ = s.processor in
       let own : deeds_of p t.seen ≡ deeds_of p m.seen ++ map (deed p) b = subst (λ (q : ℕ). deeds_of q t.seen ≡ deeds_of q m.seen ++ map (deed q) b) h.same.2 k.own in record {

@@ -1,5 +1,5 @@
 -- Waiting for a grace period: a cookie, and then turns and polls until it is done.
-use Rattle.std.proofs.Common.{◌≡◌, ℕ, ◌+◌, Bool, true, false, not, Option, Some, None, List, [], ◌∷◌, ◌++◌, All, length, filter, refl, sym, ap, ◌∙◌, subst, append_assoc, append-nil, length-append}
+use Rattle.std.proofs.Common.{◌≡◌, ℕ, ◌+◌, ◌≤◌, Bool, true, false, not, Option, Some, None, List, [], ◌∷◌, ◌++◌, All, length, filter, refl, sym, ap, ◌∙◌, subst, append_assoc, append-nil, length-append, arith}
 use Rattle.std.proofs.lemmas.List.Elements.{All-nil, All-cons, All-head, All-tail, All-append}
 use Rattle.onedom.specs.declared.event.Event.{Event}
 use Rattle.onedom.specs.declared.event.Event.TheVariants.{Note, Ask}
@@ -164,6 +164,13 @@ module _ {J : Type 0} where
     since = beginning_trans h.since (beginning_trans a.adds.since record { rest = _; whole = a.adds.seen });
   }
 
+  -- and there is that one
+  pub one_in_vain : (d : DomainView) (c at x y : CpuView J) (k : sections.CookieView) (p : Option Progress) (h : HasWaited d c k at x) (turn : Turns p at x) (a : Asks k.seen k.changes k.number false x.cpu y.cpu) (rest : y ≡ with_cpu y.cpu x) → 1 ≤ length (asks_in_vain d c at x y k p h turn a rest).vain
+  unfolding asks_in_vain
+  one_in_vain d c at x y k p h turn a rest =
+      let one : length (asks_in_vain d c at x y k p h turn a rest).vain ≡ length h.vain + 1 = length-append h.vain (Ask k.number false (Processor c.cpu.processor) ∷ []) in
+      omega (arith, one)
+
   -- The two answers
 
   pub synchronizes : (d : DomainView) (c at x y : CpuView J) (k : sections.CookieView) (p : Option Progress) → HasWaited d c k at x → Turns p at x → Asks k.seen k.changes k.number true x.cpu y.cpu → y ≡ with_cpu y.cpu x → AllClosed k.seen y.cpu.seen → Synchronizes c y
@@ -216,7 +223,7 @@ vain_opens_none number by history (e ∷ es) all =
     let first : open_sections (history ++ e ∷ []) ≡ open_sections history = subst (λ x. open_sections (history ++ x ∷ []) ≡ open_sections history) (sym one) (open_sections_plain history (Ask number false by) refl (λ s. refl)) in
     ap open_sections (sym (append_assoc history (e ∷ []) es)) ∙ (vain_opens_none number by (history ++ e ∷ []) es (All-tail (λ x. x ≡ Ask number false by) e es all) ∙ first)
 
-noted_opens_none : (number : ℕ) (by : Maker) (history vain : List Event) → All (λ e. e ≡ Ask number false by) vain → open_sections (history ++ Note number by ∷ vain) ≡ open_sections history
+pub noted_opens_none : (number : ℕ) (by : Maker) (history vain : List Event) → All (λ e. e ≡ Ask number false by) vain → open_sections (history ++ Note number by ∷ vain) ≡ open_sections history
 noted_opens_none number by history vain all =
     ap open_sections (sym (append_assoc history (Note number by ∷ []) vain))
     ∙ (vain_opens_none number by (history ++ Note number by ∷ []) vain all ∙ open_sections_plain history (Note number by) refl (λ s. refl))

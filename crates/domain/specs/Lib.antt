@@ -5,8 +5,10 @@ pub mod Turns
 pub mod Meetings
 pub mod Parts
 pub mod Waiting
+pub mod Watching
 pub mod Calling
 pub mod Barriers
+pub mod Limited
 pub mod Counts
 pub mod Cleanup
 pub mod Making

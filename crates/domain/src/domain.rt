@@ -6,8 +6,10 @@ use funnel::FunnelSeat;
 use scan::Station;
 use std::alloc::{Allocator, Global};
 use std::marker::Model;
+use std::sync::atomic::AtomicU64;
 
 mod barriers;
+pub(crate) mod bell;
 mod calling;
 pub(crate) mod cleanup;
 mod counting;
@@ -17,7 +19,8 @@ mod meeting;
 mod needs;
 mod periods;
 mod tallies;
-mod waiting;
+pub(crate) mod waiting;
+mod watching;
 
 /// A sleepable RCU domain (`srcu_struct`), which all of its processors share by reference. It has the place where the
 /// engine lies; whoever drives it has it for one call, and others that want it are told that it is busy. And it has the callbacks, whose
@@ -31,6 +34,8 @@ pub struct Domain<J, A: Allocator = Global> {
     pub(crate) calls: Calls<J, A>,
     /// How many processors there are.
     pub(crate) processors: u16,
+    /// Whether somebody sleeps until a grace period is asked for.
+    pub(crate) bell: AtomicU64,
 }
 
 impl<J, A: Allocator> Model for Domain<J, A> {

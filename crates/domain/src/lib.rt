@@ -4,15 +4,19 @@
 
 mod cpu;
 mod domain;
+mod limit;
 mod pause;
 mod publishing;
 mod set;
+mod watching;
 mod writer;
 
 pub use calls::{Batch, CallRefusal, Entry, Memory, Receipt, TakeRefusal, Ticket};
 pub use cpu::Cpu;
 pub use domain::Domain;
 pub use domain::cleanup::{InUse, Totals};
+pub use domain::waiting::limited::WaitRefusal;
+pub use limit::TimedOut;
 pub use publishing::{claim, publish};
 pub use scan::refusals::{AdvanceRefusal, StartRefusal};
 pub use scan::{Exhausted as PeriodsExhausted, Progress};
@@ -22,4 +26,6 @@ pub use sections::{
 };
 pub use set::CookieSet;
 pub use sseq::{Index, Number};
+pub use watching::snapshot::{Snapshot, Table};
+pub use watching::{Counters, Counts, Holder, Pair};
 pub use writer::Writer;

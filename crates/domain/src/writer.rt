@@ -110,6 +110,8 @@ impl Writer {
         // It is asked for behind the put, and by the number of the retired slot's own cookie: behind a smaller one a
         // section may still read the slot.
         cpu.needs.ask(Number::new(cookie).unwrap());
+        // Rung before the asking, a driver would find nothing and sleep on.
+        domain.ring();
         cookie
     }
 

@@ -14,6 +14,8 @@ use std::alloc::Allocator;
 use std::sync::Wait;
 use std::thread::yield_now;
 
+mod limited;
+
 impl<J, A: Allocator + Copy> Domain<J, A> {
     /// Starts a barrier (the first half of `srcu_barrier`): it waits for the calls that were queued before, on every
     /// processor. Each queued word is loaded once. Where there is not enough memory, no step was made.

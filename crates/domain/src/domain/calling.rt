@@ -38,6 +38,8 @@ impl<J: Drop, A: Allocator + Copy> Domain<J, A> {
         // It is asked for behind the queueing, and by the number of the job's own cookie: for a smaller one the engine
         // might rest while the job waits.
         cpu.needs.ask(Number::new(receipt.cookie()).unwrap());
+        // Rung before the asking, a driver would find nothing and sleep on.
+        self.ring();
         Ok(receipt)
     }
 

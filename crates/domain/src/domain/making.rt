@@ -9,12 +9,14 @@ ghost use Rattle.domain.specs.Meetings.{IsAllOf};
 
 use crate::cpu::Cpu;
 use crate::domain::Domain;
+use crate::domain::bell::QUIET;
 use crate::writer::Writer;
 use calls::{CallSeat, Calls};
 use funnel::FunnelSeat;
 use scan::{Engine, Station, StationSeat};
 use sections::{Limits, MOST_PROCESSORS, Made, MakeError};
 use std::alloc::{AllocError, Allocator};
+use std::sync::atomic::AtomicU64;
 
 /// Processors of four seats each, in order.
 fn join_seats<J: Drop, A: Allocator>(
@@ -92,6 +94,7 @@ fn build<J: Drop, A: Allocator + Copy>(
         station,
         calls,
         processors: count,
+        bell: AtomicU64::new(QUIET),
     };
     Ok((domain, cpus, writers))
 }

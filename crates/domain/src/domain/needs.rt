@@ -22,6 +22,8 @@ impl<J, A: Allocator> Domain<J, A> {
         // It is asked for behind the cookie's note, and by the cookie's number, not by one of now: a period that ended
         // in between would do for the one and not for the other.
         cpu.needs.ask(Number::new(cookie.number()).unwrap());
+        // Rung before the asking, a driver would find nothing and sleep on.
+        self.ring();
         cookie
     }
 

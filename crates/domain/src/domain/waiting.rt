@@ -12,6 +12,8 @@ use scan::{Exhausted, Progress};
 use std::alloc::Allocator;
 use std::sync::Wait;
 
+pub(crate) mod limited;
+
 /// What a thread does behind a turn before it tries again. Where another call has the engine, that one drives the
 /// period, and where the engine waits for a section, a reader is at work. Then the thread lets others run, and sleeps
 /// longer and longer, so that many of them don't burn their cores. Behind any other answer there is something to do at

@@ -1,0 +1,435 @@
+-- Watching a domain: loads of counters, and what two sums of an index tell.
+use Rattle.std.proofs.Common.{◌≡◌, ◌≢◌, ℕ, zero, suc, ◌+◌, ◌*◌, ◌^◌, ◌<◌, ◌≤◌, ◌==◌, if◌then◌else◌, None, List, [], ◌∷◌, ◌++◌, length, get_or, map, sum, refl, sym, ap, ◌∙◌, subst, arith, eq-eqb, ne_eqb, append_assoc, append-nil, length-append}
+use Rattle.std.proofs.lemmas.List.{get_or_push, get_or_append_left}
+use Rattle.std.proofs.lemmas.List.Sums.{sum_by-append, sum_by-cons}
+use mathlib.Core.Logic.{dite}
+use native.Mathlib.Decide.{ℕ_discrete}
+use Rattle.sseq.specs.declared.index.Index.{Index}
+use Rattle.sseq.specs.declared.index.Index.TheVariants.{Zero, One}
+use Rattle.onedom.specs.declared.event.Event.{Event}
+use Rattle.onedom.specs.Histories.{IsBeginning}
+use Rattle.onedom.proofs.CallerLemmas.{beginning_refl, beginning_trans}
+use Rattle.sections.specs.declared.view.Step.{Step}
+use Rattle.sections.specs.Words.{locks, unlocks, sum_below, all_locks, all_unlocks}
+use Rattle.sections.specs.Shelves.{IsStart}
+use Rattle.sections.specs.Views as sections
+use Rattle.sections.specs.Calls.{IsSeenBy, IsSameCpu, Loads, FindsLocks, FindsUnlocks}
+use Rattle.sections.proofs.CallerLemmas.{start_refl, start_trans, locks_grow, unlocks_grow, sum_le, equal_sums}
+use Rattle.sections.specs.Calls.{Notes, Looks}
+use Rattle.funnel.specs.Views.{FunnelView}
+use Rattle.funnel.specs.Calls.{LoadsRoot}
+use Rattle.calls.specs.declared.view.Deed.{Deed}
+use Rattle.calls.specs.Tallies as tallies
+use Rattle.calls.specs.Tallies.{deed, deeds_of}
+use Rattle.calls.specs.Views.{CallSeatView}
+use Rattle.calls.specs.Barriers.{queued_loads, finished_loads}
+use Rattle.calls.specs.Totals.{AddsUp}
+use Rattle.calls.proofs.CallerLemmas.{begins_on}
+use Rattle.domain.specs.declared.watching.Pair.{Pair}
+use Rattle.domain.specs.declared.watching.Counts.{Counts}
+use Rattle.domain.specs.declared.watching.Holder.{Holder}
+use Rattle.domain.specs.Counts.{LoadsCounters, IsBetween}
+use Rattle.domain.specs.declared.watching.Counters.{Counters}
+use Rattle.domain.specs.declared.watching.snapshot.Snapshot.{Snapshot}
+use Rattle.domain.specs.Views.{CpuView, with_cpu, with_calls}
+use Rattle.domain.specs.Acting.{Acts, Adds, nothing, loads, notes, ActsAs}
+use Rattle.domain.specs.Watching.{StoodAt, WasEmptyIn, WasOpenIn, WasBalanced, pair_of, counters_of, FindsPair, Watches, IsNoLess, LoadsEach, CountsEach, Tells, holder_at, differing, NamesHolders, Snaps}
+use Rattle.domain.proofs.Counting.{sum_next, first_ones}
+use Rattle.domain.proofs.BegunBetween.{open_between}
+use Rattle.domain.proofs.Acting as acting
+use Rattle.domain.proofs.Acting.{does_nothing, loads_deeds, adds_loads, queued_loads_count, finished_loads_count, both_count, then_finishes}
+
+-- Loads
+
+-- so many loads were made, and nothing else. Before the first of them nothing is known of the history
+pub record MadeLoads (many : ℕ) (c d : sections.CpuView) : Type 0 where
+  pub same : IsSameCpu c d
+  pub mine : d.mine ≡ c.mine
+  pub made : List Step
+  pub steps : d.steps ≡ c.steps ++ made
+  pub one_each : length made ≡ many
+  pub since : IsBeginning c.seen d.seen
+  pub later : c.changes ≤ d.changes
+  pub texts : IsStart c.texts d.texts
+
+pub made_none : (c : sections.CpuView) → MadeLoads 0 c c
+made_none c = record { same = (refl, refl, refl, refl); mine = refl; made = []; steps = sym (append-nil c.steps); one_each = refl; since = beginning_refl c.seen; later = omega arith; texts = start_refl c.texts }
+
+pub made_more : (many : ℕ) (l : Step) (c d e : sections.CpuView) → MadeLoads many c d → Loads l d e → MadeLoads (many + 1) c e
+made_more many l c d e h n = record {
+  same = (n.same.0 ∙ h.same.0, n.same.1 ∙ h.same.1, n.same.2 ∙ h.same.2, n.same.3 ∙ h.same.3);
+  mine = n.mine ∙ h.mine;
+  made = h.made ++ l ∷ [];
+  steps = n.steps ∙ (ap (λ x. x ++ l ∷ []) h.steps ∙ append_assoc c.steps h.made (l ∷ []));
+  one_each = (let more = length-append h.made (l ∷ []) in let so_far = h.one_each in omega (arith, more, so_far));
+  since = beginning_trans h.since n.since;
+  later = (let a = h.later in let b = n.later in omega (arith, a, b));
+  texts = start_trans h.texts n.texts;
+}
+
+as_loads : (many : ℕ) (c d : sections.CpuView) → MadeLoads many c d → IsSeenBy d → LoadsCounters many c d
+as_loads many c d h is = record { same = h.same; mine = h.mine; made = h.made; steps = h.steps; one_each = h.one_each; since = h.since; later = h.later; texts = h.texts; history = is }
+
+-- One processor
+
+module _ (p : ℕ) (k : Counts) (c u v w d : sections.CpuView) (uz : FindsUnlocks p Zero k.zero.unlocks c u) (uo : FindsUnlocks p One k.one.unlocks u v) (lz : FindsLocks p Zero k.zero.locks v w) (lo : FindsLocks p One k.one.locks w d) where
+  four_made : MadeLoads 4 c d
+  four_made = made_more 3 _ c w d (made_more 2 _ c v w (made_more 1 _ c u v (made_more 0 _ c c u (made_none c) uz.load) uo.load) lz.load) lo.load
+
+  pub watched : Watches p k c d
+  watched = record {
+    loads = as_loads 4 c d four_made lo.load.history;
+    middle = v.seen;
+    zero = record {
+      unlocks = record { moment = u.seen; since = uz.load.since; upto = uo.load.since; exact = uz.exact };
+      locks = record { moment = w.seen; since = lz.load.since; upto = lo.load.since; exact = lz.exact };
+    };
+    one = record {
+      unlocks = record { moment = v.seen; since = beginning_trans uz.load.since uo.load.since; upto = beginning_refl v.seen; exact = uo.exact };
+      locks = record { moment = d.seen; since = beginning_trans lz.load.since lo.load.since; upto = beginning_refl d.seen; exact = lo.exact };
+    };
+  }
+
+pub pair_found : (p : ℕ) (i : Index) (k : Counts) (c d : sections.CpuView) → (h : Watches p k c d) → FindsPair p i (pair_of i k) c.seen h.middle d.seen
+pair_found p Zero k c d h = h.zero
+pair_found p One k c d h = h.one
+
+no_less : (p : ℕ) (i : Index) (k : Pair) (seen middle seen' : List Event) → FindsPair p i k seen middle seen' → IsNoLess p i k seen
+no_less p i k seen middle seen' h =
+    let u = unlocks_grow p i h.unlocks.since in let ue = h.unlocks.exact in
+    let l = locks_grow p i (beginning_trans h.unlocks.since (beginning_trans h.unlocks.upto h.locks.since)) in let le = h.locks.exact in
+    record { unlocks = omega (arith, u, ue); locks = omega (arith, l, le) }
+
+was_balanced : (p : ℕ) (i : Index) (k : Pair) (seen middle seen' : List Event) → FindsPair p i k seen middle seen' → k.locks ≡ k.unlocks → WasBalanced p i seen seen'
+was_balanced p i k seen middle seen' h equal =
+    let u = unlocks_grow p i h.unlocks.upto in let ue = h.unlocks.exact in
+    let l = locks_grow p i h.locks.since in let le = h.locks.exact in
+    record { moment = middle; since = beginning_trans h.unlocks.since h.unlocks.upto; upto = beginning_trans h.locks.since h.locks.upto; balanced = omega (arith, u, ue, l, le, equal) }
+
+pub watched_since : (p : ℕ) (k : Counts) (c d : sections.CpuView) → Watches p k c d → (i : Index) → IsNoLess p i (pair_of i k) c.seen
+watched_since p k c d h i = no_less p i (pair_of i k) c.seen h.middle d.seen (pair_found p i k c d h)
+
+pub watched_balanced : (p : ℕ) (k : Counts) (c d : sections.CpuView) → Watches p k c d → (i : Index) → (pair_of i k).locks ≡ (pair_of i k).unlocks → WasBalanced p i c.seen d.seen
+watched_balanced p k c d h i equal = was_balanced p i (pair_of i k) c.seen h.middle d.seen (pair_found p i k c d h) equal
+
+-- All processors
+
+stood_later : (count : List Event → ℕ) (n : ℕ) (c d e : List Event) → IsBeginning d e → StoodAt count n c d → StoodAt count n c e
+stood_later count n c d e on h = record { moment = h.moment; since = h.since; upto = beginning_trans h.upto on; exact = h.exact }
+
+-- what holds of each number so far, and of the next one, holds of each
+each_push : (K : ℕ → ℕ → Type 0) (i : ℕ) (ns : List ℕ) (n : ℕ) → length ns ≡ i → ((p : ℕ) → p < i → K p (get_or ns p 0)) → K i n → (p : ℕ) → p < i + 1 → K p (get_or (ns ++ n ∷ []) p 0)
+each_push K i ns n count all one p lt = dite (ℕ_discrete p i)
+    (λ e. subst (λ (z : ℕ × ℕ). K z.0 z.1) (λ j. (sym e j, sym (get_or_push ns n 0 p (count ∙ sym e)) j)) one)
+    (λ ne. let below : p < i = omega (arith, lt, ne) in let inside : p < length ns = omega (arith, below, count) in subst (λ (z : ℕ). K p z) (sym (get_or_append_left ns (n ∷ []) 0 p inside)) (all p below))
+
+-- the counters of the first k processors were loaded
+pub record LoadedSoFar (count : ℕ → List Event → ℕ) (k : ℕ) (found : List ℕ) (total : ℕ) (c d : sections.CpuView) : Type 0 where
+  pub loads : MadeLoads k c d
+  pub one_each : length found ≡ k
+  pub each : (p : ℕ) → p < k → StoodAt (count p) (get_or found p 0) c.seen d.seen
+  pub total_is : total ≡ sum found
+  pub between : IsBetween (λ h. sum_below (λ p. count p h) k) total c.seen d.seen
+  pub history : 0 < k → IsSeenBy d
+  pub small : total ≤ 2 ^ 60
+
+pub loaded_none : (count : ℕ → List Event → ℕ) (found : List ℕ) (c : sections.CpuView) → found ≡ [] → LoadedSoFar count 0 found 0 c c
+loaded_none count found c none = subst (λ (l : List ℕ). LoadedSoFar count 0 l 0 c c) (sym none) record {
+  loads = made_none c;
+  one_each = refl;
+  each = λ p lt. absurd (omega (arith, lt));
+  total_is = refl;
+  between = record { no_less = omega arith; no_more = omega arith };
+  history = λ lt. absurd (omega (arith, lt));
+  small = omega arith;
+}
+
+module _ (count : ℕ → List Event → ℕ) (grows : (p : ℕ) (seen history : List Event) → IsBeginning seen history → count p seen ≤ count p history) (k : ℕ) (found : List ℕ) (total n : ℕ) (c d e : sections.CpuView) (h : LoadedSoFar count k found total c d) (l : Step) (load : Loads l d e) (exact : n ≡ count k e.seen) where
+  more_between : IsBetween (λ h. sum_below (λ p. count p h) (k + 1)) (total + n) c.seen e.seen
+  more_between =
+      let less = h.between.no_less in
+      let more = h.between.no_more in
+      let low = sum_next (λ p. count p c.seen) k in
+      let high = sum_next (λ p. count p e.seen) k in
+      let here = grows k c.seen e.seen (beginning_trans h.loads.since load.since) in
+      let grown = sum_le (λ p. count p d.seen) (λ p. count p e.seen) k (λ p. grows p d.seen e.seen load.since) in
+      record { no_less = omega (arith, less, exact, low, here); no_more = omega (arith, more, exact, high, grown) }
+
+  module _ (bound : sum_below (λ p. count p e.seen) (k + 1) ≤ 2 ^ 60) where
+    fits : total + n ≤ 2 ^ 60
+    fits = let most = more_between.no_more in omega (arith, most, bound)
+
+    loaded_more : LoadedSoFar count (k + 1) (found ++ n ∷ []) (total + n) c e
+    loaded_more = record {
+      loads = made_more k l c d e h.loads load;
+      one_each = (let one = length-append found (n ∷ []) in let long = h.one_each in omega (arith, one, long));
+      each = each_push (λ p z. StoodAt (count p) z c.seen e.seen) k found n h.one_each (λ p lt. stood_later (count p) (get_or found p 0) c.seen d.seen e.seen load.since (h.each p lt))
+          record { moment = e.seen; since = beginning_trans h.loads.since load.since; upto = beginning_refl e.seen; exact = exact };
+      total_is = (let more = sum_by-append (λ x. x) found (n ∷ []) in let was = h.total_is in omega (arith, more, was));
+      between = more_between;
+      history = λ _. load.history;
+      small = fits;
+    }
+
+pub loaded_each : (count : ℕ → List Event → ℕ) (k : ℕ) (found : List ℕ) (total : ℕ) (c d : sections.CpuView) → k ≡ c.processors → 0 < k → LoadedSoFar count k found total c d → LoadsEach count found total c d
+loaded_each count k found total c d all some h = record {
+  loads = subst (λ m. LoadsCounters m c d) all (as_loads k c d h.loads (h.history some));
+  one_each = h.one_each ∙ all;
+  each = λ p lt. h.each p (omega (arith, lt, all));
+  total_is = h.total_is;
+  between = subst (λ m. IsBetween (λ h. sum_below (λ p. count p h) m) total c.seen d.seen) all h.between;
+  small = h.small;
+}
+
+-- a lock counter, and an unlock counter
+module _ (i : Index) (k : ℕ) (found : List ℕ) (total n : ℕ) (c d e : sections.CpuView) where
+  locks_bound : FindsLocks k i n d e → k < e.processors → sum_below (λ p. locks p i e.seen) (k + 1) ≤ 2 ^ 60
+  locks_bound f inside =
+      let part = first_ones (λ p. locks p i e.seen) (k + 1) e.processors (omega (arith, inside)) in
+      let bound = f.bound in
+      omega (arith, part, bound)
+
+  unlocks_bound : FindsUnlocks k i n d e → k < e.processors → sum_below (λ p. unlocks p i e.seen) (k + 1) ≤ 2 ^ 60
+  unlocks_bound f inside =
+      let part = first_ones (λ p. unlocks p i e.seen) (k + 1) e.processors (omega (arith, inside)) in
+      let fewer = (equal_sums e.processors i e.seen f.load.history.legal f.load.history.makers).0 in
+      let bound = f.bound in
+      omega (arith, part, fewer, bound)
+
+  still_inside : MadeLoads k c d → IsSameCpu d e → k < c.processors → k < e.processors
+  still_inside h same inside = let wide = h.same.1 in let more = same.1 in omega (arith, wide, more, inside)
+
+  pub locks_fit : LoadedSoFar (λ p. locks p i) k found total c d → FindsLocks k i n d e → k < c.processors → total + n ≤ 2 ^ 60
+  locks_fit h f inside = fits (λ p. locks p i) (λ p seen history b. locks_grow p i b) k found total n c d e h _ f.load f.exact (locks_bound f (still_inside h.loads f.load.same inside))
+
+  pub locks_more : LoadedSoFar (λ p. locks p i) k found total c d → FindsLocks k i n d e → k < c.processors → LoadedSoFar (λ p. locks p i) (k + 1) (found ++ n ∷ []) (total + n) c e
+  locks_more h f inside = loaded_more (λ p. locks p i) (λ p seen history b. locks_grow p i b) k found total n c d e h _ f.load f.exact (locks_bound f (still_inside h.loads f.load.same inside))
+
+  pub unlocks_fit : LoadedSoFar (λ p. unlocks p i) k found total c d → FindsUnlocks k i n d e → k < c.processors → total + n ≤ 2 ^ 60
+  unlocks_fit h f inside = fits (λ p. unlocks p i) (λ p seen history b. unlocks_grow p i b) k found total n c d e h _ f.load f.exact (unlocks_bound f (still_inside h.loads f.load.same inside))
+
+  pub unlocks_more : LoadedSoFar (λ p. unlocks p i) k found total c d → FindsUnlocks k i n d e → k < c.processors → LoadedSoFar (λ p. unlocks p i) (k + 1) (found ++ n ∷ []) (total + n) c e
+  unlocks_more h f inside = loaded_more (λ p. unlocks p i) (λ p seen history b. unlocks_grow p i b) k found total n c d e h _ f.load f.exact (unlocks_bound f (still_inside h.loads f.load.same inside))
+
+-- What two sums tell
+
+-- all unlocks were loaded by the middle, and the locks from there on
+module _ (i : Index) (unlocked locked : List ℕ) (ended begun : ℕ) (c m d : sections.CpuView) (u : LoadsEach (λ q. unlocks q i) unlocked ended c m) (l : LoadsEach (λ p. locks p i) locked begun m d) where
+  wide : m.processors ≡ c.processors
+  wide = u.loads.same.1
+
+  wide_too : d.processors ≡ m.processors
+  wide_too = l.loads.same.1
+
+  least_ended : all_unlocks m.processors i c.seen ≤ ended
+  least_ended = subst (λ n. all_unlocks n i c.seen ≤ ended) (sym wide) u.between.no_less
+
+  most_ended : ended ≤ all_unlocks m.processors i m.seen
+  most_ended = subst (λ n. ended ≤ all_unlocks n i m.seen) (sym wide) u.between.no_more
+
+  middle_sums : all_unlocks m.processors i m.seen ≤ all_locks m.processors i m.seen
+  middle_sums = (equal_sums m.processors i m.seen u.loads.history.legal u.loads.history.makers).0
+
+  most_begun : begun ≤ all_locks d.processors i d.seen
+  most_begun = subst (λ n. begun ≤ all_locks n i d.seen) (sym wide_too) l.between.no_more
+
+  first_ended : all_unlocks d.processors i c.seen ≤ ended
+  first_ended = subst (λ n. all_unlocks n i c.seen ≤ ended) (sym wide_too) least_ended
+
+  pub sums_tell : Tells i ended begun c.seen d.seen
+  sums_tell =
+      let most = most_ended in let sums = middle_sums in let least = l.between.no_less in
+      let first = first_ended in let last = most_begun in
+      record {
+        no_more = omega (arith, most, sums, least);
+        empty = λ equal. record {
+          moment = m.seen;
+          since = u.loads.since;
+          upto = l.loads.since;
+          empty = (equal_sums m.processors i m.seen u.loads.history.legal u.loads.history.makers).1.0 (omega (arith, most, sums, least, equal));
+        };
+        is_open = λ fewer. open_between d.processors i c.seen d.seen (beginning_trans u.loads.since l.loads.since) l.loads.history.legal l.loads.history.makers (omega (arith, first, last, fewer));
+      }
+
+-- Holders
+
+nothing_else : {X : Type 0} (xs ys : List X) → xs ++ ys ≡ [] → (xs ≡ []) × (ys ≡ [])
+nothing_else [] ys none = (refl, none)
+nothing_else (x ∷ xs) ys none = absurd cc
+
+not_named : (p u l : ℕ) → holder_at p u l ≡ [] → l ≡ u
+not_named p u l none = dite (ℕ_discrete l u)
+    (λ e. e)
+    (λ ne. absurd (let one : holder_at p u l ≡ record { processor = p; pair = record { locks = l; unlocks = u } } ∷ [] = ap (λ b. if b then [] else record { processor = p; pair = record { locks = l; unlocks = u } } ∷ []) (ne_eqb l u ne) in let z = sym one ∙ none in cc))
+
+-- where nobody is named, the counters are the same
+none_differing : (us ls : List ℕ) (n : ℕ) → differing us ls n ≡ [] → (p : ℕ) → p < n → get_or ls p 0 ≡ get_or us p 0
+none_differing us ls zero none p lt = absurd (omega (arith, lt))
+none_differing us ls (suc n) none p lt =
+    let parts = nothing_else (differing us ls n) (holder_at n (get_or us n 0) (get_or ls n 0)) none in
+    dite (ℕ_discrete p n)
+    (λ e. subst (λ q. get_or ls q 0 ≡ get_or us q 0) (sym e) (not_named n (get_or us n 0) (get_or ls n 0) parts.1))
+    (λ ne. none_differing us ls n parts.0 p (omega (arith, lt, ne)))
+
+same_sum : (us ls : List ℕ) → length us ≡ length ls → ((p : ℕ) → p < length us → get_or ls p 0 ≡ get_or us p 0) → sum us ≡ sum ls
+same_sum [] [] long each = refl
+same_sum [] (l ∷ ls) long each = absurd (omega (arith, long))
+same_sum (u ∷ us) [] long each = absurd (omega (arith, long))
+same_sum (u ∷ us) (l ∷ ls) long each =
+    let one : l ≡ u = each 0 (omega arith) in
+    let rest = same_sum us ls (omega (arith, long)) (λ p lt. each (suc p) (omega (arith, lt))) in
+    let a = sum_by-cons (λ x. x) u us in
+    let b = sum_by-cons (λ x. x) l ls in
+    omega (arith, one, rest, a, b)
+
+-- where the sums are not the same, somebody is named
+pub some_differing : (us ls : List ℕ) (n : ℕ) → length us ≡ n → length ls ≡ n → sum us < sum ls → differing us ls n ≢ []
+some_differing us ls n long_us long_ls fewer none =
+    let same = same_sum us ls (long_us ∙ sym long_ls) (λ p lt. none_differing us ls n none p (omega (arith, lt, long_us))) in
+    omega (arith, same, fewer)
+
+next_place : (p : ℕ) → p + 1 ≡ suc p
+next_place p = omega arith
+
+-- one more processor was looked at
+pub named_more : (us ls : List ℕ) (p u l : ℕ) (named : List Holder) → u ≡ get_or us p 0 → l ≡ get_or ls p 0 → l ≢ u → named ≡ differing us ls p → named ++ record { processor = p; pair = record { locks = l; unlocks = u } } ∷ [] ≡ differing us ls (p + 1)
+named_more us ls p u l named is_u is_l other so_far =
+    let holder : Holder = record { processor = p; pair = record { locks = l; unlocks = u } } in
+    let one : holder_at p u l ≡ holder ∷ [] = ap (λ b. if b then [] else holder ∷ []) (ne_eqb l u other) in
+    let here : holder_at p (get_or us p 0) (get_or ls p 0) ≡ holder ∷ [] = subst (λ (z : ℕ × ℕ). holder_at p z.0 z.1 ≡ holder ∷ []) (λ k. (is_u k, is_l k)) one in
+    subst (λ n. named ++ holder ∷ [] ≡ differing us ls n) (sym (next_place p)) (λ k. so_far k ++ sym here k)
+
+pub named_same : (us ls : List ℕ) (p u l : ℕ) (named : List Holder) → u ≡ get_or us p 0 → l ≡ get_or ls p 0 → l ≡ u → named ≡ differing us ls p → named ≡ differing us ls (p + 1)
+named_same us ls p u l named is_u is_l same so_far =
+    let none : holder_at p u l ≡ [] = ap (λ b. if b then [] else record { processor = p; pair = record { locks = l; unlocks = u } } ∷ []) (eq-eqb l u same) in
+    let here : holder_at p (get_or us p 0) (get_or ls p 0) ≡ [] = subst (λ (z : ℕ × ℕ). holder_at p z.0 z.1 ≡ []) (λ k. (is_u k, is_l k)) none in
+    subst (λ n. named ≡ differing us ls n) (sym (next_place p)) (sym (append-nil named) ∙ (λ k. so_far k ++ sym here k))
+
+-- The counters of an index
+
+module _ {A : Type 0} (i : Index) (k : Counters A) (c d : sections.CpuView) (h : CountsEach i k c d) where
+  pub each_tell : Tells i k.ended k.begun c.seen d.seen
+  each_tell = sums_tell i k.unlocks.items k.locks.items k.ended k.begun c h.middle d h.unlocks h.locks
+
+  pub each_same : IsSameCpu c d
+  each_same = let u = h.unlocks.loads.same in let l = h.locks.loads.same in (l.0 ∙ u.0, l.1 ∙ u.1, l.2 ∙ u.2, l.3 ∙ u.3)
+
+  pub many_unlocks : length k.unlocks.items ≡ c.processors
+  many_unlocks = h.unlocks.one_each
+
+  pub many_locks : length k.locks.items ≡ c.processors
+  many_locks = h.locks.one_each ∙ h.unlocks.loads.same.1
+
+module _ {J : Type 0} (c c' : CpuView J) (rest : c' ≡ with_cpu c'.cpu c) where
+  pub counted_acts : {many : ℕ} → LoadsCounters many c.cpu c'.cpu → ActsAs loads c c'
+  counted_acts {many} h = does_nothing c c' rest (acting.made_none c.cpu c'.cpu h.same h.mine h.since h.later)
+
+  pub each_acts : {A : Type 0} (i : Index) (k : Counters A) → CountsEach i k c.cpu c'.cpu → ActsAs loads c c'
+  each_acts i k h = does_nothing c c' rest (acting.made_none c.cpu c'.cpu (each_same i k c.cpu c'.cpu h) (h.locks.loads.mine ∙ h.unlocks.loads.mine) (beginning_trans h.unlocks.loads.since h.locks.loads.since) (let a = h.unlocks.loads.later in let b = h.locks.loads.later in omega (arith, a, b)))
+
+-- Who is named
+
+module _ {A : Type 0} (i : Index) (k : Counters A) (c d : sections.CpuView) (h : CountsEach i k c d) where
+  pub names_none : k.ended ≡ k.begun → NamesHolders i [] c d
+  names_none equal = record { middle = h.middle; unlocked = k.unlocks.items; ended = k.ended; unlocks = h.unlocks; locked = k.locks.items; begun = k.begun; locks = h.locks; none = λ _. refl; some = λ fewer. absurd (omega (arith, equal, fewer)) }
+
+  pub names_some : (named : List Holder) → k.ended ≢ k.begun → named ≡ differing k.unlocks.items k.locks.items c.processors → NamesHolders i named c d
+  names_some named other is = record { middle = h.middle; unlocked = k.unlocks.items; ended = k.ended; unlocks = h.unlocks; locked = k.locks.items; begun = k.begun; locks = h.locks; none = λ equal. absurd (other equal); some = λ _. is }
+
+module _ (i : Index) (named : List Holder) (c d : sections.CpuView) (h : NamesHolders i named c d) where
+  told : Tells i h.ended h.begun c.seen d.seen
+  told = sums_tell i h.unlocked h.locked h.ended h.begun c h.middle d h.unlocks h.locks
+
+  pub named_open : named ≢ [] → WasOpenIn i c.seen d.seen
+  named_open some = dite (ℕ_discrete h.ended h.begun)
+      (λ equal. absurd (some (h.none equal)))
+      (λ other. told.is_open (let no_more = told.no_more in omega (arith, no_more, other)))
+
+  pub named_empty : named ≡ [] → WasEmptyIn i c.seen d.seen
+  named_empty none = dite (ℕ_discrete h.ended h.begun)
+      (λ equal. told.empty equal)
+      (λ other.
+      let fewer : h.ended < h.begun = (let no_more = told.no_more in omega (arith, no_more, other)) in
+      let us = h.unlocks.total_is in let ls = h.locks.total_is in
+      absurd (some_differing h.unlocked h.locked c.processors h.unlocks.one_each (h.locks.one_each ∙ h.unlocks.loads.same.1) (omega (arith, fewer, us, ls)) (sym (h.some fewer) ∙ none)))
+
+-- A domain at a glance
+
+deeds_begin_on : {J : Type 0} {a b c : List (Deed J)} → tallies.IsBeginning a b → tallies.IsBeginning b c → tallies.IsBeginning a c
+deeds_begin_on {J} {a} {b} {c} h k = begins_on h k
+
+module _ {J : Type 0} where
+  -- a note of a cookie, and then loads
+  pub notes_then : (n : ℕ) (c d e : CpuView J) → ActsAs (notes n) c d → ActsAs loads d e → ActsAs (notes n) c e
+  notes_then n c d e h k = then_finishes {p = c.cpu.processor} {a = notes n c.cpu.processor} {owner = 0} {count = 0} {list = None} refl (λ q away. away) h (subst (λ p. Acts p nothing d e) h.events.same.3 k)
+
+  -- the tally words are added up
+  pub totals_act : (c c' : CpuView J) → c' ≡ with_calls c'.calls c → (queued finished : ℕ) → AddsUp c.calls queued finished c'.calls → ActsAs loads c c'
+  totals_act c c' rest queued finished h =
+      let first : Adds (map (deed c.calls.processor) (queued_loads 0 h.queued.found)) c.calls h.between = adds_loads (queued_loads 0 h.queued.found) c.calls h.between h.queued.loads in
+      let second : Adds (map (deed h.between.processor) (finished_loads 0 h.finished.found)) h.between c'.calls = adds_loads (finished_loads 0 h.finished.found) h.between c'.calls h.finished.loads in
+      let same = h.queued.loads.same in
+      let same_too = h.finished.loads.same in
+      let p : ℕ = c.calls.processor in
+      loads_deeds c c' rest (map (deed p) (queued_loads 0 h.queued.found) ++ map (deed p) (finished_loads 0 h.finished.found))
+      record {
+        same = (same_too.0 ∙ same.0, same_too.1 ∙ same.1, same_too.2 ∙ same.2, same_too.3 ∙ same.3);
+        since = deeds_begin_on first.since second.since;
+        own = subst (λ q. deeds_of q c'.calls.seen ≡ deeds_of q h.between.seen ++ map (deed q) (finished_loads 0 h.finished.found)) same.2 second.own
+            ∙ (ap (λ l. l ++ map (deed p) (finished_loads 0 h.finished.found)) first.own ∙ append_assoc (deeds_of p c.calls.seen) (map (deed p) (queued_loads 0 h.queued.found)) (map (deed p) (finished_loads 0 h.finished.found)));
+      }
+      (both_count (map (deed p) (queued_loads 0 h.queued.found)) (map (deed p) (finished_loads 0 h.finished.found)) (queued_loads_count p 0 h.queued.found) (finished_loads_count p 0 h.finished.found))
+
+module _ {A J : Type 0} (s : Snapshot A) (c0 c1 c2 c3 c4 c5 c6 : CpuView J) (look : sections.LookView)
+    (r1 : c1 ≡ with_cpu c1.cpu c0) (r2 : c2 ≡ with_cpu c2.cpu c1) (r3 : c3 ≡ with_cpu c3.cpu c2) (r4 : c4 ≡ with_cpu c4.cpu c3) (r5 : c5 ≡ record c4 { needs = c5.needs }) (r6 : c6 ≡ with_calls c6.calls c5)
+    (noted : Notes s.number c0.cpu c1.cpu) (looks : Looks c1.cpu c2.cpu look) (index : s.index ≡ look.index)
+    (zero_counted : CountsEach Zero s.zero c2.cpu c3.cpu) (one_counted : CountsEach One s.one c3.cpu c4.cpu) (need : LoadsRoot c4.needs s.need c5.needs) (added : AddsUp c5.calls s.queued s.finished c6.calls) where
+  needs_same : c4.needs ≡ c0.needs
+  needs_same = ap (λ (z : CpuView J). z.needs) r4 ∙ (ap (λ (z : CpuView J). z.needs) r3 ∙ (ap (λ (z : CpuView J). z.needs) r2 ∙ ap (λ (z : CpuView J). z.needs) r1))
+
+  calls_same : c5.calls ≡ c0.calls
+  calls_same = ap (λ (z : CpuView J). z.calls) r5 ∙ (ap (λ (z : CpuView J). z.calls) r4 ∙ (ap (λ (z : CpuView J). z.calls) r3 ∙ (ap (λ (z : CpuView J). z.calls) r2 ∙ ap (λ (z : CpuView J). z.calls) r1)))
+
+  turn_same : c6.turn ≡ c0.turn
+  turn_same = ap (λ (z : CpuView J). z.turn) r6 ∙ (ap (λ (z : CpuView J). z.turn) r5 ∙ (ap (λ (z : CpuView J). z.turn) r4 ∙ (ap (λ (z : CpuView J). z.turn) r3 ∙ (ap (λ (z : CpuView J). z.turn) r2 ∙ ap (λ (z : CpuView J). z.turn) r1))))
+
+  cpu_same : c6.cpu ≡ c4.cpu
+  cpu_same = ap (λ (z : CpuView J). z.cpu) r6 ∙ ap (λ (z : CpuView J). z.cpu) r5
+
+  needs_last : c6.needs ≡ c5.needs
+  needs_last = ap (λ (z : CpuView J). z.needs) r6
+
+  pub snapped : Snaps s c0 c6
+  snapped = record {
+    noted = c1.cpu;
+    notes = noted;
+    looked = c2.cpu;
+    look = look;
+    looks = looks;
+    index = index;
+    counted = c3.cpu;
+    zero = zero_counted;
+    one = subst (λ z. CountsEach One s.one c3.cpu z) (sym cpu_same) one_counted;
+    need = subst (λ (z : FunnelView × FunnelView). LoadsRoot z.0 s.need z.1) (λ k. (needs_same k, sym needs_last k)) need;
+    calls = subst (λ (z : CallSeatView J). AddsUp z s.queued s.finished c6.calls) calls_same added;
+    turn = turn_same;
+  }
+
+-- what was seen before and after may be more
+wider : (i : Index) (ended begun : ℕ) (a b c d : List Event) → IsBeginning a b → IsBeginning c d → Tells i ended begun b c → Tells i ended begun a d
+wider i ended begun a b c d before after h = record {
+  no_more = h.no_more;
+  empty = λ equal. let e = h.empty equal in record { moment = e.moment; since = beginning_trans before e.since; upto = beginning_trans e.upto after; empty = e.empty };
+  is_open = λ fewer. let o = h.is_open fewer in record { moment = o.moment; since = beginning_trans before o.since; upto = beginning_trans o.upto after; section = o.section; is_open = o.is_open; of_index = o.of_index };
+}
+
+pub snapshot_tells : {A J : Type 0} (s : Snapshot A) (c c' : CpuView J) → Snaps s c c' → (i : Index) → Tells i (counters_of i s).ended (counters_of i s).begun c.cpu.seen c'.cpu.seen
+snapshot_tells s c c' h Zero =
+    let noted = h.notes.adds in
+    let first : IsBeginning c.cpu.seen h.noted.seen = beginning_trans noted.since record { rest = _; whole = noted.seen } in
+    wider Zero s.zero.ended s.zero.begun c.cpu.seen h.looked.seen h.counted.seen c'.cpu.seen (beginning_trans first h.looks.load.since) (beginning_trans h.one.unlocks.loads.since h.one.locks.loads.since) (each_tell Zero s.zero h.looked h.counted h.zero)
+snapshot_tells s c c' h One =
+    let noted = h.notes.adds in
+    let first : IsBeginning c.cpu.seen h.noted.seen = beginning_trans noted.since record { rest = _; whole = noted.seen } in
+    let second = beginning_trans h.zero.unlocks.loads.since h.zero.locks.loads.since in
+    wider One s.one.ended s.one.begun c.cpu.seen h.counted.seen c'.cpu.seen c'.cpu.seen (beginning_trans first (beginning_trans h.looks.load.since second)) (beginning_refl c'.cpu.seen) (each_tell One s.one h.counted c'.cpu h.one)

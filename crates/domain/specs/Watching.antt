@@ -1,0 +1,153 @@
+-- What a watcher finds: the counters of one processor and of all, who holds a grace period up, and a domain at a glance.
+use Rattle.std.specs.Prelude.{◌≡◌, ◌≢◌, ℕ, zero, suc, ◌+◌, ◌*◌, ◌^◌, ◌<◌, ◌≤◌, ◌==◌, if◌then◌else◌, List, [], ◌∷◌, ◌++◌, length, sum, slice_index, Vec, vec_len, vec_capacity}
+use Rattle.sseq.specs.declared.index.Index.{Index}
+use Rattle.sseq.specs.declared.index.Index.TheVariants.{Zero, One}
+use Rattle.onedom.specs.declared.event.Event.{Event}
+use Rattle.onedom.specs.Histories.{IsOpen, IsEmpty, index_of, IsBeginning}
+use Rattle.sections.specs.Words.{locks, unlocks, sum_below}
+use Rattle.sections.specs.Views as sections
+use Rattle.sections.specs.Calls.{Looks, Notes}
+use Rattle.funnel.specs.Calls.{LoadsRoot}
+use Rattle.calls.specs.Totals.{AddsUp}
+use Rattle.domain.specs.declared.watching.Pair.{Pair}
+use Rattle.domain.specs.declared.watching.Counts.{Counts}
+use Rattle.domain.specs.declared.watching.Counters.{Counters}
+use Rattle.domain.specs.declared.watching.Holder.{Holder}
+use Rattle.domain.specs.declared.watching.snapshot.Snapshot.{Snapshot}
+use Rattle.domain.specs.Views.{CpuView}
+use Rattle.domain.specs.Counts.{LoadsCounters, IsBetween}
+
+-- Room
+
+-- an empty vector with room for so many
+abbrev pub HasRoom : {T A : Type 0} → ℕ → Vec T A → Type 0
+HasRoom many v = (v.items ≡ []) × (vec_len v ≡ 0) × (many ≤ vec_capacity v)
+
+-- and two of them
+abbrev pub HaveRoom : {T A : Type 0} → ℕ → Vec T A → Vec T A → Type 0
+HaveRoom many v w = HasRoom many v × HasRoom many w
+
+-- Moments
+
+-- at a moment from the first history on, up to the second, so many were counted
+pub record StoodAt (count : List Event → ℕ) (found : ℕ) (seen seen' : List Event) : Type 0 where
+  pub moment : List Event
+  pub since : IsBeginning seen moment
+  pub upto : IsBeginning moment seen'
+  pub exact : found ≡ count moment
+
+-- at such a moment no section of the index was open
+pub record WasEmptyIn (i : Index) (seen seen' : List Event) : Type 0 where
+  pub moment : List Event
+  pub since : IsBeginning seen moment
+  pub upto : IsBeginning moment seen'
+  pub empty : IsEmpty i moment
+
+-- at such a moment a section of the index was open
+pub record WasOpenIn (i : Index) (seen seen' : List Event) : Type 0 where
+  pub moment : List Event
+  pub since : IsBeginning seen moment
+  pub upto : IsBeginning moment seen'
+  pub section : ℕ
+  pub is_open : IsOpen moment section
+  pub of_index : index_of section moment ≡ i
+
+-- at such a moment no more sections of the index had begun on the processor than had ended there
+pub record WasBalanced (p : ℕ) (i : Index) (seen seen' : List Event) : Type 0 where
+  pub moment : List Event
+  pub since : IsBeginning seen moment
+  pub upto : IsBeginning moment seen'
+  pub balanced : locks p i moment ≤ unlocks p i moment
+
+-- One processor
+
+abbrev pub pair_of : Index → Counts → Pair
+pair_of Zero k = k.zero
+pair_of One k = k.one
+
+-- the unlock counter stood so at a moment not after the middle one, and the lock counter at one not before it
+pub record FindsPair (p : ℕ) (i : Index) (k : Pair) (seen middle seen' : List Event) : Type 0 where
+  pub unlocks : StoodAt (unlocks p i) k.unlocks seen middle
+  pub locks : StoodAt (locks p i) k.locks middle seen'
+
+-- the four counters of processor p were loaded, each once and the unlocks first. Nothing else was done
+pub record Watches (p : ℕ) (k : Counts) (c d : sections.CpuView) : Type 0 where
+  pub loads : LoadsCounters 4 c d
+  pub middle : List Event
+  pub zero : FindsPair p Zero k.zero c.seen middle d.seen
+  pub one : FindsPair p One k.one c.seen middle d.seen
+
+-- neither is below what was counted in this history
+pub record IsNoLess (p : ℕ) (i : Index) (k : Pair) (seen : List Event) : Type 0 where
+  pub unlocks : unlocks p i seen ≤ k.unlocks
+  pub locks : locks p i seen ≤ k.locks
+
+-- All processors
+
+-- a counter of each processor was loaded, once each, and nothing else was done. These numbers were found, in the order of the processors, and this is their sum
+pub record LoadsEach (count : ℕ → List Event → ℕ) (found : List ℕ) (total : ℕ) (c d : sections.CpuView) : Type 0 where
+  pub loads : LoadsCounters c.processors c d
+  pub one_each : length found ≡ c.processors
+  pub each : (p : ℕ) → p < c.processors → StoodAt (count p) (slice_index found p) c.seen d.seen
+  pub total_is : total ≡ sum found
+  pub between : IsBetween (λ h. sum_below (λ p. count p h) c.processors) total c.seen d.seen
+  pub small : total ≤ 2 ^ 60
+
+module _ {A : Type 0} where
+  -- all unlock counters of the index were loaded, and then all of its lock counters
+  pub record CountsEach (i : Index) (k : Counters A) (c d : sections.CpuView) : Type 0 where
+    pub middle : sections.CpuView
+    pub unlocks : LoadsEach (λ q. unlocks q i) k.unlocks.items k.ended c middle
+    pub locks : LoadsEach (λ p. locks p i) k.locks.items k.begun middle d
+
+-- What two sums of an index tell. Equal ones: none of its sections was open at a moment of their loads. Others: one was
+pub record Tells (i : Index) (ended begun : ℕ) (seen seen' : List Event) : Type 0 where
+  pub no_more : ended ≤ begun
+  pub empty : ended ≡ begun → WasEmptyIn i seen seen'
+  pub is_open : ended < begun → WasOpenIn i seen seen'
+
+-- Holders
+
+-- whether the two counters of processor p differ, and which they are
+abbrev pub holder_at : ℕ → ℕ → ℕ → List Holder
+holder_at p u l = if l == u then [] else record { processor = p; pair = record { locks = l; unlocks = u } } ∷ []
+
+-- of so many processors, those whose counters differ
+abbrev pub differing : List ℕ → List ℕ → ℕ → List Holder
+differing us ls zero = []
+differing us ls (suc p) = differing us ls p ++ holder_at p (slice_index us p) (slice_index ls p)
+
+-- the counters of the index were loaded, all unlocks first. Where the sums are equal, no processor is named; else those are named whose counters differ
+pub record NamesHolders (i : Index) (named : List Holder) (c d : sections.CpuView) : Type 0 where
+  pub middle : sections.CpuView
+  pub unlocked : List ℕ
+  pub ended : ℕ
+  pub unlocks : LoadsEach (λ q. unlocks q i) unlocked ended c middle
+  pub locked : List ℕ
+  pub begun : ℕ
+  pub locks : LoadsEach (λ p. locks p i) locked begun middle d
+  pub none : ended ≡ begun → named ≡ []
+  pub some : ended < begun → named ≡ differing unlocked locked c.processors
+
+-- A domain at a glance
+
+module _ {A : Type 0} where
+  abbrev pub counters_of : Index → Snapshot A → Counters A
+  counters_of Zero s = s.zero
+  counters_of One s = s.one
+
+  module _ {J : Type 0} where
+    -- The number was loaded, which is the note of a cookie, then the index word, and then the counters of both indexes. The root of the tree and the tally words were loaded too. Nothing else was done
+    pub record Snaps (s : Snapshot A) (c c' : CpuView J) : Type 0 where
+      pub noted : sections.CpuView
+      pub notes : Notes s.number c.cpu noted
+      pub looked : sections.CpuView
+      pub look : sections.LookView
+      pub looks : Looks noted looked look
+      pub index : s.index ≡ look.index
+      pub counted : sections.CpuView
+      pub zero : CountsEach Zero s.zero looked counted
+      pub one : CountsEach One s.one counted c'.cpu
+      pub need : LoadsRoot c.needs s.need c'.needs
+      pub calls : AddsUp c.calls s.queued s.finished c'.calls
+      pub turn : c'.turn ≡ c.turn
