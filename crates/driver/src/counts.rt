@@ -19,4 +19,19 @@ pub struct Came {
     pub answer: Result<Progress, AdvanceRefusal>,
     /// How many jobs were run.
     pub jobs: usize,
+    /// In how many batches they came.
+    pub batches: usize,
+    /// Whether a list gave out nothing since its batch is out, or there was no memory.
+    pub refused: bool,
+}
+
+/// What looks at lists came to.
+#[derive(Clone, Copy)]
+pub struct Looked {
+    /// How many jobs were run.
+    pub jobs: usize,
+    /// In how many batches they came.
+    pub batches: usize,
+    /// Whether a list gave out nothing since its batch is out, or there was no memory.
+    pub refused: bool,
 }

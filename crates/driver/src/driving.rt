@@ -6,15 +6,19 @@ ghost use Rattle.domain.specs.Views.{IsOf, IsSameProcessor};
 ghost use Rattle.domain.specs.Waiting.{HasNoneOpen};
 ghost use Rattle.domain.specs.Barriers.{IsTicketOf};
 ghost use Rattle.driver.specs.Serving.{Works, WorksFrom, EndsInVain, EndsInVainFrom, HasStarted, IsStopped, AllFinished};
+ghost use Rattle.driver.specs.Pools.{IsIdle};
 ghost use Rattle.driver.specs.Signs.{IsServed};
 
 use crate::counts::Served;
 use crate::pause::Pause;
+use crate::report::{Listener, Report};
 use crate::serving::round;
 use crate::stop::{Stop, Told};
+use crate::watcher::{Unwatched, Watcher};
 use domain::{Cpu, Domain, PeriodsExhausted, Ticket};
 use std::alloc::{Allocator, Global};
 use std::sync::Wait;
+use std::time::Clock;
 
 /// What a driver came to that was told to stop.
 #[derive(Drop)]
@@ -27,19 +31,21 @@ pub struct Stopped<J, A: Allocator = Global> {
 
 /// Rounds until the sign is given and its ticket is done, which is polled behind each round. `Err` where no more grace
 /// periods may start.
-fn until_told<R: Wait, J: Drop, A: Allocator + Copy, F: FnMut(J)>(
+fn until_told<R: Wait, J: Drop, A: Allocator + Copy, F: FnMut(J), W: Watcher<J, A>>(
     rt: &R,
     domain: &Domain<J, A>,
     cpu: &mut Cpu<J, A>,
     processors: u16,
     stop: &Stop<J, A>,
     work: &mut F,
+    watcher: &mut W,
 ) -> Result<Stopped<J, A>, Served>
     requires here { IsOf domain.now cpu.old }
     requires none { HasNoneOpen cpu.old }
     requires stop { stop.now.domain ≡ domain.now }
     requires processors { processors ≡ domain.now.processors }
     requires work { F.IsAlwaysCallable work.old }
+    requires watcher { W.watches domain.now watcher.old }
     ensures here { IsOf domain.now cpu.new }
     ensures none { HasNoneOpen cpu.new }
     ensures later { IsBeginning cpu.old.calls.seen cpu.new.calls.seen }
@@ -50,19 +56,23 @@ fn until_told<R: Wait, J: Drop, A: Allocator + Copy, F: FnMut(J)>(
     ensures vain { IfErr result (λ served. EndsInVain (λ p x q. F.step p x tt q) domain.now work.old cpu.old served work.new cpu.new) }
     ensures told { IfOk result (λ stopped. IsServed stop.now stopped.told cpu.new.calls.seen) }
     ensures work { F.IsAlwaysCallable work.new }
+    ensures watcher { W.watches domain.now watcher.new }
 {
     let mut served = Served::nothing();
     let mut pause = Pause::new();
     for _ in rt.forever() {
         let came = round(rt, domain, cpu, processors, work);
         served = served.and(&came);
+        watcher.look(domain, &came);
         if came.is_end() {
             return Err(served);
         }
         if let Some(told) = stop.poll(rt, domain, cpu) {
             return Ok(Stopped { served, told });
         }
-        if came.is_rest() {
+        if came.is_idle() {
+            pause.wait_for_asking(rt, domain);
+        } else if came.is_rest() {
             pause.sleep_until(rt, stop);
         } else {
             pause.reset();
@@ -73,18 +83,20 @@ fn until_told<R: Wait, J: Drop, A: Allocator + Copy, F: FnMut(J)>(
 
 /// Rounds until there is memory for a barrier of its own, which is tried before each round. `Err` where no more grace periods
 /// may start. Goes on from these counts.
-fn until_started<R: Wait, J: Drop, A: Allocator + Copy, F: FnMut(J)>(
+fn until_started<R: Wait, J: Drop, A: Allocator + Copy, F: FnMut(J), W: Watcher<J, A>>(
     rt: &R,
     domain: &Domain<J, A>,
     cpu: &mut Cpu<J, A>,
     processors: u16,
     before: Served,
     work: &mut F,
+    watcher: &mut W,
 ) -> Result<(Served, Ticket<J, A>), Served>
     requires here { IsOf domain.now cpu.old }
     requires none { HasNoneOpen cpu.old }
     requires processors { processors ≡ domain.now.processors }
     requires work { F.IsAlwaysCallable work.old }
+    requires watcher { W.watches domain.now watcher.old }
     ensures here { IsOf domain.now cpu.new }
     ensures none { HasNoneOpen cpu.new }
     ensures later { IsBeginning cpu.old.calls.seen cpu.new.calls.seen }
@@ -97,6 +109,7 @@ fn until_started<R: Wait, J: Drop, A: Allocator + Copy, F: FnMut(J)>(
     ensures starts { IfOk result (λ started. HasStarted cpu.old started.1 cpu.new) }
     ensures covers { IfOk result (λ started. CoversAll started.1 domain.now.processors cpu.old.calls.seen) }
     ensures work { F.IsAlwaysCallable work.new }
+    ensures watcher { W.watches domain.now watcher.new }
 {
     let mut served = before;
     let mut pause = Pause::new();
@@ -106,6 +119,7 @@ fn until_started<R: Wait, J: Drop, A: Allocator + Copy, F: FnMut(J)>(
         }
         let came = round(rt, domain, cpu, processors, work);
         served = served.and(&came);
+        watcher.look(domain, &came);
         if came.is_end() {
             return Err(served);
         }
@@ -120,7 +134,7 @@ fn until_started<R: Wait, J: Drop, A: Allocator + Copy, F: FnMut(J)>(
 
 /// Rounds until the ticket is done, which is polled before each round. `Err` where no more grace periods may start. Goes
 /// on from these counts.
-fn until_done<R: Wait, J: Drop, A: Allocator + Copy, F: FnMut(J)>(
+fn until_done<R: Wait, J: Drop, A: Allocator + Copy, F: FnMut(J), W: Watcher<J, A>>(
     rt: &R,
     domain: &Domain<J, A>,
     cpu: &mut Cpu<J, A>,
@@ -128,12 +142,14 @@ fn until_done<R: Wait, J: Drop, A: Allocator + Copy, F: FnMut(J)>(
     ticket: &Ticket<J, A>,
     before: Served,
     work: &mut F,
+    watcher: &mut W,
 ) -> Result<Served, Served>
     requires here { IsOf domain.now cpu.old }
     requires none { HasNoneOpen cpu.old }
     requires processors { processors ≡ domain.now.processors }
     requires ticket { IsTicketOf domain.now ticket.now }
     requires work { F.IsAlwaysCallable work.old }
+    requires watcher { W.watches domain.now watcher.old }
     ensures here { IsOf domain.now cpu.new }
     ensures none { HasNoneOpen cpu.new }
     ensures later { IsBeginning cpu.old.calls.seen cpu.new.calls.seen }
@@ -143,6 +159,7 @@ fn until_done<R: Wait, J: Drop, A: Allocator + Copy, F: FnMut(J)>(
         (λ served. WorksFrom (λ p x q. F.step p x tt q) domain.now before work.old cpu.old served work.new cpu.new) }
     ensures vain { IfErr result (λ served. EndsInVainFrom (λ p x q. F.step p x tt q) domain.now before work.old cpu.old served work.new cpu.new) }
     ensures done { IfOk result (λ _. IsDone ticket.now cpu.new.calls.seen × AreFinished ticket.now cpu.new.calls.seen) }
+    ensures watcher { W.watches domain.now watcher.new }
 {
     let mut served = before;
     let mut pause = Pause::new();
@@ -152,6 +169,7 @@ fn until_done<R: Wait, J: Drop, A: Allocator + Copy, F: FnMut(J)>(
         }
         let came = round(rt, domain, cpu, processors, work);
         served = served.and(&came);
+        watcher.look(domain, &came);
         if came.is_end() {
             return Err(served);
         }
@@ -198,8 +216,72 @@ pub fn barrier<R: Wait, J: Drop, A: Allocator + Copy, F: FnMut(J)>(
 {
     let processors = domain.processors();
     let none = Served::nothing();
-    match until_done(rt, domain, cpu, processors, ticket, none, &mut work) {
+    match until_done(
+        rt,
+        domain,
+        cpu,
+        processors,
+        ticket,
+        none,
+        &mut work,
+        &mut Unwatched,
+    ) {
         Ok(served) => Ok(served),
+        Err(served) => Err((served, PeriodsExhausted)),
+    }
+}
+
+/// What [`serve`] does, with somebody who looks on.
+fn serve_watched<R: Wait, J: Drop, A: Allocator + Copy, F: FnMut(J), W: Watcher<J, A>>(
+    rt: &R,
+    domain: &Domain<J, A>,
+    cpu: &mut Cpu<J, A>,
+    stop: &Stop<J, A>,
+    mut work: F,
+    watcher: &mut W,
+) -> Result<Stopped<J, A>, (Served, PeriodsExhausted)>
+    requires here { IsOf domain.now cpu.old }
+    requires none { HasNoneOpen cpu.old }
+    requires stop { stop.now.domain ≡ domain.now }
+    requires work { F.IsAlwaysCallable work }
+    requires watcher { W.watches domain.now watcher.old }
+    ensures here { IsOf domain.now cpu.new }
+    ensures none { HasNoneOpen cpu.new }
+    ensures same { IsSameProcessor cpu.old cpu.new }
+
+    // It made rounds and nothing else: each batch that it took it ran and finished.
+    ensures works { MatchResult result
+        (λ stopped. (last : F) × Works (λ p x q. F.step p x tt q) domain.now work cpu.old stopped.served last cpu.new)
+        (λ ended. (last : F) × Works (λ p x q. F.step p x tt q) domain.now work cpu.old ended.0 last cpu.new) }
+
+    // Where it ends early, its last round's turn of the engine found that no more may start, and no job was run in it.
+    ensures vain { IfErr result (λ ended. (last : F) × EndsInVain (λ p x q. F.step p x tt q) domain.now work cpu.old ended.0 last cpu.new) }
+
+    // It was told to stop, and each job is finished whose queueing the one who told it had seen.
+    ensures told { IfOk result (λ stopped. IsServed stop.now stopped.told cpu.new.calls.seen) }
+
+    // So is each one whose queueing it had seen itself, as a barrier was started in the call, which is done.
+    ensures stopped { IfOk result (λ _. IsStopped cpu.old cpu.new) }
+    ensures finished { IfOk result (λ _. AllFinished domain.now.processors cpu.old cpu.new) }
+    ensures watcher { W.watches domain.now watcher.new }
+{
+    let processors = domain.processors();
+    let Stopped { served, told } = match until_told(
+        rt, domain, cpu, processors, stop, &mut work, watcher,
+    ) {
+        Ok(stopped) => stopped,
+        Err(served) => return Err((served, PeriodsExhausted)),
+    };
+    let (served, ticket) = match until_started(
+        rt, domain, cpu, processors, served, &mut work, watcher,
+    ) {
+        Ok(started) => started,
+        Err(served) => return Err((served, PeriodsExhausted)),
+    };
+    match until_done(
+        rt, domain, cpu, processors, &ticket, served, &mut work, watcher,
+    ) {
+        Ok(served) => Ok(Stopped { served, told }),
         Err(served) => Err((served, PeriodsExhausted)),
     }
 }
@@ -221,7 +303,7 @@ pub fn serve<R: Wait, J: Drop, A: Allocator + Copy, F: FnMut(J)>(
     domain: &Domain<J, A>,
     cpu: &mut Cpu<J, A>,
     stop: &Stop<J, A>,
-    mut work: F,
+    work: F,
 ) -> Result<Stopped<J, A>, (Served, PeriodsExhausted)>
     requires here { IsOf domain.now cpu.old }
     requires none { HasNoneOpen cpu.old }
@@ -246,17 +328,45 @@ pub fn serve<R: Wait, J: Drop, A: Allocator + Copy, F: FnMut(J)>(
     ensures stopped { IfOk result (λ _. IsStopped cpu.old cpu.new) }
     ensures finished { IfOk result (λ _. AllFinished domain.now.processors cpu.old cpu.new) }
 {
-    let processors = domain.processors();
-    let Stopped { served, told } = match until_told(rt, domain, cpu, processors, stop, &mut work) {
-        Ok(stopped) => stopped,
-        Err(served) => return Err((served, PeriodsExhausted)),
-    };
-    let (served, ticket) = match until_started(rt, domain, cpu, processors, served, &mut work) {
-        Ok(started) => started,
-        Err(served) => return Err((served, PeriodsExhausted)),
-    };
-    match until_done(rt, domain, cpu, processors, &ticket, served, &mut work) {
-        Ok(served) => Ok(Stopped { served, told }),
-        Err(served) => Err((served, PeriodsExhausted)),
-    }
+    serve_watched(rt, domain, cpu, stop, work, &mut Unwatched)
+}
+
+/// As [`serve`], with a report: a grace period that waits for sections for longer than its time is told to its listener, once,
+/// with the domain at a glance. The driver goes on then. What it comes to is added to the report's tally after each round.
+pub fn serve_with<R: Wait, J: Drop, A: Allocator + Copy, F: FnMut(J), C: Clock, L: Listener<A>>(
+    rt: &R,
+    domain: &Domain<J, A>,
+    cpu: &mut Cpu<J, A>,
+    stop: &Stop<J, A>,
+    work: F,
+    report: &mut Report<'_, J, C, L, A>,
+) -> Result<Stopped<J, A>, (Served, PeriodsExhausted)>
+    requires here { IsOf domain.now cpu.old }
+    requires none { HasNoneOpen cpu.old }
+    requires stop { stop.now.domain ≡ domain.now }
+    requires work { F.IsAlwaysCallable work }
+    requires report { IsIdle domain.now report.old.cpu }
+    ensures here { IsOf domain.now cpu.new }
+    ensures none { HasNoneOpen cpu.new }
+    ensures same { IsSameProcessor cpu.old cpu.new }
+
+    // It made rounds and nothing else: each batch that it took it ran and finished.
+    ensures works { MatchResult result
+        (λ stopped. (last : F) × Works (λ p x q. F.step p x tt q) domain.now work cpu.old stopped.served last cpu.new)
+        (λ ended. (last : F) × Works (λ p x q. F.step p x tt q) domain.now work cpu.old ended.0 last cpu.new) }
+
+    // Where it ends early, its last round's turn of the engine found that no more may start, and no job was run in it.
+    ensures vain { IfErr result (λ ended. (last : F) × EndsInVain (λ p x q. F.step p x tt q) domain.now work cpu.old ended.0 last cpu.new) }
+
+    // It was told to stop, and each job is finished whose queueing the one who told it had seen.
+    ensures told { IfOk result (λ stopped. IsServed stop.now stopped.told cpu.new.calls.seen) }
+
+    // So is each one whose queueing it had seen itself, as a barrier was started in the call, which is done.
+    ensures stopped { IfOk result (λ _. IsStopped cpu.old cpu.new) }
+    ensures finished { IfOk result (λ _. AllFinished domain.now.processors cpu.old cpu.new) }
+
+    // The processor that made the snapshots is of the domain, and no reading is open on it. So the report may be lent again.
+    ensures report { IsIdle domain.now report.new.cpu }
+{
+    serve_watched(rt, domain, cpu, stop, work, report)
 }

@@ -9,14 +9,17 @@ mod pause;
 mod pool;
 mod reading;
 mod refusals;
+mod report;
 mod serving;
 mod sign;
 mod stop;
+mod watcher;
 
 pub use counts::Served;
-pub use driving::{Stopped, barrier, serve};
+pub use driving::{Stopped, barrier, serve, serve_with};
 pub use pool::{AtHome, Lent, Pool, Slip};
 pub use reading::read;
 pub use refusals::GiveRefusal;
+pub use report::{Listener, Report, Stall, Tallied, Tally};
 pub use serving::run_batch;
 pub use stop::{Stop, Told};

@@ -1,47 +1,87 @@
-//! Sleeps that grow while there is nothing to do.
+//! Pauses of a driver that has nothing to do.
 use crate::stop::Stop;
+use domain::Domain;
 use std::alloc::Allocator;
 use std::sync::Wait;
 use std::sync::atomic::AtomicU64;
+use std::thread::yield_now;
 use std::time::Duration;
 
-/// The first sleep, in microseconds.
-const FIRST: u64 = 8;
+/// How many pauses only let other threads run, before the first sleep: together about as long as a grace period takes.
+const YIELDS: u32 = 16;
+
+/// The shortest sleep, in microseconds.
+const SHORTEST: u64 = 10;
 
 /// The longest one: a millisecond.
 const LONGEST: u64 = 1_000;
 
-/// How long the next sleep is.
+/// A sleep is so many times shorter than all sleeps before it together. So a section that was open for long is found closed
+/// after a small part of that, and a driver that waits for long looks rarely.
+const SHARE: u64 = 128;
+
+/// What the next pause is.
 #[derive(Clone, Copy)]
 pub struct Pause {
-    micros: u64,
+    yields: u32,
+    /// How long the sleeps were together, in microseconds.
+    slept: u64,
+    /// Whether the driver has said that it is about to sleep until somebody asks, and looks for the last time.
+    listens: bool,
 }
 
 impl Pause {
     pub fn new() -> Pause {
-        Pause { micros: FIRST }
+        Pause {
+            yields: YIELDS,
+            slept: 0,
+            listens: false,
+        }
     }
 
     /// There was something to do.
     pub fn reset(&mut self) {
-        self.micros = FIRST;
+        *self = Pause::new();
     }
 
-    /// How long the next sleep is. The one behind it is twice as long, up to a millisecond.
-    fn next(&mut self) -> Duration {
-        let length = Duration::from_micros(self.micros);
-        self.micros = self.micros.saturating_mul(2).min(LONGEST);
-        length
+    /// How long the next sleep is, if it is one.
+    fn next(&mut self) -> Option<Duration> {
+        self.listens = false;
+        if self.yields > 0 {
+            self.yields -= 1;
+            return None;
+        }
+        let length = (self.slept / SHARE).max(SHORTEST).min(LONGEST);
+        self.slept = self.slept.saturating_add(length);
+        Some(Duration::from_micros(length))
     }
 
-    /// Sleeps, or until the sign is given.
+    /// Lets other threads run; later it sleeps, or until the sign is given.
     pub fn sleep_until<R: Wait, J, A: Allocator>(&mut self, rt: &R, stop: &Stop<J, A>) {
-        stop.sleep(rt, self.next());
+        match self.next() {
+            Some(length) => stop.sleep(rt, length),
+            None => yield_now(),
+        }
     }
 
-    /// Sleeps where nobody wakes it.
+    /// Lets other threads run; later it sleeps where no thread wakes it.
     pub fn sleep<R: Wait>(&mut self, rt: &R) {
-        // The word is fresh, so no other thread can wake this one: the sleep lasts its time.
-        AtomicU64::new(0).park_timeout(rt, 0, self.next());
+        match self.next() {
+            // The word is fresh, so no other thread can wake this one: the sleep lasts its time.
+            Some(length) => AtomicU64::new(0).park_timeout(rt, 0, length),
+            None => yield_now(),
+        }
+    }
+
+    /// Sleeps until somebody asks for a grace period, or the sign is given. The first time it only says so, and one more
+    /// round looks: what was asked since the round before rang for no one, and the driver would sleep on.
+    pub fn wait_for_asking<R: Wait, J, A: Allocator>(&mut self, rt: &R, domain: &Domain<J, A>) {
+        if self.listens {
+            domain.sleep(rt);
+            self.reset();
+        } else {
+            domain.listen();
+            self.listens = true;
+        }
     }
 }

@@ -6,7 +6,7 @@ ghost use Rattle.domain.specs.Views.{IsOf, IsSameProcessor};
 ghost use Rattle.domain.specs.Waiting.{HasNoneOpen};
 ghost use Rattle.driver.specs.Serving.{IsBatchOf, TriesTurn, RunsIn, LooksAfter, LooksAfterAll, Round};
 
-use crate::counts::Came;
+use crate::counts::{Came, Looked};
 use domain::{AdvanceRefusal, Batch, Cpu, Domain, Progress};
 use std::alloc::Allocator;
 use std::mem::size_of_val;
@@ -58,14 +58,14 @@ fn turn<J, A: Allocator>(
     domain.drive(cpu)
 }
 
-/// Takes what is ready on a processor, runs it and finishes it. Answers how many jobs there were, from 0 to 8.
+/// Takes what is ready on a processor, runs it and finishes it: from 0 to 8 jobs.
 fn look_after<R: Wait, J: Drop, A: Allocator + Copy, F: FnMut(J)>(
     rt: &R,
     domain: &Domain<J, A>,
     cpu: &mut Cpu<J, A>,
     processor: u16,
     work: &mut F,
-) -> usize
+) -> Looked
     requires here { IsOf domain.now cpu.old }
     requires none { HasNoneOpen cpu.old }
     requires processor { processor < domain.now.processors }
@@ -74,8 +74,8 @@ fn look_after<R: Wait, J: Drop, A: Allocator + Copy, F: FnMut(J)>(
     ensures none { HasNoneOpen cpu.new }
     ensures later { IsBeginning cpu.old.calls.seen cpu.new.calls.seen }
     ensures same { IsSameProcessor cpu.old cpu.new }
-    ensures looks { (jobs : List J) × (length jobs ≡ result) × LooksAfter (λ p x q. F.step p x tt q) domain.now processor work.old cpu.old jobs work.new cpu.new }
-    ensures few { result ≤ 8 }
+    ensures looks { (jobs : List J) × (length jobs ≡ result.jobs) × LooksAfter (λ p x q. F.step p x tt q) domain.now processor work.old cpu.old jobs work.new cpu.new }
+    ensures few { result.jobs ≤ 8 }
     ensures work { F.IsAlwaysCallable work.new }
 {
     // A batch is moved below, and the proof of that wants to know that its type fits in memory. So does every type that is
@@ -93,11 +93,23 @@ fn look_after<R: Wait, J: Drop, A: Allocator + Copy, F: FnMut(J)>(
         Ok(Some(batch)) => {
             let count = batch.count();
             run_batch(rt, domain, cpu, batch, work);
-            count
+            Looked {
+                jobs: count,
+                batches: 1,
+                refused: false,
+            }
         }
-        Ok(None) => 0,
+        Ok(None) => Looked {
+            jobs: 0,
+            batches: 0,
+            refused: false,
+        },
         // A batch of the processor is out, and somebody else runs it; or there was no memory, and what came in waits.
-        Err(_) => 0,
+        Err(_) => Looked {
+            jobs: 0,
+            batches: 0,
+            refused: true,
+        },
     }
 }
 
@@ -108,7 +120,7 @@ fn look_after_all<R: Wait, J: Drop, A: Allocator + Copy, F: FnMut(J)>(
     cpu: &mut Cpu<J, A>,
     processors: u16,
     work: &mut F,
-) -> usize
+) -> Looked
     requires here { IsOf domain.now cpu.old }
     requires none { HasNoneOpen cpu.old }
     requires processors { processors ≡ domain.now.processors }
@@ -117,14 +129,23 @@ fn look_after_all<R: Wait, J: Drop, A: Allocator + Copy, F: FnMut(J)>(
     ensures none { HasNoneOpen cpu.new }
     ensures later { IsBeginning cpu.old.calls.seen cpu.new.calls.seen }
     ensures same { IsSameProcessor cpu.old cpu.new }
-    ensures looks { (jobs : List J) × (length jobs ≡ result) × LooksAfterAll (λ p x q. F.step p x tt q) domain.now processors work.old cpu.old jobs work.new cpu.new }
+    ensures looks { (jobs : List J) × (length jobs ≡ result.jobs) × LooksAfterAll (λ p x q. F.step p x tt q) domain.now processors work.old cpu.old jobs work.new cpu.new }
     ensures work { F.IsAlwaysCallable work.new }
 {
     let mut jobs = 0;
+    let mut batches: usize = 0;
+    let mut refused = false;
     for processor in 0..processors {
-        jobs += look_after(rt, domain, cpu, processor, work);
+        let looked = look_after(rt, domain, cpu, processor, work);
+        jobs += looked.jobs;
+        batches = batches.saturating_add(looked.batches);
+        refused |= looked.refused;
     }
-    jobs
+    Looked {
+        jobs,
+        batches,
+        refused,
+    }
 }
 
 /// A turn of the engine, and then a look at the list of each processor.
@@ -147,6 +168,15 @@ pub fn round<R: Wait, J: Drop, A: Allocator + Copy, F: FnMut(J)>(
     ensures work { F.IsAlwaysCallable work.new }
 {
     let answer = turn(domain, cpu);
-    let jobs = look_after_all(rt, domain, cpu, processors, work);
-    Came { answer, jobs }
+    let Looked {
+        jobs,
+        batches,
+        refused,
+    } = look_after_all(rt, domain, cpu, processors, work);
+    Came {
+        answer,
+        jobs,
+        batches,
+        refused,
+    }
 }

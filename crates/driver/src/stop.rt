@@ -84,7 +84,7 @@ impl<J, A: Allocator + Copy> Stop<J, A> {
             told: Some(Some(ticket)),
         };
         let told = self.trail.put_back(given, loan);
-        self.wake();
+        self.wake(domain);
         Ok(told)
     }
 }
@@ -92,7 +92,8 @@ impl<J, A: Allocator + Copy> Stop<J, A> {
 impl<J, A: Allocator> Stop<J, A> {
     /// Gives the sign where no processor is at hand, and wakes all drivers that sleep. So a driver ends when what it had itself
     /// seen is finished. Where the sign was given before, it stays as it was. It takes no memory.
-    pub fn give_alone<R: Wait>(&self, rt: &R) -> Told<J, A>
+    pub fn give_alone<R: Wait>(&self, rt: &R, domain: &Domain<J, A>) -> Told<J, A>
+        requires { self.now.domain ≡ domain.now }
         ensures { SaysGiven self.now result }
     {
         let (sign, loan) = self.trail.take(rt);
@@ -100,7 +101,7 @@ impl<J, A: Allocator> Stop<J, A> {
             told: Some(sign.told.unwrap_or(None)),
         };
         let told = self.trail.put_back(given, loan);
-        self.wake();
+        self.wake(domain);
         told
     }
 
@@ -144,10 +145,12 @@ impl<J, A: Allocator> Stop<J, A> {
         if done { Some(told) } else { None }
     }
 
-    /// Wakes all drivers that sleep, and lets none of them sleep on.
-    fn wake(&self) {
+    /// Wakes all drivers that sleep, those that wait for a section and those that wait until somebody asks, and lets none of
+    /// them sleep on.
+    fn wake(&self, domain: &Domain<J, A>) {
         self.given.store(1, SeqCst);
         self.given.wake_all();
+        domain.ring();
     }
 
     /// Sleeps so long, or until the sign is given, or shorter for no reason.

@@ -1,5 +1,6 @@
 //! Adding up what rounds came to.
-ghost use Rattle.std.specs.Prelude.{◌≡◌, ℕ, ◌+◌, ◌↔◌, true, Err};
+ghost use Rattle.std.specs.Prelude.{◌≡◌, ℕ, ◌+◌, ◌↔◌, true, false, Ok, Err};
+ghost use Rattle.scan.specs.declared.progress.Progress.TheVariants as progress;
 ghost use Rattle.scan.specs.declared.refusals.AdvanceRefusal.TheVariants as advance;
 ghost use Rattle.driver.specs.Counts.{IsCount, periods_in};
 
@@ -33,7 +34,7 @@ impl Served {
         ensures periods { (n : ℕ) → IsCount self.periods n → IsCount result.periods (n + periods_in came.now.answer) }
         ensures jobs { (n : ℕ) → IsCount self.jobs n → IsCount result.jobs (n + came.now.jobs) }
     {
-        let Came { answer, jobs } = *came;
+        let Came { answer, jobs, .. } = *came;
         Served {
             periods: self.periods.saturating_add(ended(answer)),
             jobs: self.jobs.saturating_add(jobs as u64),
@@ -50,11 +51,21 @@ impl Came {
     }
 
     /// Whether there was nothing to do: no job was ready, and the engine rests, waits for a section or works elsewhere.
-    pub fn is_rest(&self) -> bool {
+    pub fn is_rest(&self) -> bool
+        ensures { result ≡ true → self.now.jobs ≡ 0 }
+    {
         self.jobs == 0
             && matches!(
                 self.answer,
                 Ok(Progress::Idle | Progress::Waiting(_)) | Err(_)
             )
+    }
+
+    /// Whether nothing is asked for, and no job waits: the engine rests, and each list told that nothing was ready.
+    pub fn is_idle(&self) -> bool
+        ensures none { result ≡ true → (self.now.jobs ≡ 0) × (self.now.refused ≡ false) }
+        ensures idle { result ≡ true → self.now.answer ≡ Ok progress.Idle }
+    {
+        self.jobs == 0 && !self.refused && matches!(self.answer, Ok(Progress::Idle))
     }
 }

@@ -8,7 +8,7 @@ use Rattle.driver.proofs.driving.until_done.Goals as goal
 pub loop-init : goal.loop-init
 loop-init g c = (
   c.requires.work,
-  record { here = c.requires.here; still = c.requires.none; later = begins_itself _; same = same_itself _; works = works_from_none (λ p x q. goal.F-step g p x tt q) c.args.domain.now c.args.work.now c.args.cpu.now c.args.before },
+  record { watched = c.requires.watcher; here = c.requires.here; still = c.requires.none; later = begins_itself _; same = same_itself _; works = works_from_none (λ p x q. goal.F-step g p x tt q) c.args.domain.now c.args.work.now c.args.cpu.now c.args.before },
 )
 
 pub barrier_poll-requires-clause-domain : goal.barrier_poll-requires-clause-domain
@@ -39,6 +39,7 @@ pub loop-preserved-then-is_rest : goal.loop-preserved-then-is_rest
 loop-preserved-then-is_rest g c = (
   c.round-came.ensures.work,
   record {
+    watched = c.look.ensures;
     here = c.round-came.ensures.here;
     still = c.round-came.ensures.none;
     later = begins_on (begins_on c.loop.invariant.1.later c.barrier_poll.ensures.acts.adds.since) c.round-came.ensures.later;
@@ -51,6 +52,7 @@ pub loop-preserved : goal.loop-preserved
 loop-preserved g c = (
   c.round-came.ensures.work,
   record {
+    watched = c.look.ensures;
     here = c.round-came.ensures.here;
     still = c.round-came.ensures.none;
     later = begins_on (begins_on c.loop.invariant.1.later c.barrier_poll.ensures.acts.adds.since) c.round-came.ensures.later;
@@ -67,3 +69,6 @@ returns-then-is_end-clause-same g c = same_trans _ _ _ (same_trans _ _ _ c.loop.
 
 pub returns-then-is_end-clause-vain : goal.returns-then-is_end-clause-vain
 returns-then-is_end-clause-vain g c = vain_from_on (λ p x q. goal.F-step g p x tt q) c.args.domain.now c.args.before _ _ _ _ c.barrier_poll.new.cpu _ c.loop.served c.and-served.result c.round-came.result.answer c.round-came.result.jobs (counts_from_on (λ p x q. goal.F-step g p x tt q) c.args.domain.now c.args.before _ _ _ c.loop.cpu c.barrier_poll.new.cpu c.loop.served c.loop.invariant.1.works record { ticket = c.args.ticket.now; loads = inr (c.barrier_poll.result, c.barrier_poll.ensures.polls); rest = c.barrier_poll.ensures.rest; none = (refl, refl, refl) }) c.round-came.ensures.round c.and-served.ensures.periods c.and-served.ensures.jobs (c.is_end.ensures.0 c.if-is_end.true).0 (c.is_end.ensures.0 c.if-is_end.true).1
+
+pub look-requires : goal.look-requires
+look-requires g c = c.loop.invariant.1.watched

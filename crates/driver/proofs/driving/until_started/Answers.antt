@@ -11,7 +11,7 @@ use Rattle.driver.proofs.driving.until_started.Goals as goal
 pub loop-init : goal.loop-init
 loop-init g c = (
   c.requires.work,
-  record { here = c.requires.here; still = c.requires.none; later = begins_itself _; same = same_itself _; works = works_from_none (λ p x q. goal.F-step g p x tt q) c.args.domain.now c.args.work.now c.args.cpu.now c.args.before },
+  record { watched = c.requires.watcher; here = c.requires.here; still = c.requires.none; later = begins_itself _; same = same_itself _; works = works_from_none (λ p x q. goal.F-step g p x tt q) c.args.domain.now c.args.work.now c.args.cpu.now c.args.before },
 )
 
 pub barrier_start-requires : goal.barrier_start-requires
@@ -60,6 +60,7 @@ pub loop-preserved-then-is_rest : goal.loop-preserved-then-is_rest
 loop-preserved-then-is_rest g c = (
   c.round-came.ensures.work,
   record {
+    watched = c.look.ensures;
     here = c.round-came.ensures.here;
     still = c.round-came.ensures.none;
     later = begins_on (begins_on c.loop.invariant.1.later c.barrier_start.ensures.acts.adds.since) c.round-came.ensures.later;
@@ -72,6 +73,7 @@ pub loop-preserved : goal.loop-preserved
 loop-preserved g c = (
   c.round-came.ensures.work,
   record {
+    watched = c.look.ensures;
     here = c.round-came.ensures.here;
     still = c.round-came.ensures.none;
     later = begins_on (begins_on c.loop.invariant.1.later c.barrier_start.ensures.acts.adds.since) c.round-came.ensures.later;
@@ -79,3 +81,6 @@ loop-preserved g c = (
     works = works_from_on (λ p x q. goal.F-step g p x tt q) c.args.domain.now c.args.before _ _ _ _ c.barrier_start.new.cpu _ c.loop.served c.and-served.result c.round-came.result.answer c.round-came.result.jobs (subst (λ (z : CpuView g.row.J.Denot). WorksFrom (λ p x q. goal.F-step g p x tt q) c.args.domain.now c.args.before c.args.work.now c.args.cpu.now c.loop.served c.loop.work z) (sym c.in_default.ensures.starts) c.loop.invariant.1.works) c.round-came.ensures.round c.and-served.ensures.periods c.and-served.ensures.jobs;
   },
 )
+
+pub look-requires : goal.look-requires
+look-requires g c = c.loop.invariant.1.watched

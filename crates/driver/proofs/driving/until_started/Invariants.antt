@@ -9,6 +9,7 @@ abbrev pub invariant-loop : goal.invariant-loop
 invariant-loop g l =
     goal.F-IsAlwaysCallable g l.work
     × record {
+      watched : g.W.Watcher.watches l.domain l.watcher;
       here : IsOf l.domain l.cpu;
       still : HasNoneOpen l.cpu;
       later : IsBeginning l.initial.cpu.calls.seen l.cpu.calls.seen;

@@ -7,7 +7,7 @@ use Rattle.driver.proofs.driving.until_told.Goals as goal
 pub loop-init : goal.loop-init
 loop-init g c = (
   c.requires.work,
-  record { here = c.requires.here; still = c.requires.none; later = begins_itself _; same = same_itself _; works = works_none (λ p x q. goal.F-step g p x tt q) c.args.domain.now c.args.work.now c.args.cpu.now c.nothing-served.result c.nothing-served.ensures.periods c.nothing-served.ensures.jobs },
+  record { watched = c.requires.watcher; here = c.requires.here; still = c.requires.none; later = begins_itself _; same = same_itself _; works = works_none (λ p x q. goal.F-step g p x tt q) c.args.domain.now c.args.work.now c.args.cpu.now c.nothing-served.result c.nothing-served.ensures.periods c.nothing-served.ensures.jobs },
 )
 
 pub round-came-requires-clause-here : goal.round-came-requires-clause-here
@@ -43,10 +43,24 @@ returns-in-Some-poll-clause-same g c = same_trans _ _ _ (same_trans _ _ _ c.loop
 pub returns-in-Some-poll-clause-works : goal.returns-in-Some-poll-clause-works
 returns-in-Some-poll-clause-works g c = works_polled (λ p x q. goal.F-step g p x tt q) c.args.domain.now _ _ _ c.round-came.new.cpu c.poll.new.cpu c.and-served.result (works_on (λ p x q. goal.F-step g p x tt q) c.args.domain.now _ _ _ _ _ _ c.loop.served c.and-served.result c.round-came.result.answer c.round-came.result.jobs c.loop.invariant.1.works c.round-came.ensures.round c.and-served.ensures.periods c.and-served.ensures.jobs) c.poll.ensures.polled
 
+pub loop-preserved-then-is_idle : goal.loop-preserved-then-is_idle
+loop-preserved-then-is_idle g c = (
+  c.round-came.ensures.work,
+  record {
+    watched = c.look.ensures;
+    here = c.poll.ensures.here;
+    still = none_at_tallies c.round-came.new.cpu c.poll.new.cpu c.round-came.ensures.none c.poll.ensures.rest;
+    later = begins_on (begins_on c.loop.invariant.1.later c.round-came.ensures.later) c.poll.ensures.later;
+    same = same_trans _ _ _ (same_trans _ _ _ c.loop.invariant.1.same c.round-came.ensures.same) (same_finished c.round-came.new.cpu c.poll.new.cpu c.poll.ensures.same c.poll.ensures.rest);
+    works = works_polled (λ p x q. goal.F-step g p x tt q) c.args.domain.now _ _ _ c.round-came.new.cpu c.poll.new.cpu c.and-served.result (works_on (λ p x q. goal.F-step g p x tt q) c.args.domain.now _ _ _ _ _ _ c.loop.served c.and-served.result c.round-came.result.answer c.round-came.result.jobs c.loop.invariant.1.works c.round-came.ensures.round c.and-served.ensures.periods c.and-served.ensures.jobs) c.poll.ensures.polled;
+  },
+)
+
 pub loop-preserved-then-is_rest : goal.loop-preserved-then-is_rest
 loop-preserved-then-is_rest g c = (
   c.round-came.ensures.work,
   record {
+    watched = c.look.ensures;
     here = c.poll.ensures.here;
     still = none_at_tallies c.round-came.new.cpu c.poll.new.cpu c.round-came.ensures.none c.poll.ensures.rest;
     later = begins_on (begins_on c.loop.invariant.1.later c.round-came.ensures.later) c.poll.ensures.later;
@@ -59,6 +73,7 @@ pub loop-preserved : goal.loop-preserved
 loop-preserved g c = (
   c.round-came.ensures.work,
   record {
+    watched = c.look.ensures;
     here = c.poll.ensures.here;
     still = none_at_tallies c.round-came.new.cpu c.poll.new.cpu c.round-came.ensures.none c.poll.ensures.rest;
     later = begins_on (begins_on c.loop.invariant.1.later c.round-came.ensures.later) c.poll.ensures.later;
@@ -66,3 +81,6 @@ loop-preserved g c = (
     works = works_polled (λ p x q. goal.F-step g p x tt q) c.args.domain.now _ _ _ c.round-came.new.cpu c.poll.new.cpu c.and-served.result (works_on (λ p x q. goal.F-step g p x tt q) c.args.domain.now _ _ _ _ _ _ c.loop.served c.and-served.result c.round-came.result.answer c.round-came.result.jobs c.loop.invariant.1.works c.round-came.ensures.round c.and-served.ensures.periods c.and-served.ensures.jobs) c.poll.ensures.polled;
   },
 )
+
+pub look-requires : goal.look-requires
+look-requires g c = c.loop.invariant.1.watched

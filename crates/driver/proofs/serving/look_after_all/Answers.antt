@@ -11,19 +11,19 @@ loop-processor-init g c = (
   record { here = c.requires.here; still = c.requires.none; later = begins_itself _; same = same_itself _; few = omega arith; looks = ([], refl, (refl, refl, refl)) },
 )
 
-pub look_after-jobs-requires-clause-here : goal.look_after-jobs-requires-clause-here
-look_after-jobs-requires-clause-here g c = c.loop-processor.invariant.1.here
+pub look_after-looked-requires-clause-here : goal.look_after-looked-requires-clause-here
+look_after-looked-requires-clause-here g c = c.loop-processor.invariant.1.here
 
-pub look_after-jobs-requires-clause-none : goal.look_after-jobs-requires-clause-none
-look_after-jobs-requires-clause-none g c = c.loop-processor.invariant.1.still
+pub look_after-looked-requires-clause-none : goal.look_after-looked-requires-clause-none
+look_after-looked-requires-clause-none g c = c.loop-processor.invariant.1.still
 
-pub look_after-jobs-requires-clause-work : goal.look_after-jobs-requires-clause-work
-look_after-jobs-requires-clause-work g c = c.loop-processor.invariant.0
+pub look_after-looked-requires-clause-work : goal.look_after-looked-requires-clause-work
+look_after-looked-requires-clause-work g c = c.loop-processor.invariant.0
 
 pub overflow_add-jobs : goal.overflow_add-jobs
 overflow_add-jobs g c =
     let so_far = c.loop-processor.invariant.1.few in
-    let few = c.look_after-jobs.ensures.few in
+    let few = c.look_after-looked.ensures.few in
     let below = c.loop-processor-test.true in
     let fits = c.ranges.processors in
     omega (arith, so_far, few, below, fits)
@@ -31,15 +31,15 @@ overflow_add-jobs g c =
 pub loop-processor-preserved : goal.loop-processor-preserved
 loop-processor-preserved g c =
     let so_far = c.loop-processor.invariant.1.few in
-    let few = c.look_after-jobs.ensures.few in (
-      c.look_after-jobs.ensures.work,
+    let few = c.look_after-looked.ensures.few in (
+      c.look_after-looked.ensures.work,
       record {
-        here = c.look_after-jobs.ensures.here;
-        still = c.look_after-jobs.ensures.none;
-        later = begins_on c.loop-processor.invariant.1.later c.look_after-jobs.ensures.later;
-        same = same_trans _ _ _ c.loop-processor.invariant.1.same c.look_after-jobs.ensures.same;
+        here = c.look_after-looked.ensures.here;
+        still = c.look_after-looked.ensures.none;
+        later = begins_on c.loop-processor.invariant.1.later c.look_after-looked.ensures.later;
+        same = same_trans _ _ _ c.loop-processor.invariant.1.same c.look_after-looked.ensures.same;
         few = omega (arith, so_far, few);
-        looks = looks_on _ c.args.domain.now c.loop-processor.processor c.loop-processor.jobs c.look_after-jobs.result _ _ _ _ _ _ c.loop-processor.invariant.1.looks c.look_after-jobs.ensures.looks;
+        looks = looks_on _ c.args.domain.now c.loop-processor.processor c.loop-processor.jobs c.look_after-looked.result.jobs _ _ _ _ _ _ c.loop-processor.invariant.1.looks c.look_after-looked.ensures.looks;
       },
     )
 

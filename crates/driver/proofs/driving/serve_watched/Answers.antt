@@ -3,7 +3,7 @@ use Rattle.std.proofs.Common.{arith}
 use Rattle.calls.proofs.CallerLemmas.{begins_on, queued_later}
 use Rattle.driver.proofs.Rows.{works_then, vain_then}
 use Rattle.driver.proofs.Ending.{done_later, started_later, started_earlier}
-use Rattle.driver.proofs.driving.serve.Goals as goal
+use Rattle.driver.proofs.driving.serve_watched.Goals as goal
 
 pub returns-in-Err-until_started-clause-works : goal.returns-in-Err-until_started-clause-works
 returns-in-Err-until_started-clause-works g c = (c.until_started.new.work, works_then (λ p x q. goal.F-step g p x tt q) c.args.domain.now c.args.work c.until_told.new.work c.until_started.new.work c.args.cpu.now c.until_told.new.cpu c.until_started.new.cpu c.in-Ok.stopped.served c.in-Err-until_started.served c.in-Ok.ensures.works c.in-Err-until_started.ensures.works)
