@@ -1,0 +1,53 @@
+//! The account of a run.
+use crate::faults::push_fault;
+use crate::refusals::push_refusal;
+use crate::told::Told;
+use requests::{Fault, Reply, Request};
+use std::alloc::{AllocError, Global};
+
+/// What each line of a run meant, and why a line was faulty or refused.
+#[derive(Drop)]
+pub struct Account {
+    pub told: Told,
+    /// For each line that was faulty or refused, in their order, a sentence that says why, with a line feed.
+    pub sentences: Vec<u8>,
+}
+
+impl Account {
+    /// Nothing was run.
+    pub fn new(alloc: Global) -> Account {
+        Account {
+            told: Told::new(alloc),
+            sentences: Vec::new(alloc),
+        }
+    }
+
+    /// The line of this number was skipped.
+    pub fn skip(&mut self, number: u64) -> Result<(), AllocError> {
+        self.told.skip(number)
+    }
+
+    /// The line of this number had these words, and this fault.
+    pub fn blame(&mut self, number: u64, words: &[&[u8]], fault: Fault) -> Result<(), AllocError> {
+        push_fault(&mut self.sentences, &self.told, words, fault).map_err(|_| AllocError)?;
+        self.sentences.push(b'\n')?;
+        self.told.blame(number, fault)
+    }
+
+    /// The line of this number had these words, which asked for this, and it got this reply.
+    pub fn tell(
+        &mut self,
+        number: u64,
+        words: &[&[u8]],
+        request: &Request,
+        reply: &Reply,
+    ) -> Result<(), AllocError> {
+        if let Reply::Refused(command, cause) = reply {
+            push_refusal(&mut self.sentences, &self.told, words, *command, *cause).map_err(
+                |_| AllocError,
+            )?;
+            self.sentences.push(b'\n')?;
+        }
+        self.told.tell(number, request, reply)
+    }
+}

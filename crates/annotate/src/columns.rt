@@ -1,0 +1,103 @@
+//! Which column of the text each track has.
+use account::{Role, Told, Track};
+use std::alloc::{AllocError, Global};
+
+/// How many columns the picture may have. What lies to the right of them isn't shown.
+pub const MOST: usize = 40;
+
+/// The columns of a picture.
+#[derive(Drop)]
+pub struct Columns {
+    /// The tracks, from left to right, each with its column.
+    tracks: Vec<(Track, usize)>,
+    /// How many columns the picture has.
+    pub width: usize,
+}
+
+/// How many digits a processor's number has.
+fn digits(processor: u64) -> usize {
+    if processor < 10 {
+        1
+    } else if processor < 100 {
+        2
+    } else {
+        3
+    }
+}
+
+/// The column after one that a track has: there is room for the number of its processor, and for a gap before the next band.
+fn column_behind(last: Track, next: Track, column: usize) -> usize {
+    let gap = if last.band != next.band {
+        3
+    } else if last.processor == next.processor {
+        1
+    } else {
+        match last.processor {
+            Some(processor) => digits(processor).saturating_add(1),
+            None => 2,
+        }
+    };
+    column.saturating_add(gap)
+}
+
+/// How long the name of a band's domains is, at most.
+fn longest_name(told: &Told, band: u64) -> usize {
+    let mut longest = 0;
+    for life in &told.lives {
+        if life.standing.home.band == band {
+            longest = life.standing.name.as_bytes().len().max(longest);
+        }
+    }
+    longest
+}
+
+impl Columns {
+    /// Gives each track its column. Those of marks have none.
+    pub fn new(alloc: Global, told: &Told, tracks: &[Track]) -> Result<Columns, AllocError> {
+        let mut all: Vec<(Track, usize)> = Vec::new(alloc);
+        let mut column = 1usize;
+        let mut least = 0usize;
+        let mut last: Option<Track> = None;
+        for track in tracks {
+            if track.role == Role::Marks {
+                continue;
+            }
+            if let Some(last) = last {
+                column = column_behind(last, *track, column);
+                if last.band != track.band {
+                    column = column.max(least);
+                }
+            }
+            if track.role == Role::Periods {
+                let name = longest_name(told, track.band);
+                least = column.saturating_add(name).saturating_add(1);
+            }
+            all.push((*track, column))?;
+            last = Some(*track);
+        }
+        let width = if last.is_some() {
+            column.max(least).saturating_add(2)
+        } else {
+            0
+        };
+        Ok(Columns {
+            tracks: all,
+            width: width.min(MOST),
+        })
+    }
+
+    /// The column of a track.
+    pub fn of(&self, track: Track) -> Option<usize> {
+        for (known, column) in &self.tracks {
+            if *known == track {
+                return Some(*column);
+            }
+        }
+        None
+    }
+
+    /// All tracks with their columns, from left to right.
+    pub fn as_slice(&self) -> &[(Track, usize)] {
+        &self.tracks
+    }
+}

@@ -1,0 +1,327 @@
+//! The page: the picture, and beside it the lines and their replies.
+use crate::paint::{Painter, paint};
+use account::{Account, Deed, Role, Row, Told, lay_out, why_no_text};
+use requests::Fault;
+use std::alloc::{AllocError, Global};
+use std::io::Write;
+
+/// How many columns a line of the page has at most.
+pub const COLUMNS: usize = 100;
+
+/// How many bytes of a line are shown.
+const MOST_SHOWN: usize = 200;
+
+/// How wide a line of a script is shown beside its reply.
+const MOST_TEXT: usize = 40;
+
+/// Where a page's parts stand.
+#[derive(Clone, Copy)]
+struct Columns {
+    /// How wide the picture is.
+    picture: usize,
+    /// How wide a line's number is.
+    number: usize,
+    /// How wide a line is that has a reply.
+    text: usize,
+}
+
+impl Columns {
+    /// How many columns are left after the number.
+    fn behind_number(&self) -> usize {
+        COLUMNS.saturating_sub(self.picture.saturating_add(self.number).saturating_add(2))
+    }
+
+    /// How many columns are left for a reply.
+    fn reply(&self) -> usize {
+        self.behind_number()
+            .saturating_sub(self.text.saturating_add(3))
+    }
+}
+
+/// The first part of a text that is no wider, which ends at a space where there is one, and what comes after it.
+fn cut(text: &[u8], width: usize) -> (&[u8], &[u8]) {
+    if text.len() <= width {
+        return (text, &[]);
+    }
+    let head = &text[..width];
+    let at = match head.iter().rposition(|byte| *byte == b' ') {
+        Some(at) if at > width / 2 => at,
+        _ => width,
+    };
+    (&text[..at], text[at..].trim_ascii_start())
+}
+
+/// Puts a text, and blanks after it up to this width. What isn't printable is shown as `?`.
+fn put(page: &mut Vec<u8>, text: &[u8], width: usize) -> Result<(), AllocError> {
+    for byte in text {
+        page.push(if matches!(byte, b' '..=b'~') {
+            *byte
+        } else {
+            b'?'
+        })?;
+    }
+    for _blank in text.len()..width {
+        page.push(b' ')?;
+    }
+    Ok(())
+}
+
+/// Ends a line of the page: blanks at its end go.
+fn end_line(page: &mut Vec<u8>) -> Result<(), AllocError> {
+    let end = match page.iter().rposition(|byte| *byte != b' ') {
+        Some(at) => at.saturating_add(1),
+        None => 0,
+    };
+    page.truncate(end);
+    page.push(b'\n')?;
+    Ok(())
+}
+
+/// What is put beside the picture of one line of the script.
+#[derive(Clone, Copy)]
+struct Beside<'a> {
+    row: &'a Row,
+    text: &'a [u8],
+    reply: &'a [u8],
+    sentence: &'a [u8],
+}
+
+/// Puts the picture of a line, and its number, or blanks under it.
+fn put_left(
+    page: &mut Vec<u8>,
+    painter: &Painter,
+    columns: Columns,
+    row: &Row,
+    is_under: bool,
+) -> Result<(), AllocError> {
+    put(
+        page,
+        painter.grid.row(row.number, is_under),
+        columns.picture,
+    )?;
+    let width = columns.number;
+    if is_under {
+        put(page, b"", width)?;
+    } else {
+        let number = row.number;
+        write!(page, "{number:>width$}").map_err(|_| AllocError)?;
+    }
+    put(page, b"  ", 2)
+}
+
+/// Puts a line that has a reply.
+fn put_answered(
+    page: &mut Vec<u8>,
+    painter: &Painter,
+    columns: Columns,
+    beside: Beside<'_>,
+) -> Result<(), AllocError> {
+    let (mut text, mut reply) = (beside.text, beside.reply);
+    let mut is_under = false;
+    for _part in 0..MOST_SHOWN {
+        let (here, later) = cut(text, columns.text);
+        let (said, more) = cut(reply, columns.reply());
+        put_left(page, painter, columns, beside.row, is_under)?;
+        put(page, here, columns.text)?;
+        put(page, b"   ", 3)?;
+        put(page, said, 0)?;
+        end_line(page)?;
+        (text, reply, is_under) = (later, more, true);
+        if text.is_empty() && reply.is_empty() {
+            break;
+        }
+    }
+    Ok(())
+}
+
+/// Puts a text over the whole width, in as many lines as it wants. The first has the line's number, unless the text is under it.
+fn put_wide(
+    page: &mut Vec<u8>,
+    painter: &Painter,
+    columns: Columns,
+    row: &Row,
+    text: &[u8],
+    head: &[u8],
+) -> Result<(), AllocError> {
+    let mut left = text;
+    let mut is_under = !head.is_empty();
+    let width = columns.behind_number().saturating_sub(head.len());
+    let mut head = head;
+    for _part in 0..MOST_SHOWN {
+        let (here, later) = cut(left, width);
+        put_left(page, painter, columns, row, is_under)?;
+        put(page, head, 0)?;
+        put(page, here, 0)?;
+        end_line(page)?;
+        (left, is_under) = (later, true);
+        if !head.is_empty() {
+            head = b"    ";
+        }
+        if left.is_empty() {
+            break;
+        }
+    }
+    Ok(())
+}
+
+/// Puts one line of the script, with all that belongs to it.
+fn put_row(
+    page: &mut Vec<u8>,
+    painter: &Painter,
+    columns: Columns,
+    beside: Beside<'_>,
+) -> Result<(), AllocError> {
+    if beside.row.is_skipped() {
+        return put_wide(page, painter, columns, beside.row, beside.text, b"");
+    }
+    put_answered(page, painter, columns, beside)?;
+    if beside.row.is_wrong() {
+        put_wide(page, painter, columns, beside.row, beside.sentence, b"  ! ")?;
+    }
+    Ok(())
+}
+
+/// Puts a text at this column of a line of the page that begins here, over what is there.
+fn put_at(line: &mut [u8], column: usize, text: &[u8]) {
+    for (at, byte) in text.iter().enumerate() {
+        if let Some(cell) = line.get_mut(column.saturating_add(at)) {
+            *cell = *byte;
+        }
+    }
+}
+
+/// Puts two lines over the picture: the names of the domains, and the numbers of their processors.
+fn put_head(
+    alloc: Global,
+    page: &mut Vec<u8>,
+    painter: &Painter,
+    told: &Told,
+) -> Result<(), AllocError> {
+    let mut names = [b' '; COLUMNS];
+    let mut numbers = [b' '; COLUMNS];
+    let most = painter.columns.width.min(COLUMNS);
+    for (track, column) in painter.columns.as_slice() {
+        if *column >= most {
+            continue;
+        }
+        match track.processor {
+            None => {
+                let life = told
+                    .lives
+                    .iter()
+                    .find(|it| it.standing.home.band == track.band);
+                if let Some(life) = life {
+                    put_at(&mut names, *column, life.standing.name.as_bytes());
+                }
+            }
+            Some(processor) if track.role == Role::Sections && track.place == 0 => {
+                let number = format!(in alloc; "{processor}")?;
+                put_at(&mut numbers, *column, number.as_bytes());
+            }
+            Some(_) => {}
+        }
+    }
+    put(page, &names, 0)?;
+    end_line(page)?;
+    put(page, &numbers, 0)?;
+    end_line(page)?;
+    Ok(())
+}
+
+/// How many digits the number of the last line has, and at least three.
+fn width_of(lines: usize) -> usize {
+    let mut width = 3;
+    for (digits, least) in [
+        (4, 1_000),
+        (5, 10_000),
+        (6, 100_000),
+        (7, 1_000_000),
+        (8, 10_000_000),
+    ] {
+        if lines >= least {
+            width = digits;
+        }
+    }
+    width
+}
+
+/// How wide the longest line is that has a reply.
+fn longest(script: &[u8], told: &Told) -> usize {
+    let mut longest = 8;
+    for (line, row) in script.split(|byte| *byte == b'\n').zip(&told.rows) {
+        if !row.is_skipped() {
+            longest = line.len().max(longest);
+        }
+    }
+    longest.min(MOST_TEXT)
+}
+
+/// The first bytes of a line that are shown.
+fn first_of(line: &[u8]) -> &[u8] {
+    line.get(..MOST_SHOWN).unwrap_or(line)
+}
+
+/// Puts all lines of the script.
+fn put_rows(
+    alloc: Global,
+    page: &mut Vec<u8>,
+    painter: &Painter,
+    columns: Columns,
+    script: &[u8],
+    account: &Account,
+    replies: &[u8],
+) -> Result<(), AllocError> {
+    let mut replies = replies.split(|byte| *byte == b'\n');
+    let mut sentences = account.sentences.split(|byte| *byte == b'\n');
+    for (text, row) in script.split(|byte| *byte == b'\n').zip(&account.told.rows) {
+        let reply = if row.is_skipped() {
+            None
+        } else {
+            replies.next()
+        };
+        let sentence = if row.is_wrong() {
+            sentences.next()
+        } else {
+            None
+        };
+        let mut why = Vec::new(alloc);
+        if let Deed::Faulty(Fault::Text) = row.deed {
+            why_no_text(&mut why, text).map_err(|_| AllocError)?;
+        } else {
+            why.extend_from_slice(sentence.unwrap_or(b""))?;
+        }
+        let beside = Beside {
+            row,
+            text: first_of(text),
+            reply: reply.unwrap_or(b""),
+            sentence: &why,
+        };
+        put_row(page, painter, columns, beside)?;
+    }
+    Ok(())
+}
+
+/// The page of a run: of its script, the account of it, and the replies, each with its line feed.
+pub fn annotate(
+    alloc: Global,
+    script: &[u8],
+    account: &Account,
+    replies: &[u8],
+) -> Result<Vec<u8>, AllocError> {
+    let told = &account.told;
+    let layout = lay_out(alloc, told)?;
+    let painter = paint(alloc, told, &layout)?;
+    let columns = Columns {
+        picture: painter.columns.width,
+        number: width_of(told.rows.len()),
+        text: longest(script, told),
+    };
+    let mut page = Vec::new(alloc);
+    if painter.columns.width > 0 {
+        put_head(alloc, &mut page, &painter, told)?;
+    }
+    put_rows(
+        alloc, &mut page, &painter, columns, script, account, replies,
+    )?;
+    Ok(page)
+}

@@ -1,0 +1,36 @@
+//! The bars of a picture.
+ghost use Rattle.std.specs.Prelude.{◌≡◌, map, IfOk};
+
+use crate::places::Places;
+use account::{Span, Track};
+use std::alloc::{AllocError, Global};
+
+/// A bar: a section, from the row of the line that began it to that of the line that ended it.
+#[derive(Clone, Copy)]
+pub struct Bar {
+    pub span: Span,
+    /// Its left edge.
+    pub x: u64,
+}
+
+/// A bar for each of these sections, in their order. Each stands in the track of its place in `lanes`.
+pub fn bars(
+    alloc: Global,
+    spans: &[Span],
+    lanes: &[Track],
+    places: &Places,
+) -> Result<Vec<Bar>, AllocError>
+    ensures { IfOk result (λ v. map (λ b. b.span) v.items ≡ spans.now) }
+{
+    let mut all = Vec::new(alloc);
+    let mut left = spans;
+    while let [span, rest @ ..] = left {
+        let x = match lanes.get(all.len()) {
+            Some(lane) => places.of(*lane).unwrap_or(0),
+            None => 0,
+        };
+        all.push(Bar { span: *span, x })?;
+        left = rest;
+    }
+    Ok(all)
+}
