@@ -1,6 +1,7 @@
 -- All workers of a race, and how they come back.
-use Rattle.std.specs.Prelude.{◌≡◌, ℕ, ◌+◌, ◌<◌, ◌≤◌, List, [], length, sum_by, slice_index_or, vec_len, vec_capacity}
+use Rattle.std.specs.Prelude.{◌≡◌, ℕ, ◌+◌, ◌^◌, ◌<◌, ◌≤◌, List, [], length, sum_by, slice_index_or, vec_len, vec_capacity}
 use Rattle.sections.specs.Limits.{most_sections}
+use Rattle.sections.specs.Words.{cells_in}
 use Rattle.domain.specs.Views.{CpuView, IsOf}
 use Rattle.race.specs.declared.course.Course.{Course}
 use Rattle.race.specs.declared.reader.Reader.{Reader}
@@ -93,10 +94,13 @@ pub record HasRoom (many : ℕ) (p : Parts) : Type 0 where
   pub cpus : (vec_len p.cpus ≡ 0) × (many < vec_capacity p.cpus)
   pub seats : (vec_len p.seats ≡ 0) × (many ≤ vec_capacity p.seats)
 
+-- a new domain with one cell, in which as many grace periods may end as may be at all, and in it all that a race of so many readers and rounds begins with
 pub record IsPrepared (many rounds : ℕ) (s : Start) : Type 0 where
   pub course : IsCourse s.course
   pub rounds_are : s.course.rounds ≡ rounds
   pub seats : s.course.desk.seats ≡ many
   pub processors : s.course.domain.processors ≡ many + 1
+  pub periods : s.course.domain.periods + 1 ≡ 2 ^ 59
+  pub cells : cells_in s.course.domain.domain ≡ 1
   pub workers : AreNew s.course s.workers
   pub room : HasRoom many s.parts

@@ -1,5 +1,5 @@
 -- The processors and the seats are new ones, and the last processor is the updater's.
-use Rattle.std.proofs.Common.{◌≡◌, ◌<◌, ◌+◌, vec_len, length, refl, sym, ap, ◌∙◌, subst, arith}
+use Rattle.std.proofs.Common.{◌≡◌, ℕ, ◌<◌, ◌+◌, vec_len, length, refl, sym, ap, ◌∙◌, subst, arith}
 use Rattle.std.proofs.lemmas.List.Elements.{All-pop}
 use Rattle.sections.specs.declared.limits.Limits.{Limits}
 use Rattle.sections.specs.Limits.{most_sections}
@@ -64,6 +64,8 @@ returns c =
       rounds_are = refl;
       seats = seats;
       processors = c.in-Ok.ensures.made.many;
+      periods = ap (λ (n : ℕ). n + 1) c.in-Ok.ensures.made.limit;
+      cells = cells;
       workers = record {
         many = omega (arith, readers_long, seats_long, dealt, as_many);
         each = c.seat_all-readers.ensures.each;
