@@ -70,8 +70,8 @@ impl<'r, 'a, A: Allocator, R: Wait> Session<'r, &'a A, R> {
         }
     }
 
-    /// Does what a line asks for. The handlers are those of the chains' blocks, by their ids.
-    fn respond(
+    /// Does what a line asks for, and gives the reply to it. The handlers are those of the chains' blocks, by their ids.
+    pub fn respond(
         &mut self,
         handlers: &[Box<dyn Handler>],
         request: Request,
