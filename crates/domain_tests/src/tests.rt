@@ -7,3 +7,4 @@ mod jobs;
 mod sets;
 mod threads;
 mod versions;
+mod watching;

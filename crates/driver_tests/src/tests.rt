@@ -3,8 +3,10 @@ ghost use Rattle.sections.specs.Words.{cells_in};
 ghost use Rattle.driver.specs.Pools.{IsIdle};
 
 mod lending;
+mod reporting;
 mod sharing;
 mod telling;
+mod waking;
 
 use domain::{Cpu, Domain, Limits, MakeError, PeriodsExhausted, Totals};
 use driver::{Pool, Served, Stop, Stopped, barrier, serve};
@@ -114,7 +116,7 @@ fn drive_in_vain<R: Wait + AllocGlobal>(
     let (domain, cpus) = made(rt.alloc(), 2)?;
     let pool = pool_of(rt, &domain, cpus)?;
     let stop = sign_of(rt, &domain)?;
-    stop.give_alone(rt);
+    stop.give_alone(rt, &domain);
     Ok(Some(drive(rt, &domain, &pool, &stop, (1, 4))))
 }
 
@@ -167,7 +169,7 @@ fn drive_two<R: Wait + Threads + AllocGlobal + Sync>(
     let (domain, cpus) = made(rt.alloc(), 2)?;
     let pool = pool_of(rt, &domain, cpus)?;
     let stop = sign_of(rt, &domain)?;
-    stop.give_alone(rt);
+    stop.give_alone(rt, &domain);
     let (here, there) = join(
         rt,
         || jobs_of(drive(rt, &domain, &pool, &stop, (0, 20))),
@@ -198,9 +200,11 @@ fn two_drivers(rt: HostRuntime) -> Result<(), Fail> {
 }
 
 /// Sleeps a while, and then tells the others to stop.
-fn tell<R: Wait + Clock>(rt: &R, stop: &Stop<u64>) {
+fn tell<R: Wait + Clock>(rt: &R, domain: &Domain<u64>, stop: &Stop<u64>)
+    requires { stop.now.domain ≡ domain.now }
+{
     sleep(rt, Duration::from_millis(5));
-    stop.give_alone(rt);
+    stop.give_alone(rt, domain);
 }
 
 fn drive_until_told<R: Wait + Clock + Threads + AllocGlobal + Sync>(
@@ -212,7 +216,7 @@ fn drive_until_told<R: Wait + Clock + Threads + AllocGlobal + Sync>(
     let (jobs, ()) = join(
         rt,
         || jobs_of(drive(rt, &domain, &pool, &stop, (0, 7))),
-        || tell(rt, &stop),
+        || tell(rt, &domain, &stop),
     );
     Ok(jobs)
 }

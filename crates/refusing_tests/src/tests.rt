@@ -3,3 +3,4 @@ mod making;
 mod serving;
 mod taking;
 mod versions;
+mod watching;

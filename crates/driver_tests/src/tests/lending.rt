@@ -224,7 +224,7 @@ fn tell<R: Wait>(rt: &R, domain: &Domain<u64>, stop: &Stop<u64>, cpu: &mut Cpu<u
 {
     let given = stop.give(rt, domain, cpu).is_ok();
     if !given {
-        stop.give_alone(rt);
+        stop.give_alone(rt, domain);
     }
     given
 }

@@ -70,7 +70,7 @@ fn call_and_give<R: Wait>(
     let queued = queue(rt, domain, cpu, 2, 3);
     let given = stop.give(rt, domain, cpu).is_ok();
     if !given {
-        stop.give_alone(rt);
+        stop.give_alone(rt, domain);
     }
     queued && given
 }

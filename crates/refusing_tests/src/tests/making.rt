@@ -26,20 +26,17 @@ fn make_and_drop(heap: &Refusing<Global>, processors: usize) -> Result<Made, Mak
     Ok(made)
 }
 
-/// Makes a domain with the allocation of each of these numbers refused, and again with memory. The last is refused too.
+/// Makes a domain with each allocation refused in turn, and again with memory.
 fn make_twice(
     rt: &impl Abort,
     heap: &Refusing<Global>,
     processors: usize,
-    step: usize,
-) -> Result<(), MakeError>
-    requires { 0 < step }
-{
+) -> Result<(), MakeError> {
     heap.refuse(0);
     let whole = make_and_drop(heap, processors)?;
     let asked = heap.asked();
     assert_eq!(rt; (whole.0, whole.1, heap.out()), (processors, 4, 0));
-    for nth in (1..asked + 1).rev().step_by(step) {
+    for nth in 1..asked + 1 {
         heap.refuse(nth);
         assert_eq!(rt;
             make_and_drop(heap, processors),
@@ -55,12 +52,11 @@ fn make_twice(
 }
 
 /// Would catch a refused allocation that is told as another error or not at all, that leaves something allocated, or
-/// after which no domain can be made. Of the most processors every 97th is refused: each makes the same ones.
+/// after which no domain can be made. `bench/refused` does the same with the most processors.
 #[test]
 fn refuse_make(rt: HostRuntime) -> Result<(), Fail> {
     let heap = Refusing::new(rt.alloc());
-    make_twice(&rt, &heap, 1, 1)?;
-    make_twice(&rt, &heap, 17, 1)?;
-    make_twice(&rt, &heap, 256, 97)?;
+    make_twice(&rt, &heap, 1)?;
+    make_twice(&rt, &heap, 17)?;
     Ok(())
 }

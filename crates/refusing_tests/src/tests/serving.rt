@@ -83,7 +83,7 @@ fn drive<'a, R: Wait>(
 {
     let are_queued = queue(rt, domain, cpu);
     if let Err(GiveRefusal::Memory) = stop.give(rt, domain, cpu) {
-        stop.give_alone(rt);
+        stop.give_alone(rt, domain);
     }
     let mut next: u64 = 0;
     let served = serve(rt, domain, cpu, stop, |job: u64| {

@@ -1,0 +1,296 @@
+//! Watching a domain: what its counters are, who holds a period up, and how it is printed.
+ghost use Rattle.domain.specs.Views.{IsOf};
+ghost use Rattle.domain.specs.Waiting.{HasNoneOpen};
+
+use super::threads::two_cpus;
+use domain::{Counts, Cpu, Domain, Holder, Index, Pair, TimedOut, WaitRefusal};
+use std::alloc::{AllocError, Global};
+use std::sync::Wait;
+use std::test::Fail;
+use std::time::{Clock, Duration};
+
+const NONE: Pair = Pair {
+    locks: 0,
+    unlocks: 0,
+};
+
+/// The counters of a processor where index 1 is unused.
+fn of_zero(locks: u64, unlocks: u64) -> Counts {
+    Counts {
+        zero: Pair { locks, unlocks },
+        one: NONE,
+    }
+}
+
+/// The counters of the first two processors.
+fn watch_both(domain: &Domain<()>, cpu: &mut Cpu<()>) -> Option<[Counts; 2]>
+    requires { IsOf domain.now cpu.old }
+    ensures { IsOf domain.now cpu.new }
+{
+    if domain.processors() < 2 {
+        return None;
+    }
+    Some([domain.watch(cpu, 0), domain.watch(cpu, 1)])
+}
+
+/// Three sections of the first processor, two of which the second one ends. Tells what is found after each step.
+fn watch_steps(
+    domain: &Domain<()>,
+    first: &mut Cpu<()>,
+    second: &mut Cpu<()>,
+) -> Option<[[Counts; 2]; 4]>
+    requires first { IsOf domain.now first.old }
+    requires second { IsOf domain.now second.old }
+{
+    let new = watch_both(domain, second)?;
+    let Ok(held) = first.down_read() else {
+        return None;
+    };
+    let open = watch_both(domain, second);
+    second.up_read(held);
+    let ended = watch_both(domain, second);
+    let Ok(other) = first.down_read() else {
+        return None;
+    };
+    second.up_read(other);
+    let again = watch_both(domain, second);
+    Some([new, open?, ended?, again?])
+}
+
+/// Would catch words that are another index's or processor's, that are not loaded, or that are the other kind's.
+#[test]
+fn counts_what_was_done(rt: HostRuntime) -> Result<(), Fail> {
+    let (domain, mut first, mut second) = two_cpus(rt.alloc())?;
+    let found = watch_steps(&domain, &mut first, &mut second);
+    assert_eq!(rt;
+        found,
+        Some([
+            [of_zero(0, 0), of_zero(0, 0)],
+            [of_zero(1, 0), of_zero(0, 0)],
+            [of_zero(1, 0), of_zero(0, 1)],
+            [of_zero(2, 0), of_zero(0, 2)],
+        ])
+    );
+    Ok(())
+}
+
+/// How many processors hold an index up, and the first of them.
+fn name_holders(
+    alloc: Global,
+    domain: &Domain<()>,
+    cpu: &mut Cpu<()>,
+    index: Index,
+) -> Result<(usize, Option<Holder>), AllocError>
+    requires { IsOf domain.now cpu.old }
+    ensures { IsOf domain.now cpu.new }
+{
+    let holders = domain.holders(alloc, cpu, index)?;
+    Ok((holders.len(), holders.first().copied()))
+}
+
+/// Who holds both indexes up where a section of index 0 is open on the second processor: as the first one finds.
+fn name_with_a_section(
+    alloc: Global,
+    domain: &Domain<()>,
+    first: &mut Cpu<()>,
+    second: &mut Cpu<()>,
+) -> Option<[Result<(usize, Option<Holder>), AllocError>; 3]>
+    requires first { IsOf domain.now first.old }
+    requires second { IsOf domain.now second.old }
+    ensures first { IsOf domain.now first.new }
+    ensures second { IsOf domain.now second.new }
+{
+    let Ok(section) = second.read_lock() else {
+        return None;
+    };
+    let zero = name_holders(alloc, domain, first, Index::Zero);
+    let one = name_holders(alloc, domain, first, Index::One);
+    second.read_unlock(section);
+    let closed = name_holders(alloc, domain, first, Index::Zero);
+    Some([zero, one, closed])
+}
+
+/// Begins a section on the first processor and ends it on the second.
+fn hand_over(domain: &Domain<()>, first: &mut Cpu<()>, second: &mut Cpu<()>) -> bool
+    requires first { IsOf domain.now first.old }
+    requires second { IsOf domain.now second.old }
+    ensures first { IsOf domain.now first.new }
+    ensures second { IsOf domain.now second.new }
+{
+    let Ok(held) = first.down_read() else {
+        return false;
+    };
+    second.up_read(held);
+    true
+}
+
+fn holder(processor: u16, locks: u64, unlocks: u64) -> Option<Holder> {
+    Some(Holder {
+        processor,
+        pair: Pair { locks, unlocks },
+    })
+}
+
+/// Would catch a holder of an index on which nothing is open, one that isn't named or is another processor, and one that is
+/// named since held sections end elsewhere, where the sums are equal.
+#[test]
+fn names_who_holds_it_up(rt: HostRuntime) -> Result<(), Fail> {
+    let (domain, mut first, mut second) = two_cpus(rt.alloc())?;
+    let alone = name_with_a_section(rt.alloc(), &domain, &mut first, &mut second);
+    assert_eq!(rt;
+        alone,
+        Some([Ok((1, holder(1, 1, 0))), Ok((0, None)), Ok((0, None))])
+    );
+    assert!(rt; hand_over(&domain, &mut first, &mut second));
+    let handed = name_holders(rt.alloc(), &domain, &mut first, Index::Zero);
+    assert_eq!(rt; handed, Ok((0, None)));
+    let beside = name_with_a_section(rt.alloc(), &domain, &mut first, &mut second);
+    assert_eq!(rt;
+        beside,
+        Some([Ok((1, holder(0, 1, 0))), Ok((0, None)), Ok((0, None))])
+    );
+    Ok(())
+}
+
+/// What is printed where two sections went from the first processor to the second, one is open there, and a period is asked
+/// for.
+const LINES: &str = "number 0 idle, index 0, need 4, queued 0, finished 0
+processor 0: +2 0
+processor 1: -1 0
+all: +1 0";
+
+/// The same as a table.
+const COLUMNS: &str = "number 0 idle, index 0, need 4, queued 0, finished 0
+processor    unlocks 0      locks 0    unlocks 1      locks 1 open
+        0            0            2            0            0 +2 0
+        1            2            1            0            0 -1 0
+      all            2            3            0            0 +1 0";
+
+/// Both texts of a snapshot by the first processor, with a section that is open on the second.
+fn print_with_a_section(
+    alloc: Global,
+    domain: &Domain<()>,
+    first: &mut Cpu<()>,
+    second: &mut Cpu<()>,
+) -> Result<[String; 2], AllocError>
+    requires first { IsOf domain.now first.old }
+    requires second { IsOf domain.now second.old }
+{
+    let section = second.read_lock();
+    let snapshot = domain.snapshot(alloc, first);
+    if let Ok(section) = section {
+        second.read_unlock(section);
+    }
+    let snapshot = snapshot?;
+    let lines = format!(in alloc; "{snapshot}")?;
+    let columns = format!(in alloc; "{}", snapshot.table())?;
+    Ok([lines, columns])
+}
+
+/// Would catch a count of another processor or index, a wrong sign, and a sum that isn't one.
+#[test]
+fn prints_itself(rt: HostRuntime) -> Result<(), Fail> {
+    let (domain, mut first, mut second) = two_cpus(rt.alloc())?;
+    let both = hand_over(&domain, &mut first, &mut second)
+        && hand_over(&domain, &mut first, &mut second);
+    domain.start_poll(&mut first);
+    let [lines, columns] = print_with_a_section(rt.alloc(), &domain, &mut first, &mut second)?;
+    assert!(rt; both);
+    assert_eq!(rt; lines.as_str(), LINES);
+    assert_eq!(rt; columns.as_str(), COLUMNS);
+    Ok(())
+}
+
+/// A time that is over before a section ends that waits for it.
+fn short() -> Duration {
+    Duration::from_millis(3)
+}
+
+/// And one that isn't over in any of these tests.
+fn long() -> Duration {
+    Duration::from_secs(100)
+}
+
+/// Waits with a section open on another processor, and polls the cookie then, before and after the section's end and another
+/// wait. Tells whether the first wait timed out and the second did not, and what the polls answer.
+fn wait_beside_a_section<R: Wait + Clock>(
+    rt: &R,
+    domain: &Domain<()>,
+    reader: &mut Cpu<()>,
+    updater: &mut Cpu<()>,
+) -> Option<([bool; 2], [bool; 2])>
+    requires reader { IsOf domain.now reader.old }
+    requires updater { IsOf domain.now updater.old × HasNoneOpen updater.old }
+{
+    let Ok(section) = reader.read_lock() else {
+        return None;
+    };
+    let waited = domain.synchronize_for(rt, updater, short());
+    reader.read_unlock(section);
+    let Err(WaitRefusal::TimedOut(mut cookie)) = waited else {
+        return None;
+    };
+    let early = updater.poll(&mut cookie);
+    let driven = domain.synchronize_for(rt, updater, long()).is_ok();
+    let late = updater.poll(&mut cookie);
+    Some(([true, driven], [early, late]))
+}
+
+/// Would catch a wait that comes back as if its grace period had ended, that waits on, or whose cookie is another one, and
+/// one that gives up where nothing holds it up.
+#[test]
+fn waits_no_longer(rt: HostRuntime) -> Result<(), Fail> {
+    let (domain, mut reader, mut updater) = two_cpus(rt.alloc())?;
+    let told = wait_beside_a_section(&rt, &domain, &mut reader, &mut updater);
+    assert_eq!(rt; told, Some(([true, true], [false, true])));
+    Ok(())
+}
+
+/// Runs what is ready on the first processor. Tells how many jobs there were.
+fn run_ready<R: Wait>(rt: &R, domain: &Domain<()>, cpu: &mut Cpu<()>) -> usize
+    requires { IsOf domain.now cpu.old }
+    ensures { IsOf domain.now cpu.new }
+{
+    let Ok(Some(mut batch)) = domain.take_ready(rt, cpu, 0, 8) else {
+        return 0;
+    };
+    let count = batch.count();
+    while let Some(()) = batch.next() {}
+    domain.finish(rt, cpu, batch);
+    count
+}
+
+/// Waits for a job on the first processor, before it is run and after. Tells whether the first wait timed out and the second
+/// did not, and how many jobs were run.
+fn wait_beside_a_job<R: Wait + Clock>(
+    rt: &R,
+    domain: &Domain<()>,
+    runner: &mut Cpu<()>,
+    waiter: &mut Cpu<()>,
+) -> Option<([Result<(), TimedOut>; 2], usize)>
+    requires runner { IsOf domain.now runner.old }
+    requires waiter { IsOf domain.now waiter.old × HasNoneOpen waiter.old }
+{
+    let Ok(_receipt) = domain.call(rt, runner, ()) else {
+        return None;
+    };
+    let Ok(ticket) = domain.barrier_start(runner) else {
+        return None;
+    };
+    let early = domain.barrier_for(rt, waiter, &ticket, short());
+    let Ok(()) = domain.synchronize(rt, waiter) else {
+        return None;
+    };
+    let count = run_ready(rt, domain, runner);
+    let late = domain.barrier_for(rt, waiter, &ticket, long());
+    Some(([early, late], count))
+}
+
+/// Would catch a barrier that comes back as if its job was run, that waits on, or that gives up where it is done.
+#[test]
+fn waits_no_longer_for_a_job(rt: HostRuntime) -> Result<(), Fail> {
+    let (domain, mut runner, mut waiter) = two_cpus(rt.alloc())?;
+    let told = wait_beside_a_job(&rt, &domain, &mut runner, &mut waiter);
+    assert_eq!(rt; told, Some(([Err(TimedOut), Ok(())], 1)));
+    Ok(())
+}

@@ -1,0 +1,17 @@
+-- All are idle, and so each that was taken out.
+use Rattle.std.proofs.Common.{All}
+use Rattle.std.proofs.lemmas.List.Elements.{All-pop}
+use Rattle.domain.specs.Views.{CpuView}
+use Rattle.driver.specs.Pools.{IsIdle}
+use Rattle.driver_tests.proofs.tests.reporting.three.Goals as goal
+
+pub returns : goal.returns
+returns c =
+    let P : CpuView _ → Type 0 = IsIdle c.in_ok-domain.domain in
+    let third = All-pop P _ _ _ c.pop.ensures.items c.in_ok-domain.ensures.idle in
+    let second = All-pop P _ _ _ c.pop-2.ensures.items third.0 in
+    let first = All-pop P _ _ _ c.pop-3.ensures.items second.0 in
+    let at_third : P c.unwrap-third.result = rw c.unwrap-third.ensures at third.1 in
+    let at_second : P c.unwrap-second.result = rw c.unwrap-second.ensures at second.1 in
+    let at_first : P c.unwrap-first.result = rw c.unwrap-first.ensures at first.1 in
+    (at_first, at_second, at_third)

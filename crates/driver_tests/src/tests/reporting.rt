@@ -1,0 +1,180 @@
+//! A driver with a report: of a section that sleeps, and of none.
+ghost use Rattle.std.specs.Prelude.{◌≡◌, IfOk};
+ghost use Rattle.driver.specs.Pools.{IsIdle};
+
+use super::sharing::look_for;
+use super::{made, sign_of};
+use domain::{Cpu, Domain, Index, MakeError, Pair};
+use driver::{Listener, Report, Stall, Stop, Tallied, Tally, serve_with};
+use std::alloc::Global;
+use std::sync::Wait;
+use std::sync::atomic::AtomicU64;
+use std::sync::atomic::Ordering::SeqCst;
+use std::test::Fail;
+use std::thread::{Threads, join, sleep};
+use std::time::{Clock, Duration};
+
+/// After how many milliseconds a grace period that waits is reported, in the test where one waits for longer.
+const AFTER: u64 = 5;
+
+/// What the threads tell each other.
+#[derive(Drop)]
+struct Signs {
+    /// 1 from when the section is open.
+    opened: AtomicU64,
+    /// How many reports there were.
+    reports: AtomicU64,
+    /// Of these, how many had one open section, on processor 0 with index 0.
+    named: AtomicU64,
+}
+
+/// Sleeps in a section, and then tells the driver to stop.
+fn sleep_in_section<R: Wait + Clock>(
+    rt: &R,
+    domain: &Domain<u64>,
+    mut cpu: Cpu<u64>,
+    stop: &Stop<u64>,
+    signs: &Signs,
+    length: Duration,
+)
+    requires { stop.now.domain ≡ domain.now }
+{
+    let section = cpu.read_lock();
+    signs.opened.store(1, SeqCst);
+    sleep(rt, length);
+    if let Ok(section) = section {
+        cpu.read_unlock(section);
+    }
+    stop.give_alone(rt, domain);
+}
+
+/// Notes what a report says.
+#[derive(Drop)]
+struct Notes<'a> {
+    signs: &'a Signs,
+}
+
+impl<'a> Listener<Global> for Notes<'a> {
+    fn hear(&mut self, stall: Stall<Global>) {
+        note(self.signs, stall);
+    }
+}
+
+fn note(signs: &Signs, stall: Stall<Global>) {
+    signs.reports.fetch_add(1, SeqCst);
+    let Stall {
+        waited,
+        index,
+        snapshot,
+    } = stall;
+    let open = Pair {
+        locks: 1,
+        unlocks: 0,
+    };
+    let none = Pair {
+        locks: 0,
+        unlocks: 0,
+    };
+    if (snapshot.zero.sums(), snapshot.one.sums()) == (open, none)
+        && snapshot.zero.pair(0) == Some(open)
+        && index == Index::Zero
+        && waited >= Duration::from_millis(AFTER)
+    {
+        signs.named.fetch_add(1, SeqCst);
+    }
+}
+
+/// Asks for a grace period once the section is open, and drives until it is told to stop. Tells whether it came to its end,
+/// and what it tallied.
+fn drive_with_report<R: Wait + Clock + AllocGlobal>(
+    rt: &R,
+    domain: &Domain<u64>,
+    mut cpu: Cpu<u64>,
+    watcher: Cpu<u64>,
+    stop: &Stop<u64>,
+    signs: &Signs,
+    after: Duration,
+) -> (bool, Tallied)
+    requires cpu { IsIdle domain.now cpu }
+    requires watcher { IsIdle domain.now watcher }
+    requires stop { stop.now.domain ≡ domain.now }
+{
+    let tally = Tally::new();
+    let mut report = Report {
+        clock: rt,
+        tally: &tally,
+        alloc: rt.alloc(),
+        cpu: watcher,
+        after,
+        listener: Notes { signs },
+        delay: None,
+    };
+    let opened = look_for(rt, &signs.opened, 1);
+    domain.start_poll(&mut cpu);
+    let served = serve_with(rt, domain, &mut cpu, stop, |_job: u64| {}, &mut report);
+    (opened && served.is_ok(), tally.read())
+}
+
+/// A new domain and its three processors.
+fn three(alloc: Global) -> Result<(Domain<u64>, Cpu<u64>, Cpu<u64>, Cpu<u64>), MakeError>
+    ensures { IfOk result (λ r. IsIdle r.0 r.1 × IsIdle r.0 r.2 × IsIdle r.0 r.3) }
+{
+    let (domain, mut cpus) = made(alloc, 3)?;
+    let third = cpus.pop().unwrap();
+    let second = cpus.pop().unwrap();
+    let first = cpus.pop().unwrap();
+    Ok((domain, first, second, third))
+}
+
+/// What a driver told and tallied, beside a section that sleeps for 30 milliseconds.
+type Told = (bool, Tallied, u64, u64);
+
+fn drive_beside_a_section<R: Wait + Clock + Threads + AllocGlobal + Sync>(
+    rt: &R,
+    after: Duration,
+) -> Result<Told, MakeError> {
+    let (domain, reader, driver, watcher) = three(rt.alloc())?;
+    let stop = sign_of(rt, &domain)?;
+    let signs = Signs {
+        opened: AtomicU64::new(0),
+        reports: AtomicU64::new(0),
+        named: AtomicU64::new(0),
+    };
+    let ((ended, tallied), ()) = join(
+        rt,
+        || drive_with_report(rt, &domain, driver, watcher, &stop, &signs, after),
+        || sleep_in_section(
+            rt,
+            &domain,
+            reader,
+            &stop,
+            &signs,
+            Duration::from_millis(30),
+        ),
+    );
+    let reports = signs.reports.load(SeqCst);
+    Ok((ended, tallied, reports, signs.named.load(SeqCst)))
+}
+
+/// Would catch a report that never comes, comes in each round, or names another processor or index; and a tally that isn't
+/// kept.
+#[test]
+fn reports_a_section_that_sleeps_once(rt: HostRuntime) -> Result<(), Fail> {
+    let (ended, tallied, reports, named) = drive_beside_a_section(
+        &rt,
+        Duration::from_millis(AFTER),
+    )?;
+    assert_eq!(rt; (ended, reports, named), (true, 1, 1));
+    assert_eq!(rt; (tallied.periods, tallied.jobs, tallied.batches), (1, 0, 0));
+    assert!(rt; tallied.turns > 1 && tallied.longest >= Duration::from_millis(AFTER));
+    Ok(())
+}
+
+/// Would catch a report before its time.
+#[test]
+fn reports_none_before_its_time(rt: HostRuntime) -> Result<(), Fail> {
+    let (ended, tallied, reports, named) = drive_beside_a_section(&rt, Duration::from_secs(100))?;
+    assert_eq!(rt; (ended, reports, named), (true, 0, 0));
+    assert_eq!(rt; (tallied.periods, tallied.jobs, tallied.batches), (1, 0, 0));
+    Ok(())
+}

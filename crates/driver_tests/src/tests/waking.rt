@@ -1,0 +1,130 @@
+//! A driver that sleeps until somebody asks for a grace period.
+ghost use Rattle.std.specs.Prelude.{◌≡◌, ◌<◌, ◌≤◌, length, IfOk};
+ghost use Rattle.std.specs.Thread.{IsSync};
+ghost use Rattle.driver.specs.Pools.{IsIdle};
+
+use super::sharing::look_for;
+use super::{LIMITS, served_by, sign_of};
+use domain::{Cpu, Domain, MakeError, Writer, claim, publish};
+use driver::{Stop, serve};
+use std::alloc::Global;
+use std::sync::Wait;
+use std::sync::atomic::AtomicU64;
+use std::sync::atomic::Ordering::SeqCst;
+use std::test::Fail;
+use std::thread::{Threads, join, sleep};
+use std::time::{Clock, Duration};
+
+/// How long the others wait before they ask: so long that the driver sleeps.
+const NAP: u64 = 20;
+
+/// How often a thread looks whether its grace period has ended, a tenth of a millisecond apart.
+const LOOKS: u32 = 100_000;
+
+/// By which call somebody asks.
+#[derive(Clone, Copy)]
+enum Asking {
+    Call,
+    StartPoll,
+    Publish,
+}
+
+/// A new domain, a processor for the driver and one for who asks, and the writer of its cell.
+fn found(alloc: Global) -> Result<(Domain<u64>, Cpu<u64>, Cpu<u64>, Writer), MakeError>
+    ensures driver { IfOk result (λ r. IsIdle r.0 r.1) }
+    ensures asker { IfOk result (λ r. IsIdle r.0 r.2) }
+    ensures writer { IfOk result (λ r. r.3.domain ≡ r.0.domain) }
+{
+    let (domain, mut cpus, mut writers) = Domain::<u64>::new(alloc, 2, LIMITS)?;
+    let writer = writers.pop().unwrap();
+    let asker = cpus.pop().unwrap();
+    let driver = cpus.pop().unwrap();
+    Ok((domain, driver, asker, writer))
+}
+
+/// Whether the cookie of this number is done before long.
+fn ends_soon<R: Clock>(rt: &R, cpu: &mut Cpu<u64>, cookie: u64) -> bool {
+    for _ in 0..LOOKS {
+        if cpu.poll_number(cookie) == Ok(true) {
+            return true;
+        }
+        sleep(rt, Duration::from_micros(100));
+    }
+    false
+}
+
+/// Puts zeros as the next version, and answers the number of the cookie that was asked for.
+fn put(domain: &Domain<u64>, cpu: &mut Cpu<u64>, writer: &mut Writer) -> Option<u64>
+    requires idle { IsIdle domain.now cpu.old }
+    requires writer { writer.old.domain ≡ domain.now.domain }
+{
+    let slot = claim(writer, cpu)?;
+    Some(publish(writer, domain, cpu, slot, &[0; 16]))
+}
+
+/// Asks once the driver sleeps. Whether what was asked for came before long, though no other thread drives.
+fn ask<R: Wait + Clock>(
+    rt: &R,
+    domain: &Domain<u64>,
+    cpu: &mut Cpu<u64>,
+    writer: &mut Writer,
+    ran: &AtomicU64,
+    asking: Asking,
+) -> bool
+    requires idle { IsIdle domain.now cpu.old }
+    requires writer { writer.old.domain ≡ domain.now.domain }
+{
+    sleep(rt, Duration::from_millis(NAP));
+    match asking {
+        Asking::Call => domain.call(rt, cpu, 1).is_ok() && look_for(rt, ran, 1),
+        Asking::StartPoll => {
+            let cookie = domain.start_poll(cpu).number();
+            ends_soon(rt, cpu, cookie)
+        }
+        Asking::Publish => match put(domain, cpu, writer) {
+            Some(cookie) => ends_soon(rt, cpu, cookie),
+            None => false,
+        },
+    }
+}
+
+/// A driver with nothing to do, beside one thread that asks and then tells it to stop. Whether both came to their end, and
+/// what was asked for came before long.
+fn wake<R: Wait + Clock + Threads + AllocGlobal + Sync>(
+    rt: &R,
+    asking: Asking,
+) -> Result<bool, MakeError> {
+    let (domain, mut driver, mut asker, mut writer) = found(rt.alloc())?;
+    let stop = sign_of(rt, &domain)?;
+    let ran = AtomicU64::new(0);
+    let (served, came) = join(
+        rt,
+        || {
+            served_by(serve(rt, &domain, &mut driver, &stop, |_job: u64| {
+                ran.fetch_add(1, SeqCst);
+            }))
+            .is_some()
+        },
+        || {
+            let came = ask(rt, &domain, &mut asker, &mut writer, &ran, asking);
+            stop.give_alone(rt, &domain);
+            came
+        },
+    );
+    Ok(served && came)
+}
+
+/// Would catch a call that does not ring, and a driver that sleeps without listening: the job would wait for ever.
+#[test]
+fn woken_by_a_call(rt: HostRuntime) -> Result<(), Fail> {
+    assert!(rt; wake(&rt, Asking::Call)?);
+    Ok(())
+}
+
+/// The same where a grace period is asked for, and where a version is put.
+#[test]
+fn woken_by_asking(rt: HostRuntime) -> Result<(), Fail> {
+    assert!(rt; wake(&rt, Asking::StartPoll)?);
+    assert!(rt; wake(&rt, Asking::Publish)?);
+    Ok(())
+}
