@@ -6,13 +6,16 @@ use Rattle.domain.specs.Views.{DomainView, CpuView, IsOf}
 use Rattle.domain.specs.Waiting.{HasNoneOpen, Synchronizes}
 use Rattle.domain.specs.Making.{new_cpu, IsMade}
 use Rattle.domain.proofs.CallerLemmas.{new_ones_are_here}
-use Rattle.srcubench.specs.Driving.{DrivesPeriod, DrivesPeriods, WaitsAll, IsNewOf}
+use Rattle.srcubench.specs.Driving.{DrivesPeriod, DrivesPeriods, DrivesAtOnce, DrivesAllAtOnce, WaitsAll, IsNewOf}
 
 -- One more
 
 module _ {J : Type 0} where
   pub one_period : (n : ℕ) (c between c' : CpuView J) → DrivesPeriods n c between → DrivesPeriod between c' → DrivesPeriods (n + 1) c c'
   one_period n c between c' before one = subst (λ k. DrivesPeriods k c c') (sym (add-one n)) (between, before, one)
+
+  pub one_drive : (n : ℕ) (c between c' : CpuView J) → DrivesAllAtOnce n c between → DrivesAtOnce between c' → DrivesAllAtOnce (n + 1) c c'
+  one_drive n c between c' before one = subst (λ k. DrivesAllAtOnce k c c') (sym (add-one n)) (between, before, one)
 
   pub one_wait : (n : ℕ) (c between c' : CpuView J) → WaitsAll n c between → Synchronizes between c' → WaitsAll (n + 1) c c'
   one_wait n c between c' before one = subst (λ k. WaitsAll k c c') (sym (add-one n)) (between, before, one)

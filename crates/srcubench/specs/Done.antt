@@ -3,12 +3,12 @@ use Rattle.std.specs.Prelude.{◌≡◌, ℕ, ◌*◌, ◌^◌, ◌≤◌, List}
 use Rattle.srcubench.specs.declared.pairs.Reader.{Reader}
 use Rattle.srcubench.specs.declared.asking.Asker.{Asker}
 use Rattle.srcubench.specs.declared.work.Work.{Work}
-use Rattle.srcubench.specs.declared.work.Work.TheVariants.{Pairs, HeldPairs, QuietPeriods, DrivenPeriods, Waits, WaitsAtOnce, Asks, AsksAlone, Entries, Queueing, Callbacks, Given, Finds, Puts, ChainCalls, ChainChanges, Looks, Installs}
+use Rattle.srcubench.specs.declared.work.Work.TheVariants.{Pairs, HeldPairs, QuietPeriods, DrivenPeriods, DrivenAtOnce, Waits, WaitsAtOnce, Asks, AsksAlone, Entries, Queueing, Callbacks, Given, Finds, Puts, ChainCalls, ChainChanges, Looks, Installs}
 use Rattle.srcubench.specs.Readers.{AreReadersOfOne}
 use Rattle.srcubench.specs.Asking.{AreAskersOfOne, HasAskedAlone}
 use Rattle.srcubench.specs.Calling.{HaveQueued, HavePassed}
 use Rattle.srcubench.specs.Chaining.{HaveChanged, HaveCalled}
-use Rattle.srcubench.specs.Driving.{HaveDriven, HaveWaited}
+use Rattle.srcubench.specs.Driving.{HaveDriven, HaveDrivenAtOnce, HaveWaited}
 use Rattle.srcubench.specs.Finding.{AreFindersOfOne}
 use Rattle.srcubench.specs.Giving.{HaveGiven}
 use Rattle.srcubench.specs.Held.{HaveMadeHeldPairs}
@@ -23,6 +23,7 @@ CanRun (Pairs threads pairs) = 1 ≤ pairs
 CanRun (HeldPairs pairs) = 1 ≤ pairs
 CanRun (QuietPeriods processors periods) = 1 ≤ periods
 CanRun (DrivenPeriods processors periods) = 1 ≤ periods
+CanRun (DrivenAtOnce processors periods) = 1 ≤ periods
 CanRun (Waits processors times) = 1 ≤ times
 CanRun (WaitsAtOnce threads times) = 1 ≤ times
 CanRun (Asks threads asks new) = (1 ≤ asks) × (asks ≤ 2 ^ 54) × (threads ≤ 2 ^ 16)
@@ -44,6 +45,7 @@ IsDone (Pairs threads pairs) done = (done ≡ pairs) × (readers : List Reader) 
 IsDone (HeldPairs pairs) done = (done ≡ pairs) × HaveMadeHeldPairs pairs
 IsDone (QuietPeriods processors periods) done = HaveEnded processors periods done
 IsDone (DrivenPeriods processors periods) done = (done ≡ periods) × HaveDriven processors periods
+IsDone (DrivenAtOnce processors periods) done = (done ≡ periods) × HaveDrivenAtOnce processors periods
 IsDone (Waits processors times) done = (done ≡ times) × HaveWaited processors times
 IsDone (WaitsAtOnce threads times) done = (done ≡ times) × HaveWaitedAtOnce threads times
 IsDone (Asks threads asks new) done = (done ≡ asks) × (askers : List Asker) × AreAskersOfOne threads new asks askers

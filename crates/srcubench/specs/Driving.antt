@@ -3,10 +3,11 @@ use Rattle.std.specs.Prelude.{◌≡◌, ℕ, zero, suc, ◌<◌}
 use Rattle.sseq.specs.declared.index.Index.{Index}
 use Rattle.scan.specs.declared.progress.Progress.{Progress}
 use Rattle.scan.specs.declared.progress.Progress.TheVariants.{Flipped, Ended}
+use Rattle.sections.specs.Views.{CookieView}
 use Rattle.funnel.specs.declared.view.Shape.{Shape}
 use Rattle.domain.specs.Views.{DomainView, CpuView}
-use Rattle.domain.specs.Turns.{StartsIn, AdvancesIn}
-use Rattle.domain.specs.Waiting.{Synchronizes}
+use Rattle.domain.specs.Turns.{StartsIn, AdvancesIn, CarriesOnIn}
+use Rattle.domain.specs.Waiting.{StartsPoll, Synchronizes}
 use Rattle.domain.specs.Making.{new_cpu}
 
 module _ {J : Type 0} where
@@ -30,6 +31,18 @@ module _ {J : Type 0} where
   DrivesPeriods zero c c' = c' ≡ c
   DrivesPeriods (suc n) c c' = (between : CpuView J) × DrivesPeriods n c between × DrivesPeriod between c'
 
+  -- a period was asked for, and in one turn the engine went on to the end of one
+  pub record DrivesAtOnce (c c' : CpuView J) : Type 0 where
+    pub asked : CpuView J
+    pub cookie : CookieView
+    pub at_end : ℕ
+    pub asks : StartsPoll c cookie asked
+    pub ends : CarriesOnIn asked (Ended at_end) c'
+
+  abbrev pub DrivesAllAtOnce : ℕ → CpuView J → CpuView J → Type 0
+  DrivesAllAtOnce zero c c' = c' ≡ c
+  DrivesAllAtOnce (suc n) c c' = (between : CpuView J) × DrivesAllAtOnce n c between × DrivesAtOnce between c'
+
   -- so many calls of `synchronize` came back
   abbrev pub WaitsAll : ℕ → CpuView J → CpuView J → Type 0
   WaitsAll zero c c' = c' ≡ c
@@ -48,6 +61,12 @@ pub record HaveDriven (processors periods : ℕ) : Type 0 where
   pub last : CpuView (Unit {0})
   pub new : IsNewOf processors periods first
   pub drives : DrivesPeriods periods first last
+
+pub record HaveDrivenAtOnce (processors periods : ℕ) : Type 0 where
+  pub first : CpuView (Unit {0})
+  pub last : CpuView (Unit {0})
+  pub new : IsNewOf processors periods first
+  pub drives : DrivesAllAtOnce periods first last
 
 pub record HaveWaited (processors times : ℕ) : Type 0 where
   pub first : CpuView (Unit {0})

@@ -3,7 +3,7 @@ ghost use Rattle.std.specs.Prelude.{◌≡◌, IfOk};
 ghost use Rattle.domain.specs.Views.{IsOf};
 ghost use Rattle.domain.specs.Turns.{AdvancesIn};
 ghost use Rattle.domain.specs.Waiting.{HasNoneOpen};
-ghost use Rattle.srcubench.specs.Driving.{TurnsOnce, DrivesPeriod, DrivesPeriods, WaitsAll, HaveWaited, HaveDriven};
+ghost use Rattle.srcubench.specs.Driving.{TurnsOnce, DrivesPeriod, DrivesPeriods, DrivesAtOnce, DrivesAllAtOnce, WaitsAll, HaveWaited, HaveDriven, HaveDrivenAtOnce};
 
 use crate::work::Timed;
 use anyhow::Result;
@@ -107,6 +107,36 @@ pub fn drive_periods<A: Allocator>(
     Ok(())
 }
 
+/// Asks for a grace period, and has the engine carry it to its end in one turn.
+fn drive_at_once<A: Allocator>(domain: &Domain<(), A>, cpu: &mut Cpu<(), A>) -> Result<(), Halt>
+    requires { IsOf domain.now cpu.old }
+    ensures here { IsOf domain.now cpu.new }
+    ensures drives { IfOk result (λ _. DrivesAtOnce cpu.old cpu.new) }
+{
+    domain.start_poll(cpu);
+    match domain.drive(cpu) {
+        Ok(Progress::Ended(_)) => Ok(()),
+        Ok(other) => Err(Halt::Answered(other)),
+        Err(refusal) => Err(Halt::Refused(refusal)),
+    }
+}
+
+/// Drives so many grace periods, each in one turn.
+fn drive_all_at_once<A: Allocator>(
+    domain: &Domain<(), A>,
+    cpu: &mut Cpu<(), A>,
+    times: u64,
+) -> Result<(), Halt>
+    requires { IsOf domain.now cpu.old }
+    ensures here { IsOf domain.now cpu.new }
+    ensures drives { IfOk result (λ _. DrivesAllAtOnce times cpu.old cpu.new) }
+{
+    for _ in 0..times {
+        drive_at_once(domain, cpu)?;
+    }
+    Ok(())
+}
+
 /// Waits so many times, one behind the other.
 pub fn wait_often<R: Wait, A: Allocator>(
     rt: &R,
@@ -141,6 +171,28 @@ pub fn run_periods<R: Clock + AllocGlobal>(rt: &R, processors: usize, periods: u
     let mut cpu = cpus.pop().unwrap();
     let start = Instant::now(rt)?;
     drive_periods(&domain, &mut cpu, periods)?;
+    let elapsed = start.elapsed(rt)?;
+    Ok(Timed {
+        done: periods,
+        elapsed,
+    })
+}
+
+/// The same, with each period asked for and driven in one turn.
+pub fn run_drives<R: Clock + AllocGlobal>(rt: &R, processors: usize, periods: u64) -> Result<Timed>
+    ensures done { IfOk result (λ timed. timed.done ≡ periods) }
+    ensures driven { IfOk result (λ _. HaveDrivenAtOnce processors periods) }
+{
+    let limits = Limits {
+        sections: 1,
+        periods,
+        cells: 0,
+        slots: 2,
+    };
+    let (domain, mut cpus, _) = Domain::<()>::new(rt.alloc(), processors, limits)?;
+    let mut cpu = cpus.pop().unwrap();
+    let start = Instant::now(rt)?;
+    drive_all_at_once(&domain, &mut cpu, periods)?;
     let elapsed = start.elapsed(rt)?;
     Ok(Timed {
         done: periods,

@@ -142,6 +142,11 @@ fn count_by_processors<R: Wait + Clock + Print + AllocGlobal>(
     println!(rt; "processors {processors}: {} quiet periods", timed.done)?;
     let timed = driving::run_periods(rt, processors, COUNTED_PERIODS)?;
     println!(rt; "processors {processors}: {} periods driven", timed.done)?;
+    let timed = driving::run_drives(rt, processors, COUNTED_PERIODS)?;
+    println!(rt;
+        "processors {processors}: {} periods driven, each in one turn",
+        timed.done
+    )?;
     let timed = driving::run_waits(rt, processors, COUNTED_PERIODS)?;
     println!(rt; "processors {processors}: {} waits", timed.done)?;
     for new in [true, false] {
@@ -313,6 +318,12 @@ fn time_by_processors<R: Threads + Sync + Wait + Clock + Print + AllocGlobal>(
     };
     let spread = measure(rt, work, repetitions)?;
     println!(rt; "srcubench-domain-period {processors} {spread}")?;
+    let work = Work::DrivenAtOnce {
+        processors,
+        periods,
+    };
+    let spread = measure(rt, work, repetitions)?;
+    println!(rt; "srcubench-drive {processors} {spread}")?;
     let times = periods;
     let spread = measure(rt, Work::Waits { processors, times }, repetitions)?;
     println!(rt; "srcubench-synchronize {processors} {spread}")?;

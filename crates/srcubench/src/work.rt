@@ -37,6 +37,11 @@ pub enum Work {
         processors: usize,
         periods: u64,
     },
+    /// The same, each asked for and driven in one turn.
+    DrivenAtOnce {
+        processors: usize,
+        periods: u64,
+    },
     /// Calls of `synchronize` by a processor of a domain of so many, in which nobody reads.
     Waits {
         processors: usize,
@@ -152,6 +157,10 @@ pub fn run<R: Threads + Sync + Wait + Clock + AllocGlobal>(rt: &R, work: Work) -
             processors,
             periods,
         } => driving::run_periods(rt, processors, periods),
+        Work::DrivenAtOnce {
+            processors,
+            periods,
+        } => driving::run_drives(rt, processors, periods),
         Work::Waits { processors, times } => driving::run_waits(rt, processors, times),
         Work::WaitsAtOnce { threads, times } => waiting::run(rt, threads, times),
         Work::Asks { threads, asks, new } => {
