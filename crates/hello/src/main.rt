@@ -52,7 +52,7 @@ fn queue_and_tell<R: Wait>(
 {
     let queued = queue(rt, domain, &mut cpu);
     if stop.give(rt, domain, &mut cpu).is_err() {
-        stop.give_alone(rt); // no memory for a ticket
+        stop.give_alone(rt, domain); // no memory for a ticket
     }
     queued
 }

@@ -124,10 +124,10 @@ fn delay_beside<R: Threads + Sync + Wait + Clock + AllocGlobal>(
         rt,
         || serve_on(rt, domain, pool, stop, |_job: u64| note(rt, &ran, start)),
         || -> Result<Vec<u64>>
-            requires { IsSync R.row × ((pool.now.domain ≡ domain.now) × IsOf domain.now reader) }
+            requires { IsSync R.row × ((pool.now.domain ≡ domain.now) × (stop.now.domain ≡ domain.now) × IsOf domain.now reader) }
         {
             let delays = delay_often(rt, domain, pool, reader, &ran, start, times);
-            stop.give_alone(rt);
+            stop.give_alone(rt, domain);
             delays
         },
     )

@@ -1,11 +1,13 @@
 //! `servebench` measures a driver: what a job costs that is queued by some threads while a driver runs them in one more, and
-//! how long it takes from the end of the last section until a driver runs a job that waited for it.
+//! how long it takes from the end of the last section until a driver runs a job that waited for it. `servebench idle` has a
+//! driver that has nothing to do for two seconds.
 #![tactic(auto)]
 
 ghost use Rattle.std.specs.Prelude.{◌≡◌, ◌≤◌, All, IfOk};
 ghost use Rattle.driver.specs.Pools.{IsIdle};
 
 mod delaying;
+mod idling;
 mod miss;
 mod serving;
 
@@ -26,6 +28,9 @@ const JOBS: u64 = 20_000;
 const DELAYS: usize = 100;
 
 const COUNTED_DELAYS: usize = 5;
+
+/// How long a driver has nothing to do, in seconds, while whoever started the program measures its processor time.
+const IDLE: u64 = 2;
 
 /// The status of a run whose command line can't be read.
 const MISUSED: u8 = 2;
@@ -122,8 +127,12 @@ fn act<R: Threads + Sync + Wait + Clock + Env + Print + Eprint + AllocGlobal>(
     match words.as_slice() {
         [] => count(rt)?,
         [word] if word.as_str() == "time" => time(rt)?,
+        [word] if word.as_str() == "idle" => {
+            let jobs = idling::run(rt, Duration::from_secs(IDLE))?;
+            println!(rt; "a driver with nothing to do: {jobs} jobs in {IDLE} seconds")?;
+        }
         _ => {
-            eprintln!(rt; "usage: servebench [time]")?;
+            eprintln!(rt; "usage: servebench [time | idle]")?;
             return Ok(ExitCode::from(MISUSED));
         }
     }

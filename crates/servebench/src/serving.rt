@@ -86,7 +86,7 @@ fn give<R: Wait>(rt: &R, domain: &Domain<u64>, stop: &Stop<u64>, cpu: &mut Cpu<u
     ensures { IsLent domain.now cpu.new cpu.old.cpu.processor }
 {
     if stop.give(rt, domain, cpu).is_err() {
-        stop.give_alone(rt);
+        stop.give_alone(rt, domain);
     }
 }
 

@@ -4,18 +4,48 @@ ghost use Rattle.std.specs.Prelude.{◌≡◌};
 ghost use Rattle.driver.specs.Pools.{IsIdle};
 ghost use Rattle.soak.specs.Counts.{one_more};
 ghost use Rattle.soak.specs.Checks.{counted, turn_of};
+ghost use Rattle.soak.specs.Starts.{AreIdle};
 
 use crate::counts::{Counts, count};
 use crate::signs::{Signs, WORKERS};
 use crate::worker::Job;
 use domain::{Cpu, Domain};
-use driver::{Stop, serve};
+use driver::{Listener, Report, Stall, Stop, Tally, serve_with};
+use std::alloc::Global;
 use std::sync::Wait;
+use std::sync::atomic::AtomicU64;
+use std::sync::atomic::Ordering::SeqCst;
+use std::time::{Clock, Duration};
+
+/// For how long a grace period may wait in a run: no section lasts nearly as long.
+const MOST_SECONDS: u64 = 100;
+
+/// The thread's processors.
+#[derive(Drop)]
+pub struct Cpus {
+    /// The one that drives.
+    pub serving: Cpu<Job>,
+    /// The one that would make a report.
+    pub watching: Cpu<Job>,
+}
+
+/// Counts reports.
+#[derive(Drop)]
+struct Stalls<'a> {
+    count: &'a AtomicU64,
+}
+
+impl<'a> Listener<Global> for Stalls<'a> {
+    fn hear(&mut self, _stall: Stall<Global>) {
+        self.count.fetch_add(1, SeqCst);
+    }
+}
 
 /// What the thread has in the end.
 #[derive(Drop)]
 pub struct Driver {
     pub cpu: Cpu<Job>,
+    pub watching: Cpu<Job>,
     pub counts: Counts,
 }
 
@@ -45,35 +75,59 @@ fn run(ran: &mut Ran, job: &Job) -> u64
 }
 
 /// Serves the domain until no worker is left, and all jobs are run. How many there were it counts itself, and what the
-/// driver tells has to be the same.
-pub fn drive<R: Wait>(
+/// driver tells has to be the same, and what it tallied too. A report counts as a wait that was too long.
+pub fn drive<R: Wait + Clock + AllocGlobal>(
     rt: &R,
     domain: &Domain<Job>,
-    mut cpu: Cpu<Job>,
+    cpus: Cpus,
     signs: &Signs,
     stop: &Stop<Job>,
 ) -> Driver
-    requires idle { IsIdle domain.now cpu }
+    requires idle { AreIdle domain.now cpus }
     requires stop { stop.now.domain ≡ domain.now }
-    ensures { IsIdle domain.now result.cpu }
+    ensures cpu { IsIdle domain.now result.cpu }
+    ensures watching { IsIdle domain.now result.watching }
 {
     let mut ran = Ran {
         turns: [0; WORKERS],
         counts: Counts::new(),
     };
-    let served = serve(rt, domain, &mut cpu, stop, |job: Job| {
+    let Cpus {
+        serving: mut cpu,
+        watching,
+    } = cpus;
+    let tally = Tally::new();
+    let stalls = AtomicU64::new(0);
+    let mut report = Report {
+        clock: rt,
+        tally: &tally,
+        alloc: rt.alloc(),
+        cpu: watching,
+        after: Duration::from_secs(MOST_SECONDS),
+        listener: Stalls { count: &stalls },
+        delay: None,
+    };
+    let work = |job: Job| {
         signs.set_run(job.processor, run(&mut ran, &job));
-    });
+    };
+    let served = serve_with(rt, domain, &mut cpu, stop, work, &mut report);
+    let Report { cpu: watching, .. } = report;
     match served {
         Ok(stopped) => {
-            if stopped.served.jobs != ran.counts.run {
+            let tallied = tally.read();
+            let told = (stopped.served.jobs, stopped.served.periods);
+            if told.0 != ran.counts.run || told != (tallied.jobs, tallied.periods) {
                 count(&mut ran.counts.misplaced);
             }
         }
         Err(_exhausted) => count(&mut ran.counts.refused),
     }
+    if stalls.load(SeqCst) > 0 {
+        count(&mut ran.counts.early);
+    }
     Driver {
         cpu,
+        watching,
         counts: ran.counts,
     }
 }

@@ -8,10 +8,10 @@ ghost use Rattle.domain.specs.Parts.{Each};
 ghost use Rattle.soak.specs.Workers.{IsAtWork, StaysAtWork, AreAllAtWork};
 ghost use Rattle.driver.specs.Pools.{IsIdle};
 ghost use Rattle.soak.specs.Updaters.{IsUpdating};
-ghost use Rattle.soak.specs.Starts.{IsPrepared};
+ghost use Rattle.soak.specs.Starts.{AreIdle, IsPrepared};
 
 use crate::counts::{Counts, count};
-use crate::driving::{Driver, drive};
+use crate::driving::{Cpus, Driver, drive};
 use crate::outcome::Outcome;
 use crate::signs::{AGES, Signs, WORKERS};
 use crate::updating::{Deadline, Replaced, Updater, update};
@@ -26,8 +26,8 @@ use std::thread;
 use std::thread::{Threads, join};
 use std::time::{Clock, Instant};
 
-/// How many processors the domain has: one for each thread.
-const PROCESSORS: u16 = 9;
+/// How many processors the domain has: one for each thread, and one for the driver's report.
+const PROCESSORS: u16 = 10;
 
 /// How many turns of the engine are enough for all grace periods that are still asked for in the end.
 const TURNS: u32 = 64;
@@ -76,7 +76,8 @@ fn work_all<R: Threads + Sync + Wait + Clock>(
     length: Length,
     mut workers: Vec<Worker>,
 ) -> Vec<Worker>
-    requires { AreAllAtWork domain.now desk.now workers.items }
+    requires workers { AreAllAtWork domain.now desk.now workers.items }
+    requires stop { stop.now.domain ≡ domain.now }
     ensures all { AreAllAtWork domain.now desk.now result.items }
     ensures as_many { vec_len result ≡ vec_len workers }
 {
@@ -85,7 +86,7 @@ fn work_all<R: Threads + Sync + Wait + Clock>(
         ensures { StaysAtWork domain.entry.now desk.entry.now worker.entry.now worker.exit.now }
     { work(rt, domain, desk, signs, length, worker) };
     thread::for_each_mut(rt, workers.as_mut_slice(), WORKERS, &part);
-    stop.give_alone(rt);
+    stop.give_alone(rt, domain);
     workers
 }
 
@@ -105,10 +106,10 @@ pub fn take_apart(
     desk: &Desk<Held>,
 ) -> Parts
     requires all { AreAllAtWork domain.now desk.now workers.items }
-    requires cpus { (vec_len parts.cpus ≡ 0) × (vec_len workers + 1 < vec_capacity parts.cpus) }
+    requires cpus { (vec_len parts.cpus ≡ 0) × (vec_len workers + 2 < vec_capacity parts.cpus) }
     requires seats { (vec_len parts.seats ≡ 0) × (vec_len workers ≤ vec_capacity parts.seats) }
     ensures cpus { Each (IsOf domain.now) result.cpus.items }
-    ensures room { vec_len result.cpus + 1 < vec_capacity result.cpus }
+    ensures room { vec_len result.cpus + 2 < vec_capacity result.cpus }
     ensures seats { AreAllSeats desk.now result.seats.items }
 {
     while let Some(worker) = workers.pop() {
@@ -140,10 +141,11 @@ pub fn end(
     updater: Updater,
 ) -> Outcome
     requires cpus { Each (IsOf domain) parts.cpus.items }
-    requires room { vec_len parts.cpus + 1 < vec_capacity parts.cpus }
+    requires room { vec_len parts.cpus + 2 < vec_capacity parts.cpus }
     requires seats { AreAllSeats desk parts.seats.items }
     requires home { desk.domain ≡ domain.domain }
     requires driver { IsOf domain driver.cpu }
+    requires watching { IsOf domain driver.watching }
     requires updater { IsOf domain updater.cpu }
 {
     let mut cpus = parts.cpus;
@@ -154,6 +156,7 @@ pub fn end(
     }
     rest(&domain, &mut driver.cpu);
     cpus.push_reserved(driver.cpu);
+    cpus.push_reserved(driver.watching);
     cpus.push_reserved(updater.cpu);
     match domain.cleanup(cpus) {
         Ok(totals) => Outcome {
@@ -174,7 +177,7 @@ pub struct Start {
     /// Given when no worker is left.
     pub stop: Stop<Job>,
     pub workers: Vec<Worker>,
-    pub driver: Cpu<Job>,
+    pub driver: Cpus,
     pub updater: Updater,
     pub parts: Parts,
 }
@@ -182,7 +185,7 @@ pub struct Start {
 /// Room for the workers, and for what is taken from them in the end.
 fn make_room(alloc: Global) -> Result<(Vec<Worker>, Parts)>
     ensures workers { IfOk result (λ r. (vec_len r.0 ≡ 0) × (vec_capacity r.0 ≡ 7)) }
-    ensures cpus { IfOk result (λ r. (vec_len r.1.cpus ≡ 0) × (vec_capacity r.1.cpus ≡ 9)) }
+    ensures cpus { IfOk result (λ r. (vec_len r.1.cpus ≡ 0) × (vec_capacity r.1.cpus ≡ 10)) }
     ensures seats { IfOk result (λ r. (vec_len r.1.seats ≡ 0) × (vec_capacity r.1.seats ≡ 7)) }
 {
     let workers = Vec::with_capacity(alloc, WORKERS)?;
@@ -194,23 +197,25 @@ fn make_room(alloc: Global) -> Result<(Vec<Worker>, Parts)>
     Ok((workers, parts))
 }
 
-/// Makes a domain, the processors of the workers, that of the driver, and who puts versions.
-fn found(alloc: Global) -> Result<(Domain<Job>, Vec<Cpu<Job>>, Cpu<Job>, Updater)>
+/// Makes a domain, the processors of the workers, those of the driver, and who puts versions.
+fn found(alloc: Global) -> Result<(Domain<Job>, Vec<Cpu<Job>>, Cpus, Updater)>
     ensures workers { IfOk result (λ r. (vec_len r.1 ≡ 7) × Each (IsOf r.0) r.1.items) }
-    ensures driver { IfOk result (λ r. IsIdle r.0 r.2) }
+    ensures driver { IfOk result (λ r. AreIdle r.0 r.2) }
     ensures updater { IfOk result (λ r. IsUpdating r.0 r.3) }
     ensures cell { IfOk result (λ r. 0 < cells_in r.0.domain) }
 {
     let processors = usize::from(PROCESSORS);
     let (domain, mut cpus, mut writers) = Domain::<Job>::new(alloc, processors, LIMITS)?;
     let updating = cpus.pop().unwrap();
-    let driver = cpus.pop().unwrap();
+    let serving = cpus.pop().unwrap();
+    let watching = cpus.pop().unwrap();
     let writer = writers.pop().unwrap();
     let updater = Updater {
         cpu: updating,
         writer,
         replaced: [Replaced::NONE; AGES],
     };
+    let driver = Cpus { serving, watching };
     Ok((domain, cpus, driver, updater))
 }
 
@@ -236,19 +241,20 @@ pub fn prepare(alloc: Global) -> Result<Start>
 }
 
 /// Has the driver and the updater each do its part, at once.
-fn serve_and_update<R: Threads + Sync + Wait + Clock>(
+fn serve_and_update<R: Threads + Sync + Wait + Clock + AllocGlobal>(
     rt: &R,
     domain: &Domain<Job>,
-    driver: Cpu<Job>,
+    driver: Cpus,
     updater: Updater,
     signs: &Signs,
     stop: &Stop<Job>,
     deadline: Deadline,
 ) -> (Driver, Updater)
     requires stop { stop.now.domain ≡ domain.now }
-    requires driver { IsIdle domain.now driver }
+    requires driver { AreIdle domain.now driver }
     requires updater { IsUpdating domain.now updater }
     ensures driver { IsIdle domain.now result.0.cpu }
+    ensures watching { IsIdle domain.now result.0.watching }
     ensures updater { IsUpdating domain.now result.1 }
 {
     join(
@@ -259,23 +265,24 @@ fn serve_and_update<R: Threads + Sync + Wait + Clock>(
 }
 
 /// Has all threads do their parts at once.
-fn soak<R: Threads + Sync + Wait + Clock>(
+fn soak<R: Threads + Sync + Wait + Clock + AllocGlobal>(
     rt: &R,
     domain: &Domain<Job>,
     desk: &Desk<Held>,
     stop: &Stop<Job>,
     workers: Vec<Worker>,
-    driver: Cpu<Job>,
+    driver: Cpus,
     updater: Updater,
     deadline: Deadline,
 ) -> (Vec<Worker>, (Driver, Updater))
     requires stop { stop.now.domain ≡ domain.now }
     requires all { AreAllAtWork domain.now desk.now workers.items }
-    requires driver { IsIdle domain.now driver }
+    requires driver { AreIdle domain.now driver }
     requires updater { IsUpdating domain.now updater }
     ensures all { AreAllAtWork domain.now desk.now result.0.items }
     ensures as_many { vec_len result.0 ≡ vec_len workers }
     ensures driver { IsIdle domain.now result.1.0.cpu }
+    ensures watching { IsIdle domain.now result.1.0.watching }
     ensures updater { IsUpdating domain.now result.1.1 }
 {
     let signs = Signs::new();
@@ -283,12 +290,12 @@ fn soak<R: Threads + Sync + Wait + Clock>(
     join(
         rt,
         || -> Vec<Worker>
-            requires { IsSync R.row × AreAllAtWork domain.now desk.now workers.items }
+            requires { IsSync R.row × ((stop.now.domain ≡ domain.now) × AreAllAtWork domain.now desk.now workers.items) }
             ensures { AreAllAtWork domain.entry.now desk.entry.now result.items × (vec_len result ≡ vec_len workers) }
         { work_all(rt, domain, desk, &signs, stop, length, workers) },
         || -> (Driver, Updater)
-            requires { IsSync R.row × ((stop.now.domain ≡ domain.now) × (IsIdle domain.now driver × IsUpdating domain.now updater)) }
-            ensures { IsIdle domain.entry.now result.0.cpu × IsUpdating domain.entry.now result.1 }
+            requires { IsSync R.row × ((stop.now.domain ≡ domain.now) × (AreIdle domain.now driver × IsUpdating domain.now updater)) }
+            ensures { IsIdle domain.entry.now result.0.cpu × IsIdle domain.entry.now result.0.watching × IsUpdating domain.entry.now result.1 }
         { serve_and_update(rt, domain, driver, updater, &signs, stop, deadline) },
     )
 }

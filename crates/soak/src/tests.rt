@@ -1,10 +1,11 @@
 ghost use Rattle.soak.specs.Workers.{IsAtWork, StaysAtWork};
 ghost use Rattle.driver.specs.Pools.{IsIdle};
+ghost use Rattle.soak.specs.Starts.{AreIdle};
 ghost use Rattle.soak.specs.Updaters.{IsUpdating};
 
 use crate::command_line::length_of;
 use crate::counts::{Counts, count};
-use crate::driving::{Driver, drive};
+use crate::driving::{Cpus, Driver, drive};
 use crate::outcome::Outcome;
 use crate::run::{Start, end, prepare, run, take_apart};
 use crate::signs::Signs;
@@ -19,7 +20,7 @@ use driver::Stop;
 use std::process::{Abort, ExitCode};
 use std::sync::Wait;
 use std::test::Fail;
-use std::time::Instant;
+use std::time::{Clock, Instant};
 
 /// What seven workers did that opened and closed two sections, and queued a job that was run.
 fn some_counts() -> Counts {
@@ -87,26 +88,27 @@ fn put_torn(domain: &Domain<Job>, updater: &mut Updater, signs: &Signs)
 
 /// All that the checks look for, each once, but for a wait that is too short: one where not all jobs were run, and one
 /// where a cookie isn't done.
-fn go_wrong<R: Wait>(
+fn go_wrong<R: Wait + Clock + AllocGlobal>(
     rt: &R,
     domain: &Domain<Job>,
     desk: &Desk<Held>,
     signs: &Signs,
     stop: &Stop<Job>,
     worker: &mut Worker,
-    driver: Cpu<Job>,
+    driver: Cpus,
 ) -> Driver
     requires stop { stop.now.domain ≡ domain.now }
     requires worker { IsAtWork domain.now desk.now worker.old }
-    requires driver { IsIdle domain.now driver }
+    requires driver { AreIdle domain.now driver }
     ensures worker { StaysAtWork domain.now desk.now worker.old worker.new }
     ensures driver { IsIdle domain.now result.cpu }
+    ensures watching { IsIdle domain.now result.watching }
 {
     read(domain, desk, signs, worker);
     worker.counts.queued = 1; // as if a job had been lost
     queue(rt, domain, desk, worker);
     wait_for_period(rt, domain, desk, worker);
-    stop.give_alone(rt);
+    stop.give_alone(rt, domain);
     let driver = drive(rt, domain, driver, signs, stop);
     wait_for_jobs(rt, domain, desk, signs, worker);
     let mut cookie = worker.cpu.cookie();
@@ -115,7 +117,7 @@ fn go_wrong<R: Wait>(
     driver
 }
 
-fn run_wrongly<R: Wait + AllocGlobal>(rt: &R) -> Result<Outcome> {
+fn run_wrongly<R: Wait + Clock + AllocGlobal>(rt: &R) -> Result<Outcome> {
     let Start {
         domain,
         desk,

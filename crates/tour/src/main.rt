@@ -200,11 +200,11 @@ fn replace_and_work<R: Threads + Wait + Clock + Sync>(
         rt,
         || work(rt, domain, driver, stop, archive),
         || -> Result<Config>
-            requires { IsIdle domain.now updater × (shelf.domain ≡ domain.now.domain) × (configs.now < cells_in domain.now.domain) }
+            requires { IsIdle domain.now updater × (stop.now.domain ≡ domain.now) × (shelf.domain ≡ domain.now.domain) × (configs.now < cells_in domain.now.domain) }
         {
             sign.wait(rt);
             let read = replace_twice(rt, domain, updater, shelf, configs, archive);
-            stop.give_alone(rt); // also where a call was refused, or the driver would go on
+            stop.give_alone(rt, domain); // also where a call was refused, or the driver would go on
             read
         },
     );

@@ -1,11 +1,11 @@
--- Serving leaves the processor in its domain, with no reading open.
+-- Serving leaves both processors in their domain, with no reading open.
 use Rattle.soak.proofs.driving.drive.Goals as goal
 
-pub serve-served-requires-clause-here : goal.serve-served-requires-clause-here
-serve-served-requires-clause-here g c = c.requires.idle.here
+pub serve_with-served-requires-clause-here : goal.serve_with-served-requires-clause-here
+serve_with-served-requires-clause-here g c = c.requires.idle.0.here
 
-pub serve-served-requires-clause-none : goal.serve-served-requires-clause-none
-serve-served-requires-clause-none g c = c.requires.idle.closed
+pub serve_with-served-requires-clause-none : goal.serve_with-served-requires-clause-none
+serve_with-served-requires-clause-none g c = c.requires.idle.0.closed
 
-pub returns : goal.returns
-returns g c = record { here = c.serve-served.ensures.here; closed = c.serve-served.ensures.none }
+pub returns-clause-cpu : goal.returns-clause-cpu
+returns-clause-cpu g c = record { here = c.serve_with-served.ensures.here; closed = c.serve_with-served.ensures.none }

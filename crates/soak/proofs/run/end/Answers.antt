@@ -18,4 +18,5 @@ pub cleanup-requires : goal.cleanup-requires
 cleanup-requires c =
     let Here : CpuView _ → Type 0 = IsOf c.args.domain in
     let all = All-same Here _ _ c.push_reserved.ensures.items (All-push Here _ c.rest.new.cpu c.requires.cpus c.rest.ensures) in
-    All-same Here _ _ c.push_reserved-2.ensures.items (All-push Here _ c.args.updater.cpu all c.requires.updater)
+    let both = All-same Here _ _ c.push_reserved-2.ensures.items (All-push Here _ _ all c.requires.watching) in
+    All-same Here _ _ c.push_reserved-3.ensures.items (All-push Here _ c.args.updater.cpu both c.requires.updater)

@@ -11,7 +11,7 @@ invariant-loop-worker l = record {
   cpus : All (IsOf l.domain) l.parts.cpus.items;
   of_desk : All (λ v. v.desk ≡ l.desk.desk) l.parts.seats.items;
   seats : (n : ℕ) → n < l.desk.seats → Contains (map (λ w. w.seat.number) l.workers.items) n ⊎ Contains (map (λ v. v.number) l.parts.seats.items) n;
-  room_there : vec_len l.workers + vec_len l.parts.cpus + 1 < vec_capacity l.parts.cpus;
+  room_there : vec_len l.workers + vec_len l.parts.cpus + 2 < vec_capacity l.parts.cpus;
   room_at_desk : vec_len l.workers + vec_len l.parts.seats ≤ vec_capacity l.parts.seats;
 }
 

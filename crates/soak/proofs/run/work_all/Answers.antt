@@ -14,4 +14,4 @@ returns-clause-all g c =
     λ i w lt.
     let at = (c.for_each_mut.ensures i w (subst (λ (l : List Worker). i < length l) (sym lent) lt)).1 in
     subst (λ (v : Worker). StaysAtWork c.args.domain.now c.args.desk.now (get_or items i w) v) at.left (subst (λ (v : Worker). StaysAtWork c.args.domain.now c.args.desk.now v at.after_call.now) (at.argument_is ∙ ap (λ (l : List Worker). get_or l i w) lent) at.call) in
-    all_worked c.args.domain.now c.args.desk.now items new c.args.workers.len c.args.workers.ok.0 each c.requires
+    all_worked c.args.domain.now c.args.desk.now items new c.args.workers.len c.args.workers.ok.0 each c.requires.workers
