@@ -4,9 +4,11 @@
  *     peers ROUNDS REPETITIONS MOST
  *
  * prints a line for each thing and each size: its name, the size, and the median, the least and the most of the
- * repetitions in nanoseconds. A thing is measured in 1, 2, 4 threads up to MOST, or at the sizes that it gives. As `srcubench` does, it looks at the clock before the threads are started
- * and after all have ended, and divides by the rounds of one thread, or by the jobs of all. Behind that come the times from
- * the end of a section to its callback (delays.c).
+ * repetitions in nanoseconds. A thing is measured in 1, 2, 4 threads up to MOST, or at the sizes that it gives. Each thread
+ * reads the clock itself, and the slowest one counts; its time is divided by the rounds of one thread. Jobs that threads
+ * share are timed from before the first thread's start until all have ended, and that is divided by the jobs of all. A
+ * thing that would take longer than `ENOUGH` is done less often. Behind that come the times from the end of a section to
+ * its callback (delays.c).
  */
 #include "peers.h"
 
@@ -19,9 +21,17 @@
 #define MOST_WORKERS 8
 #define MOST_REPETITIONS 1000
 
+/* How long a measurement takes where it may be cut short, in nanoseconds: enough that the threads' start doesn't count. */
+#define ENOUGH 4e8
+
+/* The part of the rounds by which it is found how many take so long. */
+#define PROBE 64
+
 struct job {
 	const struct thing *thing;
 	struct worker worker;
+	/* What the worker took by its own clock, in nanoseconds. */
+	double elapsed;
 };
 
 const unsigned one_size[] = { 1, 0 };
@@ -84,36 +94,42 @@ double nanoseconds_now(void)
 
 static void *run_job(void *argument)
 {
-	const struct job *job = argument;
+	struct job *job = argument;
+	double start = nanoseconds_now();
 
 	job->thing->work(&job->worker);
+	job->elapsed = nanoseconds_now() - start;
 	return NULL;
 }
 
-/* The wall time of one round, or of one of the jobs, in nanoseconds. */
+/* What one round took in the slowest thread, or one of the jobs from the first thread's start, in nanoseconds. */
 static double measure(const struct thing *thing, unsigned size, uint64_t rounds)
 {
 	pthread_t threads[MOST_WORKERS];
 	struct job jobs[MOST_WORKERS];
 	unsigned count = thing->workers ? thing->workers : thing->sizes ? 1 : size;
 	uint64_t each = thing->jobs ? thing->jobs / count : rounds;
+	double slowest = 0;
 	double start;
 	double end;
 
 	thing->prepare(size);
 	start = nanoseconds_now();
 	for (unsigned i = 0; i < count; i++) {
-		jobs[i] = (struct job){ thing, { i, each } };
+		jobs[i] = (struct job){ thing, { i, each }, 0 };
 		if (pthread_create(&threads[i], NULL, run_job, &jobs[i]) != 0)
 			fail("a thread can't be started");
 	}
-	for (unsigned i = 0; i < count; i++)
+	for (unsigned i = 0; i < count; i++) {
 		if (pthread_join(threads[i], NULL) != 0)
 			fail("a thread can't be joined");
+		if (jobs[i].elapsed > slowest)
+			slowest = jobs[i].elapsed;
+	}
 	end = nanoseconds_now();
 	if (thing->clear)
 		thing->clear();
-	return (end - start) / (double)(thing->jobs ? thing->jobs : rounds);
+	return thing->jobs ? (end - start) / (double)thing->jobs : slowest / (double)rounds;
 }
 
 static int compare(const void *left, const void *right)
@@ -134,10 +150,19 @@ void report_samples(const char *name, unsigned size, double median, double least
 	printf("%s %u median %.2f least %.2f most %.2f\n", name, size, median, least, most);
 }
 
+/* So many rounds, or as many as take long enough. */
+static uint64_t rounds_of(const struct thing *thing, unsigned size, uint64_t most)
+{
+	uint64_t few = most / PROBE + 1;
+	double enough = thing->jobs ? most : ENOUGH / measure(thing, size, few);
+
+	return enough >= (double)most ? most : enough <= (double)few ? few : (uint64_t)enough;
+}
+
 static void report(const struct thing *thing, unsigned size, uint64_t most_rounds, unsigned repetitions)
 {
 	double samples[MOST_REPETITIONS];
-	uint64_t rounds = most_rounds / thing->less_often + 1;
+	uint64_t rounds = rounds_of(thing, size, most_rounds / thing->less_often + 1);
 
 	for (unsigned i = 0; i < repetitions; i++)
 		samples[i] = measure(thing, size, rounds);

@@ -60,6 +60,7 @@ function processors(size) {
 function period_rows(size) {
     row("the engine, " processors(size), "srcubench-quiet-period", size, "model-quiet-period")
     row("through Domain::advance, " processors(size), "srcubench-domain-period", size, "model-quiet-period")
+    row("asked for, Domain::drive, " processors(size), "srcubench-drive", size, "model-quiet-period")
     row("C11 model of it, " processors(size), "model-quiet-period", size, "model-quiet-period")
 }
 
@@ -117,18 +118,29 @@ function delay_rows() {
     row("liburcu memb, 99 of 100", "urcu-memb-delay-late", 1, "urcu-memb-delay-late")
 }
 
+# What a Rust programmer would take instead.
+function rust_rows(thing, size) {
+    row("arc-swap load, " threads(size), "arc-swap-" thing, size, "model-" thing)
+    row("crossbeam-epoch pin, " threads(size), "epoch-" thing, size, "model-" thing)
+    row("std RwLock, " threads(size), "std-rwlock-" thing, size, "model-" thing)
+    row("parking_lot RwLock, " threads(size), "parking-lot-" thing, size, "model-" thing)
+}
+
 function find_rows(words, size,    finds) {
     finds = "find-" words
     row("this domain, " threads(size), "srcubench-" finds, size, "model-" finds)
     row("C11 model of it, " threads(size), "model-" finds, size, "model-" finds)
     row("atomic pointer, no section, " threads(size), "pointer-" finds, size, "model-" finds)
     row("pthread_rwlock, " threads(size), "rwlock-" finds, size, "model-" finds)
+    rust_rows(finds, size)
 }
 
 function put_rows() {
     row("this domain", "srcubench-put", 1, "model-put")
     row("C11 model of it", "model-put", 1, "model-put")
     row("pthread_rwlock, no grace period", "rwlock-put", 1, "model-put")
+    row("arc-swap store", "arc-swap-put", 1, "model-put")
+    row("crossbeam-epoch swap", "epoch-put", 1, "model-put")
 }
 
 function chain_rows(blocks, size,    calls) {
@@ -149,6 +161,7 @@ function lookup_rows(size) {
     row("this domain, by a lease, " threads(size), "srcubench-lease", size, "model-lookup")
     row("C11 model of it, " threads(size), "model-lookup", size, "model-lookup")
     row("pthread_rwlock, " threads(size), "rwlock-lookup", size, "model-lookup")
+    rust_rows("lookup", size)
 }
 
 function install_rows() {
