@@ -2,7 +2,7 @@
 ghost use Rattle.std.specs.Prelude.{◌≡◌, IfOk};
 ghost use Rattle.driver.specs.Pools.{IsIdle};
 
-use super::sharing::look_for;
+use super::sharing::{LOOKS, look_for};
 use super::{made, sign_of};
 use domain::{Cpu, Domain, Index, MakeError, Pair};
 use driver::{Listener, Report, Stall, Stop, Tallied, Tally, serve_with};
@@ -17,6 +17,9 @@ use std::time::{Clock, Duration};
 /// After how many milliseconds a grace period that waits is reported, in the test where one waits for longer.
 const AFTER: u64 = 5;
 
+/// For how many milliseconds the section sleeps, behind the reports that are waited for.
+const ASLEEP: u64 = 30;
+
 /// What the threads tell each other.
 #[derive(Drop)]
 struct Signs {
@@ -26,26 +29,43 @@ struct Signs {
     reports: AtomicU64,
     /// Of these, how many had one open section, on processor 0 with index 0.
     named: AtomicU64,
+    /// What the driver has come to.
+    tally: Tally,
 }
 
-/// Sleeps in a section, and then tells the driver to stop.
+/// Looks until a driver's tally has a grace period, which it adds while it runs. Answers whether it came to that.
+fn look_for_period<R: Clock>(rt: &R, tally: &Tally) -> bool {
+    for _ in 0..LOOKS {
+        if tally.read().periods > 0 {
+            return true;
+        }
+        sleep(rt, Duration::from_micros(100));
+    }
+    false
+}
+
+/// Sleeps in a section until there were so many reports, and a while longer. Once the driver has ended a grace period, it is
+/// told to stop. Answers whether it came to all of that.
 fn sleep_in_section<R: Wait + Clock>(
     rt: &R,
     domain: &Domain<u64>,
     mut cpu: Cpu<u64>,
     stop: &Stop<u64>,
     signs: &Signs,
-    length: Duration,
-)
+    reports: u64,
+) -> bool
     requires { stop.now.domain ≡ domain.now }
 {
     let section = cpu.read_lock();
     signs.opened.store(1, SeqCst);
-    sleep(rt, length);
+    let heard = look_for(rt, &signs.reports, reports);
+    sleep(rt, Duration::from_millis(ASLEEP));
     if let Ok(section) = section {
         cpu.read_unlock(section);
     }
+    let ended = look_for_period(rt, &signs.tally);
     stop.give_alone(rt, domain);
+    heard && ended
 }
 
 /// Notes what a report says.
@@ -99,10 +119,9 @@ fn drive_with_report<R: Wait + Clock + AllocGlobal>(
     requires watcher { IsIdle domain.now watcher }
     requires stop { stop.now.domain ≡ domain.now }
 {
-    let tally = Tally::new();
     let mut report = Report {
         clock: rt,
-        tally: &tally,
+        tally: &signs.tally,
         alloc: rt.alloc(),
         cpu: watcher,
         after,
@@ -112,7 +131,7 @@ fn drive_with_report<R: Wait + Clock + AllocGlobal>(
     let opened = look_for(rt, &signs.opened, 1);
     domain.start_poll(&mut cpu);
     let served = serve_with(rt, domain, &mut cpu, stop, |_job: u64| {}, &mut report);
-    (opened && served.is_ok(), tally.read())
+    (opened && served.is_ok(), signs.tally.read())
 }
 
 /// A new domain and its three processors.
@@ -126,12 +145,13 @@ fn three(alloc: Global) -> Result<(Domain<u64>, Cpu<u64>, Cpu<u64>, Cpu<u64>), M
     Ok((domain, first, second, third))
 }
 
-/// What a driver told and tallied, beside a section that sleeps for 30 milliseconds.
+/// What a driver told and tallied, beside a section that sleeps until there were so many reports.
 type Told = (bool, Tallied, u64, u64);
 
 fn drive_beside_a_section<R: Wait + Clock + Threads + AllocGlobal + Sync>(
     rt: &R,
     after: Duration,
+    reports: u64,
 ) -> Result<Told, MakeError> {
     let (domain, reader, driver, watcher) = three(rt.alloc())?;
     let stop = sign_of(rt, &domain)?;
@@ -139,30 +159,25 @@ fn drive_beside_a_section<R: Wait + Clock + Threads + AllocGlobal + Sync>(
         opened: AtomicU64::new(0),
         reports: AtomicU64::new(0),
         named: AtomicU64::new(0),
+        tally: Tally::new(),
     };
-    let ((ended, tallied), ()) = join(
+    let ((ended, tallied), seen) = join(
         rt,
         || drive_with_report(rt, &domain, driver, watcher, &stop, &signs, after),
-        || sleep_in_section(
-            rt,
-            &domain,
-            reader,
-            &stop,
-            &signs,
-            Duration::from_millis(30),
-        ),
+        || sleep_in_section(rt, &domain, reader, &stop, &signs, reports),
     );
-    let reports = signs.reports.load(SeqCst);
-    Ok((ended, tallied, reports, signs.named.load(SeqCst)))
+    let heard = signs.reports.load(SeqCst);
+    Ok((ended && seen, tallied, heard, signs.named.load(SeqCst)))
 }
 
 /// Would catch a report that never comes, comes in each round, or names another processor or index; and a tally that isn't
-/// kept.
+/// kept while the driver runs.
 #[test]
 fn reports_a_section_that_sleeps_once(rt: HostRuntime) -> Result<(), Fail> {
     let (ended, tallied, reports, named) = drive_beside_a_section(
         &rt,
         Duration::from_millis(AFTER),
+        1,
     )?;
     assert_eq!(rt; (ended, reports, named), (true, 1, 1));
     assert_eq!(rt; (tallied.periods, tallied.jobs, tallied.batches), (1, 0, 0));
@@ -173,7 +188,11 @@ fn reports_a_section_that_sleeps_once(rt: HostRuntime) -> Result<(), Fail> {
 /// Would catch a report before its time.
 #[test]
 fn reports_none_before_its_time(rt: HostRuntime) -> Result<(), Fail> {
-    let (ended, tallied, reports, named) = drive_beside_a_section(&rt, Duration::from_secs(100))?;
+    let (ended, tallied, reports, named) = drive_beside_a_section(
+        &rt,
+        Duration::from_secs(100),
+        0,
+    )?;
     assert_eq!(rt; (ended, reports, named), (true, 0, 0));
     assert_eq!(rt; (tallied.periods, tallied.jobs, tallied.batches), (1, 0, 0));
     Ok(())

@@ -19,7 +19,7 @@ const THREADS: usize = 8;
 const ROUNDS: u64 = 1_000;
 
 /// How often a thread looks for the others, with a sleep of a tenth of a millisecond behind each look.
-const LOOKS: u32 = 200_000;
+pub(super) const LOOKS: u32 = 200_000;
 
 /// What the threads tell each other.
 #[derive(Drop)]
