@@ -17,7 +17,7 @@ use std::time::{Clock, Duration};
 /// After how many milliseconds a grace period that waits is reported, in the test where one waits for longer.
 const AFTER: u64 = 5;
 
-/// For how many milliseconds the section sleeps, behind the reports that are waited for.
+/// For how many milliseconds the section sleeps after the reports that are waited for.
 const ASLEEP: u64 = 30;
 
 /// What the threads tell each other.
