@@ -6,5 +6,6 @@ mod driving;
 mod jobs;
 mod sets;
 mod threads;
+mod turns;
 mod versions;
 mod watching;

@@ -1,0 +1,5 @@
+mod Company
+mod Scanning
+mod Counting
+mod Turns
+mod Counts
