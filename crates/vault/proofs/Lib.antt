@@ -1,0 +1,5 @@
+pub mod CallerLemmas
+pub mod Calls
+pub mod Dealing
+pub mod Places
+pub mod Steps
