@@ -1,0 +1,8 @@
+-- The work is run on the processor of this worker.
+use Rattle.srcu.proofs.worker.reading.Worker+J.read.Goals as goal
+
+pub read-requires-clause-keeps : goal.read-requires-clause-keeps
+read-requires-clause-keeps g c = rw (← c.self.view_is) at c.requires.keeps
+
+pub returns-clause-reads : goal.returns-clause-reads
+returns-clause-reads g c = rw (← c.self.view_is) c.read.ensures.reads

@@ -1,0 +1,16 @@
+pub use Rattle.domain.specs.Views
+pub use Rattle.domain.specs.Turns
+pub use Rattle.domain.specs.Waiting
+pub use Rattle.domain.specs.Calling
+pub use Rattle.domain.specs.Barriers
+pub use Rattle.domain.specs.Cleanup
+pub use Rattle.domain.specs.Acting
+pub use Rattle.driver.specs.Pools
+pub use Rattle.driver.specs.Serving
+pub use Rattle.driver.specs.Signs
+pub use Rattle.driver.specs.Works
+pub mod Words
+pub mod Workers
+pub mod Insides
+pub mod Teams
+pub mod TeamInsides

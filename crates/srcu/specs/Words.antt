@@ -1,0 +1,24 @@
+-- The words that a user's clauses cite, in one file.
+
+-- a domain, its processors and cells, and a processor on which no reading is open
+pub use Rattle.domain.specs.Views.{DomainView, CpuView, IsOf}
+pub use Rattle.domain.specs.Waiting.{HasNoneOpen}
+pub use Rattle.driver.specs.Pools.{IsIdle, IsOut}
+pub use Rattle.srcu.specs.Workers.{WorkerView, IsSameWorker, IsCellOf, IsWriterOf, AreWritersOf}
+pub use Rattle.srcu.specs.Teams.{TeamView}
+-- waiting
+pub use Rattle.domain.specs.Waiting.{Synchronizes, WaitsInVain, WaitedFor, StartsPoll}
+pub use Rattle.sections.specs.Calls.{AllClosed}
+-- callbacks
+pub use Rattle.domain.specs.Calling.{CallsIn, RefusesCall}
+pub use Rattle.domain.specs.Barriers.{IsTicketOf}
+-- drivers
+pub use Rattle.driver.specs.Serving.{Works, EndsInVain, IsStopped, AllFinished}
+pub use Rattle.driver.specs.Signs.{Gives, IsServed}
+-- versions
+pub use Rattle.srcu.specs.Workers.{ReadsOnce}
+pub use Rattle.shelf.specs.Replacing.{Replaces}
+pub use Rattle.plugs.specs.Reading.{LooksUp, Leases, Gets}
+pub use Rattle.plugs.specs.Changes.{Installs, Removes}
+pub use Rattle.notify.specs.Reading.{Calls}
+pub use Rattle.notify.specs.Changes.{Registers, Unregisters}

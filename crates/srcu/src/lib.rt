@@ -1,0 +1,21 @@
+//! One crate to name: a worker, which is a processor with its domain, and all calls that a user needs of the libraries below.
+#![tactic(auto)]
+
+mod making;
+mod team;
+mod worker;
+
+pub use domain::{
+    AdvanceRefusal, Batch, CallRefusal, Cookie, CookieSet, Cpu, Domain, Exhausted, Held, HeldPin,
+    InUse, Limits, MakeError, Memory, PeriodsExhausted, Pin, Progress, Reading, Receipt,
+    TakeRefusal, Ticket, Totals, Writer,
+};
+pub use driver::{GiveRefusal, Lent, Pool, Served, Slip, Stop, Stopped, Told};
+pub use making::{clean_up, make};
+pub use notify::{
+    BAD, Chain, ChainView, DONE, Handler, OK, RegisterRefusal, STOP, STOP_BIT, UnregisterRefusal,
+};
+pub use plugs::{InstallRefusal, Lease, RemoveRefusal, Row, Table, TableView};
+pub use shelf::{NoSlot, Shelf, Values, Versioned};
+pub use team::Team;
+pub use worker::Worker;

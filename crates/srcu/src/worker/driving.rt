@@ -1,0 +1,55 @@
+//! A driver, and the sign that ends it.
+ghost use Rattle.std.specs.Prelude.{◌≡◌, IfErr, IfOk, MatchResult};
+ghost use Rattle.domain.specs.Views.{IsSameProcessor, with_calls};
+ghost use Rattle.driver.specs.GiveRefusals.{IsRefusedBy};
+ghost use Rattle.driver.specs.Serving.{Works, EndsInVain, IsStopped, AllFinished};
+ghost use Rattle.driver.specs.Signs.{Gives, IsServed};
+ghost use Rattle.srcu.specs.Workers.{IsSameWorker};
+
+use super::Worker;
+use domain::PeriodsExhausted;
+use driver::{GiveRefusal, Served, Stop, Stopped, Told};
+use std::alloc::Allocator;
+use std::sync::Wait;
+
+impl<'a, J: Drop, A: Allocator + Copy> Worker<'a, J, A> {
+    /// Drives grace periods and runs each job by `work`, until the sign is given, and then until each job is finished whose
+    /// queueing had been seen by whoever gave it, or by this worker before the call (`srcu_invoke_callbacks`). It returns
+    /// early, with what it did so far, where no more grace periods may start.
+    pub fn serve<R: Wait, F: FnMut(J)>(
+        &mut self,
+        rt: &R,
+        stop: &Stop<J, A>,
+        work: F,
+    ) -> Result<Stopped<J, A>, (Served, PeriodsExhausted)>
+        requires stop { stop.now.domain ≡ self.old.domain }
+        requires work { F.IsAlwaysCallable work }
+        ensures same { IsSameWorker self.old self.new }
+        ensures processor { IsSameProcessor self.old.cpu self.new.cpu }
+        ensures works { MatchResult result
+            (λ stopped. (last : F) × Works (λ p x q. F.step p x tt q) self.old.domain work self.old.cpu stopped.served last self.new.cpu)
+            (λ ended. (last : F) × Works (λ p x q. F.step p x tt q) self.old.domain work self.old.cpu ended.0 last self.new.cpu) }
+        ensures vain { IfErr result (λ ended. (last : F) × EndsInVain (λ p x q. F.step p x tt q) self.old.domain work self.old.cpu ended.0 last self.new.cpu) }
+        ensures told { IfOk result (λ stopped. IsServed stop.now stopped.told self.new.cpu.calls.seen) }
+        ensures stopped { IfOk result (λ _. IsStopped self.old.cpu self.new.cpu) }
+        ensures finished { IfOk result (λ _. AllFinished self.old.domain.processors self.old.cpu self.new.cpu) }
+    {
+        driver::serve(rt, self.domain, &mut self.cpu, stop, work)
+    }
+
+    /// Gives the sign that ends a driver, once each job is finished whose queueing this worker has seen.
+    pub fn tell<R: Wait>(
+        &mut self,
+        rt: &R,
+        stop: &Stop<J, A>,
+    ) -> Result<Told<J, A>, GiveRefusal<J, A>>
+        requires { stop.now.domain ≡ self.old.domain }
+        ensures same { IsSameWorker self.old self.new }
+        ensures rest { self.new.cpu ≡ with_calls self.new.cpu.calls self.old.cpu }
+        ensures gives { MatchResult result
+            (λ told. Gives stop.now self.old.cpu told self.new.cpu)
+            (λ refusal. IsRefusedBy stop.now refusal) }
+    {
+        stop.give(rt, self.domain, &mut self.cpu)
+    }
+}

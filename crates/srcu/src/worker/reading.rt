@@ -1,0 +1,116 @@
+//! Sections, each of which closes itself, and leases.
+ghost use Rattle.std.specs.Prelude.{◌≡◌, ◌≤◌, length, IfOk, MatchResult};
+ghost use Rattle.sections.specs.Calls.{LooksInVain, Unlocks};
+ghost use Rattle.domain.specs.Views.{with_cpu};
+ghost use Rattle.driver.specs.Works as works;
+ghost use Rattle.driver.specs.Works.{MayRead, KeepsReadings, ReadsIn};
+ghost use Rattle.plugs.specs.Reading.{LooksUp, Leases, Gets};
+ghost use Rattle.notify.specs.Calling.{GivesAt};
+ghost use Rattle.notify.specs.Reading as chains;
+ghost use Rattle.srcu.specs.Workers.{IsSameWorker, IsCellOf, ReadsOnce};
+
+use super::Worker;
+use domain::{Cpu, Exhausted, Reading};
+use notify::{ChainView, Handler};
+use plugs::{Lease, TableView, release};
+use shelf::{Values, Versioned};
+use std::alloc::Allocator;
+
+impl<'a, J> Worker<'a, J> {
+    /// Runs the work in a section (`srcu_read_lock`, `srcu_read_unlock`), and returns what it returns. The section ends
+    /// whichever way the work ends. `Exhausted` where none may begin; then the work is not run.
+    pub fn read<T, F: FnOnce(&mut Cpu<J>, &mut Reading) -> T>(
+        &mut self,
+        work: F,
+    ) -> Result<T, Exhausted>
+        requires may { MayRead F.FnOnce work self.old.cpu }
+        requires keeps { KeepsReadings F.FnOnce work self.old.cpu }
+        ensures same { IsSameWorker self.old self.new }
+        ensures reads { MatchResult result
+            (λ answer. ReadsIn F.FnOnce work self.old.cpu answer self.new.cpu)
+            (λ _. works.IsRefused self.old.cpu self.new.cpu) }
+    {
+        driver::read(&mut self.cpu, work)
+    }
+}
+
+impl<'a, J, A: Allocator> Worker<'a, J, A> {
+    /// Reads a value in a section of its own. It is no older than any that the processor has seen.
+    pub fn get<T: Versioned>(&mut self, values: &Values<T>) -> Result<T, Exhausted>
+        requires { IsCellOf self.old.domain values.now }
+        ensures same { IsSameWorker self.old self.new }
+        ensures reads { MatchResult result
+            (λ value. ReadsOnce T.value values.now self.old.cpu value self.new.cpu)
+            (λ _. LooksInVain self.old.cpu.cpu self.new.cpu.cpu) }
+    {
+        let mut reading = self.cpu.read_lock()?;
+        let value = values.read(&mut self.cpu, &mut reading);
+        self.cpu.read_unlock(reading);
+        Ok(value)
+    }
+
+    /// Looks a key up in a table, in a section of its own.
+    pub fn lookup(&mut self, table: &TableView, key: u32) -> Result<Option<u32>, Exhausted>
+        requires { IsCellOf self.old.domain table.now }
+        ensures same { IsSameWorker self.old self.new }
+        ensures looks_up { MatchResult result
+            (λ plug. LooksUp table.now key plug self.old.cpu self.new.cpu)
+            (λ _. LooksInVain self.old.cpu.cpu self.new.cpu.cpu) }
+        ensures rest { self.new.cpu ≡ with_cpu self.new.cpu.cpu self.old.cpu }
+    {
+        table.lookup(&mut self.cpu, key)
+    }
+
+    /// Leases the current version of a table. The lease may go to another thread; [`Worker::release`] ends it there.
+    pub fn lease(&mut self, table: &TableView) -> Result<Lease, Exhausted>
+        requires { IsCellOf self.old.domain table.now }
+        ensures same { IsSameWorker self.old self.new }
+        ensures leases { MatchResult result
+            (λ lease. Leases table.now lease self.old.cpu self.new.cpu)
+            (λ _. LooksInVain self.old.cpu.cpu self.new.cpu.cpu) }
+        ensures here { IfOk result (λ lease. lease.held.domain ≡ self.old.domain.domain) }
+        ensures rest { self.new.cpu ≡ with_cpu self.new.cpu.cpu self.old.cpu }
+    {
+        table.lease(&mut self.cpu)
+    }
+
+    /// The plug of a key in the version that was leased, however old that is.
+    pub fn leased(&mut self, lease: &mut Lease, key: u32) -> Option<u32>
+        requires { lease.old.held.domain ≡ self.old.domain.domain }
+        ensures same { IsSameWorker self.old self.new }
+        ensures gets { Gets lease.old key result self.old.cpu self.new.cpu }
+        ensures lease { lease.new ≡ lease.old }
+        ensures rest { self.new.cpu ≡ with_cpu self.new.cpu.cpu self.old.cpu }
+    {
+        lease.get(&mut self.cpu, key)
+    }
+
+    /// Ends a lease, wherever it began.
+    pub fn release(&mut self, lease: Lease)
+        requires { lease.held.domain ≡ self.old.domain.domain }
+        ensures same { IsSameWorker self.old self.new }
+        ensures ends { Unlocks lease.held self.old.cpu.cpu self.new.cpu.cpu }
+        ensures rest { self.new.cpu ≡ with_cpu self.new.cpu.cpu self.old.cpu }
+    {
+        release(lease, &mut self.cpu);
+    }
+
+    /// Calls the handlers of a chain in one section (`srcu_notifier_call_chain`), up to the first that gives the stop bit.
+    /// Returns the last result, and how many were called. A handler may sleep.
+    pub fn call_chain(
+        &mut self,
+        chain: &ChainView,
+        handlers: &[Box<dyn Handler>],
+        action: u64,
+        value: u64,
+    ) -> Result<(u32, u64), Exhausted>
+        requires cell { IsCellOf self.old.domain chain.now.cell }
+        requires handlers { chain.now.ids ≤ length handlers.now }
+        ensures same { IsSameWorker self.old self.new }
+        ensures calls { MatchResult result
+            (λ r. chains.Calls (GivesAt (λ h x. answers h action value x) handlers.now) chain.now self.old.cpu self.new.cpu r.0 r.1)
+            (λ _. chains.IsRefused self.old.cpu self.new.cpu) }
+    {
+        chain.call_chain(&mut self.cpu, handlers, action, value)
+    }
+}
