@@ -1,6 +1,6 @@
 //! Why a line is faulty: which word it is about, and what should be there.
-use crate::reasons::{push_domains, push_sets, push_use, shown};
-use crate::told::{Standing, Told};
+use crate::reasons::{push_domains, push_names, push_sets, push_use, shown};
+use crate::told::{Standing, Such, Told};
 use lines::{is_name, number};
 use requests::{Argument, Command, Fault, Kind};
 use std::io;
@@ -22,6 +22,11 @@ pub fn why_no_text(out: &mut Vec<u8>, line: &[u8]) -> io::Result<()> {
     let place = at.saturating_add(1);
     match line.get(at) {
         Some(b'\r') if place == line.len() => write!(out, "the line ends with a carriage return"),
+        Some(b'\r') => write!(out, "byte {place} of the line is a carriage return"),
+        Some(0) => write!(out, "byte {place} of the line is a NUL"),
+        Some(0xef) if line.starts_with(b"\xef\xbb\xbf") => {
+            write!(out, "the line begins with a byte order mark")
+        }
         Some(b'\t') => write!(
             out,
             "byte {place} of the line is a tab: words are parted by spaces"
@@ -53,26 +58,34 @@ pub(crate) fn push_fault(
     }
 }
 
-/// How many bytes two words have in common at their beginning.
-fn in_common(word: &[u8], other: &[u8]) -> usize {
-    let mut count = 0usize;
-    for (byte, another) in word.iter().zip(other) {
-        if byte != another {
-            break;
-        }
-        count = count.saturating_add(1);
-    }
-    count
+/// Whether two bytes differ. Capitals count as small letters.
+fn differ(byte: &u8, other: &u8) -> bool {
+    !byte.eq_ignore_ascii_case(other)
 }
 
-/// The command that begins most like the word, if three bytes of it do.
+/// How many bytes of the longer word are neither in the beginning nor in the end that both have.
+fn distance(word: &[u8], other: &[u8]) -> usize {
+    let shorter = word.len().min(other.len());
+    let mut first = word.iter().zip(other.iter());
+    let begins = first
+        .position(|(one, another)| differ(one, another))
+        .unwrap_or(shorter);
+    let mut last = word.iter().rev().zip(other.iter().rev());
+    let ends = last
+        .position(|(one, another)| differ(one, another))
+        .unwrap_or(shorter);
+    let same = begins.saturating_add(ends).min(shorter);
+    word.len().max(other.len()).saturating_sub(same)
+}
+
+/// The command that is most like the word, if at most two bytes differ, and two are the same.
 fn nearest(word: &[u8]) -> Option<Command> {
-    let mut most = 2;
+    let mut least = 3;
     let mut found = None;
     for command in Command::ALL {
-        let count = in_common(word, command.row().word.as_bytes());
-        if count > most {
-            (most, found) = (count, Some(command));
+        let away = distance(word, command.row().word.as_bytes());
+        if away < least && away.saturating_add(2) <= word.len() {
+            (least, found) = (away, Some(command));
         }
     }
     found
@@ -100,34 +113,52 @@ fn push_words(out: &mut Vec<u8>, command: Command, count: usize) -> io::Result<(
         );
     }
     let takes = command.takes().len();
+    let words = match (command.takes_pairs(), takes) {
+        (true, _) => "words or more",
+        (false, 1) => "word",
+        (false, _) => "words",
+    };
     write!(
         out,
-        "`{command}` takes {takes} words, as `{form}`: here are {count}"
+        "`{command}` takes {takes} {words}, as `{form}`: {count} here"
     )
 }
 
-/// Whether the word is a pair of an id and an answer.
-fn is_pair(word: &[u8]) -> bool {
+/// The ID of a pair, if the word is one: an ID, a colon and an answer.
+fn id_of(word: &[u8]) -> Option<u64> {
     let mut parts = word.split(|byte| *byte == b':');
     let (Some(id), Some(answer), None) = (parts.next(), parts.next(), parts.next()) else {
-        return false;
+        return None;
     };
-    let is_id = number(id).is_some_and(|id| id < 16);
-    is_id && matches!(answer, b"done" | b"ok" | b"stop" | b"bad")
+    let id = number(id).filter(|id| *id < 16)?;
+    matches!(answer, b"done" | b"ok" | b"stop" | b"bad").then_some(id)
 }
 
-/// A word of `notify` that is no pair, or the second of an id.
+/// Whether one of the words is a pair of this ID.
+fn has_id(words: &[&[u8]], id: u64) -> bool {
+    words.iter().any(|word| id_of(word) == Some(id))
+}
+
+/// The first word of `notify` that is no pair, or the second of an ID.
 fn push_pair(out: &mut Vec<u8>, behind: &[&[u8]]) -> io::Result<()> {
-    for word in behind.iter().skip(2) {
-        if !is_pair(word) {
-            let word = shown(word);
-            return write!(
-                out,
-                "`{word}` is no pair: it is ID:WORD, an ID 0 to 15, and done, ok, stop or bad"
-            );
+    let pairs = behind.get(2..).unwrap_or(&[]);
+    for (at, word) in pairs.iter().enumerate() {
+        let before = pairs.get(..at).unwrap_or(&[]);
+        let word = shown(word);
+        match id_of(word.as_bytes()) {
+            None => {
+                return write!(
+                    out,
+                    "`{word}` is no pair: a pair is ID:WORD, an ID 0 to 15, and done, ok, stop or bad"
+                );
+            }
+            Some(id) if has_id(before, id) => {
+                return write!(out, "`{word}` is the second pair of the ID {id}");
+            }
+            Some(_) => {}
         }
     }
-    write!(out, "two pairs have the same ID")
+    Ok(())
 }
 
 /// What the word at this place after the command should be.
@@ -160,10 +191,28 @@ fn push_first_wrong(
     for (at, word) in behind.iter().enumerate() {
         let before = out.len();
         let domain = domain_before(told, command, behind, at);
-        push_wrong(out, told, domain, argument_at(command, at), word)?;
+        let argument = argument_at(command, at);
+        push_wrong(out, told, domain, command, argument, word)?;
         if out.len() != before {
-            return Ok(());
+            return push_form(out, command, argument, word);
         }
+    }
+    Ok(())
+}
+
+/// Puts the form of the command where a number is wanted, and the word is none.
+fn push_form(
+    out: &mut Vec<u8>,
+    command: Command,
+    argument: Argument,
+    word: &[u8],
+) -> io::Result<()> {
+    let is_number = matches!(
+        argument,
+        Argument::AnyNumber | Argument::AProcessor | Argument::AnId | Argument::AKey
+    );
+    if is_number && !word.iter().all(|byte| byte.is_ascii_digit()) {
+        return write!(out, ", as in `{}`", command.row().form);
     }
     Ok(())
 }
@@ -173,11 +222,12 @@ fn push_wrong(
     out: &mut Vec<u8>,
     told: &Told,
     domain: Option<Standing>,
+    command: Command,
     argument: Argument,
     word: &[u8],
 ) -> io::Result<()> {
     match argument {
-        Argument::AnyNumber => push_number(out, word, 0, "a number below 2^64"),
+        Argument::AnyNumber => push_number(out, word, 0, any_number(command)),
         Argument::AnId => push_number(out, word, 16, "an ID, 0 to 15"),
         Argument::AKey | Argument::APlug => push_number(out, word, 1 << 32, "a number below 2^32"),
         Argument::APriority => push_priority(out, word),
@@ -195,13 +245,22 @@ fn push_wrong(
     }
 }
 
+/// What the number of this command is.
+fn any_number(command: Command) -> &'static str {
+    match command {
+        Command::Domain => "a number of processors, 1 to 256",
+        _ => "the number of a cookie, below 2^64",
+    }
+}
+
 /// A number that is none, or is not below this, unless that is 0.
 fn push_number(out: &mut Vec<u8>, word: &[u8], below: u64, wanted: &str) -> io::Result<()> {
     if number(word).is_some_and(|number| below == 0 || number < below) {
         return Ok(());
     }
     let word = shown(word);
-    if word.len() > 1 && word.starts_with('0') {
+    let is_digits = word.as_bytes().iter().all(|byte| byte.is_ascii_digit());
+    if word.len() > 1 && word.starts_with('0') && is_digits {
         return write!(out, "`{word}` begins with 0: here stands {wanted}");
     }
     write!(out, "`{word}` isn't {wanted}")
@@ -218,7 +277,7 @@ fn push_priority(out: &mut Vec<u8>, word: &[u8]) -> io::Result<()> {
     }
     write!(
         out,
-        "`{}` isn't a priority, a number of 32 bits with its sign",
+        "`{}` isn't a priority: -2147483648 to 2147483647, without `+`, `-0` or a 0 in front",
         shown(word)
     )
 }
@@ -251,7 +310,7 @@ fn push_processor(out: &mut Vec<u8>, domain: Option<Standing>, word: &[u8]) -> i
 fn push_no_name(out: &mut Vec<u8>, word: &[u8]) -> io::Result<()> {
     write!(
         out,
-        "`{}` is no name: it has 1 to 16 characters of a to z and 0 to 9",
+        "`{}` is no name: a name has 1 to 16 characters of a to z and 0 to 9",
         shown(word)
     )
 }
@@ -260,7 +319,7 @@ fn push_no_name(out: &mut Vec<u8>, word: &[u8]) -> io::Result<()> {
 fn push_taken_domain(out: &mut Vec<u8>, told: &Told, word: &[u8]) -> io::Result<()> {
     match told.domain_of(word) {
         Some(Standing { name, home, .. }) => {
-            write!(out, "{name} is a domain since line {}", home.made)
+            write!(out, "{name} is in use: a domain since line {}", home.made)
         }
         None => Ok(()),
     }
@@ -270,6 +329,9 @@ fn push_taken_domain(out: &mut Vec<u8>, told: &Told, word: &[u8]) -> io::Result<
 fn push_no_domain(out: &mut Vec<u8>, told: &Told, word: &[u8]) -> io::Result<()> {
     if told.domain_of(word).is_some() {
         return Ok(());
+    }
+    if let Some(line) = told.gone(word) {
+        return write!(out, "line {line} took the domain {} down", shown(word));
     }
     write!(out, "`{}` is no domain: ", shown(word))?;
     if told.domains.is_empty() {
@@ -286,7 +348,7 @@ fn push_no_domain(out: &mut Vec<u8>, told: &Told, word: &[u8]) -> io::Result<()>
 /// A new set under the name of one that is there.
 fn push_taken_set(out: &mut Vec<u8>, told: &Told, word: &[u8]) -> io::Result<()> {
     match told.set_of(word) {
-        Some(set) => write!(out, "{} is a set since line {}", set.name, set.made),
+        Some(set) => write!(out, "{} is in use: a set since line {}", set.name, set.made),
         None => Ok(()),
     }
 }
@@ -296,15 +358,19 @@ fn push_no_set(out: &mut Vec<u8>, told: &Told, word: &[u8]) -> io::Result<()> {
     if told.set_of(word).is_some() {
         return Ok(());
     }
+    if let Some(line) = told.gone_set(word) {
+        let word = shown(word);
+        return write!(
+            out,
+            "line {line} took a domain of the set {word} down, and {word} with it"
+        );
+    }
+    let count = told.set_count();
     write!(out, "`{}` is no set", shown(word))?;
-    if told.sets.is_empty() {
+    if count == 0 {
         return write!(out, ": there is none");
     }
-    write!(
-        out,
-        ": there {}",
-        if told.sets.len() == 1 { "is" } else { "are" }
-    )?;
+    write!(out, ": there {}", if count == 1 { "is" } else { "are" })?;
     push_sets(out, told)
 }
 
@@ -323,59 +389,66 @@ fn push_name(
     };
     match found {
         _ if is_well => Ok(()),
-        Some(found) => push_use(out, word, domain, found),
-        None => push_unknown(out, told, domain, word),
+        Some(found) => {
+            if argument == Argument::NewName {
+                write!(out, "the name is in use: ")?;
+            }
+            push_use(out, word, domain, found)?;
+            push_instead(out, argument)
+        }
+        None => push_unknown(out, told, domain, argument, word),
+    }
+}
+
+/// Puts what should stand there, where that isn't a section.
+fn push_instead(out: &mut Vec<u8>, argument: Argument) -> io::Result<()> {
+    match argument {
+        Argument::ALook => write!(out, ". Here stands a look"),
+        Argument::ATicket => write!(out, ". Here stands a ticket"),
+        Argument::ALease => write!(out, ". Here stands a lease"),
+        _ => Ok(()),
     }
 }
 
 /// Whether a name of this kind may stand there.
 fn wants(argument: Argument, kind: Kind) -> bool {
+    wanted(argument).is_some_and(|(wanted, _)| wanted == kind)
+}
+
+/// What may stand there, with a word for several of it.
+fn wanted(argument: Argument) -> Option<(Kind, &'static str)> {
     match argument {
-        Argument::ALook => kind == Kind::Look,
-        Argument::AReading => kind == Kind::Reading,
-        Argument::AHeld => kind == Kind::Held,
-        Argument::ATicket => kind == Kind::Ticket,
-        Argument::ALease => kind == Kind::Lease,
-        _ => false,
+        Argument::ALook => Some((Kind::Look, "looks")),
+        Argument::AReading => Some((Kind::Reading, "sections")),
+        Argument::AHeld => Some((Kind::Held, "held sections")),
+        Argument::ATicket => Some((Kind::Ticket, "tickets")),
+        Argument::ALease => Some((Kind::Lease, "leases")),
+        _ => None,
     }
 }
 
 /// A name that nothing has.
-fn push_unknown(out: &mut Vec<u8>, told: &Told, domain: Standing, word: &[u8]) -> io::Result<()> {
+fn push_unknown(
+    out: &mut Vec<u8>,
+    told: &Told,
+    domain: Standing,
+    argument: Argument,
+    word: &[u8],
+) -> io::Result<()> {
     let name = domain.name;
     write!(out, "{name} has nothing of the name `{}`", shown(word))?;
-    let open = told.open_in(domain.home, None);
-    let mut names = open.iter().flatten();
-    match (names.next(), names.next(), names.next()) {
-        (Some(a), Some(b), Some(_)) => write!(out, ": {}, {} and others are open", a.name, b.name),
-        (Some(a), Some(b), None) => write!(out, ": {} and {} are open", a.name, b.name),
-        (Some(a), None, _) => write!(out, ": {} is open", a.name),
-        _ => Ok(()),
+    if let Some(line) = told.freed_in(domain.home, word) {
+        return write!(out, ": line {line} freed it");
     }
-}
-
-#[cfg(test)]
-mod tests {
-    use super::*;
-    use std::test::Fail;
-
-    #[test]
-    fn lines_that_are_no_text(rt: HostRuntime) -> Result<(), Fail> {
-        let long = [b'a'; 201];
-        let rows: [(&[u8], &str); 4] = [
-            (b"state a\r", "the line ends with a carriage return"),
-            (
-                b"\tstate a",
-                "byte 1 of the line is a tab: words are parted by spaces",
-            ),
-            (b"state \xc3", "byte 7 of the line is no printable ASCII"),
-            (&long, "the line has 201 bytes: it may have 200"),
-        ];
-        for (line, sentence) in rows {
-            let mut out = Vec::new(rt.alloc());
-            why_no_text(&mut out, line)?;
-            assert_eq!(rt; out.as_slice(), sentence.as_bytes());
+    let Some((kind, several)) = wanted(argument) else {
+        return Ok(());
+    };
+    let found = told.first_of(domain.home, Such::OfKind(kind));
+    match found {
+        [None, _, _] => write!(out, ". It has no {several}"),
+        _ => {
+            write!(out, ". Its {several}:")?;
+            push_names(out, &found)
         }
-        Ok(())
     }
 }

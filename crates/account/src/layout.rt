@@ -1,4 +1,7 @@
 //! Which tracks a picture of a run has, from left to right, and where each section goes.
+ghost use Rattle.std.specs.Prelude.{◌≡◌, length, IfOk};
+ghost use Rattle.account.specs.Spans.{spans_of};
+
 use crate::deed::{Deed, Row};
 use crate::job::{Job, jobs};
 use crate::period::{Period, periods};
@@ -78,7 +81,9 @@ fn lane_for(lanes: &mut Vec<Lane>, span: &Span) -> Result<u64, AllocError> {
 }
 
 /// The track of each section.
-fn lanes_of(alloc: Global, spans: &[Span]) -> Result<Vec<Track>, AllocError> {
+fn lanes_of(alloc: Global, spans: &[Span]) -> Result<Vec<Track>, AllocError>
+    ensures { IfOk result (λ v. length v.items ≡ length spans.now) }
+{
     let mut lanes = Vec::new(alloc);
     let mut all = Vec::new(alloc);
     for span in spans {
@@ -93,9 +98,9 @@ fn lanes_of(alloc: Global, spans: &[Span]) -> Result<Vec<Track>, AllocError> {
     Ok(all)
 }
 
-/// Adds a track, unless it is there.
+/// Adds a track, unless it is the last.
 fn add(tracks: &mut Vec<Track>, track: Track) -> Result<(), AllocError> {
-    if !tracks.contains(&track) {
+    if tracks.last() != Some(&track) {
         tracks.push(track)?;
     }
     Ok(())
@@ -134,6 +139,15 @@ fn add_of(tracks: &mut Vec<Track>, row: &Row) -> Result<(), AllocError> {
     Ok(())
 }
 
+/// The tracks of a sorted list, each once.
+fn each_once(alloc: Global, sorted: &[Track]) -> Result<Vec<Track>, AllocError> {
+    let mut all = Vec::new(alloc);
+    for track in sorted {
+        add(&mut all, *track)?;
+    }
+    Ok(all)
+}
+
 /// All tracks, from left to right.
 fn tracks_of(alloc: Global, told: &Told, lanes: &[Track]) -> Result<Vec<Track>, AllocError> {
     let mut all = Vec::new(alloc);
@@ -141,7 +155,7 @@ fn tracks_of(alloc: Global, told: &Told, lanes: &[Track]) -> Result<Vec<Track>, 
         add(
             &mut all,
             Track {
-                band: life.standing.home.band,
+                band: life.home.band,
                 processor: None,
                 role: Role::Periods,
                 place: 0,
@@ -155,11 +169,14 @@ fn tracks_of(alloc: Global, told: &Told, lanes: &[Track]) -> Result<Vec<Track>, 
         add(&mut all, *lane)?;
     }
     all.sort()?;
-    Ok(all)
+    each_once(alloc, &all)
 }
 
 /// What a picture of these lines shows.
-pub fn lay_out(alloc: Global, told: &Told) -> Result<Layout, AllocError> {
+pub fn lay_out(alloc: Global, told: &Told) -> Result<Layout, AllocError>
+    ensures spans { IfOk result (λ l. l.spans.items ≡ spans_of told.now.rows.items) }
+    ensures lanes { IfOk result (λ l. length l.lanes.items ≡ length l.spans.items) }
+{
     let spans = spans(alloc, &told.rows)?;
     let lanes = lanes_of(alloc, &spans)?;
     let tracks = tracks_of(alloc, told, &lanes)?;

@@ -15,15 +15,16 @@ pub struct Period {
     pub ended: Option<u64>,
 }
 
-/// Changes the grace period of the domain that runs.
+/// Changes the grace period of the domain that runs, which is its last.
 fn change(periods: &mut [Period], home: Home, line: u64, is_end: bool) {
-    for period in periods.iter_mut() {
-        if period.home == home && period.ended.is_none() {
+    for period in periods.iter_mut().rev() {
+        if period.home == home {
             if is_end {
                 period.ended = Some(line);
             } else {
                 period.flipped = Some(line);
             }
+            break;
         }
     }
 }

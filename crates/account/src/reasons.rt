@@ -1,4 +1,5 @@
 //! Parts of sentences.
+use crate::names::Known;
 use crate::told::{Standing, Told, Use};
 use lines::Name;
 use requests::Kind;
@@ -25,7 +26,8 @@ pub fn push_domains(out: &mut Vec<u8>, told: &Told) -> io::Result<()> {
 
 /// Puts the names of all sets.
 pub fn push_sets(out: &mut Vec<u8>, told: &Told) -> io::Result<()> {
-    for (at, set) in told.sets.iter().enumerate() {
+    let there = told.sets.iter().filter(|set| set.gone.is_none());
+    for (at, set) in there.enumerate() {
         push_name_at(out, at, &set.name)?;
     }
     Ok(())
@@ -60,5 +62,27 @@ pub fn push_use(out: &mut Vec<u8>, word: &[u8], domain: Standing, found: Use) ->
             out,
             "{word} is a lease since line {since}: `release {home} P {word}` ends it"
         ),
+    }
+}
+
+/// Puts the first two of these names, and that there are more where there is a third.
+pub fn push_names(out: &mut Vec<u8>, names: &[Option<Known>; 3]) -> io::Result<()> {
+    let [first, second, third] = names;
+    for (at, known) in [first, second].iter().enumerate() {
+        if let Some(known) = known {
+            push_name_at(out, at, &known.name)?;
+        }
+    }
+    write!(out, "{}", if third.is_some() { " and more" } else { "" })
+}
+
+/// Puts how an open section is closed.
+pub fn push_closing(out: &mut Vec<u8>, domain: Standing, known: &Known) -> io::Result<()> {
+    let (name, home) = (known.name, domain.name);
+    match known.kind {
+        _ if known.parked.is_some() => write!(out, "on the desk, `unpark {home}`"),
+        Kind::Held => write!(out, "`up {home} P {name}`"),
+        Kind::Lease => write!(out, "`release {home} P {name}`"),
+        _ => write!(out, "`unlock {home} {name}`"),
     }
 }

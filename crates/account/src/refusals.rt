@@ -1,8 +1,7 @@
 //! Why a line is refused, and what has to come first.
-use crate::reasons::{push_domains, push_name_at, push_sets};
-use crate::told::{Standing, Told};
+use crate::reasons::{push_closing, push_domains, push_name_at, push_sets};
+use crate::told::{Standing, Such, Told};
 use requests::{Cause, Command};
-use scan::Progress;
 use std::io;
 use std::io::Write;
 
@@ -67,32 +66,60 @@ fn push_of_domain(
         ),
         Cause::Processors => write!(out, "a domain has 1 to 256 processors"),
         Cause::Memory => write!(out, "there was no memory for it"),
-        Cause::Exhausted => push_exhausted(out, command),
+        Cause::Exhausted => push_exhausted(out, words, command),
         Cause::Running => push_running(out, told, domain),
         Cause::Busy => write!(out, "another call has the engine of {name}"),
-        Cause::NotACookie => write!(out, "a cookie is 1 or a multiple of 4"),
-        Cause::Invoking => write!(
+        Cause::NotACookie => write!(
             out,
-            "a batch of this processor is out: `finish {name} P` runs its jobs"
+            "{} is no cookie: a cookie is 1 or a multiple of 4",
+            word_at(words, 3)
         ),
-        Cause::NoBatch => write!(
-            out,
-            "no batch of this processor is out: `batch {name} P` takes one"
-        ),
-        Cause::Sections(_) => push_open(out, told, domain),
+        Cause::Invoking | Cause::NoBatch => push_batch(out, domain, words, cause),
+        Cause::Sections(count) => push_open(out, told, domain, count),
         Cause::Period => push_running(out, told, domain),
-        Cause::Callbacks(count) => {
-            write!(
-                out,
-                "jobs that haven't run: {count}. `advance {name} P` ends their period, `run {name} P` runs them"
-            )
-        }
+        Cause::Callbacks(count) => push_callbacks(out, told, domain, count),
         Cause::There => write!(out, "handler {} is on the chain", word_at(words, 3)),
         Cause::NotThere if command == Command::Remove => {
             write!(out, "key {} has no plug", word_at(words, 3))
         }
         Cause::NotThere => write!(out, "handler {} isn't on the chain", word_at(words, 3)),
         Cause::NoSlot => push_no_slot(out, told, domain, command),
+    }
+}
+
+/// A batch of the processor is out, or none is.
+fn push_batch(
+    out: &mut Vec<u8>,
+    domain: Standing,
+    words: &[&[u8]],
+    cause: Cause,
+) -> io::Result<()> {
+    let (name, processor) = (domain.name, word_at(words, 2));
+    match cause {
+        Cause::Invoking => write!(
+            out,
+            "a batch of processor {processor} is out: `finish {name} {processor}` runs its jobs"
+        ),
+        _ => write!(
+            out,
+            "no batch of processor {processor} is out: `batch {name} {processor}` takes one"
+        ),
+    }
+}
+
+/// Jobs haven't run.
+fn push_callbacks(out: &mut Vec<u8>, told: &Told, domain: Standing, count: u128) -> io::Result<()> {
+    let name = domain.name;
+    write!(out, "jobs that haven't run: {count}. ")?;
+    match told.batch_in(domain.home) {
+        Some(processor) => write!(
+            out,
+            "A batch is out: `finish {name} {processor}` runs its jobs"
+        ),
+        None => write!(
+            out,
+            "`advance {name} P` ends their period, `run {name} P` runs them"
+        ),
     }
 }
 
@@ -110,15 +137,20 @@ fn push_full(out: &mut Vec<u8>, told: &Told, domain: Standing, command: Command)
         Command::Park => {
             write!(
                 out,
-                "a section lies on the desk of {name}: `unpark {name}` takes it"
-            )
+                "a section lies on the desk of {name}: `unpark {name}` takes "
+            )?;
+            match told.parked_in(domain.home) {
+                Some(known) => write!(out, "{}", known.name),
+                None => write!(out, "it"),
+            }
         }
         Command::Register => write!(out, "15 handlers are on the chain, which is the most"),
         _ => write!(out, "15 other keys have a plug, which is the most"),
     }
 }
 
-fn push_exhausted(out: &mut Vec<u8>, command: Command) -> io::Result<()> {
+/// As many were begun as may be.
+fn push_exhausted(out: &mut Vec<u8>, words: &[&[u8]], command: Command) -> io::Result<()> {
     match command {
         Command::Start | Command::Advance | Command::Step => {
             write!(
@@ -130,16 +162,22 @@ fn push_exhausted(out: &mut Vec<u8>, command: Command) -> io::Result<()> {
             out,
             "2^54 jobs were queued on this processor, which is the most"
         ),
-        _ => write!(
-            out,
-            "this processor has begun as many sections of the index as may be: `--sections` says how many"
-        ),
+        _ => {
+            write!(
+                out,
+                "this processor has begun as many sections of the index as may be: `--sections` says how many"
+            )?;
+            if command == Command::Enter {
+                write!(out, ". The look {} is used up", word_at(words, 3))?;
+            }
+            Ok(())
+        }
     }
 }
 
 /// A grace period runs.
 fn push_running(out: &mut Vec<u8>, told: &Told, domain: Standing) -> io::Result<()> {
-    match told.running(domain.home) {
+    match domain.course.running {
         Some(line) => write!(out, "the grace period of line {line} runs")?,
         None => write!(out, "a grace period runs")?,
     }
@@ -149,8 +187,8 @@ fn push_running(out: &mut Vec<u8>, told: &Told, domain: Standing) -> io::Result<
 /// What the grace period that runs waits for.
 fn push_waits(out: &mut Vec<u8>, told: &Told, domain: Standing) -> io::Result<()> {
     let name = domain.name;
-    if let Some((Progress::Waiting(index), _)) = told.last_of(domain.home)
-        && let [Some(section), more, _] = told.open_in(domain.home, Some(index))
+    if let Some(index) = domain.course.waits_for
+        && let [Some(section), more, _] = told.first_of(domain.home, Such::OpenOf(index))
     {
         write!(
             out,
@@ -162,16 +200,23 @@ fn push_waits(out: &mut Vec<u8>, told: &Told, domain: Standing) -> io::Result<()
     write!(out, ": `advance {name} P` goes on with it")
 }
 
-/// Sections are open.
-fn push_open(out: &mut Vec<u8>, told: &Told, domain: Standing) -> io::Result<()> {
+/// So many sections are open.
+fn push_open(out: &mut Vec<u8>, told: &Told, domain: Standing, count: u64) -> io::Result<()> {
     write!(out, "open in {}:", domain.name)?;
-    let open = told.open_in(domain.home, None);
-    for (at, section) in open.iter().enumerate() {
-        if let Some(section) = section {
-            push_name_at(out, at, &section.name)?;
+    let open = told.first_of(domain.home, Such::Open);
+    for (at, known) in open.iter().enumerate() {
+        if let Some(known) = known {
+            push_name_at(out, at, &known.name)?;
+            write!(out, " (")?;
+            push_closing(out, domain, known)?;
+            write!(out, ")")?;
         }
     }
-    Ok(())
+    match count.saturating_sub(3) {
+        0 => Ok(()),
+        1 => write!(out, " and another"),
+        others => write!(out, " and {others} others"),
+    }
 }
 
 /// All slots of the chain or the table are in use.
@@ -187,14 +232,29 @@ fn push_no_slot(
         _ => "table",
     };
     write!(out, "all four slots of the {what} are in use: ")?;
-    match told.running(domain.home) {
-        Some(line) => {
-            write!(out, "the grace period of line {line} runs")?;
-            push_waits(out, told, domain)
-        }
+    match domain.course.running {
+        Some(line) => push_slot_later(out, told, domain, line),
+        None if domain.course.is_exhausted => write!(
+            out,
+            "no grace period may begin any more, as `--periods` says"
+        ),
         None => write!(
             out,
             "one is free after a grace period, which `advance {name} P` starts"
         ),
     }
+}
+
+/// The grace period that started in this line runs, which may free a slot.
+fn push_slot_later(out: &mut Vec<u8>, told: &Told, domain: Standing, line: u64) -> io::Result<()> {
+    let is_before = domain.course.changed.is_some_and(|last| line < last);
+    write!(out, "the grace period of line {line} runs")?;
+    push_waits(out, told, domain)?;
+    if is_before {
+        write!(
+            out,
+            ". A version that was replaced after line {line} needs the next one"
+        )?;
+    }
+    Ok(())
 }

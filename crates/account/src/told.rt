@@ -1,9 +1,9 @@
 //! The lines that were run, and the domains and sets that are there.
-use crate::deed::{Deed, Home, Row, Section, deed_of};
-use crate::span::end_of;
+use crate::course::{Course, Out, follow_batches};
+use crate::deed::{Deed, Home, Row, deed_of};
+use crate::names::{Known, follow, freed};
 use lines::Name;
 use requests::{Fault, Kind, Members, Reply, Request};
-use scan::Progress;
 use sseq::Index;
 use std::alloc::{AllocError, Global};
 
@@ -13,17 +13,20 @@ pub struct Standing {
     pub home: Home,
     pub name: Name,
     pub processors: u64,
+    pub course: Course,
 }
 
 /// A domain, from the line that made it to the one that took it down.
 #[derive(Clone, Copy)]
 pub struct Life {
-    pub standing: Standing,
+    pub home: Home,
+    pub name: Name,
+    pub processors: u64,
     /// `None` where it is there at the end of the script.
     pub gone: Option<u64>,
 }
 
-/// A set that is there.
+/// A set, from the line that made it to the one that took it down with one of its domains.
 #[derive(Clone, Copy)]
 pub struct KnownSet {
     pub name: Name,
@@ -31,6 +34,8 @@ pub struct KnownSet {
     pub made: u64,
     /// Of which bands' domains it has a cookie.
     pub bands: [bool; 8],
+    /// `None` where it is there.
+    pub gone: Option<u64>,
 }
 
 /// What has a name in a domain.
@@ -41,17 +46,6 @@ pub struct Use {
     pub since: u64,
 }
 
-/// What a line says of a name.
-#[derive(Clone, Copy)]
-enum Saying {
-    /// Nothing.
-    Silent,
-    /// The name is in use from then on.
-    Uses(Kind),
-    /// The name is free from then on.
-    Frees,
-}
-
 /// The lines that were run, with the domains and the sets that are there.
 #[derive(Drop)]
 pub struct Told {
@@ -60,7 +54,12 @@ pub struct Told {
     pub domains: Vec<Standing>,
     /// All domains that were ever made, in their order.
     pub lives: Vec<Life>,
+    /// All sets that were ever made, in their order.
     pub sets: Vec<KnownSet>,
+    /// The names in use, in the order in which they were given.
+    pub names: Vec<Known>,
+    /// The batches that are out.
+    pub batches: Vec<Out>,
 }
 
 impl Told {
@@ -70,11 +69,22 @@ impl Told {
             domains: Vec::new(alloc),
             lives: Vec::new(alloc),
             sets: Vec::new(alloc),
+            names: Vec::new(alloc),
+            batches: Vec::new(alloc),
         }
     }
 
     /// Takes a line in, which was run after those that are there.
     fn push(&mut self, number: u64, home: Option<Home>, deed: Deed) -> Result<(), AllocError> {
+        if let Some(home) = home {
+            follow(&mut self.names, number, home, &deed)?;
+            follow_batches(&mut self.batches, home, &deed)?;
+            for domain in self.domains.iter_mut() {
+                if domain.home == home {
+                    domain.course.follow(number, &deed);
+                }
+            }
+        }
         push_row(&mut self.rows, number, home, &deed)
     }
 
@@ -152,7 +162,8 @@ impl Told {
 
     /// The set of this name.
     pub fn set_of(&self, word: &[u8]) -> Option<KnownSet> {
-        self.sets.iter().copied().find(|it| it.name.is(word))
+        let found = |it: &KnownSet| it.gone.is_none() && it.name.is(word);
+        self.sets.iter().copied().find(found)
     }
 
     /// The domain that a request is about.
@@ -186,14 +197,12 @@ impl Told {
             home,
             name,
             processors,
+            course: Course::new(),
         })?;
-        let standing = Standing {
+        self.lives.push(Life {
             home,
             name,
             processors,
-        };
-        self.lives.push(Life {
-            standing,
             gone: None,
         })?;
         Ok(home)
@@ -218,6 +227,7 @@ impl Told {
             name,
             made: number,
             bands,
+            gone: None,
         })?;
         Ok(())
     }
@@ -225,80 +235,122 @@ impl Told {
     /// The domain is taken down by the line of this number, and each set with a cookie of it.
     pub fn take_down(&mut self, number: u64, home: Home) {
         self.domains.retain(|it| it.home != home);
-        self.sets.retain(|set| !set.bands.get(home.band as usize).copied().unwrap_or(false));
-        for life in self.lives.iter_mut() {
-            if life.standing.home == home {
+        self.names.retain(|it| it.home != home);
+        for set in self.sets.iter_mut() {
+            let is_of = set.bands.get(home.band as usize) == Some(&true);
+            if is_of && set.gone.is_none() {
+                set.gone = Some(number);
+            }
+        }
+        for life in self.lives.iter_mut().rev() {
+            if life.home == home {
                 life.gone = Some(number);
+                break;
             }
         }
     }
 
     /// What has this name in the domain.
     pub fn use_of(&self, home: Home, word: &[u8]) -> Option<Use> {
+        let found = |it: &Known| it.home == home && it.name.is(word);
+        let known = self.names.iter().copied().find(found)?;
+        Some(match known.parked {
+            Some(since) => Use {
+                kind: Kind::Parked,
+                since,
+            },
+            None => Use {
+                kind: known.kind,
+                since: known.since,
+            },
+        })
+    }
+
+    /// The line that freed this name of the domain last.
+    pub fn freed_in(&self, home: Home, word: &[u8]) -> Option<u64> {
         for row in self.rows.iter().rev() {
-            match said_of(row, home, word) {
-                Saying::Silent => {}
-                Saying::Uses(kind) => {
-                    return Some(Use {
-                        kind,
-                        since: row.number,
-                    });
-                }
-                Saying::Frees => return None,
+            if row.home == Some(home) && freed(&row.deed).is_some_and(|name| name.is(word)) {
+                return Some(row.number);
             }
         }
         None
     }
 
-    /// What the engine of the domain last answered but `step` and `idle`, and at which line.
-    pub fn last_of(&self, home: Home) -> Option<(Progress, u64)> {
-        for row in self.rows.iter().rev() {
-            if row.home != Some(home) {
-                continue;
-            }
-            match row.deed {
-                Deed::Engine(Progress::Step | Progress::Idle) => {}
-                Deed::Engine(progress) => return Some((progress, row.number)),
-                _ => {}
-            }
-        }
-        None
-    }
-
-    /// The line where the grace period of the domain started that runs.
-    pub fn running(&self, home: Home) -> Option<u64> {
-        for row in self.rows.iter().rev() {
-            if row.home != Some(home) {
-                continue;
-            }
-            match row.deed {
-                Deed::Engine(Progress::Started(_)) => return Some(row.number),
-                Deed::Engine(Progress::Ended(_)) => return None,
-                _ => {}
-            }
-        }
-        None
-    }
-
-    /// The first sections of the domain that are open, up to three, of this index or of both.
-    pub fn open_in(&self, home: Home, index: Option<Index>) -> [Option<Section>; 3] {
+    /// The first names of the domain that are such, up to three.
+    pub fn first_of(&self, home: Home, such: Such) -> [Option<Known>; 3] {
         let mut found = [None; 3];
         let mut count = 0;
-        let mut left = self.rows.as_slice();
-        while let [row, rest @ ..] = left {
-            if let Deed::Begins(section) = row.deed
-                && count < 3
-                && section.home == home
-                && index.is_none_or(|index| section.index == index)
-                && end_of(&section, rest).is_none()
-            {
-                found[count] = Some(section);
+        for known in &self.names {
+            if count < 3 && is_such(known, home, such) {
+                found[count] = Some(*known);
                 count += 1;
             }
-            left = rest;
+            if count >= 3 {
+                break;
+            }
         }
         found
     }
+
+    /// The name of the section that lies on the desk of the domain.
+    pub fn parked_in(&self, home: Home) -> Option<Known> {
+        let is_parked = |it: &Known| it.home == home && it.parked.is_some();
+        self.names.iter().copied().find(is_parked)
+    }
+
+    /// A processor of the domain of which a batch is out.
+    pub fn batch_in(&self, home: Home) -> Option<u64> {
+        let found = self.batches.iter().copied().find(|it| it.home == home)?;
+        Some(found.processor)
+    }
+
+    /// The line that took a domain of this name down last.
+    pub fn gone(&self, word: &[u8]) -> Option<u64> {
+        let mut gone = None;
+        for life in &self.lives {
+            if life.name.is(word) {
+                gone = life.gone;
+            }
+        }
+        gone
+    }
+
+    /// The line that took a set of this name down last, with one of its domains.
+    pub fn gone_set(&self, word: &[u8]) -> Option<u64> {
+        let mut gone = None;
+        for set in &self.sets {
+            if set.name.is(word) {
+                gone = set.gone;
+            }
+        }
+        gone
+    }
+
+    /// How many sets are there.
+    pub fn set_count(&self) -> usize {
+        self.sets.iter().filter(|set| set.gone.is_none()).count()
+    }
+}
+
+/// Which names of a domain are asked for.
+#[derive(Clone, Copy)]
+pub enum Such {
+    /// Those of open sections.
+    Open,
+    /// Those of open sections of this index.
+    OpenOf(Index),
+    /// Those of this kind.
+    OfKind(Kind),
+}
+
+/// Whether the name is such a one of the domain.
+fn is_such(known: &Known, home: Home, such: Such) -> bool {
+    known.home == home
+        && match such {
+            Such::Open => known.index.is_some(),
+            Such::OpenOf(index) => known.index == Some(index),
+            Such::OfKind(kind) => known.kind == kind && known.parked.is_none(),
+        }
 }
 
 /// Puts a line after those that are there.
@@ -327,25 +379,4 @@ fn push_row(
     };
     rows.push_reserved(Row { number, home, deed });
     Ok(())
-}
-
-/// What a line says of this name of the domain.
-fn said_of(row: &Row, home: Home, word: &[u8]) -> Saying {
-    if row.home != Some(home) {
-        return Saying::Silent;
-    }
-    let (name, says) = match row.deed {
-        Deed::Begins(section) => (section.name, Saying::Uses(section.kind)),
-        Deed::Ends { name, .. } => (name, Saying::Frees),
-        Deed::Looks { name, .. } => (name, Saying::Uses(Kind::Look)),
-        Deed::Tickets { name, .. } => (name, Saying::Uses(Kind::Ticket)),
-        Deed::Parks(name) => (name, Saying::Uses(Kind::Parked)),
-        Deed::Unparks(name) => (name, Saying::Uses(Kind::Held)),
-        Deed::Refused {
-            look: Some(name),
-            ..
-        } => (name, Saying::Frees),
-        _ => return Saying::Silent,
-    };
-    if name.is(word) { says } else { Saying::Silent }
 }

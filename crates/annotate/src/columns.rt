@@ -44,8 +44,8 @@ fn column_behind(last: Track, next: Track, column: usize) -> usize {
 fn longest_name(told: &Told, band: u64) -> usize {
     let mut longest = 0;
     for life in &told.lives {
-        if life.standing.home.band == band {
-            longest = life.standing.name.as_bytes().len().max(longest);
+        if life.home.band == band {
+            longest = life.name.as_bytes().len().max(longest);
         }
     }
     longest
@@ -86,14 +86,13 @@ impl Columns {
         })
     }
 
-    /// The column of a track.
+    /// The column of a track; the right edge for all that isn't shown.
     pub fn of(&self, track: Track) -> Option<usize> {
-        for (known, column) in &self.tracks {
-            if *known == track {
-                return Some(*column);
-            }
-        }
-        None
+        let found = self
+            .tracks
+            .binary_search_by_key(&track, |(known, _)| *known);
+        let (_, column) = self.tracks.get(found.ok()?)?;
+        Some((*column).min(MOST))
     }
 
     /// All tracks with their columns, from left to right.

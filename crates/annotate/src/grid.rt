@@ -1,8 +1,8 @@
 //! The signs of a picture.
 use std::alloc::{AllocError, Global};
 
-/// A sign for each line of the script and each column of the picture; and one for the room under the line, where what goes on to
-/// the next line is shown.
+/// Two signs for each line of the script and each column of the picture. One stands in the line. One stands in the room under it,
+/// which shows what goes on to the next line.
 #[derive(Drop)]
 pub struct Grid {
     width: usize,
@@ -49,6 +49,9 @@ impl Grid {
 
     /// Puts a sign on each line from this one to that one, and on the room between them.
     pub fn fill(&mut self, from: u64, to: u64, column: usize, sign: u8) {
+        if column >= self.width {
+            return;
+        }
         for line in from..to {
             self.put(line, column, sign);
             if let Some(place) = self.place(line, column)

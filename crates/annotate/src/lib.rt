@@ -1,5 +1,5 @@
-//! A run as text: each line with its number and its reply, a picture of what is open at its left, and under a faulty or refused
-//! line a sentence that says why.
+//! A run as text: each line with its number and its reply. At the left is a picture of what is open. Under a faulty or refused
+//! line a sentence says why.
 #![tactic(auto)]
 
 mod columns;

@@ -206,12 +206,9 @@ fn put_head(
         }
         match track.processor {
             None => {
-                let life = told
-                    .lives
-                    .iter()
-                    .find(|it| it.standing.home.band == track.band);
+                let life = told.lives.iter().find(|it| it.home.band == track.band);
                 if let Some(life) = life {
-                    put_at(&mut names, *column, life.standing.name.as_bytes());
+                    put_at(&mut names, *column, life.name.as_bytes());
                 }
             }
             Some(processor) if track.role == Role::Sections && track.place == 0 => {
@@ -226,6 +223,34 @@ fn put_head(
     put(page, &numbers, 0)?;
     end_line(page)?;
     Ok(())
+}
+
+/// Puts a line with the name of a domain over its first row, where it has the columns of an earlier one.
+fn put_name(
+    page: &mut Vec<u8>,
+    painter: &Painter,
+    told: &Told,
+    row: &Row,
+) -> Result<(), AllocError> {
+    let (Some(home), Deed::Made) = (row.home, row.deed) else {
+        return Ok(());
+    };
+    let before = told.lives.iter().any(|it| {
+        it.home.band == home.band && it.home.made < home.made
+    });
+    let life = told.lives.iter().find(|it| it.home == home);
+    let (true, Some(life), Some(column)) = (before, life, painter.column_of(home)) else {
+        return Ok(());
+    };
+    let mut line = [b' '; COLUMNS];
+    put_at(
+        &mut line,
+        0,
+        painter.grid.row(row.number.saturating_sub(1), true),
+    );
+    put_at(&mut line, column, life.name.as_bytes());
+    put(page, &line, 0)?;
+    end_line(page)
 }
 
 /// How many digits the number of the last line has, and at least three.
@@ -256,9 +281,15 @@ fn longest(script: &[u8], told: &Told) -> usize {
     longest.min(MOST_TEXT)
 }
 
-/// The first bytes of a line that are shown.
-fn first_of(line: &[u8]) -> &[u8] {
-    line.get(..MOST_SHOWN).unwrap_or(line)
+/// A line as it is shown: its first bytes, and `..` where there are more.
+fn shown(alloc: Global, line: &[u8]) -> Result<Vec<u8>, AllocError> {
+    let first = line.get(..MOST_SHOWN).unwrap_or(line);
+    let mut all = Vec::new(alloc);
+    all.extend_from_slice(first)?;
+    if first.len() < line.len() {
+        all.extend_from_slice(b"..")?;
+    }
+    Ok(all)
 }
 
 /// Puts all lines of the script.
@@ -290,12 +321,14 @@ fn put_rows(
         } else {
             why.extend_from_slice(sentence.unwrap_or(b""))?;
         }
+        let text = shown(alloc, text)?;
         let beside = Beside {
             row,
-            text: first_of(text),
+            text: &text,
             reply: reply.unwrap_or(b""),
             sentence: &why,
         };
+        put_name(page, painter, &account.told, row)?;
         put_row(page, painter, columns, beside)?;
     }
     Ok(())

@@ -1,5 +1,5 @@
 //! What is put into the picture.
-use crate::columns::Columns;
+use crate::columns::{Columns, MOST};
 use crate::grid::Grid;
 use account::{Deed, Home, Job, Layout, Life, Period, Role, Row, Span, Told, Track};
 use scan::Progress;
@@ -13,6 +13,8 @@ pub struct Painter {
     pub grid: Grid,
     /// The number of the last line.
     last: u64,
+    /// For each column of jobs, up to which line it shows that jobs wait. These leave their list in the order in which they came.
+    waits: [u64; MOST],
 }
 
 /// The track of a domain's grace periods.
@@ -33,15 +35,21 @@ fn sign_of(index: Index) -> u8 {
     }
 }
 
-/// Whether the section is open after this line.
+/// Whether a section that has begun is open after this line.
 fn is_open(span: &Span, line: u64) -> bool {
-    span.begun <= line && span.end.is_none_or(|end| line < end.line)
+    span.end.is_none_or(|end| line < end.line)
 }
 
 impl Painter {
+    /// The column of the domain's grace periods, where it is shown.
+    pub fn column_of(&self, home: Home) -> Option<usize> {
+        let column = self.columns.of(strip(home))?;
+        (column < self.columns.width).then_some(column)
+    }
+
     /// The columns of the domain's sections, as long as it is there.
     fn life(&mut self, life: &Life) {
-        let home = life.standing.home;
+        let home = life.home;
         let to = life.gone.unwrap_or(self.last);
         for (track, column) in self.columns.as_slice() {
             if track.band == home.band && track.role == Role::Sections {
@@ -122,7 +130,11 @@ impl Painter {
         };
         let to = job.ran.unwrap_or(self.last);
         let taken = job.taken.unwrap_or(to);
-        self.grid.fill(job.queued, taken, column, b'\'');
+        if let Some(filled) = self.waits.get_mut(column) {
+            let from = job.queued.max(*filled);
+            *filled = taken;
+            self.grid.fill(from, taken, column, b'\'');
+        }
         if taken < to {
             self.grid.fill(taken, to, column, b'"');
         }
@@ -160,6 +172,9 @@ impl Painter {
         };
         let mut far = column;
         for (span, lane) in layout.spans.iter().zip(&layout.lanes) {
+            if span.begun > row.number {
+                break;
+            }
             if span.section.home == home
                 && span.section.index == index
                 && is_open(span, row.number)
@@ -185,6 +200,7 @@ pub fn paint(alloc: Global, told: &Told, layout: &Layout) -> Result<Painter, All
         grid: Grid::new(alloc, told.rows.len(), width)?,
         columns,
         last: told.rows.len() as u64,
+        waits: [0; MOST],
     };
     for life in &told.lives {
         painter.life(life);

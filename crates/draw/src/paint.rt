@@ -9,7 +9,7 @@ use account::{
 use requests::{Fault, Kind};
 use scan::Progress;
 use sseq::Index;
-use std::alloc::Global;
+use std::alloc::{AllocError, Global};
 use std::io;
 use std::io::Write;
 
@@ -23,6 +23,9 @@ const CHARACTER: u64 = 73;
 
 /// How many bytes of a line are shown.
 const MOST_SHOWN: usize = 200;
+
+/// How many of the sections are named that a grace period waits for.
+const MOST_NAMES: usize = 8;
 
 const DIM: &str = "fill=\"#8a94a0\" font-size=\"10\"";
 
@@ -159,7 +162,7 @@ fn track(home: Home, processor: u64, role: Role) -> Track {
 impl Painter {
     /// The frame of a domain, with its name, and the numbers of its processors.
     fn life(&mut self, life: &Life) -> io::Result<()> {
-        let home = life.standing.home;
+        let home = life.home;
         let (left, right) = self.places.band(home.band);
         let top = y_of(home.made);
         let bottom = y_of(life.gone.unwrap_or(self.frame.lines));
@@ -167,13 +170,9 @@ impl Painter {
             right.saturating_sub(left).saturating_add(12),
             bottom.saturating_sub(top).saturating_add(16),
         );
-        let name = life.standing.name;
+        let name = life.name;
         self.svg.open()?;
-        write!(
-            self.svg,
-            "domain {name}, {} processors",
-            life.standing.processors
-        )?;
+        write!(self.svg, "domain {name}, {} processors", life.processors)?;
         self.svg.titled()?;
         self.svg
             .rect(left.saturating_sub(6), top.saturating_sub(8), size, FRAME)?;
@@ -189,13 +188,13 @@ impl Painter {
 
     /// The numbers of a domain's processors, over its frame.
     fn numbers(&mut self, life: &Life, y: u64) -> io::Result<()> {
-        let band = life.standing.home.band;
+        let band = life.home.band;
         for (track, x) in self.places.as_slice() {
             if track.band == band
                 && track.role == Role::Sections
                 && track.place == 0
                 && let Some(processor) = track.processor
-                && processor < life.standing.processors
+                && processor < life.processors
             {
                 let x = x.saturating_add(4);
                 write!(
@@ -264,9 +263,13 @@ impl Painter {
         self.svg.open()?;
         write!(
             self.svg,
-            "{word} {name}, index {}, processor {}: lines {} to {to}",
+            "{word} {name}, index {}, processor {}, from line {}",
             section.index, section.processor, span.begun
         )?;
+        match span.end {
+            Some(end) => write!(self.svg, " to {}", end.line)?,
+            None => write!(self.svg, ", still open")?,
+        }
         self.svg.titled()?;
         self.svg.rect(
             bar.x,
@@ -318,7 +321,7 @@ impl Painter {
         self.svg.close()
     }
 
-    /// What the engine waits for: a line to each section that holds it up.
+    /// What the engine waits for: a line to the farthest section that holds it up. Their names are under the pointer.
     fn wait(&mut self, row: &Row, all: &[Bar]) -> io::Result<()> {
         let (Some(home), Deed::Engine(Progress::Waiting(index))) = (row.home, row.deed) else {
             return Ok(());
@@ -330,19 +333,41 @@ impl Painter {
         let from = x.saturating_add(10);
         self.svg.open()?;
         write!(self.svg, "waits for")?;
-        for bar in all {
-            if holds(bar, home, index, row.number) {
-                write!(self.svg, " {}", bar.span.section.name)?;
-            }
-        }
+        let far = self.holders(row.number, home, index, all)?;
         self.svg.titled()?;
-        for bar in all {
-            if holds(bar, home, index, row.number) {
-                self.svg.line((from, y), (bar.x, y), WAIT)?;
-            }
+        if let Some(far) = far {
+            self.svg.line((from, y), (far, y), WAIT)?;
         }
         self.svg.circle(from, y, 4, WAIT_DOT)?;
         self.svg.close()
+    }
+
+    /// The names of the first sections that hold a scan up on this line. Returns the left edge of the farthest.
+    fn holders(
+        &mut self,
+        line: u64,
+        home: Home,
+        index: Index,
+        all: &[Bar],
+    ) -> io::Result<Option<u64>> {
+        let mut far = None;
+        let mut count = 0usize;
+        for bar in all {
+            if bar.span.begun > line {
+                break;
+            }
+            if holds(bar, home, index, line) {
+                if count < MOST_NAMES {
+                    write!(self.svg, " {}", bar.span.section.name)?;
+                }
+                count = count.saturating_add(1);
+                far = far.max(Some(bar.x));
+            }
+        }
+        if count > MOST_NAMES {
+            write!(self.svg, " and {} others", count - MOST_NAMES)?;
+        }
+        Ok(far)
     }
 
     /// A job, in one of three places beside each other.
@@ -454,28 +479,33 @@ impl Painter {
     }
 }
 
-/// Whether the section keeps the scan of this index from passing on this line.
+/// Whether a section that has begun keeps the scan of this index from passing on this line.
 fn holds(bar: &Bar, home: Home, index: Index, line: u64) -> bool {
     let Bar { span, .. } = bar;
     span.section.home == home
         && span.section.index == index
-        && span.begun <= line
         && span.end.is_none_or(|end| line < end.line)
 }
 
-/// The first bytes of a line that are shown.
-fn first_of(line: &[u8]) -> &[u8] {
-    line.get(..MOST_SHOWN).unwrap_or(line)
+/// A line as it is shown: its first bytes, and `..` where there are more.
+fn shown(alloc: Global, line: &[u8]) -> Result<Vec<u8>, AllocError> {
+    let first = line.get(..MOST_SHOWN).unwrap_or(line);
+    let mut all = Vec::new(alloc);
+    all.extend_from_slice(first)?;
+    if first.len() < line.len() {
+        all.extend_from_slice(b"..")?;
+    }
+    Ok(all)
 }
 
 /// Where the rows stand: the numbers, the lines and the replies, each as wide as the longest of them.
 fn frame_of(places: &Places, script: &[u8], told: &Told, replies: &[u8]) -> Frame {
     let (mut answered, mut all, mut said) = (8, 12, 8);
     for (line, row) in script.split(|byte| *byte == b'\n').zip(&told.rows) {
-        let line = first_of(line);
-        all = line.len().max(all);
+        let width = line.len().min(MOST_SHOWN + 2);
+        all = width.max(all);
         if !row.is_skipped() {
-            answered = line.len().max(answered);
+            answered = width.max(answered);
         }
     }
     for reply in replies.split(|byte| *byte == b'\n') {
@@ -566,7 +596,8 @@ impl Painter {
                 self.ground(row, &why)?;
             } else {
                 self.mark(row, reply.unwrap_or(b""))?;
-                self.words(row, first_of(text), reply.unwrap_or(b""), &why)?;
+                let text = shown(alloc, text)?;
+                self.words(row, &text, reply.unwrap_or(b""), &why)?;
             }
         }
         Ok(())

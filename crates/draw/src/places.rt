@@ -63,12 +63,11 @@ impl Places {
 
     /// The left edge of a track.
     pub fn of(&self, track: Track) -> Option<u64> {
-        for (known, x) in &self.tracks {
-            if *known == track {
-                return Some(*x);
-            }
-        }
-        None
+        let found = self
+            .tracks
+            .binary_search_by_key(&track, |(known, _)| *known);
+        let (_, x) = self.tracks.get(found.ok()?)?;
+        Some(*x)
     }
 
     /// All tracks with their left edges, from left to right.

@@ -23,7 +23,7 @@ fn escaped(byte: u8) -> Option<&'static str> {
 }
 
 impl Svg {
-    /// An empty picture of this size, on white ground.
+    /// An empty picture of this size, on white ground. Blanks in its texts stay as they are.
     pub fn new(alloc: Global, width: u64, height: u64) -> io::Result<Svg> {
         let mut out = Vec::new(alloc);
         write!(
@@ -32,7 +32,7 @@ impl Svg {
         )?;
         write!(
             out,
-            "font-family=\"DejaVu Sans Mono, Menlo, Consolas, monospace\" font-size=\"12\" fill=\"#1d2733\">\n"
+            "font-family=\"DejaVu Sans Mono, Menlo, Consolas, monospace\" font-size=\"12\" fill=\"#1d2733\" xml:space=\"preserve\">\n"
         )?;
         write!(
             out,
