@@ -1,3 +1,5 @@
 pub mod Handed
 pub mod Programs
 pub mod Telling
+pub mod Whole
+pub mod Answering

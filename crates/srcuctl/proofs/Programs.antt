@@ -52,7 +52,7 @@ module _ {S : Type 0} (answering : Answering S) (state : S → State) (Keeps : S
       let b = breaks_off s (lines_of taken) k ended in
       (state s', subst (λ (d : State). EndsEarly (LineGives gives limits) d taken given error.Memory (state s')) start (b, written))
 
-  runs : (s : S) (taken given : List ℕ) (faulty : Bool) (s' : S) → state s ≡ nothing_yet → Keeps s → IsRun answering s 1 (lines_of taken) given faulty s' → Runs gives limits taken given faulty
+  pub runs : (s : S) (taken given : List ℕ) (faulty : Bool) (s' : S) → state s ≡ nothing_yet → Keeps s → IsRun answering s 1 (lines_of taken) given faulty s' → Runs gives limits taken given faulty
   runs s taken given faulty s' start k run =
       let r = run_of (lines_of taken) s 1 given faulty s' k run in
       (state s', subst (λ (d : State). IsRun (LineGives gives limits) d 1 (lines_of taken) given faulty (state s')) start r.run)

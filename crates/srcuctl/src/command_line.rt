@@ -13,6 +13,35 @@ use std::alloc::Global;
 /// What `--version` writes behind the program's name.
 const VERSION: &str = "0.1.0";
 
+const OF_RUN: &str = "Reads a script from standard input, and writes a reply to each line";
+
+const OF_ANNOTATE: &str = "Runs a script, and shows each line with its reply, and what is wrong";
+
+const OF_DRAW: &str = "Runs a script, and writes a picture of the run, an SVG";
+
+/// What a newcomer has to know of a page.
+const OF_PAGES: &str = "\
+The script is read to its end, and run as 'run' runs it. Then each line comes
+with its number and its reply. Under a faulty or refused line stands which word
+it is about, and why. No line is longer than 100 columns.
+
+At the left is a picture of what is open. Time goes down:
+
+  + : x # ^  a grace period starts, scans, flips the index, scans, ends
+  * ~~       it waits for a section
+  0 1 _      sections of index 0 and 1, on their processors, to their end
+  j ' \" J    a job is queued, waits, is out, runs
+
+The status is that of 'run'. docs/annotate.md has examples.";
+
+/// What a newcomer has to know of a picture.
+const OF_PICTURES: &str = "\
+The script is read to its end, and run as 'run' runs it. The picture shows what
+'annotate' shows, as an SVG that a browser opens. What a line did, and why it
+went wrong, is shown under the pointer.
+
+The status is that of 'run'. docs/annotate.md has examples.";
+
 const OF_SECTIONS: &str = "\
 How many sections of one index a processor may begin:
 1 to 4503599627370496 (2^52); if left out, the most";
@@ -21,8 +50,13 @@ const OF_PERIODS: &str = "\
 How many grace periods a domain may have:
 1 to 576460752303423487 (2^59 - 1); if left out, the most";
 
-/// What the program takes. `of_scripts` is what its help says of scripts.
-pub fn command<'a>(alloc: Global, of_scripts: &'a str) -> Result<Command<'a>, Error> {
+/// A command that takes a script, with what its help says of it.
+fn of_a_script<'a>(
+    alloc: Global,
+    name: &'a str,
+    about: &'a str,
+    of_scripts: &'a str,
+) -> Result<Command<'a>, Error> {
     let sections = Arg::new(alloc, "sections")
         .long("sections")
         .value_name("N")
@@ -33,17 +67,28 @@ pub fn command<'a>(alloc: Global, of_scripts: &'a str) -> Result<Command<'a>, Er
         .value_name("N")
         .value_parser(ValueParser::unsigned(1, Limits::MOST_PERIODS))
         .help(OF_PERIODS);
-    let run = Command::new(alloc, "run")
-        .about("Reads a script from standard input, and writes a reply to each line")
-        .arg(sections)?
-        .arg(periods)?
-        .after_help(of_scripts);
+    Ok(
+        Command::new(alloc, name)
+            .about(about)
+            .arg(sections)?
+            .arg(periods)?
+            .after_help(of_scripts),
+    )
+}
+
+/// What the program takes. `of_scripts` is what its help says of scripts.
+pub fn command<'a>(alloc: Global, of_scripts: &'a str) -> Result<Command<'a>, Error> {
+    let run = of_a_script(alloc, "run", OF_RUN, of_scripts)?;
+    let annotate = of_a_script(alloc, "annotate", OF_ANNOTATE, OF_PAGES)?;
+    let draw = of_a_script(alloc, "draw", OF_DRAW, OF_PICTURES)?;
     let srcuctl = Command::new(alloc, "srcuctl")
         .version(VERSION)
         .about("Drives sleepable RCU domains by a script")
         .after_help(of_scripts)
         .subcommand_required(true)
         .subcommand(run)?
+        .subcommand(annotate)?
+        .subcommand(draw)?
         .subcommand(racing::command(alloc)?)?;
     Ok(srcuctl)
 }

@@ -13,7 +13,8 @@ Each line gets one reply line. Empty lines, and lines that begin with #, are
 skipped. A faulty line gets the reply 'line N: WORD', what can't be done gets
 'refused COMMAND CAUSE', and the run goes on. The status is 0 where no line was
 faulty, 1 where one or more were, and 2 where reading or writing failed or
-memory ran out. docs/script.md says what each WORD and each CAUSE means.
+memory ran out. docs/script.md says what each WORD and each CAUSE means, and
+'srcuctl annotate' shows which word of a line is wrong, and why.
 
 An example:
 

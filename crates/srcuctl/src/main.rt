@@ -9,13 +9,16 @@ mod command_line;
 mod handler;
 mod help;
 mod racing;
+mod recording;
 mod script;
+mod showing;
 mod status;
 
 use clap::error::ErrorKind;
 use handler::run_told;
 use racing::Size;
 use sections::Limits;
+use showing::{Shown, show, text_of};
 use status::Ending;
 use std::rt::Env;
 use std::sync::Wait;
@@ -35,6 +38,28 @@ fn run_script(rt: &(impl Wait + Input + Print + AllocGlobal), limits: Limits) ->
         limits,
     );
     match ended {
+        Ok(outcome) => Ending::Ran(outcome),
+        Err(error) => Ending::Stopped(error),
+    }
+}
+
+/// Runs the script of standard input, and shows the run.
+fn show_script(
+    rt: &(impl Wait + Input + Print + AllocGlobal),
+    limits: Limits,
+    what: Shown,
+) -> Ending
+    requires limits { AreInRange limits }
+    requires cells { limits.cells ≡ 2 }
+{
+    let shown = show(
+        rt,
+        &mut rt.reader(),
+        &mut io::writer(rt),
+        limits,
+        |script, recorded| { text_of(rt.alloc(), what, script, recorded) },
+    );
+    match shown {
         Ok(outcome) => Ending::Ran(outcome),
         Err(error) => Ending::Stopped(error),
     }
@@ -64,6 +89,18 @@ fn obey(
             let limits = command_line::limits_of(options);
             if limits.are_in_range() {
                 return Ok(run_script(rt, limits));
+            }
+        }
+        Some(("annotate", options)) => {
+            let limits = command_line::limits_of(options);
+            if limits.are_in_range() {
+                return Ok(show_script(rt, limits, Shown::Page));
+            }
+        }
+        Some(("draw", options)) => {
+            let limits = command_line::limits_of(options);
+            if limits.are_in_range() {
+                return Ok(show_script(rt, limits, Shown::Picture));
             }
         }
         Some(("race", options)) => {

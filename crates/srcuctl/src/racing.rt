@@ -78,7 +78,7 @@ pub fn command<'a>(alloc: Global) -> Result<Command<'a>, Error> {
         .help(OF_ROUNDS);
     Ok(
         Command::new(alloc, "race")
-            .about("Has threads use one table of plug-ins at once, and tells their counts")
+            .about("Has threads use a table of plug-ins at once, and tells their counts")
             .arg(readers)?
             .arg(rounds)?
             .after_help(BEHIND),

@@ -1,0 +1,40 @@
+use Rattle.std.proofs.Common.{rules, ◌≡◌, ◌∙◌, ◌++◌, ℕ, false, Some, None, ap, sym, subst}
+use Rattle.std.proofs.lemmas.Result.{IfOk-weaker}
+use Rattle.notify.specs.Calling.{GivesAt}
+use Rattle.requests.specs.declared.reply.Reply.TheVariants as reply
+use Rattle.std.specs.Option.{option_copied}
+use Rattle.lines.specs.Lines.{words_of}
+use Rattle.requests.specs.Faults.{texts, is_skipped, fault_of}
+use Rattle.requests.specs.Requests.{WordsAsk}
+use Rattle.requests.specs.Replies.{reply_text}
+use Rattle.session.specs.States.{scene_of}
+use Rattle.session.specs.Scripts.{LineGives, WordsGive}
+use Rattle.session.specs.Scripts.{Answers as AnswersTo}
+use Rattle.srcuctl.proofs.Answering.{asked_gives, fault_gives}
+use Rattle.srcuctl.proofs.recording.Recorder.answer_line.Goals as goal
+
+pub returns-in-Ok-clause-gives : goal.returns-in-Ok-clause-gives
+returns-in-Ok-clause-gives g c =
+    let may : ℕ → ℕ → ℕ → Type 0 = λ value id x. GivesAt (λ h y. (g.dyn-1.0.entry h.vtable).1.answers h.value 1 value y) c.args.self.now.handlers.now id x in
+    let words : texts c.deref-2.result.now ≡ words_of c.in-Some.line.now = search rules in
+    let text : c.push_reply.new.bytes.items ≡ reply_text c.in_ok-given-in-Ok.given = search rules in
+    let full : is_skipped (texts c.deref-2.result.now) ≡ false = search rules in
+    let well : fault_of (scene_of c.args.self.now.session.state) (texts c.deref-2.result.now) ≡ None = search rules in
+    let asks : WordsAsk (scene_of c.args.self.now.session.state) (texts c.deref-2.result.now) c.in-Ok.request = search rules in
+    let answers : AnswersTo may c.args.self.now.session.limits c.args.self.now.session.state c.in-Ok.request c.in_ok-given-in-Ok.given c.respond.new.self.state = search rules in
+    let gives = asked_gives may _ _ c.args.number _ _ _ _ _ full well asks answers text in
+    subst (λ o. LineGives may c.args.self.now.session.limits c.args.self.now.session.state c.args.number (option_copied o) c.push_reply.new.bytes.items false c.respond.new.self.state) (sym c.in-Some.is)
+    (subst (λ w. WordsGive may c.args.self.now.session.limits c.args.self.now.session.state c.args.number w c.push_reply.new.bytes.items false c.respond.new.self.state) words gives)
+
+pub returns-clause-gives : goal.returns-clause-gives
+returns-clause-gives g c =
+    let may : ℕ → ℕ → ℕ → Type 0 = λ value id x. GivesAt (λ h y. (g.dyn-1.0.entry h.vtable).1.answers h.value 1 value y) c.args.self.now.handlers.now id x in
+    let words : texts c.deref-2.result.now ≡ words_of c.in-Some.line.now = search rules in
+    let full : is_skipped (texts c.deref-2.result.now) ≡ false = search rules in
+    let wrong : fault_of (scene_of c.args.self.now.session.state) (texts c.deref-2.result.now) ≡ Some c.in-Err.fault = search rules in
+    IfOk-weaker c.push_faulty-in-Err.result _ _ (λ b told.
+    let text = told.1 ∙ ap (λ l. l ++ reply_text (reply.Faulty c.args.number c.in-Err.fault)) c.requires in
+    let gives = fault_gives may c.args.self.now.session.limits c.args.self.now.session.state c.args.number (texts c.deref-2.result.now) c.push_faulty-in-Err.new.reply.items c.in-Err.fault full wrong text in
+    subst (λ o. LineGives may c.args.self.now.session.limits c.args.self.now.session.state c.args.number (option_copied o) c.push_faulty-in-Err.new.reply.items b c.args.self.now.session.state) (sym c.in-Some.is)
+    (subst (λ w. WordsGive may c.args.self.now.session.limits c.args.self.now.session.state c.args.number w c.push_faulty-in-Err.new.reply.items b c.args.self.now.session.state) words
+    (subst (λ z. WordsGive may c.args.self.now.session.limits c.args.self.now.session.state c.args.number (texts c.deref-2.result.now) c.push_faulty-in-Err.new.reply.items z c.args.self.now.session.state) (sym told.0) gives))) c.push_faulty-in-Err.ensures
