@@ -1,7 +1,7 @@
 //! What the calls for sections, cookies, grace periods and callbacks answer, one by one, in one thread.
 #![tactic(auto)]
 
-ghost use Rattle.std.specs.Prelude.{IfOk};
+ghost use Rattle.std.specs.Prelude.{◌≡◌, vec_len, All, IfOk};
 ghost use Rattle.domain.specs.Views.{IsOf};
 
 mod jobs;
@@ -21,13 +21,23 @@ const LIMITS: Limits = Limits {
     slots: 2,
 };
 
+/// The two processors of a domain, apart.
+fn apart(domain: &Domain<u64>, mut cpus: Vec<Cpu<u64>>) -> (Cpu<u64>, Cpu<u64>)
+    requires two { vec_len cpus ≡ 2 }
+    requires all { All (IsOf domain.now) cpus.items }
+    ensures { IsOf domain.now result.0 × IsOf domain.now result.1 }
+{
+    let second = cpus.pop().unwrap();
+    let first = cpus.pop().unwrap();
+    (first, second)
+}
+
 /// A domain whose jobs are numbers, and its two processors.
 fn pair(alloc: Global) -> Result<(Domain<u64>, Cpu<u64>, Cpu<u64>), MakeError>
     ensures { IfOk result (λ r. IsOf r.0 r.1 × IsOf r.0 r.2) }
 {
-    let (domain, mut cpus, _) = Domain::new(alloc, 2, LIMITS)?;
-    let second = cpus.pop().unwrap();
-    let first = cpus.pop().unwrap();
+    let (domain, cpus, _) = Domain::new(alloc, 2, LIMITS)?;
+    let (first, second) = apart(&domain, cpus);
     Ok((domain, first, second))
 }
 

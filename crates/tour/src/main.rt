@@ -1,7 +1,7 @@
 //! A tour of the library. Threads read a configuration in sections of a domain, while others replace it.
 #![tactic(auto)]
 
-ghost use Rattle.std.specs.Prelude.{◌≡◌, ◌<◌, IfOk};
+ghost use Rattle.std.specs.Prelude.{◌≡◌, ◌<◌, vec_len, All, IfOk};
 ghost use Rattle.std.specs.Thread.{IsSync};
 ghost use Rattle.sections.specs.Words.{cells_in};
 ghost use Rattle.sections.specs.Reads.{IsPinned};
@@ -39,18 +39,29 @@ const LIMITS: Limits = Limits {
     slots: 4,
 };
 
+/// The three processors of a domain, apart.
+fn apart(domain: &Domain<Old>, mut cpus: Vec<Cpu<Old>>) -> (Cpu<Old>, Cpu<Old>, Cpu<Old>)
+    requires three { vec_len cpus ≡ 3 }
+    requires all { All (IsIdle domain.now) cpus.items }
+    ensures { IsIdle domain.now result.0 × IsIdle domain.now result.1 × IsIdle domain.now result.2 }
+{
+    let third = cpus.pop().unwrap();
+    let second = cpus.pop().unwrap();
+    let first = cpus.pop().unwrap();
+    (first, second, third)
+}
+
 /// A domain, its three processors, and the writer of its cell. A processor is a value: whichever thread owns it works with
 /// it.
 fn trio(alloc: Global) -> Result<(Domain<Old>, Cpu<Old>, Cpu<Old>, Cpu<Old>, Writer)>
     ensures cpus { IfOk result (λ r. IsIdle r.0 r.1 × IsIdle r.0 r.2 × IsIdle r.0 r.3) }
     ensures writer { IfOk result (λ r. (r.4.domain ≡ r.0.domain) × (r.4.cell < cells_in r.0.domain)) }
 {
-    let (domain, mut cpus, mut writers) = Domain::new(alloc, 3, LIMITS)?; // init_srcu_struct
+    let (domain, cpus, mut writers) = Domain::new(alloc, 3, LIMITS)?; // init_srcu_struct
 
-    let third = cpus.pop().unwrap();
-    let second = cpus.pop().unwrap();
-    let first = cpus.pop().unwrap();
-    Ok((domain, first, second, third, writers.pop().unwrap()))
+    let writer = writers.pop().unwrap();
+    let (first, second, third) = apart(&domain, cpus);
+    Ok((domain, first, second, third, writer))
 }
 
 /// Takes a cell for the configuration, and puts the first one there.
