@@ -2,6 +2,7 @@
  * Measures what a proved reader is put beside.
  *
  *     peers ROUNDS REPETITIONS MOST
+ *     peers alone NAME ROUNDS
  *
  * prints a line for each thing and each size: its name, the size, and the median, the least and the most of the
  * repetitions in nanoseconds. A thing is measured in 1, 2, 4 threads up to MOST, or at the sizes that it gives. Each thread
@@ -9,12 +10,15 @@
  * share are timed from before the first thread's start until all have ended, and that is divided by the jobs of all. A
  * thing that would take longer than `ENOUGH` is done less often. Behind that come the times from the end of a section to
  * its callback (delays.c).
+ *
+ * With `alone` it does one thing so often, at its least size, and prints nothing: so a tool can count its instructions.
  */
 #include "peers.h"
 
 #include <pthread.h>
 #include <stdio.h>
 #include <stdlib.h>
+#include <string.h>
 #include <time.h>
 
 #define MOST_THREADS 4
@@ -181,14 +185,30 @@ static void report_sizes(const struct thing *thing, uint64_t rounds, unsigned re
 		report(thing, size, rounds, repetitions);
 }
 
+static void misused(void)
+{
+	fail("usage: peers ROUNDS REPETITIONS MOST, or peers alone NAME ROUNDS");
+}
+
 static unsigned long long number_up_to(const char *word, unsigned long long most)
 {
 	char *end;
 	unsigned long long number = strtoull(word, &end, 10);
 
 	if (*word == '\0' || *end != '\0' || number < 1 || number > most)
-		fail("usage: peers ROUNDS REPETITIONS MOST");
+		misused();
 	return number;
+}
+
+static void run_alone(const char *name, uint64_t rounds)
+{
+	for (unsigned i = 0; i < sizeof things / sizeof things[0]; i++) {
+		if (strcmp(things[i]->name, name) == 0) {
+			measure(things[i], things[i]->sizes ? things[i]->sizes[0] : 1, rounds);
+			return;
+		}
+	}
+	misused();
 }
 
 int main(int count, char **words)
@@ -198,7 +218,11 @@ int main(int count, char **words)
 	unsigned most;
 
 	if (count != 4)
-		fail("usage: peers ROUNDS REPETITIONS MOST");
+		misused();
+	if (strcmp(words[1], "alone") == 0) {
+		run_alone(words[2], number_up_to(words[3], 1ull << 52));
+		return 0;
+	}
 	rounds = number_up_to(words[1], 1ull << 52);
 	repetitions = (unsigned)number_up_to(words[2], MOST_REPETITIONS);
 	most = (unsigned)number_up_to(words[3], MOST_THREADS);

@@ -2,6 +2,7 @@
 ghost use Rattle.std.specs.Prelude.{◌≤◌, IfSome};
 ghost use Rattle.srcubench.specs.Jobs.{IsMeasurable};
 
+use crate::alone::Loop;
 use sections::Limits;
 
 /// The most repetitions of one measurement.
@@ -14,6 +15,8 @@ pub enum Job {
     Count,
     /// Measure so many pairs in each thread, and a quarter of that in grace periods, so many times.
     Time { pairs: u64, repetitions: u64 },
+    /// Do one thing so many times, and print nothing.
+    Alone { which: Loop, times: u64 },
 }
 
 fn number_up_to(word: &str, most: u64) -> Option<u64>
@@ -27,12 +30,17 @@ fn number_up_to(word: &str, most: u64) -> Option<u64>
     }
 }
 
-/// `None` where the words are neither nothing nor a number of pairs and a number of repetitions.
+/// `None` where the words are neither nothing, nor a number of pairs and a number of repetitions, nor `alone`, the name of a
+/// loop and how often.
 pub fn job_of(words: &[String]) -> Option<Job>
     ensures { IfSome result IsMeasurable }
 {
     match words {
         [] => Some(Job::Count),
+        [word, name, times] if word.as_str() == "alone" => Some(Job::Alone {
+            which: Loop::named(name)?,
+            times: number_up_to(times, Limits::MOST_SECTIONS)?,
+        }),
         [pairs, repetitions] => Some(Job::Time {
             pairs: number_up_to(pairs, Limits::MOST_SECTIONS)?,
             repetitions: number_up_to(repetitions, MOST_REPETITIONS)?,

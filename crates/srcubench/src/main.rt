@@ -7,6 +7,7 @@
 
 ghost use Rattle.std.specs.Prelude.{◌*◌, ◌≤◌, ◌^◌};
 
+mod alone;
 mod asking;
 mod callbacks;
 mod calling;
@@ -459,8 +460,11 @@ fn act<R: Threads + Sync + Wait + Clock + Env + Print + Eprint + AllocGlobal>(
     match job_of(words.as_slice()) {
         Some(Job::Count) => count(rt)?,
         Some(Job::Time { pairs, repetitions }) => time(rt, pairs, repetitions)?,
+        Some(Job::Alone { which, times }) => {
+            measure(rt, which.work(times), 1)?;
+        }
         None => {
-            eprintln!(rt; "usage: srcubench [PAIRS REPETITIONS]")?;
+            eprintln!(rt; "usage: srcubench [PAIRS REPETITIONS | alone LOOP TIMES]")?;
             return Ok(ExitCode::from(MISUSED));
         }
     }
