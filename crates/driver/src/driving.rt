@@ -289,8 +289,8 @@ fn serve_watched<R: Wait, J: Drop, A: Allocator + Copy, F: FnMut(J), W: Watcher<
 /// Carries grace periods and runs callbacks until it is told to stop, and then until each job is finished whose queueing had
 /// been seen by whoever told it, or by the driver itself (`srcu_advance_state`, `srcu_invoke_callbacks`). A round is one turn
 /// of the engine and one look at each processor's list: what is ready there, at most eight jobs, is taken out, each job is
-/// handed to `work`, the first one first, and the batch is finished. Behind a round that found nothing to do it sleeps, each
-/// time twice as long, up to a millisecond.
+/// handed to `work`, the first one first, and the batch is finished. After a round that found nothing to do it yields, and
+/// later sleeps: a 128th of what it slept before, from 10 microseconds to a millisecond, with two looks after each sleep.
 ///
 /// Several threads may do so in one domain, each with a processor of its own: where one has the engine or a batch, the
 /// others go on. A section that stays open holds it up, and so does a batch that somebody else took and keeps. Where there is

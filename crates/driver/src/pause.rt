@@ -10,14 +10,20 @@ use std::time::Duration;
 /// How many pauses only let other threads run, before the first sleep: together about as long as a grace period takes.
 const YIELDS: u32 = 16;
 
-/// The shortest sleep, in microseconds.
+/// How many pauses only let other threads run after a sleep. A reader that sleeps in its section often wakes by the same tick
+/// of the clock as the driver, and ends the section just after the driver's look. So the driver looks once more before it
+/// sleeps again.
+const YIELDS_AWAKE: u32 = 1;
+
+/// The shortest sleep, in microseconds. The kernel makes each one some 55 microseconds longer, so a shorter one gains nothing.
 const SHORTEST: u64 = 10;
 
 /// The longest one: a millisecond.
 const LONGEST: u64 = 1_000;
 
 /// A sleep is so many times shorter than all sleeps before it together. So a section that was open for long is found closed
-/// after a small part of that, and a driver that waits for long looks rarely.
+/// after a small part of that, and a driver that waits for long looks rarely. A larger share costs more processor time, and
+/// brings little: most of a short sleep is what the kernel adds.
 const SHARE: u64 = 128;
 
 /// What the next pause is.
@@ -53,10 +59,11 @@ impl Pause {
         }
         let length = (self.slept / SHARE).max(SHORTEST).min(LONGEST);
         self.slept = self.slept.saturating_add(length);
+        self.yields = YIELDS_AWAKE;
         Some(Duration::from_micros(length))
     }
 
-    /// Lets other threads run; later it sleeps, or until the sign is given.
+    /// Lets other threads run; later it sleeps, or until the sign is given, and lets them run once more after each sleep.
     pub fn sleep_until<R: Wait, J, A: Allocator>(&mut self, rt: &R, stop: &Stop<J, A>) {
         match self.next() {
             Some(length) => stop.sleep(rt, length),
