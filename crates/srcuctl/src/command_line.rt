@@ -6,6 +6,7 @@ ghost use Rattle.srcuctl.specs.Options.{SetsLimit};
 
 use crate::racing;
 use clap::builder::ValueParser;
+use clap::error::ErrorKind;
 use clap::{Arg, ArgMatches, Command, Error};
 use sections::Limits;
 use std::alloc::Global;
@@ -50,6 +51,9 @@ const OF_PERIODS: &str = "\
 How many grace periods a domain may have:
 1 to 576460752303423487 (2^59 - 1); if left out, the most";
 
+/// What is told of a script that is named as an argument.
+const NO_FILE: &str = "a script comes on standard input, as in 'srcuctl run < FILE'";
+
 /// A command that takes a script, with what its help says of it.
 fn of_a_script<'a>(
     alloc: Global,
@@ -82,6 +86,7 @@ pub fn command<'a>(alloc: Global, of_scripts: &'a str) -> Result<Command<'a>, Er
     let annotate = of_a_script(alloc, "annotate", OF_ANNOTATE, OF_PAGES)?;
     let draw = of_a_script(alloc, "draw", OF_DRAW, OF_PICTURES)?;
     let srcuctl = Command::new(alloc, "srcuctl")
+        .bin_name("srcuctl")?
         .version(VERSION)
         .about("Drives sleepable RCU domains by a script")
         .after_help(of_scripts)
@@ -91,6 +96,30 @@ pub fn command<'a>(alloc: Global, of_scripts: &'a str) -> Result<Command<'a>, Er
         .subcommand(draw)?
         .subcommand(racing::command(alloc)?)?;
     Ok(srcuctl)
+}
+
+/// Whether the words name a file behind a command that takes a script.
+fn name_a_script(words: &[String]) -> bool {
+    let (Some(command), Some(first)) = (words.get(1), words.get(2)) else {
+        return false;
+    };
+    let takes_a_script = match command.as_str() {
+        "run" | "annotate" | "draw" => true,
+        _ => false,
+    };
+    takes_a_script && !first.as_str().starts_with("-")
+}
+
+/// What to tell of a wrong command line: where it names a script's file, that a script comes on standard input, and else what
+/// was found.
+pub fn explain(command: &mut Command<'_>, words: &[String], found: Error) -> Error {
+    if found.kind() != ErrorKind::UnknownArgument || !name_a_script(words) {
+        return found;
+    }
+    match command.error(ErrorKind::UnknownArgument, NO_FILE) {
+        Ok(told) => told,
+        Err(_) => found,
+    }
 }
 
 /// The limits that the options of `run` set. A domain has two cells, its chain's and its table's, of four slots each.

@@ -82,7 +82,10 @@ fn obey(
 ) -> Result<Ending, clap::Error> {
     let of_scripts = help::of_scripts(rt.alloc())?;
     let mut command = command_line::command(rt.alloc(), &of_scripts)?;
-    let matches = command.try_get_matches_from_mut(words)?;
+    let matches = match command.try_get_matches_from_mut(words) {
+        Ok(matches) => matches,
+        Err(found) => return Err(command_line::explain(&mut command, words, found)),
+    };
     // The command line takes numbers of the ranges alone. No clause of `clap` says so of a subcommand's options.
     match matches.subcommand() {
         Some(("run", options)) => {
