@@ -1,19 +1,20 @@
 -- Behind each call of a worker its processor is still of the domain, and no reading is open there.
-use Rattle.std.proofs.Common.{◌≡◌, ◌<◌, ℕ, cond, Option, Result, Ok, Err, List, [], ◌∷◌, ◌++◌, All, sym, ap, ◌∙◌, subst}
+use Rattle.std.proofs.Common.{◌≡◌, ◌<◌, ℕ, cond, Option, Result, Ok, Err, List, [], ◌∷◌, ◌++◌, All, refl, sym, ap, ◌∙◌, subst}
 use Rattle.std.proofs.lemmas.List.Elements.{All-push}
 use Rattle.std.specs.Prelude.{MatchResult, IfOk, is_ok}
 use Rattle.sections.specs.Words.{cells_in}
 use Rattle.sections.specs.Dealing.{AreNewWriters}
 use Rattle.sections.specs.Views.{ReadingView}
-use Rattle.sections.specs.Calls.{ReadLocks, Unlocks, LooksInVain}
+use Rattle.sections.specs.Calls.{ReadLocks, DownReads, Unlocks, LooksInVain}
 use Rattle.sections.specs.WriterViews.{WriterView}
 use Rattle.domain.specs.Views.{DomainView, CpuView, Stays}
 use Rattle.domain.specs.Publishing.{FindsNone}
 use Rattle.domain.specs.Waiting.{HasNoneOpen}
-use Rattle.domain.proofs.CallerLemmas.{same_put, same_reclaimed, none_still, none_looked, none_enclosed, writers_here}
+use Rattle.domain.specs.Acting.{takes, loads, ActsAs}
+use Rattle.domain.proofs.CallerLemmas.{same_put, same_reclaimed, none_still, none_looked, none_enclosed, none_held, writers_here}
 use Rattle.driver.specs.Pools.{IsIdle}
 use Rattle.driver.specs.Works.{IsKept}
-use Rattle.driver.proofs.CallerLemmas.{idle_kept}
+use Rattle.driver.proofs.CallerLemmas.{idle_kept, kept_plain, kept_quiet}
 use Rattle.shelf.specs.Reading.{Reads}
 use Rattle.shelf.specs.Replacing.{Replaces}
 use Rattle.shelf.proofs.CallerLemmas as shelf
@@ -30,10 +31,8 @@ use Rattle.notify.specs.declared.refusals.RegisterRefusal.{RegisterRefusal}
 use Rattle.notify.specs.declared.refusals.RegisterRefusal.TheVariants as register
 use Rattle.notify.specs.declared.refusals.UnregisterRefusal.{UnregisterRefusal}
 use Rattle.notify.specs.declared.refusals.UnregisterRefusal.TheVariants as unregister
-use Rattle.notify.specs.Chains.{ChainState, ChainCell}
+use Rattle.notify.specs.Chains.{ChainState}
 use Rattle.notify.specs.Changes.{Puts, Registers, RefusesRegister, Unregisters, RefusesUnregister}
-use Rattle.notify.specs.Reading.{Calls, IsRefused}
-use Rattle.notify.proofs.CallerLemmas.{none_called, none_refused}
 use Rattle.srcu.specs.Workers.{AreWritersOf}
 
 -- two facts of what came out
@@ -68,13 +67,23 @@ module _ {J : Type 0} where
   idle_leased d cell c c' (Ok lease) idle stays h = record { here = stays d idle.here; closed = plugs.none_leased c c' h idle.closed }
   idle_leased d cell c c' (Err e) idle stays h = record { here = stays d idle.here; closed = none_looked c c' h idle.closed }
 
+  -- a held section is no reading, and of its processor's domain
+  pub idle_downed : {E : Type 0} (d : DomainView) (c c' : CpuView J) (r : Result ReadingView E) → IsIdle d c → Stays c c' → MatchResult r (λ held. DownReads c.cpu c'.cpu held) (λ _. LooksInVain c.cpu c'.cpu) → IsIdle d c'
+  idle_downed d c c' (Ok held) idle stays h = record { here = stays d idle.here; closed = none_held c c' held h idle.closed }
+  idle_downed d c c' (Err e) idle stays h = record { here = stays d idle.here; closed = none_looked c c' h idle.closed }
+
+  pub downed_here : {E : Type 0} (d : DomainView) (c c' : CpuView J) (r : Result ReadingView E) → IsIdle d c → MatchResult r (λ held. DownReads c.cpu c'.cpu held) (λ _. LooksInVain c.cpu c'.cpu) → IfOk r (λ held. held.domain ≡ d.domain)
+  downed_here d c c' (Ok held) idle h = ap (λ (z : ReadingView). z.domain) h.enters.reading ∙ (h.looks.load.same.0 ∙ idle.here.domain)
+  downed_here d c c' (Err e) idle h = tt
+
   pub leased_here : {E : Type 0} (d : DomainView) (cell : ℕ) (c c' : CpuView J) (r : Result LeaseView E) → IsIdle d c → MatchResult r (λ lease. Leases cell lease c c') (λ _. LooksInVain c.cpu c'.cpu) → IfOk r (λ lease. lease.held.domain ≡ d.domain)
   leased_here d cell c c' (Ok lease) idle h = ap (λ (z : ReadingView). z.domain) h.downs.enters.reading ∙ (h.downs.looks.load.same.0 ∙ idle.here.domain)
   leased_here d cell c c' (Err e) idle h = tt
 
-  pub idle_called : {E : Type 0} (d : DomainView) (gives : ℕ → ℕ → Type 0) (v : ChainCell) (c c' : CpuView J) (r : Result (ℕ × ℕ) E) → IsIdle d c → Stays c c' → MatchResult r (λ a. Calls gives v c c' a.0 a.1) (λ _. IsRefused c c') → IsIdle d c'
-  idle_called d gives v c c' (Ok a) idle stays h = record { here = stays d idle.here; closed = none_called c c' h.reads idle.closed }
-  idle_called d gives v c c' (Err e) idle stays h = record { here = stays d idle.here; closed = none_refused c c' h idle.closed }
+  -- taking out what is ready opens no section
+  pub idle_taken : {X E : Type 0} (d : DomainView) (changes p : ℕ) (c c' : CpuView J) (r : Result X E) → IsIdle d c → MatchResult r (λ _. ActsAs (takes changes p) c c') (λ _. ActsAs loads c c') → IsIdle d c'
+  idle_taken d changes p c c' (Ok x) idle acts = idle_still d c c' idle (kept_plain c c' acts _ refl refl (λ s. refl))
+  idle_taken d changes p c c' (Err e) idle acts = idle_still d c c' idle (kept_quiet c c' acts refl)
 
   -- Changing
 

@@ -1,1 +1,3 @@
-pub mod Keeping
+pub mod CallerLemmas
+mod Keeping
+mod Leasing

@@ -11,6 +11,8 @@ pub use Rattle.driver.specs.Signs
 pub use Rattle.driver.specs.Works
 pub mod Words
 pub mod Workers
+pub mod Leases
+pub mod Answers
 pub mod Insides
 pub mod Teams
 pub mod TeamInsides

@@ -2,6 +2,9 @@
 
 -- a domain, its processors and cells, and a processor on which no reading is open
 pub use Rattle.domain.specs.Views.{DomainView, CpuView, IsOf}
+pub use Rattle.sections.specs.Words.{cells_in}
+pub use Rattle.sections.specs.Calls.{IsSameCpu}
+pub use Rattle.sections.specs.WriterViews.{WriterView}
 pub use Rattle.domain.specs.Waiting.{HasNoneOpen}
 pub use Rattle.driver.specs.Pools.{IsIdle, IsOut}
 pub use Rattle.srcu.specs.Workers.{WorkerView, IsSameWorker, IsCellOf, IsWriterOf, AreWritersOf}
@@ -9,15 +12,24 @@ pub use Rattle.srcu.specs.Teams.{TeamView}
 -- waiting
 pub use Rattle.domain.specs.Waiting.{Synchronizes, WaitsInVain, WaitedFor, StartsPoll}
 pub use Rattle.sections.specs.Calls.{AllClosed}
+pub use Rattle.sections.specs.Views.{CookieView, IsKnownIn}
 -- callbacks
 pub use Rattle.domain.specs.Calling.{CallsIn, RefusesCall}
 pub use Rattle.domain.specs.Barriers.{IsTicketOf}
 -- drivers
 pub use Rattle.driver.specs.Serving.{Works, EndsInVain, IsStopped, AllFinished}
 pub use Rattle.driver.specs.Signs.{Gives, IsServed}
+-- sections, and work in one
+pub use Rattle.sections.specs.Views.{ReadingView, FoundView}
+pub use Rattle.sections.specs.Calls.{ReadLocks, DownReads, Unlocks, LooksInVain}
+pub use Rattle.sections.specs.Reads.{Finds, AreWords, IsPinned}
+pub use Rattle.driver.specs.Works.{MayRead, KeepsReadings, ReadsIn, IsKept}
 -- versions
 pub use Rattle.srcu.specs.Workers.{ReadsOnce}
+pub use Rattle.srcu.specs.Leases.{HasPlug}
 pub use Rattle.shelf.specs.Replacing.{Replaces}
+pub use Rattle.plugs.specs.Views.{TableState, LeaseView}
+pub use Rattle.plugs.specs.Tables.{plug_of}
 pub use Rattle.plugs.specs.Reading.{LooksUp, Leases, Gets}
 pub use Rattle.plugs.specs.Changes.{Installs, Removes}
 pub use Rattle.notify.specs.Reading.{Calls}

@@ -1,14 +1,16 @@
 //! One crate to name: a worker, which is a processor with its domain, and all calls that a user needs of the libraries below.
 #![tactic(auto)]
 
+mod answers;
 mod making;
 mod team;
 mod worker;
 
+pub use answers::{Called, Ids, Lens};
 pub use domain::{
     AdvanceRefusal, Batch, CallRefusal, Cookie, CookieSet, Cpu, Domain, Exhausted, Held, HeldPin,
     InUse, Limits, MakeError, Memory, PeriodsExhausted, Pin, Progress, Reading, Receipt,
-    TakeRefusal, Ticket, Totals, Writer,
+    TakeRefusal, Ticket, TimedOut, Totals, WaitRefusal, Writer,
 };
 pub use driver::{GiveRefusal, Lent, Pool, Served, Slip, Stop, Stopped, Told};
 pub use making::{clean_up, make};

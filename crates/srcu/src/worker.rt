@@ -9,7 +9,9 @@ use std::marker::Model;
 mod calling;
 mod changing;
 mod driving;
+mod holding;
 mod reading;
+mod taking;
 mod waiting;
 
 /// A processor with the domain that it is of, on which no reading is open. One thread owns it. So its calls ask for neither.
@@ -59,6 +61,7 @@ impl<'a, J, A: Allocator> Worker<'a, J, A> {
     pub fn into_cpu(self) -> Cpu<J, A>
         ensures cpu { result ≡ self.entry.cpu }
         ensures idle { IsIdle self.entry.domain result }
+        ensures domain { result.cpu.domain ≡ self.entry.domain.domain }
     {
         let Worker { domain: _, cpu } = self;
         cpu

@@ -2,14 +2,17 @@
 ghost use Rattle.std.specs.Prelude.{◌≡◌, ◌≤◌, length, IfOk, MatchResult};
 ghost use Rattle.sections.specs.Calls.{LooksInVain, Unlocks};
 ghost use Rattle.domain.specs.Views.{with_cpu};
+ghost use Rattle.driver.specs.Pools.{IsIdle};
 ghost use Rattle.driver.specs.Works as works;
 ghost use Rattle.driver.specs.Works.{MayRead, KeepsReadings, ReadsIn};
 ghost use Rattle.plugs.specs.Reading.{LooksUp, Leases, Gets};
 ghost use Rattle.notify.specs.Calling.{GivesAt};
 ghost use Rattle.notify.specs.Reading as chains;
 ghost use Rattle.srcu.specs.Workers.{IsSameWorker, IsCellOf, ReadsOnce};
+ghost use Rattle.srcu.specs.Leases.{HasPlug};
 
 use super::Worker;
+use crate::answers::{Called, Ids};
 use domain::{Cpu, Exhausted, Reading};
 use notify::{ChainView, Handler};
 use plugs::{Lease, TableView, release};
@@ -23,8 +26,8 @@ impl<'a, J> Worker<'a, J> {
         &mut self,
         work: F,
     ) -> Result<T, Exhausted>
-        requires may { MayRead F.FnOnce work self.old.cpu }
-        requires keeps { KeepsReadings F.FnOnce work self.old.cpu }
+        requires may { IsIdle self.old.domain self.old.cpu → MayRead F.FnOnce work self.old.cpu }
+        requires keeps { IsIdle self.old.domain self.old.cpu → KeepsReadings F.FnOnce work self.old.cpu }
         ensures same { IsSameWorker self.old self.new }
         ensures reads { MatchResult result
             (λ answer. ReadsIn F.FnOnce work self.old.cpu answer self.new.cpu)
@@ -79,6 +82,9 @@ impl<'a, J, A: Allocator> Worker<'a, J, A> {
         requires { lease.old.held.domain ≡ self.old.domain.domain }
         ensures same { IsSameWorker self.old self.new }
         ensures gets { Gets lease.old key result self.old.cpu self.new.cpu }
+
+        // So it is the same one each time, on whichever worker (`one_plug`).
+        ensures plug { HasPlug lease.old.found key result }
         ensures lease { lease.new ≡ lease.old }
         ensures rest { self.new.cpu ≡ with_cpu self.new.cpu.cpu self.old.cpu }
     {
@@ -96,21 +102,34 @@ impl<'a, J, A: Allocator> Worker<'a, J, A> {
     }
 
     /// Calls the handlers of a chain in one section (`srcu_notifier_call_chain`), up to the first that gives the stop bit.
-    /// Returns the last result, and how many were called. A handler may sleep.
+    /// A handler may sleep.
     pub fn call_chain(
         &mut self,
         chain: &ChainView,
         handlers: &[Box<dyn Handler>],
         action: u64,
         value: u64,
-    ) -> Result<(u32, u64), Exhausted>
+    ) -> Result<Called, Exhausted>
         requires cell { IsCellOf self.old.domain chain.now.cell }
         requires handlers { chain.now.ids ≤ length handlers.now }
         ensures same { IsSameWorker self.old self.new }
         ensures calls { MatchResult result
-            (λ r. chains.Calls (GivesAt (λ h x. answers h action value x) handlers.now) chain.now self.old.cpu self.new.cpu r.0 r.1)
+            (λ r. chains.Calls (GivesAt (λ h x. answers h action value x) handlers.now) chain.now self.old.cpu self.new.cpu r.last r.handlers)
             (λ _. chains.IsRefused self.old.cpu self.new.cpu) }
     {
-        chain.call_chain(&mut self.cpu, handlers, action, value)
+        let (last, handlers) = chain.call_chain(&mut self.cpu, handlers, action, value)?;
+        Ok(Called { last, handlers })
+    }
+
+    /// The ids of a chain's handlers, of one version.
+    pub fn ids(&mut self, chain: &ChainView) -> Result<Ids, Exhausted>
+        requires { IsCellOf self.old.domain chain.now.cell }
+        ensures same { IsSameWorker self.old self.new }
+        ensures lists { MatchResult result
+            (λ r. chains.Lists chain.now self.old.cpu self.new.cpu r.ids r.count)
+            (λ _. chains.IsRefused self.old.cpu self.new.cpu) }
+    {
+        let (ids, count) = chain.ids(&mut self.cpu)?;
+        Ok(Ids { ids, count })
     }
 }

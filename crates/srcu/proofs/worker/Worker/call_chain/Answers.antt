@@ -1,6 +1,6 @@
 -- Its section is closed again.
-use Rattle.srcu.proofs.Keeping.{idle_called}
+use Rattle.notify.proofs.CallerLemmas.{none_called}
 use Rattle.srcu.proofs.worker.Worker.call_chain.Goals as goal
 
-pub invariant_of-self : goal.invariant_of-self
-invariant_of-self g c = idle_called _ _ _ _ _ c.call_chain.result c.self.invariant c.call_chain.ensures.stays c.call_chain.ensures.calls
+pub invariant_of-self-2 : goal.invariant_of-self-2
+invariant_of-self-2 g c = record { here = c.in_ok-last.ensures.stays _ c.self.invariant.here; closed = none_called c.self.inside.cpu c.call_chain.new.cpu c.in_ok-last.ensures.calls.reads c.self.invariant.closed }

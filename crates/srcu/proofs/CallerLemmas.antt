@@ -1,0 +1,16 @@
+-- What a crate above may cite of this one and of those below it; the other files of proofs/ are its own.
+use Rattle.std.proofs.Common.{ℕ, List}
+use Rattle.sections.specs.Views.{ReadingView}
+use Rattle.domain.specs.Views.{CpuView, Stays}
+use Rattle.driver.specs.Works.{IsKept}
+use Rattle.driver.proofs.CallerLemmas.{kept_open}
+use Rattle.shelf.specs.Reading.{Reads}
+use Rattle.shelf.proofs.CallerLemmas.{same_read, rest_read, open_read}
+-- a version has the same words each time, and a lease the same plug of a key
+pub use Rattle.shelf.proofs.CallerLemmas.{same_words}
+pub use Rattle.srcu.proofs.Leasing.{one_plug}
+
+module _ {J : Type 0} where
+  -- for work in `Worker::read`: reading a value begins and ends no section
+  pub kept_read : {T : Type 0} (value : List ℕ → T) (cell : ℕ) (r : ReadingView) (c c' : CpuView J) (x : T) → Reads value cell r c c' x → Stays c c' → IsKept c c'
+  kept_read value cell r c c' x reads stays = kept_open c c' (same_read value cell r c c' x reads) (rest_read value cell r c c' x reads) (open_read value cell r c c' x reads) stays
