@@ -2,7 +2,9 @@
 #![tactic(auto)]
 
 mod answers;
+mod limits;
 mod making;
+mod refusal;
 mod team;
 mod worker;
 
@@ -13,11 +15,13 @@ pub use domain::{
     TakeRefusal, Ticket, TimedOut, Totals, WaitRefusal, Writer,
 };
 pub use driver::{GiveRefusal, Lent, Pool, Served, Slip, Stop, Stopped, Told};
+pub use limits::WIDEST;
 pub use making::{clean_up, make};
 pub use notify::{
     BAD, Chain, ChainView, DONE, Handler, OK, RegisterRefusal, STOP, STOP_BIT, UnregisterRefusal,
 };
 pub use plugs::{InstallRefusal, Lease, RemoveRefusal, Row, Table, TableView};
+pub use refusal::Refusal;
 pub use shelf::{NoSlot, Shelf, Values, Versioned};
 pub use team::Team;
 pub use worker::Worker;

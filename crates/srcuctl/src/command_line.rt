@@ -98,7 +98,7 @@ pub fn command<'a>(alloc: Global, of_scripts: &'a str) -> Result<Command<'a>, Er
     Ok(srcuctl)
 }
 
-/// Whether the words name a file behind a command that takes a script.
+/// Whether the words name a file after a command that takes a script.
 fn name_a_script(words: &[String]) -> bool {
     let (Some(command), Some(first)) = (words.get(1), words.get(2)) else {
         return false;

@@ -1,6 +1,6 @@
--- The processor stays idle.
-use Rattle.driver.specs.Pools.{IsIdle}
+-- The worker stays at its domain.
+use Rattle.std.proofs.Common.{◌≡◌}
 use Rattle.hello.proofs.queue.Given as goal
 
 abbrev pub invariant-loop-job : goal.invariant-loop-job
-invariant-loop-job g l = IsIdle l.domain l.cpu
+invariant-loop-job g l = l.worker.domain ≡ l.entry.worker.domain

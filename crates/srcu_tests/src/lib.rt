@@ -1,0 +1,5 @@
+//! The tests of srcu.
+#![tactic(auto)]
+
+#[cfg(test)]
+mod tests;
