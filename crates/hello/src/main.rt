@@ -49,8 +49,8 @@ fn at_once<R: Wait + Threads + Sync>(
 ) -> Result<(bool, u64), Refusal>
     requires { stop.now.domain ≡ team.domain }
 {
-    let first = team.worker().ok_or(Refusal::Missing(2))?;
-    let second = team.worker().ok_or(Refusal::Missing(1))?;
+    let first = team.worker().ok_or(Refusal::NoWorker)?;
+    let second = team.worker().ok_or(Refusal::NoWorker)?;
     Ok(join(
         rt,
         || queue_and_tell(rt, first, stop),

@@ -1,4 +1,4 @@
-//! One crate to name: a worker, which is a processor with its domain, and all calls that a user needs of the libraries below.
+//! One crate to name: a worker, which is a processor with its domain, and the calls that most programs need of the libraries below.
 #![tactic(auto)]
 
 mod answers;
@@ -10,11 +10,15 @@ mod worker;
 
 pub use answers::{Called, Ids, Lens};
 pub use domain::{
-    AdvanceRefusal, Batch, CallRefusal, Cookie, CookieSet, Cpu, Domain, Exhausted, Held, HeldPin,
-    InUse, Limits, MakeError, Memory, PeriodsExhausted, Pin, Progress, Reading, Receipt,
-    TakeRefusal, Ticket, TimedOut, Totals, WaitRefusal, Writer,
+    AdvanceRefusal, Batch, CallRefusal, Cookie, CookieSet, Counts, Cpu, Domain, Exhausted, Held,
+    HeldPin, Holder, InUse, Index, Limits, MakeError, Memory, Number, Pair, PeriodsExhausted, Pin,
+    Progress, Reading, Receipt, Snapshot, TakeRefusal, Ticket, TimedOut, Totals, WaitRefusal,
+    Writer,
 };
-pub use driver::{GiveRefusal, Lent, Pool, Served, Slip, Stop, Stopped, Told};
+pub use driver::{
+    GiveRefusal, Lent, Listener, Pool, Report, Served, Slip, Stall, Stop, Stopped, Tallied, Tally,
+    Told, serve_with,
+};
 pub use limits::WIDEST;
 pub use making::{clean_up, make};
 pub use notify::{

@@ -1,6 +1,8 @@
 //! A new domain, and how one is taken down.
-ghost use Rattle.std.specs.Prelude.{All, IfErr, IfOk, MatchResult};
+ghost use Rattle.std.specs.Prelude.{◌≡◌, All, IfErr, IfOk, MatchResult};
+ghost use Rattle.sections.specs.Dealing.{AreNewWriters};
 ghost use Rattle.sections.specs.Making.{IsRefused, bounds_of};
+ghost use Rattle.sections.specs.Words.{cells_in};
 ghost use Rattle.domain.specs.Cleanup as cleanup;
 ghost use Rattle.domain.specs.Cleanup.{IsTakenDown, IsHandedBack};
 ghost use Rattle.domain.specs.Making.{IsMade};
@@ -10,7 +12,8 @@ ghost use Rattle.srcu.specs.Workers.{AreWritersOf};
 use domain::{Cpu, Domain, InUse, Limits, MakeError, Totals, Writer};
 use std::alloc::Allocator;
 
-/// Makes a domain with its processors, in the order of their numbers, and the writers of its cells (`init_srcu_struct`).
+/// Makes a domain with its processors, in the order of their numbers, and a writer for each cell, in the order of the cells
+/// (`init_srcu_struct`).
 /// Each processor may become a worker.
 pub fn make<J: Drop, A: Allocator + Copy>(
     alloc: A,
@@ -20,6 +23,8 @@ pub fn make<J: Drop, A: Allocator + Copy>(
     ensures made { IfOk result (λ m. IsMade (bounds_of processors limits) m.0 m.1.items) }
     ensures idle { IfOk result (λ m. All (IsIdle m.0) m.1.items) }
     ensures writers { IfOk result (λ m. AreWritersOf m.0 m.2.items) }
+    ensures cells { IfOk result (λ m. cells_in m.0.domain ≡ limits.cells) }
+    ensures each { IfOk result (λ m. AreNewWriters m.0.domain limits.cells limits.slots m.2.items) }
     ensures refused { IsRefused processors limits result }
 {
     Domain::new(alloc, processors, limits)

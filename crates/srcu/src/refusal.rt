@@ -10,14 +10,14 @@ use shelf::NoSlot;
 use std::alloc::{AllocError, AllocFailed, Allocator};
 use thiserror::Error;
 
-/// Why a call was refused. The text says what to do about it. Each call's own refusal says what is left; where something came
-/// back beside it, `?` drops that.
+/// Why a call was refused. The text says what to do. `?` drops what came back beside it: a job, a cookie, a domain. Match on the
+/// call's own refusal to keep that.
 #[derive(Clone, Copy, Debug, Error, PartialEq, Eq)]
 pub enum Refusal {
     /// An allocation was refused.
     #[error("out of memory: free some, and call again")]
     Memory,
-    /// No domain has so many processors.
+    /// The number of processors is 0 or above 256.
     #[error("a domain has from 1 to 256 processors: ask for so many")]
     Processors,
     /// A limit of the domain is out of its range.
@@ -29,8 +29,8 @@ pub enum Refusal {
     /// As many grace periods have ended as `Limits.periods` allows.
     #[error("no more grace periods may start: make a new domain")]
     Periods,
-    /// The time was over before what was waited for.
-    #[error("the time is over: wait again, or poll the cookie")]
+    /// The limit passed before the wait ended.
+    #[error("the time is over: find who holds it up, and wait again")]
     TimedOut,
     /// 2^54 jobs were queued on the processor.
     #[error("no more jobs may be queued on this processor: queue on another one")]
@@ -41,7 +41,7 @@ pub enum Refusal {
     /// A batch of the processor is out.
     #[error("a batch of this processor is out: finish it, and call again")]
     Invoking,
-    /// No slot of the cell is blank, and none that is retired may be used again yet. Or 2^54 versions were put.
+    /// Every slot holds the current version or one that a section may still read. Or the cell has had 2^54 versions.
     #[error("no slot of the cell is free: synchronize, and call again")]
     NoSlot,
     /// The table has fifteen keys.
@@ -59,10 +59,16 @@ pub enum Refusal {
     /// The handler is not in the chain.
     #[error("the handler is not in the chain: register it before")]
     NotRegistered,
+    /// A team has no worker left.
+    #[error("no worker is left: make the domain with more processors")]
+    NoWorker,
+    /// A team has no writer left.
+    #[error("no writer is left: make the domain with more cells")]
+    NoWriter,
     /// The sign was given before.
     #[error("the sign was given before: wait for the driver's end")]
     Given,
-    /// So many processors were not handed in.
+    /// The domain lacks so many of its processors.
     #[error("processors that are out: {0}; hand in all of them")]
     Missing(u16),
     /// So many sections are open.

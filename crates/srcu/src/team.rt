@@ -73,7 +73,7 @@ impl<'a, J, A: Allocator> Team<'a, J, A> {
         }
     }
 
-    /// Takes the writer of a cell out, if one is there.
+    /// Takes the writer of the last cell out that has its writer here, if one is there.
     pub fn writer(&mut self) -> Option<Writer>
         ensures domain { self.new.domain ≡ self.old.domain }
         ensures writer { MatchOption result

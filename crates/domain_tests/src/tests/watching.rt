@@ -172,7 +172,7 @@ fn print_with_a_section(
     domain: &Domain<()>,
     first: &mut Cpu<()>,
     second: &mut Cpu<()>,
-) -> Result<[String; 2], AllocError>
+) -> Result<(String, String), AllocError>
     requires first { IsOf domain.now first.old }
     requires second { IsOf domain.now second.old }
 {
@@ -184,7 +184,7 @@ fn print_with_a_section(
     let snapshot = snapshot?;
     let lines = format!(in alloc; "{snapshot}")?;
     let columns = format!(in alloc; "{}", snapshot.table())?;
-    Ok([lines, columns])
+    Ok((lines, columns))
 }
 
 /// Would catch a count of another processor or index, a wrong sign, and a sum that isn't one.
@@ -192,9 +192,9 @@ fn print_with_a_section(
 fn prints_itself(rt: HostRuntime) -> Result<(), Fail> {
     let (domain, mut first, mut second) = two_cpus(rt.alloc())?;
     let both = hand_over(&domain, &mut first, &mut second)
-        && hand_over(&domain, &mut first, &mut second);
+        & hand_over(&domain, &mut first, &mut second);
     domain.start_poll(&mut first);
-    let [lines, columns] = print_with_a_section(rt.alloc(), &domain, &mut first, &mut second)?;
+    let (lines, columns) = print_with_a_section(rt.alloc(), &domain, &mut first, &mut second)?;
     assert!(rt; both);
     assert_eq!(rt; lines.as_str(), LINES);
     assert_eq!(rt; columns.as_str(), COLUMNS);

@@ -15,8 +15,8 @@ use std::alloc::Allocator;
 use std::sync::Wait;
 
 impl<'a, J: Drop, A: Allocator + Copy> Worker<'a, J, A> {
-    /// Queues a job (`call_srcu`), which whoever drives runs once no section is open that is open now. Where it is refused,
-    /// the job comes back.
+    /// Queues a job (`call_srcu`). It is ready once no section is open that is open now, and `serve`, `barrier` or `take_ready`
+    /// runs it. Where it is refused, the job comes back.
     pub fn call<R: Wait>(&mut self, rt: &R, job: J) -> Result<Receipt<J>, (J, CallRefusal)>
         ensures same { IsSameWorker self.old self.new }
         ensures processor { IsSameProcessor self.old.cpu self.new.cpu }

@@ -77,8 +77,8 @@ impl<'a, J, A: Allocator> Worker<'a, J, A> {
         chain.register(self.domain, &mut self.cpu, id, priority)
     }
 
-    /// Unregisters the handler of this id (`srcu_notifier_chain_unregister`). After the next grace period no call of the
-    /// chain runs it.
+    /// Unregisters the handler of this id (`srcu_notifier_chain_unregister`). After the grace period that it asks for, no
+    /// call of the chain runs it.
     pub fn unregister(&mut self, chain: &mut Chain, id: u64) -> Result<(), UnregisterRefusal>
         requires chain { chain.old.writer.domain ≡ self.old.domain.domain }
         requires id { id < chain.old.ids }

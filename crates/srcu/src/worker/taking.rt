@@ -85,8 +85,8 @@ impl<'a, J, A: Allocator> Worker<'a, J, A> {
         self.domain.barrier_poll(&mut self.cpu, ticket)
     }
 
-    /// Waits until the ticket's jobs are finished, for so long at most. Other threads run them: it runs none itself, as
-    /// [`Worker::barrier`] does.
+    /// Waits until the ticket's jobs are finished, for so long at most. Other threads drive and run them: this call only polls,
+    /// where [`Worker::barrier`] works.
     pub fn barrier_for<R: Wait + Clock>(
         &mut self,
         rt: &R,

@@ -113,13 +113,13 @@ fn refusals_of_versions(rt: HostRuntime) -> Result<(), Fail> {
 }
 
 /// Each refusal and its text.
-const TEXTS: [(Refusal, &str); 20] = [
+const TEXTS: [(Refusal, &str); 22] = [
     (Refusal::Memory, "out of memory: free some, and call again"),
     (Refusal::Processors, "a domain has from 1 to 256 processors: ask for so many"),
     (Refusal::Limits, "a limit is out of its range: begin with `WIDEST`"),
     (Refusal::Sections, "no more sections may begin on this processor: read on another one"),
     (Refusal::Periods, "no more grace periods may start: make a new domain"),
-    (Refusal::TimedOut, "the time is over: wait again, or poll the cookie"),
+    (Refusal::TimedOut, "the time is over: find who holds it up, and wait again"),
     (Refusal::Jobs, "no more jobs may be queued on this processor: queue on another one"),
     (Refusal::Busy, "another call drives the grace period: call again"),
     (Refusal::Invoking, "a batch of this processor is out: finish it, and call again"),
@@ -129,6 +129,8 @@ const TEXTS: [(Refusal, &str); 20] = [
     (Refusal::ChainFull, "the chain is full: unregister a handler, and call again"),
     (Refusal::Registered, "the handler is in the chain: unregister it before"),
     (Refusal::NotRegistered, "the handler is not in the chain: register it before"),
+    (Refusal::NoWorker, "no worker is left: make the domain with more processors"),
+    (Refusal::NoWriter, "no writer is left: make the domain with more cells"),
     (Refusal::Given, "the sign was given before: wait for the driver's end"),
     (Refusal::Missing(1), "processors that are out: 1; hand in all of them"),
     (Refusal::Open(2), "sections that are open: 2; close them before"),
