@@ -78,7 +78,7 @@ fn ends_with_no_job_left(rt: HostRuntime) -> Result<(), Fail> {
     Ok(())
 }
 
-/// How three waits of a worker end: while another one's held section is open, for jobs that nobody runs, and after the section's
+/// How three waits of a worker end: while another one's held section is open, for jobs that stay queued, and after the section's
 /// end.
 type Waits = (Option<Refusal>, Option<Refusal>, Option<Refusal>);
 
