@@ -1,0 +1,232 @@
+//! A packet filter, whose rules and policy are changed while it filters.
+#![tactic(auto)]
+
+ghost use Rattle.std.specs.Prelude.{◌≡◌, IfOk};
+ghost use Rattle.std.specs.Thread.{IsSync};
+
+mod control;
+mod shared;
+
+use anyhow::{Error, Result, anyhow};
+use control::{Control, Subscriber};
+use shared::{PORT, Policy, Shared};
+use srcu::{
+    Chain, Domain, Handler, Lease, Limits, Shelf, Stop, Table, Team, Totals, Worker, clean_up, make,
+};
+use std::sync::Wait;
+use std::sync::atomic::Ordering::SeqCst;
+use std::sync::atomic::{AtomicBool, AtomicU64};
+use std::thread::{Threads, join};
+
+const LIMITS: Limits = Limits {
+    sections: Limits::MOST_SECTIONS,
+    periods: Limits::MOST_PERIODS,
+    cells: 3, // the rules, the policy, and the chain
+    slots: 4,
+};
+
+/// Filters packets to ports from 0 to 9 in turn. Returns how many pass, by the port's rule, or where it has none, by the policy.
+fn filter(worker: &mut Worker<'_, u64>, shared: &Shared) -> Result<u32>
+    requires { worker.old.domain ≡ shared.now.stop.domain }
+    ensures { worker.new.domain ≡ worker.old.domain }
+{
+    let mut passed: u32 = 0;
+    for packet in 0..1_000 {
+        let passes = match worker.lookup(&shared.rules, packet % 10)? {
+            Some(verdict) => verdict == 1,
+            None => worker.get(&shared.policy)?.passes == 1,
+        };
+        passed = passed.saturating_add(passes as u32);
+    }
+    Ok(passed)
+}
+
+/// Filters by the old rules, leases them, and filters by the new ones. The lease comes between the two counts.
+fn filter_twice(worker: &mut Worker<'_, u64>, shared: &Shared) -> Result<(u32, Lease, Result<u32>)>
+    requires { worker.old.domain ≡ shared.now.stop.domain }
+    ensures worker { worker.new.domain ≡ worker.old.domain }
+    ensures lease { IfOk result (λ r. r.1.held.domain ≡ worker.old.domain.domain) }
+{
+    let before = filter(worker, shared)?;
+    let lease = worker.lease(&shared.rules)?;
+    shared.old.store(true, SeqCst);
+    shared.wait_for(&shared.new);
+    Ok((before, lease, filter(worker, shared)))
+}
+
+/// Once the old rules were read, changes one, and the policy twice. Returns how many subscribers were told.
+fn change<R: Wait>(rt: &R, control: &mut Control<'_>, shared: &Shared) -> Result<u64>
+    ensures { control.new.worker.domain ≡ control.old.worker.domain }
+{
+    let (host, alloc) = (shared.host, shared.host.alloc());
+    let mut handlers: Vec<Box<dyn Handler>> = Vec::new(alloc);
+    handlers.push(Box::new(alloc, Subscriber { host, nap: 0 })?)?;
+    handlers.push(Box::new(alloc, Subscriber { host, nap: 20 })?)?;
+    shared.wait_for(&shared.old);
+    let told = control.set_rule(&handlers, PORT, 0)?;
+    control.set_policy(rt, 1, Policy { passes: 1 }, shared)?;
+    control.set_policy(rt, 2, Policy { passes: 1 }, shared)?;
+    shared.new.store(true, SeqCst);
+    Ok(told)
+}
+
+/// What a run came to: how many packets passed by the old rules and by the new ones, and how many subscribers were told.
+#[derive(Drop)]
+struct Came {
+    before: u32,
+    after: u32,
+    /// What the old rules say of the port, read by the control thread, and how many policies were filed by then.
+    leased: Option<u32>,
+    early: u64,
+    told: u64,
+}
+
+/// Both threads at once. Then the control thread reads the lease and ends it, and waits for the driver.
+fn operate<R: Threads + Wait + Sync>(
+    rt: &R,
+    worker: &mut Worker<'_, u64>,
+    control: &mut Control<'_>,
+    shared: &Shared,
+) -> Result<Came>
+    requires { (worker.old.domain ≡ shared.now.stop.domain) × (control.old.worker.domain ≡ shared.now.stop.domain) }
+    ensures { (worker.new.domain ≡ worker.old.domain) × (control.new.worker.domain ≡ control.old.worker.domain) }
+{
+    let (found, changed) = join(
+        rt,
+        || filter_twice(worker, shared),
+        || change(rt, control, shared),
+    );
+    let (before, mut lease, after) = found?;
+    let early = shared.filed.load(SeqCst);
+    let leased = control.worker.leased(&mut lease, PORT);
+    control.worker.release(lease);
+    let told = changed?;
+    control.settle(rt, shared)?;
+    Ok(Came {
+        before,
+        after: after?,
+        leased,
+        early,
+        told,
+    })
+}
+
+/// Begins, and does the same beside a driver, which is told to stop at the end.
+fn drive<R: Threads + Wait + Sync>(
+    rt: &R,
+    driver: &mut Worker<'_, u64>,
+    worker: &mut Worker<'_, u64>,
+    control: &mut Control<'_>,
+    shared: &Shared,
+) -> Result<Came>
+    requires { (driver.old.domain ≡ shared.now.stop.domain) × (worker.old.domain ≡ shared.now.stop.domain) × (control.old.worker.domain ≡ shared.now.stop.domain) }
+    ensures { (driver.new.domain ≡ driver.old.domain) × (worker.new.domain ≡ worker.old.domain) × (control.new.worker.domain ≡ control.old.worker.domain) }
+{
+    control.begin()?;
+    let (served, came) = join(
+        rt,
+        || driver.serve(rt, &shared.stop, |_old| shared.file()),
+        ||
+            requires { IsSync R.row × (worker.now.domain ≡ shared.now.stop.domain) × (control.now.worker.domain ≡ shared.now.stop.domain) }
+        {
+            let came = operate(rt, worker, control, shared);
+            shared.stop.give_alone(rt, control.worker.domain());
+            came
+        },
+    );
+    match served {
+        Ok(_) => came,
+        Err((_, exhausted)) => Err(exhausted.into()),
+    }
+}
+
+/// Fewer processors or cells were made than are asked for.
+fn missing() -> Error {
+    anyhow!("too few processors or cells")
+}
+
+/// The control thread's worker with what it writes, and what the threads share.
+fn equip<'a>(
+    team: &mut Team<'a, u64>,
+    stop: Stop<u64>,
+    host: HostRuntime,
+) -> Result<(Control<'a>, Shared)>
+    requires { stop.domain ≡ team.old.domain }
+    ensures team { team.new.domain ≡ team.old.domain }
+    ensures control { IfOk result (λ r. r.0.worker.domain ≡ team.old.domain) }
+    ensures shared { IfOk result (λ r. r.1.stop.domain ≡ team.old.domain) }
+{
+    let worker = team.worker().ok_or(missing())?;
+    let (rules, rules_read) = Table::new(team.writer().ok_or(missing())?);
+    let (policy, policy_read) = Shelf::new(team.writer().ok_or(missing())?);
+    let writer = team.writer().ok_or(missing())?;
+    let cell = writer.cell();
+    let (chain, hears) = Chain::new(writer, cell, 2);
+    let shared = Shared {
+        rules: rules_read,
+        policy: policy_read,
+        stop,
+        host,
+        filed: AtomicU64::new(0),
+        old: AtomicBool::new(false),
+        new: AtomicBool::new(false),
+    };
+    let control = Control {
+        worker,
+        rules,
+        policy,
+        chain,
+        hears,
+    };
+    Ok((control, shared))
+}
+
+/// Works with the team of a new domain, which has its workers again in the end.
+fn work<R: Threads + Wait + AllocGlobal + Sync>(
+    rt: &R,
+    host: HostRuntime,
+    domain: &Domain<u64>,
+    team: &mut Team<'_, u64>,
+) -> Result<(Came, Shared)>
+    requires { domain.now ≡ team.old.domain }
+    ensures { team.new.domain ≡ team.old.domain }
+{
+    let stop = Stop::new(rt.alloc(), domain)?;
+    let mut driver = team.worker().ok_or(missing())?;
+    let mut worker = team.worker().ok_or(missing())?;
+    let (mut control, shared) = equip(team, stop, host)?;
+    let came = drive(rt, &mut driver, &mut worker, &mut control, &shared);
+    // Where there is no memory to take one back, `clean_up` says that it is missing.
+    drop(team.back(driver));
+    drop(team.back(worker));
+    drop(team.back(control.worker));
+    Ok((came?, shared))
+}
+
+/// A domain is made, worked with and taken down. Returns also what was done in it.
+fn run<R: Threads + Wait + AllocGlobal + Sync>(
+    rt: &R,
+    host: HostRuntime,
+) -> Result<(Came, Shared, Totals)> {
+    let (domain, cpus, writers) = make(rt.alloc(), 3, LIMITS)?;
+    let mut team = Team::new(&domain, cpus, writers);
+    let worked = work(rt, host, &domain, &mut team);
+    let cpus = team.into_cpus();
+    let cleaned = clean_up(domain, cpus);
+    let (came, shared) = worked?;
+    match cleaned {
+        Ok(totals) => Ok((came, shared, totals)),
+        Err((in_use, _, _)) => Err(in_use.into()),
+    }
+}
+
+fn main(rt: HostRuntime) -> Result<()> {
+    let (came, shared, totals) = run(&rt, rt)?;
+    let filed = shared.filed.load(SeqCst);
+    println!(rt; "old rules pass {}, new ones {}", came.before, came.after)?;
+    println!(rt; "port {PORT} through the lease: {:?}", came.leased)?;
+    println!(rt; "filed by then: {}, in the end: {filed}", came.early)?;
+    println!(rt; "told of the new rule: {} subscribers", came.told)?;
+    println!(rt; "queued: {}, finished: {}", totals.queued, totals.finished)?;
+    Ok(())
+}
