@@ -1,9 +1,6 @@
 -- What an updater does that waits, and the words of a configuration.
 use Rattle.std.specs.Prelude.{ℕ, List, ◌∷◌, replicate}
-use Rattle.sections.specs.WriterViews.{WriterView}
-use Rattle.domain.specs.Views.{CpuView}
-use Rattle.domain.specs.Waiting.{WaitedFor}
-use Rattle.shelf.specs.Replacing.{Replaces}
+use Rattle.srcu.specs.Words.{CpuView, WriterView, Replaces, WaitedFor}
 
 -- the sixteen words of the configuration of this number
 abbrev pub text_of : ℕ → List ℕ
@@ -11,9 +8,8 @@ text_of number = number ∷ number ∷ replicate 14 0
 
 module _ {J : Type 0} where
   -- a version with these words was put, and behind that a moment was noted: no section that was open then is open now
-  pub record ReplacesAndWaits (text : List ℕ) (w : WriterView) (c c' : CpuView J) : Type 0 where
+  pub record ReplacesAndWaits (text : List ℕ) (w : WriterView) (c : CpuView J) (w' : WriterView) (c' : CpuView J) : Type 0 where
     pub between : CpuView J
-    pub writer : WriterView
     pub cookie : ℕ
-    pub replaces : Replaces text cookie w c writer between
+    pub replaces : Replaces text cookie w c w' between
     pub waits : WaitedFor between c'

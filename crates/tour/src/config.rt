@@ -1,7 +1,7 @@
 //! A configuration that is replaced while it is read, and what is done once nobody reads the old one.
 ghost use Rattle.std.specs.Prelude.{◌≡◌};
 
-use shelf::Versioned;
+use srcu::Versioned;
 use std::sync::atomic::Ordering::SeqCst;
 use std::sync::atomic::{AtomicBool, AtomicU64};
 use std::thread::sleep;

@@ -1,12 +1,9 @@
 //! A tour of the library. Threads read a configuration in sections of a domain, while others replace it.
 #![tactic(auto)]
 
-ghost use Rattle.std.specs.Prelude.{◌≡◌, ◌<◌, vec_len, All, IfOk};
+ghost use Rattle.std.specs.Prelude.{◌≡◌, ◌<◌, IfOk, IfSome};
 ghost use Rattle.std.specs.Thread.{IsSync};
-ghost use Rattle.sections.specs.Words.{cells_in};
-ghost use Rattle.sections.specs.Reads.{IsPinned};
-ghost use Rattle.domain.specs.Views.{IsOf};
-ghost use Rattle.driver.specs.Pools.{IsIdle};
+ghost use Rattle.srcu.specs.Words.{cells_in, IsCellOf, IsPinned, IsWriterOf};
 
 mod callbacks;
 mod config;
@@ -14,15 +11,12 @@ mod plugins;
 mod readers;
 mod updaters;
 
-use anyhow::Result;
+use anyhow::{Error, Result, anyhow};
 use callbacks::{replace_twice, work};
 use config::{Archive, Config, Old, Sign};
-use domain::{Cpu, Domain, HeldPin, Limits, Writer};
-use driver::Stop;
 use plugins::{Leased, furnish, lend};
 use readers::{Slept, open, read_and_sleep, read_quickly};
-use shelf::{Shelf, Values};
-use std::alloc::Global;
+use srcu::{Cpu, Domain, Limits, Shelf, Stop, Team, Values, Worker, Writer, make};
 use std::fmt;
 use std::sync::Wait;
 use std::thread::{Threads, join};
@@ -39,71 +33,82 @@ const LIMITS: Limits = Limits {
     slots: 4,
 };
 
-/// The three processors of a domain, apart.
-fn apart(domain: &Domain<Old>, mut cpus: Vec<Cpu<Old>>) -> (Cpu<Old>, Cpu<Old>, Cpu<Old>)
-    requires three { vec_len cpus ≡ 3 }
-    requires all { All (IsIdle domain.now) cpus.items }
-    ensures { IsIdle domain.now result.0 × IsIdle domain.now result.1 × IsIdle domain.now result.2 }
-{
-    let third = cpus.pop().unwrap();
-    let second = cpus.pop().unwrap();
-    let first = cpus.pop().unwrap();
-    (first, second, third)
+/// Fewer processors or cells were made than are asked for.
+fn missing() -> Error {
+    anyhow!("too few processors or cells")
 }
 
-/// A domain, its three processors, and the writer of its cell. A processor is a value: whichever thread owns it works with
-/// it.
-fn trio(alloc: Global) -> Result<(Domain<Old>, Cpu<Old>, Cpu<Old>, Cpu<Old>, Writer)>
-    ensures cpus { IfOk result (λ r. IsIdle r.0 r.1 × IsIdle r.0 r.2 × IsIdle r.0 r.3) }
-    ensures writer { IfOk result (λ r. (r.4.domain ≡ r.0.domain) × (r.4.cell < cells_in r.0.domain)) }
+/// Three workers of a domain, and the writer of its cell. A worker is a value: whichever thread owns it works with it.
+fn crew<'a>(
+    team: &mut Team<'a, Old>,
+) -> Option<(Worker<'a, Old>, Worker<'a, Old>, Worker<'a, Old>, Writer)>
+    ensures { IfSome result (λ r. (r.0.domain ≡ team.old.domain) × (r.1.domain ≡ team.old.domain) × (r.2.domain ≡ team.old.domain) × IsWriterOf team.old.domain r.3) }
 {
-    let (domain, cpus, mut writers) = Domain::new(alloc, 3, LIMITS)?; // init_srcu_struct
-
-    let writer = writers.pop().unwrap();
-    let (first, second, third) = apart(&domain, cpus);
-    Ok((domain, first, second, third, writer))
+    let third = team.worker()?;
+    let second = team.worker()?;
+    let first = team.worker()?;
+    let writer = team.writer()?;
+    Some((first, second, third, writer))
 }
 
 /// Takes a cell for the configuration, and puts the first one there.
 fn shelve(
-    domain: &Domain<Old>,
-    cpu: &mut Cpu<Old>,
+    worker: &mut Worker<'_, Old>,
     writer: Writer,
     number: u64,
 ) -> Result<(Shelf<Config>, Values<Config>)>
-    requires cpu { IsIdle domain.now cpu.old }
-    requires writer { writer.domain ≡ domain.now.domain }
-    ensures cpu { IsIdle domain.now cpu.new }
-    ensures cell { IfOk result (λ r. (r.0.domain ≡ domain.now.domain) × (r.1 ≡ writer.cell)) }
+    requires { writer.domain ≡ worker.old.domain.domain }
+    ensures worker { worker.new.domain ≡ worker.old.domain }
+    ensures cell { IfOk result (λ r. (r.0.domain ≡ worker.old.domain.domain) × (r.1 ≡ writer.cell)) }
 {
     let (mut shelf, configs) = Shelf::new(writer);
-    shelf.replace(domain, cpu, &Config::new(number))?;
+    worker.replace(&mut shelf, &Config::new(number))?;
     Ok((shelf, configs))
+}
+
+/// Three workers, of which the third has put the first configuration.
+fn staff<'a>(
+    team: &mut Team<'a, Old>,
+    number: u64,
+) -> Result<
+    (
+        Worker<'a, Old>,
+        Worker<'a, Old>,
+        Worker<'a, Old>,
+        Shelf<Config>,
+        Values<Config>,
+    ),
+>
+    ensures workers { IfOk result (λ r. (r.0.domain ≡ team.old.domain) × (r.1.domain ≡ team.old.domain) × (r.2.domain ≡ team.old.domain)) }
+    ensures cell { IfOk result (λ r. (r.3.domain ≡ team.old.domain.domain) × IsCellOf team.old.domain r.4) }
+{
+    let (first, second, mut third, writer) = crew(team).ok_or(missing())?;
+    let (shelf, configs) = shelve(&mut third, writer, number)?;
+    Ok((first, second, third, shelf, configs))
 }
 
 /// A reader sleeps in a section, while an updater replaces what it has found there, and waits.
 fn wait<R: Threads + Wait + Clock + Sync>(
     rt: &R,
-    domain: &Domain<Old>,
     reader: Cpu<Old>,
-    updater: Cpu<Old>,
-    shelf: Shelf<Config>,
+    updater: &mut Worker<'_, Old>,
+    shelf: &mut Shelf<Config>,
     configs: &Values<Config>,
     archive: &Archive,
 ) -> Result<Slept>
     requires reader { configs.now < cells_in reader.cpu.domain }
-    requires updater { IsIdle domain.now updater × (shelf.domain ≡ domain.now.domain) }
+    requires updater { shelf.old.domain ≡ updater.old.domain.domain }
 {
     let sign = Sign::new();
     let old = Old { number: 1 };
     let (slept, replaced) = join(
         rt,
         || read_and_sleep(rt, reader, configs, &sign, archive),
-        || -> Result<Cpu<Old>>
-            requires { IsIdle domain.now updater × (shelf.domain ≡ domain.now.domain) }
+        || -> Result<()>
+            requires { shelf.now.domain ≡ updater.now.domain.domain }
         {
             sign.wait(rt);
-            replace(rt, domain, updater, shelf, archive, old, 2)
+            replace(rt, updater, shelf, archive, old, 2)
         },
     );
     replaced?;
@@ -156,30 +161,25 @@ impl fmt::Display for Handed {
 /// on its own processor, and polls.
 fn hand_over<R: Threads + Wait + Sync>(
     rt: &R,
-    domain: &Domain<Old>,
-    opener: Cpu<Old>,
-    reader: Cpu<Old>,
-    updater: Cpu<Old>,
-    shelf: Shelf<Config>,
+    opener: &mut Worker<'_, Old>,
+    reader: &mut Worker<'_, Old>,
+    updater: &mut Worker<'_, Old>,
+    shelf: &mut Shelf<Config>,
     configs: &Values<Config>,
 ) -> Result<Handed>
-    requires opener { IsOf domain.now opener }
-    requires reader { IsOf domain.now reader }
-    requires updater { IsOf domain.now updater × (shelf.domain ≡ domain.now.domain) }
-    requires cell { configs.now < cells_in domain.now.domain }
+    requires one { (opener.old.domain ≡ updater.old.domain) × (reader.old.domain ≡ updater.old.domain) }
+    requires shelf { shelf.old.domain ≡ updater.old.domain.domain }
+    requires cell { IsCellOf updater.old.domain configs.now }
 {
     let (opened, found) = join(
         rt,
-        || -> Result<HeldPin>
-            requires { configs.now < cells_in opener.cpu.domain }
-            ensures { IfOk result (λ pin. pin.held.domain ≡ opener.cpu.domain × (IsPinned pin.held pin.found × (pin.found.cell ≡ configs.entry.now))) }
-        { open(opener, configs) },
+        || open(opener, configs),
         || read_quickly(reader, configs, READS),
     );
     let version = opened?;
     let number = version.version();
     let (opened_on, closed_on) = (version.held.processor(), updater.processor());
-    let polled = replace_and_poll(rt, domain, updater, shelf, configs, 3, version)?;
+    let polled = replace_and_poll(rt, updater, shelf, configs, 3, version)?;
     Ok(Handed {
         opened_on,
         closed_on,
@@ -193,29 +193,27 @@ fn hand_over<R: Threads + Wait + Sync>(
 /// and what is read in the end.
 fn replace_and_work<R: Threads + Wait + Clock + Sync>(
     rt: &R,
-    domain: &Domain<Old>,
-    updater: Cpu<Old>,
-    driver: Cpu<Old>,
-    shelf: Shelf<Config>,
+    updater: &mut Worker<'_, Old>,
+    driver: &mut Worker<'_, Old>,
+    shelf: &mut Shelf<Config>,
     configs: &Values<Config>,
     archive: &Archive,
     sign: &Sign,
     stop: &Stop<Old>,
 ) -> Result<(u64, Config)>
-    requires updater { IsIdle domain.now updater × (shelf.domain ≡ domain.now.domain) }
-    requires driver { IsIdle domain.now driver }
-    requires stop { stop.now.domain ≡ domain.now }
-    requires cell { configs.now < cells_in domain.now.domain }
+    requires stop { (stop.now.domain ≡ updater.old.domain) × (stop.now.domain ≡ driver.old.domain) }
+    requires shelf { shelf.old.domain ≡ updater.old.domain.domain }
+    requires cell { IsCellOf updater.old.domain configs.now }
 {
     let (ran, read) = join(
         rt,
-        || work(rt, domain, driver, stop, archive),
+        || work(rt, driver, stop, archive),
         || -> Result<Config>
-            requires { IsIdle domain.now updater × (stop.now.domain ≡ domain.now) × (shelf.domain ≡ domain.now.domain) × (configs.now < cells_in domain.now.domain) }
+            requires { (stop.now.domain ≡ updater.now.domain) × (shelf.now.domain ≡ updater.now.domain.domain) × IsCellOf updater.now.domain configs.now }
         {
             sign.wait(rt);
-            let read = replace_twice(rt, domain, updater, shelf, configs, archive);
-            stop.give_alone(rt, domain); // also where a call was refused, or the driver would go on
+            let read = replace_twice(rt, updater, shelf, configs, archive);
+            stop.give_alone(rt, updater.domain()); // also where a call was refused, or the driver would go on
             read
         },
     );
@@ -226,32 +224,26 @@ fn replace_and_work<R: Threads + Wait + Clock + Sync>(
 /// nobody reads what it replaced. Answers how many ran, and what was read in the end.
 fn call_back<R: Threads + Wait + Clock + Sync>(
     rt: &R,
-    domain: &Domain<Old>,
     reader: Cpu<Old>,
-    updater: Cpu<Old>,
-    driver: Cpu<Old>,
-    shelf: Shelf<Config>,
+    updater: &mut Worker<'_, Old>,
+    driver: &mut Worker<'_, Old>,
+    shelf: &mut Shelf<Config>,
     configs: &Values<Config>,
     archive: &Archive,
     stop: &Stop<Old>,
 ) -> Result<(Slept, u64, Config)>
     requires reader { configs.now < cells_in reader.cpu.domain }
-    requires updater { IsIdle domain.now updater × (shelf.domain ≡ domain.now.domain) }
-    requires driver { IsIdle domain.now driver }
-    requires stop { stop.now.domain ≡ domain.now }
-    requires cell { configs.now < cells_in domain.now.domain }
+    requires stop { (stop.now.domain ≡ updater.old.domain) × (stop.now.domain ≡ driver.old.domain) }
+    requires shelf { shelf.old.domain ≡ updater.old.domain.domain }
+    requires cell { IsCellOf updater.old.domain configs.now }
 {
     let sign = Sign::new();
     let (slept, worked) = join(
         rt,
         || read_and_sleep(rt, reader, configs, &sign, archive),
         || -> Result<(u64, Config)>
-            requires { IsSync R.row × (IsIdle domain.now updater × (IsIdle domain.now driver × ((shelf.domain ≡ domain.now.domain) × ((stop.now.domain ≡ domain.now) × (configs.now < cells_in domain.now.domain))))) }
-        {
-            replace_and_work(
-                rt, domain, updater, driver, shelf, configs, archive, &sign, stop,
-            )
-        },
+            requires { IsSync R.row × (stop.now.domain ≡ updater.now.domain) × (stop.now.domain ≡ driver.now.domain) × (shelf.now.domain ≡ updater.now.domain.domain) × IsCellOf updater.now.domain configs.now }
+        { replace_and_work(rt, updater, driver, shelf, configs, archive, &sign, stop) },
     );
     let (ran, read) = worked?;
     Ok((slept?, ran, read))
@@ -273,28 +265,61 @@ fn print_slept<R: Print + AllocGlobal>(
     Ok(())
 }
 
-// What owns a domain stands apart from what prints: a statement costs the prover a walk over all that is still to be dropped.
+// What owns a domain works with nothing itself: a statement costs the prover a walk over all that is still to be dropped.
 
-/// A reader sleeps while an updater waits, in a domain of their own. Answers what was filed, and what the reader found.
-fn wait_apart<R: Threads + Wait + Clock + AllocGlobal + Sync>(rt: &R) -> Result<(Archive, Slept)> {
-    let (domain, reader, mut updater, _, writer) = trio(rt.alloc())?;
-    let (shelf, configs) = shelve(&domain, &mut updater, writer, 1)?;
-    let archive = Archive::new();
-    let slept = wait(rt, &domain, reader, updater, shelf, &configs, &archive)?;
-    Ok((archive, slept))
+/// A reader sleeps while an updater waits. Answers what the reader found.
+fn wait_with<R: Threads + Wait + Clock + Sync>(
+    rt: &R,
+    team: &mut Team<'_, Old>,
+    archive: &Archive,
+) -> Result<Slept> {
+    let (reader, _, mut updater, mut shelf, configs) = staff(team, 1)?;
+    wait(
+        rt,
+        reader.into_cpu(),
+        &mut updater,
+        &mut shelf,
+        &configs,
+        archive,
+    )
+}
+
+/// The same in a domain of its own.
+fn wait_apart<R: Threads + Wait + Clock + AllocGlobal + Sync>(
+    rt: &R,
+    archive: &Archive,
+) -> Result<Slept> {
+    let (domain, cpus, writers) = make(rt.alloc(), 3, LIMITS)?; // init_srcu_struct
+
+    let mut team = Team::new(&domain, cpus, writers);
+    wait_with(rt, &mut team, archive)
 }
 
 /// Prints what `wait_apart` answers.
 fn show_wait<R: Threads + Wait + Clock + Print + AllocGlobal + Sync>(rt: &R) -> Result<()> {
-    let (archive, slept) = wait_apart(rt)?;
+    let archive = Archive::new();
+    let slept = wait_apart(rt, &archive)?;
     print_slept(rt, &slept, slept.another, &archive)
 }
 
-/// A section goes from a thread to another, in a domain of their own.
+/// A section goes from a thread to another.
+fn hand_over_with<R: Threads + Wait + Sync>(rt: &R, team: &mut Team<'_, Old>) -> Result<Handed> {
+    let (mut opener, mut reader, mut updater, mut shelf, configs) = staff(team, 2)?;
+    hand_over(
+        rt,
+        &mut opener,
+        &mut reader,
+        &mut updater,
+        &mut shelf,
+        &configs,
+    )
+}
+
+/// The same in a domain of its own.
 fn hand_over_apart<R: Threads + Wait + AllocGlobal + Sync>(rt: &R) -> Result<Handed> {
-    let (domain, opener, reader, mut updater, writer) = trio(rt.alloc())?;
-    let (shelf, configs) = shelve(&domain, &mut updater, writer, 2)?;
-    hand_over(rt, &domain, opener, reader, updater, shelf, &configs)
+    let (domain, cpus, writers) = make(rt.alloc(), 3, LIMITS)?;
+    let mut team = Team::new(&domain, cpus, writers);
+    hand_over_with(rt, &mut team)
 }
 
 /// Prints what `hand_over_apart` answers.
@@ -304,41 +329,59 @@ fn show_handed<R: Threads + Wait + Print + AllocGlobal + Sync>(rt: &R) -> Result
     Ok(())
 }
 
-/// Callbacks run behind what an updater replaced, in a domain of their own. Answers what was filed, what the reader found,
-/// how many ran, and what was read in the end.
+/// Callbacks run behind what an updater replaced. Answers what the reader found, how many ran, and what was read in the end.
+fn call_back_with<R: Threads + Wait + Clock + AllocGlobal + Sync>(
+    rt: &R,
+    domain: &Domain<Old>,
+    team: &mut Team<'_, Old>,
+    archive: &Archive,
+) -> Result<(Slept, u64, Config)>
+    requires { domain.now ≡ team.old.domain }
+{
+    let stop = Stop::new(rt.alloc(), domain)?;
+    let (reader, mut driver, mut updater, mut shelf, configs) = staff(team, 3)?;
+    call_back(
+        rt,
+        reader.into_cpu(),
+        &mut updater,
+        &mut driver,
+        &mut shelf,
+        &configs,
+        archive,
+        &stop,
+    )
+}
+
+/// The same in a domain of its own.
 fn call_back_apart<R: Threads + Wait + Clock + AllocGlobal + Sync>(
     rt: &R,
-) -> Result<(Archive, Slept, u64, Config)> {
-    let (domain, reader, mut updater, driver, writer) = trio(rt.alloc())?;
-    let (shelf, configs) = shelve(&domain, &mut updater, writer, 3)?;
-    let archive = Archive::new();
-    let stop = Stop::new(rt.alloc(), &domain)?;
-    let (slept, ran, read) = call_back(
-        rt, &domain, reader, updater, driver, shelf, &configs, &archive, &stop,
-    )?;
-    Ok((archive, slept, ran, read))
+    archive: &Archive,
+) -> Result<(Slept, u64, Config)> {
+    let (domain, cpus, writers) = make(rt.alloc(), 3, LIMITS)?;
+    let mut team = Team::new(&domain, cpus, writers);
+    call_back_with(rt, &domain, &mut team, archive)
 }
 
 /// Prints what `call_back_apart` answers.
 fn show_filed<R: Threads + Wait + Clock + Print + AllocGlobal + Sync>(rt: &R) -> Result<()> {
-    let (archive, slept, ran, read) = call_back_apart(rt)?;
+    let archive = Archive::new();
+    let (slept, ran, read) = call_back_apart(rt, &archive)?;
     println!(rt; "callbacks that ran: {ran}")?;
     print_slept(rt, &slept, read, &archive)
 }
 
-/// A lease of a table goes from a thread to another, in a domain of their own.
+/// A lease of a table goes from a thread to another.
+fn lend_with<R: Threads + Clock + Sync>(rt: &R, team: &mut Team<'_, Old>) -> Result<Leased> {
+    let (mut taker, mut reader, mut updater, writer) = crew(team).ok_or(missing())?;
+    let (mut table, view) = furnish(&mut updater, writer)?;
+    lend(rt, &mut taker, &mut reader, &mut updater, &mut table, view)
+}
+
+/// The same in a domain of its own.
 fn lend_apart<R: Threads + Clock + AllocGlobal + Sync>(rt: &R) -> Result<Leased> {
-    let (domain, taker, mut reader, mut updater, writer) = trio(rt.alloc())?;
-    let (mut table, view) = furnish(&domain, &mut updater, writer)?;
-    lend(
-        rt,
-        &domain,
-        taker,
-        &mut reader,
-        &mut updater,
-        &mut table,
-        view,
-    )
+    let (domain, cpus, writers) = make(rt.alloc(), 3, LIMITS)?;
+    let mut team = Team::new(&domain, cpus, writers);
+    lend_with(rt, &mut team)
 }
 
 /// Prints what `lend_apart` answers.
@@ -348,7 +391,7 @@ fn show_leased<R: Threads + Clock + Print + AllocGlobal + Sync>(rt: &R) -> Resul
     Ok(())
 }
 
-/// The threads' processors go with them, and are gone when they end.
+/// The threads' workers go with them, and are gone when they end.
 fn tour<R: Threads + Wait + Clock + Print + AllocGlobal + Sync>(rt: &R) -> Result<()> {
     show_wait(rt)?;
     show_handed(rt)?;

@@ -1,14 +1,11 @@
 //! A table of plug-ins that is changed while a lease of it goes from one thread to another.
-ghost use Rattle.std.specs.Prelude.{◌≡◌, ◌<◌, Some, IfOk};
-ghost use Rattle.sections.specs.Words.{cells_in};
-ghost use Rattle.domain.specs.Views.{IsOf};
-ghost use Rattle.plugs.specs.Tables.{plug_of};
-ghost use Rattle.tour.specs.Leasing.{HasPlug, GetsAndReleases, InstallsAndLooks};
+ghost use Rattle.std.specs.Prelude.{◌≡◌, Some, IfOk};
+ghost use Rattle.srcu.specs.Words.{plug_of, HasPlug, IsCellOf};
+ghost use Rattle.tour.specs.Leasing.{GetsAndReleases, InstallsAndLooks};
 
 use crate::config::{Old, Sign};
 use anyhow::Result;
-use domain::{Cpu, Domain, Exhausted, Writer};
-use plugs::{Lease, Table, TableView, release};
+use srcu::{Exhausted, Lease, Table, TableView, Worker, Writer};
 use std::fmt;
 use std::thread::{Threads, join};
 use std::time::Clock;
@@ -17,64 +14,58 @@ use std::time::Clock;
 const KEY: u32 = 7;
 
 /// Takes a cell for a table, and installs two plug-ins.
-pub fn furnish(
-    domain: &Domain<Old>,
-    cpu: &mut Cpu<Old>,
-    writer: Writer,
-) -> Result<(Table, TableView)>
-    requires cpu { IsOf domain.now cpu.old }
-    requires writer { writer.domain ≡ domain.now.domain }
-    ensures cpu { IsOf domain.now cpu.new }
-    ensures table { IfOk result (λ r. (r.0.writer.domain ≡ domain.now.domain) × (r.1 ≡ writer.cell)) }
+pub fn furnish(worker: &mut Worker<'_, Old>, writer: Writer) -> Result<(Table, TableView)>
+    requires { writer.domain ≡ worker.old.domain.domain }
+    ensures worker { worker.new.domain ≡ worker.old.domain }
+    ensures table { IfOk result (λ r. (r.0.writer.domain ≡ worker.old.domain.domain) × (r.1 ≡ writer.cell)) }
     ensures plug { IfOk result (λ r. plug_of r.0.rows 7 ≡ Some 70) }
 {
     let (mut table, view) = Table::new(writer);
-    table.install(domain, cpu, 3, 30)?; // each change puts the whole table as the next version
-    table.install(domain, cpu, KEY, 70)?;
+    worker.install(&mut table, 3, 30)?; // each change puts the whole table as the next version
+    worker.install(&mut table, KEY, 70)?;
     Ok((table, view))
 }
 
 /// Takes a lease of the version that is there, reads through it, and tells that it has it.
 fn take_lease(
-    mut cpu: Cpu<Old>,
+    worker: &mut Worker<'_, Old>,
     view: TableView,
     taken: &Sign,
 ) -> Result<(Lease, Option<u32>), Exhausted>
-    requires { view < cells_in cpu.cpu.domain }
-    ensures domain { IfOk result (λ r. r.0.held.domain ≡ cpu.cpu.domain) }
+    requires { IsCellOf worker.old.domain view }
+    ensures domain { IfOk result (λ r. r.0.held.domain ≡ worker.old.domain.domain) }
     ensures cell { IfOk result (λ r. r.0.found.cell ≡ view) }
     ensures reads { IfOk result (λ r. HasPlug r.0.found 7 r.1) }
 {
-    let mut lease = view.lease(&mut cpu)?; // a held section, with the version that it found
-    let plug = lease.get(&mut cpu, KEY);
+    let mut lease = worker.lease(&view)?; // a held section, with the version that it found
+    let plug = worker.leased(&mut lease, KEY);
     taken.give(); // an updater waits for that
     Ok((lease, plug))
 }
 
 /// Installs another plug under the key, and looks it up. Answers the version that was put, and what was found.
 fn change(
-    domain: &Domain<Old>,
-    cpu: &mut Cpu<Old>,
+    worker: &mut Worker<'_, Old>,
     table: &mut Table,
     view: TableView,
 ) -> Result<(u64, Option<u32>)>
-    requires cpu { IsOf domain.now cpu.old }
-    requires table { table.old.writer.domain ≡ domain.now.domain }
-    requires cell { view < cells_in domain.now.domain }
-    ensures { IfOk result (λ r. InstallsAndLooks view 7 71 r.0 r.1 table.old cpu.old table.new cpu.new) }
+    requires table { table.old.writer.domain ≡ worker.old.domain.domain }
+    requires cell { IsCellOf worker.old.domain view }
+    ensures { IfOk result (λ r. InstallsAndLooks view 7 71 r.0 r.1 table.old worker.old.cpu table.new worker.new.cpu) }
 {
-    let version = table.install(domain, cpu, KEY, 71)?;
-    let plug = view.lookup(cpu, KEY)?; // a new section finds the new version
+    let version = worker.install(table, KEY, 71)?;
+    let plug = worker.lookup(&view, KEY)?; // a new section finds the new version
     Ok((version, plug))
 }
 
 /// Reads through a lease that another thread took, on another processor, and ends it.
-fn read_and_release(cpu: &mut Cpu<Old>, mut lease: Lease) -> Option<u32>
-    requires { lease.held.domain ≡ cpu.old.cpu.domain }
-    ensures { GetsAndReleases 7 lease result cpu.old cpu.new }
+fn read_and_release(worker: &mut Worker<'_, Old>, mut lease: Lease) -> Option<u32>
+    requires { lease.held.domain ≡ worker.old.domain.domain }
+    ensures gets { GetsAndReleases 7 lease result worker.old.cpu worker.new.cpu }
+    ensures reads { HasPlug lease.found 7 result }
 {
-    let plug = lease.get(cpu, KEY); // from the lease's own version, whatever was put since
-    release(lease, cpu); // taken there, released here: code that leaves a lease is refused
+    let plug = worker.leased(&mut lease, KEY); // from the lease's own version, whatever was put since
+    worker.release(lease); // taken there, released here: code that leaves a lease is refused
 
     plug
 }
@@ -123,30 +114,28 @@ impl fmt::Display for Leased {
 /// third processor, and releases it there.
 pub fn lend<R: Threads + Clock + Sync>(
     rt: &R,
-    domain: &Domain<Old>,
-    taker: Cpu<Old>,
-    reader: &mut Cpu<Old>,
-    updater: &mut Cpu<Old>,
+    taker: &mut Worker<'_, Old>,
+    reader: &mut Worker<'_, Old>,
+    updater: &mut Worker<'_, Old>,
     table: &mut Table,
     view: TableView,
 ) -> Result<Leased>
-    requires taker { IsOf domain.now taker }
-    requires reader { IsOf domain.now reader.old }
-    requires updater { IsOf domain.now updater.old × (table.old.writer.domain ≡ domain.now.domain) }
-    requires cell { view < cells_in domain.now.domain }
+    requires one { (taker.old.domain ≡ updater.old.domain) × (reader.old.domain ≡ updater.old.domain) }
+    requires table { table.old.writer.domain ≡ updater.old.domain.domain }
+    requires cell { IsCellOf updater.old.domain view }
     ensures { IfOk result (λ l. l.behind ≡ l.before) }
 {
-    let looked_up = view.lookup(reader, KEY)?; // in a section of its own
+    let looked_up = reader.lookup(&view, KEY)?; // in a section of its own
     let (taken_on, released_on) = (taker.processor(), reader.processor());
     let taken = Sign::new();
     let (leased, changed) = join(
         rt,
         || take_lease(taker, view, &taken),
         || -> Result<(u64, Option<u32>)>
-            requires { IsOf domain.now updater.now × (table.now.writer.domain ≡ domain.now.domain) × (view < cells_in domain.now.domain) }
+            requires { (table.now.writer.domain ≡ updater.now.domain.domain) × IsCellOf updater.now.domain view }
         {
             taken.wait(rt);
-            change(domain, updater, table, view)
+            change(updater, table, view)
         },
     );
     let (lease, before) = leased?;

@@ -1,15 +1,10 @@
 //! Those who read the configuration, each on a processor of its own.
 ghost use Rattle.std.specs.Prelude.{◌≡◌, ◌<◌, IfOk};
-ghost use Rattle.sections.specs.Words.{cells_in};
-ghost use Rattle.sections.specs.Calls.{IsSameCpu};
-ghost use Rattle.sections.specs.Reads.{IsPinned};
-ghost use Rattle.driver.specs.Works.{IsKept};
+ghost use Rattle.srcu.specs.Words.{cells_in, IsCellOf, IsKept, IsPinned, IsSameCpu};
 
 use crate::config::{Archive, Config, LOOKS, Old, Sign};
 use anyhow::Result;
-use domain::{Cpu, HeldPin, Reading};
-use driver::read;
-use shelf::Values;
+use srcu::{Cpu, HeldPin, Reading, Values, Worker};
 use std::fmt;
 use std::thread::sleep;
 use std::time::{Clock, Duration};
@@ -123,23 +118,27 @@ fn read_inside(cpu: &mut Cpu<Old>, section: &mut Reading, configs: &Values<Confi
 }
 
 /// Reads in so many sections, each of which closes itself. Answers whether a whole version was there in each of them.
-pub fn read_quickly(mut cpu: Cpu<Old>, configs: &Values<Config>, times: u32) -> Result<bool>
-    requires { configs.now < cells_in cpu.cpu.domain }
+pub fn read_quickly(
+    worker: &mut Worker<'_, Old>,
+    configs: &Values<Config>,
+    times: u32,
+) -> Result<bool>
+    requires { IsCellOf worker.old.domain configs.now }
 {
     let mut whole = true;
     for _ in 0..times {
-        let config = read(&mut cpu, |cpu, section| read_inside(cpu, section, configs))?;
+        let config = worker.read(|cpu, section| read_inside(cpu, section, configs))?;
         whole &= config.is_whole();
     }
     Ok(whole)
 }
 
 /// Opens a section, which another thread will close, and finds the configuration in it.
-pub fn open(mut cpu: Cpu<Old>, configs: &Values<Config>) -> Result<HeldPin>
-    requires { configs.now < cells_in cpu.cpu.domain }
-    ensures domain { IfOk result (λ pin. pin.held.domain ≡ cpu.cpu.domain) }
+pub fn open(worker: &mut Worker<'_, Old>, configs: &Values<Config>) -> Result<HeldPin>
+    requires { IsCellOf worker.old.domain configs.now }
+    ensures domain { IfOk result (λ pin. pin.held.domain ≡ worker.old.domain.domain) }
     ensures pinned { IfOk result (λ pin. IsPinned pin.held pin.found × (pin.found.cell ≡ configs.now)) }
 {
-    let held = cpu.down_read()?; // srcu_down_read
-    Ok(configs.find_held(&mut cpu, held))
+    let held = worker.down_read()?; // srcu_down_read
+    Ok(worker.find_held(configs, held))
 }

@@ -1,37 +1,30 @@
-//! Those who replace the configuration, one after the other, each on a processor of its own.
-ghost use Rattle.std.specs.Prelude.{◌≡◌, ◌<◌, IfOk};
-ghost use Rattle.sections.specs.Words.{cells_in};
-ghost use Rattle.sections.specs.Reads.{IsPinned};
-ghost use Rattle.domain.specs.Views.{IsOf};
-ghost use Rattle.driver.specs.Pools.{IsIdle};
+//! Those who replace the configuration, one after the other, each with a worker of its own.
+ghost use Rattle.std.specs.Prelude.{◌≡◌, IfOk};
+ghost use Rattle.srcu.specs.Words.{IsCellOf, IsKnownIn, IsPinned};
 ghost use Rattle.tour.specs.Parts.{ReplacesAndWaits, text_of};
 
 use crate::config::{Archive, Config, Old};
-use crate::readers::read_once;
 use anyhow::Result;
-use domain::{AdvanceRefusal, Cookie, Cpu, Domain, HeldPin};
-use shelf::{Shelf, Values};
+use srcu::{AdvanceRefusal, Cookie, HeldPin, Shelf, Values, Worker};
 use std::sync::Wait;
 
-/// Replaces the configuration, waits until nobody reads the old one, and files that. Gives the processor back.
+/// Replaces the configuration, waits until nobody reads the old one, and files that.
 pub fn replace<R: Wait>(
     rt: &R,
-    domain: &Domain<Old>,
-    mut cpu: Cpu<Old>,
-    mut shelf: Shelf<Config>,
+    worker: &mut Worker<'_, Old>,
+    shelf: &mut Shelf<Config>,
     archive: &Archive,
     old: Old,
     number: u64,
-) -> Result<Cpu<Old>>
-    requires cpu { IsIdle domain.now cpu }
-    requires shelf { shelf.domain ≡ domain.now.domain }
-    ensures { IfOk result (λ c. ReplacesAndWaits (text_of number) shelf cpu c) }
+) -> Result<()>
+    requires { shelf.old.domain ≡ worker.old.domain.domain }
+    ensures { IfOk result (λ _. ReplacesAndWaits (text_of number) shelf.old worker.old.cpu shelf.new worker.new.cpu) }
 {
-    shelf.replace(domain, &mut cpu, &Config::new(number))?; // rcu_assign_pointer
-    domain.synchronize(rt, &mut cpu)?; // synchronize_srcu: each section that was open before is closed
+    worker.replace(shelf, &Config::new(number))?; // rcu_assign_pointer
+    worker.synchronize(rt)?; // synchronize_srcu: each section that was open before is closed
     archive.file(old); // so nobody reads it any more
 
-    Ok(cpu)
+    Ok(())
 }
 
 /// What an updater found that doesn't wait.
@@ -48,55 +41,47 @@ pub struct Polled {
 }
 
 /// Polls until the cookie is done, and drives the period on. Answers what one more poll says then.
-fn poll_on<R: Wait>(
-    rt: &R,
-    domain: &Domain<Old>,
-    cpu: &mut Cpu<Old>,
-    cookie: &mut Cookie,
-) -> Result<bool>
-    requires cpu { IsOf domain.now cpu.old }
-    requires cookie { cookie.old.domain ≡ domain.now.domain }
-    ensures { IsOf domain.now cpu.new }
+fn poll_on<R: Wait>(rt: &R, worker: &mut Worker<'_, Old>, cookie: &mut Cookie) -> Result<bool>
+    requires { IsKnownIn worker.old.domain.domain cookie.old }
+    ensures { worker.new.domain ≡ worker.old.domain }
 {
     for _ in rt.forever() {
-        if cpu.poll(cookie) {
+        if worker.poll(cookie) {
             break;
         }
-        match domain.drive(cpu) {
+        match worker.drive() {
             Ok(_) | Err(AdvanceRefusal::Busy) => {} // there is no kthread: any thread drives the period on
             Err(exhausted) => return Err(exhausted.into()),
         }
     }
 
-    Ok(cpu.poll(cookie)) // true: the period is over, and nobody reads what was there before
+    Ok(worker.poll(cookie)) // true: the period is over, and nobody reads what was there before
 }
 
 /// Replaces the configuration while somebody reads it in a section that another thread opened. Closes that section, and
 /// polls until nobody reads the old one.
 pub fn replace_and_poll<R: Wait>(
     rt: &R,
-    domain: &Domain<Old>,
-    mut cpu: Cpu<Old>,
-    mut shelf: Shelf<Config>,
+    worker: &mut Worker<'_, Old>,
+    shelf: &mut Shelf<Config>,
     configs: &Values<Config>,
     number: u64,
     mut version: HeldPin,
 ) -> Result<Polled>
-    requires domain { IsOf domain.now cpu }
-    requires shelf { shelf.domain ≡ domain.now.domain }
-    requires held { version.held.domain ≡ domain.now.domain }
+    requires shelf { shelf.old.domain ≡ worker.old.domain.domain }
+    requires held { version.held.domain ≡ worker.old.domain.domain }
     requires pinned { IsPinned version.held version.found × (version.found.cell ≡ configs.now) }
-    requires cell { configs.now < cells_in domain.now.domain }
+    requires cell { IsCellOf worker.old.domain configs.now }
 {
-    let replaced = shelf.replace(domain, &mut cpu, &Config::new(number));
-    let mut cookie = domain.start_poll(&mut cpu); // start_poll_synchronize_srcu: asks for a period, and goes on
-    let early = cpu.poll(&mut cookie); // poll_state_synchronize_srcu: false, as the section is open
-    let read = configs.load_held(&mut cpu, &mut version);
-    cpu.up_read(version.into_held()); // srcu_up_read: opened there, closed here
+    let replaced = worker.replace(shelf, &Config::new(number));
+    let mut cookie = worker.start_poll(); // start_poll_synchronize_srcu: asks for a period, and goes on
+    let early = worker.poll(&mut cookie); // poll_state_synchronize_srcu: false, as the section is open
+    let read = worker.load_held(configs, &mut version);
+    worker.up_read(version.into_held()); // srcu_up_read: opened there, closed here
 
-    let late = poll_on(rt, domain, &mut cpu, &mut cookie)?;
+    let late = poll_on(rt, worker, &mut cookie)?;
     replaced?;
-    let new = read_once(&mut cpu, configs)?;
+    let new = worker.get(configs)?;
     Ok(Polled {
         read,
         early,

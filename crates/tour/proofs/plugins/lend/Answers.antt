@@ -1,7 +1,7 @@
 -- The lease answers what it did where it was taken.
 use Rattle.std.proofs.Common.{rules}
-use Rattle.tour.proofs.Leasing.{same_read}
+use Rattle.srcu.proofs.CallerLemmas.{one_plug}
 use Rattle.tour.proofs.plugins.lend.Goals as goal
 
 pub returns : goal.returns
-returns g c = same_read 7 c.in_ok-lease.lease c.in_ok-lease.before _ _ _ c.read_and_release-behind.ensures (search rules)
+returns g c = one_plug c.in_ok-lease.lease.found 7 c.read_and_release-behind.result c.in_ok-lease.before c.read_and_release-behind.ensures.reads (search rules)

@@ -1,8 +1,7 @@
 -- The version that was found is loaded twice, and has the same words each time.
-use Rattle.std.proofs.Common.{◌≡◌, List, ℕ, subst}
-use Rattle.sections.specs.Views.{FoundView}
-use Rattle.sections.specs.Reads.{AreWords}
-use Rattle.shelf.proofs.CallerLemmas.{same_words}
+use Rattle.std.proofs.Common.{◌≡◌, subst}
+use Rattle.srcu.specs.Words.{FoundView, AreWords}
+use Rattle.srcu.proofs.CallerLemmas.{same_words}
 use Rattle.tour.proofs.readers.read_and_sleep.Goals as goal
 
 pub returns : goal.returns

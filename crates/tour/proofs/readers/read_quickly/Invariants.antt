@@ -1,7 +1,6 @@
--- The cell is one of the processor's domain.
-use Rattle.std.proofs.Common.{◌<◌}
-use Rattle.sections.specs.Words.{cells_in}
+-- The cell is one of the worker's domain.
+use Rattle.srcu.specs.Words.{IsCellOf}
 use Rattle.tour.proofs.readers.read_quickly.Given as goal
 
 abbrev pub invariant-loop : goal.invariant-loop
-invariant-loop l = l.configs < cells_in l.cpu.cpu.domain
+invariant-loop l = IsCellOf l.worker.domain l.configs

@@ -1,7 +1,6 @@
 -- The processor is the same, and the cell is one of its domain.
 use Rattle.std.proofs.Common.{◌<◌}
-use Rattle.sections.specs.Words.{cells_in}
-use Rattle.sections.specs.Calls.{IsSameCpu}
+use Rattle.srcu.specs.Words.{cells_in, IsSameCpu}
 use Rattle.tour.proofs.readers.wait_for_another.Given as goal
 
 abbrev pub invariant-loop : goal.invariant-loop

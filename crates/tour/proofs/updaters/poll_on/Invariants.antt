@@ -1,10 +1,10 @@
--- The processor and the cookie are of the domain.
+-- The worker's domain stays, and the cookie is known in it.
 use Rattle.std.proofs.Common.{◌≡◌}
-use Rattle.domain.specs.Views.{IsOf}
+use Rattle.srcu.specs.Words.{IsKnownIn}
 use Rattle.tour.proofs.updaters.poll_on.Given as goal
 
 abbrev pub invariant-loop : goal.invariant-loop
 invariant-loop g l = record {
-  here : IsOf l.domain l.cpu;
-  cookie : l.cookie.domain ≡ l.domain.domain;
+  same : l.worker.domain ≡ l.fn.worker.domain;
+  cookie : IsKnownIn l.worker.domain.domain l.cookie;
 }

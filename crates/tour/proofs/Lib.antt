@@ -1,2 +1,0 @@
-mod Leasing
-mod Reading
