@@ -1,4 +1,4 @@
-ghost use Rattle.std.specs.Prelude.{◌≡◌, All, IfOk};
+ghost use Rattle.std.specs.Prelude.{◌≡◌, All, IfOk, length};
 ghost use Rattle.sections.specs.Words.{cells_in};
 ghost use Rattle.driver.specs.Pools.{IsIdle};
 
@@ -27,6 +27,7 @@ const LIMITS: Limits = Limits {
 fn made(alloc: Global, processors: usize) -> Result<(Domain<u64>, Vec<Cpu<u64>>), MakeError>
     ensures idle { IfOk result (λ r. All (IsIdle r.0) r.1.items) }
     ensures many { IfOk result (λ r. r.0.processors ≡ processors) }
+    ensures count { IfOk result (λ r. length r.1.items ≡ processors) }
     ensures cell { IfOk result (λ r. cells_in r.0.domain ≡ 1) }
 {
     let (domain, cpus, _) = Domain::new(alloc, processors, LIMITS)?;
@@ -207,18 +208,32 @@ fn tell<R: Wait + Clock>(rt: &R, domain: &Domain<u64>, stop: &Stop<u64>)
     stop.give_alone(rt, domain);
 }
 
+/// How many jobs a driver ran that is told to stop after a while.
+fn drive_beside<R: Wait + Clock + Threads + Sync>(
+    rt: &R,
+    domain: &Domain<u64>,
+    pool: &Pool<u64>,
+    stop: &Stop<u64>,
+) -> u64
+    requires pool { pool.now.domain ≡ domain.now }
+    requires stop { stop.now.domain ≡ domain.now }
+{
+    let (jobs, ()) = join(
+        rt,
+        || jobs_of(drive(rt, domain, pool, stop, (0, 7))),
+        || tell(rt, domain, stop),
+    );
+    jobs
+}
+
+/// The same in a new domain.
 fn drive_until_told<R: Wait + Clock + Threads + AllocGlobal + Sync>(
     rt: &R,
 ) -> Result<u64, MakeError> {
     let (domain, cpus) = made(rt.alloc(), 2)?;
     let pool = pool_of(rt, &domain, cpus)?;
     let stop = sign_of(rt, &domain)?;
-    let (jobs, ()) = join(
-        rt,
-        || jobs_of(drive(rt, &domain, &pool, &stop, (0, 7))),
-        || tell(rt, &domain, &stop),
-    );
-    Ok(jobs)
+    Ok(drive_beside(rt, &domain, &pool, &stop))
 }
 
 /// Would catch a driver that does nothing until it is told to stop, and one that sleeps on.

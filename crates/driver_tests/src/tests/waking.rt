@@ -88,6 +88,25 @@ fn ask<R: Wait + Clock>(
     }
 }
 
+/// The same, and then the driver is told to stop.
+fn ask_and_tell<R: Wait + Clock>(
+    rt: &R,
+    domain: &Domain<u64>,
+    cpu: &mut Cpu<u64>,
+    writer: &mut Writer,
+    ran: &AtomicU64,
+    stop: &Stop<u64>,
+    asking: Asking,
+) -> bool
+    requires idle { IsIdle domain.now cpu.old }
+    requires writer { writer.old.domain ≡ domain.now.domain }
+    requires stop { stop.now.domain ≡ domain.now }
+{
+    let came = ask(rt, domain, cpu, writer, ran, asking);
+    stop.give_alone(rt, domain);
+    came
+}
+
 /// A driver with nothing to do, beside one thread that asks and then tells it to stop. Whether both came to their end, and
 /// what was asked for came before long.
 fn wake<R: Wait + Clock + Threads + AllocGlobal + Sync>(
@@ -105,11 +124,7 @@ fn wake<R: Wait + Clock + Threads + AllocGlobal + Sync>(
             }))
             .is_some()
         },
-        || {
-            let came = ask(rt, &domain, &mut asker, &mut writer, &ran, asking);
-            stop.give_alone(rt, &domain);
-            came
-        },
+        || ask_and_tell(rt, &domain, &mut asker, &mut writer, &ran, &stop, asking),
     );
     Ok(served && came)
 }

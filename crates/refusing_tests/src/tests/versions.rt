@@ -44,7 +44,10 @@ fn change_chain(heap: &Heap) -> Result<Option<([u64; 15], usize, u64)>, MakeErro
     let ids = view.ids(&mut cpu).ok();
     let asked = heap.asked();
     Ok(match ids {
-        Some((ids, count)) if is_changed => Some((ids, count, asked)),
+        Some((found, count)) if is_changed => {
+            let ids = found;
+            Some((ids, count, asked))
+        }
         _ => None,
     })
 }
@@ -92,7 +95,7 @@ struct Sixteen {
 }
 
 impl Versioned for Sixteen {
-    ghost use Rattle.std.specs.Prelude.{refl};
+    ghost use Rattle.std.specs.Prelude.{length, refl};
 
     ghost fits = { λ s. length s.words ≡ 16 };
 
