@@ -41,14 +41,15 @@ fn change_chain(heap: &Heap) -> Result<Option<([u64; 15], usize, u64)>, MakeErro
     let is_changed = chain.register(&domain, &mut cpu, 3, 1).is_ok()
         && chain.register(&domain, &mut cpu, 4, 2).is_ok()
         && chain.unregister(&domain, &mut cpu, 3).is_ok();
-    let ids = view.ids(&mut cpu).ok();
+    let Ok(found) = view.ids(&mut cpu) else {
+        return Ok(None);
+    };
     let asked = heap.asked();
-    Ok(match ids {
-        Some((found, count)) if is_changed => {
-            let ids = found;
-            Some((ids, count, asked))
-        }
-        _ => None,
+    let ids = found.0;
+    Ok(if is_changed {
+        Some((ids, found.1, asked))
+    } else {
+        None
     })
 }
 
