@@ -2,6 +2,7 @@ ghost use Rattle.std.specs.Prelude.{◌≡◌, All, IfOk, length};
 ghost use Rattle.sections.specs.Words.{cells_in};
 ghost use Rattle.driver.specs.Pools.{IsIdle};
 
+mod edges;
 mod lending;
 mod reporting;
 mod sharing;

@@ -1,0 +1,191 @@
+//! A pool that is filled again or closed in vain, signs that agree, a tally with jobs, a domain whose periods are used up, and
+//! a batch that another thread keeps for a while.
+ghost use Rattle.std.specs.Prelude.{◌≡◌};
+ghost use Rattle.driver.specs.Pools.{IsIdle};
+
+use super::sharing::look_for;
+use super::{LIMITS, made, pool_of, queue, sign_of};
+use domain::{Cpu, Domain, Limits, MakeError, PeriodsExhausted};
+use driver::{Listener, Report, Served, Stall, Stop, Tallied, Tally, barrier, serve, serve_with};
+use std::alloc::Global;
+use std::sync::Wait;
+use std::sync::atomic::AtomicU64;
+use std::sync::atomic::Ordering::SeqCst;
+use std::test::Fail;
+use std::thread::{Threads, join, sleep};
+use std::time::{Clock, Duration};
+
+/// Would catch a pool that waits, or is closed, while a processor is out.
+#[test]
+fn closed_in_vain(rt: HostRuntime) -> Result<(), Fail> {
+    let Ok((domain, cpus)) = made(rt.alloc(), 1) else {
+        panic!(rt; "there is memory");
+    };
+    let Ok(pool) = pool_of(&rt, &domain, cpus) else {
+        panic!(rt; "there is memory");
+    };
+    let lent = pool.take(&rt);
+    let Err((pool, _home)) = pool.close(&rt) else {
+        panic!(rt; "one is out");
+    };
+    pool.give(&rt, lent);
+    assert!(rt; pool.close(&rt).is_ok());
+    Ok(())
+}
+
+/// Would catch a pool that loses those that were at home when it is filled again.
+#[test]
+fn filled_again(rt: HostRuntime) -> Result<(), Fail> {
+    let (domain, cpus) = made(rt.alloc(), 2)?;
+    let mut pool = pool_of(&rt, &domain, cpus)?;
+    let before = pool.fill(&rt, Vec::new(rt.alloc()));
+    assert_eq!(rt; before.len(), 2);
+    Ok(())
+}
+
+/// Would catch a sign that can't be looked at once two have agreed.
+#[test]
+fn looked_at_after_they_agree(rt: HostRuntime) -> Result<(), Fail> {
+    let (domain, _cpus) = made(rt.alloc(), 1)?;
+    let stop = sign_of(&rt, &domain)?;
+    let told = stop.give_alone(&rt, &domain);
+    let again = stop.give_alone(&rt, &domain);
+    stop.agree(told, again);
+    let (given, _told) = stop.is_given(&rt);
+    assert!(rt; given);
+    Ok(())
+}
+
+#[derive(Drop)]
+struct Deaf;
+
+impl Listener<Global> for Deaf {
+    fn hear(&mut self, _stall: Stall<Global>) {}
+}
+
+fn tally_nine<R: Wait + Clock + AllocGlobal>(rt: &R) -> Result<Option<Tallied>, MakeError> {
+    let (domain, mut cpus) = made(rt.alloc(), 2)?;
+    let stop = sign_of(rt, &domain)?;
+    let (Some(watcher), Some(mut cpu)) = (cpus.pop(), cpus.pop()) else {
+        return Ok(None);
+    };
+    let queued = queue(rt, &domain, &mut cpu, 0, 9);
+    stop.give_alone(rt, &domain);
+    let tally = Tally::new();
+    let mut report = Report {
+        clock: rt,
+        tally: &tally,
+        alloc: rt.alloc(),
+        cpu: watcher,
+        after: Duration::from_secs(100),
+        listener: Deaf,
+        delay: None,
+    };
+    let served = serve_with(rt, &domain, &mut cpu, &stop, |_job: u64| {}, &mut report);
+    if !queued || served.is_err() {
+        return Ok(None);
+    }
+    Ok(Some(tally.read()))
+}
+
+/// Would catch a tally of which jobs or batches are lost, or taken for each other.
+#[test]
+fn tallies_nine_jobs_in_two_batches(rt: HostRuntime) -> Result<(), Fail> {
+    let Some(tallied) = tally_nine(&rt)? else {
+        panic!(rt; "there is memory");
+    };
+    assert_eq!(rt; (tallied.periods, tallied.jobs, tallied.batches), (1, 9, 2));
+    Ok(())
+}
+
+fn wait_for_second<R: Wait + AllocGlobal>(
+    rt: &R,
+) -> Result<Option<Result<Served, (Served, PeriodsExhausted)>>, MakeError> {
+    let limits = Limits {
+        periods: 1,
+        ..LIMITS
+    };
+    let (domain, mut cpus, _) = Domain::new(rt.alloc(), 1, limits)?;
+    let Some(mut cpu) = cpus.pop() else {
+        return Ok(None);
+    };
+    let mut last = None;
+    for job in 0..2 {
+        if !queue(rt, &domain, &mut cpu, job, job + 1) {
+            return Ok(None);
+        }
+        let Ok(ticket) = domain.barrier_start(&mut cpu) else {
+            return Ok(None);
+        };
+        last = Some(barrier(rt, &domain, &mut cpu, &ticket, |_job: u64| {}));
+    }
+    Ok(last)
+}
+
+/// Would catch a barrier that waits for ever where no more periods may start.
+#[test]
+fn gives_up_where_periods_are_used_up(rt: HostRuntime) -> Result<(), Fail> {
+    let Some(Err((served, PeriodsExhausted))) = wait_for_second(&rt)? else {
+        panic!(rt; "a second period may not start");
+    };
+    assert_eq!(rt; served.jobs, 0);
+    Ok(())
+}
+
+/// Keeps a batch of eight for a while, beside a driver, and waits until the ninth job was run.
+fn keep_a_batch<R: Wait + Clock>(
+    rt: &R,
+    domain: &Domain<u64>,
+    cpu: &mut Cpu<u64>,
+    stop: &Stop<u64>,
+    ran: &AtomicU64,
+    taken: &AtomicU64,
+) -> bool
+    requires idle { IsIdle domain.now cpu.old }
+    requires stop { stop.now.domain ≡ domain.now }
+{
+    let queued = queue(rt, domain, cpu, 0, 9);
+    let period = domain.synchronize(rt, cpu);
+    let mut kept = false;
+    if let Ok(Some(batch)) = domain.take_ready(rt, cpu, 0, 8) {
+        taken.store(1, SeqCst);
+        sleep(rt, Duration::from_millis(50));
+        domain.finish(rt, cpu, batch);
+        kept = true;
+    }
+    taken.store(1, SeqCst);
+    let came = look_for(rt, ran, 1);
+    stop.give_alone(rt, domain);
+    queued && period.is_ok() && kept && came
+}
+
+fn drive_beside_a_batch<R: Wait + Clock + Threads + AllocGlobal + Sync>(
+    rt: &R,
+) -> Result<bool, MakeError> {
+    let (domain, mut cpus) = made(rt.alloc(), 2)?;
+    let stop = sign_of(rt, &domain)?;
+    let ran = AtomicU64::new(0);
+    let taken = AtomicU64::new(0);
+    let (Some(mut second), Some(mut first)) = (cpus.pop(), cpus.pop()) else {
+        return Ok(false);
+    };
+    let (served, came) = join(
+        rt,
+        || {
+            look_for(rt, &taken, 1)
+                && serve(rt, &domain, &mut second, &stop, |_job: u64| {
+                    ran.fetch_add(1, SeqCst);
+                })
+                .is_ok()
+        },
+        || keep_a_batch(rt, &domain, &mut first, &stop, &ran, &taken),
+    );
+    Ok(served && came)
+}
+
+/// Would catch a driver that sleeps until somebody asks, while a batch is out and a job waits for its end.
+#[test]
+fn runs_what_waits_behind_a_batch(rt: HostRuntime) -> Result<(), Fail> {
+    assert!(rt; drive_beside_a_batch(&rt)?);
+    Ok(())
+}
