@@ -1,6 +1,6 @@
 //! Races of a few threads.
 use race::{At, Gate, RaceTotals, Totals, race};
-use std::sync::atomic::AtomicBool;
+use std::sync::atomic::{AtomicBool, AtomicU64};
 use std::sync::atomic::Ordering::SeqCst;
 use std::test::Fail;
 use std::thread::sleep;
@@ -118,5 +118,48 @@ fn race_gate(rt: HostRuntime) -> Result<(), Fail> {
     assert!(rt; meeting.is_in.load(SeqCst) && meeting.has_read.load(SeqCst));
     assert!(rt; !meeting.missed.load(SeqCst));
     assert_eq!(rt; (totals.opened, totals.closed), (6, 6));
+    Ok(())
+}
+
+/// How many readers pass the gate that counts, and how many rounds each makes.
+const PASSES: (usize, u64) = (3, 3);
+
+/// Counts for each reader and round how often the gate is passed: four bits for each.
+#[derive(Drop)]
+struct Passes {
+    counts: AtomicU64,
+    /// Whether a reader came that isn't there, or came again, or to the two places in the wrong order.
+    wrong: AtomicBool,
+}
+
+impl Gate for Passes {
+    fn pass(&self, worker: usize, round: u64, at: At) {
+        if worker >= PASSES.0 || round >= PASSES.1 {
+            self.wrong.store(true, SeqCst);
+            return;
+        }
+        let one = 1 << (4 * (PASSES.1 * worker as u64 + round));
+        let (adds, before) = match at {
+            At::Inside => (one, 0),
+            At::Answered => (4 * one, 1),
+        };
+        if self.counts.fetch_add(adds, SeqCst) / one % 16 != before {
+            self.wrong.store(true, SeqCst);
+        }
+    }
+}
+
+/// Would catch a gate that hears of another reader or round, that is passed twice or not at all, or that hears of an
+/// answer before its lease is open.
+#[test]
+fn race_passes(rt: HostRuntime) -> Result<(), Fail> {
+    let passes = Passes {
+        counts: AtomicU64::new(0),
+        wrong: AtomicBool::new(false),
+    };
+    let totals = race(&rt, PASSES.0, PASSES.1, &passes)?;
+    assert!(rt; !passes.wrong.load(SeqCst));
+    assert_eq!(rt; passes.counts.load(SeqCst), 0x5_5555_5555);
+    assert_eq!(rt; totals.opened, 9);
     Ok(())
 }
