@@ -3,8 +3,7 @@ ghost use Rattle.std.specs.Prelude.{◌≡◌, length};
 ghost use Rattle.srcu.specs.Words.{IsCellOf};
 
 use crate::shared::{Policy, Shared};
-use anyhow::Result;
-use srcu::{Chain, ChainView, Handler, OK, Shelf, Table, Worker};
+use srcu::{Chain, ChainView, Handler, OK, Refusal, Shelf, Table, Worker};
 use std::sync::Wait;
 use std::thread::sleep;
 use std::time::Duration;
@@ -40,7 +39,7 @@ pub struct Control<'a> {
 
 impl<'a> Control<'a> {
     /// Registers both subscribers, of which the one that sleeps is called last, and puts two rules and a policy.
-    pub fn begin(&mut self) -> Result<()>
+    pub fn begin(&mut self) -> Result<(), Refusal>
         ensures { self.new.worker.domain ≡ self.old.worker.domain }
     {
         self.worker.register(&mut self.chain, 0, 10)?;
@@ -53,7 +52,7 @@ impl<'a> Control<'a> {
     }
 
     /// Gives a port this verdict, and tells the subscribers. Returns how many were told.
-    pub fn set_rule(&mut self, all: &[Box<dyn Handler>], port: u32, verdict: u32) -> Result<u64>
+    pub fn set_rule(&mut self, all: &[Box<dyn Handler>], port: u32, verdict: u32) -> Result<u64, Refusal>
         requires { length all.now ≡ 2 }
         ensures { self.new.worker.domain ≡ self.old.worker.domain }
     {
@@ -71,7 +70,7 @@ impl<'a> Control<'a> {
         old: u64,
         policy: Policy,
         shared: &Shared,
-    ) -> Result<()>
+    ) -> Result<(), Refusal>
         ensures { self.new.worker.domain ≡ self.old.worker.domain }
     {
         self.worker.replace(&mut self.policy, &policy)?;
@@ -83,13 +82,11 @@ impl<'a> Control<'a> {
     }
 
     /// Waits until each policy is filed that was replaced (`srcu_barrier`), and helps the driver.
-    pub fn settle<R: Wait>(&mut self, rt: &R, shared: &Shared) -> Result<()>
+    pub fn settle<R: Wait>(&mut self, rt: &R, shared: &Shared) -> Result<(), Refusal>
         ensures { self.new.worker.domain ≡ self.old.worker.domain }
     {
         let ticket = self.worker.barrier_start()?;
-        match self.worker.barrier(rt, &ticket, |_old| shared.file()) {
-            Ok(_) => Ok(()),
-            Err((_, exhausted)) => Err(exhausted.into()),
-        }
+        self.worker.barrier(rt, &ticket, |_old| shared.file())?;
+        Ok(())
     }
 }

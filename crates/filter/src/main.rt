@@ -7,11 +7,12 @@ ghost use Rattle.std.specs.Thread.{IsSync};
 mod control;
 mod shared;
 
-use anyhow::{Error, Result, anyhow};
+use anyhow::Result as Ending;
 use control::{Control, Subscriber};
 use shared::{PORT, Policy, Shared};
 use srcu::{
-    Chain, Domain, Handler, Lease, Limits, Shelf, Stop, Table, Team, Totals, Worker, clean_up, make,
+    Chain, Domain, Handler, Lease, Limits, Refusal, Shelf, Stop, Table, Team, Totals, WIDEST,
+    Worker, clean_up, make,
 };
 use std::sync::Wait;
 use std::sync::atomic::Ordering::SeqCst;
@@ -19,14 +20,12 @@ use std::sync::atomic::{AtomicBool, AtomicU64};
 use std::thread::{Threads, join};
 
 const LIMITS: Limits = Limits {
-    sections: Limits::MOST_SECTIONS,
-    periods: Limits::MOST_PERIODS,
     cells: 3, // the rules, the policy, and the chain
-    slots: 4,
+    ..WIDEST
 };
 
 /// Filters packets to ports from 0 to 9 in turn. Returns how many pass, by the port's rule, or where it has none, by the policy.
-fn filter(worker: &mut Worker<'_, u64>, shared: &Shared) -> Result<u32>
+fn filter(worker: &mut Worker<'_, u64>, shared: &Shared) -> Result<u32, Refusal>
     requires { worker.old.domain ≡ shared.now.stop.domain }
     ensures { worker.new.domain ≡ worker.old.domain }
 {
@@ -42,7 +41,7 @@ fn filter(worker: &mut Worker<'_, u64>, shared: &Shared) -> Result<u32>
 }
 
 /// Filters by the old rules, leases them, and filters by the new ones. The lease comes between the two counts.
-fn filter_twice(worker: &mut Worker<'_, u64>, shared: &Shared) -> Result<(u32, Lease, Result<u32>)>
+fn filter_twice(worker: &mut Worker<'_, u64>, shared: &Shared) -> Result<(u32, Lease, Result<u32, Refusal>), Refusal>
     requires { worker.old.domain ≡ shared.now.stop.domain }
     ensures worker { worker.new.domain ≡ worker.old.domain }
     ensures lease { IfOk result (λ r. r.1.held.domain ≡ worker.old.domain.domain) }
@@ -55,7 +54,7 @@ fn filter_twice(worker: &mut Worker<'_, u64>, shared: &Shared) -> Result<(u32, L
 }
 
 /// Once the old rules were read, changes one, and the policy twice. Returns how many subscribers were told.
-fn change<R: Wait>(rt: &R, control: &mut Control<'_>, shared: &Shared) -> Result<u64>
+fn change<R: Wait>(rt: &R, control: &mut Control<'_>, shared: &Shared) -> Result<u64, Refusal>
     ensures { control.new.worker.domain ≡ control.old.worker.domain }
 {
     let (host, alloc) = (shared.host, shared.host.alloc());
@@ -87,7 +86,7 @@ fn operate<R: Threads + Wait + Sync>(
     worker: &mut Worker<'_, u64>,
     control: &mut Control<'_>,
     shared: &Shared,
-) -> Result<Came>
+) -> Result<Came, Refusal>
     requires { (worker.old.domain ≡ shared.now.stop.domain) × (control.old.worker.domain ≡ shared.now.stop.domain) }
     ensures { (worker.new.domain ≡ worker.old.domain) × (control.new.worker.domain ≡ control.old.worker.domain) }
 {
@@ -118,7 +117,7 @@ fn drive<R: Threads + Wait + Sync>(
     worker: &mut Worker<'_, u64>,
     control: &mut Control<'_>,
     shared: &Shared,
-) -> Result<Came>
+) -> Result<Came, Refusal>
     requires { (driver.old.domain ≡ shared.now.stop.domain) × (worker.old.domain ≡ shared.now.stop.domain) × (control.old.worker.domain ≡ shared.now.stop.domain) }
     ensures { (driver.new.domain ≡ driver.old.domain) × (worker.new.domain ≡ worker.old.domain) × (control.new.worker.domain ≡ control.old.worker.domain) }
 {
@@ -134,15 +133,8 @@ fn drive<R: Threads + Wait + Sync>(
             came
         },
     );
-    match served {
-        Ok(_) => came,
-        Err((_, exhausted)) => Err(exhausted.into()),
-    }
-}
-
-/// Fewer processors or cells were made than are asked for.
-fn missing() -> Error {
-    anyhow!("too few processors or cells")
+    served?;
+    came
 }
 
 /// The control thread's worker with what it writes, and what the threads share.
@@ -150,16 +142,16 @@ fn equip<'a>(
     team: &mut Team<'a, u64>,
     stop: Stop<u64>,
     host: HostRuntime,
-) -> Result<(Control<'a>, Shared)>
+) -> Result<(Control<'a>, Shared), Refusal>
     requires { stop.domain ≡ team.old.domain }
     ensures team { team.new.domain ≡ team.old.domain }
     ensures control { IfOk result (λ r. r.0.worker.domain ≡ team.old.domain) }
     ensures shared { IfOk result (λ r. r.1.stop.domain ≡ team.old.domain) }
 {
-    let worker = team.worker().ok_or(missing())?;
-    let (rules, rules_read) = Table::new(team.writer().ok_or(missing())?);
-    let (policy, policy_read) = Shelf::new(team.writer().ok_or(missing())?);
-    let writer = team.writer().ok_or(missing())?;
+    let worker = team.worker().ok_or(Refusal::NoWorker)?;
+    let (rules, rules_read) = Table::new(team.writer().ok_or(Refusal::NoWriter)?);
+    let (policy, policy_read) = Shelf::new(team.writer().ok_or(Refusal::NoWriter)?);
+    let writer = team.writer().ok_or(Refusal::NoWriter)?;
     let cell = writer.cell();
     let (chain, hears) = Chain::new(writer, cell, 2);
     let shared = Shared {
@@ -187,13 +179,13 @@ fn work<R: Threads + Wait + AllocGlobal + Sync>(
     host: HostRuntime,
     domain: &Domain<u64>,
     team: &mut Team<'_, u64>,
-) -> Result<(Came, Shared)>
+) -> Result<(Came, Shared), Refusal>
     requires { domain.now ≡ team.old.domain }
     ensures { team.new.domain ≡ team.old.domain }
 {
     let stop = Stop::new(rt.alloc(), domain)?;
-    let mut driver = team.worker().ok_or(missing())?;
-    let mut worker = team.worker().ok_or(missing())?;
+    let mut driver = team.worker().ok_or(Refusal::NoWorker)?;
+    let mut worker = team.worker().ok_or(Refusal::NoWorker)?;
     let (mut control, shared) = equip(team, stop, host)?;
     let came = drive(rt, &mut driver, &mut worker, &mut control, &shared);
     // Where there is no memory to take one back, `clean_up` says that it is missing.
@@ -207,20 +199,17 @@ fn work<R: Threads + Wait + AllocGlobal + Sync>(
 fn run<R: Threads + Wait + AllocGlobal + Sync>(
     rt: &R,
     host: HostRuntime,
-) -> Result<(Came, Shared, Totals)> {
+) -> Result<(Came, Shared, Totals), Refusal> {
     let (domain, cpus, writers) = make(rt.alloc(), 3, LIMITS)?;
     let mut team = Team::new(&domain, cpus, writers);
     let worked = work(rt, host, &domain, &mut team);
     let cpus = team.into_cpus();
     let cleaned = clean_up(domain, cpus);
     let (came, shared) = worked?;
-    match cleaned {
-        Ok(totals) => Ok((came, shared, totals)),
-        Err((in_use, _, _)) => Err(in_use.into()),
-    }
+    Ok((came, shared, cleaned?))
 }
 
-fn main(rt: HostRuntime) -> Result<()> {
+fn main(rt: HostRuntime) -> Ending<()> {
     let (came, shared, totals) = run(&rt, rt)?;
     let filed = shared.filed.load(SeqCst);
     println!(rt; "old rules pass {}, new ones {}", came.before, came.after)?;
