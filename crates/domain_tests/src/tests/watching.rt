@@ -236,7 +236,8 @@ fn watch_and_print(
     if let Ok(section) = section {
         second.read_unlock(section);
     }
-    let text = format!(in alloc; "{}", snapshot?)?;
+    let snapshot = snapshot?;
+    let text = format!(in alloc; "{snapshot}")?;
     Ok((counts, text))
 }
 
