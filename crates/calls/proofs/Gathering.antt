@@ -1,10 +1,10 @@
 -- What follows where calls were moved to a list before something else is done with it.
-use Rattle.std.proofs.Common.{◌≡◌, ℕ, ◌+◌, ◌<◌, ◌≤◌, List, [], ◌∷◌, ◌++◌, Option, Some, Result, Ok, Err, length, refl, sym, ap, ◌∙◌, subst, arith}
+use Rattle.std.proofs.Common.{◌≡◌, ℕ, ◌+◌, ◌≤◌, List, [], ◌∷◌, ◌++◌, Option, Some, Result, Ok, Err, length, refl, sym, ap, ◌∙◌, subst, arith}
 use Rattle.std.specs.Prelude.{OnErr, IsErr, MatchResult}
 use Rattle.segs.specs.MarkedList.{lens, numbers}
 use Rattle.sections.specs.Views.{CpuView}
 use Rattle.calls.specs.declared.view.Act.{Act}
-use Rattle.calls.specs.declared.view.Act.TheVariants.{LoadQueued}
+use Rattle.calls.specs.declared.view.Act.TheVariants.{LackRoom, LoadQueued}
 use Rattle.calls.specs.declared.view.Deed.{Deed}
 use Rattle.calls.specs.declared.view.Known.{Known}
 use Rattle.calls.specs.declared.view.Plan.{Plan}
@@ -14,11 +14,11 @@ use Rattle.calls.specs.Tallies.{deed, deeds_of, queued_in, AreTakers, IsBeginnin
 use Rattle.calls.specs.Seats.{Place, SeesList, known_in}
 use Rattle.calls.specs.Views.{CallSeatView, ListView, BatchView, key_of, next_of, IsListIn}
 use Rattle.calls.specs.Meetings.{Covers}
-use Rattle.calls.specs.Calls.{Does, LooksAt, MovesAll, Came, Gathers, Looks, LacksRoom, TakesReady, Takes, FindsLens}
+use Rattle.calls.specs.Calls.{Does, LooksAt, MovesAll, Came, Gathers, Looks, NotesLack, LacksRoom, TakesReady, Takes, FindsLens}
 use Rattle.calls.specs.Insides.{view_of_list, IsList}
 use Rattle.calls.proofs.Lining.{gathered_long}
 use Rattle.calls.proofs.Counting.{deeds_own, queued_still, same_queued}
-use Rattle.calls.proofs.Loading.{begins_on, goes_on, queued_later}
+use Rattle.calls.proofs.Loading.{last_true, begins_on, goes_on}
 use Rattle.calls.proofs.Listing.{list_from}
 
 -- what is so is so where something failed
@@ -155,6 +155,20 @@ module _ {J A : Type 0} (l : list.Inside J A) (plan : Plan) (found : ℕ) (seat 
     entries = ap (λ (z : Known J). z.waiting) knows ∙ (h.there.waiting_is ∙ ap (λ (z : Known J). (gathered z.moved (line_in l.processor seat'.me.0.seen)).waiting) (sym knows));
   }
 
+module _ {J : Type 0} where
+  -- what is noted behind what was moved: not all that had come in were
+  pub lacks_behind : (l m l' : ListView J) (s t s' : CallSeatView J) → Gathers l s m t → NotesLack m t s' → l' ≡ m → LacksRoom l s l' s'
+  unfolding does_behind
+  lacks_behind l m l' s t s' g k same =
+      let act : Act J = LackRoom m.processor m.moved in
+      let d : Does act s s' = does_behind act s t s' s.seen g.covers k.does in
+      subst (λ (z : ListView J). LacksRoom l s z s') (sym same) record {
+        came = g.came;
+        does = d;
+        is = k.is;
+        short = last_true d.before s'.seen (deed s.processor act) d.seen d.loads;
+      }
+
 module _ {J : Type 0} (l m : ListView J) (s t : CallSeatView J) (l' : ListView J) (s' : CallSeatView J) (g : Gathers l s m t) (k : Looks m t l' s') where
   here : m.processor ≡ l.processor
   here = ap (λ (z : ListView J). z.processor) g.came.is
@@ -162,22 +176,7 @@ module _ {J : Type 0} (l m : ListView J) (s t : CallSeatView J) (l' : ListView J
   looked : LooksAt l.processor s s'
   looked = looks_behind l.processor s t s' s.seen g.covers (subst (λ (q : ℕ). LooksAt q t s') here k.looks)
 
-  -- a look behind what was moved finds that one more had been queued
-  pub lacks_behind : next_of m < queued_in l.processor t.seen → LacksRoom l s l' s'
-  lacks_behind less = record {
-    came = record {
-      came = g.came.came;
-      is = k.list ∙ (λ i. record (g.came.is i) { counted = l'.counted; given = ap (λ (z : ListView J). z.given) (sym k.list) i });
-    };
-    looks = looked;
-    is = k.is;
-    short =
-        let after : next_of l' ≡ next_of m = ap (λ (z : ListView J). next_of z) k.list in
-        let later = queued_later l.processor k.looks.since in
-        omega (arith, after, later, less);
-  }
-
-  -- and what the list is, where all were moved
+  -- what the list is, where all were moved
   pub finds_behind : (found : List ℕ × List ℕ) → next_of m ≡ queued_in l.processor t.seen → found ≡ (lens l'.entries, numbers l'.entries) → FindsLens l s found l' s'
   finds_behind found next is =
       let p : l'.processor ≡ l.processor = ap (λ (z : ListView J). z.processor) k.list ∙ here in

@@ -1,5 +1,5 @@
 -- What a call learns of a list when it has its lock.
-use Rattle.std.proofs.Common.{◌≡◌, ℕ, ◌+◌, ◌<◌, ◌≤◌, List, [], ◌∷◌, Option, Some, None, Result, Ok, Err, length, ap, sym, ◌∙◌, subst, arith}
+use Rattle.std.proofs.Common.{◌≡◌, ℕ, ◌<◌, List, [], ◌∷◌, Option, Some, None, Result, Ok, Err, length, ap, sym, ◌∙◌, subst}
 use Rattle.std.specs.Prelude.{slice_index_or, MatchResult, IfOk, IfSome, IsSome}
 use Rattle.atomic_table.specs.Seated.{TableId}
 use Rattle.sections.specs.Views.{CpuView}
@@ -10,14 +10,11 @@ use Rattle.calls.specs.declared.refusals.CallRefusal.{CallRefusal}
 use Rattle.calls.specs.declared.refusals.CallRefusal.TheVariants.{Exhausted, Memory}
 use Rattle.calls.specs.declared.refusals.TakeRefusal.{TakeRefusal}
 use Rattle.calls.specs.declared.refusals.TakeRefusal.TheVariants.{Invoking, Memory as NoMemory}
-use Rattle.calls.specs.Views.{CallSeatView, ListKey, ListView, BatchView, CallsView, key_of, next_of, IsListIn, ReceiptView}
+use Rattle.calls.specs.Views.{CallSeatView, ListKey, ListView, BatchView, CallsView, key_of, ReceiptView}
 use Rattle.segs.specs.MarkedList.{Mark, lens, numbers}
-use Rattle.calls.specs.declared.view.Deed.{Deed}
-use Rattle.calls.specs.Lines.{count_out, gathered, line_in}
-use Rattle.calls.specs.Tallies.{queued_in, finished_in}
+use Rattle.calls.specs.Lines.{gathered, line_in}
 use Rattle.calls.specs.Calls.{IsSameSeat, Queues, IsCause, Refuses, LooksAt, MovesAll, Came, LacksRoom, IsTaken, TakesAll, TakesNothing, FindsOut, FindsLens, IsListOf, IsOfProcessor, QueuesIn, RefusesIn, TakesIn, InvokesIn, LacksRoomIn, TakesNothingIn, FindsLensIn}
 use Rattle.calls.specs.Insides.{AreOfDomain}
-use Rattle.calls.proofs.Lining.{gathered_long}
 
 -- it is that of the processor whose lock it was
 pub behind_lock : {J : Type 0} (domain tallies : TableId) (locks : List (KeepView ListKey)) (k : CallsView) (p : ℕ) (lock : KeepView ListKey) (l : ListView J)
@@ -67,7 +64,7 @@ module _ {J : Type 0} where
 
   nothing_same : (l : ListView J) (c : CpuView) (s : CallSeatView J) (why : TakeRefusal) (l' : ListView J) (c' : CpuView) (s' : CallSeatView J) → TakesNothing l c s why l' c' s' → IsSameCpu c c' × IsSameSeat s s'
   nothing_same l c s Invoking l' c' s' h = (still_same c c' h.cpu, h.looks.same)
-  nothing_same l c s NoMemory l' c' s' h = (still_same c c' h.0, h.1.looks.same)
+  nothing_same l c s NoMemory l' c' s' h = (still_same c c' h.0, h.1.does.same)
 
   pub same_taken : (max : ℕ) (l : ListView J) (c : CpuView) (s : CallSeatView J) (r : Result (Option (BatchView J)) TakeRefusal) (l' : ListView J) (c' : CpuView) (s' : CallSeatView J) → Takings max l c s r l' c' s' → IsSameCpu c c' × IsSameSeat s s'
   same_taken max l c s (Ok t) l' c' s' h = (h.takes.gives.asks.adds.same, h.takes.gives.tally.same)
@@ -94,19 +91,8 @@ module _ {J : Type 0} where
   -- there was a call that was not moved to the list
   room_in_list : (k : CallsView) (p : ℕ) (l : ListView J) (s : CallSeatView J) (l' : ListView J) (s' : CallSeatView J) → IsListOf k p l → LacksRoom l s l' s' → LacksRoomIn p s s'
   room_in_list k p l s l' s' of h =
-      let same : l.processor ≡ p = ap (λ (z : ListKey). z.processor) of in
-      let after : l'.processor ≡ p = ap (λ (z : ListKey). z.processor) (came_same_key l l' h.came) ∙ same in
-      let there : IsListIn s'.seen l' = h.is in
-      let few : l'.moved ≤ length (line_in p s'.seen).coming = subst (λ (q : ℕ). l'.moved ≤ length (line_in q s'.seen).coming) after there.few in
-      let fin : l'.finished ≡ finished_in p s'.seen = there.finished ∙ ap (λ (q : ℕ). finished_in q s'.seen) after in
-      let out : count_out l'.out ≡ count_out (line_in p s'.seen).out = ap count_out there.out ∙ ap (λ (q : ℕ). count_out (line_in q s'.seen).out) after in
-      let long : length l'.entries ≡ length (line_in p s'.seen).waiting + l'.moved = ap length there.entries ∙ (ap (λ (q : ℕ). length (gathered l'.moved (line_in q s'.seen)).waiting) after ∙ gathered_long l'.moved (line_in p s'.seen) few) in
-      let short : next_of l' < queued_in p s'.seen = subst (λ (q : ℕ). next_of l' < queued_in q s'.seen) same h.short in record {
-        looks = subst (λ (z : ℕ). LooksAt z s s') same h.looks;
-        moved = l'.moved;
-        few = few;
-        short = omega (arith, fin, out, long, short);
-      }
+      let after : l'.processor ≡ p = ap (λ (z : ListKey). z.processor) (came_same_key l l' h.came ∙ of) in
+      subst (λ (q : ℕ). LacksRoomIn q s s') after record { moved = l'.moved; does = h.does; short = h.short }
 
   nothing_in_list : (k : CallsView) (p : ℕ) (l : ListView J) (c : CpuView) (s : CallSeatView J) (why : TakeRefusal) (l' : ListView J) (c' : CpuView) (s' : CallSeatView J) → IsListOf k p l → TakesNothing l c s why l' c' s' → TakesNothingIn p c s why c' s'
   nothing_in_list k p l c s Invoking l' c' s' of h = out_in_list k p l c s l' c' s' of h

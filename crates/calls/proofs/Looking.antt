@@ -1,5 +1,5 @@
 -- A load of a tally word keeps their rule, and is one more deed of its maker.
-use Rattle.std.proofs.Common.{◌≡◌, ℕ, ◌<◌, ◌≤◌, ◌⊎◌, inl, inr, ⊎_elim, false, List, [], ◌∷◌, ◌++◌, Option, Some, length, get_or, set, refl, sym, ap, ◌∙◌, subst, arith}
+use Rattle.std.proofs.Common.{◌≡◌, ℕ, ◌+◌, ◌<◌, ◌≤◌, ◌⊎◌, inl, inr, ⊎_elim, false, List, [], ◌∷◌, ◌++◌, Option, Some, length, get_or, set, refl, sym, ap, ◌∙◌, subst, arith}
 use Rattle.std.specs.Prelude.{slice_get}
 use lib.Seq.{set-get_or}
 use lib.ListN.{get_elem?}
@@ -7,8 +7,9 @@ use mathlib.Core.Option.{none, some}
 use Rattle.atomic_table.specs.Table.{State, step, stepped, keeps, Allows}
 use Rattle.calls.specs.declared.view.Plan.{Plan}
 use Rattle.calls.specs.declared.view.Act.{Act}
-use Rattle.calls.specs.declared.view.Act.TheVariants.{LoadQueued, LoadFinished}
+use Rattle.calls.specs.declared.view.Act.TheVariants.{LackRoom, LoadQueued, LoadFinished}
 use Rattle.calls.specs.declared.view.Deed.{Deed}
+use Rattle.calls.specs.declared.view.Known.{Known}
 use Rattle.calls.specs.declared.view.Who.{Who}
 use Rattle.calls.specs.declared.view.Who.TheVariants.{Nobody, Caller, Dealer}
 use Rattle.calls.specs.declared.view.ListRight.{ListRight}
@@ -19,11 +20,13 @@ use Rattle.calls.specs.declared.view.View.{View}
 use Rattle.calls.specs.Lines.{Line, count_out, next_line, line_in, calls_in}
 use Rattle.calls.specs.Tallies.{queued_place, finished_place, deed, is_queue, queued_in, finished_by, finished_in, IsTaker, AreTakers, IsTrueOf}
 use Rattle.calls.specs.Rule.{Books, Makes, HasList, IsCalling, HasBatch, Fits, Kept}
-use Rattle.calls.specs.Plays.{Sat, Looks, counts_queued, counts_finished}
+use Rattle.calls.specs.Plays.{Sat, Looks, LacksThere, lacks_room, counts_queued, counts_finished}
+use Rattle.calls.specs.Seats.{next_known}
 use Rattle.calls.proofs.Counting.{queued_still, finished_still, begins_itself, begins_empty, begins_pushed, one_more_true, one_more_taker}
-use Rattle.calls.proofs.Lining.{line_push}
+use Rattle.calls.proofs.Lining.{line_push, gathered_long}
 use Rattle.calls.proofs.Knowing.{views_set, moved, Untouched, there_still, fits_else}
 use Rattle.calls.proofs.Once.{calls_unqueued}
+use Rattle.calls.proofs.Steps.{same_list}
 
 same_caller : (c b : ℕ) → Caller c ≡ Caller b → c ≡ b
 same_caller c b h = cc
@@ -97,7 +100,7 @@ module _ {J : Type 0} (plan : Plan) (s : State (Option ℕ) (View J)) (r : Kept 
             (λ j u ne there. fits_else r.books (deed c act) r.books.batch_at id j made.0 ne no_queue (λ p _. untouched p) (λ p n at out. (at, still_finished p, ap (λ (z : Line J). z.out) (still_line p) ∙ out)) u (r.each_view j u there));
       }
 
-  pub load_looks : Looks c act v (looked r.books v c act)
+  unfoldable load_looks : Looks c act v (looked r.books v c act)
   load_looks = record {
     does = record { before = r.books.log; seen = refl; since = (r.each_view id v at).seen; own = sym made.1; who = refl; loads = one_more_true r.books.log (deed c act) r.loads true };
     covers = begins_pushed (deed c act) (r.each_view id v at).told;
@@ -106,6 +109,34 @@ module _ {J : Type 0} (plan : Plan) (s : State (Option ℕ) (View J)) (r : Kept 
   }
 
 module _ {J : Type 0} (plan : Plan) where
+  pub lacks_here : (slots id c p word : ℕ) (k : Known J) (me : Sat J) → me.0.who ≡ Caller c → me.0.list ≡ OfList p k → next_known k < k.queued → Allows (Kept plan) slots id me word (λ x. x) (lacks_room (step slots word 0 0 none) me)
+  unfolding load_looks
+  lacks_here slots id c p word k me who list short s r _ at _ =
+      let v : View J = me.0 in
+      let has : HasList r.books id (OfList p k) = subst (λ (z : ListRight J). HasList r.books id z) list (r.each_view id v at).list in
+      let there = has.1 in
+      let act : Act J = LackRoom p k.moved in
+      let left : k.moved < length (line_in p r.books.log).coming =
+      let long : length k.waiting ≡ length (line_in p r.books.log).waiting + k.moved = ap length there.waiting_is ∙ gathered_long k.moved (line_in p r.books.log) there.few in
+      let finished = there.finished_is in
+      let out = ap count_out there.out_is in
+      let least = there.queued_least in
+      let all = (r.counted p).all in
+      omega (arith, long, finished, out, least, all, short) in (
+        looked r.books v c act,
+        keeps,
+        tt,
+        load_keeps plan s r id c v act at who refl (λ _. refl) (λ _ _. refl) left tt word me.1,
+        (
+          refl,
+          λ b q f who' list'. let l = same_list p k q f (sym list ∙ list') in let a = same_caller c b (sym who ∙ who') in
+              subst (λ (z : ℕ × ℕ × Known J). LacksThere z.0 z.1 z.2 v (looked r.books v c act)) (λ i. (a i, l.0 i, l.1 i)) record {
+                looks = load_looks plan s r id c v act at who refl (λ _. refl) (λ _ _. refl) left tt;
+                there = there;
+              },
+        ),
+      )
+
   pub counts_queued_here : (slots id c p word : ℕ) (me : Sat J) → word ≡ queued_place p → me.0.who ≡ Caller c → p < plan.processors → Allows (Kept plan) slots id me word (λ x. x) (counts_queued (step slots word 0 0 none) me)
   counts_queued_here slots id c p word me place who lt s r _ at _ =
       let v : View J = me.0 in

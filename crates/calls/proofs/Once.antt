@@ -9,7 +9,7 @@ use native.Mathlib.Decide.{ℕ_discrete}
 use Rattle.segs.specs.MarkedList.{Mark, Done, Next, marked, remarked, advanced, reached, next_becomes, number_given, awaited}
 use Rattle.calls.specs.declared.entry.Entry.{Entry}
 use Rattle.calls.specs.declared.view.Act.{Act}
-use Rattle.calls.specs.declared.view.Act.TheVariants.{Queue, Take, Finish, LoadQueued, LoadFinished}
+use Rattle.calls.specs.declared.view.Act.TheVariants.{Queue, Take, Finish, LackRoom, LoadQueued, LoadFinished}
 use Rattle.calls.specs.declared.view.Deed.{Deed}
 use Rattle.calls.specs.declared.view.Known.{Known}
 use Rattle.calls.specs.Lines.{Line, count_out, some_out, with_call, with_moved, all_moved, gathered, with_taken, with_none_out, last_number, readied, many_ready, next_line, line_in, call_of, calls_in}
@@ -69,6 +69,8 @@ module _ {J : Type 0} where
   one_call (Take q number max moved) false = refl
   one_call (Finish q n) true = refl
   one_call (Finish q n) false = refl
+  one_call (LackRoom q moved) true = refl
+  one_call (LackRoom q moved) false = refl
   one_call (LoadQueued q n) true = refl
   one_call (LoadQueued q n) false = refl
   one_call (LoadFinished q n) true = refl
@@ -95,6 +97,7 @@ module _ {J : Type 0} where
   Could p (Queue e) k = Unit {0}
   Could p (Take q number max moved) k = q ≡ p → k.out ≡ None
   Could p (Finish q n) k = q ≡ p → k.out ≡ Some n
+  Could p (LackRoom q moved) k = Unit {0}
   Could p (LoadQueued q n) k = Unit {0}
   Could p (LoadFinished q n) k = Unit {0}
 
@@ -161,6 +164,7 @@ module _ {J : Type 0} where
       (dite (ℕ_discrete q p)
       (λ e. good_as (with_none_out k) (next_line p by (Finish q n) k) (f + n) (f + finished_by {J = J} p (Finish q n)) (cs ++ []) (cs ++ []) (ap (λ (b : Bool). if b then with_none_out k else k) (eq-eqb q p e)) (ap (λ (b : Bool). f + (if b then n else 0)) (eq-eqb q p e)) refl (with_none_out_good n k f cs (could e) good))
       (λ ne. good_as k (next_line p by (Finish q n) k) (f + 0) (f + finished_by {J = J} p (Finish q n)) (cs ++ []) (cs ++ []) (ap (λ (b : Bool). if b then with_none_out k else k) (ne_eqb q p ne)) (ap (λ (b : Bool). f + (if b then n else 0)) (ne_eqb q p ne)) refl (still_good k f cs good)))
+  next_good p by (LackRoom q moved) k f cs could good = good_as k k (f + 0) (f + 0) (cs ++ []) (cs ++ (if by == p then [] else [])) refl refl (ap (λ z. cs ++ z) (none_of (LackRoom q moved) (by == p) refl)) (still_good k f cs good)
   next_good p by (LoadQueued q n) k f cs could good = good_as k k (f + 0) (f + 0) (cs ++ []) (cs ++ (if by == p then [] else [])) refl refl (ap (λ z. cs ++ z) (none_of (LoadQueued q n) (by == p) refl)) (still_good k f cs good)
   next_good p by (LoadFinished q n) k f cs could good = good_as k k (f + 0) (f + 0) (cs ++ []) (cs ++ (if by == p then [] else [])) refl refl (ap (λ z. cs ++ z) (none_of (LoadFinished q n) (by == p) refl)) (still_good k f cs good)
 
@@ -170,6 +174,7 @@ module _ {J : Type 0} where
   could_be p l (Queue e) h = tt
   could_be p l (Take q number max moved) h = λ e. subst (λ z. (line_in z l).out ≡ None) e h.0
   could_be p l (Finish q n) h = λ e. subst (λ z. (line_in z l).out ≡ Some n) e h
+  could_be p l (LackRoom q moved) h = tt
   could_be p l (LoadQueued q n) h = tt
   could_be p l (LoadFinished q n) h = tt
 
@@ -203,6 +208,7 @@ module _ {J : Type 0} where
   next_grows p by (Finish q n) k f could = dite (ℕ_discrete q p)
       (λ e. let out : count_out k.out ≡ n = ap count_out (could e) in let more : finished_by {J = J} p (Finish q n) ≡ n = ap (λ (b : Bool). if b then n else 0) (eq-eqb q p e) in omega (arith, out, more))
       (λ ne. let same : count_out (next_line p by (Finish q n) k).out ≡ count_out k.out = ap (λ (b : Bool). count_out (if b then with_none_out k else k).out) (ne_eqb q p ne) in omega (arith, same))
+  next_grows p by (LackRoom q moved) k f could = omega arith
   next_grows p by (LoadQueued q n) k f could = omega arith
   next_grows p by (LoadFinished q n) k f could = omega arith
 
@@ -343,6 +349,7 @@ module _ {J : Type 0} where
   no_call (Queue e) h = let wrong : true ≡ false = h in cc
   no_call (Take p number max moved) h = refl
   no_call (Finish p n) h = refl
+  no_call (LackRoom p moved) h = refl
   no_call (LoadQueued p n) h = refl
   no_call (LoadFinished p n) h = refl
 

@@ -4,7 +4,7 @@ use Rattle.std.proofs.lemmas.List.Sums.{sum_by-cons}
 use mathlib.Core.Logic.{dite}
 use native.Mathlib.Decide.{ℕ_discrete}
 use Rattle.calls.specs.declared.view.Act.{Act}
-use Rattle.calls.specs.declared.view.Act.TheVariants.{Queue, Take, Finish, LoadQueued, LoadFinished}
+use Rattle.calls.specs.declared.view.Act.TheVariants.{Queue, Take, Finish, LackRoom, LoadQueued, LoadFinished}
 use Rattle.calls.specs.declared.view.Deed.{Deed}
 use Rattle.calls.specs.Tallies.{deed, queued_in, finished_by, finished_in, deeds_of, IsTaker, AreTakers, IsBeginning}
 use Rattle.calls.specs.Views.{CallSeatView}
@@ -33,6 +33,7 @@ module _ {J : Type 0} where
   not_finished n p by (Queue e) h away = refl
   not_finished n p by (Take q number max moved) h away = refl
   not_finished n p by (Finish q k) h away = absurd (away h)
+  not_finished n p by (LackRoom q moved) h away = refl
   not_finished n p by (LoadQueued q k) h away = refl
   not_finished n p by (LoadFinished q k) h away = refl
 

@@ -10,7 +10,7 @@ use Rattle.sections.specs.Calls.{EndsWithNote}
 use Rattle.sections.specs.Sights.{SightView, GivesCookieBehind, AsksHowFar}
 use Rattle.segs.specs.MarkedList.{Done, marked, lens, numbers}
 use Rattle.calls.specs.declared.view.Act.{Act}
-use Rattle.calls.specs.declared.view.Act.TheVariants.{Queue, Take, Finish, LoadQueued}
+use Rattle.calls.specs.declared.view.Act.TheVariants.{Queue, Take, Finish, LackRoom, LoadQueued}
 use Rattle.calls.specs.declared.view.Deed.{Deed}
 use Rattle.calls.specs.declared.entry.Entry.{Entry}
 use Rattle.calls.specs.declared.refusals.CallRefusal.{CallRefusal}
@@ -19,7 +19,7 @@ use Rattle.calls.specs.declared.refusals.TakeRefusal.{TakeRefusal}
 use Rattle.calls.specs.declared.refusals.TakeRefusal.TheVariants.{Invoking, Memory as NoMemory}
 use Rattle.calls.specs.Lines.{some_out, line_in, gathered, with_moved, all_moved, readied, many_ready, calls_in}
 use Rattle.calls.specs.Tallies.{deed, most_calls, queued_in, given_out, deeds_of, AreTakers, AreTrue, IsBeginning as IsBeginningOf}
-use Rattle.calls.specs.Views.{CallSeatView, ListView, BatchView, CallsView, key_of, next_of, IsListIn, ReceiptView}
+use Rattle.calls.specs.Views.{CallSeatView, ListView, BatchView, CallsView, key_of, IsListIn, ReceiptView}
 use Rattle.calls.specs.Meetings.{Covers}
 
 -- Tallies
@@ -140,12 +140,17 @@ module _ {J : Type 0} where
     pub was : IsListIn s'.seen l
     pub is : IsListIn s'.seen l'
 
-  -- some were moved, and one more had been queued that was not
+  -- the seat noted how many of those that had come in were moved to the list, as it is
+  pub record NotesLack (l : ListView J) (s s' : CallSeatView J) : Type 0 where
+    pub does : Does (LackRoom l.processor l.moved) s s'
+    pub is : IsListIn does.before l
+
+  -- some were moved, and the seat noted that these were not all that had come in
   pub record LacksRoom (l : ListView J) (s : CallSeatView J) (l' : ListView J) (s' : CallSeatView J) : Type 0 where
     pub came : Came l l'
-    pub looks : LooksAt l.processor s s'
-    pub is : IsListIn s'.seen l'
-    pub short : next_of l' < queued_in l.processor s'.seen
+    pub does : Does (LackRoom l'.processor l'.moved) s s'
+    pub is : IsListIn does.before l'
+    pub short : l'.moved < length (line_in l'.processor does.before).coming
 
   -- Taking
 
@@ -284,12 +289,11 @@ module _ {J : Type 0} where
     pub looks : LooksAt p s s'
     pub out : IsSome (line_in p s'.seen).out
 
-  -- the seat looked there. So many of those that came in were moved, and with those that were given out and those that wait they are fewer than were queued on the processor
+  -- the seat noted, with the processor's list in hand, that so many of the calls that had come in were moved to it, and not all
   pub record LacksRoomIn (p : ℕ) (s s' : CallSeatView J) : Type 0 where
-    pub looks : LooksAt p s s'
     pub moved : ℕ
-    pub few : moved ≤ length (line_in p s'.seen).coming
-    pub short : given_out p s'.seen + length (line_in p s'.seen).waiting + moved < queued_in p s'.seen
+    pub does : Does (LackRoom p moved) s s'
+    pub short : moved < length (line_in p does.before).coming
 
   -- why nothing was taken: a batch of this processor is out; or there was no memory for a call that was to be moved
   abbrev pub TakesNothingIn : ℕ → CpuView → CallSeatView J → TakeRefusal → CpuView → CallSeatView J → Type 0

@@ -6,7 +6,6 @@ pub mod Seats
 pub mod Waiting
 pub mod Views
 pub mod Arrivals
-pub mod Refusals
 pub mod Calls
 pub mod Barriers
 pub mod Meetings

@@ -3,7 +3,7 @@ use Rattle.std.specs.Prelude.{ℕ, zero, suc, ◌==◌, min, List, [], ◌∷◌
 use Rattle.segs.specs.MarkedList.{Mark, Next, assigned, advanced, count_done}
 use Rattle.calls.specs.declared.entry.Entry.{Entry}
 use Rattle.calls.specs.declared.view.Act.{Act}
-use Rattle.calls.specs.declared.view.Act.TheVariants.{Queue, Take, Finish, LoadQueued, LoadFinished}
+use Rattle.calls.specs.declared.view.Act.TheVariants.{Queue, Take, Finish, LackRoom, LoadQueued, LoadFinished}
 use Rattle.calls.specs.declared.view.Deed.{Deed}
 
 -- how many are out
@@ -72,6 +72,7 @@ module _ {J : Type 0} where
   next_line p by (Queue e) l = if by == p then with_call e l else l
   next_line p by (Take q number max moved) l = if q == p then with_taken number max (gathered moved l) else l
   next_line p by (Finish q n) l = if q == p then with_none_out l else l
+  next_line p by (LackRoom q moved) l = l
   next_line p by (LoadQueued q n) l = l
   next_line p by (LoadFinished q n) l = l
 
@@ -89,6 +90,7 @@ module _ {J : Type 0} where
   call_of (Queue e) = e ∷ []
   call_of (Take p number max moved) = []
   call_of (Finish p n) = []
+  call_of (LackRoom p moved) = []
   call_of (LoadQueued p n) = []
   call_of (LoadFinished p n) = []
 

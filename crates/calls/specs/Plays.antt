@@ -3,7 +3,7 @@ use Rattle.std.specs.Prelude.{◌≡◌, ℕ, ◌+◌, ◌≤◌, List, [], ◌�
 use Rattle.atomic_table.specs.Table.{Me, Step}
 use Rattle.calls.specs.declared.entry.Entry.{Entry}
 use Rattle.calls.specs.declared.view.Act.{Act}
-use Rattle.calls.specs.declared.view.Act.TheVariants.{Queue, Take, Finish, LoadQueued, LoadFinished}
+use Rattle.calls.specs.declared.view.Act.TheVariants.{Queue, Take, Finish, LackRoom, LoadQueued, LoadFinished}
 use Rattle.calls.specs.declared.view.Deed.{Deed}
 use Rattle.calls.specs.declared.view.Who.TheVariants.{Caller}
 use Rattle.calls.specs.declared.view.Known.{Known}
@@ -83,6 +83,14 @@ module _ {J : Type 0} where
     pub covers : IsBeginning v.told w.seen
     pub list : w.list ≡ v.list
     pub batch : w.batch ≡ v.batch
+
+  -- a call that had come in had no room in the list, which is as the right knows it
+  pub record LacksThere (c p : ℕ) (k : Known J) (v w : View J) : Type 0 where
+    pub looks : Looks c (LackRoom p k.moved) v w
+    pub there : IsThere p k looks.does.before
+
+  abbrev pub lacks_room : Step (Option ℕ) → Sat J → ℕ → Sat J → Type 0
+  lacks_room st m n m' = (m'.1 ≡ m.1) × ((c p : ℕ) (k : Known J) → m.0.who ≡ Caller c → m.0.list ≡ OfList p k → LacksThere c p k m.0 m'.0)
 
   -- no more are found than may be queued
   abbrev pub counts_queued : Step (Option ℕ) → Sat J → ℕ → Sat J → Type 0

@@ -5,7 +5,7 @@ use Rattle.atomic_table.specs.declared.shared.Seat.{Seat}
 use Rattle.calls.specs.declared.view.Plan.{Plan}
 use Rattle.calls.specs.declared.view.Deed.{Deed}
 use Rattle.calls.specs.declared.entry.Entry.{Entry}
-use Rattle.calls.specs.declared.view.Act.TheVariants.{Queue, Take, Finish, LoadFinished}
+use Rattle.calls.specs.declared.view.Act.TheVariants.{Queue, Take, Finish, LackRoom, LoadFinished}
 use Rattle.calls.specs.declared.view.Who.TheVariants.{Caller}
 use Rattle.calls.specs.declared.view.Known.{Known}
 use Rattle.calls.specs.declared.view.ListRight.{ListRight}
@@ -130,6 +130,17 @@ module _ {J : Type 0} where
     pub list_is : list'.me ≡ (list_seat (OfList p (known_taken number max (known_in list.me.0.list))), [])
     pub batch_table : batch.table_id ≡ list.table_id
     pub batch_is : batch.me ≡ (batch_seat (batch_of p (known_in list.me.0.list).finished (line_taken number max (known_in list.me.0.list)).out), [])
+
+  -- a call that had come in had no room in the list, which is as its seat knows it. The seat keeps its right
+  pub record LacksOne (p : ℕ) (seat list seat' list' : Place J) : Type 0 where
+    pub by : ℕ
+    pub who : seat.me.0.who ≡ Caller by
+    pub does : Does by (LackRoom p (known_in list.me.0.list).moved) seat.me.0 seat'.me.0
+    pub there : IsKnown p list.me.0.list does.before
+    pub no_list : seat'.me.0.list ≡ NoList
+    pub no_batch : seat'.me.0.batch ≡ NoBatch
+    pub table : list'.table_id ≡ list.table_id
+    pub list_is : list'.me ≡ list.me
 
   -- the finished word at this place was loaded. No more were found than were queued, and all batches were finished by processors that are there
   pub record CountsFinished (plan : Plan) (place : ℕ) (seat : Place J) (found : ℕ) (seat' : Place J) : Type 0 where

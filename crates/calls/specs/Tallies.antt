@@ -2,7 +2,7 @@
 -- Processor p has word 16 p + 8 as its queued word and word 16 p + 16 as its finished word, so that any two of them are 64 bytes apart. Word 0, which every split and join of seats loads, is nobody's, and nobody writes it.
 use Rattle.std.specs.Prelude.{◌≡◌, ℕ, ◌+◌, ◌*◌, ◌<◌, ◌≤◌, ◌==◌, Bool, true, false, List, [], ◌∷◌, ◌++◌, Some, None, length, filter, if◌then◌else◌}
 use Rattle.calls.specs.declared.view.Act.{Act}
-use Rattle.calls.specs.declared.view.Act.TheVariants.{Queue, Take, Finish, LoadQueued, LoadFinished}
+use Rattle.calls.specs.declared.view.Act.TheVariants.{Queue, Take, Finish, LackRoom, LoadQueued, LoadFinished}
 use Rattle.calls.specs.declared.view.Deed.{Deed}
 use Rattle.calls.specs.Lines.{count_out, line_in}
 
@@ -29,6 +29,7 @@ module _ {J : Type 0} where
   is_queue (Queue e) = true
   is_queue (Take p n max moved) = false
   is_queue (Finish p n) = false
+  is_queue (LackRoom p moved) = false
   is_queue (LoadQueued p n) = false
   is_queue (LoadFinished p n) = false
 
@@ -46,6 +47,7 @@ module _ {J : Type 0} where
   finished_by p (Queue e) = 0
   finished_by p (Take q n max moved) = 0
   finished_by p (Finish q n) = if q == p then n else 0
+  finished_by p (LackRoom q moved) = 0
   finished_by p (LoadQueued q n) = 0
   finished_by p (LoadFinished q n) = 0
 
@@ -68,6 +70,7 @@ module _ {J : Type 0} where
   IsTaker processors by (Queue e) = Unit {0}
   IsTaker processors by (Take p n max moved) = by < processors
   IsTaker processors by (Finish p n) = by < processors
+  IsTaker processors by (LackRoom p moved) = Unit {0}
   IsTaker processors by (LoadQueued p n) = Unit {0}
   IsTaker processors by (LoadFinished p n) = Unit {0}
 
@@ -83,11 +86,12 @@ module _ {J : Type 0} where
 
   -- Deeds that could be done
 
-  -- a load found what the word held, something was taken only where no batch was out, and no more was moved before than had come in, and what was finished is the batch that was out
+  -- a load found what the word held, something was taken only where no batch was out, and no more was moved before than had come in, and what was finished is the batch that was out. A call had no room only where not all that had come in were moved
   abbrev pub IsTrueOf : List (Deed J) → Act J → Type 0
   IsTrueOf before (Queue e) = Unit {0}
   IsTrueOf before (Take p n max moved) = ((line_in p before).out ≡ None) × (moved ≤ length (line_in p before).coming)
   IsTrueOf before (Finish p n) = (line_in p before).out ≡ Some n
+  IsTrueOf before (LackRoom p moved) = moved < length (line_in p before).coming
   IsTrueOf before (LoadQueued p n) = n ≡ queued_in p before
   IsTrueOf before (LoadFinished p n) = n ≡ finished_in p before
 

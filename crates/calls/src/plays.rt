@@ -2,7 +2,7 @@
 ghost use Rattle.std.specs.Prelude.{ℕ, Option, None};
 ghost use Rattle.calls.specs.declared.entry.Entry.{Entry};
 ghost use Rattle.calls.specs.Rule.{Kept, founder, dealer, dealt, without_list, only_list, with_list, without_batch, only_batch, with_batch, note, informed, spent, announcing, announced, withdrawn, moving};
-ghost use Rattle.calls.specs.Plays.{queues, takes_out, finishes, counts_queued, counts_finished, found_all, admitted, found_out, found_list};
+ghost use Rattle.calls.specs.Plays.{queues, takes_out, finishes, lacks_room, counts_queued, counts_finished, found_all, admitted, found_out, found_list};
 
 use crate::view::{Plan, View};
 use atomic_table::{Join, Play, Seat, Shared, Split, Table, TableRule};
@@ -61,6 +61,13 @@ pub(crate) struct AddFinished;
 
 impl<J> Play<NoSlot, View<J>> for AddFinished {
     ghost then = { finishes };
+}
+
+/// Load of a queued word with its list, in which a call that came in has no room.
+pub(crate) struct LackRoom;
+
+impl<J> Play<NoSlot, View<J>> for LackRoom {
+    ghost then = { lacks_room };
 }
 
 /// Load of a queued word.

@@ -2,7 +2,7 @@
 ghost use Rattle.std.specs.Prelude.{◌≡◌, ℕ, ◌<◌, Some, None};
 ghost use Rattle.calls.specs.declared.entry.Entry.{Entry};
 ghost use Rattle.calls.specs.Tallies.{queued_place, finished_place, word_count, most_calls, queued_in, IsBeginning};
-ghost use Rattle.calls.specs.Seats.{IsPlaced, IsAtRest, IsAboutTo, IsOfCaller, IsListSeat, IsBatchSeat, IsCallPlace, known_in, next_known, Announces, Withdraws, QueuesOne, MovesCall, TakesOne, FinishesBatch, CountsFinished, SeesAll, SeesTold, SeesBatchOut, SeesList};
+ghost use Rattle.calls.specs.Seats.{IsPlaced, IsAtRest, IsAboutTo, IsOfCaller, IsListSeat, IsBatchSeat, IsCallPlace, known_in, next_known, Announces, Withdraws, QueuesOne, MovesCall, TakesOne, LacksOne, FinishesBatch, CountsFinished, SeesAll, SeesTold, SeesBatchOut, SeesList};
 
 use crate::entry::Entry;
 use crate::plays::{self, Board, Calling, Counting, Place, Taking};
@@ -95,6 +95,23 @@ pub(crate) fn take_out<J, N: Taking>(
     top.load::<plays::TakeOut<N>>(seat, place_of_queued(processor));
     *list = top.split_seat::<plays::GiveList>(seat);
     top.split_seat::<plays::PassBatch>(seat)
+}
+
+/// Loads the queued word of this processor, with the right of its list, which gets it back: not all calls that came in are
+/// moved there.
+pub(crate) fn lack_room<J>(top: &Board<J>, seat: &mut Place<J>, list: &mut Place<J>, processor: u16)
+    requires placed { IsPlaced top.now.key top.now.table_id seat.old }
+    requires rests { (c : ℕ) × IsAtRest c top.now.key seat.old.me.0 }
+    requires there { processor < top.now.key.processors }
+    requires list { IsListSeat top.now.table_id processor list.old }
+    requires short { next_known (known_in list.old.me.0.list) < (known_in list.old.me.0.list).queued }
+    ensures placed { IsPlaced top.now.key top.now.table_id seat.new }
+    ensures lacks { LacksOne processor seat.old list.old seat.new list.new }
+{
+    let right = top.split_seat::<plays::GiveList>(list);
+    top.join_seat::<plays::TakeList>(seat, right);
+    top.load::<plays::LackRoom>(seat, place_of_queued(processor));
+    *list = top.split_seat::<plays::GiveList>(seat);
 }
 
 /// Loads the queued word of this processor, with the right of its list, which gets it back. The seat has then seen all that

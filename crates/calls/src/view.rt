@@ -28,6 +28,12 @@ pub enum Act<J> {
         processor: u16,
         count: u64,
     },
+    /// A load of the queued word of this processor, with its list in hand: so many calls that had come in were moved there,
+    /// and the next one had no room.
+    LackRoom {
+        processor: u16,
+        moved: u64,
+    },
     /// A load of the queued word of this processor, with what it found.
     LoadQueued {
         processor: u16,

@@ -39,7 +39,7 @@ use Rattle.calls.specs.declared.refusals.TakeRefusal.{TakeRefusal}
 use Rattle.calls.specs.declared.refusals.TakeRefusal.TheVariants as refused
 use Rattle.calls.specs.declared.view.Act as does
 use Rattle.calls.specs.declared.entry.Entry.{Entry}
-use Rattle.calls.specs.declared.view.Act.TheVariants.{Queue, Take, Finish, LoadQueued}
+use Rattle.calls.specs.declared.view.Act.TheVariants.{Queue, Take, Finish, LackRoom, LoadQueued}
 use Rattle.calls.specs.declared.view.Deed.{Deed}
 use Rattle.calls.specs.Lines.{Line, with_call, gathered, with_taken, with_none_out, next_line, line_from}
 use Rattle.calls.specs.Tallies.{deed, queued_in, finished_in, deeds_of}
@@ -350,9 +350,13 @@ module _ {J : Type 0} (c c' : CpuView J) (rest : c' ≡ with_calls c'.calls c) w
   pub looks_acts : {p : ℕ} → LooksAt p c.calls c'.calls → ActsAs loads c c'
   looks_acts {p} h = loads_deeds (deed c.calls.processor (LoadQueued p h.found) ∷ []) (record { same = h.same; since = h.since; own = h.own }) (record { queued = λ q. refl; finished = λ q. refl; lists = λ q l. refl })
 
+  -- a call had no room in a list, which is noted
+  pub lack_acts : {p : ℕ} → LacksRoomIn p c.calls c'.calls → ActsAs loads c c'
+  lack_acts {p} h = loads_deeds _ (adds_deed (LackRoom p h.moved) c.calls c'.calls h.does) (record { queued = λ q. refl; finished = λ q. refl; lists = λ q l. refl })
+
   pub lens_acts : {E : Type 0} (p : ℕ) (r : Result (List ℕ × List ℕ) E) → MatchResult r (λ found. FindsLensIn p c.calls found c'.calls) (λ _. LacksRoomIn p c.calls c'.calls) → ActsAs loads c c'
   lens_acts p (Ok found) h = looks_acts h.looks
-  lens_acts p (Err e) h = looks_acts h.looks
+  lens_acts p (Err e) h = lack_acts h
 
   pub hear_acts : {r : ReceiptView J} → Hears r c.calls c'.calls → ActsAs loads c c'
   hear_acts {r} h = loads_deeds _ (adds_deed (LoadQueued r.processor h.found) c.calls c'.calls h.does) (record { queued = λ q. refl; finished = λ q. refl; lists = λ q l. refl })
@@ -396,7 +400,7 @@ module _ {J : Type 0} (c c' : CpuView J) (rest : c' ≡ with_calls c'.calls (wit
       → MatchResult r (λ _. ActsAs (takes c'.cpu.changes processor) c c') (λ _. ActsAs loads c c')
   take_acts k processor most (Ok taken) h = takes_out k processor most taken h
   take_acts k processor most (Err refused.Invoking) h = looks_acts c c' (with_calls_alone h.cpu) h.looks
-  take_acts k processor most (Err refused.Memory) h = looks_acts c c' (with_calls_alone h.0) h.1.looks
+  take_acts k processor most (Err refused.Memory) h = lack_acts c c' (with_calls_alone h.0) h.1
 
 -- The root is loaded
 

@@ -5,8 +5,8 @@ use native.Mathlib.Decide.{dec_le, ℕ_discrete}
 use Rattle.onedom.specs.Histories.{ended_in, starts_in}
 use Rattle.sections.specs.EngineCalls.{IsSameEngine}
 use Rattle.scan.specs.declared.progress.Progress.{Progress}
-use Rattle.scan.specs.declared.progress.StartRefusal as engine
-use Rattle.scan.specs.declared.progress.StartRefusal.TheVariants as refused
+use Rattle.scan.specs.declared.progress.NotStarted as engine
+use Rattle.scan.specs.declared.progress.NotStarted.TheVariants as refused
 use Rattle.scan.specs.declared.refusals.AdvanceRefusal.{AdvanceRefusal}
 use Rattle.scan.specs.declared.refusals.AdvanceRefusal.TheVariants as advance
 use Rattle.scan.specs.declared.refusals.StartRefusal.{StartRefusal}
@@ -70,7 +70,7 @@ module _ {J : Type 0} (c c' : CpuView J) where
   }
 
   -- nor does one that starts none
-  pub none_for : (why : engine.StartRefusal) → station.StartsNone why c.turn c.cpu c'.turn c'.cpu → c'.needs ≡ c.needs → Drives (WorksFor c.needs c'.needs (λ v w. IsNoStart v why × (w ≡ v))) c.turn c.cpu c'.turn c'.cpu
+  pub none_for : (why : engine.NotStarted) → station.StartsNone why c.turn c.cpu c'.turn c'.cpu → c'.needs ≡ c.needs → Drives (WorksFor c.needs c'.needs (λ v w. IsNoStart v why × (w ≡ v))) c.turn c.cpu c'.turn c'.cpu
   none_for why h same = record {
     found = h.found;
     worked = h.worked;
@@ -83,7 +83,7 @@ module _ {J : Type 0} (c c' : CpuView J) where
     turn = h.turn;
   }
     where
-      still_none : (why : engine.StartRefusal) (v : Engine) → IsNoStart v why → IsNoStart (with_needs c.needs v) why
+      still_none : (why : engine.NotStarted) (v : Engine) → IsNoStart v why → IsNoStart (with_needs c.needs v) why
       still_none refused.Running v h = h
       still_none refused.Exhausted v h = h
 

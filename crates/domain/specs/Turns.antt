@@ -4,8 +4,8 @@ use Rattle.onedom.specs.declared.event.Event.{Event}
 use Rattle.onedom.specs.Histories.{IsBeginning, IsRunning}
 use Rattle.sections.specs.EngineCalls.{TiesEngine}
 use Rattle.scan.specs.declared.progress.Progress.{Progress}
-use Rattle.scan.specs.declared.progress.StartRefusal as scan
-use Rattle.scan.specs.declared.progress.StartRefusal.TheVariants as refused
+use Rattle.scan.specs.declared.progress.NotStarted as scan
+use Rattle.scan.specs.declared.progress.NotStarted.TheVariants as refused
 use Rattle.scan.specs.declared.refusals.AdvanceRefusal.{AdvanceRefusal}
 use Rattle.scan.specs.declared.refusals.AdvanceRefusal.TheVariants as advance
 use Rattle.scan.specs.declared.refusals.StartRefusal.{StartRefusal}
@@ -61,7 +61,7 @@ module _ {J : Type 0} where
   StartsIn c n c' = Lends (λ v w. StartsTo v n w) c c'
 
   -- the engine started none, and did nothing
-  abbrev pub StartsNone : CpuView J → scan.StartRefusal → CpuView J → Type 0
+  abbrev pub StartsNone : CpuView J → scan.NotStarted → CpuView J → Type 0
   StartsNone c refusal c' = Lends (λ v w. IsNoStart v refusal × (w ≡ v)) c c'
 
   abbrev pub IsNotStarted : CpuView J → StartRefusal → CpuView J → Type 0

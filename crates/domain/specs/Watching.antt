@@ -1,5 +1,5 @@
 -- What a watcher finds: the counters of one processor and of all, who holds a grace period up, and a domain at a glance.
-use Rattle.std.specs.Prelude.{◌≡◌, ◌≢◌, ℕ, zero, suc, ◌+◌, ◌*◌, ◌^◌, ◌<◌, ◌≤◌, ◌==◌, if◌then◌else◌, List, [], ◌∷◌, ◌++◌, length, sum, slice_index, Vec, vec_len, vec_capacity}
+use Rattle.std.specs.Prelude.{◌≡◌, ℕ, zero, suc, ◌+◌, ◌^◌, ◌<◌, ◌≤◌, ◌==◌, if◌then◌else◌, List, [], ◌∷◌, ◌++◌, Option, Some, None, length, sum, slice_index, slice_get, Vec, vec_len, vec_capacity}
 use Rattle.sseq.specs.declared.index.Index.{Index}
 use Rattle.sseq.specs.declared.index.Index.TheVariants.{Zero, One}
 use Rattle.onedom.specs.declared.event.Event.{Event}
@@ -93,7 +93,17 @@ pub record LoadsEach (count : ℕ → List Event → ℕ) (found : List ℕ) (to
   pub between : IsBetween (λ h. sum_below (λ p. count p h) c.processors) total c.seen d.seen
   pub small : total ≤ 2 ^ 60
 
+-- the pair of a lock and an unlock counter, where there are both
+abbrev pub pair_from : Option ℕ → Option ℕ → Option Pair
+pair_from (Some l) (Some u) = Some record { locks = l; unlocks = u }
+pair_from (Some l) None = None
+pair_from None u = None
+
 module _ {A : Type 0} where
+  -- what was found of processor p, where the domain has it
+  abbrev pub pair_at : Counters A → ℕ → Option Pair
+  pair_at k p = pair_from (slice_get k.locks.items p) (slice_get k.unlocks.items p)
+
   -- all unlock counters of the index were loaded, and then all of its lock counters
   pub record CountsEach (i : Index) (k : Counters A) (c d : sections.CpuView) : Type 0 where
     pub middle : sections.CpuView

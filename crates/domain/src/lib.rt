@@ -19,7 +19,7 @@ pub use domain::waiting::limited::WaitRefusal;
 pub use limit::TimedOut;
 pub use publishing::{claim, publish};
 pub use scan::refusals::{AdvanceRefusal, StartRefusal};
-pub use scan::{Exhausted as PeriodsExhausted, Progress};
+pub use scan::{PeriodsExhausted, Progress};
 pub use sections::{
     Cookie, DownPin, Exhausted, Found, Given, Held, HeldPin, Home, Limits, Look, MOST_MEMBERS,
     MOST_PROCESSORS, MakeError, NotACookie, Pin, Reading, SetFull, Slot, Standing,

@@ -1,23 +1,11 @@
 //! A limit of time.
-use std::error::Error;
-use std::fmt;
 use std::time::{Clock, Duration, Instant};
+use thiserror::Error;
 
 /// The time was over. Nothing was given up: what was waited for may be polled on.
-#[derive(Clone, Copy, Debug, PartialEq, Eq)]
+#[derive(Clone, Copy, Debug, Error, PartialEq, Eq)]
+#[error("the time is over: find who holds it up, and wait again")]
 pub struct TimedOut;
-
-impl fmt::Display for TimedOut {
-    ghost use Rattle.std.specs.Prelude.{Some, codes};
-
-    ghost output = { λ _. Some (codes "the time is over") };
-
-    fn fmt<W: fmt::Write>(&self, f: &mut fmt::Formatter<W>) -> fmt::Result {
-        f.write_str("the time is over")
-    }
-}
-
-impl Error for TimedOut {}
 
 /// Until when a call may wait. No contract speaks of the clock.
 #[derive(Clone, Copy)]

@@ -1,5 +1,6 @@
 //! What a watcher finds: counters, who holds a grace period up, and a domain at a glance.
 ghost use Rattle.std.specs.Prelude.{◌≡◌};
+ghost use Rattle.domain.specs.Watching.{pair_at};
 
 use std::alloc::{Allocator, Global};
 use std::fmt;
@@ -59,7 +60,9 @@ pub struct Counters<A: Allocator = Global> {
 
 impl<A: Allocator> Counters<A> {
     /// The two counters of a processor. None where the domain has no such processor.
-    pub fn pair(&self, processor: usize) -> Option<Pair> {
+    pub fn pair(&self, processor: usize) -> Option<Pair>
+        ensures { result ≡ pair_at self.now processor }
+    {
         Some(Pair {
             locks: *self.locks.get(processor)?,
             unlocks: *self.unlocks.get(processor)?,

@@ -2,13 +2,13 @@
 use Rattle.std.proofs.Common.{◌≡◌, ◌≢◌, ℕ, zero, suc, ◌⊎◌, List, [], ◌∷◌, ◌++◌, Option, Some, None, set, length, inl, inr, ⊎_elim, refl, sym, ap, ◌∙◌, subst, append_assoc, append-nil, length-set, arith}
 use mathlib.Core.Option.{some, some-injective, some-ne-none}
 use lib.ListN.{get_elem?}
-use Rattle.crossbeam_queue.specs.Fifo.{Pushes, Pops, Forks, Merges, Learns}
+use Rattle.crossbeam_queue.specs.Fifo.{Pushes, Pops, Forks, Learns}
 use Rattle.crossbeam_queue.proofs.Lists.{at_set}
 use Rattle.intake.specs.declared.view.Role.{Role}
-use Rattle.intake.specs.declared.view.Role.TheVariants.{Nobody, Founder, Pusher, Taker}
+use Rattle.intake.specs.declared.view.Role.TheVariants.{Founder, Pusher, Taker}
 use Rattle.intake.specs.declared.view.View.{View}
-use Rattle.intake.specs.Rule.{IsBeginning, MayFollow, AreInTurn, Books, HasRole, Fits, Kept, view, founder, pusher_of, taker_of, spent, note, informed}
-use Rattle.intake.specs.Plays.{pushed, taken, emptied, compared}
+use Rattle.intake.specs.Rule.{IsBeginning, MayFollow, AreInTurn, Books, HasRole, Fits, Kept, view, founder, pusher_of, taker_of}
+use Rattle.intake.specs.Plays.{pushed, taken, emptied}
 
 -- Beginnings
 
@@ -20,23 +20,6 @@ begins_empty l = record { rest = l; whole = refl }
 
 begins_longer : {T : Type 0} (seen l : List T) (x : T) → IsBeginning seen l → IsBeginning seen (l ++ x ∷ [])
 begins_longer seen l x h = record { rest = h.rest ++ x ∷ []; whole = ap (λ z. z ++ x ∷ []) h.whole ∙ append_assoc seen h.rest (x ∷ []) }
-
-heads : {T : Type 0} (x y : T) (xs ys : List T) → x ∷ xs ≡ y ∷ ys → x ≡ y
-heads x y xs ys e = cc
-
-tails : {T : Type 0} (x y : T) (xs ys : List T) → x ∷ xs ≡ y ∷ ys → xs ≡ ys
-tails x y xs ys e = cc
-
--- of two beginnings of one list, one is a beginning of the other
-either_begins : {T : Type 0} (a b ra rb : List T) → a ++ ra ≡ b ++ rb → IsBeginning a b ⊎ IsBeginning b a
-either_begins [] b ra rb e = inl (begins_empty b)
-either_begins (x ∷ xs) [] ra rb e = inr (begins_empty (x ∷ xs))
-either_begins (x ∷ xs) (y ∷ ys) ra rb e =
-    let first = heads x y (xs ++ ra) (ys ++ rb) e in
-    ⊎_elim
-    (λ (h : IsBeginning xs ys). inl (record { rest = h.rest; whole = λ i. sym first i ∷ h.whole i }))
-    (λ (h : IsBeginning ys xs). inr (record { rest = h.rest; whole = λ i. first i ∷ h.whole i }))
-    (either_begins xs ys ra rb (tails x y (xs ++ ra) (ys ++ rb) e))
 
 -- Keys
 
@@ -92,16 +75,15 @@ module _ {K T : Type 0} (follows : K → List T → T → Type 0) where
       books = record { key = None; pushed = []; taken = []; pusher = 0; taker = 0 }
 
       one : (id : ℕ) (v : View T K) → get_elem? (founder ∷ []) id ≡ some v → Fits books id v
-      one zero v e = subst (Fits books 0) (some-injective founder v e) (record { seen = begins_empty []; told = begins_empty []; role = (refl, refl, refl) })
+      one zero v e = subst (Fits books 0) (some-injective founder v e) (record { seen = begins_empty []; role = (refl, refl, refl) })
       one (suc id) v e = absurd (some-ne-none v (sym e))
 
   -- Steps
 
   others_pushed : (b : Books K T) (x : T) (id : ℕ) (v : View T K) → id ≢ b.pusher → Fits b id v → Fits (record b { pushed = b.pushed ++ x ∷ [] }) id v
-  others_pushed b x id v other h = record { seen = begins_longer v.seen b.pushed x h.seen; told = begins_longer v.told b.pushed x h.told; role = roles v.role h.role }
+  others_pushed b x id v other h = record { seen = begins_longer v.seen b.pushed x h.seen; role = roles v.role h.role }
     where
       roles : (role : Role K) → HasRole b id v.seen role → HasRole (record b { pushed = b.pushed ++ x ∷ [] }) id v.seen role
-      roles Nobody r = tt
       roles Founder r = absurd (other (sym r.0))
       roles (Pusher key) r = absurd (other (sym r.0))
       roles (Taker key) r = r
@@ -112,11 +94,10 @@ module _ {K T : Type 0} (follows : K → List T → T → Type 0) where
       let mine : Fits b port v = h.each_view port v at in
       let is : HasRole b port v.seen (Pusher key) = subst (HasRole b port v.seen) role mine.role in
       let c : Books K T = record b { pushed = b.pushed ++ x ∷ [] } in
-      let w : View T K = view v.role (v.seen ++ x ∷ []) v.told in
+      let w : View T K = view v.role (v.seen ++ x ∷ []) in
       let longer : v.seen ++ x ∷ [] ≡ c.pushed = ap (λ z. z ++ x ∷ []) is.2 in
       let own : Fits c port w = record {
         seen = record { rest = []; whole = sym longer ∙ sym (append-nil (v.seen ++ x ∷ [])) };
-        told = begins_longer v.told b.pushed x mine.told;
         role = subst (HasRole c port w.seen) (sym role) (is.0, is.1, longer);
       } in (
         w,
@@ -130,10 +111,9 @@ module _ {K T : Type 0} (follows : K → List T → T → Type 0) where
       )
 
   others_taken : (b : Books K T) (x : T) (id : ℕ) (v : View T K) → id ≢ b.taker → Fits b id v → Fits (record b { taken = b.taken ++ x ∷ [] }) id v
-  others_taken b x id v other h = record { seen = h.seen; told = h.told; role = roles v.role h.role }
+  others_taken b x id v other h = record { seen = h.seen; role = roles v.role h.role }
     where
       roles : (role : Role K) → HasRole b id v.seen role → HasRole (record b { taken = b.taken ++ x ∷ [] }) id v.seen role
-      roles Nobody r = tt
       roles Founder r = absurd (other (sym r.1))
       roles (Pusher key) r = r
       roles (Taker key) r = absurd (other (sym r.0))
@@ -144,13 +124,12 @@ module _ {K T : Type 0} (follows : K → List T → T → Type 0) where
       let mine : Fits b port v = h.each_view port v at in
       let is : HasRole b port v.seen (Taker key) = subst (HasRole b port v.seen) role mine.role in
       let c : Books K T = record b { taken = b.taken ++ x ∷ [] } in
-      let w : View T K = view v.role (v.seen ++ x ∷ []) v.told in
+      let w : View T K = view v.role (v.seen ++ x ∷ []) in
       let longer : v.seen ++ x ∷ [] ≡ c.taken = ap (λ z. z ++ x ∷ []) is.2 in
       let rest : b.pushed ≡ c.taken ++ items = h.rest ∙ sym (append_assoc b.taken (x ∷ []) items) in
       let there : MayFollow follows b.key b.taken x = turn_of follows b.key [] b.taken items x (subst (AreInTurn follows b.key []) h.rest h.in_turn) in
       let own : Fits c port w = record {
         seen = record { rest = items; whole = rest ∙ ap (λ z. z ++ items) (sym longer) };
-        told = mine.told;
         role = subst (HasRole c port w.seen) (sym role) (is.0, is.1, longer);
       } in (
         w,
@@ -168,17 +147,7 @@ module _ {K T : Type 0} (follows : K → List T → T → Type 0) where
 
   -- Splits and joins
 
-  pub notes : (port : ℕ) (v : View T K) → Forks (Kept follows) port v v (note v)
-  notes port v items views h at =
-      let mine : Fits h.books port v = h.each_view port v at in record {
-        books = h.books;
-        rest = h.rest;
-        in_turn = h.in_turn;
-        each_view = views_split (Fits h.books) views port v (note v) mine (record { seen = mine.seen; told = begins_empty h.books.pushed; role = tt }) (λ j d _ e. h.each_view j d e);
-      }
-
   others_parted : (b c : Books K T) (port j : ℕ) (seen : List T) → b.pusher ≡ port → b.taker ≡ port → j ≢ port → (role : Role K) → HasRole b j seen role → HasRole c j seen role
-  others_parted b c port j seen p t n Nobody r = tt
   others_parted b c port j seen p t n Founder r = absurd (n (sym r.0 ∙ p))
   others_parted b c port j seen p t n (Pusher key) r = absurd (n (sym r.0 ∙ p))
   others_parted b c port j seen p t n (Taker key) r = absurd (n (sym r.0 ∙ t))
@@ -194,42 +163,16 @@ module _ {K T : Type 0} (follows : K → List T → T → Type 0) where
         rest = h.rest;
         in_turn = subst (AreInTurn follows key []) (sym none) tt;
         each_view = views_split (Fits c) views port (pusher_of key) (taker_of key)
-            (record { seen = begins_empty b.pushed; told = begins_empty b.pushed; role = (refl, refl, sym none) })
-            (record { seen = begins_empty b.pushed; told = begins_empty b.pushed; role = (refl, refl, sym gone) })
-            (λ j d n e. let f = h.each_view j d e in record { seen = f.seen; told = f.told; role = others_parted b c port j d.seen mine.role.0 mine.role.1 n d.role f.role });
+            (record { seen = begins_empty b.pushed; role = (refl, refl, sym none) })
+            (record { seen = begins_empty b.pushed; role = (refl, refl, sym gone) })
+            (λ j d n e. let f = h.each_view j d e in record { seen = f.seen; role = others_parted b c port j d.seen mine.role.0 mine.role.1 n d.role f.role });
       }
     where
       front_empty : (xs ys : List T) → xs ++ ys ≡ [] → xs ≡ []
       front_empty [] ys e = refl
       front_empty (x ∷ xs) ys e = cc
 
-  pub informs : (port other : ℕ) (v w : View T K) → Merges (Kept follows) port v other w (informed v w) spent
-  informs port other v w items views h at apart there =
-      let b : Books K T = h.books in
-      let mine : Fits b port v = h.each_view port v at in
-      let was : get_elem? views other ≡ some w = ⊎_elim (λ x. absurd (apart x.0)) (λ x. x.1) (at_set views port other (informed v w) w there) in
-      let theirs : Fits b other w = h.each_view other w was in
-      let now : (j : ℕ) (d : View T K) → get_elem? (set views port (informed v w)) j ≡ some d → Fits b j d = views_set (Fits b) views port (informed v w) (record { seen = mine.seen; told = theirs.seen; role = mine.role }) (λ j d _ e. h.each_view j d e) in record {
-        books = b;
-        rest = h.rest;
-        in_turn = h.in_turn;
-        each_view = views_set (Fits b) (set views port (informed v w)) other spent (record { seen = begins_empty b.pushed; told = begins_empty b.pushed; role = tt }) (λ j d _ e. now j d e);
-      }
-
   -- Lessons
 
-  pub compares : (port : ℕ) (v : View T K) → Learns (Kept follows) port v (compared v)
-  compares port v items views h at =
-      let b : Books K T = h.books in
-      let mine : Fits b port v = h.each_view port v at in record {
-        all = λ key role. let is = subst (HasRole b port v.seen) role mine.role in record { rest = mine.told.rest; whole = is.2 ∙ mine.told.whole };
-        either = either_begins v.told v.seen mine.told.rest mine.seen.rest (sym mine.told.whole ∙ mine.seen.whole);
-      }
-
   pub empties : (port : ℕ) (v : View T K) → Learns (Kept follows) port v (emptied v)
-  empties port v items views h at key role none =
-      let b : Books K T = h.books in
-      let mine : Fits b port v = h.each_view port v at in
-      let is = subst (HasRole b port v.seen) role mine.role in
-      let all : b.pushed ≡ v.seen = h.rest ∙ (ap (λ z. b.taken ++ z) none ∙ (append-nil b.taken ∙ sym is.2)) in
-      record { rest = mine.told.rest; whole = sym all ∙ mine.told.whole }
+  empties port v items views h at = tt

@@ -1,13 +1,13 @@
 -- What the calls of the ends of a line do.
 use Rattle.std.specs.Prelude.{◌≡◌, List, [], ◌∷◌, ◌++◌, Option}
-use Rattle.intake.specs.Rule.{IsBeginning, MayFollow}
-use Rattle.intake.specs.Views.{InletView, OutletView, FrontView, LazyInletView, LazyOutletView}
+use Rattle.intake.specs.Rule.{MayFollow}
+use Rattle.intake.specs.Views.{InletView, OutletView, LazyInletView, LazyOutletView}
 
 module _ {T K A : Type 0} where
   -- the two ends of a new line with this key
   pub record IsNew (key : Option K) (inlet : InletView T K A) (outlet : OutletView T K A) : Type 0 where
     pub inlet_is : inlet ≡ record { line = outlet.line; key = key; pushed = [] }
-    pub outlet_is : outlet ≡ record { line = outlet.line; key = key; taken = []; heard = [] }
+    pub outlet_is : outlet ≡ record { line = outlet.line; key = key; taken = [] }
 
   abbrev pub Pushes : InletView T K A → T → InletView T K A → Type 0
   Pushes i x j = j ≡ record i { pushed = i.pushed ++ x ∷ [] }
@@ -16,16 +16,6 @@ module _ {T K A : Type 0} where
   pub record Pops (follows : K → List T → T → Type 0) (o : OutletView T K A) (x : T) (p : OutletView T K A) : Type 0 where
     pub is : p ≡ record o { taken = o.taken ++ x ∷ [] }
     pub follows_is : MayFollow follows o.key o.taken x
-
-  -- nothing has changed. All that this end had heard was pushed was taken out
-  pub record IsEmptied (o p : OutletView T K A) : Type 0 where
-    pub same : p ≡ o
-    pub all : IsBeginning o.heard o.taken
-
-  -- all that the front has was pushed here
-  pub record Compares (i : InletView T K A) (f : FrontView T A) (j : InletView T K A) : Type 0 where
-    pub same : j ≡ i
-    pub begins : IsBeginning f.seen i.pushed
 
 -- The same of a line whose queue is made at the first push
 

@@ -3,18 +3,16 @@ use Rattle.std.specs.Prelude.{◌≡◌, Option, Some, None}
 use Rattle.std.specs.Arc.{arc_value}
 use Rattle.crossbeam_queue.specs.SegTies.{IsSegPassOf}
 use Rattle.intake.specs.declared.view.Role.{Role}
-use Rattle.intake.specs.declared.view.Role.TheVariants.{Nobody, Founder, Pusher, Taker}
+use Rattle.intake.specs.declared.view.Role.TheVariants.{Founder, Pusher, Taker}
 use Rattle.intake.specs.declared.inlet.Inlet.TheInside as inlet
 use Rattle.intake.specs.declared.outlet.Outlet.TheInside as outlet
-use Rattle.intake.specs.declared.front.Front.TheInside as front
 use Rattle.intake.specs.declared.lazy.LazyInlet.TheInside as lazy_inlet
 use Rattle.intake.specs.declared.lazy.LazyOutlet.TheInside as lazy_outlet
-use Rattle.intake.specs.Views.{InletView, OutletView, FrontView, LazyInletView, LazyOutletView}
+use Rattle.intake.specs.Views.{InletView, OutletView, LazyInletView, LazyOutletView}
 use Rattle.intake.specs.Lazily.{pushed_in, taken_in, IsInStage, IsOfKey}
 
 -- the key of an end
 abbrev pub key_in : {K : Type 0} → Role K → Option K
-key_in Nobody = None
 key_in Founder = None
 key_in (Pusher key) = key
 key_in (Taker key) = key
@@ -28,19 +26,11 @@ module _ {T K A : Type 0} where
     pub role : i.pass.me.view.client.role ≡ Pusher (key_in i.pass.me.view.client.role)
 
   abbrev pub view_of_outlet : outlet.Inside T K A → OutletView T K A
-  view_of_outlet o = record { line = record { web = o.pass.web; heap = o.pass.heap }; key = key_in o.pass.me.view.client.role; taken = o.pass.me.view.client.seen; heard = o.pass.me.view.client.told }
+  view_of_outlet o = record { line = record { web = o.pass.web; heap = o.pass.heap }; key = key_in o.pass.me.view.client.role; taken = o.pass.me.view.client.seen }
 
   pub record IsOutlet (o : outlet.Inside T K A) : Type 0 where
     pub seated : IsSegPassOf (arc_value o.line).queue o.pass
     pub role : o.pass.me.view.client.role ≡ Taker (key_in o.pass.me.view.client.role)
-
-  abbrev pub view_of_front : front.Inside T K A → FrontView T A
-  view_of_front f = record { line = record { web = f.pass.web; heap = f.pass.heap }; seen = f.pass.me.view.client.seen }
-
-  pub record IsFront (f : front.Inside T K A) : Type 0 where
-    pub no_hand : f.pass.me.hand ≡ None
-    pub no_spare : f.pass.me.spare ≡ None
-    pub role : f.pass.me.view.client.role ≡ Nobody
 
   abbrev pub view_of_lazy_inlet : lazy_inlet.Inside T K A → LazyInletView T K
   view_of_lazy_inlet i = record { key = Some (arc_value i.place).key; pushed = pushed_in i.inlet }

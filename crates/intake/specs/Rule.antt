@@ -3,7 +3,7 @@ use Rattle.std.specs.Prelude.{◌≡◌, ℕ, List, [], ◌∷◌, ◌++◌, Opt
 use mathlib.Core.Option.{some}
 use lib.ListN.{get_elem?}
 use Rattle.intake.specs.declared.view.Role.{Role}
-use Rattle.intake.specs.declared.view.Role.TheVariants.{Nobody, Founder, Pusher, Taker}
+use Rattle.intake.specs.declared.view.Role.TheVariants.{Founder, Pusher, Taker}
 use Rattle.intake.specs.declared.view.View.{View}
 
 module _ {K T : Type 0} where
@@ -33,14 +33,12 @@ module _ {K T : Type 0} where
   AreInTurn follows key front (x ∷ xs) = MayFollow follows key front x × AreInTurn follows key (front ++ x ∷ []) xs
 
   abbrev pub HasRole : Books K T → ℕ → List T → Role K → Type 0
-  HasRole b id seen Nobody = Unit {0}
   HasRole b id seen Founder = (b.pusher ≡ id) × (b.taker ≡ id) × (b.pushed ≡ [])
   HasRole b id seen (Pusher key) = (b.pusher ≡ id) × (key ≡ b.key) × (seen ≡ b.pushed)
   HasRole b id seen (Taker key) = (b.taker ≡ id) × (key ≡ b.key) × (seen ≡ b.taken)
 
   pub record Fits (b : Books K T) (id : ℕ) (v : View T K) : Type 0 where
     pub seen : IsBeginning v.seen b.pushed
-    pub told : IsBeginning v.told b.pushed
     pub role : HasRole b id v.seen v.role
 
   pub record Kept (follows : K → List T → T → Type 0) (items : List T) (views : List (View T K)) : Type 0 where
@@ -51,26 +49,14 @@ module _ {K T : Type 0} where
 
   -- Views that are made
 
-  abbrev pub view : Role K → List T → List T → View T K
-  view role seen told = record { role = role; seen = seen; told = told }
+  abbrev pub view : Role K → List T → View T K
+  view role seen = record { role = role; seen = seen }
 
   abbrev pub founder : View T K
-  founder = view Founder [] []
+  founder = view Founder []
 
   abbrev pub pusher_of : Option K → View T K
-  pusher_of key = view (Pusher key) [] []
+  pusher_of key = view (Pusher key) []
 
   abbrev pub taker_of : Option K → View T K
-  taker_of key = view (Taker key) [] []
-
-  -- what is left of a pass that was taken in
-  abbrev pub spent : View T K
-  spent = view Nobody [] []
-
-  -- a new pass has seen as much, and is for nothing
-  abbrev pub note : View T K → View T K
-  note v = view Nobody v.seen []
-
-  -- what another pass has seen is told
-  abbrev pub informed : View T K → View T K → View T K
-  informed v w = view v.role v.seen w.seen
+  taker_of key = view (Taker key) []

@@ -8,17 +8,11 @@ pub record InletView (T K A : Type 0) : Type 0 where
   pub key : Option K
   pub pushed : List T
 
--- the same, with all that was ever taken out, and what this end heard was pushed
+-- the same, with all that was ever taken out
 pub record OutletView (T K A : Type 0) : Type 0 where
   pub line : SegId A
   pub key : Option K
   pub taken : List T
-  pub heard : List T
-
--- a beginning of what was pushed into this line
-pub record FrontView (T A : Type 0) : Type 0 where
-  pub line : SegId A
-  pub seen : List T
 
 -- the key of a line whose queue is made at the first push, and all that was ever pushed
 pub record LazyInletView (T K : Type 0) : Type 0 where

@@ -1,9 +1,8 @@
 //! The end at which values come in.
 ghost use Rattle.std.specs.Prelude.{◌≡◌, MatchResult};
 ghost use Rattle.intake.specs.Rule.{MayFollow};
-ghost use Rattle.intake.specs.Calls.{Pushes, Compares};
+ghost use Rattle.intake.specs.Calls.{Pushes};
 
-use crate::front::Front;
 use crate::item::Item;
 use crate::line::{Line, Pass};
 use crate::plays;
@@ -43,26 +42,5 @@ impl<T: Item<K> + Drop, K, A: Allocator> Inlet<T, K, A> {
         self.line
             .queue
             .push_as::<plays::Push, R>(rt, &mut self.pass, item)
-    }
-
-    /// What was pushed up to now, as a value.
-    pub fn front(&mut self) -> Front<T, K, A>
-        ensures front { result ≡ record { line = self.old.line; seen = self.old.pushed } }
-        ensures same { self.new ≡ self.old }
-    {
-        let pass = self.line.queue.another::<plays::GiveNote>(&mut self.pass);
-        Front { pass }
-    }
-
-    /// Compares: all that the front has was pushed here, and it is a beginning.
-    pub fn compare<R: Wait>(&mut self, rt: &R, front: &mut Front<T, K, A>)
-        requires { front.old.line ≡ self.old.line }
-        ensures compares { Compares self.old front.old self.new }
-        ensures same { front.new ≡ front.old }
-    {
-        let queue = &self.line.queue;
-        let copy = queue.another::<plays::GiveNote>(&mut front.pass);
-        queue.absorb::<plays::TakeNote>(&mut self.pass, copy);
-        queue.len_as::<plays::Compare, R>(rt, &mut self.pass);
     }
 }

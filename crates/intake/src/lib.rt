@@ -1,7 +1,6 @@
 //! How calls come in: one end pushes entries and touches no lock, the other one takes them out, in their order.
 #![tactic(auto)]
 
-mod front;
 mod inlet;
 mod item;
 mod lazy;
@@ -12,7 +11,6 @@ mod plays;
 mod tests;
 mod view;
 
-pub use front::Front;
 pub use inlet::Inlet;
 pub use item::Item;
 pub use lazy::{LazyInlet, LazyOutlet, open_lazily};

@@ -1,8 +1,7 @@
 //! The end at which values go out.
 ghost use Rattle.std.specs.Prelude.{◌≡◌, MatchOption};
-ghost use Rattle.intake.specs.Calls.{Pops, IsEmptied};
+ghost use Rattle.intake.specs.Calls.{Pops};
 
-use crate::front::Front;
 use crate::item::Item;
 use crate::line::{Line, Pass};
 use crate::plays;
@@ -32,10 +31,10 @@ impl<T: Item<K>, K, A: Allocator> Model for Outlet<T, K, A> {
 }
 
 impl<T: Item<K> + Drop, K, A: Allocator> Outlet<T, K, A> {
-    /// Takes out the value that was pushed first of those that are left. `None` only where all were taken out at one moment
-    /// of the call, and so all that this end had heard of. It waits while the value at the front is being pushed.
-    pub fn pop<R: Wait>(&mut self, rt: &R) -> Option<T>
-        ensures { MatchOption result (IsEmptied self.old self.new) (λ item. Pops T.follows self.old item self.new) }
+    /// Takes out the value that was pushed first of those that are left. `None` where nothing is there. It waits while the value
+    /// at the front is being pushed.
+    pub(crate) fn pop<R: Wait>(&mut self, rt: &R) -> Option<T>
+        ensures { MatchOption result (self.new ≡ self.old) (λ item. Pops T.follows self.old item self.new) }
     {
         self.line
             .queue
@@ -53,25 +52,5 @@ impl<T: Item<K> + Drop, K, A: Allocator> Outlet<T, K, A> {
             yield_now();
         }
         unreachable!()
-    }
-
-    /// From now on this end knows that so much was pushed: a later [`Outlet::pop`] that finds nothing has taken it all.
-    pub fn hear(&mut self, front: &mut Front<T, K, A>)
-        requires { front.old.line ≡ self.old.line }
-        ensures heard { self.new ≡ record self.old { heard = front.old.seen } }
-        ensures same { front.new ≡ front.old }
-    {
-        let queue = &self.line.queue;
-        let copy = queue.another::<plays::GiveNote>(&mut front.pass);
-        queue.absorb::<plays::TakeNote>(&mut self.pass, copy);
-    }
-
-    /// What was taken out up to now, as a value.
-    pub fn front(&mut self) -> Front<T, K, A>
-        ensures front { result ≡ record { line = self.old.line; seen = self.old.taken } }
-        ensures same { self.new ≡ self.old }
-    {
-        let pass = self.line.queue.another::<plays::GiveNote>(&mut self.pass);
-        Front { pass }
     }
 }

@@ -1,11 +1,11 @@
 //! The rule of a line, and what each step on it tells the one that makes it.
 ghost use Rattle.std.specs.Prelude.{Option, None};
-ghost use Rattle.intake.specs.Rule.{Kept, founder, pusher_of, taker_of, note, informed, spent};
-ghost use Rattle.intake.specs.Plays.{pushed, taken, emptied, compared};
+ghost use Rattle.intake.specs.Rule.{Kept, founder, pusher_of, taker_of};
+ghost use Rattle.intake.specs.Plays.{pushed, taken, emptied};
 
 use crate::item::Item;
 use crate::view::View;
-use crossbeam_queue::protocol::{Join, Lesson, Outcome, Protocol, Split};
+use crossbeam_queue::protocol::{Lesson, Outcome, Protocol, Split};
 use std::marker::{Brand, PhantomData};
 
 /// What was taken out is a beginning of what was pushed, and the rest waits in the line.
@@ -35,13 +35,6 @@ impl<T: Item<K>, K> Lesson<T, View<T, K>> for Take<T, K> {
     ghost fact = { emptied };
 }
 
-/// What was seen and what was told are compared.
-pub(crate) struct Compare;
-
-impl<T, K> Lesson<T, View<T, K>> for Compare {
-    ghost fact = { compared };
-}
-
 /// The key of a new line. Each call names it anew.
 pub trait Naming<K> {
     ghost key: { Option K };
@@ -58,22 +51,4 @@ impl<T, K, N: Naming<K>> Split<View<T, K>> for Part<N> {
     ghost left = { λ v. pusher_of N.key };
 
     ghost right = { λ v. taker_of N.key };
-}
-
-/// A new pass has seen as much.
-pub(crate) struct GiveNote;
-
-impl<T, K> Split<View<T, K>> for GiveNote {
-    ghost left = { λ v. v };
-
-    ghost right = { note };
-}
-
-/// What the other pass has seen is told.
-pub(crate) struct TakeNote;
-
-impl<T, K> Join<View<T, K>> for TakeNote {
-    ghost both = { informed };
-
-    ghost spent = { spent };
 }

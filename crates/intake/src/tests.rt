@@ -152,10 +152,9 @@ fn in_little_room(rt: HostRuntime) -> Result<(), Fail> {
     Ok(())
 }
 
-/// Would catch an end that says that nothing waits while something does, and fronts that are not compared: in one thread,
-/// whoever hears how far the other end has come takes it all.
+/// Would catch an end that says that nothing waits while something does: in one thread, it takes all that was pushed.
 #[test]
-fn takes_what_it_heard_of(rt: HostRuntime) -> Result<(), Fail> {
+fn takes_what_is_there(rt: HostRuntime) -> Result<(), Fail> {
     let (mut inlet, mut outlet) = line(rt.alloc())?;
     assert_eq!(rt; fill(&rt, &mut inlet), COUNT);
     assert_eq!(rt; empty(&rt, &mut outlet), COUNT);

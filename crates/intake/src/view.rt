@@ -16,8 +16,6 @@ impl<T> Model for Values<T> {
 
 /// What a pass is for.
 pub enum Role<K> {
-    /// For nothing: it only knows what it has seen.
-    Nobody,
     /// It becomes the two ends.
     Founder,
     /// To push values into a line with this key.
@@ -29,9 +27,6 @@ pub enum Role<K> {
 /// What one pass knows.
 pub struct View<T, K> {
     pub role: Role<K>,
-    /// Of the pusher, all that was ever pushed; of the taker, all that was ever taken out; of another pass, a beginning of
-    /// what was pushed.
+    /// Of the pusher, all that was ever pushed; of the taker, all that was ever taken out.
     pub seen: Values<T>,
-    /// What another pass had seen, which is to be compared.
-    pub told: Values<T>,
 }

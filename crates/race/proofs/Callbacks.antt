@@ -2,7 +2,7 @@
 use Rattle.std.proofs.Common.{◌≡◌, ℕ, ◌<◌, ◌==◌, Bool, List, [], ◌∷◌, inl, inr, All, refl, sym, eq-eqb, ne_eqb}
 use Rattle.std.proofs.lemmas.List.Elements.{All-nil, All-cons}
 use Rattle.calls.specs.declared.view.Act.{Act}
-use Rattle.calls.specs.declared.view.Act.TheVariants.{Queue, Take, Finish, LoadQueued, LoadFinished}
+use Rattle.calls.specs.declared.view.Act.TheVariants.{Queue, Take, Finish, LackRoom, LoadQueued, LoadFinished}
 use Rattle.calls.specs.declared.view.Deed.{Deed}
 use Rattle.calls.specs.Tallies.{finished_by, finished_in, deeds_of, AreTakers, IsTaker}
 use Rattle.calls.specs.Totals.{added}
@@ -22,6 +22,7 @@ module _ {J : Type 0} where
   one_finish q n by (Queue e) h = inl refl
   one_finish q n by (Take p c max moved) h = inl refl
   one_finish q n by (Finish p c) h = made q n record { by = by; act = Finish p c } h
+  one_finish q n by (LackRoom p moved) h = inl refl
   one_finish q n by (LoadQueued p c) h = inl refl
   one_finish q n by (LoadFinished p c) h = inl refl
 

@@ -2,8 +2,8 @@
 use Rattle.std.proofs.Common.{◌≡◌, sym, ◌∙◌}
 use Rattle.sections.specs.Views.{CpuView}
 use Rattle.desk.specs.BayViews.{BaySeatView}
-use Rattle.scan.specs.declared.progress.StartRefusal as engine
-use Rattle.scan.specs.declared.progress.StartRefusal.TheVariants as refused
+use Rattle.scan.specs.declared.progress.NotStarted as engine
+use Rattle.scan.specs.declared.progress.NotStarted.TheVariants as refused
 use Rattle.scan.specs.Progress.{ScanView}
 use Rattle.scan.specs.Refusals.{refusal_of}
 use Rattle.scan.specs.Stations.{Takes, GivesBack, Drives, StartsNone, IsNotStarted}
@@ -25,6 +25,6 @@ module _ {N : Type 0} (work : ScanView N → ScanView N → Type 0) (t took t' :
 
 module _ {N : Type 0} where
   -- where the engine started none, the station says so
-  pub not_started : (why : engine.StartRefusal) (t : BaySeatView (ScanView N)) (c : CpuView) (t' : BaySeatView (ScanView N)) (c' : CpuView) → StartsNone why t c t' c' → IsNotStarted (refusal_of why) t c t' c'
+  pub not_started : (why : engine.NotStarted) (t : BaySeatView (ScanView N)) (c : CpuView) (t' : BaySeatView (ScanView N)) (c' : CpuView) → StartsNone why t c t' c' → IsNotStarted (refusal_of why) t c t' c'
   not_started refused.Running t c t' c' h = h
   not_started refused.Exhausted t c t' c' h = h

@@ -14,7 +14,7 @@ use Rattle.scan.specs.declared.place.Place.TheVariants.{Idle, Wanted, Unlocks, L
 use Rattle.scan.specs.declared.progress.Progress.{Progress}
 use Rattle.scan.specs.declared.progress.Progress.TheVariants as answer
 use Rattle.scan.specs.Places.{so_far, wanted, viewed, IsScanning, IsAt, Moves}
-use Rattle.scan.specs.declared.progress.Exhausted.{Exhausted}
+use Rattle.scan.specs.declared.progress.PeriodsExhausted.{PeriodsExhausted}
 use Rattle.scan.specs.Standings.{number_at_rest, steps_for, events_of, changes_for, changes_so_far, FirstLoaded, WaitsFor, Says, Counts, StepsThrough}
 use Rattle.scan.specs.Progress.{ScanView, standing_of, Shows, NeedsLoaded, GetsOn, StepsTo, AdvancesTo, FindsExhausted}
 use Rattle.onedom.proofs.CallerLemmas.{length_grows}
@@ -338,7 +338,7 @@ module _ {N : Type 0} (loads : N → ℕ → N → Type 0) where
   pub exhausted : (u v w : ScanView N) → IsUnderWay u v → FindsExhausted loads v w → FindsExhausted loads u w
   exhausted u v w h x = none_moved u v w h.moved x
 
-pub at_error : (r : Result Progress Exhausted) (P : Progress → Type 0) (Q : Type 0) → IsErr r → Q → MatchResult r P (λ _. Q)
+pub at_error : (r : Result Progress PeriodsExhausted) (P : Progress → Type 0) (Q : Type 0) → IsErr r → Q → MatchResult r P (λ _. Q)
 at_error (Ok a) P Q is q = absurd cc
 at_error (Err x) P Q is q = q
 

@@ -1,5 +1,5 @@
 -- What the calls of the engine do.
-use Rattle.std.specs.Prelude.{◌≡◌, ℕ, ◌+◌, ◌*◌, ◌<◌, ◌≤◌, ◌⊎◌, Bool, true, false, List, [], ◌∷◌, ◌++◌, length, count_by, codes}
+use Rattle.std.specs.Prelude.{◌≡◌, ℕ, ◌+◌, ◌*◌, ◌<◌, ◌≤◌, ◌⊎◌, Bool, true, false, List, [], ◌∷◌, ◌++◌, length, count_by}
 use Rattle.sseq.specs.declared.index.Index.{Index}
 use Rattle.onedom.specs.declared.event.Maker.TheVariants.{Engine}
 use Rattle.onedom.specs.declared.event.Event.{Event}
@@ -11,8 +11,8 @@ use Rattle.sections.specs.Views.{EngineView}
 use Rattle.sections.specs.EngineCalls.{IsSeenByEngine, IsSameEngine, AddsEngineEvent}
 use Rattle.scan.specs.declared.progress.Progress.{Progress}
 use Rattle.scan.specs.declared.progress.Progress.TheVariants as answer
-use Rattle.scan.specs.declared.progress.StartRefusal.{StartRefusal}
-use Rattle.scan.specs.declared.progress.StartRefusal.TheVariants as refusal
+use Rattle.scan.specs.declared.progress.NotStarted.{NotStarted}
+use Rattle.scan.specs.declared.progress.NotStarted.TheVariants as refusal
 use Rattle.scan.specs.Standings.{Standing, not_current, number_at_rest, events_of, leads_on, steps_for, Says, IsAnswered, Steps, Advances, Starts, IsOutOfPeriods}
 
 -- `seat` is the engine's seat, and `needs` are its needs. Of what is half done, `so_far` says how many steps were made; `need` is the number that was found to be asked for, where a period is wanted, and `began` how long the history was at the first load, where it is a scan
@@ -90,7 +90,7 @@ module _ {N : Type 0} where
     pub needs : w.needs ≡ v.needs
     pub no_need : w.need ≡ 0
 
-  abbrev pub IsNoStart : ScanView N → StartRefusal → Type 0
+  abbrev pub IsNoStart : ScanView N → NotStarted → Type 0
   IsNoStart v refusal.Running = IsRunning v.seat.seen
   IsNoStart v refusal.Exhausted = IsOutOfPeriods (standing_of v)
 
@@ -166,8 +166,3 @@ module _ {N : Type 0} where
       pub out : IsOutOfPeriods (standing_of w)
       pub asked : number_at_rest w.seat.seen < need
       pub rest : w ≡ record v { needs = w.needs }
-
--- as a refusal is printed
-abbrev pub refusal_text : StartRefusal → List ℕ
-refusal_text refusal.Running = codes "a grace period runs"
-refusal_text refusal.Exhausted = codes "no more grace periods may start"

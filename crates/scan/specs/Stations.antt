@@ -5,8 +5,8 @@ use Rattle.sections.specs.EngineCalls.{IsSameEngine, IsTied, TiesEngine}
 use Rattle.desk.specs.BayViews.{BaySeatView}
 use Rattle.desk.specs.BayCalls.{holds, MakesSwap, IsHeldElsewhere, IsLikeFirst}
 use Rattle.scan.specs.declared.progress.Progress.{Progress}
-use Rattle.scan.specs.declared.progress.StartRefusal as engine
-use Rattle.scan.specs.declared.progress.StartRefusal.TheVariants as refused
+use Rattle.scan.specs.declared.progress.NotStarted as engine
+use Rattle.scan.specs.declared.progress.NotStarted.TheVariants as refused
 use Rattle.scan.specs.declared.refusals.AdvanceRefusal.{AdvanceRefusal}
 use Rattle.scan.specs.declared.refusals.AdvanceRefusal.TheVariants as advance
 use Rattle.scan.specs.declared.refusals.StartRefusal.{StartRefusal}
@@ -75,7 +75,7 @@ module _ {N : Type 0} where
   IsNotDriven loads advance.Exhausted t c n t' c' n' = Drives (WorksFor n n' (FindsExhausted loads)) t c t' c'
 
   -- the engine started none, and did nothing
-  abbrev pub StartsNone : engine.StartRefusal → BaySeatView (ScanView N) → CpuView → BaySeatView (ScanView N) → CpuView → Type 0
+  abbrev pub StartsNone : engine.NotStarted → BaySeatView (ScanView N) → CpuView → BaySeatView (ScanView N) → CpuView → Type 0
   StartsNone why t c t' c' = Drives (λ v w. IsNoStart v why × (w ≡ v)) t c t' c'
 
   abbrev pub IsNotStarted : StartRefusal → BaySeatView (ScanView N) → CpuView → BaySeatView (ScanView N) → CpuView → Type 0

@@ -4,12 +4,12 @@ ghost use Rattle.onedom.specs.Histories.{IsBeginning};
 ghost use Rattle.sections.specs.Words.{number_word};
 ghost use Rattle.sections.specs.declared.view.Shown.TheVariants.{To};
 ghost use Rattle.sections.specs.Calls.{Accepts, IsSeenBy};
-ghost use Rattle.sections.specs.EngineCalls.{Covers, IsTied, TiesEngine, Meets, AreInDomain, AreAllCpus, OneHasSeenAll};
+ghost use Rattle.sections.specs.EngineCalls.{Covers, IsTied, TiesEngine};
 ghost use Rattle.scan.specs.Standings.{number_at_rest};
 ghost use Rattle.scan.specs.Progress.{StepsTo, AdvancesTo, CarriesOn, FindsExhausted, StartsTo, IsNoStart, WorksFor, new_engine, with_seat};
 
 use crate::place::Place;
-use crate::progress::{Exhausted, Progress, StartRefusal};
+use crate::progress::{NotStarted, PeriodsExhausted, Progress};
 use crate::steps::{advance_at, carry_on_at, step_at};
 use sections::{Cpu, EngineSeat, Home};
 use sseq::{Needs, Number, Phase, state};
@@ -54,14 +54,14 @@ impl<N: Needs, A: Allocator> Engine<N, A> {
 
     /// Makes one atomic step. `Step` is the answer as long as there is no other: in a domain of P processors at most
     /// 2P + 1 times in a row.
-    pub fn step(&mut self) -> Result<Progress, Exhausted>
+    pub fn step(&mut self) -> Result<Progress, PeriodsExhausted>
         ensures { MatchResult result (λ answer. StepsTo N.loads self.old answer self.new) (λ _. FindsExhausted N.loads self.old self.new) }
     {
         step_at(&mut self.seat, &mut self.place, &mut self.needs)
     }
 
     /// The step that [`Engine::step`] would make with these needs in place of its own, which stay as they are.
-    pub(crate) fn step_for(&mut self, needs: &mut N) -> Result<Progress, Exhausted>
+    pub(crate) fn step_for(&mut self, needs: &mut N) -> Result<Progress, PeriodsExhausted>
         ensures works { MatchResult result
             (λ answer. WorksFor needs.old needs.new (λ v w. StepsTo N.loads v answer w) self.old self.new)
             (λ _. WorksFor needs.old needs.new (FindsExhausted N.loads) self.old self.new) }
@@ -77,14 +77,14 @@ impl<N: Needs, A: Allocator> Engine<N, A> {
     /// with nothing written down between them. It goes on with what `step` has left half done. In a domain of P processors
     /// an answer takes 1 step (`Idle`), 2 (`Started`), 2P (`Waiting`), 2P + 2 (`Flipped`) or 2P + 1 (`Ended`), including
     /// those that were made before.
-    pub fn advance(&mut self) -> Result<Progress, Exhausted>
+    pub fn advance(&mut self) -> Result<Progress, PeriodsExhausted>
         ensures { MatchResult result (λ answer. AdvancesTo N.loads self.old answer self.new) (λ _. FindsExhausted N.loads self.old self.new) }
     {
         advance_at(&mut self.seat, &mut self.place, &mut self.needs)
     }
 
     /// The steps that [`Engine::advance`] would make with these needs in place of its own, which stay as they are.
-    pub(crate) fn advance_for(&mut self, needs: &mut N) -> Result<Progress, Exhausted>
+    pub(crate) fn advance_for(&mut self, needs: &mut N) -> Result<Progress, PeriodsExhausted>
         ensures works { MatchResult result
             (λ answer. WorksFor needs.old needs.new (λ v w. AdvancesTo N.loads v answer w) self.old self.new)
             (λ _. WorksFor needs.old needs.new (FindsExhausted N.loads) self.old self.new) }
@@ -98,7 +98,7 @@ impl<N: Needs, A: Allocator> Engine<N, A> {
 
     /// Goes on from answer to answer, with these needs in place of its own, which stay as they are, until it has ended a
     /// period, waits for a section, or has nothing to do: where nobody reads, a whole period.
-    pub(crate) fn carry_on_for(&mut self, needs: &mut N) -> Result<Progress, Exhausted>
+    pub(crate) fn carry_on_for(&mut self, needs: &mut N) -> Result<Progress, PeriodsExhausted>
         ensures works { MatchResult result
             (λ answer. WorksFor needs.old needs.new (λ v w. CarriesOn N.loads v answer w) self.old self.new)
             (λ _. WorksFor needs.old needs.new (FindsExhausted N.loads) self.old self.new) }
@@ -112,15 +112,15 @@ impl<N: Needs, A: Allocator> Engine<N, A> {
 
     /// Starts a grace period, whether it is asked for or not, and answers the number from then on. A need that was
     /// found before is used up.
-    pub fn start(&mut self) -> Result<Number, StartRefusal>
+    pub fn start(&mut self) -> Result<Number, NotStarted>
         ensures { MatchResult result (λ n. StartsTo self.old n self.new) (λ refusal. IsNoStart self.old refusal × (self.new ≡ self.old)) }
     {
         let number = self.number();
         let Phase::Idle = state(number) else {
-            return Err(StartRefusal::Running);
+            return Err(NotStarted::Running);
         };
         if number.get() == 4 * self.seat.periods() {
-            return Err(StartRefusal::Exhausted);
+            return Err(NotStarted::Exhausted);
         }
         let started = self.seat.add_start();
         self.place = Place::SCAN;
@@ -181,17 +181,5 @@ impl<N: Needs, A: Allocator> Engine<N, A> {
         ensures rest { self.new ≡ with_seat self.new.seat self.old }
     {
         self.seat.tie(cpu);
-    }
-
-    /// One load of the index word by the engine for each processor, and then one by each processor. All of them have
-    /// then seen one history, in which each has just its own events. Where the engine was tied, and these are all
-    /// processors, one of them had seen all that the engine made.
-    pub fn meet(&mut self, cpus: &mut [Cpu<A>])
-        requires { AreInDomain self.old.seat.domain cpus.old }
-        ensures met { Meets self.old.seat cpus.old self.new.seat cpus.new }
-        ensures known { IsTied self.old.seat → AreAllCpus cpus.old → OneHasSeenAll self.old.seat cpus.old }
-        ensures rest { self.new ≡ with_seat self.new.seat self.old }
-    {
-        self.seat.meet(cpus);
     }
 }

@@ -14,6 +14,6 @@ mod steps;
 mod tied;
 
 pub use engine::Engine;
-pub use progress::{Exhausted, Progress, StartRefusal};
+pub use progress::{NotStarted, PeriodsExhausted, Progress};
 pub use station::Station;
 pub use station::seat::StationSeat;

@@ -2,7 +2,7 @@
 ghost use Rattle.std.specs.Prelude.{MatchResult};
 ghost use Rattle.scan.specs.Needed.{FindsNeed, FindsTooMuch};
 
-use crate::progress::Exhausted;
+use crate::progress::PeriodsExhausted;
 use sections::EngineSeat;
 use sseq::{Needs, Number};
 use std::alloc::Allocator;
@@ -11,7 +11,7 @@ use std::alloc::Allocator;
 pub(crate) fn find_need<N: Needs, A: Allocator>(
     seat: &EngineSeat<A>,
     needs: &mut N,
-) -> Result<Option<Number>, Exhausted>
+) -> Result<Option<Number>, PeriodsExhausted>
     ensures { MatchResult result (λ asked. FindsNeed N.loads seat.now needs.old asked needs.new) (λ _. FindsTooMuch N.loads seat.now needs.old needs.new) }
 {
     let number = seat.number();
@@ -20,7 +20,7 @@ pub(crate) fn find_need<N: Needs, A: Allocator>(
         return Ok(None);
     }
     if number.get() == 4 * seat.periods() {
-        return Err(Exhausted);
+        return Err(PeriodsExhausted);
     }
     Ok(Some(need))
 }

@@ -1,7 +1,6 @@
 //! What a call of the engine answers.
 use sseq::{Index, Number};
-use std::error::Error;
-use std::fmt;
+use thiserror::Error;
 
 /// How far the engine has come.
 #[derive(Clone, Copy, Debug, PartialEq, Eq)]
@@ -21,42 +20,17 @@ pub enum Progress {
 }
 
 /// A grace period is asked for, but as many have ended as `Limits.periods` allows. Only the need was loaded.
-#[derive(Clone, Copy, Debug, PartialEq, Eq)]
-pub struct Exhausted;
+#[derive(Clone, Copy, Debug, Error, PartialEq, Eq)]
+#[error("no more grace periods may start: make a new domain")]
+pub struct PeriodsExhausted;
 
-impl fmt::Display for Exhausted {
-    ghost use Rattle.std.specs.Prelude.{Some, codes};
-
-    ghost output = { λ _. Some (codes "no more grace periods may start") };
-
-    fn fmt<W: fmt::Write>(&self, f: &mut fmt::Formatter<W>) -> fmt::Result {
-        f.write_str("no more grace periods may start")
-    }
-}
-
-impl Error for Exhausted {}
-
-/// Why no grace period was started. Nothing was done.
-#[derive(Clone, Copy, Debug, PartialEq, Eq)]
-pub enum StartRefusal {
+/// Why the engine started no grace period. Nothing was done.
+#[derive(Clone, Copy, Debug, Error, PartialEq, Eq)]
+pub enum NotStarted {
     /// A grace period runs.
+    #[error("a grace period runs: drive it to its end before")]
     Running = 1,
     /// As many have ended as `Limits.periods` allows.
+    #[error("no more grace periods may start: make a new domain")]
     Exhausted = 2,
 }
-
-impl fmt::Display for StartRefusal {
-    ghost use Rattle.std.specs.Prelude.{Some};
-    ghost use Rattle.scan.specs.Progress.{refusal_text};
-
-    ghost output = { λ refusal. Some (refusal_text refusal) };
-
-    fn fmt<W: fmt::Write>(&self, f: &mut fmt::Formatter<W>) -> fmt::Result {
-        match self {
-            StartRefusal::Running => f.write_str("a grace period runs"),
-            StartRefusal::Exhausted => f.write_str("no more grace periods may start"),
-        }
-    }
-}
-
-impl Error for StartRefusal {}

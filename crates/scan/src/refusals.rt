@@ -1,89 +1,60 @@
 //! Why the engine was not driven on, or started no grace period.
-ghost use Rattle.std.specs.Prelude.{◌≡◌};
-ghost use Rattle.scan.specs.Refusals.{refusal_of};
-
-use crate::progress;
-use std::error::Error;
-use std::fmt;
+use crate::progress::{NotStarted, PeriodsExhausted};
+use thiserror::Error;
 
 /// Another call has the engine. Nothing was done but the one swap that found its place empty.
-#[derive(Clone, Copy, Debug, PartialEq, Eq)]
+#[derive(Clone, Copy, Debug, Error, PartialEq, Eq)]
+#[error("another call has the engine: call again")]
 pub struct Busy;
 
-impl fmt::Display for Busy {
-    ghost use Rattle.std.specs.Prelude.{Some, codes};
-
-    ghost output = { λ _. Some (codes "another call has the engine") };
-
-    fn fmt<W: fmt::Write>(&self, f: &mut fmt::Formatter<W>) -> fmt::Result {
-        f.write_str("another call has the engine")
-    }
-}
-
-impl Error for Busy {}
-
 /// Why the engine has no answer to a step, or to steps in a row.
-#[derive(Clone, Copy, Debug, PartialEq, Eq)]
+#[derive(Clone, Copy, Debug, Error, PartialEq, Eq)]
 pub enum AdvanceRefusal {
     /// Another call has the engine. Nothing was done but the one swap that found its place empty.
+    #[error("another call has the engine: call again")]
     Busy = 1,
     /// A grace period is asked for, but as many have ended as `Limits.periods` allows. Of the engine just the need was
     /// loaded.
+    #[error("no more grace periods may start: make a new domain")]
     Exhausted = 2,
 }
 
-impl fmt::Display for AdvanceRefusal {
-    ghost use Rattle.std.specs.Prelude.{Some};
-    ghost use Rattle.scan.specs.Refusals.{advance_refusal_text};
+impl From<PeriodsExhausted> for AdvanceRefusal {
+    ghost use Rattle.std.specs.Prelude.{◌≡◌};
+    ghost use Rattle.scan.specs.declared.refusals.AdvanceRefusal.TheVariants.{Exhausted};
 
-    ghost output = { λ refusal. Some (advance_refusal_text refusal) };
+    ghost from_gives = { λ _ refusal. refusal ≡ Exhausted };
 
-    fn fmt<W: fmt::Write>(&self, f: &mut fmt::Formatter<W>) -> fmt::Result {
-        match self {
-            AdvanceRefusal::Busy => f.write_str("another call has the engine"),
-            AdvanceRefusal::Exhausted => f.write_str("no more grace periods may start"),
-        }
+    fn from(_refusal: PeriodsExhausted) -> AdvanceRefusal {
+        AdvanceRefusal::Exhausted
     }
 }
 
-impl Error for AdvanceRefusal {}
-
 /// Why no grace period was started from the engine's place.
-#[derive(Clone, Copy, Debug, PartialEq, Eq)]
+#[derive(Clone, Copy, Debug, Error, PartialEq, Eq)]
 pub enum StartRefusal {
     /// Another call has the engine. Nothing was done but the one swap that found its place empty.
+    #[error("another call has the engine: call again")]
     Busy = 1,
     /// A grace period runs.
+    #[error("a grace period runs: drive it to its end before")]
     Running = 2,
     /// As many have ended as `Limits.periods` allows.
+    #[error("no more grace periods may start: make a new domain")]
     Exhausted = 3,
 }
 
-impl StartRefusal {
+impl From<NotStarted> for StartRefusal {
+    ghost use Rattle.std.specs.Prelude.{◌≡◌};
+    ghost use Rattle.scan.specs.Refusals.{refusal_of};
+
+    ghost from_gives = { λ why refusal. refusal ≡ refusal_of why };
+
     /// Why the engine started none.
-    pub(crate) fn of(refusal: progress::StartRefusal) -> StartRefusal
-        ensures { result ≡ refusal_of refusal }
-    {
+    fn from(refusal: NotStarted) -> StartRefusal {
         match refusal {
-            progress::StartRefusal::Running => StartRefusal::Running,
-            progress::StartRefusal::Exhausted => StartRefusal::Exhausted,
+            NotStarted::Running => StartRefusal::Running,
+            NotStarted::Exhausted => StartRefusal::Exhausted,
         }
     }
 }
-
-impl fmt::Display for StartRefusal {
-    ghost use Rattle.std.specs.Prelude.{Some};
-    ghost use Rattle.scan.specs.Refusals.{start_refusal_text};
-
-    ghost output = { λ refusal. Some (start_refusal_text refusal) };
-
-    fn fmt<W: fmt::Write>(&self, f: &mut fmt::Formatter<W>) -> fmt::Result {
-        match self {
-            StartRefusal::Busy => f.write_str("another call has the engine"),
-            StartRefusal::Running => f.write_str("a grace period runs"),
-            StartRefusal::Exhausted => f.write_str("no more grace periods may start"),
-        }
-    }
-}
-
-impl Error for StartRefusal {}

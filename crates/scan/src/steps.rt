@@ -7,7 +7,7 @@ ghost use Rattle.scan.specs.Progress.{StepsTo, AdvancesTo, CarriesOn, FindsExhau
 
 use crate::needed::find_need;
 use crate::place::Place;
-use crate::progress::{Exhausted, Progress};
+use crate::progress::{PeriodsExhausted, Progress};
 use crate::rows::go_on;
 use crate::scanning::move_on;
 use sections::EngineSeat;
@@ -20,7 +20,7 @@ pub(crate) fn step_at<N: Needs, A: Allocator>(
     seat: &mut EngineSeat<A>,
     place: &mut Place,
     needs: &mut N,
-) -> Result<Progress, Exhausted>
+) -> Result<Progress, PeriodsExhausted>
     requires { IsReady seat.old place.old }
     ensures ready { IsReady seat.new place.new }
     ensures steps { MatchResult result
@@ -49,7 +49,7 @@ pub(crate) fn advance_at<N: Needs, A: Allocator>(
     seat: &mut EngineSeat<A>,
     place: &mut Place,
     needs: &mut N,
-) -> Result<Progress, Exhausted>
+) -> Result<Progress, PeriodsExhausted>
     requires { IsReady seat.old place.old }
     ensures ready { IsReady seat.new place.new }
     ensures advances { MatchResult result
@@ -79,7 +79,7 @@ pub(crate) fn carry_on_at<N: Needs, A: Allocator>(
     seat: &mut EngineSeat<A>,
     place: &mut Place,
     needs: &mut N,
-) -> Result<Progress, Exhausted>
+) -> Result<Progress, PeriodsExhausted>
     requires { IsReady seat.old place.old }
     ensures ready { IsReady seat.new place.new }
     ensures carries { MatchResult result

@@ -1,7 +1,6 @@
 ghost use Rattle.std.specs.Prelude.{◌≡◌, IfOk};
-ghost use Rattle.sections.specs.EngineCalls.{AreInDomain};
 
-use scan::{Engine, Exhausted, Progress, StartRefusal};
+use scan::{Engine, NotStarted, PeriodsExhausted, Progress};
 use sections::{Cpu, Limits, Made, MakeError, make};
 use sseq::{Index, Needs, Number};
 use std::alloc::Global;
@@ -44,9 +43,7 @@ fn new_domain(
     processors: usize,
     periods: u64,
     need: u64,
-) -> Result<(Vec<Cpu>, Engine<Asks>), MakeError>
-    ensures { IfOk result (λ r. AreInDomain r.1.seat.domain r.0.items) }
-{
+) -> Result<(Vec<Cpu>, Engine<Asks>), MakeError> {
     let Made { cpus, engine, .. } = make(alloc, processors, limits(periods))?;
     Ok((cpus, Engine::new(engine, Asks(number(need)))))
 }
@@ -94,7 +91,7 @@ fn steps(rt: HostRuntime) -> Result<(), Fail> {
 }
 
 /// What the engine answers three times.
-fn three(engine: &mut Engine<Asks>) -> [Result<Progress, Exhausted>; 3] {
+fn three(engine: &mut Engine<Asks>) -> [Result<Progress, PeriodsExhausted>; 3] {
     [engine.advance(), engine.advance(), engine.advance()]
 }
 
@@ -111,9 +108,9 @@ fn starts(rt: HostRuntime) -> Result<(), Fail> {
     assert_eq!(rt;
         (started, running, exhausted),
         (
-            [Ok(number(1)), Err(StartRefusal::Running)],
-            Err(StartRefusal::Running),
-            Err(StartRefusal::Exhausted),
+            [Ok(number(1)), Err(NotStarted::Running)],
+            Err(NotStarted::Running),
+            Err(NotStarted::Exhausted),
         )
     );
     assert_eq!(rt;
@@ -121,7 +118,7 @@ fn starts(rt: HostRuntime) -> Result<(), Fail> {
         (
             Ok(Progress::Flipped(Index::One)),
             Ok(Progress::Ended(number(4))),
-            [Err(Exhausted), Err(Exhausted)],
+            [Err(PeriodsExhausted), Err(PeriodsExhausted)],
         )
     );
     Ok(())
@@ -146,7 +143,7 @@ fn starts_what_is_asked_for(rt: HostRuntime) -> Result<(), Fail> {
 }
 
 /// What the engine answers to one call.
-type Answer = Result<Progress, Exhausted>;
+type Answer = Result<Progress, PeriodsExhausted>;
 
 /// Two periods. In the second one a section of each index is open: one by a look from before the first, and one that was
 /// begun behind it. Tells their indices, and what the engine answers: in the first period, while both are open, while the
@@ -178,7 +175,6 @@ fn wait_for_both(
 #[test]
 fn waits(rt: HostRuntime) -> Result<(), Fail> {
     let (mut cpus, mut engine) = new_domain(rt.alloc(), 2, 2, 8)?;
-    engine.meet(cpus.as_mut_slice());
     let (Some(mut second), Some(mut first)) = (cpus.pop(), cpus.pop()) else {
         panic!(rt; "there are two");
     };
@@ -209,7 +205,6 @@ fn waits(rt: HostRuntime) -> Result<(), Fail> {
 #[test]
 fn the_library_in_use(rt: HostRuntime) -> Result<(), Fail> {
     let (mut cpus, mut engine) = new_domain(rt.alloc(), 2, 1, 0)?;
-    engine.meet(cpus.as_mut_slice());
     let (Some(mut second), Some(mut first)) = (cpus.pop(), cpus.pop()) else {
         panic!(rt; "there are two");
     };

@@ -1,29 +1,24 @@
 -- Several holders that come to have seen one history.
-use Rattle.std.proofs.Common.{◌≡◌, ℕ, ◌+◌, ◌<◌, ◌≤◌, All, append-nil, List, [], ◌∷◌, ◌++◌, map, get_or, set, length, refl, sym, ap, ◌∙◌, subst, arith, append_assoc, length-append, get_or-set_other, get_or-set_same}
-use Rattle.std.proofs.lemmas.List.{get_or_default, map-append}
+use Rattle.std.proofs.Common.{◌≡◌, ℕ, ◌+◌, ◌<◌, All, append-nil, List, [], ◌∷◌, ◌++◌, length, refl, sym, ap, ◌∙◌, subst, arith, length-append}
 use Rattle.std.proofs.lemmas.List.Elements.{All-head, All-tail}
 use Rattle.sections.specs.Rule.{HasItsMaker}
 use Rattle.sections.proofs.Knowing.{nothing_more}
-use mathlib.Core.Logic.{dite}
-use native.Mathlib.Decide.{ℕ_discrete}
 use Rattle.atomic_table.specs.Seated.{TableId}
 use Rattle.onedom.specs.declared.event.Maker.{Maker}
 use Rattle.onedom.specs.declared.event.Maker.TheVariants.{Processor, Engine}
 use Rattle.onedom.specs.declared.event.Event.{Event}
 use Rattle.onedom.specs.declared.event.Event.TheVariants.{Begin, End, Start, Finish, Note, Ask, Find, Put}
 use Rattle.onedom.specs.Histories.{made_by, IsBeginning, is_start, is_finish, starts_in, ended_in}
-use Rattle.onedom.proofs.CallerLemmas.{count_append, beginning_trans, beginnings_compare, beginning_made_by}
+use Rattle.onedom.proofs.CallerLemmas.{count_append, beginnings_compare, beginning_made_by}
 use Rattle.sections.specs.declared.view.Role.TheVariants.{Cpu}
 use Rattle.sections.specs.declared.view.Shown.TheVariants.{To}
 use Rattle.sections.specs.declared.view.Text.{Text}
 use Rattle.sections.specs.declared.view.View.{View}
 use Rattle.sections.specs.Shelves.{IsStart}
-use Rattle.sections.specs.declared.view.Step.{Step}
-use Rattle.sections.specs.declared.view.Step.TheVariants.{LoadIndex}
 use Rattle.sections.specs.Seats as seats
 use Rattle.sections.specs.Views.{CpuView, EngineView}
 use Rattle.sections.specs.Calls.{IsHistoryOf, IsSeenBy, HasSeenOf, Hears, Accepts, Ties}
-use Rattle.sections.specs.EngineCalls.{Covers, CoversAll, TiesEngine, Joins, Meets, noted, IsTied, AreAllCpus, HasSeenAll, OneHasSeenAll}
+use Rattle.sections.specs.EngineCalls.{Covers, TiesEngine, noted, IsTied, HasSeenAll}
 use Rattle.sections.proofs.Deeds.{cpu_makes}
 use Rattle.sections.proofs.CpuViews.{seen_as, history_of}
 
@@ -100,82 +95,6 @@ ties_engine e e' e'' e''' c c' c'' c''' h same_cpu same_engine a last_cpu last_e
 pub now_tied : (e e' e'' : EngineView) (c : CpuView) → e' ≡ e → c.changes ≡ e.changes → c.processor < e'.processors → e'' ≡ noted c.processor c.changes e' → IsTied e''
 now_tied e e' e'' c same changes there is = subst IsTied (sym is) (record { processor = c.processor; there = there; shown = ap (To c.processor) (changes ∙ sym (ap (λ (z : EngineView). z.changes) same)) })
 
--- The engine and several processors
-
-pub covers_more : (cpus : List CpuView) (i : ℕ) (item : CpuView) (before after : List Event) → i < length cpus → item ≡ get_or cpus i item → IsBeginning before after → IsBeginning item.seen after
-    → ((k : ℕ) (d : CpuView) → k < i → IsBeginning (get_or cpus k d).seen before) → (k : ℕ) (d : CpuView) → k < i + 1 → IsBeginning (get_or cpus k d).seen after
-covers_more cpus i item before after inside is since here so_far k d lt = dite (ℕ_discrete k i)
-    (λ e. let same : item ≡ get_or cpus k d = is ∙ (get_or_default cpus i item d inside ∙ ap (λ z. get_or cpus z d) (sym e)) in subst (λ (z : CpuView). IsBeginning z.seen after) same here)
-    (λ n. beginning_trans (so_far k d (omega arith)) since)
-
-pub changes_more : (cpus : List CpuView) (i : ℕ) (item : CpuView) (before after : ℕ) → i < length cpus → item ≡ get_or cpus i item → before ≡ after → item.changes ≤ after
-    → ((k : ℕ) (d : CpuView) → k < i → (get_or cpus k d).changes ≤ before) → (k : ℕ) (d : CpuView) → k < i + 1 → (get_or cpus k d).changes ≤ after
-changes_more cpus i item before after inside is same here so_far k d lt = dite (ℕ_discrete k i)
-    (λ e. let same : item ≡ get_or cpus k d = is ∙ (get_or_default cpus i item d inside ∙ ap (λ z. get_or cpus z d) (sym e)) in subst (λ (z : CpuView). z.changes ≤ after) same here)
-    (λ n. let low = so_far k d (omega arith) in omega (arith, low, same))
-
--- one load more
-pub one_more_load : (i : ℕ) (before between after : List Step) → (found : List ℕ) × (length found ≡ i) × (between ≡ before ++ map LoadIndex found) → (n : ℕ) → after ≡ between ++ LoadIndex n ∷ []
-    → (found : List ℕ) × (length found ≡ i + 1) × (after ≡ before ++ map LoadIndex found)
-one_more_load i before between after so_far n e = let (found, count, steps) = so_far in (
-  found ++ n ∷ [],
-  (let more = length-append found (n ∷ []) in omega (arith, more, count)),
-  e ∙ (ap (λ l. l ++ LoadIndex n ∷ []) steps ∙ (append_assoc before (map LoadIndex found) (LoadIndex n ∷ []) ∙ ap (λ l. before ++ l) (sym (map-append LoadIndex found (n ∷ []))))),
-)
-
--- what the engine knows of the processor, it has seen
-pub record Heard (e : EngineView) (c : CpuView) : Type 0 where
-  pub sized : c.processors ≡ e.processors
-  pub was : IsSeenBy c
-  pub heard : (n : ℕ) → e.shown ≡ To c.processor n → n ≤ c.changes
-
-pub heard_more : (was now : List CpuView) (i : ℕ) (e : EngineView) → length now ≡ length was → i < length now → ((k : ℕ) (d : CpuView) → i ≤ k → get_or now k d ≡ get_or was k d)
-    → ((d : CpuView) → Heard e (get_or now i d))
-    → ((k : ℕ) (d : CpuView) → k < i → Heard e (get_or was k d))
-    → (k : ℕ) (d : CpuView) → k < i + 1 → Heard e (get_or was k d)
-heard_more was now i e long inside rest here so_far k d lt = dite (ℕ_discrete k i)
-    (λ ki. subst (λ (z : CpuView). Heard e z) (rest i d (omega arith) ∙ ap (λ z. get_or was z d) (sym ki)) (here d))
-    (λ n. so_far k d (omega arith))
-
-pub joins_more : (was now : List CpuView) (i : ℕ) (new : CpuView) (all : List Event) (changes : ℕ) (texts : List Text) → length now ≡ length was → i < length now → ((k : ℕ) (d : CpuView) → k < length was → IsBeginning (get_or was k d).seen all)
-    → ((k : ℕ) (d : CpuView) → k < length was → (get_or was k d).changes ≤ changes)
-    → ((d : CpuView) → Accepts (get_or now i d) all changes texts new)
-    → ((k : ℕ) (d : CpuView) → i ≤ k → get_or now k d ≡ get_or was k d)
-    → ((k : ℕ) (d : CpuView) → k < i → Joins (get_or was k d) all changes texts (get_or now k d))
-    → (k : ℕ) (d : CpuView) → k < i + 1 → Joins (get_or was k d) all changes texts (get_or (set now i new) k d)
-joins_more was now i new all changes texts long inside covers reached accepts rest so_far k d lt = dite (ℕ_discrete k i)
-    (λ e. let there : get_or (set now i new) k d ≡ new = ap (λ z. get_or (set now i new) z d) e ∙ get_or-set_same now i new d inside in
-    let old : get_or now i d ≡ get_or was k d = rest i d (omega arith) ∙ ap (λ z. get_or was z d) (sym e) in
-    let here : Accepts (get_or was k d) all changes texts new = subst (λ (z : CpuView). Accepts z all changes texts new) old (accepts d) in
-    subst (λ (z : CpuView). Joins (get_or was k d) all changes texts z) (sym there) (record { accepts = here; since = covers k d (omega arith); later = reached k d (omega arith) }))
-    (λ n. let other : get_or (set now i new) k d ≡ get_or now k d = get_or-set_other now i k new d n in subst (λ (z : CpuView). Joins (get_or was k d) all changes texts z) (sym other) (so_far k d (omega arith)))
-
-pub rest_same : (was now : List CpuView) (i : ℕ) (new : CpuView) → ((k : ℕ) (d : CpuView) → i ≤ k → get_or now k d ≡ get_or was k d) → (k : ℕ) (d : CpuView) → i + 1 ≤ k → get_or (set now i new) k d ≡ get_or was k d
-rest_same was now i new rest k d le = get_or-set_other now i k new d (λ e. omega arith) ∙ rest k d (omega arith)
-
-pub meets_from : (e e' e'' : EngineView) (cpus cpus' cpus'' : List CpuView) → CoversAll e cpus e' → cpus' ≡ cpus → e'' ≡ e' → length cpus'' ≡ length cpus'
-    → ((k : ℕ) (d : CpuView) → k < length cpus' → Joins (get_or cpus' k d) e'.seen e'.changes e'.texts (get_or cpus'' k d))
-    → ((k : ℕ) (d : CpuView) → k < length cpus' → Heard e' (get_or cpus' k d)) → Meets e cpus e'' cpus''
-meets_from e e' e'' cpus cpus' cpus'' h same_cpus steady count joined heard =
-    let hears : (k : ℕ) (d : CpuView) → k < length cpus → Heard e' (get_or cpus k d) = λ k d lt. subst (λ (xs : List CpuView). Heard e' (get_or xs k d)) same_cpus (heard k d (subst (λ (xs : List CpuView). k < length xs) (sym same_cpus) lt)) in
-    subst (λ (z : EngineView). Meets e cpus z cpus'') (sym steady) record {
-      found = h.found;
-      one_each = h.one_each;
-      steps = h.steps;
-      same = h.same;
-      mine = h.mine;
-      changes_are = h.changes_are;
-      since = h.since;
-      texts = h.texts;
-      history = h.history;
-      count = count ∙ ap length same_cpus;
-      each = λ k d lt. subst (λ (xs : List CpuView). Joins (get_or xs k d) e'.seen e'.changes e'.texts (get_or cpus'' k d)) same_cpus (joined k d (subst (λ (xs : List CpuView). k < length xs) (sym same_cpus) lt));
-      shown = h.shown;
-      sized = λ k d lt. (hears k d lt).sized ∙ h.same.1;
-      were = λ k d lt. (hears k d lt).was;
-      heard = λ k d c lt shown. (hears k d lt).heard c (h.shown ∙ shown);
-    }
-
 -- the engine's events in a history are the starts and the ends of periods
 engine_events : (n : ℕ) (h : List Event) → All (HasItsMaker n) h → length (made_by Engine h) ≡ starts_in h + ended_in h
 engine_events n [] all = refl
@@ -211,20 +130,3 @@ seen_all e e' c was since now same mine changes = record {
       sym (begun.whole ∙ (ap (λ l. made_by Engine c.seen ++ l) none ∙ append-nil (made_by Engine c.seen))) ∙ (sym now.own ∙ mine);
   changes = same ∙ changes;
 }
-
--- of a tied engine a meeting of all processors finds only what one of them had seen
-pub one_has_seen_all : (e e' : EngineView) (cpus cpus' : List CpuView) → Meets e cpus e' cpus' → IsTied e → AreAllCpus cpus → OneHasSeenAll e cpus
-one_has_seen_all e e' cpus cpus' h tied all = let k : ℕ = tied.processor in let there = tied.there in let any : CpuView = first_or cpus all.some in let count = sym (all.count 0 any all.some) ∙ h.sized 0 any all.some in let inside : k < length cpus = omega (arith, there, count) in (
-  k,
-  inside,
-  λ d. let j = h.each k d inside in
-      let named : e.shown ≡ To (get_or cpus k d).processor e.changes = tied.shown ∙ ap (λ p. To p e.changes) (sym (all.order k d inside)) in
-      let low = h.heard k d e.changes inside named in
-      let high = j.later in
-      let now = h.changes_are in
-      seen_all e e' (get_or cpus k d) (h.were k d inside) j.since h.history (omega (arith, low, high, now)) h.mine now,
-)
-  where
-    first_or : (xs : List CpuView) → 0 < length xs → CpuView
-    first_or [] lt = absurd (omega (arith, lt))
-    first_or (x ∷ xs) lt = x

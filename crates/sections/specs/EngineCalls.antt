@@ -1,5 +1,5 @@
 -- What the calls of the engine's seat do.
-use Rattle.std.specs.Prelude.{◌≡◌, ℕ, ◌+◌, ◌^◌, ◌<◌, ◌≤◌, ◌⊎◌, List, [], ◌∷◌, ◌++◌, length, map, slice_index_or}
+use Rattle.std.specs.Prelude.{◌≡◌, ℕ, ◌+◌, ◌^◌, ◌<◌, ◌≤◌, ◌⊎◌, List, [], ◌∷◌, ◌++◌, length}
 use Rattle.atomic_table.specs.Seated.{TableId}
 use Rattle.sseq.specs.declared.index.Index.{Index}
 use Rattle.onedom.specs.declared.event.Maker.TheVariants.{Processor, Engine}
@@ -12,7 +12,7 @@ use Rattle.sections.specs.declared.view.Text.{Text}
 use Rattle.sections.specs.Shelves.{IsStart}
 use Rattle.sections.specs.Words.{index_word, number_word, locks, unlocks, all_locks}
 use Rattle.sections.specs.Views.{CpuView, EngineView}
-use Rattle.sections.specs.Calls.{IsHistoryOf, IsSeenBy, HasSeenOf, Accepts}
+use Rattle.sections.specs.Calls.{IsHistoryOf, HasSeenOf, Accepts}
 
 abbrev pub IsSeenByEngine : EngineView → Type 0
 IsSeenByEngine e = IsHistoryOf e.processors Engine e.mine e.seen e.changes e.texts
@@ -83,21 +83,6 @@ pub record Covers (e : EngineView) (seen : List Event) (reached : ℕ) (e' : Eng
   pub covers : IsBeginning seen e'.seen
   pub not_before : reached ≤ e'.changes
 
--- the engine has seen what each of these processors has, and did nothing but to load the index word once for each
-pub record CoversAll (e : EngineView) (cpus : List CpuView) (e' : EngineView) : Type 0 where
-  pub found : List ℕ
-  pub one_each : length found ≡ length cpus
-  pub steps : e'.steps ≡ e.steps ++ map LoadIndex found
-  pub same : IsSameEngine e e'
-  pub mine : e'.mine ≡ e.mine
-  pub changes_are : e'.changes ≡ e.changes
-  pub shown : e'.shown ≡ e.shown
-  pub since : IsBeginning e.seen e'.seen
-  pub texts : IsStart e.texts e'.texts
-  pub covers : (k : ℕ) (d : CpuView) → k < length cpus → IsBeginning (slice_index_or cpus k d).seen e'.seen
-  pub not_before : (k : ℕ) (d : CpuView) → k < length cpus → (slice_index_or cpus k d).changes ≤ e'.changes
-  pub history : IsSeenByEngine e'
-
 -- the processor is known to have seen so many changes
 abbrev pub noted : ℕ → ℕ → EngineView → EngineView
 noted p changes e = record { domain = e.domain; processors = e.processors; periods = e.periods; seen = e.seen; changes = e.changes; texts = e.texts; shown = To p changes; mine = e.mine; steps = e.steps }
@@ -112,16 +97,6 @@ pub record IsTied (e : EngineView) : Type 0 where
 pub record HasSeenAll (e : EngineView) (c : CpuView) : Type 0 where
   pub events : made_by Engine c.seen ≡ e.mine
   pub changes : c.changes ≡ e.changes
-
--- all processors of a domain, in order: as many as each of them knows that there are
-pub record AreAllCpus (cpus : List CpuView) : Type 0 where
-  pub some : 0 < length cpus
-  pub count : (k : ℕ) (d : CpuView) → k < length cpus → (slice_index_or cpus k d).processors ≡ length cpus
-  pub order : (k : ℕ) (d : CpuView) → k < length cpus → (slice_index_or cpus k d).processor ≡ k
-
--- one of them had seen all that the engine made
-abbrev pub OneHasSeenAll : EngineView → List CpuView → Type 0
-OneHasSeenAll e cpus = (k : ℕ) × (k < length cpus) × ((d : CpuView) → HasSeenAll e (slice_index_or cpus k d))
 
 -- the engine and the processor made one load each, and no event, and have then seen one history, which covers what each had seen. From then until the engine's next change the rule keeps that the processor has seen all that the engine made
 pub record TiesEngine (e : EngineView) (c : CpuView) (e' : EngineView) (c' : CpuView) : Type 0 where
@@ -140,24 +115,3 @@ pub record Joins (c : CpuView) (seen : List Event) (changes : ℕ) (known : List
   pub accepts : Accepts c seen changes known c'
   pub since : IsBeginning c.seen seen
   pub later : c.changes ≤ changes
-
--- the engine and the processors have seen one history, in which each has just its own events. The engine loaded the index word once for each processor, and each processor once
-pub record Meets (e : EngineView) (cpus : List CpuView) (e' : EngineView) (cpus' : List CpuView) : Type 0 where
-  pub found : List ℕ
-  pub one_each : length found ≡ length cpus
-  pub steps : e'.steps ≡ e.steps ++ map LoadIndex found
-  pub same : IsSameEngine e e'
-  pub mine : e'.mine ≡ e.mine
-  pub changes_are : e'.changes ≡ e.changes
-  pub since : IsBeginning e.seen e'.seen
-  pub texts : IsStart e.texts e'.texts
-  pub history : IsSeenByEngine e'
-  pub count : length cpus' ≡ length cpus
-  pub each : (k : ℕ) (d : CpuView) → k < length cpus → Joins (slice_index_or cpus k d) e'.seen e'.changes e'.texts (slice_index_or cpus' k d)
-  pub shown : e'.shown ≡ e.shown
-  pub sized : (k : ℕ) (d : CpuView) → k < length cpus → (slice_index_or cpus k d).processors ≡ e.processors
-  pub were : (k : ℕ) (d : CpuView) → k < length cpus → IsSeenBy (slice_index_or cpus k d)
-  pub heard : (k : ℕ) (d : CpuView) (changes : ℕ) → k < length cpus → e.shown ≡ To (slice_index_or cpus k d).processor changes → changes ≤ (slice_index_or cpus k d).changes
-
-abbrev pub AreInDomain : TableId → List CpuView → Type 0
-AreInDomain domain cpus = (k : ℕ) (d : CpuView) → k < length cpus → (slice_index_or cpus k d).domain ≡ domain

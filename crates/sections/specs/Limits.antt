@@ -1,8 +1,6 @@
 -- The ranges of a domain's limits.
-use Rattle.std.specs.Prelude.{ℕ, ◌<◌, ◌≤◌, ◌^◌, List, codes}
+use Rattle.std.specs.Prelude.{ℕ, ◌-◌, ◌<◌, ◌≤◌, ◌^◌}
 use Rattle.sections.specs.declared.limits.Limits.{Limits}
-use Rattle.sections.specs.declared.limits.MakeError.{MakeError}
-use Rattle.sections.specs.declared.limits.MakeError.TheVariants as refused
 
 -- the most processors that a domain may have, and the most sections of one index that each of them may begin: together they begin no more than 2 ^ 60
 abbrev pub most_processors : ℕ
@@ -20,8 +18,6 @@ pub record AreInRange (limits : Limits) : Type 0 where
   pub some_slots : 2 ≤ limits.slots
   pub slots : limits.slots ≤ 8
 
--- as a refusal is printed
-abbrev pub make_error_text : MakeError → List ℕ
-make_error_text refused.Processors = codes "no domain has so many processors"
-make_error_text refused.Limits = codes "a limit is out of its range"
-make_error_text refused.Memory = codes "out of memory"
+-- no cells, of which each would take memory. The counts of sections and periods take none
+abbrev pub least_limits : Limits
+least_limits = record { sections = most_sections; periods = 2 ^ 59 - 1; cells = 0; slots = 2 }

@@ -2,10 +2,9 @@
 use crate::board::{DomainSeat, Words};
 use sseq::Index;
 use std::alloc::{Allocator, Global};
-use std::error::Error;
-use std::fmt;
 use std::marker::Model;
 use std::sync::Arc;
+use thiserror::Error;
 
 mod cookies;
 mod counting;
@@ -151,33 +150,11 @@ impl Model for Given {
 }
 
 /// This number is no cookie: it is neither a multiple of four nor 1. Nothing was done.
-#[derive(Clone, Copy, Debug, PartialEq, Eq)]
+#[derive(Clone, Copy, Debug, Error, PartialEq, Eq)]
+#[error("this is no cookie's number: ask with 1 or a multiple of four")]
 pub struct NotACookie;
 
-impl fmt::Display for NotACookie {
-    ghost use Rattle.std.specs.Prelude.{Some, codes};
-
-    ghost output = { λ _. Some (codes "a cookie is a multiple of four or 1") };
-
-    fn fmt<W: fmt::Write>(&self, f: &mut fmt::Formatter<W>) -> fmt::Result {
-        f.write_str("a cookie is a multiple of four or 1")
-    }
-}
-
-impl Error for NotACookie {}
-
 /// The processor has begun as many sections of this index as the limit allows. No section was begun.
-#[derive(Clone, Copy, Debug, PartialEq, Eq)]
+#[derive(Clone, Copy, Debug, Error, PartialEq, Eq)]
+#[error("no more sections of this index may begin here: begin on another processor")]
 pub struct Exhausted;
-
-impl fmt::Display for Exhausted {
-    ghost use Rattle.std.specs.Prelude.{Some, codes};
-
-    ghost output = { λ _. Some (codes "no more sections of this index may begin here") };
-
-    fn fmt<W: fmt::Write>(&self, f: &mut fmt::Formatter<W>) -> fmt::Result {
-        f.write_str("no more sections of this index may begin here")
-    }
-}
-
-impl Error for Exhausted {}

@@ -1,9 +1,8 @@
 //! How much a domain may hold.
-ghost use Rattle.std.specs.Prelude.{◌↔◌, IsTrue};
-ghost use Rattle.sections.specs.Limits.{AreInRange};
+ghost use Rattle.std.specs.Prelude.{◌≡◌, ◌↔◌, IsTrue};
+ghost use Rattle.sections.specs.Limits.{AreInRange, least_limits};
 
-use std::error::Error;
-use std::fmt;
+use thiserror::Error;
 
 /// How many processors a domain may have, at most. With [`Limits::MOST_SECTIONS`] on each of them no more than 2^60
 /// sections of one index are ever begun, and no more of them end.
@@ -42,30 +41,32 @@ impl Limits {
     }
 }
 
-/// Why a domain was not made. Nothing is left of it.
-#[derive(Clone, Copy, Debug, PartialEq, Eq)]
-pub enum MakeError {
-    /// A domain has from 1 to `MOST_PROCESSORS` processors.
-    Processors = 1,
-    /// One of the limits is out of its range.
-    Limits = 2,
-    /// An allocation was refused.
-    Memory = 3,
-}
-
-impl fmt::Display for MakeError {
-    ghost use Rattle.std.specs.Prelude.{Some};
-    ghost use Rattle.sections.specs.Limits.{make_error_text};
-
-    ghost output = { λ error. Some (make_error_text error) };
-
-    fn fmt<W: fmt::Write>(&self, f: &mut fmt::Formatter<W>) -> fmt::Result {
-        match self {
-            MakeError::Processors => f.write_str("no domain has so many processors"),
-            MakeError::Limits => f.write_str("a limit is out of its range"),
-            MakeError::Memory => f.write_str("out of memory"),
+impl Default for Limits {
+    /// The limits of the smallest domain: no cells, and as many sections and grace periods as a domain may have, which take no
+    /// memory.
+    fn default() -> Limits
+        ensures limits { result ≡ least_limits }
+        ensures range { AreInRange result }
+    {
+        Limits {
+            sections: Limits::MOST_SECTIONS,
+            periods: Limits::MOST_PERIODS,
+            cells: 0,
+            slots: 2,
         }
     }
 }
 
-impl Error for MakeError {}
+/// Why a domain was not made. Nothing is left of it.
+#[derive(Clone, Copy, Debug, Error, PartialEq, Eq)]
+pub enum MakeError {
+    /// A domain has from 1 to `MOST_PROCESSORS` processors.
+    #[error("a domain has from 1 to 256 processors: ask for so many")]
+    Processors = 1,
+    /// One of the limits is out of its range.
+    #[error("a limit is out of its range: begin with `Limits::default()`")]
+    Limits = 2,
+    /// An allocation was refused.
+    #[error("out of memory: free some, and call again")]
+    Memory = 3,
+}

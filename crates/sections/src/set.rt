@@ -9,9 +9,8 @@ use crate::cpu::{Cookie, Cpu};
 use crate::sight::Sight;
 use arrayvec::ArrayVec;
 use std::alloc::Allocator;
-use std::error::Error;
-use std::fmt;
 use std::marker::Model;
+use thiserror::Error;
 
 /// How many cookies a set has room for.
 pub const MOST_MEMBERS: usize = 8;
@@ -99,20 +98,9 @@ impl Model for CookieSet {
 }
 
 /// The set has as many cookies as it has room for.
-#[derive(Clone, Copy, Debug, PartialEq, Eq)]
+#[derive(Clone, Copy, Debug, Error, PartialEq, Eq)]
+#[error("the set has eight cookies: begin another set")]
 pub struct SetFull;
-
-impl fmt::Display for SetFull {
-    ghost use Rattle.std.specs.Prelude.{Some, codes};
-
-    ghost output = { λ _. Some (codes "the set has eight cookies") };
-
-    fn fmt<W: fmt::Write>(&self, f: &mut fmt::Formatter<W>) -> fmt::Result {
-        f.write_str("the set has eight cookies")
-    }
-}
-
-impl Error for SetFull {}
 
 impl CookieSet {
     /// A set of no cookies.

@@ -7,7 +7,7 @@ mod behind;
 
 /// How far somebody has seen the history of a domain. It takes no bytes, and goes from hand to hand with what several
 /// threads work on in turn: each goes on from where the last one was ([`Cpu::cookie_behind`](crate::Cpu::cookie_behind),
-/// [`Cpu::how_far`](crate::Cpu::how_far)).
+/// [`Cpu::how_far_behind`](crate::Cpu::how_far_behind)).
 #[derive(Drop)]
 pub struct Sight {
     pub(crate) seat: DomainSeat,

@@ -34,16 +34,15 @@ fn limits(sections: u64) -> Limits
     }
 }
 
-/// The two processors of a new domain and its engine's seat, once they have met.
-fn meet_in_new_domain(alloc: Global) -> Result<(Cpu, Cpu, EngineSeat), MakeError>
+/// The two processors of a new domain and its engine's seat.
+fn two_in_new_domain(alloc: Global) -> Result<(Cpu, Cpu, EngineSeat), MakeError>
     ensures { IfOk result (λ r. (r.0.domain ≡ r.2.domain) × (r.1.domain ≡ r.2.domain) × (r.2.periods ≡ 2) × (r.2.processors ≡ 2) × (r.2.changes ≡ 0)) }
 {
     let Made {
         mut cpus,
-        mut engine,
+        engine,
         ..
     } = make(alloc, 2, limits(1))?;
-    engine.meet(cpus.as_mut_slice());
     let second = cpus.pop().unwrap();
     let first = cpus.pop().unwrap();
     Ok((first, second, engine))
@@ -149,7 +148,7 @@ fn begin_and_end(cpu: &mut Cpu) -> Option<(Index, u16, u64, u64)>
 /// Would catch sections that no caller can begin, with another index or processor, or that count elsewhere.
 #[test]
 fn begins_sections(rt: HostRuntime) -> Result<(), Fail> {
-    let (mut first, mut second, _) = meet_in_new_domain(rt.alloc())?;
+    let (mut first, mut second, _) = two_in_new_domain(rt.alloc())?;
     let there = enter_by_look(&mut second, &mut first);
     let here = begin_and_end(&mut first);
     assert_eq!(rt; there, Some((Index::Zero, 1, [(1, 0), (0, 0)])));
@@ -182,7 +181,7 @@ fn is_full(cpu: &mut Cpu, other: &mut Cpu) -> (bool, bool)
 /// Would catch a limit that is off by one, or that two processors share.
 #[test]
 fn sections_up_to_the_limit(rt: HostRuntime) -> Result<(), Fail> {
-    let (mut first, mut second, _) = meet_in_new_domain(rt.alloc())?;
+    let (mut first, mut second, _) = two_in_new_domain(rt.alloc())?;
     let begun = begin_and_end(&mut first).is_some();
     let full = is_full(&mut first, &mut second);
     let there = is_full(&mut second, &mut first);
@@ -206,7 +205,7 @@ fn tie_all(first: &mut Cpu, second: &mut Cpu, engine: &mut EngineSeat)
 /// Would catch calls that no caller can meet, and numbers that every clause leaves open.
 #[test]
 fn makes_a_domain(rt: HostRuntime) -> Result<(), Fail> {
-    let (mut first, mut second, mut engine) = meet_in_new_domain(rt.alloc())?;
+    let (mut first, mut second, mut engine) = two_in_new_domain(rt.alloc())?;
     assert_eq!(rt;
         (
             first.processor(),
@@ -252,7 +251,7 @@ fn ask_in_a_period(
 /// Would catch a cookie that is done too early or too late, or for the processor alone that gave it.
 #[test]
 fn cookies_of_a_period(rt: HostRuntime) -> Result<(), Fail> {
-    let (mut first, mut second, mut engine) = meet_in_new_domain(rt.alloc())?;
+    let (mut first, mut second, mut engine) = two_in_new_domain(rt.alloc())?;
     let asked = ask_in_a_period(&mut first, &mut second, &mut engine);
     assert_eq!(rt; asked, Some(([4, 8], [false, true, true, false])));
     Ok(())
@@ -285,7 +284,7 @@ fn period_with_section(
 /// number.
 #[test]
 fn whole_period(rt: HostRuntime) -> Result<(), Fail> {
-    let (_, mut second, mut engine) = meet_in_new_domain(rt.alloc())?;
+    let (_, mut second, mut engine) = two_in_new_domain(rt.alloc())?;
     let period = period_with_section(&mut second, &mut engine);
     assert_eq!(rt; period, Some((true, Index::One, [(1, 1), (2, 2), (4, 4)])));
     assert_eq!(rt;
@@ -315,7 +314,7 @@ fn late_section(cpu: &mut Cpu, engine: &mut EngineSeat) -> Option<(bool, [Index;
 /// Would catch a flip that leaves the index as it is, and a period that passes a section whose look is older than the flip.
 #[test]
 fn an_older_look(rt: HostRuntime) -> Result<(), Fail> {
-    let (mut first, _, mut engine) = meet_in_new_domain(rt.alloc())?;
+    let (mut first, _, mut engine) = two_in_new_domain(rt.alloc())?;
     let late = late_section(&mut first, &mut engine);
     assert_eq!(rt;
         late,
@@ -353,7 +352,7 @@ fn hold_and_end_elsewhere(
 /// by then; and held sections that count as open readings.
 #[test]
 fn held_ends_elsewhere(rt: HostRuntime) -> Result<(), Fail> {
-    let (mut first, mut second, mut engine) = meet_in_new_domain(rt.alloc())?;
+    let (mut first, mut second, mut engine) = two_in_new_domain(rt.alloc())?;
     let held = hold_and_end_elsewhere(&mut first, &mut second, &mut engine);
     assert_eq!(rt; held, Some((Index::Zero, 0, (0, 0), true, 4)));
     assert_eq!(rt; (first.open_here(), second.open_here()), (0, 0));
@@ -381,7 +380,7 @@ fn holds_no_more(cpu: &mut Cpu, other: &mut Cpu) -> bool
 /// Would catch held sections that don't count to the limit, or that count where they end.
 #[test]
 fn held_up_to_the_limit(rt: HostRuntime) -> Result<(), Fail> {
-    let (mut first, mut second, _) = meet_in_new_domain(rt.alloc())?;
+    let (mut first, mut second, _) = two_in_new_domain(rt.alloc())?;
     let early = holds_no_more(&mut first, &mut second);
     let full = holds_no_more(&mut first, &mut second);
     let begun = begin_and_end(&mut second).is_some();
@@ -403,7 +402,7 @@ fn hold(mut cpu: Cpu) -> Option<(Cpu, Held)>
 /// section that only its own thread or processor can end.
 #[test]
 fn held_goes_to_another_thread(rt: HostRuntime) -> Result<(), Fail> {
-    let (first, second, mut engine) = meet_in_new_domain(rt.alloc())?;
+    let (first, second, mut engine) = two_in_new_domain(rt.alloc())?;
     let (here, there) = join(&rt, move || hold(first), move || hold(second));
     let Some((mut first, of_first)) = here else {
         panic!(rt; "there is room");
@@ -464,7 +463,7 @@ fn drive(engine: &mut EngineSeat) -> Option<Number>
 /// Would catch a cookie that another thread's processor can't ask after, and an answer that goes back.
 #[test]
 fn one_thread_gives_and_another_asks(rt: HostRuntime) -> Result<(), Fail> {
-    let (mut first, mut second, mut engine) = meet_in_new_domain(rt.alloc())?;
+    let (mut first, mut second, mut engine) = two_in_new_domain(rt.alloc())?;
     let mut cookie = first.cookie();
     let (ended, (early, late)) = join(
         &rt,
@@ -490,16 +489,17 @@ fn tell_by_a_sight(
     requires domain { (first.old.domain ≡ engine.old.domain) × (second.old.domain ≡ engine.old.domain) }
     requires new { (engine.old.changes ≡ 0) × (engine.old.periods ≡ 2) × (engine.old.processors ≡ 2) }
 {
+    let mut given = engine.sight();
     let mut sight = engine.sight();
     let mut cookie = first.cookie_behind(&mut sight);
     let copy = second.copy_given(&mut cookie);
     let before = [
         cookie.number(),
         copy.number(),
-        second.how_far(&mut sight).get(),
+        second.how_far_behind(&mut given, &mut sight).get(),
     ];
     drive(engine)?;
-    let behind = second.how_far(&mut sight).get();
+    let behind = second.how_far_behind(&mut given, &mut sight).get();
     let done = first.poll(&mut copy.into_cookie());
     let newer = first.cookie_behind(&mut sight);
     Some((before, behind, done, newer.number()))
@@ -508,7 +508,7 @@ fn tell_by_a_sight(
 /// Would catch a sight that doesn't go along, so that a later cookie is smaller, and a copy that is another cookie.
 #[test]
 fn behind_a_sight(rt: HostRuntime) -> Result<(), Fail> {
-    let (mut first, mut second, mut engine) = meet_in_new_domain(rt.alloc())?;
+    let (mut first, mut second, mut engine) = two_in_new_domain(rt.alloc())?;
     let told = tell_by_a_sight(&mut first, &mut second, &mut engine);
     assert_eq!(rt; told, Some(([4, 4, 0], 4, true, 8)));
     Ok(())
@@ -517,7 +517,7 @@ fn behind_a_sight(rt: HostRuntime) -> Result<(), Fail> {
 /// Would catch a number that is taken for a cookie, or a cookie for no cookie.
 #[test]
 fn polls_numbers(rt: HostRuntime) -> Result<(), Fail> {
-    let (mut first, _, _) = meet_in_new_domain(rt.alloc())?;
+    let (mut first, _, _) = two_in_new_domain(rt.alloc())?;
     for (number, done) in [
         (0, true),
         (1, true),
@@ -539,8 +539,8 @@ fn polls_numbers(rt: HostRuntime) -> Result<(), Fail> {
 /// Would catch a completed cookie that is of one domain alone, and one that is taken for a cookie that was given.
 #[test]
 fn completed_in_each_domain(rt: HostRuntime) -> Result<(), Fail> {
-    let (mut first, _, mut engine) = meet_in_new_domain(rt.alloc())?;
-    let (mut other, _, _) = meet_in_new_domain(rt.alloc())?;
+    let (mut first, _, mut engine) = two_in_new_domain(rt.alloc())?;
+    let (mut other, _, _) = two_in_new_domain(rt.alloc())?;
     let mut completed = Cookie::completed();
     engine.add_start();
     let here = first.poll(&mut completed);
@@ -576,7 +576,7 @@ fn find_for_another(
 /// Would catch a member that is done too soon or never, and what was found done but is not known to the other processor.
 #[test]
 fn found_for_another(rt: HostRuntime) -> Result<(), Fail> {
-    let (mut first, mut second, mut engine) = meet_in_new_domain(rt.alloc())?;
+    let (mut first, mut second, mut engine) = two_in_new_domain(rt.alloc())?;
     let told = find_for_another(&mut first, &mut second, &mut engine);
     assert_eq!(rt; told, Some(([false, true, true], Ok(true))));
     Ok(())
@@ -585,8 +585,8 @@ fn found_for_another(rt: HostRuntime) -> Result<(), Fail> {
 /// Would catch a processor that takes over what was seen in another domain.
 #[test]
 fn completed_found_elsewhere(rt: HostRuntime) -> Result<(), Fail> {
-    let (mut first, _, _) = meet_in_new_domain(rt.alloc())?;
-    let (mut other, _, _) = meet_in_new_domain(rt.alloc())?;
+    let (mut first, _, _) = two_in_new_domain(rt.alloc())?;
+    let (mut other, _, _) = two_in_new_domain(rt.alloc())?;
     let mut set = CookieSet::new();
     let Ok(place) = set.add(Cookie::completed()) else {
         unreachable!()
@@ -624,6 +624,7 @@ fn refuses_to_make(rt: HostRuntime) {
         cells: 0,
         slots: 2,
     };
+    assert_eq!(rt; Limits::default(), most);
     let no_sections = Limits {
         sections: 0,
         ..most

@@ -13,8 +13,8 @@ use Rattle.sections.specs.Making.{IsCount}
 use Rattle.onedom.specs.Histories.{ended_in}
 use Rattle.scan.specs.declared.progress.Progress.{Progress}
 use Rattle.scan.specs.declared.progress.Progress.TheVariants as progress
-use Rattle.scan.specs.declared.progress.StartRefusal.{StartRefusal}
-use Rattle.scan.specs.declared.progress.StartRefusal.TheVariants as refusal
+use Rattle.scan.specs.declared.progress.NotStarted.{NotStarted}
+use Rattle.scan.specs.declared.progress.NotStarted.TheVariants as refusal
 use Rattle.scan.specs.Standings.{index_now, number_now}
 use Rattle.segs.specs.MarkedList.{lens, numbers}
 use Rattle.calls.specs.declared.entry.Entry.{Entry}
@@ -170,7 +170,7 @@ pub record Replies (given : Reply) (d : DomainState) (r : Reply) (d' : DomainSta
   pub rest : d' ≡ record d { course = d'.course }
   pub reply : r ≡ given
 
-abbrev pub cause_of : StartRefusal → Cause
+abbrev pub cause_of : NotStarted → Cause
 cause_of refusal.Running = Running
 cause_of refusal.Exhausted = Exhausted
 
@@ -435,7 +435,7 @@ Does limits (act.Get p) d r d' = (cookie : ℕ) × GivesCookie p cookie d.course
 Does limits (act.Poll p cookie) d r d' = ((done : Bool) × AsksIfDone p cookie done d.course d'.course × Replies (if done then reply.Done else reply.NotYet) d r d')
     ⊎ IsNoCookie cookie × IsRefused command.Poll NotACookie d r d'
 Does limits (act.Start p) d r d' = ((number : ℕ) × Starts number d.course d'.course × Replies (reply.Progress (progress.Started number)) d r d')
-    ⊎ (why : StartRefusal) × StartsNone why d.course × IsRefused command.Start (cause_of why) d r d'
+    ⊎ (why : NotStarted) × StartsNone why d.course × IsRefused command.Start (cause_of why) d r d'
 Does limits (act.Advance p) d r d' = Works Advances command.Advance d r d'
 Does limits (act.Step p) d r d' = Works Steps command.Step d r d'
 Does limits (act.Call p name) d r d' = Calls p name d r d'

@@ -13,7 +13,7 @@ use crate::parking::Parking;
 use lines::Name;
 use notify::Handler;
 use requests::{Act, Cause, Command, Kind, Period, Reply, Sections};
-use scan::{Exhausted as NoMorePeriods, Progress, StartRefusal};
+use scan::{NotStarted, PeriodsExhausted, Progress};
 use sections::{Exhausted, NotACookie};
 use solo::{Notifier, Plugboard, Solo};
 use sseq::state;
@@ -291,8 +291,8 @@ impl<A: Allocator> Entry<A> {
     {
         match self.domain.start() {
             Ok(number) => Reply::Progress(Progress::Started(number)),
-            Err(StartRefusal::Running) => Reply::Refused(Command::Start, Cause::Running),
-            Err(StartRefusal::Exhausted) => Reply::Refused(Command::Start, Cause::Exhausted),
+            Err(NotStarted::Running) => Reply::Refused(Command::Start, Cause::Running),
+            Err(NotStarted::Exhausted) => Reply::Refused(Command::Start, Cause::Exhausted),
         }
     }
 
@@ -305,7 +305,7 @@ impl<A: Allocator> Entry<A> {
     {
         match self.domain.advance() {
             Ok(said) => Reply::Progress(said),
-            Err(NoMorePeriods) => Reply::Refused(Command::Advance, Cause::Exhausted),
+            Err(PeriodsExhausted) => Reply::Refused(Command::Advance, Cause::Exhausted),
         }
     }
 
@@ -318,7 +318,7 @@ impl<A: Allocator> Entry<A> {
     {
         match self.domain.step() {
             Ok(said) => Reply::Progress(said),
-            Err(NoMorePeriods) => Reply::Refused(Command::Step, Cause::Exhausted),
+            Err(PeriodsExhausted) => Reply::Refused(Command::Step, Cause::Exhausted),
         }
     }
 

@@ -22,9 +22,9 @@ use Rattle.funnel.specs.Calls.{LoadsRoot, IsSameSeat}
 use Rattle.calls.specs.Tallies.{queued_in, finished_in}
 use Rattle.scan.specs.declared.progress.Progress.{Progress}
 use Rattle.scan.specs.declared.progress.Progress.TheVariants as answer
-use Rattle.scan.specs.declared.progress.Exhausted.{Exhausted}
-use Rattle.scan.specs.declared.progress.StartRefusal as scan
-use Rattle.scan.specs.declared.progress.StartRefusal.TheVariants as refusal_of
+use Rattle.scan.specs.declared.progress.PeriodsExhausted.{PeriodsExhausted}
+use Rattle.scan.specs.declared.progress.NotStarted as scan
+use Rattle.scan.specs.declared.progress.NotStarted.TheVariants as refusal_of
 use Rattle.scan.specs.Standings as engine
 use Rattle.scan.specs.Standings.{Standing, number_at_rest, events_of, Says as SaysOf, StepsThrough}
 use Rattle.scan.specs.Progress.{standing_of, with_seat, with_needs, GetsOn, NeedsLoaded, StepsTo, AdvancesTo, FindsExhausted, StartsTo, IsNoStart}
@@ -205,7 +205,7 @@ module _ (raises : List Raise) (root : value 0 raises ≡ greatest raises) where
 pub no_start_goes_on : (v w : View) → w ≡ v → GoesOn [] v.needs w.needs
 no_start_goes_on v w same = stays v.needs w.needs (ap (λ (x : View). x.needs) same)
 
-not_started : (v : View) (c : Course) (refusal : scan.StartRefusal) → c.standing ≡ standing_of v → IsNoStart v refusal → StartsNone refusal c
+not_started : (v : View) (c : Course) (refusal : scan.NotStarted) → c.standing ≡ standing_of v → IsNoStart v refusal → StartsNone refusal c
 not_started v c refusal_of.Running same h = subst (λ (z : Standing). IsRunning z.history) (sym same) h
 not_started v c refusal_of.Exhausted same h = subst engine.IsOutOfPeriods (sym same) h
 
@@ -668,14 +668,14 @@ module _ {J : Type 0} where
       say : (P : SoloView J → SoloView J → Type 0) → P (before t) (after t) → P seen seen'
       say P it = subst (λ (z : SoloView J × SoloView J). P z.0 z.1) (λ i. (sym told_first i, sym told_second i)) it
 
-    refused_for : (h : FindsExhaustedIn was now) (told : Result Progress Exhausted) → IsErr told → (P : Progress → Type 0) → MatchResult told P (λ _. IsAskedTooMuch seen.course × (seen' ≡ seen))
+    refused_for : (h : FindsExhaustedIn was now) (told : Result Progress PeriodsExhausted) → IsErr told → (P : Progress → Type 0) → MatchResult told P (λ _. IsAskedTooMuch seen.course × (seen' ≡ seen))
     refused_for h (Ok a) err P = absurd (true≢false (sym err))
     refused_for h (Err e) err P =
         let on = exhausted_goes_on (with_needs was.needs h.found) h.worked h.works in
         let x = works (a_turn _ h on) in
         (say _ h on (λ a b. IsAskedTooMuch a.course) (refused (a_turn _ h on) x), say _ h on (λ a b. b ≡ a) (loaded_same (a_turn _ h on) x.rest))
 
-    exhausted_says : (h : FindsExhaustedIn was now) (told : Result Progress Exhausted) → IsErr told → (P : Progress → Type 0) → Says d' limits cpus' meets.left seen seen' (MatchResult told P (λ _. IsAskedTooMuch seen.course × (seen' ≡ seen)))
+    exhausted_says : (h : FindsExhaustedIn was now) (told : Result Progress PeriodsExhausted) → IsErr told → (P : Progress → Type 0) → Says d' limits cpus' meets.left seen seen' (MatchResult told P (λ _. IsAskedTooMuch seen.course × (seen' ≡ seen)))
     exhausted_says h told err P =
         let on = exhausted_goes_on (with_needs was.needs h.found) h.worked h.works in
         let t = a_turn _ h on in
@@ -685,7 +685,7 @@ module _ {J : Type 0} where
           what = refused_for h told err P;
         }
 
-    pub step_says : (r : Result Progress AdvanceRefusal) → MatchResult r (λ a. StepsIn was a now) (λ refusal. IsRefused was refusal now) → (told : Result Progress Exhausted) → IsToldAs r told
+    pub step_says : (r : Result Progress AdvanceRefusal) → MatchResult r (λ a. StepsIn was a now) (λ refusal. IsRefused was refusal now) → (told : Result Progress PeriodsExhausted) → IsToldAs r told
         → Says d' limits cpus' meets.left seen seen' (MatchResult told (λ a. Steps a seen.course seen'.course) (λ _. IsAskedTooMuch seen.course × (seen' ≡ seen)))
     step_says (Ok a) h told same =
         let on = loaded_goes_on (with_needs was.needs h.found) h.worked h.works.needs in
@@ -698,7 +698,7 @@ module _ {J : Type 0} where
     step_says (Err advance.Busy) h told same = absurd (never d limits cpus lay was now cpus' met is meets h)
     step_says (Err advance.Exhausted) h told same = exhausted_says h told same (λ a. Steps a seen.course seen'.course)
 
-    pub advance_says : (r : Result Progress AdvanceRefusal) → MatchResult r (λ a. AdvancesIn was a now) (λ refusal. IsRefused was refusal now) → (told : Result Progress Exhausted) → IsToldAs r told
+    pub advance_says : (r : Result Progress AdvanceRefusal) → MatchResult r (λ a. AdvancesIn was a now) (λ refusal. IsRefused was refusal now) → (told : Result Progress PeriodsExhausted) → IsToldAs r told
         → Says d' limits cpus' meets.left seen seen' (MatchResult told (λ a. Advances a seen.course seen'.course) (λ _. IsAskedTooMuch seen.course × (seen' ≡ seen)))
     advance_says (Ok a) h told same =
         let on = loaded_goes_on (with_needs was.needs h.found) h.worked h.works.needs in
@@ -711,7 +711,7 @@ module _ {J : Type 0} where
     advance_says (Err advance.Busy) h told same = absurd (never d limits cpus lay was now cpus' met is meets h)
     advance_says (Err advance.Exhausted) h told same = exhausted_says h told same (λ a. Advances a seen.course seen'.course)
 
-    module _ (refusal : scan.StartRefusal) (h : StartsNoneIn was refusal now) where
+    module _ (refusal : scan.NotStarted) (h : StartsNoneIn was refusal now) where
       no_start_says : Says d' limits cpus' meets.left seen seen' (StartsNone refusal seen.course × (seen' ≡ seen))
       no_start_says =
           let on = no_start_goes_on (with_needs was.needs h.found) h.worked h.works.1 in
@@ -723,7 +723,7 @@ module _ {J : Type 0} where
             what = (say _ h on (λ a b. StartsNone refusal a.course) (not_started (v t) (before t).course refusal refl x.0), say _ h on (λ a b. b ≡ a) (loaded_same t rest));
           }
 
-    pub start_says : (r : Result ℕ StartRefusal) → MatchResult r (λ n. StartsIn was n now) (λ refusal. IsNotStarted was refusal now) → (told : Result ℕ scan.StartRefusal) → IsStartedAs r told
+    pub start_says : (r : Result ℕ StartRefusal) → MatchResult r (λ n. StartsIn was n now) (λ refusal. IsNotStarted was refusal now) → (told : Result ℕ scan.NotStarted) → IsStartedAs r told
         → Says d' limits cpus' meets.left seen seen' (MatchResult told (λ n. Starts n seen.course seen'.course) (λ e. StartsNone e seen.course × (seen' ≡ seen)))
     start_says (Ok n) h told same =
         let on = stays was.needs h.worked.needs h.works.needs in

@@ -6,7 +6,7 @@ use Rattle.std.proofs.lemmas.Option.{slice_get-get_or}
 use mathlib.Core.Logic.{dite}
 use native.Mathlib.Decide.{ℕ_discrete}
 use Rattle.calls.specs.declared.view.Act.{Act}
-use Rattle.calls.specs.declared.view.Act.TheVariants.{Queue, Take, Finish, LoadQueued, LoadFinished}
+use Rattle.calls.specs.declared.view.Act.TheVariants.{Queue, Take, Finish, LackRoom, LoadQueued, LoadFinished}
 use Rattle.calls.specs.declared.view.Deed.{Deed}
 use Rattle.calls.specs.Lines.{Line, no_calls, with_call, next_line, line_from, line_in}
 use Rattle.calls.specs.Tallies.{queued_in, finished_by, finished_in, deeds_of, IsTaker, AreTakers, IsBeginning}
@@ -56,6 +56,7 @@ module _ {J : Type 0} where
   finishes_none n q by (Queue e) h away = refl
   finishes_none n q by (Take p number max moved) h away = refl
   finishes_none n q by (Finish p k) h away = absurd (away h)
+  finishes_none n q by (LackRoom p moved) h away = refl
   finishes_none n q by (LoadQueued p k) h away = refl
   finishes_none n q by (LoadFinished p k) h away = refl
 
@@ -74,6 +75,7 @@ module _ {J : Type 0} where
   away_none n q by (Queue e) l lt h away = ap (λ (b : Bool). if b then with_call e l else l) (ne_eqb by q (λ same. away (omega (arith, same, lt))))
   away_none n q by (Take p number max moved) l lt h away = absurd (away h)
   away_none n q by (Finish p k) l lt h away = absurd (away h)
+  away_none n q by (LackRoom p moved) l lt h away = refl
   away_none n q by (LoadQueued p k) l lt h away = refl
   away_none n q by (LoadFinished p k) l lt h away = refl
 

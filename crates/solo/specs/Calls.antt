@@ -19,8 +19,8 @@ use Rattle.calls.specs.Lines.{Line, no_calls, some_out, with_moved, with_none_ou
 use Rattle.calls.specs.Tallies.{most_calls}
 use Rattle.calls.specs.Views.{BatchView}
 use Rattle.scan.specs.declared.progress.Progress.{Progress}
-use Rattle.scan.specs.declared.progress.StartRefusal.{StartRefusal}
-use Rattle.scan.specs.declared.progress.StartRefusal.TheVariants as refusal
+use Rattle.scan.specs.declared.progress.NotStarted.{NotStarted}
+use Rattle.scan.specs.declared.progress.NotStarted.TheVariants as refusal
 use Rattle.scan.specs.Standings as engine
 use Rattle.scan.specs.Standings.{Standing, index_now, number_now, number_at_rest, IsOutOfPeriods}
 use Rattle.solo.specs.declared.queued.Queued.{Queued}
@@ -220,7 +220,7 @@ module _ {J : Type 0} where
 abbrev pub Starts : ℕ → Course → Course → Type 0
 Starts n = Works (engine.Starts [] n)
 
-abbrev pub StartsNone : StartRefusal → Course → Type 0
+abbrev pub StartsNone : NotStarted → Course → Type 0
 StartsNone refusal.Running c = IsRunning c.standing.history
 StartsNone refusal.Exhausted c = IsOutOfPeriods c.standing
 

@@ -3,9 +3,9 @@ use Rattle.std.specs.Prelude.{◌≡◌, ℕ, Result, Ok, Err, IsErr}
 use Rattle.calls.specs.declared.refusals.CallRefusal.{CallRefusal}
 use Rattle.calls.specs.Views.{ReceiptView}
 use Rattle.scan.specs.declared.progress.Progress.{Progress}
-use Rattle.scan.specs.declared.progress.Exhausted.{Exhausted}
-use Rattle.scan.specs.declared.progress.StartRefusal.{StartRefusal}
-use Rattle.scan.specs.declared.progress.StartRefusal.TheVariants as scan
+use Rattle.scan.specs.declared.progress.PeriodsExhausted.{PeriodsExhausted}
+use Rattle.scan.specs.declared.progress.NotStarted.{NotStarted}
+use Rattle.scan.specs.declared.progress.NotStarted.TheVariants as scan
 use Rattle.scan.specs.declared.refusals.AdvanceRefusal.{AdvanceRefusal}
 use Rattle.scan.specs.declared.refusals.AdvanceRefusal.TheVariants as advance
 use Rattle.scan.specs.declared.refusals.StartRefusal as domain
@@ -22,12 +22,12 @@ NoneIsBusy (Err start.Busy) = ⊥
 NoneIsBusy answer = Unit {0}
 
 -- the same answer, or the same refusal
-abbrev pub IsToldAs : Result Progress AdvanceRefusal → Result Progress Exhausted → Type 0
+abbrev pub IsToldAs : Result Progress AdvanceRefusal → Result Progress PeriodsExhausted → Type 0
 IsToldAs (Ok a) told = told ≡ Ok a
 IsToldAs (Err advance.Busy) told = ⊥
 IsToldAs (Err advance.Exhausted) told = IsErr told
 
-abbrev pub IsStartedAs : Result ℕ domain.StartRefusal → Result ℕ StartRefusal → Type 0
+abbrev pub IsStartedAs : Result ℕ domain.StartRefusal → Result ℕ NotStarted → Type 0
 IsStartedAs (Ok n) told = told ≡ Ok n
 IsStartedAs (Err start.Busy) told = ⊥
 IsStartedAs (Err start.Running) told = told ≡ Err scan.Running

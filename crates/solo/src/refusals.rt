@@ -5,30 +5,30 @@ ghost use Rattle.solo.specs.Refusals.{IsNotBusy, NoneIsBusy, IsToldAs, IsStarted
 use crate::queued::Queued;
 use calls::{CallRefusal, Receipt};
 use domain::AdvanceRefusal;
-use scan::{Exhausted, Progress, StartRefusal};
+use scan::{NotStarted, PeriodsExhausted, Progress};
 use sseq::Number;
 
 /// The answer of a step, or of several. Nobody else has the engine.
-pub(crate) fn told(answer: Result<Progress, AdvanceRefusal>) -> Result<Progress, Exhausted>
+pub(crate) fn told(answer: Result<Progress, AdvanceRefusal>) -> Result<Progress, PeriodsExhausted>
     requires { IsNotBusy answer }
     ensures { IsToldAs answer result }
 {
     match answer {
         Ok(progress) => Ok(progress),
-        Err(AdvanceRefusal::Exhausted) => Err(Exhausted),
+        Err(AdvanceRefusal::Exhausted) => Err(PeriodsExhausted),
         Err(AdvanceRefusal::Busy) => unreachable!(),
     }
 }
 
 /// The answer of a start. Nobody else has the engine.
-pub(crate) fn started(answer: Result<Number, domain::StartRefusal>) -> Result<Number, StartRefusal>
+pub(crate) fn started(answer: Result<Number, domain::StartRefusal>) -> Result<Number, NotStarted>
     requires { NoneIsBusy answer }
     ensures { IsStartedAs answer result }
 {
     match answer {
         Ok(number) => Ok(number),
-        Err(domain::StartRefusal::Running) => Err(StartRefusal::Running),
-        Err(domain::StartRefusal::Exhausted) => Err(StartRefusal::Exhausted),
+        Err(domain::StartRefusal::Running) => Err(NotStarted::Running),
+        Err(domain::StartRefusal::Exhausted) => Err(NotStarted::Exhausted),
         Err(domain::StartRefusal::Busy) => unreachable!(),
     }
 }

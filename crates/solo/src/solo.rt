@@ -10,7 +10,7 @@ ghost use Rattle.solo.specs.Calls.{IsSameDomain, IsNew, IsNotMade, IsOf, IsReadi
 use crate::members::Members;
 use crate::refusals::{started, told};
 use domain::{Domain, Writer};
-use scan::{Exhausted as NoMorePeriods, Progress, StartRefusal};
+use scan::{NotStarted, PeriodsExhausted, Progress};
 use sections::{Exhausted, Held, Home, Limits, Look, MakeError, NotACookie, Reading};
 use sseq::{Index, Number};
 use std::alloc::Allocator;
@@ -194,7 +194,7 @@ impl<J: Drop, A: Allocator> Solo<J, A> {
 
     /// Starts a grace period, whether it is asked for or not, and answers the number from then on (`srcu_gp_start`).
     /// It is refused, with nothing done, where one runs or as many have ended as may.
-    pub fn start(&mut self) -> Result<Number, StartRefusal>
+    pub fn start(&mut self) -> Result<Number, NotStarted>
         ensures same { IsSameDomain self.old self.new }
         ensures start { MatchResult result (λ n. Starts n self.old.course self.new.course) (λ e. StartsNone e self.old.course × (self.new ≡ self.old)) }
     {
@@ -205,7 +205,7 @@ impl<J: Drop, A: Allocator> Solo<J, A> {
 
     /// Has the engine make steps until there is an answer (`srcu_advance_state`). It is refused, with nothing done but a
     /// load of the need, where a grace period is asked for and as many have ended as may.
-    pub fn advance(&mut self) -> Result<Progress, NoMorePeriods>
+    pub fn advance(&mut self) -> Result<Progress, PeriodsExhausted>
         ensures same { IsSameDomain self.old self.new }
         ensures answer { MatchResult result (λ a. Advances a self.old.course self.new.course)
             (λ _. IsAskedTooMuch self.old.course × (self.new ≡ self.old)) }
@@ -216,7 +216,7 @@ impl<J: Drop, A: Allocator> Solo<J, A> {
     }
 
     /// Has the engine make one step; refused as `advance` is.
-    pub fn step(&mut self) -> Result<Progress, NoMorePeriods>
+    pub fn step(&mut self) -> Result<Progress, PeriodsExhausted>
         ensures same { IsSameDomain self.old self.new }
         ensures answer { MatchResult result (λ a. Steps a self.old.course self.new.course)
             (λ _. IsAskedTooMuch self.old.course × (self.new ≡ self.old)) }

@@ -4,7 +4,7 @@ ghost use Rattle.onedom.specs.Histories.{ended_in};
 ghost use Rattle.srcubench.specs.Needed.{LoadsOnce};
 ghost use Rattle.srcubench.specs.Periods.{AnswersTo, CarriesPeriod, IsHeldUp, CarriesPeriods, StopsBefore};
 
-use scan::{Engine, Exhausted, Progress};
+use scan::{Engine, PeriodsExhausted, Progress};
 use sections::Cpu;
 use sseq::{Needs, Number, completed};
 use std::alloc::Allocator;
@@ -39,7 +39,7 @@ pub enum Stop {
 impl fmt::Display for Stop {
     fn fmt<W: fmt::Write>(&self, f: &mut fmt::Formatter<W>) -> fmt::Result {
         match self {
-            Stop::Exhausted => write!(f, "{Exhausted}"),
+            Stop::Exhausted => write!(f, "{PeriodsExhausted}"),
             Stop::Answered(other) => write!(f, "the engine answered {other:?}"),
         }
     }
@@ -52,7 +52,7 @@ fn answer<A: Allocator>(engine: &mut Engine<EveryPeriod, A>) -> Result<Progress,
 {
     match engine.advance() {
         Ok(answer) => Ok(answer),
-        Err(Exhausted) => Err(Stop::Exhausted),
+        Err(PeriodsExhausted) => Err(Stop::Exhausted),
     }
 }
 

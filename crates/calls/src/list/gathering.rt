@@ -2,14 +2,14 @@
 ghost use Rattle.std.specs.Prelude.{◌≡◌, ◌<◌, MatchResult, OnErr, OnOk};
 ghost use Rattle.calls.specs.Tallies.{word_count, queued_in};
 ghost use Rattle.calls.specs.Views.{next_of};
-ghost use Rattle.calls.specs.Calls.{MayLook, MovesOne, Gathers, Looks, LacksRoom, FindsLens};
+ghost use Rattle.calls.specs.Calls.{MayLook, MovesOne, Gathers, Looks, NotesLack, LacksRoom, FindsLens};
 
 use super::List;
 use crate::entry::Arrival;
 use crate::plays::Board;
 use crate::refusals::Memory;
 use crate::seat::CallSeat;
-use crate::tally::{move_call, see_list};
+use crate::tally::{lack_room, move_call, see_list};
 use std::alloc::Allocator;
 use std::marker::Brand;
 use std::sync::Wait;
@@ -26,7 +26,7 @@ impl<J: Drop, A: Allocator> List<J, A> {
         requires { MayLook self.old seat.old }
         ensures gathers { Gathers self.old seat.old self.new seat.new }
         ensures all { OnOk result (next_of self.new ≡ queued_in self.old.processor seat.new.seen) }
-        ensures short { OnErr result (next_of self.new < queued_in self.old.processor seat.new.seen) }
+        ensures short { OnErr result (next_of self.new < self.new.counted) }
     {
         let top = &seat.table.shared;
         let counted = see_list::<J, Brand>(top, &mut seat.seat, &mut self.seat, self.processor);
@@ -71,10 +71,22 @@ impl<J: Drop, A: Allocator> List<J, A> {
         see_list::<J, Brand>(top, &mut seat.seat, &mut self.seat, self.processor);
     }
 
+    /// The seat notes how many of the calls that came in are moved, where not all are: a load of the queued word with the list
+    /// in hand, which is a deed of its own.
+    pub(super) fn note_lack<C: Allocator>(&mut self, seat: &mut CallSeat<J, C>)
+        requires look { MayLook self.old seat.old }
+        requires short { next_of self.old < self.old.counted }
+        ensures notes { NotesLack self.old seat.old seat.new }
+        ensures same { self.new ≡ self.old }
+    {
+        let top = &seat.table.shared;
+        lack_room(top, &mut seat.seat, &mut self.seat, self.processor);
+    }
+
     /// How many entries are done, wait for the first and for the second number, and have none yet; and the two numbers,
     /// 0 where there is none. What is out isn't counted. All calls that are counted as queued are moved first; where there is
-    /// no memory for one, nothing is answered, and nothing is lost. The seat then looks: so this is the list of its
-    /// processor, as it then is.
+    /// no memory for one, nothing is answered, and nothing is lost: the seat notes how many were moved. Else it looks: so this is
+    /// the list of its processor, as it then is.
     pub fn lens<R: Wait, C: Allocator>(
         &mut self,
         rt: &R,
@@ -85,9 +97,15 @@ impl<J: Drop, A: Allocator> List<J, A> {
             (λ found. FindsLens self.old seat.old found self.new seat.new)
             (λ _. LacksRoom self.old seat.old self.new seat.new) }
     {
-        let gathered = self.gather(rt, seat);
-        self.look(seat);
-        gathered?;
-        Ok((self.waiting.lens(), self.waiting.numbers()))
+        match self.gather(rt, seat) {
+            Ok(()) => {
+                self.look(seat);
+                Ok((self.waiting.lens(), self.waiting.numbers()))
+            }
+            Err(refusal) => {
+                self.note_lack(seat);
+                Err(refusal)
+            }
+        }
     }
 }

@@ -52,7 +52,7 @@ impl<J: Drop, A: Allocator + Copy> List<J, A> {
     /// Takes out what is ready: at most `max` jobs and at most eight, the first ones first. `None` where nothing is.
     /// Any processor of the domain may do it. All calls that are counted as queued are moved to the list first. It is refused
     /// where a batch is out, as the seat finds, which looks, and then nothing is moved; and where there was no memory for one
-    /// that was to be moved.
+    /// that was to be moved, which the seat notes.
     pub fn take<R: Wait, B: Allocator, C: Allocator>(
         &mut self,
         rt: &R,
@@ -79,7 +79,7 @@ impl<J: Drop, A: Allocator + Copy> List<J, A> {
         match self.gather(rt, seat) {
             Ok(()) => Ok(self.take_ready(cpu, seat, max)),
             Err(_) => {
-                self.look(seat);
+                self.note_lack(seat);
                 Err(TakeRefusal::Memory)
             }
         }

@@ -9,37 +9,24 @@ use crate::cpu::Cpu;
 use crate::domain::Domain;
 use sseq::{Number, Phase, completed, state};
 use std::alloc::Allocator;
-use std::error::Error;
-use std::fmt;
+use thiserror::Error;
 
 /// Why a domain was not taken down. Of several causes it is the first in this order.
-#[derive(Clone, Copy, Debug, PartialEq, Eq)]
+#[derive(Clone, Copy, Debug, Error, PartialEq, Eq)]
 pub enum InUse {
     /// So many of its processors were not handed in.
+    #[error("processors that are out: {0}; hand in all of them")]
     Missing(u16),
     /// So many of its sections are open.
+    #[error("sections that are open: {0}; close them before")]
     Sections(u64),
     /// A grace period runs.
+    #[error("a grace period runs: drive it to its end before")]
     Period,
     /// So many callbacks are queued and not finished. Those of a batch that is out are among them.
+    #[error("callbacks that are not finished: {0}; wait in a barrier before")]
     Callbacks(u128),
 }
-
-impl fmt::Display for InUse {
-    fn fmt<W: fmt::Write>(&self, f: &mut fmt::Formatter<W>) -> fmt::Result {
-        match self {
-            InUse::Missing(1) => f.write_str("1 processor was not handed in"),
-            InUse::Missing(missing) => write!(f, "{missing} processors were not handed in"),
-            InUse::Sections(1) => f.write_str("1 section is open"),
-            InUse::Sections(open) => write!(f, "{open} sections are open"),
-            InUse::Period => f.write_str("a grace period runs"),
-            InUse::Callbacks(1) => f.write_str("1 callback is not finished"),
-            InUse::Callbacks(waiting) => write!(f, "{waiting} callbacks are not finished"),
-        }
-    }
-}
-
-impl Error for InUse {}
 
 /// What was done in a domain, from when it was made until it was taken down.
 #[derive(Clone, Copy, Debug, PartialEq, Eq)]

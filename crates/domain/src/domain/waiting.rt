@@ -8,7 +8,7 @@ use crate::cpu::Cpu;
 use crate::domain::Domain;
 use crate::pause::Pause;
 use scan::refusals::AdvanceRefusal;
-use scan::{Exhausted, Progress};
+use scan::{PeriodsExhausted, Progress};
 use std::alloc::Allocator;
 use std::sync::Wait;
 
@@ -27,7 +27,7 @@ fn give_way<R: Wait>(rt: &R, pause: &mut Pause, turn: Option<Progress>) {
 
 impl<J, A: Allocator> Domain<J, A> {
     /// One turn with the engine, and its last answer. `None` where another call has it.
-    fn turn(&self, cpu: &mut Cpu<J, A>) -> Result<Option<Progress>, Exhausted>
+    fn turn(&self, cpu: &mut Cpu<J, A>) -> Result<Option<Progress>, PeriodsExhausted>
         requires { IsOf self.now cpu.old }
         ensures here { IsOf self.now cpu.new }
         ensures turns { MatchResult result (λ turn. Turns turn cpu.old cpu.new) (λ _. FindsExhaustedIn cpu.old cpu.new) }
@@ -35,7 +35,7 @@ impl<J, A: Allocator> Domain<J, A> {
         match self.drive(cpu) {
             Ok(answer) => Ok(Some(answer)),
             Err(AdvanceRefusal::Busy) => Ok(None),
-            Err(AdvanceRefusal::Exhausted) => Err(Exhausted),
+            Err(AdvanceRefusal::Exhausted) => Err(PeriodsExhausted),
         }
     }
 
@@ -44,7 +44,7 @@ impl<J, A: Allocator> Domain<J, A> {
     /// since that call may have ended the period meanwhile, and tries again. On the processor itself no reading may be
     /// open, or the call would wait for itself. It is refused where a turn of its own found that no more grace periods
     /// may start: that turn is the last thing that it did, and what it asked for stays asked for.
-    pub fn synchronize<R: Wait>(&self, rt: &R, cpu: &mut Cpu<J, A>) -> Result<(), Exhausted>
+    pub fn synchronize<R: Wait>(&self, rt: &R, cpu: &mut Cpu<J, A>) -> Result<(), PeriodsExhausted>
         requires domain { IsOf self.now cpu.old }
         requires none { HasNoneOpen cpu.old }
         ensures here { IsOf self.now cpu.new }
@@ -60,7 +60,7 @@ impl<J, A: Allocator> Domain<J, A> {
         for _ in rt.forever() {
             let turn = match self.turn(cpu) {
                 Ok(turn) => turn,
-                Err(Exhausted) => return Err(Exhausted),
+                Err(PeriodsExhausted) => return Err(PeriodsExhausted),
             };
             if cpu.poll(&mut cookie) {
                 return Ok(());

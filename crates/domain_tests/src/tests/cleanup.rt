@@ -173,26 +173,19 @@ fn drops_what_waits(rt: HostRuntime) -> Result<(), Fail> {
 /// Would catch a text that is another cause's, and a count that isn't told.
 #[test]
 fn texts_of_causes(rt: HostRuntime) -> Result<(), Fail> {
-    let one = format!(in rt.alloc();
-        "{}; {}; {}; {}",
-        InUse::Missing(1),
-        InUse::Sections(1),
-        InUse::Callbacks(1),
-        InUse::Period
-    )?;
-    assert_eq!(rt;
-        one.as_str(),
-        "1 processor was not handed in; 1 section is open; 1 callback is not finished; a grace period runs"
-    );
-    let more = format!(in rt.alloc();
-        "{}; {}; {}",
+    let told = format!(in rt.alloc();
+        "{}\n{}\n{}\n{}",
         InUse::Missing(2),
         InUse::Sections(3),
+        InUse::Period,
         InUse::Callbacks(4)
     )?;
     assert_eq!(rt;
-        more.as_str(),
-        "2 processors were not handed in; 3 sections are open; 4 callbacks are not finished"
+        told.as_str(),
+        "processors that are out: 2; hand in all of them\n\
+        sections that are open: 3; close them before\n\
+        a grace period runs: drive it to its end before\n\
+        callbacks that are not finished: 4; wait in a barrier before"
     );
     Ok(())
 }

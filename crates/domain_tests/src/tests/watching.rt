@@ -3,7 +3,7 @@ ghost use Rattle.domain.specs.Views.{IsOf};
 ghost use Rattle.domain.specs.Waiting.{HasNoneOpen};
 
 use super::threads::two_cpus;
-use domain::{Counts, Cpu, Domain, Holder, Index, Pair, TimedOut, WaitRefusal};
+use domain::{Counts, Cpu, Domain, Holder, Index, Pair, Progress, TimedOut, WaitRefusal};
 use std::alloc::{AllocError, Global};
 use std::sync::Wait;
 use std::test::Fail;
@@ -198,6 +198,75 @@ fn prints_itself(rt: HostRuntime) -> Result<(), Fail> {
     assert!(rt; both);
     assert_eq!(rt; lines.as_str(), LINES);
     assert_eq!(rt; columns.as_str(), COLUMNS);
+    Ok(())
+}
+
+/// What is printed where a section went from the first processor to the second before the index was flipped, and another one is
+/// open on the second since.
+const FLIPPED: &str = "number 2 scan2, index 1, need 4, queued 0, finished 0
+processor 0: +1 0
+processor 1: -1 +1
+all: 0 +1";
+
+/// Flips the index, as far as the engine gets in two turns.
+fn flip(domain: &Domain<()>, cpu: &mut Cpu<()>) -> bool
+    requires { IsOf domain.now cpu.old }
+    ensures { IsOf domain.now cpu.new }
+{
+    domain.start_poll(cpu);
+    let started = domain.advance(cpu);
+    let flipped = domain.advance(cpu);
+    matches!(started, Ok(Progress::Started(_))) && flipped == Ok(Progress::Flipped(Index::One))
+}
+
+/// The counters of both processors, as the first one finds them with a section open on the second, and the text of a snapshot
+/// then.
+fn watch_and_print(
+    alloc: Global,
+    domain: &Domain<()>,
+    first: &mut Cpu<()>,
+    second: &mut Cpu<()>,
+) -> Result<(Option<[Counts; 2]>, String), AllocError>
+    requires first { IsOf domain.now first.old }
+    requires second { IsOf domain.now second.old }
+{
+    let section = second.read_lock();
+    let counts = watch_both(domain, first);
+    let snapshot = domain.snapshot(alloc, first);
+    if let Ok(section) = section {
+        second.read_unlock(section);
+    }
+    let snapshot = snapshot?;
+    let text = format!(in alloc; "{snapshot}")?;
+    Ok((counts, text))
+}
+
+/// Would catch a section of index 1 that is counted as one of index 0, or on the processor that looks.
+#[test]
+fn counts_behind_a_flip(rt: HostRuntime) -> Result<(), Fail> {
+    let (domain, mut first, mut second) = two_cpus(rt.alloc())?;
+    let ready = hand_over(&domain, &mut first, &mut second) & flip(&domain, &mut first);
+    let (counts, text) = watch_and_print(rt.alloc(), &domain, &mut first, &mut second)?;
+    let one = Pair {
+        locks: 1,
+        unlocks: 0,
+    };
+    let second_zero = Pair {
+        locks: 0,
+        unlocks: 1,
+    };
+    assert!(rt; ready);
+    assert_eq!(rt;
+        counts,
+        Some([
+            of_zero(1, 0),
+            Counts {
+                zero: second_zero,
+                one,
+            },
+        ])
+    );
+    assert_eq!(rt; text.as_str(), FLIPPED);
     Ok(())
 }
 

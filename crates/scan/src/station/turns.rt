@@ -7,7 +7,7 @@ ghost use Rattle.scan.specs.Stations.{IsOfStation, IsWithinLimit, FindsBusy, Giv
 use super::Station;
 use super::seat::StationSeat;
 use crate::engine::Engine;
-use crate::progress::{Exhausted, Progress};
+use crate::progress::Progress;
 use crate::refusals::{AdvanceRefusal, Busy, StartRefusal};
 use sections::Cpu;
 use sseq::{Needs, Number};
@@ -51,10 +51,7 @@ impl<N: Needs, A: Allocator> StationSeat<N, A> {
         };
         let answer = engine.step_for(needs);
         self.give_back(station, cpu, engine);
-        match answer {
-            Ok(progress) => Ok(progress),
-            Err(Exhausted) => Err(AdvanceRefusal::Exhausted),
-        }
+        Ok(answer?)
     }
 
     /// Has the engine make steps until there is an answer, which is never `Step` (`srcu_advance_state`). Else it is as
@@ -79,10 +76,7 @@ impl<N: Needs, A: Allocator> StationSeat<N, A> {
         };
         let answer = engine.advance_for(needs);
         self.give_back(station, cpu, engine);
-        match answer {
-            Ok(progress) => Ok(progress),
-            Err(Exhausted) => Err(AdvanceRefusal::Exhausted),
-        }
+        Ok(answer?)
     }
 
     /// Has the engine go on from answer to answer until it has ended a period, waits for a section, or has nothing to do:
@@ -108,10 +102,7 @@ impl<N: Needs, A: Allocator> StationSeat<N, A> {
         };
         let answer = engine.carry_on_for(needs);
         self.give_back(station, cpu, engine);
-        match answer {
-            Ok(progress) => Ok(progress),
-            Err(Exhausted) => Err(AdvanceRefusal::Exhausted),
-        }
+        Ok(answer?)
     }
 
     /// Starts a grace period, whether it is asked for or not, and answers the number from then on (`srcu_gp_start`). The
@@ -135,10 +126,7 @@ impl<N: Needs, A: Allocator> StationSeat<N, A> {
         };
         let answer = engine.start();
         self.give_back(station, cpu, engine);
-        match answer {
-            Ok(number) => Ok(number),
-            Err(refusal) => Err(StartRefusal::of(refusal)),
-        }
+        Ok(answer?)
     }
 
     /// Ties the engine to this processor: both have then seen one history. `Busy` is as for [`StationSeat::step`].

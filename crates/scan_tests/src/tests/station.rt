@@ -288,7 +288,7 @@ fn numbers_and_texts_of_refusals(rt: HostRuntime) -> Result<(), Fail> {
     )?;
     assert_eq!(rt;
         advance.as_str(),
-        "another call has the engine; no more grace periods may start"
+        "another call has the engine: call again; no more grace periods may start: make a new domain"
     );
     let (busy, running, exhausted) = (
         StartRefusal::Busy,
@@ -298,7 +298,8 @@ fn numbers_and_texts_of_refusals(rt: HostRuntime) -> Result<(), Fail> {
     let start = format!(in rt.alloc(); "{busy}; {running}; {exhausted}")?;
     assert_eq!(rt;
         start.as_str(),
-        "another call has the engine; a grace period runs; no more grace periods may start"
+        "another call has the engine: call again; a grace period runs: drive it to its end before; \
+         no more grace periods may start: make a new domain"
     );
     Ok(())
 }

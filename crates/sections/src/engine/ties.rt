@@ -3,7 +3,7 @@ ghost use Rattle.std.specs.Prelude.{◌≡◌, ℕ, ◌<◌, ◌≤◌};
 ghost use Rattle.onedom.specs.Histories.{IsBeginning};
 ghost use Rattle.sections.specs.Calls.{Accepts, IsSeenBy};
 ghost use Rattle.sections.specs.declared.view.Shown.TheVariants.{To};
-ghost use Rattle.sections.specs.EngineCalls.{Covers, CoversAll, TiesEngine, Meets, AreInDomain, noted, IsTied, AreAllCpus, OneHasSeenAll};
+ghost use Rattle.sections.specs.EngineCalls.{Covers, TiesEngine, noted, IsTied};
 
 use super::EngineSeat;
 use crate::cpu::Cpu;
@@ -56,32 +56,5 @@ impl<A: Allocator> EngineSeat<A> {
         self.cover(cpu);
         self.admit(cpu);
         self.note(cpu);
-    }
-
-    /// The engine has then seen what each of these processors has.
-    fn cover_all(&mut self, cpus: &mut [Cpu<A>])
-        requires { AreInDomain self.old.domain cpus.old }
-        ensures engine { CoversAll self.old cpus.old self.new }
-        ensures cpus { cpus.new ≡ cpus.old }
-    {
-        // For the proof: without a processor too, what the engine has seen is a legal history.
-        let _seat = &self.seat;
-        for next in cpus.iter_mut() {
-            self.cover(next);
-        }
-    }
-
-    /// The engine and all of these processors have then seen one history, in which each has just its own events. Each
-    /// processor loads the index word once, and the engine once for each of them. Where the engine is tied and these are
-    /// all processors of the domain, in order, one of them had seen all that the engine made.
-    pub fn meet(&mut self, cpus: &mut [Cpu<A>])
-        requires { AreInDomain self.old.domain cpus.old }
-        ensures meets { Meets self.old cpus.old self.new cpus.new }
-        ensures known { IsTied self.old → AreAllCpus cpus.old → OneHasSeenAll self.old cpus.old }
-    {
-        self.cover_all(cpus);
-        for next in cpus.iter_mut() {
-            self.admit(next);
-        }
     }
 }

@@ -1,7 +1,7 @@
 //! What a processor does behind all that a sight has seen.
 ghost use Rattle.std.specs.Prelude.{◌≡◌, ◌<◌};
 ghost use Rattle.sections.specs.Calls.{Hears};
-ghost use Rattle.sections.specs.Sights.{sight_of, GivesCookieBehind, AsksHowFar, AsksHowFarBehind};
+ghost use Rattle.sections.specs.Sights.{sight_of, GivesCookieBehind, AsksHowFarBehind};
 
 use super::Sight;
 use crate::board::NUMBER_PLACE;
@@ -45,21 +45,8 @@ impl<A: Allocator> Cpu<A> {
         }
     }
 
-    /// The number of the domain, as one load finds it, behind all that the sight has seen too: who asks how many grace
-    /// periods have ended is told. The sight then goes as far as this processor. The number is at most 2^61 - 4.
-    pub fn how_far(&mut self, sight: &mut Sight) -> Number
-        requires { sight.old.domain ≡ self.old.domain }
-        ensures { AsksHowFar result sight.old self.old self.new sight.new }
-    {
-        let top = &self.table.shared;
-        let told = top.split_seat::<plays::GiveToken>(&mut sight.seat);
-        top.join_seat::<plays::TakeToken>(&mut self.seat, told);
-        let found = top.load::<plays::AskHowFar>(&mut self.seat, NUMBER_PLACE);
-        sight.seat = top.split_seat::<plays::GiveToken>(&mut self.seat);
-        Number::new(found).unwrap()
-    }
-
-    /// The same as [`Cpu::how_far`], behind all that a second sight has seen too, which stays as it is.
+    /// The number of the domain, as one load finds it after all that both sights have seen: so many grace periods have ended.
+    /// `sight` then goes as far as this processor; `given` stays as it is. The number is at most 2^61 - 4.
     pub fn how_far_behind(&mut self, given: &mut Sight, sight: &mut Sight) -> Number
         requires { (given.old.domain ≡ self.old.domain) × (sight.old.domain ≡ self.old.domain) }
         ensures asks { AsksHowFarBehind result given.old sight.old self.old self.new sight.new }

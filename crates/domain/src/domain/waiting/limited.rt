@@ -9,7 +9,7 @@ use crate::cpu::Cpu;
 use crate::domain::Domain;
 use crate::limit::Limit;
 use crate::pause::Pause;
-use scan::Exhausted;
+use scan::PeriodsExhausted;
 use sections::Cookie;
 use std::alloc::Allocator;
 use std::fmt;
@@ -29,16 +29,20 @@ pub enum WaitRefusal {
 impl fmt::Display for WaitRefusal {
     fn fmt<W: fmt::Write>(&self, f: &mut fmt::Formatter<W>) -> fmt::Result {
         match self {
-            WaitRefusal::TimedOut(_) => f.write_str("the time is over"),
-            WaitRefusal::Exhausted => f.write_str("no more grace periods may start"),
+            WaitRefusal::TimedOut(_) => f.write_str(
+                "the time is over: find who holds it up, and poll the cookie",
+            ),
+            WaitRefusal::Exhausted => f.write_str(
+                "no more grace periods may start: make a new domain",
+            ),
         }
     }
 }
 
 impl<J, A: Allocator> Domain<J, A> {
-    /// As [`Domain::synchronize`], for so long at most. One turn and one poll are made whatever the limit is. The
-    /// clock is looked at after each poll, and the pause before may sleep for a millisecond. Where the clock can't be read, the time is over. `TimedOut` has the cookie of the
-    /// call, by which one may poll on: nothing is asked for twice, and nothing is lost.
+    /// As [`Domain::synchronize`], for so long at most. One turn and one poll are made whatever the limit is. The clock is
+    /// looked at after each poll, and the pause before may sleep for a millisecond. Where the clock can't be read, the time is
+    /// over. `TimedOut` has the cookie of the call, by which one may poll on: nothing is asked for twice, and nothing is lost.
     pub fn synchronize_for<R: Wait + Clock>(
         &self,
         rt: &R,
@@ -61,7 +65,7 @@ impl<J, A: Allocator> Domain<J, A> {
         for _ in rt.forever() {
             let turn = match self.turn(cpu) {
                 Ok(turn) => turn,
-                Err(Exhausted) => return Err(WaitRefusal::Exhausted),
+                Err(PeriodsExhausted) => return Err(WaitRefusal::Exhausted),
             };
             if cpu.poll(&mut cookie) {
                 return Ok(());

@@ -1,6 +1,6 @@
 -- Each processor was a new one.
 use Rattle.std.proofs.Common.{List, All, Result, IsOk, subst}
-use Rattle.scan.specs.declared.progress.Exhausted.{Exhausted}
+use Rattle.scan.specs.declared.progress.PeriodsExhausted.{PeriodsExhausted}
 use Rattle.domain.specs.Views.{CpuView}
 use Rattle.srcubench.specs.Driving.{WaitsAll}
 use Rattle.srcubench.proofs.Passes.{all_ready, on_each}
@@ -11,5 +11,5 @@ wait_together-requires g c = (c.type_bounds.sync-R, all_ready _ _ c.in_ok-domain
 
 pub returns-clause-waited : goal.returns-clause-waited
 returns-clause-waited g c =
-    let none = subst (λ (l : List (Result (CpuView (Unit {0})) Exhausted)). All IsOk l) c.as_slice.ensures.value c.in_ok-first_error.ensures in
+    let none = subst (λ (l : List (Result (CpuView (Unit {0})) PeriodsExhausted)). All IsOk l) c.as_slice.ensures.value c.in_ok-first_error.ensures in
     on_each {J = Unit {0}} (λ d. WaitsAll c.args.times) _ _ _ _ c.in_ok-domain.ensures.made c.in_ok-outcomes.ensures none

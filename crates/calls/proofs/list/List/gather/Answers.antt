@@ -33,14 +33,12 @@ returns-in_err-move_one-clause-gathers g c = record {
 
 pub returns-in_err-move_one-clause-short : goal.returns-in_err-move_one-clause-short
 returns-in_err-move_one-clause-short g c =
-    let v = c.self.invariant in
-    let h = c.see_list-counted.ensures in
     let next = c.loop.invariant.next in
+    let counted = c.loop.invariant.counted in
     let same = ap (λ (l : ListView g.row.J.Denot). Rattle.calls.specs.Views.next_of l) c.in_err-move_one.ensures in
+    let kept = ap (λ (l : ListView g.row.J.Denot). l.counted) c.in_err-move_one.ensures in
     let lt = c.loop-test.true in
-    let counted = h.counted in
-    let on = ap (λ (p : ℕ). queued_in p c.see_list-counted.new.seat.me.0.seen) (ap (λ l. l.processor) c.self.view_is) in
-    on_err c.from_residual.result (omega (arith, next, same, lt, counted, on))
+    on_err c.from_residual.result (omega (arith, next, counted, same, kept, lt))
 
 pub loop-preserved : goal.loop-preserved
 loop-preserved g c =

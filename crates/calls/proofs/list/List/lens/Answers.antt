@@ -1,20 +1,18 @@
-use Rattle.std.proofs.Common.{ap, sym, ◌∙◌}
+use Rattle.std.proofs.Common.{ap, ◌∙◌}
 use Rattle.segs.specs.MarkedList.{lens, numbers}
 use Rattle.calls.specs.Seats.{known_in}
 use Rattle.calls.specs.Views.{ListView}
 use Rattle.calls.proofs.Wrapping.{lens_wrapped, numbers_lens_wrapped}
-use Rattle.calls.proofs.Gathering.{failed, lacks_behind, finds_behind}
+use Rattle.calls.proofs.Gathering.{lacks_behind, finds_behind}
 use Rattle.calls.proofs.list.List.lens.Goals as goal
 
-pub returns-in_err-gathered : goal.returns-in_err-gathered
-returns-in_err-gathered g c =
-    let lacks = lacks_behind c.args.self.now c.gather-gathered.new.self c.args.seat.now c.gather-gathered.new.seat c.look.new.self c.look.new.seat c.gather-gathered.ensures.gathers c.look.ensures c.in_err-gathered.ensures.short in
-    record { found = failed c.from_residual.result _ c.from_residual.ensures.0 lacks }
+pub returns-in-Err : goal.returns-in-Err
+returns-in-Err g c = record { found = lacks_behind c.args.self.now c.gather.new.self c.note_lack.new.self c.args.seat.now c.gather.new.seat c.note_lack.new.seat c.gather.ensures.gathers c.note_lack.ensures.notes c.note_lack.ensures.same }
 
-pub returns : goal.returns
-returns g c =
+pub returns-in-Ok : goal.returns-in-Ok
+returns-in-Ok g c =
     let k = known_in c.self.inside.seat.me.0.list in
     let entries = ap (λ (l : ListView g.row.J.Denot). l.entries) c.self.view_is in
     let counts = c.lens.ensures.counts ∙ (ap lens c.self.invariant.wrapping ∙ (lens_wrapped {J = g.row.J.Denot} k.waiting ∙ ap lens entries)) in
     let awaited = c.numbers.ensures ∙ (ap numbers c.self.invariant.wrapping ∙ (numbers_lens_wrapped {J = g.row.J.Denot} k.waiting ∙ ap numbers entries)) in
-    record { found = finds_behind c.args.self.now c.gather-gathered.new.self c.args.seat.now c.gather-gathered.new.seat c.look.new.self c.look.new.seat c.gather-gathered.ensures.gathers c.look.ensures _ c.in_ok-gathered.ensures.all (λ i. (counts i, awaited i)) }
+    record { found = finds_behind c.args.self.now c.gather.new.self c.args.seat.now c.gather.new.seat c.look.new.self c.look.new.seat c.gather.ensures.gathers c.look.ensures _ c.in-Ok.ensures.all (λ i. (counts i, awaited i)) }

@@ -33,4 +33,4 @@ returns-then-self-clause-takes g c = record {
 }
 
 pub returns-in-Err-clause-takes : goal.returns-in-Err-clause-takes
-returns-in-Err-clause-takes g c = (refl, lacks_behind c.args.self.now c.gather.new.self c.args.seat.now c.gather.new.seat c.look-in-Err.new.self c.look-in-Err.new.seat c.gather.ensures.gathers c.look-in-Err.ensures c.in-Err.ensures.short)
+returns-in-Err-clause-takes g c = (refl, lacks_behind c.args.self.now c.gather.new.self c.note_lack.new.self c.args.seat.now c.gather.new.seat c.note_lack.new.seat c.gather.ensures.gathers c.note_lack.ensures.notes c.note_lack.ensures.same)

@@ -1,5 +1,0 @@
-use Rattle.intake.proofs.Keeping.{notes}
-use Rattle.intake.proofs.inlet.Inlet.front.Goals as goal
-
-pub another-pass-requires-clause-rule : goal.another-pass-requires-clause-rule
-another-pass-requires-clause-rule g c = notes _ _ _
