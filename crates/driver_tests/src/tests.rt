@@ -47,10 +47,8 @@ fn pool_of<'a, R: Wait + AllocGlobal>(
     let Ok(mut pool) = Pool::new(rt.alloc(), domain) else {
         return Err(MakeError::Memory);
     };
-    match pool.fill(rt, cpus) {
-        Ok(_none) => Ok(pool),
-        Err(_back) => Err(MakeError::Memory), // none can be out of a new pool
-    }
+    let _ = pool.fill(rt, cpus); // none is out of a new pool
+    Ok(pool)
 }
 
 /// A sign for its drivers.

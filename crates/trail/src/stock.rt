@@ -88,7 +88,8 @@ impl<X: Stocked<K, M>, K, M, A: Allocator> Stock<X, K, M, A> {
         items: Vec<X, A>,
     ) -> Result<Filled<X, K, A>, Filled<X, K, A>>
         requires { All (X.fits self.old.key) items.items }
-        ensures same { MatchResult result (λ _. self.new ≡ record self.old { count = length items.items }) (λ _. self.new ≡ self.old) }
+        ensures same { self.new ≡ record self.old { count = self.new.count } }
+        ensures count { MatchResult result (λ _. self.new.count ≡ length items.items) (λ _. self.new.count ≡ self.old.count) }
         ensures fills { MatchResult result
             (λ filled. AreAll (X.fits self.old.key) self.old filled.0.items × AreHome self.old (length items.items) filled.1)
             (λ back. (back.0 ≡ items) × IsMissing self.old back.1) }

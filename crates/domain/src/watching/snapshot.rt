@@ -158,7 +158,16 @@ impl<'s> Glance<'s> {
 
     /// The same with every word, in columns.
     pub fn table(&self) -> Table<'s> {
-        Table { glance: *self }
+        let glance = Glance {
+            number: self.number,
+            index: self.index,
+            need: self.need,
+            zero: self.zero,
+            one: self.one,
+            queued: self.queued,
+            finished: self.finished,
+        };
+        Table { glance }
     }
 
     /// The first line, which both forms share.
@@ -210,7 +219,7 @@ fn write_row<W: fmt::Write>(f: &mut fmt::Formatter<W>, counts: Counts) -> fmt::R
 
 impl fmt::Display for Table<'_> {
     fn fmt<W: fmt::Write>(&self, f: &mut fmt::Formatter<W>) -> fmt::Result {
-        let glance = self.glance;
+        let Table { glance } = self;
         glance.head(f)?;
         f.write_str("processor    unlocks 0      locks 0    unlocks 1      locks 1 open")?;
         for processor in 0..glance.zero.locks.len() {

@@ -64,7 +64,8 @@ impl<'a, J: Drop, A: Allocator + Copy> Pool<'a, J, A> {
         cpus: Vec<Cpu<J, A>, A>,
     ) -> Result<Vec<Cpu<J, A>, A>, (Vec<Cpu<J, A>, A>, AtHome<J, A>)>
         requires { All (IsIdle self.old.domain) cpus.items }
-        ensures count { MatchResult result (λ _. self.new ≡ record self.old { count = length cpus.items }) (λ _. self.new ≡ self.old) }
+        ensures same { self.new ≡ record self.old { count = self.new.count } }
+        ensures count { MatchResult result (λ _. self.new.count ≡ length cpus.items) (λ _. self.new.count ≡ self.old.count) }
         ensures fills { MatchResult result
             (λ before. AreAllHome self.old before.items)
             (λ back. (back.0 ≡ cpus) × OneIsOut self.old back.1) }

@@ -141,9 +141,7 @@ fn drive_with_report<R: Wait + Clock + AllocGlobal>(
 }
 
 /// A new domain and its four processors.
-fn four(
-    alloc: Global,
-) -> Result<(Domain<u64>, Cpu<u64>, Cpu<u64>, (Cpu<u64>, Cpu<u64>)), MakeError>
+fn four(alloc: Global) -> Result<(Domain<u64>, Cpu<u64>, Cpu<u64>, (Cpu<u64>, Cpu<u64>)), MakeError>
     ensures first { IfOk result (λ r. IsIdle r.0 r.1 × IsIdle r.0 r.2) }
     ensures rest { IfOk result (λ r. IsIdle r.0 r.3.0 × IsIdle r.0 r.3.1) }
 {
@@ -232,7 +230,10 @@ fn sleep_in_two_periods<R: Wait + Clock>(
         reader.read_unlock(section);
     }
     stop.give_alone(rt, domain);
-    let two = matches!((ended, waiting), (Ok(Progress::Ended(_)), Ok(Progress::Waiting(_))));
+    let two = matches!(
+        (ended, waiting),
+        (Ok(Progress::Ended(_)), Ok(Progress::Waiting(_)))
+    );
     heard && two && again
 }
 
