@@ -3,6 +3,7 @@ use Rattle.std.specs.Prelude.{◌≡◌, ℕ, zero, suc, ◌+◌, ◌<◌, ◌�
 use Rattle.std.specs.List.{FoldsTo}
 use Rattle.std.specs.Borrow.{RattleType}
 use Rattle.std.specs.Mem.{FitsInMemory}
+use Rattle.std.specs.declared.alloc.Allocator.{Ghosts}
 use Rattle.sections.specs.Calls.{AllClosed}
 use Rattle.scan.specs.declared.progress.Progress.{Progress}
 use Rattle.calls.specs.declared.entry.Entry.{Entry}
@@ -20,8 +21,8 @@ use Rattle.domain.specs.Views.{DomainView, CpuView, callbacks_of, with_calls}
 use Rattle.domain.specs.Turns.{CarriesOnIn, IsRefused}
 
 -- a batch of such jobs, with memory of such an allocator, fits in memory
-abbrev pub BatchesFit : (J A : RattleType) → Type 0
-BatchesFit J A = FitsInMemory (the_row J A)
+abbrev pub BatchesFit : (T A : RattleType) → Ghosts A.Denot → Type 0
+BatchesFit T A alloc = FitsInMemory (the_row T A alloc)
 
 -- Turns
 

@@ -22,7 +22,7 @@ fn fits<T>(none: &Option<T>) -> bool
 /// Tells the proof of whoever moves a batch that it fits in memory. So does a value of every type that is compiled, but of a type
 /// with parameters only a comparison says so: the compiler drops all of this.
 fn know_that_batches_fit<R: Wait, J, A: Allocator>(rt: &R)
-    ensures { BatchesFit J.row A.row }
+    ensures { BatchesFit J.row A.row A.Allocator }
 {
     let none: Option<Batch<J, A>> = None;
     if !fits(&none) {

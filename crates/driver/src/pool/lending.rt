@@ -70,10 +70,8 @@ impl<'a, J: Drop, A: Allocator + Copy> Pool<'a, J, A> {
             (λ before. AreAllHome self.old before.items)
             (λ back. (back.0 ≡ cpus) × OneIsOut self.old back.1) }
     {
-        match self.stock.fill(rt, cpus) {
-            Ok((before, _home)) => Ok(before),
-            Err((cpus, home)) => Err((cpus, home)),
-        }
+        let (before, _home) = self.stock.fill(rt, cpus)?;
+        Ok(before)
     }
 
     /// Takes a processor out, if one is at home. Else all are out, and it tells at which moment. It waits for the lock alone,
