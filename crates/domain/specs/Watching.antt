@@ -14,6 +14,8 @@ use Rattle.domain.specs.declared.watching.Counts.{Counts}
 use Rattle.domain.specs.declared.watching.Counters.{Counters}
 use Rattle.domain.specs.declared.watching.Holder.{Holder}
 use Rattle.domain.specs.declared.watching.snapshot.Snapshot.{Snapshot}
+use Rattle.domain.specs.declared.watching.snapshot.Columns.{Columns}
+use Rattle.domain.specs.declared.watching.snapshot.Glance.{Glance}
 use Rattle.domain.specs.Views.{CpuView}
 use Rattle.domain.specs.Counts.{LoadsCounters, IsBetween}
 
@@ -145,6 +147,23 @@ module _ {A : Type 0} where
   abbrev pub counters_of : Index → Snapshot A → Counters A
   counters_of Zero s = s.zero
   counters_of One s = s.one
+
+  -- the same counters, in slices
+  pub record AreLent (k : Counters A) (c : Columns) : Type 0 where
+    pub unlocks : c.unlocks.now ≡ k.unlocks.items
+    pub locks : c.locks.now ≡ k.locks.items
+    pub ended : c.ended ≡ k.ended
+    pub begun : c.begun ≡ k.begun
+
+  -- the same words, with the counters in slices
+  pub record IsGlanceAt (s : Snapshot A) (g : Glance) : Type 0 where
+    pub number : g.number ≡ s.number
+    pub index : g.index ≡ s.index
+    pub need : g.need ≡ s.need
+    pub zero : AreLent s.zero g.zero
+    pub one : AreLent s.one g.one
+    pub queued : g.queued ≡ s.queued
+    pub finished : g.finished ≡ s.finished
 
   module _ {J : Type 0} where
     -- The number was loaded, which is the note of a cookie, then the index word, and then the counters of both indexes. The root of the tree and the tally words were loaded too. Nothing else was done

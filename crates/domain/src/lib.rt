@@ -26,6 +26,6 @@ pub use sections::{
 };
 pub use set::CookieSet;
 pub use sseq::{Index, Number};
-pub use watching::snapshot::{Snapshot, Table};
+pub use watching::snapshot::{Columns, Glance, Snapshot, Table};
 pub use watching::{Counters, Counts, Holder, Pair};
 pub use writer::Writer;

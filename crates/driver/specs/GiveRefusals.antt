@@ -1,9 +1,11 @@
 -- Why a sign is not given.
+use Rattle.std.specs.Prelude.{◌≡◌}
 use Rattle.driver.specs.declared.refusals.GiveRefusal.{GiveRefusal}
 use Rattle.driver.specs.declared.refusals.GiveRefusal.TheVariants as refusal
+use Rattle.domain.specs.Views.{CpuView}
 use Rattle.driver.specs.Signs.{StopView, SaysGiven}
 
--- where it was given before, that was seen of it
-abbrev pub IsRefusedBy : {J A : Type 0} → StopView → GiveRefusal J A → Type 0
-IsRefusedBy p refusal.Memory = Unit {0}
-IsRefusedBy p (refusal.Given told) = SaysGiven p told
+-- without memory the processor stays as it was; where the sign was given before, that was seen of it
+abbrev pub IsRefusedBy : {J A : Type 0} → StopView → CpuView J → GiveRefusal J A → CpuView J → Type 0
+IsRefusedBy p c refusal.Memory c' = c' ≡ c
+IsRefusedBy p c (refusal.Given told) c' = SaysGiven p told

@@ -1,9 +1,13 @@
 -- What a driver does: rounds of one turn of the engine, and then one look at the list of each processor, whose jobs it runs that are ready.
 use Rattle.std.specs.Prelude.{◌≡◌, ℕ, zero, suc, ◌+◌, ◌<◌, ◌⊎◌, All, List, [], ◌++◌, map, Some, None, Result, Err, MatchResult, Bool, length}
 use Rattle.std.specs.List.{FoldsTo}
+use Rattle.std.specs.Borrow.{RattleType}
+use Rattle.std.specs.Mem.{FitsInMemory}
+use Rattle.std.specs.declared.alloc.Allocator.{Ghosts}
 use Rattle.sections.specs.Calls.{AllClosed}
 use Rattle.scan.specs.declared.progress.Progress.{Progress}
 use Rattle.calls.specs.declared.entry.Entry.{Entry}
+use Rattle.calls.specs.contracts.batch.Batch.{the_row}
 use Rattle.calls.specs.Views.{BatchView, CallSeatView, TicketView, ReceiptView}
 use Rattle.calls.specs.declared.refusals.TakeRefusal.{TakeRefusal}
 use Rattle.calls.specs.Calls.{TakesIn, TakesNothingIn, FinishesIn, AreHanded}
@@ -15,6 +19,10 @@ use Rattle.driver.specs.declared.counts.Served.{Served}
 use Rattle.driver.specs.Counts.{periods_in, IsCount}
 use Rattle.domain.specs.Views.{DomainView, CpuView, callbacks_of, with_calls}
 use Rattle.domain.specs.Turns.{CarriesOnIn, IsRefused}
+
+-- a batch of such jobs, with memory of such an allocator, fits in memory
+abbrev pub BatchesFit : (T A : RattleType) → Ghosts A.Denot → Type 0
+BatchesFit T A alloc = FitsInMemory (the_row T A alloc)
 
 -- Turns
 

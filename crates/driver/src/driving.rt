@@ -11,7 +11,7 @@ ghost use Rattle.driver.specs.Signs.{IsServed};
 
 use crate::counts::Served;
 use crate::pause::Pause;
-use crate::report::{Listener, Report};
+use crate::report::{Report, Stall};
 use crate::serving::round;
 use crate::stop::{Stop, Told};
 use crate::watcher::{Unwatched, Watcher};
@@ -182,13 +182,13 @@ fn until_done<R: Wait, J: Drop, A: Allocator + Copy, F: FnMut(J), W: Watcher<J, 
     unreachable!()
 }
 
-/// Waits until a barrier is done (the second half of `srcu_barrier`), and does meanwhile what it waits for: rounds as those
-/// of [`serve`], until the job of each call that the ticket covers was handed to `work`, or to another driver's, and its
-/// batch is finished. So a program of one thread needs no other one. Beside these jobs it runs whatever is ready.
+/// Drives and runs callbacks until a barrier is done (the second half of `srcu_barrier`): rounds as those of [`serve`], until
+/// the job of each call that the ticket covers was handed to `work`, or to another driver's, and its batch is finished. So a
+/// program of one thread needs no other one. Beside these jobs it runs whatever is ready. [`Domain::barrier`] waits alone.
 ///
 /// Answers how many grace periods it ended and how many jobs it ran, also where it ends early, as no more grace periods
 /// may start. Then no batch of it is out, and jobs that the ticket covers may be left.
-pub fn barrier<R: Wait, J: Drop, A: Allocator + Copy, F: FnMut(J)>(
+pub fn serve_until<R: Wait, J: Drop, A: Allocator + Copy, F: FnMut(J)>(
     rt: &R,
     domain: &Domain<J, A>,
     cpu: &mut Cpu<J, A>,
@@ -331,21 +331,29 @@ pub fn serve<R: Wait, J: Drop, A: Allocator + Copy, F: FnMut(J)>(
     serve_watched(rt, domain, cpu, stop, work, &mut Unwatched)
 }
 
-/// As [`serve`], with a report: a grace period that waits for sections for longer than its time is told to its listener, once,
+/// As [`serve`], with a report: its `hear` is called once of each grace period that waits for sections for longer than `after`,
 /// with the domain at a glance. The driver goes on then. What it comes to is added to the report's tally after each round.
-pub fn serve_with<R: Wait, J: Drop, A: Allocator + Copy, F: FnMut(J), C: Clock, L: Listener<A>>(
+pub fn serve_with<
+    R: Wait,
+    J: Drop,
+    A: Allocator + Copy,
+    F: FnMut(J),
+    C: Clock,
+    H: FnMut(Stall<'_>),
+>(
     rt: &R,
     domain: &Domain<J, A>,
     cpu: &mut Cpu<J, A>,
     stop: &Stop<J, A>,
     work: F,
-    report: &mut Report<'_, J, C, L, A>,
+    report: &mut Report<'_, J, C, H, A>,
 ) -> Result<Stopped<J, A>, (Served, PeriodsExhausted)>
     requires here { IsOf domain.now cpu.old }
     requires none { HasNoneOpen cpu.old }
     requires stop { stop.now.domain ≡ domain.now }
     requires work { F.IsAlwaysCallable work }
     requires report { IsIdle domain.now report.old.cpu }
+    requires hear { H.IsAlwaysCallable report.old.hear }
     ensures here { IsOf domain.now cpu.new }
     ensures none { HasNoneOpen cpu.new }
     ensures same { IsSameProcessor cpu.old cpu.new }
@@ -367,6 +375,7 @@ pub fn serve_with<R: Wait, J: Drop, A: Allocator + Copy, F: FnMut(J), C: Clock, 
 
     // The processor that made the snapshots is of the domain, and no reading is open on it. So the report may be lent again.
     ensures report { IsIdle domain.now report.new.cpu }
+    ensures hear { H.IsAlwaysCallable report.new.hear }
 {
     serve_watched(rt, domain, cpu, stop, work, report)
 }

@@ -16,10 +16,10 @@ mod stop;
 mod watcher;
 
 pub use counts::Served;
-pub use driving::{Stopped, barrier, serve, serve_with};
+pub use driving::{Stopped, serve, serve_until, serve_with};
 pub use pool::{AtHome, Lent, Pool, Slip};
 pub use reading::read;
 pub use refusals::GiveRefusal;
-pub use report::{Listener, Report, Stall, Tallied, Tally};
+pub use report::{Report, Stall, Tallied, Tally};
 pub use serving::run_batch;
 pub use stop::{Stop, Told};

@@ -3,7 +3,7 @@ ghost use Rattle.driver.specs.Pools.{IsIdle};
 
 use crate::counts::Came;
 use crate::watcher::Watcher;
-use domain::{Cpu, Domain, Index, Progress, Snapshot};
+use domain::{Cpu, Domain, Glance, Index, Progress, Snapshot};
 use sseq::completed;
 use std::alloc::Allocator;
 use std::sync::atomic::AtomicU64;
@@ -80,19 +80,14 @@ impl Tally {
 }
 
 /// A grace period that has waited for longer than a report's limit.
-#[derive(Drop)]
-pub struct Stall<A: Allocator> {
+#[derive(Clone, Copy)]
+pub struct Stall<'s> {
     /// For how long it was seen to wait so far.
     pub waited: Duration,
     /// The index whose sections it waits for.
     pub index: Index,
     /// The domain then.
-    pub snapshot: Snapshot<A>,
-}
-
-/// Who hears of a grace period that waits for too long. It may take its time: the driver waits for it.
-pub trait Listener<A: Allocator> {
-    fn hear(&mut self, stall: Stall<A>);
+    pub glance: Glance<'s>,
 }
 
 /// A grace period that is seen to wait.
@@ -109,7 +104,7 @@ pub struct Delay {
 /// [`serve_with`](crate::serve_with). It has a processor of its own for its snapshots, so a driver does the same with and
 /// without it. A grace period waits from the first turn of the driver that found it waiting.
 #[derive(Drop)]
-pub struct Report<'a, J, C, L, A: Allocator> {
+pub struct Report<'a, J, C, H, A: Allocator> {
     /// Tells how long a grace period waits. Where it can't be read, nothing is reported.
     pub clock: &'a C,
     /// What the driver comes to is added here.
@@ -120,8 +115,8 @@ pub struct Report<'a, J, C, L, A: Allocator> {
     pub cpu: Cpu<J, A>,
     /// How long a grace period may wait unreported.
     pub after: Duration,
-    /// Hears each report. The driver goes on after that.
-    pub listener: L,
+    /// Hears of each grace period that waits for too long. The driver waits for it, and goes on then.
+    pub hear: H,
     /// The grace period that waits: none at first.
     pub delay: Option<Delay>,
 }
@@ -134,8 +129,8 @@ fn ended<J, A: Allocator>(domain: &Domain<J, A>, cpu: &mut Cpu<J, A>) -> u64
     completed(cpu.number())
 }
 
-/// The domain at a glance. None without memory.
-fn glance<J, A: Allocator + Copy>(
+/// A snapshot of the domain. None without memory.
+fn snapshot<J, A: Allocator + Copy>(
     domain: &Domain<J, A>,
     alloc: A,
     cpu: &mut Cpu<J, A>,
@@ -149,11 +144,13 @@ fn glance<J, A: Allocator + Copy>(
     }
 }
 
-impl<'a, J, C: Clock, L: Listener<A>, A: Allocator + Copy> Report<'a, J, C, L, A> {
+impl<'a, J, C: Clock, H: FnMut(Stall<'_>), A: Allocator + Copy> Report<'a, J, C, H, A> {
     /// The grace period that waits now, with what is known of it.
     fn waiting(&mut self, domain: &Domain<J, A>) -> Option<Delay>
-        requires { IsIdle domain.now self.old.cpu }
-        ensures { IsIdle domain.now self.new.cpu }
+        requires idle { IsIdle domain.now self.old.cpu }
+        requires hear { H.IsAlwaysCallable self.old.hear }
+        ensures idle { IsIdle domain.now self.new.cpu }
+        ensures hear { H.IsAlwaysCallable self.new.hear }
     {
         let period = ended(domain, &mut self.cpu);
         match self.delay {
@@ -171,8 +168,10 @@ impl<'a, J, C: Clock, L: Listener<A>, A: Allocator + Copy> Report<'a, J, C, L, A
 
     /// Reports the grace period, if it waits for too long and wasn't reported.
     fn tell_of(&mut self, domain: &Domain<J, A>, delay: Delay, index: Index) -> Delay
-        requires { IsIdle domain.now self.old.cpu }
-        ensures { IsIdle domain.now self.new.cpu }
+        requires idle { IsIdle domain.now self.old.cpu }
+        requires hear { H.IsAlwaysCallable self.old.hear }
+        ensures idle { IsIdle domain.now self.new.cpu }
+        ensures hear { H.IsAlwaysCallable self.new.hear }
     {
         let Ok(waited) = delay.since.elapsed(self.clock) else {
             return delay;
@@ -181,13 +180,13 @@ impl<'a, J, C: Clock, L: Listener<A>, A: Allocator + Copy> Report<'a, J, C, L, A
         if delay.told || waited < self.after {
             return delay;
         }
-        let Some(snapshot) = glance(domain, self.alloc, &mut self.cpu) else {
+        let Some(snapshot) = snapshot(domain, self.alloc, &mut self.cpu) else {
             return delay;
         };
-        self.listener.hear(Stall {
+        (self.hear)(Stall {
             waited,
             index,
-            snapshot,
+            glance: snapshot.glance(),
         });
         Delay {
             told: true,
@@ -196,9 +195,9 @@ impl<'a, J, C: Clock, L: Listener<A>, A: Allocator + Copy> Report<'a, J, C, L, A
     }
 }
 
-impl<'a, J, C: Clock, L: Listener<A>, A: Allocator + Copy> Watcher<J, A>
-    for Report<'a, J, C, L, A> {
-    ghost watches = { λ domain r. IsIdle domain r.cpu };
+impl<'a, J, C: Clock, H: FnMut(Stall<'_>), A: Allocator + Copy> Watcher<J, A>
+    for Report<'a, J, C, H, A> {
+    ghost watches = { λ domain r. IsIdle domain r.cpu × H.IsAlwaysCallable r.hear };
 
     fn look(&mut self, domain: &Domain<J, A>, came: &Came) {
         self.tally.add(came);

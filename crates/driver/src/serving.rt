@@ -4,10 +4,10 @@ ghost use Rattle.std.specs.Mem.{FitsInMemory};
 ghost use Rattle.calls.specs.Tallies.{IsBeginning};
 ghost use Rattle.domain.specs.Views.{IsOf, IsSameProcessor};
 ghost use Rattle.domain.specs.Waiting.{HasNoneOpen};
-ghost use Rattle.driver.specs.Serving.{IsBatchOf, TriesTurn, RunsIn, LooksAfter, LooksAfterAll, Round};
+ghost use Rattle.driver.specs.Serving.{IsBatchOf, BatchesFit, RunsIn, LooksAfter, LooksAfterAll, Round};
 
 use crate::counts::{Came, Looked};
-use domain::{AdvanceRefusal, Batch, Cpu, Domain, Progress};
+use domain::{Batch, Cpu, Domain};
 use std::alloc::Allocator;
 use std::mem::size_of_val;
 use std::sync::Wait;
@@ -17,6 +17,22 @@ fn fits<T>(none: &Option<T>) -> bool
     ensures { result ≡ true → FitsInMemory T.row }
 {
     size_of_val(none) < 0x8000_0000_0000_0000
+}
+
+/// Tells the proof of whoever moves a batch that it fits in memory. So does a value of every type that is compiled, but of a type
+/// with parameters only a comparison says so: the compiler drops all of this.
+fn know_that_batches_fit<R: Wait, J, A: Allocator>(rt: &R)
+    ensures { BatchesFit J.row A.row A.Allocator }
+{
+    let none: Option<Batch<J, A>> = None;
+    if !fits(&none) {
+        for _ in rt.forever() {}
+        unreachable!()
+    }
+    match none {
+        None => {}
+        Some(_) => unreachable!(),
+    }
 }
 
 /// Runs all jobs of a batch, the first one first, and then finishes it.
@@ -42,22 +58,6 @@ pub fn run_batch<R: Wait, J: Drop, A: Allocator + Copy, F: FnMut(J)>(
     domain.finish(rt, cpu, batch);
 }
 
-/// One turn of the engine, as far as it gets.
-fn turn<J, A: Allocator>(
-    domain: &Domain<J, A>,
-    cpu: &mut Cpu<J, A>,
-) -> Result<Progress, AdvanceRefusal>
-    requires here { IsOf domain.now cpu.old }
-    requires none { HasNoneOpen cpu.old }
-    ensures here { IsOf domain.now cpu.new }
-    ensures none { HasNoneOpen cpu.new }
-    ensures later { IsBeginning cpu.old.calls.seen cpu.new.calls.seen }
-    ensures same { IsSameProcessor cpu.old cpu.new }
-    ensures turns { TriesTurn result cpu.old cpu.new }
-{
-    domain.drive(cpu)
-}
-
 /// Takes what is ready on a processor, runs it and finishes it: from 0 to 8 jobs.
 fn look_after<R: Wait, J: Drop, A: Allocator + Copy, F: FnMut(J)>(
     rt: &R,
@@ -78,17 +78,7 @@ fn look_after<R: Wait, J: Drop, A: Allocator + Copy, F: FnMut(J)>(
     ensures few { result.jobs ≤ 8 }
     ensures work { F.IsAlwaysCallable work.new }
 {
-    // A batch is moved below, and the proof of that wants to know that its type fits in memory. So does every type that is
-    // compiled, but of one with a type parameter only a comparison says so: the compiler drops all of this.
-    let vain: Option<Batch<J, A>> = None;
-    if !fits(&vain) {
-        for _ in rt.forever() {}
-        unreachable!()
-    }
-    if let Some(batch) = vain {
-        domain.finish(rt, cpu, batch);
-        unreachable!()
-    }
+    know_that_batches_fit::<R, J, A>(rt);
     match domain.take_ready(rt, cpu, processor, 8) {
         Ok(Some(batch)) => {
             let count = batch.count();
@@ -167,7 +157,7 @@ pub fn round<R: Wait, J: Drop, A: Allocator + Copy, F: FnMut(J)>(
     ensures round { (jobs : List J) × (length jobs ≡ result.jobs) × Round (λ p x q. F.step p x tt q) domain.now work.old cpu.old result.answer jobs work.new cpu.new }
     ensures work { F.IsAlwaysCallable work.new }
 {
-    let answer = turn(domain, cpu);
+    let answer = domain.drive(cpu);
     let Looked {
         jobs,
         batches,

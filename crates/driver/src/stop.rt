@@ -57,7 +57,8 @@ impl<J, A: Allocator + Copy> Stop<J, A> {
 
     /// Gives the sign, and wakes all drivers that sleep. It starts a barrier by this processor, whose ticket it leaves in the
     /// sign: so each job whose queueing the processor had seen is finished before a driver ends. Refused where there is no
-    /// memory for a ticket, and where it was given before: then it stays as it was.
+    /// memory for a ticket: then the processor stays as it was. Refused too where it was given before: then the sign stays as
+    /// it was.
     pub fn give<R: Wait>(
         &self,
         rt: &R,
@@ -70,7 +71,7 @@ impl<J, A: Allocator + Copy> Stop<J, A> {
         ensures same { IsSameSeat cpu.old.calls cpu.new.calls }
         ensures rest { cpu.new ≡ with_calls cpu.new.calls cpu.old }
         ensures acts { ActsAs loads cpu.old cpu.new }
-        ensures gives { MatchResult result (λ told. Gives self.now cpu.old told cpu.new) (λ refusal. IsRefusedBy self.now refusal) }
+        ensures gives { MatchResult result (λ told. Gives self.now cpu.old told cpu.new) (λ refusal. IsRefusedBy self.now cpu.old refusal cpu.new) }
     {
         let Ok(ticket) = domain.barrier_start(cpu) else {
             return Err(GiveRefusal::Memory);

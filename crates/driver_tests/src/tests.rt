@@ -10,7 +10,7 @@ mod telling;
 mod waking;
 
 use domain::{Cpu, Domain, Limits, MakeError, PeriodsExhausted, Totals};
-use driver::{Pool, Served, Stop, Stopped, barrier, serve};
+use driver::{Pool, Served, Stop, Stopped, serve, serve_until};
 use std::alloc::Global;
 use std::sync::Wait;
 use std::test::Fail;
@@ -47,7 +47,7 @@ fn pool_of<'a, R: Wait + AllocGlobal>(
     let Ok(mut pool) = Pool::new(rt.alloc(), domain) else {
         return Err(MakeError::Memory);
     };
-    pool.fill(rt, cpus);
+    let _ = pool.fill(rt, cpus); // none is out of a new pool
     Ok(pool)
 }
 
@@ -133,7 +133,7 @@ fn runs_what_waits_before_it_stops(rt: HostRuntime) -> Result<(), Fail> {
     Ok(())
 }
 
-/// What a barrier came to behind jobs of its own thread, and the digits of the jobs that it ran, in their order.
+/// What serving until a barrier is done came to behind jobs of its own thread, and the digits of the jobs that it ran, in their order.
 fn wait_for_own<R: Wait + AllocGlobal>(
     rt: &R,
 ) -> Result<Option<(bool, Option<Served>, u64)>, MakeError> {
@@ -143,7 +143,7 @@ fn wait_for_own<R: Wait + AllocGlobal>(
     let queued = queue(rt, &domain, &mut lent.cpu, 1, 4);
     let mut digits: u64 = 0;
     let served = match domain.barrier_start(&mut lent.cpu) {
-        Ok(ticket) => barrier(rt, &domain, &mut lent.cpu, &ticket, |job: u64| {
+        Ok(ticket) => serve_until(rt, &domain, &mut lent.cpu, &ticket, |job: u64| {
             digits = digits.wrapping_mul(10).wrapping_add(job);
         })
         .ok(),
@@ -153,9 +153,9 @@ fn wait_for_own<R: Wait + AllocGlobal>(
     Ok(Some((queued, served, digits)))
 }
 
-/// Would catch a barrier that waits for another thread to drive and to run the jobs, and one that is done too early.
+/// Would catch a call that waits for another thread to drive and to run the jobs, and one that is done too early.
 #[test]
-fn a_barrier_runs_what_it_waits_for(rt: HostRuntime) -> Result<(), Fail> {
+fn serves_until_a_barrier_is_done(rt: HostRuntime) -> Result<(), Fail> {
     let served = Served {
         periods: 1,
         jobs: 3,

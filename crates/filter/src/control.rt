@@ -86,7 +86,7 @@ impl<'a> Control<'a> {
         ensures { self.new.worker.domain ≡ self.old.worker.domain }
     {
         let ticket = self.worker.barrier_start()?;
-        self.worker.barrier(rt, &ticket, |_old| shared.file())?;
+        self.worker.serve_until(rt, &ticket, |_old| shared.file())?;
         Ok(())
     }
 }

@@ -138,7 +138,7 @@ pub fn run<R: Threads + Sync + Wait + Clock + AllocGlobal>(
     let Ok(mut pool) = Pool::new(rt.alloc(), &domain) else {
         return Err(Miss::Memory.into());
     };
-    pool.fill(rt, cpus);
+    let _ = pool.fill(rt, cpus); // none is out of a new pool
     let Ok(stop) = Stop::new(rt.alloc(), &domain) else {
         return Err(Miss::Memory.into());
     };

@@ -10,11 +10,8 @@ use crate::counts::{Counts, count};
 use crate::signs::{Signs, WORKERS};
 use crate::worker::Job;
 use domain::{Cpu, Domain};
-use driver::{Listener, Report, Stall, Stop, Tally, serve_with};
-use std::alloc::Global;
+use driver::{Report, Stall, Stop, Tally, serve_with};
 use std::sync::Wait;
-use std::sync::atomic::AtomicU64;
-use std::sync::atomic::Ordering::SeqCst;
 use std::time::{Clock, Duration};
 
 /// For how long a grace period may wait in a run: no section lasts nearly as long.
@@ -27,18 +24,6 @@ pub struct Cpus {
     pub serving: Cpu<Job>,
     /// The one that would make a report.
     pub watching: Cpu<Job>,
-}
-
-/// Counts reports.
-#[derive(Drop)]
-struct Stalls<'a> {
-    count: &'a AtomicU64,
-}
-
-impl<'a> Listener<Global> for Stalls<'a> {
-    fn hear(&mut self, _stall: Stall<Global>) {
-        self.count.fetch_add(1, SeqCst);
-    }
 }
 
 /// What the thread has in the end.
@@ -97,14 +82,14 @@ pub fn drive<R: Wait + Clock + AllocGlobal>(
         watching,
     } = cpus;
     let tally = Tally::new();
-    let stalls = AtomicU64::new(0);
+    let mut stalled = false;
     let mut report = Report {
         clock: rt,
         tally: &tally,
         alloc: rt.alloc(),
         cpu: watching,
         after: Duration::from_secs(MOST_SECONDS),
-        listener: Stalls { count: &stalls },
+        hear: |_stall: Stall<'_>| stalled = true,
         delay: None,
     };
     let work = |job: Job| {
@@ -122,7 +107,7 @@ pub fn drive<R: Wait + Clock + AllocGlobal>(
         }
         Err(_exhausted) => count(&mut ran.counts.refused),
     }
-    if stalls.load(SeqCst) > 0 {
+    if stalled {
         count(&mut ran.counts.early);
     }
     Driver {

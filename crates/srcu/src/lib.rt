@@ -10,14 +10,14 @@ mod worker;
 
 pub use answers::{Called, Ids, Lens};
 pub use domain::{
-    AdvanceRefusal, Batch, CallRefusal, Cookie, CookieSet, Counts, Cpu, Domain, Exhausted, Held,
-    HeldPin, Holder, InUse, Index, Limits, MakeError, Memory, Number, Pair, PeriodsExhausted, Pin,
-    Progress, Reading, Receipt, Snapshot, TakeRefusal, Ticket, TimedOut, Totals, WaitRefusal,
-    Writer,
+    AdvanceRefusal, Batch, CallRefusal, Columns, Cookie, CookieSet, Counts, Cpu, Domain, Exhausted,
+    Glance, Held, HeldPin, Holder, InUse, Index, Limits, MakeError, Memory, Number, Pair,
+    PeriodsExhausted, Pin, Progress, Reading, Receipt, Snapshot, TakeRefusal, Ticket, TimedOut,
+    Totals, WaitRefusal, Writer,
 };
 pub use driver::{
-    GiveRefusal, Lent, Listener, Pool, Report, Served, Slip, Stall, Stop, Stopped, Tallied, Tally,
-    Told, serve_with,
+    GiveRefusal, Lent, Pool, Report, Served, Slip, Stall, Stop, Stopped, Tallied, Tally, Told,
+    serve_with,
 };
 pub use limits::WIDEST;
 pub use making::{clean_up, make};

@@ -2,11 +2,11 @@
 use Rattle.std.proofs.Common.{◌≡◌, ◌≢◌, ℕ, zero, suc, ◌<◌, List, [], ◌∷◌, ◌++◌, get_or, sym, refl, ◌∙◌, ap, subst, arith, Option, Some, None, Bool, true, false, length, length-set, get_or-set_same, append-nil, set, inl, inr, ◌⊎◌}
 use Rattle.std.proofs.lemmas.Bool.{false≢true}
 use mathlib.Core.Logic.{dite}
-use mathlib.Core.Option.{some}
+use mathlib.Core.Option.{some, some-injective}
 use lib.ListN.{get_elem?}
 use native.Mathlib.Decide.{ℕ_discrete}
 use Rattle.atomic_table.specs.Table.{State, Me, keeps, takes, gives, Allows, Arrives, Joins, opening}
-use Rattle.atomic_table.proofs.Lists.{set_here, at_set, at_snoc}
+use Rattle.atomic_table.proofs.Lists.{set_here, set_else, at_set, at_longer, at_last}
 use Rattle.trail.specs.declared.view.View.{View}
 use Rattle.trail.specs.Calls.{IsEarlier, Follows, IsLeft}
 use Rattle.trail.specs.Rule.{lock_place, newcomer, spent, informed, Kept, Seized, seizes_as, Releases, releases_as, Looks}
@@ -40,6 +40,13 @@ module _ {A : Type 0} where
     | inl here ↦ subst (λ n. F n v) (sym here.0) (subst (λ x. F i x) here.1 new)
     | inr there ↦ all id v there.0 there.1
   ]
+
+  -- what stands at another place stays there, and at one place one thing stands
+  kept_at : (l : List A) (i : ℕ) (a : A) (j : ℕ) (b : A) → get_elem? l j ≡ some b → j ≢ i → get_elem? (set l i a) j ≡ some b
+  kept_at l i a j b at other = set_else l i j a other ∙ at
+
+  same_at : (l : List A) (i : ℕ) (a : A) (j : ℕ) (b : A) → get_elem? l i ≡ some a → get_elem? l j ≡ some b → j ≡ i → a ≡ b
+  same_at l i a j b here there is = some-injective a b (sym here ∙ subst (λ k. get_elem? l k ≡ some b) is there)
 
   -- the only one of a list
   pub only_one : (l : List A) (a b : A) → l ≡ a ∷ [] → l ≡ b ∷ [] → a ≡ b
@@ -76,8 +83,8 @@ module _ {T : Type 0} where
 
 module _ {T K E : Type 0} (fits : K → T → Type 0) (state : T → E) (goes : E → E → Type 0) where
   -- the table at the start
-  opens : (key : K) (words : List ℕ) (value : T) → length words ≡ 32 → fits key value → Kept (fits key) state goes (opening words (Some value ∷ []) (newcomer key))
-  opens key words value wide fit = record {
+  opens : (key : K) (words : List ℕ) (value : T) → length words ≡ 32 → get_or words lock_place 0 ≡ 0 → fits key value → Kept (fits key) state goes (opening words (Some value ∷ []) (newcomer key))
+  opens key words value wide free fit = record {
     wide = wide;
     newest = state value;
     before = [];
@@ -86,10 +93,11 @@ module _ {T K E : Type 0} (fits : K → T → Type 0) (state : T → E) (goes : 
     held = among [] (newcomer key) (λ _ v. v.has ≡ true → (v.seen ≡ state value ∷ []) × (get_or words lock_place 0 ≢ 0)) (λ id v at. absurd (nothing id v at)) (λ e. absurd (false≢true e));
     one = λ i j v w at _ has _. absurd (among [] (newcomer key) (λ _ u. u.has ≡ true → ⊥) (λ id u there. absurd (nothing id u there)) false≢true i v at has);
     home = λ _. (value, refl, fit, refl);
+    shut = λ full. absurd (full free);
   }
 
-  pub opens_with : (key : K) (words : List ℕ) (slots : List (Option T)) (value : T) → length words ≡ 32 → slots ≡ Some value ∷ [] → fits key value → Kept (fits key) state goes (opening words slots (newcomer key))
-  opens_with key words slots value wide is fit = subst (λ (xs : List (Option T)). Kept (fits key) state goes (opening words xs (newcomer key))) (sym is) (opens key words value wide fit)
+  pub opens_with : (key : K) (words : List ℕ) (slots : List (Option T)) (value : T) → length words ≡ 32 → get_or words lock_place 0 ≡ 0 → slots ≡ Some value ∷ [] → fits key value → Kept (fits key) state goes (opening words slots (newcomer key))
+  opens_with key words slots value wide free is fit = subst (λ (xs : List (Option T)). Kept (fits key) state goes (opening words xs (newcomer key))) (sym is) (opens key words value wide free fit)
 
   -- the value is taken where it lies there
   pub seizes : (key : K) (n : ℕ) → Arrives (Kept (fits key) state goes) n lock_place (λ _. 1) (seizes_as fits state (newcomer key, []))
@@ -117,6 +125,7 @@ module _ {T K E : Type 0} (fits : K → T → Type 0) (state : T → E) (goes : 
           held = among s.views w (λ _ v. v.has ≡ true → (v.seen ≡ log) × (get_or (set s.words lock_place 1) lock_place 0 ≢ 0)) (λ id v at has. absurd (nobody id v at has)) (λ _. (refl, full));
           one = λ i j v x ati atj hasv hasx. last i v ati hasv ∙ sym (last j x atj hasx);
           home = λ e. absurd (full e);
+          shut = λ _. (length s.views, w, at_last s.views w _ refl, refl);
         },
         λ _. record { value = t.0; slot = refl; fit = t.2; has = refl; before = g.before; seen = ap (λ e. e ∷ g.before) t.3 },
       ))
@@ -136,6 +145,7 @@ module _ {T K E : Type 0} (fits : K → T → Type 0) (state : T → E) (goes : 
           held = λ id v at has. ((g.held id v (still id v at has) has).0, full);
           one = λ i j v x ati atj hasv hasx. g.one i j v x (still i v ati hasv) (still j x atj hasx) hasv hasx;
           home = λ e. absurd (full e);
+          shut = λ _. let h = g.shut taken in (h.0, h.1, at_longer s.views (w ∷ []) h.0 h.1 h.2, h.3);
         },
         λ e. absurd (taken e),
       ))
@@ -164,6 +174,7 @@ module _ {T K E : Type 0} (fits : K → T → Type 0) (state : T → E) (goes : 
           held = λ j u atj hasu. absurd (nobody j u atj hasu);
           one = λ i j u x ati atj hasu hasx. absurd (nobody i u ati hasu);
           home = λ _. (value, set_here s.homes 0 (some (Some value)) (omega (arith, wide)), fit, refl);
+          shut = λ full. absurd (full (get_or-set_same s.words lock_place 0 0 (let long = g.wide in omega (arith, long))));
         },
         λ x is. record { slot = refl; has = refl; seen = ap (λ y. state y ∷ v.seen) (same_value value x _ refl is) },
       )
@@ -196,13 +207,14 @@ module _ {T K E : Type 0} (fits : K → T → Type 0) (state : T → E) (goes : 
           held = λ j u atj hasu. let h = g.held j u (still j u atj hasu) hasu in (h.0, λ e. h.1 (sym word ∙ e));
           one = λ i j u x ati atj hasu hasx. g.one i j u x (still i u ati hasu) (still j x atj hasx) hasu hasx;
           home = λ e. g.home (sym word ∙ e);
+          shut = λ full. let h = g.shut (λ e. full (word ∙ e)) in (h.0, h.1, kept_at s.views id w h.0 h.1 h.2 (λ e. absurd (false≢true (sym none ∙ (ap (λ z. z.has) (same_at s.views id v h.0 h.1 at h.2 e) ∙ h.3)))), h.3);
         },
         record { slot = refl; has = refl; newest = g.newest; before = g.before; seen = refl; row = g.row; covers = (g.earlier id v at).0; hears = (g.earlier id v at).1 },
       )
 
   -- one seat is told what another had seen
-  pub informs : (key : K) (id : ℕ) (v : View K E) (other : ℕ) (w : View K E) → v.has ≡ false → Joins (Kept (fits key) state goes) id v other w (informed v w) spent
-  informs key id v other w none s g at apart atw =
+  pub informs : (key : K) (id : ℕ) (v : View K E) (other : ℕ) (w : View K E) → v.has ≡ false → w.has ≡ false → Joins (Kept (fits key) state goes) id v other w (informed v w) spent
+  informs key id v other w none nor s g at apart atw =
       let log : List E = g.newest ∷ g.before in
       let both : View K E = informed v w in
       let there : get_elem? s.views other ≡ some w = elim (at_set s.views id other both w atw) [
@@ -226,4 +238,12 @@ module _ {T K E : Type 0} (fits : K → T → Type 0) (state : T → E) (goes : 
         held = λ j u atj hasu. g.held j u (still j u atj hasu) hasu;
         one = λ i j u x ati atj hasu hasx. g.one i j u x (still i u ati hasu) (still j x atj hasx) hasu hasx;
         home = g.home;
+        shut = λ full. let h = g.shut full in (
+          h.0,
+          h.1,
+          kept_at (set s.views id both) other spent h.0 h.1
+              (kept_at s.views id both h.0 h.1 h.2 (λ e. absurd (false≢true (sym none ∙ (ap (λ z. z.has) (same_at s.views id v h.0 h.1 at h.2 e) ∙ h.3)))))
+              (λ e. absurd (false≢true (sym nor ∙ (ap (λ z. z.has) (same_at s.views other w h.0 h.1 there h.2 e) ∙ h.3)))),
+          h.3,
+        );
       }

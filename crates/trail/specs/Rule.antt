@@ -30,7 +30,7 @@ module _ {T K : Type 0} where
   Fits fits key value = MatchOption key (Unit {0}) (λ k. fits k value)
 
 module _ {T K E : Type 0} where
-  -- there is one trail. Each seat has seen an earlier one, and the one that has the value, if there is any, has seen it all. Where the word is 0, the value is at home, in the newest state
+  -- there is one trail. Each seat has seen an earlier one, and the one that has the value, if there is any, has seen it all. Where the word is 0, the value is at home, in the newest state; where it isn't, a seat has the value
   pub record Kept (fits : T → Type 0) (state : T → E) (goes : E → E → Type 0) (s : State (Option T) (View K E)) : Type 0 where
     pub wide : length s.words ≡ word_count
     pub newest : E
@@ -40,6 +40,7 @@ module _ {T K E : Type 0} where
     pub held : (id : ℕ) (v : View K E) → get_elem? s.views id ≡ some v → v.has ≡ true → (v.seen ≡ newest ∷ before) × (slice_index s.words lock_place ≢ 0)
     pub one : (i j : ℕ) (v w : View K E) → get_elem? s.views i ≡ some v → get_elem? s.views j ≡ some w → v.has ≡ true → w.has ≡ true → i ≡ j
     pub home : slice_index s.words lock_place ≡ 0 → (value : T) × (get_elem? s.homes 0 ≡ some (some (Some value))) × fits value × (newest ≡ state value)
+    pub shut : slice_index s.words lock_place ≢ 0 → (id : ℕ) × (v : View K E) × (get_elem? s.views id ≡ some v) × (v.has ≡ true)
 
   -- the seat has the slot, with a value in it that fits, and has seen in which state it was left
   pub record Seized (fits : K → T → Type 0) (state : T → E) (key : Option K) (m : Me (Option T) (View K E)) : Type 0 where

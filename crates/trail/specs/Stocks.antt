@@ -27,7 +27,7 @@ module _ {K : Type 0} where
     pub before : List ℕ
     pub given : seen.seen ≡ (others + 1) ∷ others ∷ before
 
-  -- at a moment not as many were at home as were put in at first
+  -- at a moment not as many were at home as were put in
   pub record IsMissing (s : StockView K) (seen : SightView ℕ) : Type 0 where
     pub lock : seen.lock ≡ s.lock
     pub many : ℕ
@@ -35,6 +35,6 @@ module _ {K : Type 0} where
     pub home : seen.seen ≡ many ∷ before
     pub not_all : many ≢ s.count
 
-  -- these are as many as were put in at first, and each is such a one
+  -- these are as many as were put in, and each is such a one
   abbrev pub AreAll : {X : Type 0} → (X → Type 0) → StockView K → List X → Type 0
   AreAll fit s items = All fit items × (length items ≡ s.count)

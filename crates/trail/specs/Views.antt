@@ -12,7 +12,7 @@ pub record SightView (E : Type 0) : Type 0 where
   pub lock : TableId
   pub seen : List E
 
--- which stock it is, the key that each value of it fits, and how many were put in at first
+-- which stock it is, the key that each value of it fits, and how many were put in
 pub record StockView (K : Type 0) : Type 0 where
   pub lock : TableId
   pub key : K

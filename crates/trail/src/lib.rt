@@ -10,5 +10,5 @@ mod trail;
 mod view;
 
 pub use shelf::Stocked;
-pub use stock::{Out, Stock};
+pub use stock::{Filled, Out, Stock};
 pub use trail::{Lies, Loan, Sight, Trail};

@@ -10,7 +10,7 @@ use std::sync::Wait;
 use std::thread::yield_now;
 
 /// Values that threads take for a while and give back, behind one lock. Contracts see which stock it is, its key, which each
-/// value fits by the rule M, and how many values were put in at first. How many are at home at a moment is seen by whoever comes to it.
+/// value fits by the rule M, and how many values were put in. How many are at home at a moment is seen by whoever comes to it.
 ///
 /// The calls that take a value out and put it back can't drop one: the type of the values need not be one that may be.
 #[derive(Drop)]
@@ -28,6 +28,9 @@ impl<X: Stocked<K, M>, K, M, A: Allocator> Model for Stock<X, K, M, A> {
 
     ghost view = { view_of_stock };
 }
+
+/// The values that a fill hands out, and what was then seen of the stock.
+pub type Filled<X, K, A> = (Vec<X, A>, Sight<K, usize>);
 
 /// A value of a stock is out. It can't be dropped: it ends in [`Stock::give`]. Contracts see of which stock, and how many were
 /// at home when it was taken. It has no bytes.
@@ -56,8 +59,8 @@ impl<X: Stocked<K, M> + Drop, K, M, A: Allocator + Copy> Stock<X, K, M, A> {
         Ok(Stock { trail, count: 0 })
     }
 
-    /// Takes all values out for good, where as many are at home as were put in at first. Else the stock comes back as it was,
-    /// with what was seen of it.
+    /// Takes all values out for good, where as many are at home as were put in. Else the stock comes back as it was, with what
+    /// was seen of it.
     pub fn close<R: Wait>(self, rt: &R) -> Result<Vec<X, A>, (Stock<X, K, M, A>, Sight<K, usize>)>
         ensures { MatchResult result
             (λ items. AreAll (X.fits self.key) self items.items)
@@ -77,21 +80,34 @@ impl<X: Stocked<K, M> + Drop, K, M, A: Allocator + Copy> Stock<X, K, M, A> {
 
 // No value is dropped here.
 impl<X: Stocked<K, M>, K, M, A: Allocator> Stock<X, K, M, A> {
-    /// Puts these in, in the place of those that are at home, which come out.
-    pub fn fill<R: Wait>(&mut self, rt: &R, items: Vec<X, A>) -> (Vec<X, A>, Sight<K, usize>)
+    /// Puts these in, in the place of all that were put in before, which come out. It is refused while one of those is out:
+    /// then these come back, and the stock stays as it was.
+    pub fn fill<R: Wait>(
+        &mut self,
+        rt: &R,
+        items: Vec<X, A>,
+    ) -> Result<Filled<X, K, A>, Filled<X, K, A>>
         requires { All (X.fits self.old.key) items.items }
-        ensures same { self.new ≡ record self.old { count = length items.items } }
-        ensures before { All (X.fits self.old.key) result.0.items }
-        ensures home { AreHome self.old (length items.items) result.1 }
+        ensures same { self.new ≡ record self.old { count = self.new.count } }
+        ensures count { MatchResult result (λ _. self.new.count ≡ length items.items) (λ _. self.new.count ≡ self.old.count) }
+        ensures fills { MatchResult result
+            (λ filled. AreAll (X.fits self.old.key) self.old filled.0.items × AreHome self.old (length items.items) filled.1)
+            (λ back. (back.0 ≡ items) × IsMissing self.old back.1) }
     {
         let (shelf, loan) = self.trail.take(rt);
+        // One that comes back later would not be counted.
+        let one_is_out = shelf.items.len() != self.count;
+        if one_is_out {
+            let sight = self.trail.put_back(shelf, loan);
+            return Err((items, sight));
+        }
         let Shelf {
             items: before,
             marker: _,
         } = shelf;
         self.count = items.len();
         let sight = self.trail.put_back(Shelf::of(items), loan);
-        (before, sight)
+        Ok((before, sight))
     }
 
     /// Takes a value out, if one is at home. Else it tells what was seen: none was there. It waits for the lock alone, which
@@ -110,8 +126,8 @@ impl<X: Stocked<K, M>, K, M, A: Allocator> Stock<X, K, M, A> {
         }
     }
 
-    /// Waits until there is room for one more on the shelf, and takes the shelf. There is room for all that were put in at
-    /// first, so it waits for the lock alone where the one was taken from here.
+    /// Waits until there is room for one more on the shelf, and takes the shelf. There is room for all that were put in,
+    /// so it waits for the lock alone where the one was taken from here.
     fn take_shelf<R: Wait>(&self, rt: &R) -> (Shelf<X, M, A>, Loan<Shelf<X, M, A>, K, usize>)
         ensures fits { All (X.fits self.now.key) result.0.items.items }
         ensures room { vec_len result.0.items < vec_capacity result.0.items }

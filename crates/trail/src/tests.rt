@@ -41,8 +41,7 @@ fn two<R: Wait + AllocGlobal>(rt: &R) -> Result<Evens<Global>, AllocError>
     let mut numbers = Vec::with_capacity(rt.alloc(), 2)?;
     numbers.push_reserved(Number { value: 2 });
     numbers.push_reserved(Number { value: 4 });
-    let (before, _sight) = stock.fill(rt, numbers);
-    drop(before);
+    let _ = stock.fill(rt, numbers); // none is out of a new stock
     Ok(stock)
 }
 
@@ -105,6 +104,30 @@ fn closed_in_vain(rt: HostRuntime) -> Result<(), Fail> {
     };
     stock.give(&rt, number, out);
     assert!(rt; stock.close(&rt).is_ok());
+    Ok(())
+}
+
+/// Would catch a stock that is filled again while one is out, which could then be closed without it, or never.
+#[test]
+fn filled_in_vain(rt: HostRuntime) -> Result<(), Fail> {
+    let mut stock = two(&rt)?;
+    let mut one = Vec::with_capacity(rt.alloc(), 1)?;
+    one.push_reserved(Number { value: 6 });
+    let Ok((number, out)) = stock.try_take(&rt) else {
+        panic!(rt; "two are at home");
+    };
+    let Err((one, _sight)) = stock.fill(&rt, one) else {
+        panic!(rt; "one is out");
+    };
+    stock.give(&rt, number, out);
+    let Ok((before, _sight)) = stock.fill(&rt, one) else {
+        panic!(rt; "all are at home");
+    };
+    assert_eq!(rt; before.len(), 2);
+    let Ok(numbers) = stock.close(&rt) else {
+        panic!(rt; "all are at home");
+    };
+    assert_eq!(rt; numbers.len(), 1);
     Ok(())
 }
 

@@ -1,6 +1,6 @@
 //! A domain at a glance, and how it is printed.
 ghost use Rattle.std.specs.Prelude.{◌≡◌};
-ghost use Rattle.domain.specs.Watching.{counters_of};
+ghost use Rattle.domain.specs.Watching.{counters_of, AreLent, IsGlanceAt};
 
 use super::{Counters, Counts, Pair};
 use sseq::{Index, Number, state};
@@ -27,6 +27,20 @@ pub struct Snapshot<A: Allocator = Global> {
     pub finished: u128,
 }
 
+impl<A: Allocator> Counters<A> {
+    /// The same counters as slices.
+    pub fn columns(&self) -> Columns<'_>
+        ensures { AreLent self.now result }
+    {
+        Columns {
+            unlocks: self.unlocks.as_slice(),
+            locks: self.locks.as_slice(),
+            ended: self.ended,
+            begun: self.begun,
+        }
+    }
+}
+
 impl<A: Allocator> Snapshot<A> {
     /// The counters of an index.
     pub fn of(&self, index: Index) -> &Counters<A>
@@ -35,6 +49,102 @@ impl<A: Allocator> Snapshot<A> {
         match index {
             Index::Zero => &self.zero,
             Index::One => &self.one,
+        }
+    }
+
+    /// The same words, with the counters as slices.
+    pub fn glance(&self) -> Glance<'_>
+        ensures { IsGlanceAt self.now result }
+    {
+        Glance {
+            number: self.number,
+            index: self.index,
+            need: self.need,
+            zero: self.zero.columns(),
+            one: self.one.columns(),
+            queued: self.queued,
+            finished: self.finished,
+        }
+    }
+
+    /// The four counters of a processor. None where the domain has no such processor.
+    pub fn row(&self, processor: usize) -> Option<Counts> {
+        self.glance().row(processor)
+    }
+
+    /// The same with every word, in columns.
+    pub fn table(&self) -> Table<'_> {
+        self.glance().table()
+    }
+}
+
+/// As a [`Glance`] prints itself.
+impl<A: Allocator> fmt::Display for Snapshot<A> {
+    fn fmt<W: fmt::Write>(&self, f: &mut fmt::Formatter<W>) -> fmt::Result {
+        write!(f, "{}", self.glance())
+    }
+}
+
+/// The counters of one index on all processors, in the order of the processors, as slices.
+#[derive(Clone, Copy)]
+pub struct Columns<'s> {
+    /// How many sections of the index have ended on each, wherever they were begun.
+    pub unlocks: &'s [u64],
+    /// How many sections of the index were begun on each.
+    pub locks: &'s [u64],
+    /// The sum of the unlocks, at most 2^60.
+    pub ended: u64,
+    /// The sum of the locks, at most 2^60, and no less than that of the unlocks.
+    pub begun: u64,
+}
+
+impl Columns<'_> {
+    /// The two counters of a processor. None where the domain has no such processor.
+    pub fn pair(&self, processor: usize) -> Option<Pair> {
+        Some(Pair {
+            locks: *self.locks.get(processor)?,
+            unlocks: *self.unlocks.get(processor)?,
+        })
+    }
+
+    /// The two sums.
+    pub fn sums(&self) -> Pair
+        ensures locks { result.locks ≡ self.now.begun }
+        ensures unlocks { result.unlocks ≡ self.now.ended }
+    {
+        Pair {
+            locks: self.begun,
+            unlocks: self.ended,
+        }
+    }
+}
+
+/// A snapshot whose counters are slices, so that it can be copied. It prints itself with a line for each processor;
+/// [`Glance::table`] prints every word.
+#[derive(Clone, Copy)]
+pub struct Glance<'s> {
+    /// The number of the domain, which tells the phase too.
+    pub number: Number,
+    /// The index that new sections get.
+    pub index: Index,
+    /// The greatest number that is asked for.
+    pub need: Number,
+    /// The counters of index 0.
+    pub zero: Columns<'s>,
+    /// The counters of index 1.
+    pub one: Columns<'s>,
+    /// How many callbacks were ever queued, on all processors.
+    pub queued: u128,
+    /// How many of them are finished. These words were loaded after those of the queued, so they may be ahead.
+    pub finished: u128,
+}
+
+impl<'s> Glance<'s> {
+    /// The counters of an index.
+    pub fn of(&self, index: Index) -> Columns<'s> {
+        match index {
+            Index::Zero => self.zero,
+            Index::One => self.one,
         }
     }
 
@@ -47,21 +157,30 @@ impl<A: Allocator> Snapshot<A> {
     }
 
     /// The same with every word, in columns.
-    pub fn table(&self) -> Table<'_, A> {
-        Table { snapshot: self }
+    pub fn table(&self) -> Table<'s> {
+        let glance = Glance {
+            number: self.number,
+            index: self.index,
+            need: self.need,
+            zero: self.zero,
+            one: self.one,
+            queued: self.queued,
+            finished: self.finished,
+        };
+        Table { glance }
     }
 
     /// The first line, which both forms share.
     fn head<W: fmt::Write>(&self, f: &mut fmt::Formatter<W>) -> fmt::Result {
-        let Snapshot {
+        let Glance {
             number,
             index,
             need,
             queued,
             finished,
             ..
-        } = self;
-        let phase = state(*number);
+        } = *self;
+        let phase = state(number);
         writeln!(
             f,
             "number {number} {phase}, index {index}, need {need}, queued {queued}, finished {finished}"
@@ -70,7 +189,7 @@ impl<A: Allocator> Snapshot<A> {
 }
 
 /// A line for the domain, one for each processor, and the sums. `-3 +3` is what index 0 and index 1 have open on balance.
-impl<A: Allocator> fmt::Display for Snapshot<A> {
+impl fmt::Display for Glance<'_> {
     fn fmt<W: fmt::Write>(&self, f: &mut fmt::Formatter<W>) -> fmt::Result {
         self.head(f)?;
         for processor in 0..self.zero.locks.len() {
@@ -82,10 +201,10 @@ impl<A: Allocator> fmt::Display for Snapshot<A> {
     }
 }
 
-/// What [`Snapshot::table`] prints: a row for each processor, with its four counters and what is open on balance.
+/// What [`Glance::table`] prints: a row for each processor, with its four counters and what is open on balance.
 #[derive(Clone, Copy)]
-pub struct Table<'a, A: Allocator = Global> {
-    snapshot: &'a Snapshot<A>,
+pub struct Table<'s> {
+    glance: Glance<'s>,
 }
 
 /// A row of the table, under this name.
@@ -98,21 +217,21 @@ fn write_row<W: fmt::Write>(f: &mut fmt::Formatter<W>, counts: Counts) -> fmt::R
     )
 }
 
-impl<A: Allocator> fmt::Display for Table<'_, A> {
+impl fmt::Display for Table<'_> {
     fn fmt<W: fmt::Write>(&self, f: &mut fmt::Formatter<W>) -> fmt::Result {
-        let Table { snapshot } = self;
-        snapshot.head(f)?;
+        let Table { glance } = self;
+        glance.head(f)?;
         f.write_str("processor    unlocks 0      locks 0    unlocks 1      locks 1 open")?;
-        for processor in 0..snapshot.zero.locks.len() {
-            if let Some(counts) = snapshot.row(processor) {
+        for processor in 0..glance.zero.locks.len() {
+            if let Some(counts) = glance.row(processor) {
                 write!(f, "\n{processor:>9}")?;
                 write_row(f, counts)?;
             }
         }
         f.write_str("\n      all")?;
         let all = Counts {
-            zero: snapshot.zero.sums(),
-            one: snapshot.one.sums(),
+            zero: glance.zero.sums(),
+            one: glance.one.sums(),
         };
         write_row(f, all)
     }

@@ -56,15 +56,22 @@ impl<'a, J: Drop, A: Allocator + Copy> Pool<'a, J, A> {
         })
     }
 
-    /// Puts these processors in, on each of which no reading is open, and counts them. Those that were at home come out: none
-    /// of a new pool.
-    pub fn fill<R: Wait>(&mut self, rt: &R, cpus: Vec<Cpu<J, A>, A>) -> Vec<Cpu<J, A>, A>
+    /// Puts these processors in, on each of which no reading is open, and counts them. All that were put in before come out:
+    /// none of a new pool. It is refused while one of those is out: then these come back, and the pool stays as it was.
+    pub fn fill<R: Wait>(
+        &mut self,
+        rt: &R,
+        cpus: Vec<Cpu<J, A>, A>,
+    ) -> Result<Vec<Cpu<J, A>, A>, (Vec<Cpu<J, A>, A>, AtHome<J, A>)>
         requires { All (IsIdle self.old.domain) cpus.items }
-        ensures count { self.new ≡ record self.old { count = length cpus.items } }
-        ensures before { All (IsIdle self.old.domain) result.items }
+        ensures same { self.new ≡ record self.old { count = self.new.count } }
+        ensures count { MatchResult result (λ _. self.new.count ≡ length cpus.items) (λ _. self.new.count ≡ self.old.count) }
+        ensures fills { MatchResult result
+            (λ before. AreAllHome self.old before.items)
+            (λ back. (back.0 ≡ cpus) × OneIsOut self.old back.1) }
     {
-        let (before, _home) = self.stock.fill(rt, cpus);
-        before
+        let (before, _home) = self.stock.fill(rt, cpus)?;
+        Ok(before)
     }
 
     /// Takes a processor out, if one is at home. Else all are out, and it tells at which moment. It waits for the lock alone,

@@ -6,8 +6,7 @@ ghost use Rattle.driver.specs.Pools.{IsIdle};
 use super::sharing::look_for;
 use super::{LIMITS, made, pool_of, queue, sign_of};
 use domain::{Cpu, Domain, Limits, MakeError, PeriodsExhausted};
-use driver::{Listener, Report, Served, Stall, Stop, Tallied, Tally, barrier, serve, serve_with};
-use std::alloc::Global;
+use driver::{Report, Served, Stall, Stop, Tallied, Tally, serve, serve_until, serve_with};
 use std::sync::Wait;
 use std::sync::atomic::AtomicU64;
 use std::sync::atomic::Ordering::SeqCst;
@@ -38,8 +37,28 @@ fn closed_in_vain(rt: HostRuntime) -> Result<(), Fail> {
 fn filled_again(rt: HostRuntime) -> Result<(), Fail> {
     let (domain, cpus) = made(rt.alloc(), 2)?;
     let mut pool = pool_of(&rt, &domain, cpus)?;
-    let before = pool.fill(&rt, Vec::new(rt.alloc()));
+    let Ok(before) = pool.fill(&rt, Vec::new(rt.alloc())) else {
+        panic!(rt; "all are at home");
+    };
     assert_eq!(rt; before.len(), 2);
+    Ok(())
+}
+
+/// Would catch a pool that is filled again while a processor is out: it could not be closed once that one is back.
+#[test]
+fn filled_in_vain(rt: HostRuntime) -> Result<(), Fail> {
+    let (domain, cpus) = made(rt.alloc(), 2)?;
+    let mut pool = pool_of(&rt, &domain, cpus)?;
+    let lent = pool.take(&rt);
+    let Err((none, _home)) = pool.fill(&rt, Vec::new(rt.alloc())) else {
+        panic!(rt; "one is out");
+    };
+    pool.give(&rt, lent);
+    assert_eq!(rt; none.len(), 0);
+    let Ok(cpus) = pool.close(&rt) else {
+        panic!(rt; "all are at home");
+    };
+    assert_eq!(rt; cpus.len(), 2);
     Ok(())
 }
 
@@ -54,13 +73,6 @@ fn looked_at_after_they_agree(rt: HostRuntime) -> Result<(), Fail> {
     let (given, _told) = stop.is_given(&rt);
     assert!(rt; given);
     Ok(())
-}
-
-#[derive(Drop)]
-struct Deaf;
-
-impl Listener<Global> for Deaf {
-    fn hear(&mut self, _stall: Stall<Global>) {}
 }
 
 fn tally_nine<R: Wait + Clock + AllocGlobal>(rt: &R) -> Result<Option<Tallied>, MakeError> {
@@ -78,7 +90,7 @@ fn tally_nine<R: Wait + Clock + AllocGlobal>(rt: &R) -> Result<Option<Tallied>, 
         alloc: rt.alloc(),
         cpu: watcher,
         after: Duration::from_secs(100),
-        listener: Deaf,
+        hear: |_stall: Stall<'_>| {},
         delay: None,
     };
     let served = serve_with(rt, &domain, &mut cpu, &stop, |_job: u64| {}, &mut report);
@@ -117,12 +129,12 @@ fn wait_for_second<R: Wait + AllocGlobal>(
         let Ok(ticket) = domain.barrier_start(&mut cpu) else {
             return Ok(None);
         };
-        last = Some(barrier(rt, &domain, &mut cpu, &ticket, |_job: u64| {}));
+        last = Some(serve_until(rt, &domain, &mut cpu, &ticket, |_job: u64| {}));
     }
     Ok(last)
 }
 
-/// Would catch a barrier that waits for ever where no more periods may start.
+/// Would catch a driver that serves for ever where no more periods may start.
 #[test]
 fn gives_up_where_periods_are_used_up(rt: HostRuntime) -> Result<(), Fail> {
     let Some(Err((served, PeriodsExhausted))) = wait_for_second(&rt)? else {

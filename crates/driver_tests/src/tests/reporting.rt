@@ -1,11 +1,11 @@
-//! A driver with a report: of a section that sleeps, and of none.
+//! A driver with a report: of a section that sleeps, of none, and of two periods.
 ghost use Rattle.std.specs.Prelude.{◌≡◌, IfOk};
 ghost use Rattle.driver.specs.Pools.{IsIdle};
 
 use super::sharing::{LOOKS, look_for};
 use super::{made, sign_of};
-use domain::{Cpu, Domain, Index, MakeError, Pair};
-use driver::{Listener, Report, Stall, Stop, Tallied, Tally, serve_with};
+use domain::{Cpu, Domain, Index, MakeError, Pair, Progress};
+use driver::{Report, Stall, Stop, Tallied, Tally, serve_with};
 use std::alloc::Global;
 use std::sync::Wait;
 use std::sync::atomic::AtomicU64;
@@ -29,8 +29,22 @@ struct Signs {
     reports: AtomicU64,
     /// Of these, how many had one open section, on processor 0 with index 0.
     named: AtomicU64,
+    /// 1 from when the driver may go on after a report.
+    free: AtomicU64,
     /// What the driver has come to.
     tally: Tally,
+}
+
+impl Signs {
+    fn new(free: u64) -> Signs {
+        Signs {
+            opened: AtomicU64::new(0),
+            reports: AtomicU64::new(0),
+            named: AtomicU64::new(0),
+            free: AtomicU64::new(free),
+            tally: Tally::new(),
+        }
+    }
 }
 
 /// Looks until a driver's tally has a grace period, which it adds while it runs. Answers whether it came to that.
@@ -69,23 +83,12 @@ fn sleep_in_section<R: Wait + Clock>(
 }
 
 /// Notes what a report says.
-#[derive(Drop)]
-struct Notes<'a> {
-    signs: &'a Signs,
-}
-
-impl<'a> Listener<Global> for Notes<'a> {
-    fn hear(&mut self, stall: Stall<Global>) {
-        note(self.signs, stall);
-    }
-}
-
-fn note(signs: &Signs, stall: Stall<Global>) {
+fn note(signs: &Signs, stall: Stall<'_>) {
     signs.reports.fetch_add(1, SeqCst);
     let Stall {
         waited,
         index,
-        snapshot,
+        glance,
     } = stall;
     let open = Pair {
         locks: 1,
@@ -95,8 +98,8 @@ fn note(signs: &Signs, stall: Stall<Global>) {
         locks: 0,
         unlocks: 0,
     };
-    if (snapshot.zero.sums(), snapshot.one.sums()) == (open, none)
-        && snapshot.zero.pair(0) == Some(open)
+    if (glance.zero.sums(), glance.one.sums()) == (open, none)
+        && glance.zero.pair(0) == Some(open)
         && index == Index::Zero
         && waited >= Duration::from_millis(AFTER)
     {
@@ -125,7 +128,10 @@ fn drive_with_report<R: Wait + Clock + AllocGlobal>(
         alloc: rt.alloc(),
         cpu: watcher,
         after,
-        listener: Notes { signs },
+        hear: |stall: Stall<'_>| {
+            note(signs, stall);
+            look_for(rt, &signs.free, 1);
+        },
         delay: None,
     };
     let opened = look_for(rt, &signs.opened, 1);
@@ -134,15 +140,17 @@ fn drive_with_report<R: Wait + Clock + AllocGlobal>(
     (opened && served.is_ok(), signs.tally.read())
 }
 
-/// A new domain and its three processors.
-fn three(alloc: Global) -> Result<(Domain<u64>, Cpu<u64>, Cpu<u64>, Cpu<u64>), MakeError>
-    ensures { IfOk result (λ r. IsIdle r.0 r.1 × IsIdle r.0 r.2 × IsIdle r.0 r.3) }
+/// A new domain and its four processors.
+fn four(alloc: Global) -> Result<(Domain<u64>, Cpu<u64>, Cpu<u64>, (Cpu<u64>, Cpu<u64>)), MakeError>
+    ensures first { IfOk result (λ r. IsIdle r.0 r.1 × IsIdle r.0 r.2) }
+    ensures rest { IfOk result (λ r. IsIdle r.0 r.3.0 × IsIdle r.0 r.3.1) }
 {
-    let (domain, mut cpus) = made(alloc, 3)?;
+    let (domain, mut cpus) = made(alloc, 4)?;
+    let fourth = cpus.pop().unwrap();
     let third = cpus.pop().unwrap();
     let second = cpus.pop().unwrap();
     let first = cpus.pop().unwrap();
-    Ok((domain, first, second, third))
+    Ok((domain, first, second, (third, fourth)))
 }
 
 /// What a driver told and tallied, beside a section that sleeps until there were so many reports.
@@ -153,14 +161,9 @@ fn drive_beside_a_section<R: Wait + Clock + Threads + AllocGlobal + Sync>(
     after: Duration,
     reports: u64,
 ) -> Result<Told, MakeError> {
-    let (domain, reader, driver, watcher) = three(rt.alloc())?;
+    let (domain, reader, driver, (watcher, _other)) = four(rt.alloc())?;
     let stop = sign_of(rt, &domain)?;
-    let signs = Signs {
-        opened: AtomicU64::new(0),
-        reports: AtomicU64::new(0),
-        named: AtomicU64::new(0),
-        tally: Tally::new(),
-    };
+    let signs = Signs::new(1);
     let ((ended, tallied), seen) = join(
         rt,
         || drive_with_report(rt, &domain, driver, watcher, &stop, &signs, after),
@@ -195,5 +198,65 @@ fn reports_none_before_its_time(rt: HostRuntime) -> Result<(), Fail> {
     )?;
     assert_eq!(rt; (ended, reports, named), (true, 0, 0));
     assert_eq!(rt; (tallied.periods, tallied.jobs, tallied.batches), (1, 0, 0));
+    Ok(())
+}
+
+/// Closes its section after the first report, ends the period, and has a second one wait for another section, all before the
+/// driver goes on. Closes that one after the second report. Answers whether it came to all of that.
+fn sleep_in_two_periods<R: Wait + Clock>(
+    rt: &R,
+    domain: &Domain<u64>,
+    mut reader: Cpu<u64>,
+    mut other: Cpu<u64>,
+    stop: &Stop<u64>,
+    signs: &Signs,
+) -> bool
+    requires other { IsIdle domain.now other }
+    requires stop { stop.now.domain ≡ domain.now }
+{
+    let first = reader.read_lock();
+    signs.opened.store(1, SeqCst);
+    let heard = look_for(rt, &signs.reports, 1);
+    if let Ok(section) = first {
+        reader.read_unlock(section);
+    }
+    let ended = domain.drive(&mut other);
+    let second = reader.read_lock();
+    domain.start_poll(&mut other);
+    let waiting = domain.drive(&mut other);
+    signs.free.store(1, SeqCst);
+    let again = look_for(rt, &signs.reports, 2);
+    if let Ok(section) = second {
+        reader.read_unlock(section);
+    }
+    stop.give_alone(rt, domain);
+    let two = matches!(
+        (ended, waiting),
+        (Ok(Progress::Ended(_)), Ok(Progress::Waiting(_)))
+    );
+    heard && two && again
+}
+
+/// What a driver with a report came to beside that, and how many reports there were.
+fn drive_beside_two_periods<R: Wait + Clock + Threads + AllocGlobal + Sync>(
+    rt: &R,
+) -> Result<(bool, u64), MakeError> {
+    let (domain, reader, driver, (watcher, other)) = four(rt.alloc())?;
+    let stop = sign_of(rt, &domain)?;
+    let signs = Signs::new(0);
+    let after = Duration::from_millis(AFTER);
+    let ((ended, _tallied), seen) = join(
+        rt,
+        || drive_with_report(rt, &domain, driver, watcher, &stop, &signs, after),
+        || sleep_in_two_periods(rt, &domain, reader, other, &stop, &signs),
+    );
+    Ok((ended && seen, signs.reports.load(SeqCst)))
+}
+
+/// Would catch a delay that is taken over from another period, which another driver ended meanwhile: it would be reported
+/// already.
+#[test]
+fn reports_each_of_two_periods(rt: HostRuntime) -> Result<(), Fail> {
+    assert_eq!(rt; drive_beside_two_periods(&rt)?, (true, 2));
     Ok(())
 }

@@ -104,7 +104,7 @@ fn serve_in<R: Wait>(rt: &R, heap: &Heap, nth: u64) -> Result<Option<(bool, u64)
     let (Ok(mut pool), Ok(stop)) = (pool_of(heap, &domain), sign_of(heap, &domain)) else {
         return Ok(None);
     };
-    pool.fill(rt, cpus);
+    let _ = pool.fill(rt, cpus); // none is out of a new pool
     let Lent { mut cpu, slip } = pool.take(rt);
     let came = drive(rt, &domain, &mut cpu, &stop);
     pool.give(rt, Lent { cpu, slip });

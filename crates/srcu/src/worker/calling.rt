@@ -15,8 +15,8 @@ use std::alloc::Allocator;
 use std::sync::Wait;
 
 impl<'a, J: Drop, A: Allocator + Copy> Worker<'a, J, A> {
-    /// Queues a job (`call_srcu`). It is ready once no section is open that is open now, and `serve`, `barrier` or `take_ready`
-    /// runs it. Where it is refused, the job comes back.
+    /// Queues a job (`call_srcu`). It is ready once no section is open that is open now, and `serve`, `serve_until` or
+    /// `take_ready` runs it. Where it is refused, the job comes back.
     pub fn call<R: Wait>(&mut self, rt: &R, job: J) -> Result<Receipt<J>, (J, CallRefusal)>
         ensures same { IsSameWorker self.old self.new }
         ensures processor { IsSameProcessor self.old.cpu self.new.cpu }
@@ -41,9 +41,9 @@ impl<'a, J: Drop, A: Allocator + Copy> Worker<'a, J, A> {
         self.domain.barrier_start(&mut self.cpu)
     }
 
-    /// Waits until the ticket's jobs are finished (the second half of `srcu_barrier`), and drives and runs jobs meanwhile,
-    /// each by `work`. It returns early, with what it did so far, where no more grace periods may start.
-    pub fn barrier<R: Wait, F: FnMut(J)>(
+    /// Drives grace periods and runs each job by `work`, until the ticket's jobs are finished (the second half of
+    /// `srcu_barrier`). It returns early, with what it did so far, where no more grace periods may start.
+    pub fn serve_until<R: Wait, F: FnMut(J)>(
         &mut self,
         rt: &R,
         ticket: &Ticket<J, A>,
@@ -59,6 +59,6 @@ impl<'a, J: Drop, A: Allocator + Copy> Worker<'a, J, A> {
         ensures vain { IfErr result (λ ended. (last : F) × EndsInVain (λ p x q. F.step p x tt q) self.old.domain work self.old.cpu ended.0 last self.new.cpu) }
         ensures done { IfOk result (λ _. IsDone ticket.now self.new.cpu.calls.seen × AreFinished ticket.now self.new.cpu.calls.seen) }
     {
-        driver::barrier(rt, self.domain, &mut self.cpu, ticket, work)
+        driver::serve_until(rt, self.domain, &mut self.cpu, ticket, work)
     }
 }

@@ -48,7 +48,7 @@ impl<'a, J: Drop, A: Allocator + Copy> Worker<'a, J, A> {
         ensures rest { self.new.cpu ≡ with_calls self.new.cpu.calls self.old.cpu }
         ensures gives { MatchResult result
             (λ told. Gives stop.now self.old.cpu told self.new.cpu)
-            (λ refusal. IsRefusedBy stop.now refusal) }
+            (λ refusal. IsRefusedBy stop.now self.old.cpu refusal self.new.cpu) }
     {
         stop.give(rt, self.domain, &mut self.cpu)
     }

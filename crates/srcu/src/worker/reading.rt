@@ -44,7 +44,7 @@ impl<'a, J, A: Allocator> Worker<'a, J, A> {
         ensures same { IsSameWorker self.old self.new }
         ensures reads { MatchResult result
             (λ value. ReadsOnce T.value values.now self.old.cpu value self.new.cpu)
-            (λ _. LooksInVain self.old.cpu.cpu self.new.cpu.cpu) }
+            (λ _. works.IsRefused self.old.cpu self.new.cpu) }
     {
         let mut reading = self.cpu.read_lock()?;
         let value = values.read(&mut self.cpu, &mut reading);

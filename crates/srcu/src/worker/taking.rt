@@ -86,7 +86,7 @@ impl<'a, J, A: Allocator> Worker<'a, J, A> {
     }
 
     /// Waits until the ticket's jobs are finished, for so long at most. Other threads drive and run them: this call only polls,
-    /// where [`Worker::barrier`] works.
+    /// where [`Worker::serve_until`] works.
     pub fn barrier_for<R: Wait + Clock>(
         &mut self,
         rt: &R,

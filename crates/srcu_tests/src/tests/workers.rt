@@ -19,7 +19,7 @@ fn work<R: Wait>(rt: &R, worker: &mut Worker<'_, u64>) -> Result<Worked, Refusal
     worker.call(rt, 3)?;
     let ticket = worker.barrier_start()?;
     let mut digits: u64 = 0;
-    let served = worker.barrier(rt, &ticket, |job: u64| {
+    let served = worker.serve_until(rt, &ticket, |job: u64| {
         digits = digits.wrapping_mul(10).wrapping_add(job);
     })?;
     let mut cookie = worker.start_poll();

@@ -7,12 +7,12 @@ use Rattle.driver.proofs.Rows.{none_taken, same_taken, as_many, at_most_eight}
 use Rattle.driver.proofs.serving.look_after.Goals as goal
 
 pub take_ready-requires : goal.take_ready-requires
-take_ready-requires g c = (c.fits.ensures c.if-not-fits.false, (c.requires.here, c.requires.processor))
+take_ready-requires g c = (c.know_that_batches_fit.ensures, (c.requires.here, c.requires.processor))
 
 pub run_batch-requires : goal.run_batch-requires
 run_batch-requires g c =
     let of = rw c.in-Ok-Some.field-0-is at c.in-Ok-Some.ensures.batch in
-    (c.fits.ensures c.if-not-fits.false, (c.take_ready.ensures.here, (record { tallies = of.0; there = subst (λ n. n < c.args.domain.now.processors) (sym of.1) c.requires.processor }, c.requires.work)))
+    (c.know_that_batches_fit.ensures, (c.take_ready.ensures.here, (record { tallies = of.0; there = subst (λ n. n < c.args.domain.now.processors) (sym of.1) c.requires.processor }, c.requires.work)))
 
 pub returns-in-Ok-Some-clause-none : goal.returns-in-Ok-Some-clause-none
 returns-in-Ok-Some-clause-none g c = none_at_tallies c.take_ready.new.cpu c.run_batch.new.cpu (none_taken c.args.domain.now c.args.processor c.args.cpu.now c.take_ready.new.cpu c.in-Ok-Some.field-0 c.in-Ok-Some.ensures.takes c.requires.none) c.run_batch.ensures.runs.rest
@@ -43,7 +43,7 @@ returns-in-Ok-Some-clause-few g c =
     omega (arith, few, is)
 
 pub count-count-requires : goal.count-count-requires
-count-count-requires g c = c.fits.ensures c.if-not-fits.false
+count-count-requires g c = c.know_that_batches_fit.ensures
 
 pub returns-in-Ok-None-clause-none : goal.returns-in-Ok-None-clause-none
 returns-in-Ok-None-clause-none g c = none_taken c.args.domain.now c.args.processor c.args.cpu.now c.take_ready.new.cpu c.in-Ok-None.field-0 c.in-Ok-None.ensures.takes c.requires.none

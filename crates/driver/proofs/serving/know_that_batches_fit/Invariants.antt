@@ -1,4 +1,4 @@
-use Rattle.driver.proofs.serving.look_after.Given as goal
+use Rattle.driver.proofs.serving.know_that_batches_fit.Given as goal
 
 abbrev pub invariant-loop : goal.invariant-loop
 invariant-loop g l = Unit {0}

@@ -1,6 +1,6 @@
 use Rattle.std.proofs.Common.{refl}
 use Rattle.domain.proofs.CallerLemmas.{none_still, same_plain}
-use Rattle.driver.proofs.report.glance.Goals as goal
+use Rattle.driver.proofs.report.snapshot.Goals as goal
 
 pub returns-in-Ok : goal.returns-in-Ok
 returns-in-Ok g c = record {

@@ -1,8 +1,0 @@
--- The driver worked on the processor of this worker.
-use Rattle.srcu.proofs.worker.Worker.barrier.Goals as goal
-
-pub returns-clause-works : goal.returns-clause-works
-returns-clause-works g c = rw (← c.self.view_is) c.barrier.ensures.works
-
-pub returns-clause-vain : goal.returns-clause-vain
-returns-clause-vain g c = rw (← c.self.view_is) c.barrier.ensures.vain
