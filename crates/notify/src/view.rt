@@ -33,11 +33,6 @@ impl Model for ChainView {
     ghost invariant = { λ v. v.ids ≤ 2 ^ 32 };
 }
 
-// It owns nothing. The check makes no lemma for what has a `Snapshot`: `TheSendSync` in proofs shows both.
-unsafe impl Send for ChainView {}
-
-unsafe impl Sync for ChainView {}
-
 impl ChainView {
     pub(crate) fn of_writer(writer: &Writer, ids: u64) -> ChainView
         requires { ids ≤ 2 ^ 32 }

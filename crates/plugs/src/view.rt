@@ -33,11 +33,6 @@ impl Model for TableView {
     ghost view = { cell_of_view };
 }
 
-// It owns nothing. The check makes no lemma for what has a `Snapshot`: `TheSendSync` in proofs shows both.
-unsafe impl Send for TableView {}
-
-unsafe impl Sync for TableView {}
-
 impl TableView {
     pub(crate) fn of_writer(writer: &Writer) -> TableView
         ensures { result ≡ cell_of writer.now }

@@ -31,11 +31,6 @@ impl<T> Model for Values<T> {
     ghost view = { view_of_values };
 }
 
-// It owns nothing. The check makes no lemma for what has a `Snapshot`: `TheSendSync` in proofs shows both.
-unsafe impl<T> Send for Values<T> {}
-
-unsafe impl<T> Sync for Values<T> {}
-
 impl<T: Versioned> Values<T> {
     pub(crate) fn of_writer(writer: &Writer) -> Values<T>
         ensures { result ≡ cell_of writer.now }
