@@ -34,7 +34,7 @@ pub struct Control<'a> {
     pub chain: Chain,
     pub hears: ChainView,
     ghost all_here: { (rules.writer.domain ≡ worker.domain.domain) × (policy.domain ≡ worker.domain.domain) × (chain.writer.domain ≡ worker.domain.domain) },
-    ghost both: { (chain.ids ≡ 2) × (hears.ids ≡ 2) × IsCellOf worker.domain hears.cell },
+    ghost both: { (chain.ids ≡ 2) × (hears.ids ≡ 2) × IsCellOf worker.domain hears.place },
 }
 
 impl<'a> Control<'a> {
@@ -52,7 +52,12 @@ impl<'a> Control<'a> {
     }
 
     /// Gives a port this verdict, and tells the subscribers. Returns how many were told.
-    pub fn set_rule(&mut self, all: &[Box<dyn Handler>], port: u32, verdict: u32) -> Result<u64, Refusal>
+    pub fn set_rule(
+        &mut self,
+        all: &[Box<dyn Handler>],
+        port: u32,
+        verdict: u32,
+    ) -> Result<u64, Refusal>
         requires { length all.now ≡ 2 }
         ensures { self.new.worker.domain ≡ self.old.worker.domain }
     {

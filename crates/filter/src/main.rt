@@ -41,7 +41,10 @@ fn filter(worker: &mut Worker<'_, u64>, shared: &Shared) -> Result<u32, Refusal>
 }
 
 /// Filters by the old rules, leases them, and filters by the new ones. The lease comes between the two counts.
-fn filter_twice(worker: &mut Worker<'_, u64>, shared: &Shared) -> Result<(u32, Lease, Result<u32, Refusal>), Refusal>
+fn filter_twice(
+    worker: &mut Worker<'_, u64>,
+    shared: &Shared,
+) -> Result<(u32, Lease, Result<u32, Refusal>), Refusal>
     requires { worker.old.domain ≡ shared.now.stop.domain }
     ensures worker { worker.new.domain ≡ worker.old.domain }
     ensures lease { IfOk result (λ r. r.1.held.domain ≡ worker.old.domain.domain) }
@@ -151,9 +154,7 @@ fn equip<'a>(
     let worker = team.worker().ok_or(Refusal::NoWorker)?;
     let (rules, rules_read) = Table::new(team.writer().ok_or(Refusal::NoWriter)?);
     let (policy, policy_read) = Shelf::new(team.writer().ok_or(Refusal::NoWriter)?);
-    let writer = team.writer().ok_or(Refusal::NoWriter)?;
-    let cell = writer.cell();
-    let (chain, hears) = Chain::new(writer, cell, 2);
+    let (chain, hears) = Chain::new(team.writer().ok_or(Refusal::NoWriter)?, 2);
     let shared = Shared {
         rules: rules_read,
         policy: policy_read,

@@ -15,11 +15,11 @@ known_ids ids n words blocks le (inl t) k d lt = let low = t.chain.known k d lt 
 known_ids ids n words blocks le (inr none) k d lt = let e = ap length none.none_read in absurd (omega (arith, lt, e))
 
 module _ {J : Type 0} (v : ChainCell) (r : ReadingView) (c begun behind c' : CpuView J) (words : List ℕ) (blocks : List Block) where
-  reads_as : FindsWords v.cell r begun behind words → AreRead v.ids words blocks → Reads v r begun behind blocks
+  reads_as : FindsWords v.place.cell r begun behind words → AreRead v.ids words blocks → Reads v r begun behind blocks
   reads_as h read = record { found = h.found; between = h.between; finds = h.finds; pinned = h.pinned; only = h.only; acts = h.acts; words = words; loads = h.loads; read = read }
 
   -- the section began, found the words, and ended
-  pub reads_once : ReadLocks c.cpu begun.cpu r → begun ≡ with_cpu begun.cpu c → ActsAs (begins r.section r.index) c begun → FindsWords v.cell r begun behind words → AreRead v.ids words blocks
+  pub reads_once : ReadLocks c.cpu begun.cpu r → begun ≡ with_cpu begun.cpu c → ActsAs (begins r.section r.index) c begun → FindsWords v.place.cell r begun behind words → AreRead v.ids words blocks
       → (left : ReadingView) → left ≡ r → Unlocks left behind.cpu c'.cpu → c' ≡ with_cpu c'.cpu behind → ActsAs (ends left.section) behind c' → ReadsOnce v c c' blocks
   reads_once locks only acts finds read left same unlocks rest closes = record {
     reading = r;

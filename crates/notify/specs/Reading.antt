@@ -27,10 +27,10 @@ module _ {J : Type 0} where
   pub record Reads (v : ChainCell) (r : ReadingView) (c c' : CpuView J) (blocks : List Block) : Type 0 where
     pub found : FoundView
     pub between : CpuView J
-    pub finds : Finds v.cell r c.cpu between.cpu found
+    pub finds : Finds v.place.cell r c.cpu between.cpu found
     pub pinned : IsPinned r found
     pub only : between ≡ with_cpu between.cpu c
-    pub acts : ActsAs (doing.finds r.section v.cell found) c between
+    pub acts : ActsAs (doing.finds r.section v.place.cell found) c between
     pub words : List ℕ
     pub loads : LoadsAll r found words between c'
     pub read : AreRead v.ids words blocks

@@ -2,6 +2,7 @@
 ghost use Rattle.std.specs.Prelude.{◌≡◌, ◌^◌, ◌<◌, ◌≤◌, [], MatchResult, IfOk};
 ghost use Rattle.sections.specs.Shelves.{words_of};
 ghost use Rattle.domain.specs.Views.{IsOf};
+ghost use Rattle.shelf.specs.Cells.{cell_of};
 ghost use Rattle.notify.specs.Changes.{IsSameChain, Registers, RefusesRegister, Unregisters, RefusesUnregister};
 ghost use Rattle.notify.specs.Blocks.{IsTextOf};
 
@@ -39,18 +40,25 @@ impl Model for Chain {
 impl Chain {
     /// A chain with no blocks, in a cell to which nothing is put. Blocks have ids below `ids`: where a handler stands
     /// among those that are lent to a call.
-    pub fn new(writer: Writer, cell: usize, ids: u64) -> (Chain, ChainView)
-        requires cell { cell ≡ writer.cell }
-        requires ids { ids ≤ 2 ^ 32 }
+    pub fn new(writer: Writer, ids: u64) -> (Chain, ChainView)
+        requires { ids ≤ 2 ^ 32 }
         ensures chain { result.0 ≡ record { writer = writer; ids = ids; blocks = [] } }
-        ensures view { result.1 ≡ record { cell = cell; ids = ids } }
+        ensures view { result.1 ≡ record { place = cell_of writer; ids = ids } }
     {
         let chain = Chain {
             writer,
             ids,
             blocks: Blocks::new(),
         };
-        (chain, ChainView::of_cell(cell, ids))
+        let view = chain.view();
+        (chain, view)
+    }
+
+    /// What reads the chain, once more.
+    pub fn view(&self) -> ChainView
+        ensures { result ≡ record { place = cell_of self.now.writer; ids = self.now.ids } }
+    {
+        ChainView::of_writer(&self.writer, self.ids)
     }
 
     /// Registers a block (`srcu_notifier_chain_register`): it is called behind those of higher priority and of its own,

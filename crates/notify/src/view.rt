@@ -1,21 +1,24 @@
 //! Who reads a chain, and calls its handlers.
-ghost use Rattle.std.specs.Prelude.{◌≡◌, ◌^◌, ◌<◌, ◌≤◌, length, MatchResult};
-ghost use Rattle.sections.specs.Words.{cells_in};
+ghost use Rattle.std.specs.Prelude.{◌≡◌, ◌^◌, ◌≤◌, length, MatchResult};
 ghost use Rattle.domain.specs.Views.{Stays};
+ghost use Rattle.shelf.specs.Cells.{IsCellIn, cell_of};
 ghost use Rattle.notify.specs.Calling.{GivesAt};
 ghost use Rattle.notify.specs.Reading.{FindsWords, Lists, Calls, IsRefused};
 
 use crate::handler::{Handler, call_all};
 use crate::text::{ids, read};
-use domain::{Cpu, Exhausted, Reading};
+use domain::{Cpu, Exhausted, Reading, Writer};
 use std::alloc::Allocator;
 use std::marker::Model;
+use std::snapshot::Snapshot;
 
-/// A notifier chain, for those who call it, on any thread. Contracts see the number of its cell, and below which number
-/// the ids of its blocks are.
-#[derive(Clone, Copy)]
+/// A notifier chain, for those who call it, on any processor of its domain. Threads share it by reference. Contracts see its
+/// cell and the cell's domain, and below which number the ids of its blocks are.
+#[derive(Drop)]
 pub struct ChainView {
     cell: usize,
+    /// By what contracts know the domain, as of `Values`.
+    writer: Snapshot<Writer>,
     ids: u64,
 }
 
@@ -25,26 +28,28 @@ impl Model for ChainView {
 
     ghost Value = { ChainCell };
 
-    ghost view = { λ v. record { cell = v.cell; ids = v.ids } };
+    ghost view = { λ v. record { place = record { domain = v.writer.value.domain; cell = v.cell }; ids = v.ids } };
 
     ghost invariant = { λ v. v.ids ≤ 2 ^ 32 };
-
-    ghost inverse = { λ v. record { cell = v.cell; ids = v.ids } };
 }
 
 impl ChainView {
-    pub(crate) fn of_cell(cell: usize, ids: u64) -> ChainView
+    pub(crate) fn of_writer(writer: &Writer, ids: u64) -> ChainView
         requires { ids ≤ 2 ^ 32 }
-        ensures { result ≡ record { cell = cell; ids = ids } }
+        ensures { result ≡ record { place = cell_of writer.now; ids = ids } }
     {
-        ChainView { cell, ids }
+        ChainView {
+            cell: writer.cell(),
+            writer: Snapshot::of(writer),
+            ids,
+        }
     }
 
     /// The ids of the blocks of one version, in the order in which they are called, with 0 in the places behind them, and
     /// how many there are. The version is no older than any that the processor has seen. It is read in a section of its
     /// own: refused, with nothing done but a look, exactly where the processor can begin none.
     pub fn ids<J, A: Allocator>(&self, cpu: &mut Cpu<J, A>) -> Result<([u64; 15], usize), Exhausted>
-        requires { self.now.cell < cells_in cpu.old.cpu.domain }
+        requires { IsCellIn cpu.old.cpu.domain self.now.place }
         ensures lists { MatchResult result
             (λ r. Lists self.now cpu.old cpu.new r.0 r.1)
             (λ _. IsRefused cpu.old cpu.new) }
@@ -69,7 +74,7 @@ impl ChainView {
         action: u64,
         value: u64,
     ) -> Result<(u32, u64), Exhausted>
-        requires cell { self.now.cell < cells_in cpu.old.cpu.domain }
+        requires cell { IsCellIn cpu.old.cpu.domain self.now.place }
         requires handlers { self.now.ids ≤ length handlers.now }
         ensures calls { MatchResult result
             (λ r. Calls (GivesAt (λ h x. answers h action value x) handlers.now) self.now cpu.old cpu.new r.0 r.1)
@@ -86,8 +91,8 @@ impl ChainView {
     /// The words of the version that is current, in the reading's section.
     fn find<J, A: Allocator>(&self, cpu: &mut Cpu<J, A>, reading: &mut Reading) -> [u64; 16]
         requires here { reading.old.domain ≡ cpu.old.cpu.domain }
-        requires cell { self.now.cell < cells_in cpu.old.cpu.domain }
-        ensures finds { FindsWords self.now.cell reading.old cpu.old cpu.new result }
+        requires cell { IsCellIn cpu.old.cpu.domain self.now.place }
+        ensures finds { FindsWords self.now.place.cell reading.old cpu.old cpu.new result }
         ensures reading { reading.new ≡ reading.old }
         ensures stays { Stays cpu.old cpu.new }
     {

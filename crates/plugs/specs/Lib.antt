@@ -4,7 +4,6 @@ pub mod Insides
 pub mod Views
 pub mod Changes
 pub mod Reading
-pub mod Refusals
 pub mod TableInsides
 pub mod ViewInsides
 pub mod LeaseInsides

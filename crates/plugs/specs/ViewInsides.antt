@@ -1,9 +1,6 @@
--- How the field of a view is seen.
-use Rattle.std.specs.Prelude.{ℕ}
+-- How the fields of a view are seen.
 use Rattle.plugs.specs.declared.view.TableView.TheInside as view
+use Rattle.shelf.specs.Cells.{CellView}
 
-abbrev pub cell_of : view.Inside → ℕ
-cell_of v = v.cell
-
-abbrev pub view_at : ℕ → view.Inside
-view_at cell = record { cell = cell }
+abbrev pub cell_of_view : view.Inside → CellView
+cell_of_view v = record { domain = v.writer.value.domain; cell = v.cell }

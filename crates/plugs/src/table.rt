@@ -2,6 +2,7 @@
 ghost use Rattle.std.specs.Prelude.{◌≡◌, [], IfOk, MatchResult};
 ghost use Rattle.sections.specs.Shelves.{words_of};
 ghost use Rattle.domain.specs.Views.{IsOf};
+ghost use Rattle.shelf.specs.Cells.{cell_of};
 ghost use Rattle.plugs.specs.Tables.{text_of};
 ghost use Rattle.plugs.specs.Changes.{Installs, IsNotInstalled, Removes, IsNotRemoved};
 
@@ -36,14 +37,21 @@ impl Table {
     pub fn new(writer: Writer) -> (Table, TableView)
         ensures writer { result.0.writer ≡ writer }
         ensures empty { result.0.rows ≡ [] }
-        ensures cell { result.1 ≡ writer.cell }
+        ensures cell { result.1 ≡ cell_of writer }
     {
-        let view = TableView::of_cell(writer.cell());
         let table = Table {
             writer,
             rows: Rows::new(),
         };
+        let view = table.view();
         (table, view)
+    }
+
+    /// What reads the table, once more.
+    pub fn view(&self) -> TableView
+        ensures { result ≡ cell_of self.now.writer }
+    {
+        TableView::of_writer(&self.writer)
     }
 
     /// The key has this plug from then on, whether it had one before or not. The table is put as the next version, which

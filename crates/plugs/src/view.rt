@@ -4,37 +4,43 @@ ghost use Rattle.sections.specs.Words.{cells_in};
 ghost use Rattle.sections.specs.Calls.{LooksInVain};
 ghost use Rattle.domain.specs.Views.{Stays, with_cpu};
 ghost use Rattle.domain.specs.Acting.{loads, ActsAs};
+ghost use Rattle.shelf.specs.Cells.{IsCellIn, cell_of};
 ghost use Rattle.plugs.specs.Reading.{FindsPlug, LooksUp, Leases};
 
 use crate::lease::Lease;
 use crate::rows::plug_in;
-use domain::{Cpu, Exhausted, Reading};
+use domain::{Cpu, Exhausted, Reading, Writer};
 use std::alloc::Allocator;
 use std::marker::Model;
+use std::snapshot::Snapshot;
 
-/// Reads the table of a cell, from any thread. Contracts see the number of the cell.
-#[derive(Clone, Copy, Debug)]
+/// Reads the table of a cell, on any processor of its domain. Threads share it by reference. Contracts see the number of the
+/// cell and the cell's domain.
+#[derive(Drop)]
 pub struct TableView {
     cell: usize,
+    /// By what contracts know the domain, as of `Values`.
+    writer: Snapshot<Writer>,
 }
 
 impl Model for TableView {
-    ghost use Rattle.std.specs.Prelude.{ℕ};
+    ghost use Rattle.shelf.specs.Cells.{CellView};
 
-    ghost Value = { ℕ };
+    ghost Value = { CellView };
 
-    ghost use Rattle.plugs.specs.ViewInsides.{cell_of, view_at};
+    ghost use Rattle.plugs.specs.ViewInsides.{cell_of_view};
 
-    ghost view = { cell_of };
-
-    ghost inverse = { view_at };
+    ghost view = { cell_of_view };
 }
 
 impl TableView {
-    pub(crate) fn of_cell(cell: usize) -> TableView
-        ensures { result ≡ cell }
+    pub(crate) fn of_writer(writer: &Writer) -> TableView
+        ensures { result ≡ cell_of writer.now }
     {
-        TableView { cell }
+        TableView {
+            cell: writer.cell(),
+            writer: Snapshot::of(writer),
+        }
     }
 
     /// The plug of the key, in a section of its own: that of the version which is current there, no older than any that
@@ -45,9 +51,9 @@ impl TableView {
         cpu: &mut Cpu<J, A>,
         key: u32,
     ) -> Result<Option<u32>, Exhausted>
-        requires cell { self.now < cells_in cpu.old.cpu.domain }
+        requires cell { IsCellIn cpu.old.cpu.domain self.now }
         ensures looks_up { MatchResult result
-            (λ plug. LooksUp self.now key plug cpu.old cpu.new)
+            (λ plug. LooksUp self.now.cell key plug cpu.old cpu.new)
             (λ _. LooksInVain cpu.old.cpu cpu.new.cpu) }
         ensures rest { cpu.new ≡ with_cpu cpu.new.cpu cpu.old }
         ensures stays { Stays cpu.old cpu.new }
@@ -64,9 +70,9 @@ impl TableView {
     /// A held section with the version that it finds, no older than any that the processor has seen. It takes no memory
     /// and does not wait, and is refused as [`Cpu::down_read`] is.
     pub fn lease<J, A: Allocator>(&self, cpu: &mut Cpu<J, A>) -> Result<Lease, Exhausted>
-        requires cell { self.now < cells_in cpu.old.cpu.domain }
+        requires cell { IsCellIn cpu.old.cpu.domain self.now }
         ensures leases { MatchResult result
-            (λ lease. Leases self.now lease cpu.old cpu.new)
+            (λ lease. Leases self.now.cell lease cpu.old cpu.new)
             (λ _. LooksInVain cpu.old.cpu cpu.new.cpu) }
         ensures rest { cpu.new ≡ with_cpu cpu.new.cpu cpu.old }
         ensures stays { Stays cpu.old cpu.new }

@@ -11,3 +11,4 @@ mod Seating
 mod Telling
 mod Summing
 mod Finishing
+mod Rounds

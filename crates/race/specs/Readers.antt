@@ -1,12 +1,13 @@
 -- What a reader has, and what it tells of itself.
-use Rattle.std.specs.Prelude.{◌≡◌, ℕ, ◌+◌, ◌≤◌, List, [], Option, Some, None, count_by, is_some}
+use Rattle.std.specs.Prelude.{◌≡◌, ℕ, zero, suc, ◌+◌, ◌%◌, ◌≤◌, List, [], Option, Some, None, count_by, is_some}
 use Rattle.sections.specs.Limits.{most_sections}
 use Rattle.sections.specs.Words.{opened_in, closed_in}
-use Rattle.desk.specs.Swaps.{Swap, swaps_of}
+use Rattle.desk.specs.Swaps.{Swap, swaps_of, lies_behind}
 use Rattle.desk.specs.Views.{SeatView}
+use Rattle.desk.specs.Calls.{Swaps}
 use Rattle.domain.specs.Views.{IsOf}
 use Rattle.plugs.specs.Views.{LeaseView}
-use Rattle.plugs.specs.Reading.{Gets}
+use Rattle.plugs.specs.Reading.{Leases, Gets}
 use Rattle.race.specs.declared.course.Course.{Course}
 use Rattle.race.specs.declared.reader.Reader.{Reader}
 
@@ -65,6 +66,7 @@ pub record Releases (g : Course) (found : Option LeaseView) (r r' : Reader) : Ty
   pub goes_on : GoesOn g 0 0 r r'
   pub opened : r'.opened ≡ r.opened
   pub closed : r'.closed ≡ r.closed + one_if found
+  pub seat : r'.seat ≡ r.seat
 
 -- it has made so many rounds, one lease in each
 pub record HasMade (g : Course) (rounds : ℕ) (r : Reader) : Type 0 where
@@ -73,15 +75,42 @@ pub record HasMade (g : Course) (rounds : ℕ) (r : Reader) : Type 0 where
   pub opened : r.opened ≡ rounds
   pub few : r.closed ≤ rounds
 
--- the reader of this number has made all rounds, and looked at the desk once more
+-- the lease was asked for the key, and answered
+pub record AsksLease (lease : LeaseView) (key : ℕ) (r r' : Reader) : Type 0 where
+  pub plug : Option ℕ
+  pub gets : Gets lease key plug r.cpu r'.cpu
+
+-- one round: the version that was there was leased, the lease was asked for the round's key, it was laid on the desk, and what lay there was released
+pub record MakesRound (g : Course) (round : ℕ) (r r' : Reader) : Type 0 where
+  pub lease : LeaseView
+  pub leased : Reader
+  pub leases : Leases g.view.cell lease r.cpu leased.cpu
+  pub asked : Reader
+  pub asks : AsksLease lease (round % 15) leased asked
+  pub found : Option LeaseView
+  pub handed : Reader
+  pub lays : Swaps asked.seat (Some lease) found handed.seat
+  pub releases : Releases g found handed r'
+
+-- so many rounds, from round 0 on
+abbrev pub MakesRounds : Course → ℕ → Reader → Reader → Type 0
+MakesRounds g zero r r' = r' ≡ r
+MakesRounds g (suc n) r r' = (before : Reader) × MakesRounds g n r before × MakesRound g n before r'
+
+-- all rounds were made, one after the other, and then what lay on the desk was taken and released
+pub record ReadsAll (g : Course) (r r' : Reader) : Type 0 where
+  pub last : Reader
+  pub rounds : MakesRounds g g.rounds r last
+  pub found : Option LeaseView
+  pub looked : Reader
+  pub looks : Swaps last.seat None found looked.seat
+  pub releases : Releases g found looked r'
+
+-- the reader of this number has made all rounds, and then left nothing on the desk
 pub record HasRead (g : Course) (number : ℕ) (r : Reader) : Type 0 where
   pub is : IsReaderOf g r
   pub tells : Tells 0 0 r
   pub number_is : r.cpu.cpu.processor ≡ number
   pub opened : r.opened ≡ g.rounds
   pub few : r.closed ≤ g.rounds + 1
-
--- the lease was asked for the key, and answered
-pub record AsksLease (lease : LeaseView) (key : ℕ) (r r' : Reader) : Type 0 where
-  pub plug : Option ℕ
-  pub gets : Gets lease key plug r.cpu r'.cpu
+  pub looked : lies_behind r.seat.seen ≡ None

@@ -1,6 +1,8 @@
 -- What the updater has, and what it tells of itself.
-use Rattle.std.specs.Prelude.{◌≡◌, ◌≢◌, ℕ, ◌+◌, ◌%◌, ◌^◌, ◌<◌, ◌≤◌, List}
+use Rattle.std.specs.Prelude.{◌≡◌, ◌≢◌, ℕ, zero, suc, ◌+◌, ◌%◌, ◌^◌, ◌<◌, ◌≤◌, List}
 use Rattle.sections.specs.Words.{opened_in, closed_in}
+use Rattle.calls.specs.declared.refusals.CallRefusal.{CallRefusal}
+use Rattle.calls.specs.declared.refusals.CallRefusal.TheVariants as calling
 use Rattle.calls.specs.declared.view.Deed.{Deed}
 use Rattle.calls.specs.Tallies.{queued_in, finished_in, deeds_of}
 use Rattle.calls.specs.Views.{CallSeatView}
@@ -8,6 +10,13 @@ use Rattle.domain.specs.Views.{IsOf}
 use Rattle.plugs.specs.Changes.{Installs}
 use Rattle.race.specs.declared.course.Course.{Course}
 use Rattle.race.specs.declared.updater.Updater.{Updater}
+use Rattle.race.specs.declared.updater.Halt.{Halt}
+use Rattle.race.specs.declared.updater.Halt.TheVariants as halt
+
+-- why the updater halts whose call was refused
+abbrev pub halt_of : CallRefusal → Halt
+halt_of calling.Exhausted = halt.Spent
+halt_of calling.Memory = halt.Memory
 
 -- what the seat did at the tally words
 abbrev pub own_deeds : CallSeatView Unit → List (Deed Unit)
@@ -44,6 +53,29 @@ pub record InstallsIn (g : Course) (round : ℕ) (u u' : Updater) : Type 0 where
   pub waits : GoesOn g 0 0 u before
   pub version : ℕ
   pub installs : Installs (round % 15) round version before.table before.cpu u'.table u'.cpu
+
+-- one round: its plug was installed with its key, and a callback was queued
+pub record MakesRound (g : Course) (round : ℕ) (u u' : Updater) : Type 0 where
+  pub installed : Updater
+  pub installs : InstallsIn g round u installed
+  pub queues : GoesOn g 0 1 installed u'
+
+-- so many rounds, from round 0 on
+abbrev pub MakesRounds : Course → ℕ → Updater → Updater → Type 0
+MakesRounds g zero u u' = u' ≡ u
+MakesRounds g (suc n) u u' = (before : Updater) × MakesRounds g n u before × MakesRound g n before u'
+
+-- all rounds were made, with one version and one callback in each
+pub record MakesAll (g : Course) (u u' : Updater) : Type 0 where
+  pub rounds : MakesRounds g g.rounds u u'
+  pub versions : u'.versions ≡ g.rounds
+  pub queued : u'.queued ≡ g.rounds
+
+-- the same, and the engine was driven and callbacks were run at most
+pub record HasMadeAll (g : Course) (u u' : Updater) : Type 0 where
+  pub made : Updater
+  pub makes : MakesAll g u made
+  pub goes_on : GoesOn g 0 0 made u'
 
 -- at most so many versions were installed, and no more callbacks queued than that
 pub record HasUpdated (g : Course) (u : Updater) : Type 0 where

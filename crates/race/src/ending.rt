@@ -73,6 +73,7 @@ pub fn end(course: Course, workers: Workers, parts: Parts) -> RaceTotals
     requires room { HasRoom course.desk.seats parts }
     ensures counts { AreCounts course.rounds result }
     ensures opened { result.opened ≡ opened_by workers.readers.items }
+    ensures updater { (result.versions ≡ workers.updater.versions) × (result.queued ≡ workers.updater.queued) × (result.finished ≡ workers.updater.finished) }
 {
     let Workers {
         readers,

@@ -1,7 +1,10 @@
 //! A thread that leases versions, reads them, and hands the leases on.
-ghost use Rattle.std.specs.Prelude.{◌≡◌, ◌+◌, ◌%◌, ◌<◌, ◌≤◌, IfSome};
+ghost use Rattle.std.specs.Prelude.{◌≡◌, ◌+◌, ◌%◌, ◌<◌, ◌≤◌, Some, None, IfSome};
+ghost use Rattle.desk.specs.Swaps.{lies_behind};
+ghost use Rattle.desk.specs.Calls.{Swaps};
+ghost use Rattle.plugs.specs.Reading.{Leases};
 ghost use Rattle.race.specs.Courses.{IsCourse};
-ghost use Rattle.race.specs.Readers.{one_if, IsReaderOf, Tells, Opens, Counts, Releases, HasMade, HasRead, AsksLease};
+ghost use Rattle.race.specs.Readers.{one_if, IsReaderOf, Tells, Opens, Counts, Releases, HasMade, AsksLease, MakesRound, HasRead, ReadsAll};
 
 use crate::course::{Course, key_of};
 use crate::gate::{At, Gate};
@@ -27,6 +30,7 @@ fn open(course: &Course, reader: &mut Reader) -> Lease
     requires tells { Tells 0 0 reader.old }
     requires few { reader.old.opened < 1000 }
     ensures opens { Opens course.now reader.old reader.new }
+    ensures leases { Leases course.now.view.cell result reader.old.cpu reader.new.cpu }
     ensures lease { result.held.domain ≡ course.now.domain.domain }
 {
     let Ok(lease) = course.view.lease(&mut reader.cpu) else {
@@ -57,6 +61,7 @@ fn hand_on(course: &Course, reader: &mut Reader, lease: Lease) -> Option<Lease>
     requires tells { Tells 1 0 reader.old }
     requires lease { lease.held.domain ≡ course.now.domain.domain }
     ensures counts { Counts course.now 0 (one_if result) reader.old reader.new }
+    ensures lays { Swaps reader.old.seat (Some lease) result reader.new.seat }
     ensures found { IfSome result (λ found. found.held.domain ≡ course.now.domain.domain) }
 {
     reader.seat.put(&course.desk, lease)
@@ -67,6 +72,8 @@ fn take(course: &Course, reader: &mut Reader) -> Option<Lease>
     requires is { IsReaderOf course.now reader.old }
     requires tells { Tells 0 0 reader.old }
     ensures counts { Counts course.now 0 (one_if result) reader.old reader.new }
+    ensures looks { Swaps reader.old.seat None result reader.new.seat }
+    ensures looked { lies_behind reader.new.seat.seen ≡ None }
     ensures found { IfSome result (λ found. found.held.domain ≡ course.now.domain.domain) }
 {
     reader.seat.take(&course.desk)
@@ -91,6 +98,7 @@ fn make_round<G: Gate>(course: &Course, gate: &G, reader: &mut Reader, round: u6
     requires made { HasMade course.now round reader.old }
     requires round { round < course.now.rounds }
     ensures made { HasMade course.now (round + 1) reader.new }
+    ensures round { MakesRound course.now round reader.old reader.new }
     ensures same { reader.new.cpu.cpu.processor ≡ reader.old.cpu.cpu.processor }
 {
     let mut lease = open(course, reader);
@@ -104,7 +112,8 @@ fn make_round<G: Gate>(course: &Course, gate: &G, reader: &mut Reader, round: u6
 pub fn read_all<G: Gate>(course: &Course, gate: &G, mut reader: Reader) -> Reader
     requires course { IsCourse course.now }
     requires new { HasMade course.now 0 reader }
-    ensures { HasRead course.now reader.cpu.cpu.processor result }
+    ensures read { HasRead course.now reader.cpu.cpu.processor result }
+    ensures all { ReadsAll course.now reader result }
 {
     for round in 0..course.rounds {
         make_round(course, gate, &mut reader, round);

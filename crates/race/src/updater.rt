@@ -4,12 +4,11 @@ ghost use Rattle.calls.specs.Calls.{IsOfProcessor};
 ghost use Rattle.domain.specs.Views.{callbacks_of};
 ghost use Rattle.domain.specs.Barriers.{IsTicketOf};
 ghost use Rattle.race.specs.Courses.{IsCourse};
-ghost use Rattle.race.specs.Updaters.{IsUpdaterOf, Tells, GoesOn, InstallsIn, HasUpdated, IsNew};
+ghost use Rattle.race.specs.Updaters.{halt_of, IsUpdaterOf, Tells, GoesOn, InstallsIn, MakesAll, HasMadeAll, HasUpdated, IsNew};
 
 use crate::course::{Course, key_of};
 use domain::{AdvanceRefusal, Batch, CallRefusal, Cpu, Memory, Progress, Ticket};
 use plugs::{InstallRefusal, Table};
-use std::alloc::AllocError;
 use std::sync::Wait;
 use std::thread::yield_now;
 
@@ -28,7 +27,7 @@ pub struct Updater {
 
 /// Why the updater makes no more rounds.
 #[derive(Clone, Copy, PartialEq, Eq)]
-enum Halt {
+pub enum Halt {
     /// There may be no more grace periods, no more callbacks, or no more rows.
     Spent,
     /// There was not enough memory.
@@ -36,7 +35,9 @@ enum Halt {
 }
 
 impl Halt {
-    fn of_call(refusal: CallRefusal) -> Halt {
+    fn of_call(refusal: CallRefusal) -> Halt
+        ensures { result ≡ halt_of refusal }
+    {
         match refusal {
             CallRefusal::Exhausted => Halt::Spent,
             CallRefusal::Memory => Halt::Memory,
@@ -110,7 +111,7 @@ fn make_rounds<R: Wait>(rt: &R, course: &Course, updater: &mut Updater) -> Resul
     requires new { IsNew course.now updater.old }
     ensures updated { HasUpdated course.now updater.new }
     ensures processor { updater.new.cpu.cpu.processor ≡ updater.old.cpu.cpu.processor }
-    ensures all { IfOk result (λ _. (updater.new.versions ≡ course.now.rounds) × (updater.new.queued ≡ course.now.rounds)) }
+    ensures all { IfOk result (λ _. MakesAll course.now updater.old updater.new) }
 {
     for round in 0..course.rounds {
         install(rt, course, updater, round)?;
@@ -201,17 +202,22 @@ fn settle<R: Wait>(
     unreachable!()
 }
 
-/// Makes all rounds, and then drives and runs until all callbacks are finished that were queued.
-pub fn update_all<R: Wait>(rt: &R, course: &Course, updater: &mut Updater) -> Result<(), Memory>
+/// Makes all rounds, and then drives and runs until all callbacks are finished that were queued. Where no more rounds can be
+/// made, these are finished too.
+pub fn update_all<R: Wait>(rt: &R, course: &Course, updater: &mut Updater) -> Result<(), Halt>
     requires course { IsCourse course.now }
     requires new { IsNew course.now updater.old }
     ensures updated { HasUpdated course.now updater.new }
     ensures processor { updater.new.cpu.cpu.processor ≡ updater.old.cpu.cpu.processor }
+    ensures all { IfOk result (λ _. HasMadeAll course.now updater.old updater.new) }
 {
-    if let Err(Halt::Memory) = make_rounds(rt, course, updater) {
-        return Err(AllocError);
+    let made = make_rounds(rt, course, updater);
+    if let Err(Halt::Memory) = made {
+        return made;
     }
-    let ticket = start_barrier(course, updater)?;
-    let _settled = settle(rt, course, updater, &ticket);
-    Ok(())
+    let Ok(ticket) = start_barrier(course, updater) else {
+        return Err(Halt::Memory);
+    };
+    settle(rt, course, updater, &ticket)?;
+    made
 }

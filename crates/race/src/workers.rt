@@ -7,7 +7,7 @@ ghost use Rattle.race.specs.Workers.{EachAt, IsNewReader, AreNew, AreBack, HaveR
 use crate::course::Course;
 use crate::gate::Gate;
 use crate::reader::{Reader, read_all};
-use crate::updater::{Updater, update_all};
+use crate::updater::{Halt, Updater, update_all};
 use domain::Memory;
 use std::alloc::{AllocError, AllocGlobal};
 use std::sync::Wait;
@@ -142,8 +142,9 @@ fn run_in<'s, E, R: Threads + Wait, G: Gate + Sync>(
     launch_all(scope, course, gate, &mut readers, &mut all);
     let updated = update_all(rt, course, &mut updater);
     let had_threads = join_all(rt, course, all, &mut readers);
-    let result = if had_threads {
-        updated
+    let had_memory = !matches!(updated, Err(Halt::Memory));
+    let result = if had_threads && had_memory {
+        Ok(())
     } else {
         Err(AllocError)
     };

@@ -1,3 +1,4 @@
+pub mod Cells
 pub mod Reading
 pub mod Replacing
 pub mod Insides

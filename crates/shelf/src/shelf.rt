@@ -3,31 +3,20 @@ ghost use Rattle.std.specs.Prelude.{◌≡◌, IfOk, MatchResult};
 ghost use Rattle.sections.specs.Shelves.{words_of};
 ghost use Rattle.domain.specs.Views.{IsOf};
 ghost use Rattle.domain.specs.Publishing.{FindsNone};
+ghost use Rattle.shelf.specs.Cells.{cell_of};
 ghost use Rattle.shelf.specs.Replacing.{Replaces};
 
 use crate::values::Values;
 use crate::versioned::Versioned;
 use domain::{Cpu, Domain, Writer, claim, publish};
 use std::alloc::Allocator;
-use std::error::Error;
-use std::fmt;
 use std::marker::{Model, PhantomData};
+use thiserror::Error;
 
 /// No slot is free: none is blank, and of no retired one is the cookie done. Or 2^54 values were put.
-#[derive(Clone, Copy, Debug, PartialEq, Eq)]
+#[derive(Clone, Copy, Debug, Error, PartialEq, Eq)]
+#[error("no slot of the cell is free")]
 pub struct NoSlot;
-
-impl fmt::Display for NoSlot {
-    ghost use Rattle.std.specs.Prelude.{Some, codes};
-
-    ghost output = { λ _. Some (codes "no slot of the cell is free") };
-
-    fn fmt<W: fmt::Write>(&self, f: &mut fmt::Formatter<W>) -> fmt::Result {
-        f.write_str("no slot of the cell is free")
-    }
-}
-
-impl Error for NoSlot {}
 
 /// What replaces the values of a cell. There is one for each cell. Contracts see the cell's writer.
 #[derive(Drop)]
@@ -49,14 +38,21 @@ impl<T> Model for Shelf<T> {
 impl<T: Versioned> Shelf<T> {
     /// Takes a cell, and gives what reads its values. Nothing is put.
     pub fn new(writer: Writer) -> (Shelf<T>, Values<T>)
-        ensures { (result.0 ≡ writer) × (result.1 ≡ writer.cell) }
+        ensures { (result.0 ≡ writer) × (result.1 ≡ cell_of writer) }
     {
-        let cell = writer.cell();
         let shelf = Shelf {
             writer,
             marker: PhantomData,
         };
-        (shelf, Values::of_cell(cell))
+        let values = shelf.values();
+        (shelf, values)
+    }
+
+    /// What reads its values, once more.
+    pub fn values(&self) -> Values<T>
+        ensures { result ≡ cell_of self.now }
+    {
+        Values::of_writer(&self.writer)
     }
 
     /// Replaces the value (`rcu_assign_pointer`), and asks for the grace period behind which nobody reads the one that

@@ -1,38 +1,43 @@
 //! What is read of a cell whose versions are values of one type.
-ghost use Rattle.std.specs.Prelude.{◌≡◌, ◌<◌};
-ghost use Rattle.sections.specs.Words.{cells_in};
+ghost use Rattle.std.specs.Prelude.{◌≡◌};
 ghost use Rattle.sections.specs.Reads.{Finds, IsPinned};
 ghost use Rattle.domain.specs.Views.{Stays, with_cpu};
+ghost use Rattle.shelf.specs.Cells.{IsCellIn, cell_of};
 ghost use Rattle.shelf.specs.Reading.{Reads, Loads};
 
 use crate::versioned::Versioned;
-use domain::{Cpu, Held, HeldPin, Pin, Reading};
+use domain::{Cpu, Held, HeldPin, Pin, Reading, Writer};
 use std::alloc::Allocator;
 use std::marker::{Model, PhantomData};
+use std::snapshot::Snapshot;
 
-/// Reads the values of a cell, from any thread. Contracts see the number of the cell.
+/// Reads the values of a cell, on any processor of its domain. Threads share it by reference. Contracts see the number of
+/// the cell and the cell's domain.
 #[derive(Drop)]
 pub struct Values<T> {
     cell: usize,
+    /// By what contracts know the domain. It takes no bytes, and any thread may share it: it has no right in the domain.
+    writer: Snapshot<Writer>,
     marker: PhantomData<T>,
 }
 
 impl<T> Model for Values<T> {
-    ghost use Rattle.std.specs.Prelude.{ℕ};
+    ghost use Rattle.shelf.specs.Cells.{CellView};
 
-    ghost Value = { ℕ };
+    ghost Value = { CellView };
 
-    ghost use Rattle.shelf.specs.Insides.{cell_of};
+    ghost use Rattle.shelf.specs.Insides.{view_of_values};
 
-    ghost view = { cell_of };
+    ghost view = { view_of_values };
 }
 
 impl<T: Versioned> Values<T> {
-    pub(crate) fn of_cell(cell: usize) -> Values<T>
-        ensures { result ≡ cell }
+    pub(crate) fn of_writer(writer: &Writer) -> Values<T>
+        ensures { result ≡ cell_of writer.now }
     {
         Values {
-            cell,
+            cell: writer.cell(),
+            writer: Snapshot::of(writer),
             marker: PhantomData,
         }
     }
@@ -41,8 +46,8 @@ impl<T: Versioned> Values<T> {
     /// processor has seen. It takes no memory and does not wait.
     pub fn read<J, A: Allocator>(&self, cpu: &mut Cpu<J, A>, reading: &mut Reading) -> T
         requires here { reading.old.domain ≡ cpu.old.cpu.domain }
-        requires cell { self.now < cells_in cpu.old.cpu.domain }
-        ensures reads { Reads T.value self.now reading.old cpu.old cpu.new result }
+        requires cell { IsCellIn cpu.old.cpu.domain self.now }
+        ensures reads { Reads T.value self.now.cell reading.old cpu.old cpu.new result }
         ensures reading { reading.new ≡ reading.old }
         ensures stays { Stays cpu.old cpu.new }
     {
@@ -57,8 +62,8 @@ impl<T: Versioned> Values<T> {
         reading: &'a mut Reading,
     ) -> Pin<'a>
         requires here { reading.old.domain ≡ cpu.old.cpu.domain }
-        requires cell { self.now < cells_in cpu.old.cpu.domain }
-        ensures finds { Finds self.now reading.old cpu.old.cpu cpu.new.cpu result.found }
+        requires cell { IsCellIn cpu.old.cpu.domain self.now }
+        ensures finds { Finds self.now.cell reading.old cpu.old.cpu cpu.new.cpu result.found }
         ensures pinned { IsPinned reading.old result.found }
         ensures reading { result.reading.now ≡ reading.old }
         ensures same_reference { result.reading.ghost_name ≡ reading.entry.ghost_name }
@@ -72,7 +77,8 @@ impl<T: Versioned> Values<T> {
     pub fn load<J, A: Allocator>(&self, cpu: &mut Cpu<J, A>, pin: &mut Pin<'_>) -> T
         requires here { pin.old.reading.now.domain ≡ cpu.old.cpu.domain }
         requires pinned { IsPinned pin.old.reading.now pin.old.found }
-        requires cell { pin.old.found.cell ≡ self.now }
+        requires same { self.now.domain ≡ cpu.old.cpu.domain }
+        requires cell { pin.old.found.cell ≡ self.now.cell }
         ensures loads { Loads T.value pin.old.reading.now pin.old.found cpu.old cpu.new result }
         ensures same { (pin.new.reading.now ≡ pin.old.reading.now) × (pin.new.found ≡ pin.old.found) }
         ensures same_reference { pin.new.reading.ghost_name ≡ pin.old.reading.ghost_name }
@@ -84,8 +90,8 @@ impl<T: Versioned> Values<T> {
     /// As [`Values::find`], in a held section, which the pin then owns. It may go to another thread.
     pub fn find_held<J, A: Allocator>(&self, cpu: &mut Cpu<J, A>, held: Held) -> HeldPin
         requires here { held.domain ≡ cpu.old.cpu.domain }
-        requires cell { self.now < cells_in cpu.old.cpu.domain }
-        ensures finds { Finds self.now held cpu.old.cpu cpu.new.cpu result.found }
+        requires cell { IsCellIn cpu.old.cpu.domain self.now }
+        ensures finds { Finds self.now.cell held cpu.old.cpu cpu.new.cpu result.found }
         ensures pinned { IsPinned held result.found }
         ensures held { result.held ≡ held }
         ensures rest { cpu.new ≡ with_cpu cpu.new.cpu cpu.old }
@@ -98,7 +104,8 @@ impl<T: Versioned> Values<T> {
     pub fn load_held<J, A: Allocator>(&self, cpu: &mut Cpu<J, A>, pin: &mut HeldPin) -> T
         requires here { pin.old.held.domain ≡ cpu.old.cpu.domain }
         requires pinned { IsPinned pin.old.held pin.old.found }
-        requires cell { pin.old.found.cell ≡ self.now }
+        requires same { self.now.domain ≡ cpu.old.cpu.domain }
+        requires cell { pin.old.found.cell ≡ self.now.cell }
         ensures loads { Loads T.value pin.old.held pin.old.found cpu.old cpu.new result }
         ensures same { (pin.new.held ≡ pin.old.held) × (pin.new.found ≡ pin.old.found) }
         ensures stays { Stays cpu.old cpu.new }

@@ -1,8 +1,8 @@
 //! Values that are replaced while others read them.
-ghost use Rattle.std.specs.Prelude.{◌≡◌, ◌<◌, length, IfOk};
-ghost use Rattle.sections.specs.Words.{cells_in};
+ghost use Rattle.std.specs.Prelude.{◌≡◌, length, IfOk};
 ghost use Rattle.sections.specs.Calls.{IsSameCpu};
 ghost use Rattle.domain.specs.Views.{IsOf};
+ghost use Rattle.shelf.specs.Cells.{IsCellIn};
 
 use domain::{Cpu, Domain, Limits, MakeError};
 use shelf::{NoSlot, Shelf, Values, Versioned};
@@ -52,9 +52,9 @@ fn domain_of_five(
     slots: u64,
 ) -> Result<(Domain<()>, Five, Shelf<Sixteen>, Values<Sixteen>), MakeError>
     ensures writer { IfOk result (λ r. IsOf r.0 r.1.writer × (r.2.domain ≡ r.0.domain)) }
-    ensures cell { IfOk result (λ r. r.3 < cells_in r.0.domain) }
-    ensures first { IfOk result (λ r. (r.3 < cells_in r.1.first.cpu.domain) × (r.3 < cells_in r.1.second.cpu.domain)) }
-    ensures last { IfOk result (λ r. (r.3 < cells_in r.1.third.cpu.domain) × (r.3 < cells_in r.1.fourth.cpu.domain)) }
+    ensures cell { IfOk result (λ r. IsCellIn r.0.domain r.3) }
+    ensures first { IfOk result (λ r. IsCellIn r.1.first.cpu.domain r.3 × IsCellIn r.1.second.cpu.domain r.3) }
+    ensures last { IfOk result (λ r. IsCellIn r.1.third.cpu.domain r.3 × IsCellIn r.1.fourth.cpu.domain r.3) }
 {
     let limits = Limits {
         sections: Limits::MOST_SECTIONS,
@@ -109,7 +109,7 @@ fn read_over(
 ) -> Option<([u64; 2], Result<u64, NoSlot>)>
     requires cpu { IsOf domain.now cpu.old }
     requires shelf { shelf.old.domain ≡ domain.now.domain }
-    requires cell { values.now < cells_in domain.now.domain }
+    requires cell { IsCellIn domain.now.domain values.now }
     ensures { IsOf domain.now cpu.new × (shelf.new.domain ≡ domain.now.domain) }
 {
     let mut reading = cpu.read_lock().ok()?;
@@ -129,7 +129,7 @@ fn replace_thrice(
 ) -> [Option<([u64; 2], Result<u64, NoSlot>)>; 3]
     requires cpu { IsOf domain.now cpu.old }
     requires shelf { shelf.old.domain ≡ domain.now.domain }
-    requires cell { values.now < cells_in domain.now.domain }
+    requires cell { IsCellIn domain.now.domain values.now }
 {
     let first = read_over(domain, cpu, shelf, values, 7);
     let second = read_over(domain, cpu, shelf, values, 8);
@@ -176,7 +176,7 @@ struct Found {
 
 /// Reads one value in a section of its own.
 fn read_once(cpu: &mut Cpu<()>, values: &Values<Sixteen>) -> Option<Sixteen>
-    requires { values.now < cells_in cpu.old.cpu.domain }
+    requires { IsCellIn cpu.old.cpu.domain values.now }
     ensures { IsSameCpu cpu.old.cpu cpu.new.cpu }
 {
     let mut reading = cpu.read_lock().ok()?;
@@ -187,7 +187,7 @@ fn read_once(cpu: &mut Cpu<()>, values: &Values<Sixteen>) -> Option<Sixteen>
 
 /// Reads, each time in a section of its own, until no more is put.
 fn read_on<R: Wait>(rt: &R, mut cpu: Cpu<()>, values: &Values<Sixteen>, done: &AtomicBool) -> Found
-    requires { values.now < cells_in cpu.cpu.domain }
+    requires { IsCellIn cpu.cpu.domain values.now }
 {
     let mut found = Found {
         sections: 0,
@@ -259,7 +259,7 @@ fn read_by_two<R: Wait + Threads + Sync>(
     values: &Values<Sixteen>,
     done: &AtomicBool,
 ) -> [Found; 2]
-    requires { (values.now < cells_in first.cpu.domain) × (values.now < cells_in second.cpu.domain) }
+    requires { IsCellIn first.cpu.domain values.now × IsCellIn second.cpu.domain values.now }
 {
     let (first, second) = join(
         rt,
@@ -279,16 +279,16 @@ fn read_by_four<R: Wait + Threads + Sync>(
     values: &Values<Sixteen>,
     done: &AtomicBool,
 ) -> ([Found; 2], [Found; 2])
-    requires two { (values.now < cells_in first.cpu.domain) × (values.now < cells_in second.cpu.domain) }
-    requires others { (values.now < cells_in third.cpu.domain) × (values.now < cells_in fourth.cpu.domain) }
+    requires two { IsCellIn first.cpu.domain values.now × IsCellIn second.cpu.domain values.now }
+    requires others { IsCellIn third.cpu.domain values.now × IsCellIn fourth.cpu.domain values.now }
 {
     join(
         rt,
         ||
-            requires { (values.now < cells_in first.cpu.domain) × (values.now < cells_in second.cpu.domain) }
+            requires { IsCellIn first.cpu.domain values.now × IsCellIn second.cpu.domain values.now }
         { read_by_two(rt, first, second, values, done) },
         ||
-            requires { (values.now < cells_in third.cpu.domain) × (values.now < cells_in fourth.cpu.domain) }
+            requires { IsCellIn third.cpu.domain values.now × IsCellIn fourth.cpu.domain values.now }
         { read_by_two(rt, third, fourth, values, done) },
     )
 }
@@ -303,8 +303,8 @@ fn read_beside<R: Wait + Threads + Sync>(
     done: &AtomicBool,
 ) -> ([Found; 2], [Found; 2])
     requires writer { IsOf domain.now cpus.writer × (shelf.domain ≡ domain.now.domain) }
-    requires first { (values.now < cells_in cpus.first.cpu.domain) × (values.now < cells_in cpus.second.cpu.domain) }
-    requires last { (values.now < cells_in cpus.third.cpu.domain) × (values.now < cells_in cpus.fourth.cpu.domain) }
+    requires first { IsCellIn cpus.first.cpu.domain values.now × IsCellIn cpus.second.cpu.domain values.now }
+    requires last { IsCellIn cpus.third.cpu.domain values.now × IsCellIn cpus.fourth.cpu.domain values.now }
 {
     let Five {
         first,
@@ -316,8 +316,8 @@ fn read_beside<R: Wait + Threads + Sync>(
     let (found, ()) = join(
         rt,
         ||
-            requires two { (values.now < cells_in first.cpu.domain) × (values.now < cells_in second.cpu.domain) }
-            requires others { (values.now < cells_in third.cpu.domain) × (values.now < cells_in fourth.cpu.domain) }
+            requires two { IsCellIn first.cpu.domain values.now × IsCellIn second.cpu.domain values.now }
+            requires others { IsCellIn third.cpu.domain values.now × IsCellIn fourth.cpu.domain values.now }
         { read_by_four(rt, first, second, third, fourth, values, done) },
         ||
             requires { IsOf domain.now writer × (shelf.domain ≡ domain.now.domain) }

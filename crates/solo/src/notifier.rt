@@ -30,8 +30,7 @@ impl Notifier {
         requires { ids ≤ 2 ^ 32 }
         ensures { result ≡ record { writer = writer; ids = ids; blocks = [] } }
     {
-        let cell = writer.cell();
-        let (chain, view) = Chain::new(writer, cell, ids);
+        let (chain, view) = Chain::new(writer, ids);
         Notifier { chain, view }
     }
 }

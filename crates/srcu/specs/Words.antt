@@ -27,6 +27,7 @@ pub use Rattle.driver.specs.Works.{MayRead, KeepsReadings, ReadsIn, IsKept}
 -- versions
 pub use Rattle.srcu.specs.Workers.{ReadsOnce}
 pub use Rattle.srcu.specs.Leases.{HasPlug}
+pub use Rattle.shelf.specs.Cells.{CellView, IsCellIn, cell_of}
 pub use Rattle.shelf.specs.Replacing.{Replaces}
 pub use Rattle.plugs.specs.Views.{TableState, LeaseView}
 pub use Rattle.plugs.specs.Tables.{plug_of}

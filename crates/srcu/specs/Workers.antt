@@ -1,10 +1,10 @@
 -- What a caller knows of a worker, and what its calls do.
-use Rattle.std.specs.Prelude.{◌≡◌, ◌<◌, ℕ, List, All}
+use Rattle.std.specs.Prelude.{◌≡◌, ℕ, List, All}
 use Rattle.sections.specs.Views.{ReadingView}
-use Rattle.sections.specs.Words.{cells_in}
 use Rattle.sections.specs.WriterViews.{WriterView}
 use Rattle.sections.specs.Calls.{ReadLocks, Unlocks}
 use Rattle.domain.specs.Views.{DomainView, CpuView, with_cpu}
+use Rattle.shelf.specs.Cells.{CellView, IsCellIn, cell_of}
 use Rattle.shelf.specs.Reading.{Reads}
 
 -- `domain` is the worker's domain, and `cpu` its processor
@@ -12,13 +12,13 @@ pub record WorkerView (J : Type 0) : Type 0 where
   pub domain : DomainView
   pub cpu : CpuView J
 
--- a cell of this domain
-abbrev pub IsCellOf : DomainView → ℕ → Type 0
-IsCellOf d cell = cell < cells_in d.domain
+-- a cell of this domain, and of no other one
+abbrev pub IsCellOf : DomainView → CellView → Type 0
+IsCellOf d place = IsCellIn d.domain place
 
 -- the writer of a cell of this domain
 abbrev pub IsWriterOf : DomainView → WriterView → Type 0
-IsWriterOf d w = (w.domain ≡ d.domain) × IsCellOf d w.cell
+IsWriterOf d w = IsCellOf d (cell_of w)
 
 abbrev pub AreWritersOf : DomainView → List WriterView → Type 0
 AreWritersOf d writers = All (IsWriterOf d) writers

@@ -6,6 +6,7 @@ use Rattle.sections.specs.Dealing.{new_writer}
 use Rattle.domain.specs.Views.{DomainView, CpuView}
 use Rattle.notify.specs.declared.block.Block.{Block}
 use Rattle.notify.specs.Calling.{GivesAt}
+use Rattle.shelf.specs.Cells.{cell_of}
 use Rattle.notify.specs.Chains.{ChainState, ChainCell}
 use Rattle.notify.specs.Reading.{Calls}
 use Rattle.srcubench.specs.Calling.{AreOutcomes}
@@ -62,16 +63,16 @@ pub have_changed : (rounds : ℕ) (d : DomainView) (cpus : List (CpuView (Unit {
 have_changed rounds d cpus s s' c c' has changes = record { domain = d; readers = cpus; chain = s; changer = c; has = has; last_chain = s'; last = c'; changes = changes }
 
 -- the chain lies in the one cell
-the_cell : (d : DomainView) (v : ChainCell) (cell ids : ℕ) (w : WriterView) → v ≡ record { cell = cell; ids = ids } → cell ≡ w.cell → w ≡ new_writer d.domain 0 2 → v ≡ record { cell = 0; ids = ids }
-the_cell d v cell ids w is at pen = is ∙ ap (λ n. record { cell = n; ids = ids }) (at ∙ ap (λ (z : WriterView). z.cell) pen)
+the_cell : (d : DomainView) (v : ChainCell) (ids : ℕ) (w : WriterView) → v ≡ record { place = cell_of w; ids = ids } → w ≡ new_writer d.domain 0 2 → v ≡ record { place = record { domain = d.domain; cell = 0 }; ids = ids }
+the_cell d v ids w is pen = is ∙ ap (λ (z : WriterView). record { place = cell_of z; ids = ids }) pen
 
-pub have_called : {E : Type 0} (threads blocks times : ℕ) (d : DomainView) (cpus : List (CpuView (Unit {0}))) (s : ChainState) (c : CpuView (Unit {0})) (v : ChainCell) (cell : ℕ) (w : WriterView) (outcomes : List (Result (CpuView (Unit {0})) E))
-    → HasChain threads blocks d cpus s c → v ≡ record { cell = cell; ids = blocks } → cell ≡ w.cell → w ≡ new_writer d.domain 0 2 → AreOutcomes (CallsOften blocks v times) cpus outcomes → All IsOk outcomes → HaveCalled threads blocks times
-have_called threads blocks times d cpus s c v cell w outcomes has is at pen are all = record {
+pub have_called : {E : Type 0} (threads blocks times : ℕ) (d : DomainView) (cpus : List (CpuView (Unit {0}))) (s : ChainState) (c : CpuView (Unit {0})) (v : ChainCell) (w : WriterView) (outcomes : List (Result (CpuView (Unit {0})) E))
+    → HasChain threads blocks d cpus s c → v ≡ record { place = cell_of w; ids = blocks } → w ≡ new_writer d.domain 0 2 → AreOutcomes (CallsOften blocks v times) cpus outcomes → All IsOk outcomes → HaveCalled threads blocks times
+have_called threads blocks times d cpus s c v w outcomes has is pen are all = record {
   domain = d;
   readers = cpus;
   chain = s;
   changer = c;
   has = has;
-  each = subst (λ (z : ChainCell). EachBecomes (CallsOften blocks z times) cpus) (the_cell d v cell blocks w is at pen) (each_became (CallsOften blocks v times) cpus outcomes are all);
+  each = subst (λ (z : ChainCell). EachBecomes (CallsOften blocks z times) cpus) (the_cell d v blocks w is pen) (each_became (CallsOften blocks v times) cpus outcomes are all);
 }

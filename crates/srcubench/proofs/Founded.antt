@@ -4,6 +4,7 @@ use Rattle.std.proofs.lemmas.List.{get_or_append_left}
 use Rattle.std.proofs.Math.Seq.{get_or-append_seam}
 use Rattle.std.specs.Option.{option_to_list}
 use Rattle.sections.specs.Words.{cells_in}
+use Rattle.shelf.specs.Cells.{CellView, IsCellIn, cell_of}
 use Rattle.sections.specs.WriterViews.{WriterView}
 use Rattle.sections.specs.Dealing.{AreNewWriters}
 use Rattle.domain.specs.Views.{DomainView, CpuView, IsOf}
@@ -57,10 +58,11 @@ module _ {J : Type 0} (readers : ℕ) (d : DomainView) (cpus rest : List (CpuVie
   changer_here all = subst (λ (z : CpuView J). IsOf d z) last_there (all.here readers last there)
 
 -- each reader reads the one cell
-pub reads_cell : {J : Type 0} (readers cell : ℕ) (d : DomainView) (cpus : List (CpuView J)) (changer : CpuView J) (w : WriterView) → IsNew readers d cpus changer w → cells_in d.domain ≡ 1 → cell ≡ w.cell → All (λ c. cell < cells_in c.cpu.domain) cpus
-reads_cell readers cell d cpus changer w new one is = λ k c lt.
+pub reads_cell : {J : Type 0} (readers : ℕ) (place : CellView) (d : DomainView) (cpus : List (CpuView J)) (changer : CpuView J) (w : WriterView) → IsNew readers d cpus changer w → cells_in d.domain ≡ 1 → place ≡ cell_of w → All (λ c. IsCellIn c.cpu.domain place) cpus
+reads_cell readers place d cpus changer w new one is = λ k c lt.
     let few = new.count in
     let here : (slice_index_or cpus k c).cpu.domain ≡ d.domain = ap (λ (z : CpuView _). z.cpu.domain) (new.each k c (omega (arith, lt, few))) in
     let cells : cells_in (slice_index_or cpus k c).cpu.domain ≡ 1 = ap cells_in here ∙ one in
-    let first : cell ≡ 0 = is ∙ ap (λ (z : WriterView). z.cell) new.pen in
-    omega (arith, cells, first)
+    let first : place.cell ≡ 0 = ap (λ (z : CellView). z.cell) is ∙ ap (λ (z : WriterView). z.cell) new.pen in
+    let domain : place.domain ≡ d.domain = ap (λ (z : CellView). z.domain) is ∙ ap (λ (z : WriterView). z.domain) new.pen in
+    (domain ∙ sym here, omega (arith, cells, first))

@@ -84,4 +84,4 @@ pub record HaveCalled (threads blocks times : ℕ) : Type 0 where
   pub chain : ChainState
   pub changer : CpuView (Unit {0})
   pub has : HasChain threads blocks domain readers chain changer
-  pub each : EachBecomes (CallsOften blocks (record { cell = 0; ids = blocks }) times) readers
+  pub each : EachBecomes (CallsOften blocks (record { place = record { domain = domain.domain; cell = 0 }; ids = blocks }) times) readers

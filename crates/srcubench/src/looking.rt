@@ -1,6 +1,6 @@
 //! Keys of a table that are looked up, or read through a lease: a thread for each of a domain's readers.
-ghost use Rattle.std.specs.Prelude.{◌≡◌, ◌^◌, ◌<◌, ◌≤◌, Some, All, IfOk};
-ghost use Rattle.sections.specs.Words.{cells_in};
+ghost use Rattle.std.specs.Prelude.{◌≡◌, ◌^◌, ◌≤◌, Some, All, IfOk};
+ghost use Rattle.shelf.specs.Cells.{IsCellIn};
 ghost use Rattle.srcubench.specs.Calling.{AreOutcomes};
 ghost use Rattle.srcubench.specs.Tabling.{LeasesOnce, Looks, LooksOften, HaveLooked};
 
@@ -18,9 +18,9 @@ use std::thread::Threads;
 use std::time::{Clock, Instant};
 
 /// The plug of the key, through a lease that ends here.
-fn lease_once(cpu: &mut Cpu<()>, view: TableView) -> Result<Option<u32>, Exhausted>
-    requires { view < cells_in cpu.old.cpu.domain }
-    ensures { IfOk result (λ plug. LeasesOnce view plug cpu.old cpu.new) }
+fn lease_once(cpu: &mut Cpu<()>, view: &TableView) -> Result<Option<u32>, Exhausted>
+    requires { IsCellIn cpu.old.cpu.domain view.now }
+    ensures { IfOk result (λ plug. LeasesOnce view.now.cell plug cpu.old cpu.new) }
 {
     let mut lease = view.lease(cpu)?;
     let plug = lease.get(cpu, KEY);
@@ -29,9 +29,9 @@ fn lease_once(cpu: &mut Cpu<()>, view: TableView) -> Result<Option<u32>, Exhaust
 }
 
 /// The plug of the key, looked up or through a lease.
-fn find_plug(cpu: &mut Cpu<()>, view: TableView, leased: bool) -> Result<Option<u32>, Exhausted>
-    requires { view < cells_in cpu.old.cpu.domain }
-    ensures { IfOk result (λ plug. Looks leased view plug cpu.old cpu.new) }
+fn find_plug(cpu: &mut Cpu<()>, view: &TableView, leased: bool) -> Result<Option<u32>, Exhausted>
+    requires { IsCellIn cpu.old.cpu.domain view.now }
+    ensures { IfOk result (λ plug. Looks leased view.now.cell plug cpu.old cpu.new) }
 {
     if leased {
         return lease_once(cpu, view);
@@ -41,9 +41,9 @@ fn find_plug(cpu: &mut Cpu<()>, view: TableView, leased: bool) -> Result<Option<
 }
 
 /// The same, and the plug has to be that of the key.
-fn look_once(cpu: &mut Cpu<()>, view: TableView, leased: bool) -> Result<(), Miss>
-    requires { view < cells_in cpu.old.cpu.domain }
-    ensures { IfOk result (λ _. Looks leased view (Some 7) cpu.old cpu.new) }
+fn look_once(cpu: &mut Cpu<()>, view: &TableView, leased: bool) -> Result<(), Miss>
+    requires { IsCellIn cpu.old.cpu.domain view.now }
+    ensures { IfOk result (λ _. Looks leased view.now.cell (Some 7) cpu.old cpu.new) }
 {
     let found = find_plug(cpu, view, leased)?;
     let Some(plug) = found else {
@@ -57,9 +57,9 @@ fn look_once(cpu: &mut Cpu<()>, view: TableView, leased: bool) -> Result<(), Mis
 }
 
 /// Does so so many times, one behind the other.
-fn look_often(cpu: &mut Cpu<()>, view: TableView, leased: bool, times: u64) -> Result<(), Miss>
-    requires { view < cells_in cpu.old.cpu.domain }
-    ensures { IfOk result (λ _. LooksOften leased view times cpu.old cpu.new) }
+fn look_often(cpu: &mut Cpu<()>, view: &TableView, leased: bool, times: u64) -> Result<(), Miss>
+    requires { IsCellIn cpu.old.cpu.domain view.now }
+    ensures { IfOk result (λ _. LooksOften leased view.now.cell times cpu.old cpu.new) }
 {
     for _ in 0..times {
         look_once(cpu, view, leased)?;
@@ -68,9 +68,9 @@ fn look_often(cpu: &mut Cpu<()>, view: TableView, leased: bool, times: u64) -> R
 }
 
 /// Does so on this processor.
-fn look_here(mut cpu: Cpu<()>, view: TableView, leased: bool, times: u64) -> Result<Cpu<()>, Miss>
-    requires { view < cells_in cpu.cpu.domain }
-    ensures { IfOk result (λ last. LooksOften leased view times cpu last) }
+fn look_here(mut cpu: Cpu<()>, view: &TableView, leased: bool, times: u64) -> Result<Cpu<()>, Miss>
+    requires { IsCellIn cpu.cpu.domain view.now }
+    ensures { IfOk result (λ last. LooksOften leased view.now.cell times cpu last) }
 {
     look_often(&mut cpu, view, leased, times)?;
     Ok(cpu)
@@ -80,12 +80,12 @@ fn look_here(mut cpu: Cpu<()>, view: TableView, leased: bool, times: u64) -> Res
 fn look_together<R: Threads + Sync>(
     rt: &R,
     cpus: Vec<Cpu<()>>,
-    view: TableView,
+    view: &TableView,
     leased: bool,
     times: u64,
 ) -> Result<Vec<Result<Cpu<()>, Miss>>, AllocError>
-    requires { All (λ c. view < cells_in c.cpu.domain) cpus.items }
-    ensures { IfOk result (λ outcomes. AreOutcomes (LooksOften leased view times) cpus.items outcomes.items) }
+    requires { All (λ c. IsCellIn c.cpu.domain view.now) cpus.items }
+    ensures { IfOk result (λ outcomes. AreOutcomes (LooksOften leased view.now.cell times) cpus.items outcomes.items) }
 {
     thread::map_vec(rt, cpus, &|cpu| look_here(cpu, view, leased, times))
 }
@@ -111,7 +111,7 @@ pub fn run<R: Threads + Sync + Clock + AllocGlobal>(
     let (mut table, view) = Table::new(writer);
     fill(&domain, &mut changer, &mut table)?;
     let start = Instant::now(rt)?;
-    let outcomes = look_together(rt, readers, view, leased, times)?;
+    let outcomes = look_together(rt, readers, &view, leased, times)?;
     let elapsed = start.elapsed(rt)?;
     first_error(outcomes.as_slice())?;
     Ok(Timed {

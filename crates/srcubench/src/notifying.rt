@@ -1,6 +1,6 @@
 //! Calls of a notifier chain: a thread for each of a domain's readers, in which handlers are called that do nothing.
-ghost use Rattle.std.specs.Prelude.{◌≡◌, ◌^◌, ◌<◌, ◌≤◌, All, length, IfOk};
-ghost use Rattle.sections.specs.Words.{cells_in};
+ghost use Rattle.std.specs.Prelude.{◌≡◌, ◌^◌, ◌≤◌, All, length, IfOk};
+ghost use Rattle.shelf.specs.Cells.{IsCellIn};
 ghost use Rattle.srcubench.specs.Calling.{AreOutcomes};
 ghost use Rattle.srcubench.specs.Chaining.{CallsOnce, CallsOften, HaveCalled};
 
@@ -34,13 +34,13 @@ impl Handler for Idle {
 /// Calls the chain. So many handlers have to be called, and the last one has to answer OK.
 fn call_once(
     cpu: &mut Cpu<()>,
-    view: ChainView,
+    view: &ChainView,
     handlers: &[Box<dyn Handler>],
     blocks: u64,
 ) -> Result<(), Miss>
-    requires cell { view.cell < cells_in cpu.old.cpu.domain }
-    requires handlers { view.ids ≤ length handlers.now }
-    ensures { IfOk result (λ _. CallsOnce blocks view cpu.old cpu.new) }
+    requires cell { IsCellIn cpu.old.cpu.domain view.now.place }
+    requires handlers { view.now.ids ≤ length handlers.now }
+    ensures { IfOk result (λ _. CallsOnce blocks view.now cpu.old cpu.new) }
 {
     let (last, count) = view.call_chain(cpu, handlers, 0, 0)?;
     if last == OK && count == blocks {
@@ -53,14 +53,14 @@ fn call_once(
 /// Does so so many times, one behind the other.
 fn call_often(
     cpu: &mut Cpu<()>,
-    view: ChainView,
+    view: &ChainView,
     handlers: &[Box<dyn Handler>],
     blocks: u64,
     times: u64,
 ) -> Result<(), Miss>
-    requires cell { view.cell < cells_in cpu.old.cpu.domain }
-    requires handlers { view.ids ≤ length handlers.now }
-    ensures { IfOk result (λ _. CallsOften blocks view times cpu.old cpu.new) }
+    requires cell { IsCellIn cpu.old.cpu.domain view.now.place }
+    requires handlers { view.now.ids ≤ length handlers.now }
+    ensures { IfOk result (λ _. CallsOften blocks view.now times cpu.old cpu.new) }
 {
     for _ in 0..times {
         call_once(cpu, view, handlers, blocks)?;
@@ -72,13 +72,13 @@ fn call_often(
 fn call_here(
     alloc: Global,
     mut cpu: Cpu<()>,
-    view: ChainView,
+    view: &ChainView,
     blocks: u64,
     times: u64,
 ) -> Result<Cpu<()>, Miss>
-    requires cell { view.cell < cells_in cpu.cpu.domain }
-    requires ids { view.ids ≡ blocks }
-    ensures { IfOk result (λ last. CallsOften blocks view times cpu last) }
+    requires cell { IsCellIn cpu.cpu.domain view.now.place }
+    requires ids { view.now.ids ≡ blocks }
+    ensures { IfOk result (λ last. CallsOften blocks view.now times cpu last) }
 {
     let mut handlers: Vec<Box<dyn Handler>> = Vec::new(alloc);
     for _ in 0..blocks {
@@ -93,13 +93,13 @@ fn call_together<R: Threads + Sync>(
     rt: &R,
     alloc: Global,
     cpus: Vec<Cpu<()>>,
-    view: ChainView,
+    view: &ChainView,
     blocks: u64,
     times: u64,
 ) -> Result<Vec<Result<Cpu<()>, Miss>>, AllocError>
-    requires cell { All (λ c. view.cell < cells_in c.cpu.domain) cpus.items }
-    requires ids { view.ids ≡ blocks }
-    ensures { IfOk result (λ outcomes. AreOutcomes (CallsOften blocks view times) cpus.items outcomes.items) }
+    requires cell { All (λ c. IsCellIn c.cpu.domain view.now.place) cpus.items }
+    requires ids { view.now.ids ≡ blocks }
+    ensures { IfOk result (λ outcomes. AreOutcomes (CallsOften blocks view.now times) cpus.items outcomes.items) }
 {
     thread::map_vec(rt, cpus, &|cpu| call_here(alloc, cpu, view, blocks, times))
 }
@@ -123,11 +123,10 @@ pub fn run<R: Threads + Sync + Clock + AllocGlobal>(
         mut changer,
         writer,
     } = found(rt.alloc(), threads)?;
-    let cell = writer.cell();
-    let (mut chain, view) = Chain::new(writer, cell, blocks);
+    let (mut chain, view) = Chain::new(writer, blocks);
     register_all(&domain, &mut changer, &mut chain, blocks)?;
     let start = Instant::now(rt)?;
-    let outcomes = call_together(rt, rt.alloc(), readers, view, blocks, times)?;
+    let outcomes = call_together(rt, rt.alloc(), readers, &view, blocks, times)?;
     let elapsed = start.elapsed(rt)?;
     first_error(outcomes.as_slice())?;
     Ok(Timed {

@@ -97,8 +97,7 @@ pub fn run<R: Clock + AllocGlobal>(rt: &R, rounds: u64) -> Result<Timed>
         writer,
         ..
     } = found(rt.alloc(), 0)?;
-    let cell = writer.cell();
-    let (mut chain, _) = Chain::new(writer, cell, BLOCKS);
+    let (mut chain, _) = Chain::new(writer, BLOCKS);
     register_all(&domain, &mut changer, &mut chain, BLOCKS)?;
     let start = Instant::now(rt)?;
     change_often(&domain, &mut changer, &mut chain, rounds)?;

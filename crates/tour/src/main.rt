@@ -1,9 +1,9 @@
 //! A tour of the library. Threads read a configuration in sections of a domain, while others replace it.
 #![tactic(auto)]
 
-ghost use Rattle.std.specs.Prelude.{◌≡◌, ◌<◌, IfOk, IfSome};
+ghost use Rattle.std.specs.Prelude.{◌≡◌, IfOk, IfSome};
 ghost use Rattle.std.specs.Thread.{IsSync};
-ghost use Rattle.srcu.specs.Words.{cells_in, IsCellOf, IsPinned, IsWriterOf};
+ghost use Rattle.srcu.specs.Words.{IsCellIn, IsCellOf, cell_of, IsPinned, IsWriterOf};
 
 mod callbacks;
 mod config;
@@ -59,7 +59,7 @@ fn shelve(
 ) -> Result<(Shelf<Config>, Values<Config>)>
     requires { writer.domain ≡ worker.old.domain.domain }
     ensures worker { worker.new.domain ≡ worker.old.domain }
-    ensures cell { IfOk result (λ r. (r.0.domain ≡ worker.old.domain.domain) × (r.1 ≡ writer.cell)) }
+    ensures cell { IfOk result (λ r. (r.0.domain ≡ worker.old.domain.domain) × (r.1 ≡ cell_of writer)) }
 {
     let (mut shelf, configs) = Shelf::new(writer);
     worker.replace(&mut shelf, &Config::new(number))?;
@@ -96,7 +96,7 @@ fn wait<R: Threads + Wait + Clock + Sync>(
     configs: &Values<Config>,
     archive: &Archive,
 ) -> Result<Slept>
-    requires reader { configs.now < cells_in reader.cpu.domain }
+    requires reader { IsCellIn reader.cpu.domain configs.now }
     requires updater { shelf.old.domain ≡ updater.old.domain.domain }
 {
     let sign = Sign::new();
@@ -232,7 +232,7 @@ fn call_back<R: Threads + Wait + Clock + Sync>(
     archive: &Archive,
     stop: &Stop<Old>,
 ) -> Result<(Slept, u64, Config)>
-    requires reader { configs.now < cells_in reader.cpu.domain }
+    requires reader { IsCellIn reader.cpu.domain configs.now }
     requires stop { (stop.now.domain ≡ updater.old.domain) × (stop.now.domain ≡ driver.old.domain) }
     requires shelf { shelf.old.domain ≡ updater.old.domain.domain }
     requires cell { IsCellOf updater.old.domain configs.now }
@@ -374,7 +374,7 @@ fn show_filed<R: Threads + Wait + Clock + Print + AllocGlobal + Sync>(rt: &R) ->
 fn lend_with<R: Threads + Clock + Sync>(rt: &R, team: &mut Team<'_, Old>) -> Result<Leased> {
     let (mut taker, mut reader, mut updater, writer) = crew(team).ok_or(missing())?;
     let (mut table, view) = furnish(&mut updater, writer)?;
-    lend(rt, &mut taker, &mut reader, &mut updater, &mut table, view)
+    lend(rt, &mut taker, &mut reader, &mut updater, &mut table, &view)
 }
 
 /// The same in a domain of its own.

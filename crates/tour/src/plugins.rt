@@ -1,6 +1,6 @@
 //! A table of plug-ins that is changed while a lease of it goes from one thread to another.
 ghost use Rattle.std.specs.Prelude.{◌≡◌, Some, IfOk};
-ghost use Rattle.srcu.specs.Words.{plug_of, HasPlug, IsCellOf};
+ghost use Rattle.srcu.specs.Words.{plug_of, cell_of, HasPlug, IsCellOf};
 ghost use Rattle.tour.specs.Leasing.{GetsAndReleases, InstallsAndLooks};
 
 use crate::config::{Old, Sign};
@@ -17,7 +17,7 @@ const KEY: u32 = 7;
 pub fn furnish(worker: &mut Worker<'_, Old>, writer: Writer) -> Result<(Table, TableView)>
     requires { writer.domain ≡ worker.old.domain.domain }
     ensures worker { worker.new.domain ≡ worker.old.domain }
-    ensures table { IfOk result (λ r. (r.0.writer.domain ≡ worker.old.domain.domain) × (r.1 ≡ writer.cell)) }
+    ensures table { IfOk result (λ r. (r.0.writer.domain ≡ worker.old.domain.domain) × (r.1 ≡ cell_of writer)) }
     ensures plug { IfOk result (λ r. plug_of r.0.rows 7 ≡ Some 70) }
 {
     let (mut table, view) = Table::new(writer);
@@ -29,15 +29,15 @@ pub fn furnish(worker: &mut Worker<'_, Old>, writer: Writer) -> Result<(Table, T
 /// Takes a lease of the version that is there, reads through it, and tells that it has it.
 fn take_lease(
     worker: &mut Worker<'_, Old>,
-    view: TableView,
+    view: &TableView,
     taken: &Sign,
 ) -> Result<(Lease, Option<u32>), Exhausted>
-    requires { IsCellOf worker.old.domain view }
+    requires { IsCellOf worker.old.domain view.now }
     ensures domain { IfOk result (λ r. r.0.held.domain ≡ worker.old.domain.domain) }
     ensures cell { IfOk result (λ r. r.0.found.cell ≡ view) }
     ensures reads { IfOk result (λ r. HasPlug r.0.found 7 r.1) }
 {
-    let mut lease = worker.lease(&view)?; // a held section, with the version that it found
+    let mut lease = worker.lease(view)?; // a held section, with the version that it found
     let plug = worker.leased(&mut lease, KEY);
     taken.give(); // an updater waits for that
     Ok((lease, plug))
@@ -47,14 +47,14 @@ fn take_lease(
 fn change(
     worker: &mut Worker<'_, Old>,
     table: &mut Table,
-    view: TableView,
+    view: &TableView,
 ) -> Result<(u64, Option<u32>)>
     requires table { table.old.writer.domain ≡ worker.old.domain.domain }
-    requires cell { IsCellOf worker.old.domain view }
-    ensures { IfOk result (λ r. InstallsAndLooks view 7 71 r.0 r.1 table.old worker.old.cpu table.new worker.new.cpu) }
+    requires cell { IsCellOf worker.old.domain view.now }
+    ensures { IfOk result (λ r. InstallsAndLooks view.now.cell 7 71 r.0 r.1 table.old worker.old.cpu table.new worker.new.cpu) }
 {
     let version = worker.install(table, KEY, 71)?;
-    let plug = worker.lookup(&view, KEY)?; // a new section finds the new version
+    let plug = worker.lookup(view, KEY)?; // a new section finds the new version
     Ok((version, plug))
 }
 
@@ -118,21 +118,21 @@ pub fn lend<R: Threads + Clock + Sync>(
     reader: &mut Worker<'_, Old>,
     updater: &mut Worker<'_, Old>,
     table: &mut Table,
-    view: TableView,
+    view: &TableView,
 ) -> Result<Leased>
     requires one { (taker.old.domain ≡ updater.old.domain) × (reader.old.domain ≡ updater.old.domain) }
     requires table { table.old.writer.domain ≡ updater.old.domain.domain }
-    requires cell { IsCellOf updater.old.domain view }
+    requires cell { IsCellOf updater.old.domain view.now }
     ensures { IfOk result (λ l. l.behind ≡ l.before) }
 {
-    let looked_up = reader.lookup(&view, KEY)?; // in a section of its own
+    let looked_up = reader.lookup(view, KEY)?; // in a section of its own
     let (taken_on, released_on) = (taker.processor(), reader.processor());
     let taken = Sign::new();
     let (leased, changed) = join(
         rt,
         || take_lease(taker, view, &taken),
         || -> Result<(u64, Option<u32>)>
-            requires { (table.now.writer.domain ≡ updater.now.domain.domain) × IsCellOf updater.now.domain view }
+            requires { (table.now.writer.domain ≡ updater.now.domain.domain) × IsCellOf updater.now.domain view.now }
         {
             taken.wait(rt);
             change(updater, table, view)

@@ -1,6 +1,6 @@
 //! Those who read the configuration, each on a processor of its own.
-ghost use Rattle.std.specs.Prelude.{◌≡◌, ◌<◌, IfOk};
-ghost use Rattle.srcu.specs.Words.{cells_in, IsCellOf, IsKept, IsPinned, IsSameCpu};
+ghost use Rattle.std.specs.Prelude.{◌≡◌, IfOk};
+ghost use Rattle.srcu.specs.Words.{IsCellIn, IsCellOf, IsKept, IsPinned, IsSameCpu};
 
 use crate::config::{Archive, Config, LOOKS, Old, Sign};
 use anyhow::Result;
@@ -14,7 +14,7 @@ const NAP: u64 = 50;
 
 /// Reads the configuration in a section.
 pub fn read_once(cpu: &mut Cpu<Old>, configs: &Values<Config>) -> Result<Config>
-    requires { configs.now < cells_in cpu.old.cpu.domain }
+    requires { IsCellIn cpu.old.cpu.domain configs.now }
     ensures { IsSameCpu cpu.old.cpu cpu.new.cpu }
 {
     let mut section = cpu.read_lock()?;
@@ -31,7 +31,7 @@ fn wait_for_another<R: Clock>(
     configs: &Values<Config>,
     this: Config,
 ) -> Result<Config>
-    requires { configs.now < cells_in cpu.old.cpu.domain }
+    requires { IsCellIn cpu.old.cpu.domain configs.now }
     ensures { IsSameCpu cpu.old.cpu cpu.new.cpu }
 {
     let mut seen = this;
@@ -85,7 +85,7 @@ pub fn read_and_sleep<R: Clock>(
     sign: &Sign,
     archive: &Archive,
 ) -> Result<Slept>
-    requires { configs.now < cells_in cpu.cpu.domain }
+    requires { IsCellIn cpu.cpu.domain configs.now }
     ensures { IfOk result (λ s. s.behind ≡ s.before) }
 {
     let mut section = cpu.read_lock()?; // srcu_read_lock
@@ -110,7 +110,7 @@ pub fn read_and_sleep<R: Clock>(
 /// Reads the configuration in a section that is open already.
 fn read_inside(cpu: &mut Cpu<Old>, section: &mut Reading, configs: &Values<Config>) -> Config
     requires here { section.old.domain ≡ cpu.old.cpu.domain }
-    requires cell { configs.now < cells_in cpu.old.cpu.domain }
+    requires cell { IsCellIn cpu.old.cpu.domain configs.now }
     ensures kept { IsKept cpu.old cpu.new }
     ensures section { section.new ≡ section.old }
 {
@@ -137,7 +137,7 @@ pub fn read_quickly(
 pub fn open(worker: &mut Worker<'_, Old>, configs: &Values<Config>) -> Result<HeldPin>
     requires { IsCellOf worker.old.domain configs.now }
     ensures domain { IfOk result (λ pin. pin.held.domain ≡ worker.old.domain.domain) }
-    ensures pinned { IfOk result (λ pin. IsPinned pin.held pin.found × (pin.found.cell ≡ configs.now)) }
+    ensures pinned { IfOk result (λ pin. IsPinned pin.held pin.found × (pin.found.cell ≡ configs.now.cell)) }
 {
     let held = worker.down_read()?; // srcu_down_read
     Ok(worker.find_held(configs, held))

@@ -70,7 +70,7 @@ pub fn replace_and_poll<R: Wait>(
 ) -> Result<Polled>
     requires shelf { shelf.old.domain ≡ worker.old.domain.domain }
     requires held { version.held.domain ≡ worker.old.domain.domain }
-    requires pinned { IsPinned version.held version.found × (version.found.cell ≡ configs.now) }
+    requires pinned { IsPinned version.held version.found × (version.found.cell ≡ configs.now.cell) }
     requires cell { IsCellOf worker.old.domain configs.now }
 {
     let replaced = worker.replace(shelf, &Config::new(number));

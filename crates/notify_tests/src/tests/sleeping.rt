@@ -1,7 +1,7 @@
 //! A handler that sleeps while the chain is changed.
-ghost use Rattle.std.specs.Prelude.{◌≡◌, ◌<◌, IfOk};
-ghost use Rattle.sections.specs.Words.{cells_in};
+ghost use Rattle.std.specs.Prelude.{◌≡◌, IfOk};
 ghost use Rattle.domain.specs.Views.{IsOf};
+ghost use Rattle.shelf.specs.Cells.{IsCellIn};
 
 use super::called::Fixed;
 use domain::{Cpu, Domain, Limits, MakeError, Progress};
@@ -64,7 +64,7 @@ fn call_asleep(
     view: ChainView,
     signals: Arc<Signals>,
 ) -> Result<Option<(u32, u64)>, AllocError>
-    requires { (view.cell < cells_in cpu.cpu.domain) × (view.ids ≡ 4) }
+    requires { IsCellIn cpu.cpu.domain view.place × (view.ids ≡ 4) }
 {
     let alloc = rt.alloc();
     let mut handlers: Vec<Box<dyn Handler>> = Vec::new(alloc);
@@ -114,7 +114,7 @@ fn change_twice<R: Clock>(
 fn two_cpus(alloc: Global) -> Result<(Domain<()>, Cpu<()>, Cpu<()>, Chain, ChainView), MakeError>
     ensures cpus { IfOk result (λ r. IsOf r.0 r.1 × IsOf r.0 r.2) }
     ensures chain { IfOk result (λ r. (r.3.writer.domain ≡ r.0.domain) × (r.3.ids ≡ 4)) }
-    ensures view { IfOk result (λ r. (r.4.cell < cells_in r.1.cpu.domain) × (r.4.ids ≡ 4)) }
+    ensures view { IfOk result (λ r. IsCellIn r.1.cpu.domain r.4.place × (r.4.ids ≡ 4)) }
 {
     let limits = Limits {
         sections: Limits::MOST_SECTIONS,
@@ -125,9 +125,7 @@ fn two_cpus(alloc: Global) -> Result<(Domain<()>, Cpu<()>, Cpu<()>, Chain, Chain
     let (domain, mut cpus, mut writers) = Domain::<()>::new(alloc, 2, limits)?;
     let second = cpus.pop().unwrap();
     let first = cpus.pop().unwrap();
-    let writer = writers.pop().unwrap();
-    let cell = writer.cell();
-    let (chain, view) = Chain::new(writer, cell, 4);
+    let (chain, view) = Chain::new(writers.pop().unwrap(), 4);
     Ok((domain, first, second, chain, view))
 }
 
@@ -154,7 +152,7 @@ fn call_beside<R: Threads>(
     view: ChainView,
     signals: (Arc<Signals>, Arc<Signals>),
 ) -> (Result<Option<(u32, u64)>, AllocError>, [bool; 4])
-    requires view { (view.cell < cells_in caller.cpu.domain) × (view.ids ≡ 4) }
+    requires view { IsCellIn caller.cpu.domain view.place × (view.ids ≡ 4) }
     requires changer { IsOf domain.now changer }
     requires chain { (chain.writer.domain ≡ domain.now.domain) × (chain.ids ≡ 4) }
 {
@@ -162,7 +160,7 @@ fn call_beside<R: Threads>(
     join(
         rt,
         ||
-            requires { (view.cell < cells_in caller.cpu.domain) × (view.ids ≡ 4) }
+            requires { IsCellIn caller.cpu.domain view.place × (view.ids ≡ 4) }
         { call_asleep(clock, caller, view, theirs) },
         ||
             requires cpu { IsOf domain.now changer }

@@ -22,15 +22,15 @@ pub(super) struct World {
 }
 
 impl Model for World {
-    ghost use Rattle.std.specs.Prelude.{◌≡◌, ◌<◌};
-    ghost use Rattle.sections.specs.Words.{cells_in};
+    ghost use Rattle.std.specs.Prelude.{◌≡◌};
     ghost use Rattle.domain.specs.Views.{IsOf};
+    ghost use Rattle.shelf.specs.Cells.{IsCellIn};
 
     ghost Value = { Unit {0} };
 
     ghost view = { λ w. tt };
 
-    ghost invariant = { λ w. IsOf w.domain w.cpu × (w.chain.writer.domain ≡ w.domain.domain) × (w.chain.ids ≡ 16) × (w.view.cell < cells_in w.domain.domain) × (w.view.ids ≡ 16) };
+    ghost invariant = { λ w. IsOf w.domain w.cpu × (w.chain.writer.domain ≡ w.domain.domain) × (w.chain.ids ≡ 16) × IsCellIn w.domain.domain w.view.place × (w.view.ids ≡ 16) };
 }
 
 /// A new domain with one cell of so many slots, its processor, and the cell's writer.
@@ -84,8 +84,7 @@ impl World {
         requires here { IsOf domain cpu }
         requires writer { (writer.domain ≡ domain.domain) × (writer.cell < cells_in domain.domain) }
     {
-        let cell = writer.cell();
-        let (chain, view) = Chain::new(writer, cell, IDS);
+        let (chain, view) = Chain::new(writer, IDS);
         World {
             domain,
             cpu,

@@ -1,8 +1,8 @@
 //! Leases that threads hand to one another, while another one installs.
 ghost use Rattle.std.specs.Prelude.{◌≡◌, ◌<◌, IfOk, IfSome};
-ghost use Rattle.sections.specs.Words.{cells_in};
 ghost use Rattle.desk.specs.Calls.{new_seat};
 ghost use Rattle.domain.specs.Views.{IsOf};
+ghost use Rattle.shelf.specs.Cells.{IsCellIn};
 
 use super::world::drive_on;
 use desk::{Desk, DeskSeat};
@@ -48,10 +48,10 @@ fn hand_over(
     cpu: &mut Cpu<()>,
     seat: &mut DeskSeat<Lease>,
     desk: &Desk<Lease>,
-    view: TableView,
+    view: &TableView,
 ) -> Found
     requires cpu { IsOf domain.now cpu.old }
-    requires cell { view < cells_in domain.now.domain }
+    requires cell { IsCellIn domain.now.domain view.now }
     requires seat { (seat.old.desk ≡ desk.now.desk) × (seat.old.domain ≡ domain.now.domain) }
     ensures cpu { IsOf domain.now cpu.new }
     ensures seat { (seat.new.desk ≡ seat.old.desk) × (seat.new.number ≡ seat.old.number) × (seat.new.domain ≡ seat.old.domain) }
@@ -83,10 +83,10 @@ fn lease_on(
     mut cpu: Cpu<()>,
     mut seat: DeskSeat<Lease>,
     desk: &Desk<Lease>,
-    view: TableView,
+    view: &TableView,
 ) -> (Cpu<()>, DeskSeat<Lease>, Found)
     requires cpu { IsOf domain.now cpu }
-    requires cell { view < cells_in domain.now.domain }
+    requires cell { IsCellIn domain.now.domain view.now }
     requires seat { (seat.desk ≡ desk.now.desk) × (seat.domain ≡ domain.now.domain) }
     ensures cpu { IsOf domain.now result.0 }
     ensures seat { (result.1.desk ≡ seat.desk) × (result.1.number ≡ seat.number) }
@@ -168,11 +168,11 @@ fn lease_by_two<R: Abort + AllocGlobal + Threads + Sync>(
     domain: &Domain<()>,
     mut first: Cpu<()>,
     second: Cpu<()>,
-    view: TableView,
+    view: &TableView,
 ) -> Result<Found, AllocError>
     requires first { IsOf domain.now first }
     requires second { IsOf domain.now second }
-    requires cell { view < cells_in domain.now.domain }
+    requires cell { IsCellIn domain.now.domain view.now }
 {
     let (desk, left, right) = two_seats(rt.alloc(), first.home())?;
     let ((mut cpu, left, one), (_, right, other)) = join(
@@ -198,11 +198,11 @@ fn lease_by_four<R: Abort + AllocGlobal + Threads + Sync>(
     rt: &R,
     domain: &Domain<()>,
     readers: Readers,
-    view: TableView,
+    view: &TableView,
 ) -> [Result<Found, AllocError>; 2]
     requires first { IsOf domain.now readers.first × IsOf domain.now readers.second }
     requires last { IsOf domain.now readers.third × IsOf domain.now readers.fourth }
-    requires cell { view < cells_in domain.now.domain }
+    requires cell { IsCellIn domain.now.domain view.now }
 {
     let Readers {
         first,
@@ -215,12 +215,12 @@ fn lease_by_four<R: Abort + AllocGlobal + Threads + Sync>(
         ||
             requires first { IsOf domain.now first }
             requires second { IsOf domain.now second }
-            requires cell { view < cells_in domain.now.domain }
+            requires cell { IsCellIn domain.now.domain view.now }
         { lease_by_two(rt, domain, first, second, view) },
         ||
             requires third { IsOf domain.now third }
             requires fourth { IsOf domain.now fourth }
-            requires cell { view < cells_in domain.now.domain }
+            requires cell { IsCellIn domain.now.domain view.now }
         { lease_by_two(rt, domain, third, fourth, view) },
     );
     [one, other]
@@ -261,7 +261,7 @@ fn install_all<R: Wait>(rt: &R, domain: &Domain<()>, mut cpu: Cpu<()>, mut table
 fn five_cpus(alloc: Global) -> Result<(Domain<()>, Readers, Cpu<()>, Table, TableView), MakeError>
     ensures first { IfOk result (λ r. IsOf r.0 r.1.first × IsOf r.0 r.1.second) }
     ensures last { IfOk result (λ r. IsOf r.0 r.1.third × IsOf r.0 r.1.fourth) }
-    ensures writer { IfOk result (λ r. IsOf r.0 r.2 × (r.3.writer.domain ≡ r.0.domain) × (r.4 < cells_in r.0.domain)) }
+    ensures writer { IfOk result (λ r. IsOf r.0 r.2 × (r.3.writer.domain ≡ r.0.domain) × IsCellIn r.0.domain r.4) }
 {
     let limits = Limits {
         sections: Limits::MOST_SECTIONS,
@@ -295,8 +295,8 @@ fn lease_beside<R: Wait + Abort + AllocGlobal + Threads + Sync>(
         ||
             requires first { IsOf domain readers.first × IsOf domain readers.second }
             requires last { IsOf domain readers.third × IsOf domain readers.fourth }
-            requires cell { view < cells_in domain.domain }
-        { lease_by_four(rt, &domain, readers, view) },
+            requires cell { IsCellIn domain.domain view }
+        { lease_by_four(rt, &domain, readers, &view) },
         || install_all(rt, &domain, writer, table),
     );
     Ok(found)

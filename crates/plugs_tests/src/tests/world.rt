@@ -21,16 +21,16 @@ pub struct World {
 }
 
 impl Model for World {
-    ghost use Rattle.std.specs.Prelude.{◌≡◌, ◌<◌};
+    ghost use Rattle.std.specs.Prelude.{◌≡◌};
     ghost use Rattle.atomic_table.specs.Seated.{TableId};
-    ghost use Rattle.sections.specs.Words.{cells_in};
     ghost use Rattle.domain.specs.Views.{IsOf};
+    ghost use Rattle.shelf.specs.Cells.{IsCellIn};
 
     ghost Value = { TableId };
 
     ghost view = { λ w. w.domain.domain };
 
-    ghost invariant = { λ w. IsOf w.domain w.writer × IsOf w.domain w.reader × (w.table.writer.domain ≡ w.domain.domain) × (w.view < cells_in w.domain.domain) };
+    ghost invariant = { λ w. IsOf w.domain w.writer × IsOf w.domain w.reader × (w.table.writer.domain ≡ w.domain.domain) × IsCellIn w.domain.domain w.view };
 }
 
 /// Two processors of a new domain with two cells of so many slots, and the writer of the second cell.

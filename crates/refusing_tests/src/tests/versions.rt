@@ -35,8 +35,7 @@ fn one_cell<'a>(
 fn change_chain(heap: &Heap) -> Result<Option<([u64; 15], usize, u64)>, MakeError> {
     heap.refuse(0);
     let (domain, mut cpu, writer) = one_cell(heap)?;
-    let cell = writer.cell();
-    let (mut chain, view) = Chain::new(writer, cell, 16);
+    let (mut chain, view) = Chain::new(writer, 16);
     heap.refuse(1);
     let is_changed = chain.register(&domain, &mut cpu, 3, 1).is_ok()
         && chain.register(&domain, &mut cpu, 4, 2).is_ok()

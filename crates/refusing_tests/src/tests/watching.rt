@@ -22,7 +22,11 @@ fn snapshot_after<'a>(
         heap.refuse(nth);
         let came = domain.snapshot(heap, cpu).is_ok();
         if came {
-            return if heap.has_refused() { None } else { Some(nth - 1) };
+            return if heap.has_refused() {
+                None
+            } else {
+                Some(nth - 1)
+            };
         }
     }
     None
@@ -41,7 +45,11 @@ fn holders_after<'a>(
         heap.refuse(nth);
         let came = domain.holders(heap, cpu, Index::Zero).is_ok();
         if came {
-            return if heap.has_refused() { None } else { Some(nth - 1) };
+            return if heap.has_refused() {
+                None
+            } else {
+                Some(nth - 1)
+            };
         }
     }
     None

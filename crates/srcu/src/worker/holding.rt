@@ -47,9 +47,9 @@ impl<'a, J, A: Allocator> Worker<'a, J, A> {
         requires here { held.domain ≡ self.old.domain.domain }
         requires cell { IsCellOf self.old.domain values.now }
         ensures same { IsSameWorker self.old self.new }
-        ensures finds { Finds values.now held self.old.cpu.cpu self.new.cpu.cpu result.found }
+        ensures finds { Finds values.now.cell held self.old.cpu.cpu self.new.cpu.cpu result.found }
         ensures pinned { IsPinned held result.found }
-        ensures cell { result.found.cell ≡ values.now }
+        ensures cell { result.found.cell ≡ values.now.cell }
         ensures held { result.held ≡ held }
         ensures rest { self.new.cpu ≡ with_cpu self.new.cpu.cpu self.old.cpu }
     {
@@ -60,7 +60,8 @@ impl<'a, J, A: Allocator> Worker<'a, J, A> {
     pub fn load_held<T: Versioned>(&mut self, values: &Values<T>, pin: &mut HeldPin) -> T
         requires here { pin.old.held.domain ≡ self.old.domain.domain }
         requires pinned { IsPinned pin.old.held pin.old.found }
-        requires cell { pin.old.found.cell ≡ values.now }
+        requires same { values.now.domain ≡ self.old.domain.domain }
+        requires cell { pin.old.found.cell ≡ values.now.cell }
         ensures same { IsSameWorker self.old self.new }
         ensures loads { Loads T.value pin.old.held pin.old.found self.old.cpu self.new.cpu result }
         ensures pin { (pin.new.held ≡ pin.old.held) × (pin.new.found ≡ pin.old.found) }

@@ -43,7 +43,7 @@ impl<'a, J, A: Allocator> Worker<'a, J, A> {
         requires { IsCellOf self.old.domain values.now }
         ensures same { IsSameWorker self.old self.new }
         ensures reads { MatchResult result
-            (λ value. ReadsOnce T.value values.now self.old.cpu value self.new.cpu)
+            (λ value. ReadsOnce T.value values.now.cell self.old.cpu value self.new.cpu)
             (λ _. works.IsRefused self.old.cpu self.new.cpu) }
     {
         let mut reading = self.cpu.read_lock()?;
@@ -57,7 +57,7 @@ impl<'a, J, A: Allocator> Worker<'a, J, A> {
         requires { IsCellOf self.old.domain table.now }
         ensures same { IsSameWorker self.old self.new }
         ensures looks_up { MatchResult result
-            (λ plug. LooksUp table.now key plug self.old.cpu self.new.cpu)
+            (λ plug. LooksUp table.now.cell key plug self.old.cpu self.new.cpu)
             (λ _. LooksInVain self.old.cpu.cpu self.new.cpu.cpu) }
         ensures rest { self.new.cpu ≡ with_cpu self.new.cpu.cpu self.old.cpu }
     {
@@ -69,7 +69,7 @@ impl<'a, J, A: Allocator> Worker<'a, J, A> {
         requires { IsCellOf self.old.domain table.now }
         ensures same { IsSameWorker self.old self.new }
         ensures leases { MatchResult result
-            (λ lease. Leases table.now lease self.old.cpu self.new.cpu)
+            (λ lease. Leases table.now.cell lease self.old.cpu self.new.cpu)
             (λ _. LooksInVain self.old.cpu.cpu self.new.cpu.cpu) }
         ensures here { IfOk result (λ lease. lease.held.domain ≡ self.old.domain.domain) }
         ensures rest { self.new.cpu ≡ with_cpu self.new.cpu.cpu self.old.cpu }
@@ -110,7 +110,7 @@ impl<'a, J, A: Allocator> Worker<'a, J, A> {
         action: u64,
         value: u64,
     ) -> Result<Called, Exhausted>
-        requires cell { IsCellOf self.old.domain chain.now.cell }
+        requires cell { IsCellOf self.old.domain chain.now.place }
         requires handlers { chain.now.ids ≤ length handlers.now }
         ensures same { IsSameWorker self.old self.new }
         ensures calls { MatchResult result
@@ -123,7 +123,7 @@ impl<'a, J, A: Allocator> Worker<'a, J, A> {
 
     /// The ids of a chain's handlers, of one version.
     pub fn ids(&mut self, chain: &ChainView) -> Result<Ids, Exhausted>
-        requires { IsCellOf self.old.domain chain.now.cell }
+        requires { IsCellOf self.old.domain chain.now.place }
         ensures same { IsSameWorker self.old self.new }
         ensures lists { MatchResult result
             (λ r. chains.Lists chain.now self.old.cpu self.new.cpu r.ids r.count)

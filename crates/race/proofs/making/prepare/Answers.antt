@@ -6,6 +6,7 @@ use Rattle.sections.specs.Limits.{most_sections}
 use Rattle.sections.specs.Making.{bounds_of}
 use Rattle.sections.specs.WriterViews.{WriterView}
 use Rattle.domain.proofs.CallerLemmas.{writers_here}
+use Rattle.shelf.specs.Cells.{IsCellIn}
 use Rattle.race.specs.declared.course.Course.{Course}
 use Rattle.race.specs.Workers.{IsNewCpu}
 use Rattle.race.proofs.Seating.{popped, made_cpus, new_updater}
@@ -25,7 +26,7 @@ seat_all-readers-requires-clause-course c =
     let cell = c.new-table.ensures.cell in
     let low = writer.1 in record {
       home = c.in_ok-desk.ensures.desk.0 ∙ (c.home.ensures.home ∙ last.here.domain);
-      cell = omega (arith, cells, cell, low);
+      cell = subst (IsCellIn c.in-Ok.domain.domain) (sym cell) (writer.0, omega (arith, cells, low));
       few = c.requires.rounds;
     }
 
@@ -58,7 +59,7 @@ returns c =
     let number = cpu.number_is in record {
       course = record {
         home = c.in_ok-desk.ensures.desk.0 ∙ (c.home.ensures.home ∙ last.here.domain);
-        cell = omega (arith, cells, cell, low);
+        cell = subst (IsCellIn c.in-Ok.domain.domain) (sym cell) (writer.0, omega (arith, cells, low));
         few = c.requires.rounds;
       };
       rounds_are = refl;

@@ -5,6 +5,6 @@ use Rattle.srcubench.proofs.looking.look_often.Given as goal
 
 abbrev pub invariant-loop : goal.invariant-loop
 invariant-loop l = record {
-  looks : LooksOften l.leased l.view l.counter l.initial.cpu l.cpu;
+  looks : LooksOften l.leased l.view.cell l.counter l.initial.cpu l.cpu;
   domain : l.cpu.cpu.domain ≡ l.initial.cpu.cpu.domain;
 }

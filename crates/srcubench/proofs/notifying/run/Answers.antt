@@ -15,7 +15,7 @@ pub register_all-requires-clause-ids : goal.register_all-requires-clause-ids
 register_all-requires-clause-ids g c = let ids = ap (λ (s : ChainState). s.ids) c.new-chain.ensures.chain in omega (arith, ids)
 
 pub call_together-requires-clause-cell : goal.call_together-requires-clause-cell
-call_together-requires-clause-cell g c κs lives = reads_cell _ _ _ _ _ _ c.in_ok-domain.ensures.new c.in_ok-domain.ensures.cell (ap (λ (v : ChainCell). v.cell) c.new-chain.ensures.view ∙ c.cell-cell.ensures)
+call_together-requires-clause-cell g c κs lives = reads_cell _ _ _ _ _ _ c.in_ok-domain.ensures.new c.in_ok-domain.ensures.cell (ap (λ (v : ChainCell). v.place) c.new-chain.ensures.view)
 
 pub call_together-requires-clause-ids : goal.call_together-requires-clause-ids
 call_together-requires-clause-ids g c κs lives = ap (λ (v : ChainCell). v.ids) c.new-chain.ensures.view
@@ -24,4 +24,4 @@ pub returns-clause-called : goal.returns-clause-called
 returns-clause-called g c =
     let none = subst (λ (l : List (Result (CpuView (Unit {0})) Miss)). All IsOk l) c.as_slice.ensures.value c.in_ok-first_error.ensures in
     let has = has_chain _ _ _ _ _ _ _ _ _ c.in_ok-domain.ensures.new c.new-chain.ensures.chain c.in_ok-register_all.ensures.registers in
-    have_called _ _ _ _ _ _ _ _ _ _ _ has c.new-chain.ensures.view c.cell-cell.ensures c.in_ok-domain.ensures.new.pen c.in_ok-outcomes.ensures none
+    have_called _ _ _ _ _ _ _ _ _ _ has c.new-chain.ensures.view c.in_ok-domain.ensures.new.pen c.in_ok-outcomes.ensures none

@@ -8,12 +8,12 @@ pub returns-clause-leases : goal.returns-clause-leases
 returns-clause-leases g c =
     let held = c.find_held.ensures.held in
     let downs = c.in-Ok.ensures.downs in
-    let finds : Finds c.args.self.now c.in-Ok.held c.down_read.new.self.cpu c.find_held.new.self.cpu c.find_held.result.found = rw (← c.self.view_is) c.find_held.ensures.finds in
+    let finds : Finds c.args.self.now.cell c.in-Ok.held c.down_read.new.self.cpu c.find_held.new.self.cpu c.find_held.result.found = rw (← c.self.view_is) c.find_held.ensures.finds in
     rw (c.of_pin.ensures, held) (record {
       begun = c.down_read.new.self;
       downs = downs;
       acts = c.in-Ok.ensures.acts;
       finds = finds;
       looks = rw (← c.self.view_is) c.find_held.ensures.acts;
-      not_older = not_older_than_seen true c.args.self.now _ _ _ c.in-Ok.held c.find_held.result.found downs finds;
+      not_older = not_older_than_seen true c.args.self.now.cell _ _ _ c.in-Ok.held c.find_held.result.found downs finds;
     })

@@ -1,5 +1,6 @@
 use Rattle.std.proofs.Common.{◌≡◌, refl, ap, ◌∙◌, arith}
 use Rattle.sections.specs.Words.{cells_in}
+use Rattle.shelf.specs.Cells.{cell_of}
 use Rattle.notify.specs.Chains.{ChainState, ChainCell}
 use Rattle.solo.proofs.Hand.{in_items, all_stay, lent, of_table}
 use Rattle.solo.proofs.Acted.{Hand, hand_of}
@@ -11,8 +12,8 @@ use Rattle.solo.proofs.solo.Solo.chain.Goals as goal
 abbrev hand : (g : Over) → goal.After-settle g → Hand g.row.J.Denot
 hand g c = hand_of c.args.processor c.ids-ids.new.cpu c.self.invariant.met c.self.view_is c.requires.processor c.index_mut-cpu.ensures.value c.settle.ensures.all c.settle.ensures.meets
 
-abbrev view_here : (g : Over) (c : goal.After-settle g) → c.notifier.inside.view ≡ record { cell = c.args.notifier.now.writer.cell; ids = c.args.notifier.now.ids }
-view_here g c = c.notifier.invariant ∙ (λ i. record { cell = (c.notifier.view_is i).writer.cell; ids = (c.notifier.view_is i).ids })
+abbrev view_here : (g : Over) (c : goal.After-settle g) → c.notifier.inside.view ≡ record { place = cell_of c.args.notifier.now.writer; ids = c.args.notifier.now.ids }
+view_here g c = c.notifier.invariant ∙ (λ i. record { place = cell_of (c.notifier.view_is i).writer; ids = (c.notifier.view_is i).ids })
 
 pub index_mut-cpu-requires : goal.index_mut-cpu-requires
 index_mut-cpu-requires g c = in_items c.self.invariant.met c.self.view_is c.requires.processor _ c.self.inside.members.cpus.ok.0
@@ -20,9 +21,11 @@ index_mut-cpu-requires g c = in_items c.self.invariant.met c.self.view_is c.requ
 pub ids-ids-requires : goal.ids-ids-requires
 ids-ids-requires g c =
     let low = c.requires.current.cell.0 in
-    let is = ap (λ (v : ChainCell). v.cell) c.notifier.invariant in
+    let is = ap (λ (v : ChainCell). v.place.cell) c.notifier.invariant in
     let cell = ap (λ (s : ChainState). s.writer.cell) c.notifier.view_is in
-    let cells = ap cells_in (of_table c.self.invariant.met c.self.view_is c.requires.processor c.index_mut-cpu.ensures.value c.args.self.now.table refl) in omega (arith, low, is, cell, cells)
+    let same = of_table c.self.invariant.met c.self.view_is c.requires.processor c.index_mut-cpu.ensures.value c.args.self.now.table refl in
+    let cells = ap cells_in same in
+    (ap (λ (v : ChainCell). v.place.domain) c.notifier.invariant ∙ (ap (λ (s : ChainState). s.writer.domain) c.notifier.view_is ∙ (c.requires.current.here ∙ same)), omega (arith, low, is, cell, cells))
 
 pub settle-requires : goal.settle-requires
 settle-requires g c =
