@@ -2,7 +2,6 @@
 #![tactic(auto)]
 
 ghost use Rattle.std.specs.Prelude.{◌≡◌, IfOk};
-ghost use Rattle.std.specs.Thread.{IsSync};
 
 mod control;
 mod shared;
@@ -11,18 +10,13 @@ use anyhow::Result as Ending;
 use control::{Control, Subscriber};
 use shared::{PORT, Policy, Shared};
 use srcu::{
-    Chain, Domain, Handler, Lease, Limits, Refusal, Shelf, Stop, Table, Team, Totals, WIDEST,
-    Worker, clean_up, make,
+    Chain, Domain, Handler, Lease, Limits, Refusal, Shelf, Stop, Table, Team, WIDEST, Worker,
+    clean_up, make,
 };
 use std::sync::Wait;
 use std::sync::atomic::Ordering::SeqCst;
 use std::sync::atomic::{AtomicBool, AtomicU64};
 use std::thread::{Threads, join};
-
-const LIMITS: Limits = Limits {
-    cells: 3, // the rules, the policy, and the chain
-    ..WIDEST
-};
 
 /// Filters packets to ports from 0 to 9 in turn. Returns how many pass, by the port's rule, or where it has none, by the policy.
 fn filter(worker: &mut Worker<'_, u64>, shared: &Shared) -> Result<u32, Refusal>
@@ -83,21 +77,17 @@ struct Came {
     told: u64,
 }
 
-/// Both threads at once. Then the control thread reads the lease and ends it, and waits for the driver.
-fn operate<R: Threads + Wait + Sync>(
+/// Reads the lease and ends it, and waits for the driver.
+fn settle<R: Wait>(
     rt: &R,
-    worker: &mut Worker<'_, u64>,
     control: &mut Control<'_>,
     shared: &Shared,
+    found: Result<(u32, Lease, Result<u32, Refusal>), Refusal>,
+    changed: Result<u64, Refusal>,
 ) -> Result<Came, Refusal>
-    requires { (worker.old.domain ≡ shared.now.stop.domain) × (control.old.worker.domain ≡ shared.now.stop.domain) }
-    ensures { (worker.new.domain ≡ worker.old.domain) × (control.new.worker.domain ≡ control.old.worker.domain) }
+    requires { IfOk found (λ r. r.1.held.domain ≡ control.old.worker.domain.domain) }
+    ensures { control.new.worker.domain ≡ control.old.worker.domain }
 {
-    let (found, changed) = join(
-        rt,
-        || filter_twice(worker, shared),
-        || change(rt, control, shared),
-    );
     let (before, mut lease, after) = found?;
     let early = shared.filed.load(SeqCst);
     let leased = control.worker.leased(&mut lease, PORT);
@@ -113,31 +103,57 @@ fn operate<R: Threads + Wait + Sync>(
     })
 }
 
-/// Begins, and does the same beside a driver, which is told to stop at the end.
-fn drive<R: Threads + Wait + Sync>(
-    rt: &R,
-    driver: &mut Worker<'_, u64>,
-    worker: &mut Worker<'_, u64>,
-    control: &mut Control<'_>,
-    shared: &Shared,
-) -> Result<Came, Refusal>
-    requires { (driver.old.domain ≡ shared.now.stop.domain) × (worker.old.domain ≡ shared.now.stop.domain) × (control.old.worker.domain ≡ shared.now.stop.domain) }
-    ensures { (driver.new.domain ≡ driver.old.domain) × (worker.new.domain ≡ worker.old.domain) × (control.new.worker.domain ≡ control.old.worker.domain) }
+/// Who works beside the driver. They go into threads by value and come out again: a `&mut` tells nothing of what a thread did.
+type Both<'a> = (Worker<'a, u64>, Control<'a>);
+
+/// Both threads at once, and what comes behind them.
+fn operate<'a, R: Threads + Wait + Sync>(rt: &R, both: Both<'a>, shared: &Shared) -> (Both<'a>, Result<Came, Refusal>)
+    requires { (both.0.domain ≡ shared.now.stop.domain) × (both.1.worker.domain ≡ shared.now.stop.domain) }
+    ensures { (result.0.0.domain ≡ both.0.domain) × (result.0.1.worker.domain ≡ both.1.worker.domain) }
 {
-    control.begin()?;
-    let (served, came) = join(
+    let (mut worker, mut control) = both;
+    let ((worker, found), (mut control, changed)) = join(
         rt,
-        || driver.serve(rt, &shared.stop, |_old| shared.file()),
-        ||
-            requires { IsSync R.row × (worker.now.domain ≡ shared.now.stop.domain) × (control.now.worker.domain ≡ shared.now.stop.domain) }
-        {
-            let came = operate(rt, worker, control, shared);
-            shared.stop.give_alone(rt, control.worker.domain());
-            came
+        move || {
+            let found = filter_twice(&mut worker, shared);
+            (worker, found)
+        },
+        move || {
+            let told = change(rt, &mut control, shared);
+            (control, told)
         },
     );
-    served?;
-    came
+    let came = settle(rt, &mut control, shared, found, changed);
+    ((worker, control), came)
+}
+
+/// The same beside a driver, which is told to stop at the end.
+fn drive<'a, R: Threads + Wait + Sync>(
+    rt: &R,
+    mut driver: Worker<'a, u64>,
+    both: Both<'a>,
+    shared: &Shared,
+) -> (Worker<'a, u64>, Both<'a>, Result<Came, Refusal>)
+    requires { (driver.domain ≡ shared.now.stop.domain) × (both.0.domain ≡ shared.now.stop.domain) × (both.1.worker.domain ≡ shared.now.stop.domain) }
+    ensures { (result.0.domain ≡ driver.domain) × (result.1.0.domain ≡ both.0.domain) × (result.1.1.worker.domain ≡ both.1.worker.domain) }
+{
+    let ((driver, served), (both, came)) = join(
+        rt,
+        move || {
+            let served = driver.serve(rt, &shared.stop, |_old| shared.file());
+            (driver, served)
+        },
+        move || {
+            let (both, came) = operate(rt, both, shared);
+            shared.stop.give_alone(rt, both.1.worker.domain());
+            (both, came)
+        },
+    );
+    let came = match served {
+        Ok(_) => came,
+        Err(refusal) => Err(refusal.into()),
+    };
+    (driver, both, came)
 }
 
 /// The control thread's worker with what it writes, and what the threads share.
@@ -185,10 +201,11 @@ fn work<R: Threads + Wait + AllocGlobal + Sync>(
     ensures { team.new.domain ≡ team.old.domain }
 {
     let stop = Stop::new(rt.alloc(), domain)?;
-    let mut driver = team.worker().ok_or(Refusal::NoWorker)?;
-    let mut worker = team.worker().ok_or(Refusal::NoWorker)?;
+    let driver = team.worker().ok_or(Refusal::NoWorker)?;
+    let worker = team.worker().ok_or(Refusal::NoWorker)?;
     let (mut control, shared) = equip(team, stop, host)?;
-    let came = drive(rt, &mut driver, &mut worker, &mut control, &shared);
+    control.begin()?;
+    let (driver, (worker, control), came) = drive(rt, driver, (worker, control), &shared);
     // Where there is no memory to take one back, `clean_up` says that it is missing.
     drop(team.back(driver));
     drop(team.back(worker));
@@ -196,22 +213,15 @@ fn work<R: Threads + Wait + AllocGlobal + Sync>(
     Ok((came?, shared))
 }
 
-/// A domain is made, worked with and taken down. Returns also what was done in it.
-fn run<R: Threads + Wait + AllocGlobal + Sync>(
-    rt: &R,
-    host: HostRuntime,
-) -> Result<(Came, Shared, Totals), Refusal> {
-    let (domain, cpus, writers) = make(rt.alloc(), 3, LIMITS)?;
+fn main(rt: HostRuntime) -> Ending<()> {
+    let limits = Limits { cells: 3, ..WIDEST }; // cells of the rules, the policy and the chain
+    let (domain, cpus, writers) = make(rt.alloc(), 3, limits)?;
     let mut team = Team::new(&domain, cpus, writers);
-    let worked = work(rt, host, &domain, &mut team);
+    let worked = work(&rt, rt, &domain, &mut team);
     let cpus = team.into_cpus();
     let cleaned = clean_up(domain, cpus);
     let (came, shared) = worked?;
-    Ok((came, shared, cleaned?))
-}
-
-fn main(rt: HostRuntime) -> Ending<()> {
-    let (came, shared, totals) = run(&rt, rt)?;
+    let totals = cleaned.map_err(Refusal::from)?;
     let filed = shared.filed.load(SeqCst);
     println!(rt; "old rules pass {}, new ones {}", came.before, came.after)?;
     println!(rt; "port {PORT} through the lease: {:?}", came.leased)?;
