@@ -2,8 +2,8 @@
 ghost use Rattle.std.specs.Prelude.{◌≡◌, length};
 ghost use Rattle.srcu.specs.Words.{IsCellOf};
 
-use crate::shared::{Policy, Shared};
-use srcu::{Chain, ChainView, Handler, OK, Refusal, Shelf, Table, Worker};
+use crate::shared::{Policy, Shared, Try};
+use srcu::{Chain, ChainView, Handler, OK, Shelf, Table, Worker};
 use std::sync::Wait;
 use std::thread::sleep;
 use std::time::Duration;
@@ -39,7 +39,7 @@ pub struct Control<'a> {
 
 impl<'a> Control<'a> {
     /// Registers both subscribers, of which the one that sleeps is called last, and puts two rules and a policy.
-    pub fn begin(&mut self) -> Result<(), Refusal>
+    pub fn begin(&mut self) -> Try<()>
         ensures { self.new.worker.domain ≡ self.old.worker.domain }
     {
         self.worker.register(&mut self.chain, 0, 10)?;
@@ -52,12 +52,7 @@ impl<'a> Control<'a> {
     }
 
     /// Gives a port this verdict, and tells the subscribers. Returns how many were told.
-    pub fn set_rule(
-        &mut self,
-        all: &[Box<dyn Handler>],
-        port: u32,
-        verdict: u32,
-    ) -> Result<u64, Refusal>
+    pub fn set_rule(&mut self, all: &[Box<dyn Handler>], port: u32, verdict: u32) -> Try<u64>
         requires { length all.now ≡ 2 }
         ensures { self.new.worker.domain ≡ self.old.worker.domain }
     {
@@ -67,18 +62,13 @@ impl<'a> Control<'a> {
         Ok(told.handlers)
     }
 
-    /// Replaces the policy, and leaves the old one to the driver, which files it once no section reads it. Where that can't be
-    /// queued, it waits, and files it itself.
-    pub fn set_policy<R: Wait>(
-        &mut self,
-        rt: &R,
-        old: u64,
-        policy: Policy,
-        shared: &Shared,
-    ) -> Result<(), Refusal>
+    /// Lets packets pass of whose port no rule speaks. The old policy is left to the driver, which files it once no section
+    /// reads it. Where that can't be queued, this waits, and files it itself.
+    pub fn pass_others<R: Wait>(&mut self, rt: &R, old: u64, shared: &Shared) -> Try<()>
         ensures { self.new.worker.domain ≡ self.old.worker.domain }
     {
-        self.worker.replace(&mut self.policy, &policy)?;
+        self.worker
+            .replace(&mut self.policy, &Policy { passes: 1 })?;
         if self.worker.call(rt, old).is_err() {
             self.worker.synchronize(rt)?;
             shared.file();
@@ -87,7 +77,7 @@ impl<'a> Control<'a> {
     }
 
     /// Waits until each policy is filed that was replaced (`srcu_barrier`), and helps the driver.
-    pub fn settle<R: Wait>(&mut self, rt: &R, shared: &Shared) -> Result<(), Refusal>
+    pub fn settle<R: Wait>(&mut self, rt: &R, shared: &Shared) -> Try<()>
         ensures { self.new.worker.domain ≡ self.old.worker.domain }
     {
         let ticket = self.worker.barrier_start()?;

@@ -8,7 +8,7 @@ mod shared;
 
 use anyhow::Result as Ending;
 use control::{Control, Subscriber};
-use shared::{PORT, Policy, Shared};
+use shared::{PORT, Shared, Try};
 use srcu::{
     Chain, Domain, Handler, Lease, Limits, Refusal, Shelf, Stop, Table, Team, WIDEST, Worker,
     clean_up, make,
@@ -19,7 +19,7 @@ use std::sync::atomic::{AtomicBool, AtomicU64};
 use std::thread::{Threads, join};
 
 /// Filters packets to ports from 0 to 9 in turn. Returns how many pass, by the port's rule, or where it has none, by the policy.
-fn filter(worker: &mut Worker<'_, u64>, shared: &Shared) -> Result<u32, Refusal>
+fn filter(worker: &mut Worker<'_, u64>, shared: &Shared) -> Try<u32>
     requires { worker.old.domain ≡ shared.now.stop.domain }
     ensures { worker.new.domain ≡ worker.old.domain }
 {
@@ -35,10 +35,7 @@ fn filter(worker: &mut Worker<'_, u64>, shared: &Shared) -> Result<u32, Refusal>
 }
 
 /// Filters by the old rules, leases them, and filters by the new ones. The lease comes between the two counts.
-fn filter_twice(
-    worker: &mut Worker<'_, u64>,
-    shared: &Shared,
-) -> Result<(u32, Lease, Result<u32, Refusal>), Refusal>
+fn filter_twice(worker: &mut Worker<'_, u64>, shared: &Shared) -> Try<(u32, Lease, Try<u32>)>
     requires { worker.old.domain ≡ shared.now.stop.domain }
     ensures worker { worker.new.domain ≡ worker.old.domain }
     ensures lease { IfOk result (λ r. r.1.held.domain ≡ worker.old.domain.domain) }
@@ -51,7 +48,7 @@ fn filter_twice(
 }
 
 /// Once the old rules were read, changes one, and the policy twice. Returns how many subscribers were told.
-fn change<R: Wait>(rt: &R, control: &mut Control<'_>, shared: &Shared) -> Result<u64, Refusal>
+fn change<R: Wait>(rt: &R, control: &mut Control<'_>, shared: &Shared) -> Try<u64>
     ensures { control.new.worker.domain ≡ control.old.worker.domain }
 {
     let (host, alloc) = (shared.host, shared.host.alloc());
@@ -60,8 +57,8 @@ fn change<R: Wait>(rt: &R, control: &mut Control<'_>, shared: &Shared) -> Result
     handlers.push(Box::new(alloc, Subscriber { host, nap: 20 })?)?;
     shared.wait_for(&shared.old);
     let told = control.set_rule(&handlers, PORT, 0)?;
-    control.set_policy(rt, 1, Policy { passes: 1 }, shared)?;
-    control.set_policy(rt, 2, Policy { passes: 1 }, shared)?;
+    control.pass_others(rt, 1, shared)?;
+    control.pass_others(rt, 2, shared)?;
     shared.new.store(true, SeqCst);
     Ok(told)
 }
@@ -82,9 +79,9 @@ fn settle<R: Wait>(
     rt: &R,
     control: &mut Control<'_>,
     shared: &Shared,
-    found: Result<(u32, Lease, Result<u32, Refusal>), Refusal>,
-    changed: Result<u64, Refusal>,
-) -> Result<Came, Refusal>
+    found: Try<(u32, Lease, Try<u32>)>,
+    changed: Try<u64>,
+) -> Try<Came>
     requires { IfOk found (λ r. r.1.held.domain ≡ control.old.worker.domain.domain) }
     ensures { control.new.worker.domain ≡ control.old.worker.domain }
 {
@@ -107,7 +104,11 @@ fn settle<R: Wait>(
 type Both<'a> = (Worker<'a, u64>, Control<'a>);
 
 /// Both threads at once, and what comes behind them.
-fn operate<'a, R: Threads + Wait + Sync>(rt: &R, both: Both<'a>, shared: &Shared) -> (Both<'a>, Result<Came, Refusal>)
+fn operate<'a, R: Threads + Wait + Sync>(
+    rt: &R,
+    both: Both<'a>,
+    shared: &Shared,
+) -> (Both<'a>, Try<Came>)
     requires { (both.0.domain ≡ shared.now.stop.domain) × (both.1.worker.domain ≡ shared.now.stop.domain) }
     ensures { (result.0.0.domain ≡ both.0.domain) × (result.0.1.worker.domain ≡ both.1.worker.domain) }
 {
@@ -133,7 +134,7 @@ fn drive<'a, R: Threads + Wait + Sync>(
     mut driver: Worker<'a, u64>,
     both: Both<'a>,
     shared: &Shared,
-) -> (Worker<'a, u64>, Both<'a>, Result<Came, Refusal>)
+) -> (Worker<'a, u64>, Both<'a>, Try<Came>)
     requires { (driver.domain ≡ shared.now.stop.domain) × (both.0.domain ≡ shared.now.stop.domain) × (both.1.worker.domain ≡ shared.now.stop.domain) }
     ensures { (result.0.domain ≡ driver.domain) × (result.1.0.domain ≡ both.0.domain) × (result.1.1.worker.domain ≡ both.1.worker.domain) }
 {
@@ -161,7 +162,7 @@ fn equip<'a>(
     team: &mut Team<'a, u64>,
     stop: Stop<u64>,
     host: HostRuntime,
-) -> Result<(Control<'a>, Shared), Refusal>
+) -> Try<(Control<'a>, Shared)>
     requires { stop.domain ≡ team.old.domain }
     ensures team { team.new.domain ≡ team.old.domain }
     ensures control { IfOk result (λ r. r.0.worker.domain ≡ team.old.domain) }
@@ -196,7 +197,7 @@ fn work<R: Threads + Wait + AllocGlobal + Sync>(
     host: HostRuntime,
     domain: &Domain<u64>,
     team: &mut Team<'_, u64>,
-) -> Result<(Came, Shared), Refusal>
+) -> Try<(Came, Shared)>
     requires { domain.now ≡ team.old.domain }
     ensures { team.new.domain ≡ team.old.domain }
 {

@@ -1,11 +1,14 @@
 //! What the threads share.
 ghost use Rattle.srcu.specs.Words.{IsCellOf};
 
-use srcu::{Stop, TableView, Values, Versioned};
+use srcu::{Refusal, Stop, TableView, Values, Versioned};
 use std::sync::atomic::Ordering::SeqCst;
 use std::sync::atomic::{AtomicBool, AtomicU64};
 use std::thread::sleep;
 use std::time::Duration;
+
+/// What comes of a call.
+pub type Try<T> = Result<T, Refusal>;
 
 /// What is done with packets of whose port no rule speaks: whether they pass.
 #[derive(Clone, Copy)]

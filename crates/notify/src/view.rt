@@ -8,17 +8,15 @@ ghost use Rattle.notify.specs.Reading.{FindsWords, Lists, Calls, IsRefused};
 use crate::handler::{Handler, call_all};
 use crate::text::{ids, read};
 use domain::{Cpu, Exhausted, Reading, Writer};
+use shelf::Cell;
 use std::alloc::Allocator;
 use std::marker::Model;
-use std::snapshot::Snapshot;
 
 /// A notifier chain, for those who call it, on any processor of its domain. Threads share it by reference. Contracts see its
 /// cell and the cell's domain, and below which number the ids of its blocks are.
 #[derive(Drop)]
 pub struct ChainView {
-    cell: usize,
-    /// By what contracts know the domain, as of `Values`.
-    writer: Snapshot<Writer>,
+    cell: Cell,
     ids: u64,
 }
 
@@ -28,7 +26,7 @@ impl Model for ChainView {
 
     ghost Value = { ChainCell };
 
-    ghost view = { λ v. record { place = record { domain = v.writer.value.domain; cell = v.cell }; ids = v.ids } };
+    ghost view = { λ v. record { place = v.cell; ids = v.ids } };
 
     ghost invariant = { λ v. v.ids ≤ 2 ^ 32 };
 }
@@ -39,8 +37,7 @@ impl ChainView {
         ensures { result ≡ record { place = cell_of writer.now; ids = ids } }
     {
         ChainView {
-            cell: writer.cell(),
-            writer: Snapshot::of(writer),
+            cell: Cell::of(writer),
             ids,
         }
     }
@@ -96,7 +93,7 @@ impl ChainView {
         ensures reading { reading.new ≡ reading.old }
         ensures stays { Stays cpu.old cpu.new }
     {
-        let mut pin = cpu.find(reading, self.cell);
+        let mut pin = cpu.find(reading, self.cell.number());
         cpu.words(&mut pin)
     }
 }

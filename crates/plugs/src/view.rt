@@ -10,17 +10,15 @@ ghost use Rattle.plugs.specs.Reading.{FindsPlug, LooksUp, Leases};
 use crate::lease::Lease;
 use crate::rows::plug_in;
 use domain::{Cpu, Exhausted, Reading, Writer};
+use shelf::Cell;
 use std::alloc::Allocator;
 use std::marker::Model;
-use std::snapshot::Snapshot;
 
 /// Reads the table of a cell, on any processor of its domain. Threads share it by reference. Contracts see the number of the
 /// cell and the cell's domain.
 #[derive(Drop)]
 pub struct TableView {
-    cell: usize,
-    /// By what contracts know the domain, as of `Values`.
-    writer: Snapshot<Writer>,
+    cell: Cell,
 }
 
 impl Model for TableView {
@@ -38,8 +36,7 @@ impl TableView {
         ensures { result ≡ cell_of writer.now }
     {
         TableView {
-            cell: writer.cell(),
-            writer: Snapshot::of(writer),
+            cell: Cell::of(writer),
         }
     }
 
@@ -62,7 +59,7 @@ impl TableView {
         let Ok(mut reading) = cpu.read_lock() else {
             return Err(Exhausted);
         };
-        let plug = plug_there(cpu, &mut reading, self.cell, key);
+        let plug = plug_there(cpu, &mut reading, self.cell.number(), key);
         cpu.read_unlock(reading);
         Ok(plug)
     }
@@ -81,7 +78,7 @@ impl TableView {
         let Ok(held) = cpu.down_read() else {
             return Err(Exhausted);
         };
-        Ok(Lease::of_pin(cpu.find_held(held, self.cell)))
+        Ok(Lease::of_pin(cpu.find_held(held, self.cell.number())))
     }
 }
 

@@ -5,19 +5,17 @@ ghost use Rattle.domain.specs.Views.{Stays, with_cpu};
 ghost use Rattle.shelf.specs.Cells.{IsCellIn, cell_of};
 ghost use Rattle.shelf.specs.Reading.{Reads, Loads};
 
+use crate::cell::Cell;
 use crate::versioned::Versioned;
 use domain::{Cpu, Held, HeldPin, Pin, Reading, Writer};
 use std::alloc::Allocator;
 use std::marker::{Model, PhantomData};
-use std::snapshot::Snapshot;
 
 /// Reads the values of a cell, on any processor of its domain. Threads share it by reference. Contracts see the number of
 /// the cell and the cell's domain.
 #[derive(Drop)]
 pub struct Values<T> {
-    cell: usize,
-    /// By what contracts know the domain. It takes no bytes, and any thread may share it: it has no right in the domain.
-    writer: Snapshot<Writer>,
+    cell: Cell,
     marker: PhantomData<T>,
 }
 
@@ -36,8 +34,7 @@ impl<T: Versioned> Values<T> {
         ensures { result ≡ cell_of writer.now }
     {
         Values {
-            cell: writer.cell(),
-            writer: Snapshot::of(writer),
+            cell: Cell::of(writer),
             marker: PhantomData,
         }
     }
@@ -51,7 +48,7 @@ impl<T: Versioned> Values<T> {
         ensures reading { reading.new ≡ reading.old }
         ensures stays { Stays cpu.old cpu.new }
     {
-        let mut pin = cpu.find(reading, self.cell);
+        let mut pin = cpu.find(reading, self.cell.number());
         self.load(cpu, &mut pin)
     }
 
@@ -70,7 +67,7 @@ impl<T: Versioned> Values<T> {
         ensures rest { cpu.new ≡ with_cpu cpu.new.cpu cpu.old }
         ensures stays { Stays cpu.old cpu.new }
     {
-        cpu.find(reading, self.cell)
+        cpu.find(reading, self.cell.number())
     }
 
     /// The value that the pin found, however long its section has slept and whatever has been put since.
@@ -97,7 +94,7 @@ impl<T: Versioned> Values<T> {
         ensures rest { cpu.new ≡ with_cpu cpu.new.cpu cpu.old }
         ensures stays { Stays cpu.old cpu.new }
     {
-        cpu.find_held(held, self.cell)
+        cpu.find_held(held, self.cell.number())
     }
 
     /// As [`Values::load`], on any processor of the domain.
