@@ -103,7 +103,7 @@ fn settle<R: Wait>(
 /// Who works beside the driver. They go into threads by value and come out again: a `&mut` tells nothing of what a thread did.
 type Both<'a> = (Worker<'a, u64>, Control<'a>);
 
-/// Both threads at once, and what comes behind them.
+/// Both threads at once, and what comes after them.
 fn operate<'a, R: Threads + Wait + Sync>(
     rt: &R,
     both: Both<'a>,

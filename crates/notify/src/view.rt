@@ -8,7 +8,7 @@ ghost use Rattle.notify.specs.Reading.{FindsWords, Lists, Calls, IsRefused};
 use crate::handler::{Handler, call_all};
 use crate::text::{ids, read};
 use domain::{Cpu, Exhausted, Reading, Writer};
-use shelf::Cell;
+use shelf::DomainName;
 use std::alloc::Allocator;
 use std::marker::Model;
 
@@ -16,7 +16,8 @@ use std::marker::Model;
 /// cell and the cell's domain, and below which number the ids of its blocks are.
 #[derive(Drop)]
 pub struct ChainView {
-    cell: Cell,
+    cell: usize,
+    domain: DomainName,
     ids: u64,
 }
 
@@ -26,7 +27,7 @@ impl Model for ChainView {
 
     ghost Value = { ChainCell };
 
-    ghost view = { λ v. record { place = v.cell; ids = v.ids } };
+    ghost view = { λ v. record { place = record { domain = v.domain; cell = v.cell }; ids = v.ids } };
 
     ghost invariant = { λ v. v.ids ≤ 2 ^ 32 };
 }
@@ -37,7 +38,8 @@ impl ChainView {
         ensures { result ≡ record { place = cell_of writer.now; ids = ids } }
     {
         ChainView {
-            cell: Cell::of(writer),
+            cell: writer.cell(),
+            domain: DomainName::of(writer),
             ids,
         }
     }
@@ -93,7 +95,7 @@ impl ChainView {
         ensures reading { reading.new ≡ reading.old }
         ensures stays { Stays cpu.old cpu.new }
     {
-        let mut pin = cpu.find(reading, self.cell.number());
+        let mut pin = cpu.find(reading, self.cell);
         cpu.words(&mut pin)
     }
 }

@@ -10,7 +10,7 @@ ghost use Rattle.plugs.specs.Reading.{FindsPlug, LooksUp, Leases};
 use crate::lease::Lease;
 use crate::rows::plug_in;
 use domain::{Cpu, Exhausted, Reading, Writer};
-use shelf::Cell;
+use shelf::DomainName;
 use std::alloc::Allocator;
 use std::marker::Model;
 
@@ -18,7 +18,8 @@ use std::marker::Model;
 /// cell and the cell's domain.
 #[derive(Drop)]
 pub struct TableView {
-    cell: Cell,
+    cell: usize,
+    domain: DomainName,
 }
 
 impl Model for TableView {
@@ -36,7 +37,8 @@ impl TableView {
         ensures { result ≡ cell_of writer.now }
     {
         TableView {
-            cell: Cell::of(writer),
+            cell: writer.cell(),
+            domain: DomainName::of(writer),
         }
     }
 
@@ -59,7 +61,7 @@ impl TableView {
         let Ok(mut reading) = cpu.read_lock() else {
             return Err(Exhausted);
         };
-        let plug = plug_there(cpu, &mut reading, self.cell.number(), key);
+        let plug = plug_there(cpu, &mut reading, self.cell, key);
         cpu.read_unlock(reading);
         Ok(plug)
     }
@@ -78,7 +80,7 @@ impl TableView {
         let Ok(held) = cpu.down_read() else {
             return Err(Exhausted);
         };
-        Ok(Lease::of_pin(cpu.find_held(held, self.cell.number())))
+        Ok(Lease::of_pin(cpu.find_held(held, self.cell)))
     }
 }
 

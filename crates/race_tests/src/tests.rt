@@ -1,7 +1,7 @@
 //! Races of a few threads.
 use race::{At, Gate, RaceTotals, Totals, race};
-use std::sync::atomic::{AtomicBool, AtomicU64};
 use std::sync::atomic::Ordering::SeqCst;
+use std::sync::atomic::{AtomicBool, AtomicU64};
 use std::test::Fail;
 use std::thread::sleep;
 use std::time::{Clock, Duration};

@@ -2,12 +2,12 @@
 //! find, inside a section. A slot is used again only behind a grace period.
 #![tactic(auto)]
 
-mod cell;
+mod name;
 mod shelf;
 mod values;
 mod versioned;
 
-pub use cell::Cell;
+pub use name::DomainName;
 pub use shelf::{NoSlot, Shelf};
 pub use values::Values;
 pub use versioned::Versioned;

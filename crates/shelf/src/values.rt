@@ -5,7 +5,7 @@ ghost use Rattle.domain.specs.Views.{Stays, with_cpu};
 ghost use Rattle.shelf.specs.Cells.{IsCellIn, cell_of};
 ghost use Rattle.shelf.specs.Reading.{Reads, Loads};
 
-use crate::cell::Cell;
+use crate::name::DomainName;
 use crate::versioned::Versioned;
 use domain::{Cpu, Held, HeldPin, Pin, Reading, Writer};
 use std::alloc::Allocator;
@@ -15,7 +15,8 @@ use std::marker::{Model, PhantomData};
 /// the cell and the cell's domain.
 #[derive(Drop)]
 pub struct Values<T> {
-    cell: Cell,
+    cell: usize,
+    domain: DomainName,
     marker: PhantomData<T>,
 }
 
@@ -34,7 +35,8 @@ impl<T: Versioned> Values<T> {
         ensures { result ≡ cell_of writer.now }
     {
         Values {
-            cell: Cell::of(writer),
+            cell: writer.cell(),
+            domain: DomainName::of(writer),
             marker: PhantomData,
         }
     }
@@ -48,7 +50,7 @@ impl<T: Versioned> Values<T> {
         ensures reading { reading.new ≡ reading.old }
         ensures stays { Stays cpu.old cpu.new }
     {
-        let mut pin = cpu.find(reading, self.cell.number());
+        let mut pin = cpu.find(reading, self.cell);
         self.load(cpu, &mut pin)
     }
 
@@ -67,7 +69,7 @@ impl<T: Versioned> Values<T> {
         ensures rest { cpu.new ≡ with_cpu cpu.new.cpu cpu.old }
         ensures stays { Stays cpu.old cpu.new }
     {
-        cpu.find(reading, self.cell.number())
+        cpu.find(reading, self.cell)
     }
 
     /// The value that the pin found, however long its section has slept and whatever has been put since.
@@ -94,7 +96,7 @@ impl<T: Versioned> Values<T> {
         ensures rest { cpu.new ≡ with_cpu cpu.new.cpu cpu.old }
         ensures stays { Stays cpu.old cpu.new }
     {
-        cpu.find_held(held, self.cell.number())
+        cpu.find_held(held, self.cell)
     }
 
     /// As [`Values::load`], on any processor of the domain.

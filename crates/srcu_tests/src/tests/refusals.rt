@@ -1,8 +1,8 @@
 //! What each refusal of the libraries below becomes, and its text.
 use srcu::{
-    AdvanceRefusal, CallRefusal, Exhausted, GiveRefusal, InUse, InstallRefusal, MakeError,
-    NoSlot, PeriodsExhausted, Refusal, RegisterRefusal, RemoveRefusal, Served, TakeRefusal,
-    TimedOut, UnregisterRefusal, WaitRefusal,
+    AdvanceRefusal, CallRefusal, Exhausted, GiveRefusal, InUse, InstallRefusal, MakeError, NoSlot,
+    PeriodsExhausted, Refusal, RegisterRefusal, RemoveRefusal, Served, TakeRefusal, TimedOut,
+    UnregisterRefusal, WaitRefusal,
 };
 use std::alloc::AllocError;
 use std::test::Fail;
@@ -16,7 +16,15 @@ fn refusals_of_sections_and_periods(rt: HostRuntime) -> Result<(), Fail> {
         MakeError::Memory.into(),
         AllocError.into(),
     ];
-    assert_eq!(rt; made, [Refusal::Processors, Refusal::Limits, Refusal::Memory, Refusal::Memory]);
+    assert_eq!(rt;
+        made,
+        [
+            Refusal::Processors,
+            Refusal::Limits,
+            Refusal::Memory,
+            Refusal::Memory
+        ]
+    );
     let served = Served {
         periods: 0,
         jobs: 0,
@@ -30,7 +38,13 @@ fn refusals_of_sections_and_periods(rt: HostRuntime) -> Result<(), Fail> {
     ];
     assert_eq!(rt;
         driven,
-        [Refusal::Sections, Refusal::Periods, Refusal::Periods, Refusal::Busy, Refusal::Periods]
+        [
+            Refusal::Sections,
+            Refusal::Periods,
+            Refusal::Periods,
+            Refusal::Busy,
+            Refusal::Periods
+        ]
     );
     let waited: [Refusal; 2] = [TimedOut.into(), WaitRefusal::Exhausted.into()];
     assert_eq!(rt; waited, [Refusal::TimedOut, Refusal::Periods]);
@@ -50,7 +64,13 @@ fn refusals_of_jobs(rt: HostRuntime) -> Result<(), Fail> {
     ];
     assert_eq!(rt;
         queued,
-        [Refusal::Jobs, Refusal::Memory, Refusal::Jobs, Refusal::Invoking, Refusal::Memory]
+        [
+            Refusal::Jobs,
+            Refusal::Memory,
+            Refusal::Jobs,
+            Refusal::Invoking,
+            Refusal::Memory
+        ]
     );
     let sign: GiveRefusal<u64> = GiveRefusal::Memory;
     let given: Refusal = sign.into();
@@ -63,7 +83,12 @@ fn refusals_of_jobs(rt: HostRuntime) -> Result<(), Fail> {
     ];
     assert_eq!(rt;
         left,
-        [Refusal::Missing(1), Refusal::Open(2), Refusal::Running, Refusal::Unfinished(3)]
+        [
+            Refusal::Missing(1),
+            Refusal::Open(2),
+            Refusal::Running,
+            Refusal::Unfinished(3)
+        ]
     );
     Ok(())
 }
@@ -115,27 +140,90 @@ fn refusals_of_versions(rt: HostRuntime) -> Result<(), Fail> {
 /// Each refusal and its text.
 const TEXTS: [(Refusal, &str); 22] = [
     (Refusal::Memory, "out of memory: free some, and call again"),
-    (Refusal::Processors, "a domain has from 1 to 256 processors: ask for so many"),
-    (Refusal::Limits, "a limit is out of its range: begin with `WIDEST`"),
-    (Refusal::Sections, "no more sections may begin on this processor: read on another one"),
-    (Refusal::Periods, "no more grace periods may start: make a new domain"),
-    (Refusal::TimedOut, "the time is over: find who holds it up, and wait again"),
-    (Refusal::Jobs, "no more jobs may be queued on this processor: queue on another one"),
-    (Refusal::Busy, "another call drives the grace period: call again"),
-    (Refusal::Invoking, "a batch of this processor is out: finish it, and call again"),
-    (Refusal::NoSlot, "no slot of the cell is free: synchronize, and call again"),
-    (Refusal::TableFull, "the table is full: remove a key, and call again"),
-    (Refusal::NoKey, "the key is not in the table: install it before"),
-    (Refusal::ChainFull, "the chain is full: unregister a handler, and call again"),
-    (Refusal::Registered, "the handler is in the chain: unregister it before"),
-    (Refusal::NotRegistered, "the handler is not in the chain: register it before"),
-    (Refusal::NoWorker, "no worker is left: make the domain with more processors"),
-    (Refusal::NoWriter, "no writer is left: make the domain with more cells"),
-    (Refusal::Given, "the sign was given before: wait for the driver's end"),
-    (Refusal::Missing(1), "processors that are out: 1; hand in all of them"),
-    (Refusal::Open(2), "sections that are open: 2; close them before"),
-    (Refusal::Running, "a grace period runs: drive it to its end before"),
-    (Refusal::Unfinished(3), "jobs that are not finished: 3; wait in a barrier before"),
+    (
+        Refusal::Processors,
+        "a domain has from 1 to 256 processors: ask for so many",
+    ),
+    (
+        Refusal::Limits,
+        "a limit is out of its range: begin with `WIDEST`",
+    ),
+    (
+        Refusal::Sections,
+        "no more sections may begin on this processor: read on another one",
+    ),
+    (
+        Refusal::Periods,
+        "no more grace periods may start: make a new domain",
+    ),
+    (
+        Refusal::TimedOut,
+        "the time is over: find who holds it up, and wait again",
+    ),
+    (
+        Refusal::Jobs,
+        "no more jobs may be queued on this processor: queue on another one",
+    ),
+    (
+        Refusal::Busy,
+        "another call drives the grace period: call again",
+    ),
+    (
+        Refusal::Invoking,
+        "a batch of this processor is out: finish it, and call again",
+    ),
+    (
+        Refusal::NoSlot,
+        "no slot of the cell is free: synchronize, and call again",
+    ),
+    (
+        Refusal::TableFull,
+        "the table is full: remove a key, and call again",
+    ),
+    (
+        Refusal::NoKey,
+        "the key is not in the table: install it before",
+    ),
+    (
+        Refusal::ChainFull,
+        "the chain is full: unregister a handler, and call again",
+    ),
+    (
+        Refusal::Registered,
+        "the handler is in the chain: unregister it before",
+    ),
+    (
+        Refusal::NotRegistered,
+        "the handler is not in the chain: register it before",
+    ),
+    (
+        Refusal::NoWorker,
+        "no worker is left: make the domain with more processors",
+    ),
+    (
+        Refusal::NoWriter,
+        "no writer is left: make the domain with more cells",
+    ),
+    (
+        Refusal::Given,
+        "the sign was given before: wait for the driver's end",
+    ),
+    (
+        Refusal::Missing(1),
+        "processors that are out: 1; hand in all of them",
+    ),
+    (
+        Refusal::Open(2),
+        "sections that are open: 2; close them before",
+    ),
+    (
+        Refusal::Running,
+        "a grace period runs: drive it to its end before",
+    ),
+    (
+        Refusal::Unfinished(3),
+        "jobs that are not finished: 3; wait in a barrier before",
+    ),
 ];
 
 /// Would catch a text of another refusal, and a count that isn't told.

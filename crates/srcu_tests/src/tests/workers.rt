@@ -172,9 +172,18 @@ fn makes_what_is_asked_for(rt: HostRuntime) -> Result<(), Fail> {
         Err(refusal) => assert_eq!(rt; refusal, MakeError::Limits.into()),
     }
     let wider = [
-        Limits { sections: WIDEST.sections + 1, ..WIDEST },
-        Limits { periods: WIDEST.periods + 1, ..WIDEST },
-        Limits { slots: WIDEST.slots + 1, ..WIDEST },
+        Limits {
+            sections: WIDEST.sections + 1,
+            ..WIDEST
+        },
+        Limits {
+            periods: WIDEST.periods + 1,
+            ..WIDEST
+        },
+        Limits {
+            slots: WIDEST.slots + 1,
+            ..WIDEST
+        },
     ];
     assert!(rt; WIDEST.are_in_range() && !wider.iter().any(|limits| limits.are_in_range()));
     Ok(())
