@@ -24,7 +24,7 @@ lookup-plug-requires g c =
     let cell = ap (λ (s : TableState). s.writer.cell) c.board.view_is in
     let same = of_table c.self.invariant.met c.self.view_is c.requires.processor c.index_mut-cpu.ensures.value c.args.self.now.table refl in
     let cells = ap cells_in same in
-    (ap (λ (v : CellView). v.domain) c.board.invariant ∙ (ap (λ (s : TableState). s.writer.domain) c.board.view_is ∙ (c.requires.current.here ∙ same)), omega (arith, low, is, cell, cells))
+    record { cell = (ap (λ (v : CellView). v.domain) c.board.invariant ∙ (ap (λ (s : TableState). s.writer.domain) c.board.view_is ∙ (c.requires.current.here ∙ same)), omega (arith, low, is, cell, cells)) }
 
 pub settle-requires : goal.settle-requires
 settle-requires g c =
