@@ -2,6 +2,7 @@
 #![tactic(auto)]
 
 ghost use Rattle.std.specs.Prelude.{◌≡◌, IfOk};
+ghost use Rattle.std.specs.Thread.{IsSync};
 
 mod control;
 mod shared;
@@ -100,61 +101,51 @@ fn settle<R: Wait>(
     })
 }
 
-/// Who works beside the driver. They go into threads by value and come out again: a `&mut` tells nothing of what a thread did.
-type Both<'a> = (Worker<'a, u64>, Control<'a>);
+/// The three workers. They go into threads by value and come out again: a `&mut` tells nothing of what a thread did.
+type Crew<'a> = (Worker<'a, u64>, Worker<'a, u64>, Control<'a>);
 
-/// Both threads at once, and what comes after them.
-fn operate<'a, R: Threads + Wait + Sync>(
-    rt: &R,
-    both: Both<'a>,
-    shared: &Shared,
-) -> (Both<'a>, Try<Came>)
-    requires { (both.0.domain ≡ shared.now.stop.domain) × (both.1.worker.domain ≡ shared.now.stop.domain) }
-    ensures { (result.0.0.domain ≡ both.0.domain) × (result.0.1.worker.domain ≡ both.1.worker.domain) }
-{
-    let (mut worker, mut control) = both;
-    let ((worker, found), (mut control, changed)) = join(
-        rt,
-        move || {
-            let found = filter_twice(&mut worker, shared);
-            (worker, found)
-        },
-        move || {
-            let told = change(rt, &mut control, shared);
-            (control, told)
-        },
-    );
-    let came = settle(rt, &mut control, shared, found, changed);
-    ((worker, control), came)
-}
-
-/// The same beside a driver, which is told to stop at the end.
+/// A driver, and both threads beside it. After these two the control thread settles, and tells the driver to stop.
 fn drive<'a, R: Threads + Wait + Sync>(
     rt: &R,
-    mut driver: Worker<'a, u64>,
-    both: Both<'a>,
+    crew: Crew<'a>,
     shared: &Shared,
-) -> (Worker<'a, u64>, Both<'a>, Try<Came>)
-    requires { (driver.domain ≡ shared.now.stop.domain) × (both.0.domain ≡ shared.now.stop.domain) × (both.1.worker.domain ≡ shared.now.stop.domain) }
-    ensures { (result.0.domain ≡ driver.domain) × (result.1.0.domain ≡ both.0.domain) × (result.1.1.worker.domain ≡ both.1.worker.domain) }
+) -> (Crew<'a>, Try<Came>)
+    requires one { crew.0.domain ≡ shared.now.stop.domain }
+    requires both { (crew.1.domain ≡ shared.now.stop.domain) × (crew.2.worker.domain ≡ shared.now.stop.domain) }
+    ensures one { result.0.0.domain ≡ crew.entry.0.domain }
+    ensures both { (result.0.1.domain ≡ crew.entry.1.domain) × (result.0.2.worker.domain ≡ crew.entry.2.worker.domain) }
 {
-    let ((driver, served), (both, came)) = join(
+    let (mut driver, mut worker, mut control) = crew;
+    let ((driver, served), (worker, control, came)) = join(
         rt,
         move || {
             let served = driver.serve(rt, &shared.stop, |_old| shared.file());
             (driver, served)
         },
-        move || {
-            let (both, came) = operate(rt, both, shared);
-            shared.stop.give_alone(rt, both.1.worker.domain());
-            (both, came)
+        move ||
+            requires { IsSync R.row × (worker.domain ≡ shared.now.stop.domain) × (control.worker.domain ≡ shared.now.stop.domain) }
+        {
+            let ((worker, found), (mut control, changed)) = join(
+                rt,
+                move || {
+                    let found = filter_twice(&mut worker, shared);
+                    (worker, found)
+                },
+                move || {
+                    let told = change(rt, &mut control, shared);
+                    (control, told)
+                },
+            );
+            let came = settle(rt, &mut control, shared, found, changed);
+            shared.stop.give_alone(rt, control.worker.domain());
+            (worker, control, came)
         },
     );
     let came = match served {
         Ok(_) => came,
         Err(refusal) => Err(refusal.into()),
     };
-    (driver, both, came)
+    ((driver, worker, control), came)
 }
 
 /// The control thread's worker with what it writes, and what the threads share.
@@ -206,7 +197,7 @@ fn work<R: Threads + Wait + AllocGlobal + Sync>(
     let worker = team.worker().ok_or(Refusal::NoWorker)?;
     let (mut control, shared) = equip(team, stop, host)?;
     control.begin()?;
-    let (driver, (worker, control), came) = drive(rt, driver, (worker, control), &shared);
+    let ((driver, worker, control), came) = drive(rt, (driver, worker, control), &shared);
     // Where there is no memory to take one back, `clean_up` says that it is missing.
     drop(team.back(driver));
     drop(team.back(worker));

@@ -34,7 +34,7 @@ fn take_lease(
 ) -> Result<(Lease, Option<u32>), Exhausted>
     requires { IsCellOf worker.old.domain view.now }
     ensures domain { IfOk result (λ r. r.0.held.domain ≡ worker.old.domain.domain) }
-    ensures cell { IfOk result (λ r. r.0.found.cell ≡ view) }
+    ensures cell { IfOk result (λ r. r.0.found.cell ≡ view.now.cell) }
     ensures reads { IfOk result (λ r. HasPlug r.0.found 7 r.1) }
 {
     let mut lease = worker.lease(view)?; // a held section, with the version that it found
