@@ -258,8 +258,8 @@ pub locks_unchanged : (p : ℕ) (i : Index) (s q : ℕ) (by : Maker) (mine after
 locks_unchanged p i s q by mine after e = let c = locks_push p i mine (End s q by) in ap (locks p i) e ∙ omega (arith, c)
 
 -- a right that is known
-pub right_known : (r : Right) (s p : ℕ) (i : Index) → r ≡ Section s p i → r ≡ Section (section_of r) p i
-right_known r s p i is = is ∙ ap (λ z. Section z p i) (sym (ap section_of is))
+pub right_known : (r : Right) (s p : ℕ) (i : Index) → r ≡ Section s p i [] None → r ≡ Section (section_of r) p i [] None
+right_known r s p i is = is ∙ ap (λ z. Section z p i [] None) (sym (ap section_of is))
 
 pub at_limit : (n l limit : ℕ) → n ≡ l → n ≡ limit → l ≡ limit
 at_limit n l limit a b = sym a ∙ b

@@ -2,6 +2,10 @@
 use Rattle.std.proofs.Common.{◌≡◌, ℕ, zero, suc, ◌+◌, ◌*◌, ◌<◌, ◌≤◌, ◌≢◌, List, [], ◌∷◌, ◌++◌, All, Option, get_or, length, set, refl, sym, ap, ◌∙◌, subst, ⊎_elim, arith}
 use Rattle.std.proofs.lemmas.List.{get_or-replicate, length-replicate}
 use Rattle.std.proofs.lemmas.List.Elements.{All-nil, All-cons}
+use Rattle.std.specs.Prelude.{None}
+use Rattle.sections.specs.Banks.{hand_in, section_in, Mans, IsLent, FitsBank, KeepsBanks}
+use Rattle.sections.proofs.Banking.{split_banks, join_banks, bank_free, bank_moved, deal_banks, total_zero, no_table}
+use Rattle.sections.specs.Slots.{Slot}
 use Rattle.sections.specs.declared.view.Right.TheVariants.{Undealt}
 use mathlib.Core.Logic.{dite}
 use native.Mathlib.Decide.{ℕ_discrete}
@@ -32,11 +36,11 @@ module _ (bounds : Bounds) where
   -- Splits and joins
 
   -- the same words and history, and other views
-  reviewed : (s : State (Option ℕ) View) (r : Kept bounds s) (views : List View) (seat_of reached holder : ℕ → ℕ) → ((p : ℕ) → reached p ≤ r.changes) → ((j : ℕ) (d : View) → get_elem? views j ≡ some d → Fits r.log r.changes seat_of reached holder r.engine j d)
+  reviewed : (s : State Slot View) (r : Kept bounds s) (views : List View) (seat_of reached holder : ℕ → ℕ) → ((p : ℕ) → reached p ≤ r.changes) → ((j : ℕ) (d : View) → get_elem? views j ≡ some d → Fits r.log r.changes seat_of reached holder r.engine j d)
       → ((j : ℕ) (d : View) → get_elem? views j ≡ some d → HasDone r.deeds d)
-      → (writer_of : ℕ → ℕ) → ((j : ℕ) (d : View) → get_elem? views j ≡ some d → FitsShelf bounds s.words r.log r.shelf.texts writer_of j d)
+      → (writer_of : ℕ → ℕ) → ((j : ℕ) (d : View) → get_elem? views j ≡ some d → FitsShelf bounds s.words r.log r.shelf.texts writer_of j d) → KeepsBanks bounds s.homes views r.log
       → Kept bounds record { words = s.words; homes = s.homes; views = views }
-  reviewed s r views seat_of reached holder known each each_done writer_of each_shelf = record {
+  reviewed s r views seat_of reached holder known each each_done writer_of each_shelf banks = record {
     log = r.log;
     changes = r.changes;
     seat_of = seat_of;
@@ -52,10 +56,11 @@ module _ (bounds : Bounds) where
     done = r.done;
     each_done = each_done;
     shelf = record { texts = r.shelf.texts; writer_of = writer_of; room = r.shelf.room; shelved = r.shelf.shelved; each = each_shelf; loaded = r.shelf.loaded };
+    banks = banks;
   }
 
-  pub gives_token : (id : ℕ) (v : View) → Splits (Kept bounds) id v (lacking v) (bearer v)
-  gives_token id v s r at = let f = r.each_view id v at in let m : ℕ = length s.views in let holder' : ℕ → ℕ = moved v.right m r.holder in
+  pub gives_token : (id : ℕ) (v : View) → hand_in v.right ≡ None → Splits (Kept bounds) id v (lacking v) (bearer v)
+  gives_token id v free s r at = let f = r.each_view id v at in let m : ℕ = length s.views in let holder' : ℕ → ℕ = moved v.right m r.holder in
       reviewed s r (set s.views id (lacking v) ++ bearer v ∷ []) r.seat_of r.reached holder' r.known (views_split (Fits r.log r.changes r.seat_of r.reached holder' r.engine) s.views id v (lacking v) (bearer v) at
       record { seen = f.seen; knows = knows_as r.log r.changes r.seat_of r.reached r.holder holder' r.engine id v.role v.changes f.knows; told = f.told; makes = makes_as r.log r.changes r.seat_of r.reached r.holder holder' r.engine id v.role v.mine f.makes; has = tt; shown = f.shown }
       record { seen = f.seen; knows = known_before r.log r.changes r.seat_of r.reached r.holder r.engine id v.role v.changes f.knows; told = All-nil (λ m. GoesOn m (now r.log r.changes)); makes = tt; has = moved_has r.log r.changes r.seat_of r.reached r.holder r.engine id m v.right f.has; shown = tt }
@@ -65,13 +70,14 @@ module _ (bounds : Bounds) where
       record { has = g.has; told = g.told; writes = tt }
       record { has = g.has; told = All-nil (λ x. x.texts ≡ texts_at r.shelf.texts x.history); writes = moved_writes bounds s.words r.log r.shelf.writer_of id m v.right g.writes }
       (λ j d ne e. fits_shelf_as bounds s.words r.log r.shelf.texts r.shelf.writer_of (moved_pen v.right m r.shelf.writer_of) j (moved_pen_else bounds s.words r.log r.shelf.writer_of id m v.right g.writes j ne) d (r.shelf.each j d e)))
+      (let k = r.banks in let h = k.each id v at in split_banks bounds s.homes s.views r.log k k.lane_of id v (lacking v) (bearer v) at (sym free) (bank_free bounds s.homes s.views r.log k k.lane_of id (lacking v) h.lane refl refl) (bank_moved bounds s.homes s.views r.log k k.lane_of id m v (bearer v) h (λ p mans. absurd mans) refl free) (λ j d ne g. g))
 
   -- two seats become one, which takes over the right of the other
   joined : (id : ℕ) (v : View) (other : ℕ) (w both : View) → both.role ≡ v.role → both.mine ≡ v.mine → both.done ≡ v.done → both.right ≡ w.right → both.seen ≡ v.seen → both.texts ≡ v.texts → ((P : Moment → Type 0) → All P v.told → P (moment_of w) → All P both.told)
       → ((log : List Event) (changes : ℕ) (seat_of reached holder : ℕ → ℕ) (engine : ℕ) → Fits log changes seat_of reached holder engine id v → IsBeginning w.seen log → w.changes ≤ changes → HasReached reached w.shown
       → IsBeginning both.seen log × Knows log changes seat_of reached holder engine id both.role both.changes × All (λ m. GoesOn m (now log changes)) both.told × HasReached reached both.shown)
-      → Joins (Kept bounds) id v other w both spent
-  joined id v other w both same_role same_mine same_done same_right same_seen same_texts tells learns s r at apart there =
+      → hand_in v.right ≡ None → hand_in w.right ≡ None → Joins (Kept bounds) id v other w both spent
+  joined id v other w both same_role same_mine same_done same_right same_seen same_texts tells learns free free' s r at apart there =
       let f = r.each_view id v at in
       let was : get_elem? s.views other ≡ some w = ⊎_elim (λ (t : (other ≡ id) × (both ≡ w)). absurd (apart t.0)) (λ (t : (other ≢ id) × (get_elem? s.views other ≡ some w)). t.1) (at_set s.views id other both w there) in
       let g = r.each_view other w was in
@@ -103,25 +109,26 @@ module _ (bounds : Bounds) where
       (λ j d ne e. ⊎_elim (λ (t : (j ≡ id) × (both ≡ d)). subst (λ (x : ℕ × View). P x.0 x.1) (λ i. (sym t.0 i, t.1 i)) mine)
       (λ (t : (j ≢ id) × (get_elem? s.views j ≡ some d)). fits_shelf_as bounds s.words r.log r.shelf.texts r.shelf.writer_of (moved_pen w.right id r.shelf.writer_of) j (moved_pen_else bounds s.words r.log r.shelf.writer_of other id w.right b.writes j ne) d (r.shelf.each j d t.1))
       (at_set s.views id j both d e)))
+      (let k = r.banks in join_banks bounds s.homes s.views r.log k id v other w both spent at was free free' (bank_moved bounds s.homes s.views r.log k k.lane_of other id w both (k.each other w was) (λ p mans. (k.each id v at).lane p (subst (λ z. Mans z p) same_role mans)) same_right free') (bank_free bounds s.homes s.views r.log k k.lane_of other spent (λ p mans. absurd mans) refl refl))
 
-  pub takes_token : (id : ℕ) (v : View) (other : ℕ) (w : View) → Joins (Kept bounds) id v other w (informed v w) spent
-  takes_token id v other w = joined id v other w (informed v w) refl refl refl refl refl refl (λ P a p. All-cons P (moment_of w) v.told p a) (λ log changes seat_of reached holder engine f seen known shown.
-      (f.seen, f.knows, All-cons (λ m. GoesOn m (now log changes)) (moment_of w) v.told (record { history = seen; changes = known }) f.told, f.shown))
+  pub takes_token : (id : ℕ) (v : View) (other : ℕ) (w : View) → hand_in v.right ≡ None → hand_in w.right ≡ None → Joins (Kept bounds) id v other w (informed v w) spent
+  takes_token id v other w free free' = joined id v other w (informed v w) refl refl refl refl refl refl (λ P a p. All-cons P (moment_of w) v.told p a) (λ log changes seat_of reached holder engine f seen known shown.
+      (f.seen, f.knows, All-cons (λ m. GoesOn m (now log changes)) (moment_of w) v.told (record { history = seen; changes = known }) f.told, f.shown)) free free'
 
-  pub hears : (id : ℕ) (v : View) (other : ℕ) (w : View) → Joins (Kept bounds) id v other w (hearing v w) spent
-  hears id v other w = joined id v other w (hearing v w) refl refl refl refl refl refl (λ P a p. All-cons P (moment_of w) v.told p a) (λ log changes seat_of reached holder engine f seen known shown.
-      (f.seen, f.knows, All-cons (λ m. GoesOn m (now log changes)) (moment_of w) v.told (record { history = seen; changes = known }) f.told, shown))
+  pub hears : (id : ℕ) (v : View) (other : ℕ) (w : View) → hand_in v.right ≡ None → hand_in w.right ≡ None → Joins (Kept bounds) id v other w (hearing v w) spent
+  hears id v other w free free' = joined id v other w (hearing v w) refl refl refl refl refl refl (λ P a p. All-cons P (moment_of w) v.told p a) (λ log changes seat_of reached holder engine f seen known shown.
+      (f.seen, f.knows, All-cons (λ m. GoesOn m (now log changes)) (moment_of w) v.told (record { history = seen; changes = known }) f.told, shown)) free free'
 
-  pub notes : (id : ℕ) (v : View) (other : ℕ) (w : View) → Joins (Kept bounds) id v other w (noting v w) spent
-  notes id v other w = joined id v other w (noting v w) refl refl refl refl refl refl (λ P a p. a) (λ log changes seat_of reached holder engine f seen known shown. (f.seen, f.knows, f.told, shown))
+  pub notes : (id : ℕ) (v : View) (other : ℕ) (w : View) → hand_in v.right ≡ None → hand_in w.right ≡ None → Joins (Kept bounds) id v other w (noting v w) spent
+  notes id v other w free free' = joined id v other w (noting v w) refl refl refl refl refl refl (λ P a p. a) (λ log changes seat_of reached holder engine f seen known shown. (f.seen, f.knows, f.told, shown)) free free'
 
-  pub regains : (id : ℕ) (v : View) (other : ℕ) (w : View) → Joins (Kept bounds) id v other w (regaining v w) spent
-  regains id v other w = joined id v other w (regaining v w) refl refl refl refl refl refl (λ P a p. a) (λ log changes seat_of reached holder engine f seen known shown. (f.seen, f.knows, f.told, f.shown))
+  pub regains : (id : ℕ) (v : View) (other : ℕ) (w : View) → hand_in v.right ≡ None → hand_in w.right ≡ None → Joins (Kept bounds) id v other w (regaining v w) spent
+  regains id v other w free free' = joined id v other w (regaining v w) refl refl refl refl refl refl (λ P a p. a) (λ log changes seat_of reached holder engine f seen known shown. (f.seen, f.knows, f.told, f.shown)) free free'
 
   -- A seat shows how many changes its processor has seen. From then on the rule keeps that it has
 
   -- the new seat is a token's, and the others stay as they are
-  shown_as : (s : State (Option ℕ) View) (r : Kept bounds s) (id : ℕ) (v : View) (reached' : ℕ → ℕ) → get_elem? s.views id ≡ some v → ((p : ℕ) → r.reached p ≤ reached' p) → ((p : ℕ) → reached' p ≤ r.changes)
+  shown_as : (s : State Slot View) (r : Kept bounds s) (id : ℕ) (v : View) (reached' : ℕ → ℕ) → get_elem? s.views id ≡ some v → ((p : ℕ) → r.reached p ≤ reached' p) → ((p : ℕ) → reached' p ≤ r.changes)
       → ((j : ℕ) (d : View) (p : ℕ) → get_elem? s.views j ≡ some d → d.role ≡ Cpu p → reached' p ≤ d.changes)
       → HasReached reached' (mark v.role v.changes v.shown)
       → Kept bounds record { words = s.words; homes = s.homes; views = set s.views id v ++ shower v ∷ [] }
@@ -133,15 +140,16 @@ module _ (bounds : Bounds) where
       (views_split (λ _ u. HasDone r.deeds u) s.views id v v (shower v) at (r.each_done id v at) (has_done_none r.deeds (shower v) refl refl) (λ j u _ e. r.each_done j u e))
       r.shelf.writer_of (let g = r.shelf.each id v at in views_split (FitsShelf bounds s.words r.log r.shelf.texts r.shelf.writer_of) s.views id v v (shower v) at g
       record { has = g.has; told = All-nil (λ x. x.texts ≡ texts_at r.shelf.texts x.history); writes = tt } (λ j d _ e. r.shelf.each j d e))
+      (let k = r.banks in split_banks bounds s.homes s.views r.log k k.lane_of id v v (shower v) at refl (k.each id v at) (bank_free bounds s.homes s.views r.log k k.lane_of (length s.views) (shower v) (λ p mans. absurd mans) refl refl) (λ j d ne g. g))
 
   -- what is known of a processor it has seen
-  knows_reached : (s : State (Option ℕ) View) (r : Kept bounds s) (j : ℕ) (d : View) (p : ℕ) → get_elem? s.views j ≡ some d → d.role ≡ Cpu p → r.reached p ≤ d.changes
+  knows_reached : (s : State Slot View) (r : Kept bounds s) (j : ℕ) (d : View) (p : ℕ) → get_elem? s.views j ≡ some d → d.role ≡ Cpu p → r.reached p ≤ d.changes
   knows_reached s r j d p at is = (subst (λ (m : Role). Knows r.log r.changes r.seat_of r.reached r.holder r.engine j m d.changes) is (r.each_view j d at).knows).0
 
-  seated_at : (s : State (Option ℕ) View) (r : Kept bounds s) (j : ℕ) (d : View) (p : ℕ) → get_elem? s.views j ≡ some d → d.role ≡ Cpu p → r.seat_of p ≡ j
+  seated_at : (s : State Slot View) (r : Kept bounds s) (j : ℕ) (d : View) (p : ℕ) → get_elem? s.views j ≡ some d → d.role ≡ Cpu p → r.seat_of p ≡ j
   seated_at s r j d p at is = (subst (λ (m : Role). Makes r.log r.changes r.seat_of r.reached r.holder r.engine j m d.mine) is (r.each_view j d at).makes).0
 
-  same_view : (s : State (Option ℕ) View) (j k : ℕ) (d v : View) → j ≡ k → get_elem? s.views j ≡ some d → get_elem? s.views k ≡ some v → d ≡ v
+  same_view : (s : State Slot View) (j k : ℕ) (d v : View) → j ≡ k → get_elem? s.views j ≡ some d → get_elem? s.views k ≡ some v → d ≡ v
   same_view s j k d v jk a b = some-injective d v (sym a ∙ (ap (get_elem? s.views) jk ∙ b))
 
   pub shows_as : (id : ℕ) (v : View) (m : Role) → v.role ≡ m → Splits (Kept bounds) id v v (shower v)
@@ -176,8 +184,8 @@ module _ (bounds : Bounds) where
   knows_reseated log changes seat_of seat_of' reached holder engine j (Cpu p) known h = h
   knows_reseated log changes seat_of seat_of' reached holder engine j (Driver k) known h = h
 
-  pub deals : (id : ℕ) (v : View) (k : ℕ) → v.role ≡ Driver k → Splits (Kept bounds) id v (dealer v) (dealt v)
-  deals id v k is s r at =
+  pub deals : (id : ℕ) (v : View) (k : ℕ) → v.role ≡ Driver k → hand_in v.right ≡ None → Splits (Kept bounds) id v (dealer v) (dealt v)
+  deals id v k is free s r at =
       let f = r.each_view id v at in
       let m : ℕ = length s.views in
       let seat_of' : ℕ → ℕ = given k m r.seat_of in
@@ -216,6 +224,7 @@ module _ (bounds : Bounds) where
       (λ j u _ e. r.each_done j u e))
       r.shelf.writer_of (let g = r.shelf.each id v at in views_split (FitsShelf bounds s.words r.log r.shelf.texts r.shelf.writer_of) s.views id v (dealer v) (dealt v) at
       record { has = g.has; told = g.told; writes = g.writes } record { has = g.has; told = All-nil (λ x. x.texts ≡ texts_at r.shelf.texts x.history); writes = tt } (λ j d _ e. r.shelf.each j d e))
+      (deal_banks bounds s.homes s.views r.log r.banks id k v (dealer v) (dealt v) at is refl (ap without_next is) (ap next_role is) refl free)
     where
       fewer : (k : ℕ) (n : Maker) → StandsFor (Driver (k + 1)) n → StandsFor (Driver k) n
       fewer k Engine h = tt
@@ -259,6 +268,7 @@ module _ (bounds : Bounds) where
         };
       }
       (λ j d ne e. fits_shelf_as bounds s.words r.log r.shelf.texts r.shelf.writer_of writer' j (λ b h. given_else c m r.shelf.writer_of b (λ bc. ne (sym h ∙ (ap r.shelf.writer_of bc ∙ first.writer))) ∙ h) d (r.shelf.each j d e)))
+      (let k = r.banks in let b = k.each id v at in split_banks bounds s.homes s.views r.log k k.lane_of id v (pen_dealer v) (pen_dealt v) at (ap (λ z. hand_in (without_cell z)) is ∙ sym (ap hand_in is)) (bank_free bounds s.homes s.views r.log k k.lane_of id (pen_dealer v) b.lane (ap (λ z. section_in (without_cell z)) is) (ap (λ z. hand_in (without_cell z)) is)) (bank_free bounds s.homes s.views r.log k k.lane_of m (pen_dealt v) (λ p mans. absurd mans) (ap (λ z. section_in (next_cell z)) is) (ap (λ z. hand_in (next_cell z)) is)) (λ j d ne g. g))
 
   first_view : (j : ℕ) (d : View) → get_elem? (founder bounds ∷ []) j ≡ some d → Fits [] 0 (λ _. 0) (λ _. 0) (λ _. 0) 0 j d
   first_view zero d e = subst (λ (v : View). Fits [] 0 (λ _. 0) (λ _. 0) (λ _. 0) 0 0 v) (some-injective (founder bounds) d e) record {
@@ -279,6 +289,10 @@ module _ (bounds : Bounds) where
   first_shelf words zeros zero d e = subst (λ (v : View). FitsShelf bounds words [] [] (λ _. 0) 0 v) (some-injective (founder bounds) d e) record { has = refl; told = All-nil (λ x. x.texts ≡ texts_at [] x.history); writes = λ c _. record { writer = refl; unput = refl; zeros = λ x i _ _ _. zeros (word_place bounds.processors c x i) } }
   first_shelf words zeros (suc j) d e = absurd (some-ne-none d (sym e))
 
+  first_bank : (j : ℕ) (d : View) → get_elem? (founder bounds ∷ []) j ≡ some d → FitsBank bounds [] (λ _. no_table) 0 [] (λ _. 0) (λ _. 0) (λ _. 0) (λ _. 0) j d
+  first_bank zero d e = subst (λ (v : View). FitsBank bounds [] (λ _. no_table) 0 [] (λ _. 0) (λ _. 0) (λ _. 0) (λ _. 0) 0 v) (some-injective (founder bounds) d e) record { lane = λ p le. refl; section = λ s is. absurd (omega (arith, is)); holds = λ h is. absurd cc; reads = λ h s is i. absurd cc }
+  first_bank (suc j) d e = absurd (some-ne-none d (sym e))
+
   -- a table whose words are all 0 has an empty history
   pub opens : (words : List ℕ) → length words ≡ word_count bounds.processors bounds.cells → ((k : ℕ) → get_or words k 0 ≡ 0) → AreSmall bounds → Kept bounds (opening words [] (founder bounds))
   opens words wide zeros small = record {
@@ -297,4 +311,21 @@ module _ (bounds : Bounds) where
     done = record { words = All-nil (λ d. IsTrueOf d.at d.step); ordered = tt; until = All-nil (λ d. GoesOn d.at (now [] 0)) };
     each_done = first_done;
     shelf = record { texts = []; writer_of = λ _. 0; room = wide; shelved = shelved_new bounds words zeros; each = first_shelf words zeros; loaded = All-nil (λ d. IsTrueWord [] [] d.step) };
+    banks = record {
+      vault_of = λ _. no_table;
+      keys = 0;
+      units = [];
+      stock = λ _. 0;
+      handed = λ _. 0;
+      laid = λ _. 0;
+      round = λ _. 0;
+      lane_of = λ _. 0;
+      deep = omega arith;
+      home = λ y p ly lp lt. absurd (omega (arith, lt));
+      hands = λ i j e. absurd (omega (arith, e));
+      lent = All-nil (λ u. IsLent [] (λ _. 0) u);
+      sums = λ y ly. total_zero bounds.processors;
+      most = λ y ly. omega arith;
+      each = λ j d e. first_bank j d e;
+    };
   }

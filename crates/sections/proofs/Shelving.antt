@@ -127,7 +127,7 @@ shelved_same bounds words after log texts same h = record {
 
 pub writes_on : (bounds : Bounds) (words after : List ℕ) (log more : List Event) (writer_of : ℕ → ℕ) (j : ℕ) → IsSameShelf bounds words after → IsBeginning log more → ((c : ℕ) → version_of c more ≡ version_of c log) → (t : Right) → Writes bounds words log writer_of j t → Writes bounds after more writer_of j t
 writes_on bounds words after log more writer_of j same on versions Nothing h = tt
-writes_on bounds words after log more writer_of j same on versions (Section s p i) h = tt
+writes_on bounds words after log more writer_of j same on versions (Section s p i us hand) h = tt
 writes_on bounds words after log more writer_of j same on versions (Shelf c own seen) h = record {
   writer = h.writer;
   cell = h.cell;
@@ -148,25 +148,25 @@ writes_event bounds words after log e writer_of j same none t h = writes_on boun
 -- who has the right to which cell, after a right went to a seat
 abbrev pub moved_pen : Right → ℕ → (ℕ → ℕ) → ℕ → ℕ
 moved_pen Nothing m writer_of c = writer_of c
-moved_pen (Section s p i) m writer_of c = writer_of c
+moved_pen (Section s p i us hand) m writer_of c = writer_of c
 moved_pen (Shelf d own seen) m writer_of c = given d m writer_of c
 moved_pen (Undealt k) m writer_of c = cond (nat_le k c) m (writer_of c)
 
 pub moved_writes : (bounds : Bounds) (words : List ℕ) (log : List Event) (writer_of : ℕ → ℕ) (j m : ℕ) (t : Right) → Writes bounds words log writer_of j t → Writes bounds words log (moved_pen t m writer_of) m t
 moved_writes bounds words log writer_of j m Nothing h = tt
-moved_writes bounds words log writer_of j m (Section s p i) h = tt
+moved_writes bounds words log writer_of j m (Section s p i us hand) h = tt
 moved_writes bounds words log writer_of j m (Shelf c own seen) h = record { writer = given_here c m writer_of; cell = h.cell; upto = h.upto; all = h.all; long = h.long; stored = h.stored }
 moved_writes bounds words log writer_of j m (Undealt k) h = λ c le. let n = h c le in record { writer = ap (λ b. cond b m (writer_of c)) (le-leb k c le); unput = n.unput; zeros = n.zeros }
 
 pub moved_pen_else : (bounds : Bounds) (words : List ℕ) (log : List Event) (writer_of : ℕ → ℕ) (j m : ℕ) (t : Right) → Writes bounds words log writer_of j t → (k : ℕ) → k ≢ j → (c : ℕ) → writer_of c ≡ k → moved_pen t m writer_of c ≡ k
 moved_pen_else bounds words log writer_of j m Nothing h k other c at = at
-moved_pen_else bounds words log writer_of j m (Section s p i) h k other c at = at
+moved_pen_else bounds words log writer_of j m (Section s p i us hand) h k other c at = at
 moved_pen_else bounds words log writer_of j m (Shelf d own seen) h k other c at = given_else d m writer_of c (λ cd. other (sym at ∙ (ap writer_of cd ∙ h.writer))) ∙ at
 moved_pen_else bounds words log writer_of j m (Undealt d) h k other c at = ap (λ b. cond b m (writer_of c)) (not_false (nat_le d c) (λ le. other (sym at ∙ (h c (leb-true d c le)).writer))) ∙ at
 
 pub writes_as : (bounds : Bounds) (words : List ℕ) (log : List Event) (writer_of writer_of' : ℕ → ℕ) (j : ℕ) → ((c : ℕ) → writer_of c ≡ j → writer_of' c ≡ j) → (t : Right) → Writes bounds words log writer_of j t → Writes bounds words log writer_of' j t
 writes_as bounds words log writer_of writer_of' j same Nothing h = tt
-writes_as bounds words log writer_of writer_of' j same (Section s p i) h = tt
+writes_as bounds words log writer_of writer_of' j same (Section s p i us hand) h = tt
 writes_as bounds words log writer_of writer_of' j same (Shelf c own seen) h = record { writer = same c h.writer; cell = h.cell; upto = h.upto; all = h.all; long = h.long; stored = h.stored }
 writes_as bounds words log writer_of writer_of' j same (Undealt k) h = λ c le. let n = h c le in record { writer = same c n.writer; unput = n.unput; zeros = n.zeros }
 

@@ -14,6 +14,9 @@ use Rattle.onedom.specs.declared.event.Event.{Event}
 use Rattle.onedom.specs.declared.event.Event.TheVariants.{Begin, End, Start, Finish, Note, Ask, Find, Put}
 use Rattle.onedom.specs.Histories.{slot_of, version_of, shelved, puts_in, puts, IsClear, MayFollow, IsLegal, made_by, IsBeginning}
 use Rattle.onedom.proofs.CallerLemmas.{made_by_own, same_maker_refl, beginning_refl, beginning_push, along, slot_kept, version_kept, shelved_kept, slot_put, version_put, shelved_put, version_up, clear_until_put, quiet}
+use Rattle.sections.specs.Banks.{KeepsBanks, hand_in, section_in, units_in}
+use Rattle.sections.proofs.Banking.{same_banks, push_banks}
+use Rattle.sections.specs.Slots.{Slot}
 use Rattle.sections.specs.declared.view.Bounds.{Bounds}
 use Rattle.sections.specs.declared.view.Moment.{Moment}
 use Rattle.sections.specs.declared.view.Role.{Role}
@@ -136,19 +139,19 @@ same_shelf_right c d own own' h h' e = (λ i. cell_in (e i), λ i. words_in (e i
   where
     cell_in : Right → ℕ
     cell_in Nothing = 0
-    cell_in (Section s p i) = 0
+    cell_in (Section s p i us hand) = 0
     cell_in (Shelf c own h) = c
     cell_in (Undealt k) = 0
 
     words_in : Right → List ℕ
     words_in Nothing = []
-    words_in (Section s p i) = []
+    words_in (Section s p i us hand) = []
     words_in (Shelf c own h) = own
     words_in (Undealt k) = []
 
     seen_in : Right → List Event
     seen_in Nothing = []
-    seen_in (Section s p i) = []
+    seen_in (Section s p i us hand) = []
     seen_in (Shelf c own h) = h
     seen_in (Undealt k) = []
 
@@ -219,7 +222,7 @@ module _ (bounds : Bounds) (words : List ℕ) (views : List View) (log : List Ev
 
   others_write : (j : ℕ) → j ≢ id → (t : Right) → Writes bounds words log k.writer_of j t → Writes bounds after longer k.writer_of j t
   others_write j ne Nothing w = tt
-  others_write j ne (Section s p i) w = tt
+  others_write j ne (Section s p i us hand) w = tt
   others_write j ne (Shelf d mine seen) w = let other : d ≢ c = λ e. ne (sym w.writer ∙ (ap k.writer_of e ∙ has.writer)) in record {
     writer = w.writer;
     cell = w.cell;
@@ -324,7 +327,7 @@ module _ (bounds : Bounds) where
               has = tt;
               shown = f.shown;
             }
-            v at refl refl shelf,
+            v at refl refl shelf (push_banks bounds s.homes s.views r.log r.banks e id v w (λ u. refl) at refl (sym (ap hand_in right)) (sym (ap section_in right)) (sym (ap units_in right))),
         (
           refl,
           λ q d z own' h' is' right' lz word value'.
@@ -364,10 +367,10 @@ module _ (bounds : Bounds) where
 
 module _ (bounds : Bounds) where
   -- the same history and steps, where one word of a cell or slot may have changed
-  remains : (s : State (Option ℕ) View) (r : Kept bounds s) (id : ℕ) (words : List ℕ) (v w : View) → get_elem? s.views id ≡ some v → w.role ≡ v.role → w.done ≡ v.done → Agree bounds.processors words r.log r.changes
-      → Fits r.log r.changes r.seat_of r.reached r.holder r.engine id w → KeepsShelf bounds words (set s.views id w) r.log r.deeds
+  remains : (s : State Slot View) (r : Kept bounds s) (id : ℕ) (words : List ℕ) (v w : View) → get_elem? s.views id ≡ some v → w.role ≡ v.role → w.done ≡ v.done → Agree bounds.processors words r.log r.changes
+      → Fits r.log r.changes r.seat_of r.reached r.holder r.engine id w → KeepsShelf bounds words (set s.views id w) r.log r.deeds → KeepsBanks bounds s.homes (set s.views id w) r.log
       → Kept bounds record { words = words; homes = s.homes; views = set s.views id w }
-  remains s r id words v w at role done agree fits shelf = record {
+  remains s r id words v w at role done agree fits shelf banks = record {
     log = r.log;
     changes = r.changes;
     seat_of = r.seat_of;
@@ -383,13 +386,14 @@ module _ (bounds : Bounds) where
     done = r.done;
     each_done = each_as bounds s r id v w at role done;
     shelf = shelf;
+    banks = banks;
   }
 
   -- the seat has then seen all
-  abbrev seeing : (s : State (Option ℕ) View) → Kept bounds s → View → Right → View
+  abbrev seeing : (s : State Slot View) → Kept bounds s → View → Right → View
   seeing s r v right = record { processors = v.processors; role = v.role; mine = v.mine; seen = r.log; changes = r.changes; texts = r.shelf.texts; told = []; right = right; shown = v.shown; done = v.done }
 
-  seeing_fits : (s : State (Option ℕ) View) (r : Kept bounds s) (id : ℕ) (v : View) (c : ℕ) (own : List ℕ) → get_elem? s.views id ≡ some v → Fits r.log r.changes r.seat_of r.reached r.holder r.engine id (seeing s r v (Shelf c own r.log))
+  seeing_fits : (s : State Slot View) (r : Kept bounds s) (id : ℕ) (v : View) (c : ℕ) (own : List ℕ) → get_elem? s.views id ≡ some v → Fits r.log r.changes r.seat_of r.reached r.holder r.engine id (seeing s r v (Shelf c own r.log))
   seeing_fits s r id v c own at = let f = r.each_view id v at in record {
     seen = beginning_refl r.log;
     knows = knows_all r.log r.changes r.seat_of r.reached r.holder r.engine id r.known v.role;
@@ -399,7 +403,7 @@ module _ (bounds : Bounds) where
     shown = f.shown;
   }
 
-  seeing_keeps : (s : State (Option ℕ) View) (r : Kept bounds s) (id : ℕ) (v : View) (c : ℕ) (own own' : List ℕ) (h : List Event) → get_elem? s.views id ≡ some v → HasShelf bounds s.words r.log r.shelf.writer_of id c own h → Keeps c h v (seeing s r v (Shelf c own' r.log))
+  seeing_keeps : (s : State Slot View) (r : Kept bounds s) (id : ℕ) (v : View) (c : ℕ) (own own' : List ℕ) (h : List Event) → get_elem? s.views id ≡ some v → HasShelf bounds s.words r.log r.shelf.writer_of id c own h → Keeps c h v (seeing s r v (Shelf c own' r.log))
   seeing_keeps s r id v c own own' h at has = let f = r.each_view id v at in record {
     processors = refl;
     role = refl;
@@ -415,7 +419,7 @@ module _ (bounds : Bounds) where
     legal = r.within.legal;
   }
 
-  has_shelf : (s : State (Option ℕ) View) (r : Kept bounds s) (id : ℕ) (v : View) (c : ℕ) (own : List ℕ) (h : List Event) → get_elem? s.views id ≡ some v → v.right ≡ Shelf c own h → HasShelf bounds s.words r.log r.shelf.writer_of id c own h
+  has_shelf : (s : State Slot View) (r : Kept bounds s) (id : ℕ) (v : View) (c : ℕ) (own : List ℕ) (h : List Event) → get_elem? s.views id ≡ some v → v.right ≡ Shelf c own h → HasShelf bounds s.words r.log r.shelf.writer_of id c own h
   has_shelf s r id v c own h at right = subst (λ (t : Right). Writes bounds s.words r.log r.shelf.writer_of id t) right (r.shelf.each id v at).writes
 
   -- load of the cell
@@ -438,7 +442,7 @@ module _ (bounds : Bounds) where
         w,
         keeps,
         tt,
-        subst (λ (ws : List ℕ). Kept bounds record { words = ws; homes = s.homes; views = set s.views id w }) (sym (set-get_or s.words k 0)) (remains s r id s.words v w at refl refl r.words (seeing_fits s r id v c own at) shelf),
+        subst (λ (ws : List ℕ). Kept bounds record { words = ws; homes = s.homes; views = set s.views id w }) (sym (set-get_or s.words k 0)) (remains s r id s.words v w at refl refl r.words (seeing_fits s r id v c own at) shelf (same_banks bounds s.homes s.views r.log r.banks id v w at refl (sym (ap hand_in right)) (sym (ap section_in right)) (sym (ap units_in right)))),
         (
           refl,
           λ d own' h' right'. let same = same_shelf_right c d own own' h h' (sym right ∙ right') in
@@ -494,7 +498,7 @@ module _ (bounds : Bounds) where
         w,
         keeps,
         tt,
-        remains s r id after v w at refl refl (agree_aside bounds.processors s.words r.log r.changes k y low r.words) (seeing_fits s r id v c own' at) shelf,
+        remains s r id after v w at refl refl (agree_aside bounds.processors s.words r.log r.changes k y low r.words) (seeing_fits s r id v c own' at) shelf (same_banks bounds s.homes s.views r.log r.banks id v w at refl (sym (ap hand_in right)) (sym (ap section_in right)) (sym (ap units_in right))),
         (
           refl,
           λ d z j mine h' right' lz lj word.
@@ -512,7 +516,7 @@ module _ (bounds : Bounds) where
       others_keep : (words after : List ℕ) (log : List Event) (writer_of : ℕ → ℕ) (j : ℕ) → ((d : ℕ) → d ≡ c → writer_of d ≡ j → ⊥) → ((d z m : ℕ) → d ≢ c → d < bounds.cells → z < 8 → m < 16 → get_or after (word_place bounds.processors d z m) 0 ≡ get_or words (word_place bounds.processors d z m) 0)
           → (t : Right) → Writes bounds words log writer_of j t → Writes bounds after log writer_of j t
       others_keep words after log writer_of j apart same Nothing w = tt
-      others_keep words after log writer_of j apart same (Section s p i) w = tt
+      others_keep words after log writer_of j apart same (Section s p i us hand) w = tt
       others_keep words after log writer_of j apart same (Shelf d mine seen) w = record {
         writer = w.writer;
         cell = w.cell;

@@ -8,6 +8,7 @@ use Rattle.onedom.specs.Histories.{IsOpen, open_sections, index_of, IsEmpty, IsL
 use mathlib.Core.Option.{some}
 use lib.ListN.{get_elem?}
 use Rattle.atomic_table.specs.Table.{State, Splits, Joins}
+use Rattle.sections.specs.Slots.{Slot}
 use Rattle.sections.specs.declared.view.Bounds.{Bounds}
 use Rattle.sections.specs.declared.view.Role.TheVariants.{Cpu}
 use Rattle.sections.specs.declared.view.Shown.TheVariants.{To}
@@ -21,7 +22,7 @@ use Rattle.sections.specs.Rule.{IsProcessor, HasItsMaker, steps_of, IsMaker, Sta
 use Rattle.sections.specs.Calls.{HasSeenOf}
 
 -- there is one legal history, with which the number, the index word and the counters agree, and of which every seat has seen a beginning. In what any seat has seen, each maker's events are a beginning of that maker's own. There is one text for each Put, with which the cells and their slots agree, and each seat knows those of the Puts that it has seen
-pub record HasOneHistory (bounds : Bounds) (s : State (Option ℕ) View) : Type 0 where
+pub record HasOneHistory (bounds : Bounds) (s : State Slot View) : Type 0 where
   pub log : List Event
   pub legal : IsLegal log
   pub words : MayHave log (slice_index s.words number_place) (slice_index s.words index_place)
@@ -35,11 +36,11 @@ pub record HasOneHistory (bounds : Bounds) (s : State (Option ℕ) View) : Type 
 
 -- the rule, which holds between any two steps, says so
 abbrev pub OneHistory : Type 0
-OneHistory = (bounds : Bounds) (s : State (Option ℕ) View) → Kept bounds s → HasOneHistory bounds s
+OneHistory = (bounds : Bounds) (s : State Slot View) → Kept bounds s → HasOneHistory bounds s
 
 -- between any two steps a processor that is known to have seen so many changes has seen as many
 abbrev pub ShownIsSeen : Type 0
-ShownIsSeen = (bounds : Bounds) (s : State (Option ℕ) View) → Kept bounds s → (j k p n : ℕ) (v c : View) → get_elem? s.views j ≡ some v → v.shown ≡ To p n → get_elem? s.views k ≡ some c → c.role ≡ Cpu p → n ≤ c.changes
+ShownIsSeen = (bounds : Bounds) (s : State Slot View) → Kept bounds s → (j k p n : ℕ) (v c : View) → get_elem? s.views j ≡ some v → v.shown ≡ To p n → get_elem? s.views k ≡ some c → c.role ≡ Cpu p → n ≤ c.changes
 
 -- the number and the index word are those that a domain with this history may have
 abbrev pub WordsAgree : Type 0
@@ -85,7 +86,7 @@ pub record HasNoMore (bounds : Bounds) (m o : Maker) (v w : View) : Type 0 where
 
 -- however a seat is cut in two or takes another in, it has no step and no event more of its maker m, as long as there is a maker o that has a seat elsewhere: at the place of that step o may have made a step of its own, and at that of the event a processor may have asked after a cookie. So only a step on the table gives a step or an event
 abbrev pub NoStepIsForged : Type 0
-NoStepIsForged = (bounds : Bounds) (s : State (Option ℕ) View) → Kept bounds s → (id : ℕ) (v : View) → get_elem? s.views id ≡ some v → (m o : Maker) → StandsFor v.role m → ¬ StandsFor v.role o
+NoStepIsForged = (bounds : Bounds) (s : State Slot View) → Kept bounds s → (id : ℕ) (v : View) → get_elem? s.views id ≡ some v → (m o : Maker) → StandsFor v.role m → ¬ StandsFor v.role o
     → ((left right : View) → Splits (Kept bounds) id v left right → HasNoMore bounds m o v left × HasNoMore bounds m o v right)
     × ((other : ℕ) (w both spent : View) → ¬ (other ≡ id) → get_elem? s.views other ≡ some w → ¬ StandsFor w.role o → Joins (Kept bounds) id v other w both spent → HasNoMore bounds m o v both)
 
@@ -96,6 +97,6 @@ pub record HasNoTextMore (put : List Text) (v : View) : Type 0 where
 
 -- however a seat is cut in two or takes another in, the texts that it knows are those of versions that were put, and it has seen their Puts, as long as there is a processor that has a seat elsewhere: so only a step on the table tells what a version holds
 abbrev pub NoTextIsForged : Type 0
-NoTextIsForged = (bounds : Bounds) (s : State (Option ℕ) View) (k : Kept bounds s) (id : ℕ) (v : View) → get_elem? s.views id ≡ some v → (q : ℕ) → q < bounds.processors → ¬ StandsFor v.role (Processor q)
+NoTextIsForged = (bounds : Bounds) (s : State Slot View) (k : Kept bounds s) (id : ℕ) (v : View) → get_elem? s.views id ≡ some v → (q : ℕ) → q < bounds.processors → ¬ StandsFor v.role (Processor q)
     → ((left right : View) → Splits (Kept bounds) id v left right → HasNoTextMore k.shelf.texts left × HasNoTextMore k.shelf.texts right)
     × ((other : ℕ) (w both spent : View) → ¬ (other ≡ id) → get_elem? s.views other ≡ some w → ¬ StandsFor w.role (Processor q) → Joins (Kept bounds) id v other w both spent → HasNoTextMore k.shelf.texts both)

@@ -90,7 +90,7 @@ pub record IsNew (bounds : Bounds) (words : List ℕ) (log : List Event) (writer
 
 abbrev pub Writes : Bounds → List ℕ → List Event → (ℕ → ℕ) → ℕ → Right → Type 0
 Writes bounds words log writer_of seat Nothing = Unit {0}
-Writes bounds words log writer_of seat (Section s p i) = Unit {0}
+Writes bounds words log writer_of seat (Section s p i us hand) = Unit {0}
 Writes bounds words log writer_of seat (Shelf c own seen) = HasShelf bounds words log writer_of seat c own seen
 Writes bounds words log writer_of seat (Undealt k) = (c : ℕ) → k ≤ c → IsNew bounds words log writer_of seat c
 

@@ -13,7 +13,7 @@ use Rattle.sections.specs.Writers.{is_out, Stands}
 -- the words that go with a right to a cell
 abbrev pub words_with : Right → List ℕ
 words_with Nothing = []
-words_with (Section s p i) = []
+words_with (Section s p i us hand) = []
 words_with (Shelf c own h) = own
 words_with (Undealt k) = []
 

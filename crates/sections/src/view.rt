@@ -1,6 +1,7 @@
 //! What the proofs know of a holder. But for `Bounds`, no value of these types is ever made.
 use onedom::{Event, Maker};
 use sseq::Index;
+use vault::{Key, Tally};
 
 /// What the rule of a domain's table is told when the table is made.
 #[derive(Clone, Copy, Debug)]
@@ -25,6 +26,22 @@ pub enum Role {
     Driver(u64),
 }
 
+/// One part of this slot is out with a section.
+pub struct Lent {
+    pub section: u64,
+    pub slot: u64,
+    pub round: u64,
+}
+
+/// A key that is in hand.
+pub struct Hand {
+    pub slot: u64,
+    pub processor: u64,
+    /// The key as it was taken, and what it knew.
+    pub of: Key,
+    pub held: Tally,
+}
+
 /// What a seat alone may do.
 pub enum Right {
     Nothing,
@@ -33,6 +50,10 @@ pub enum Right {
         section: u64,
         processor: u16,
         index: Index,
+        /// What is out with it: while there is something, it can't be ended.
+        units: [Lent; 0],
+        /// A key that is in hand.
+        hand: Option<Hand>,
     },
     /// Put into this cell, and store to its slots. These are the words of its slots, one slot behind the other, and a
     /// history in which all Puts of the cell are.

@@ -1,3 +1,5 @@
+use Rattle.std.proofs.Common.{rules}
+use Rattle.sections.proofs.Banking.{free_nothing, free_section, free_shelf}
 use Rattle.std.proofs.Common.{arith, sym, ◌≡◌, ◌/◌, ◌%◌, [], ap, ◌∙◌, subst}
 use Rattle.onedom.specs.declared.event.Maker.TheVariants.{Processor}
 use Rattle.onedom.specs.declared.event.Event.TheVariants.{Find}
@@ -11,10 +13,10 @@ use Rattle.sections.proofs.Finding.{finds_here, cell_there}
 use Rattle.sections.proofs.cpu.pinning.find_in.Goals as goal
 
 pub split_seat-right-requires : goal.split_seat-right-requires
-split_seat-right-requires g c = (c.requires.lender.seated, some_words _ _ _ c.requires.placed.0.wide, gives_token _ _ _)
+split_seat-right-requires g c = (c.requires.lender.seated, some_words _ _ _ c.requires.placed.0.wide, gives_token _ _ _ (search (rules, free_nothing, free_section, free_shelf)))
 
 pub join_seat-requires : goal.join_seat-requires
-join_seat-requires g c = (c.requires.placed.0.seated, c.split_seat-right.ensures.3 ∙ c.requires.lender.seated, ap (λ m. m.1) c.split_seat-right.ensures.4, some_words _ _ _ c.requires.placed.0.wide, takes_token _ _ _ _ _)
+join_seat-requires g c = (c.requires.placed.0.seated, c.split_seat-right.ensures.3 ∙ c.requires.lender.seated, ap (λ m. m.1) c.split_seat-right.ensures.4, some_words _ _ _ c.requires.placed.0.wide, takes_token _ _ _ _ _ (search (rules, free_nothing, free_section, free_shelf)) (search (rules, free_nothing, free_section, free_shelf)))
 
 pub load-word-requires : goal.load-word-requires
 load-word-requires g c = let joined = c.join_seat.ensures.2 in (
@@ -25,7 +27,7 @@ load-word-requires g c = let joined = c.join_seat.ensures.2 in (
 )
 
 pub split_seat-right-requires-2 : goal.split_seat-right-requires-2
-split_seat-right-requires-2 g c = (c.load-word.ensures.0 ∙ (c.join_seat.ensures.0 ∙ c.requires.placed.0.seated), some_words _ _ _ c.requires.placed.0.wide, gives_token _ _ _)
+split_seat-right-requires-2 g c = (c.load-word.ensures.0 ∙ (c.join_seat.ensures.0 ∙ c.requires.placed.0.seated), some_words _ _ _ c.requires.placed.0.wide, gives_token _ _ _ (search (rules, free_nothing, free_section, free_shelf)))
 
 pub join_seat-requires-2 : goal.join_seat-requires-2
 join_seat-requires-2 g c = (
@@ -33,11 +35,11 @@ join_seat-requires-2 g c = (
   c.split_seat-right-2.ensures.3 ∙ (c.load-word.ensures.0 ∙ (c.join_seat.ensures.0 ∙ c.requires.placed.0.seated)),
   ap (λ m. m.1) c.split_seat-right-2.ensures.4,
   some_words _ _ _ c.requires.placed.0.wide,
-  regains _ _ _ _ _,
+  regains _ _ _ _ _ (search (rules, free_nothing, free_section, free_shelf)) (search (rules, free_nothing, free_section, free_shelf)),
 )
 
 pub split_seat-found-requires : goal.split_seat-found-requires
-split_seat-found-requires g c = (c.split_seat-right-2.ensures.0 ∙ (c.load-word.ensures.0 ∙ (c.join_seat.ensures.0 ∙ c.requires.placed.0.seated)), some_words _ _ _ c.requires.placed.0.wide, gives_token _ _ _)
+split_seat-found-requires g c = (c.split_seat-right-2.ensures.0 ∙ (c.load-word.ensures.0 ∙ (c.join_seat.ensures.0 ∙ c.requires.placed.0.seated)), some_words _ _ _ c.requires.placed.0.wide, gives_token _ _ _ (search (rules, free_nothing, free_section, free_shelf)))
 
 pub returns-clause-finds : goal.returns-clause-finds
 returns-clause-finds g c =

@@ -1,3 +1,5 @@
+use Rattle.std.proofs.Common.{rules}
+use Rattle.sections.proofs.Banking.{free_nothing, free_section, free_shelf}
 use Rattle.std.proofs.Common.{arith, sym, ◌≡◌, ◌+◌, ap, ◌∙◌, subst}
 use Rattle.onedom.specs.declared.event.Maker.TheVariants.{Processor}
 use Rattle.onedom.specs.declared.event.Event.TheVariants.{Put}
@@ -13,10 +15,10 @@ use Rattle.sections.proofs.Writing.{puts_here}
 use Rattle.sections.proofs.cpu.writing.put_in.Goals as goal
 
 pub split_seat-right-requires : goal.split_seat-right-requires
-split_seat-right-requires g c = (c.requires.pen.0.seated, some_words _ _ _ c.requires.placed.0.wide, gives_token _ _ _)
+split_seat-right-requires g c = (c.requires.pen.0.seated, some_words _ _ _ c.requires.placed.0.wide, gives_token _ _ _ (search (rules, free_nothing, free_section, free_shelf)))
 
 pub join_seat-requires : goal.join_seat-requires
-join_seat-requires g c = (c.requires.placed.0.seated, c.split_seat-right.ensures.3 ∙ c.requires.pen.0.seated, ap (λ m. m.1) c.split_seat-right.ensures.4, some_words _ _ _ c.requires.placed.0.wide, takes_token _ _ _ _ _)
+join_seat-requires g c = (c.requires.placed.0.seated, c.split_seat-right.ensures.3 ∙ c.requires.pen.0.seated, ap (λ m. m.1) c.split_seat-right.ensures.4, some_words _ _ _ c.requires.placed.0.wide, takes_token _ _ _ _ _ (search (rules, free_nothing, free_section, free_shelf)) (search (rules, free_nothing, free_section, free_shelf)))
 
 pub store-requires : goal.store-requires
 store-requires g c = let joined = c.join_seat.ensures.2 in (
@@ -27,7 +29,8 @@ store-requires g c = let joined = c.join_seat.ensures.2 in (
 )
 
 pub split_seat-requires : goal.split_seat-requires
-split_seat-requires g c = (c.store.ensures.0 ∙ (c.join_seat.ensures.0 ∙ c.requires.placed.0.seated), some_words _ _ _ c.requires.placed.0.wide, gives_token _ _ _)
+split_seat-requires g c = (c.store.ensures.0 ∙ (c.join_seat.ensures.0 ∙ c.requires.placed.0.seated), some_words _ _ _ c.requires.placed.0.wide, gives_token _ _ _ (let into : c.join_seat.new.seat.me.0 ≡ informed c.args.seat.now.me.0 (bearer c.args.pen.now.me.0) = ap (λ m. m.0) c.join_seat.ensures.2 ∙ ap (λ m. informed c.args.seat.now.me.0 m.0) c.split_seat-right.ensures.4 in let pen = c.requires.pen.0 in
+    free_shelf _ _ _ _ (c.store.ensures.2.1 c.requires.role.0 c.args.cell c.args.slot pen.own pen.upto (ap (λ z. z.role) into ∙ c.requires.role.1) (ap (λ z. z.right) into ∙ pen.right) c.requires.word.0 (c.place_of_cell.ensures ∙ ap (λ n. cell_place n c.args.cell) (sym (ap (λ z. z.processors) into ∙ c.requires.placed.0.sized))) (c.requires.word.1 pen.own pen.upto pen.right)).1))
 
 pub returns : goal.returns
 returns g c =

@@ -1,3 +1,5 @@
+use Rattle.std.proofs.Common.{rules}
+use Rattle.sections.proofs.Banking.{free_nothing, free_section, free_shelf}
 use Rattle.std.proofs.Common.{arith, ◌≡◌, ap, ◌∙◌, subst}
 use Rattle.sections.specs.declared.view.View.{View}
 use Rattle.sections.specs.Rule.{bearer, informed}
@@ -9,13 +11,13 @@ use Rattle.sections.proofs.Writing.{refreshes_here}
 use Rattle.sections.proofs.cpu.writing.refresh_in.Goals as goal
 
 pub split_seat-fresh-requires : goal.split_seat-fresh-requires
-split_seat-fresh-requires g c = (c.requires.placed.0.seated, some_words _ _ _ c.requires.placed.0.wide, gives_token _ _ _)
+split_seat-fresh-requires g c = (c.requires.placed.0.seated, some_words _ _ _ c.requires.placed.0.wide, gives_token _ _ _ (search (rules, free_nothing, free_section, free_shelf)))
 
 pub split_seat-right-requires : goal.split_seat-right-requires
-split_seat-right-requires g c = (c.requires.pen.seated, some_words _ _ _ c.requires.placed.0.wide, gives_token _ _ _)
+split_seat-right-requires g c = (c.requires.pen.seated, some_words _ _ _ c.requires.placed.0.wide, gives_token _ _ _ (search (rules, free_nothing, free_section, free_shelf)))
 
 pub join_seat-requires : goal.join_seat-requires
-join_seat-requires g c = (c.split_seat-fresh.ensures.3 ∙ c.requires.placed.0.seated, c.split_seat-right.ensures.3 ∙ c.requires.pen.seated, ap (λ m. m.1) c.split_seat-right.ensures.4, some_words _ _ _ c.requires.placed.0.wide, takes_token _ _ _ _ _)
+join_seat-requires g c = (c.split_seat-fresh.ensures.3 ∙ c.requires.placed.0.seated, c.split_seat-right.ensures.3 ∙ c.requires.pen.seated, ap (λ m. m.1) c.split_seat-right.ensures.4, some_words _ _ _ c.requires.placed.0.wide, takes_token _ _ _ _ _ (search (rules, free_nothing, free_section, free_shelf)) (search (rules, free_nothing, free_section, free_shelf)))
 
 pub load-requires : goal.load-requires
 load-requires g c = (

@@ -1,3 +1,4 @@
+use Rattle.sections.proofs.Banking.{free_nothing, free_section, free_shelf}
 use Rattle.std.proofs.Common.{rules, ◌≡◌, ◌<◌, true, false, length, get_or, inr, refl, sym, ap, ◌∙◌, subst}
 use Rattle.sections.specs.declared.writer.Standing.{Standing}
 use Rattle.sections.specs.declared.writer.Standing.TheVariants.{Blank, Retired}
@@ -20,7 +21,7 @@ join_seat-requires g c = rw c.deref-table.ensures (
   c.split_seat-told.ensures.3 ∙ (ap (λ z. z.domain) c.self.view_is ∙ (sym c.requires.here ∙ (ap (λ z. z.domain) (sym c.cpu.view_is) ∙ c.cpu.invariant.placed.seated))),
   ap (λ m. m.1) c.split_seat-told.ensures.4,
   some_words _ _ _ c.cpu.invariant.placed.wide,
-  takes_token _ _ _ _ _,
+  takes_token _ _ _ _ _ (search (rules, free_nothing, free_section, free_shelf)) (search (rules, free_nothing, free_section, free_shelf)),
 )
 
 pub ask_number-done-requires-clause-cookie : goal.ask_number-done-requires-clause-cookie
