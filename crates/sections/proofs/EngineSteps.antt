@@ -11,7 +11,7 @@ use Rattle.onedom.specs.declared.event.Event.TheVariants.{Start, Finish}
 use Rattle.onedom.specs.Histories.{ends, starts_in, WasEmpty, MayFollow, maker_of, same_maker, made_by, IsBeginning}
 use Rattle.onedom.proofs.CallerLemmas.{bit, made_by_own, made_by_other, same_maker_refl, beginning_refl, empty_grows, empty_may_end}
 use Rattle.sections.specs.Banks.{KeepsBanks}
-use Rattle.sections.proofs.Banking.{same_banks, push_banks}
+use Rattle.sections.proofs.Banking.{says_same, same_banks, push_banks}
 use Rattle.sections.specs.Slots.{Slot}
 use Rattle.sections.specs.declared.view.Bounds.{Bounds}
 use Rattle.sections.specs.declared.view.Role.{Role}
@@ -91,6 +91,7 @@ module _ (bounds : Bounds) where
       → ((s : State Slot View) (r : Kept bounds s) → r.changes ≡ me.0.changes → IsBeginning me.0.seen r.log → made_by Engine r.log ≡ me.0.mine → MayFollow r.log e × Reaches (r.changes + 1) (r.log ++ e ∷ []) × (r.changes + 1 ≤ 4 * bounds.periods))
       → ((n : ℕ) (w : View) → w.right ≡ me.0.right → w.changes ≡ me.0.changes + 1 → Adds me.0 e w → told_of n (w, me.1))
       → Allows (Kept bounds) slots id me number_place (λ x. (x + a) % 2 ^ 64) told_of
+  unfolding shelf_event
   drives slots id a me d e told_of sized is driven grows same_index small few follows tells s r _ at _ =
       let v : View = me.0 in
       let f = r.each_view id v at in
@@ -132,7 +133,7 @@ module _ (bounds : Bounds) where
             (let same = same_set bounds s.words k y (omega arith) in shelf_event bounds s.words (set s.words k y) s.views r.log r.deeds id w e r.shelf same (length-set s.words k y) r.within.legal may.0 driven.no_put
             (fits_all bounds (set s.words k y) log' r.shelf.texts r.shelf.writer_of id w refl refl refl (texts_on r.shelf.texts r.log e driven.no_put r.shelf.shelved.cells)
             (writes_event bounds s.words (set s.words k y) r.log e r.shelf.writer_of id same driven.no_put v.right (r.shelf.each id v at).writes)))
-            (push_banks bounds s.homes s.views r.log r.banks e id v w (λ u. driven.no_end u) at refl refl refl refl),
+            (push_banks bounds s.homes s.views r.log r.shelf.texts r.banks e id v w r.within.legal may.0 driven.no_put (λ u. driven.no_end u) at (says_same v w refl refl)),
         tells x w refl (ap (λ c. c + 1) (sym known)) record {
           before = r.log;
           seen = refl;
@@ -174,7 +175,7 @@ module _ (bounds : Bounds) where
   -- the rule after a change of a word
   changed : (s : State Slot View) (r : Kept bounds s) (id k x : ℕ) (cs : List (ℕ × Slot)) (w : View) (l : Step) → IsTrueOf (now r.log (r.changes + 1)) l → w.done ≡ r.deeds ++ deed Engine l (now r.log (r.changes + 1)) ∷ [] → Agree bounds.processors (set s.words k x) r.log (r.changes + 1) → r.changes + 1 ≤ 4 * bounds.periods → r.engine ≡ id
       → Fits r.log (r.changes + 1) r.seat_of r.reached r.holder r.engine id w
-      → KeepsShelf bounds (set s.words k x) (set s.views id w) r.log (r.deeds ++ deed Engine l (now r.log (r.changes + 1)) ∷ []) → KeepsBanks bounds s.homes (set s.views id w) r.log → Kept bounds (stepped s k x id cs w keeps)
+      → (shelf : KeepsShelf bounds (set s.words k x) (set s.views id w) r.log (r.deeds ++ deed Engine l (now r.log (r.changes + 1)) ∷ [])) → KeepsBanks bounds s.homes (set s.views id w) r.log shelf.texts → Kept bounds (stepped s k x id cs w keeps)
   changed s r id k x cs w l is all agree most here fits shelf banks = record {
     log = r.log;
     changes = r.changes + 1;
@@ -204,6 +205,7 @@ module _ (bounds : Bounds) where
       × ((y : ℕ) → y ≡ word (r.changes + 1) → r.changes ≡ me.0.changes → Agree bounds.processors (set s.words k y) r.log (r.changes + 1)))
       → ((n : ℕ) (w : View) → w.changes ≡ me.0.changes + 1 → n + 1 ≡ word w.changes → Sees (l (n + 1)) me.0 w → told_of n (w, me.1))
       → Allows (Kept bounds) slots id me k (λ x. (x + 1) % 2 ^ 64) told_of
+  unfolding shelf_deed
   changes_here slots id k me d word l told_of sized is true_of aside no_word small busy few grows agrees tells s r _ at _ =
       let v : View = me.0 in
       let f = r.each_view id v at in
@@ -233,7 +235,7 @@ module _ (bounds : Bounds) where
         changed s r id k y me.1 w (l (x + 1)) (true_of r.log changes' (x + 1) one) refl ((agrees s r).1 y up (sym known)) (omega (arith, most, known, busy, few)) made.0 fits
             (let same = same_set bounds s.words k y (omega (arith, aside)) in shelf_deed bounds s.words (set s.words k y) s.views r.log r.deeds id w (deed Engine (l (x + 1)) (now r.log changes')) r.shelf same (length-set s.words k y) (no_word r.log r.shelf.texts (x + 1))
             (fits_all bounds (set s.words k y) r.log r.shelf.texts r.shelf.writer_of id w refl refl refl r.shelf.shelved.cells (writes_on bounds s.words (set s.words k y) r.log r.log r.shelf.writer_of id same (beginning_refl r.log) (λ c. refl) v.right (r.shelf.each id v at).writes)))
-            (same_banks bounds s.homes s.views r.log r.banks id v w at refl refl refl refl),
+            (same_banks bounds s.homes s.views r.log r.shelf.texts r.banks id v w at (says_same v w refl refl)),
         tells x w (ap (λ c. c + 1) (sym known)) one record {
           processors = refl;
           role = refl;

@@ -124,9 +124,9 @@ longer_has : (log : List Event) (changes : ℕ) (seat_of seat_of' reached holder
 longer_has log changes seat_of seat_of' reached holder engine j q zero t h = has_as log changes seat_of seat_of' reached holder holder engine j (λ _ i. i) t h
 longer_has log changes seat_of seat_of' reached holder engine j q (suc k) t h = has_stays (longer q k log) changes seat_of' reached holder holder engine j (question q) (may_ask q (longer q k log)) (λ _ _. refl) (λ _ _. refl) t (longer_has log changes seat_of seat_of' reached holder engine j q k t h)
 
-longer_banks : (bounds : Bounds) (homes : List (maybe.Option Slot)) (views : List View) (q k : ℕ) (log : List Event) → KeepsBanks bounds homes views log → KeepsBanks bounds homes views (longer q k log)
-longer_banks bounds homes views q zero log b = b
-longer_banks bounds homes views q (suc k) log b = one_later bounds homes views (longer q k log) (longer_banks bounds homes views q k log b) (question q) (λ _. refl)
+longer_banks : (bounds : Bounds) (homes : List (maybe.Option Slot)) (views : List View) (texts : List Text) (q k : ℕ) (log : List Event) → IsLegal log → KeepsBanks bounds homes views log texts → KeepsBanks bounds homes views (longer q k log) texts
+longer_banks bounds homes views texts q zero log legal b = b
+longer_banks bounds homes views texts q (suc k) log legal b = one_later bounds homes views (longer q k log) texts (longer_banks bounds homes views texts q k log legal b) (question q) (longer_legal q k log legal) (may_ask q (longer q k log)) refl (λ _. refl)
 
 -- that processor's seat is another one
 module _ (log : List Event) (changes : ℕ) (seat_of reached holder : ℕ → ℕ) (engine j q there : ℕ) where
@@ -227,22 +227,22 @@ module _ (bounds : Bounds) (s : State Slot View) (r : Kept bounds s) (q : ℕ) (
       record { has = refl; told = All-nil (λ m. m.texts ≡ texts_at r.shelf.texts m.history); writes = tt })
       (at_snoc rest (knowing r.shelf.texts all) d j e)
 
-  all_banks : KeepsBanks bounds s.homes s.views all
-  all_banks = longer_banks bounds s.homes s.views q k r.log r.banks
+  all_banks : KeepsBanks bounds s.homes s.views all r.shelf.texts
+  all_banks = longer_banks bounds s.homes s.views r.shelf.texts q k r.log r.within.legal r.banks
 
   hand_kept : (u : View) (b : Bool) → hand_in (cond b (keeping u) u).right ≡ hand_in u.right
   hand_kept u true = refl
   hand_kept u false = refl
 
-  bank_without : (j : ℕ) (u : View) → FitsBank bounds all all_banks.vault_of all_banks.keys all_banks.units all_banks.stock all_banks.handed all_banks.round all_banks.lane_of j u → (b : Bool) → FitsBank bounds all all_banks.vault_of all_banks.keys all_banks.units all_banks.stock all_banks.handed all_banks.round all_banks.lane_of j (cond b (keeping u) u)
-  bank_without j u f true = record { lane = λ p mans. absurd mans; section = f.section; holds = f.holds; reads = f.reads }
+  bank_without : (j : ℕ) (u : View) → FitsBank bounds.processors all all_banks.books all_banks.lane_of j u → (b : Bool) → FitsBank bounds.processors all all_banks.books all_banks.lane_of j (cond b (keeping u) u)
+  bank_without j u f true = record { lane = λ p mans. absurd mans; section = f.section; plan = f.plan; holds = f.holds; reads = f.reads; writes = f.writes }
   bank_without j u f false = f
 
-  each_bank : (j : ℕ) (d : View) → get_elem? state.views j ≡ some d → FitsBank bounds all all_banks.vault_of all_banks.keys all_banks.units all_banks.stock all_banks.handed all_banks.round all_banks.lane_of j d
+  each_bank : (j : ℕ) (d : View) → get_elem? state.views j ≡ some d → FitsBank bounds.processors all all_banks.books all_banks.lane_of j d
   each_bank j d e = ⊎_elim
       (λ (t : (j ≢ last) × (get_elem? rest j ≡ some d)). let (u, at, is) = from_map (without (Processor q)) s.views j d t.1 in
-      subst (λ (z : View). FitsBank bounds all all_banks.vault_of all_banks.keys all_banks.units all_banks.stock all_banks.handed all_banks.round all_banks.lane_of j z) is (bank_without j u (all_banks.each j u at) (stands u.role (Processor q))))
-      (λ (t : (j ≡ last) × (knowing r.shelf.texts all ≡ d)). subst (λ (z : View). FitsBank bounds all all_banks.vault_of all_banks.keys all_banks.units all_banks.stock all_banks.handed all_banks.round all_banks.lane_of j z) t.1 (bank_free bounds s.homes s.views all all_banks all_banks.lane_of j (knowing r.shelf.texts all) (λ p mans. absurd mans) refl refl))
+      subst (λ (z : View). FitsBank bounds.processors all all_banks.books all_banks.lane_of j z) is (bank_without j u (all_banks.each j u at) (stands u.role (Processor q))))
+      (λ (t : (j ≡ last) × (knowing r.shelf.texts all ≡ d)). subst (λ (z : View). FitsBank bounds.processors all all_banks.books all_banks.lane_of j z) t.1 (bank_free bounds s.homes s.views all r.shelf.texts all_banks all all_banks.lane_of j (knowing r.shelf.texts all) (λ p mans. absurd mans) refl))
       (at_snoc rest (knowing r.shelf.texts all) d j e)
 
   kept : Kept bounds state
@@ -267,7 +267,7 @@ module _ (bounds : Bounds) (s : State Slot View) (r : Kept bounds s) (q : ℕ) (
     done = done_later r.deeds (now r.log r.changes) (now all r.changes) (record { history = longer_since q k r.log; changes = omega arith }) r.done;
     each_done = each_done;
     shelf = record { texts = r.shelf.texts; writer_of = r.shelf.writer_of; room = r.shelf.room; shelved = longer_shelved bounds s.words q k r.log r.shelf.texts r.within.legal r.shelf.shelved; each = each_shelf; loaded = loaded_later r.deeds r.log all r.shelf.texts (longer_versions q k r.log) r.shelf.loaded };
-    banks = reseat_banks bounds s.homes s.views all all_banks state.views all_banks.lane_of (λ j v h at has. (without (Processor q) v, at_longer rest (knowing r.shelf.texts all ∷ []) j (without (Processor q) v) (at_map (without (Processor q)) s.views j v at), hand_kept v (stands v.role (Processor q)) ∙ has)) each_bank;
+    banks = reseat_banks bounds s.homes s.views all r.shelf.texts all_banks state.views all_banks.lane_of (λ j v h at has. (without (Processor q) v, at_longer rest (knowing r.shelf.texts all ∷ []) j (without (Processor q) v) (at_map (without (Processor q)) s.views j v at), hand_kept v (stands v.role (Processor q)) ∙ has)) each_bank;
   }
 
   -- a seat that isn't that processor's is there as before

@@ -133,11 +133,11 @@ module _ (bounds : Bounds) (s : State Slot View) (r : Kept bounds s) (o : Maker)
       (record { has = refl; told = All-nil (λ m. m.texts ≡ texts_at r.shelf.texts m.history); writes = tt }))
       (at_snoc (map (taught o longer) s.views) (knowing longer) d j e)
 
-  each_bank : (j : ℕ) (d : View) → get_elem? views j ≡ some d → FitsBank bounds r.log r.banks.vault_of r.banks.keys r.banks.units r.banks.stock r.banks.handed r.banks.round r.banks.lane_of j d
+  each_bank : (j : ℕ) (d : View) → get_elem? views j ≡ some d → FitsBank bounds.processors r.log r.banks.books r.banks.lane_of j d
   each_bank j d e = ⊎_elim
       (λ (t : (j ≢ last) × (get_elem? (map (taught o longer) s.views) j ≡ some d)). let (u, at, is) = from_map (taught o longer) s.views j d t.1 in let f = r.banks.each j u at in
-      subst (λ (z : View). FitsBank bounds r.log r.banks.vault_of r.banks.keys r.banks.units r.banks.stock r.banks.handed r.banks.round r.banks.lane_of j z) is (record { lane = f.lane; section = f.section; holds = f.holds; reads = f.reads }))
-      (λ (t : (j ≡ last) × (knowing longer ≡ d)). subst (λ (z : View). FitsBank bounds r.log r.banks.vault_of r.banks.keys r.banks.units r.banks.stock r.banks.handed r.banks.round r.banks.lane_of j z) t.1 (bank_free bounds s.homes s.views r.log r.banks r.banks.lane_of j (knowing longer) (λ p mans. absurd mans) refl refl))
+      subst (λ (z : View). FitsBank bounds.processors r.log r.banks.books r.banks.lane_of j z) is (record { lane = f.lane; section = f.section; plan = f.plan; holds = f.holds; reads = f.reads; writes = f.writes }))
+      (λ (t : (j ≡ last) × (knowing longer ≡ d)). subst (λ (z : View). FitsBank bounds.processors r.log r.banks.books r.banks.lane_of j z) t.1 (bank_free bounds s.homes s.views r.log r.shelf.texts r.banks r.log r.banks.lane_of j (knowing longer) (λ p mans. absurd mans) refl))
       (at_snoc (map (taught o longer) s.views) (knowing longer) d j e)
 
   kept : IsTrueOf (now r.log r.changes) l → IsTrueWord r.log r.shelf.texts l → Kept bounds state
@@ -157,7 +157,7 @@ module _ (bounds : Bounds) (s : State Slot View) (r : Kept bounds s) (o : Maker)
     done = done_push r.deeds o l (now r.log r.changes) is r.done;
     each_done = each_done;
     shelf = record { texts = r.shelf.texts; writer_of = r.shelf.writer_of; room = r.shelf.room; shelved = r.shelf.shelved; each = each_shelf; loaded = All-push (λ d. IsTrueWord r.log r.shelf.texts d.step) r.deeds (deed o l (now r.log r.changes)) r.shelf.loaded word };
-    banks = reseat_banks bounds s.homes s.views r.log r.banks views r.banks.lane_of (λ j v h at has. (taught o longer v, at_longer (map (taught o longer) s.views) (knowing longer ∷ []) j (taught o longer v) (at_map (taught o longer) s.views j v at), has)) each_bank;
+    banks = reseat_banks bounds s.homes s.views r.log r.shelf.texts r.banks views r.banks.lane_of (λ j v h at has. (taught o longer v, at_longer (map (taught o longer) s.views) (knowing longer ∷ []) j (taught o longer v) (at_map (taught o longer) s.views j v at), has)) each_bank;
   }
 
   -- a seat that doesn't stand for that maker is there as before

@@ -3,6 +3,7 @@ mod Asking
 mod Counters
 mod CpuViews
 mod Deeds
+mod Drawing
 mod EngineSteps
 mod EngineViews
 mod Entering
@@ -11,8 +12,12 @@ mod Finding
 mod Finds
 mod Forging
 mod Founding
+mod Giving
+mod Handling
 mod Knowing
+mod Laying
 mod Meeting
+mod Offering
 mod OneHistory
 mod Pinning
 mod Polling

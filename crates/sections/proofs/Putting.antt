@@ -18,7 +18,7 @@ has_put slot cookie w c w' c' h =
     let words : List ℕ = slot_words slot w.words in
     let first : List Text = h.text.before in
     let texts : List Text = h.between.texts in
-    let all : texts_of cell texts ≡ texts_of cell first ++ words ∷ [] = ap (texts_of cell) h.text.whole ∙ (texts_of_append cell first (record { cell = cell; words = words } ∷ []) ∙ ap (λ l. texts_of cell first ++ l) (one_text cell words)) in
+    let all : texts_of cell texts ≡ texts_of cell first ++ words ∷ [] = ap (texts_of cell) h.text.whole ∙ (texts_of_append cell first (h.text.last ∷ []) ∙ (ap (λ l. texts_of cell first ++ l) (one_text cell h.text.last h.text.cell) ∙ ap (λ ws. texts_of cell first ++ ws ∷ []) h.text.same)) in
     let counted = texts_are cell texts h.between.seen h.puts.history.legal h.puts.history.texts in
     let version : version_of cell h.between.seen ≡ w.version + 1 = ap (version_of cell) h.puts.seen ∙ version_put cell slot (w.version + 1) (Processor c.processor) h.puts.before in
     let long = ap length all in

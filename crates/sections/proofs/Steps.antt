@@ -20,7 +20,7 @@ use Rattle.onedom.specs.declared.event.Event.TheVariants.{Begin, End, Note, Ask}
 use Rattle.onedom.specs.Histories.{ends, begins_of, IsOpen, is_start, is_finish, starts_in, ended_in, cookie_after, IsLegal, MayFollow, maker_of, same_maker, made_by, IsBeginning}
 use Rattle.onedom.proofs.CallerLemmas.{bit, legal_push, made_by_own, same_maker_refl, same_maker_false, begins_of_push, open_begun, index_of_begun, bound, begins_of_made, beginning_refl, beginning_push}
 use Rattle.sections.specs.Banks.{KeepsBanks, hand_in}
-use Rattle.sections.proofs.Banking.{same_banks, push_banks, begin_banks, end_banks}
+use Rattle.sections.proofs.Banking.{says_same, same_banks, push_banks, begin_banks, end_banks}
 use Rattle.sections.specs.Slots.{Slot}
 use Rattle.sections.specs.declared.view.Bounds.{Bounds}
 use Rattle.sections.specs.declared.view.Moment.{Moment}
@@ -93,19 +93,19 @@ same_section s t p q i j h = (λ k. section_in (h k), λ k. processor_in (h k), 
     section_in : Right → ℕ
     section_in Nothing = 0
     section_in (Section s p i us hand) = s
-    section_in (Shelf c words seen) = 0
+    section_in (Shelf c words seen q) = 0
     section_in (Undealt c) = 0
 
     processor_in : Right → ℕ
     processor_in Nothing = 0
     processor_in (Section s p i us hand) = p
-    processor_in (Shelf c words seen) = 0
+    processor_in (Shelf c words seen q) = 0
     processor_in (Undealt c) = 0
 
     index_in : Right → Index
     index_in Nothing = Zero
     index_in (Section s p i us hand) = i
-    index_in (Shelf c words seen) = Zero
+    index_in (Shelf c words seen q) = Zero
     index_in (Undealt c) = Zero
 
 module _ (bounds : Bounds) where
@@ -130,7 +130,8 @@ module _ (bounds : Bounds) where
 
   -- a load changes no word, and its seat has then seen all
   unmoved : (s : State Slot View) (r : Kept bounds s) (k id : ℕ) (cs : List (ℕ × Slot)) (w : View) (by : Maker) (l : Step) → IsTrueOf (now r.log r.changes) l → seat_at r.seat_of r.engine by ≡ id → w.done ≡ r.deeds ++ deed by l (now r.log r.changes) ∷ [] → Fits r.log r.changes r.seat_of r.reached r.holder r.engine id w
-      → IsTrueWord r.log r.shelf.texts l → FitsShelf bounds s.words r.log r.shelf.texts r.shelf.writer_of id w → KeepsBanks bounds s.homes (set s.views id w) r.log → Kept bounds (stepped s k (get_or s.words k 0) id cs w keeps)
+      → IsTrueWord r.log r.shelf.texts l → FitsShelf bounds s.words r.log r.shelf.texts r.shelf.writer_of id w → KeepsBanks bounds s.homes (set s.views id w) r.log r.shelf.texts → Kept bounds (stepped s k (get_or s.words k 0) id cs w keeps)
+  unfolding shelf_deed
   unmoved s r k id cs w by l is here all fits word fits_shelf banks = subst (λ (ws : List ℕ). Kept bounds record { words = ws; homes = s.homes; views = set s.views id w }) (sym (set-get_or s.words k 0)) record {
     log = r.log;
     changes = r.changes;
@@ -167,7 +168,7 @@ module _ (bounds : Bounds) where
           makes = f.makes;
           has = f.has;
           shown = f.shown;
-        } (true_of s r at).1 (fits_all bounds s.words r.log r.shelf.texts r.shelf.writer_of id w refl refl refl r.shelf.shelved.cells (r.shelf.each id v at).writes) (same_banks bounds s.homes s.views r.log r.banks id v w at refl refl refl refl),
+        } (true_of s r at).1 (fits_all bounds s.words r.log r.shelf.texts r.shelf.writer_of id w refl refl refl r.shelf.shelved.cells (r.shelf.each id v at).writes) (same_banks bounds s.homes s.views r.log r.shelf.texts r.banks id v w at (says_same v w refl refl)),
         tells s r w at refl refl refl record {
           processors = refl;
           role = refl;
@@ -223,7 +224,7 @@ module _ (bounds : Bounds) where
           makes = f.makes;
           has = f.has;
           shown = tt;
-        } tt record { has = refl; told = All-nil (λ x. x.texts ≡ texts_at r.shelf.texts x.history); writes = (r.shelf.each id v at).writes } (same_banks bounds s.homes s.views r.log r.banks id v w at refl refl refl refl),
+        } tt record { has = refl; told = All-nil (λ x. x.texts ≡ texts_at r.shelf.texts x.history); writes = (r.shelf.each id v at).writes } (same_banks bounds s.homes s.views r.log r.shelf.texts r.banks id v w at (says_same v w refl refl)),
         (
           refl,
           refl,
@@ -270,7 +271,7 @@ module _ (bounds : Bounds) where
       → ((t : ℕ) → IsOpen r.log t → holder' t ≡ r.holder t)
       → Fits (r.log ++ e ∷ []) changes' r.seat_of r.reached holder' r.engine id w
       → (v : View) → get_elem? s.views id ≡ some v → w.role ≡ v.role → w.done ≡ v.done
-      → KeepsShelf bounds (set s.words k x) (set s.views id w) (r.log ++ e ∷ []) r.deeds → KeepsBanks bounds s.homes (set s.views id w) (r.log ++ e ∷ [])
+      → (shelf : KeepsShelf bounds (set s.words k x) (set s.views id w) (r.log ++ e ∷ []) r.deeds) → KeepsBanks bounds s.homes (set s.views id w) (r.log ++ e ∷ []) shelf.texts
       → Kept bounds (stepped s k x id cs w keeps)
   added s r id k x cs w e changes' holder' may made agree forth most same_changes limited other ended_here same fits v at role done shelf banks = record {
     log = r.log ++ e ∷ [];
@@ -302,7 +303,7 @@ module _ (bounds : Bounds) where
       → ((t : ℕ) → IsOpen r.log t → holder' t ≡ r.holder t)
       → Fits (r.log ++ e ∷ []) r.changes r.seat_of r.reached holder' r.engine id w
       → (v : View) → get_elem? s.views id ≡ some v → w.role ≡ v.role → w.done ≡ v.done
-      → KeepsShelf bounds (set s.words k x) (set s.views id w) (r.log ++ e ∷ []) r.deeds → KeepsBanks bounds s.homes (set s.views id w) (r.log ++ e ∷ [])
+      → (shelf : KeepsShelf bounds (set s.words k x) (set s.views id w) (r.log ++ e ∷ []) r.deeds) → KeepsBanks bounds s.homes (set s.views id w) (r.log ++ e ∷ []) shelf.texts
       → Kept bounds (stepped s k x id cs w keeps)
   happened s r id k x cs w e holder' may made agree limited other ended_here same fits v at role done shelf banks = let most = r.within.periods in added s r id k x cs w e r.changes holder' may made agree (omega arith) most (λ _ _ _. refl) limited other ended_here same fits v at role done shelf banks
 
@@ -319,6 +320,7 @@ module _ (bounds : Bounds) where
   -- A section begins: its number is new, and no other seat can know it
   pub begins_here : (held : Bool) (slots id k : ℕ) (me : Sat) (p : ℕ) (i : Index) → me.0.processors ≡ bounds.processors → me.0.role ≡ Cpu p → p < bounds.processors → k ≡ lock_place p i → locks p i me.0.mine < bounds.sections → hand_in me.0.right ≡ None
       → Allows (Kept bounds) slots id me k (λ x. (x + 1) % 2 ^ 64) (began held (step slots k 1 0 none) me)
+  unfolding shelf_event
   begins_here held slots id k me p i sized is lt place room free s r _ at _ =
       let v : View = me.0 in
       let f = r.each_view id v at in
@@ -365,7 +367,7 @@ module _ (bounds : Bounds) where
             fits v at refl refl
             (shelf_event bounds s.words (set s.words k y) s.views r.log r.deeds id w e r.shelf (same_set bounds s.words k y (let low = index_low i in omega (arith, place, lt, low))) (length-set s.words k y) r.within.legal new.1 refl
             (fits_all bounds (set s.words k y) log' r.shelf.texts r.shelf.writer_of id w refl refl refl (texts_on r.shelf.texts r.log e refl r.shelf.shelved.cells) tt))
-            (begin_banks bounds s.homes s.views r.log r.banks e id t p i v w (λ u. refl) new.1 at refl free refl),
+            (begin_banks bounds s.homes s.views r.log r.shelf.texts r.banks e id t p i v w r.within.legal new.1 refl (λ u. refl) new.1 at refl free refl),
         (
           refl,
           λ q j is' word. let pq : p ≡ q = same_cpu p q (sym is ∙ is') in let ij : i ≡ j = same_lock p q i j pq (sym place ∙ word) in
@@ -427,6 +429,7 @@ module _ (bounds : Bounds) where
   -- A section ends: the right to end it is this seat's alone, so no other seat counts on it
   pub ends_here : (slots id k : ℕ) (me : Sat) (s p q : ℕ) (i : Index) → me.0.processors ≡ bounds.processors → me.0.role ≡ Cpu q → me.0.right ≡ Section s p i [] None → q < bounds.processors → k ≡ unlock_place q i
       → Allows (Kept bounds) slots id me k (λ x. (x + 1) % 2 ^ 64) (ended (step slots k 1 0 none) me)
+  unfolding shelf_event
   ends_here slots id k me t p q i sized is right lt place s r _ at _ =
       let v : View = me.0 in
       let f = r.each_view id v at in
@@ -465,7 +468,7 @@ module _ (bounds : Bounds) where
             fits v at refl refl
             (shelf_event bounds s.words (set s.words k y) s.views r.log r.deeds id w e r.shelf (same_set bounds s.words k y (let low = index_low i in omega (arith, place, lt, low))) (length-set s.words k y) r.within.legal has.1 refl
             (fits_all bounds (set s.words k y) log' r.shelf.texts r.shelf.writer_of id w refl refl refl (texts_on r.shelf.texts r.log e refl r.shelf.shelved.cells) tt))
-            (end_banks bounds s.homes s.views r.log r.banks e id t p i v w (λ u hit. sym (hits t u hit)) at refl right refl),
+            (end_banks bounds s.homes s.views r.log r.shelf.texts r.banks e id t p i v w r.within.legal has.1 refl (λ u hit. sym (hits t u hit)) at refl right refl),
         (
           refl,
           refl,
@@ -504,6 +507,7 @@ module _ (bounds : Bounds) where
       → ((n : ℕ) → IsTold p (e n)) → ((s : State Slot View) (r : Kept bounds s) → get_elem? s.views id ≡ some me.0 → MayFollow r.log (e (get_or s.words k 0)))
       → ((s : State Slot View) (r : Kept bounds s) (w : View) → w.changes ≡ r.changes → w.texts ≡ r.shelf.texts → w.right ≡ me.0.right → Adds me.0 (e (get_or s.words k 0)) w → told_of (get_or s.words k 0) (w, me.1))
       → Allows (Kept bounds) slots id me k (λ x. x) told_of
+  unfolding shelf_event
   tells_at slots id k me p event told_of sized is lt told follows tells s r _ at _ =
       let v : View = me.0 in
       let f = r.each_view id v at in
@@ -538,7 +542,7 @@ module _ (bounds : Bounds) where
             (let same : IsSameShelf bounds s.words (set s.words k n) = subst (λ (ws : List ℕ). IsSameShelf bounds s.words ws) (sym (set-get_or s.words k 0)) (same_shelf bounds s.words) in shelf_event bounds s.words (set s.words k n) s.views r.log r.deeds id w e r.shelf same (length-set s.words k n) r.within.legal may t.no_put
             (fits_all bounds (set s.words k n) log' r.shelf.texts r.shelf.writer_of id w refl refl refl (texts_on r.shelf.texts r.log e t.no_put r.shelf.shelved.cells)
             (writes_event bounds s.words (set s.words k n) r.log e r.shelf.writer_of id same t.no_put v.right (r.shelf.each id v at).writes)))
-            (push_banks bounds s.homes s.views r.log r.banks e id v w (λ u. t.no_end u) at refl refl refl refl),
+            (push_banks bounds s.homes s.views r.log r.shelf.texts r.banks e id v w r.within.legal may t.no_put (λ u. t.no_end u) at (says_same v w refl refl)),
         tells s r w refl refl refl record {
           before = r.log;
           seen = refl;

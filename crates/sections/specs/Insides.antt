@@ -27,7 +27,7 @@ use Rattle.sections.specs.Views.{CpuView, EngineView, LookView, ReadingView, Coo
 abbrev pub section_of : Right → ℕ
 section_of Nothing = 0
 section_of (Section s p i us hand) = s
-section_of (Shelf c words seen) = 0
+section_of (Shelf c words seen q) = 0
 section_of (Undealt c) = 0
 
 -- a seat between two calls: it has no right of its own, all that it was told is seen, and what it has seen is sound

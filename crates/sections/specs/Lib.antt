@@ -1,10 +1,13 @@
 pub mod Banks
 pub mod Calls
 pub mod Dealing
+pub mod Drawing
 pub mod EngineCalls
+pub mod Handling
 pub mod Homes
 pub mod Insides
 pub mod Laws
+pub mod Laying
 pub mod Limits
 pub mod Making
 pub mod Pens
@@ -20,6 +23,7 @@ pub mod Shelves
 pub mod SightInsides
 pub mod Sights
 pub mod Slots
+pub mod Taking
 pub mod Units
 pub mod Views
 pub mod Words

@@ -10,6 +10,7 @@ use Rattle.onedom.specs.declared.event.Event.{Event}
 use Rattle.onedom.specs.declared.event.Event.TheVariants.{Begin, End, Start, Finish, Note, Ask, Find, Put}
 use Rattle.onedom.specs.Histories.{HasFound, version_of, IsClear, begins_of, IsLegal, made_by, IsBeginning}
 use Rattle.sections.specs.Slots.{Slot}
+use Rattle.sections.specs.declared.view.Plan.{Plan}
 use Rattle.sections.specs.declared.view.Role.{Role}
 use Rattle.sections.specs.declared.view.Role.TheVariants.{Bearer, Cpu, Driver}
 use Rattle.sections.specs.declared.view.Right.TheVariants.{Nothing, Section, Shelf}
@@ -20,7 +21,8 @@ use Rattle.sections.specs.declared.view.Shown.TheVariants.{To}
 use Rattle.sections.specs.declared.view.Text.{Text}
 use Rattle.sections.specs.declared.view.View.{View}
 use Rattle.sections.specs.Words.{is_held, index_place, lock_place, unlock_place, cell_place, word_place, locks, unlocks, all_locks, index_word, number_word, Reaches}
-use Rattle.sections.specs.Shelves.{IsStart, IsKnown, AreTextsOf, word_of, slot_words}
+use Rattle.sections.specs.Shelves.{IsStart, IsKnown, AreTextsOf, word_of, slot_words, offer_of}
+use Rattle.sections.specs.Banks.{offered, plan_put}
 use Rattle.sections.specs.Rule.{HasItsMaker, GoesOn, moment_of, steps_of, IsMaker}
 
 -- the maker's own events are all of its events in what was seen
@@ -42,10 +44,13 @@ pub record KnowsTexts (v w : View) : Type 0 where
   pub since : IsStart v.texts w.texts
   pub covers : All (λ m. IsStart m.texts w.texts) v.told
 
--- the last text is this
+-- the last text is that of a version of this cell, with these words
 pub record EndsWithText (c : ℕ) (words : List ℕ) (texts : List Text) : Type 0 where
   pub before : List Text
-  pub whole : texts ≡ before ++ record { cell = c; words = words } ∷ []
+  pub last : Text
+  pub whole : texts ≡ before ++ last ∷ []
+  pub cell : last.cell ≡ c
+  pub same : last.words ≡ words
 
 -- this event was added last, and before it nothing was put into the cell since that history
 pub record ComesFrom (c : ℕ) (h seen : List Event) (e : Event) : Type 0 where
@@ -166,10 +171,10 @@ loaded st m n m' = (m'.1 ≡ m.1) × (m'.0.right ≡ m.0.right) × ((s q c x v i
 
 -- The words that only the seat with the right to a cell changes
 
--- store to a cell: the next version is put, and its words are those of the slot
+-- store to a cell: the next version is put. Its words are those of the slot, and what it offers is what was laid there
 abbrev pub put : TableStep Slot → Sat → ℕ → Sat → Type 0
-put st m n m' = (m'.1 ≡ m.1) × ((p c x : ℕ) (own : List ℕ) (h : List Event) → m.0.role ≡ Cpu p → m.0.right ≡ Shelf c own h → x < 8 → st.word ≡ cell_place m.0.processors c → n ≡ 16 * (version_of c h + 1) + x
-    → Adds m.0 (Put c x (version_of c h + 1) (Processor p)) m'.0 × (m'.0.right ≡ Shelf c own m'.0.seen) × EndsWithText c (slot_words x own) m'.0.texts × ComesFrom c h m'.0.seen (Put c x (version_of c h + 1) (Processor p)))
+put st m n m' = (m'.1 ≡ m.1) × ((p c x : ℕ) (own : List ℕ) (h : List Event) (q : Plan) → m.0.role ≡ Cpu p → m.0.right ≡ Shelf c own h q → x < 8 → st.word ≡ cell_place m.0.processors c → n ≡ 16 * (version_of c h + 1) + x
+    → Adds m.0 (Put c x (version_of c h + 1) (Processor p)) m'.0 × (m'.0.right ≡ Shelf c own m'.0.seen (plan_put q x)) × EndsWithText c (slot_words x own) m'.0.texts × ComesFrom c h m'.0.seen (Put c x (version_of c h + 1) (Processor p)) × (offer_of c (version_of c h + 1) m'.0.texts ≡ offered q x))
 
 -- what is seen covers what was seen before, what was told, and what goes with the right. Nothing was put into the cell since
 pub record Keeps (c : ℕ) (h : List Event) (v w : View) : Type 0 where
@@ -188,12 +193,12 @@ pub record Keeps (c : ℕ) (h : List Event) (v w : View) : Type 0 where
 
 -- load of a cell by the seat with the right to it
 abbrev pub refreshed : TableStep Slot → Sat → ℕ → Sat → Type 0
-refreshed st m n m' = (m'.1 ≡ m.1) × ((c : ℕ) (own : List ℕ) (h : List Event) → m.0.right ≡ Shelf c own h → Keeps c h m.0 m'.0 × (m'.0.right ≡ Shelf c own m'.0.seen))
+refreshed st m n m' = (m'.1 ≡ m.1) × ((c : ℕ) (own : List ℕ) (h : List Event) (q : Plan) → m.0.right ≡ Shelf c own h q → Keeps c h m.0 m'.0 × (m'.0.right ≡ Shelf c own m'.0.seen q))
 
 -- store of a word of a slot that nobody can read, in a domain of so many processors
 abbrev pub stored : ℕ → TableStep Slot → Sat → ℕ → Sat → Type 0
-stored processors st m n m' = (m'.1 ≡ m.1) × ((c x i : ℕ) (own : List ℕ) (h : List Event) → m.0.right ≡ Shelf c own h → x < 8 → i < 16 → st.word ≡ word_place processors c x i
-    → Keeps c h m.0 m'.0 × (m'.0.right ≡ Shelf c (slice_set own (16 * x + i) n) m'.0.seen) × IsClear m'.0.seen c x)
+stored processors st m n m' = (m'.1 ≡ m.1) × ((c x i : ℕ) (own : List ℕ) (h : List Event) (q : Plan) → m.0.right ≡ Shelf c own h q → x < 8 → i < 16 → st.word ≡ word_place processors c x i
+    → Keeps c h m.0 m'.0 × (m'.0.right ≡ Shelf c (slice_set own (16 * x + i) n) m'.0.seen q) × IsClear m'.0.seen c x)
 
 -- The engine's
 

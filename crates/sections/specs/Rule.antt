@@ -25,7 +25,7 @@ use Rattle.sections.specs.declared.view.Text.{Text}
 use Rattle.sections.specs.declared.view.View.{View}
 use Rattle.sections.specs.Words.{locks, unlocks, index_word, number_word, Agree}
 use Rattle.sections.specs.Shelves.{KeepsShelf}
-use Rattle.sections.specs.Banks.{KeepsBanks}
+use Rattle.sections.specs.Banks.{no_plan, KeepsBanks}
 
 abbrev pub IsProcessor : ℕ → Maker → Type 0
 IsProcessor processors (Processor p) = p < processors
@@ -121,7 +121,7 @@ module _ (log : List Event) (changes : ℕ) (seat_of reached holder : ℕ → �
   abbrev pub Has : Right → Type 0
   Has Nothing = Unit {0}
   Has (Section s p i us hand) = (holder s ≡ seat) × IsOpen log s × (index_of s log ≡ i) × (begins_of s (made_by (Processor p) log) ≡ 1)
-  Has (Shelf c words seen) = Unit {0}
+  Has (Shelf c words seen q) = Unit {0}
   Has (Undealt c) = Unit {0}
 
   -- nobody has seen more changes than there were, the engine knows how many there were, and a processor has seen what is known of it
@@ -168,7 +168,7 @@ pub record Kept (bounds : Bounds) (s : State Slot View) : Type 0 where
   pub done : AreDone deeds record { history = log; changes = changes; texts = [] }
   pub each_done : (j : ℕ) (v : View) → get_elem? s.views j ≡ some v → HasDone deeds v
   pub shelf : KeepsShelf bounds s.words s.views log deeds
-  pub banks : KeepsBanks bounds s.homes s.views log
+  pub banks : KeepsBanks bounds s.homes s.views log shelf.texts
 
 -- Views that are made
 
@@ -231,14 +231,14 @@ dealer v = record v { role = without_next v.role }
 abbrev pub without_cell : Right → Right
 without_cell Nothing = Nothing
 without_cell (Section s p i us hand) = Nothing
-without_cell (Shelf c words seen) = Nothing
+without_cell (Shelf c words seen q) = Nothing
 without_cell (Undealt k) = Undealt (k + 1)
 
 abbrev pub next_cell : Right → Right
 next_cell Nothing = Nothing
 next_cell (Section s p i us hand) = Nothing
-next_cell (Shelf c words seen) = Nothing
-next_cell (Undealt k) = Shelf k (replicate 128 0) []
+next_cell (Shelf c words seen q) = Nothing
+next_cell (Undealt k) = Shelf k (replicate 128 0) [] no_plan
 
 -- the engine lets go of its next cell
 abbrev pub pen_dealer : View → View

@@ -12,6 +12,8 @@ mod counting;
 mod given_cookies;
 mod holding;
 mod home;
+pub(crate) mod laying;
+pub(crate) mod drawing;
 pub(crate) mod pinning;
 pub(crate) mod pins;
 mod readings;

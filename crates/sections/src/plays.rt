@@ -4,6 +4,8 @@ ghost use Rattle.sections.specs.Rule.{lacking, bearer, informed, shower, hearing
 ghost use Rattle.sections.specs.Plays.{looked, admitted, began, ended, noted, asked, counted_unlocks, counted_locks, found, loaded, put, refreshed, stored, started, flipped, moved_on, finished};
 ghost use Rattle.sections.specs.Pins.{loaded_next};
 ghost use Rattle.sections.specs.Sights.{asked_how_far};
+ghost use Rattle.sections.specs.Taking.{took, returned, drew, paid};
+ghost use Rattle.sections.specs.Laying.{handled, laid_more, emptied};
 
 use crate::view::View;
 use atomic_table::{Join, Play, Split};
@@ -110,6 +112,34 @@ impl Play<Key, View> for LoadNext {
     ghost then = { loaded_next };
 }
 
+/// A processor takes its key to a slot that an open section has found. The number of the word is that of the slot.
+pub(crate) struct TakeKey;
+
+impl Play<Key, View> for TakeKey {
+    ghost then = { took };
+}
+
+/// It gives the key back as it was.
+pub(crate) struct ReturnKey;
+
+impl Play<Key, View> for ReturnKey {
+    ghost then = { returned };
+}
+
+/// It gives the key back to one part less, which is out with the section.
+pub(crate) struct DrawPart;
+
+impl Play<Key, View> for DrawPart {
+    ghost then = { drew };
+}
+
+/// It gives the key back to one part more, which was out with the section.
+pub(crate) struct PayPart;
+
+impl Play<Key, View> for PayPart {
+    ghost then = { paid };
+}
+
 /// Store to a cell.
 pub(crate) struct PutSlot;
 
@@ -138,6 +168,36 @@ pub(crate) struct StorePayload<N: HasProcessors>(PhantomData<N>);
 
 impl<N: HasProcessors> Play<Key, View> for StorePayload<N> {
     ghost then = { stored N.processors };
+}
+
+/// For which processor a writer handles a key. Each call says it.
+pub trait AtProcessor {
+    ghost processor: { ℕ };
+}
+
+impl AtProcessor for Brand {
+    ghost processor = { 0 };
+}
+
+/// The writer of a cell takes a key to a slot that nobody can read. The number of the word is that of the slot.
+pub(crate) struct HandleKey<N: AtProcessor>(PhantomData<N>);
+
+impl<N: AtProcessor> Play<Key, View> for HandleKey<N> {
+    ghost then = { handled N.processor };
+}
+
+/// It gives the key back to more parts.
+pub(crate) struct LayParts;
+
+impl Play<Key, View> for LayParts {
+    ghost then = { laid_more };
+}
+
+/// It gives the key back to none.
+pub(crate) struct EmptyKey<N: HasProcessors>(PhantomData<N>);
+
+impl<N: HasProcessors> Play<Key, View> for EmptyKey<N> {
+    ghost then = { emptied N.processors };
 }
 
 /// Addition of 1 to the number, at rest.

@@ -23,7 +23,7 @@ pub load-requires : goal.load-requires
 load-requires g c = (
   c.join_seat.ensures.0 ∙ (c.split_seat-fresh.ensures.3 ∙ c.requires.placed.0.seated),
   cell_there _ _ _ _ (let h = cells_are _ _ c.requires.placed.0.wide c.requires.placed.0.cells in let i = c.requires.pen.inside in omega (arith, h, i)) c.requires.placed.0.wide c.place_of_cell.ensures,
-  refreshes_here c.args.table.now.shared.key _ _ _ c.join_seat.new.seat.me c.args.cell c.requires.pen.own c.requires.pen.upto (ap (λ m. m.0.right) c.join_seat.ensures.2 ∙ (ap (λ m. m.0.right) c.split_seat-right.ensures.4 ∙ c.requires.pen.right)),
+  refreshes_here c.args.table.now.shared.key _ _ _ c.join_seat.new.seat.me c.args.cell c.requires.pen.own c.requires.pen.upto c.requires.pen.plan (ap (λ m. m.0.right) c.join_seat.ensures.2 ∙ (ap (λ m. m.0.right) c.split_seat-right.ensures.4 ∙ c.requires.pen.right)),
 )
 
 pub returns-clause-pen : goal.returns-clause-pen
@@ -33,5 +33,5 @@ returns-clause-pen g c =
     let into : c.join_seat.new.seat.me.0 ≡ informed (bearer v) (bearer t) = ap (λ m. m.0) c.join_seat.ensures.2 ∙ (λ k. informed (ap (λ m. m.0) c.split_seat-fresh.ensures.4 k) (ap (λ m. m.0) c.split_seat-right.ensures.4 k)) in record {
       same_table = c.load.ensures.0 ∙ (c.join_seat.ensures.0 ∙ c.split_seat-fresh.ensures.3);
       bare = c.load.ensures.2.0 ∙ (ap (λ m. m.1) c.join_seat.ensures.2 ∙ ap (λ m. m.1) c.split_seat-fresh.ensures.4);
-      keeps = λ own h right. let f = c.load.ensures.2.1 c.args.cell own h (ap (λ z. z.right) into ∙ right) in (subst (λ (z : View). Keeps c.args.cell h z c.load.new.seat.me.0) into f.0, f.1);
+      keeps = λ own h q right. let f = c.load.ensures.2.1 c.args.cell own h q (ap (λ z. z.right) into ∙ right) in (subst (λ (z : View). Keeps c.args.cell h z c.load.new.seat.me.0) into f.0, f.1);
     }
