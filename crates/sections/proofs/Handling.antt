@@ -13,7 +13,7 @@ use Rattle.sections.specs.declared.view.Right.TheVariants.{Shelf}
 use Rattle.sections.specs.Banks.{key_place, vault_place}
 use Rattle.sections.specs.Plays.{Sat}
 use Rattle.sections.specs.Taking.{hand_with}
-use Rattle.sections.specs.Laying.{HandlesKey}
+use Rattle.sections.specs.Laying.{HandlesKey, HandlesBare}
 use Rattle.sections.proofs.Drawing.{exchanged}
 
 -- the key of a slot of a cell opens the place of that slot
@@ -29,6 +29,11 @@ pub handled_seat : (c x p : ℕ) (own : List ℕ) (h : List Event) (q : Plan) (m
 handled_seat c x p own h q m m1 m2 m3 blank key k bare first second = let i : ℕ = key_place (8 * c + x) p in
     let one = exchanged m1 m2 i k.key blank m.1 (ap (λ z. z.1) k.after) first in let two = exchanged m2 m3 i blank key m.1 (ap (λ z. z.1) one) second in
     two ∙ (λ j. (((ap (λ z. z.0) one ∙ ap (λ z. z.0) k.after) j), (i, key) ∷ bare j))
+
+pub bare_seat : (c x p : ℕ) (own : List ℕ) (h : List Event) (q : Plan) (m m1 m2 : Sat) (key : Slot) (k : HandlesBare c x p own h q m m1) → m.1 ≡ [] → m2 ≡ (m1.0, (key_place (8 * c + x) p, key) ∷ rest m1.1)
+    → m2 ≡ (record m.0 { right = Shelf c own h (record q { hand = Some (hand_with (8 * c + x) p k.blank 0 0) }) }, (key_place (8 * c + x) p, key) ∷ [])
+bare_seat c x p own h q m m1 m2 key k bare first = let i : ℕ = key_place (8 * c + x) p in let one = exchanged m1 m2 i k.blank key m.1 (ap (λ z. z.1) k.after) first in
+    one ∙ (λ j. ((ap (λ z. z.0) k.after) j, (i, key) ∷ bare j))
 
 module _ {X : Type 0} where
   -- as many were taken as were there, and of that round

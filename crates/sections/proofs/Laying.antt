@@ -1,5 +1,5 @@
 -- The writer of a cell lays parts with the keys of a slot that nobody can read, and takes them all back.
-use Rattle.std.proofs.Common.{◌≡◌, ℕ, zero, suc, ◌+◌, ◌-◌, ◌*◌, ◌/◌, ◌%◌, ◌<◌, ◌≤◌, ◌≢◌, ◌⊎◌, inl, inr, ⊎_elim, List, [], ◌∷◌, All, Option, Some, None, get_or, length, set, refl, sym, ap, ◌∙◌, subst, ne_eqb, arith, length-set}
+use Rattle.std.proofs.Common.{◌≡◌, ℕ, zero, suc, ◌+◌, ◌-◌, ◌*◌, ◌/◌, ◌%◌, ◌<◌, ◌≤◌, ◌≢◌, ◌⊎◌, inl, inr, ⊎_elim, List, [], ◌∷◌, All, Option, Some, None, get_or, length, set, cond, eqb, refl, sym, ap, ◌∙◌, subst, eq-eqb, ne_eqb, arith, length-set}
 use mathlib.Core.Logic.{dite}
 use mathlib.Core.Option.{some, none}
 use native.Mathlib.Decide.{ℕ_discrete}
@@ -9,6 +9,7 @@ use Rattle.atomic_table.specs.Table.{State, step, takes, gives, Allows, rest}
 use Rattle.atomic_table.specs.Seated.{TableId}
 use Rattle.vault.specs.declared.key.Tally.{Tally}
 use Rattle.vault.specs.Keys.{IsKey}
+use Rattle.vault.specs.Rule.{key_of}
 use Rattle.onedom.specs.declared.event.Event.{Event}
 use Rattle.onedom.specs.Histories.{finds_of, shelved, IsClear}
 use Rattle.sections.specs.Slots.{Slot}
@@ -22,13 +23,13 @@ use Rattle.sections.specs.declared.view.Right.TheVariants.{Shelf}
 use Rattle.sections.specs.declared.view.View.{View}
 use Rattle.sections.specs.Units.{many, sum}
 use Rattle.sections.specs.Shelves.{offer_of, HasShelf}
-use Rattle.sections.specs.Banks.{key_place, vault_place, place_of, IsKeyed, is_at, hand_in, no_bank, bank_of, with_bank, PlanIn, HasMet, vault_in, IsLent, IsPlan, IsOffered, Books, HoldsKey, KeepsBanks}
+use Rattle.sections.specs.Banks.{key_place, vault_place, place_of, IsKeyed, is_at, hand_in, no_bank, bank_of, with_bank, PlanIn, HasMet, vault_in, IsLent, IsPlan, HasVault, IsOffered, Books, HoldsKey, KeepsBanks}
 use Rattle.sections.specs.Rule.{Kept}
 use Rattle.sections.specs.Plays.{Sat}
 use Rattle.sections.specs.Taking.{hand_with}
-use Rattle.sections.specs.Laying.{HandlesKey, handled, bank_laid, laid_more, bank_emptied, emptied}
-use Rattle.sections.proofs.Counting.{put, put_here, put_else, lane_else, at_most, sum_zero, All_in, All_other, many_none}
-use Rattle.sections.proofs.Banking.{no_some}
+use Rattle.sections.specs.Laying.{HandlesKey, handled, bank_laid, laid_more, bank_emptied, emptied, HandlesBare, handled_bare, equipped}
+use Rattle.sections.proofs.Counting.{put, put_here, put_else, lane_else, at_most, sum_same, sum_zero, All_in, All_other, many_none}
+use Rattle.sections.proofs.Banking.{no_some, All_but}
 use Rattle.sections.proofs.Offering.{bank_here, bank_else, others_apart}
 use Rattle.sections.proofs.Giving.{same_some, take_bank, give_bank, at_home, writers}
 use Rattle.sections.proofs.Writing.{clear_quiet, same_shelf_right, has_shelf}
@@ -57,6 +58,15 @@ module _ {bounds : Bounds} (s : State Slot View) (r : Kept bounds s) (id : ℕ) 
 -- a plan with another hand
 plan_with_hand : (log : List Event) (k : Books) (c : ℕ) (q : Plan) (z : Option Hand) → IsPlan log k.vault_of k.keys k.stock k.laid k.round c q → IsPlan log k.vault_of k.keys k.stock k.laid k.round c (record q { hand = z })
 plan_with_hand log k c q z a = record { eight = a.eight; laid_keys = a.laid_keys; vault = a.vault; totals = a.totals; rounds = a.rounds; empty = a.empty; rests = a.rests }
+
+abbrev put_vault : (ℕ → TableId) → ℕ → TableId → ℕ → TableId
+put_vault f c z e = cond (eqb e c) z (f e)
+
+vault_here : (f : ℕ → TableId) (c : ℕ) (z : TableId) (e : ℕ) → e ≡ c → put_vault f c z e ≡ z
+vault_here f c z e is = ap (λ b. cond b z (f e)) (eq-eqb e c is)
+
+vault_else : (f : ℕ → TableId) (c : ℕ) (z : TableId) (e : ℕ) → e ≢ c → put_vault f c z e ≡ f e
+vault_else f c z e ne = ap (λ b. cond b z (f e)) (ne_eqb e c ne)
 
 module _ (bounds : Bounds) where
   handles_at : (slots id c x p : ℕ) (own : List ℕ) (h : List Event) (q : Plan) (me : Sat) → me.0.right ≡ Shelf c own h q → q.hand ≡ None → IsClear h c x → x < 8 → bounds.cells ≤ 4 → p < bounds.processors → 8 * p + x < q.keys
@@ -211,3 +221,100 @@ module _ (bounds : Bounds) where
               subst (λ (z : Hand × ℕ × Plan). suc z.0.processor ≡ bounds.processors → (bank_of z.2 z.1).laid ≡ z.0.count) (λ i. (gg i, xx i, same.3 i)) all_home,
             ),
       )
+
+  -- a place of the cell that has no key yet is in hand
+  bare_at : (slots id c x p : ℕ) (own : List ℕ) (h : List Event) (q : Plan) (me : Sat) → me.0.right ≡ Shelf c own h q → q.hand ≡ None → x < 8 → bounds.cells ≤ 4 → p < bounds.processors → q.keys ≡ 8 * p + x
+      → Allows (Kept bounds) slots id me (8 * c + x) (λ z. z) (handled_bare p (step slots (8 * c + x) 0 0 none) me)
+  bare_at slots id c x p own h q me right free lx few lp next s r _ at _ = let v : View = me.0 in let b = r.banks in let k = b.books in let g = b.each id v at in let y : ℕ = 8 * c + x in
+      let has = shelf_is s r id v at c own h q right in let lc = has.cell in let ly : y < 32 = omega (arith, lc, few, lx) in let a = plan_is s r id v at c own h q right in
+      let yc : y / 8 ≡ c = omega (arith, lx) in let yx : y % 8 ≡ x = omega (arith, lx) in
+      let unkeyed : IsKeyed k.keys y p → ⊥ = (λ keyed. let m = a.laid_keys in let e = ap k.keys yc in omega (arith, keyed, next, m, e, yx)) in
+      let free_v : hand_in v.right ≡ None = ap hand_in right ∙ free in
+      let home = at_home bounds s.homes s.views r.log r.shelf.texts b id y p v at free_v (writers bounds s.homes s.views r.log r.shelf.texts b id y p ly (λ keyed. absurd (unkeyed keyed)) (λ j d a e is. opened_there bounds s r j d a e is) (λ j d ne e f u is same. others_apart s r id c has.writer j d ne e f u is (same ∙ yc))) in
+      let there = b.home y p ly lp home in let key = there.0 in let nothing : k.stock (key_place y p) ≡ 0 = b.bare y p ly (let m = a.laid_keys in let e = ap k.keys yc in omega (arith, next, m, e, yx)) in
+      let g' : Hand = hand_with y p key 0 0 in let q' : Plan = record q { hand = Some g' } in let right' : Right = Shelf c own h q' in let w : View = record v { right = right' } in
+      let base : HandlesBare c x p own h q me (w, (key_place y p, key) ∷ me.1) = record { blank = key; after = refl } in (
+        w,
+        takes (key_place y p) key,
+        there.2,
+        subst (λ (ws : List ℕ). Kept bounds record { words = ws; homes = set s.homes (key_place y p) none; views = set s.views id w }) (sym (set-get_or s.words y 0))
+          (rebanked bounds s r id v right' (set s.homes (key_place y p) none) at tt has
+            (take_bank bounds s.homes s.views r.log r.shelf.texts b id y p v w g' at free_v ly lp home refl refl record {
+              lane = g.lane;
+              section = λ z is. absurd (omega (arith, is));
+              plan = λ d u is. subst (λ (z : ℕ × Plan). IsPlan r.log k.vault_of k.keys k.stock k.laid k.round z.0 z.1) (λ i. (is.0 i, is.1 i)) (plan_with_hand r.log k c q (Some g') a);
+              holds = λ z e. subst (HoldsKey bounds.processors k.vault_of k.keys k.stock (put k.handed (key_place y p) (suc id)) k.round id) (same_some g' z e)
+                  record { slot = ly; processor = lp; handed_out = put_here k.handed (key_place y p) (suc id) (key_place y p) refl; counts = sym nothing; rounds = λ more. absurd (omega (arith, more)); of = λ keyed. absurd (unkeyed keyed) };
+              reads = λ z a e is. absurd (omega (arith, is));
+              writes = λ z d u e is. subst (λ (m : Hand). (m.slot / 8 ≡ d) × (IsKeyed k.keys m.slot m.processor → IsClear r.log d (m.slot % 8))) (same_some g' z e) (yc ∙ is.0, λ keyed. absurd (unkeyed keyed));
+            })),
+        λ c' x' own' h' q2 right'' lx' word next'. let same = same_shelf_right c c' own own' h h' q q2 (sym right ∙ right'') in let cc' = same.0 in let xx : x ≡ x' = omega (arith, word, cc', lx, lx') in
+            subst (λ (z : ℕ × ℕ × List ℕ × List Event × Plan). HandlesBare z.0 z.1 p z.2 z.3 z.4 me (w, (key_place y p, key) ∷ me.1)) (λ i. (same.0 i, xx i, same.1 i, same.2 i, same.3 i)) base,
+      )
+
+  pub bare_here : (slots id y c x p : ℕ) (own : List ℕ) (h : List Event) (q : Plan) (me : Sat) → me.0.right ≡ Shelf c own h q → q.hand ≡ None → x < 8 → bounds.cells ≤ 4 → p < bounds.processors → q.keys ≡ 8 * p + x → y ≡ 8 * c + x
+      → Allows (Kept bounds) slots id me y (λ z. z) (handled_bare p (step slots y 0 0 none) me)
+  bare_here slots id y c x p own h q me right free lx few lp next is = subst (λ z. Allows (Kept bounds) slots id me z (λ z. z) (handled_bare p (step slots z 0 0 none) me)) (sym is) (bare_at slots id c x p own h q me right free lx few lp next)
+
+  -- its key lies there
+  pub equips_here : (slots id n c x : ℕ) (own : List ℕ) (h : List Event) (q : Plan) (g : Hand) (key : Slot) (me : Sat) → me.0.right ≡ Shelf c own h q → q.hand ≡ Some g → x < 8 → g.slot ≡ 8 * c + x → q.keys ≡ 8 * g.processor + x → me.1 ≡ (place_of g, key) ∷ []
+      → key.views ≡ key_of q.keys 0 0 ∷ [] → (0 < q.keys → key.table_id ≡ vault_in q.vault) → Allows (Kept bounds) slots id me n (λ z. z) (equipped (step slots n 0 0 none) me)
+  equips_here slots id n c x own h q g key me right hand lx slot next carried views same_vault s r _ at _ = let v : View = me.0 in let b = r.banks in let k = b.books in let f = b.each id v at in let y : ℕ = 8 * c + x in let has = shelf_is s r id v at c own h q right in let a = plan_is s r id v at c own h q right in
+      let held = ap hand_in right ∙ hand in let had = f.holds g held in let low = had.slot in let lp = had.processor in let laid_keys = a.laid_keys in let m : ℕ = suc q.keys in let keys' : ℕ → ℕ = put k.keys c m in let vault' : ℕ → TableId = put_vault k.vault_of c key.table_id in
+      let q' : Plan = record q { keys = m; vault = Some key; hand = None } in let w : View = record v { right = Shelf c own h q' } in
+      let yc : g.slot / 8 ≡ c = omega (arith, slot, lx) in let yx : g.slot % 8 ≡ x = omega (arith, slot, lx) in
+      let here : keys' c ≡ m = put_here k.keys c m c refl in let up : (e : ℕ) → k.keys e ≤ keys' e = (λ e. dite (ℕ_discrete e c) (λ i. let z = put_here k.keys c m e i in let t = ap k.keys i in omega (arith, z, t, laid_keys)) (λ ne. let z = put_else k.keys c m e ne in omega (arith, z))) in
+      let nothing : k.stock (place_of g) ≡ 0 = (let z = b.bare y g.processor (omega (arith, low, slot)) (let e : y / 8 ≡ c = omega (arith, lx) in let t = ap k.keys e in let ex : y % 8 ≡ x = omega (arith, lx) in omega (arith, t, ex, laid_keys, next)) in ap k.stock (let e : place_of g ≡ key_place y g.processor = omega (arith, slot) in e) ∙ z) in
+      let stays : (i : ℕ) → put k.stock (place_of g) 0 i ≡ k.stock i = (λ i. dite (ℕ_discrete i (place_of g)) (λ e. put_here k.stock (place_of g) 0 i e ∙ sym (ap k.stock e ∙ nothing)) (λ ne. put_else k.stock (place_of g) 0 i ne)) in
+      let vault_kept : 0 < k.keys c → key.table_id ≡ k.vault_of c = (λ more. same_vault (omega (arith, more, laid_keys)) ∙ a.vault (omega (arith, more, laid_keys))) in
+      let vault_as : (e : ℕ) → 0 < k.keys e → vault' e ≡ k.vault_of e = (λ e more. dite (ℕ_discrete e c) (λ i. vault_here k.vault_of c key.table_id e i ∙ (vault_kept (subst (λ z. 0 < k.keys z) i more) ∙ ap k.vault_of (sym i))) (λ ne. vault_else k.vault_of c key.table_id e ne)) in
+      let plan_as : (e : ℕ) (u : Plan) → IsPlan r.log k.vault_of k.keys k.stock k.laid k.round e u → e ≢ c → IsPlan r.log vault' keys' (put k.stock (place_of g) 0) k.laid k.round e u = (λ e u old ne. record {
+        eight = old.eight;
+        laid_keys = old.laid_keys ∙ sym (put_else k.keys c m e ne);
+        vault = λ more. old.vault more ∙ sym (vault_else k.vault_of c key.table_id e ne);
+        totals = old.totals;
+        rounds = old.rounds;
+        empty = λ z p le lz lt. stays (key_place (8 * e + z) p) ∙ old.empty z p le lz lt;
+        rests = old.rests;
+      }) in
+      (
+        w,
+        gives,
+        tt,
+        gives_back bounds s n id (place_of g) key me.1 w carried (rebanked bounds s r id v (Shelf c own h q') (set s.homes (place_of g) (some key)) at tt has
+          (give_bank bounds s.homes s.views r.log r.shelf.texts b id 0 k.units k.laid k.round keys' vault' g key v w at held refl
+            (0, (sym (vault_here k.vault_of c key.table_id (g.slot / 8) yc), views ∙ ap (λ z. key_of z 0 0 ∷ []) (next ∙ (let e : 8 * g.processor + x ≡ vault_place g.slot g.processor = omega (arith, yx) in e))), λ more. absurd (omega (arith, more)))
+            (λ z p lz ne keyed. dite (ℕ_discrete (z / 8) c)
+              (λ e. let t = put_here k.keys c m (z / 8) e in let ke = ap k.keys e in let still : IsKeyed k.keys z p = omega (arith, keyed, t, ke, laid_keys, next, apart z p lz low lx slot e ne) in (still, vault_as (z / 8) (omega (arith, still))))
+              (λ ne'. let t = put_else k.keys c m (z / 8) ne' in (omega (arith, keyed, t), vault_else k.vault_of c key.table_id (z / 8) ne')))
+            up (λ _. refl) (λ z p lz lp ne more. refl) b.lent
+            (λ z lz. let old = b.sums z lz in let e = sum_same bounds.processors (λ p. put k.stock (place_of g) 0 (key_place z p)) (λ p. k.stock (key_place z p)) (λ p _. stays (key_place z p)) in omega (arith, old, e))
+            b.most
+            (All_but (HasVault k.vault_of k.keys) (HasVault vault' keys') r.shelf.texts (λ t hv. record { few = let i = hv.few in let j = up t.cell in omega (arith, i, j); vault = λ more. hv.vault more ∙ sym (vault_as t.cell (let i = hv.few in omega (arith, i, more))) }) b.vaults)
+            b.offers
+            record {
+              lane = f.lane;
+              section = λ z is. absurd (omega (arith, is));
+              plan = λ d u is. subst (λ (z : ℕ × Plan). IsPlan r.log vault' keys' (put k.stock (place_of g) 0) k.laid k.round z.0 z.1) (λ i. (is.0 i, is.1 i)) record {
+                eight = a.eight;
+                laid_keys = sym here;
+                vault = λ _. sym (vault_here k.vault_of c key.table_id c refl);
+                totals = a.totals;
+                rounds = a.rounds;
+                empty = λ z p le lz lt. stays (key_place (8 * c + z) p) ∙ a.empty z p le lz lt;
+                rests = a.rests;
+              };
+              holds = λ z e. absurd (no_some z e);
+              reads = λ z t e is. absurd (no_some z e);
+              writes = λ z d u e is. absurd (no_some z e);
+            }
+            (λ j d ne e t is. refl)
+            (λ j d ne e t u is old. plan_as t u old (others_apart s r id c has.writer j d ne e t u is)))),
+        λ c' place' own' h' q2 g' key' right' hand' carried'.
+            let same = same_shelf_right c c' own own' h h' q q2 (sym right ∙ right') in let keys : key ≡ key' = ap (first_key key) (sym carried ∙ carried') in
+            λ i. (record v { right = Shelf (same.0 i) (same.1 i) (same.2 i) (record (same.3 i) { keys = suc (same.3 i).keys; vault = Some (keys i); hand = None }) }, rest (carried i)),
+      )
+    where
+      -- another place of the cell is another key's
+      apart : (z p : ℕ) → z < 32 → g.slot < 32 → x < 8 → g.slot ≡ 8 * c + x → z / 8 ≡ c → key_place z p ≢ place_of g → vault_place z p ≢ 8 * g.processor + x
+      apart z p lz low lx slot e ne same = ne (omega (arith, same, e, slot, lx))

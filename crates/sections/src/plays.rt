@@ -5,7 +5,7 @@ ghost use Rattle.sections.specs.Plays.{looked, admitted, began, ended, noted, as
 ghost use Rattle.sections.specs.Pins.{loaded_next};
 ghost use Rattle.sections.specs.Sights.{asked_how_far};
 ghost use Rattle.sections.specs.Taking.{took, returned, drew, paid};
-ghost use Rattle.sections.specs.Laying.{handled, laid_more, emptied};
+ghost use Rattle.sections.specs.Laying.{handled, laid_more, emptied, handled_bare, equipped};
 
 use crate::view::View;
 use atomic_table::{Join, Play, Split};
@@ -198,6 +198,20 @@ pub(crate) struct EmptyKey<N: HasProcessors>(PhantomData<N>);
 
 impl<N: HasProcessors> Play<Key, View> for EmptyKey<N> {
     ghost then = { emptied N.processors };
+}
+
+/// It takes a place of its cell that has no key yet.
+pub(crate) struct TakeBare<N: AtProcessor>(PhantomData<N>);
+
+impl<N: AtProcessor> Play<Key, View> for TakeBare<N> {
+    ghost then = { handled_bare N.processor };
+}
+
+/// It gives the place back with its key.
+pub(crate) struct LayKey;
+
+impl Play<Key, View> for LayKey {
+    ghost then = { equipped };
 }
 
 /// Addition of 1 to the number, at rest.

@@ -1,13 +1,34 @@
 //! Parts of boxes: steps of the one that writes a cell, with the keys of a slot that nobody can read.
 ghost use Rattle.std.specs.Prelude.{◌≡◌, ◌+◌, ◌*◌, ◌<◌, ◌≤◌};
 ghost use Rattle.sections.specs.Pens.{CanWrite};
-ghost use Rattle.sections.specs.Handling.{CanHandle, LaysFew, Lays, IsNext, Empties};
+ghost use Rattle.sections.specs.Handling.{CanEquip, IsNextKey, Equips, CanHandle, LaysFew, Lays, IsNext, Empties};
 
 use crate::board::{Board, DomainSeat};
 use crate::plays;
 use crate::plays::{AtProcessor, HasProcessors};
 use std::alloc::Allocator;
 use vault::{Key, Pile, Vault};
+
+/// Lays the next key of the cell's vault: that of this slot for this processor.
+pub(crate) fn lay_key<N: AtProcessor>(
+    top: &Board,
+    pen: &mut DomainSeat,
+    cell: usize,
+    slot: usize,
+    processor: u16,
+    key: Key,
+)
+    requires at { N.processor ≡ processor }
+    requires pen { CanEquip top.now.key top.now.table_id cell slot processor pen.old }
+    requires key { IsNextKey slot processor key pen.old }
+    ensures { Equips cell key pen.old pen.new }
+{
+    let word = 8 * cell + slot;
+    let place = 32 * processor as usize + word;
+    top.load::<plays::TakeBare<N>>(pen, word);
+    top.exchange(pen, place, key);
+    top.load::<plays::LayKey>(pen, word);
+}
 
 /// Lays parts with the key of this slot for this processor.
 pub(crate) fn lay_parts<T: Drop, A: Allocator, N: AtProcessor>(
