@@ -1,5 +1,5 @@
 -- Seats that turn, events, splits and joins leave what the rule says of keys and parts.
-use Rattle.std.proofs.Common.{◌≡◌, ℕ, zero, suc, ◌+◌, ◌*◌, ◌/◌, ◌%◌, ◌<◌, ◌≤◌, ◌≢◌, ◌⊎◌, Bool, true, false, cond, eqb, List, [], ◌∷◌, ◌++◌, All, Option, Some, None, length, set, refl, sym, ap, ◌∙◌, subst, inl, inr, ⊎_elim, eq-eqb, ne_eqb, eqb-true, arith}
+use Rattle.std.proofs.Common.{◌≡◌, ℕ, zero, suc, ◌+◌, ◌*◌, ◌/◌, ◌%◌, ◌<◌, ◌≤◌, ◌≢◌, ◌⊎◌, Bool, true, false, cond, eqb, List, [], ◌∷◌, ◌++◌, All, Option, Some, None, length, set, refl, sym, ap, ◌∙◌, subst, inl, inr, ⊎_elim, eq-eqb, ne_eqb, arith}
 use Rattle.std.proofs.lemmas.List.Elements.{All-nil, All-head, All-tail, All-cons}
 use mathlib.Core.Logic.{dite}
 use mathlib.Core.Option.{some, some-injective, some-ne-none}
@@ -9,7 +9,7 @@ use lib.ListN.{get_elem?}
 use Rattle.atomic_table.proofs.Lists.{set_here, set_else, at_longer}
 use Rattle.sseq.specs.declared.index.Index.{Index}
 use Rattle.onedom.specs.declared.event.Event.{Event}
-use Rattle.onedom.specs.Histories.{begins_of, finds, finds_of, ends, IsOpen, shelved, IsClear, MayFollow, IsLegal}
+use Rattle.onedom.specs.Histories.{begins_of, finds, ends, shelved, IsClear, MayFollow, IsLegal}
 use Rattle.onedom.proofs.CallerLemmas.{count_append, open_stays, shelved_kept, clear_until_put}
 use Rattle.sections.specs.Units.{sum}
 use Rattle.sections.specs.Slots.{Slot}

@@ -1,6 +1,6 @@
 -- What an open section finds in a cell, and the words of the slot that it found.
 use Rattle.std.specs.Prelude.{None}
-use Rattle.std.proofs.Common.{◌≡◌, ℕ, ◌+◌, ◌*◌, ◌/◌, ◌%◌, ◌<◌, ◌≤◌, ⊎_elim, Bool, true, false, cond, eqb, ◌&&◌, List, [], ◌∷◌, ◌++◌, All, Option, get_or, length, map, filter, count_by, refl, sym, ap, ◌∙◌, subst, eq-eqb, eqb-true, append_assoc, length-append, arith}
+use Rattle.std.proofs.Common.{◌≡◌, ℕ, ◌+◌, ◌*◌, ◌/◌, ◌%◌, ◌<◌, ◌≤◌, ⊎_elim, Bool, true, false, cond, eqb, ◌&&◌, List, [], ◌∷◌, ◌++◌, All, get_or, length, map, filter, count_by, refl, sym, ap, ◌∙◌, subst, eq-eqb, eqb-true, append_assoc, length-append, arith}
 use Rattle.std.proofs.lemmas.List.{map-append, get_or_append_left}
 use Rattle.std.proofs.lemmas.List.Elements.{All-head, All-tail, filter-append, filter_map-append}
 use mathlib.Core.Option.{none, some}

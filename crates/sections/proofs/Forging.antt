@@ -1,5 +1,5 @@
 -- No seat can claim a step that it did not make.
-use Rattle.std.proofs.Common.{◌≡◌, ℕ, zero, suc, ◌<◌, ◌≤◌, ◌≢◌, ◌⊎◌, Bool, true, false, cond, nat_le, List, [], ◌∷◌, ◌++◌, Option, map, length, set, refl, sym, ap, ◌∙◌, subst, inl, inr, ⊎_elim, append-nil, le-leb, leb-true, ne_eqb, arith}
+use Rattle.std.proofs.Common.{◌≡◌, ℕ, zero, suc, ◌<◌, ◌≤◌, ◌≢◌, ◌⊎◌, Bool, true, false, cond, nat_le, List, [], ◌∷◌, ◌++◌, map, length, set, refl, sym, ap, ◌∙◌, subst, inl, inr, ⊎_elim, append-nil, le-leb, leb-true, ne_eqb, arith}
 use Rattle.std.proofs.lemmas.List.{map-append}
 use Rattle.std.proofs.lemmas.List.Elements.{All-nil, All-push, filter-append}
 use mathlib.Core.Option.{some, some-injective, some-ne-none}

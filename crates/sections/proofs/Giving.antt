@@ -1,5 +1,5 @@
 -- A key is taken, and given back: what the rule says of keys and parts then.
-use Rattle.std.proofs.Common.{◌≡◌, ℕ, zero, suc, ◌+◌, ◌*◌, ◌/◌, ◌%◌, ◌<◌, ◌≤◌, ◌≢◌, ◌⊎◌, inl, inr, ⊎_elim, List, [], ◌∷◌, All, Option, Some, None, length, set, refl, sym, ap, ◌∙◌, subst, arith, length-set}
+use Rattle.std.proofs.Common.{◌≡◌, ℕ, zero, suc, ◌+◌, ◌*◌, ◌/◌, ◌%◌, ◌<◌, ◌≤◌, ◌≢◌, ◌⊎◌, inl, inr, ⊎_elim, List, [], ◌∷◌, All, Option, Some, None, set, refl, sym, ap, ◌∙◌, subst, arith, length-set}
 use mathlib.Core.Logic.{dite}
 use mathlib.Core.Option.{some, none, some-injective}
 use mathlib.Core.Option as maybe
@@ -22,7 +22,7 @@ use Rattle.sections.specs.declared.view.Right.{Right}
 use Rattle.sections.specs.declared.view.Right.TheVariants.{Nothing, Section, Shelf, Undealt}
 use Rattle.sections.specs.declared.view.View.{View}
 use Rattle.sections.specs.Shelves.{offer_of}
-use Rattle.sections.specs.Banks.{key_place, vault_place, place_of, IsKeyed, is_at, mine, section_in, hand_in, PlanIn, HasMet, IsKeyTo, IsLent, IsPlan, HasVault, IsOffered, Books, HoldsKey, FitsBank, KeepsBanks}
+use Rattle.sections.specs.Banks.{key_place, vault_place, place_of, IsKeyed, is_at, mine, section_in, hand_in, PlanIn, HasMet, IsKeyTo, IsLent, IsPlan, HasVault, IsOffered, Books, FitsBank, KeepsBanks}
 use Rattle.sections.proofs.Counting.{put, put_here, put_else, same_place}
 use Rattle.sections.proofs.Banking.{no_some}
 use Rattle.sections.proofs.Knowing.{at_below, views_set}

@@ -1,5 +1,5 @@
 -- The writer of a cell lays parts with the keys of a slot that nobody can read, and takes them all back.
-use Rattle.std.proofs.Common.{◌≡◌, ℕ, zero, suc, ◌+◌, ◌-◌, ◌*◌, ◌/◌, ◌%◌, ◌<◌, ◌≤◌, ◌≢◌, ◌⊎◌, inl, inr, ⊎_elim, List, [], ◌∷◌, All, Option, Some, None, get_or, length, set, cond, eqb, refl, sym, ap, ◌∙◌, subst, eq-eqb, ne_eqb, arith, length-set}
+use Rattle.std.proofs.Common.{◌≡◌, ℕ, suc, ◌+◌, ◌-◌, ◌*◌, ◌/◌, ◌%◌, ◌<◌, ◌≤◌, ◌≢◌, inl, inr, ⊎_elim, List, [], ◌∷◌, Option, Some, None, set, cond, eqb, refl, sym, ap, ◌∙◌, subst, eq-eqb, ne_eqb, arith, length-set}
 use mathlib.Core.Logic.{dite}
 use mathlib.Core.Option.{some, none}
 use native.Mathlib.Decide.{ℕ_discrete}
@@ -7,7 +7,6 @@ use lib.ListN.{get_elem?}
 use lib.Seq.{set-get_or}
 use Rattle.atomic_table.specs.Table.{State, step, takes, gives, Allows, rest}
 use Rattle.atomic_table.specs.Seated.{TableId}
-use Rattle.vault.specs.declared.key.Tally.{Tally}
 use Rattle.vault.specs.Keys.{IsKey}
 use Rattle.vault.specs.Rule.{key_of}
 use Rattle.onedom.specs.declared.event.Event.{Event}
@@ -21,9 +20,9 @@ use Rattle.sections.specs.declared.view.Plan.{Plan}
 use Rattle.sections.specs.declared.view.Right.{Right}
 use Rattle.sections.specs.declared.view.Right.TheVariants.{Shelf}
 use Rattle.sections.specs.declared.view.View.{View}
-use Rattle.sections.specs.Units.{many, sum}
+use Rattle.sections.specs.Units.{many}
 use Rattle.sections.specs.Shelves.{offer_of, HasShelf}
-use Rattle.sections.specs.Banks.{key_place, vault_place, place_of, IsKeyed, is_at, hand_in, no_bank, bank_of, with_bank, PlanIn, HasMet, vault_in, IsLent, IsPlan, HasVault, IsOffered, Books, HoldsKey, KeepsBanks}
+use Rattle.sections.specs.Banks.{key_place, vault_place, place_of, IsKeyed, is_at, hand_in, bank_of, with_bank, PlanIn, HasMet, vault_in, IsLent, IsPlan, HasVault, IsOffered, Books, HoldsKey}
 use Rattle.sections.specs.Rule.{Kept}
 use Rattle.sections.specs.Plays.{Sat}
 use Rattle.sections.specs.Taking.{hand_with}

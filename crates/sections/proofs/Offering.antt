@@ -1,35 +1,33 @@
 -- What versions offer, and what a Put leaves of what the rule says of keys and parts.
-use Rattle.std.proofs.Common.{◌≡◌, ℕ, zero, suc, ◌+◌, ◌*◌, ◌/◌, ◌%◌, ◌<◌, ◌≤◌, ◌≢◌, ◌⊎◌, Bool, true, false, cond, eqb, ◌&&◌, List, [], ◌∷◌, ◌++◌, All, Option, Some, None, length, map, filter, set, get_or, refl, sym, ap, ◌∙◌, subst, inl, inr, ⊎_elim, eq-eqb, eqb-true, ne_eqb, arith, length-set, get_or-set_same, get_or-set_other}
+use Rattle.std.proofs.Common.{◌≡◌, ℕ, ◌+◌, ◌*◌, ◌<◌, ◌≤◌, ◌≢◌, ◌⊎◌, Bool, true, false, cond, eqb, ◌&&◌, List, [], ◌∷◌, ◌++◌, None, length, map, filter, set, get_or, refl, sym, ap, ◌∙◌, subst, inl, inr, ⊎_elim, eq-eqb, eqb-true, ne_eqb, arith, length-set, get_or-set_same, get_or-set_other}
 use Rattle.std.proofs.lemmas.List.{length-map, map-append, get_or_append_left, get_or_push}
-use Rattle.std.proofs.lemmas.List.Elements.{All-nil, All-cons, All-push, filter-append}
+use Rattle.std.proofs.lemmas.List.Elements.{All-push, filter-append}
 use mathlib.Core.Logic.{dite}
 use mathlib.Core.Option.{some, some-injective}
 use mathlib.Core.Option as maybe
 use native.Mathlib.Decide.{ℕ_discrete}
 use lib.ListN.{get_elem?}
 use Rattle.atomic_table.specs.Table.{State}
-use Rattle.atomic_table.proofs.Lists.{set_here, set_else}
+use Rattle.atomic_table.proofs.Lists.{set_else}
 use Rattle.onedom.specs.declared.event.Event.{Event}
 use Rattle.onedom.specs.declared.event.Event.TheVariants.{Begin, End, Start, Finish, Note, Ask, Find, Put}
 use Rattle.onedom.specs.declared.event.Maker.{Maker}
-use Rattle.onedom.specs.Histories.{version_of, ends, puts, shelved, IsClear, MayFollow, IsLegal}
+use Rattle.onedom.specs.Histories.{version_of, puts, shelved, IsClear, MayFollow, IsLegal}
 use Rattle.onedom.proofs.CallerLemmas.{open_stays, along, shelved_kept, shelved_put, version_put, version_up, clear_until_put}
 use Rattle.sections.specs.Slots.{Slot}
 use Rattle.sections.specs.declared.view.Bounds.{Bounds}
-use Rattle.sections.specs.declared.view.Hand.{Hand}
 use Rattle.sections.specs.declared.view.Bank.{Bank}
 use Rattle.sections.specs.declared.view.Plan.{Plan}
 use Rattle.sections.specs.declared.view.Offer.{Offer}
 use Rattle.sections.specs.declared.view.Text.{Text}
-use Rattle.sections.specs.declared.view.Role.{Role}
 use Rattle.sections.specs.declared.view.Right.{Right}
 use Rattle.sections.specs.declared.view.Right.TheVariants.{Nothing, Section, Shelf, Undealt}
 use Rattle.sections.specs.declared.view.View.{View}
 use Rattle.sections.specs.Shelves.{texts_of, offers_of, no_offer, offer_of, IsStart, IsKnown, AreTextsOf, Writes}
 use Rattle.sections.specs.Rule.{Kept}
-use Rattle.sections.specs.Banks.{section_in, units_in, hand_in, no_bank, bank_of, with_bank, PlanIn, offered, plan_put, Mans, HasMet, vault_in, IsLent, IsPlan, HasVault, IsOffered, Books, FitsBank, KeepsBanks}
-use Rattle.sections.proofs.Knowing.{at_below, views_set, false≠true}
-use Rattle.sections.proofs.Banking.{no_some, met_later, All_but, bank_later, plan_later}
+use Rattle.sections.specs.Banks.{section_in, hand_in, no_bank, bank_of, with_bank, PlanIn, offered, plan_put, Mans, vault_in, IsLent, IsPlan, HasVault, IsOffered, Books, FitsBank, KeepsBanks}
+use Rattle.sections.proofs.Knowing.{views_set, false≠true}
+use Rattle.sections.proofs.Banking.{no_some, met_later, All_but, bank_later}
 use Rattle.sections.proofs.Finding.{texts_are}
 
 -- Offers

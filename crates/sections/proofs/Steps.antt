@@ -1,5 +1,5 @@
 -- Each step of a processor keeps the rule.
-use Rattle.std.proofs.Common.{length-set, ◌≡◌, ℕ, ◌+◌, ◌*◌, ◌%◌, ◌^◌, ◌<◌, ◌≤◌, ◌≢◌, Bool, true, false, cond, eqb, ltb, ◌&&◌, ⊎_elim, inl, inr, List, [], ◌∷◌, ◌++◌, All, Option, None, get_or, set, refl, sym, ap, ◌∙◌, subst, eq-eqb, ne_eqb, lt-ltb, le-ltb, arith}
+use Rattle.std.proofs.Common.{length-set, ◌≡◌, ℕ, ◌+◌, ◌*◌, ◌%◌, ◌^◌, ◌<◌, ◌≤◌, ◌≢◌, Bool, true, false, cond, eqb, ltb, ◌&&◌, ⊎_elim, inl, inr, List, [], ◌∷◌, ◌++◌, All, None, get_or, set, refl, sym, ap, ◌∙◌, subst, eq-eqb, ne_eqb, lt-ltb, le-ltb, arith}
 use Rattle.std.proofs.lemmas.List.Elements.{All-nil, All-head}
 use mathlib.Core.Logic.{dite}
 use mathlib.Core.Option.{none, some}

@@ -1,5 +1,5 @@
 -- A section's processor takes a key, and gives it back with one part less or more.
-use Rattle.std.proofs.Common.{◌≡◌, ℕ, zero, suc, ◌+◌, ◌*◌, ◌/◌, ◌%◌, ◌<◌, ◌≤◌, ◌≢◌, ◌⊎◌, Bool, true, false, ◌&&◌, cond, eqb, List, [], ◌∷◌, All, Option, Some, None, get_or, length, map, take, filter, set, refl, sym, ap, ◌∙◌, subst, inl, inr, ⊎_elim, eq-eqb, ne_eqb, eqb-true, arith}
+use Rattle.std.proofs.Common.{◌≡◌, ℕ, zero, suc, ◌+◌, ◌*◌, ◌/◌, ◌%◌, ◌<◌, ◌≤◌, ◌≢◌, Bool, true, false, ◌&&◌, cond, eqb, List, [], ◌∷◌, All, Option, Some, None, get_or, length, map, filter, set, refl, sym, ap, ◌∙◌, subst, ⊎_elim, eq-eqb, ne_eqb, eqb-true, arith}
 use Rattle.std.proofs.lemmas.List.Elements.{All-nil, All-cons, All-head, All-tail}
 use mathlib.Core.Logic.{dite}
 use mathlib.Core.Option.{some, none, some-injective}
@@ -11,7 +11,6 @@ use Rattle.atomic_table.specs.Table.{State, step, takes, gives, stepped, Allows,
 use Rattle.atomic_table.specs.Seated.{TableId}
 use Rattle.vault.specs.declared.key.Tally.{Tally}
 use Rattle.vault.specs.Keys.{IsKey}
-use Rattle.vault.specs.Rule.{key_of}
 use Rattle.sseq.specs.declared.index.Index.{Index}
 use Rattle.onedom.specs.declared.event.Event.{Event}
 use Rattle.onedom.specs.Histories.{HasFound, IsOpen, IsClear, IsBeginning, finds_of, shelved}
@@ -28,19 +27,19 @@ use Rattle.sections.specs.declared.view.Role.TheVariants.{Cpu}
 use Rattle.sections.specs.declared.view.Right.{Right}
 use Rattle.sections.specs.declared.view.Right.TheVariants.{Nothing, Section, Shelf, Undealt}
 use Rattle.sections.specs.declared.view.View.{View}
-use Rattle.sections.specs.Units.{In, those, many, drop_first, sum}
+use Rattle.sections.specs.Units.{In, many, drop_first, sum}
 use Rattle.sections.specs.Shelves.{put_cells, offers_of, no_offer, offer_of, texts_at, IsStart, Writes, FitsShelf, KeepsShelf}
-use Rattle.sections.specs.Banks.{key_place, vault_place, place_of, IsKeyed, is_of, is_at, is_unit, is_both, lent, mine, section_in, units_in, hand_in, PlanIn, Mans, HasMet, vault_in, IsKeyTo, IsLent, IsPlan, HasVault, IsOffered, Books, HoldsKey, FitsBank, KeepsBanks}
-use Rattle.sections.specs.Rule.{HasItsMaker, GoesOn, moment_of, Has, Fits, Kept}
+use Rattle.sections.specs.Banks.{key_place, vault_place, place_of, IsKeyed, is_of, is_at, is_unit, is_both, lent, mine, section_in, units_in, hand_in, Mans, HasMet, vault_in, IsLent, IsPlan, HasVault, IsOffered, Books, HoldsKey, KeepsBanks}
+use Rattle.sections.specs.Rule.{HasItsMaker, GoesOn, moment_of, Has, Kept}
 use Rattle.sections.specs.Plays.{Sat}
-use Rattle.sections.specs.Taking.{hand_with, Catches, KnowsFound, Takes, took, returned, drew, paid}
+use Rattle.sections.specs.Taking.{hand_with, KnowsFound, took, returned, drew, paid}
 use Rattle.sections.proofs.Counting.{put, put_here, put_else, lane_put, lane_else, those_yes, those_no, many_yes, many_no, those_drop, those_else, many_drop, many_else, All_drop, at_most, All_in, in_those, many_in}
 use Rattle.sections.proofs.Knowing.{now, covers_as, views_set, known_before, knows_all, owns_from_makes}
 use Rattle.sections.proofs.Shelving.{start_at, fits_all, knows_texts}
 use Rattle.sections.proofs.Banking.{no_some}
 use Rattle.sections.proofs.Finding.{found_later, found_counts}
 use Rattle.sections.proofs.Offering.{offer_stays}
-use Rattle.sections.proofs.Giving.{same_some, taken, given, take_bank, give_bank, at_home, readers}
+use Rattle.sections.proofs.Giving.{same_some, take_bank, give_bank, at_home, readers}
 use Rattle.sections.proofs.Steps.{same_cpu}
 use Rattle.sections.proofs.Writing.{remains, seeing}
 

@@ -1,5 +1,5 @@
 -- What the seat with the right to a cell does there.
-use Rattle.std.proofs.Common.{◌≡◌, ℕ, ◌+◌, ◌*◌, ◌<◌, ◌≤◌, ◌≢◌, inl, inr, ⊎_elim, Bool, true, false, cond, eqb, ◌&&◌, List, [], ◌∷◌, ◌++◌, All, Option, None, length, map, drop, get_or, set, refl, sym, ap, ◌∙◌, subst, eq-eqb, ne_eqb, eqb-true, append_assoc, length-set, arith, get_or-set_other, get_or-set_same}
+use Rattle.std.proofs.Common.{◌≡◌, ℕ, ◌+◌, ◌*◌, ◌<◌, ◌≤◌, ◌≢◌, inl, inr, ⊎_elim, Bool, true, false, cond, eqb, ◌&&◌, List, [], ◌∷◌, ◌++◌, All, None, length, map, drop, get_or, set, refl, sym, ap, ◌∙◌, subst, eq-eqb, ne_eqb, append_assoc, length-set, arith, get_or-set_other, get_or-set_same}
 use Rattle.std.proofs.lemmas.List.{length-map, map-append, get_or-take, get_or-drop, take-append-le, get_or_push}
 use Rattle.std.proofs.lemmas.List.Elements.{All-nil, All-cons, All-head, All-tail, All-weaker, filter_map-append}
 use mathlib.Core.Logic.{dite}
@@ -14,8 +14,8 @@ use Rattle.onedom.specs.declared.event.Maker.TheVariants.{Processor}
 use Rattle.onedom.specs.declared.event.Event.{Event}
 use Rattle.onedom.specs.declared.event.Event.TheVariants.{Begin, End, Start, Finish, Note, Ask, Find, Put}
 use Rattle.onedom.specs.Histories.{slot_of, version_of, shelved, puts_in, puts, IsClear, MayFollow, IsLegal, made_by, IsBeginning}
-use Rattle.onedom.proofs.CallerLemmas.{made_by_own, same_maker_refl, beginning_refl, beginning_push, along, slot_kept, version_kept, shelved_kept, slot_put, version_put, shelved_put, version_up, clear_until_put, quiet}
-use Rattle.sections.specs.Banks.{KeepsBanks, PlanIn, offered, plan_put}
+use Rattle.onedom.proofs.CallerLemmas.{made_by_own, same_maker_refl, beginning_refl, beginning_push, slot_kept, version_kept, shelved_kept, slot_put, version_put, shelved_put, version_up, clear_until_put, quiet}
+use Rattle.sections.specs.Banks.{KeepsBanks, offered, plan_put}
 use Rattle.sections.proofs.Banking.{says_shelf, same_banks}
 use Rattle.sections.proofs.Offering.{shelved_low, put_offer, others_apart, put_banks}
 use Rattle.sections.specs.Slots.{Slot}
@@ -33,7 +33,7 @@ use Rattle.sections.specs.declared.view.Plan.{Plan}
 use Rattle.sections.specs.declared.view.Text.{Text}
 use Rattle.sections.specs.declared.view.View.{View}
 use Rattle.sections.specs.Words.{cells_from, cell_place, word_place, Agree}
-use Rattle.sections.specs.Shelves.{put_cell, put_cells, texts_of, offers_of, no_offer, offer_of, blank_words, word_of, slot_words, texts_at, IsStart, AreTextsOf, Lies, AreShelved, HasShelf, Writes, FitsShelf, IsTrueWord, KeepsShelf}
+use Rattle.sections.specs.Shelves.{put_cell, put_cells, texts_of, offer_of, blank_words, word_of, slot_words, texts_at, IsStart, AreTextsOf, Lies, AreShelved, HasShelf, Writes, FitsShelf, IsTrueWord, KeepsShelf}
 use Rattle.sections.specs.Rule.{GoesOn, Makes, Fits, Kept}
 use Rattle.sections.specs.WriterInsides.{words_with, plan_with}
 use Rattle.sections.specs.Plays.{Owns, Adds, Keeps, EndsWithText, ComesFrom, Sat, put, refreshed, stored}

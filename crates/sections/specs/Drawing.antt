@@ -1,5 +1,5 @@
 -- What drawing a part, and paying it, does to the seat of a processor.
-use Rattle.std.specs.Prelude.{◌≡◌, ℕ, ◌+◌, ◌*◌, ◌/◌, ◌%◌, ◌^◌, ◌<◌, ◌≤◌, List, [], ◌∷◌, MatchOption, Option, Some, None}
+use Rattle.std.specs.Prelude.{◌≡◌, ℕ, ◌*◌, ◌/◌, ◌%◌, ◌^◌, ◌<◌, ◌≤◌, List, [], ◌∷◌, MatchOption, Option, Some, None}
 use Rattle.atomic_table.specs.Seated.{TableId}
 use Rattle.vault.specs.Keys.{IsKey}
 use Rattle.parts.specs.declared.part.Part.{Part}

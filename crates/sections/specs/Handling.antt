@@ -6,7 +6,6 @@ use Rattle.vault.specs.Rule.{count_of, round_of, key_of}
 use Rattle.onedom.specs.declared.event.Event.{Event}
 use Rattle.sections.specs.Slots.{Slot}
 use Rattle.sections.specs.declared.view.Bounds.{Bounds}
-use Rattle.sections.specs.declared.view.Bank.{Bank}
 use Rattle.sections.specs.declared.view.Plan.{Plan}
 use Rattle.sections.specs.declared.view.Right.TheVariants.{Shelf}
 use Rattle.sections.specs.Banks.{bank_of, with_bank, vault_in}

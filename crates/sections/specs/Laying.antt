@@ -1,5 +1,5 @@
 -- What the steps on keys tell the seat that has the right to a cell.
-use Rattle.std.specs.Prelude.{◌≡◌, ℕ, suc, ◌+◌, ◌-◌, ◌*◌, ◌<◌, ◌≤◌, List, [], ◌∷◌, Option, Some, None}
+use Rattle.std.specs.Prelude.{◌≡◌, ℕ, suc, ◌+◌, ◌-◌, ◌*◌, ◌<◌, ◌≤◌, List, [], ◌∷◌, Some, None}
 use Rattle.atomic_table.specs.Table.{Step as TableStep}
 use Rattle.vault.specs.Keys.{IsKey}
 use Rattle.onedom.specs.declared.event.Event.{Event}

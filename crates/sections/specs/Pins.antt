@@ -1,6 +1,6 @@
 -- What the steps of a section do to the seats that they are made with.
 use Rattle.std.specs.Prelude.{None}
-use Rattle.std.specs.Prelude.{◌≡◌, ℕ, ◌<◌, ◌≤◌, ◌/◌, ◌%◌, List, [], ◌++◌, All, Option, length, slice_index_or}
+use Rattle.std.specs.Prelude.{◌≡◌, ℕ, ◌<◌, ◌≤◌, ◌/◌, ◌%◌, List, [], ◌++◌, All, length, slice_index_or}
 use Rattle.atomic_table.specs.Table.{Step as TableStep}
 use Rattle.atomic_table.specs.Seated.{TableId}
 use Rattle.sseq.specs.declared.index.Index.{Index}

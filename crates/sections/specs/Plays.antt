@@ -1,6 +1,6 @@
 -- What each step on a domain's table tells the seat that makes it.
 use Rattle.std.specs.Prelude.{None}
-use Rattle.std.specs.Prelude.{◌≡◌, ℕ, ◌+◌, ◌*◌, ◌/◌, ◌%◌, ◌^◌, ◌<◌, ◌≤◌, Bool, List, [], ◌∷◌, ◌++◌, length, All, Option, slice_set}
+use Rattle.std.specs.Prelude.{◌≡◌, ℕ, ◌+◌, ◌*◌, ◌/◌, ◌%◌, ◌^◌, ◌<◌, ◌≤◌, Bool, List, [], ◌∷◌, ◌++◌, length, All, slice_set}
 use Rattle.atomic_table.specs.Table.{Me, Step as TableStep}
 use Rattle.sseq.specs.declared.index.Index.{Index}
 use Rattle.sseq.specs.Numbers.{cookie_at, done_at}

@@ -1,5 +1,5 @@
 -- How far somebody has seen, as a value, and the calls that go on from there.
-use Rattle.std.specs.Prelude.{◌≡◌, ℕ, ◌+◌, ◌*◌, ◌^◌, ◌≤◌, true, List, Option}
+use Rattle.std.specs.Prelude.{◌≡◌, ℕ, ◌+◌, ◌*◌, ◌^◌, ◌≤◌, true, List}
 use Rattle.atomic_table.specs.Seated.{TableId}
 use Rattle.atomic_table.specs.Table.{Step as TableStep}
 use Rattle.sseq.specs.Numbers.{periods_ended, cookie_at}

@@ -1,5 +1,5 @@
 -- What the steps on keys tell the seat of a processor that has the right to a section.
-use Rattle.std.specs.Prelude.{◌≡◌, ℕ, ◌/◌, ◌%◌, ◌^◌, ◌<◌, ◌≤◌, List, [], ◌∷◌, All, Option, Some, None}
+use Rattle.std.specs.Prelude.{◌≡◌, ℕ, ◌/◌, ◌%◌, ◌^◌, ◌<◌, ◌≤◌, List, [], ◌∷◌, All, Some, None}
 use Rattle.atomic_table.specs.Table.{Step as TableStep}
 use Rattle.vault.specs.Keys.{IsKey}
 use Rattle.sseq.specs.declared.index.Index.{Index}

@@ -1,11 +1,10 @@
 use Rattle.std.specs.Prelude.{MatchOption}
-use Rattle.std.proofs.Common.{◌≡◌, ℕ, suc, ◌+◌, ◌-◌, ◌*◌, ◌<◌, ◌≤◌, List, [], ◌∷◌, Some, None, refl, sym, ap, ◌∙◌, subst, arith}
+use Rattle.std.proofs.Common.{◌≡◌, ℕ, ◌+◌, ◌-◌, ◌*◌, ◌<◌, ◌≤◌, [], ◌∷◌, None, refl, sym, ap, ◌∙◌, subst, arith}
 use Rattle.vault.specs.Keys.{IsKey}
-use Rattle.parts.specs.declared.part.Part.{Part}
 use Rattle.sections.specs.declared.view.View.{View}
 use Rattle.sections.specs.declared.view.Hand.{Hand}
 use Rattle.sections.specs.declared.view.Right.TheVariants.{Section}
-use Rattle.sections.specs.Banks.{vault_place, vault_in, lent, hand_in}
+use Rattle.sections.specs.Banks.{vault_place, lent, hand_in}
 use Rattle.sections.specs.Taking.{hand_with, Catches}
 use Rattle.sections.proofs.Taking.{draws_here, returns_here}
 use Rattle.sections.proofs.Drawing.{catches_right, exchanged, has_one}

@@ -1,10 +1,8 @@
-use Rattle.std.proofs.Common.{◌≡◌, ℕ, suc, ◌+◌, ◌*◌, ◌<◌, List, [], ◌∷◌, Some, None, refl, sym, ap, ◌∙◌, subst, arith}
-use Rattle.vault.specs.Keys.{IsKey}
+use Rattle.std.proofs.Common.{ℕ, ◌+◌, ◌*◌, [], None, sym, ap, ◌∙◌, subst, arith}
 use Rattle.sections.specs.Units.{In, drop_first}
-use Rattle.sections.specs.declared.view.Lent.{Lent}
 use Rattle.sections.specs.declared.view.Hand.{Hand}
 use Rattle.sections.specs.declared.view.View.{View}
-use Rattle.sections.specs.Banks.{vault_place, vault_in, units_in, hand_in, is_unit}
+use Rattle.sections.specs.Banks.{units_in, hand_in, is_unit}
 use Rattle.sections.specs.Taking.{hand_with, Catches}
 use Rattle.sections.specs.declared.view.Right.TheVariants.{Section}
 use Rattle.sections.proofs.Taking.{same_reader, pays_here}

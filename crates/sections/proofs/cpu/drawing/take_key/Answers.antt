@@ -1,4 +1,4 @@
-use Rattle.std.proofs.Common.{◌≡◌, ℕ, ◌+◌, ◌*◌, ◌<◌, List, [], ◌∷◌, Some, refl, sym, ap, ◌∙◌, subst, arith}
+use Rattle.std.proofs.Common.{ℕ, ◌+◌, ◌*◌, ◌∷◌, Some, sym, ap, ◌∙◌, subst, arith}
 use Rattle.vault.specs.Keys.{IsKey}
 use Rattle.sections.specs.declared.view.View.{View}
 use Rattle.sections.specs.declared.view.Right.TheVariants.{Section}

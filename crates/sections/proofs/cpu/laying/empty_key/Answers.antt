@@ -1,10 +1,7 @@
-use Rattle.std.specs.Prelude.{MatchOption}
-use Rattle.std.proofs.Common.{◌≡◌, ℕ, suc, ◌+◌, ◌-◌, ◌*◌, ◌<◌, ◌≤◌, List, [], ◌∷◌, Option, Some, None, refl, sym, ap, ◌∙◌, subst, arith}
+use Rattle.std.proofs.Common.{◌≡◌, ℕ, suc, ◌+◌, ◌-◌, ◌*◌, [], Some, refl, sym, ap, ◌∙◌, subst, arith}
 use mathlib.Core.Option.{none}
 use Rattle.atomic_table.specs.Table.{step, Allows}
 use Rattle.vault.specs.Keys.{IsKey}
-use Rattle.vault.specs.Rule.{count_of, round_of}
-use Rattle.sections.specs.declared.view.Bank.{Bank}
 use Rattle.sections.specs.declared.view.Hand.{Hand}
 use Rattle.sections.specs.declared.view.Right.TheVariants.{Shelf}
 use Rattle.sections.specs.Banks.{bank_of, with_bank}

@@ -1,6 +1,5 @@
-use Rattle.std.proofs.Common.{rules}
 use Rattle.sections.specs.Banks.{hand_in}
-use Rattle.sections.proofs.Banking.{free_nothing, free_section, free_shelf}
+use Rattle.sections.proofs.Banking.{free_section}
 use Rattle.std.proofs.Common.{ap, ◌∙◌}
 use Rattle.sections.specs.Rule.{lacking}
 use Rattle.sections.proofs.Agreement.{lock_there}
