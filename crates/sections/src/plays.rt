@@ -179,7 +179,7 @@ impl AtProcessor for Brand {
     ghost processor = { 0 };
 }
 
-/// The writer of a cell takes a key to a slot that nobody can read. The number of the word is that of the slot.
+/// The writer of a cell takes a key to a slot that no reader can reach. The number of the word is that of the slot.
 pub(crate) struct HandleKey<N: AtProcessor>(PhantomData<N>);
 
 impl<N: AtProcessor> Play<Key, View> for HandleKey<N> {

@@ -48,7 +48,7 @@ pub struct Bank {
     pub laid: u64,
     /// Their round.
     pub round: u64,
-    /// The keys of the processors below this number have none. It isn't 0 only where nobody can read the slot.
+    /// The keys of the processors below this number have none. It is 0 unless the slot is out of every reader's reach.
     pub emptied: u64,
 }
 

@@ -1,4 +1,4 @@
-//! Parts of boxes: steps of the one that writes a cell, with the keys of a slot that nobody can read.
+//! Parts of boxes: steps of the one that writes a cell, with the keys of a slot that no reader can reach.
 ghost use Rattle.std.specs.Prelude.{◌≡◌, ◌+◌, ◌*◌, ◌<◌, ◌≤◌};
 ghost use Rattle.sections.specs.Pens.{CanWrite};
 ghost use Rattle.sections.specs.Handling.{CanEquip, IsNextKey, Equips, CanHandle, LaysFew, Lays, IsNext, Empties};
