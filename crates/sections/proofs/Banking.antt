@@ -115,7 +115,7 @@ module _ (bounds : Bounds) (homes : List (maybe.Option Slot)) (views : List View
     bare = b.bare;
     hands = λ i j is. let h = b.hands i j is in dite (ℕ_discrete j id)
         (λ e. let same : h.0 ≡ v = some-injective h.0 v (sym h.2 ∙ (ap (get_elem? views) e ∙ at)) in
-          (w, h.1, ap (get_elem? (set views id w)) e ∙ set_here views id w (at_below views v id at), hand ∙ (ap (λ (z : View). hand_in z.right) (sym same) ∙ h.3), h.4))
+        (w, h.1, ap (get_elem? (set views id w)) e ∙ set_here views id w (at_below views v id at), hand ∙ (ap (λ (z : View). hand_in z.right) (sym same) ∙ h.3), h.4))
         (λ ne. (h.0, h.1, set_else views id j w ne ∙ h.2, h.3, h.4));
     lent = lent;
     sums = b.sums;
@@ -226,17 +226,19 @@ module _ (bounds : Bounds) (homes : List (maybe.Option Slot)) (views : List View
       → ((j : ℕ) (d : View) → j ≢ id → FitsAt log j d → FitsBank bounds.processors log b.books lane_of' j d) → KeepsBanks bounds homes (set views id left ++ right ∷ []) log texts
   split_banks lane_of' id v left right at same a c others = reseat_banks (set views id left ++ right ∷ []) lane_of'
       (λ j d h there has. dite (ℕ_discrete j id)
-        (λ e. let dv : d ≡ v = some-injective d v (sym there ∙ (ap (get_elem? views) e ∙ at)) in (left, at_longer (set views id left) (right ∷ []) j left (ap (get_elem? (set views id left)) e ∙ set_here views id left (at_below views v id at)), same ∙ (ap (λ (z : View). hand_in z.right) (sym dv) ∙ has)))
-        (λ ne. (d, at_longer (set views id left) (right ∷ []) j d (set_else views id j left ne ∙ there), has)))
+      (λ e. let dv : d ≡ v = some-injective d v (sym there ∙ (ap (get_elem? views) e ∙ at)) in (left, at_longer (set views id left) (right ∷ []) j left (ap (get_elem? (set views id left)) e ∙ set_here views id left (at_below views v id at)), same ∙ (ap (λ (z : View). hand_in z.right) (sym dv) ∙ has)))
+      (λ ne. (d, at_longer (set views id left) (right ∷ []) j d (set_else views id j left ne ∙ there), has)))
       (views_split (FitsBank bounds.processors log b.books lane_of') views id v left right at a c (λ j d ne e. others j d ne (b.each j d e)))
 
   -- two seats become one
   pub join_banks : (id : ℕ) (v : View) (other : ℕ) (w both gone : View) → get_elem? views id ≡ some v → get_elem? views other ≡ some w → hand_in v.right ≡ None → hand_in w.right ≡ None → FitsAt log id both → FitsAt log other gone → KeepsBanks bounds homes (set (set views id both) other gone) log texts
   join_banks id v other w both gone at at' free free' a c = reseat_banks (set (set views id both) other gone) b.lane_of
-      (λ j d h there has. (d,
+      (λ j d h there has. (
+        d,
         set_else (set views id both) other j gone (λ e. no_some h (sym free' ∙ (ap (λ (z : View). hand_in z.right) (sym (some-injective d w (sym there ∙ (ap (get_elem? views) e ∙ at')))) ∙ has)))
-          ∙ (set_else views id j both (λ e. no_some h (sym free ∙ (ap (λ (z : View). hand_in z.right) (sym (some-injective d v (sym there ∙ (ap (get_elem? views) e ∙ at)))) ∙ has))) ∙ there),
-        has))
+            ∙ (set_else views id j both (λ e. no_some h (sym free ∙ (ap (λ (z : View). hand_in z.right) (sym (some-injective d v (sym there ∙ (ap (get_elem? views) e ∙ at)))) ∙ has))) ∙ there),
+        has,
+      ))
       (views_set (FitsAt log) (set views id both) other gone c (λ j d ne e. views_set (FitsAt log) views id both a (λ i z _ y. b.each i z y) j d e))
 
   -- the same right elsewhere
@@ -282,16 +284,16 @@ module _ (bounds : Bounds) (homes : List (maybe.Option Slot)) (views : List View
   pub deal_banks : (id k : ℕ) (v left right : View) → get_elem? views id ≡ some v → v.role ≡ Driver k → left.right ≡ v.right → left.role ≡ Driver (k + 1) → right.role ≡ Cpu k → right.right ≡ Nothing → hand_in v.right ≡ None → KeepsBanks bounds homes (set views id left ++ right ∷ []) log texts
   deal_banks id k v left right at is same lrole rrole none free = let f = b.each id v at in let m : ℕ = length views in let lane' : ℕ → ℕ = given k m b.lane_of in let mine_all : (p : ℕ) → k ≤ p → b.lane_of p ≡ id = λ p le. f.lane p (subst (λ z. Mans z p) (sym is) le) in
       split_banks lane' id v left right at (ap hand_in same)
-        (bank_moved lane' id id v left f (λ p mans. let le : k + 1 ≤ p = subst (λ z. Mans z p) lrole mans in given_else k m b.lane_of p (λ e. omega (arith, e, le)) ∙ mine_all p (omega (arith, le))) same free)
-        (bank_free log lane' m right (λ p mans. let kp : k ≡ p = subst (λ z. Mans z p) rrole mans in ap lane' (sym kp) ∙ given_here k m b.lane_of) none)
-        (λ j d ne g. let apart : (p : ℕ) → b.lane_of p ≡ j → p ≢ k = λ p l e. ne (sym l ∙ mine_all p (omega (arith, e))) in record {
-          lane = λ p mans. given_else k m b.lane_of p (apart p (g.lane p mans)) ∙ g.lane p mans;
-          section = g.section;
-          plan = g.plan;
-          holds = g.holds;
-          reads = λ h s is i. let r = g.reads h s is i in (given_else k m b.lane_of h.processor (apart h.processor r.0) ∙ r.0, r.1, r.2);
-          writes = g.writes;
-        })
+      (bank_moved lane' id id v left f (λ p mans. let le : k + 1 ≤ p = subst (λ z. Mans z p) lrole mans in given_else k m b.lane_of p (λ e. omega (arith, e, le)) ∙ mine_all p (omega (arith, le))) same free)
+      (bank_free log lane' m right (λ p mans. let kp : k ≡ p = subst (λ z. Mans z p) rrole mans in ap lane' (sym kp) ∙ given_here k m b.lane_of) none)
+      (λ j d ne g. let apart : (p : ℕ) → b.lane_of p ≡ j → p ≢ k = λ p l e. ne (sym l ∙ mine_all p (omega (arith, e))) in record {
+        lane = λ p mans. given_else k m b.lane_of p (apart p (g.lane p mans)) ∙ g.lane p mans;
+        section = g.section;
+        plan = g.plan;
+        holds = g.holds;
+        reads = λ h s is i. let r = g.reads h s is i in (given_else k m b.lane_of h.processor (apart h.processor r.0) ∙ r.0, r.1, r.2);
+        writes = g.writes;
+      })
 
 pub total_zero : (n : ℕ) → sum n (λ _. 0) + 0 ≡ 0
 total_zero zero = refl

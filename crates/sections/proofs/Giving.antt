@@ -69,7 +69,7 @@ module _ (bounds : Bounds) (homes : List (maybe.Option Slot)) (views : List View
     hands = λ g j out. dite (ℕ_discrete g i)
         (λ e. let a = put_here k.handed i (suc id) g e in let j_id : j ≡ id = omega (arith, a, out) in (w, h, ap (get_elem? (set views id w)) j_id ∙ set_here views id w (at_below views v id at), has, is ∙ sym e))
         (λ ne. let a = b.hands g j (sym (put_else k.handed i (suc id) g ne) ∙ out) in
-          (a.0, a.1, set_else views id j w (λ e. no_some a.1 (sym free ∙ (ap (λ (z : View). hand_in z.right) (sym (same_view j a.0 v a.2 id at e)) ∙ a.3))) ∙ a.2, a.3, a.4));
+        (a.0, a.1, set_else views id j w (λ e. no_some a.1 (sym free ∙ (ap (λ (z : View). hand_in z.right) (sym (same_view j a.0 v a.2 id at e)) ∙ a.3))) ∙ a.2, a.3, a.4));
     lent = b.lent;
     sums = b.sums;
     most = b.most;
@@ -114,7 +114,7 @@ module _ (bounds : Bounds) (homes : List (maybe.Option Slot)) (views : List View
         (λ ne. let a = b.home y q ly lq (sym (put_else k.handed i 0 (key_place y q) ne) ∙ out) in (
           a.0,
           (λ keyed. let o = others y q ly ne keyed in let t = a.1 o.0 in
-          (t.0, (t.1.0 ∙ sym o.1, t.1.1 ∙ key_of_as (vault_place y q) (k.stock (key_place y q)) (put k.stock i c (key_place y q)) t.0 (sym (put_else k.stock i c (key_place y q) ne))), λ some_there. let n = put_else k.stock i c (key_place y q) ne in let was : 0 < k.stock (key_place y q) = omega (arith, some_there, n) in t.2 was ∙ rounds y q ly lq ne was)),
+              (t.0, (t.1.0 ∙ sym o.1, t.1.1 ∙ key_of_as (vault_place y q) (k.stock (key_place y q)) (put k.stock i c (key_place y q)) t.0 (sym (put_else k.stock i c (key_place y q) ne))), λ some_there. let n = put_else k.stock i c (key_place y q) ne in let was : 0 < k.stock (key_place y q) = omega (arith, some_there, n) in t.2 was ∙ rounds y q ly lq ne was)),
           set_else homes i (key_place y q) (some key) ne ∙ a.2,
         ));
     bare = λ y p ly le. dite (ℕ_discrete (key_place y p) i)
@@ -122,7 +122,7 @@ module _ (bounds : Bounds) (homes : List (maybe.Option Slot)) (views : List View
         (λ ne. put_else k.stock i c (key_place y p) ne ∙ b.bare y p ly (let up = more (y / 8) in omega (arith, up, le)));
     hands = λ g j out. dite (ℕ_discrete g i) (λ e. let a = put_here k.handed i 0 g e in absurd (omega (arith, a, out)))
         (λ ne. let a = b.hands g j (sym (put_else k.handed i 0 g ne) ∙ out) in
-          (a.0, a.1, set_else views id j w (λ e. ne (sym a.4 ∙ ap place_of (same_some a.1 h (sym a.3 ∙ (ap (λ (z : View). hand_in z.right) (same_view j a.0 v a.2 id at e) ∙ has))))) ∙ a.2, a.3, a.4));
+        (a.0, a.1, set_else views id j w (λ e. ne (sym a.4 ∙ ap place_of (same_some a.1 h (sym a.3 ∙ (ap (λ (z : View). hand_in z.right) (same_view j a.0 v a.2 id at e) ∙ has))))) ∙ a.2, a.3, a.4));
     lent = lent;
     sums = sums;
     most = most;
@@ -162,7 +162,7 @@ module _ (bounds : Bounds) (homes : List (maybe.Option Slot)) (views : List View
   readers id y p lane ly keyed readable j d h e has is = let f = b.each j d e in let a = f.holds h has in let pl = same_place h.slot h.processor y p a.slot ly is in ⊎_elim
       (λ (s : (s : ℕ) × (section_in d.right ≡ suc s)). sym (f.reads h s.0 has s.1).0 ∙ (ap b.lane_of pl.1 ∙ lane))
       (λ (q : (c : ℕ) × (q : Plan) × PlanIn d.right c q). let w = f.writes h q.0 q.1 has q.2 in absurd (readable
-          (subst (λ (z : ℕ × ℕ). IsClear log z.0 (z.1 % 8)) (λ m. ((sym w.0 ∙ ap (λ z. z / 8) pl.0) m, pl.0 m)) (w.1 (subst (λ (z : ℕ × ℕ). IsKeyed k.keys z.0 z.1) (λ m. (sym pl.0 m, sym pl.1 m)) keyed)))))
+      (subst (λ (z : ℕ × ℕ). IsClear log z.0 (z.1 % 8)) (λ m. ((sym w.0 ∙ ap (λ z. z / 8) pl.0) m, pl.0 m)) (w.1 (subst (λ (z : ℕ × ℕ). IsKeyed k.keys z.0 z.1) (λ m. (sym pl.0 m, sym pl.1 m)) keyed)))))
       (for_whom d.right h has)
 
   -- and one to a slot of a cell that nobody can read, or that was not laid yet, is with no seat but the cell's writer's
@@ -170,6 +170,6 @@ module _ (bounds : Bounds) (homes : List (maybe.Option Slot)) (views : List View
       → ((j : ℕ) (d : View) → j ≢ id → get_elem? views j ≡ some d → (e : ℕ) (r : Plan) → PlanIn d.right e r → e ≢ y / 8) → (j : ℕ) (d : View) (h : Hand) → get_elem? views j ≡ some d → hand_in d.right ≡ Some h → place_of h ≡ key_place y p → j ≡ id
   writers id y p ly clear opened apart j d h e has is = let f = b.each j d e in let a = f.holds h has in let pl = same_place h.slot h.processor y p a.slot ly is in ⊎_elim
       (λ (s : (s : ℕ) × (section_in d.right ≡ suc s)). let r = f.reads h s.0 has s.1 in let none = (clear (subst (λ (z : ℕ × ℕ). IsKeyed k.keys z.0 z.1) (λ m. (pl.0 m, pl.1 m)) r.2)).unread s.0 (opened j d s.0 e s.1) in
-        let met : HasMet log s.0 y = subst (HasMet log s.0) pl.0 r.1 in absurd (omega (arith, none, met)))
+      let met : HasMet log s.0 y = subst (HasMet log s.0) pl.0 r.1 in absurd (omega (arith, none, met)))
       (λ (q : (c : ℕ) × (q : Plan) × PlanIn d.right c q). let w = f.writes h q.0 q.1 has q.2 in dite (ℕ_discrete j id) (λ same. same) (λ ne. absurd (apart j d ne e q.0 q.1 q.2 (sym w.0 ∙ ap (λ z. z / 8) pl.0))))
       (for_whom d.right h has)

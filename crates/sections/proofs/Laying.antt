@@ -91,7 +91,7 @@ module _ (bounds : Bounds) where
         takes (key_place y p) key,
         there.2,
         subst (λ (ws : List ℕ). Kept bounds record { words = ws; homes = set s.homes (key_place y p) none; views = set s.views id w }) (sym (set-get_or s.words y 0))
-          (rebanked bounds s r id v right' (set s.homes (key_place y p) none) at tt has
+            (rebanked bounds s r id v right' (set s.homes (key_place y p) none) at tt has
             (take_bank bounds s.homes s.views r.log r.shelf.texts b id y p v w g' at free_v ly lp home refl refl record {
               lane = g.lane;
               section = λ z is. absurd (omega (arith, is));
@@ -122,54 +122,54 @@ module _ (bounds : Bounds) where
       let here : (z : ℕ) → z ≡ x → bank_of q' z ≡ b' = λ z e. bank_here q x z b' e (omega (arith, lx, eight)) in let none = none_out s r id v at c own h q right x lx clear in
       let round_else : (z : ℕ) → z ≢ y → round' z ≡ k.round z = λ z ne. put_else k.round y r' z ne in let round_here : round' g.slot ≡ r' = put_here k.round y r' g.slot slot in
       rebanked bounds s r id v (Shelf c own h q') (set s.homes (place_of g) (some key)) at tt has
-        (give_bank bounds s.homes s.views r.log r.shelf.texts b id count k.units laid' round' k.keys k.vault_of g key v w at held refl (round, (ready.0 ∙ had.of keyed, ready.1), λ more. rounds more ∙ sym round_here)
-          (λ z p lz ne keyed'. (keyed', refl)) (λ e. omega arith) (λ le. absurd (omega (arith, keyed, le)))
-          (λ z p lz lp ne more. dite (ℕ_discrete z y)
-            (λ e. ap k.round e ∙ (like p lp (λ same. ne (omega (arith, same, e, slot))) (subst (λ m. 0 < k.stock (key_place m p)) e more) ∙ sym (put_here k.round y r' z e)))
-            (λ ne'. sym (round_else z ne')))
-          (All_other (IsLent r.log k.round) (IsLent r.log round') k.units (λ u _ l. record { opened = l.opened; met = l.met; rounds = l.rounds ∙ sym (round_else u.slot (unlent s r id v at c own h q right x lx clear u l)) }) b.lent)
-          (λ z lz. let old = b.sums z lz in dite (ℕ_discrete z y)
-            (λ e. let m = sum_here bounds bounds.processors count z g k.stock had.processor (e ∙ sym slot) in let l = put_here k.laid y n z e in let t = ap k.laid e in let counts = had.counts in omega (arith, m, l, t, old, counts, total))
-            (λ ne. let m = lane_else bounds.processors g.slot g.processor count z k.stock had.slot lz (λ e. ne (e ∙ slot)) in let l = put_else k.laid y n z ne in omega (arith, m, l, old)))
-          (λ z lz. let most = b.most z lz in dite (ℕ_discrete z y) (λ e. let l = put_here k.laid y n z e in omega (arith, l, fit)) (λ ne. let l = put_else k.laid y n z ne in omega (arith, l, most)))
-          b.vaults
-          (λ d z ld lz. dite (ℕ_discrete (8 * d + z) y)
-            (λ e. let dc : c ≡ d = omega (arith, e, lx, lz) in let xz : x ≡ z = omega (arith, e, lx, lz) in inl (subst (λ (m : ℕ × ℕ). IsClear r.log m.0 m.1) (λ i. (dc i, xz i)) clear))
-            (λ ne. ⊎_elim (λ (cl : IsClear r.log d z). inl cl)
-              (λ (o : IsOffered k.laid k.round (8 * d + z) (offer_of d (shelved d z r.log) r.shelf.texts)). inr record { total = o.total ∙ sym (put_else k.laid y n (8 * d + z) ne); rounds = λ more. o.rounds (subst (λ m. 0 < m) (put_else k.laid y n (8 * d + z) ne) more) ∙ sym (round_else (8 * d + z) ne) })
-              (b.offers d z ld lz)))
-          record {
-            lane = f.lane;
-            section = λ z is. absurd (omega (arith, is));
-            plan = λ d u is. subst (λ (z : ℕ × Plan). IsPlan r.log k.vault_of k.keys (put k.stock (place_of g) count) laid' round' z.0 z.1) (λ i. (is.0 i, is.1 i)) record {
-              eight = length-set q.banks x b' ∙ a.eight;
-              laid_keys = a.laid_keys;
-              vault = a.vault;
-              totals = λ z lz. dite (ℕ_discrete z x)
-                  (λ e. ap (λ (m : Bank). m.laid) (here z e) ∙ (laid_is ∙ sym (put_here k.laid y n (8 * c + z) (omega (arith, e)))))
-                  (λ ne. ap (λ (m : Bank). m.laid) (bank_else q x z b' ne) ∙ (a.totals z lz ∙ sym (put_else k.laid y n (8 * c + z) (λ e. ne (omega (arith, e))))));
-              rounds = λ z lz more. dite (ℕ_discrete z x)
-                  (λ e. ap (λ (m : Bank). m.round) (here z e) ∙ (round_is (let l = put_here k.laid y n (8 * c + z) (omega (arith, e)) in omega (arith, l, more)) ∙ sym (put_here k.round y r' (8 * c + z) (omega (arith, e)))))
-                  (λ ne. ap (λ (m : Bank). m.round) (bank_else q x z b' ne) ∙ (a.rounds z lz (subst (λ m. 0 < m) (put_else k.laid y n (8 * c + z) (λ e. ne (omega (arith, e)))) more) ∙ sym (round_else (8 * c + z) (λ e. ne (omega (arith, e))))));
-              empty = λ z p lc lz lt. dite (ℕ_discrete z x)
-                  (λ e. subst (λ m. put k.stock (place_of g) count (key_place (8 * c + m) p) ≡ 0) (sym e) (empty_is p (let m = ap (λ (m : Bank). m.emptied) (here z e) in omega (arith, m, lt))))
-                  (λ ne. put_else k.stock (place_of g) count (key_place (8 * c + z) p) (λ same. ne (omega (arith, same, slot, lc, lz, lx))) ∙ a.empty z p lc lz (let m = ap (λ (m : Bank). m.emptied) (bank_else q x z b' ne) in omega (arith, m, lt)));
-              rests = λ z lz lt. dite (ℕ_discrete z x) (λ e. subst (IsClear r.log c) (sym e) clear) (λ ne. a.rests z lz (let m = ap (λ (m : Bank). m.emptied) (bank_else q x z b' ne) in omega (arith, m, lt)));
-            };
-            holds = λ z e. absurd (no_some z e);
-            reads = λ z t e is. absurd (no_some z e);
-            writes = λ z d u e is. absurd (no_some z e);
-          }
-          (λ j d ne e t is. refl)
-          (λ j d ne e m u is old. let apart : m ≢ c = others_apart s r id c has.writer j d ne e m u is in let else_ : (z : ℕ) → z < 8 → 8 * m + z ≢ y = (λ z lz same. apart (omega (arith, same, lz, lx))) in record {
-            eight = old.eight;
-            laid_keys = old.laid_keys;
-            vault = old.vault;
-            totals = λ z lz. old.totals z lz ∙ sym (put_else k.laid y n (8 * m + z) (else_ z lz));
-            rounds = λ z lz more. old.rounds z lz (subst (λ t. 0 < t) (put_else k.laid y n (8 * m + z) (else_ z lz)) more) ∙ sym (round_else (8 * m + z) (else_ z lz));
-            empty = λ z p lm lz lt. put_else k.stock (place_of g) count (key_place (8 * m + z) p) (λ same. apart (omega (arith, same, slot, low, lm, lz, lx))) ∙ old.empty z p lm lz lt;
-            rests = old.rests;
-          }))
+      (give_bank bounds s.homes s.views r.log r.shelf.texts b id count k.units laid' round' k.keys k.vault_of g key v w at held refl (round, (ready.0 ∙ had.of keyed, ready.1), λ more. rounds more ∙ sym round_here)
+      (λ z p lz ne keyed'. (keyed', refl)) (λ e. omega arith) (λ le. absurd (omega (arith, keyed, le)))
+      (λ z p lz lp ne more. dite (ℕ_discrete z y)
+      (λ e. ap k.round e ∙ (like p lp (λ same. ne (omega (arith, same, e, slot))) (subst (λ m. 0 < k.stock (key_place m p)) e more) ∙ sym (put_here k.round y r' z e)))
+      (λ ne'. sym (round_else z ne')))
+      (All_other (IsLent r.log k.round) (IsLent r.log round') k.units (λ u _ l. record { opened = l.opened; met = l.met; rounds = l.rounds ∙ sym (round_else u.slot (unlent s r id v at c own h q right x lx clear u l)) }) b.lent)
+      (λ z lz. let old = b.sums z lz in dite (ℕ_discrete z y)
+      (λ e. let m = sum_here bounds bounds.processors count z g k.stock had.processor (e ∙ sym slot) in let l = put_here k.laid y n z e in let t = ap k.laid e in let counts = had.counts in omega (arith, m, l, t, old, counts, total))
+      (λ ne. let m = lane_else bounds.processors g.slot g.processor count z k.stock had.slot lz (λ e. ne (e ∙ slot)) in let l = put_else k.laid y n z ne in omega (arith, m, l, old)))
+      (λ z lz. let most = b.most z lz in dite (ℕ_discrete z y) (λ e. let l = put_here k.laid y n z e in omega (arith, l, fit)) (λ ne. let l = put_else k.laid y n z ne in omega (arith, l, most)))
+      b.vaults
+      (λ d z ld lz. dite (ℕ_discrete (8 * d + z) y)
+      (λ e. let dc : c ≡ d = omega (arith, e, lx, lz) in let xz : x ≡ z = omega (arith, e, lx, lz) in inl (subst (λ (m : ℕ × ℕ). IsClear r.log m.0 m.1) (λ i. (dc i, xz i)) clear))
+      (λ ne. ⊎_elim (λ (cl : IsClear r.log d z). inl cl)
+      (λ (o : IsOffered k.laid k.round (8 * d + z) (offer_of d (shelved d z r.log) r.shelf.texts)). inr record { total = o.total ∙ sym (put_else k.laid y n (8 * d + z) ne); rounds = λ more. o.rounds (subst (λ m. 0 < m) (put_else k.laid y n (8 * d + z) ne) more) ∙ sym (round_else (8 * d + z) ne) })
+      (b.offers d z ld lz)))
+      record {
+        lane = f.lane;
+        section = λ z is. absurd (omega (arith, is));
+        plan = λ d u is. subst (λ (z : ℕ × Plan). IsPlan r.log k.vault_of k.keys (put k.stock (place_of g) count) laid' round' z.0 z.1) (λ i. (is.0 i, is.1 i)) record {
+          eight = length-set q.banks x b' ∙ a.eight;
+          laid_keys = a.laid_keys;
+          vault = a.vault;
+          totals = λ z lz. dite (ℕ_discrete z x)
+              (λ e. ap (λ (m : Bank). m.laid) (here z e) ∙ (laid_is ∙ sym (put_here k.laid y n (8 * c + z) (omega (arith, e)))))
+              (λ ne. ap (λ (m : Bank). m.laid) (bank_else q x z b' ne) ∙ (a.totals z lz ∙ sym (put_else k.laid y n (8 * c + z) (λ e. ne (omega (arith, e))))));
+          rounds = λ z lz more. dite (ℕ_discrete z x)
+              (λ e. ap (λ (m : Bank). m.round) (here z e) ∙ (round_is (let l = put_here k.laid y n (8 * c + z) (omega (arith, e)) in omega (arith, l, more)) ∙ sym (put_here k.round y r' (8 * c + z) (omega (arith, e)))))
+              (λ ne. ap (λ (m : Bank). m.round) (bank_else q x z b' ne) ∙ (a.rounds z lz (subst (λ m. 0 < m) (put_else k.laid y n (8 * c + z) (λ e. ne (omega (arith, e)))) more) ∙ sym (round_else (8 * c + z) (λ e. ne (omega (arith, e))))));
+          empty = λ z p lc lz lt. dite (ℕ_discrete z x)
+              (λ e. subst (λ m. put k.stock (place_of g) count (key_place (8 * c + m) p) ≡ 0) (sym e) (empty_is p (let m = ap (λ (m : Bank). m.emptied) (here z e) in omega (arith, m, lt))))
+              (λ ne. put_else k.stock (place_of g) count (key_place (8 * c + z) p) (λ same. ne (omega (arith, same, slot, lc, lz, lx))) ∙ a.empty z p lc lz (let m = ap (λ (m : Bank). m.emptied) (bank_else q x z b' ne) in omega (arith, m, lt)));
+          rests = λ z lz lt. dite (ℕ_discrete z x) (λ e. subst (IsClear r.log c) (sym e) clear) (λ ne. a.rests z lz (let m = ap (λ (m : Bank). m.emptied) (bank_else q x z b' ne) in omega (arith, m, lt)));
+        };
+        holds = λ z e. absurd (no_some z e);
+        reads = λ z t e is. absurd (no_some z e);
+        writes = λ z d u e is. absurd (no_some z e);
+      }
+      (λ j d ne e t is. refl)
+      (λ j d ne e m u is old. let apart : m ≢ c = others_apart s r id c has.writer j d ne e m u is in let else_ : (z : ℕ) → z < 8 → 8 * m + z ≢ y = (λ z lz same. apart (omega (arith, same, lz, lx))) in record {
+        eight = old.eight;
+        laid_keys = old.laid_keys;
+        vault = old.vault;
+        totals = λ z lz. old.totals z lz ∙ sym (put_else k.laid y n (8 * m + z) (else_ z lz));
+        rounds = λ z lz more. old.rounds z lz (subst (λ t. 0 < t) (put_else k.laid y n (8 * m + z) (else_ z lz)) more) ∙ sym (round_else (8 * m + z) (else_ z lz));
+        empty = λ z p lm lz lt. put_else k.stock (place_of g) count (key_place (8 * m + z) p) (λ same. apart (omega (arith, same, slot, low, lm, lz, lx))) ∙ old.empty z p lm lz lt;
+        rests = old.rests;
+      }))
 
   -- more parts lie with the key
   pub lays_here : (slots id n c x count round : ℕ) (own : List ℕ) (h : List Event) (q : Plan) (g : Hand) (key : Slot) (me : Sat) → me.0.right ≡ Shelf c own h q → q.hand ≡ Some g → x < 8 → g.slot ≡ 8 * c + x → 8 * g.processor + x < q.keys → me.1 ≡ (place_of g, key) ∷ [] → Ready bounds g key count round
@@ -182,9 +182,9 @@ module _ (bounds : Bounds) where
         gives,
         tt,
         gives_back bounds s n id (place_of g) key me.1 w carried (settle s r id c x count round m round own h q g key b' v at right hand lx slot keyed ready (λ _. refl) (omega (arith, total, more)) fit
-          (λ z lz ne some_there. let sums = b.sums y (let lo = had.slot in omega (arith, lo, slot)) in let one = at_most bounds.processors z (λ i. k.stock (key_place y i)) lz in
+            (λ z lz ne some_there. let sums = b.sums y (let lo = had.slot in omega (arith, lo, slot)) in let one = at_most bounds.processors z (λ i. k.stock (key_place y i)) lz in
             let pos : 0 < k.laid y = omega (arith, some_there, sums, one) in sym (a.rounds x lx pos) ∙ sym (like some_parts (omega (arith, pos, total))))
-          refl (λ _. refl) (λ z lt. absurd (omega (arith, lt)))),
+            refl (λ _. refl) (λ z lt. absurd (omega (arith, lt)))),
         λ c' x' place' count' round' own' h' q2 g' key' right' hand' lx' slot' carried' ready'.
             let same = same_shelf_right c c' own own' h h' q q2 (sym right ∙ right') in let gg : g ≡ g' = same_some g g' (sym hand ∙ (ap (λ (z : Plan). z.hand) same.3 ∙ hand')) in let cc' = same.0 in let gs = ap (λ (z : Hand). z.slot) gg in let xx : x ≡ x' = omega (arith, slot, slot', gs, cc', lx, lx') in
             let keys : key ≡ key' = ap (first_key key) (sym carried ∙ carried') in let views = sym ready.1 ∙ (ap (λ (z : Slot). z.views) keys ∙ ready'.1) in let cs : count ≡ count' = ap first_count views in let rs : round ≡ round' = ap first_round views in
@@ -203,16 +203,16 @@ module _ (bounds : Bounds) where
       let place : place_of g ≡ key_place y g.processor = omega (arith, slot) in
       let sums = b.sums y ly in let one = at_most bounds.processors g.processor (λ z. k.stock (key_place y z)) lp in let same_stock = ap k.stock place in
       let all_home : suc g.processor ≡ bounds.processors → (bank_of q x).laid ≡ g.count = (λ last. let none = none_out s r id v at c own h q right x lx clear in
-        let zero = sum_here bounds bounds.processors 0 y g k.stock lp (sym slot) in
-        let nothing = sum_zero bounds.processors (λ z. put k.stock (place_of g) 0 (key_place y z)) (λ z lz. dite (ℕ_discrete z g.processor) (λ e. put_here k.stock (place_of g) 0 (key_place y z) (omega (arith, e, slot)))
-          (λ ne. put_else k.stock (place_of g) 0 (key_place y z) (λ e. ne (omega (arith, e, slot))) ∙ a.empty x z (omega (arith, lc, few)) lx (omega (arith, lz, last, ne, first)))) in
-        omega (arith, none, zero, nothing, sums, total, counts)) in (
+      let zero = sum_here bounds bounds.processors 0 y g k.stock lp (sym slot) in
+      let nothing = sum_zero bounds.processors (λ z. put k.stock (place_of g) 0 (key_place y z)) (λ z lz. dite (ℕ_discrete z g.processor) (λ e. put_here k.stock (place_of g) 0 (key_place y z) (omega (arith, e, slot)))
+      (λ ne. put_else k.stock (place_of g) 0 (key_place y z) (λ e. ne (omega (arith, e, slot))) ∙ a.empty x z (omega (arith, lc, few)) lx (omega (arith, lz, last, ne, first)))) in
+      omega (arith, none, zero, nothing, sums, total, counts)) in (
         w,
         gives,
         tt,
         gives_back bounds s n id (place_of g) key me.1 w carried (settle s r id c x 0 round m (k.round y) own h q g key b' v at right hand lx slot keyed ready (λ more. absurd (omega (arith, more))) (omega (arith, total, counts, sums, one, same_stock)) (let most = b.most y ly in omega (arith, most, total))
-          (λ z lz ne more. refl) refl (λ more. a.rounds x lx (omega (arith, more, total)))
-          (λ z lt. dite (ℕ_discrete z g.processor) (λ e. put_here k.stock (place_of g) 0 (key_place y z) (omega (arith, e, slot)))
+            (λ z lz ne more. refl) refl (λ more. a.rounds x lx (omega (arith, more, total)))
+            (λ z lt. dite (ℕ_discrete z g.processor) (λ e. put_here k.stock (place_of g) 0 (key_place y z) (omega (arith, e, slot)))
             (λ ne. put_else k.stock (place_of g) 0 (key_place y z) (λ e. ne (omega (arith, e, slot))) ∙ a.empty x z (omega (arith, lc, few)) lx (omega (arith, lt, ne, first))))),
         λ c' x' own' h' q2 g' right' hand' lx' slot'.
             let same = same_shelf_right c c' own own' h h' q q2 (sym right ∙ right') in let gg : g ≡ g' = same_some g g' (sym hand ∙ (ap (λ (z : Plan). z.hand) same.3 ∙ hand')) in let cc' = same.0 in let gs = ap (λ (z : Hand). z.slot) gg in let xx : x ≡ x' = omega (arith, slot, slot', gs, cc', lx, lx') in (
@@ -237,7 +237,7 @@ module _ (bounds : Bounds) where
         takes (key_place y p) key,
         there.2,
         subst (λ (ws : List ℕ). Kept bounds record { words = ws; homes = set s.homes (key_place y p) none; views = set s.views id w }) (sym (set-get_or s.words y 0))
-          (rebanked bounds s r id v right' (set s.homes (key_place y p) none) at tt has
+            (rebanked bounds s r id v right' (set s.homes (key_place y p) none) at tt has
             (take_bank bounds s.homes s.views r.log r.shelf.texts b id y p v w g' at free_v ly lp home refl refl record {
               lane = g.lane;
               section = λ z is. absurd (omega (arith, is));
@@ -275,17 +275,16 @@ module _ (bounds : Bounds) where
         rounds = old.rounds;
         empty = λ z p le lz lt. stays (key_place (8 * e + z) p) ∙ old.empty z p le lz lt;
         rests = old.rests;
-      }) in
-      (
+      }) in (
         w,
         gives,
         tt,
         gives_back bounds s n id (place_of g) key me.1 w carried (rebanked bounds s r id v (Shelf c own h q') (set s.homes (place_of g) (some key)) at tt has
-          (give_bank bounds s.homes s.views r.log r.shelf.texts b id 0 k.units k.laid k.round keys' vault' g key v w at held refl
+            (give_bank bounds s.homes s.views r.log r.shelf.texts b id 0 k.units k.laid k.round keys' vault' g key v w at held refl
             (0, (sym (vault_here k.vault_of c key.table_id (g.slot / 8) yc), views ∙ ap (λ z. key_of z 0 0 ∷ []) (next ∙ (let e : 8 * g.processor + x ≡ vault_place g.slot g.processor = omega (arith, yx) in e))), λ more. absurd (omega (arith, more)))
             (λ z p lz ne keyed. dite (ℕ_discrete (z / 8) c)
-              (λ e. let t = put_here k.keys c m (z / 8) e in let ke = ap k.keys e in let still : IsKeyed k.keys z p = omega (arith, keyed, t, ke, laid_keys, next, apart z p lz low lx slot e ne) in (still, vault_as (z / 8) (omega (arith, still))))
-              (λ ne'. let t = put_else k.keys c m (z / 8) ne' in (omega (arith, keyed, t), vault_else k.vault_of c key.table_id (z / 8) ne')))
+            (λ e. let t = put_here k.keys c m (z / 8) e in let ke = ap k.keys e in let still : IsKeyed k.keys z p = omega (arith, keyed, t, ke, laid_keys, next, apart z p lz low lx slot e ne) in (still, vault_as (z / 8) (omega (arith, still))))
+            (λ ne'. let t = put_else k.keys c m (z / 8) ne' in (omega (arith, keyed, t), vault_else k.vault_of c key.table_id (z / 8) ne')))
             up (λ _. refl) (λ z p lz lp ne more. refl) b.lent
             (λ z lz. let old = b.sums z lz in let e = sum_same bounds.processors (λ p. put k.stock (place_of g) 0 (key_place z p)) (λ p. k.stock (key_place z p)) (λ p _. stays (key_place z p)) in omega (arith, old, e))
             b.most

@@ -161,7 +161,7 @@ module _ (bounds : Bounds) where
         takes (key_place y p) key,
         there.2,
         subst (λ (ws : List ℕ). Kept bounds record { words = ws; homes = set s.homes (key_place y p) none; views = set s.views id w }) (sym (set-get_or s.words y 0))
-          (remains bounds s r id s.words (set s.homes (key_place y p) none) v w at refl refl r.words
+            (remains bounds s r id s.words (set s.homes (key_place y p) none) v w at refl refl r.words
             record { seen = beginning_refl r.log; knows = knows_all r.log r.changes r.seat_of r.reached r.holder r.engine id r.known v.role; told = All-nil (λ m. GoesOn m (now r.log r.changes)); makes = f.makes; has = has; shown = f.shown }
             shelf
             (take_bank bounds s.homes s.views r.log r.shelf.texts b id y p v w h at free ly lp home refl refl record {
@@ -260,19 +260,19 @@ module _ (bounds : Bounds) where
   settle s r id t q count round i us us' units h key v at right ready rounds lent_now sums now_out others = let f = r.each_view id v at in let b = r.banks in let k = b.books in let g = b.each id v at in let has = ap hand_in right in let had = g.holds h has in let reads = g.reads h t has (ap section_in right) in
       let own : Has r.log r.changes r.seat_of r.reached r.holder r.engine id (Section t q i us (Some h)) = subst (λ (z : Right). Has r.log r.changes r.seat_of r.reached r.holder r.engine id z) right f.has in let w : View = record v { right = Section t q i us' None } in
       let clash : IsClear r.log (h.slot / 8) (h.slot % 8) → ⊥ = (λ clear. let none = clear.unread t own.1 in let some = reads.1 in omega (arith, none, some)) in
-        rebanked s r id v (Section t q i us' None) (set s.homes (place_of h) (some key)) at own tt
-        (give_bank bounds s.homes s.views r.log r.shelf.texts b id count units k.laid k.round k.keys k.vault_of h key v w at has refl (round, (ready.0 ∙ had.of reads.2, ready.1), rounds)
-          (λ y p ly ne keyed. (keyed, refl)) (λ e. omega arith) (λ none. absurd (let lt = reads.2 in omega (arith, lt, none))) (λ y p ly lp ne more. refl) lent_now sums b.most b.vaults b.offers
-          record {
-            lane = g.lane;
-            section = λ a e. let ta : t ≡ a = omega (arith, e) in subst (λ z. us' ≡ mine z units) ta now_out;
-            plan = λ d u is. absurd is;
-            holds = λ x e. absurd (no_some x e);
-            reads = λ x a e z. absurd (no_some x e);
-            writes = λ x d u e is. absurd is;
-          }
-          (λ j d ne e a is. others a (λ ta. ne (sym (holder_is s r j d a e is) ∙ (ap r.holder (sym ta) ∙ own.0))))
-          (λ j d ne e c p is a. plan_else r.log k count h c p had.slot clash a))
+      rebanked s r id v (Section t q i us' None) (set s.homes (place_of h) (some key)) at own tt
+      (give_bank bounds s.homes s.views r.log r.shelf.texts b id count units k.laid k.round k.keys k.vault_of h key v w at has refl (round, (ready.0 ∙ had.of reads.2, ready.1), rounds)
+      (λ y p ly ne keyed. (keyed, refl)) (λ e. omega arith) (λ none. absurd (let lt = reads.2 in omega (arith, lt, none))) (λ y p ly lp ne more. refl) lent_now sums b.most b.vaults b.offers
+      record {
+        lane = g.lane;
+        section = λ a e. let ta : t ≡ a = omega (arith, e) in subst (λ z. us' ≡ mine z units) ta now_out;
+        plan = λ d u is. absurd is;
+        holds = λ x e. absurd (no_some x e);
+        reads = λ x a e z. absurd (no_some x e);
+        writes = λ x d u e is. absurd is;
+      }
+      (λ j d ne e a is. others a (λ ta. ne (sym (holder_is s r j d a e is) ∙ (ap r.holder (sym ta) ∙ own.0))))
+      (λ j d ne e c p is a. plan_else r.log k count h c p had.slot clash a))
 
   -- what is given back is what the seat has in hand
   pub gives_back : (s : State Slot View) (n id i : ℕ) (key : Slot) (c : List (ℕ × Slot)) (w : View) → c ≡ (i, key) ∷ [] → Kept bounds record { words = s.words; homes = set s.homes i (some key); views = set s.views id w } → Kept bounds (stepped s n (get_or s.words n 0) id c w gives)
@@ -287,8 +287,8 @@ module _ (bounds : Bounds) where
     tt,
     gives_back s n id (place_of h) key me.1 w carried (settle s r id t q count round i us us k.units h key v at right ready (λ more. same_round ∙ had.rounds (omega (arith, more, same))) b.lent
         (λ y ly. let old = b.sums y ly in let counts = had.counts in dite (ℕ_discrete y h.slot)
-          (λ e. let a = sum_here bounds.processors count y h k.stock had.processor e in omega (arith, a, old, counts, same))
-          (λ ne. let a = lane_else bounds.processors h.slot h.processor count y k.stock had.slot ly ne in omega (arith, a, old)))
+        (λ e. let a = sum_here bounds.processors count y h k.stock had.processor e in omega (arith, a, old, counts, same))
+        (λ ne. let a = lane_else bounds.processors h.slot h.processor count y k.stock had.slot ly ne in omega (arith, a, old)))
         units (λ a ne. refl)),
     λ t' q' j us' g' right'. let same = same_reader t q t' q' i j us us' (Some h) (Some g') (sym right ∙ right') in λ m. (record v { right = Section (same.0 m) (same.1 m) (same.2 m) (same.3 m) None }, rest (carried m)),
   )
@@ -302,12 +302,12 @@ module _ (bounds : Bounds) where
         gives,
         tt,
         gives_back s n id (place_of h) key me.1 w carried (settle s r id t q count round i us us' (one ∷ k.units) h key v at right ready (λ _. same_round ∙ of_slot)
-          (All-cons (IsLent r.log k.round) one k.units record { opened = own.1; met = reads.1; rounds = of_slot } b.lent)
-          (λ y ly. let old = b.sums y ly in let counts = had.counts in dite (ℕ_discrete y h.slot)
+            (All-cons (IsLent r.log k.round) one k.units record { opened = own.1; met = reads.1; rounds = of_slot } b.lent)
+            (λ y ly. let old = b.sums y ly in let counts = had.counts in dite (ℕ_discrete y h.slot)
             (λ e. let a = sum_here bounds.processors count y h k.stock had.processor e in let m = many_yes (is_at y) one k.units (eq-eqb h.slot y (sym e)) in omega (arith, a, m, old, counts, less))
             (λ ne. let a = lane_else bounds.processors h.slot h.processor count y k.stock had.slot ly ne in let m = many_no (is_at y) one k.units (ne_eqb h.slot y (λ e. ne (sym e))) in omega (arith, a, m, old)))
-          (ap (λ l. one ∷ l) units ∙ sym (those_yes (is_of t) one k.units (eq-eqb t t refl)))
-          (λ a ne. sym (those_no (is_of a) one k.units (ne_eqb t a ne)))),
+            (ap (λ l. one ∷ l) units ∙ sym (those_yes (is_of t) one k.units (eq-eqb t t refl)))
+            (λ a ne. sym (those_no (is_of a) one k.units (ne_eqb t a ne)))),
         λ t' q' j us2 g' right'. let same = same_reader t q t' q' i j us us2 (Some h) (Some g') (sym right ∙ right') in let hh = same_some h g' same.4 in λ m. (record v { right = Section (same.0 m) (same.1 m) (same.2 m) (lent (same.0 m) (hh m).slot (hh m).round ∷ same.3 m) None }, rest (carried m)),
       )
 
@@ -332,12 +332,12 @@ module _ (bounds : Bounds) where
         gives,
         tt,
         gives_back s m id (place_of h) key me.1 w carried (settle s r id t q count round i us us' now_out h key v at right ready (λ _. same_round ∙ ((All_in (IsLent r.log k.round) o k.units b.lent there.0).rounds ∙ ap k.round of_slot))
-          (All_drop (IsLent r.log k.round) (is_both t x n) k.units b.lent)
-          (λ y ly. let old = b.sums y ly in let counts = had.counts in dite (ℕ_discrete y x)
+            (All_drop (IsLent r.log k.round) (is_both t x n) k.units b.lent)
+            (λ y ly. let old = b.sums y ly in let counts = had.counts in dite (ℕ_discrete y x)
             (λ e. let a = sum_here bounds.processors count y h k.stock had.processor e in let c = many_drop (is_at y) (is_both t x n) (λ z j. eq-eqb z.slot y (eqb-true z.slot x (and_left (is_at x z) (eqb z.round n) (and_right (is_of t z) (is_unit x n z) j)) ∙ sym e)) k.units some_out in omega (arith, a, c, old, counts, more))
             (λ ne. let a = lane_else bounds.processors h.slot h.processor count y k.stock had.slot ly ne in let c = many_else (is_at y) (is_both t x n) (λ z j. ne_eqb z.slot y (λ e. ne (sym e ∙ eqb-true z.slot x (and_left (is_at x z) (eqb z.round n) (and_right (is_of t z) (is_unit x n z) j))))) k.units in omega (arith, a, c, old)))
-          (ap (drop_first (is_unit x n)) units ∙ sym (those_drop (is_of t) (is_unit x n) (is_both t x n) (λ z. refl) k.units))
-          (λ a ne. sym (those_else (is_of a) (is_both t x n) (λ z j. ne_eqb z.section a (λ e. ne (sym (eqb-true z.section t (and_left (is_of t z) (is_unit x n z) j)) ∙ e))) k.units))),
+            (ap (drop_first (is_unit x n)) units ∙ sym (those_drop (is_of t) (is_unit x n) (is_both t x n) (λ z. refl) k.units))
+            (λ a ne. sym (those_else (is_of a) (is_both t x n) (λ z j. ne_eqb z.section a (λ e. ne (sym (eqb-true z.section t (and_left (is_of t z) (is_unit x n z) j)) ∙ e))) k.units))),
         λ t' q' place' count' round' j us2 g' key' right' carried' ready'. let same = same_reader t q t' q' i j us us2 (Some h) (Some g') (sym right ∙ right') in let hh = same_some h g' same.4 in
             let keys : key ≡ key' = ap (first_key key) (sym carried ∙ carried') in
             let rounds : round ≡ round' = ap first_round (sym ready.1 ∙ (ap (λ (z : Slot). z.views) keys ∙ ready'.1)) in

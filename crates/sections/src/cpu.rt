@@ -9,11 +9,11 @@ use std::sync::Arc;
 
 mod cookies;
 mod counting;
+pub(crate) mod drawing;
 mod given_cookies;
 mod holding;
 mod home;
 pub(crate) mod laying;
-pub(crate) mod drawing;
 pub(crate) mod pinning;
 pub(crate) mod pins;
 mod readings;

@@ -64,7 +64,11 @@ pub(crate) fn pay_part<T: Drop, A: Allocator>(
     ensures { Pays slot part.round seat.old seat.new }
 {
     let key = take_key(top, seat, processor, slot);
-    let key = vault.add(key, 8 * processor as usize + slot % 8, Pile { part, count: 1 });
+    let key = vault.add(
+        key,
+        8 * processor as usize + slot % 8,
+        Pile { part, count: 1 },
+    );
     top.exchange(seat, 32 * processor as usize + slot, key);
     top.load::<plays::PayPart>(seat, slot);
 }

@@ -26,10 +26,12 @@ pub load-requires : goal.load-requires
 load-requires g c = let r = c.requires.seat.0 in let y : ℕ = c.args.slot in let p : ℕ = c.args.processor in let t = c.take_key-key.ensures in let k = t.holds r.section r.begun_on r.version r.index r.units r.offer r.right r.found in let u = c.requires.unit in
     let h : Hand = hand_with y p c.take_key-key.result k.count k.round in
     let now = exchanged c.take_key-key.new.seat.me c.exchange.new.seat.me (32 * p + y) t.blank c.add-key.result [] t.carried c.exchange.ensures.3 in
-    let added = c.add-key.ensures k.count k.round (k.opens.0 ∙ c.requires.seat.1, k.opens.1) in
-    (c.exchange.ensures.0 ∙ (t.same_table ∙ r.seated), r.some,
+    let added = c.add-key.ensures k.count k.round (k.opens.0 ∙ c.requires.seat.1, k.opens.1) in (
+      c.exchange.ensures.0 ∙ (t.same_table ∙ r.seated),
+      r.some,
       pays_here c.args.top.now.key _ _ y r.section r.begun_on (k.count + c.args.part.count) c.args.part.round r.index r.units h c.add-key.result u.0 c.exchange.new.seat.me (ap (λ m. m.0.right) now ∙ k.held) (ap (λ m. m.1) now) (added.0 ∙ sym (k.opens.0 ∙ c.requires.seat.1), added.1)
-        (let one = c.requires.part in omega (arith, one)) (subst (In u.0) (ap units_in r.right) u.1) u.2 (sym u.3))
+          (let one = c.requires.part in omega (arith, one)) (subst (In u.0) (ap units_in r.right) u.1) u.2 (sym u.3),
+    )
 
 pub returns : goal.returns
 returns g c = let r = c.requires.seat.0 in let y : ℕ = c.args.slot in let p : ℕ = c.args.processor in let t = c.take_key-key.ensures in let u = c.requires.unit in

@@ -17,9 +17,12 @@ pub overflow_add-place : goal.overflow_add-place
 overflow_add-place g c = let p = c.ranges.processor.fits in let lx = c.requires.pen.0.low in let lc = c.requires.pen.0.inside in omega (arith, p, lx, lc)
 
 pub load-requires : goal.load-requires
-load-requires g c = let r = c.requires.pen.0 in (r.seated, r.some,
-    subst (λ (n : ℕ). Allows (Kept c.args.top.now.key) c.args.top.now.table_id.slots c.args.pen.now.id c.args.pen.now.me (8 * c.args.cell + c.args.slot) (λ z. z) (handled n (step c.args.top.now.table_id.slots (8 * c.args.cell + c.args.slot) 0 0 none) c.args.pen.now.me)) (sym c.requires.at.0)
-      (handles_here c.args.top.now.key _ _ _ c.args.cell c.args.slot c.args.processor r.own r.upto r.plan c.args.pen.now.me r.right r.free (c.requires.pen.1 r.own r.upto r.plan r.right) r.low r.cells r.there r.keyed refl))
+load-requires g c = let r = c.requires.pen.0 in (
+  r.seated,
+  r.some,
+  subst (λ (n : ℕ). Allows (Kept c.args.top.now.key) c.args.top.now.table_id.slots c.args.pen.now.id c.args.pen.now.me (8 * c.args.cell + c.args.slot) (λ z. z) (handled n (step c.args.top.now.table_id.slots (8 * c.args.cell + c.args.slot) 0 0 none) c.args.pen.now.me)) (sym c.requires.at.0)
+      (handles_here c.args.top.now.key _ _ _ c.args.cell c.args.slot c.args.processor r.own r.upto r.plan c.args.pen.now.me r.right r.free (c.requires.pen.1 r.own r.upto r.plan r.right) r.low r.cells r.there r.keyed refl),
+)
 
 pub exchange-key-requires : goal.exchange-key-requires
 exchange-key-requires g c = let r = c.requires.pen.0 in let k = subst (λ z. HandlesKey c.args.cell c.args.slot z r.own r.upto r.plan c.args.pen.now.me c.load.new.seat.me) c.requires.at.0 (c.load.ensures.2 c.args.cell c.args.slot r.own r.upto r.plan r.right r.low refl) in
@@ -38,11 +41,13 @@ load-requires-2 g c = let r = c.requires.pen.0 in let x : ℕ = c.args.slot in l
     let out = out_is _ _ _ k.key c.exchange-key.result (ap (λ m. m.1) k.after) c.exchange-key.ensures.2 in
     let now = handled_seat c.args.cell x p r.own r.upto r.plan c.args.pen.now.me c.load.new.seat.me c.exchange-key.new.seat.me c.exchange.new.seat.me c.blank.result c.empty-key.result.0 k r.bare c.exchange-key.ensures.3 c.exchange.ensures.3 in
     let emptied_now = c.empty-key.ensures k.count k.round (subst (λ z. IsKey c.args.vault.now (8 * p + x) k.count k.round z) (sym out) (k.opens.0 ∙ r.vault_is, k.opens.1)) in
-    let h : Hand = hand_with (8 * c.args.cell + x) p k.key k.count k.round in
-    (c.exchange.ensures.0 ∙ (c.exchange-key.ensures.0 ∙ (c.load.ensures.0 ∙ r.seated)), r.some,
+    let h : Hand = hand_with (8 * c.args.cell + x) p k.key k.count k.round in (
+      c.exchange.ensures.0 ∙ (c.exchange-key.ensures.0 ∙ (c.load.ensures.0 ∙ r.seated)),
+      r.some,
       subst (λ (n : ℕ). Allows (Kept c.args.top.now.key) c.args.top.now.table_id.slots c.exchange.new.seat.id c.exchange.new.seat.me (8 * c.args.cell + x) (λ z. z) (emptied n (step c.args.top.now.table_id.slots (8 * c.args.cell + x) 0 0 none) c.exchange.new.seat.me)) (sym c.requires.at.1)
-        (empties_here c.args.top.now.key _ _ _ c.args.cell x k.round r.own r.upto (record r.plan { hand = Some h }) h c.empty-key.result.0 c.exchange.new.seat.me (ap (λ m. m.0.right) now) refl r.low r.cells refl r.keyed (ap (λ m. m.1) now)
-          (ready_at _ _ c.args.cell x p _ _ c.empty-key.result.0 r.low (sym (k.opens.0 ∙ r.vault_is)) emptied_now.0) (c.requires.next c.args.cell r.own r.upto r.plan r.right)))
+          (empties_here c.args.top.now.key _ _ _ c.args.cell x k.round r.own r.upto (record r.plan { hand = Some h }) h c.empty-key.result.0 c.exchange.new.seat.me (ap (λ m. m.0.right) now) refl r.low r.cells refl r.keyed (ap (λ m. m.1) now)
+          (ready_at _ _ c.args.cell x p _ _ c.empty-key.result.0 r.low (sym (k.opens.0 ∙ r.vault_is)) emptied_now.0) (c.requires.next c.args.cell r.own r.upto r.plan r.right)),
+    )
 
 pub returns : goal.returns
 returns g c = let r = c.requires.pen.0 in let x : ℕ = c.args.slot in let p : ℕ = c.args.processor in

@@ -16,9 +16,12 @@ pub overflow_add-place : goal.overflow_add-place
 overflow_add-place g c = let p = c.ranges.processor.fits in let lx = c.requires.pen.low in let lc = c.requires.pen.inside in omega (arith, p, lx, lc)
 
 pub load-requires : goal.load-requires
-load-requires g c = let r = c.requires.pen in (r.seated, r.some,
-    subst (λ (n : ℕ). Allows (Kept c.args.top.now.key) c.args.top.now.table_id.slots c.args.pen.now.id c.args.pen.now.me (8 * c.args.cell + c.args.slot) (λ z. z) (handled_bare n (step c.args.top.now.table_id.slots (8 * c.args.cell + c.args.slot) 0 0 none) c.args.pen.now.me)) (sym c.requires.at)
-      (bare_here c.args.top.now.key _ _ _ c.args.cell c.args.slot c.args.processor r.own r.upto r.plan c.args.pen.now.me r.right r.free r.low r.cells r.there r.next refl))
+load-requires g c = let r = c.requires.pen in (
+  r.seated,
+  r.some,
+  subst (λ (n : ℕ). Allows (Kept c.args.top.now.key) c.args.top.now.table_id.slots c.args.pen.now.id c.args.pen.now.me (8 * c.args.cell + c.args.slot) (λ z. z) (handled_bare n (step c.args.top.now.table_id.slots (8 * c.args.cell + c.args.slot) 0 0 none) c.args.pen.now.me)) (sym c.requires.at)
+      (bare_here c.args.top.now.key _ _ _ c.args.cell c.args.slot c.args.processor r.own r.upto r.plan c.args.pen.now.me r.right r.free r.low r.cells r.there r.next refl),
+)
 
 pub exchange-requires : goal.exchange-requires
 exchange-requires g c = let r = c.requires.pen in let k = subst (λ z. HandlesBare c.args.cell c.args.slot z r.own r.upto r.plan c.args.pen.now.me c.load.new.seat.me) c.requires.at (c.load.ensures.2 c.args.cell c.args.slot r.own r.upto r.plan r.right r.low refl (r.next ∙ ap (λ z. 8 * z + c.args.slot) (sym c.requires.at))) in
@@ -26,10 +29,12 @@ exchange-requires g c = let r = c.requires.pen in let k = subst (λ z. HandlesBa
 
 pub load-requires-2 : goal.load-requires-2
 load-requires-2 g c = let r = c.requires.pen in let x : ℕ = c.args.slot in let p : ℕ = c.args.processor in let k = subst (λ z. HandlesBare c.args.cell x z r.own r.upto r.plan c.args.pen.now.me c.load.new.seat.me) c.requires.at (c.load.ensures.2 c.args.cell x r.own r.upto r.plan r.right r.low refl (r.next ∙ ap (λ z. 8 * z + x) (sym c.requires.at))) in
-    let now = bare_seat c.args.cell x p r.own r.upto r.plan c.args.pen.now.me c.load.new.seat.me c.exchange.new.seat.me c.args.key k r.bare c.exchange.ensures.3 in
-    (c.exchange.ensures.0 ∙ (c.load.ensures.0 ∙ r.seated), r.some,
+    let now = bare_seat c.args.cell x p r.own r.upto r.plan c.args.pen.now.me c.load.new.seat.me c.exchange.new.seat.me c.args.key k r.bare c.exchange.ensures.3 in (
+      c.exchange.ensures.0 ∙ (c.load.ensures.0 ∙ r.seated),
+      r.some,
       equips_here c.args.top.now.key _ _ _ c.args.cell x r.own r.upto (record r.plan { hand = Some (hand_with (8 * c.args.cell + x) p k.blank 0 0) }) (hand_with (8 * c.args.cell + x) p k.blank 0 0) c.args.key c.exchange.new.seat.me (ap (λ m. m.0.right) now) refl r.low refl r.next (ap (λ m. m.1) now)
-        (c.requires.key.0 ∙ ap (λ z. key_of z 0 0 ∷ []) (sym r.next)) (c.requires.key.1 c.args.cell r.own r.upto r.plan r.right))
+          (c.requires.key.0 ∙ ap (λ z. key_of z 0 0 ∷ []) (sym r.next)) (c.requires.key.1 c.args.cell r.own r.upto r.plan r.right),
+    )
 
 pub returns : goal.returns
 returns g c = let r = c.requires.pen in let x : ℕ = c.args.slot in let p : ℕ = c.args.processor in record {

@@ -29,8 +29,12 @@ store-requires g c = let joined = c.join_seat.ensures.2 in (
 )
 
 pub split_seat-requires : goal.split_seat-requires
-split_seat-requires g c = (c.store.ensures.0 ∙ (c.join_seat.ensures.0 ∙ c.requires.placed.0.seated), some_words _ _ _ c.requires.placed.0.wide, gives_token _ _ _ (let into : c.join_seat.new.seat.me.0 ≡ informed c.args.seat.now.me.0 (bearer c.args.pen.now.me.0) = ap (λ m. m.0) c.join_seat.ensures.2 ∙ ap (λ m. informed c.args.seat.now.me.0 m.0) c.split_seat-right.ensures.4 in let pen = c.requires.pen.0 in
-    free_shelf _ _ _ _ _ (c.store.ensures.2.1 c.requires.role.0 c.args.cell c.args.slot pen.own pen.upto pen.plan (ap (λ z. z.role) into ∙ c.requires.role.1) (ap (λ z. z.right) into ∙ pen.right) c.requires.word.0 (c.place_of_cell.ensures ∙ ap (λ n. cell_place n c.args.cell) (sym (ap (λ z. z.processors) into ∙ c.requires.placed.0.sized))) (c.requires.word.1 pen.own pen.upto pen.plan pen.right)).1 refl))
+split_seat-requires g c = (
+  c.store.ensures.0 ∙ (c.join_seat.ensures.0 ∙ c.requires.placed.0.seated),
+  some_words _ _ _ c.requires.placed.0.wide,
+  gives_token _ _ _ (let into : c.join_seat.new.seat.me.0 ≡ informed c.args.seat.now.me.0 (bearer c.args.pen.now.me.0) = ap (λ m. m.0) c.join_seat.ensures.2 ∙ ap (λ m. informed c.args.seat.now.me.0 m.0) c.split_seat-right.ensures.4 in let pen = c.requires.pen.0 in
+      free_shelf _ _ _ _ _ (c.store.ensures.2.1 c.requires.role.0 c.args.cell c.args.slot pen.own pen.upto pen.plan (ap (λ z. z.role) into ∙ c.requires.role.1) (ap (λ z. z.right) into ∙ pen.right) c.requires.word.0 (c.place_of_cell.ensures ∙ ap (λ n. cell_place n c.args.cell) (sym (ap (λ z. z.processors) into ∙ c.requires.placed.0.sized))) (c.requires.word.1 pen.own pen.upto pen.plan pen.right)).1 refl),
+)
 
 pub returns : goal.returns
 returns g c =
