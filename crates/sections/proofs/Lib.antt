@@ -16,6 +16,7 @@ mod Giving
 mod Handling
 mod Knowing
 mod Laying
+mod Lending
 mod Meeting
 mod Offering
 mod OneHistory

@@ -9,6 +9,8 @@ pub mod Insides
 pub mod Laws
 pub mod Laying
 pub mod Limits
+pub mod LoanInsides
+pub mod Loans
 pub mod Making
 pub mod Pens
 pub mod PinInsides

@@ -7,6 +7,7 @@ use std::fmt;
 use std::marker::Model;
 use std::sync::Arc;
 
+pub(crate) mod borrowing;
 mod cookies;
 mod counting;
 pub(crate) mod drawing;
