@@ -61,7 +61,10 @@ pub(crate) fn place_of_cell<A: Allocator>(table: &Words<A>, cell: usize) -> usiz
     let words = table.word_count();
     // `rt try` runs no proof. It stops here where a caller asks for a cell of another domain, instead of reading past
     // the words.
-    prove!(cell < words % 16, "the processor's domain has no such cell: is the view of another domain?");
+    prove!(
+        cell < words % 16,
+        "the processor's domain has no such cell: is the view of another domain?"
+    );
     words - 145 * (words % 16) + 144 * cell
 }
 
@@ -78,7 +81,10 @@ pub(crate) fn place_of_word<A: Allocator>(
     ensures { result ≡ word_place table.now.shared.key.processors cell slot place }
 {
     let words = table.word_count();
-    prove!(cell < words % 16, "the processor's domain has no such cell: is the view of another domain?");
+    prove!(
+        cell < words % 16,
+        "the processor's domain has no such cell: is the view of another domain?"
+    );
     words - 145 * (words % 16) + 144 * cell + 16 * slot + place + 16
 }
 
