@@ -19,13 +19,16 @@ use Rattle.requests.specs.declared.reply.Reply.TheVariants as reply
 use Rattle.requests.specs.declared.scene.Kind.{Kind}
 use Rattle.requests.specs.declared.scene.Kind.TheVariants as kind
 use Rattle.requests.specs.Faults.{same_kind}
-use Rattle.session.specs.declared.names.NamedToken.{NamedToken}
-use Rattle.session.specs.declared.names.NamedToken.TheVariants as token
-use Rattle.session.specs.Tokens.{token_at, bearer_of, kind_in, held_of, TakesOut}
-use Rattle.session.specs.States.{Bearer, Look, Reading, Ticket, ChainNow, TableNow, Becomes, bearer_at, kind_of, is_parked}
-use Rattle.session.specs.Entries.{names_of, desk_of, state_with, tokens_with, AreOf}
+use Rattle.names.specs.declared.names.NamedToken.{NamedToken}
+use Rattle.names.specs.declared.names.NamedToken.TheVariants as token
+use Rattle.names.specs.Tokens.{token_at, bearer_of, kind_in, held_of, TakesOut}
+use Rattle.names.specs.Bearers.{Bearer, Look, Reading, Ticket, kind_of}
+use Rattle.names.specs.Parkings.{is_parked}
+use Rattle.session.specs.States.{ChainNow, TableNow, Becomes, bearer_at}
+use Rattle.names.specs.Parkings.{desk_of}
+use Rattle.session.specs.Entries.{names_of, state_with, tokens_with, AreOf}
 use Rattle.session.specs.Scripts.{Does, BeginsUnder, BeginsNow}
-use Rattle.session.proofs.TokenKinds.{apart_kinds}
+use Rattle.names.proofs.CallerLemmas.{apart_kinds}
 use Rattle.session.proofs.Naming.{bearer_at_is, comes, goes, changes}
 use Rattle.session.proofs.Parked.{Named}
 

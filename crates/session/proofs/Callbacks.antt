@@ -24,13 +24,14 @@ use Rattle.requests.specs.declared.command.Command.TheVariants as command
 use Rattle.requests.specs.declared.cause.Cause.TheVariants as cause
 use Rattle.requests.specs.declared.request.Act.TheVariants as act
 use Rattle.requests.specs.declared.reply.Reply.TheVariants as reply
-use Rattle.session.specs.declared.names.NamedToken.{NamedToken}
-use Rattle.session.specs.Parkings.{ParkingView}
+use Rattle.names.specs.declared.names.NamedToken.{NamedToken}
+use Rattle.names.specs.Parkings.{ParkingView}
 use Rattle.session.specs.Batches.{Batch, out_of, outs_of, count_in, IsEmptied, AreBatchesOf}
 use Rattle.session.specs.States.{ChainNow, TableNow, DomainState, JobList, chain_now, table_now}
-use Rattle.session.specs.Entries.{state_with, entry_with, names_of, desk_of, tokens_with, IsTokenOf, AreOf, AreTogether, AreUsers, IsNewChain, IsNewTable}
+use Rattle.names.specs.Parkings.{desk_of}
+use Rattle.session.specs.Entries.{state_with, entry_with, names_of, tokens_with, IsTokenOf, AreOf, AreTogether, AreUsers, IsNewChain, IsNewTable}
 use Rattle.session.specs.Scripts.{Does, RunsFirst, runs, new_domain}
-use Rattle.session.specs.Tokens.{token_at}
+use Rattle.names.specs.Tokens.{token_at}
 use Rattle.session.proofs.Parked.{Named}
 use Rattle.session.proofs.Quiet.{KeepsOn, does_quietly, does_keeps, none_queued_keeps}
 use Rattle.session.proofs.Together.{together_on}

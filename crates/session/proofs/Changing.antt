@@ -32,9 +32,9 @@ use Rattle.solo.specs.Chains as chains
 use Rattle.solo.specs.Tables as tables
 use Rattle.solo.specs.Shelf.{Shelf, in_cell, with_current}
 use Rattle.solo.specs.Versions.{Puts, LacksSlot}
-use Rattle.session.specs.declared.names.NamedToken.{NamedToken}
-use Rattle.session.specs.declared.names.NamedToken.TheVariants as token
-use Rattle.session.specs.Parkings.{ParkingView}
+use Rattle.names.specs.declared.names.NamedToken.{NamedToken}
+use Rattle.names.specs.declared.names.NamedToken.TheVariants as token
+use Rattle.names.specs.Parkings.{ParkingView}
 use Rattle.session.specs.Batches.{Batch, AreBatchesOf}
 use Rattle.session.specs.Entries.{tokens_with, IsTokenOf, AreTogether, AreUsers}
 use Rattle.session.proofs.Quiet.{AreQuiet, KeepsOn, does_keeps, same_keeps}

@@ -19,16 +19,17 @@ use Rattle.notify.specs.declared.block.Block.{Block}
 use Rattle.notify.specs.Blocks.{ids_text}
 use Rattle.notify.specs.Chains.{ChainState}
 use Rattle.plugs.specs.Views.{TableState}
-use Rattle.session.specs.declared.names.NamedToken.{NamedToken}
-use Rattle.session.specs.declared.names.NamedToken.TheVariants as token
-use Rattle.session.specs.Parkings.{ParkingView}
+use Rattle.names.specs.declared.names.NamedToken.{NamedToken}
+use Rattle.names.specs.declared.names.NamedToken.TheVariants as token
+use Rattle.names.specs.Parkings.{ParkingView}
 use Rattle.session.specs.Batches.{Batch, AreBatchesOf}
 use Rattle.requests.specs.declared.command.Command.{Command}
 use Rattle.requests.specs.declared.cause.Cause.TheVariants as cause
 use Rattle.requests.specs.declared.reply.Reply.{Reply}
 use Rattle.requests.specs.declared.reply.Reply.TheVariants as reply
 use Rattle.session.specs.States.{ChainNow, TableNow, DomainState}
-use Rattle.session.specs.Entries.{AreOf, AreTogether, AreUsers, tokens_with, state_with, names_of, desk_of}
+use Rattle.names.specs.Parkings.{desk_of}
+use Rattle.session.specs.Entries.{AreOf, AreTogether, AreUsers, tokens_with, state_with, names_of}
 use Rattle.session.specs.Scripts.{ReadsCell, ids_of}
 use Rattle.session.proofs.Parked.{Named}
 use Rattle.session.proofs.Quiet.{GoesOnQuietly, does_quietly, keeps_jobs, quietly_none}

@@ -17,13 +17,13 @@ use Rattle.solo.specs.Courses.{Course, Does, with_events}
 use Rattle.solo.specs.Calls.{SoloView, HasSameTables, Begins, Ends, IsReadingAt}
 use Rattle.solo.specs.Barriers.{IsTicketOf}
 use Rattle.calls.specs.Views.{TicketView}
-use Rattle.session.specs.declared.names.NamedToken.{NamedToken}
-use Rattle.session.specs.declared.names.NamedToken.TheVariants as token
-use Rattle.session.specs.OpenSections.{open_of, is_index}
-use Rattle.session.specs.Tokens.{open_index, held_of}
+use Rattle.names.specs.declared.names.NamedToken.{NamedToken}
+use Rattle.names.specs.declared.names.NamedToken.TheVariants as token
+use Rattle.names.specs.OpenSections.{open_of, is_index}
+use Rattle.names.specs.Tokens.{open_index, held_of}
 use Rattle.session.specs.Entries.{IsReadingOf, IsTokenOf, AreOf}
 use Rattle.session.proofs.OpenSections.{open_of_begun, open_of_ended}
-use Rattle.session.proofs.Held.{held_more, held_less}
+use Rattle.names.proofs.CallerLemmas.{held_more, held_less}
 use Rattle.session.proofs.Quiet.{GoesOnQuietly}
 
 -- A domain that has gone on

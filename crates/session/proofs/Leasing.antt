@@ -19,16 +19,19 @@ use Rattle.requests.specs.declared.command.Command.TheVariants as command
 use Rattle.requests.specs.declared.cause.Cause.TheVariants as cause
 use Rattle.requests.specs.declared.request.Act.TheVariants as act
 use Rattle.requests.specs.declared.reply.Reply.TheVariants as reply
-use Rattle.session.specs.declared.names.NamedToken.{NamedToken}
-use Rattle.session.specs.declared.names.NamedToken.TheVariants as token
-use Rattle.session.specs.Tokens.{token_at, rows_of, TakesOut}
-use Rattle.session.specs.Parkings.{ParkingView}
-use Rattle.session.specs.States.{Lease, ChainNow, TableNow, Becomes, is_parked}
-use Rattle.session.specs.Entries.{IsTokenOf, AreOf, AreTogether, state_with, names_of, desk_of, tokens_with}
+use Rattle.names.specs.declared.names.NamedToken.{NamedToken}
+use Rattle.names.specs.declared.names.NamedToken.TheVariants as token
+use Rattle.names.specs.Tokens.{token_at, rows_of, TakesOut}
+use Rattle.names.specs.Parkings.{ParkingView}
+use Rattle.names.specs.Bearers.{Lease}
+use Rattle.names.specs.Parkings.{is_parked}
+use Rattle.session.specs.States.{ChainNow, TableNow, Becomes}
+use Rattle.names.specs.Parkings.{desk_of}
+use Rattle.session.specs.Entries.{IsTokenOf, AreOf, AreTogether, state_with, names_of, tokens_with}
 use Rattle.session.specs.Scripts.{Does, plug_told}
 use Rattle.session.proofs.Naming.{comes, goes, stays}
 use Rattle.session.proofs.Acting.{there, on_course}
-use Rattle.session.proofs.Held.{held_more}
+use Rattle.names.proofs.CallerLemmas.{held_more}
 use Rattle.session.proofs.Parked.{Named, with_push, with_moved, apart_push, apart_gone}
 use Rattle.session.proofs.Holding.{Any, IsThere, held_ended, held_moved}
 use Rattle.session.proofs.Finding.{found, held_found, held_so}

@@ -5,16 +5,14 @@ mod Callbacks
 mod Changing
 mod Cookies
 mod Finding
-mod Held
 mod Holding
 mod Leasing
-mod TokenKinds
 mod Naming
 mod Parked
 mod OpenSections
 mod Places
 mod Quiet
 mod Spent
-mod Taken
 mod Together
 mod Users
+mod Writers

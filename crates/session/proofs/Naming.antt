@@ -4,8 +4,8 @@ use Rattle.std.specs.Prelude.{Some, None, option_map}
 use Rattle.std.specs.Map.{lookup}
 use Rattle.std.proofs.lemmas.Map.Made.{lookup-map_values}
 use Rattle.std.proofs.lemmas.Slice.Eq.{bytes_eq-Decides}
-use Rattle.session.specs.declared.names.NamedToken.{NamedToken}
-use Rattle.session.specs.Tokens.{token_at, bearer_of, Frees}
+use Rattle.names.specs.declared.names.NamedToken.{NamedToken}
+use Rattle.names.specs.Tokens.{token_at, bearer_of, Frees}
 use Rattle.session.specs.States.{Names, Becomes, bearer_at}
 use Rattle.session.specs.Entries.{names_of}
 

@@ -8,7 +8,7 @@ use Rattle.onedom.specs.declared.event.Event.TheVariants.{Begin, End}
 use Rattle.onedom.specs.Histories.{begins, ends, begins_of, IsOpen, IsLegal, index_of, section_begun, open_sections}
 use Rattle.onedom.specs.Laws.{times}
 use Rattle.onedom.proofs.CallerLemmas.{bit, count_cons, count_push, index_of_begun, index_of_kept, no_ends, times_cons, times_open_le, open_sections_begun, open_sections_ended, open_sections_plain, open_once}
-use Rattle.session.specs.OpenSections.{open_of}
+use Rattle.names.specs.OpenSections.{open_of}
 
 -- two tests that differ at one number alone count the same where it isn't among those counted
 apart_case : (s x : ℕ) (b : Bool) → eqb x s ≡ b → bit (eqb x s) ≡ 0 → x ≢ s

@@ -1,22 +1,21 @@
 -- The tokens of a domain, with the section that is parked.
-use Rattle.std.proofs.Common.{◌≡◌, ℕ, ◌+◌, Bool, true, false, List, [], ◌∷◌, ◌++◌, refl, ap, ◌∙◌, subst, sym, bytes_eq, length, get_or, arith}
+use Rattle.std.proofs.Common.{◌≡◌, ℕ, ◌+◌, Bool, true, false, List, [], ◌∷◌, ◌++◌, refl, ap, ◌∙◌, subst, sym, bytes_eq, arith}
 use Rattle.std.specs.Prelude.{Option, Some, None, is_none, IfSome, IsPermutation, if◌then◌else◌}
 use Rattle.std.proofs.lemmas.List.Sorted.{IsPermutation-cons, IsPermutation-trans, IsPermutation-middle, IsPermutation-refl}
 use Rattle.std.proofs.lemmas.Slice.Eq.{bytes_eq-Decides}
 use Rattle.sections.specs.Views.{ReadingView}
-use Rattle.desk.specs.Views.{DeskView, SeatView}
-use Rattle.desk.specs.Calls.{new_seat, AreNewSeats}
-use Rattle.session.specs.declared.names.NamedToken.{NamedToken}
-use Rattle.session.specs.declared.names.NamedToken.TheVariants as token
+use Rattle.names.specs.declared.names.NamedToken.{NamedToken}
+use Rattle.names.specs.declared.names.NamedToken.TheVariants as token
 use Rattle.sseq.specs.declared.index.Index.{Index}
-use Rattle.session.specs.declared.open.Open.{Open}
-use Rattle.session.specs.OpenSections.{is_index, count_of}
-use Rattle.session.specs.Tokens.{token_at, held_of, Frees}
-use Rattle.session.specs.Parkings.{index_of_parked}
-use Rattle.session.specs.States.{is_parked}
-use Rattle.session.specs.Entries.{desk_of, tokens_with}
+use Rattle.names.specs.declared.open.Open.{Open}
+use Rattle.names.specs.OpenSections.{is_index, count_of}
+use Rattle.names.specs.Tokens.{token_at, held_of, Frees}
+use Rattle.names.specs.Parkings.{index_of_parked}
+use Rattle.names.specs.Parkings.{is_parked}
+use Rattle.names.specs.Parkings.{desk_of}
+use Rattle.session.specs.Entries.{tokens_with}
 use Rattle.session.proofs.Naming.{lookup_before}
-use Rattle.session.proofs.Held.{held_less}
+use Rattle.names.proofs.CallerLemmas.{held_less}
 
 -- a section with its name
 abbrev pub Named : Type 0
@@ -61,18 +60,6 @@ gone_case name other tokens rest false e frees h = frees.others other e ∙ h
 pub apart_gone : {A : Type 0} (parked : Option Named) (tokens rest : List (List ℕ × NamedToken A)) (name : List ℕ) → Frees name tokens rest → IsApart parked tokens → IsApart parked rest
 apart_gone None tokens rest name frees h = h
 apart_gone (Some p) tokens rest name frees h = gone_case name p.0 tokens rest (bytes_eq name p.0) refl frees h
-
--- A new desk
-
-one_item : {X : Type 0} (xs : List X) (x : X) → length xs ≡ 1 → get_or xs 0 x ≡ x → xs ≡ x ∷ []
-one_item [] x long is = absurd (omega (arith, long))
-one_item (y ∷ []) x long is = ap (λ z. z ∷ []) is
-one_item (y ∷ z ∷ zs) x long is = absurd (omega (arith, long))
-
-pub sole : (d : DeskView) (seats : List (SeatView ReadingView)) → d.seats ≡ 1 → AreNewSeats d seats → seats ≡ new_seat d 0 ∷ []
-sole d seats one new =
-    let long : length seats ≡ 1 = new.count ∙ one in
-    one_item seats (new_seat d 0) long (new.each 0 (new_seat d 0) (omega (arith, long)))
 
 -- Whether something is parked
 

@@ -16,7 +16,7 @@ use Rattle.calls.specs.declared.refusals.CallRefusal.TheVariants as calling
 use Rattle.domain.specs.Acting.{Act}
 use Rattle.solo.specs.Courses.{Course, Does, Works, with_events, more_at}
 use Rattle.solo.specs.Calls.{StepsOf, QueuesNone}
-use Rattle.session.specs.OpenSections.{open_of}
+use Rattle.names.specs.OpenSections.{open_of}
 use Rattle.session.proofs.OpenSections.{open_of_plain}
 
 -- as many sections of each index are open, and of each section the same is known

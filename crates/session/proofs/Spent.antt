@@ -12,15 +12,15 @@ use Rattle.onedom.specs.declared.event.Event.{Event}
 use Rattle.onedom.specs.Histories.{index_of, open_sections}
 use Rattle.domain.specs.Cleanup.{open_count}
 use Rattle.solo.specs.Calls.{SoloView}
-use Rattle.session.specs.declared.names.NamedToken.{NamedToken}
-use Rattle.session.specs.declared.names.NamedToken.TheVariants as token
-use Rattle.session.specs.OpenSections.{open_of, is_index}
-use Rattle.session.specs.Tokens.{open_index, held_of}
-use Rattle.session.specs.Parkings.{ParkingView}
+use Rattle.names.specs.declared.names.NamedToken.{NamedToken}
+use Rattle.names.specs.declared.names.NamedToken.TheVariants as token
+use Rattle.names.specs.OpenSections.{open_of, is_index}
+use Rattle.names.specs.Tokens.{open_index, held_of}
+use Rattle.names.specs.Parkings.{ParkingView}
 use Rattle.session.specs.Batches.{Batch, count_in, count_out, AreBatchesOf}
 use Rattle.session.specs.Entries.{AreTogether, AreClosed, AreSpent, tokens_with}
 use Rattle.session.proofs.Batches.{IsKept}
-use Rattle.session.proofs.Held.{held_less}
+use Rattle.names.proofs.CallerLemmas.{held_less}
 use Rattle.session.proofs.Parked.{Named}
 
 -- Tokens

@@ -7,12 +7,13 @@ use Rattle.std.proofs.lemmas.Map.Entries.{All-lookup}
 use Rattle.sections.specs.Views.{ReadingView}
 use Rattle.sseq.specs.declared.index.Index.{Index}
 use Rattle.solo.specs.Calls.{SoloView, Begins, Ends, IsReadingAt}
-use Rattle.session.specs.declared.names.NamedToken.{NamedToken}
-use Rattle.session.specs.declared.names.NamedToken.TheVariants as token
-use Rattle.session.specs.Tokens.{token_at, open_index, TakesOut}
-use Rattle.session.specs.Parkings.{ParkingView}
-use Rattle.session.specs.States.{is_parked}
-use Rattle.session.specs.Entries.{IsTokenOf, IsReadingOf, AreOf, AreTogether, desk_of, tokens_with}
+use Rattle.names.specs.declared.names.NamedToken.{NamedToken}
+use Rattle.names.specs.declared.names.NamedToken.TheVariants as token
+use Rattle.names.specs.Tokens.{token_at, open_index, TakesOut}
+use Rattle.names.specs.Parkings.{ParkingView}
+use Rattle.names.specs.Parkings.{is_parked}
+use Rattle.names.specs.Parkings.{desk_of}
+use Rattle.session.specs.Entries.{IsTokenOf, IsReadingOf, AreOf, AreTogether, tokens_with}
 use Rattle.session.proofs.Quiet.{GoesOnQuietly, quietly_none}
 use Rattle.session.proofs.Holding.{Sort, Any, as_token, IsThere, held_on, held_more_unopened, held_begun, token_of, held_less_unopened, held_ended, held_as, held_moved, held_moved_back}
 use Rattle.session.proofs.Parked.{Named, IsApart, with_push, apart_push, with_moved, apart_gone}

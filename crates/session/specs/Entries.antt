@@ -9,22 +9,19 @@ use Rattle.sections.specs.Words.{cells_in}
 use Rattle.scan.specs.Standings.{Standing}
 use Rattle.solo.specs.Calls.{SoloView, IsOf}
 use Rattle.solo.specs.Barriers.{IsTicketOf}
-use Rattle.session.specs.declared.names.NamedToken.{NamedToken}
-use Rattle.session.specs.declared.names.NamedToken.TheVariants as token
+use Rattle.names.specs.declared.names.NamedToken.{NamedToken}
+use Rattle.names.specs.declared.names.NamedToken.TheVariants as token
 use Rattle.session.specs.declared.entry.Entry.TheInside as entry
-use Rattle.session.specs.OpenSections.{open_of}
+use Rattle.names.specs.OpenSections.{open_of}
 use Rattle.notify.specs.Chains.{ChainState}
 use Rattle.plugs.specs.Views.{TableState}
 use Rattle.solo.specs.Chains as chains
 use Rattle.solo.specs.Tables as tables
-use Rattle.session.specs.Tokens.{token_at, rows_of, bearer_of, open_index, held_of}
-use Rattle.session.specs.Parkings.{ParkingView}
+use Rattle.names.specs.Tokens.{token_at, rows_of, bearer_of, open_index, held_of}
+use Rattle.names.specs.Parkings.{ParkingView}
 use Rattle.session.specs.Batches.{Batch, AreBatchesOf}
-use Rattle.session.specs.States.{Parked, Names, ChainNow, TableNow, DomainState, EntryView, chain_now, table_now}
-
--- what lies on the desk
-abbrev pub desk_of : Option (List ℕ × ReadingView) → Option Parked
-desk_of parked = option_map (λ p. record { name = p.0; section = p.1.section }) parked
+use Rattle.names.specs.Parkings.{desk_of}
+use Rattle.session.specs.States.{Names, ChainNow, TableNow, DomainState, EntryView, chain_now, table_now}
 
 -- the reading is of a section of this domain, and has its index
 pub record IsReadingOf (table : TableId) (s : Standing) (r : ReadingView) : Type 0 where

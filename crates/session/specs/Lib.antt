@@ -1,8 +1,5 @@
-pub mod Tokens
-pub mod Parkings
 pub mod Batches
 pub mod Insides
-pub mod OpenSections
 pub mod States
 pub mod Sets
 pub mod Scripts

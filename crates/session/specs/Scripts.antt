@@ -69,8 +69,10 @@ use Rattle.requests.specs.declared.reply.Reply.TheVariants as reply
 use Rattle.requests.specs.Faults.{fault_of, is_skipped}
 use Rattle.requests.specs.Requests.{WordsAsk}
 use Rattle.requests.specs.Replies.{reply_text}
-use Rattle.session.specs.OpenSections.{open_of}
-use Rattle.session.specs.States.{State, Domains, DomainState, SetState, Member, has_cookie_of, domain_place, Bearer, Look, Reading, Held, Ticket, Lease, Parked, JobList, Slots, chain_now, table_now, Becomes, bearer_at, scene_of}
+use Rattle.names.specs.OpenSections.{open_of}
+use Rattle.names.specs.Bearers.{Bearer, Look, Reading, Held, Ticket, Lease}
+use Rattle.names.specs.Parkings.{Parked}
+use Rattle.session.specs.States.{State, Domains, DomainState, SetState, Member, has_cookie_of, domain_place, JobList, Slots, chain_now, table_now, Becomes, bearer_at, scene_of}
 
 -- a job that was queued, with its name and its cookie
 abbrev pub Job : Type 0

@@ -17,23 +17,12 @@ use Rattle.solo.specs.Courses.{Course}
 use Rattle.requests.specs.declared.scene.Kind.{Kind}
 use Rattle.requests.specs.declared.scene.Kind.TheVariants as kind
 use Rattle.requests.specs.Scenes.{SceneView}
-
--- what has a name: a look, which has the index that it found; an open section of this number, which ends on this processor, where it was begun; one that may end on any; a ticket, which waits until so many jobs of each processor are finished; or a lease, an open section that may end on any, with the rows of its version of the table
-pub data Bearer : Type 0 where
-  Look : Index → Bearer
-  Reading : ℕ → ℕ → Bearer
-  Held : ℕ → Bearer
-  Ticket : List ℕ → Bearer
-  Lease : ℕ → List Row → Bearer
+use Rattle.names.specs.Bearers.{Bearer, kind_of}
+use Rattle.names.specs.Parkings.{Parked, is_parked}
 
 -- names, each with what has it. Their order means nothing
 abbrev pub Names : Type 0
 Names = List (List ℕ × Bearer)
-
--- an open section that may end on any processor, with its name
-pub record Parked : Type 0 where
-  pub name : List ℕ
-  pub section : ℕ
 
 -- the list of a processor: the jobs that wait there in order, each with its name, the cookie of its moment, and its mark; and how many are out, if some are
 abbrev pub JobList : Type 0
@@ -140,18 +129,6 @@ domain_place w domains = position (λ d. bytes_eq d.name w) domains
 -- the place of the set of this name
 abbrev pub set_place : List ℕ → List SetState → Option ℕ
 set_place w sets = position (λ k. bytes_eq k.name w) sets
-
-abbrev pub kind_of : Bearer → Kind
-kind_of (Look i) = kind.Look
-kind_of (Reading s p) = kind.Reading
-kind_of (Held s) = kind.Held
-kind_of (Ticket numbers) = kind.Ticket
-kind_of (Lease s rows) = kind.Lease
-
--- the section on the desk has this name
-abbrev pub is_parked : List ℕ → Option Parked → Bool
-is_parked name None = false
-is_parked name (Some p) = bytes_eq p.name name
 
 -- what has this name in a domain
 abbrev pub kind_at : List ℕ → DomainState → Option Kind

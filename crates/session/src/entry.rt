@@ -8,9 +8,8 @@ ghost use Rattle.session.specs.Scripts.{Does, Acts};
 
 use crate::batch_out::{Out, none_out};
 use crate::entry::calling::finish_all;
-use crate::names::{NamedToken, Names, take_last};
-use crate::parking::Parking;
 use lines::Name;
+use names::{NamedToken, Names, Parking, take_last};
 use notify::Handler;
 use requests::{Act, Cause, Command, Kind, Period, Reply, Sections};
 use scan::{NotStarted, PeriodsExhausted, Progress};

@@ -4,9 +4,6 @@
 mod answerer;
 mod batch_out;
 mod entry;
-mod names;
-mod open;
-mod parking;
 mod scene;
 mod session;
 mod sets;

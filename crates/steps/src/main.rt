@@ -59,8 +59,13 @@ fn show<R: Print + Wait>(
     periods::show_by_hand(rt, domain, first, second)
 }
 
-fn main(rt: HostRuntime) -> Result<()> {
+/// The same at a new domain.
+fn run<R: Print + Wait + AllocGlobal>(rt: &R) -> Result<()> {
     let (domain, mut first, mut second) = pair(rt.alloc())?;
-    show(&rt, &domain, &mut first, &mut second)?;
+    show(rt, &domain, &mut first, &mut second)
+}
+
+fn main(rt: HostRuntime) -> Result<()> {
+    run(&rt)?;
     sets::show(&rt)
 }

@@ -7,6 +7,7 @@ ghost use Rattle.domain.specs.Views.{IsOf, Stays};
 use crate::pair;
 use anyhow::Result;
 use domain::{CookieSet, Cpu, Domain};
+use std::alloc::Global;
 
 /// Hands out what waits for a grace period of each of two domains, once both are over: the sections are closed that were
 /// open when the cookies were given.
@@ -69,11 +70,27 @@ fn wait_for_both(
     [early, half, late]
 }
 
+/// The same with a second domain, which is new.
+fn wait_with_another(
+    alloc: Global,
+    web: &Domain<u64>,
+    web_cpu: &mut Cpu<u64>,
+) -> Result<[Option<u64>; 3]>
+    requires { IsOf web.now web_cpu.old }
+{
+    let (db, mut db_cpu, _) = pair(alloc)?;
+    Ok(wait_for_both(web, web_cpu, &db, &mut db_cpu))
+}
+
+/// The same at two new domains.
+fn wait_at_two(alloc: Global) -> Result<[Option<u64>; 3]> {
+    let (web, mut web_cpu, _) = pair(alloc)?;
+    wait_with_another(alloc, &web, &mut web_cpu)
+}
+
 /// Prints what `wait_for_both` answers.
 pub fn show<R: Print + AllocGlobal>(rt: &R) -> Result<()> {
-    let (web, mut web_cpu, _) = pair(rt.alloc())?;
-    let (db, mut db_cpu, _) = pair(rt.alloc())?;
-    let taken = wait_for_both(&web, &mut web_cpu, &db, &mut db_cpu);
+    let taken = wait_at_two(rt.alloc())?;
     println!(rt; "handed out before, between and after the periods of two domains: {taken:?}")?;
     Ok(())
 }

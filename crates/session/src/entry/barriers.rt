@@ -5,8 +5,8 @@ ghost use Rattle.session.specs.States.{scene_alone, IsSameHome};
 ghost use Rattle.session.specs.Scripts.{Does};
 
 use super::Entry;
-use crate::names::NamedToken;
 use lines::Name;
+use names::NamedToken;
 use requests::{Act, Cause, Command, Reply};
 use std::alloc::{AllocError, Allocator};
 

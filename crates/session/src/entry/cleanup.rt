@@ -6,8 +6,7 @@ ghost use Rattle.session.specs.Scripts.{IsInUse};
 
 use super::Entry;
 use crate::batch_out::Out;
-use crate::names::{NamedToken, Names, take_last};
-use crate::parking::Parking;
+use names::{NamedToken, Names, Parking, take_last};
 use requests::Cause;
 use solo::{InUse, Totals};
 use std::alloc::Allocator;

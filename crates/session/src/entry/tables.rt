@@ -5,8 +5,8 @@ ghost use Rattle.session.specs.States.{scene_alone, IsSameHome};
 ghost use Rattle.session.specs.Scripts.{Does, plug_told, cause_of_installing, cause_of_removing};
 
 use super::Entry;
-use crate::names::NamedToken;
 use lines::Name;
+use names::NamedToken;
 use plugs::{InstallRefusal, RemoveRefusal};
 use requests::{Act, Cause, Command, Reply};
 use sections::Exhausted;

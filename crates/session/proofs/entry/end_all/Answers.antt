@@ -1,6 +1,6 @@
 use Rattle.std.proofs.Common.{◌≡◌, ◌∙◌, refl, sym, rules, arith}
 use Rattle.std.specs.Prelude.{None}
-use Rattle.session.specs.declared.names.NamedToken.TheVariants as token
+use Rattle.names.specs.declared.names.NamedToken.TheVariants as token
 use Rattle.session.specs.Entries.{IsReadingOf}
 use Rattle.session.proofs.Holding.{Own, Any, token_of, held_less_unopened, held_ended, taken_last}
 use Rattle.session.proofs.Leasing.{lease_ended}

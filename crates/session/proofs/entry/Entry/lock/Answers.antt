@@ -1,6 +1,6 @@
 use Rattle.std.proofs.Common.{refl}
 use Rattle.requests.specs.declared.command.Command.TheVariants as command
-use Rattle.session.specs.States.{Reading}
+use Rattle.names.specs.Bearers.{Reading}
 use Rattle.session.specs.Entries.{AreTogether}
 use Rattle.scan.specs.Standings.{index_now}
 use Rattle.session.proofs.Batches.{batches_on}

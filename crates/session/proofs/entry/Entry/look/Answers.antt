@@ -1,5 +1,5 @@
 use Rattle.std.proofs.Common.{refl}
-use Rattle.session.specs.declared.names.NamedToken.TheVariants as token
+use Rattle.names.specs.declared.names.NamedToken.TheVariants as token
 use Rattle.session.specs.Entries.{AreTogether}
 use Rattle.session.proofs.Together.{together_with}
 use Rattle.session.proofs.Acting.{is_free, is_not_parked, looked}

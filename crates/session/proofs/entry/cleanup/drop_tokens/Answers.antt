@@ -1,5 +1,5 @@
 use Rattle.std.proofs.Common.{◌∙◌, sym, ap}
-use Rattle.session.specs.Tokens.{open_index}
+use Rattle.names.specs.Tokens.{open_index}
 use Rattle.session.proofs.Spent.{closed_last, never_open}
 use Rattle.session.proofs.entry.cleanup.drop_tokens.Goals as goal
 

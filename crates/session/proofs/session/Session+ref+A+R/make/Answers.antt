@@ -1,10 +1,14 @@
-use Rattle.std.proofs.Common.{rules, ◌≡◌, ◌<◌, ◌≤◌, [], ◌∷◌, ◌++◌, length, refl, inl, inr, ap, ◌∙◌, arith}
+use Rattle.std.proofs.Common.{rules, ◌≡◌, ◌<◌, ◌≤◌, [], ◌∷◌, ◌++◌, length, refl, inl, inr, sym, ap, ◌∙◌, subst, arith}
 use Rattle.std.proofs.lemmas.List.{length-map, map-append}
 use Rattle.std.proofs.lemmas.List.Elements.{All-same, All-push}
 use Rattle.session.specs.States.{EntryView, DomainState, states_of}
 use Rattle.session.specs.Sets.{homes_of}
 use Rattle.session.specs.Scripts.{new_domain}
+use Rattle.sections.specs.declared.limits.Limits.{Limits}
+use Rattle.sections.specs.WriterViews.{WriterView}
+use Rattle.sections.specs.Dealing.{new_writer, AreNewWriters}
 use Rattle.session.proofs.Cookies.{all_stay, all_with}
+use Rattle.session.proofs.Writers.{last_writer}
 use Rattle.session.proofs.session.Session+ref+A+R.make.Goals as goal
 
 pub invariant_of-self : goal.invariant_of-self
@@ -28,6 +32,29 @@ invariant_of-self-2 g c =
       same = All-same (λ (e : EntryView). e.limits ≡ limits) _ _ pushed (All-push (λ (e : EntryView). e.limits ≡ limits) entries entry c.self.invariant.same (ap (λ (e : EntryView). e.limits) c.in_ok-entry.ensures ∙ c.in-Ok.ensures.domain.limits_are));
       here = all_stay (entries ++ entry ∷ []) c.push.new.self.items c.self.inside.sets.items (ap homes_of pushed) (all_with entries entry c.self.inside.sets.items c.self.invariant.here);
     }
+
+pub new-requires-2-clause-chain : goal.new-requires-2-clause-chain
+new-requires-2-clause-chain g c =
+    let cells = c.in-Ok.ensures.cells in
+    let two = c.self.invariant.cells in
+    let table = c.in-Ok.made.0.table in
+    let slots = c.self.inside.limits.slots in
+    let all = subst (λ n. AreNewWriters table n slots c.in-Ok.made.1.items) two c.in-Ok.ensures.writers in
+    let last = last_writer table 1 slots c.pop.new.self.items c.unwrap.result _ c.pop.result c.unwrap.ensures c.pop.ensures.items all in
+    let first = last_writer table 0 slots c.pop-2.new.self.items c.unwrap-2.result _ c.pop-2.result c.unwrap-2.ensures c.pop-2.ensures.items last.1 in
+    let named = first.0 ∙ ap (λ (l : Limits). new_writer table 0 l.slots) (sym c.in-Ok.ensures.domain.limits_are) in
+    (subst (λ (w : WriterView). c.new-chain.result ≡ record { writer = w; ids = 16; blocks = [] }) named c.new-chain.ensures, omega (arith, cells, two))
+
+pub new-requires-2-clause-board : goal.new-requires-2-clause-board
+new-requires-2-clause-board g c =
+    let cells = c.in-Ok.ensures.cells in
+    let two = c.self.invariant.cells in
+    let table = c.in-Ok.made.0.table in
+    let slots = c.self.inside.limits.slots in
+    let all = subst (λ n. AreNewWriters table n slots c.in-Ok.made.1.items) two c.in-Ok.ensures.writers in
+    let last = last_writer table 1 slots c.pop.new.self.items c.unwrap.result _ c.pop.result c.unwrap.ensures c.pop.ensures.items all in
+    let named = last.0 ∙ ap (λ (l : Limits). new_writer table 1 l.slots) (sym c.in-Ok.ensures.domain.limits_are) in
+    (subst (λ (w : WriterView). c.new-board.result ≡ record { writer = w; rows = [] }) named c.new-board.ensures, omega (arith, cells, two))
 
 pub returns-in-Err-Processors-clause-ok : goal.returns-in-Err-Processors-clause-ok
 returns-in-Err-Processors-clause-ok g c =

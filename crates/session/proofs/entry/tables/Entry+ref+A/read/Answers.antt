@@ -4,7 +4,7 @@ use Rattle.session.specs.Entries.{AreTogether}
 use Rattle.session.proofs.Together.{it_is_of, together_back}
 use Rattle.session.proofs.Acting.{has_kind, is_plain}
 use Rattle.session.proofs.Leasing.{lease_read}
-use Rattle.session.specs.Tokens.{rows_of}
+use Rattle.names.specs.Tokens.{rows_of}
 use Rattle.session.proofs.entry.tables.Entry+ref+A.read.Goals as goal
 
 pub take_lease-lease-requires : goal.take_lease-lease-requires

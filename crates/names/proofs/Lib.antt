@@ -1,0 +1,5 @@
+pub mod CallerLemmas
+mod Held
+mod Taken
+mod TokenKinds
+mod Desks

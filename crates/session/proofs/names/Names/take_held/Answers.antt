@@ -1,9 +1,0 @@
-use Rattle.requests.specs.declared.scene.Kind.TheVariants as kind
-use Rattle.session.proofs.TokenKinds.{only_held}
-use Rattle.session.proofs.names.Names.take_held.Goals as goal
-
-pub take-requires : goal.take-requires
-take-requires g c = (kind.Held, c.requires)
-
-pub unreachable-requires : goal.unreachable-requires
-unreachable-requires g c = only_held c.args.name.now c.args.self.now.tokens c.take.result c.take.ensures.taken.there c.requires c.in_default.not-Held
