@@ -18,12 +18,12 @@ use Rattle.sections.specs.Plays.{Adds, Keeps}
 use Rattle.sections.specs.Seats.{DomainSeat, AsksNumber}
 use Rattle.sections.specs.Pens.{RefreshesIn}
 use Rattle.sections.specs.Insides.{IsAtRest, view_of_cpu, IsCpu}
-use Rattle.sections.specs.WriterInsides.{words_with, view_of_writer, IsWriter}
+use Rattle.sections.specs.WriterInsides.{words_with, plan_with, view_of_writer, IsWriter}
 use Rattle.sections.specs.Calls.{Asks}
 use Rattle.sections.specs.Writers.{is_out, Stands, ReclaimsSlot}
 use Rattle.sections.proofs.CpuViews.{seen_as, asks_from}
 use Rattle.sections.proofs.Staying.{maker_of, stays_told}
-use Rattle.sections.proofs.Writing.{slot_quiet}
+use Rattle.sections.proofs.Writing.{as_shelf, slot_quiet}
 use Rattle.sections.proofs.Standings.{HasHomes, homes_stay, retired_out, stands_quiet, stands_set, reclaimed, count_less}
 
 -- the token has seen what `o` has, and `s` is what the processor's seat is in the end
@@ -44,8 +44,8 @@ module _ {A : Type 0} {c : cpu.Inside A} {number : ℕ} {answer : Bool} {joined 
 -- the writer's cell is loaded behind that
 module _ {A : Type 0} {c : cpu.Inside A} {w : writer.Inside} {number : ℕ} {answer : Bool} {joined after pen pen' : DomainSeat} (i : IsCpu c) (h : IsWriter w) (token : DomainSeat) (here : c.seat.table_id ≡ w.seat.table_id) (table : joined.table_id ≡ c.seat.table_id)
     (me : joined.me ≡ (informed c.seat.me.0 token.me.0, c.seat.me.1)) (given : token.me ≡ (shower w.seat.me.0, [])) (n : AsksNumber number joined answer after) (right : pen.me.0.right ≡ w.seat.me.0.right) (r : RefreshesIn w.cell after pen pen') where
-  keeps : Keeps w.cell w.seat.me.0.seen (informed (bearer after.me.0) (bearer pen.me.0)) pen'.me.0 × (pen'.me.0.right ≡ Shelf w.cell (words_with w.seat.me.0.right) pen'.me.0.seen)
-  keeps = r.keeps (words_with w.seat.me.0.right) w.seat.me.0.seen (right ∙ h.right)
+  keeps : Keeps w.cell w.seat.me.0.seen (informed (bearer after.me.0) (bearer pen.me.0)) pen'.me.0 × (pen'.me.0.right ≡ Shelf w.cell (words_with w.seat.me.0.right) pen'.me.0.seen (plan_with w.seat.me.0.right))
+  keeps = r.keeps (words_with w.seat.me.0.right) w.seat.me.0.seen (plan_with w.seat.me.0.right) (right ∙ h.right)
 
   home : w.seat.table_id ≡ pen'.table_id
   home = sym (r.same_table ∙ (n.same_table ∙ (table ∙ here)))
@@ -56,7 +56,8 @@ module _ {A : Type 0} {c : cpu.Inside A} {w : writer.Inside} {number : ℕ} {ans
   writer_on : (ts : List Standing) → w.version + count_by is_out ts ≤ 2 ^ 54 + 7 → HasHomes w.seat.table_id w.slots ts w.homes → ((x : ℕ) → x < w.slots → Stands pen'.me.0.seen w.cell x (get_or ts x Blank)) → IsWriter (record w { seat = pen'; standings = ts })
   writer_on ts small homes stands = record {
     bare = r.bare;
-    right = keeps.1 ∙ ap (λ o. Shelf w.cell o pen'.me.0.seen) (sym (ap words_with keeps.1));
+    right = as_shelf _ w.cell _ pen'.me.0.seen _ keeps.1;
+    free = ap (λ y. (plan_with y).hand) keeps.1 ∙ h.free;
     long = ap length (ap words_with keeps.1) ∙ h.long;
     legal = keeps.0.legal;
     inside = subst (λ (t : TableId). w.cell < cells_in t) home h.inside;
@@ -93,6 +94,7 @@ module _ {A : Type 0} {c : cpu.Inside A} {w : writer.Inside} {number : ℕ} {ans
     done = done;
     waits = waits;
     words = ap words_with keeps.1;
+    plan = ap plan_with keeps.1;
     since = keeps.0.goes_on;
     covers = subst (λ (l : List Event). IsBeginning l pen'.me.0.seen) (sym (ap (λ m. m.0.seen) same.1)) keeps.0.since;
   }

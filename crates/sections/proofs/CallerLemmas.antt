@@ -53,3 +53,17 @@ pub use Rattle.sections.proofs.Shelving.{same_texts}
 
 -- a slot that was given out is still out where no standing has changed
 pub use Rattle.sections.proofs.Standings.{own_kept}
+-- Boxes
+
+-- what is known of a cell's vault stays known
+pub use Rattle.sections.proofs.Offered.{vault_stays}
+-- who has put a version knows its text
+pub use Rattle.sections.proofs.Recalled.{put_known}
+-- who has put a version with keys knows it
+pub use Rattle.sections.proofs.Offered.{put_knows}
+-- and whoever knows it finds versions that were put with as many keys of this vault, or more
+pub use Rattle.sections.proofs.Offered.{finds_offer}
+-- Loans
+
+-- once the part that was drawn last is paid, all is as it was before
+pub use Rattle.sections.proofs.Lending.{paid_again}

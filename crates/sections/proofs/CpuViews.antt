@@ -44,6 +44,7 @@ history_of n p w sized is h = record {
   own = subst (λ (z : Role). Owns z w.mine w.seen) is h.own;
   reaches = h.reaches;
   texts = h.texts;
+  vaults = h.vaults;
 }
 
 pub engine_history_of : (n k : ℕ) (w : View) → w.processors ≡ n → w.role ≡ Driver k → IsSound w.processors w.role w.mine w.seen w.changes w.texts → IsHistoryOf n Engine w.mine w.seen w.changes w.texts
@@ -53,6 +54,7 @@ engine_history_of n k w sized is h = record {
   own = subst (λ (z : Role). Owns z w.mine w.seen) is h.own;
   reaches = h.reaches;
   texts = h.texts;
+  vaults = h.vaults;
 }
 
 pub loads_from : (l : Step) (d d' : TableId) (n limit p : ℕ) (v w : View) → d' ≡ d → v.processors ≡ n → v.role ≡ Cpu p → Sees l v w → Loads l (seen_as d n limit p v) (seen_as d' n limit p w)
@@ -258,8 +260,8 @@ pub locks_unchanged : (p : ℕ) (i : Index) (s q : ℕ) (by : Maker) (mine after
 locks_unchanged p i s q by mine after e = let c = locks_push p i mine (End s q by) in ap (locks p i) e ∙ omega (arith, c)
 
 -- a right that is known
-pub right_known : (r : Right) (s p : ℕ) (i : Index) → r ≡ Section s p i → r ≡ Section (section_of r) p i
-right_known r s p i is = is ∙ ap (λ z. Section z p i) (sym (ap section_of is))
+pub right_known : (r : Right) (s p : ℕ) (i : Index) → r ≡ Section s p i [] None → r ≡ Section (section_of r) p i [] None
+right_known r s p i is = is ∙ ap (λ z. Section z p i [] None) (sym (ap section_of is))
 
 pub at_limit : (n l limit : ℕ) → n ≡ l → n ≡ limit → l ≡ limit
 at_limit n l limit a b = sym a ∙ b

@@ -1,5 +1,5 @@
 -- Each step of the engine's seat keeps the rule.
-use Rattle.std.proofs.Common.{length-set, ◌≡◌, ℕ, ◌+◌, ◌*◌, ◌%◌, ◌^◌, ◌<◌, ◌≤◌, true, false, List, [], ◌∷◌, ◌++◌, All, Option, None, length, get_or, set, refl, sym, ap, ◌∙◌, subst, arith}
+use Rattle.std.proofs.Common.{length-set, ◌≡◌, ℕ, ◌+◌, ◌*◌, ◌%◌, ◌^◌, ◌<◌, ◌≤◌, true, false, List, [], ◌∷◌, ◌++◌, All, None, length, get_or, set, refl, sym, ap, ◌∙◌, subst, arith}
 use Rattle.std.proofs.lemmas.List.Elements.{All-nil}
 use mathlib.Core.Option.{none}
 use Rattle.atomic_table.specs.Table.{State, step, keeps, stepped, Allows}
@@ -10,6 +10,9 @@ use Rattle.onedom.specs.declared.event.Event.{Event}
 use Rattle.onedom.specs.declared.event.Event.TheVariants.{Start, Finish}
 use Rattle.onedom.specs.Histories.{ends, starts_in, WasEmpty, MayFollow, maker_of, same_maker, made_by, IsBeginning}
 use Rattle.onedom.proofs.CallerLemmas.{bit, made_by_own, made_by_other, same_maker_refl, beginning_refl, empty_grows, empty_may_end}
+use Rattle.sections.specs.Banks.{KeepsBanks}
+use Rattle.sections.proofs.Banking.{says_same, same_banks, push_banks}
+use Rattle.sections.specs.Slots.{Slot}
 use Rattle.sections.specs.declared.view.Bounds.{Bounds}
 use Rattle.sections.specs.declared.view.Role.{Role}
 use Rattle.sections.specs.declared.view.Role.TheVariants.{Driver}
@@ -50,7 +53,7 @@ module _ (bounds : Bounds) where
   -- Loads of counters
 
   -- in all no more sections of an index were begun than the limits allow
-  bounded : (s : State (Option ℕ) View) (r : Kept bounds s) (n : ℕ) (i : Index) (seen : List Event) → n ≡ bounds.processors → seen ≡ r.log → all_locks n i seen ≤ 2 ^ 60
+  bounded : (s : State Slot View) (r : Kept bounds s) (n : ℕ) (i : Index) (seen : List Event) → n ≡ bounds.processors → seen ≡ r.log → all_locks n i seen ≤ 2 ^ 60
   bounded s r n i seen sized same = subst (λ (z : ℕ × List Event). all_locks z.0 i z.1 ≤ 2 ^ 60) (λ k. (sym sized k, sym same k))
       (let most = sum_most (λ p. locks p i r.log) bounds.sections bounds.processors (λ p. r.within.limited p i) in let small = r.small.counters in omega (arith, most, small))
 
@@ -85,9 +88,10 @@ module _ (bounds : Bounds) where
   -- an event that an addition to the number makes
   drives : (slots id a : ℕ) (me : Sat) (d : ℕ) (e : Event) (told_of : ℕ → Sat → Type 0) → me.0.processors ≡ bounds.processors → me.0.role ≡ Driver d → IsDriven e
       → number_word (me.0.changes + 1) ≡ number_word me.0.changes + a → index_word (me.0.changes + 1) ≡ index_word me.0.changes → number_word me.0.changes < 2 ^ 62 → a < 4
-      → ((s : State (Option ℕ) View) (r : Kept bounds s) → r.changes ≡ me.0.changes → IsBeginning me.0.seen r.log → made_by Engine r.log ≡ me.0.mine → MayFollow r.log e × Reaches (r.changes + 1) (r.log ++ e ∷ []) × (r.changes + 1 ≤ 4 * bounds.periods))
+      → ((s : State Slot View) (r : Kept bounds s) → r.changes ≡ me.0.changes → IsBeginning me.0.seen r.log → made_by Engine r.log ≡ me.0.mine → MayFollow r.log e × Reaches (r.changes + 1) (r.log ++ e ∷ []) × (r.changes + 1 ≤ 4 * bounds.periods))
       → ((n : ℕ) (w : View) → w.right ≡ me.0.right → w.changes ≡ me.0.changes + 1 → Adds me.0 e w → told_of n (w, me.1))
       → Allows (Kept bounds) slots id me number_place (λ x. (x + a) % 2 ^ 64) told_of
+  unfolding shelf_event
   drives slots id a me d e told_of sized is driven grows same_index small few follows tells s r _ at _ =
       let v : View = me.0 in
       let f = r.each_view id v at in
@@ -128,7 +132,8 @@ module _ (bounds : Bounds) where
             fits v at refl refl
             (let same = same_set bounds s.words k y (omega arith) in shelf_event bounds s.words (set s.words k y) s.views r.log r.deeds id w e r.shelf same (length-set s.words k y) r.within.legal may.0 driven.no_put
             (fits_all bounds (set s.words k y) log' r.shelf.texts r.shelf.writer_of id w refl refl refl (texts_on r.shelf.texts r.log e driven.no_put r.shelf.shelved.cells)
-            (writes_event bounds s.words (set s.words k y) r.log e r.shelf.writer_of id same driven.no_put v.right (r.shelf.each id v at).writes))),
+            (writes_event bounds s.words (set s.words k y) r.log e r.shelf.writer_of id same driven.no_put v.right (r.shelf.each id v at).writes)))
+            (push_banks bounds s.homes s.views r.log r.shelf.texts r.banks e id v w r.within.legal may.0 driven.no_put (λ u. driven.no_end u) at (says_same v w refl refl)),
         tells x w refl (ap (λ c. c + 1) (sym known)) record {
           before = r.log;
           seen = refl;
@@ -142,7 +147,7 @@ module _ (bounds : Bounds) where
           told = refl;
           done = refl;
           texts = knows_texts bounds s.words r.log r.shelf.texts r.shelf.writer_of id v w (r.shelf.each id v at) refl;
-          sound = sound_after bounds s r e v.processors v.role (v.mine ++ e ∷ []) changes' r.shelf.texts may.0 (driven.maker bounds.processors) sized may.1 (subst (λ (m : Role). Owns m (v.mine ++ e ∷ []) log') (sym is) mine') (texts_on r.shelf.texts r.log e driven.no_put r.shelf.shelved.cells);
+          sound = sound_after bounds s r e v.processors v.role (v.mine ++ e ∷ []) changes' r.shelf.texts may.0 (driven.maker bounds.processors) sized may.1 (subst (λ (m : Role). Owns m (v.mine ++ e ∷ []) log') (sym is) mine') (texts_on r.shelf.texts r.log e driven.no_put r.shelf.shelved.cells) r.banks.one_vault;
         },
       )
 
@@ -168,10 +173,10 @@ module _ (bounds : Bounds) where
   -- Changes that are no events
 
   -- the rule after a change of a word
-  changed : (s : State (Option ℕ) View) (r : Kept bounds s) (id k x : ℕ) (cs : List (ℕ × Option ℕ)) (w : View) (l : Step) → IsTrueOf (now r.log (r.changes + 1)) l → w.done ≡ r.deeds ++ deed Engine l (now r.log (r.changes + 1)) ∷ [] → Agree bounds.processors (set s.words k x) r.log (r.changes + 1) → r.changes + 1 ≤ 4 * bounds.periods → r.engine ≡ id
+  changed : (s : State Slot View) (r : Kept bounds s) (id k x : ℕ) (cs : List (ℕ × Slot)) (w : View) (l : Step) → IsTrueOf (now r.log (r.changes + 1)) l → w.done ≡ r.deeds ++ deed Engine l (now r.log (r.changes + 1)) ∷ [] → Agree bounds.processors (set s.words k x) r.log (r.changes + 1) → r.changes + 1 ≤ 4 * bounds.periods → r.engine ≡ id
       → Fits r.log (r.changes + 1) r.seat_of r.reached r.holder r.engine id w
-      → KeepsShelf bounds (set s.words k x) (set s.views id w) r.log (r.deeds ++ deed Engine l (now r.log (r.changes + 1)) ∷ []) → Kept bounds (stepped s k x id cs w keeps)
-  changed s r id k x cs w l is all agree most here fits shelf = record {
+      → (shelf : KeepsShelf bounds (set s.words k x) (set s.views id w) r.log (r.deeds ++ deed Engine l (now r.log (r.changes + 1)) ∷ [])) → KeepsBanks bounds s.homes (set s.views id w) r.log shelf.texts → Kept bounds (stepped s k x id cs w keeps)
+  changed s r id k x cs w l is all agree most here fits shelf banks = record {
     log = r.log;
     changes = r.changes + 1;
     seat_of = r.seat_of;
@@ -188,6 +193,7 @@ module _ (bounds : Bounds) where
     done = done_push r.deeds Engine l (now r.log (r.changes + 1)) is (done_later r.deeds (now r.log r.changes) (now r.log (r.changes + 1)) (record { history = beginning_refl r.log; changes = omega arith }) r.done);
     each_done = each_more bounds s r id (deed Engine l (now r.log (r.changes + 1))) w here all;
     shelf = shelf;
+    banks = banks;
   }
 
   -- an addition of 1 that is no event
@@ -195,10 +201,11 @@ module _ (bounds : Bounds) where
       → ((log : List Event) (changes n : ℕ) → n ≡ word changes → IsTrueOf (now log changes) (l n))
       → k < 32 → ((log : List Event) (texts : List Text) (n : ℕ) → IsTrueWord log texts (l n))
       → word me.0.changes < 2 ^ 62 → 0 < me.0.changes % 4 → me.0.changes % 4 < 3 → word (me.0.changes + 1) ≡ word me.0.changes + 1
-      → ((s : State (Option ℕ) View) (r : Kept bounds s) → (get_or s.words k 0 ≡ word r.changes)
+      → ((s : State Slot View) (r : Kept bounds s) → (get_or s.words k 0 ≡ word r.changes)
       × ((y : ℕ) → y ≡ word (r.changes + 1) → r.changes ≡ me.0.changes → Agree bounds.processors (set s.words k y) r.log (r.changes + 1)))
       → ((n : ℕ) (w : View) → w.changes ≡ me.0.changes + 1 → n + 1 ≡ word w.changes → Sees (l (n + 1)) me.0 w → told_of n (w, me.1))
       → Allows (Kept bounds) slots id me k (λ x. (x + 1) % 2 ^ 64) told_of
+  unfolding shelf_deed
   changes_here slots id k me d word l told_of sized is true_of aside no_word small busy few grows agrees tells s r _ at _ =
       let v : View = me.0 in
       let f = r.each_view id v at in
@@ -227,7 +234,8 @@ module _ (bounds : Bounds) where
         tt,
         changed s r id k y me.1 w (l (x + 1)) (true_of r.log changes' (x + 1) one) refl ((agrees s r).1 y up (sym known)) (omega (arith, most, known, busy, few)) made.0 fits
             (let same = same_set bounds s.words k y (omega (arith, aside)) in shelf_deed bounds s.words (set s.words k y) s.views r.log r.deeds id w (deed Engine (l (x + 1)) (now r.log changes')) r.shelf same (length-set s.words k y) (no_word r.log r.shelf.texts (x + 1))
-            (fits_all bounds (set s.words k y) r.log r.shelf.texts r.shelf.writer_of id w refl refl refl r.shelf.shelved.cells (writes_on bounds s.words (set s.words k y) r.log r.log r.shelf.writer_of id same (beginning_refl r.log) (λ c. refl) v.right (r.shelf.each id v at).writes))),
+            (fits_all bounds (set s.words k y) r.log r.shelf.texts r.shelf.writer_of id w refl refl refl r.shelf.shelved.cells (writes_on bounds s.words (set s.words k y) r.log r.log r.shelf.writer_of id same (beginning_refl r.log) (λ c. refl) v.right (r.shelf.each id v at).writes)))
+            (same_banks bounds s.homes s.views r.log r.shelf.texts r.banks id v w at (says_same v w refl refl)),
         tells x w (ap (λ c. c + 1) (sym known)) one record {
           processors = refl;
           role = refl;
@@ -246,6 +254,7 @@ module _ (bounds : Bounds) where
             own = owns_from_makes r.log r.changes r.seat_of r.reached r.holder r.engine id v.role v.mine f.makes;
             reaches = reached;
             texts = r.shelf.shelved.cells;
+            vaults = r.banks.one_vault;
           };
         },
       )

@@ -1,5 +1,5 @@
 -- No seat can claim an event that it did not make, a load of the number among them.
-use Rattle.std.proofs.Common.{◌≡◌, inr, ℕ, zero, suc, ◌<◌, ◌≤◌, ◌≢◌, Bool, true, false, cond, List, [], ◌∷◌, ◌++◌, All, Option, map, length, take, set, refl, sym, ap, ◌∙◌, subst, ⊎_elim, length-append, arith}
+use Rattle.std.proofs.Common.{◌≡◌, inr, ℕ, zero, suc, ◌<◌, ◌≤◌, ◌≢◌, Bool, true, false, cond, List, [], ◌∷◌, ◌++◌, All, map, length, take, set, refl, sym, ap, ◌∙◌, subst, ⊎_elim, length-append, arith}
 use Rattle.std.proofs.lemmas.List.{take-map, take-append-le}
 use Rattle.std.proofs.lemmas.List.Elements.{All-nil, filter_map-append}
 use Rattle.std.proofs.Math.Seq.{take-length}
@@ -14,12 +14,17 @@ use Rattle.onedom.specs.declared.event.Event.{Event}
 use Rattle.onedom.specs.declared.event.Event.TheVariants.{Ask}
 use Rattle.onedom.specs.Histories.{IsLegal, version_of, MayFollow, maker_of, same_maker, made_by, IsBeginning}
 use Rattle.onedom.proofs.CallerLemmas.{version_kept, legal_push, made_by_other, same_maker_refl, same_maker_false, beginning_empty, beginning_refl, beginning_push, beginning_by_length, beginning_made_by}
+use Rattle.sections.specs.Slots.{Slot}
 use Rattle.sections.specs.declared.view.Bounds.{Bounds}
 use Rattle.sections.specs.declared.view.Role.{Role}
 use Rattle.sections.specs.declared.view.Role.TheVariants.{Bearer, Cpu, Driver}
 use Rattle.sections.specs.declared.view.View.{View}
 use Rattle.sections.specs.Words.{locks, Agree}
-use Rattle.sections.specs.Rule.{HasItsMaker, IsProcessor, GoesOn, StandsFor, HasDone, Makes, Knows, Fits, Kept, spent}
+use Rattle.sections.specs.Rule.{HasItsMaker, IsProcessor, GoesOn, StandsFor, HasDone, Makes, Knows, Has, Fits, Kept, spent}
+use mathlib.Core.Option as maybe
+use Rattle.sections.specs.declared.view.Right.{Right}
+use Rattle.sections.specs.Banks.{hand_in, FitsBank, KeepsBanks}
+use Rattle.sections.proofs.Banking.{one_later, reseat_banks, bank_free}
 use Rattle.sections.specs.declared.view.Text.{Text}
 use Rattle.sections.specs.Shelves.{put_cell, put_cells, IsStart, AreTextsOf, texts_at, AreShelved, FitsShelf}
 use Rattle.sections.proofs.Shelving.{start_at, start_trans, start_between, same_shelf, shelved_on, fits_shelf_on, loaded_later}
@@ -27,7 +32,7 @@ use Rattle.sections.specs.Laws.{HasNoTextMore, NoTextIsForged, HasNoEventMore, N
 use Rattle.sections.proofs.Agreement.{agrees_plain}
 use Rattle.sections.proofs.Counters.{All-push, locks_push}
 use Rattle.sections.proofs.Deeds.{done_later}
-use Rattle.sections.proofs.Knowing.{now, at_snoc, at_below, given, given_here, given_else, seat_at, has_as, fits_stay, false≠true}
+use Rattle.sections.proofs.Knowing.{now, at_snoc, at_below, given, given_here, given_else, seat_at, has_as, has_stays, fits_stay, false≠true}
 use Rattle.sections.proofs.Forging.{from_map, length_map, stands, not_standing, others, no_step_by_split, no_step_by_join}
 
 -- the texts of a beginning are those of the Puts there
@@ -115,6 +120,14 @@ longer_fits : (log : List Event) (changes : ℕ) (seat_of reached holder : ℕ �
 longer_fits log changes seat_of reached holder engine j q zero other v f = f
 longer_fits log changes seat_of reached holder engine j q (suc k) other v f = fits_stay (longer q k log) changes seat_of reached holder holder engine j (question q) (may_ask q (longer q k log)) other (λ _ _. refl) (λ _ _. refl) v (longer_fits log changes seat_of reached holder engine j q k other v f)
 
+longer_has : (log : List Event) (changes : ℕ) (seat_of seat_of' reached holder : ℕ → ℕ) (engine j q k : ℕ) (t : Right) → Has log changes seat_of reached holder engine j t → Has (longer q k log) changes seat_of' reached holder engine j t
+longer_has log changes seat_of seat_of' reached holder engine j q zero t h = has_as log changes seat_of seat_of' reached holder holder engine j (λ _ i. i) t h
+longer_has log changes seat_of seat_of' reached holder engine j q (suc k) t h = has_stays (longer q k log) changes seat_of' reached holder holder engine j (question q) (may_ask q (longer q k log)) (λ _ _. refl) (λ _ _. refl) t (longer_has log changes seat_of seat_of' reached holder engine j q k t h)
+
+longer_banks : (bounds : Bounds) (homes : List (maybe.Option Slot)) (views : List View) (texts : List Text) (q k : ℕ) (log : List Event) → IsLegal log → KeepsBanks bounds homes views log texts → KeepsBanks bounds homes views (longer q k log) texts
+longer_banks bounds homes views texts q zero log legal b = b
+longer_banks bounds homes views texts q (suc k) log legal b = one_later bounds homes views (longer q k log) texts (longer_banks bounds homes views texts q k log legal b) (question q) (longer_legal q k log legal) (may_ask q (longer q k log)) refl (λ _. refl)
+
 -- that processor's seat is another one
 module _ (log : List Event) (changes : ℕ) (seat_of reached holder : ℕ → ℕ) (engine j q there : ℕ) where
   makes_else : (role : Role) (mine : List Event) → (StandsFor role (Processor q) → ⊥) → Makes log changes seat_of reached holder engine j role mine → Makes log changes (given q there seat_of) reached holder engine j role mine
@@ -137,12 +150,15 @@ module _ (log : List Event) (changes : ℕ) (seat_of reached holder : ℕ → �
     shown = f.shown;
   }
 
--- a seat of that processor is left out
+-- what is left of a seat of that processor: its right, and a key that it may have in hand
+abbrev keeping : View → View
+keeping u = record spent { right = u.right }
+
 abbrev without : Maker → View → View
-without o u = cond (stands u.role o) spent u
+without o u = cond (stands u.role o) (keeping u) u
 
 as_before : (o : Maker) (v : View) → stands v.role o ≡ false → without o v ≡ v
-as_before o v e = ap (λ b. cond b spent v) e
+as_before o v e = ap (λ b. cond b (keeping v) v) e
 
 -- a token that has seen all
 abbrev knowing : List Text → List Event → View
@@ -152,7 +168,7 @@ knowing texts log = record spent { seen = log; texts = texts_at texts log }
 token_fits : (log : List Event) (changes : ℕ) (seat_of reached holder : ℕ → ℕ) (engine j : ℕ) (texts : List Text) (seen : List Event) → IsBeginning seen log → Fits log changes seat_of reached holder engine j (knowing texts seen)
 token_fits log changes seat_of reached holder engine j texts seen h = record { seen = h; knows = omega arith; told = All-nil (λ m. GoesOn m (now log changes)); makes = tt; has = tt; shown = tt }
 
-module _ (bounds : Bounds) (s : State (Option ℕ) View) (r : Kept bounds s) (q : ℕ) (lt : q < bounds.processors) (k : ℕ) where
+module _ (bounds : Bounds) (s : State Slot View) (r : Kept bounds s) (q : ℕ) (lt : q < bounds.processors) (k : ℕ) where
   abbrev all : List Event
   all = longer q k r.log
 
@@ -165,14 +181,14 @@ module _ (bounds : Bounds) (s : State (Option ℕ) View) (r : Kept bounds s) (q 
   abbrev seats : ℕ → ℕ
   seats = given q last r.seat_of
 
-  abbrev state : State (Option ℕ) View
+  abbrev state : State Slot View
   state = record { words = s.words; homes = s.homes; views = rest ++ knowing r.shelf.texts all ∷ [] }
 
   no_maker : (j : ℕ) → j ≢ last → (m : Maker) → seat_at seats r.engine m ≡ j → same_maker (Processor q) m ≡ false
   no_maker j ne m at = same_maker_false (Processor q) m (λ e. ne (sym at ∙ (ap (seat_at seats r.engine) (sym e) ∙ given_here q last r.seat_of)))
 
   fits_without : (j : ℕ) (u : View) → j ≢ last → Fits r.log r.changes r.seat_of r.reached r.holder r.engine j u → (b : Bool) → stands u.role (Processor q) ≡ b → Fits all r.changes seats r.reached r.holder r.engine j (without (Processor q) u)
-  fits_without j u ne f true e = subst (λ (z : View). Fits all r.changes seats r.reached r.holder r.engine j z) (sym (ap (λ b. cond b spent u) e)) (token_fits all r.changes seats r.reached r.holder r.engine j r.shelf.texts [] (beginning_empty all))
+  fits_without j u ne f true e = subst (λ (z : View). Fits all r.changes seats r.reached r.holder r.engine j z) (sym (ap (λ b. cond b (keeping u) u) e)) record { seen = beginning_empty all; knows = omega arith; told = All-nil (λ m. GoesOn m (now all r.changes)); makes = tt; has = longer_has r.log r.changes r.seat_of seats r.reached r.holder r.engine j q k u.right f.has; shown = tt }
   fits_without j u ne f false e = subst (λ (z : View). Fits all r.changes seats r.reached r.holder r.engine j z) (sym (as_before (Processor q) u e))
       (longer_fits r.log r.changes seats r.reached r.holder r.engine j q k (no_maker j ne) u
       (fits_else r.log r.changes r.seat_of r.reached r.holder r.engine j q last u (λ h. false≠true (sym (others u.role (Processor q) e (Processor q) h) ∙ same_maker_refl (Processor q))) f))
@@ -188,7 +204,7 @@ module _ (bounds : Bounds) (s : State (Option ℕ) View) (r : Kept bounds s) (q 
   token_done seen = record { upto = record { rest = r.deeds; whole = refl }; own = λ m g. absurd g }
 
   done_without : (u : View) → HasDone r.deeds u → (b : Bool) → stands u.role (Processor q) ≡ b → HasDone r.deeds (without (Processor q) u)
-  done_without u h true e = subst (λ (z : View). HasDone r.deeds z) (sym (ap (λ b. cond b spent u) e)) (token_done [])
+  done_without u h true e = subst (λ (z : View). HasDone r.deeds z) (sym (ap (λ b. cond b (keeping u) u) e)) record { upto = record { rest = r.deeds; whole = refl }; own = λ m g. absurd g }
   done_without u h false e = subst (λ (z : View). HasDone r.deeds z) (sym (as_before (Processor q) u e)) h
 
   each_done : (j : ℕ) (d : View) → get_elem? state.views j ≡ some d → HasDone r.deeds d
@@ -199,7 +215,7 @@ module _ (bounds : Bounds) (s : State (Option ℕ) View) (r : Kept bounds s) (q 
       (at_snoc rest (knowing r.shelf.texts all) d j e)
 
   shelf_without : (j : ℕ) (u : View) → FitsShelf bounds s.words r.log r.shelf.texts r.shelf.writer_of j u → (b : Bool) → stands u.role (Processor q) ≡ b → FitsShelf bounds s.words all r.shelf.texts r.shelf.writer_of j (without (Processor q) u)
-  shelf_without j u f true e = subst (λ (z : View). FitsShelf bounds s.words all r.shelf.texts r.shelf.writer_of j z) (sym (ap (λ b. cond b spent u) e)) record { has = refl; told = All-nil (λ m. m.texts ≡ texts_at r.shelf.texts m.history); writes = tt }
+  shelf_without j u f true e = subst (λ (z : View). FitsShelf bounds s.words all r.shelf.texts r.shelf.writer_of j z) (sym (ap (λ b. cond b (keeping u) u) e)) record { has = refl; told = All-nil (λ m. m.texts ≡ texts_at r.shelf.texts m.history); writes = (fits_shelf_on bounds s.words s.words r.log all r.shelf.texts r.shelf.writer_of j (same_shelf bounds s.words) (longer_since q k r.log) (longer_versions q k r.log) u f).writes }
   shelf_without j u f false e = subst (λ (z : View). FitsShelf bounds s.words all r.shelf.texts r.shelf.writer_of j z) (sym (as_before (Processor q) u e))
       (fits_shelf_on bounds s.words s.words r.log all r.shelf.texts r.shelf.writer_of j (same_shelf bounds s.words) (longer_since q k r.log) (longer_versions q k r.log) u f)
 
@@ -209,6 +225,24 @@ module _ (bounds : Bounds) (s : State (Option ℕ) View) (r : Kept bounds s) (q 
       subst (λ (z : View). FitsShelf bounds s.words all r.shelf.texts r.shelf.writer_of j z) is (shelf_without j u (r.shelf.each j u at) (stands u.role (Processor q)) refl))
       (λ (t : (j ≡ last) × (knowing r.shelf.texts all ≡ d)). subst (λ (z : View). FitsShelf bounds s.words all r.shelf.texts r.shelf.writer_of j z) t.1
       record { has = refl; told = All-nil (λ m. m.texts ≡ texts_at r.shelf.texts m.history); writes = tt })
+      (at_snoc rest (knowing r.shelf.texts all) d j e)
+
+  all_banks : KeepsBanks bounds s.homes s.views all r.shelf.texts
+  all_banks = longer_banks bounds s.homes s.views r.shelf.texts q k r.log r.within.legal r.banks
+
+  hand_kept : (u : View) (b : Bool) → hand_in (cond b (keeping u) u).right ≡ hand_in u.right
+  hand_kept u true = refl
+  hand_kept u false = refl
+
+  bank_without : (j : ℕ) (u : View) → FitsBank bounds.processors all all_banks.books all_banks.lane_of j u → (b : Bool) → FitsBank bounds.processors all all_banks.books all_banks.lane_of j (cond b (keeping u) u)
+  bank_without j u f true = record { lane = λ p mans. absurd mans; section = f.section; plan = f.plan; holds = f.holds; reads = f.reads; writes = f.writes }
+  bank_without j u f false = f
+
+  each_bank : (j : ℕ) (d : View) → get_elem? state.views j ≡ some d → FitsBank bounds.processors all all_banks.books all_banks.lane_of j d
+  each_bank j d e = ⊎_elim
+      (λ (t : (j ≢ last) × (get_elem? rest j ≡ some d)). let (u, at, is) = from_map (without (Processor q)) s.views j d t.1 in
+      subst (λ (z : View). FitsBank bounds.processors all all_banks.books all_banks.lane_of j z) is (bank_without j u (all_banks.each j u at) (stands u.role (Processor q))))
+      (λ (t : (j ≡ last) × (knowing r.shelf.texts all ≡ d)). subst (λ (z : View). FitsBank bounds.processors all all_banks.books all_banks.lane_of j z) t.1 (bank_free bounds s.homes s.views all r.shelf.texts all_banks all all_banks.lane_of j (knowing r.shelf.texts all) (λ p mans. absurd mans) refl))
       (at_snoc rest (knowing r.shelf.texts all) d j e)
 
   kept : Kept bounds state
@@ -233,6 +267,7 @@ module _ (bounds : Bounds) (s : State (Option ℕ) View) (r : Kept bounds s) (q 
     done = done_later r.deeds (now r.log r.changes) (now all r.changes) (record { history = longer_since q k r.log; changes = omega arith }) r.done;
     each_done = each_done;
     shelf = record { texts = r.shelf.texts; writer_of = r.shelf.writer_of; room = r.shelf.room; shelved = longer_shelved bounds s.words q k r.log r.shelf.texts r.within.legal r.shelf.shelved; each = each_shelf; loaded = loaded_later r.deeds r.log all r.shelf.texts (longer_versions q k r.log) r.shelf.loaded };
+    banks = reseat_banks bounds s.homes s.views all r.shelf.texts all_banks state.views all_banks.lane_of (λ j v h at has. (without (Processor q) v, at_longer rest (knowing r.shelf.texts all ∷ []) j (without (Processor q) v) (at_map (without (Processor q)) s.views j v at), hand_kept v (stands v.role (Processor q)) ∙ has)) each_bank;
   }
 
   -- a seat that isn't that processor's is there as before
@@ -246,7 +281,7 @@ module _ (bounds : Bounds) (s : State (Option ℕ) View) (r : Kept bounds s) (q 
   knows_all = at_last rest (knowing r.shelf.texts all) last refl
 
   module _ (id : ℕ) (v : View) (at : get_elem? s.views id ≡ some v) (not : StandsFor v.role (Processor q) → ⊥) (Has : View → Type 0)
-      (says : (after : State (Option ℕ) View) → Kept bounds after → get_elem? after.views last ≡ some (knowing r.shelf.texts all) → (j : ℕ) (w : View) → get_elem? after.views j ≡ some w → length w.seen ≤ k → Has w) where
+      (says : (after : State Slot View) → Kept bounds after → get_elem? after.views last ≡ some (knowing r.shelf.texts all) → (j : ℕ) (w : View) → get_elem? after.views j ≡ some w → length w.seen ≤ k → Has w) where
     left_has : (left right : View) → length left.seen ≤ k → Splits (Kept bounds) id v left right → Has left
     left_has left right short splits =
         let low = below id v at in
@@ -270,11 +305,11 @@ module _ (bounds : Bounds) (s : State (Option ℕ) View) (r : Kept bounds s) (q 
         id both (set_else (set state.views id both) other id gone (λ h. apart (sym h)) ∙ set_here state.views id both (at_below state.views v id (there id v at not))) short
 
   -- what was seen is no longer than what the token has seen, and both are beginnings of one history
-  begins_all : (after : State (Option ℕ) View) → (a : Kept bounds after) → get_elem? after.views last ≡ some (knowing r.shelf.texts all) → (j : ℕ) (w : View) → get_elem? after.views j ≡ some w → length w.seen ≤ k → IsBeginning w.seen all
+  begins_all : (after : State Slot View) → (a : Kept bounds after) → get_elem? after.views last ≡ some (knowing r.shelf.texts all) → (j : ℕ) (w : View) → get_elem? after.views j ≡ some w → length w.seen ≤ k → IsBeginning w.seen all
   begins_all after a whole j w here short = let long = longer_long q k r.log in beginning_by_length (a.each_view j w here).seen (a.each_view last (knowing r.shelf.texts all) whole).seen (omega (arith, short, long))
 
   -- so its texts are those of the Puts there, and a beginning of those that the token has, which are all that there are
-  pub says_texts : (after : State (Option ℕ) View) → Kept bounds after → get_elem? after.views last ≡ some (knowing r.shelf.texts all) → (j : ℕ) (w : View) → get_elem? after.views j ≡ some w → length w.seen ≤ k → HasNoTextMore r.shelf.texts w
+  pub says_texts : (after : State Slot View) → Kept bounds after → get_elem? after.views last ≡ some (knowing r.shelf.texts all) → (j : ℕ) (w : View) → get_elem? after.views j ≡ some w → length w.seen ≤ k → HasNoTextMore r.shelf.texts w
   says_texts after a whole j w here short = record {
     texts = start_trans (subst (λ (z : List Text × List Text). IsStart z.0 z.1) (λ i. (sym (a.shelf.each j w here).has i, sym (a.shelf.each last (knowing r.shelf.texts all) whole).has i))
         (start_between w.seen all a.shelf.texts (begins_all after a whole j w here short))) (start_at (length (put_cells all)) r.shelf.texts);
@@ -285,7 +320,7 @@ module _ (bounds : Bounds) (s : State (Option ℕ) View) (r : Kept bounds s) (q 
     other_maker : same_maker (Processor q) m ≡ false
     other_maker = same_maker_false (Processor q) m (λ e. not (subst (StandsFor v.role) (sym e) is))
 
-    pub says_events : (after : State (Option ℕ) View) → Kept bounds after → get_elem? after.views last ≡ some (knowing r.shelf.texts all) → (j : ℕ) (w : View) → get_elem? after.views j ≡ some w → length w.seen ≤ k → HasNoEventMore m v w
+    pub says_events : (after : State Slot View) → Kept bounds after → get_elem? after.views last ≡ some (knowing r.shelf.texts all) → (j : ℕ) (w : View) → get_elem? after.views j ≡ some w → length w.seen ≤ k → HasNoEventMore m v w
     says_events after a whole j w here short =
         let b = beginning_made_by m (begins_all after a whole j w here short) in
         record {
@@ -293,7 +328,7 @@ module _ (bounds : Bounds) (s : State (Option ℕ) View) (r : Kept bounds s) (q 
           whole = own_events r.log r.changes r.seat_of r.reached r.holder r.engine id v.role v.mine m is (r.each_view id v at).makes ∙ (sym (longer_made q k r.log m other_maker) ∙ b.whole);
         }
 
-no_event_by_split : (bounds : Bounds) (s : State (Option ℕ) View) (r : Kept bounds s) (id : ℕ) (v : View) → get_elem? s.views id ≡ some v → (m o : Maker) → StandsFor v.role m → (StandsFor v.role o → ⊥) → IsProcessor bounds.processors o
+no_event_by_split : (bounds : Bounds) (s : State Slot View) (r : Kept bounds s) (id : ℕ) (v : View) → get_elem? s.views id ≡ some v → (m o : Maker) → StandsFor v.role m → (StandsFor v.role o → ⊥) → IsProcessor bounds.processors o
     → (left right : View) → Splits (Kept bounds) id v left right → HasNoEventMore m v left × HasNoEventMore m v right
 no_event_by_split bounds s r id v at m (Processor q) is not lt left right splits = (
   left_has bounds s r q lt (length left.seen) id v at not (HasNoEventMore m v) (says_events bounds s r q lt (length left.seen) id v at m is not) left right (omega arith) splits,
@@ -301,7 +336,7 @@ no_event_by_split bounds s r id v at m (Processor q) is not lt left right splits
 )
 no_event_by_split bounds s r id v at m Engine is not lt left right splits = absurd lt
 
-no_event_by_join : (bounds : Bounds) (s : State (Option ℕ) View) (r : Kept bounds s) (id : ℕ) (v : View) → get_elem? s.views id ≡ some v → (m o : Maker) → StandsFor v.role m → (StandsFor v.role o → ⊥) → IsProcessor bounds.processors o
+no_event_by_join : (bounds : Bounds) (s : State Slot View) (r : Kept bounds s) (id : ℕ) (v : View) → get_elem? s.views id ≡ some v → (m o : Maker) → StandsFor v.role m → (StandsFor v.role o → ⊥) → IsProcessor bounds.processors o
     → (other : ℕ) (w both gone : View) → (other ≡ id → ⊥) → get_elem? s.views other ≡ some w → (StandsFor w.role o → ⊥) → Joins (Kept bounds) id v other w both gone → HasNoEventMore m v both
 no_event_by_join bounds s r id v at m (Processor q) is not lt other w both gone apart there_too neither_one joins = both_have bounds s r q lt (length both.seen) id v at not (HasNoEventMore m v) (says_events bounds s r q lt (length both.seen) id v at m is not) other w both gone apart there_too neither_one (omega arith) joins
 no_event_by_join bounds s r id v at m Engine is not lt other w both gone apart there_too neither_one joins = absurd lt

@@ -1,5 +1,6 @@
 -- What an open section finds in a cell, and the words of the slot that it found.
-use Rattle.std.proofs.Common.{◌≡◌, ℕ, ◌+◌, ◌*◌, ◌/◌, ◌%◌, ◌<◌, ◌≤◌, ⊎_elim, Bool, true, false, cond, eqb, ◌&&◌, List, [], ◌∷◌, ◌++◌, All, Option, get_or, length, map, filter, count_by, refl, sym, ap, ◌∙◌, subst, eq-eqb, eqb-true, append_assoc, length-append, arith}
+use Rattle.std.specs.Prelude.{None}
+use Rattle.std.proofs.Common.{◌≡◌, ℕ, ◌+◌, ◌*◌, ◌/◌, ◌%◌, ◌<◌, ◌≤◌, ⊎_elim, Bool, true, false, cond, eqb, ◌&&◌, List, [], ◌∷◌, ◌++◌, All, get_or, length, map, filter, count_by, refl, sym, ap, ◌∙◌, subst, eq-eqb, eqb-true, append_assoc, length-append, arith}
 use Rattle.std.proofs.lemmas.List.{map-append, get_or_append_left}
 use Rattle.std.proofs.lemmas.List.Elements.{All-head, All-tail, filter-append, filter_map-append}
 use mathlib.Core.Option.{none, some}
@@ -12,7 +13,9 @@ use Rattle.onedom.specs.declared.event.Event.{Event}
 use Rattle.onedom.specs.declared.event.Event.TheVariants.{Begin, End, Start, Finish, Note, Ask, Find, Put}
 use Rattle.onedom.specs.Histories.{IsOpen, slot_of, version_of, shelved, finds, finds_of, HasFound, IsClear, MayFollow, IsLegal, IsBeginning}
 use Rattle.onedom.proofs.CallerLemmas.{bit, count_push, count_cons, count_append, along, legal_after_append, versions_up, version_kept, version_put, found_stays}
+use Rattle.sections.specs.Slots.{Slot}
 use Rattle.sections.specs.declared.view.Bounds.{Bounds}
+use Rattle.sections.specs.declared.view.Lent.{Lent}
 use Rattle.sections.specs.declared.view.Moment.{Moment}
 use Rattle.sections.specs.declared.view.Role.TheVariants.{Cpu}
 use Rattle.sections.specs.declared.view.Right.{Right}
@@ -86,7 +89,7 @@ known_later c v a b start known = let l = ap length (ap (texts_of c) start.whole
 pub found_later : (h log : List Event) (s c x v : ℕ) → IsBeginning h log → HasFound h s c x v → HasFound log s c x v
 found_later h log s c x v b f = record { before = f.before; by = f.by; after = f.after ++ b.rest; whole = b.whole ∙ (ap (λ l. l ++ b.rest) f.whole ∙ append_assoc f.before (Find s c x v f.by ∷ f.after) b.rest) }
 
-found_counts : (h : List Event) (s c x v : ℕ) → HasFound h s c x v → 0 < finds_of s c x h
+pub found_counts : (h : List Event) (s c x v : ℕ) → HasFound h s c x v → 0 < finds_of s c x h
 found_counts h s c x v f = let e : Event = Find s c x v f.by in
     let a : finds_of s c x h ≡ finds_of s c x f.before + finds_of s c x (e ∷ f.after) = ap (finds_of s c x) f.whole ∙ count_append (finds s c x) f.before (e ∷ f.after) in
     let d = count_cons (finds s c x) e f.after in
@@ -117,15 +120,15 @@ pub word_there : (n words c x i k : ℕ) {cells : ℕ} → c < cells → x < 8 �
 word_there n words c x i k lc lx li wide place = omega (arith, lc, lx, li, wide, place)
 
 module _ (bounds : Bounds) where
-  pub finds_here : (slots id k : ℕ) (me : Sat) (s p q c : ℕ) (i : Index) → me.0.processors ≡ bounds.processors → me.0.role ≡ Cpu p → p < bounds.processors → me.0.right ≡ Section s q i → c < bounds.cells → k ≡ cell_place bounds.processors c
+  pub finds_here : (slots id k : ℕ) (me : Sat) (s p q c : ℕ) (i : Index) (us : List Lent) → me.0.processors ≡ bounds.processors → me.0.role ≡ Cpu p → p < bounds.processors → me.0.right ≡ Section s q i us None → c < bounds.cells → k ≡ cell_place bounds.processors c
       → Allows (Kept bounds) slots id me k (λ x. x) (found (step slots k 0 0 none) me)
-  finds_here slots id k me s p q c i sized is lt right lc place = tells_at bounds slots id k me p (λ n. Find s c (n % 16) (n / 16) (Processor p)) (found (step slots k 0 0 none) me) sized is lt
+  finds_here slots id k me s p q c i us sized is lt right lc place = tells_at bounds slots id k me p (λ n. Find s c (n % 16) (n / 16) (Processor p)) (found (step slots k 0 0 none) me) sized is lt
       (λ n. record { by = refl; no_start = refl; no_finish = refl; no_lock = λ _ _. refl; no_unlock = λ _ _ _. refl; no_end = λ _. refl; maker = λ m lt. lt; no_put = refl })
       (λ st r at. ((held st r at).1, slot st r, version st r))
       (λ st r w changes texts right' adds. let n : ℕ = get_or st.words k 0 in (
         refl,
         right',
-        λ t o u d j is' there' word. let pq : p ≡ o = same_cpu p o (sym is ∙ is') in let st' : s ≡ t = (same_section s t q u i j (sym right ∙ there')).0 in let cd : c ≡ d = same_cell bounds.processors c d (sym place ∙ (word ∙ ap (λ n. cell_place n d) sized)) in
+        λ t o u d j vs is' there' word. let pq : p ≡ o = same_cpu p o (sym is ∙ is') in let st' : s ≡ t = (same_section s t q u i j (sym right ∙ there')).0 in let cd : c ≡ d = same_cell bounds.processors c d (sym place ∙ (word ∙ ap (λ n. cell_place n d) sized)) in
             subst (λ (z : ℕ × ℕ × ℕ). Adds me.0 (Find z.0 z.1 (n % 16) (n / 16) (Processor z.2)) w × IsKnown z.1 (n / 16) w.texts × (n % 16 < 8)) (λ h. (st' h, cd h, pq h)) (
               adds,
               subst (λ (z : List Text). IsKnown c (n / 16) z) (sym texts) (let all = texts_are c r.shelf.texts r.log r.within.legal r.shelf.shelved.cells in let v = version st r in omega (arith, all, v)),
@@ -133,19 +136,19 @@ module _ (bounds : Bounds) where
             ),
       ))
     where
-      held : (st : State (Option ℕ) View) (r : Kept bounds st) → get_elem? st.views id ≡ some me.0 → Has r.log r.changes r.seat_of r.reached r.holder r.engine id (Section s q i)
+      held : (st : State Slot View) (r : Kept bounds st) → get_elem? st.views id ≡ some me.0 → Has r.log r.changes r.seat_of r.reached r.holder r.engine id (Section s q i us None)
       held st r at = subst (λ (m : Right). Has r.log r.changes r.seat_of r.reached r.holder r.engine id m) right (r.each_view id me.0 at).has
 
-      word : (st : State (Option ℕ) View) (r : Kept bounds st) → get_or st.words k 0 ≡ 16 * version_of c r.log + slot_of c r.log
+      word : (st : State Slot View) (r : Kept bounds st) → get_or st.words k 0 ≡ 16 * version_of c r.log + slot_of c r.log
       word st r = ap (λ z. get_or st.words z 0) place ∙ r.shelf.shelved.current c lc
 
-      slot : (st : State (Option ℕ) View) (r : Kept bounds st) → get_or st.words k 0 % 16 ≡ slot_of c r.log
+      slot : (st : State Slot View) (r : Kept bounds st) → get_or st.words k 0 % 16 ≡ slot_of c r.log
       slot st r = let n = word st r in let low = r.shelf.shelved.low c in omega (arith, n, low)
 
-      version : (st : State (Option ℕ) View) (r : Kept bounds st) → get_or st.words k 0 / 16 ≡ version_of c r.log
+      version : (st : State Slot View) (r : Kept bounds st) → get_or st.words k 0 / 16 ≡ version_of c r.log
       version st r = let n = word st r in let low = r.shelf.shelved.low c in omega (arith, n, low)
 
-  pub loads_word_here : (slots id k : ℕ) (me : Sat) (m : Maker) (s q c x v i : ℕ) (j : Index) (a b : Moment) → IsMaker me.0.role m → me.0.processors ≡ bounds.processors → me.0.right ≡ Section s q j → me.0.told ≡ a ∷ b ∷ []
+  pub loads_word_here : (slots id k : ℕ) (me : Sat) (m : Maker) (s q c x v i : ℕ) (j : Index) (a b : Moment) → IsMaker me.0.role m → me.0.processors ≡ bounds.processors → me.0.right ≡ Section s q j [] None → me.0.told ≡ a ∷ b ∷ []
       → HasFound b.history s c x v → c < bounds.cells → x < 8 → i < 16 → k ≡ word_place bounds.processors c x i
       → Allows (Kept bounds) slots id me k (λ x. x) (loaded (step slots k 0 0 none) me)
   loads_word_here slots id k me m s q c x v i j a b is sized right told had lc lx li place = loads_here bounds slots id k me m (λ n _. LoadWord c v i n) (loaded (step slots k 0 0 none) me) is sized
@@ -166,12 +169,12 @@ module _ (bounds : Bounds) where
       second : (a b a' b' : Moment) → ◌≡◌ {A = List Moment} (a ∷ b ∷ []) (a' ∷ b' ∷ []) → b ≡ b'
       second a b a' b' e = cc
 
-      held : (st : State (Option ℕ) View) (r : Kept bounds st) → get_elem? st.views id ≡ some me.0 → Has r.log r.changes r.seat_of r.reached r.holder r.engine id (Section s q j)
+      held : (st : State Slot View) (r : Kept bounds st) → get_elem? st.views id ≡ some me.0 → Has r.log r.changes r.seat_of r.reached r.holder r.engine id (Section s q j [] None)
       held st r at = subst (λ (m : Right). Has r.log r.changes r.seat_of r.reached r.holder r.engine id m) right (r.each_view id me.0 at).has
 
-      met : (st : State (Option ℕ) View) (r : Kept bounds st) → get_elem? st.views id ≡ some me.0 → (s x v : ℕ) → HasFound b.history s c x v → HasFound r.log s c x v
+      met : (st : State Slot View) (r : Kept bounds st) → get_elem? st.views id ≡ some me.0 → (s x v : ℕ) → HasFound b.history s c x v → HasFound r.log s c x v
       met st r at s x v f = let all = subst (λ (l : List Moment). All (λ o. GoesOn o (now r.log r.changes)) l) told (r.each_view id me.0 at).told in
           let one = All-head (λ o. GoesOn o (now r.log r.changes)) b [] (All-tail (λ o. GoesOn o (now r.log r.changes)) a (b ∷ []) all) in found_later b.history r.log s c x v one.history f
 
-      word : (st : State (Option ℕ) View) (r : Kept bounds st) → get_elem? st.views id ≡ some me.0 → get_or st.words k 0 ≡ word_of c v i r.shelf.texts
+      word : (st : State Slot View) (r : Kept bounds st) → get_elem? st.views id ≡ some me.0 → get_or st.words k 0 ≡ word_of c v i r.shelf.texts
       word st r at = ap (λ z. get_or st.words z 0) place ∙ there bounds st.words r.log r.shelf.texts s c x v i r.shelf.shelved r.within.legal (held st r at).1 (met st r at s x v had) lc lx li

@@ -1,5 +1,5 @@
 -- No seat can claim a step that it did not make.
-use Rattle.std.proofs.Common.{◌≡◌, ℕ, zero, suc, ◌<◌, ◌≤◌, ◌≢◌, ◌⊎◌, Bool, true, false, cond, nat_le, List, [], ◌∷◌, ◌++◌, Option, map, length, set, refl, sym, ap, ◌∙◌, subst, inl, inr, ⊎_elim, append-nil, le-leb, leb-true, ne_eqb, arith}
+use Rattle.std.proofs.Common.{◌≡◌, ℕ, zero, suc, ◌<◌, ◌≤◌, ◌≢◌, ◌⊎◌, Bool, true, false, cond, nat_le, List, [], ◌∷◌, ◌++◌, map, length, set, refl, sym, ap, ◌∙◌, subst, inl, inr, ⊎_elim, append-nil, le-leb, leb-true, ne_eqb, arith}
 use Rattle.std.proofs.lemmas.List.{map-append}
 use Rattle.std.proofs.lemmas.List.Elements.{All-nil, All-push, filter-append}
 use mathlib.Core.Option.{some, some-injective, some-ne-none}
@@ -10,6 +10,9 @@ use Rattle.onedom.specs.declared.event.Maker.{Maker}
 use Rattle.onedom.specs.declared.event.Maker.TheVariants.{Processor, Engine}
 use Rattle.onedom.specs.Histories.{same_maker}
 use Rattle.onedom.proofs.CallerLemmas.{same_maker_false, beginning_empty}
+use Rattle.sections.specs.Banks.{FitsBank}
+use Rattle.sections.proofs.Banking.{reseat_banks, bank_free}
+use Rattle.sections.specs.Slots.{Slot}
 use Rattle.sections.specs.declared.view.Bounds.{Bounds}
 use Rattle.sections.specs.declared.view.Role.{Role}
 use Rattle.sections.specs.declared.view.Role.TheVariants.{Bearer, Cpu, Driver}
@@ -94,14 +97,14 @@ has_taught deeds o l at u h false e = let ds : List Deed = deeds ++ deed o l at 
 abbrev knowing : List Deed → View
 knowing ds = record spent { done = ds }
 
-module _ (bounds : Bounds) (s : State (Option ℕ) View) (r : Kept bounds s) (o : Maker) (l : Step) where
+module _ (bounds : Bounds) (s : State Slot View) (r : Kept bounds s) (o : Maker) (l : Step) where
   abbrev longer : List Deed
   longer = r.deeds ++ deed o l (now r.log r.changes) ∷ []
 
   abbrev views : List View
   views = map (taught o longer) s.views ++ knowing longer ∷ []
 
-  abbrev state : State (Option ℕ) View
+  abbrev state : State Slot View
   state = record { words = s.words; homes = s.homes; views = views }
 
   abbrev last : ℕ
@@ -130,6 +133,13 @@ module _ (bounds : Bounds) (s : State (Option ℕ) View) (r : Kept bounds s) (o 
       (record { has = refl; told = All-nil (λ m. m.texts ≡ texts_at r.shelf.texts m.history); writes = tt }))
       (at_snoc (map (taught o longer) s.views) (knowing longer) d j e)
 
+  each_bank : (j : ℕ) (d : View) → get_elem? views j ≡ some d → FitsBank bounds.processors r.log r.banks.books r.banks.lane_of j d
+  each_bank j d e = ⊎_elim
+      (λ (t : (j ≢ last) × (get_elem? (map (taught o longer) s.views) j ≡ some d)). let (u, at, is) = from_map (taught o longer) s.views j d t.1 in let f = r.banks.each j u at in
+      subst (λ (z : View). FitsBank bounds.processors r.log r.banks.books r.banks.lane_of j z) is (record { lane = f.lane; section = f.section; plan = f.plan; holds = f.holds; reads = f.reads; writes = f.writes }))
+      (λ (t : (j ≡ last) × (knowing longer ≡ d)). subst (λ (z : View). FitsBank bounds.processors r.log r.banks.books r.banks.lane_of j z) t.1 (bank_free bounds s.homes s.views r.log r.shelf.texts r.banks r.log r.banks.lane_of j (knowing longer) (λ p mans. absurd mans) refl))
+      (at_snoc (map (taught o longer) s.views) (knowing longer) d j e)
+
   kept : IsTrueOf (now r.log r.changes) l → IsTrueWord r.log r.shelf.texts l → Kept bounds state
   kept is word = record {
     log = r.log;
@@ -147,6 +157,7 @@ module _ (bounds : Bounds) (s : State (Option ℕ) View) (r : Kept bounds s) (o 
     done = done_push r.deeds o l (now r.log r.changes) is r.done;
     each_done = each_done;
     shelf = record { texts = r.shelf.texts; writer_of = r.shelf.writer_of; room = r.shelf.room; shelved = r.shelf.shelved; each = each_shelf; loaded = All-push (λ d. IsTrueWord r.log r.shelf.texts d.step) r.deeds (deed o l (now r.log r.changes)) r.shelf.loaded word };
+    banks = reseat_banks bounds s.homes s.views r.log r.shelf.texts r.banks views r.banks.lane_of (λ j v h at has. (taught o longer v, at_longer (map (taught o longer) s.views) (knowing longer ∷ []) j (taught o longer v) (at_map (taught o longer) s.views j v at), has)) each_bank;
   }
 
   -- a seat that doesn't stand for that maker is there as before
@@ -162,13 +173,13 @@ module _ (bounds : Bounds) (s : State (Option ℕ) View) (r : Kept bounds s) (o 
   abbrev Told : View → Type 0
   Told w = IsUpto w.done r.deeds ⊎ ((more : List Deed) × (w.done ≡ r.deeds ++ deed o l (now r.log r.changes) ∷ more))
 
-  told : (after : State (Option ℕ) View) → Kept bounds after → get_elem? after.views last ≡ some (knowing longer) → (j : ℕ) (w : View) → get_elem? after.views j ≡ some w → Told w
+  told : (after : State Slot View) → Kept bounds after → get_elem? after.views last ≡ some (knowing longer) → (j : ℕ) (w : View) → get_elem? after.views j ≡ some w → Told w
   told after k all j w at = let a = (k.each_done j w at).upto in let b = (k.each_done last (knowing longer) all).upto in
       either_way w.done a.rest r.deeds (deed o l (now r.log r.changes)) b.rest (sym a.whole ∙ b.whole)
 
   cut : IsTrueOf (now r.log r.changes) l → IsTrueWord r.log r.shelf.texts l → (id : ℕ) (v left right : View) → get_elem? s.views id ≡ some v → (StandsFor v.role o → ⊥) → Splits (Kept bounds) id v left right → Told left × Told right
   cut is word id v left right at not splits =
-      let after : State (Option ℕ) View = record { words = s.words; homes = s.homes; views = set views id left ++ right ∷ [] } in
+      let after : State Slot View = record { words = s.words; homes = s.homes; views = set views id left ++ right ∷ [] } in
       let k : Kept bounds after = splits state (kept is word) (there id v at not) in
       let low = below id v at in
       let all : get_elem? after.views last ≡ some (knowing longer) = at_longer (set views id left) (right ∷ []) last (knowing longer) (set_else views id last left (λ h. omega (arith, h, low)) ∙ knows_all) in (
@@ -178,7 +189,7 @@ module _ (bounds : Bounds) (s : State (Option ℕ) View) (r : Kept bounds s) (o 
 
   taken : IsTrueOf (now r.log r.changes) l → IsTrueWord r.log r.shelf.texts l → (id : ℕ) (v : View) (other : ℕ) (w both gone : View) → get_elem? s.views id ≡ some v → (StandsFor v.role o → ⊥) → (other ≡ id → ⊥) → get_elem? s.views other ≡ some w → (StandsFor w.role o → ⊥) → Joins (Kept bounds) id v other w both gone → Told both
   taken is word id v other w both gone at not apart there_too neither_one joins =
-      let after : State (Option ℕ) View = record { words = s.words; homes = s.homes; views = set (set views id both) other gone } in
+      let after : State Slot View = record { words = s.words; homes = s.homes; views = set (set views id both) other gone } in
       let k : Kept bounds after = joins state (kept is word) (there id v at not) apart (set_else views id other both apart ∙ there other w there_too neither_one) in
       let low = below id v at in
       let low_too = below other w there_too in
@@ -193,7 +204,7 @@ no_more deeds m v w h is upto = record {
 }
 
 -- that maker may have loaded the index word or have added to it: no view knows which
-module _ (bounds : Bounds) (s : State (Option ℕ) View) (r : Kept bounds s) (id : ℕ) (v : View) (at : get_elem? s.views id ≡ some v) (m o : Maker) (is : StandsFor v.role m) (not : StandsFor v.role o → ⊥) where
+module _ (bounds : Bounds) (s : State Slot View) (r : Kept bounds s) (id : ℕ) (v : View) (at : get_elem? s.views id ≡ some v) (m o : Maker) (is : StandsFor v.role m) (not : StandsFor v.role o → ⊥) where
   abbrev n : ℕ
   n = index_word r.changes
 

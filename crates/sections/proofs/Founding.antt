@@ -15,6 +15,7 @@ use Rattle.sections.specs.declared.view.Right.TheVariants.{Nothing}
 use Rattle.sections.specs.Rule.{HasItsMaker, founder}
 use Rattle.sections.specs.Insides.{IsAtRest}
 use Rattle.sections.specs.Making.{IsCount, IsSmall}
+use Rattle.sections.proofs.Offers.{no_vault}
 use Rattle.std.proofs.lemmas.List.Elements.{All-nil}
 
 pub all_zero : (n : ℕ) (words : List ℕ) → words ≡ replicate n 0 → (k : ℕ) → get_or words k 0 ≡ 0
@@ -41,4 +42,4 @@ small_enough processors limits count range = let most = count.1 in let few = ran
 }
 
 pub rests_founding : (bounds : Bounds) (k : ℕ) → IsAtRest (record (founder bounds) { role = Driver k; right = Nothing })
-rests_founding bounds k = record { free = refl; told = refl; sound = record { legal = tt; makers = All-nil (HasItsMaker bounds.processors); own = refl; reaches = record { started = refl; ended = refl }; texts = refl } }
+rests_founding bounds k = record { free = refl; told = refl; sound = record { legal = tt; makers = All-nil (HasItsMaker bounds.processors); own = refl; reaches = record { started = refl; ended = refl }; texts = refl; vaults = no_vault } }

@@ -77,8 +77,8 @@ makes_as log changes seat_of reached holder holder' engine j (Driver k) mine h =
 
 pub has_as : (log : List Event) (changes : ℕ) (seat_of seat_of' reached holder holder' : ℕ → ℕ) (engine j : ℕ) → ((s : ℕ) → holder s ≡ j → holder' s ≡ j) → (t : Right) → Has log changes seat_of reached holder engine j t → Has log changes seat_of' reached holder' engine j t
 has_as log changes seat_of seat_of' reached holder holder' engine j same Nothing h = tt
-has_as log changes seat_of seat_of' reached holder holder' engine j same (Section s p i) h = (same s h.0, h.1, h.2, h.3)
-has_as log changes seat_of seat_of' reached holder holder' engine j same (Shelf c words seen) h = tt
+has_as log changes seat_of seat_of' reached holder holder' engine j same (Section s p i us hand) h = (same s h.0, h.1, h.2, h.3)
+has_as log changes seat_of seat_of' reached holder holder' engine j same (Shelf c words seen q) h = tt
 has_as log changes seat_of seat_of' reached holder holder' engine j same (Undealt c) h = tt
 
 pub knows_as : (log : List Event) (changes : ℕ) (seat_of reached holder holder' : ℕ → ℕ) (engine j : ℕ) (m : Role) (known : ℕ) → Knows log changes seat_of reached holder engine j m known → Knows log changes seat_of reached holder' engine j m known
@@ -106,8 +106,8 @@ makes_reached log changes seat_of reached reached' holder engine j (Driver k) mi
 
 has_reached : (log : List Event) (changes : ℕ) (seat_of reached reached' holder : ℕ → ℕ) (engine j : ℕ) (t : Right) → Has log changes seat_of reached holder engine j t → Has log changes seat_of reached' holder engine j t
 has_reached log changes seat_of reached reached' holder engine j Nothing h = h
-has_reached log changes seat_of reached reached' holder engine j (Section s p i) h = h
-has_reached log changes seat_of reached reached' holder engine j (Shelf c words seen) h = h
+has_reached log changes seat_of reached reached' holder engine j (Section s p i us hand) h = h
+has_reached log changes seat_of reached reached' holder engine j (Shelf c words seen q) h = h
 has_reached log changes seat_of reached reached' holder engine j (Undealt c) h = h
 
 knows_reached : (log : List Event) (changes : ℕ) (seat_of reached reached' holder : ℕ → ℕ) (engine j : ℕ) (m : Role) (known : ℕ) → ((p : ℕ) → m ≡ Cpu p → reached' p ≤ known)
@@ -134,20 +134,20 @@ reached_more log changes seat_of reached reached' holder engine j more v low f =
 -- who holds the sections, after this right went to a seat
 abbrev pub moved : Right → ℕ → (ℕ → ℕ) → ℕ → ℕ
 moved Nothing m holder u = holder u
-moved (Section t p i) m holder u = given t m holder u
-moved (Shelf c words seen) m holder u = holder u
+moved (Section t p i us hand) m holder u = given t m holder u
+moved (Shelf c words seen q) m holder u = holder u
 moved (Undealt c) m holder u = holder u
 
 pub moved_has : (log : List Event) (changes : ℕ) (seat_of reached holder : ℕ → ℕ) (engine j m : ℕ) (t : Right) → Has log changes seat_of reached holder engine j t → Has log changes seat_of reached (moved t m holder) engine m t
 moved_has log changes seat_of reached holder engine j m Nothing h = tt
-moved_has log changes seat_of reached holder engine j m (Section t p i) h = (given_here t m holder, h.1, h.2, h.3)
-moved_has log changes seat_of reached holder engine j m (Shelf c words seen) h = tt
+moved_has log changes seat_of reached holder engine j m (Section t p i us hand) h = (given_here t m holder, h.1, h.2, h.3)
+moved_has log changes seat_of reached holder engine j m (Shelf c words seen q) h = tt
 moved_has log changes seat_of reached holder engine j m (Undealt c) h = tt
 
 pub moved_else : (log : List Event) (changes : ℕ) (seat_of reached holder : ℕ → ℕ) (engine j m : ℕ) (t : Right) → Has log changes seat_of reached holder engine j t → (k : ℕ) → k ≢ j → (s : ℕ) → holder s ≡ k → moved t m holder s ≡ k
 moved_else log changes seat_of reached holder engine j m Nothing h k other s at = at
-moved_else log changes seat_of reached holder engine j m (Section t p i) h k other s at = given_else t m holder s (λ st. other (sym at ∙ (ap holder st ∙ h.0))) ∙ at
-moved_else log changes seat_of reached holder engine j m (Shelf c words seen) h k other s at = at
+moved_else log changes seat_of reached holder engine j m (Section t p i us hand) h k other s at = given_else t m holder s (λ st. other (sym at ∙ (ap holder st ∙ h.0))) ∙ at
+moved_else log changes seat_of reached holder engine j m (Shelf c words seen q) h k other s at = at
 moved_else log changes seat_of reached holder engine j m (Undealt c) h k other s at = at
 
 -- What a seat knows stays so where another seat's maker adds an event
@@ -169,13 +169,13 @@ own_begins_stay s m log e miss = own_begins_case s m log e (same_maker (maker_of
 pub has_stays : (log : List Event) (changes : ℕ) (seat_of reached holder holder' : ℕ → ℕ) (engine j : ℕ) (e : Event) → MayFollow log e → ((s : ℕ) → holder s ≡ j → ends s e ≡ false) → ((s : ℕ) → IsOpen log s → holder' s ≡ holder s)
     → (t : Right) → Has log changes seat_of reached holder engine j t → Has (log ++ e ∷ []) changes seat_of reached holder' engine j t
 has_stays log changes seat_of reached holder holder' engine j e may unended same Nothing h = tt
-has_stays log changes seat_of reached holder holder' engine j e may unended same (Section s p i) h = let miss = not_again s log e may h.1 in (
+has_stays log changes seat_of reached holder holder' engine j e may unended same (Section s p i us hand) h = let miss = not_again s log e may h.1 in (
   same s h.1 ∙ h.0,
   open_stays s log e (unended s h.0) h.1,
   open_index_stays s log e may h.1 ∙ h.2,
   own_begins_stay s (Processor p) log e miss ∙ h.3,
 )
-has_stays log changes seat_of reached holder holder' engine j e may unended same (Shelf c words seen) h = tt
+has_stays log changes seat_of reached holder holder' engine j e may unended same (Shelf c words seen q) h = tt
 has_stays log changes seat_of reached holder holder' engine j e may unended same (Undealt c) h = tt
 
 pub knows_stay : (log : List Event) (changes : ℕ) (seat_of reached holder holder' : ℕ → ℕ) (engine j : ℕ) (e : Event) (m : Role) (known : ℕ) → Knows log changes seat_of reached holder engine j m known → Knows (log ++ e ∷ []) changes seat_of reached holder' engine j m known
@@ -220,8 +220,8 @@ makes_later log changes changes' seat_of reached holder engine j (Driver k) mine
 
 pub has_later : (log : List Event) (changes changes' : ℕ) (seat_of reached holder : ℕ → ℕ) (engine j : ℕ) (t : Right) → Has log changes seat_of reached holder engine j t → Has log changes' seat_of reached holder engine j t
 has_later log changes changes' seat_of reached holder engine j Nothing h = h
-has_later log changes changes' seat_of reached holder engine j (Section s p i) h = h
-has_later log changes changes' seat_of reached holder engine j (Shelf c words seen) h = h
+has_later log changes changes' seat_of reached holder engine j (Section s p i us hand) h = h
+has_later log changes changes' seat_of reached holder engine j (Shelf c words seen q) h = h
 has_later log changes changes' seat_of reached holder engine j (Undealt c) h = h
 
 pub fits_later : (log : List Event) (changes changes' : ℕ) (seat_of reached holder : ℕ → ℕ) (engine j : ℕ) → changes ≤ changes' → (engine ≡ j → changes' ≡ changes) → (v : View) → Fits log changes seat_of reached holder engine j v → Fits log changes' seat_of reached holder engine j v

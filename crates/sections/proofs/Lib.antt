@@ -1,31 +1,44 @@
-pub mod CallerLemmas
-mod Counters
 mod Agreement
-mod Knowing
-mod Shelving
-mod Deeds
-mod Steps
-mod Finding
-mod Writing
-mod Standings
-mod Reclaiming
 mod Asking
-mod EngineSteps
-mod Sharing
-mod Seating
+mod Boxes
+mod Counters
 mod CpuViews
-mod Polling
-mod Finds
-mod Staying
-mod Meeting
-mod Pinning
-mod Wholes
-mod Entering
-mod Putting
+mod Deeds
+mod Drawing
+mod EngineSteps
 mod EngineViews
-mod Founding
+mod Entering
 mod EventForging
+mod Finding
+mod Finds
 mod Forging
-mod Sums
+mod Founding
+mod Giving
+mod Handling
+mod Knowing
+mod Laying
+mod Lending
+mod Meeting
+mod Offered
+mod Offering
+mod Offers
 mod OneHistory
+mod Pinning
+mod Polling
+mod Putting
+mod Recalled
+mod Reclaiming
+mod Seating
+mod Sharing
+mod Shelving
 mod Sighting
+mod Standings
+mod Staying
+mod Steps
+mod Sums
+mod Wholes
+mod Writing
+pub mod Banking
+pub mod CallerLemmas
+pub mod Counting
+pub mod Taking

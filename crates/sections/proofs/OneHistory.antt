@@ -49,6 +49,7 @@ one_history bounds s r = record {
   texts = r.shelf.texts;
   shelved = r.shelf.shelved;
   told = λ j v at. (r.shelf.each j v at).has;
+  vaults = r.banks.one_vault;
 }
   where
     made : (log : List Event) (changes : ℕ) (seat_of reached holder : ℕ → ℕ) (engine j : ℕ) (role : Role) (mine : List Event) (m : Maker) → IsMaker role m → Makes log changes seat_of reached holder engine j role mine → mine ≡ made_by m log

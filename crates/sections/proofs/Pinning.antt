@@ -1,4 +1,5 @@
 -- From what a load of a word tells a seat to what a caller sees.
+use Rattle.std.specs.Prelude.{None}
 use Rattle.std.proofs.Common.{◌≡◌, ℕ, ◌<◌, ◌≤◌, ◌/◌, ◌%◌, List, [], ◌∷◌, ◌++◌, arith, get_or, refl, sym, ap, ◌∙◌, subst}
 use Rattle.std.proofs.lemmas.List.Elements.{All-head, All-tail}
 use Rattle.atomic_table.specs.Seated.{TableId}
@@ -9,6 +10,7 @@ use Rattle.onedom.specs.declared.event.Event.TheVariants.{Find}
 use Rattle.sseq.specs.declared.index.Index.{Index}
 use Rattle.onedom.specs.Histories.{slot_of, version_of, HasFound, IsLegal, IsBeginning}
 use Rattle.onedom.proofs.CallerLemmas.{beginning_append, legal_beginning, slot_kept, version_kept, versions_up}
+use Rattle.sections.specs.declared.view.Lent.{Lent}
 use Rattle.sections.specs.declared.view.Role.TheVariants.{Cpu}
 use Rattle.sections.specs.declared.view.Right.TheVariants.{Section}
 use Rattle.sections.specs.declared.view.Step.{Step}
@@ -81,12 +83,12 @@ abbrev pub found_in : ℕ → ℕ → DomainSeat → found.Inside
 found_in cell word seat = record { cell = cell; slot = word % 16; version = word / 16; seat = seat }
 
 -- A find, whoever lends the right
-module _ {A : Type 0} {c : cpu.Inside A} {cell word p : ℕ} {k : Index} {lender seat token : DomainSeat} (i : IsCpu c) (right : lender.me.0.right ≡ Section (section_of lender.me.0.right) p k) (f : FindsIn cell c.seat lender word seat token) where
+module _ {A : Type 0} {c : cpu.Inside A} {cell word p : ℕ} {k : Index} {us : List Lent} {lender seat token : DomainSeat} (i : IsCpu c) (right : lender.me.0.right ≡ Section (section_of lender.me.0.right) p k us None) (f : FindsIn cell c.seat lender word seat token) where
   abbrev event : Event
   event = Find (section_of lender.me.0.right) cell (word % 16) (word / 16) (Processor c.processor)
 
   told : Adds (informed c.seat.me.0 (bearer lender.me.0)) event f.after × IsKnown cell (word / 16) f.after.texts × (word % 16 < 8)
-  told = f.adds (section_of lender.me.0.right) p c.processor k i.role right
+  told = f.adds (section_of lender.me.0.right) p c.processor k us i.role right
 
   cut : seat.me.0 ≡ lacking f.after
   cut = ap (λ m. m.0) f.stays
@@ -139,7 +141,7 @@ module _ {t : found.Inside} {lender : DomainSeat} (b : IsFound t) (pinned : (t.s
     met = λ s q j right. subst (λ (z : ℕ). HasFound t.seat.me.0.seen z t.cell t.slot t.version) (ap section_of right) pinned.1;
   }
 
-  module _ {A : Type 0} {c : cpu.Inside A} {place word p : ℕ} {k : Index} {seat : DomainSeat} (i : IsCpu c) (right : lender.me.0.right ≡ Section (section_of lender.me.0.right) p k) (f : LoadsIn t.cell t.slot place c.seat lender t.seat word seat) where
+  module _ {A : Type 0} {c : cpu.Inside A} {place word p : ℕ} {k : Index} {seat : DomainSeat} (i : IsCpu c) (right : lender.me.0.right ≡ Section (section_of lender.me.0.right) p k [] None) (f : LoadsIn t.cell t.slot place c.seat lender t.seat word seat) where
     abbrev step : Step
     step = LoadWord t.cell t.version place word
 

@@ -35,6 +35,7 @@ reclaims_none w c = record {
   some = λ lt. absurd (omega (arith, lt));
   same = (record { domain = refl; cell = refl; slots = refl; version = refl; current = refl }, (refl, refl, refl, refl));
   words = refl;
+  plan = refl;
   since = (beginning_refl c.seen, omega arith, start_refl c.texts, beginning_refl w.seen);
 }
 
@@ -59,6 +60,7 @@ reclaims_skip_suc k w c w' c' still other h =
       some = λ lt. h.some (subst (λ (l : List Event). 0 < length l) all lt);
       same = h.same;
       words = h.words;
+      plan = h.plan;
       since = h.since;
     }
 
@@ -95,6 +97,7 @@ reclaims_ask_suc k n answer w c w' c' w'' c'' still is h r =
         (a.same.0 ∙ h.same.1.0, a.same.1 ∙ h.same.1.1, a.same.2 ∙ h.same.1.2, a.same.3 ∙ h.same.1.3),
       );
       words = r.words ∙ h.words;
+      plan = r.plan ∙ h.plan;
       since = (beginning_trans h.since.0 (beginning_trans a.since upto), omega (arith, low, high), start_trans h.since.2 a.texts, beginning_trans h.since.3 r.since);
     }
   where

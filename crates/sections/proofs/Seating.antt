@@ -51,6 +51,7 @@ covers_from n v o j w free joined h current driven = let l : Sees (LoadIndex n) 
   driven = subst (λ (z : View). (k : ℕ) → z.role ≡ Driver k → w.changes ≡ z.changes) joined driven;
   covers = (All-head (λ m. GoesOn m (moment_of w)) (moment_of o) v.told l.covers).history;
   not_before = (All-head (λ m. GoesOn m (moment_of w)) (moment_of o) v.told l.covers).changes;
+  brings = All-head (λ m. IsStart m.texts w.texts) (moment_of o) v.told l.texts.covers;
   sound = l.sound;
 }
 

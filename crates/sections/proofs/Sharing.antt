@@ -1,14 +1,20 @@
 -- Seats that are cut in two, joined and dealt keep the rule.
-use Rattle.std.proofs.Common.{◌≡◌, ℕ, zero, suc, ◌+◌, ◌*◌, ◌<◌, ◌≤◌, ◌≢◌, List, [], ◌∷◌, ◌++◌, All, Option, get_or, length, set, refl, sym, ap, ◌∙◌, subst, ⊎_elim, arith}
-use Rattle.std.proofs.lemmas.List.{get_or-replicate, length-replicate}
+use Rattle.std.proofs.Common.{◌≡◌, ℕ, zero, suc, ◌+◌, ◌*◌, ◌<◌, ◌≤◌, ◌≢◌, inr, List, [], ◌∷◌, ◌++◌, All, get_or, length, replicate, set, refl, sym, ap, ◌∙◌, subst, ⊎_elim, arith}
+use Rattle.std.proofs.lemmas.List.{get_or-replicate, length-replicate, length-map}
 use Rattle.std.proofs.lemmas.List.Elements.{All-nil, All-cons}
-use Rattle.sections.specs.declared.view.Right.TheVariants.{Undealt}
+use Rattle.std.specs.Prelude.{None}
+use Rattle.sections.specs.Banks.{key_place, hand_in, section_in, no_bank, no_plan, bank_of, PlanIn, Mans, IsLent, IsPlan, HasVault, Books, FitsBank, KeepsBanks}
+use Rattle.sections.specs.Views.{no_domain}
+use Rattle.sections.specs.declared.view.Bank.{Bank}
+use Rattle.sections.proofs.Banking.{split_banks, join_banks, bank_free, bank_moved, bank_plans, deal_banks, total_zero}
+use Rattle.sections.specs.Slots.{Slot}
+use Rattle.sections.specs.declared.view.Right.TheVariants.{Shelf, Undealt}
 use mathlib.Core.Logic.{dite}
 use native.Mathlib.Decide.{ℕ_discrete}
 use mathlib.Core.Option.{some, some-injective, some-ne-none}
 use lib.ListN.{get_elem?}
 use Rattle.atomic_table.specs.Table.{State, Splits, Joins, opening}
-use Rattle.atomic_table.proofs.Lists.{at_set}
+use Rattle.atomic_table.proofs.Lists.{at_set, at_map}
 use Rattle.onedom.specs.declared.event.Maker.{Maker}
 use Rattle.onedom.specs.declared.event.Maker.TheVariants.{Processor, Engine}
 use Rattle.onedom.specs.declared.event.Event.{Event}
@@ -23,6 +29,7 @@ use Rattle.sections.specs.Words.{word_count, word_place}
 use Rattle.sections.specs.Rule.{HasItsMaker, GoesOn, IsTrueOf, StandsFor, HasDone, moment_of, Makes, Has, Knows, Fits, AreSmall, Kept, founder, HasReached, lacking, bearer, informed, mark, shower, hearing, noting, regaining, spent, without_next, next_role, dealer, dealt, without_cell, next_cell, pen_dealer, pen_dealt}
 use Rattle.sections.specs.declared.view.Moment.{Moment}
 use Rattle.sections.specs.Shelves.{texts_at, Writes, FitsShelf, IsTrueWord}
+use Rattle.sections.proofs.Offers.{no_vault}
 use Rattle.sections.proofs.Shelving.{moved_pen, moved_writes, moved_pen_else, fits_shelf_as, shelved_new}
 use Rattle.sections.proofs.Agreement.{agrees_new}
 use Rattle.sections.proofs.Deeds.{upto_empty, has_done_as, has_done_none}
@@ -32,11 +39,11 @@ module _ (bounds : Bounds) where
   -- Splits and joins
 
   -- the same words and history, and other views
-  reviewed : (s : State (Option ℕ) View) (r : Kept bounds s) (views : List View) (seat_of reached holder : ℕ → ℕ) → ((p : ℕ) → reached p ≤ r.changes) → ((j : ℕ) (d : View) → get_elem? views j ≡ some d → Fits r.log r.changes seat_of reached holder r.engine j d)
+  reviewed : (s : State Slot View) (r : Kept bounds s) (views : List View) (seat_of reached holder : ℕ → ℕ) → ((p : ℕ) → reached p ≤ r.changes) → ((j : ℕ) (d : View) → get_elem? views j ≡ some d → Fits r.log r.changes seat_of reached holder r.engine j d)
       → ((j : ℕ) (d : View) → get_elem? views j ≡ some d → HasDone r.deeds d)
-      → (writer_of : ℕ → ℕ) → ((j : ℕ) (d : View) → get_elem? views j ≡ some d → FitsShelf bounds s.words r.log r.shelf.texts writer_of j d)
+      → (writer_of : ℕ → ℕ) → ((j : ℕ) (d : View) → get_elem? views j ≡ some d → FitsShelf bounds s.words r.log r.shelf.texts writer_of j d) → KeepsBanks bounds s.homes views r.log r.shelf.texts
       → Kept bounds record { words = s.words; homes = s.homes; views = views }
-  reviewed s r views seat_of reached holder known each each_done writer_of each_shelf = record {
+  reviewed s r views seat_of reached holder known each each_done writer_of each_shelf banks = record {
     log = r.log;
     changes = r.changes;
     seat_of = seat_of;
@@ -52,10 +59,11 @@ module _ (bounds : Bounds) where
     done = r.done;
     each_done = each_done;
     shelf = record { texts = r.shelf.texts; writer_of = writer_of; room = r.shelf.room; shelved = r.shelf.shelved; each = each_shelf; loaded = r.shelf.loaded };
+    banks = banks;
   }
 
-  pub gives_token : (id : ℕ) (v : View) → Splits (Kept bounds) id v (lacking v) (bearer v)
-  gives_token id v s r at = let f = r.each_view id v at in let m : ℕ = length s.views in let holder' : ℕ → ℕ = moved v.right m r.holder in
+  pub gives_token : (id : ℕ) (v : View) → hand_in v.right ≡ None → Splits (Kept bounds) id v (lacking v) (bearer v)
+  gives_token id v free s r at = let f = r.each_view id v at in let m : ℕ = length s.views in let holder' : ℕ → ℕ = moved v.right m r.holder in
       reviewed s r (set s.views id (lacking v) ++ bearer v ∷ []) r.seat_of r.reached holder' r.known (views_split (Fits r.log r.changes r.seat_of r.reached holder' r.engine) s.views id v (lacking v) (bearer v) at
       record { seen = f.seen; knows = knows_as r.log r.changes r.seat_of r.reached r.holder holder' r.engine id v.role v.changes f.knows; told = f.told; makes = makes_as r.log r.changes r.seat_of r.reached r.holder holder' r.engine id v.role v.mine f.makes; has = tt; shown = f.shown }
       record { seen = f.seen; knows = known_before r.log r.changes r.seat_of r.reached r.holder r.engine id v.role v.changes f.knows; told = All-nil (λ m. GoesOn m (now r.log r.changes)); makes = tt; has = moved_has r.log r.changes r.seat_of r.reached r.holder r.engine id m v.right f.has; shown = tt }
@@ -65,13 +73,14 @@ module _ (bounds : Bounds) where
       record { has = g.has; told = g.told; writes = tt }
       record { has = g.has; told = All-nil (λ x. x.texts ≡ texts_at r.shelf.texts x.history); writes = moved_writes bounds s.words r.log r.shelf.writer_of id m v.right g.writes }
       (λ j d ne e. fits_shelf_as bounds s.words r.log r.shelf.texts r.shelf.writer_of (moved_pen v.right m r.shelf.writer_of) j (moved_pen_else bounds s.words r.log r.shelf.writer_of id m v.right g.writes j ne) d (r.shelf.each j d e)))
+      (let k = r.banks in let h = k.each id v at in split_banks bounds s.homes s.views r.log r.shelf.texts k k.lane_of id v (lacking v) (bearer v) at (sym free) (bank_free bounds s.homes s.views r.log r.shelf.texts k r.log k.lane_of id (lacking v) h.lane refl) (bank_moved bounds s.homes s.views r.log r.shelf.texts k k.lane_of id m v (bearer v) h (λ p mans. absurd mans) refl free) (λ j d ne g. g))
 
   -- two seats become one, which takes over the right of the other
   joined : (id : ℕ) (v : View) (other : ℕ) (w both : View) → both.role ≡ v.role → both.mine ≡ v.mine → both.done ≡ v.done → both.right ≡ w.right → both.seen ≡ v.seen → both.texts ≡ v.texts → ((P : Moment → Type 0) → All P v.told → P (moment_of w) → All P both.told)
       → ((log : List Event) (changes : ℕ) (seat_of reached holder : ℕ → ℕ) (engine : ℕ) → Fits log changes seat_of reached holder engine id v → IsBeginning w.seen log → w.changes ≤ changes → HasReached reached w.shown
       → IsBeginning both.seen log × Knows log changes seat_of reached holder engine id both.role both.changes × All (λ m. GoesOn m (now log changes)) both.told × HasReached reached both.shown)
-      → Joins (Kept bounds) id v other w both spent
-  joined id v other w both same_role same_mine same_done same_right same_seen same_texts tells learns s r at apart there =
+      → hand_in v.right ≡ None → hand_in w.right ≡ None → Joins (Kept bounds) id v other w both spent
+  joined id v other w both same_role same_mine same_done same_right same_seen same_texts tells learns free free' s r at apart there =
       let f = r.each_view id v at in
       let was : get_elem? s.views other ≡ some w = ⊎_elim (λ (t : (other ≡ id) × (both ≡ w)). absurd (apart t.0)) (λ (t : (other ≢ id) × (get_elem? s.views other ≡ some w)). t.1) (at_set s.views id other both w there) in
       let g = r.each_view other w was in
@@ -103,25 +112,26 @@ module _ (bounds : Bounds) where
       (λ j d ne e. ⊎_elim (λ (t : (j ≡ id) × (both ≡ d)). subst (λ (x : ℕ × View). P x.0 x.1) (λ i. (sym t.0 i, t.1 i)) mine)
       (λ (t : (j ≢ id) × (get_elem? s.views j ≡ some d)). fits_shelf_as bounds s.words r.log r.shelf.texts r.shelf.writer_of (moved_pen w.right id r.shelf.writer_of) j (moved_pen_else bounds s.words r.log r.shelf.writer_of other id w.right b.writes j ne) d (r.shelf.each j d t.1))
       (at_set s.views id j both d e)))
+      (let k = r.banks in join_banks bounds s.homes s.views r.log r.shelf.texts k id v other w both spent at was free free' (bank_moved bounds s.homes s.views r.log r.shelf.texts k k.lane_of other id w both (k.each other w was) (λ p mans. (k.each id v at).lane p (subst (λ z. Mans z p) same_role mans)) same_right free') (bank_free bounds s.homes s.views r.log r.shelf.texts k r.log k.lane_of other spent (λ p mans. absurd mans) refl))
 
-  pub takes_token : (id : ℕ) (v : View) (other : ℕ) (w : View) → Joins (Kept bounds) id v other w (informed v w) spent
-  takes_token id v other w = joined id v other w (informed v w) refl refl refl refl refl refl (λ P a p. All-cons P (moment_of w) v.told p a) (λ log changes seat_of reached holder engine f seen known shown.
-      (f.seen, f.knows, All-cons (λ m. GoesOn m (now log changes)) (moment_of w) v.told (record { history = seen; changes = known }) f.told, f.shown))
+  pub takes_token : (id : ℕ) (v : View) (other : ℕ) (w : View) → hand_in v.right ≡ None → hand_in w.right ≡ None → Joins (Kept bounds) id v other w (informed v w) spent
+  takes_token id v other w free free' = joined id v other w (informed v w) refl refl refl refl refl refl (λ P a p. All-cons P (moment_of w) v.told p a) (λ log changes seat_of reached holder engine f seen known shown.
+      (f.seen, f.knows, All-cons (λ m. GoesOn m (now log changes)) (moment_of w) v.told (record { history = seen; changes = known }) f.told, f.shown)) free free'
 
-  pub hears : (id : ℕ) (v : View) (other : ℕ) (w : View) → Joins (Kept bounds) id v other w (hearing v w) spent
-  hears id v other w = joined id v other w (hearing v w) refl refl refl refl refl refl (λ P a p. All-cons P (moment_of w) v.told p a) (λ log changes seat_of reached holder engine f seen known shown.
-      (f.seen, f.knows, All-cons (λ m. GoesOn m (now log changes)) (moment_of w) v.told (record { history = seen; changes = known }) f.told, shown))
+  pub hears : (id : ℕ) (v : View) (other : ℕ) (w : View) → hand_in v.right ≡ None → hand_in w.right ≡ None → Joins (Kept bounds) id v other w (hearing v w) spent
+  hears id v other w free free' = joined id v other w (hearing v w) refl refl refl refl refl refl (λ P a p. All-cons P (moment_of w) v.told p a) (λ log changes seat_of reached holder engine f seen known shown.
+      (f.seen, f.knows, All-cons (λ m. GoesOn m (now log changes)) (moment_of w) v.told (record { history = seen; changes = known }) f.told, shown)) free free'
 
-  pub notes : (id : ℕ) (v : View) (other : ℕ) (w : View) → Joins (Kept bounds) id v other w (noting v w) spent
-  notes id v other w = joined id v other w (noting v w) refl refl refl refl refl refl (λ P a p. a) (λ log changes seat_of reached holder engine f seen known shown. (f.seen, f.knows, f.told, shown))
+  pub notes : (id : ℕ) (v : View) (other : ℕ) (w : View) → hand_in v.right ≡ None → hand_in w.right ≡ None → Joins (Kept bounds) id v other w (noting v w) spent
+  notes id v other w free free' = joined id v other w (noting v w) refl refl refl refl refl refl (λ P a p. a) (λ log changes seat_of reached holder engine f seen known shown. (f.seen, f.knows, f.told, shown)) free free'
 
-  pub regains : (id : ℕ) (v : View) (other : ℕ) (w : View) → Joins (Kept bounds) id v other w (regaining v w) spent
-  regains id v other w = joined id v other w (regaining v w) refl refl refl refl refl refl (λ P a p. a) (λ log changes seat_of reached holder engine f seen known shown. (f.seen, f.knows, f.told, f.shown))
+  pub regains : (id : ℕ) (v : View) (other : ℕ) (w : View) → hand_in v.right ≡ None → hand_in w.right ≡ None → Joins (Kept bounds) id v other w (regaining v w) spent
+  regains id v other w free free' = joined id v other w (regaining v w) refl refl refl refl refl refl (λ P a p. a) (λ log changes seat_of reached holder engine f seen known shown. (f.seen, f.knows, f.told, f.shown)) free free'
 
   -- A seat shows how many changes its processor has seen. From then on the rule keeps that it has
 
   -- the new seat is a token's, and the others stay as they are
-  shown_as : (s : State (Option ℕ) View) (r : Kept bounds s) (id : ℕ) (v : View) (reached' : ℕ → ℕ) → get_elem? s.views id ≡ some v → ((p : ℕ) → r.reached p ≤ reached' p) → ((p : ℕ) → reached' p ≤ r.changes)
+  shown_as : (s : State Slot View) (r : Kept bounds s) (id : ℕ) (v : View) (reached' : ℕ → ℕ) → get_elem? s.views id ≡ some v → ((p : ℕ) → r.reached p ≤ reached' p) → ((p : ℕ) → reached' p ≤ r.changes)
       → ((j : ℕ) (d : View) (p : ℕ) → get_elem? s.views j ≡ some d → d.role ≡ Cpu p → reached' p ≤ d.changes)
       → HasReached reached' (mark v.role v.changes v.shown)
       → Kept bounds record { words = s.words; homes = s.homes; views = set s.views id v ++ shower v ∷ [] }
@@ -133,15 +143,16 @@ module _ (bounds : Bounds) where
       (views_split (λ _ u. HasDone r.deeds u) s.views id v v (shower v) at (r.each_done id v at) (has_done_none r.deeds (shower v) refl refl) (λ j u _ e. r.each_done j u e))
       r.shelf.writer_of (let g = r.shelf.each id v at in views_split (FitsShelf bounds s.words r.log r.shelf.texts r.shelf.writer_of) s.views id v v (shower v) at g
       record { has = g.has; told = All-nil (λ x. x.texts ≡ texts_at r.shelf.texts x.history); writes = tt } (λ j d _ e. r.shelf.each j d e))
+      (let k = r.banks in split_banks bounds s.homes s.views r.log r.shelf.texts k k.lane_of id v v (shower v) at refl (k.each id v at) (bank_free bounds s.homes s.views r.log r.shelf.texts k r.log k.lane_of (length s.views) (shower v) (λ p mans. absurd mans) refl) (λ j d ne g. g))
 
   -- what is known of a processor it has seen
-  knows_reached : (s : State (Option ℕ) View) (r : Kept bounds s) (j : ℕ) (d : View) (p : ℕ) → get_elem? s.views j ≡ some d → d.role ≡ Cpu p → r.reached p ≤ d.changes
+  knows_reached : (s : State Slot View) (r : Kept bounds s) (j : ℕ) (d : View) (p : ℕ) → get_elem? s.views j ≡ some d → d.role ≡ Cpu p → r.reached p ≤ d.changes
   knows_reached s r j d p at is = (subst (λ (m : Role). Knows r.log r.changes r.seat_of r.reached r.holder r.engine j m d.changes) is (r.each_view j d at).knows).0
 
-  seated_at : (s : State (Option ℕ) View) (r : Kept bounds s) (j : ℕ) (d : View) (p : ℕ) → get_elem? s.views j ≡ some d → d.role ≡ Cpu p → r.seat_of p ≡ j
+  seated_at : (s : State Slot View) (r : Kept bounds s) (j : ℕ) (d : View) (p : ℕ) → get_elem? s.views j ≡ some d → d.role ≡ Cpu p → r.seat_of p ≡ j
   seated_at s r j d p at is = (subst (λ (m : Role). Makes r.log r.changes r.seat_of r.reached r.holder r.engine j m d.mine) is (r.each_view j d at).makes).0
 
-  same_view : (s : State (Option ℕ) View) (j k : ℕ) (d v : View) → j ≡ k → get_elem? s.views j ≡ some d → get_elem? s.views k ≡ some v → d ≡ v
+  same_view : (s : State Slot View) (j k : ℕ) (d v : View) → j ≡ k → get_elem? s.views j ≡ some d → get_elem? s.views k ≡ some v → d ≡ v
   same_view s j k d v jk a b = some-injective d v (sym a ∙ (ap (get_elem? s.views) jk ∙ b))
 
   pub shows_as : (id : ℕ) (v : View) (m : Role) → v.role ≡ m → Splits (Kept bounds) id v v (shower v)
@@ -176,8 +187,8 @@ module _ (bounds : Bounds) where
   knows_reseated log changes seat_of seat_of' reached holder engine j (Cpu p) known h = h
   knows_reseated log changes seat_of seat_of' reached holder engine j (Driver k) known h = h
 
-  pub deals : (id : ℕ) (v : View) (k : ℕ) → v.role ≡ Driver k → Splits (Kept bounds) id v (dealer v) (dealt v)
-  deals id v k is s r at =
+  pub deals : (id : ℕ) (v : View) (k : ℕ) → v.role ≡ Driver k → hand_in v.right ≡ None → Splits (Kept bounds) id v (dealer v) (dealt v)
+  deals id v k is free s r at =
       let f = r.each_view id v at in
       let m : ℕ = length s.views in
       let seat_of' : ℕ → ℕ = given k m r.seat_of in
@@ -216,6 +227,7 @@ module _ (bounds : Bounds) where
       (λ j u _ e. r.each_done j u e))
       r.shelf.writer_of (let g = r.shelf.each id v at in views_split (FitsShelf bounds s.words r.log r.shelf.texts r.shelf.writer_of) s.views id v (dealer v) (dealt v) at
       record { has = g.has; told = g.told; writes = g.writes } record { has = g.has; told = All-nil (λ x. x.texts ≡ texts_at r.shelf.texts x.history); writes = tt } (λ j d _ e. r.shelf.each j d e))
+      (deal_banks bounds s.homes s.views r.log r.shelf.texts r.banks id k v (dealer v) (dealt v) at is refl (ap without_next is) (ap next_role is) refl free)
     where
       fewer : (k : ℕ) (n : Maker) → StandsFor (Driver (k + 1)) n → StandsFor (Driver k) n
       fewer k Engine h = tt
@@ -259,6 +271,10 @@ module _ (bounds : Bounds) where
         };
       }
       (λ j d ne e. fits_shelf_as bounds s.words r.log r.shelf.texts r.shelf.writer_of writer' j (λ b h. given_else c m r.shelf.writer_of b (λ bc. ne (sym h ∙ (ap r.shelf.writer_of bc ∙ first.writer))) ∙ h) d (r.shelf.each j d e)))
+      (let k = r.banks in let b = k.each id v at in split_banks bounds s.homes s.views r.log r.shelf.texts k k.lane_of id v (pen_dealer v) (pen_dealt v) at (ap (λ z. hand_in (without_cell z)) is ∙ sym (ap hand_in is)) (bank_plans bounds s.homes s.views r.log r.shelf.texts k k.lane_of id id v (pen_dealer v) b b.lane (ap (λ z. section_in (without_cell z)) is) (ap (λ z. hand_in (without_cell z)) is)
+      (λ d q i. let h : PlanIn (Undealt (c + 1)) d q = subst (λ z. PlanIn (without_cell z) d q) is i in let le = h.0 in subst (λ z. PlanIn z d q) (sym is) (omega (arith, le), h.1)))
+      (bank_plans bounds s.homes s.views r.log r.shelf.texts k k.lane_of id m v (pen_dealt v) b (λ p mans. absurd mans) (ap (λ z. section_in (next_cell z)) is) (ap (λ z. hand_in (next_cell z)) is)
+      (λ d q i. let h : PlanIn (Shelf c (replicate 128 0) [] no_plan) d q = subst (λ z. PlanIn (next_cell z) d q) is i in let e = h.0 in subst (λ z. PlanIn z d q) (sym is) (omega (arith, e), sym h.1))) (λ j d ne g. g))
 
   first_view : (j : ℕ) (d : View) → get_elem? (founder bounds ∷ []) j ≡ some d → Fits [] 0 (λ _. 0) (λ _. 0) (λ _. 0) 0 j d
   first_view zero d e = subst (λ (v : View). Fits [] 0 (λ _. 0) (λ _. 0) (λ _. 0) 0 0 v) (some-injective (founder bounds) d e) record {
@@ -279,9 +295,47 @@ module _ (bounds : Bounds) where
   first_shelf words zeros zero d e = subst (λ (v : View). FitsShelf bounds words [] [] (λ _. 0) 0 v) (some-injective (founder bounds) d e) record { has = refl; told = All-nil (λ x. x.texts ≡ texts_at [] x.history); writes = λ c _. record { writer = refl; unput = refl; zeros = λ x i _ _ _. zeros (word_place bounds.processors c x i) } }
   first_shelf words zeros (suc j) d e = absurd (some-ne-none d (sym e))
 
+  bank_blank : (x : ℕ) → bank_of no_plan x ≡ no_bank
+  bank_blank x = blank 8 x
+    where
+      blank : (n i : ℕ) → get_or (replicate n no_bank) i no_bank ≡ no_bank
+      blank zero i = refl
+      blank (suc n) zero = refl
+      blank (suc n) (suc i) = blank n i
+
+  abbrev no_books : Books
+  no_books = record { vault_of = λ _. no_domain; keys = λ _. 0; units = []; stock = λ _. 0; handed = λ _. 0; laid = λ _. 0; round = λ _. 0 }
+
+  plan_new : (c : ℕ) → IsPlan [] (λ _. no_domain) (λ _. 0) (λ _. 0) (λ _. 0) (λ _. 0) c no_plan
+  plan_new c = record {
+    eight = length-replicate {A = Bank} 8 no_bank;
+    laid_keys = refl;
+    vault = λ some_keys. refl;
+    totals = λ x lx. ap (λ (k : Bank). k.laid) (bank_blank x);
+    rounds = λ x lx more. absurd (omega (arith, more));
+    empty = λ x p lc lx lt. refl;
+    rests = λ x lx lt. let e = ap (λ (k : Bank). k.emptied) (bank_blank x) in absurd (omega (arith, lt, e));
+  }
+
+  first_bank : (j : ℕ) (d : View) → get_elem? (founder bounds ∷ []) j ≡ some d → FitsBank bounds.processors [] no_books (λ _. 0) j d
+  first_bank zero d e = subst (λ (v : View). FitsBank bounds.processors [] no_books (λ _. 0) 0 v) (some-injective (founder bounds) d e) record {
+    lane = λ p le. refl;
+    section = λ s is. absurd (omega (arith, is));
+    plan = λ c q is. subst (IsPlan [] (λ _. no_domain) (λ _. 0) (λ _. 0) (λ _. 0) (λ _. 0) c) (sym is.1) (plan_new c);
+    holds = λ h is. absurd cc;
+    reads = λ h s is i. absurd cc;
+    writes = λ h c q is i. absurd cc;
+  }
+  first_bank (suc j) d e = absurd (some-ne-none d (sym e))
+
+  some_key : (j : ℕ) (l : List Slot) → j < length l → (b : Slot) × (get_elem? l j ≡ some b)
+  some_key j [] lt = absurd (omega (arith, lt))
+  some_key zero (b ∷ bs) lt = (b, refl)
+  some_key (suc j) (b ∷ bs) lt = some_key j bs (omega (arith, lt))
+
   -- a table whose words are all 0 has an empty history
-  pub opens : (words : List ℕ) → length words ≡ word_count bounds.processors bounds.cells → ((k : ℕ) → get_or words k 0 ≡ 0) → AreSmall bounds → Kept bounds (opening words [] (founder bounds))
-  opens words wide zeros small = record {
+  pub opens : (words : List ℕ) (keys : List Slot) → length words ≡ word_count bounds.processors bounds.cells → ((k : ℕ) → get_or words k 0 ≡ 0) → length keys ≡ 32 * bounds.processors → AreSmall bounds → Kept bounds (opening words keys (founder bounds))
+  opens words keys wide zeros long small = record {
     log = [];
     changes = 0;
     seat_of = λ _. 0;
@@ -297,4 +351,19 @@ module _ (bounds : Bounds) where
     done = record { words = All-nil (λ d. IsTrueOf d.at d.step); ordered = tt; until = All-nil (λ d. GoesOn d.at (now [] 0)) };
     each_done = first_done;
     shelf = record { texts = []; writer_of = λ _. 0; room = wide; shelved = shelved_new bounds words zeros; each = first_shelf words zeros; loaded = All-nil (λ d. IsTrueWord [] [] d.step) };
+    banks = record {
+      books = no_books;
+      lane_of = λ _. 0;
+      wide = length-map keys (λ (k : Slot). some k) ∙ long;
+      home = λ y p ly lp _. let k = some_key (key_place y p) keys (omega (arith, ly, lp, long)) in (k.0, (λ keyed. absurd (omega (arith, keyed))), at_map (λ (k : Slot). some k) keys (key_place y p) k.0 k.1);
+      bare = λ y p ly le. refl;
+      hands = λ i j e. absurd (omega (arith, e));
+      lent = All-nil (λ u. IsLent [] (λ _. 0) u);
+      sums = λ y ly. total_zero bounds.processors;
+      most = λ y ly. omega arith;
+      vaults = All-nil (HasVault (λ _. no_domain) (λ _. 0));
+      one_vault = no_vault;
+      offers = λ c x lc lx. inr record { total = refl; rounds = λ more. absurd (omega (arith, more)) };
+      each = λ j d e. first_bank j d e;
+    };
   }

@@ -127,8 +127,8 @@ shelved_same bounds words after log texts same h = record {
 
 pub writes_on : (bounds : Bounds) (words after : List ℕ) (log more : List Event) (writer_of : ℕ → ℕ) (j : ℕ) → IsSameShelf bounds words after → IsBeginning log more → ((c : ℕ) → version_of c more ≡ version_of c log) → (t : Right) → Writes bounds words log writer_of j t → Writes bounds after more writer_of j t
 writes_on bounds words after log more writer_of j same on versions Nothing h = tt
-writes_on bounds words after log more writer_of j same on versions (Section s p i) h = tt
-writes_on bounds words after log more writer_of j same on versions (Shelf c own seen) h = record {
+writes_on bounds words after log more writer_of j same on versions (Section s p i us hand) h = tt
+writes_on bounds words after log more writer_of j same on versions (Shelf c own seen q) h = record {
   writer = h.writer;
   cell = h.cell;
   upto = beginning_trans h.upto on;
@@ -148,26 +148,26 @@ writes_event bounds words after log e writer_of j same none t h = writes_on boun
 -- who has the right to which cell, after a right went to a seat
 abbrev pub moved_pen : Right → ℕ → (ℕ → ℕ) → ℕ → ℕ
 moved_pen Nothing m writer_of c = writer_of c
-moved_pen (Section s p i) m writer_of c = writer_of c
-moved_pen (Shelf d own seen) m writer_of c = given d m writer_of c
+moved_pen (Section s p i us hand) m writer_of c = writer_of c
+moved_pen (Shelf d own seen q) m writer_of c = given d m writer_of c
 moved_pen (Undealt k) m writer_of c = cond (nat_le k c) m (writer_of c)
 
 pub moved_writes : (bounds : Bounds) (words : List ℕ) (log : List Event) (writer_of : ℕ → ℕ) (j m : ℕ) (t : Right) → Writes bounds words log writer_of j t → Writes bounds words log (moved_pen t m writer_of) m t
 moved_writes bounds words log writer_of j m Nothing h = tt
-moved_writes bounds words log writer_of j m (Section s p i) h = tt
-moved_writes bounds words log writer_of j m (Shelf c own seen) h = record { writer = given_here c m writer_of; cell = h.cell; upto = h.upto; all = h.all; long = h.long; stored = h.stored }
+moved_writes bounds words log writer_of j m (Section s p i us hand) h = tt
+moved_writes bounds words log writer_of j m (Shelf c own seen q) h = record { writer = given_here c m writer_of; cell = h.cell; upto = h.upto; all = h.all; long = h.long; stored = h.stored }
 moved_writes bounds words log writer_of j m (Undealt k) h = λ c le. let n = h c le in record { writer = ap (λ b. cond b m (writer_of c)) (le-leb k c le); unput = n.unput; zeros = n.zeros }
 
 pub moved_pen_else : (bounds : Bounds) (words : List ℕ) (log : List Event) (writer_of : ℕ → ℕ) (j m : ℕ) (t : Right) → Writes bounds words log writer_of j t → (k : ℕ) → k ≢ j → (c : ℕ) → writer_of c ≡ k → moved_pen t m writer_of c ≡ k
 moved_pen_else bounds words log writer_of j m Nothing h k other c at = at
-moved_pen_else bounds words log writer_of j m (Section s p i) h k other c at = at
-moved_pen_else bounds words log writer_of j m (Shelf d own seen) h k other c at = given_else d m writer_of c (λ cd. other (sym at ∙ (ap writer_of cd ∙ h.writer))) ∙ at
+moved_pen_else bounds words log writer_of j m (Section s p i us hand) h k other c at = at
+moved_pen_else bounds words log writer_of j m (Shelf d own seen q) h k other c at = given_else d m writer_of c (λ cd. other (sym at ∙ (ap writer_of cd ∙ h.writer))) ∙ at
 moved_pen_else bounds words log writer_of j m (Undealt d) h k other c at = ap (λ b. cond b m (writer_of c)) (not_false (nat_le d c) (λ le. other (sym at ∙ (h c (leb-true d c le)).writer))) ∙ at
 
 pub writes_as : (bounds : Bounds) (words : List ℕ) (log : List Event) (writer_of writer_of' : ℕ → ℕ) (j : ℕ) → ((c : ℕ) → writer_of c ≡ j → writer_of' c ≡ j) → (t : Right) → Writes bounds words log writer_of j t → Writes bounds words log writer_of' j t
 writes_as bounds words log writer_of writer_of' j same Nothing h = tt
-writes_as bounds words log writer_of writer_of' j same (Section s p i) h = tt
-writes_as bounds words log writer_of writer_of' j same (Shelf c own seen) h = record { writer = same c h.writer; cell = h.cell; upto = h.upto; all = h.all; long = h.long; stored = h.stored }
+writes_as bounds words log writer_of writer_of' j same (Section s p i us hand) h = tt
+writes_as bounds words log writer_of writer_of' j same (Shelf c own seen q) h = record { writer = same c h.writer; cell = h.cell; upto = h.upto; all = h.all; long = h.long; stored = h.stored }
 writes_as bounds words log writer_of writer_of' j same (Undealt k) h = λ c le. let n = h c le in record { writer = same c n.writer; unput = n.unput; zeros = n.zeros }
 
 -- What a seat knows
@@ -194,7 +194,7 @@ loaded_later deeds log more texts versions h = All-weaker (λ d. IsTrueWord log 
 -- The rule
 
 -- an event that is no Put, with a change of no word of a cell or slot
-pub shelf_event : (bounds : Bounds) (words after : List ℕ) (views : List View) (log : List Event) (deeds : List Deed) (id : ℕ) (w : View) (e : Event) (k : KeepsShelf bounds words views log deeds) → IsSameShelf bounds words after → length after ≡ length words → IsLegal log → MayFollow log e → put_cell e ≡ None
+unfoldable pub shelf_event : (bounds : Bounds) (words after : List ℕ) (views : List View) (log : List Event) (deeds : List Deed) (id : ℕ) (w : View) (e : Event) (k : KeepsShelf bounds words views log deeds) → IsSameShelf bounds words after → length after ≡ length words → IsLegal log → MayFollow log e → put_cell e ≡ None
     → FitsShelf bounds after (log ++ e ∷ []) k.texts k.writer_of id w → KeepsShelf bounds after (set views id w) (log ++ e ∷ []) deeds
 shelf_event bounds words after views log deeds id w e k same long legal may none fits = let versions : (c : ℕ) → version_of c (log ++ e ∷ []) ≡ version_of c log = λ c. version_kept c log e (no_put e none c) in record {
   texts = k.texts;
@@ -206,7 +206,7 @@ shelf_event bounds words after views log deeds id w e k same long legal may none
 }
 
 -- a step that is no event
-pub shelf_deed : (bounds : Bounds) (words after : List ℕ) (views : List View) (log : List Event) (deeds : List Deed) (id : ℕ) (w : View) (d : Deed) (k : KeepsShelf bounds words views log deeds) → IsSameShelf bounds words after → length after ≡ length words → IsTrueWord log k.texts d.step
+unfoldable pub shelf_deed : (bounds : Bounds) (words after : List ℕ) (views : List View) (log : List Event) (deeds : List Deed) (id : ℕ) (w : View) (d : Deed) (k : KeepsShelf bounds words views log deeds) → IsSameShelf bounds words after → length after ≡ length words → IsTrueWord log k.texts d.step
     → FitsShelf bounds after log k.texts k.writer_of id w → KeepsShelf bounds after (set views id w) log (deeds ++ d ∷ [])
 shelf_deed bounds words after views log deeds id w d k same long is fits = record {
   texts = k.texts;

@@ -1,5 +1,5 @@
 -- Each step of a processor keeps the rule.
-use Rattle.std.proofs.Common.{length-set, ◌≡◌, ℕ, ◌+◌, ◌*◌, ◌%◌, ◌^◌, ◌<◌, ◌≤◌, ◌≢◌, Bool, true, false, cond, eqb, ltb, ◌&&◌, ⊎_elim, inl, inr, List, [], ◌∷◌, ◌++◌, All, Option, None, get_or, set, refl, sym, ap, ◌∙◌, subst, eq-eqb, ne_eqb, lt-ltb, le-ltb, arith}
+use Rattle.std.proofs.Common.{length-set, ◌≡◌, ℕ, ◌+◌, ◌*◌, ◌%◌, ◌^◌, ◌<◌, ◌≤◌, ◌≢◌, Bool, true, false, cond, eqb, ltb, ◌&&◌, ⊎_elim, inl, inr, List, [], ◌∷◌, ◌++◌, All, None, get_or, set, refl, sym, ap, ◌∙◌, subst, eq-eqb, ne_eqb, lt-ltb, le-ltb, arith, length}
 use Rattle.std.proofs.lemmas.List.Elements.{All-nil, All-head}
 use mathlib.Core.Logic.{dite}
 use mathlib.Core.Option.{none, some}
@@ -19,7 +19,11 @@ use Rattle.onedom.specs.declared.event.Event.{Event}
 use Rattle.onedom.specs.declared.event.Event.TheVariants.{Begin, End, Note, Ask}
 use Rattle.onedom.specs.Histories.{ends, begins_of, IsOpen, is_start, is_finish, starts_in, ended_in, cookie_after, IsLegal, MayFollow, maker_of, same_maker, made_by, IsBeginning}
 use Rattle.onedom.proofs.CallerLemmas.{bit, legal_push, made_by_own, same_maker_refl, same_maker_false, begins_of_push, open_begun, index_of_begun, bound, begins_of_made, beginning_refl, beginning_push}
+use Rattle.sections.specs.Banks.{HaveOneVault, KeepsBanks, hand_in}
+use Rattle.sections.proofs.Banking.{says_same, same_banks, push_banks, begin_banks, end_banks}
+use Rattle.sections.specs.Slots.{Slot}
 use Rattle.sections.specs.declared.view.Bounds.{Bounds}
+use Rattle.sections.specs.declared.view.Lent.{Lent}
 use Rattle.sections.specs.declared.view.Moment.{Moment}
 use Rattle.sections.specs.declared.view.Role.{Role}
 use Rattle.sections.specs.declared.view.Role.TheVariants.{Cpu, Driver}
@@ -33,11 +37,12 @@ use Rattle.sections.specs.declared.view.View.{View}
 use Rattle.sections.specs.Words.{is_held, number_place, lock_place, unlock_place, locks_at, locks, unlocks_at, unlocks, index_word, number_word, Reaches, Agree}
 use Rattle.sections.specs.declared.view.Deed.{Deed}
 use Rattle.sections.specs.Rule.{HasItsMaker, HasReached, GoesOn, IsTrueOf, IsMaker, HasDone, Makes, Has, Knows, Fits, Kept}
-use Rattle.sections.specs.Shelves.{put_cell, texts_at, IsStart, AreTextsOf, FitsShelf, IsTrueWord, KeepsShelf}
+use Rattle.sections.specs.Shelves.{put_cell, put_cells, texts_at, IsStart, AreTextsOf, FitsShelf, IsTrueWord, KeepsShelf}
 use Rattle.sections.specs.Plays.{Owns, IsSound, Sees, Admits, Adds, Sat, looked, admitted, began, ended, FindsNumber, noted, asked}
 use Rattle.sections.proofs.Counters.{index_low, index_number_same, locks_push, elsewhere, locks_mine, All-push, unlocks_bounded}
 use Rattle.sections.proofs.Agreement.{agrees_begun, agrees_ended, agrees_plain}
-use Rattle.sections.proofs.Shelving.{start_between, IsSameShelf, same_shelf, same_set, texts_on, writes_event, shelf_event, shelf_deed, knows_texts, fits_all}
+use Rattle.sections.proofs.Offers.{one_vault_start}
+use Rattle.sections.proofs.Shelving.{start_at, start_between, IsSameShelf, same_shelf, same_set, texts_on, writes_event, shelf_event, shelf_deed, knows_texts, fits_all}
 use Rattle.sections.proofs.Deeds.{cpu_makes, stands_at, maker_at, deed, done_later, done_push, has_done_push, has_done_all, has_done_as, one_more_step}
 use Rattle.sections.proofs.Knowing.{now, covers_as, views_set, given, given_here, given_else, seat_at, has_stays, fits_stay, fits_later, known_before, knows_all, owns_from_makes, owns_between, not_false, false≠true, hits}
 
@@ -84,25 +89,25 @@ pub record IsTold (p : ℕ) (e : Event) : Type 0 where
   pub maker : (n : ℕ) → p < n → HasItsMaker n e
   pub no_put : put_cell e ≡ None
 
-pub same_section : (s t p q : ℕ) (i j : Index) → Section s p i ≡ Section t q j → (s ≡ t) × (p ≡ q) × (i ≡ j)
+pub same_section : (s t p q : ℕ) (i j : Index) {us vs : List Lent} → Section s p i us None ≡ Section t q j vs None → (s ≡ t) × (p ≡ q) × (i ≡ j)
 same_section s t p q i j h = (λ k. section_in (h k), λ k. processor_in (h k), λ k. index_in (h k))
   where
     section_in : Right → ℕ
     section_in Nothing = 0
-    section_in (Section s p i) = s
-    section_in (Shelf c words seen) = 0
+    section_in (Section s p i us hand) = s
+    section_in (Shelf c words seen q) = 0
     section_in (Undealt c) = 0
 
     processor_in : Right → ℕ
     processor_in Nothing = 0
-    processor_in (Section s p i) = p
-    processor_in (Shelf c words seen) = 0
+    processor_in (Section s p i us hand) = p
+    processor_in (Shelf c words seen q) = 0
     processor_in (Undealt c) = 0
 
     index_in : Right → Index
     index_in Nothing = Zero
-    index_in (Section s p i) = i
-    index_in (Shelf c words seen) = Zero
+    index_in (Section s p i us hand) = i
+    index_in (Shelf c words seen q) = Zero
     index_in (Undealt c) = Zero
 
 module _ (bounds : Bounds) where
@@ -113,22 +118,23 @@ module _ (bounds : Bounds) where
   alone seat_of engine id m here j ne o there = same_maker_false m o (λ e. ne (sym there ∙ (ap (seat_at seat_of engine) (sym e) ∙ here)))
 
   -- a step of the maker at this seat was added
-  pub each_more : (s : State (Option ℕ) View) (r : Kept bounds s) (id : ℕ) (d : Deed) (w : View) → seat_at r.seat_of r.engine d.by ≡ id → w.done ≡ r.deeds ++ d ∷ []
+  pub each_more : (s : State Slot View) (r : Kept bounds s) (id : ℕ) (d : Deed) (w : View) → seat_at r.seat_of r.engine d.by ≡ id → w.done ≡ r.deeds ++ d ∷ []
       → (j : ℕ) (u : View) → get_elem? (set s.views id w) j ≡ some u → HasDone (r.deeds ++ d ∷ []) u
   each_more s r id d w here all = views_set (λ _ u. HasDone (r.deeds ++ d ∷ []) u) s.views id w (has_done_all (r.deeds ++ d ∷ []) w all)
       (λ j u ne at. has_done_push r.deeds d u (λ m g. alone r.seat_of r.engine id d.by here j ne m (stands_at r.log r.changes r.seat_of r.reached r.holder r.engine j u.role u.mine m (r.each_view j u at).makes g)) (r.each_done j u at))
 
   -- none was
-  pub each_as : (s : State (Option ℕ) View) (r : Kept bounds s) (id : ℕ) (v w : View) → get_elem? s.views id ≡ some v → w.role ≡ v.role → w.done ≡ v.done
+  pub each_as : (s : State Slot View) (r : Kept bounds s) (id : ℕ) (v w : View) → get_elem? s.views id ≡ some v → w.role ≡ v.role → w.done ≡ v.done
       → (j : ℕ) (u : View) → get_elem? (set s.views id w) j ≡ some u → HasDone r.deeds u
   each_as s r id v w at role done = views_set (λ _ u. HasDone r.deeds u) s.views id w (has_done_as r.deeds v w role done (r.each_done id v at)) (λ j u _ e. r.each_done j u e)
 
   -- Loads that are no events
 
   -- a load changes no word, and its seat has then seen all
-  unmoved : (s : State (Option ℕ) View) (r : Kept bounds s) (k id : ℕ) (cs : List (ℕ × Option ℕ)) (w : View) (by : Maker) (l : Step) → IsTrueOf (now r.log r.changes) l → seat_at r.seat_of r.engine by ≡ id → w.done ≡ r.deeds ++ deed by l (now r.log r.changes) ∷ [] → Fits r.log r.changes r.seat_of r.reached r.holder r.engine id w
-      → IsTrueWord r.log r.shelf.texts l → FitsShelf bounds s.words r.log r.shelf.texts r.shelf.writer_of id w → Kept bounds (stepped s k (get_or s.words k 0) id cs w keeps)
-  unmoved s r k id cs w by l is here all fits word fits_shelf = subst (λ (ws : List ℕ). Kept bounds record { words = ws; homes = s.homes; views = set s.views id w }) (sym (set-get_or s.words k 0)) record {
+  unmoved : (s : State Slot View) (r : Kept bounds s) (k id : ℕ) (cs : List (ℕ × Slot)) (w : View) (by : Maker) (l : Step) → IsTrueOf (now r.log r.changes) l → seat_at r.seat_of r.engine by ≡ id → w.done ≡ r.deeds ++ deed by l (now r.log r.changes) ∷ [] → Fits r.log r.changes r.seat_of r.reached r.holder r.engine id w
+      → IsTrueWord r.log r.shelf.texts l → FitsShelf bounds s.words r.log r.shelf.texts r.shelf.writer_of id w → KeepsBanks bounds s.homes (set s.views id w) r.log r.shelf.texts → Kept bounds (stepped s k (get_or s.words k 0) id cs w keeps)
+  unfolding shelf_deed
+  unmoved s r k id cs w by l is here all fits word fits_shelf banks = subst (λ (ws : List ℕ). Kept bounds record { words = ws; homes = s.homes; views = set s.views id w }) (sym (set-get_or s.words k 0)) record {
     log = r.log;
     changes = r.changes;
     seat_of = r.seat_of;
@@ -144,12 +150,13 @@ module _ (bounds : Bounds) where
     done = done_push r.deeds by l (now r.log r.changes) is r.done;
     each_done = each_more s r id (deed by l (now r.log r.changes)) w here all;
     shelf = shelf_deed bounds s.words s.words s.views r.log r.deeds id w (deed by l (now r.log r.changes)) r.shelf (same_shelf bounds s.words) refl word fits_shelf;
+    banks = banks;
   }
 
   -- what the seat is told by such a load, it may be told whatever the table is
   pub loads_here : (slots id k : ℕ) (me : Sat) (m : Maker) (l : ℕ → List Event → Step) (told_of : ℕ → Sat → Type 0) → IsMaker me.0.role m → me.0.processors ≡ bounds.processors
-      → ((s : State (Option ℕ) View) (r : Kept bounds s) → get_elem? s.views id ≡ some me.0 → IsTrueOf (now r.log r.changes) (l (get_or s.words k 0) r.log) × IsTrueWord r.log r.shelf.texts (l (get_or s.words k 0) r.log))
-      → ((s : State (Option ℕ) View) (r : Kept bounds s) (w : View) → get_elem? s.views id ≡ some me.0 → w.seen ≡ r.log → w.changes ≡ r.changes → w.texts ≡ r.shelf.texts → Sees (l (get_or s.words k 0) w.seen) me.0 w → told_of (get_or s.words k 0) (w, me.1))
+      → ((s : State Slot View) (r : Kept bounds s) → get_elem? s.views id ≡ some me.0 → IsTrueOf (now r.log r.changes) (l (get_or s.words k 0) r.log) × IsTrueWord r.log r.shelf.texts (l (get_or s.words k 0) r.log))
+      → ((s : State Slot View) (r : Kept bounds s) (w : View) → get_elem? s.views id ≡ some me.0 → w.seen ≡ r.log → w.changes ≡ r.changes → w.texts ≡ r.shelf.texts → Sees (l (get_or s.words k 0) w.seen) me.0 w → told_of (get_or s.words k 0) (w, me.1))
       → Allows (Kept bounds) slots id me k (λ x. x) told_of
   loads_here slots id k me m l told_of is sized true_of tells s r _ at _ = let v : View = me.0 in let f = r.each_view id v at in let n : ℕ = get_or s.words k 0 in
       let w : View = record { processors = v.processors; role = v.role; mine = v.mine; seen = r.log; changes = r.changes; texts = r.shelf.texts; told = []; right = v.right; shown = v.shown; done = r.deeds ++ deed m (l n r.log) (now r.log r.changes) ∷ [] } in (
@@ -163,7 +170,7 @@ module _ (bounds : Bounds) where
           makes = f.makes;
           has = f.has;
           shown = f.shown;
-        } (true_of s r at).1 (fits_all bounds s.words r.log r.shelf.texts r.shelf.writer_of id w refl refl refl r.shelf.shelved.cells (r.shelf.each id v at).writes),
+        } (true_of s r at).1 (fits_all bounds s.words r.log r.shelf.texts r.shelf.writer_of id w refl refl refl r.shelf.shelved.cells (r.shelf.each id v at).writes) (same_banks bounds s.homes s.views r.log r.shelf.texts r.banks id v w at (says_same v w refl refl)),
         tells s r w at refl refl refl record {
           processors = refl;
           role = refl;
@@ -182,12 +189,13 @@ module _ (bounds : Bounds) where
             own = owns_from_makes r.log r.changes r.seat_of r.reached r.holder r.engine id v.role v.mine f.makes;
             reaches = r.words.reaches;
             texts = r.shelf.shelved.cells;
+            vaults = r.banks.one_vault;
           };
         },
       )
 
   -- the engine knows how many changes there were
-  pub exact : (s : State (Option ℕ) View) (r : Kept bounds s) (id : ℕ) (v : View) (d : ℕ) → get_elem? s.views id ≡ some v → v.role ≡ Driver d → v.changes ≡ r.changes
+  pub exact : (s : State Slot View) (r : Kept bounds s) (id : ℕ) (v : View) (d : ℕ) → get_elem? s.views id ≡ some v → v.role ≡ Driver d → v.changes ≡ r.changes
   exact s r id v d at is = subst (λ (m : Role). Knows r.log r.changes r.seat_of r.reached r.holder r.engine id m v.changes) is (r.each_view id v at).knows
 
   pub looks : (slots id : ℕ) (me : Sat) (m : Maker) → IsMaker me.0.role m → me.0.processors ≡ bounds.processors → Allows (Kept bounds) slots id me 0 (λ x. x) (looked (step slots 0 0 0 none) me)
@@ -219,7 +227,7 @@ module _ (bounds : Bounds) where
           makes = f.makes;
           has = f.has;
           shown = tt;
-        } tt record { has = refl; told = All-nil (λ x. x.texts ≡ texts_at r.shelf.texts x.history); writes = (r.shelf.each id v at).writes },
+        } tt record { has = refl; told = All-nil (λ x. x.texts ≡ texts_at r.shelf.texts x.history); writes = (r.shelf.each id v at).writes } (same_banks bounds s.homes s.views r.log r.shelf.texts r.banks id v w at (says_same v w refl refl)),
         (
           refl,
           refl,
@@ -245,6 +253,7 @@ module _ (bounds : Bounds) where
               own = owns_between v.role v.mine v.seen o.history r.log own since goes.history (owns_from_makes r.log r.changes r.seat_of r.reached r.holder r.engine id v.role v.mine f.makes);
               reaches = reaches;
               texts = subst (λ (z : List Text). AreTextsOf z o.history) has_texts texts;
+              vaults = one_vault_start (texts_at r.shelf.texts o.history) r.shelf.texts (start_at (length (put_cells o.history)) r.shelf.texts) r.banks.one_vault;
             };
           },
         ),
@@ -257,7 +266,7 @@ module _ (bounds : Bounds) where
   -- Events
 
   -- the rule after one event of the maker at this seat, which changed one word
-  pub added : (s : State (Option ℕ) View) (r : Kept bounds s) (id k x : ℕ) (cs : List (ℕ × Option ℕ)) (w : View) (e : Event) (changes' : ℕ) (holder' : ℕ → ℕ) → MayFollow r.log e → HasItsMaker bounds.processors e
+  pub added : (s : State Slot View) (r : Kept bounds s) (id k x : ℕ) (cs : List (ℕ × Slot)) (w : View) (e : Event) (changes' : ℕ) (holder' : ℕ → ℕ) → MayFollow r.log e → HasItsMaker bounds.processors e
       → Agree bounds.processors (set s.words k x) (r.log ++ e ∷ []) changes'
       → r.changes ≤ changes' → changes' ≤ 4 * bounds.periods → ((j : ℕ) → j ≢ id → r.engine ≡ j → changes' ≡ r.changes)
       → ((p : ℕ) (i : Index) → locks p i (r.log ++ e ∷ []) ≤ bounds.sections)
@@ -266,9 +275,9 @@ module _ (bounds : Bounds) where
       → ((t : ℕ) → IsOpen r.log t → holder' t ≡ r.holder t)
       → Fits (r.log ++ e ∷ []) changes' r.seat_of r.reached holder' r.engine id w
       → (v : View) → get_elem? s.views id ≡ some v → w.role ≡ v.role → w.done ≡ v.done
-      → KeepsShelf bounds (set s.words k x) (set s.views id w) (r.log ++ e ∷ []) r.deeds
+      → (shelf : KeepsShelf bounds (set s.words k x) (set s.views id w) (r.log ++ e ∷ []) r.deeds) → KeepsBanks bounds s.homes (set s.views id w) (r.log ++ e ∷ []) shelf.texts
       → Kept bounds (stepped s k x id cs w keeps)
-  added s r id k x cs w e changes' holder' may made agree forth most same_changes limited other ended_here same fits v at role done shelf = record {
+  added s r id k x cs w e changes' holder' may made agree forth most same_changes limited other ended_here same fits v at role done shelf banks = record {
     log = r.log ++ e ∷ [];
     changes = changes';
     seat_of = r.seat_of;
@@ -286,10 +295,11 @@ module _ (bounds : Bounds) where
     done = done_later r.deeds (now r.log r.changes) (now (r.log ++ e ∷ []) changes') (record { history = beginning_push e (beginning_refl r.log); changes = forth }) r.done;
     each_done = each_as s r id v w at role done;
     shelf = shelf;
+    banks = banks;
   }
 
   -- an event of a processor leaves the number and the index word as they are
-  pub happened : (s : State (Option ℕ) View) (r : Kept bounds s) (id k x : ℕ) (cs : List (ℕ × Option ℕ)) (w : View) (e : Event) (holder' : ℕ → ℕ) → MayFollow r.log e → HasItsMaker bounds.processors e
+  pub happened : (s : State Slot View) (r : Kept bounds s) (id k x : ℕ) (cs : List (ℕ × Slot)) (w : View) (e : Event) (holder' : ℕ → ℕ) → MayFollow r.log e → HasItsMaker bounds.processors e
       → Agree bounds.processors (set s.words k x) (r.log ++ e ∷ []) r.changes
       → ((p : ℕ) (i : Index) → locks p i (r.log ++ e ∷ []) ≤ bounds.sections)
       → ((j : ℕ) → j ≢ id → (m : Maker) → seat_at r.seat_of r.engine m ≡ j → same_maker (maker_of e) m ≡ false)
@@ -297,24 +307,26 @@ module _ (bounds : Bounds) where
       → ((t : ℕ) → IsOpen r.log t → holder' t ≡ r.holder t)
       → Fits (r.log ++ e ∷ []) r.changes r.seat_of r.reached holder' r.engine id w
       → (v : View) → get_elem? s.views id ≡ some v → w.role ≡ v.role → w.done ≡ v.done
-      → KeepsShelf bounds (set s.words k x) (set s.views id w) (r.log ++ e ∷ []) r.deeds
+      → (shelf : KeepsShelf bounds (set s.words k x) (set s.views id w) (r.log ++ e ∷ []) r.deeds) → KeepsBanks bounds s.homes (set s.views id w) (r.log ++ e ∷ []) shelf.texts
       → Kept bounds (stepped s k x id cs w keeps)
-  happened s r id k x cs w e holder' may made agree limited other ended_here same fits v at role done shelf = let most = r.within.periods in added s r id k x cs w e r.changes holder' may made agree (omega arith) most (λ _ _ _. refl) limited other ended_here same fits v at role done shelf
+  happened s r id k x cs w e holder' may made agree limited other ended_here same fits v at role done shelf banks = let most = r.within.periods in added s r id k x cs w e r.changes holder' may made agree (omega arith) most (λ _ _ _. refl) limited other ended_here same fits v at role done shelf banks
 
-  pub sound_after : (s : State (Option ℕ) View) (r : Kept bounds s) (e : Event) (n : ℕ) (role : Role) (mine : List Event) (changes' : ℕ) (known : List Text) → MayFollow r.log e → HasItsMaker bounds.processors e → n ≡ bounds.processors
-      → Reaches changes' (r.log ++ e ∷ []) → Owns role mine (r.log ++ e ∷ []) → AreTextsOf known (r.log ++ e ∷ []) → IsSound n role mine (r.log ++ e ∷ []) changes' known
-  sound_after s r e n role mine changes' known may made sized reaches own texts = record {
+  pub sound_after : (s : State Slot View) (r : Kept bounds s) (e : Event) (n : ℕ) (role : Role) (mine : List Event) (changes' : ℕ) (known : List Text) → MayFollow r.log e → HasItsMaker bounds.processors e → n ≡ bounds.processors
+      → Reaches changes' (r.log ++ e ∷ []) → Owns role mine (r.log ++ e ∷ []) → AreTextsOf known (r.log ++ e ∷ []) → HaveOneVault known → IsSound n role mine (r.log ++ e ∷ []) changes' known
+  sound_after s r e n role mine changes' known may made sized reaches own texts vaults = record {
     legal = legal_push r.log e r.within.legal may;
     makers = subst (λ (z : ℕ). All (HasItsMaker z) (r.log ++ e ∷ [])) (sym sized) (All-push (HasItsMaker bounds.processors) r.log e r.within.makers made);
     own = own;
     reaches = reaches;
     texts = texts;
+    vaults = vaults;
   }
 
   -- A section begins: its number is new, and no other seat can know it
-  pub begins_here : (held : Bool) (slots id k : ℕ) (me : Sat) (p : ℕ) (i : Index) → me.0.processors ≡ bounds.processors → me.0.role ≡ Cpu p → p < bounds.processors → k ≡ lock_place p i → locks p i me.0.mine < bounds.sections
+  pub begins_here : (held : Bool) (slots id k : ℕ) (me : Sat) (p : ℕ) (i : Index) → me.0.processors ≡ bounds.processors → me.0.role ≡ Cpu p → p < bounds.processors → k ≡ lock_place p i → locks p i me.0.mine < bounds.sections → hand_in me.0.right ≡ None
       → Allows (Kept bounds) slots id me k (λ x. (x + 1) % 2 ^ 64) (began held (step slots k 1 0 none) me)
-  begins_here held slots id k me p i sized is lt place room s r _ at _ =
+  unfolding shelf_event
+  begins_here held slots id k me p i sized is lt place room free s r _ at _ =
       let v : View = me.0 in
       let f = r.each_view id v at in
       let made : Makes r.log r.changes r.seat_of r.reached r.holder r.engine id (Cpu p) v.mine = subst (λ (m : Role). Makes r.log r.changes r.seat_of r.reached r.holder r.engine id m v.mine) is f.makes in
@@ -331,7 +343,7 @@ module _ (bounds : Bounds) where
       let small = r.small.counters in
       let below : bounds.sections < 2 ^ 62 = small_limit bounds.processors bounds.sections p lt small in
       let up : y ≡ x + 1 = omega (arith, found, same, room, below) in
-      let w : View = record { processors = v.processors; role = v.role; mine = v.mine ++ e ∷ []; seen = log'; changes = r.changes; texts = r.shelf.texts; told = []; right = Section t p i; shown = v.shown; done = v.done } in
+      let w : View = record { processors = v.processors; role = v.role; mine = v.mine ++ e ∷ []; seen = log'; changes = r.changes; texts = r.shelf.texts; told = []; right = Section t p i [] None; shown = v.shown; done = v.done } in
       let holder' : ℕ → ℕ = given t id r.holder in
       let by_p : same_maker (Processor p) (Processor p) ≡ true = same_maker_refl (Processor p) in
       let mine' : v.mine ++ e ∷ [] ≡ made_by (Processor p) log' = ap (λ l. l ++ e ∷ []) made.1 ∙ sym (made_by_own (Processor p) r.log e by_p) in
@@ -359,11 +371,12 @@ module _ (bounds : Bounds) where
             (λ u is_open. given_else t id r.holder u (λ ut. let begun : 0 < begins_of t r.log = subst (λ (z : ℕ). 0 < begins_of z r.log) ut is_open.0 in let unbegun = new.1 in omega (arith, begun, unbegun)))
             fits v at refl refl
             (shelf_event bounds s.words (set s.words k y) s.views r.log r.deeds id w e r.shelf (same_set bounds s.words k y (let low = index_low i in omega (arith, place, lt, low))) (length-set s.words k y) r.within.legal new.1 refl
-            (fits_all bounds (set s.words k y) log' r.shelf.texts r.shelf.writer_of id w refl refl refl (texts_on r.shelf.texts r.log e refl r.shelf.shelved.cells) tt)),
+            (fits_all bounds (set s.words k y) log' r.shelf.texts r.shelf.writer_of id w refl refl refl (texts_on r.shelf.texts r.log e refl r.shelf.shelved.cells) tt))
+            (begin_banks bounds s.homes s.views r.log r.shelf.texts r.banks e id t p i v w r.within.legal new.1 refl (λ u. refl) new.1 at refl free refl),
         (
           refl,
           λ q j is' word. let pq : p ≡ q = same_cpu p q (sym is ∙ is') in let ij : i ≡ j = same_lock p q i j pq (sym place ∙ word) in
-              subst (λ (z : ℕ × Index). (u : ℕ) × Adds v (Begin u z.0 z.1 (Processor z.0)) w × (w.right ≡ Section u z.0 z.1) × (is_held u ≡ held)) (λ h. (pq h, ij h)) (
+              subst (λ (z : ℕ × Index). (u : ℕ) × Adds v (Begin u z.0 z.1 (Processor z.0)) w × (w.right ≡ Section u z.0 z.1 [] None) × (is_held u ≡ held)) (λ h. (pq h, ij h)) (
                 t,
                 record {
                   before = r.log;
@@ -378,7 +391,7 @@ module _ (bounds : Bounds) where
                   told = refl;
                   done = refl;
                   texts = knows_texts bounds s.words r.log r.shelf.texts r.shelf.writer_of id v w (r.shelf.each id v at) refl;
-                  sound = sound_after s r e v.processors v.role (v.mine ++ e ∷ []) r.changes r.shelf.texts new.1 (lt, refl) sized agree.reaches (subst (λ (m : Role). Owns m (v.mine ++ e ∷ []) log') (sym is) mine') (texts_on r.shelf.texts r.log e refl r.shelf.shelved.cells);
+                  sound = sound_after s r e v.processors v.role (v.mine ++ e ∷ []) r.changes r.shelf.texts new.1 (lt, refl) sized agree.reaches (subst (λ (m : Role). Owns m (v.mine ++ e ∷ []) log') (sym is) mine') (texts_on r.shelf.texts r.log e refl r.shelf.shelved.cells) r.banks.one_vault;
                 },
                 refl,
                 new.2,
@@ -419,13 +432,14 @@ module _ (bounds : Bounds) where
           index_case One One a b = a refl
 
   -- A section ends: the right to end it is this seat's alone, so no other seat counts on it
-  pub ends_here : (slots id k : ℕ) (me : Sat) (s p q : ℕ) (i : Index) → me.0.processors ≡ bounds.processors → me.0.role ≡ Cpu q → me.0.right ≡ Section s p i → q < bounds.processors → k ≡ unlock_place q i
+  pub ends_here : (slots id k : ℕ) (me : Sat) (s p q : ℕ) (i : Index) → me.0.processors ≡ bounds.processors → me.0.role ≡ Cpu q → me.0.right ≡ Section s p i [] None → q < bounds.processors → k ≡ unlock_place q i
       → Allows (Kept bounds) slots id me k (λ x. (x + 1) % 2 ^ 64) (ended (step slots k 1 0 none) me)
+  unfolding shelf_event
   ends_here slots id k me t p q i sized is right lt place s r _ at _ =
       let v : View = me.0 in
       let f = r.each_view id v at in
       let made : Makes r.log r.changes r.seat_of r.reached r.holder r.engine id (Cpu q) v.mine = subst (λ (m : Role). Makes r.log r.changes r.seat_of r.reached r.holder r.engine id m v.mine) is f.makes in
-      let has : Has r.log r.changes r.seat_of r.reached r.holder r.engine id (Section t p i) = subst (λ (m : Right). Has r.log r.changes r.seat_of r.reached r.holder r.engine id m) right f.has in
+      let has : Has r.log r.changes r.seat_of r.reached r.holder r.engine id (Section t p i [] None) = subst (λ (m : Right). Has r.log r.changes r.seat_of r.reached r.holder r.engine id m) right f.has in
       let e : Event = End t q (Processor q) in
       let log' : List Event = r.log ++ e ∷ [] in
       let x : ℕ = get_or s.words k 0 in
@@ -458,7 +472,8 @@ module _ (bounds : Bounds) where
             (λ u _. refl)
             fits v at refl refl
             (shelf_event bounds s.words (set s.words k y) s.views r.log r.deeds id w e r.shelf (same_set bounds s.words k y (let low = index_low i in omega (arith, place, lt, low))) (length-set s.words k y) r.within.legal has.1 refl
-            (fits_all bounds (set s.words k y) log' r.shelf.texts r.shelf.writer_of id w refl refl refl (texts_on r.shelf.texts r.log e refl r.shelf.shelved.cells) tt)),
+            (fits_all bounds (set s.words k y) log' r.shelf.texts r.shelf.writer_of id w refl refl refl (texts_on r.shelf.texts r.log e refl r.shelf.shelved.cells) tt))
+            (end_banks bounds s.homes s.views r.log r.shelf.texts r.banks e id t p i v w r.within.legal has.1 refl (λ u hit. sym (hits t u hit)) at refl right refl),
         (
           refl,
           refl,
@@ -476,7 +491,7 @@ module _ (bounds : Bounds) where
               told = refl;
               done = refl;
               texts = knows_texts bounds s.words r.log r.shelf.texts r.shelf.writer_of id v w (r.shelf.each id v at) refl;
-              sound = sound_after s r e v.processors v.role (v.mine ++ e ∷ []) r.changes r.shelf.texts has.1 (lt, refl) sized agree.reaches (subst (λ (m : Role). Owns m (v.mine ++ e ∷ []) log') (sym is) mine') (texts_on r.shelf.texts r.log e refl r.shelf.shelved.cells);
+              sound = sound_after s r e v.processors v.role (v.mine ++ e ∷ []) r.changes r.shelf.texts has.1 (lt, refl) sized agree.reaches (subst (λ (m : Role). Owns m (v.mine ++ e ∷ []) log') (sym is) mine') (texts_on r.shelf.texts r.log e refl r.shelf.shelved.cells) r.banks.one_vault;
             },
             λ oc. let qp : q ≡ p = qc ∙ (sym oc ∙ sym same.1) in (λ h. begins_of (sym same.0 h) v.mine) ∙ (ap (begins_of t) (made.1 ∙ (λ h. made_by (Processor (qp h)) r.log)) ∙ has.3),
           ),
@@ -489,14 +504,15 @@ module _ (bounds : Bounds) where
   -- A cookie is given, or asked after, by a load of the number
 
   -- the number that was found
-  pub finds : (s : State (Option ℕ) View) (r : Kept bounds s) (w : View) → w.changes ≡ r.changes → FindsNumber (get_or s.words number_place 0) w
+  pub finds : (s : State Slot View) (r : Kept bounds s) (w : View) → w.changes ≡ r.changes → FindsNumber (get_or s.words number_place 0) w
   finds s r w same = let most = r.within.periods in let few = r.small.periods in let is = r.words.number in record { current = r.words.number ∙ ap number_word (sym same); room = omega (arith, is, most, few) }
 
   -- an event that a load makes
   pub tells_at : (slots id k : ℕ) (me : Sat) (p : ℕ) (e : ℕ → Event) (told_of : ℕ → Sat → Type 0) → me.0.processors ≡ bounds.processors → me.0.role ≡ Cpu p → p < bounds.processors
-      → ((n : ℕ) → IsTold p (e n)) → ((s : State (Option ℕ) View) (r : Kept bounds s) → get_elem? s.views id ≡ some me.0 → MayFollow r.log (e (get_or s.words k 0)))
-      → ((s : State (Option ℕ) View) (r : Kept bounds s) (w : View) → w.changes ≡ r.changes → w.texts ≡ r.shelf.texts → w.right ≡ me.0.right → Adds me.0 (e (get_or s.words k 0)) w → told_of (get_or s.words k 0) (w, me.1))
+      → ((n : ℕ) → IsTold p (e n)) → ((s : State Slot View) (r : Kept bounds s) → get_elem? s.views id ≡ some me.0 → MayFollow r.log (e (get_or s.words k 0)))
+      → ((s : State Slot View) (r : Kept bounds s) (w : View) → w.changes ≡ r.changes → w.texts ≡ r.shelf.texts → w.right ≡ me.0.right → Adds me.0 (e (get_or s.words k 0)) w → told_of (get_or s.words k 0) (w, me.1))
       → Allows (Kept bounds) slots id me k (λ x. x) told_of
+  unfolding shelf_event
   tells_at slots id k me p event told_of sized is lt told follows tells s r _ at _ =
       let v : View = me.0 in
       let f = r.each_view id v at in
@@ -530,7 +546,8 @@ module _ (bounds : Bounds) where
             fits v at refl refl
             (let same : IsSameShelf bounds s.words (set s.words k n) = subst (λ (ws : List ℕ). IsSameShelf bounds s.words ws) (sym (set-get_or s.words k 0)) (same_shelf bounds s.words) in shelf_event bounds s.words (set s.words k n) s.views r.log r.deeds id w e r.shelf same (length-set s.words k n) r.within.legal may t.no_put
             (fits_all bounds (set s.words k n) log' r.shelf.texts r.shelf.writer_of id w refl refl refl (texts_on r.shelf.texts r.log e t.no_put r.shelf.shelved.cells)
-            (writes_event bounds s.words (set s.words k n) r.log e r.shelf.writer_of id same t.no_put v.right (r.shelf.each id v at).writes))),
+            (writes_event bounds s.words (set s.words k n) r.log e r.shelf.writer_of id same t.no_put v.right (r.shelf.each id v at).writes)))
+            (push_banks bounds s.homes s.views r.log r.shelf.texts r.banks e id v w r.within.legal may t.no_put (λ u. t.no_end u) at (says_same v w refl refl)),
         tells s r w refl refl refl record {
           before = r.log;
           seen = refl;
@@ -544,12 +561,12 @@ module _ (bounds : Bounds) where
           told = refl;
           done = refl;
           texts = knows_texts bounds s.words r.log r.shelf.texts r.shelf.writer_of id v w (r.shelf.each id v at) refl;
-          sound = sound_after s r e v.processors v.role (v.mine ++ e ∷ []) r.changes r.shelf.texts may (t.maker bounds.processors lt) sized agree.reaches (subst (λ (m : Role). Owns m (v.mine ++ e ∷ []) log') (sym is) mine') (texts_on r.shelf.texts r.log e t.no_put r.shelf.shelved.cells);
+          sound = sound_after s r e v.processors v.role (v.mine ++ e ∷ []) r.changes r.shelf.texts may (t.maker bounds.processors lt) sized agree.reaches (subst (λ (m : Role). Owns m (v.mine ++ e ∷ []) log') (sym is) mine') (texts_on r.shelf.texts r.log e t.no_put r.shelf.shelved.cells) r.banks.one_vault;
         },
       )
 
   pub tells_here : (slots id : ℕ) (me : Sat) (p : ℕ) (e : ℕ → Event) (told_of : ℕ → Sat → Type 0) → me.0.processors ≡ bounds.processors → me.0.role ≡ Cpu p → p < bounds.processors
-      → ((n : ℕ) → IsTold p (e n)) → ((s : State (Option ℕ) View) (r : Kept bounds s) → MayFollow r.log (e (get_or s.words number_place 0)))
+      → ((n : ℕ) → IsTold p (e n)) → ((s : State Slot View) (r : Kept bounds s) → MayFollow r.log (e (get_or s.words number_place 0)))
       → ((n : ℕ) (w : View) → FindsNumber n w → w.right ≡ me.0.right → Adds me.0 (e n) w → told_of n (w, me.1))
       → Allows (Kept bounds) slots id me number_place (λ x. x) told_of
   tells_here slots id me p event told_of sized is lt told follows tells = tells_at slots id number_place me p event told_of sized is lt told (λ s r _. follows s r) (λ s r w changes _ right adds. tells (get_or s.words number_place 0) w (finds s r w changes) right adds)

@@ -1,5 +1,6 @@
 -- All words of a slot are loaded, one behind the other.
-use Rattle.std.proofs.Common.{◌≡◌, ℕ, suc, ◌+◌, ◌-◌, ◌<◌, List, [], ◌∷◌, ◌++◌, All, Option, arith, length, replicate, get_or, set, refl, sym, ap, ◌∙◌, subst, append_assoc, append-nil, length-append}
+use Rattle.std.specs.Prelude.{None}
+use Rattle.std.proofs.Common.{◌≡◌, ℕ, suc, ◌+◌, ◌-◌, ◌<◌, List, [], ◌∷◌, ◌++◌, All, arith, length, replicate, get_or, set, refl, sym, ap, ◌∙◌, subst, append_assoc, append-nil, length-append}
 use Rattle.std.proofs.lemmas.List.{get_or_append_left}
 use Rattle.std.proofs.lemmas.List.Elements.{All-head, All-tail, All-weaker}
 use Rattle.std.proofs.Math.Seq.{set-append_seam, get_or-append_seam}
@@ -15,6 +16,7 @@ use Rattle.onedom.specs.declared.event.Maker.TheVariants.{Processor}
 use Rattle.onedom.specs.declared.event.Event.{Event}
 use Rattle.onedom.specs.Histories.{HasFound, IsBeginning}
 use Rattle.onedom.proofs.CallerLemmas.{beginning_trans, found_stays}
+use Rattle.sections.specs.Slots.{Slot}
 use Rattle.sections.specs.declared.view.Bounds.{Bounds}
 use Rattle.sections.specs.declared.view.Moment.{Moment}
 use Rattle.sections.specs.declared.view.Right.{Right}
@@ -90,7 +92,7 @@ module _ (cell slot : ℕ) (v o t : View) where
 
   -- what a load gives, of which nothing is known but the section and what it has found
   abbrev pub Gives : ℕ → ℕ → View → View → Type 0
-  Gives k word w z = (s q n : ℕ) (i : Index) → t.right ≡ Section s q i → HasFound o.seen s cell slot n → Sees (LoadWord cell n k word) w z × (word ≡ word_of cell n k z.texts)
+  Gives k word w z = (s q n : ℕ) (i : Index) → t.right ≡ Section s q i [] None → HasFound o.seen s cell slot n → Sees (LoadWord cell n k word) w z × (word ≡ word_of cell n k z.texts)
 
   value : {ls : List Step} {z : View} (n k word : ℕ) → SeesAll ls start z → IsKnown cell n o.texts → word ≡ word_of cell n k z.texts → word ≡ word_of cell n k o.texts
   value {z = z} n k word h known is = is ∙ ap (λ ws. get_or ws k 0) (words_stay cell n o.texts z.texts (texts_told h) known)
@@ -105,19 +107,19 @@ module _ (cell slot : ℕ) (v o t : View) where
   pub some_more : (word : ℕ) (words : List ℕ) (w z : View) → Some words w → Gives (length words) word w z → Some (words ++ word ∷ []) z
   some_more word words w z h f = record { sees = sees; values = values }
     where
-      sees : (s q n : ℕ) (i : Index) → t.right ≡ Section s q i → HasFound o.seen s cell slot n → SeesAll (word_loads cell n 0 (words ++ word ∷ [])) start z
+      sees : (s q n : ℕ) (i : Index) → t.right ≡ Section s q i [] None → HasFound o.seen s cell slot n → SeesAll (word_loads cell n 0 (words ++ word ∷ [])) start z
       sees s q n i right met = subst (λ l. SeesAll l start z) (sym (loads_behind cell n word words)) (sees_more (h.sees s q n i right met) (f s q n i right met).0)
 
-      values : (s q n : ℕ) (i : Index) → t.right ≡ Section s q i → HasFound o.seen s cell slot n → IsKnown cell n o.texts → (k : ℕ) → k < length (words ++ word ∷ []) → get_or (words ++ word ∷ []) k 0 ≡ word_of cell n k o.texts
+      values : (s q n : ℕ) (i : Index) → t.right ≡ Section s q i [] None → HasFound o.seen s cell slot n → IsKnown cell n o.texts → (k : ℕ) → k < length (words ++ word ∷ []) → get_or (words ++ word ∷ []) k 0 ≡ word_of cell n k o.texts
       values s q n i right met known k lt = dite (ℕ_discrete k (length words))
           (λ e. ap (λ j. get_or (words ++ word ∷ []) j 0) e ∙ (get_or-append_seam words word [] 0 ∙ (value n (length words) word (sees s q n i right met) known (f s q n i right met).1 ∙ ap (λ j. word_of cell n j o.texts) (sym e))))
           (λ ne. let a = length-append words (word ∷ []) in let lk : k < length words = omega (arith, a, lt, ne) in get_or_append_left words (word ∷ []) 0 k lk ∙ h.values s q n i right met known k lk)
 
   -- who has loaded words has seen what the section found
-  pub met_there : (s q n : ℕ) (i : Index) (words : List ℕ) (w : View) → Some words w → t.right ≡ Section s q i → HasFound o.seen s cell slot n → (w.right ≡ Section s q i) × HasFound w.seen s cell slot n
+  pub met_there : (s q n : ℕ) (i : Index) (words : List ℕ) (w : View) → Some words w → t.right ≡ Section s q i [] None → HasFound o.seen s cell slot n → (w.right ≡ Section s q i [] None) × HasFound w.seen s cell slot n
   met_there s q n i words w h right met = let all = h.sees s q n i right met in (all.right ∙ right, found_later o.seen w.seen s cell slot n (seen_told all) met)
 
-  pub has_met : (s q n : ℕ) (i : Index) (words : List ℕ) (w : View) → Some words w → t.right ≡ Section s q i → HasFound o.seen s cell slot n → HasMet cell slot w
+  pub has_met : (s q n : ℕ) (i : Index) (words : List ℕ) (w : View) → Some words w → t.right ≡ Section s q i [] None → HasFound o.seen s cell slot n → HasMet cell slot w
   has_met s q n i words w h right met = let there = met_there s q n i words w h right met in record { section = s; processor = q; index = i; version = n; right = there.0; met = there.1 }
 
 -- a word is stored behind those that are there
@@ -147,13 +149,13 @@ module _ (bounds : Bounds) where
             subst (λ (z : ℕ × ℕ × ℕ). Sees (LoadWord z.0 z.1 z.2 n) me.0 w × (n ≡ word_of z.0 z.1 z.2 w.texts)) (λ e. (places.0 e, vv e, places.2 e)) (sees, word st r at ∙ ap (word_of c h.version i) (sym texts)),
       ))
     where
-      held : (st : State (Option ℕ) View) (r : Kept bounds st) → get_elem? st.views id ≡ some me.0 → Has r.log r.changes r.seat_of r.reached r.holder r.engine id (Section h.section h.processor h.index)
+      held : (st : State Slot View) (r : Kept bounds st) → get_elem? st.views id ≡ some me.0 → Has r.log r.changes r.seat_of r.reached r.holder r.engine id (Section h.section h.processor h.index [] None)
       held st r at = subst (λ (m : Right). Has r.log r.changes r.seat_of r.reached r.holder r.engine id m) h.right (r.each_view id me.0 at).has
 
-      met : (st : State (Option ℕ) View) (r : Kept bounds st) → get_elem? st.views id ≡ some me.0 → (s v : ℕ) → HasFound me.0.seen s c x v → HasFound r.log s c x v
+      met : (st : State Slot View) (r : Kept bounds st) → get_elem? st.views id ≡ some me.0 → (s v : ℕ) → HasFound me.0.seen s c x v → HasFound r.log s c x v
       met st r at s v f = found_later me.0.seen r.log s c x v (r.each_view id me.0 at).seen f
 
-      word : (st : State (Option ℕ) View) (r : Kept bounds st) → get_elem? st.views id ≡ some me.0 → get_or st.words k 0 ≡ word_of c h.version i r.shelf.texts
+      word : (st : State Slot View) (r : Kept bounds st) → get_elem? st.views id ≡ some me.0 → get_or st.words k 0 ≡ word_of c h.version i r.shelf.texts
       word st r at = ap (λ z. get_or st.words z 0) place ∙ there bounds st.words r.log r.shelf.texts h.section c x h.version i r.shelf.shelved r.within.legal (held st r at).1 (met st r at h.section h.version h.met) lc lx li
 
 -- The words so far stand before zeros
@@ -190,7 +192,7 @@ module _ (cell slot : ℕ) (v o t : View) where
 
 module _ {A : Type 0} {t : found.Inside} {lender seat : DomainSeat} {c : cpu.Inside A} {words : List ℕ} {p : ℕ} {k : Index}
     (b : IsFound t) (pinned : (t.seat.table_id ≡ lender.table_id) × HasFound t.seat.me.0.seen (section_of lender.me.0.right) t.cell t.slot t.version) (i : IsCpu c)
-    (right : lender.me.0.right ≡ Section (section_of lender.me.0.right) p k) (f : LoadsAllIn t.cell t.slot c.seat lender t.seat words seat) where
+    (right : lender.me.0.right ≡ Section (section_of lender.me.0.right) p k [] None) (f : LoadsAllIn t.cell t.slot c.seat lender t.seat words seat) where
   sees : SeesAll (word_loads t.cell t.version 0 words) (lent_to c.seat lender t.seat) f.after
   sees = f.loads.sees (section_of lender.me.0.right) p t.version k right pinned.1
 

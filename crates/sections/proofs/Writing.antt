@@ -1,9 +1,10 @@
 -- What the seat with the right to a cell does there.
-use Rattle.std.proofs.Common.{◌≡◌, ℕ, ◌+◌, ◌*◌, ◌<◌, ◌≤◌, ◌≢◌, inl, inr, ⊎_elim, Bool, true, false, cond, eqb, ◌&&◌, List, [], ◌∷◌, ◌++◌, All, Option, length, map, drop, get_or, set, refl, sym, ap, ◌∙◌, subst, eq-eqb, ne_eqb, eqb-true, append_assoc, length-set, arith, get_or-set_other, get_or-set_same}
+use Rattle.std.proofs.Common.{◌≡◌, ℕ, ◌+◌, ◌*◌, ◌<◌, ◌≤◌, ◌≢◌, inl, inr, ⊎_elim, Bool, true, false, cond, eqb, ◌&&◌, List, [], ◌∷◌, ◌++◌, All, None, length, map, drop, get_or, set, refl, sym, ap, ◌∙◌, subst, eq-eqb, ne_eqb, append_assoc, length-set, arith, get_or-set_other, get_or-set_same}
 use Rattle.std.proofs.lemmas.List.{length-map, map-append, get_or-take, get_or-drop, take-append-le, get_or_push}
 use Rattle.std.proofs.lemmas.List.Elements.{All-nil, All-cons, All-head, All-tail, All-weaker, filter_map-append}
 use mathlib.Core.Logic.{dite}
 use mathlib.Core.Option.{none, some}
+use mathlib.Core.Option as maybe
 use native.Mathlib.Decide.{ℕ_discrete}
 use lib.ListN.{get_elem?}
 use lib.Seq.{set-get_or}
@@ -13,7 +14,12 @@ use Rattle.onedom.specs.declared.event.Maker.TheVariants.{Processor}
 use Rattle.onedom.specs.declared.event.Event.{Event}
 use Rattle.onedom.specs.declared.event.Event.TheVariants.{Begin, End, Start, Finish, Note, Ask, Find, Put}
 use Rattle.onedom.specs.Histories.{slot_of, version_of, shelved, puts_in, puts, IsClear, MayFollow, IsLegal, made_by, IsBeginning}
-use Rattle.onedom.proofs.CallerLemmas.{made_by_own, same_maker_refl, beginning_refl, beginning_push, along, slot_kept, version_kept, shelved_kept, slot_put, version_put, shelved_put, version_up, clear_until_put, quiet}
+use Rattle.onedom.proofs.CallerLemmas.{made_by_own, same_maker_refl, beginning_refl, beginning_push, slot_kept, version_kept, shelved_kept, slot_put, version_put, shelved_put, version_up, clear_until_put, quiet}
+use Rattle.sections.specs.Banks.{KeepsBanks, offered, plan_put}
+use Rattle.sections.proofs.Banking.{says_shelf, same_banks}
+use Rattle.sections.proofs.Offers.{put_offer}
+use Rattle.sections.proofs.Offering.{shelved_low, others_apart, put_banks}
+use Rattle.sections.specs.Slots.{Slot}
 use Rattle.sections.specs.declared.view.Bounds.{Bounds}
 use Rattle.sections.specs.declared.view.Moment.{Moment}
 use Rattle.sections.specs.declared.view.Role.{Role}
@@ -23,11 +29,14 @@ use Rattle.sections.specs.declared.view.Right.TheVariants.{Nothing, Section, She
 use Rattle.sections.specs.declared.view.Step.{Step}
 use Rattle.sections.specs.declared.view.Step.TheVariants.{LoadIndex, LoadUnlocks, LoadLocks, AddIndex, AddNumber, LoadWord}
 use Rattle.sections.specs.declared.view.Deed.{Deed}
+use Rattle.sections.specs.declared.view.Offer.{Offer}
+use Rattle.sections.specs.declared.view.Plan.{Plan}
 use Rattle.sections.specs.declared.view.Text.{Text}
 use Rattle.sections.specs.declared.view.View.{View}
 use Rattle.sections.specs.Words.{cells_from, cell_place, word_place, Agree}
-use Rattle.sections.specs.Shelves.{put_cell, put_cells, texts_of, blank_words, word_of, slot_words, texts_at, IsStart, AreTextsOf, Lies, AreShelved, HasShelf, Writes, FitsShelf, IsTrueWord, KeepsShelf}
+use Rattle.sections.specs.Shelves.{put_cell, put_cells, texts_of, offer_of, blank_words, word_of, slot_words, texts_at, IsStart, AreTextsOf, Lies, AreShelved, HasShelf, Writes, FitsShelf, IsTrueWord, KeepsShelf}
 use Rattle.sections.specs.Rule.{GoesOn, Makes, Fits, Kept}
+use Rattle.sections.specs.WriterInsides.{words_with, plan_with}
 use Rattle.sections.specs.Plays.{Owns, Adds, Keeps, EndsWithText, ComesFrom, Sat, put, refreshed, stored}
 use Rattle.sections.proofs.Counters.{index_low, locks_push}
 use Rattle.sections.proofs.Agreement.{agrees_plain}
@@ -56,33 +65,6 @@ pub slot_quiet : (c : ℕ) (h log : List Event) → IsBeginning h log → IsLega
 slot_quiet c h log b legal same = ap (slot_of c) b.whole
     ∙ quiet (λ l. slot_of c l ≡ slot_of c h) c (λ l e le may miss was. slot_kept c l e miss ∙ was) h b.rest (subst IsLegal b.whole legal) (ap (version_of c) (sym b.whole) ∙ same) refl
 
--- a slot has no version that its cell didn't have
-shelved_low : (c x : ℕ) (h : List Event) → IsLegal h → shelved c x h ≤ version_of c h
-shelved_low c x h legal = along (λ l. shelved c x l ≤ version_of c l) (omega arith) on h legal
-  where
-    kept : (l : List Event) (e : Event) → puts c x e ≡ false → MayFollow l e → shelved c x l ≤ version_of c l → shelved c x (l ++ e ∷ []) ≤ version_of c (l ++ e ∷ [])
-    kept l e miss may was = let s = shelved_kept c x l e miss in let v = version_up c l e may in omega (arith, s, v, was)
-
-    either : (l : List Event) (d y w : ℕ) (by : Maker) → MayFollow l (Put d y w by) → shelved c x l ≤ version_of c l → (b : Bool) → (eqb d c && eqb y x) ≡ b → shelved c x (l ++ Put d y w by ∷ []) ≤ version_of c (l ++ Put d y w by ∷ [])
-    either l d y w by may was false is = kept l (Put d y w by) is may was
-    either l d y w by may was true is = both (eqb d c) (eqb y x) refl refl is
-      where
-        both : (a b : Bool) → eqb d c ≡ a → eqb y x ≡ b → (eqb d c && eqb y x) ≡ true → shelved c x (l ++ Put d y w by ∷ []) ≤ version_of c (l ++ Put d y w by ∷ [])
-        both true true dc yx h = subst (λ (z : ℕ × ℕ). shelved z.0 z.1 (l ++ Put d y w by ∷ []) ≤ version_of z.0 (l ++ Put d y w by ∷ [])) (λ k. (eqb-true d c dc k, eqb-true y x yx k))
-            (let s = shelved_put d y w by l in let v = version_put d y w by l in omega (arith, s, v))
-        both true false dc yx h = absurd (false≠true (sym (ap (λ b. eqb d c && b) yx ∙ ap (λ b. b && false) dc) ∙ h))
-        both false b dc yx h = absurd (false≠true (sym (ap (λ a. a && eqb y x) dc) ∙ h))
-
-    on : (l : List Event) (e : Event) → IsLegal l → MayFollow l e → shelved c x l ≤ version_of c l → shelved c x (l ++ e ∷ []) ≤ version_of c (l ++ e ∷ [])
-    on l (Begin s p i by) le may was = kept l (Begin s p i by) refl may was
-    on l (End s q by) le may was = kept l (End s q by) refl may was
-    on l (Start by) le may was = kept l (Start by) refl may was
-    on l (Finish by) le may was = kept l (Finish by) refl may was
-    on l (Note k by) le may was = kept l (Note k by) refl may was
-    on l (Ask k b by) le may was = kept l (Ask k b by) refl may was
-    on l (Find s d y v by) le may was = kept l (Find s d y v by) refl may was
-    on l (Put d y w by) le may was = either l d y w by may was (eqb d c && eqb y x) refl
-
 -- Words
 
 agree_aside : (n : ℕ) (words : List ℕ) (log : List Event) (changes k y : ℕ) → cells_from n ≤ k → Agree n words log changes → Agree n (set words k y) log changes
@@ -104,16 +86,16 @@ set_else words k y j n = get_or-set_other words k j y 0 n
 
 -- Texts
 
-pub one_text : (c : ℕ) (words : List ℕ) → texts_of c (record { cell = c; words = words } ∷ []) ≡ words ∷ []
-one_text c words = let t : Text = record { cell = c; words = words } in let f : Text → List ℕ = λ u. u.words in let only : Bool → List Text = λ b. cond b (t ∷ []) [] in ap (λ b. map f (only b)) (eq-eqb c c refl)
+pub one_text : (c : ℕ) (t : Text) → t.cell ≡ c → texts_of c (t ∷ []) ≡ t.words ∷ []
+one_text c t is = let f : Text → List ℕ = λ u. u.words in let only : Bool → List Text = λ b. cond b (t ∷ []) [] in ap (λ b. map f (only b)) (eq-eqb t.cell c is)
 
 slot_word : (x i : ℕ) (own : List ℕ) → i < 16 → get_or (slot_words x own) i 0 ≡ get_or own (16 * x + i) 0
 slot_word x i own li = get_or-take 16 (drop (16 * x) own) i 0 li ∙ get_or-drop (16 * x) own i 0
 
 -- the words of the version that was put last
-put_word : (c v x i : ℕ) (own : List ℕ) (texts : List Text) → length (texts_of c texts) ≡ v → i < 16 → word_of c (v + 1) i (texts ++ record { cell = c; words = slot_words x own } ∷ []) ≡ get_or own (16 * x + i) 0
-put_word c v x i own texts long li =
-    let all : texts_of c (texts ++ record { cell = c; words = slot_words x own } ∷ []) ≡ texts_of c texts ++ slot_words x own ∷ [] = texts_of_append c texts (record { cell = c; words = slot_words x own } ∷ []) ∙ ap (λ l. texts_of c texts ++ l) (one_text c (slot_words x own)) in
+put_word : (c v x i : ℕ) (own : List ℕ) (texts : List Text) (t : Text) → t.cell ≡ c → t.words ≡ slot_words x own → length (texts_of c texts) ≡ v → i < 16 → word_of c (v + 1) i (texts ++ t ∷ []) ≡ get_or own (16 * x + i) 0
+put_word c v x i own texts t is has long li =
+    let all : texts_of c (texts ++ t ∷ []) ≡ texts_of c texts ++ slot_words x own ∷ [] = texts_of_append c texts (t ∷ []) ∙ (ap (λ l. texts_of c texts ++ l) (one_text c t is) ∙ ap (λ ws. texts_of c texts ++ ws ∷ []) has) in
     ap (λ l. get_or (get_or (blank_words ∷ l) (v + 1) blank_words) i 0) all
     ∙ (ap (λ l. get_or l i 0) (get_or_push (blank_words ∷ texts_of c texts) (slot_words x own) blank_words (v + 1) (omega (arith, long))) ∙ slot_word x i own li)
 
@@ -131,37 +113,35 @@ count_texts : (texts : List Text) (log : List Event) → AreTextsOf texts log �
 count_texts texts log h = sym (length-map texts (λ t. t.cell)) ∙ ap length h
 
 -- a right to a cell
-pub same_shelf_right : (c d : ℕ) (own own' : List ℕ) (h h' : List Event) → Shelf c own h ≡ Shelf d own' h' → (c ≡ d) × (own ≡ own') × (h ≡ h')
-same_shelf_right c d own own' h h' e = (λ i. cell_in (e i), λ i. words_in (e i), λ i. seen_in (e i))
+pub same_shelf_right : (c d : ℕ) (own own' : List ℕ) (h h' : List Event) (q q' : Plan) → Shelf c own h q ≡ Shelf d own' h' q' → (c ≡ d) × (own ≡ own') × (h ≡ h') × (q ≡ q')
+same_shelf_right c d own own' h h' q q' e = (λ i. cell_in (e i), λ i. words_with (e i), λ i. seen_in (e i), λ i. plan_with (e i))
   where
     cell_in : Right → ℕ
     cell_in Nothing = 0
-    cell_in (Section s p i) = 0
-    cell_in (Shelf c own h) = c
+    cell_in (Section s p i us hand) = 0
+    cell_in (Shelf c own h q) = c
     cell_in (Undealt k) = 0
-
-    words_in : Right → List ℕ
-    words_in Nothing = []
-    words_in (Section s p i) = []
-    words_in (Shelf c own h) = own
-    words_in (Undealt k) = []
 
     seen_in : Right → List Event
     seen_in Nothing = []
-    seen_in (Section s p i) = []
-    seen_in (Shelf c own h) = h
+    seen_in (Section s p i us hand) = []
+    seen_in (Shelf c own h q) = h
     seen_in (Undealt k) = []
 
-pub same_next : (c x : ℕ) (own own' : List ℕ) (h h' : List Event) → Shelf c own h ≡ Shelf c own' h' → ◌≡◌ {A = ℕ} (16 * (version_of c h + 1) + x) (16 * (version_of c h' + 1) + x)
-same_next c x own own' h h' e = ap (λ l. 16 * (version_of c l + 1) + x) (same_shelf_right c c own own' h h' e).2
+-- the words and the plan are those that go with the right
+pub as_shelf : (y : Right) (c : ℕ) (own : List ℕ) (h : List Event) (q : Plan) → y ≡ Shelf c own h q → y ≡ Shelf c (words_with y) h (plan_with y)
+as_shelf y c own h q e = e ∙ (λ i. Shelf c (words_with (sym e i)) h (plan_with (sym e i)))
+
+pub same_next : (c x : ℕ) (own own' : List ℕ) (h h' : List Event) (q q' : Plan) → Shelf c own h q ≡ Shelf c own' h' q' → ◌≡◌ {A = ℕ} (16 * (version_of c h + 1) + x) (16 * (version_of c h' + 1) + x)
+same_next c x own own' h h' q q' e = ap (λ l. 16 * (version_of c l + 1) + x) (same_shelf_right c c own own' h h' q q' e).2
 
 -- A version is put
 
 module _ (bounds : Bounds) (words : List ℕ) (views : List View) (log : List Event) (changes : ℕ) (deeds : List Deed) (k : KeepsShelf bounds words views log deeds) (legal : IsLegal log) (id c : ℕ) (own : List ℕ) (h : List Event) (has : HasShelf bounds words log k.writer_of id c own h) (inside : cell_place bounds.processors c < length words)
     (each_seen : (j : ℕ) (v : View) → get_elem? views j ≡ some v → IsBeginning v.seen log) (each_told : (j : ℕ) (v : View) → get_elem? views j ≡ some v → All (λ m. GoesOn m (now log changes)) v.told)
-    (x y v : ℕ) (by : Maker) (lx : x < 8) (may : MayFollow log (Put c x v by)) (is : y ≡ 16 * v + x) where
+    (x y v : ℕ) (by : Maker) (lx : x < 8) (may : MayFollow log (Put c x v by)) (is : y ≡ 16 * v + x) (o : Offer) where
   abbrev text : Text
-  text = record { cell = c; words = slot_words x own }
+  text = record { cell = c; words = slot_words x own; offer = o }
 
   abbrev texts : List Text
   texts = k.texts ++ text ∷ []
@@ -198,7 +178,7 @@ module _ (bounds : Bounds) (words : List ℕ) (views : List View) (log : List Ev
       l
 
   lies_there : Lies bounds after longer texts c x
-  lies_there = inr (λ i li. word_same c x i has.cell lx li ∙ (has.stored x i lx li ∙ sym (ap (λ n. word_of c n i texts) (shelved_put c x v by log) ∙ (ap (λ n. word_of c n i texts) may.1 ∙ put_word c (version_of c log) x i own k.texts (long c) li))))
+  lies_there = inr (λ i li. word_same c x i has.cell lx li ∙ (has.stored x i lx li ∙ sym (ap (λ n. word_of c n i texts) (shelved_put c x v by log) ∙ (ap (λ n. word_of c n i texts) may.1 ∙ put_word c (version_of c log) x i own k.texts text refl refl (long c) li))))
 
   put_shelved : AreShelved bounds after longer texts
   put_shelved = record {
@@ -219,8 +199,8 @@ module _ (bounds : Bounds) (words : List ℕ) (views : List View) (log : List Ev
 
   others_write : (j : ℕ) → j ≢ id → (t : Right) → Writes bounds words log k.writer_of j t → Writes bounds after longer k.writer_of j t
   others_write j ne Nothing w = tt
-  others_write j ne (Section s p i) w = tt
-  others_write j ne (Shelf d mine seen) w = let other : d ≢ c = λ e. ne (sym w.writer ∙ (ap k.writer_of e ∙ has.writer)) in record {
+  others_write j ne (Section s p i us hand) w = tt
+  others_write j ne (Shelf d mine seen q) w = let other : d ≢ c = λ e. ne (sym w.writer ∙ (ap k.writer_of e ∙ has.writer)) in record {
     writer = w.writer;
     cell = w.cell;
     upto = beginning_push event w.upto;
@@ -255,8 +235,8 @@ module _ (bounds : Bounds) (words : List ℕ) (views : List View) (log : List Ev
     t.1 ∙ sym (ap (λ ws. get_or ws i 0) (words_stay d n k.texts texts start (let b = long d in omega (arith, low, b)))),
   )
 
-  pub shelf_put : (w : View) → w.texts ≡ texts → w.seen ≡ longer → w.told ≡ [] → w.right ≡ Shelf c own longer → KeepsShelf bounds after (set views id w) longer deeds
-  shelf_put w same seen untold right = record {
+  pub shelf_put : (w : View) (q : Plan) → w.texts ≡ texts → w.seen ≡ longer → w.told ≡ [] → w.right ≡ Shelf c own longer q → KeepsShelf bounds after (set views id w) longer deeds
+  shelf_put w q same seen untold right = record {
     texts = texts;
     writer_of = k.writer_of;
     room = length-set words (cell_place bounds.processors c) y ∙ k.room;
@@ -283,9 +263,12 @@ module _ (bounds : Bounds) (words : List ℕ) (views : List View) (log : List Ev
   start_of seen known e = let s = start_at (length (put_cells seen)) k.texts in record { rest = s.rest ++ text ∷ []; whole = ap (λ l. l ++ text ∷ []) s.whole ∙ (append_assoc (texts_at k.texts seen) s.rest (text ∷ []) ∙ ap (λ l. l ++ (s.rest ++ text ∷ [])) (sym e)) }
 
 module _ (bounds : Bounds) where
-  pub puts_here : (slots id k y : ℕ) (me : Sat) (p c x : ℕ) (own : List ℕ) (h : List Event) → me.0.processors ≡ bounds.processors → me.0.role ≡ Cpu p → p < bounds.processors → me.0.right ≡ Shelf c own h → IsClear h c x → x < 8 → k ≡ cell_place bounds.processors c → y ≡ 16 * (version_of c h + 1) + x
-      → Allows (Kept bounds) slots id me k (λ _. y) (λ _. put (step slots k y 0 none) me y)
-  puts_here slots id k y me p c x own h sized is lt right clear lx place value s r _ at _ =
+  puts_at : (slots id y : ℕ) (me : Sat) (p c x : ℕ) (own : List ℕ) (h : List Event) (q : Plan) → me.0.processors ≡ bounds.processors → me.0.role ≡ Cpu p → p < bounds.processors → me.0.right ≡ Shelf c own h q → q.hand ≡ None → IsClear h c x → x < 8 → y ≡ 16 * (version_of c h + 1) + x
+      → Allows (Kept bounds) slots id me (cell_place bounds.processors c) (λ _. y) (λ _. put (step slots (cell_place bounds.processors c) y 0 none) me y)
+  unfolding shelf_put
+  puts_at slots id y me p c x own h q sized is lt right free clear lx value s r _ at _ =
+      let k : ℕ = cell_place bounds.processors c in
+      let place : k ≡ cell_place bounds.processors c = refl in
       let v : View = me.0 in
       let f = r.each_view id v at in
       let made : Makes r.log r.changes r.seat_of r.reached r.holder r.engine id (Cpu p) v.mine = subst (λ (m : Role). Makes r.log r.changes r.seat_of r.reached r.holder r.engine id m v.mine) is f.makes in
@@ -299,15 +282,18 @@ module _ (bounds : Bounds) where
       let wide = r.shelf.room in
       let agree : Agree bounds.processors (set s.words k y) log' r.changes = agree_aside bounds.processors s.words log' r.changes k y (omega (arith, place)) (agrees_plain bounds.processors s.words r.log r.changes r.words e refl refl (λ _ _. refl) (λ _ _. refl)) in
       let mine' : v.mine ++ e ∷ [] ≡ made_by (Processor p) log' = ap (λ l. l ++ e ∷ []) made.1 ∙ sym (made_by_own (Processor p) r.log e (same_maker_refl (Processor p))) in
-      let texts' : List Text = r.shelf.texts ++ record { cell = c; words = slot_words x own } ∷ [] in
+      let text' : Text = record { cell = c; words = slot_words x own; offer = offered q x } in
+      let texts' : List Text = r.shelf.texts ++ text' ∷ [] in
       let inside : cell_place bounds.processors c < length s.words = omega (arith, wide, lc) in
-      let w : View = record { processors = v.processors; role = v.role; mine = v.mine ++ e ∷ []; seen = log'; changes = r.changes; texts = texts'; told = []; right = Shelf c own log'; shown = v.shown; done = v.done } in
+      let w : View = record { processors = v.processors; role = v.role; mine = v.mine ++ e ∷ []; seen = log'; changes = r.changes; texts = texts'; told = []; right = Shelf c own log' (plan_put q x); shown = v.shown; done = v.done } in
       let seen_each : (j : ℕ) (u : View) → get_elem? s.views j ≡ some u → IsBeginning u.seen r.log = λ j u e. (r.each_view j u e).seen in
       let told_each : (j : ℕ) (u : View) → get_elem? s.views j ≡ some u → All (λ m. GoesOn m (now r.log r.changes)) u.told = λ j u e. (r.each_view j u e).told in
-      let shelf : KeepsShelf bounds (set s.words k y) (set s.views id w) log' r.deeds = subst (λ (z : ℕ). KeepsShelf bounds (set s.words z y) (set s.views id w) log' r.deeds) (sym place)
-      (shelf_put bounds s.words s.views r.log r.changes r.deeds r.shelf r.within.legal id c own h has inside seen_each told_each x y (version_of c h + 1) (Processor p) lx may value w refl refl refl refl) in
+      let shelf : KeepsShelf bounds (set s.words k y) (set s.views id w) log' r.deeds =
+      (shelf_put bounds s.words s.views r.log r.changes r.deeds r.shelf r.within.legal id c own h has inside seen_each told_each x y (version_of c h + 1) (Processor p) lx may value (offered q x) w (plan_put q x) refl refl refl refl) in
+      let banks : KeepsBanks bounds s.homes (set s.views id w) log' texts' = put_banks bounds s.homes s.views r.log r.shelf.texts r.banks id v w c x (version_of c h + 1) (Processor p) own h log' q text' r.within.legal may r.shelf.shelved.cells at right free lx refl refl refl refl (λ j d ne e d' q' is'. others_apart s r id c has.writer j d ne e d' q' is') in
       let g = r.shelf.each id v at in
-      let start : (seen : List Event) (known : List Text) → known ≡ texts_at r.shelf.texts seen → IsStart known texts' = start_of bounds s.words s.views r.log r.changes r.deeds r.shelf r.within.legal id c own h has inside seen_each told_each x y (version_of c h + 1) (Processor p) lx may value in (
+      let start : (seen : List Event) (known : List Text) → known ≡ texts_at r.shelf.texts seen → IsStart known texts' = start_of bounds s.words s.views r.log r.changes r.deeds r.shelf r.within.legal id c own h has inside seen_each told_each x y (version_of c h + 1) (Processor p) lx may value (offered q x) in
+      let long : length (texts_of c r.shelf.texts) ≡ version_of c h = texts_are c r.shelf.texts r.log r.within.legal r.shelf.shelved.cells ∙ has.all in (
         w,
         keeps,
         tt,
@@ -324,16 +310,17 @@ module _ (bounds : Bounds) where
               has = tt;
               shown = f.shown;
             }
-            v at refl refl shelf,
+            v at refl refl shelf
+            banks,
         (
           refl,
-          λ q d z own' h' is' right' lz word value'.
-              let pq : p ≡ q = same_cpu p q (sym is ∙ is') in
-              let same = same_shelf_right c d own own' h h' (sym right ∙ right') in
+          λ p' d z own' h' q' is' right' lz word value'.
+              let pp : p ≡ p' = same_cpu p p' (sym is ∙ is') in
+              let same = same_shelf_right c d own own' h h' q q' (sym right ∙ right') in
               let vv : version_of c h ≡ version_of d h' = λ i. version_of (same.0 i) (same.2 i) in
               let xz : x ≡ z = omega (arith, value, value', vv) in
-              subst (λ (n : ℕ × ℕ × ℕ × List ℕ × List Event). Adds v (Put n.1 n.2 (version_of n.1 n.4 + 1) (Processor n.0)) w × (w.right ≡ Shelf n.1 n.3 w.seen) × EndsWithText n.1 (slot_words n.2 n.3) w.texts × ComesFrom n.1 n.4 w.seen (Put n.1 n.2 (version_of n.1 n.4 + 1) (Processor n.0)))
-              (λ i. (pq i, same.0 i, xz i, same.1 i, same.2 i)) (
+              subst (λ (n : ℕ × ℕ × ℕ × List ℕ × List Event × Plan). Adds v (Put n.1 n.2 (version_of n.1 n.4 + 1) (Processor n.0)) w × (w.right ≡ Shelf n.1 n.3 w.seen (plan_put n.5 n.2)) × EndsWithText n.1 (slot_words n.2 n.3) w.texts × ComesFrom n.1 n.4 w.seen (Put n.1 n.2 (version_of n.1 n.4 + 1) (Processor n.0)) × (offer_of n.1 (version_of n.1 n.4 + 1) w.texts ≡ offered n.5 n.2))
+              (λ i. (pp i, same.0 i, xz i, same.1 i, same.2 i, same.3 i)) (
                 record {
                   before = r.log;
                   seen = refl;
@@ -351,23 +338,30 @@ module _ (bounds : Bounds) where
                     covers = All-weaker (λ m. m.texts ≡ texts_at r.shelf.texts m.history) (λ m. IsStart m.texts texts') (λ m i. start m.history m.texts i) v.told g.told;
                   };
                   sound = sound_after bounds s r e v.processors v.role (v.mine ++ e ∷ []) r.changes texts' may lt sized agree.reaches (subst (λ (m : Role). Owns m (v.mine ++ e ∷ []) log') (sym is) mine')
-                      (put_cells_are bounds s.words s.views r.log r.changes r.deeds r.shelf r.within.legal id c own h has inside seen_each told_each x y (version_of c h + 1) (Processor p) lx may value);
+                      (put_cells_are bounds s.words s.views r.log r.changes r.deeds r.shelf r.within.legal id c own h has inside seen_each told_each x y (version_of c h + 1) (Processor p) lx may value (offered q x)) banks.one_vault;
                 },
                 refl,
-                record { before = r.shelf.texts; whole = refl },
+                record { before = r.shelf.texts; last = text'; whole = refl; cell = refl; same = refl },
                 record { before = r.log; whole = refl; goes_on = has.upto; same = has.all },
+                put_offer c (version_of c h) r.shelf.texts text' refl long,
               ),
         ),
       )
+
+-- store to the cell
+module _ (bounds : Bounds) where
+  pub puts_here : (slots id k y : ℕ) (me : Sat) (p c x : ℕ) (own : List ℕ) (h : List Event) (q : Plan) → me.0.processors ≡ bounds.processors → me.0.role ≡ Cpu p → p < bounds.processors → me.0.right ≡ Shelf c own h q → q.hand ≡ None → IsClear h c x → x < 8 → k ≡ cell_place bounds.processors c → y ≡ 16 * (version_of c h + 1) + x
+      → Allows (Kept bounds) slots id me k (λ _. y) (λ _. put (step slots k y 0 none) me y)
+  puts_here slots id k y me p c x own h q sized is lt right free clear lx place value = subst (λ z. Allows (Kept bounds) slots id me z (λ _. y) (λ _. put (step slots z y 0 none) me y)) (sym place) (puts_at bounds slots id y me p c x own h q sized is lt right free clear lx value)
 
 -- A step without an event, of the seat with the right to a cell
 
 module _ (bounds : Bounds) where
   -- the same history and steps, where one word of a cell or slot may have changed
-  remains : (s : State (Option ℕ) View) (r : Kept bounds s) (id : ℕ) (words : List ℕ) (v w : View) → get_elem? s.views id ≡ some v → w.role ≡ v.role → w.done ≡ v.done → Agree bounds.processors words r.log r.changes
-      → Fits r.log r.changes r.seat_of r.reached r.holder r.engine id w → KeepsShelf bounds words (set s.views id w) r.log r.deeds
-      → Kept bounds record { words = words; homes = s.homes; views = set s.views id w }
-  remains s r id words v w at role done agree fits shelf = record {
+  pub remains : (s : State Slot View) (r : Kept bounds s) (id : ℕ) (words : List ℕ) (homes : List (maybe.Option Slot)) (v w : View) → get_elem? s.views id ≡ some v → w.role ≡ v.role → w.done ≡ v.done → Agree bounds.processors words r.log r.changes
+      → Fits r.log r.changes r.seat_of r.reached r.holder r.engine id w → (shelf : KeepsShelf bounds words (set s.views id w) r.log r.deeds) → KeepsBanks bounds homes (set s.views id w) r.log shelf.texts
+      → Kept bounds record { words = words; homes = homes; views = set s.views id w }
+  remains s r id words homes v w at role done agree fits shelf banks = record {
     log = r.log;
     changes = r.changes;
     seat_of = r.seat_of;
@@ -383,14 +377,15 @@ module _ (bounds : Bounds) where
     done = r.done;
     each_done = each_as bounds s r id v w at role done;
     shelf = shelf;
+    banks = banks;
   }
 
   -- the seat has then seen all
-  abbrev seeing : (s : State (Option ℕ) View) → Kept bounds s → View → Right → View
+  abbrev pub seeing : (s : State Slot View) → Kept bounds s → View → Right → View
   seeing s r v right = record { processors = v.processors; role = v.role; mine = v.mine; seen = r.log; changes = r.changes; texts = r.shelf.texts; told = []; right = right; shown = v.shown; done = v.done }
 
-  seeing_fits : (s : State (Option ℕ) View) (r : Kept bounds s) (id : ℕ) (v : View) (c : ℕ) (own : List ℕ) → get_elem? s.views id ≡ some v → Fits r.log r.changes r.seat_of r.reached r.holder r.engine id (seeing s r v (Shelf c own r.log))
-  seeing_fits s r id v c own at = let f = r.each_view id v at in record {
+  seeing_fits : (s : State Slot View) (r : Kept bounds s) (id : ℕ) (v : View) (c : ℕ) (own : List ℕ) (q : Plan) → get_elem? s.views id ≡ some v → Fits r.log r.changes r.seat_of r.reached r.holder r.engine id (seeing s r v (Shelf c own r.log q))
+  seeing_fits s r id v c own q at = let f = r.each_view id v at in record {
     seen = beginning_refl r.log;
     knows = knows_all r.log r.changes r.seat_of r.reached r.holder r.engine id r.known v.role;
     told = All-nil (λ m. GoesOn m (now r.log r.changes));
@@ -399,8 +394,8 @@ module _ (bounds : Bounds) where
     shown = f.shown;
   }
 
-  seeing_keeps : (s : State (Option ℕ) View) (r : Kept bounds s) (id : ℕ) (v : View) (c : ℕ) (own own' : List ℕ) (h : List Event) → get_elem? s.views id ≡ some v → HasShelf bounds s.words r.log r.shelf.writer_of id c own h → Keeps c h v (seeing s r v (Shelf c own' r.log))
-  seeing_keeps s r id v c own own' h at has = let f = r.each_view id v at in record {
+  seeing_keeps : (s : State Slot View) (r : Kept bounds s) (id : ℕ) (v : View) (c : ℕ) (own own' : List ℕ) (h : List Event) (q : Plan) → get_elem? s.views id ≡ some v → HasShelf bounds s.words r.log r.shelf.writer_of id c own h → Keeps c h v (seeing s r v (Shelf c own' r.log q))
+  seeing_keeps s r id v c own own' h q at has = let f = r.each_view id v at in record {
     processors = refl;
     role = refl;
     mine = refl;
@@ -415,15 +410,15 @@ module _ (bounds : Bounds) where
     legal = r.within.legal;
   }
 
-  has_shelf : (s : State (Option ℕ) View) (r : Kept bounds s) (id : ℕ) (v : View) (c : ℕ) (own : List ℕ) (h : List Event) → get_elem? s.views id ≡ some v → v.right ≡ Shelf c own h → HasShelf bounds s.words r.log r.shelf.writer_of id c own h
-  has_shelf s r id v c own h at right = subst (λ (t : Right). Writes bounds s.words r.log r.shelf.writer_of id t) right (r.shelf.each id v at).writes
+  pub has_shelf : (s : State Slot View) (r : Kept bounds s) (id : ℕ) (v : View) (c : ℕ) (own : List ℕ) (h : List Event) (q : Plan) → get_elem? s.views id ≡ some v → v.right ≡ Shelf c own h q → HasShelf bounds s.words r.log r.shelf.writer_of id c own h
+  has_shelf s r id v c own h q at right = subst (λ (t : Right). Writes bounds s.words r.log r.shelf.writer_of id t) right (r.shelf.each id v at).writes
 
   -- load of the cell
-  pub refreshes_here : (slots id k : ℕ) (me : Sat) (c : ℕ) (own : List ℕ) (h : List Event) → me.0.right ≡ Shelf c own h → Allows (Kept bounds) slots id me k (λ x. x) (refreshed (step slots k 0 0 none) me)
-  refreshes_here slots id k me c own h right s r _ at _ =
+  pub refreshes_here : (slots id k : ℕ) (me : Sat) (c : ℕ) (own : List ℕ) (h : List Event) (q : Plan) → me.0.right ≡ Shelf c own h q → Allows (Kept bounds) slots id me k (λ x. x) (refreshed (step slots k 0 0 none) me)
+  refreshes_here slots id k me c own h q right s r _ at _ =
       let v : View = me.0 in
-      let has = has_shelf s r id v c own h at right in
-      let w : View = seeing s r v (Shelf c own r.log) in
+      let has = has_shelf s r id v c own h q at right in
+      let w : View = seeing s r v (Shelf c own r.log q) in
       let K = r.shelf in
       let shelf : KeepsShelf bounds s.words (set s.views id w) r.log r.deeds = record {
         texts = K.texts;
@@ -438,22 +433,22 @@ module _ (bounds : Bounds) where
         w,
         keeps,
         tt,
-        subst (λ (ws : List ℕ). Kept bounds record { words = ws; homes = s.homes; views = set s.views id w }) (sym (set-get_or s.words k 0)) (remains s r id s.words v w at refl refl r.words (seeing_fits s r id v c own at) shelf),
+        subst (λ (ws : List ℕ). Kept bounds record { words = ws; homes = s.homes; views = set s.views id w }) (sym (set-get_or s.words k 0)) (remains s r id s.words s.homes v w at refl refl r.words (seeing_fits s r id v c own q at) shelf (same_banks bounds s.homes s.views r.log r.shelf.texts r.banks id v w at (says_shelf v w c own own h r.log q right refl refl))),
         (
           refl,
-          λ d own' h' right'. let same = same_shelf_right c d own own' h h' (sym right ∙ right') in
-              subst (λ (n : ℕ × List ℕ × List Event). Keeps n.0 n.2 v w × (w.right ≡ Shelf n.0 n.1 w.seen)) (λ i. (same.0 i, same.1 i, same.2 i)) (seeing_keeps s r id v c own own h at has, refl),
+          λ d own' h' q' right'. let same = same_shelf_right c d own own' h h' q q' (sym right ∙ right') in
+              subst (λ (n : ℕ × List ℕ × List Event × Plan). Keeps n.0 n.2 v w × (w.right ≡ Shelf n.0 n.1 w.seen n.3)) (λ i. (same.0 i, same.1 i, same.2 i, same.3 i)) (seeing_keeps s r id v c own own h q at has, refl),
         ),
       )
 
   -- store of a word of a slot
-  pub stores_here : (slots id k y : ℕ) (me : Sat) (c x i : ℕ) (own : List ℕ) (h : List Event) → me.0.right ≡ Shelf c own h → IsClear h c x → x < 8 → i < 16 → k ≡ word_place bounds.processors c x i → Allows (Kept bounds) slots id me k (λ _. y) (λ _. stored bounds.processors (step slots k y 0 none) me y)
-  stores_here slots id k y me c x i own h right clear lx li place s r _ at _ =
+  pub stores_here : (slots id k y : ℕ) (me : Sat) (c x i : ℕ) (own : List ℕ) (h : List Event) (q : Plan) → me.0.right ≡ Shelf c own h q → IsClear h c x → x < 8 → i < 16 → k ≡ word_place bounds.processors c x i → Allows (Kept bounds) slots id me k (λ _. y) (λ _. stored bounds.processors (step slots k y 0 none) me y)
+  stores_here slots id k y me c x i own h q right clear lx li place s r _ at _ =
       let v : View = me.0 in
-      let has = has_shelf s r id v c own h at right in
+      let has = has_shelf s r id v c own h q at right in
       let lc = has.cell in
       let own' : List ℕ = set own (16 * x + i) y in
-      let w : View = seeing s r v (Shelf c own' r.log) in
+      let w : View = seeing s r v (Shelf c own' r.log q) in
       let K = r.shelf in
       let wide = K.room in
       let long = has.long in
@@ -494,14 +489,14 @@ module _ (bounds : Bounds) where
         w,
         keeps,
         tt,
-        remains s r id after v w at refl refl (agree_aside bounds.processors s.words r.log r.changes k y low r.words) (seeing_fits s r id v c own' at) shelf,
+        remains s r id after s.homes v w at refl refl (agree_aside bounds.processors s.words r.log r.changes k y low r.words) (seeing_fits s r id v c own' q at) shelf (same_banks bounds s.homes s.views r.log r.shelf.texts r.banks id v w at (says_shelf v w c own own' h r.log q right refl refl)),
         (
           refl,
-          λ d z j mine h' right' lz lj word.
-              let same = same_shelf_right c d own mine h h' (sym right ∙ right') in
+          λ d z j mine h' q' right' lz lj word.
+              let same = same_shelf_right c d own mine h h' q q' (sym right ∙ right') in
               let places = same_slot bounds.processors c d x z i j lx lz li lj (sym place ∙ word) in
-              subst (λ (n : ℕ × ℕ × ℕ × List ℕ × List Event). Keeps n.0 n.4 v w × (w.right ≡ Shelf n.0 (set n.3 (16 * n.1 + n.2) y) w.seen) × IsClear w.seen n.0 n.1) (λ m. (same.0 m, places.1 m, places.2 m, same.1 m, same.2 m))
-              (seeing_keeps s r id v c own own' h at has, refl, now_clear),
+              subst (λ (n : ℕ × ℕ × ℕ × List ℕ × List Event × Plan). Keeps n.0 n.4 v w × (w.right ≡ Shelf n.0 (set n.3 (16 * n.1 + n.2) y) w.seen n.5) × IsClear w.seen n.0 n.1) (λ m. (same.0 m, places.1 m, places.2 m, same.1 m, same.2 m, same.3 m))
+              (seeing_keeps s r id v c own own' h q at has, refl, now_clear),
         ),
       )
     where
@@ -512,8 +507,8 @@ module _ (bounds : Bounds) where
       others_keep : (words after : List ℕ) (log : List Event) (writer_of : ℕ → ℕ) (j : ℕ) → ((d : ℕ) → d ≡ c → writer_of d ≡ j → ⊥) → ((d z m : ℕ) → d ≢ c → d < bounds.cells → z < 8 → m < 16 → get_or after (word_place bounds.processors d z m) 0 ≡ get_or words (word_place bounds.processors d z m) 0)
           → (t : Right) → Writes bounds words log writer_of j t → Writes bounds after log writer_of j t
       others_keep words after log writer_of j apart same Nothing w = tt
-      others_keep words after log writer_of j apart same (Section s p i) w = tt
-      others_keep words after log writer_of j apart same (Shelf d mine seen) w = record {
+      others_keep words after log writer_of j apart same (Section s p i us hand) w = tt
+      others_keep words after log writer_of j apart same (Shelf d mine seen q) w = record {
         writer = w.writer;
         cell = w.cell;
         upto = w.upto;

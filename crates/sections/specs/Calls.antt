@@ -15,16 +15,18 @@ use Rattle.sections.specs.declared.view.Text.{Text}
 use Rattle.sections.specs.Words.{is_held, index_word, number_word, locks, unlocks, all_locks, Reaches}
 use Rattle.sections.specs.Rule.{HasItsMaker}
 use Rattle.sections.specs.Shelves.{IsStart, AreTextsOf}
+use Rattle.sections.specs.Banks.{HaveOneVault}
 use Rattle.sections.specs.Plays.{IsIndexWord}
 use Rattle.sections.specs.Views.{CpuView, LookView, ReadingView, CookieView}
 
--- a legal history of a domain of so many processors, in which a maker has just these events and the engine has made so many changes. These are the texts of its Puts
+-- a legal history of a domain of so many processors, in which a maker has just these events and the engine has made so many changes. These are the texts of its Puts, and each cell has one vault
 pub record IsHistoryOf (processors : ℕ) (maker : Maker) (mine seen : List Event) (changes : ℕ) (known : List Text) : Type 0 where
   pub legal : IsLegal seen
   pub makers : All (HasItsMaker processors) seen
   pub own : mine ≡ made_by maker seen
   pub reaches : Reaches changes seen
   pub texts : AreTextsOf known seen
+  pub vaults : HaveOneVault known
 
 abbrev pub IsSeenBy : CpuView → Type 0
 IsSeenBy c = IsHistoryOf c.processors (Processor c.processor) c.mine c.seen c.changes c.texts

@@ -2,6 +2,7 @@
 use Rattle.std.specs.Prelude.{◌≡◌, ℕ, ◌<◌, List, [], ◌∷◌, length, replicate, slice_index_or}
 use Rattle.atomic_table.specs.Seated.{TableId}
 use Rattle.sections.specs.declared.writer.Standing.TheVariants.{Blank, Current}
+use Rattle.sections.specs.Banks.{no_plan}
 use Rattle.sections.specs.WriterViews.{WriterView}
 
 abbrev pub new_writer : TableId → ℕ → ℕ → WriterView
@@ -13,6 +14,7 @@ new_writer domain cell slots = record {
   current = 0;
   standings = Current ∷ Blank ∷ Blank ∷ Blank ∷ Blank ∷ Blank ∷ Blank ∷ Blank ∷ [];
   words = replicate 128 0;
+  plan = no_plan;
   seen = [];
   changes = 0;
   texts = [];

@@ -26,8 +26,8 @@ use Rattle.sections.specs.Views.{CpuView, EngineView, LookView, ReadingView, Coo
 
 abbrev pub section_of : Right → ℕ
 section_of Nothing = 0
-section_of (Section s p i) = s
-section_of (Shelf c words seen) = 0
+section_of (Section s p i us hand) = s
+section_of (Shelf c words seen q) = 0
 section_of (Undealt c) = 0
 
 -- a seat between two calls: it has no right of its own, all that it was told is seen, and what it has seen is sound
@@ -48,7 +48,7 @@ view_of_reading r = record { domain = r.seat.table_id; section = section_of r.se
 
 pub record IsReading (r : reading.Inside) : Type 0 where
   pub bare : r.seat.me.1 ≡ []
-  pub right : r.seat.me.0.right ≡ Section (section_of r.seat.me.0.right) r.processor r.index
+  pub right : r.seat.me.0.right ≡ Section (section_of r.seat.me.0.right) r.processor r.index [] None
   pub begun : EndsWithBegin (view_of_reading r)
   pub kind : is_held (section_of r.seat.me.0.right) ≡ false
 
@@ -57,7 +57,7 @@ view_of_held r = record { domain = r.seat.table_id; section = section_of r.seat.
 
 pub record IsHeld (r : held.Inside) : Type 0 where
   pub bare : r.seat.me.1 ≡ []
-  pub right : r.seat.me.0.right ≡ Section (section_of r.seat.me.0.right) r.processor r.index
+  pub right : r.seat.me.0.right ≡ Section (section_of r.seat.me.0.right) r.processor r.index [] None
   pub begun : EndsWithBegin (view_of_held r)
   pub kind : is_held (section_of r.seat.me.0.right) ≡ true
 

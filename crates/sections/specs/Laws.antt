@@ -1,5 +1,5 @@
 -- What holds of the words of every domain, whatever its history.
-use Rattle.std.specs.Prelude.{◌≡◌, ℕ, ◌+◌, ◌<◌, ◌≤◌, ◌↔◌, List, ◌++◌, All, Option, length, slice_index}
+use Rattle.std.specs.Prelude.{◌≡◌, ℕ, ◌+◌, ◌<◌, ◌≤◌, ◌↔◌, List, ◌++◌, All, length, slice_index}
 use Rattle.sseq.specs.declared.index.Index.{Index}
 use Rattle.sseq.specs.declared.index.Index.TheVariants.{Zero, One}
 use Rattle.onedom.specs.declared.event.Maker.{Maker}
@@ -8,6 +8,7 @@ use Rattle.onedom.specs.Histories.{IsOpen, open_sections, index_of, IsEmpty, IsL
 use mathlib.Core.Option.{some}
 use lib.ListN.{get_elem?}
 use Rattle.atomic_table.specs.Table.{State, Splits, Joins}
+use Rattle.sections.specs.Slots.{Slot}
 use Rattle.sections.specs.declared.view.Bounds.{Bounds}
 use Rattle.sections.specs.declared.view.Role.TheVariants.{Cpu}
 use Rattle.sections.specs.declared.view.Shown.TheVariants.{To}
@@ -17,11 +18,12 @@ use Rattle.sections.specs.Words.{number_place, index_place, lock_place, unlock_p
 use Rattle.onedom.specs.declared.event.Maker.TheVariants.{Processor}
 use Rattle.sections.specs.declared.view.Text.{Text}
 use Rattle.sections.specs.Shelves.{IsStart, AreTextsOf, AreShelved, texts_at}
+use Rattle.sections.specs.Banks.{HaveOneVault}
 use Rattle.sections.specs.Rule.{IsProcessor, HasItsMaker, steps_of, IsMaker, StandsFor, Kept}
 use Rattle.sections.specs.Calls.{HasSeenOf}
 
--- there is one legal history, with which the number, the index word and the counters agree, and of which every seat has seen a beginning. In what any seat has seen, each maker's events are a beginning of that maker's own. There is one text for each Put, with which the cells and their slots agree, and each seat knows those of the Puts that it has seen
-pub record HasOneHistory (bounds : Bounds) (s : State (Option ℕ) View) : Type 0 where
+-- there is one legal history, with which the number, the index word and the counters agree, and of which every seat has seen a beginning. In what any seat has seen, each maker's events are a beginning of that maker's own. There is one text for each Put, with which the cells and their slots agree, and each seat knows those of the Puts that it has seen. Each cell has one vault
+pub record HasOneHistory (bounds : Bounds) (s : State Slot View) : Type 0 where
   pub log : List Event
   pub legal : IsLegal log
   pub words : MayHave log (slice_index s.words number_place) (slice_index s.words index_place)
@@ -32,14 +34,15 @@ pub record HasOneHistory (bounds : Bounds) (s : State (Option ℕ) View) : Type 
   pub texts : List Text
   pub shelved : AreShelved bounds s.words log texts
   pub told : (j : ℕ) (v : View) → get_elem? s.views j ≡ some v → v.texts ≡ texts_at texts v.seen
+  pub vaults : HaveOneVault texts
 
 -- the rule, which holds between any two steps, says so
 abbrev pub OneHistory : Type 0
-OneHistory = (bounds : Bounds) (s : State (Option ℕ) View) → Kept bounds s → HasOneHistory bounds s
+OneHistory = (bounds : Bounds) (s : State Slot View) → Kept bounds s → HasOneHistory bounds s
 
 -- between any two steps a processor that is known to have seen so many changes has seen as many
 abbrev pub ShownIsSeen : Type 0
-ShownIsSeen = (bounds : Bounds) (s : State (Option ℕ) View) → Kept bounds s → (j k p n : ℕ) (v c : View) → get_elem? s.views j ≡ some v → v.shown ≡ To p n → get_elem? s.views k ≡ some c → c.role ≡ Cpu p → n ≤ c.changes
+ShownIsSeen = (bounds : Bounds) (s : State Slot View) → Kept bounds s → (j k p n : ℕ) (v c : View) → get_elem? s.views j ≡ some v → v.shown ≡ To p n → get_elem? s.views k ≡ some c → c.role ≡ Cpu p → n ≤ c.changes
 
 -- the number and the index word are those that a domain with this history may have
 abbrev pub WordsAgree : Type 0
@@ -85,7 +88,7 @@ pub record HasNoMore (bounds : Bounds) (m o : Maker) (v w : View) : Type 0 where
 
 -- however a seat is cut in two or takes another in, it has no step and no event more of its maker m, as long as there is a maker o that has a seat elsewhere: at the place of that step o may have made a step of its own, and at that of the event a processor may have asked after a cookie. So only a step on the table gives a step or an event
 abbrev pub NoStepIsForged : Type 0
-NoStepIsForged = (bounds : Bounds) (s : State (Option ℕ) View) → Kept bounds s → (id : ℕ) (v : View) → get_elem? s.views id ≡ some v → (m o : Maker) → StandsFor v.role m → ¬ StandsFor v.role o
+NoStepIsForged = (bounds : Bounds) (s : State Slot View) → Kept bounds s → (id : ℕ) (v : View) → get_elem? s.views id ≡ some v → (m o : Maker) → StandsFor v.role m → ¬ StandsFor v.role o
     → ((left right : View) → Splits (Kept bounds) id v left right → HasNoMore bounds m o v left × HasNoMore bounds m o v right)
     × ((other : ℕ) (w both spent : View) → ¬ (other ≡ id) → get_elem? s.views other ≡ some w → ¬ StandsFor w.role o → Joins (Kept bounds) id v other w both spent → HasNoMore bounds m o v both)
 
@@ -96,6 +99,6 @@ pub record HasNoTextMore (put : List Text) (v : View) : Type 0 where
 
 -- however a seat is cut in two or takes another in, the texts that it knows are those of versions that were put, and it has seen their Puts, as long as there is a processor that has a seat elsewhere: so only a step on the table tells what a version holds
 abbrev pub NoTextIsForged : Type 0
-NoTextIsForged = (bounds : Bounds) (s : State (Option ℕ) View) (k : Kept bounds s) (id : ℕ) (v : View) → get_elem? s.views id ≡ some v → (q : ℕ) → q < bounds.processors → ¬ StandsFor v.role (Processor q)
+NoTextIsForged = (bounds : Bounds) (s : State Slot View) (k : Kept bounds s) (id : ℕ) (v : View) → get_elem? s.views id ≡ some v → (q : ℕ) → q < bounds.processors → ¬ StandsFor v.role (Processor q)
     → ((left right : View) → Splits (Kept bounds) id v left right → HasNoTextMore k.shelf.texts left × HasNoTextMore k.shelf.texts right)
     × ((other : ℕ) (w both spent : View) → ¬ (other ≡ id) → get_elem? s.views other ≡ some w → ¬ StandsFor w.role (Processor q) → Joins (Kept bounds) id v other w both spent → HasNoTextMore k.shelf.texts both)

@@ -1,5 +1,5 @@
 -- The rule of a domain's table: there is one legal history, the words agree with it, and each seat knows a part of it.
-use Rattle.std.specs.Prelude.{◌≡◌, ℕ, ◌+◌, ◌*◌, ◌^◌, ◌<◌, ◌≤◌, List, [], ◌∷◌, ◌++◌, All, Option, length, filter, map, replicate}
+use Rattle.std.specs.Prelude.{◌≡◌, ℕ, ◌+◌, ◌*◌, ◌^◌, ◌<◌, ◌≤◌, List, [], ◌∷◌, ◌++◌, All, length, filter, map, replicate}
 use mathlib.Core.Option.{some}
 use lib.ListN.{get_elem?}
 use Rattle.atomic_table.specs.Table.{State}
@@ -9,6 +9,7 @@ use Rattle.onedom.specs.declared.event.Maker.TheVariants.{Processor, Engine}
 use Rattle.onedom.specs.declared.event.Event.{Event}
 use Rattle.onedom.specs.declared.event.Event.TheVariants.{Begin, End, Start, Finish, Note, Ask, Find, Put}
 use Rattle.onedom.specs.Histories.{begins_of, IsOpen, index_of, IsLegal, same_maker, made_by, IsBeginning}
+use Rattle.sections.specs.Slots.{Slot}
 use Rattle.sections.specs.declared.view.Bounds.{Bounds}
 use Rattle.sections.specs.declared.view.Role.{Role}
 use Rattle.sections.specs.declared.view.Role.TheVariants.{Bearer, Cpu, Driver}
@@ -24,6 +25,7 @@ use Rattle.sections.specs.declared.view.Text.{Text}
 use Rattle.sections.specs.declared.view.View.{View}
 use Rattle.sections.specs.Words.{locks, unlocks, index_word, number_word, Agree}
 use Rattle.sections.specs.Shelves.{KeepsShelf}
+use Rattle.sections.specs.Banks.{no_plan, KeepsBanks}
 
 abbrev pub IsProcessor : ℕ → Maker → Type 0
 IsProcessor processors (Processor p) = p < processors
@@ -118,8 +120,8 @@ module _ (log : List Event) (changes : ℕ) (seat_of reached holder : ℕ → �
   -- the right to end a section is at one seat alone, and the section is open
   abbrev pub Has : Right → Type 0
   Has Nothing = Unit {0}
-  Has (Section s p i) = (holder s ≡ seat) × IsOpen log s × (index_of s log ≡ i) × (begins_of s (made_by (Processor p) log) ≡ 1)
-  Has (Shelf c words seen) = Unit {0}
+  Has (Section s p i us hand) = (holder s ≡ seat) × IsOpen log s × (index_of s log ≡ i) × (begins_of s (made_by (Processor p) log) ≡ 1)
+  Has (Shelf c words seen q) = Unit {0}
   Has (Undealt c) = Unit {0}
 
   -- nobody has seen more changes than there were, the engine knows how many there were, and a processor has seen what is known of it
@@ -150,7 +152,7 @@ pub record AreSmall (bounds : Bounds) : Type 0 where
   pub counters : bounds.processors * bounds.sections ≤ 2 ^ 60
   pub periods : bounds.periods < 2 ^ 59
 
-pub record Kept (bounds : Bounds) (s : State (Option ℕ) View) : Type 0 where
+pub record Kept (bounds : Bounds) (s : State Slot View) : Type 0 where
   pub log : List Event
   pub changes : ℕ
   pub seat_of : ℕ → ℕ
@@ -166,6 +168,7 @@ pub record Kept (bounds : Bounds) (s : State (Option ℕ) View) : Type 0 where
   pub done : AreDone deeds record { history = log; changes = changes; texts = [] }
   pub each_done : (j : ℕ) (v : View) → get_elem? s.views j ≡ some v → HasDone deeds v
   pub shelf : KeepsShelf bounds s.words s.views log deeds
+  pub banks : KeepsBanks bounds s.homes s.views log shelf.texts
 
 -- Views that are made
 
@@ -227,15 +230,15 @@ dealer v = record v { role = without_next v.role }
 
 abbrev pub without_cell : Right → Right
 without_cell Nothing = Nothing
-without_cell (Section s p i) = Nothing
-without_cell (Shelf c words seen) = Nothing
+without_cell (Section s p i us hand) = Nothing
+without_cell (Shelf c words seen q) = Nothing
 without_cell (Undealt k) = Undealt (k + 1)
 
 abbrev pub next_cell : Right → Right
 next_cell Nothing = Nothing
-next_cell (Section s p i) = Nothing
-next_cell (Shelf c words seen) = Nothing
-next_cell (Undealt k) = Shelf k (replicate 128 0) []
+next_cell (Section s p i us hand) = Nothing
+next_cell (Shelf c words seen q) = Nothing
+next_cell (Undealt k) = Shelf k (replicate 128 0) [] no_plan
 
 -- the engine lets go of its next cell
 abbrev pub pen_dealer : View → View

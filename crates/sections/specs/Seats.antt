@@ -1,5 +1,6 @@
 -- What the steps do to the seats that they are made with.
-use Rattle.std.specs.Prelude.{◌≡◌, ℕ, ◌<◌, ◌≤◌, Bool, [], ◌∷◌, ◌++◌, Option}
+use Rattle.std.specs.Prelude.{None}
+use Rattle.std.specs.Prelude.{◌≡◌, ℕ, ◌<◌, ◌≤◌, Bool, [], ◌∷◌, ◌++◌}
 use Rattle.atomic_table.specs.Seated.{TableId}
 use Rattle.atomic_table.specs.declared.shared.Seat.{Seat}
 use Rattle.sseq.specs.declared.index.Index.{Index}
@@ -7,6 +8,7 @@ use Rattle.onedom.specs.declared.event.Maker.{Maker}
 use Rattle.onedom.specs.declared.event.Maker.TheVariants.{Processor}
 use Rattle.onedom.specs.declared.event.Event.TheVariants.{Begin, Note, Ask}
 use Rattle.onedom.specs.Histories.{IsBeginning}
+use Rattle.sections.specs.Slots.{Slot}
 use Rattle.sections.specs.declared.view.Bounds.{Bounds}
 use Rattle.sections.specs.declared.view.View.{View}
 use Rattle.sections.specs.declared.view.Right.TheVariants.{Nothing, Section}
@@ -20,7 +22,7 @@ use Rattle.sections.specs.Plays.{IsSound, Adds, IsIndexWord, FindsNumber}
 use Rattle.sseq.specs.Numbers.{cookie_at, done_at}
 
 abbrev pub DomainSeat : Type 0
-DomainSeat = Seat (Option ℕ) View
+DomainSeat = Seat Slot View
 
 -- the seat is at the table of a domain with these bounds
 pub record IsPlaced (bounds : Bounds) (table : TableId) (seat : DomainSeat) : Type 0 where
@@ -35,7 +37,7 @@ pub record BeginsSection (held : Bool) (p : ℕ) (i : Index) (seat seat' token :
   pub section : ℕ
   pub after : View
   pub adds : Adds seat.me.0 (Begin section p i (Processor p)) after
-  pub right : after.right ≡ Section section p i
+  pub right : after.right ≡ Section section p i [] None
   pub kind : is_held section ≡ held
   pub same_table : (seat'.table_id ≡ seat.table_id) × (token.table_id ≡ seat.table_id)
   pub stays : seat'.me ≡ (lacking after, [])
@@ -76,6 +78,7 @@ pub record Covers (v o w : View) : Type 0 where
   pub shown : w.shown ≡ v.shown
   pub covers : IsBeginning o.seen w.seen
   pub not_before : o.changes ≤ w.changes
+  pub brings : IsStart o.texts w.texts
   pub sound : IsSound w.processors w.role w.mine w.seen w.changes w.texts
 
 -- after one load of the index word, w has seen just what o has, and else is as v was

@@ -12,6 +12,7 @@ use Rattle.sections.specs.declared.view.Right.TheVariants.{Nothing, Section, She
 use Rattle.sections.specs.declared.view.Step.{Step}
 use Rattle.sections.specs.declared.view.Step.TheVariants.{LoadWord}
 use Rattle.sections.specs.declared.view.Deed.{Deed}
+use Rattle.sections.specs.declared.view.Offer.{Offer}
 use Rattle.sections.specs.declared.view.Text.{Text}
 use Rattle.sections.specs.declared.view.View.{View}
 use Rattle.sections.specs.Words.{cell_place, word_place, word_count}
@@ -43,6 +44,17 @@ word_of c v i texts = slice_index_or (words_of c v texts) i 0
 -- the words of a slot, among those of all slots of its cell
 abbrev pub slot_words : ℕ → List ℕ → List ℕ
 slot_words x own = take 16 (drop (16 * x) own)
+
+-- the offers of these versions
+abbrev pub offers_of : ℕ → List Text → List Offer
+offers_of c texts = map (λ t. t.offer) (filter (λ t. t.cell == c) texts)
+
+abbrev pub no_offer : Offer
+no_offer = record { keys = 0; vault = None; laid = 0; round = 0 }
+
+-- what a version of a cell offers: version 0 nothing
+abbrev pub offer_of : ℕ → ℕ → List Text → Offer
+offer_of c v texts = slice_index_or (no_offer ∷ offers_of c texts) v no_offer
 
 -- the texts that were there when the history was so far
 abbrev pub texts_at : List Text → List Event → List Text
@@ -90,8 +102,8 @@ pub record IsNew (bounds : Bounds) (words : List ℕ) (log : List Event) (writer
 
 abbrev pub Writes : Bounds → List ℕ → List Event → (ℕ → ℕ) → ℕ → Right → Type 0
 Writes bounds words log writer_of seat Nothing = Unit {0}
-Writes bounds words log writer_of seat (Section s p i) = Unit {0}
-Writes bounds words log writer_of seat (Shelf c own seen) = HasShelf bounds words log writer_of seat c own seen
+Writes bounds words log writer_of seat (Section s p i us hand) = Unit {0}
+Writes bounds words log writer_of seat (Shelf c own seen q) = HasShelf bounds words log writer_of seat c own seen
 Writes bounds words log writer_of seat (Undealt k) = (c : ℕ) → k ≤ c → IsNew bounds words log writer_of seat c
 
 -- what a seat knows has the texts of the Puts that it has seen, and so has what it was told

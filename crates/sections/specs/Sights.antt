@@ -1,5 +1,5 @@
 -- How far somebody has seen, as a value, and the calls that go on from there.
-use Rattle.std.specs.Prelude.{◌≡◌, ℕ, ◌+◌, ◌*◌, ◌^◌, ◌≤◌, true, List, Option}
+use Rattle.std.specs.Prelude.{◌≡◌, ℕ, ◌+◌, ◌*◌, ◌^◌, ◌≤◌, true, List}
 use Rattle.atomic_table.specs.Seated.{TableId}
 use Rattle.atomic_table.specs.Table.{Step as TableStep}
 use Rattle.sseq.specs.Numbers.{periods_ended, cookie_at}
@@ -7,6 +7,7 @@ use Rattle.onedom.specs.Histories.{IsBeginning}
 use Rattle.onedom.specs.declared.event.Maker.TheVariants.{Processor}
 use Rattle.onedom.specs.declared.event.Event.{Event}
 use Rattle.onedom.specs.declared.event.Event.TheVariants.{Note, Ask}
+use Rattle.sections.specs.Slots.{Slot}
 use Rattle.sections.specs.declared.view.Role.TheVariants.{Cpu}
 use Rattle.sections.specs.Words.{number_word}
 use Rattle.sections.specs.Plays.{Adds, Sat, FindsNumber}
@@ -48,5 +49,5 @@ pub record AsksHowFarBehind (number : ℕ) (given s : SightView) (c d : CpuView)
   pub not_before : given.changes ≤ d.changes
 
 -- load of the number: somebody asks how many periods have ended
-abbrev pub asked_how_far : TableStep (Option ℕ) → Sat → ℕ → Sat → Type 0
+abbrev pub asked_how_far : TableStep Slot → Sat → ℕ → Sat → Type 0
 asked_how_far st m n m' = (m'.1 ≡ m.1) × (m'.0.right ≡ m.0.right) × FindsNumber n m'.0 × ((p : ℕ) → m.0.role ≡ Cpu p → Adds m.0 (Ask (4 * periods_ended n) true (Processor p)) m'.0)

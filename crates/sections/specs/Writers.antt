@@ -8,7 +8,8 @@ use Rattle.sections.specs.declared.writer.Standing.{Standing}
 use Rattle.sections.specs.declared.writer.Standing.TheVariants.{Blank, Out, Current, Retired}
 use Rattle.onedom.specs.declared.event.Maker.TheVariants.{Processor}
 use Rattle.sseq.specs.Numbers.{cookie_at}
-use Rattle.sections.specs.Shelves.{IsStart, slot_words}
+use Rattle.sections.specs.Shelves.{IsStart, slot_words, offer_of}
+use Rattle.sections.specs.Banks.{offered, plan_put}
 use Rattle.sections.specs.Plays.{EndsWithText}
 use Rattle.sections.specs.Views.{CpuView}
 use Rattle.sections.specs.Calls.{IsSeenBy, IsSameCpu, AddsEvent, Notes, Asks}
@@ -37,6 +38,7 @@ pub record Sets (slot place value : ℕ) (w w' : WriterView) : Type 0 where
   pub same : IsSameWriter w w'
   pub standings : w'.standings ≡ w.standings
   pub words : w'.words ≡ slice_set w.words (16 * slot + place) value
+  pub plan : w'.plan ≡ w.plan
   pub since : IsBeginning w.seen w'.seen
   pub clear : IsClear w'.seen w.cell slot
 
@@ -44,10 +46,11 @@ pub record GivesBack (slot : ℕ) (w w' : WriterView) : Type 0 where
   pub same : IsSameWriter w w'
   pub standings : w'.standings ≡ slice_set w.standings slot Blank
   pub words : w'.words ≡ w.words
+  pub plan : w'.plan ≡ w.plan
   pub seen : w'.seen ≡ w.seen
 
 -- What a put does
--- the slot was put as the next version, behind all that the two had seen, and then a cookie was given, of this number. The slot that was current is retired with it. The version has the words that the slot had
+-- the slot was put as the next version, behind all that the two had seen, and then a cookie was given, of this number. The slot that was current is retired with it. The version has the words that the slot had, and offers the parts that are there
 pub record PutsSlot (slot cookie : ℕ) (w : WriterView) (c : CpuView) (w' : WriterView) (c' : CpuView) : Type 0 where
   pub between : CpuView
   pub number : ℕ
@@ -62,6 +65,8 @@ pub record PutsSlot (slot cookie : ℕ) (w : WriterView) (c : CpuView) (w' : Wri
   pub current : w'.current ≡ slot
   pub standings : w'.standings ≡ slice_set (slice_set w.standings w.current (Retired cookie)) slot Current
   pub words : w'.words ≡ w.words
+  pub plan : w'.plan ≡ plan_put w.plan slot
+  pub offers : offer_of w.cell w'.version c'.texts ≡ offered w.plan slot
   pub since : IsBeginning c'.seen w'.seen
 
 -- What a reclaim does
@@ -73,6 +78,7 @@ pub record ReclaimsSlot (slot number : ℕ) (answer : Bool) (w : WriterView) (c 
   pub done : answer ≡ true → w'.standings ≡ slice_set w.standings slot Blank
   pub waits : answer ≡ false → w'.standings ≡ w.standings
   pub words : w'.words ≡ w.words
+  pub plan : w'.plan ≡ w.plan
   pub since : IsBeginning w.seen w'.seen
   pub covers : IsBeginning c'.seen w'.seen
 
@@ -113,6 +119,7 @@ pub record ReclaimsBelow (slots : ℕ) (w : WriterView) (c : CpuView) (w' : Writ
   pub some : 0 < length (questions c.processor done w slots) → EndsWithOwn c' × IsBeginning w.seen c'.seen × IsBeginning c'.seen w'.seen × IsSeenBy c'
   pub same : IsSameWriter w w' × IsSameCpu c c'
   pub words : w'.words ≡ w.words
+  pub plan : w'.plan ≡ w.plan
   pub since : IsBeginning c.seen c'.seen × (c.changes ≤ c'.changes) × IsStart c.texts c'.texts × IsBeginning w.seen w'.seen
 
 -- all slots of the writer
@@ -130,6 +137,7 @@ pub record Gives (w w' : WriterView) (s : SlotView) : Type 0 where
   pub same : IsSameWriter w w'
   pub standings : w'.standings ≡ slice_set w.standings s.slot Out
   pub words : w'.words ≡ w.words
+  pub plan : w'.plan ≡ w.plan
   pub seen : w'.seen ≡ w.seen
 
 abbrev pub NoneBlank : WriterView → Type 0
@@ -138,6 +146,15 @@ NoneBlank w = (x : ℕ) → x < w.slots → standing_of w x ≢ Blank
 -- none was blank, or 2 ^ 54 versions were put
 pub record GivesNone (w w' : WriterView) : Type 0 where
   pub none : 2 ^ 54 ≤ w.version ⊎ NoneBlank w
+  pub same : w' ≡ w
+
+-- this slot was given out, which was blank
+abbrev pub GivesAt : ℕ → WriterView → WriterView → SlotView → Type 0
+GivesAt x w w' s = (s.slot ≡ x) × Gives w w' s
+
+-- it was not blank, or 2 ^ 54 versions were put
+pub record GivesNotAt (x : ℕ) (w w' : WriterView) : Type 0 where
+  pub none : 2 ^ 54 ≤ w.version ⊎ standing_of w x ≢ Blank
   pub same : w' ≡ w
 
 -- How slots stand

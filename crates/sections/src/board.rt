@@ -23,6 +23,7 @@ use crate::view::{Bounds, View};
 use atomic_table::{Seat, Shared, Table, TableRule};
 use sseq::Index;
 use std::alloc::Allocator;
+use vault::Key;
 
 /// Where the index word stands.
 pub(crate) const INDEX_PLACE: usize = 0;
@@ -88,23 +89,20 @@ pub(crate) fn place_of_word<A: Allocator>(
     words - 145 * (words % 16) + 144 * cell + 16 * slot + place + 16
 }
 
-/// The table has no slots.
-pub(crate) type NoSlot = Option<u64>;
-
 /// Each step is one event of one legal history, or none.
 pub struct InOneHistory;
 
-impl TableRule<NoSlot, View, Bounds> for InOneHistory {
+impl TableRule<Key, View, Bounds> for InOneHistory {
     ghost holds = { Kept };
 
     ghost first = { founder };
 }
 
 /// A domain's words.
-pub(crate) type Words<A> = Table<NoSlot, View, Bounds, InOneHistory, A>;
+pub(crate) type Words<A> = Table<Key, View, Bounds, InOneHistory, A>;
 
 /// What the steps are made on.
-pub(crate) type Board = Shared<NoSlot, View, Bounds, InOneHistory>;
+pub(crate) type Board = Shared<Key, View, Bounds, InOneHistory>;
 
 /// With what they are made: a seat at a domain's words.
-pub(crate) type DomainSeat = Seat<NoSlot, View>;
+pub(crate) type DomainSeat = Seat<Key, View>;

@@ -6,14 +6,18 @@ use std::marker::Model;
 use std::sync::Arc;
 use thiserror::Error;
 
+pub(crate) mod borrowing;
 mod cookies;
 mod counting;
+pub(crate) mod drawing;
 mod given_cookies;
 mod holding;
 mod home;
+pub(crate) mod laying;
 pub(crate) mod pinning;
 pub(crate) mod pins;
 mod readings;
+mod recalling;
 mod sections;
 pub(crate) mod steps;
 mod tokens;

@@ -15,6 +15,8 @@ mod token;
 mod view;
 mod writer;
 
+pub use cpu::borrowing::more::Loans;
+pub use cpu::borrowing::{Lender, Loan};
 pub use cpu::pins::{DownPin, Found, HeldPin, Pin};
 pub use cpu::{Cookie, Cpu, Exhausted, Given, Held, Look, NotACookie, Reading};
 pub use engine::EngineSeat;

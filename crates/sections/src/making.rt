@@ -1,5 +1,5 @@
 //! A new domain.
-ghost use Rattle.std.specs.Prelude.{◌≡◌, ◌+◌, ◌<◌, ◌≤◌, IfOk};
+ghost use Rattle.std.specs.Prelude.{◌≡◌, ◌+◌, ◌<◌, ◌≤◌, IfOk, length};
 ghost use Rattle.std.specs.Arc.{arc_value};
 ghost use Rattle.sections.specs.Calls.{new_cpu};
 ghost use Rattle.sections.specs.EngineCalls.{IsTied};
@@ -19,6 +19,7 @@ use atomic_table::Table;
 use sseq::Number;
 use std::alloc::{AllocError, Allocator, Global};
 use std::sync::Arc;
+use vault::Key;
 
 /// The processors of a new domain, in the order of their numbers, the seat that drives its grace periods, and the writers
 /// of its cells.
@@ -27,6 +28,17 @@ pub struct Made<A: Allocator = Global> {
     pub cpus: Vec<Cpu<A>, A>,
     pub engine: EngineSeat<A>,
     pub writers: Vec<Writer, A>,
+}
+
+/// The places of a new domain for keys, with no key in any.
+fn no_keys<A: Allocator>(alloc: A, places: usize) -> Result<Vec<Key, A>, AllocError>
+    ensures { IfOk result (λ keys. length keys.items ≡ places) }
+{
+    let mut keys = Vec::with_capacity(alloc, places)?;
+    for _ in 0..places {
+        keys.push(Key::blank())?;
+    }
+    Ok(keys)
 }
 
 /// The words of a new domain, all 0, and the seat that stands for all of its makers.
@@ -38,7 +50,11 @@ fn new_table<A: Allocator + Clone>(
     ensures { IfOk result (λ t. NewTable bounds t.0.shared.key t.0.shared.table_id t.1) }
 {
     let words = vec![in alloc.clone()?; 0u64; words_of(bounds)]?;
-    Table::of_words(alloc, words.as_slice(), &bounds)
+    let keys = no_keys(alloc.clone()?, 32 * bounds.processors)?;
+    match Table::new(alloc, words.as_slice(), keys, &bounds) {
+        Ok(made) => Ok(made),
+        Err(_) => Err(AllocError),
+    }
 }
 
 /// The writers of so many cells, in their order. The right to the others goes with a seat that is let go.

@@ -1,6 +1,7 @@
 //! What the proofs know of a holder. But for `Bounds`, no value of these types is ever made.
 use onedom::{Event, Maker};
 use sseq::Index;
+use vault::Key;
 
 /// What the rule of a domain's table is told when the table is made.
 #[derive(Clone, Copy, Debug)]
@@ -25,6 +26,44 @@ pub enum Role {
     Driver(u64),
 }
 
+/// One part of a box is out with a section. Slot x of cell c is counted as 8 c + x.
+pub struct Lent {
+    pub section: u64,
+    pub slot: u64,
+    pub round: u64,
+}
+
+/// A key that is in hand, and what it knew when it was taken.
+pub struct Hand {
+    pub slot: u64,
+    pub processor: u64,
+    pub of: Key,
+    pub count: u64,
+    pub round: u64,
+}
+
+/// What the writer of a cell knows of the parts of one slot.
+pub struct Bank {
+    /// How many there are, with the keys of the slot and with sections.
+    pub laid: u64,
+    /// Their round.
+    pub round: u64,
+    /// The keys of the processors below this number have none. It is 0 unless the slot is out of every reader's reach.
+    pub emptied: u64,
+}
+
+/// What the writer of a cell knows of the cell's keys.
+pub struct Plan {
+    /// How many it has laid. Key i is that of slot i % 8 for processor i / 8.
+    pub keys: u64,
+    /// One of them, by which their vault is known.
+    pub vault: Option<Key>,
+    /// What it knows of each slot.
+    pub banks: [Bank; 0],
+    /// A key that is in hand.
+    pub hand: Option<Hand>,
+}
+
 /// What a seat alone may do.
 pub enum Right {
     Nothing,
@@ -33,22 +72,37 @@ pub enum Right {
         section: u64,
         processor: u16,
         index: Index,
+        /// What is out with it: while there is something, it can't be ended.
+        units: [Lent; 0],
+        /// A key that is in hand.
+        hand: Option<Hand>,
     },
-    /// Put into this cell, and store to its slots. These are the words of its slots, one slot behind the other, and a
-    /// history in which all Puts of the cell are.
+    /// Put into this cell, store to its slots, and lay and collect parts there. These are the words of its slots, one slot
+    /// behind the other, and a history in which all Puts of the cell are.
     Shelf {
         cell: u64,
         words: [u64; 0],
         seen: [Event; 0],
+        plan: Plan,
     },
     /// The same for each cell from this one on. Nothing was put there yet, and the words of their slots are 0.
     Undealt(u64),
 }
 
-/// What was put into a cell: the words of one version. Versions of a cell come in their order, from version 1 on.
+/// The parts that were there of a slot when it was put, and how many keys of which vault the cell had then.
+pub struct Offer {
+    pub keys: u64,
+    pub vault: Option<Key>,
+    pub laid: u64,
+    pub round: u64,
+}
+
+/// What was put into a cell: the words of one version, and its parts. Versions of a cell come in their order, from version
+/// 1 on.
 pub struct Text {
     pub cell: u64,
     pub words: [u64; 0],
+    pub offer: Offer,
 }
 
 /// What a seat knows of how much a processor has seen.

@@ -3,6 +3,7 @@ use crate::board::DomainSeat;
 use crate::token::{Home, Token};
 use std::marker::Model;
 
+mod boxes;
 pub(crate) mod dealing;
 mod filling;
 mod putting;
@@ -21,8 +22,8 @@ pub enum Standing {
     Retired(u64),
 }
 
-/// The writer of a cell: it alone puts versions there, and fills slots. Contracts see how its slots stand and what their
-/// words are.
+/// The writer of a cell: it alone puts versions there, and fills slots. Contracts see how its slots stand, what their
+/// words are, and which parts of boxes lie there.
 #[derive(Drop)]
 pub struct Writer {
     pub(crate) seat: DomainSeat,

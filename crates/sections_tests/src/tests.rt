@@ -6,6 +6,8 @@ ghost use Rattle.sections.specs.Words.{index_word, IsBeforeFlip, IsBehindFlip};
 ghost use Rattle.sections.specs.Calls.{IsSameCpu};
 ghost use Rattle.sections.specs.EngineCalls.{IsSameEngine, IsSeenByEngine};
 
+mod boxes;
+mod lending;
 mod shelf;
 
 use bumpalo::Bump;

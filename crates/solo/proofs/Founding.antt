@@ -1,10 +1,12 @@
 -- A new domain, in one hand.
-use Rattle.std.proofs.Common.{◌≡◌, ℕ, ◌<◌, List, [], length, get_or, refl, sym, ap, ◌∙◌, subst, arith, rules}
+use Rattle.std.proofs.Common.{◌≡◌, ℕ, ◌<◌, ◌≤◌, List, [], length, get_or, refl, sym, ap, ◌∙◌, subst, arith, rules}
 use Rattle.std.specs.Prelude.{replicate}
 use Rattle.std.proofs.lemmas.List.Elements.{All-nil}
 use Rattle.sections.specs.declared.limits.Limits.{Limits}
 use Rattle.sections.specs.Limits.{AreInRange}
 use Rattle.sections.specs.Rule.{HasItsMaker}
+use Rattle.sections.specs.Shelves.{offer_of}
+use Rattle.sections.specs.Banks.{HaveOneVault, vault_in}
 use Rattle.sections.specs.Making.{IsCount, bounds_of}
 use Rattle.sections.specs.EngineCalls.{IsSeenByEngine}
 use Rattle.funnel.specs.Histories.{greatest}
@@ -21,6 +23,12 @@ use Rattle.calls.specs.Lines.{no_calls}
 use Rattle.solo.specs.Insides.{queued_on, finished_on, list_in, lines_on, seen_first}
 use Rattle.solo.proofs.Tallying.{none_counted}
 use Rattle.solo.proofs.Hand.{first_seen}
+
+no_vault : HaveOneVault []
+no_vault = record {
+  more = λ c v w le known. let e : v ≡ w = omega (arith, le, known) in subst (λ z. (offer_of c z []).keys ≤ (offer_of c w []).keys) (sym e) (omega arith);
+  vault = λ c v w le known some_keys. let e : v ≡ w = omega (arith, le, known) in ap (λ z. vault_in (offer_of c z []).vault) (sym e);
+}
 
 module _ {J : Type 0} where
   module _ (limits : Limits) (processors : ℕ) (d : DomainView) (cpus : List (CpuView J)) (made : IsMade (bounds_of processors limits) d cpus) (count : IsCount processors) (range : AreInRange limits) where
@@ -46,7 +54,7 @@ module _ {J : Type 0} where
     }
 
     history : IsSeenByEngine engine.seat
-    history = record { legal = tt; makers = All-nil (HasItsMaker processors); own = refl; reaches = search rules; texts = refl }
+    history = record { legal = tt; makers = All-nil (HasItsMaker processors); own = refl; reaches = search rules; texts = refl; vaults = no_vault }
 
     together : AreTogether limits cpus engine.seat
     together = record {

@@ -4,6 +4,7 @@ ghost use Rattle.sections.specs.Words.{cells_in};
 ghost use Rattle.sections.specs.Seats.{IsPlaced, IsOfProcessor};
 ghost use Rattle.sections.specs.Insides.{IsAtRest};
 ghost use Rattle.sections.specs.Pins.{Lends, FindsIn, Remembers, LoadsIn, LoadsAllIn};
+ghost use Rattle.sections.specs.Drawing.{LendsAny};
 
 use crate::board::{DomainSeat, Words, place_of_cell, place_of_word};
 use crate::plays;
@@ -19,7 +20,7 @@ pub(crate) fn find_in<A: Allocator>(
 ) -> (u64, DomainSeat)
     requires placed { IsPlaced table.now.shared.key table.now.shared.table_id seat.old × IsAtRest seat.old.me.0 }
     requires role { IsOfProcessor table.now.shared.key.processors seat.old.me.0 }
-    requires lender { Lends table.now.shared.table_id lender.old }
+    requires lender { LendsAny table.now.shared.table_id lender.old }
     requires cell { cell < cells_in table.now.shared.table_id }
     ensures finds { FindsIn cell seat.old lender.old result.0 seat.new result.1 }
     ensures lender { (lender.new.table_id ≡ lender.old.table_id) × (lender.new.me ≡ lender.old.me) }

@@ -95,6 +95,15 @@ impl Pin<'_> {
     {
         self.found.version
     }
+
+    /// What was found, to draw a part of its box with. The reading is as it was when the pin let go of it.
+    pub fn into_found(self) -> Found
+        ensures found { result ≡ self.entry.found }
+        ensures reading { self.exit.0.now ≡ self.entry.reading.now }
+    {
+        let Pin { reading: _, found } = self;
+        found
+    }
 }
 
 impl DownPin<'_> {

@@ -24,6 +24,7 @@ pub(crate) fn begin_section(
     requires role { seat.old.me.0.role ≡ Cpu processor }
     requires there { processor < top.now.key.processors }
     requires room { locks processor index seat.old.me.0.mine < top.now.key.sections }
+    requires free { seat.old.me.0.right ≡ Nothing }
     ensures { BeginsSection false processor index seat.old seat.new result }
 {
     top.fetch_add::<plays::Lock>(seat, place_of_lock(processor, index), 1);
@@ -41,6 +42,7 @@ pub(crate) fn begin_held(
     requires role { seat.old.me.0.role ≡ Cpu processor }
     requires there { processor < top.now.key.processors }
     requires room { locks processor index seat.old.me.0.mine < top.now.key.sections }
+    requires free { seat.old.me.0.right ≡ Nothing }
     ensures { BeginsSection true processor index seat.old seat.new result }
 {
     top.fetch_add::<plays::LockHeld>(seat, place_of_lock(processor, index), 1);

@@ -1,6 +1,6 @@
 //! Slots are given out, filled and given back.
-ghost use Rattle.std.specs.Prelude.{◌≡◌, ◌<◌, MatchOption};
-ghost use Rattle.sections.specs.Writers.{IsOwn, Sets, GivesBack, Gives, GivesNone, NoneBlank, standing_of};
+ghost use Rattle.std.specs.Prelude.{◌≡◌, ◌<◌, ◌≤◌, MatchOption};
+ghost use Rattle.sections.specs.Writers.{IsOwn, Sets, GivesBack, Gives, GivesAt, GivesNone, GivesNotAt, NoneBlank, standing_of};
 ghost use Rattle.sections.specs.declared.writer.Standing.TheVariants.{Blank};
 
 use super::{Slot, Standing, Writer};
@@ -12,7 +12,30 @@ use std::marker::Brand;
 /// From so many versions on no slot is given out.
 const MOST_VERSIONS: u64 = 18_014_398_509_481_984;
 
+impl Slot {
+    /// Its number among the slots of its cell.
+    pub fn number(&self) -> usize
+        ensures { result ≡ self.now.slot }
+    {
+        self.slot
+    }
+}
+
 impl Writer {
+    /// The slot that is current.
+    pub fn current_slot(&self) -> usize
+        ensures { (result ≡ self.now.current) × (result < 8) }
+    {
+        self.current
+    }
+
+    /// How many slots its cell has: 2 to 8.
+    pub fn slots(&self) -> usize
+        ensures { (result ≡ self.now.slots) × (result ≤ 8) }
+    {
+        self.slots
+    }
+
     /// The number of its cell.
     pub fn cell(&self) -> usize
         ensures { result ≡ self.now.cell }
@@ -35,6 +58,23 @@ impl Writer {
             return None;
         }
         let slot = self.first_blank()?;
+        let home = self.homes[slot].take().unwrap();
+        self.standings[slot] = Standing::Out;
+        Some(Slot {
+            home,
+            cell: self.cell,
+            slot,
+        })
+    }
+
+    /// This slot, where it is blank, to be filled. None where it isn't, or 2^54 versions were put.
+    pub fn blank_at(&mut self, slot: usize) -> Option<Slot>
+        requires slot { slot < self.old.slots }
+        ensures { MatchOption result (GivesNotAt slot self.old self.new) (λ s. GivesAt slot self.old self.new s) }
+    {
+        if self.version >= MOST_VERSIONS || !matches!(self.standings[slot], Standing::Blank) {
+            return None;
+        }
         let home = self.homes[slot].take().unwrap();
         self.standings[slot] = Standing::Out;
         Some(Slot {

@@ -1,6 +1,7 @@
 //! Versions of one cell.
 ghost use Rattle.std.specs.Prelude.{◌≡◌, ◌<◌, IfOk};
 ghost use Rattle.sections.specs.Words.{cells_in};
+ghost use Rattle.sections.specs.Banks.{no_plan};
 ghost use Rattle.sections.specs.Calls.{IsSameCpu};
 
 use sections::{Cpu, EngineSeat, Held, Limits, Made, MakeError, Reading, Writer, make};
@@ -8,8 +9,8 @@ use std::alloc::Global;
 use std::test::Fail;
 
 /// One of two processors, the engine's seat and the writer of a new domain with one cell of so many slots.
-fn one_cell(alloc: Global, slots: u64) -> Result<(Cpu, EngineSeat, Writer), MakeError>
-    ensures { IfOk result (λ r. (r.1.domain ≡ r.0.domain) × (r.2.domain ≡ r.0.domain) × (0 < cells_in r.0.domain) × (r.1.processors ≡ 2) × (r.1.changes ≡ 0) × (r.1.periods ≡ 2)) }
+pub(super) fn one_cell(alloc: Global, slots: u64) -> Result<(Cpu, EngineSeat, Writer), MakeError>
+    ensures { IfOk result (λ r. (r.1.domain ≡ r.0.domain) × (r.2.domain ≡ r.0.domain) × (0 < cells_in r.0.domain) × (r.1.processors ≡ 2) × (r.1.changes ≡ 0) × (r.1.periods ≡ 2) × (r.0.processors ≡ 2) × (r.2.plan ≡ no_plan)) }
 {
     let Made {
         mut cpus,

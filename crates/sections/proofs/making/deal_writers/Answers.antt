@@ -1,3 +1,5 @@
+use Rattle.std.proofs.Common.{rules}
+use Rattle.sections.proofs.Banking.{free_nothing, free_section, free_shelf}
 use Rattle.std.proofs.Common.{◌≡◌, ◌≤◌, ℕ, ◌+◌, ap, sym, ◌∙◌, subst, arith}
 use Rattle.atomic_table.specs.Seated.{TableId}
 use Rattle.sections.specs.declared.view.Right.TheVariants.{Undealt}
@@ -46,7 +48,7 @@ loop-cell-preserved g c =
     }
 
 pub split_seat-requires : goal.split_seat-requires
-split_seat-requires g c = let s = c.loop-cell.invariant.seat in (s.seated, some_words _ _ _ s.wide, gives_token _ _ _)
+split_seat-requires g c = let s = c.loop-cell.invariant.seat in (s.seated, some_words _ _ _ s.wide, gives_token _ _ _ (search (rules, free_nothing, free_section, free_shelf)))
 
 pub returns : goal.returns
 returns g c =

@@ -1,3 +1,4 @@
+use Rattle.sections.proofs.Banking.{free_nothing, free_section, free_shelf}
 use Rattle.std.proofs.Common.{rules, ◌≡◌, ◌%◌, ◌^◌, ◌≤◌, ℕ, [], ◌∷◌, ◌++◌, refl, sym, ap, ◌∙◌, subst}
 use Rattle.onedom.specs.declared.event.Event.TheVariants.{Note}
 use Rattle.onedom.specs.declared.event.Maker.TheVariants.{Processor}
@@ -11,7 +12,7 @@ use Rattle.sections.proofs.cpu.Cpu.cookie.Goals as goal
 
 pub split_seat-seat-requires : goal.split_seat-seat-requires
 split_seat-seat-requires g c = let wide : c.deref.result.now.shared.table_id.words ≡ word_count c.deref.result.now.shared.key.processors c.deref.result.now.shared.key.cells = search rules in
-    (c.note_number-number.ensures.same_table ∙ search rules, some_words _ _ _ wide, gives_token _ _ _)
+    (c.note_number-number.ensures.same_table ∙ search rules, some_words _ _ _ wide, gives_token _ _ _ (search (rules, free_nothing, free_section, free_shelf)))
 
 pub invariant_of-self : goal.invariant_of-self
 invariant_of-self g c =

@@ -1,3 +1,4 @@
+use Rattle.sections.proofs.Banking.{free_nothing, free_section, free_shelf}
 use Rattle.std.proofs.Common.{rules, ◌≡◌, ◌%◌, ◌^◌, ◌≤◌, ℕ, [], ◌∷◌, ◌++◌, refl, sym, ap, ◌∙◌, subst, arith}
 use Rattle.sseq.specs.Numbers.{cookie_at}
 use Rattle.onedom.specs.declared.event.Event.TheVariants.{Note}
@@ -13,22 +14,22 @@ use Rattle.sections.proofs.cpu.Cpu.cookie_behind.Goals as goal
 
 pub split_seat-told-requires : goal.split_seat-told-requires
 split_seat-told-requires g c = let wide : c.deref.result.now.shared.table_id.words ≡ word_count c.deref.result.now.shared.key.processors c.deref.result.now.shared.key.cells = search rules in
-    (search rules, some_words _ _ _ wide, gives_token _ _ _)
+    (search rules, some_words _ _ _ wide, gives_token _ _ _ (search (rules, free_nothing, free_section, free_shelf)))
 
 pub join_seat-requires : goal.join_seat-requires
 join_seat-requires g c = let wide : c.deref.result.now.shared.table_id.words ≡ word_count c.deref.result.now.shared.key.processors c.deref.result.now.shared.key.cells = search rules in
-    (search rules, search rules, ap (λ m. m.1) c.split_seat-told.ensures.4, some_words _ _ _ wide, takes_token _ _ _ _ _)
+    (search rules, search rules, ap (λ m. m.1) c.split_seat-told.ensures.4, some_words _ _ _ wide, takes_token _ _ _ _ _ (search (rules, free_nothing, free_section, free_shelf)) (search (rules, free_nothing, free_section, free_shelf)))
 
 pub note_number-number-requires-clause-role : goal.note_number-number-requires-clause-role
 note_number-number-requires-clause-role g c = (c.self.inside.processor, ap (λ m. m.0.role) c.join_seat.ensures.2 ∙ c.self.invariant.role, search rules)
 
 pub split_seat-seat-requires : goal.split_seat-seat-requires
 split_seat-seat-requires g c = let wide : c.deref.result.now.shared.table_id.words ≡ word_count c.deref.result.now.shared.key.processors c.deref.result.now.shared.key.cells = search rules in
-    (c.note_number-number.ensures.same_table ∙ (c.join_seat.ensures.0 ∙ search rules), some_words _ _ _ wide, gives_token _ _ _)
+    (c.note_number-number.ensures.same_table ∙ (c.join_seat.ensures.0 ∙ search rules), some_words _ _ _ wide, gives_token _ _ _ (search (rules, free_nothing, free_section, free_shelf)))
 
 pub split_seat-requires : goal.split_seat-requires
 split_seat-requires g c = let wide : c.deref.result.now.shared.table_id.words ≡ word_count c.deref.result.now.shared.key.processors c.deref.result.now.shared.key.cells = search rules in
-    (c.split_seat-seat.ensures.0 ∙ (c.note_number-number.ensures.same_table ∙ (c.join_seat.ensures.0 ∙ search rules)), some_words _ _ _ wide, gives_token _ _ _)
+    (c.split_seat-seat.ensures.0 ∙ (c.note_number-number.ensures.same_table ∙ (c.join_seat.ensures.0 ∙ search rules)), some_words _ _ _ wide, gives_token _ _ _ (search (rules, free_nothing, free_section, free_shelf)))
 
 pub invariant_of-self : goal.invariant_of-self
 invariant_of-self g c =

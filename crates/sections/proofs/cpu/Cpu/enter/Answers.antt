@@ -1,3 +1,4 @@
+use Rattle.sections.proofs.Banking.{free_nothing, free_section, free_shelf}
 use Rattle.std.proofs.Common.{rules, ◌≡◌, ℕ, ◌≢◌, length, get_or, refl, ap, ◌∙◌, sym}
 use Rattle.sseq.specs.Indexes.{index_number}
 use Rattle.onedom.specs.Histories.{begins_of}
@@ -8,7 +9,7 @@ use Rattle.sections.proofs.Entering.{enters_reading}
 use Rattle.sections.proofs.cpu.Cpu.enter.Goals as goal
 
 pub join_seat-requires : goal.join_seat-requires
-join_seat-requires g c = (search rules, search rules, search rules, search rules, takes_token _ _ _ _ _)
+join_seat-requires g c = (search rules, search rules, search rules, search rules, takes_token _ _ _ _ _ (search (rules, free_nothing, free_section, free_shelf)) (search (rules, free_nothing, free_section, free_shelf)))
 
 pub invariant_of-self : goal.invariant_of-self
 invariant_of-self g c =

@@ -1,3 +1,4 @@
+use Rattle.sections.proofs.Banking.{free_nothing, free_section, free_shelf}
 use Rattle.std.proofs.Common.{rules, ◌≡◌, ◌*◌, ℕ, true, refl, sym, ap, ◌∙◌, arith}
 use Rattle.sseq.specs.Numbers.{periods_ended}
 use Rattle.onedom.specs.declared.event.Event.TheVariants.{Ask}
@@ -13,19 +14,19 @@ use Rattle.sections.proofs.cpu.Cpu.how_far_behind.Goals as goal
 
 pub split_seat-first-requires : goal.split_seat-first-requires
 split_seat-first-requires g c = let wide : c.deref.result.now.shared.table_id.words ≡ word_count c.deref.result.now.shared.key.processors c.deref.result.now.shared.key.cells = search rules in
-    (search rules, some_words _ _ _ wide, gives_token _ _ _)
+    (search rules, some_words _ _ _ wide, gives_token _ _ _ (search (rules, free_nothing, free_section, free_shelf)))
 
 pub join_seat-requires : goal.join_seat-requires
 join_seat-requires g c = let wide : c.deref.result.now.shared.table_id.words ≡ word_count c.deref.result.now.shared.key.processors c.deref.result.now.shared.key.cells = search rules in
-    (search rules, search rules, ap (λ m. m.1) c.split_seat-first.ensures.4, some_words _ _ _ wide, takes_token _ _ _ _ _)
+    (search rules, search rules, ap (λ m. m.1) c.split_seat-first.ensures.4, some_words _ _ _ wide, takes_token _ _ _ _ _ (search (rules, free_nothing, free_section, free_shelf)) (search (rules, free_nothing, free_section, free_shelf)))
 
 pub split_seat-told-requires : goal.split_seat-told-requires
 split_seat-told-requires g c = let wide : c.deref.result.now.shared.table_id.words ≡ word_count c.deref.result.now.shared.key.processors c.deref.result.now.shared.key.cells = search rules in
-    (search rules, some_words _ _ _ wide, gives_token _ _ _)
+    (search rules, some_words _ _ _ wide, gives_token _ _ _ (search (rules, free_nothing, free_section, free_shelf)))
 
 pub join_seat-requires-2 : goal.join_seat-requires-2
 join_seat-requires-2 g c = let wide : c.deref.result.now.shared.table_id.words ≡ word_count c.deref.result.now.shared.key.processors c.deref.result.now.shared.key.cells = search rules in
-    (c.join_seat.ensures.0 ∙ search rules, search rules, ap (λ m. m.1) c.split_seat-told.ensures.4, some_words _ _ _ wide, takes_token _ _ _ _ _)
+    (c.join_seat.ensures.0 ∙ search rules, search rules, ap (λ m. m.1) c.split_seat-told.ensures.4, some_words _ _ _ wide, takes_token _ _ _ _ _ (search (rules, free_nothing, free_section, free_shelf)) (search (rules, free_nothing, free_section, free_shelf)))
 
 pub load-number-requires : goal.load-number-requires
 load-number-requires g c = let wide : c.deref.result.now.shared.table_id.words ≡ word_count c.deref.result.now.shared.key.processors c.deref.result.now.shared.key.cells = search rules in
@@ -33,7 +34,7 @@ load-number-requires g c = let wide : c.deref.result.now.shared.table_id.words �
 
 pub split_seat-requires : goal.split_seat-requires
 split_seat-requires g c = let wide : c.deref.result.now.shared.table_id.words ≡ word_count c.deref.result.now.shared.key.processors c.deref.result.now.shared.key.cells = search rules in
-    (c.load-number.ensures.0 ∙ (c.join_seat-2.ensures.0 ∙ (c.join_seat.ensures.0 ∙ search rules)), some_words _ _ _ wide, gives_token _ _ _)
+    (c.load-number.ensures.0 ∙ (c.join_seat-2.ensures.0 ∙ (c.join_seat.ensures.0 ∙ search rules)), some_words _ _ _ wide, gives_token _ _ _ (search (rules, free_nothing, free_section, free_shelf)))
 
 pub invariant_of-self : goal.invariant_of-self
 invariant_of-self g c =

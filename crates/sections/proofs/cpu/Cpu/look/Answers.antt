@@ -1,3 +1,4 @@
+use Rattle.sections.proofs.Banking.{free_nothing, free_section, free_shelf}
 use Rattle.std.proofs.Common.{rules, ap, ◌∙◌, sym}
 use Rattle.sections.specs.Words.{index_word}
 use Rattle.onedom.specs.declared.event.Maker.TheVariants.{Processor}
@@ -11,7 +12,7 @@ pub load-requires : goal.load-requires
 load-requires g c = (search rules, search rules, looks _ _ _ _ (Processor c.self.inside.processor) (cpu_makes _ _ c.self.invariant.role) (search rules))
 
 pub split_seat-seat-requires : goal.split_seat-seat-requires
-split_seat-seat-requires g c = (search rules, search rules, gives_token _ _ _)
+split_seat-seat-requires g c = (search rules, search rules, gives_token _ _ _ (search (rules, free_nothing, free_section, free_shelf)))
 
 pub returns : goal.returns
 returns g c =

@@ -1,3 +1,4 @@
+use Rattle.sections.proofs.Banking.{free_nothing, free_section, free_shelf}
 use Rattle.std.proofs.Common.{rules, ◌≡◌, inl, inr, Bool, [], ◌∷◌, ◌++◌, refl, ap, ◌∙◌, subst}
 use Rattle.onedom.specs.declared.event.Event.TheVariants.{Ask}
 use Rattle.onedom.specs.declared.event.Maker.TheVariants.{Processor}
@@ -35,12 +36,12 @@ returns-in_default-clause-asks g c =
 pub split_seat-token-requires : goal.split_seat-token-requires
 split_seat-token-requires g c = let wide : c.deref.result.now.shared.table_id.words ≡ word_count c.deref.result.now.shared.key.processors c.deref.result.now.shared.key.cells = search rules in
     let home = given_there c.in-Some.given c.args.cookie.now c.args.self.now.domain c.cookie.view_is c.in-Some.is c.cookie.invariant c.requires in
-    (home ∙ search rules, some_words _ _ _ wide, gives_token _ _ _)
+    (home ∙ search rules, some_words _ _ _ wide, gives_token _ _ _ (search (rules, free_nothing, free_section, free_shelf)))
 
 pub join_seat-requires : goal.join_seat-requires
 join_seat-requires g c = let wide : c.deref.result.now.shared.table_id.words ≡ word_count c.deref.result.now.shared.key.processors c.deref.result.now.shared.key.cells = search rules in
     let home = given_there c.in-Some.given c.args.cookie.now c.args.self.now.domain c.cookie.view_is c.in-Some.is c.cookie.invariant c.requires in
-    (search rules, c.split_seat-token.ensures.3 ∙ (home ∙ search rules), ap (λ m. m.1) c.split_seat-token.ensures.4, some_words _ _ _ wide, takes_token _ _ _ _ _)
+    (search rules, c.split_seat-token.ensures.3 ∙ (home ∙ search rules), ap (λ m. m.1) c.split_seat-token.ensures.4, some_words _ _ _ wide, takes_token _ _ _ _ _ (search (rules, free_nothing, free_section, free_shelf)) (search (rules, free_nothing, free_section, free_shelf)))
 
 pub ask_number-requires-2-clause-cookie : goal.ask_number-requires-2-clause-cookie
 ask_number-requires-2-clause-cookie g c = (refl, inr (given_by c.in-Some.given c.in-Some.is c.cookie.invariant).whole)

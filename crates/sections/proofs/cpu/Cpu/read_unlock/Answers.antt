@@ -1,3 +1,4 @@
+use Rattle.sections.proofs.Banking.{free_nothing, free_section, free_shelf}
 use Rattle.std.proofs.Common.{rules, ◌≡◌, ℕ, false, length, ap, ◌∙◌, sym, subst, arith}
 use Rattle.sseq.specs.declared.index.Index.TheVariants.{Zero, One}
 use Rattle.sections.specs.Words.{is_held, locks, open_readings}
@@ -11,7 +12,7 @@ use Rattle.sections.proofs.CpuViews.{begun_here, ended_index, adds_event, rests_
 use Rattle.sections.proofs.cpu.Cpu.read_unlock.Goals as goal
 
 pub join_seat-requires : goal.join_seat-requires
-join_seat-requires g c = (search rules, search rules, search rules, search rules, takes_token _ _ _ _ _)
+join_seat-requires g c = (search rules, search rules, search rules, search rules, takes_token _ _ _ _ _ (search (rules, free_nothing, free_section, free_shelf)) (search (rules, free_nothing, free_section, free_shelf)))
 
 pub fetch_add-requires : goal.fetch_add-requires
 fetch_add-requires g c =

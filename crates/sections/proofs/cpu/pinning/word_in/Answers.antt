@@ -1,3 +1,5 @@
+use Rattle.std.proofs.Common.{rules}
+use Rattle.sections.proofs.Banking.{free_nothing, free_section, free_shelf}
 use Rattle.std.proofs.Common.{arith, sym, ◌≡◌, ◌∷◌, ap, ◌∙◌, subst}
 use Rattle.onedom.specs.declared.event.Maker.TheVariants.{Processor}
 use Rattle.sections.specs.declared.view.Step.TheVariants.{LoadWord}
@@ -12,16 +14,16 @@ use Rattle.sections.proofs.Finding.{loads_word_here, word_there}
 use Rattle.sections.proofs.cpu.pinning.word_in.Goals as goal
 
 pub split_seat-told-requires : goal.split_seat-told-requires
-split_seat-told-requires g c = (c.requires.found.seated, some_words _ _ _ c.requires.placed.0.wide, gives_token _ _ _)
+split_seat-told-requires g c = (c.requires.found.seated, some_words _ _ _ c.requires.placed.0.wide, gives_token _ _ _ (search (rules, free_nothing, free_section, free_shelf)))
 
 pub join_seat-requires : goal.join_seat-requires
-join_seat-requires g c = (c.requires.placed.0.seated, c.split_seat-told.ensures.3 ∙ c.requires.found.seated, ap (λ m. m.1) c.split_seat-told.ensures.4, some_words _ _ _ c.requires.placed.0.wide, takes_token _ _ _ _ _)
+join_seat-requires g c = (c.requires.placed.0.seated, c.split_seat-told.ensures.3 ∙ c.requires.found.seated, ap (λ m. m.1) c.split_seat-told.ensures.4, some_words _ _ _ c.requires.placed.0.wide, takes_token _ _ _ _ _ (search (rules, free_nothing, free_section, free_shelf)) (search (rules, free_nothing, free_section, free_shelf)))
 
 pub split_seat-right-requires : goal.split_seat-right-requires
-split_seat-right-requires g c = (c.requires.lender.seated, some_words _ _ _ c.requires.placed.0.wide, gives_token _ _ _)
+split_seat-right-requires g c = (c.requires.lender.seated, some_words _ _ _ c.requires.placed.0.wide, gives_token _ _ _ (search (rules, free_nothing, free_section, free_shelf)))
 
 pub join_seat-requires-2 : goal.join_seat-requires-2
-join_seat-requires-2 g c = (c.join_seat.ensures.0 ∙ c.requires.placed.0.seated, c.split_seat-right.ensures.3 ∙ c.requires.lender.seated, ap (λ m. m.1) c.split_seat-right.ensures.4, some_words _ _ _ c.requires.placed.0.wide, takes_token _ _ _ _ _)
+join_seat-requires-2 g c = (c.join_seat.ensures.0 ∙ c.requires.placed.0.seated, c.split_seat-right.ensures.3 ∙ c.requires.lender.seated, ap (λ m. m.1) c.split_seat-right.ensures.4, some_words _ _ _ c.requires.placed.0.wide, takes_token _ _ _ _ _ (search (rules, free_nothing, free_section, free_shelf)) (search (rules, free_nothing, free_section, free_shelf)))
 
 pub load-word-requires : goal.load-word-requires
 load-word-requires g c =
@@ -39,7 +41,7 @@ load-word-requires g c =
     )
 
 pub split_seat-right-requires-2 : goal.split_seat-right-requires-2
-split_seat-right-requires-2 g c = (c.load-word.ensures.0 ∙ (c.join_seat-2.ensures.0 ∙ (c.join_seat.ensures.0 ∙ c.requires.placed.0.seated)), some_words _ _ _ c.requires.placed.0.wide, gives_token _ _ _)
+split_seat-right-requires-2 g c = (c.load-word.ensures.0 ∙ (c.join_seat-2.ensures.0 ∙ (c.join_seat.ensures.0 ∙ c.requires.placed.0.seated)), some_words _ _ _ c.requires.placed.0.wide, gives_token _ _ _ (search (rules, free_nothing, free_section, free_shelf)))
 
 pub join_seat-requires-3 : goal.join_seat-requires-3
 join_seat-requires-3 g c = (
@@ -47,7 +49,7 @@ join_seat-requires-3 g c = (
   c.split_seat-right-2.ensures.3 ∙ (c.load-word.ensures.0 ∙ (c.join_seat-2.ensures.0 ∙ (c.join_seat.ensures.0 ∙ c.requires.placed.0.seated))),
   ap (λ m. m.1) c.split_seat-right-2.ensures.4,
   some_words _ _ _ c.requires.placed.0.wide,
-  regains _ _ _ _ _,
+  regains _ _ _ _ _ (search (rules, free_nothing, free_section, free_shelf)) (search (rules, free_nothing, free_section, free_shelf)),
 )
 
 pub returns-clause-loads : goal.returns-clause-loads

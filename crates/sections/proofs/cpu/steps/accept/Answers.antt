@@ -1,3 +1,5 @@
+use Rattle.std.proofs.Common.{rules}
+use Rattle.sections.proofs.Banking.{free_nothing, free_section, free_shelf}
 use Rattle.std.proofs.Common.{ap, ◌∙◌}
 use Rattle.sections.specs.Rule.{hearing}
 use Rattle.sections.proofs.Sharing.{shows, hears}
@@ -8,7 +10,7 @@ pub split_seat-token-requires : goal.split_seat-token-requires
 split_seat-token-requires c = (c.requires.second.0.seated, some_words _ _ _ c.requires.second.0.wide, shows _ _ _)
 
 pub join_seat-requires : goal.join_seat-requires
-join_seat-requires c = (c.requires.first.0.seated, c.split_seat-token.ensures.3 ∙ c.requires.second.0.seated, ap (λ m. m.1) c.split_seat-token.ensures.4, some_words _ _ _ c.requires.first.0.wide, hears _ _ _ _ _)
+join_seat-requires c = (c.requires.first.0.seated, c.split_seat-token.ensures.3 ∙ c.requires.second.0.seated, ap (λ m. m.1) c.split_seat-token.ensures.4, some_words _ _ _ c.requires.first.0.wide, hears _ _ _ _ _ (search (rules, free_nothing, free_section, free_shelf)) (search (rules, free_nothing, free_section, free_shelf)))
 
 pub load-requires : goal.load-requires
 load-requires c =

@@ -1,3 +1,5 @@
+use Rattle.sections.specs.Banks.{hand_in}
+use Rattle.sections.proofs.Banking.{free_section}
 use Rattle.std.proofs.Common.{ap, ◌∙◌}
 use Rattle.sections.specs.Rule.{lacking}
 use Rattle.sections.proofs.Agreement.{lock_there}
@@ -10,11 +12,11 @@ pub fetch_add-requires : goal.fetch_add-requires
 fetch_add-requires c = (
   c.requires.placed.seated,
   rw (c.place_of_lock.ensures, c.requires.placed.wide) (lock_there _ _ _ _ c.requires.there),
-  begins_here _ _ _ _ _ _ c.args.processor c.args.index c.requires.placed.sized c.requires.role c.requires.there c.place_of_lock.ensures c.requires.room,
+  begins_here _ _ _ _ _ _ c.args.processor c.args.index c.requires.placed.sized c.requires.role c.requires.there c.place_of_lock.ensures c.requires.room (ap hand_in c.requires.free),
 )
 
 pub split_seat-requires : goal.split_seat-requires
-split_seat-requires c = (c.fetch_add.ensures.0 ∙ c.requires.placed.seated, some_words _ _ _ c.requires.placed.wide, gives_token _ _ _)
+split_seat-requires c = (c.fetch_add.ensures.0 ∙ c.requires.placed.seated, some_words _ _ _ c.requires.placed.wide, gives_token _ _ _ (free_section _ _ _ _ _ (c.fetch_add.ensures.2.1 c.args.processor c.args.index c.requires.role c.place_of_lock.ensures).2))
 
 pub returns : goal.returns
 returns c = let told = c.fetch_add.ensures.2.1 c.args.processor c.args.index c.requires.role c.place_of_lock.ensures in

@@ -1,3 +1,5 @@
+use Rattle.std.proofs.Common.{rules}
+use Rattle.sections.proofs.Banking.{free_nothing, free_section, free_shelf}
 use Rattle.std.proofs.Common.{ap, ◌∙◌}
 use Rattle.sections.specs.Rule.{noting, shower}
 use Rattle.sections.proofs.Sharing.{shows, notes}
@@ -8,7 +10,7 @@ pub split_seat-token-requires : goal.split_seat-token-requires
 split_seat-token-requires c = (c.requires.second.seated, some_words _ _ _ c.requires.second.wide, shows _ _ _)
 
 pub join_seat-requires : goal.join_seat-requires
-join_seat-requires c = (c.requires.first.0.seated, c.split_seat-token.ensures.3 ∙ c.requires.second.seated, ap (λ m. m.1) c.split_seat-token.ensures.4, some_words _ _ _ c.requires.first.0.wide, notes _ _ _ _ _)
+join_seat-requires c = (c.requires.first.0.seated, c.split_seat-token.ensures.3 ∙ c.requires.second.seated, ap (λ m. m.1) c.split_seat-token.ensures.4, some_words _ _ _ c.requires.first.0.wide, notes _ _ _ _ _ (search (rules, free_nothing, free_section, free_shelf)) (search (rules, free_nothing, free_section, free_shelf)))
 
 pub returns-clause-first : goal.returns-clause-first
 returns-clause-first c = record {

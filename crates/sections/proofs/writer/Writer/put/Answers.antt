@@ -8,29 +8,32 @@ use Rattle.onedom.specs.declared.event.Event.TheVariants.{Put, Note}
 use Rattle.onedom.specs.declared.event.Maker.TheVariants.{Processor}
 use Rattle.onedom.specs.Histories.{slot_of, version_of, IsBeginning}
 use Rattle.onedom.proofs.CallerLemmas.{version_put, slot_put}
-use Rattle.sections.specs.declared.view.Right.TheVariants.{Shelf}
 use Rattle.sections.specs.declared.view.Text.{Text}
 use Rattle.sections.specs.declared.view.View.{View}
-use Rattle.sections.specs.Shelves.{slot_words}
+use Rattle.sections.specs.Shelves.{slot_words, offer_of}
 use Rattle.sections.specs.Words.{cells_in}
 use Rattle.sections.specs.Rule.{bearer, informed}
 use Rattle.sections.specs.Plays.{Adds, EndsWithText}
-use Rattle.sections.specs.WriterInsides.{words_with}
+use Rattle.sections.specs.declared.view.Plan.{Plan}
+use Rattle.sections.specs.Banks.{offered, plan_put}
+use Rattle.sections.specs.WriterInsides.{words_with, plan_with, view_of_writer}
 use Rattle.sections.specs.WriterViews.{WriterView, SlotView}
 use Rattle.sections.specs.Writers.{IsOwn, IsRetired}
-use Rattle.sections.specs.Insides.{IsAtRest}
+use Rattle.sections.specs.Insides.{IsAtRest, view_of_cpu}
+use Rattle.sections.specs.Views.{CpuView}
+use Rattle.sections.specs.Calls.{AddsEvent}
 use Rattle.sections.proofs.CpuViews.{seen_as, adds_cut, notes_from, rests_cut, whole_cookie}
 use Rattle.sections.proofs.Staying.{maker_of, stays_told}
-use Rattle.sections.proofs.Writing.{slot_quiet}
+use Rattle.sections.proofs.Writing.{as_shelf, slot_quiet}
 use Rattle.sections.specs.declared.writer.Standing.TheVariants.{Blank, Out, Current, Retired}
 use Rattle.sections.proofs.Standings.{HasHomes, homes_back, stands_over, retires, put_stands, put_count, out_clear}
-use Rattle.sections.proofs.Putting.{has_put}
+use Rattle.sections.proofs.Putting.{has_put, offered_put}
 use Rattle.sections.proofs.writer.Writer.put.Goals as goal
 
 pub note_number-requires-clause-placed : goal.note_number-requires-clause-placed
 note_number-requires-clause-placed g c =
     let P = c.put_in.ensures in
-    let a = P.adds c.cpu.inside.processor (words_with c.self.inside.seat.me.0.right) c.self.inside.seat.me.0.seen c.cpu.invariant.role c.self.invariant.right in
+    let a = P.adds c.cpu.inside.processor (words_with c.self.inside.seat.me.0.right) c.self.inside.seat.me.0.seen (plan_with c.self.inside.seat.me.0.right) c.cpu.invariant.role c.self.invariant.right in
     rw c.deref-table.ensures (record {
       seated = P.same_table.0 ∙ c.cpu.invariant.placed.seated;
       wide = c.cpu.invariant.placed.wide;
@@ -42,14 +45,14 @@ note_number-requires-clause-placed g c =
 pub note_number-requires-clause-role : goal.note_number-requires-clause-role
 note_number-requires-clause-role g c =
     let P = c.put_in.ensures in
-    let a = P.adds c.cpu.inside.processor (words_with c.self.inside.seat.me.0.right) c.self.inside.seat.me.0.seen c.cpu.invariant.role c.self.invariant.right in
+    let a = P.adds c.cpu.inside.processor (words_with c.self.inside.seat.me.0.right) c.self.inside.seat.me.0.seen (plan_with c.self.inside.seat.me.0.right) c.cpu.invariant.role c.self.invariant.right in
     rw c.deref-table.ensures (c.cpu.inside.processor, ap (λ m. m.0.role) P.stays ∙ (a.0.role ∙ c.cpu.invariant.role), c.cpu.invariant.there)
 
 pub refresh_in-requires-clause-placed : goal.refresh_in-requires-clause-placed
 refresh_in-requires-clause-placed g c =
     let P = c.put_in.ensures in
     let N = c.note_number.ensures in
-    let a = P.adds c.cpu.inside.processor (words_with c.self.inside.seat.me.0.right) c.self.inside.seat.me.0.seen c.cpu.invariant.role c.self.invariant.right in
+    let a = P.adds c.cpu.inside.processor (words_with c.self.inside.seat.me.0.right) c.self.inside.seat.me.0.seen (plan_with c.self.inside.seat.me.0.right) c.cpu.invariant.role c.self.invariant.right in
     let b = N.adds c.cpu.inside.processor (ap (λ m. m.0.role) P.stays ∙ (a.0.role ∙ c.cpu.invariant.role)) in
     rw c.deref-table.ensures (
       record {
@@ -65,13 +68,15 @@ refresh_in-requires-clause-placed g c =
 pub refresh_in-requires-clause-pen : goal.refresh_in-requires-clause-pen
 refresh_in-requires-clause-pen g c =
     let P = c.put_in.ensures in
-    let a = P.adds c.cpu.inside.processor (words_with c.self.inside.seat.me.0.right) c.self.inside.seat.me.0.seen c.cpu.invariant.role c.self.invariant.right in
+    let a = P.adds c.cpu.inside.processor (words_with c.self.inside.seat.me.0.right) c.self.inside.seat.me.0.seen (plan_with c.self.inside.seat.me.0.right) c.cpu.invariant.role c.self.invariant.right in
     rw c.deref-table.ensures (record {
       seated = P.same_table.1 ∙ c.cpu.invariant.placed.seated;
       bare = ap (λ m. m.1) P.given;
       own = words_with c.self.inside.seat.me.0.right;
       upto = P.after.seen;
+      plan = plan_put (plan_with c.self.inside.seat.me.0.right) c.slot.inside.slot;
       right = ap (λ m. m.0.right) P.given ∙ a.1;
+      free = refl;
       inside = subst (λ (t : TableId). c.self.inside.cell < cells_in t) (ap (λ z. z.domain) c.self.view_is ∙ (sym c.requires.here ∙ (ap (λ z. z.domain) (sym c.cpu.view_is) ∙ c.cpu.invariant.placed.seated))) c.self.invariant.inside;
     })
 
@@ -87,11 +92,12 @@ invariant_of-self g c =
     let cur : ℕ = c.self.inside.current in
     let W : List ℕ = words_with c.self.inside.seat.me.0.right in
     let old : List Event = c.self.inside.seat.me.0.seen in
-    let a = P.adds p W old c.cpu.invariant.role i.right in
+    let Q : Plan = plan_with c.self.inside.seat.me.0.right in
+    let a = P.adds p W old Q c.cpu.invariant.role i.right in
     let b = N.adds p (ap (λ m. m.0.role) P.stays ∙ (a.0.role ∙ c.cpu.invariant.role)) in
-    let k = R.keeps W P.after.seen (ap (λ m. m.0.right) P.given ∙ a.1) in
+    let k = R.keeps W P.after.seen (plan_put Q slot) (ap (λ m. m.0.right) P.given ∙ a.1) in
     let new : List Event = c.refresh_in.new.pen.me.0.seen in
-    let own : IsOwn (record { domain = c.self.inside.seat.table_id; cell = cell; slots = c.self.inside.slots; version = c.self.inside.version; current = cur; standings = c.self.inside.standings; words = W; seen = old; changes = c.self.inside.seat.me.0.changes; texts = c.self.inside.seat.me.0.texts }) (record { domain = c.slot.inside.home; cell = c.slot.inside.cell; slot = slot }) =
+    let own : IsOwn (record { domain = c.self.inside.seat.table_id; cell = cell; slots = c.self.inside.slots; version = c.self.inside.version; current = cur; standings = c.self.inside.standings; words = W; plan = plan_with c.self.inside.seat.me.0.right; seen = old; changes = c.self.inside.seat.me.0.changes; texts = c.self.inside.seat.me.0.texts }) (record { domain = c.slot.inside.home; cell = c.slot.inside.cell; slot = slot }) =
     subst (λ (z : WriterView × SlotView). IsOwn z.0 z.1) (λ n. (sym c.self.view_is n, sym c.slot.view_is n)) c.requires.own in
     let low = own.inside in
     let most = i.most in
@@ -118,7 +124,8 @@ invariant_of-self g c =
     (λ n o. there (get_or-set_other (set c.self.inside.standings cur (Retired c.snap-cookie.result)) slot z Current Blank nx ∙ (get_or-set_other c.self.inside.standings cur z (Retired c.snap-cookie.result) Blank n ∙ o))) in
     let next = i.version in record {
       bare = R.bare;
-      right = k.1 ∙ ap (λ o. Shelf cell o new) (sym (ap words_with k.1));
+      right = as_shelf _ cell W new (plan_put Q slot) k.1;
+      free = ap (λ y. (plan_with y).hand) k.1;
       long = ap length (ap words_with k.1) ∙ i.long;
       legal = k.0.legal;
       inside = subst (λ (t : TableId). cell < cells_in t) (sym own.domain ∙ same_home) i.inside;
@@ -141,7 +148,7 @@ invariant_of-cpu g c =
     let P = c.put_in.ensures in
     let N = c.note_number.ensures in
     let S = c.refresh_in.ensures.seat in
-    let a = P.adds c.cpu.inside.processor (words_with c.self.inside.seat.me.0.right) c.self.inside.seat.me.0.seen c.cpu.invariant.role c.self.invariant.right in
+    let a = P.adds c.cpu.inside.processor (words_with c.self.inside.seat.me.0.right) c.self.inside.seat.me.0.seen (plan_with c.self.inside.seat.me.0.right) c.cpu.invariant.role c.self.invariant.right in
     let b = N.adds c.cpu.inside.processor (ap (λ m. m.0.role) P.stays ∙ (a.0.role ∙ c.cpu.invariant.role)) in
     let first = stays_told c.cpu.invariant {s = c.put_in.new.seat} P.same_table.0 (ap (λ m. m.1) P.stays) (rests_cut _ _ _ _ (ap (λ m. m.0) P.stays) a.0) refl (ap (λ m. maker_of m.0) P.stays) a.0 refl (λ _. refl) (λ _. refl) in
     stays_told first (S.0 ∙ N.same_table) (ap (λ m. m.1) S.1 ∙ (N.bare ∙ ap (λ m. m.1) P.stays)) (subst (λ (z : View). IsAtRest z) (sym (ap (λ m. m.0) S.1)) record { free = N.right ∙ ap (λ m. m.0.right) P.stays; told = b.told; sound = b.sound })
@@ -161,18 +168,22 @@ returns-clause-puts g c =
     let old : List Event = c.self.inside.seat.me.0.seen in
     let v : View = c.cpu.inside.seat.me.0 in
     let o : View = bearer c.self.inside.seat.me.0 in
-    let a = P.adds p W old c.cpu.invariant.role i.right in
+    let Q : Plan = plan_with c.self.inside.seat.me.0.right in
+    let a = P.adds p W old Q c.cpu.invariant.role i.right in
     let role = ap (λ m. m.0.role) P.stays ∙ (a.0.role ∙ c.cpu.invariant.role) in
     let sized = ap (λ m. m.0.processors) P.stays ∙ (a.0.processors ∙ c.cpu.invariant.placed.sized) in
     let b = N.adds p role in
-    let k = R.keeps W P.after.seen (ap (λ m. m.0.right) P.given ∙ a.1) in
+    let k = R.keeps W P.after.seen (plan_put Q slot) (ap (λ m. m.0.right) P.given ∙ a.1) in
     let free = N.right ∙ ap (λ m. m.0.right) P.stays in
     let w : View = c.note_number.new.seat.me.0 in
+    let between : CpuView = seen_as c.put_in.new.seat.table_id (view_of_cpu c.cpu.inside).processors c.cpu.inside.limit p c.put_in.new.seat.me.0 in
+    let puts : AddsEvent old c.self.inside.seat.me.0.changes (Put cell slot (c.self.inside.version + 1) (Processor p)) (view_of_cpu c.cpu.inside) between = adds_cut (Put cell slot (c.self.inside.version + 1) (Processor p)) _ _ _ _ p v o (informed v o) P.after c.put_in.new.seat.me.0 P.same_table.0 c.cpu.invariant.placed.sized c.cpu.invariant.role refl (ap (λ m. m.0) P.stays)
+    (subst (λ (n : ℕ). Adds (informed v o) (Put cell slot (n + 1) (Processor p)) P.after) (sym i.version) a.0) in
+    let offer : offer_of cell (c.self.inside.version + 1) c.put_in.new.seat.me.0.texts ≡ offered Q slot = (λ j. offer_of cell (i.version j + 1) (ap (λ m. m.0.texts) P.stays j)) ∙ a.4 in
     rw (← c.self.view_is, ← c.cpu.view_is, ← c.slot.view_is) (record {
-      between = seen_as c.put_in.new.seat.table_id _ c.cpu.inside.limit p c.put_in.new.seat.me.0;
+      between = between;
       number = c.note_number.result;
-      puts = adds_cut (Put cell slot (c.self.inside.version + 1) (Processor p)) _ _ _ _ p v o (informed v o) P.after c.put_in.new.seat.me.0 P.same_table.0 c.cpu.invariant.placed.sized c.cpu.invariant.role refl (ap (λ m. m.0) P.stays)
-          (subst (λ (n : ℕ). Adds (informed v o) (Put cell slot (n + 1) (Processor p)) P.after) (sym i.version) a.0);
+      puts = puts;
       text = subst (λ (l : List Text). EndsWithText cell (slot_words slot W) l) (sym (ap (λ m. m.0.texts) P.stays)) a.2;
       notes = notes_from _ _ _ _ _ _ c.put_in.new.seat.me.0 w c.refresh_in.new.seat.me.0 (S.0 ∙ N.same_table) sized role (ap (λ m. m.0) S.1 ∙ (λ n. record w { right = free n })) N.finds b;
       cookie_is = c.snap-cookie.ensures.meaning;
@@ -183,6 +194,8 @@ returns-clause-puts g c =
       current = λ _. slot;
       standings = refl;
       words = ap words_with k.1;
+      plan = ap plan_with k.1;
+      offers = ap (λ m. offer_of cell (c.self.inside.version + 1) m.0.texts) S.1 ∙ offered_put slot (view_of_writer c.self.inside) (view_of_cpu c.cpu.inside) between w.texts (offered Q slot) puts b.texts.since offer;
       since = subst (λ (l : List Event). IsBeginning l c.refresh_in.new.pen.me.0.seen) (sym (ap (λ m. m.0.seen) S.1)) k.0.since;
     })
 

@@ -1,8 +1,9 @@
+use Rattle.sections.proofs.Banking.{free_nothing, free_section, free_shelf}
 use Rattle.std.proofs.Common.{rules, ◌≡◌, ◌<◌, true, false, length, get_or, inr, refl, sym, ap, ◌∙◌, subst}
 use Rattle.sections.specs.declared.writer.Standing.{Standing}
 use Rattle.sections.specs.declared.writer.Standing.TheVariants.{Blank, Retired}
 use Rattle.sections.specs.Words.{cells_in}
-use Rattle.sections.specs.WriterInsides.{words_with}
+use Rattle.sections.specs.WriterInsides.{words_with, plan_with}
 use Rattle.sections.specs.WriterViews.{WriterView}
 use Rattle.sections.specs.Writers.{IsRetired, Stands, standing_of}
 use Rattle.sections.proofs.Sharing.{shows, takes_token}
@@ -20,7 +21,7 @@ join_seat-requires g c = rw c.deref-table.ensures (
   c.split_seat-told.ensures.3 ∙ (ap (λ z. z.domain) c.self.view_is ∙ (sym c.requires.here ∙ (ap (λ z. z.domain) (sym c.cpu.view_is) ∙ c.cpu.invariant.placed.seated))),
   ap (λ m. m.1) c.split_seat-told.ensures.4,
   some_words _ _ _ c.cpu.invariant.placed.wide,
-  takes_token _ _ _ _ _,
+  takes_token _ _ _ _ _ (search (rules, free_nothing, free_section, free_shelf)) (search (rules, free_nothing, free_section, free_shelf)),
 )
 
 pub ask_number-done-requires-clause-cookie : goal.ask_number-done-requires-clause-cookie
@@ -53,6 +54,8 @@ refresh_in-requires-clause-pen g c = rw c.deref-table.ensures (record {
   bare = ap (λ m. m.1) c.split_seat-told.ensures.2 ∙ c.self.invariant.bare;
   own = words_with c.self.inside.seat.me.0.right;
   upto = c.self.inside.seat.me.0.seen;
+  plan = plan_with c.self.inside.seat.me.0.right;
+  free = c.self.invariant.free;
   right = ap (λ m. m.0.right) c.split_seat-told.ensures.2 ∙ c.self.invariant.right;
   inside = subst (λ (t : TableId). c.self.inside.cell < cells_in t) (ap (λ z. z.domain) c.self.view_is ∙ (sym c.requires.here ∙ (ap (λ z. z.domain) (sym c.cpu.view_is) ∙ c.cpu.invariant.placed.seated))) c.self.invariant.inside;
 })

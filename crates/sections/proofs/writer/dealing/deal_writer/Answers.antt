@@ -7,7 +7,7 @@ use Rattle.sections.specs.declared.view.Right.TheVariants.{Shelf}
 use Rattle.sections.specs.declared.writer.Standing.TheVariants.{Blank}
 use Rattle.sections.specs.Words.{cells_in}
 use Rattle.sections.specs.Rule.{next_cell, without_cell}
-use Rattle.sections.specs.WriterInsides.{words_with}
+use Rattle.sections.specs.WriterInsides.{words_with, plan_with}
 use Rattle.sections.specs.Writers.{Stands}
 use Rattle.sections.proofs.Seating.{cells_are}
 use Rattle.sections.proofs.Sharing.{deals_pen}
@@ -23,7 +23,8 @@ invariant_of-result c =
     let right = ap (λ m. m.0.right) me ∙ ap next_cell c.requires.seat.right in
     let seen = ap (λ m. m.0.seen) me ∙ c.requires.seat.nothing in record {
       bare = ap (λ m. m.1) me;
-      right = right ∙ (λ k. Shelf c.args.cell (ap words_with (sym right) k) (sym seen k));
+      right = right ∙ (λ k. Shelf c.args.cell (ap words_with (sym right) k) (sym seen k) (ap plan_with (sym right) k));
+      free = ap (λ y. (plan_with y).hand) right;
       long = ap length (ap words_with right);
       legal = subst (λ (l : List Event). IsLegal l) (sym seen) tt;
       inside = subst (λ (t : TableId). c.args.cell < cells_in t) (sym (c.homes_of-homes.ensures.seat.0 ∙ (c.split_seat-pen.ensures.3 ∙ c.requires.seat.seated))) c.requires.cell;
@@ -52,6 +53,7 @@ returns-clause-writer c = let me = c.homes_of-homes.ensures.seat.1 ∙ c.split_s
   current = 0;
   standings = new_standings;
   words = ap words_with (ap (λ m. m.0.right) me ∙ ap next_cell c.requires.seat.right) k;
+  plan = ap plan_with (ap (λ m. m.0.right) me ∙ ap next_cell c.requires.seat.right) k;
   seen = (ap (λ m. m.0.seen) me ∙ c.requires.seat.nothing) k;
   changes = (ap (λ m. m.0.changes) me ∙ c.requires.seat.still) k;
   texts = (ap (λ m. m.0.texts) me ∙ c.requires.seat.untold) k;

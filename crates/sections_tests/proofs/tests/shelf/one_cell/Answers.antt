@@ -32,4 +32,6 @@ returns c =
       ap (λ (z : EngineView). z.processors) m.engine_new,
       ap (λ (z : EngineView). z.changes) m.engine_new,
       ap (λ (z : EngineView). z.periods) m.engine_new,
+      ap (λ (z : CpuView). z.processors) (cpu ∙ m.cpus_new 1 d (omega (arith, two))),
+      ap (λ (z : WriterView). z.plan) (writer ∙ ws.each 0 w (omega arith)),
     )

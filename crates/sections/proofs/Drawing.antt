@@ -1,0 +1,28 @@
+-- What a call over two steps on a key does to its seat.
+use Rattle.std.specs.Prelude.{MatchOption}
+use Rattle.std.proofs.Common.{◌≡◌, ℕ, List, ◌∷◌, Option, Some, None, sym, ap, ◌∙◌}
+use Rattle.atomic_table.specs.Table.{rest}
+use Rattle.sections.specs.Slots.{Slot}
+use Rattle.sections.specs.declared.view.Right.{Right}
+use Rattle.sections.specs.declared.view.View.{View}
+use Rattle.sections.specs.Plays.{Sat}
+use Rattle.sections.specs.Taking.{Catches}
+use Rattle.sections.proofs.Taking.{first_key}
+
+pub catches_right : (v w : View) (y : Right) → Catches v w → Catches v (record w { right = y })
+catches_right v w y h = record { processors = h.processors; role = h.role; mine = h.mine; shown = h.shown; told = h.told; done = h.done; since = h.since; later = h.later; covers = h.covers; texts = record { since = h.texts.since; covers = h.texts.covers }; sound = h.sound }
+
+-- what was taken out is what lay there
+pub out_is : (l ms : List (ℕ × Slot)) (i : ℕ) (key y : Slot) → l ≡ (i, key) ∷ ms → l ≡ (i, y) ∷ rest l → y ≡ key
+out_is l ms i key y took out = ap (first_key key) (sym out ∙ took)
+
+pub has_one : (l ms : List (ℕ × Slot)) (i : ℕ) (key : Slot) → l ≡ (i, key) ∷ ms → l ≡ (i, key) ∷ rest l
+has_one l ms i key took = took ∙ ap (λ z. (i, key) ∷ rest z) (sym took)
+
+-- the seat once this lies in the place
+pub exchanged : (m m' : Sat) (i : ℕ) (key y : Slot) (ms : List (ℕ × Slot)) → m.1 ≡ (i, key) ∷ ms → m' ≡ (m.0, (i, y) ∷ rest m.1) → m' ≡ (m.0, (i, y) ∷ ms)
+exchanged m m' i key y ms had now = now ∙ ap (λ z. (m.0, (i, y) ∷ rest z)) had
+
+pub match_map : {X : Type 0} {A B : Type 0} {P Q : X → Type 0} (o : Option X) → (A → B) → ((x : X) → P x → Q x) → MatchOption o A P → MatchOption o B Q
+match_map None f h m = f m
+match_map (Some x) f h m = h x m

@@ -1,0 +1,2 @@
+mod Banks
+mod Seeing
