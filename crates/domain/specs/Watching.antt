@@ -101,6 +101,10 @@ pair_from (Some l) (Some u) = Some record { locks = l; unlocks = u }
 pair_from (Some l) None = None
 pair_from None u = None
 
+-- what was found of processor p, where there are counters of it
+abbrev pub pair_in : Columns → ℕ → Option Pair
+pair_in k p = pair_from (slice_get k.locks.now p) (slice_get k.unlocks.now p)
+
 module _ {A : Type 0} where
   -- what was found of processor p, where the domain has it
   abbrev pub pair_at : Counters A → ℕ → Option Pair
@@ -143,6 +147,16 @@ pub record NamesHolders (i : Index) (named : List Holder) (c d : sections.CpuVie
 
 -- A domain at a glance
 
+abbrev pub columns_of : Index → Glance → Columns
+columns_of Zero g = g.zero
+columns_of One g = g.one
+
+-- the counters of both indexes, where there are both
+abbrev pub counts_from : Option Pair → Option Pair → Option Counts
+counts_from (Some z) (Some o) = Some record { zero = z; one = o }
+counts_from (Some z) None = None
+counts_from None o = None
+
 module _ {A : Type 0} where
   abbrev pub counters_of : Index → Snapshot A → Counters A
   counters_of Zero s = s.zero
@@ -157,9 +171,9 @@ module _ {A : Type 0} where
 
   -- the same words, with the counters in slices
   pub record IsGlanceAt (s : Snapshot A) (g : Glance) : Type 0 where
-    pub number : g.number ≡ s.number
+    pub number : g.number.now ≡ s.number
     pub index : g.index ≡ s.index
-    pub need : g.need ≡ s.need
+    pub need : g.need.now ≡ s.need
     pub zero : AreLent s.zero g.zero
     pub one : AreLent s.one g.one
     pub queued : g.queued ≡ s.queued

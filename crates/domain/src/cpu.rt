@@ -5,6 +5,7 @@ use scan::StationSeat;
 use std::alloc::{Allocator, Global};
 use std::marker::Model;
 
+mod boxes;
 mod cookies;
 mod home;
 mod readers;

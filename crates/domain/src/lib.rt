@@ -21,8 +21,8 @@ pub use publishing::{claim, publish};
 pub use scan::refusals::{AdvanceRefusal, StartRefusal};
 pub use scan::{PeriodsExhausted, Progress};
 pub use sections::{
-    Cookie, DownPin, Exhausted, Found, Given, Held, HeldPin, Home, Limits, Look, MOST_MEMBERS,
-    MOST_PROCESSORS, MakeError, NotACookie, Pin, Reading, SetFull, Slot, Standing,
+    Cookie, DownPin, Exhausted, Found, Given, Held, HeldPin, Home, Lender, Limits, Loan, Look,
+    MOST_MEMBERS, MOST_PROCESSORS, MakeError, NotACookie, Pin, Reading, SetFull, Slot, Standing,
 };
 pub use set::CookieSet;
 pub use sseq::{Index, Number};

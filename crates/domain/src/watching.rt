@@ -63,10 +63,7 @@ impl<A: Allocator> Counters<A> {
     pub fn pair(&self, processor: usize) -> Option<Pair>
         ensures { result ≡ pair_at self.now processor }
     {
-        Some(Pair {
-            locks: *self.locks.get(processor)?,
-            unlocks: *self.unlocks.get(processor)?,
-        })
+        self.columns().pair(processor)
     }
 
     /// The two sums.
@@ -74,10 +71,7 @@ impl<A: Allocator> Counters<A> {
         ensures locks { result.locks ≡ self.now.begun }
         ensures unlocks { result.unlocks ≡ self.now.ended }
     {
-        Pair {
-            locks: self.begun,
-            unlocks: self.ended,
-        }
+        self.columns().sums()
     }
 }
 

@@ -13,6 +13,8 @@ use sseq::Number;
 use std::alloc::Allocator;
 use std::marker::Model;
 
+mod laying;
+
 /// The writer of a cell: it alone puts versions there, and fills slots. Contracts see how its slots stand and what their
 /// words are.
 #[derive(Drop)]

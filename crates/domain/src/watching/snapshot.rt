@@ -1,6 +1,6 @@
 //! A domain at a glance, and how it is printed.
 ghost use Rattle.std.specs.Prelude.{◌≡◌};
-ghost use Rattle.domain.specs.Watching.{counters_of, AreLent, IsGlanceAt};
+ghost use Rattle.domain.specs.Watching.{pair_at, pair_in, columns_of, counters_of, counts_from, AreLent, IsGlanceAt};
 
 use super::{Counters, Counts, Pair};
 use sseq::{Index, Number, state};
@@ -57,9 +57,9 @@ impl<A: Allocator> Snapshot<A> {
         ensures { IsGlanceAt self.now result }
     {
         Glance {
-            number: self.number,
+            number: &self.number,
             index: self.index,
-            need: self.need,
+            need: &self.need,
             zero: self.zero.columns(),
             one: self.one.columns(),
             queued: self.queued,
@@ -68,12 +68,16 @@ impl<A: Allocator> Snapshot<A> {
     }
 
     /// The four counters of a processor. None where the domain has no such processor.
-    pub fn row(&self, processor: usize) -> Option<Counts> {
+    pub fn row(&self, processor: usize) -> Option<Counts>
+        ensures { result ≡ counts_from (pair_at self.now.zero processor) (pair_at self.now.one processor) }
+    {
         self.glance().row(processor)
     }
 
     /// The same with every word, in columns.
-    pub fn table(&self) -> Table<'_> {
+    pub fn table(&self) -> Table<'_>
+        ensures { IsGlanceAt self.now result.glance }
+    {
         self.glance().table()
     }
 }
@@ -100,7 +104,9 @@ pub struct Columns<'s> {
 
 impl Columns<'_> {
     /// The two counters of a processor. None where the domain has no such processor.
-    pub fn pair(&self, processor: usize) -> Option<Pair> {
+    pub fn pair(&self, processor: usize) -> Option<Pair>
+        ensures { result ≡ pair_in self.now processor }
+    {
         Some(Pair {
             locks: *self.locks.get(processor)?,
             unlocks: *self.unlocks.get(processor)?,
@@ -119,16 +125,16 @@ impl Columns<'_> {
     }
 }
 
-/// A snapshot whose counters are slices, so that it can be copied. It prints itself with a line for each processor;
-/// [`Glance::table`] prints every word.
+/// A snapshot whose counters are slices, and whose numbers are lent, so that it can be copied and handed to a closure. It
+/// prints itself with a line for each processor; [`Glance::table`] prints every word.
 #[derive(Clone, Copy)]
 pub struct Glance<'s> {
     /// The number of the domain, which tells the phase too.
-    pub number: Number,
+    pub number: &'s Number,
     /// The index that new sections get.
     pub index: Index,
     /// The greatest number that is asked for.
-    pub need: Number,
+    pub need: &'s Number,
     /// The counters of index 0.
     pub zero: Columns<'s>,
     /// The counters of index 1.
@@ -141,7 +147,9 @@ pub struct Glance<'s> {
 
 impl<'s> Glance<'s> {
     /// The counters of an index.
-    pub fn of(&self, index: Index) -> Columns<'s> {
+    pub fn of(&self, index: Index) -> Columns<'s>
+        ensures { result ≡ columns_of index self.now }
+    {
         match index {
             Index::Zero => self.zero,
             Index::One => self.one,
@@ -149,7 +157,9 @@ impl<'s> Glance<'s> {
     }
 
     /// The four counters of a processor. None where the domain has no such processor.
-    pub fn row(&self, processor: usize) -> Option<Counts> {
+    pub fn row(&self, processor: usize) -> Option<Counts>
+        ensures { result ≡ counts_from (pair_in self.now.zero processor) (pair_in self.now.one processor) }
+    {
         Some(Counts {
             zero: self.zero.pair(processor)?,
             one: self.one.pair(processor)?,
@@ -157,7 +167,9 @@ impl<'s> Glance<'s> {
     }
 
     /// The same with every word, in columns.
-    pub fn table(&self) -> Table<'s> {
+    pub fn table(&self) -> Table<'s>
+        ensures { result.glance ≡ self.now }
+    {
         let glance = Glance {
             number: self.number,
             index: self.index,
@@ -180,7 +192,7 @@ impl<'s> Glance<'s> {
             finished,
             ..
         } = *self;
-        let phase = state(number);
+        let phase = state(*number);
         writeln!(
             f,
             "number {number} {phase}, index {index}, need {need}, queued {queued}, finished {finished}"
@@ -204,7 +216,8 @@ impl fmt::Display for Glance<'_> {
 /// What [`Glance::table`] prints: a row for each processor, with its four counters and what is open on balance.
 #[derive(Clone, Copy)]
 pub struct Table<'s> {
-    glance: Glance<'s>,
+    /// The words that it prints.
+    pub glance: Glance<'s>,
 }
 
 /// A row of the table, under this name.

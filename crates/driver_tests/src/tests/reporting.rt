@@ -85,11 +85,6 @@ fn sleep_in_section<R: Wait + Clock>(
 /// Notes what a report says.
 fn note(signs: &Signs, stall: Stall<'_>) {
     signs.reports.fetch_add(1, SeqCst);
-    let Stall {
-        waited,
-        index,
-        glance,
-    } = stall;
     let open = Pair {
         locks: 1,
         unlocks: 0,
@@ -98,10 +93,10 @@ fn note(signs: &Signs, stall: Stall<'_>) {
         locks: 0,
         unlocks: 0,
     };
-    if (glance.zero.sums(), glance.one.sums()) == (open, none)
-        && glance.zero.pair(0) == Some(open)
-        && index == Index::Zero
-        && waited >= Duration::from_millis(AFTER)
+    if (stall.glance.zero.sums(), stall.glance.one.sums()) == (open, none)
+        && stall.glance.zero.pair(0) == Some(open)
+        && stall.index == Index::Zero
+        && stall.waited >= Duration::from_millis(AFTER)
     {
         signs.named.fetch_add(1, SeqCst);
     }

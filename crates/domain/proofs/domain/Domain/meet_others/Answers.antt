@@ -5,6 +5,7 @@ use Rattle.sections.specs.Views as sections
 use Rattle.sections.specs.Calls as calls
 use Rattle.funnel.specs.Views.{FunnelView}
 use Rattle.funnel.specs.Histories as tree
+use Rattle.sections.specs.EngineCalls.{IsTied}
 use Rattle.desk.specs.BayViews.{BaySeatView}
 use Rattle.desk.specs.BayCalls.{MakesSwap}
 use Rattle.scan.specs.Progress.{with_seat}
@@ -13,7 +14,7 @@ use Rattle.domain.specs.Meetings.{IsAllOf, MeetsHere}
 use Rattle.domain.specs.Parts.{Each, EachBecomes, IsAdmitted}
 use Rattle.domain.proofs.Meeting.{meets_here, all_still}
 use Rattle.domain.proofs.Preparing.{all_are_there, first_here, took_here, others_beside, still_here, others_here, turn_here, put_here, turns_beside, turns_covered, calls_beside}
-use Rattle.domain.proofs.Counted.{turns_here, all_turns}
+use Rattle.domain.proofs.Counted.{turns_here, all_turns, still_tied}
 use Rattle.domain.proofs.domain.Domain.meet_others.Goals as goal
 
 pub take_at_once-engine-requires-clause-beside : goal.take_at_once-engine-requires-clause-beside
@@ -77,6 +78,13 @@ admit_turns-requires-clause-bay g c =
     let admitted = subst (λ (z : Engine × List (CpuView _)). EachBecomes (IsAdmitted z.0.seat c.cover_all.new.needs) z.1 c.admit_all.new.others) (λ i. (c.admit.ensures.engine i, h.others i)) c.admit_all.ensures.others in
     let puts = subst (λ (z : Engine). MakesSwap c.cover_all.new.turn (Some z) None c.put.new.self) (c.admit_all.ensures.engine ∙ c.admit.ensures.engine) c.put.ensures.swap in
     put_here _ _ _ all _ _ c.take_at_once-engine.ensures.takes c.take_at_once-engine.ensures.takes.domain c.cover.new.self _ _ c.cover.ensures.engine c.root_need.ensures c.cover_all.new.engine _ _ h.engine h.needs h.turn _ c.cover_all.new.engine puts _ admitted
+
+pub put-requires-clause-tied : goal.put-requires-clause-tied
+put-requires-clause-tied g c =
+    let engine = c.admit_all.ensures.engine ∙ c.admit.ensures.engine in
+    let one = c.cover.ensures.engine.step in
+    let all = c.cover_all.ensures.engine in
+    subst (λ (z : Engine). IsTied z.seat) (sym engine) (still_tied c.take_at_once-engine.result.seat c.cover_all.new.engine.seat (all.same.1 ∙ one.same.1) (all.shown ∙ one.shown) (all.changes ∙ one.changes_are) c.take_at_once-engine.ensures.takes.tied)
 
 pub admit_turns-requires-clause-beside : goal.admit_turns-requires-clause-beside
 admit_turns-requires-clause-beside g c =

@@ -1,0 +1,1 @@
+-- What a crate above may cite of this one; the other files of proofs/ are its own.

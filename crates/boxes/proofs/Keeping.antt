@@ -1,0 +1,42 @@
+-- What is kept of each slot, and how a caller sees it.
+use Rattle.std.proofs.Common.{◌≡◌, ◌≢◌, ◌⊎◌, inl, inr, ℕ, zero, suc, ◌+◌, ◌<◌, List, [], ◌∷◌, Option, Some, None, map, get_or, set, refl, sym, ap, ◌∙◌, subst, arith}
+use Rattle.std.proofs.lemmas.List.{map-set}
+use mathlib.Core.Logic.{dite}
+use native.Mathlib.Decide.{ℕ_discrete}
+use Rattle.boxes.specs.declared.rest.Rest.{Rest}
+use Rattle.sections.specs.WriterViews.{SlotView}
+use Rattle.boxes.specs.Boxes.{BoxWriterView}
+use Rattle.boxes.specs.Laying.{TakesFree}
+use Rattle.boxes.specs.Insides.{stored_of}
+
+module _ {V A : Type 0} where
+  pub stored_is : (rests : List (Option (Rest V A))) (x : ℕ) → get_or (map stored_of rests) x None ≡ stored_of (get_or rests x None)
+  stored_is [] x = refl
+  stored_is (r ∷ rs) zero = refl
+  stored_is (r ∷ rs) (suc x) = stored_is rs x
+
+  pub none_kept : (o : Option (Rest V A)) → stored_of o ≡ None → o ≡ None
+  none_kept None e = refl
+  none_kept (Some r) e = absurd cc
+
+  pub some_kept : (o : Option (Rest V A)) → o ≢ None → stored_of o ≢ None
+  some_kept None ne e = ne refl
+  some_kept (Some r) ne e = absurd cc
+
+  -- something else is kept of one slot
+  pub stored_set : (rests : List (Option (Rest V A))) (x : ℕ) (o : Option (Rest V A)) → map stored_of (set rests x o) ≡ set (map stored_of rests) x (stored_of o)
+  stored_set rests x o = map-set stored_of rests x o
+
+  -- the slot that was taken has no box
+  pub none_there : (rests : List (Option (Rest V A))) (x : ℕ) (w taken : BoxWriterView V A) (s : SlotView) → map stored_of rests ≡ taken.stored → TakesFree x w taken s → get_or rests x None ≡ None
+  none_there rests x w taken s is takes = none_kept (get_or rests x None) (sym (stored_is rests x) ∙ (ap (λ l. get_or l x None) (is ∙ ap (λ (z : BoxWriterView V A). z.stored) takes.rest) ∙ takes.none))
+
+-- one more of a row
+pub one_more : {L : Type 0} {P : ℕ → Type 0} (k : ℕ) → L ⊎ ((x : ℕ) → x < k → P x) → L ⊎ P k → L ⊎ ((x : ℕ) → x < k + 1 → P x)
+one_more k (inl l) h = inl l
+one_more k (inr f) (inl l) = inl l
+one_more {P = P} k (inr f) (inr p) = inr (λ x lt. dite (ℕ_discrete x k) (λ e. subst P (sym e) p) (λ ne. f x (omega (arith, lt, ne))))
+
+-- of a row of none
+pub no_row : {L : Type 0} {P : ℕ → Type 0} → L ⊎ ((x : ℕ) → x < 0 → P x)
+no_row = inr (λ x lt. absurd (omega (arith, lt)))

@@ -1,0 +1,7 @@
+pub mod CallerLemmas
+pub mod Equipping
+pub mod Stocks
+pub mod Keeping
+pub mod Putting
+pub mod Reading
+pub mod Slots

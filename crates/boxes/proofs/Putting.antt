@@ -1,0 +1,53 @@
+-- What a put tells, of what each of its calls tells.
+use Rattle.std.proofs.Common.{◌≡◌, ℕ, ◌<◌, refl, sym, ap, ◌∙◌, subst}
+use Rattle.sections.specs.declared.view.Offer.{Offer}
+use Rattle.sections.specs.Shelves.{offer_of}
+use Rattle.sections.specs.Boxes.{bank_in}
+use Rattle.sections.specs.WriterViews.{WriterView, SlotView}
+use Rattle.sections.specs.Writers.{IsSameWriter}
+use Rattle.domain.specs.Views.{CpuView}
+use Rattle.domain.specs.Writers.{PutsAndAsks}
+use Rattle.boxes.specs.Boxes.{BoxWriterView}
+use Rattle.boxes.specs.Laying.{IsSameBut, TakesFree}
+use Rattle.boxes.specs.Writing.{PutsVersion}
+
+pub same_writer : (x : ℕ) (w w' : WriterView) → IsSameBut x w w' → IsSameWriter w w'
+same_writer x w w' h = record {
+  domain = ap (λ (z : WriterView). z.domain) h.rest;
+  cell = ap (λ (z : WriterView). z.cell) h.rest;
+  slots = ap (λ (z : WriterView). z.slots) h.rest;
+  version = ap (λ (z : WriterView). z.version) h.rest;
+  current = ap (λ (z : WriterView). z.current) h.rest;
+}
+
+pub same_trans : (a b c : WriterView) → IsSameWriter a b → IsSameWriter b c → IsSameWriter a c
+same_trans a b c h k = record { domain = k.domain ∙ h.domain; cell = k.cell ∙ h.cell; slots = k.slots ∙ h.slots; version = k.version ∙ h.version; current = k.current ∙ h.current }
+
+pub same_itself : (w : WriterView) → IsSameWriter w w
+same_itself w = record { domain = refl; cell = refl; slots = refl; version = refl; current = refl }
+
+module _ {V A : Type 0} where
+  -- the writer of the slot that was taken is the one before
+  pub taken_same : (x : ℕ) (s : SlotView) (w taken : BoxWriterView V A) (at : WriterView) → TakesFree x w taken s → at ≡ taken.writer → IsSameWriter w.writer at
+  taken_same x s w taken at takes is = subst (λ (z : WriterView). IsSameWriter w.writer z) (sym is) takes.gives.1.same
+
+module _ {V A J : Type 0} where
+  -- the slot that was taken was filled and put
+  abbrev pub puts_version : (cookie : ℕ) (s : SlotView) (w taken w' : BoxWriterView V A) (filled : WriterView) (c c' : CpuView J) → TakesFree s.slot w taken s → IsSameWriter w.writer filled → PutsAndAsks s.slot cookie filled c w'.writer c' → w'.processors ≡ w.processors → w'.vault ≡ w.vault → PutsVersion cookie w c w' c'
+  puts_version cookie s w taken w' filled c c' takes same puts many vault = record {
+    slot = s.slot;
+    inside = subst (λ (n : ℕ). s.slot < n) takes.gives.1.same.slots takes.gives.1.own.inside;
+    free = (takes.none, takes.gives.1.blank);
+    filled = filled;
+    same = same;
+    puts = puts;
+    cell = λ i. record { domain = (puts.puts.domain ∙ same.domain) i; cell = (puts.puts.cell ∙ same.cell) i; processors = many i; vault = vault i };
+  }
+
+  -- the version offers the parts that were laid
+  pub round_put : (cookie round x : ℕ) (w : BoxWriterView V A) (filled put : WriterView) (c c' : CpuView J) → IsSameWriter w.writer filled → (bank_in filled x).round ≡ round → PutsAndAsks x cookie filled c put c' → (offer_of w.writer.cell put.version c'.cpu.texts).round ≡ round
+  round_put cookie round x w filled put c c' same is puts = subst (λ (k : ℕ). (offer_of k put.version c'.cpu.texts).round ≡ round) same.cell (ap (λ (o : Offer). o.round) puts.puts.offers ∙ is)
+
+  -- or none
+  pub none_put : (cookie x : ℕ) (w : BoxWriterView V A) (filled put : WriterView) (c c' : CpuView J) → IsSameWriter w.writer filled → (bank_in filled x).laid ≡ 0 → PutsAndAsks x cookie filled c put c' → (offer_of w.writer.cell put.version c'.cpu.texts).laid ≡ 0
+  none_put cookie x w filled put c c' same none puts = subst (λ (k : ℕ). (offer_of k put.version c'.cpu.texts).laid ≡ 0) same.cell (ap (λ (o : Offer). o.laid) puts.puts.offers ∙ none)

@@ -1,0 +1,47 @@
+-- The parts of a box were laid in a slot with no box, and that was put.
+use Rattle.std.proofs.Common.{ℕ, List, Option, Some, length, map, set, sym, ap, ◌∙◌, subst, arith}
+use Rattle.std.proofs.lemmas.List.{length-set}
+use Rattle.parts.specs.declared.part.Part.{Part}
+use Rattle.boxes.specs.declared.rest.Rest.{Rest}
+use Rattle.boxes.specs.Insides.{stored_of, AreLaid}
+use Rattle.boxes.proofs.Keeping.{none_there, stored_set}
+use Rattle.boxes.proofs.Slots.{put_keeps, bare_slot}
+use Rattle.boxes.proofs.Putting.{same_trans, same_writer, puts_version, round_put, taken_same}
+use Rattle.boxes.proofs.writer.BoxWriter.put.Goals as goal
+
+pub lay_all-part-requires-clause-empty : goal.lay_all-part-requires-clause-empty
+lay_all-part-requires-clause-empty g c =
+    let none = none_there c.self.inside.rests c.in-Some.slot.slot c.args.self.now c.free_slot.new.self c.in-Some.slot (ap (λ z. z.stored) c.self.view_is) c.in-Some.ensures in
+    bare_slot c.in-Some.slot.slot c.self.inside.writer c.self.inside.rests c.in-Some.ensures.gives.1.low c.self.invariant.laid none
+
+pub keep_at-requires : goal.keep_at-requires
+keep_at-requires g c = let low = c.in-Some.ensures.gives.1.low in let is = c.number.ensures in omega (arith, low, is)
+
+pub invariant_of-self : goal.invariant_of-self
+invariant_of-self g c =
+    let i = c.self.invariant in
+    let part = c.freeze-deed.ensures.part in
+    let deed = ap (λ z. z.round) c.new.ensures ∙ sym part.0 in
+    let k = put_keeps c.in-Some.slot.slot c.self.inside.processors c.freeze-deed.result.1.round _ c.self.inside.writer c.lay_all-part.new.writer c.put_and_ask.new.self c.self.inside.rests (record { deed = c.new.result; part = c.lay_all-part.result }) i.eight c.in-Some.ensures.gives.1.low i.keys i.laid c.lay_all-part.ensures.lays c.put_and_ask.ensures.puts.puts.plan
+    (ap (λ (z : Part _). z.count) c.lay_all-part.ensures.rest) (ap (λ (z : Part _). z.round) c.lay_all-part.ensures.rest) deed in record {
+      eight = ap length c.keep_at.ensures ∙ (length-set c.self.inside.rests c.number.result (Some (record { deed = c.new.result; part = c.lay_all-part.result })) ∙ i.eight);
+      keys = k.0;
+      laid = subst (λ (l : List (Option (Rest _ _))). AreLaid c.put_and_ask.new.self l) (sym (c.keep_at.ensures ∙ ap (λ (x : ℕ). set c.self.inside.rests x (Some (record { deed = c.new.result; part = c.lay_all-part.result }))) c.number.ensures)) k.1;
+    }
+
+pub returns-clause-puts : goal.returns-clause-puts
+returns-clause-puts g c =
+    let part = c.freeze-deed.ensures.part in
+    let lays = c.lay_all-part.ensures.lays in
+    let some = c.self.invariant.keys.some in
+    let same = same_trans _ _ _ (taken_same _ _ _ _ _ c.in-Some.ensures (ap (λ z. z.writer) c.self.view_is)) (same_writer _ _ _ lays.same) in
+    let stored = ap (λ z. z.stored) c.self.view_is ∙ ap (λ z. z.stored) c.in-Some.ensures.rest in (
+      record { value = c.new.result.deed.value; heap = c.new.result.deed.heap; round = c.new.result.deed.round },
+      ap (λ z. z.value) c.new.ensures ∙ c.freeze-deed.ensures.deed.0,
+      ap (λ z. z.heap) c.new.ensures ∙ c.freeze-deed.ensures.deed.1,
+      record {
+        version = puts_version c.put_and_ask.result c.in-Some.slot c.args.self.now c.free_slot.new.self _ c.lay_all-part.new.writer c.args.cpu.now c.put_and_ask.new.cpu c.in-Some.ensures same c.put_and_ask.ensures.puts (ap (λ z. z.processors) c.self.view_is ∙ ap (λ z. z.processors) c.in-Some.ensures.rest) (ap (λ z. z.vault) c.self.view_is ∙ ap (λ z. z.vault) c.in-Some.ensures.rest);
+        stored = ap (map stored_of) c.keep_at.ensures ∙ (stored_set c.self.inside.rests c.number.result (Some (record { deed = c.new.result; part = c.lay_all-part.result })) ∙ (λ i. set (stored i) (c.number.ensures i) (Some (record { value = c.new.result.deed.value; heap = c.new.result.deed.heap; round = c.new.result.deed.round }))));
+        round = round_put c.put_and_ask.result c.new.result.deed.round c.in-Some.slot.slot c.args.self.now c.lay_all-part.new.writer c.put_and_ask.new.self c.args.cpu.now c.put_and_ask.new.cpu same (lays.round_is (omega (arith, some)) ∙ (part.0 ∙ sym (ap (λ z. z.round) c.new.ensures))) c.put_and_ask.ensures.puts;
+      },
+    )

@@ -1,0 +1,14 @@
+-- The deed of the current slot's box has its terms.
+use Rattle.std.proofs.Common.{◌≡◌, ℕ, ◌<◌, Some, None, length, get_or, sym, ap, ◌∙◌, arith}
+use Rattle.std.proofs.lemmas.List.{get_or_default}
+use Rattle.boxes.specs.Insides.{stored_of}
+use Rattle.boxes.proofs.Keeping.{stored_is}
+use Rattle.boxes.proofs.writer.BoxWriter.terms.Goals as goal
+
+pub returns-in-Some : goal.returns-in-Some
+returns-in-Some g c =
+    let low = c.current_slot.ensures.1 in
+    let eight = c.self.invariant.eight in
+    let lt : c.current_slot.result < length c.self.inside.rests = omega (arith, low, eight) in
+    let some : get_or c.self.inside.rests c.self.inside.writer.current None ≡ Some c.in-Some.rest = ap (λ (k : ℕ). get_or c.self.inside.rests k None) (sym c.current_slot.ensures.0) ∙ (get_or_default c.self.inside.rests c.current_slot.result None c.index-self-current_slot.result lt ∙ c.in-Some.is) in
+    rw (← c.self.view_is) (record { value = c.in-Some.rest.deed.deed.value; heap = c.in-Some.rest.deed.deed.heap; round = c.in-Some.rest.deed.deed.round }, stored_is c.self.inside.rests c.self.inside.writer.current ∙ ap stored_of some, c.of_deed.ensures.0, c.of_deed.ensures.1)

@@ -1,0 +1,34 @@
+-- What a section reads of a cell of boxes.
+use Rattle.std.specs.Prelude.{◌≡◌, ℕ, ◌≤◌, [], ◌∷◌, ◌++◌}
+use Rattle.onedom.specs.declared.event.Maker.TheVariants.{Processor}
+use Rattle.onedom.specs.declared.event.Event.TheVariants.{Find}
+use Rattle.onedom.specs.Histories.{version_of, IsBeginning}
+use Rattle.sections.specs.Views as sections
+use Rattle.sections.specs.Views.{ReadingView, FoundView}
+use Rattle.sections.specs.Calls.{IsSameCpu}
+use Rattle.sections.specs.Reads.{Finds}
+use Rattle.sections.specs.Loans.{CatchesUp}
+use Rattle.boxes.specs.Boxes.{BoxesView, PinView, IsPinOf}
+
+-- the section found this version of the cell, current in what was then seen, and no older than any that the processor had seen there. That is the one event that was made
+pub record FindsVersion (cell : ℕ) (r : ReadingView) (f : FoundView) (c c' : sections.CpuView) : Type 0 where
+  pub same : IsSameCpu c c'
+  pub since : IsBeginning c.seen c'.seen
+  pub mine : c'.mine ≡ c.mine ++ Find r.section cell f.slot f.version (Processor c.processor) ∷ []
+  pub not_older : version_of cell c.seen ≤ f.version
+  pub caught : sections.CpuView
+  pub at : sections.CpuView
+  pub finds : Finds cell r caught at f
+  pub catches : CatchesUp r f at c'
+
+-- and borrows its box
+pub record FindsBox {V : Type 0} (b : BoxesView) (r : ReadingView) (c c' : sections.CpuView) (p : PinView V) : Type 0 where
+  pub section : p.section ≡ r
+  pub finds : FindsVersion b.cell r p.found c c'
+  pub of : IsPinOf b p
+
+-- the section comes back. The version that it found had no box, or so many more were found than released on this processor that no part is left here
+pub record FindsNoBox (b : BoxesView) (r : ReadingView) (c c' : sections.CpuView) (back : ReadingView) : Type 0 where
+  pub section : back ≡ r
+  pub found : FoundView
+  pub finds : FindsVersion b.cell r found c c'

@@ -1,0 +1,19 @@
+//! Values of any type in a cell: `rcu_assign_pointer` and `srcu_dereference` for what lies in a box. Readers read it with
+//! no copy, and its writer gets the very box back once no section can read it any more.
+#![tactic(auto)]
+
+mod held;
+mod laying;
+mod loose;
+mod making;
+mod pin;
+mod readers;
+mod rest;
+mod showing;
+mod writer;
+
+pub use loose::LooseBoxWriter;
+pub use making::make;
+pub use pin::BoxPin;
+pub use readers::Boxes;
+pub use writer::BoxWriter;

@@ -1,0 +1,43 @@
+//! A box that a section found.
+ghost use Rattle.std.specs.Prelude.{◌≡◌};
+ghost use Rattle.sections.specs.Loans.{offer_found};
+
+use domain::{Lender, Loan, Reading};
+use parts::{Part, Terms};
+use std::marker::Model;
+
+/// A box that a section found, with that section: it stays open, and the box where it is. A pin can't be dropped:
+/// [`Boxes::release`](crate::Boxes::release) gives its section back.
+pub struct BoxPin<V, R: Lender = Reading> {
+    pub(crate) loan: Loan<R>,
+    pub(crate) part: Part<V>,
+}
+
+impl<V, R: Lender> Model for BoxPin<V, R> {
+    ghost use Rattle.boxes.specs.Boxes.{PinView};
+
+    ghost Value = { PinView V };
+
+    ghost use Rattle.boxes.specs.Insides.{view_of_pin, IsPin};
+
+    ghost view = { view_of_pin };
+
+    ghost invariant = { IsPin };
+}
+
+impl<V, R: Lender> BoxPin<V, R> {
+    /// The value in the box, however long the section has slept and whatever was put since. It makes no step.
+    pub fn get(&self) -> &V
+        ensures { result.now ≡ self.now.value }
+    {
+        self.part.get()
+    }
+
+    /// A pin of a version of these terms reads their value. It does nothing: contracts learn it from the call.
+    pub fn agree(&self, terms: &Terms<V>)
+        requires { terms.now.round ≡ (offer_found self.now.found).round }
+        ensures { self.now.value ≡ terms.now.value }
+    {
+        terms.agree(&self.part);
+    }
+}

@@ -1,0 +1,93 @@
+//! What reads the boxes of a cell.
+ghost use Rattle.std.specs.Prelude.{◌≡◌, IfOk, MatchResult};
+ghost use Rattle.sections.specs.Loans.{CatchesUp};
+ghost use Rattle.domain.specs.Views.{Stays, with_cpu};
+ghost use Rattle.boxes.specs.Boxes.{IsCellOf, IsPinOf};
+ghost use Rattle.boxes.specs.Reading.{FindsBox, FindsNoBox};
+
+use crate::pin::BoxPin;
+use domain::{Cpu, Found, Reading};
+use std::alloc::{AllocError, Allocator, Global};
+use std::marker::Model;
+use std::sync::Arc;
+use vault::Vault;
+
+/// Reads the boxes of one cell, on any processor of its domain. Each thread has its own ([`Boxes::another`]).
+#[derive(Drop)]
+pub struct Boxes<V, A: Allocator = Global> {
+    /// Where the parts lie that readers borrow.
+    pub(crate) vault: Arc<Vault<V, A>, A>,
+    pub(crate) processors: usize,
+    pub(crate) cell: usize,
+    /// Whoever has seen as much knows that all keys of the vault were laid in the cell.
+    pub(crate) first: Found,
+}
+
+impl<V, A: Allocator> Model for Boxes<V, A> {
+    ghost use Rattle.boxes.specs.Boxes.{BoxesView};
+
+    ghost Value = { BoxesView };
+
+    ghost use Rattle.boxes.specs.Insides.{view_of_boxes, IsBoxes};
+
+    ghost view = { view_of_boxes };
+
+    ghost invariant = { IsBoxes };
+}
+
+impl<V: Drop, A: Allocator> Boxes<V, A> {
+    /// The same for another thread.
+    pub fn another<J, B: Allocator>(&mut self, cpu: &Cpu<J, B>) -> Result<Boxes<V, A>, AllocError>
+        requires cell { IsCellOf cpu.now.cpu self.old }
+        ensures another { IfOk result (λ b. b ≡ self.old) }
+        ensures same { self.new ≡ self.old }
+    {
+        let vault = Arc::try_clone(&self.vault)?;
+        Ok(Boxes {
+            vault,
+            processors: self.processors,
+            cell: self.cell,
+            first: cpu.copy_found(&mut self.first),
+        })
+    }
+
+    /// Finds the box that is there (`srcu_dereference`), in the reading's section, which the pin then owns. The reading
+    /// comes back where there is none. It takes no memory and does not wait.
+    pub fn find<J, B: Allocator>(
+        &mut self,
+        cpu: &mut Cpu<J, B>,
+        reading: Reading,
+    ) -> Result<BoxPin<V>, Reading>
+        requires here { reading.domain ≡ cpu.old.cpu.domain }
+        requires cell { IsCellOf cpu.old.cpu self.old }
+        ensures finds { MatchResult result (λ p. FindsBox self.old reading cpu.old.cpu cpu.new.cpu p) (λ r. FindsNoBox self.old reading cpu.old.cpu cpu.new.cpu r) }
+        ensures same { self.new ≡ self.old }
+        ensures rest { cpu.new ≡ with_cpu cpu.new.cpu cpu.old }
+        ensures stays { Stays cpu.old cpu.new }
+    {
+        cpu.recall(&mut self.first);
+        let (reading, found) = cpu.find_owned(reading, self.cell);
+        match cpu.draw(reading, found, &*self.vault) {
+            Ok(drawn) => {
+                let (loan, part) = drawn;
+                Ok(BoxPin { loan, part })
+            }
+            Err(reading) => Err(reading),
+        }
+    }
+
+    /// Gives the reading of a pin back, on any processor of the domain. The box may then come back to its writer, after a
+    /// grace period. It takes no memory and does not wait.
+    pub fn release<J, B: Allocator>(&self, cpu: &mut Cpu<J, B>, pin: BoxPin<V>) -> Reading
+        requires here { pin.section.domain ≡ cpu.old.cpu.domain }
+        requires cell { IsCellOf cpu.old.cpu self.now }
+        requires pin { IsPinOf self.now pin }
+        ensures catches { CatchesUp pin.section pin.found cpu.old.cpu cpu.new.cpu }
+        ensures reading { result ≡ pin.section }
+        ensures rest { cpu.new ≡ with_cpu cpu.new.cpu cpu.old }
+        ensures stays { Stays cpu.old cpu.new }
+    {
+        let BoxPin { loan, part } = pin;
+        cpu.pay(loan, part, &*self.vault)
+    }
+}

@@ -1,0 +1,43 @@
+//! A box is shown to a closure, in a section of its own.
+ghost use Rattle.std.specs.Prelude.{◌≡◌, MatchResult};
+ghost use Rattle.sections.specs.Calls.{LooksInVain};
+ghost use Rattle.domain.specs.Views.{Stays, with_cpu};
+ghost use Rattle.boxes.specs.Boxes.{IsCellOf};
+ghost use Rattle.boxes.specs.Showing.{ShowsBox};
+
+use crate::readers::Boxes;
+use domain::{Cpu, Exhausted};
+use std::alloc::Allocator;
+
+impl<V: Drop, A: Allocator> Boxes<V, A> {
+    /// Shows the value that is there to a closure, in a section of its own, and returns what the closure returns: None where
+    /// there is no box. `Exhausted` where no section may begin. It takes no memory and does not wait.
+    pub fn read<J, B: Allocator, T, F: FnOnce(&V) -> T>(
+        &mut self,
+        cpu: &mut Cpu<J, B>,
+        show: F,
+    ) -> Result<Option<T>, Exhausted>
+        requires cell { IsCellOf cpu.old.cpu self.old }
+        requires may { F.IsAlwaysCallable show }
+        ensures shows { MatchResult result
+            (λ shown. ShowsBox F.FnOnce show self.old cpu.old.cpu cpu.new.cpu shown)
+            (λ _. LooksInVain cpu.old.cpu cpu.new.cpu) }
+        ensures same { self.new ≡ self.old }
+        ensures rest { cpu.new ≡ with_cpu cpu.new.cpu cpu.old }
+        ensures stays { Stays cpu.old cpu.new }
+    {
+        let reading = cpu.read_lock()?;
+        match self.find(cpu, reading) {
+            Ok(pin) => {
+                let shown = show(pin.get());
+                let reading = self.release(cpu, pin);
+                cpu.read_unlock(reading);
+                Ok(Some(shown))
+            }
+            Err(reading) => {
+                cpu.read_unlock(reading);
+                Ok(None)
+            }
+        }
+    }
+}

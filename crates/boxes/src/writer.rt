@@ -1,0 +1,162 @@
+//! The writer of a cell of boxes.
+ghost use Rattle.std.specs.Prelude.{◌≡◌, ◌<◌, ◌≤◌, Some, None, MatchOption, MatchResult};
+ghost use Rattle.std_alloc.specs.Box.{box_allocator};
+ghost use Rattle.domain.specs.Views.{IsOf, Stays, with_cpu};
+ghost use Rattle.boxes.specs.Boxes.{Stored, IsCellIn, IsCellOf, cell_of, stored_at};
+ghost use Rattle.boxes.specs.Writing.{NoneFree, PutsBox, PutsNone, ComesBack, NoneComesBack};
+
+use crate::laying::lay_all;
+use crate::rest::{Rest, keep_at};
+use domain::{Cpu, Domain, Writer};
+use parts::{LooseDeed, Terms, freeze};
+use std::alloc::{Allocator, Global};
+use std::marker::Model;
+use std::sync::Arc;
+use vault::Vault;
+
+mod slots;
+
+/// The writer of a cell of boxes: it alone puts boxes there, and has them back. It can't be dropped, so that no box is lost
+/// unseen: spend it by [`BoxWriter::abandon`]. Contracts see the cell's writer, and which boxes have yet to come back.
+pub struct BoxWriter<V, A: Allocator = Global> {
+    pub(crate) writer: Writer,
+    pub(crate) vault: Arc<Vault<V, A>, A>,
+    pub(crate) processors: usize,
+    /// Of each slot, what is left of the box that was put there, until that comes back.
+    pub(crate) rests: [Option<Rest<V, A>>; 8],
+}
+
+impl<V, A: Allocator> Model for BoxWriter<V, A> {
+    ghost use Rattle.boxes.specs.Boxes.{BoxWriterView};
+
+    ghost Value = { BoxWriterView V A };
+
+    ghost use Rattle.boxes.specs.Insides.{view_of_writer, IsBoxWriter};
+
+    ghost view = { view_of_writer };
+
+    ghost invariant = { IsBoxWriter };
+}
+
+impl<V: Drop, A: Allocator> BoxWriter<V, A> {
+    /// Puts a box as the next version (`rcu_assign_pointer`), and asks for the grace period after which no section reads the one
+    /// that was there: the answer is the number of its cookie. The box is handed back where no slot is free. It takes no
+    /// memory and does not wait.
+    pub fn put<J, B: Allocator>(
+        &mut self,
+        domain: &Domain<J, B>,
+        cpu: &mut Cpu<J, B>,
+        whole: Box<V, A>,
+    ) -> Result<u64, Box<V, A>>
+        requires domain { IsOf domain.now cpu.old }
+        requires cell { IsCellIn domain.now (cell_of self.old) }
+        ensures here { IsOf domain.now cpu.new }
+        ensures same { cell_of self.new ≡ cell_of self.old }
+        ensures puts { MatchResult result
+            (λ cookie. (s : Stored V A) × (s.value ≡ whole.value) × (s.heap ≡ box_allocator whole) × PutsBox s cookie self.old cpu.old self.new cpu.new)
+            (λ back. (back ≡ whole) × NoneFree self.old × (self.new ≡ self.old) × (cpu.new ≡ cpu.old)) }
+    {
+        let Some(slot) = self.free_slot() else {
+            return Err(whole);
+        };
+        let (deed, all) = freeze(whole);
+        let part = lay_all(
+            &mut self.writer,
+            &*cpu,
+            &slot,
+            &*self.vault,
+            self.processors,
+            all,
+        );
+        let rest = Rest {
+            deed: LooseDeed::new(deed),
+            part,
+        };
+        keep_at(&mut self.rests, slot.number(), rest);
+        Ok(self.writer.put_and_ask(domain, cpu, slot))
+    }
+
+    /// Puts a version with no box, so that the last one can come back. The answer is as that of [`BoxWriter::put`]; None
+    /// where no slot is free.
+    pub fn retire<J, B: Allocator>(
+        &mut self,
+        domain: &Domain<J, B>,
+        cpu: &mut Cpu<J, B>,
+    ) -> Option<u64>
+        requires domain { IsOf domain.now cpu.old }
+        requires cell { IsCellIn domain.now (cell_of self.old) }
+        ensures here { IsOf domain.now cpu.new }
+        ensures same { cell_of self.new ≡ cell_of self.old }
+        ensures puts { MatchOption result
+            (NoneFree self.old × (self.new ≡ self.old) × (cpu.new ≡ cpu.old))
+            (λ cookie. PutsNone cookie self.old cpu.old self.new cpu.new) }
+    {
+        let Some(slot) = self.free_slot() else {
+            return None;
+        };
+        Some(self.writer.put_and_ask(domain, cpu, slot))
+    }
+
+    /// A box that no section can read any more, after a full grace period. It asks after the cookie of each retired slot,
+    /// once. None where no such box is left.
+    pub fn reclaim<J, B: Allocator>(&mut self, cpu: &mut Cpu<J, B>) -> Option<Box<V, A>>
+        requires cell { IsCellOf cpu.old.cpu (cell_of self.old) }
+        ensures back { MatchOption result
+            (NoneComesBack self.old cpu.old.cpu self.new cpu.new.cpu)
+            (λ whole. (s : Stored V A) × (whole.value ≡ s.value) × (box_allocator whole ≡ s.heap) × ComesBack s self.old cpu.old.cpu self.new cpu.new.cpu) }
+        ensures same { cell_of self.new ≡ cell_of self.old }
+        ensures rest { cpu.new ≡ with_cpu cpu.new.cpu cpu.old }
+        ensures stays { Stays cpu.old cpu.new }
+    {
+        self.writer.reclaim(cpu);
+        for slot in 0..self.writer.slots() {
+            match self.take_back(&*cpu, slot) {
+                Some(whole) => return Some(whole),
+                None => {}
+            }
+        }
+        None
+    }
+
+    /// Puts a box as [`BoxWriter::put`] does, and has an older one back first, if one can come back.
+    pub fn replace<J, B: Allocator>(
+        &mut self,
+        domain: &Domain<J, B>,
+        cpu: &mut Cpu<J, B>,
+        whole: Box<V, A>,
+    ) -> Result<Option<Box<V, A>>, Box<V, A>>
+        requires domain { IsOf domain.now cpu.old }
+        requires cell { IsCellIn domain.now (cell_of self.old) }
+        ensures here { IsOf domain.now cpu.new }
+        ensures same { cell_of self.new ≡ cell_of self.old }
+    {
+        let old = self.reclaim(cpu);
+        match self.put(domain, cpu, whole) {
+            Ok(_) => Ok(old),
+            Err(whole) => Err(whole),
+        }
+    }
+
+    /// What pins of the current version read ([`BoxPin::agree`](crate::BoxPin::agree)), as knowledge to hand about. None where
+    /// it has no box.
+    pub fn terms(&self) -> Option<Terms<V>>
+        ensures { MatchOption result
+            (stored_at self.now self.now.writer.current ≡ None)
+            (λ t. (s : Stored V A) × (stored_at self.now self.now.writer.current ≡ Some s) × (t.value ≡ s.value) × (t.round ≡ s.round)) }
+    {
+        match &self.rests[self.writer.current_slot()] {
+            Some(rest) => Some(Terms::of_deed(&rest.deed.deed)),
+            None => None,
+        }
+    }
+
+    /// Gives up all boxes that did not come back. They are never freed, and whoever reads one reads on.
+    pub fn abandon(self) {
+        let BoxWriter {
+            writer: _,
+            vault: _,
+            processors: _,
+            rests: _,
+        } = self;
+    }
+}

@@ -1,0 +1,5 @@
+//! The tests of boxes.
+#![tactic(auto)]
+
+#[cfg(test)]
+mod tests;

@@ -1,0 +1,144 @@
+//! Parts of boxes on a processor, each call as that of `sections`.
+ghost use Rattle.std.specs.Prelude.{◌≡◌, ◌<◌, MatchResult};
+ghost use Rattle.sections.specs.Words.{cells_in};
+ghost use Rattle.sections.specs.Calls.{Hears};
+ghost use Rattle.sections.specs.Shelves.{IsStart, IsKnown};
+ghost use Rattle.sections.specs.Reads.{Finds, IsPinned};
+ghost use Rattle.sections.specs.Loans.{CatchesUp, OffersBy, IsPartOf};
+ghost use Rattle.sections.specs.Recalling.{current_in};
+ghost use Rattle.domain.specs.Views.{Stays, with_cpu};
+ghost use Rattle.domain.specs.Acting.{loads, finds, ActsAs};
+
+use super::Cpu;
+use crate::writer::Writer;
+use parts::Part;
+use sections::{Found, Held, Loan, Reading};
+use std::alloc::Allocator;
+use vault::Vault;
+
+impl<J, A: Allocator> Cpu<J, A> {
+    /// As [`Cpu::find`], in a reading that comes back with what it found.
+    pub fn find_owned(&mut self, reading: Reading, cell: usize) -> (Reading, Found)
+        requires here { reading.domain ≡ self.old.cpu.domain }
+        requires cell { cell < cells_in self.old.cpu.domain }
+        ensures finds { Finds cell reading self.old.cpu self.new.cpu result.1 }
+        ensures pinned { IsPinned reading result.1 }
+        ensures reading { result.0 ≡ reading }
+        ensures rest { self.new ≡ with_cpu self.new.cpu self.old }
+        ensures stays { Stays self.old self.new }
+        ensures acts { ActsAs (finds reading.section cell result.1) self.old self.new }
+    {
+        self.cpu.find_owned(reading, cell)
+    }
+
+    /// Draws a part of the box of the version that the reading found, from this processor's stock. While the part is out
+    /// the box stays where it is, and the section stays open. The reading comes back where fewer than two parts are left
+    /// here.
+    pub fn draw<T: Drop, B: Allocator>(
+        &mut self,
+        reading: Reading,
+        found: Found,
+        vault: &Vault<T, B>,
+    ) -> Result<(Loan<Reading>, Part<T>), Reading>
+        requires here { reading.domain ≡ self.old.cpu.domain }
+        requires pinned { IsPinned reading found }
+        requires vault { OffersBy self.old.cpu.processors vault.now found }
+        ensures catches { CatchesUp reading found self.old.cpu self.new.cpu }
+        ensures lends { MatchResult result (λ l. (l.0 ≡ record { section = reading; found = found }) × IsPartOf l.1 found) (λ r. r ≡ reading) }
+        ensures rest { self.new ≡ with_cpu self.new.cpu self.old }
+        ensures stays { Stays self.old self.new }
+        ensures acts { ActsAs loads self.old self.new }
+    {
+        self.cpu.draw(reading, found, vault)
+    }
+
+    /// Pays the part of a loan into this processor's stock, wherever it was drawn. The reading comes back as it was.
+    pub fn pay<T: Drop, B: Allocator>(
+        &mut self,
+        loan: Loan<Reading>,
+        part: Part<T>,
+        vault: &Vault<T, B>,
+    ) -> Reading
+        requires here { loan.section.domain ≡ self.old.cpu.domain }
+        requires vault { OffersBy self.old.cpu.processors vault.now loan.found }
+        requires part { IsPartOf part loan.found }
+        ensures catches { CatchesUp loan.section loan.found self.old.cpu self.new.cpu }
+        ensures reading { result ≡ loan.section }
+        ensures rest { self.new ≡ with_cpu self.new.cpu self.old }
+        ensures stays { Stays self.old self.new }
+        ensures acts { ActsAs loads self.old self.new }
+    {
+        self.cpu.pay(loan, part, vault)
+    }
+
+    /// As [`Cpu::draw`], with a held section.
+    pub fn draw_held<T: Drop, B: Allocator>(
+        &mut self,
+        held: Held,
+        found: Found,
+        vault: &Vault<T, B>,
+    ) -> Result<(Loan<Held>, Part<T>), Held>
+        requires here { held.domain ≡ self.old.cpu.domain }
+        requires pinned { IsPinned held found }
+        requires vault { OffersBy self.old.cpu.processors vault.now found }
+        ensures catches { CatchesUp held found self.old.cpu self.new.cpu }
+        ensures lends { MatchResult result (λ l. (l.0 ≡ record { section = held; found = found }) × IsPartOf l.1 found) (λ h. h ≡ held) }
+        ensures rest { self.new ≡ with_cpu self.new.cpu self.old }
+        ensures stays { Stays self.old self.new }
+        ensures acts { ActsAs loads self.old self.new }
+    {
+        self.cpu.draw_held(held, found, vault)
+    }
+
+    /// As [`Cpu::pay`], of a held section's loan, which may have come from another thread.
+    pub fn pay_held<T: Drop, B: Allocator>(
+        &mut self,
+        loan: Loan<Held>,
+        part: Part<T>,
+        vault: &Vault<T, B>,
+    ) -> Held
+        requires here { loan.section.domain ≡ self.old.cpu.domain }
+        requires vault { OffersBy self.old.cpu.processors vault.now loan.found }
+        requires part { IsPartOf part loan.found }
+        ensures catches { CatchesUp loan.section loan.found self.old.cpu self.new.cpu }
+        ensures held { result ≡ loan.section }
+        ensures rest { self.new ≡ with_cpu self.new.cpu self.old }
+        ensures stays { Stays self.old self.new }
+        ensures acts { ActsAs loads self.old self.new }
+    {
+        self.cpu.pay_held(loan, part, vault)
+    }
+
+    /// One load of the index word, after which this processor has seen all that was seen when the version was found.
+    pub fn recall(&mut self, found: &mut Found)
+        requires here { found.old.domain ≡ self.old.cpu.domain }
+        ensures hears { Hears self.old.cpu found.old.seen found.old.changes self.new.cpu }
+        ensures texts { IsStart found.old.texts self.new.cpu.texts }
+        ensures same { found.new ≡ found.old }
+        ensures rest { self.new ≡ with_cpu self.new.cpu self.old }
+        ensures stays { Stays self.old self.new }
+        ensures acts { ActsAs loads self.old self.new }
+    {
+        self.cpu.recall(found);
+    }
+
+    /// A second one like this. No step is made.
+    pub fn copy_found(&self, found: &mut Found) -> Found
+        requires here { found.old.domain ≡ self.now.cpu.domain }
+        ensures copy { result ≡ found.old }
+        ensures same { found.new ≡ found.old }
+    {
+        self.cpu.copy_found(found)
+    }
+
+    /// The version that is current in the writer's cell, as this processor knows it, which has seen it put. No step is made.
+    pub fn current(&mut self, writer: &Writer) -> Found
+        requires here { writer.now.domain ≡ self.old.cpu.domain }
+        requires known { IsKnown writer.now.cell writer.now.version self.old.cpu.texts }
+        ensures found { result ≡ current_in writer.now self.old.cpu }
+        ensures inside { writer.now.cell < cells_in writer.now.domain }
+        ensures same { self.new ≡ self.old }
+    {
+        self.cpu.current(&writer.writer)
+    }
+}
