@@ -7,8 +7,6 @@ mod lazy;
 mod line;
 mod outlet;
 mod plays;
-#[cfg(test)]
-mod tests;
 mod view;
 
 pub use inlet::Inlet;

@@ -33,7 +33,7 @@ impl<T: Item<K>, K, A: Allocator> Model for Outlet<T, K, A> {
 impl<T: Item<K> + Drop, K, A: Allocator> Outlet<T, K, A> {
     /// Takes out the value that was pushed first of those that are left. `None` where nothing is there. It waits while the value
     /// at the front is being pushed.
-    pub(crate) fn pop<R: Wait>(&mut self, rt: &R) -> Option<T>
+    pub fn pop<R: Wait>(&mut self, rt: &R) -> Option<T>
         ensures { MatchOption result (self.new ≡ self.old) (λ item. Pops T.follows self.old item self.new) }
     {
         self.line

@@ -3,8 +3,6 @@
 
 mod handover;
 mod keep;
-#[cfg(test)]
-mod tests;
 
 pub use handover::{Fitting, Giver, Handover};
 pub use keep::{Keep, Keyed, Loan};

@@ -2,7 +2,6 @@
 #![tactic(auto)]
 
 mod error;
-pub mod fakes;
 mod line;
 mod name;
 mod output;

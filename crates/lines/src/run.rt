@@ -6,8 +6,6 @@ ghost use Rattle.lines.specs.Lines.{lines_of};
 ghost use Rattle.lines.specs.Runs.{EndsEarly, IsRun};
 
 mod runner;
-#[cfg(test)]
-mod tests;
 
 use crate::error::{Outcome, RunError};
 use runner::Runner;

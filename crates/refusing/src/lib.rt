@@ -1,5 +1,7 @@
-//! An allocator for tests: it refuses one allocation, and counts those that are asked for.
+//! For tests: an allocator that refuses one allocation and counts those that are asked for, and readers and writers that fail.
 #![tactic(auto)]
+
+pub mod fakes;
 
 use std::alloc::{AllocError, Allocator};
 use std::cell::Cell;

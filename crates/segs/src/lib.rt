@@ -5,7 +5,5 @@
 
 mod seg_list;
 mod segment;
-#[cfg(test)]
-mod tests;
 
 pub use seg_list::{Memory, SegList};

@@ -4,8 +4,6 @@
 
 mod shelf;
 mod stock;
-#[cfg(test)]
-mod tests;
 mod trail;
 mod view;
 

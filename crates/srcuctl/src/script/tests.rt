@@ -3,8 +3,8 @@ ghost use Rattle.sections.specs.Limits.{AreInRange};
 
 use super::*;
 use crate::handler::run_told;
-use lines::fakes::{Reader, Writer};
 use refusing::Refusing;
+use refusing::fakes::{Reader, Writer};
 use std::alloc::{AllocError, Global};
 use std::process::Abort;
 use std::test::Fail;

@@ -1,6 +1,6 @@
 ghost use Rattle.std.specs.Prelude.{◌≡◌, length, Some, IfOk};
 
-use super::*;
+use intake::{Inlet, Item, LazyInlet, LazyOutlet, Outlet, Refused, open, open_lazily};
 use linked_list_allocator::LocalHeap;
 use std::alloc::Allocator;
 use std::process::Abort;

@@ -1,6 +1,6 @@
 -- As many were taken out as the count says.
 use Rattle.std.specs.Prelude.{◌≡◌, ◌≤◌, length, Some}
-use Rattle.intake.proofs.tests.take_many.Given as goal
+use Rattle.intake_tests.proofs.tests.take_many.Given as goal
 
 abbrev pub invariant-loop : goal.invariant-loop
 invariant-loop g l = record {

@@ -1,6 +1,6 @@
 -- As many were pushed as the count says.
 use Rattle.std.specs.Prelude.{◌≡◌, length, Some}
-use Rattle.intake.proofs.tests.push_many.Given as goal
+use Rattle.intake_tests.proofs.tests.push_many.Given as goal
 
 abbrev pub invariant-loop-pushed : goal.invariant-loop-pushed
 invariant-loop-pushed g l = record {

@@ -1,5 +1,5 @@
-use super::*;
 use linked_list_allocator::LocalHeap;
+use segs::SegList;
 use std::alloc::AllocError;
 use std::process::Abort;
 use std::test::Fail;

@@ -1,7 +1,7 @@
 use Rattle.std.proofs.Common.{◌≡◌, ◌+◌, ℕ, List, length, ap, ◌∙◌}
-use Rattle.intake.specs.declared.tests.Numbered.{Numbered}
+use Rattle.intake_tests.specs.declared.tests.Numbered.{Numbered}
 use Rattle.intake.proofs.Keeping.{followed}
-use Rattle.intake.proofs.tests.take_lazily.Goals as goal
+use Rattle.intake_tests.proofs.tests.take_lazily.Goals as goal
 
 pub prove-unreachable-requires : goal.prove-unreachable-requires
 prove-unreachable-requires g c = c.if-prove.true (followed (λ (key : ℕ) (front : List Numbered) (x : Numbered). x.number ≡ key + length front) 7 _ _ _ c.loop-taken.invariant.key c.wait-number.ensures.follows_is ∙ ap (λ n. 7 + n) c.loop-taken.invariant.taken)

@@ -1,9 +1,14 @@
 ghost use Rattle.std.specs.Prelude.{◌≡◌, is_none};
 
-use super::*;
-use crate::fakes::{Reader, Writer};
-use std::alloc::Global;
+use lines::{Answers, Outcome, RunError, run_lines};
+use refusing::fakes::{Reader, Writer};
+use std::alloc::{AllocError, Global};
+use std::io::{Read, Write};
+use std::sync::Wait;
 use std::test::Fail;
+
+/// How many bytes `run_lines` reads at once.
+const CHUNK: usize = 4096;
 
 /// Replies the number and the length of a line. A line that is empty or begins with `#` is skipped, one that is no text
 /// is faulty, and the line of the number `no_memory` finds none.

@@ -1,11 +1,11 @@
 ghost use Rattle.std.specs.Prelude.{◌≡◌, ◌%◌, All, IfOk};
 
-use super::*;
 use linked_list_allocator::LocalHeap;
 use std::alloc::{AllocError, Allocator, Global};
 use std::sync::Wait;
 use std::test::Fail;
 use std::thread::{join, yield_now};
+use trail::{Lies, Stock, Stocked, Trail};
 
 /// A number that has a parity.
 #[derive(Drop)]

@@ -1,0 +1,5 @@
+//! The tests of intake.
+#![tactic(auto)]
+
+#[cfg(test)]
+mod tests;

@@ -1,0 +1,5 @@
+//! The tests of keep.
+#![tactic(auto)]
+
+#[cfg(test)]
+mod tests;

@@ -1,0 +1,5 @@
+//! The tests of lines.
+#![tactic(auto)]
+
+#[cfg(test)]
+mod tests;

@@ -1,0 +1,3 @@
+mod endings;
+mod runs;
+mod words;

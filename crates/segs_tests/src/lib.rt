@@ -1,0 +1,5 @@
+//! The tests of segs.
+#![tactic(auto)]
+
+#[cfg(test)]
+mod tests;

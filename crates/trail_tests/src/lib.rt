@@ -1,0 +1,5 @@
+//! The tests of trail.
+#![tactic(auto)]
+
+#[cfg(test)]
+mod tests;
