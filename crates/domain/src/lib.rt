@@ -14,6 +14,7 @@ mod writer;
 pub use calls::{Batch, CallRefusal, Entry, Memory, Receipt, TakeRefusal, Ticket};
 pub use cpu::Cpu;
 pub use domain::Domain;
+pub use domain::bell::Heard;
 pub use domain::cleanup::{InUse, Totals};
 pub use domain::waiting::limited::WaitRefusal;
 pub use limit::TimedOut;

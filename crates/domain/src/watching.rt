@@ -60,7 +60,7 @@ pub struct Counters<A: Allocator = Global> {
 
 impl<A: Allocator> Counters<A> {
     /// The two counters of a processor. None where the domain has no such processor.
-    pub fn pair(&self, processor: usize) -> Option<Pair>
+    pub fn pair(&self, processor: u16) -> Option<Pair>
         ensures { result ≡ pair_at self.now processor }
     {
         self.columns().pair(processor)

@@ -1,9 +1,11 @@
 mod alone;
 mod barriers;
+mod bell;
 mod calling;
 mod cleanup;
 mod driving;
 mod jobs;
+mod limited;
 mod sets;
 mod threads;
 mod turns;

@@ -257,7 +257,7 @@ fn serve_watched<R: Wait, J: Drop, A: Allocator + Copy, F: FnMut(J), W: Watcher<
     // Where it ends early, its last round's turn of the engine found that no more may start, and no job was run in it.
     ensures vain { IfErr result (λ ended. (last : F) × EndsInVain (λ p x q. F.step p x tt q) domain.now work cpu.old ended.0 last cpu.new) }
 
-    // It was told to stop, and each job is finished whose queueing the one who told it had seen.
+    // It was told to stop. Where a processor told it, each job is finished whose queueing that one had seen.
     ensures told { IfOk result (λ stopped. IsServed stop.now stopped.told cpu.new.calls.seen) }
 
     // So is each one whose queueing it had seen itself, as a barrier was started in the call, which is done.
@@ -287,14 +287,15 @@ fn serve_watched<R: Wait, J: Drop, A: Allocator + Copy, F: FnMut(J), W: Watcher<
 }
 
 /// Carries grace periods and runs callbacks until it is told to stop, and then until each job is finished whose queueing had
-/// been seen by whoever told it, or by the driver itself (`srcu_advance_state`, `srcu_invoke_callbacks`). A round is one turn
-/// of the engine and one look at each processor's list: what is ready there, at most eight jobs, is taken out, each job is
-/// handed to `work`, the first one first, and the batch is finished. After a round that found nothing to do it yields, and
-/// later sleeps: a 128th of what it slept before, from 10 microseconds to a millisecond, with two looks after each sleep.
+/// been seen by the processor that told it (`give`), or by its own before the call (`srcu_advance_state`,
+/// `srcu_invoke_callbacks`). A sign without a processor (`give_alone`) adds none. A round is one turn of the engine and one
+/// look at each processor's list: what is ready there, at most eight jobs, is taken out, each job is handed to `work`, the
+/// first one first, and the batch is finished. After a round that found nothing to do it yields, and later sleeps: a 128th
+/// of what it slept before, from 10 microseconds to a millisecond, with two looks after each sleep.
 ///
 /// Several threads may do so in one domain, each with a processor of its own: where one has the engine or a batch, the
-/// others go on. A section that stays open holds it up, and so does a batch that somebody else took and keeps. Where there is
-/// no memory for a barrier of its own, it makes rounds until there is.
+/// others go on. A section that stays open holds it up, and so does a batch that somebody else took and keeps. Where there
+/// is no memory for a barrier of its own, it makes rounds until there is.
 ///
 /// Answers how many grace periods it ended and how many jobs it ran, also where it ends early, as no more grace periods may
 /// start. Then no batch of it is out, and jobs may be left.
@@ -321,7 +322,7 @@ pub fn serve<R: Wait, J: Drop, A: Allocator + Copy, F: FnMut(J)>(
     // Where it ends early, its last round's turn of the engine found that no more may start, and no job was run in it.
     ensures vain { IfErr result (λ ended. (last : F) × EndsInVain (λ p x q. F.step p x tt q) domain.now work cpu.old ended.0 last cpu.new) }
 
-    // It was told to stop, and each job is finished whose queueing the one who told it had seen.
+    // It was told to stop. Where a processor told it, each job is finished whose queueing that one had seen.
     ensures told { IfOk result (λ stopped. IsServed stop.now stopped.told cpu.new.calls.seen) }
 
     // So is each one whose queueing it had seen itself, as a barrier was started in the call, which is done.
@@ -366,7 +367,7 @@ pub fn serve_with<
     // Where it ends early, its last round's turn of the engine found that no more may start, and no job was run in it.
     ensures vain { IfErr result (λ ended. (last : F) × EndsInVain (λ p x q. F.step p x tt q) domain.now work cpu.old ended.0 last cpu.new) }
 
-    // It was told to stop, and each job is finished whose queueing the one who told it had seen.
+    // It was told to stop. Where a processor told it, each job is finished whose queueing that one had seen.
     ensures told { IfOk result (λ stopped. IsServed stop.now stopped.told cpu.new.calls.seen) }
 
     // So is each one whose queueing it had seen itself, as a barrier was started in the call, which is done.

@@ -1,6 +1,6 @@
 //! Pauses of a driver that has nothing to do.
 use crate::stop::Stop;
-use domain::Domain;
+use domain::{Domain, Heard};
 use std::alloc::Allocator;
 use std::sync::Wait;
 use std::sync::atomic::AtomicU64;
@@ -32,8 +32,8 @@ pub struct Pause {
     yields: u32,
     /// How long the sleeps were together, in microseconds.
     slept: u64,
-    /// Whether the driver has said that it is about to sleep until somebody asks, and looks for the last time.
-    listens: bool,
+    /// What the driver heard when it said that it is about to sleep until somebody asks. It looks for the last time.
+    heard: Option<Heard>,
 }
 
 impl Pause {
@@ -41,7 +41,7 @@ impl Pause {
         Pause {
             yields: YIELDS,
             slept: 0,
-            listens: false,
+            heard: None,
         }
     }
 
@@ -52,7 +52,7 @@ impl Pause {
 
     /// How long the next sleep is, if it is one.
     fn next(&mut self) -> Option<Duration> {
-        self.listens = false;
+        self.heard = None;
         if self.yields > 0 {
             self.yields -= 1;
             return None;
@@ -83,12 +83,12 @@ impl Pause {
     /// Sleeps until somebody asks for a grace period, or the sign is given. The first time it only says so, and one more
     /// round looks: what was asked since the round before rang for no one, and the driver would sleep on.
     pub fn wait_for_asking<R: Wait, J, A: Allocator>(&mut self, rt: &R, domain: &Domain<J, A>) {
-        if self.listens {
-            domain.sleep(rt);
-            self.reset();
-        } else {
-            domain.listen();
-            self.listens = true;
+        match self.heard {
+            Some(heard) => {
+                domain.sleep(rt, heard);
+                self.reset();
+            }
+            None => self.heard = Some(domain.listen()),
         }
     }
 }

@@ -237,7 +237,7 @@ fn drive_until_told<R: Wait + Clock + Threads + AllocGlobal + Sync>(
     Ok(drive_beside(rt, &domain, &pool, &stop))
 }
 
-/// Would catch a driver that does nothing until it is told to stop, and one that sleeps on.
+/// Would catch a driver that leaves jobs when it is told to stop, and one that sleeps on.
 #[test]
 fn told_while_it_sleeps(rt: HostRuntime) -> Result<(), Fail> {
     assert_eq!(rt; drive_until_told(&rt)?, 7);

@@ -55,15 +55,18 @@ impl<J, A: Allocator> Domain<J, A> {
             .carry_on(&self.station, &mut cpu.cpu, &mut cpu.needs)
     }
 
-    /// Starts a grace period, whether it is asked for or not, and answers the number from then on (`srcu_gp_start`). The
-    /// processor has then seen what the engine had. A refusal by the engine puts it back too. `Busy` is as for
-    /// [`Domain::step`].
+    /// Starts a grace period, whether it is asked for or not, and answers the number from then on (`srcu_gp_start`).
+    /// A driver that sleeps wakes and drives it on. The processor has then seen what the engine had. A refusal by the engine
+    /// puts it back too. `Busy` is as for [`Domain::step`].
     pub fn start(&self, cpu: &mut Cpu<J, A>) -> Result<Number, StartRefusal>
         requires { IsOf self.now cpu.old }
         ensures here { IsOf self.now cpu.new }
         ensures starts { MatchResult result (λ n. StartsIn cpu.old n cpu.new) (λ refusal. IsNotStarted cpu.old refusal cpu.new) }
         ensures says { MatchResult result (λ n. HasStarted self.now n cpu.new) (λ refusal. SaysWhyNone self.now refusal cpu.old cpu.new) }
     {
-        cpu.turn.start(&self.station, &mut cpu.cpu)
+        let started = cpu.turn.start(&self.station, &mut cpu.cpu);
+        // A driver that sleeps until somebody asks would leave the period where it is.
+        self.ring();
+        started
     }
 }

@@ -68,7 +68,7 @@ impl<A: Allocator> Snapshot<A> {
     }
 
     /// The four counters of a processor. None where the domain has no such processor.
-    pub fn row(&self, processor: usize) -> Option<Counts>
+    pub fn row(&self, processor: u16) -> Option<Counts>
         ensures { result ≡ counts_from (pair_at self.now.zero processor) (pair_at self.now.one processor) }
     {
         self.glance().row(processor)
@@ -104,12 +104,13 @@ pub struct Columns<'s> {
 
 impl Columns<'_> {
     /// The two counters of a processor. None where the domain has no such processor.
-    pub fn pair(&self, processor: usize) -> Option<Pair>
+    pub fn pair(&self, processor: u16) -> Option<Pair>
         ensures { result ≡ pair_in self.now processor }
     {
+        let at = usize::from(processor);
         Some(Pair {
-            locks: *self.locks.get(processor)?,
-            unlocks: *self.unlocks.get(processor)?,
+            locks: *self.locks.get(at)?,
+            unlocks: *self.unlocks.get(at)?,
         })
     }
 
@@ -157,7 +158,7 @@ impl<'s> Glance<'s> {
     }
 
     /// The four counters of a processor. None where the domain has no such processor.
-    pub fn row(&self, processor: usize) -> Option<Counts>
+    pub fn row(&self, processor: u16) -> Option<Counts>
         ensures { result ≡ counts_from (pair_in self.now.zero processor) (pair_in self.now.one processor) }
     {
         Some(Counts {
@@ -204,7 +205,7 @@ impl<'s> Glance<'s> {
 impl fmt::Display for Glance<'_> {
     fn fmt<W: fmt::Write>(&self, f: &mut fmt::Formatter<W>) -> fmt::Result {
         self.head(f)?;
-        for processor in 0..self.zero.locks.len() {
+        for processor in 0..u16::try_from(self.zero.locks.len()).unwrap_or(u16::MAX) {
             if let Some(counts) = self.row(processor) {
                 writeln!(f, "processor {processor}: {counts}")?;
             }
@@ -235,7 +236,7 @@ impl fmt::Display for Table<'_> {
         let Table { glance } = self;
         glance.head(f)?;
         f.write_str("processor    unlocks 0      locks 0    unlocks 1      locks 1 open")?;
-        for processor in 0..glance.zero.locks.len() {
+        for processor in 0..u16::try_from(glance.zero.locks.len()).unwrap_or(u16::MAX) {
             if let Some(counts) = glance.row(processor) {
                 write!(f, "\n{processor:>9}")?;
                 write_row(f, counts)?;

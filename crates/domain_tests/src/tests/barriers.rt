@@ -189,7 +189,7 @@ struct Ran {
 }
 
 /// Queues one job. Tells whether there was room.
-fn queue<R: Wait>(rt: &R, domain: &Domain<()>, cpu: &mut Cpu<()>) -> bool
+pub(super) fn queue<R: Wait>(rt: &R, domain: &Domain<()>, cpu: &mut Cpu<()>) -> bool
     requires { IsOf domain.now cpu.old × HasNoneOpen cpu.old }
     ensures { IsOf domain.now cpu.new × HasNoneOpen cpu.new }
 {

@@ -2,12 +2,13 @@
 ghost use Rattle.domain.specs.Views.{IsOf};
 ghost use Rattle.domain.specs.Waiting.{HasNoneOpen};
 
+use super::barriers::queue;
 use super::threads::two_cpus;
 use domain::{Counts, Cpu, Domain, Holder, Index, Pair, Progress, TimedOut, WaitRefusal};
 use std::alloc::{AllocError, Global};
 use std::sync::Wait;
 use std::test::Fail;
-use std::time::{Clock, Duration};
+use std::time::{Clock, Duration, Instant};
 
 const NONE: Pair = Pair {
     locks: 0,
@@ -152,19 +153,44 @@ fn names_who_holds_it_up(rt: HostRuntime) -> Result<(), Fail> {
     Ok(())
 }
 
-/// What is printed where two sections went from the first processor to the second, one is open there, and a period is asked
-/// for.
-const LINES: &str = "number 0 idle, index 0, need 4, queued 0, finished 0
-processor 0: +2 0
-processor 1: -1 0
-all: +1 0";
+/// What is printed after a grace period and its job, where another job is queued, two sections went from the first processor to
+/// the second, and one is open there.
+const LINES: &str = "number 4 idle, index 1, need 8, queued 2, finished 1
+processor 0: 0 +2
+processor 1: 0 -1
+all: 0 +1";
 
 /// The same as a table.
-const COLUMNS: &str = "number 0 idle, index 0, need 4, queued 0, finished 0
+const COLUMNS: &str = "number 4 idle, index 1, need 8, queued 2, finished 1
 processor    unlocks 0      locks 0    unlocks 1      locks 1 open
-        0            0            2            0            0 +2 0
-        1            2            1            0            0 -1 0
-      all            2            3            0            0 +1 0";
+        0            0            0            0            2 0 +2
+        1            0            0            2            1 0 -1
+      all            0            0            2            3 0 +1";
+
+/// Runs what is ready on the first processor. Tells how many jobs there were.
+pub(super) fn run_ready<R: Wait>(rt: &R, domain: &Domain<()>, cpu: &mut Cpu<()>) -> usize
+    requires { IsOf domain.now cpu.old }
+    ensures { IsOf domain.now cpu.new }
+{
+    let Ok(Some(mut batch)) = domain.take_ready(rt, cpu, 0, 8) else {
+        return 0;
+    };
+    let count = batch.count();
+    while let Some(()) = batch.next() {}
+    domain.finish(rt, cpu, batch);
+    count
+}
+
+/// Queues a job on the first processor, runs it, and queues another one. Tells whether it came to all of that.
+fn run_one_of_two<R: Wait>(rt: &R, domain: &Domain<()>, cpu: &mut Cpu<()>) -> bool
+    requires { IsOf domain.now cpu.old × HasNoneOpen cpu.old }
+    ensures { IsOf domain.now cpu.new }
+{
+    let period = queue(rt, domain, cpu) && domain.synchronize(rt, cpu).is_ok();
+    let count = run_ready(rt, domain, cpu);
+    let queued = domain.call(rt, cpu, ()).is_ok();
+    period && count == 1 && queued
+}
 
 /// Both texts of a snapshot by the first processor, with a section that is open on the second.
 fn print_with_a_section(
@@ -187,15 +213,16 @@ fn print_with_a_section(
     Ok((lines, columns))
 }
 
-/// Would catch a count of another processor or index, a wrong sign, and a sum that isn't one.
+/// Would catch a count of another processor or index, jobs that are queued or finished and taken for the other, a wrong sign, and
+/// a sum that isn't one.
 #[test]
 fn prints_itself(rt: HostRuntime) -> Result<(), Fail> {
     let (domain, mut first, mut second) = two_cpus(rt.alloc())?;
+    let ran = run_one_of_two(&rt, &domain, &mut first);
     let both = hand_over(&domain, &mut first, &mut second)
         & hand_over(&domain, &mut first, &mut second);
-    domain.start_poll(&mut first);
     let (lines, columns) = print_with_a_section(rt.alloc(), &domain, &mut first, &mut second)?;
-    assert!(rt; both);
+    assert!(rt; ran && both);
     assert_eq!(rt; lines.as_str(), LINES);
     assert_eq!(rt; columns.as_str(), COLUMNS);
     Ok(())
@@ -208,6 +235,13 @@ processor 0: +1 0
 processor 1: -1 +1
 all: 0 +1";
 
+/// The same as a table.
+const FLIPPED_COLUMNS: &str = "number 2 scan2, index 1, need 4, queued 0, finished 0
+processor    unlocks 0      locks 0    unlocks 1      locks 1 open
+        0            0            1            0            0 +1 0
+        1            1            0            0            1 -1 +1
+      all            1            1            0            1 0 +1";
+
 /// Flips the index, as far as the engine gets in two turns.
 fn flip(domain: &Domain<()>, cpu: &mut Cpu<()>) -> bool
     requires { IsOf domain.now cpu.old }
@@ -219,14 +253,14 @@ fn flip(domain: &Domain<()>, cpu: &mut Cpu<()>) -> bool
     matches!(started, Ok(Progress::Started(_))) && flipped == Ok(Progress::Flipped(Index::One))
 }
 
-/// The counters of both processors, as the first one finds them with a section open on the second, and the text of a snapshot
+/// The counters of both processors, as the first one finds them with a section open on the second, and both texts of a snapshot
 /// then.
 fn watch_and_print(
     alloc: Global,
     domain: &Domain<()>,
     first: &mut Cpu<()>,
     second: &mut Cpu<()>,
-) -> Result<(Option<[Counts; 2]>, String), AllocError>
+) -> Result<(Option<[Counts; 2]>, String, String), AllocError>
     requires first { IsOf domain.now first.old }
     requires second { IsOf domain.now second.old }
 {
@@ -238,7 +272,8 @@ fn watch_and_print(
     }
     let snapshot = snapshot?;
     let text = format!(in alloc; "{snapshot}")?;
-    Ok((counts, text))
+    let columns = format!(in alloc; "{}", snapshot.table())?;
+    Ok((counts, text, columns))
 }
 
 /// Would catch a section of index 1 that is counted as one of index 0, or on the processor that looks.
@@ -246,7 +281,7 @@ fn watch_and_print(
 fn counts_behind_a_flip(rt: HostRuntime) -> Result<(), Fail> {
     let (domain, mut first, mut second) = two_cpus(rt.alloc())?;
     let ready = hand_over(&domain, &mut first, &mut second) & flip(&domain, &mut first);
-    let (counts, text) = watch_and_print(rt.alloc(), &domain, &mut first, &mut second)?;
+    let (counts, text, columns) = watch_and_print(rt.alloc(), &domain, &mut first, &mut second)?;
     let one = Pair {
         locks: 1,
         unlocks: 0,
@@ -267,6 +302,22 @@ fn counts_behind_a_flip(rt: HostRuntime) -> Result<(), Fail> {
         ])
     );
     assert_eq!(rt; text.as_str(), FLIPPED);
+    assert_eq!(rt; columns.as_str(), FLIPPED_COLUMNS);
+    Ok(())
+}
+
+/// Would catch a holder that is printed as another processor, or with a wrong sign.
+#[test]
+fn prints_a_holder(rt: HostRuntime) -> Result<(), Fail> {
+    let held = Holder {
+        processor: 2,
+        pair: Pair {
+            locks: 1,
+            unlocks: 4,
+        },
+    };
+    let text = format!(in rt.alloc(); "{held}")?;
+    assert_eq!(rt; text.as_str(), "processor 2: -3");
     Ok(())
 }
 
@@ -276,12 +327,23 @@ fn short() -> Duration {
 }
 
 /// And one that isn't over in any of these tests.
-fn long() -> Duration {
+pub(super) fn long() -> Duration {
     Duration::from_secs(100)
 }
 
+/// Whether a wait that began then took as long as the short time, and less than ten seconds.
+fn took_short<R: Clock>(rt: &R, start: Option<Instant>) -> bool {
+    let Some(start) = start else {
+        return false;
+    };
+    match start.elapsed(rt) {
+        Ok(elapsed) => short() <= elapsed && elapsed < Duration::from_secs(10),
+        Err(_) => false,
+    }
+}
+
 /// Waits with a section open on another processor, and polls the cookie then, before and after the section's end and another
-/// wait. Tells whether the first wait timed out and the second did not, and what the polls answer.
+/// wait. Tells whether the first wait timed out in time and the second did not, and what the polls answer.
 fn wait_beside_a_section<R: Wait + Clock>(
     rt: &R,
     domain: &Domain<()>,
@@ -294,7 +356,9 @@ fn wait_beside_a_section<R: Wait + Clock>(
     let Ok(section) = reader.read_lock() else {
         return None;
     };
+    let start = Instant::now(rt).ok();
     let waited = domain.synchronize_for(rt, updater, short());
+    let in_time = took_short(rt, start);
     reader.read_unlock(section);
     let Err(WaitRefusal::TimedOut(mut cookie)) = waited else {
         return None;
@@ -302,11 +366,11 @@ fn wait_beside_a_section<R: Wait + Clock>(
     let early = updater.poll(&mut cookie);
     let driven = domain.synchronize_for(rt, updater, long()).is_ok();
     let late = updater.poll(&mut cookie);
-    Some(([true, driven], [early, late]))
+    Some(([in_time, driven], [early, late]))
 }
 
-/// Would catch a wait that comes back as if its grace period had ended, that waits on, or whose cookie is another one, and
-/// one that gives up where nothing holds it up.
+/// Would catch a wait that comes back as if its grace period had ended, too early or too late, or whose cookie is another one,
+/// and one that gives up where nothing holds it up.
 #[test]
 fn waits_no_longer(rt: HostRuntime) -> Result<(), Fail> {
     let (domain, mut reader, mut updater) = two_cpus(rt.alloc())?;
@@ -315,28 +379,14 @@ fn waits_no_longer(rt: HostRuntime) -> Result<(), Fail> {
     Ok(())
 }
 
-/// Runs what is ready on the first processor. Tells how many jobs there were.
-fn run_ready<R: Wait>(rt: &R, domain: &Domain<()>, cpu: &mut Cpu<()>) -> usize
-    requires { IsOf domain.now cpu.old }
-    ensures { IsOf domain.now cpu.new }
-{
-    let Ok(Some(mut batch)) = domain.take_ready(rt, cpu, 0, 8) else {
-        return 0;
-    };
-    let count = batch.count();
-    while let Some(()) = batch.next() {}
-    domain.finish(rt, cpu, batch);
-    count
-}
-
-/// Waits for a job on the first processor, before it is run and after. Tells whether the first wait timed out and the second
-/// did not, and how many jobs were run.
+/// Waits for a job on the first processor, before it is run and after. Tells what the waits answer, whether the first one took its
+/// time, and how many jobs were run.
 fn wait_beside_a_job<R: Wait + Clock>(
     rt: &R,
     domain: &Domain<()>,
     runner: &mut Cpu<()>,
     waiter: &mut Cpu<()>,
-) -> Option<([Result<(), TimedOut>; 2], usize)>
+) -> Option<([Result<(), TimedOut>; 2], bool, usize)>
     requires runner { IsOf domain.now runner.old }
     requires waiter { IsOf domain.now waiter.old × HasNoneOpen waiter.old }
 {
@@ -346,20 +396,22 @@ fn wait_beside_a_job<R: Wait + Clock>(
     let Ok(ticket) = domain.barrier_start(runner) else {
         return None;
     };
+    let start = Instant::now(rt).ok();
     let early = domain.barrier_for(rt, waiter, &ticket, short());
+    let in_time = took_short(rt, start);
     let Ok(()) = domain.synchronize(rt, waiter) else {
         return None;
     };
     let count = run_ready(rt, domain, runner);
     let late = domain.barrier_for(rt, waiter, &ticket, long());
-    Some(([early, late], count))
+    Some(([early, late], in_time, count))
 }
 
-/// Would catch a barrier that comes back as if its job was run, that waits on, or that gives up where it is done.
+/// Would catch a barrier that comes back as if its job was run, too early or too late, or that gives up where it is done.
 #[test]
 fn waits_no_longer_for_a_job(rt: HostRuntime) -> Result<(), Fail> {
     let (domain, mut runner, mut waiter) = two_cpus(rt.alloc())?;
     let told = wait_beside_a_job(&rt, &domain, &mut runner, &mut waiter);
-    assert_eq!(rt; told, Some(([Err(TimedOut), Ok(())], 1)));
+    assert_eq!(rt; told, Some(([Err(TimedOut), Ok(())], true, 1)));
     Ok(())
 }

@@ -64,7 +64,7 @@ fn come_and_end<R: Wait + Threads + AllocGlobal + Sync>(
     Ok(Some((came, end(domain, cpus))))
 }
 
-/// Would catch a processor that two threads have at once, one that is lost, and a thread that is not woken.
+/// Would catch a processor that two threads have at once, and one that is lost.
 #[test]
 fn sixteen_threads_at_three_processors(rt: HostRuntime) -> Result<(), Fail> {
     let Some((came, Some(totals))) = come_and_end(&rt)? else {

@@ -1,4 +1,4 @@
-//! A driver with a report: of a section that sleeps, of none, and of two periods.
+//! A driver with a report: of a section that sleeps, of none, of two periods, and where nothing is asked for.
 ghost use Rattle.std.specs.Prelude.{◌≡◌, IfOk};
 ghost use Rattle.driver.specs.Pools.{IsIdle};
 
@@ -12,7 +12,7 @@ use std::sync::atomic::AtomicU64;
 use std::sync::atomic::Ordering::SeqCst;
 use std::test::Fail;
 use std::thread::{Threads, join, sleep};
-use std::time::{Clock, Duration};
+use std::time::{Clock, Duration, Instant};
 
 /// After how many milliseconds a grace period that waits is reported, in the test where one waits for longer.
 const AFTER: u64 = 5;
@@ -29,6 +29,10 @@ struct Signs {
     reports: AtomicU64,
     /// Of these, how many had one open section, on processor 0 with index 0.
     named: AtomicU64,
+    /// The index of the last report, and 2 before the first.
+    index: AtomicU64,
+    /// The longest wait that a report told, in microseconds.
+    waited: AtomicU64,
     /// 1 from when the driver may go on after a report.
     free: AtomicU64,
     /// What the driver has come to.
@@ -41,6 +45,8 @@ impl Signs {
             opened: AtomicU64::new(0),
             reports: AtomicU64::new(0),
             named: AtomicU64::new(0),
+            index: AtomicU64::new(2),
+            waited: AtomicU64::new(0),
             free: AtomicU64::new(free),
             tally: Tally::new(),
         }
@@ -84,7 +90,13 @@ fn sleep_in_section<R: Wait + Clock>(
 
 /// Notes what a report says.
 fn note(signs: &Signs, stall: Stall<'_>) {
-    signs.reports.fetch_add(1, SeqCst);
+    let index = match stall.index {
+        Index::Zero => 0,
+        Index::One => 1,
+    };
+    signs.index.store(index, SeqCst);
+    let micros = u64::try_from(stall.waited.as_micros()).unwrap_or(u64::MAX);
+    signs.waited.fetch_max(micros, SeqCst);
     let open = Pair {
         locks: 1,
         unlocks: 0,
@@ -100,6 +112,7 @@ fn note(signs: &Signs, stall: Stall<'_>) {
     {
         signs.named.fetch_add(1, SeqCst);
     }
+    signs.reports.fetch_add(1, SeqCst);
 }
 
 /// Asks for a grace period once the section is open, and drives until it is told to stop. Tells whether it came to its end,
@@ -148,8 +161,8 @@ fn four(alloc: Global) -> Result<(Domain<u64>, Cpu<u64>, Cpu<u64>, (Cpu<u64>, Cp
     Ok((domain, first, second, (third, fourth)))
 }
 
-/// What a driver told and tallied, beside a section that sleeps until there were so many reports.
-type Told = (bool, Tallied, u64, u64);
+/// What a driver told and tallied, beside a section that sleeps until there were so many reports; and the longest wait of one.
+type Told = (bool, Tallied, (u64, u64), Duration);
 
 fn drive_beside_a_section<R: Wait + Clock + Threads + AllocGlobal + Sync>(
     rt: &R,
@@ -164,34 +177,39 @@ fn drive_beside_a_section<R: Wait + Clock + Threads + AllocGlobal + Sync>(
         || drive_with_report(rt, &domain, driver, watcher, &stop, &signs, after),
         || sleep_in_section(rt, &domain, reader, &stop, &signs, reports),
     );
-    let heard = signs.reports.load(SeqCst);
-    Ok((ended && seen, tallied, heard, signs.named.load(SeqCst)))
+    let heard = (signs.reports.load(SeqCst), signs.named.load(SeqCst));
+    let waited = Duration::from_micros(signs.waited.load(SeqCst));
+    Ok((ended && seen, tallied, heard, waited))
 }
 
-/// Would catch a report that never comes, comes in each round, or names another processor or index; and a tally that isn't
-/// kept while the driver runs.
+/// Would catch a report that never comes, comes in each round, or names another processor or index. Also a tally that isn't kept
+/// while the driver runs, or tells of a longer wait than there was, and a driver that never sleeps.
 #[test]
 fn reports_a_section_that_sleeps_once(rt: HostRuntime) -> Result<(), Fail> {
-    let (ended, tallied, reports, named) = drive_beside_a_section(
-        &rt,
-        Duration::from_millis(AFTER),
-        1,
-    )?;
-    assert_eq!(rt; (ended, reports, named), (true, 1, 1));
+    let after = Duration::from_millis(AFTER);
+    let Ok(start) = Instant::now(&rt) else {
+        panic!(rt; "there is a clock");
+    };
+    let (ended, tallied, heard, waited) = drive_beside_a_section(&rt, after, 1)?;
+    let Ok(whole) = start.elapsed(&rt) else {
+        panic!(rt; "there is a clock");
+    };
+    assert_eq!(rt; (ended, heard), (true, (1, 1)));
     assert_eq!(rt; (tallied.periods, tallied.jobs, tallied.batches), (1, 0, 0));
-    assert!(rt; tallied.turns > 1 && tallied.longest >= Duration::from_millis(AFTER));
+    assert!(rt; tallied.turns > 1 && tallied.turns < 10_000);
+    assert!(rt; after <= waited && waited <= tallied.longest && tallied.longest <= whole);
     Ok(())
 }
 
 /// Would catch a report before its time.
 #[test]
 fn reports_none_before_its_time(rt: HostRuntime) -> Result<(), Fail> {
-    let (ended, tallied, reports, named) = drive_beside_a_section(
+    let (ended, tallied, heard, _waited) = drive_beside_a_section(
         &rt,
         Duration::from_secs(100),
         0,
     )?;
-    assert_eq!(rt; (ended, reports, named), (true, 0, 0));
+    assert_eq!(rt; (ended, heard), (true, (0, 0)));
     assert_eq!(rt; (tallied.periods, tallied.jobs, tallied.batches), (1, 0, 0));
     Ok(())
 }
@@ -232,10 +250,10 @@ fn sleep_in_two_periods<R: Wait + Clock>(
     heard && two && again
 }
 
-/// What a driver with a report came to beside that, and how many reports there were.
+/// What a driver with a report came to beside that, how many reports there were, and the index of the last.
 fn drive_beside_two_periods<R: Wait + Clock + Threads + AllocGlobal + Sync>(
     rt: &R,
-) -> Result<(bool, u64), MakeError> {
+) -> Result<(bool, u64, u64), MakeError> {
     let (domain, reader, driver, (watcher, other)) = four(rt.alloc())?;
     let stop = sign_of(rt, &domain)?;
     let signs = Signs::new(0);
@@ -245,13 +263,48 @@ fn drive_beside_two_periods<R: Wait + Clock + Threads + AllocGlobal + Sync>(
         || drive_with_report(rt, &domain, driver, watcher, &stop, &signs, after),
         || sleep_in_two_periods(rt, &domain, reader, other, &stop, &signs),
     );
-    Ok((ended && seen, signs.reports.load(SeqCst)))
+    let reports = signs.reports.load(SeqCst);
+    Ok((ended && seen, reports, signs.index.load(SeqCst)))
 }
 
 /// Would catch a delay that is taken over from another period, which another driver ended meanwhile: it would be reported
-/// already.
+/// already. And a report that always says index 0.
 #[test]
 fn reports_each_of_two_periods(rt: HostRuntime) -> Result<(), Fail> {
-    assert_eq!(rt; drive_beside_two_periods(&rt)?, (true, 2));
+    assert_eq!(rt; drive_beside_two_periods(&rt)?, (true, 2, 1));
+    Ok(())
+}
+
+/// Lets a driver alone for 20 milliseconds, and then tells it to stop.
+fn tell_later<R: Wait + Clock>(rt: &R, domain: &Domain<u64>, stop: &Stop<u64>)
+    requires { stop.now.domain ≡ domain.now }
+{
+    sleep(rt, Duration::from_millis(20));
+    stop.give_alone(rt, domain);
+}
+
+/// What a driver with a report came to that ends a grace period which nothing holds up, and has nothing to do then.
+fn drive_alone<R: Wait + Clock + Threads + AllocGlobal + Sync>(
+    rt: &R,
+) -> Result<(bool, Tallied), MakeError> {
+    let (domain, _reader, driver, (watcher, _other)) = four(rt.alloc())?;
+    let stop = sign_of(rt, &domain)?;
+    let signs = Signs::new(1);
+    signs.opened.store(1, SeqCst);
+    let after = Duration::from_millis(AFTER);
+    let (found, ()) = join(
+        rt,
+        || drive_with_report(rt, &domain, driver, watcher, &stop, &signs, after),
+        || tell_later(rt, &domain, &stop),
+    );
+    Ok(found)
+}
+
+/// Would catch a driver that looks again and again where nothing is asked for.
+#[test]
+fn rests_where_nothing_is_asked(rt: HostRuntime) -> Result<(), Fail> {
+    let (ended, tallied) = drive_alone(&rt)?;
+    assert_eq!(rt; (ended, tallied.periods), (true, 1));
+    assert!(rt; tallied.turns <= 20);
     Ok(())
 }

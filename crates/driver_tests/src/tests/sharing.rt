@@ -18,7 +18,7 @@ const THREADS: usize = 8;
 /// How many rounds there are. In each of them every thread waits once.
 const ROUNDS: u64 = 1_000;
 
-/// How often a thread looks for the others, with a sleep of a tenth of a millisecond behind each look.
+/// How often a thread looks for the others, with a sleep of a tenth of a millisecond after each look.
 pub(super) const LOOKS: u32 = 200_000;
 
 /// What the threads tell each other.

@@ -12,7 +12,7 @@ use std::sync::Wait;
 use std::sync::atomic::AtomicU64;
 use std::sync::atomic::Ordering::SeqCst;
 use std::test::Fail;
-use std::thread::{Threads, join, sleep};
+use std::thread::{Threads, join, sleep, yield_now};
 use std::time::{Clock, Duration};
 
 /// How long the others wait before they ask: so long that the driver sleeps.
@@ -21,12 +21,25 @@ const NAP: u64 = 20;
 /// How often a thread looks whether its grace period has ended, a tenth of a millisecond apart.
 const LOOKS: u32 = 100_000;
 
+/// The number once the first grace period has ended.
+const FIRST: u64 = 4;
+
+/// In how many rounds a thread asks that doesn't sleep.
+const ROUNDS: u64 = 10_000;
+
+/// How often it yields before it asks: from never up to once less than this.
+const STAGES: u64 = 64;
+
+/// How often it looks whether its job ran, with a yield after each look.
+const YIELDS: u32 = 5_000_000;
+
 /// By which call somebody asks.
 #[derive(Clone, Copy)]
 enum Asking {
     Call,
     StartPoll,
     Publish,
+    Start,
 }
 
 /// A new domain, a processor for the driver and one for who asks, and the writer of its cell.
@@ -85,6 +98,7 @@ fn ask<R: Wait + Clock>(
             Some(cookie) => ends_soon(rt, cpu, cookie),
             None => false,
         },
+        Asking::Start => domain.start(cpu).is_ok() && ends_soon(rt, cpu, FIRST),
     }
 }
 
@@ -136,10 +150,96 @@ fn woken_by_a_call(rt: HostRuntime) -> Result<(), Fail> {
     Ok(())
 }
 
-/// The same where a grace period is asked for, and where a version is put.
+/// The same where a grace period is asked for, where a version is put, and where a period is started unasked.
 #[test]
 fn woken_by_asking(rt: HostRuntime) -> Result<(), Fail> {
     assert!(rt; wake(&rt, Asking::StartPoll)?);
     assert!(rt; wake(&rt, Asking::Publish)?);
+    assert!(rt; wake(&rt, Asking::Start)?);
+    Ok(())
+}
+
+/// Yields so often.
+fn yield_often(times: u64) {
+    for _ in 0..times {
+        yield_now();
+    }
+}
+
+/// Looks until a sign is at this number, and yields after each look. Answers whether it came to that.
+fn yield_for(sign: &AtomicU64, number: u64) -> bool {
+    for _ in 0..YIELDS {
+        if sign.load(SeqCst) >= number {
+            return true;
+        }
+        yield_now();
+    }
+    false
+}
+
+/// Queues a job so many yields after the job before ran. Whether this one ran before long.
+fn ask_after<R: Wait>(
+    rt: &R,
+    domain: &Domain<u64>,
+    cpu: &mut Cpu<u64>,
+    ran: &AtomicU64,
+    round: u64,
+) -> bool
+    requires { IsIdle domain.now cpu.old }
+    ensures { IsIdle domain.now cpu.new }
+{
+    yield_often(round % STAGES);
+    domain.call(rt, cpu, round).is_ok() && yield_for(ran, round)
+}
+
+/// Asks in each round, and then tells the driver to stop. Answers in how many rounds the job ran before long.
+fn ask_at_every_moment<R: Wait>(
+    rt: &R,
+    domain: &Domain<u64>,
+    cpu: &mut Cpu<u64>,
+    ran: &AtomicU64,
+    stop: &Stop<u64>,
+) -> u64
+    requires idle { IsIdle domain.now cpu.old }
+    requires stop { stop.now.domain ≡ domain.now }
+{
+    let mut last = 0;
+    for round in 1..=ROUNDS {
+        if !ask_after(rt, domain, cpu, ran, round) {
+            break;
+        }
+        last = round;
+    }
+    stop.give_alone(rt, domain);
+    last
+}
+
+/// A driver beside that thread. Answers how many jobs it ran, and in how many rounds one ran before long.
+fn wake_at_every_moment<R: Wait + Clock + Threads + AllocGlobal + Sync>(
+    rt: &R,
+) -> Result<(u64, u64), MakeError> {
+    let (domain, mut driver, mut asker, _writer) = found(rt.alloc())?;
+    let stop = sign_of(rt, &domain)?;
+    let ran = AtomicU64::new(0);
+    let (served, last) = join(
+        rt,
+        || {
+            served_by(serve(rt, &domain, &mut driver, &stop, |_job: u64| {
+                ran.fetch_add(1, SeqCst);
+            }))
+        },
+        || ask_at_every_moment(rt, &domain, &mut asker, &ran, &stop),
+    );
+    match served {
+        Some(served) => Ok((served.jobs, last)),
+        None => Ok((0, last)),
+    }
+}
+
+/// Would catch a driver that listens only after its last look: what is asked in between would wait for ever. The rounds differ in
+/// how long after a job the next one is queued, so some of them hit each moment before the driver sleeps.
+#[test]
+fn woken_at_every_moment(rt: HostRuntime) -> Result<(), Fail> {
+    assert_eq!(rt; wake_at_every_moment(&rt)?, (ROUNDS, ROUNDS));
     Ok(())
 }
