@@ -1,4 +1,5 @@
 //! Why a chain stays as it is.
+use shelf::NoSlot;
 use thiserror::Error;
 
 /// Why a block is not registered. The first of these that holds is told. The chain is as it was, though retired slots may
@@ -6,16 +7,16 @@ use thiserror::Error;
 #[derive(Clone, Copy, Debug, Error, PartialEq, Eq)]
 pub enum RegisterRefusal {
     /// The id is in the chain, at whatever priority.
-    #[error("the id is in the chain")]
+    #[error("the handler is in the chain: unregister it before")]
     There,
     /// The chain has fifteen blocks.
-    #[error("the chain is full")]
+    #[error("the chain is full: unregister a handler, and call again")]
     Full,
     /// No slot is blank, and of no retired one is the cookie done. Or 2^54 versions were put.
-    #[error("no slot of the cell is free")]
+    #[error("{}", NoSlot)]
     NoSlot,
     /// There is no memory. A chain takes none, so this is never told.
-    #[error("out of memory")]
+    #[error("out of memory: free some, and call again")]
     Memory,
 }
 
@@ -24,9 +25,9 @@ pub enum RegisterRefusal {
 #[derive(Clone, Copy, Debug, Error, PartialEq, Eq)]
 pub enum UnregisterRefusal {
     /// The id is not in the chain.
-    #[error("the id is not in the chain")]
+    #[error("the handler is not in the chain: register it before")]
     NotThere,
     /// No slot is blank, and of no retired one is the cookie done. Or 2^54 versions were put.
-    #[error("no slot of the cell is free")]
+    #[error("{}", NoSlot)]
     NoSlot,
 }

@@ -15,7 +15,7 @@ use thiserror::Error;
 
 /// No slot is free: none is blank, and of no retired one is the cookie done. Or 2^54 values were put.
 #[derive(Clone, Copy, Debug, Error, PartialEq, Eq)]
-#[error("no slot of the cell is free")]
+#[error("no slot of the cell is free: synchronize, and call again")]
 pub struct NoSlot;
 
 /// What replaces the values of a cell. There is one for each cell. Contracts see the cell's writer.

@@ -22,7 +22,8 @@ fn texts_of_refusals(rt: HostRuntime) -> Result<(), Fail> {
     )?;
     assert_eq!(rt;
         registers.as_str(),
-        "the id is in the chain; the chain is full; no slot of the cell is free; out of memory"
+        "the handler is in the chain: unregister it before; the chain is full: unregister a handler, and call again; \
+         no slot of the cell is free: synchronize, and call again; out of memory: free some, and call again"
     );
     let unregisters = format!(in rt.alloc();
         "{}; {}",
@@ -31,7 +32,7 @@ fn texts_of_refusals(rt: HostRuntime) -> Result<(), Fail> {
     )?;
     assert_eq!(rt;
         unregisters.as_str(),
-        "the id is not in the chain; no slot of the cell is free"
+        "the handler is not in the chain: register it before; no slot of the cell is free: synchronize, and call again"
     );
     Ok(())
 }
