@@ -9,6 +9,12 @@ use Rattle.boxes.specs.Boxes.{BoxWriterView}
 use Rattle.boxes.specs.Laying.{TakesFree}
 use Rattle.boxes.specs.Insides.{stored_of}
 
+-- where nothing is put, nothing is
+pub set_nothing : {X : Type 0} (xs : List X) (x : ℕ) (d : X) → get_or (set xs x d) x d ≡ d
+set_nothing [] x d = refl
+set_nothing (y ∷ ys) zero d = refl
+set_nothing (y ∷ ys) (suc x) d = set_nothing ys x d
+
 module _ {V A : Type 0} where
   pub stored_is : (rests : List (Option (Rest V A))) (x : ℕ) → get_or (map stored_of rests) x None ≡ stored_of (get_or rests x None)
   stored_is [] x = refl

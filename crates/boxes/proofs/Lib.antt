@@ -4,4 +4,5 @@ pub mod Stocks
 pub mod Keeping
 pub mod Putting
 pub mod Reading
+pub mod Replacing
 pub mod Slots

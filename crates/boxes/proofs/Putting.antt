@@ -11,14 +11,18 @@ use Rattle.boxes.specs.Boxes.{BoxWriterView}
 use Rattle.boxes.specs.Laying.{IsSameBut, TakesFree}
 use Rattle.boxes.specs.Writing.{PutsVersion}
 
-pub same_writer : (x : ℕ) (w w' : WriterView) → IsSameBut x w w' → IsSameWriter w w'
-same_writer x w w' h = record {
-  domain = ap (λ (z : WriterView). z.domain) h.rest;
-  cell = ap (λ (z : WriterView). z.cell) h.rest;
-  slots = ap (λ (z : WriterView). z.slots) h.rest;
-  version = ap (λ (z : WriterView). z.version) h.rest;
-  current = ap (λ (z : WriterView). z.current) h.rest;
+-- the keys that are laid are no part of it
+pub same_planned : (w w' : WriterView) → w' ≡ record w { plan = w'.plan } → IsSameWriter w w'
+same_planned w w' rest = record {
+  domain = ap (λ (z : WriterView). z.domain) rest;
+  cell = ap (λ (z : WriterView). z.cell) rest;
+  slots = ap (λ (z : WriterView). z.slots) rest;
+  version = ap (λ (z : WriterView). z.version) rest;
+  current = ap (λ (z : WriterView). z.current) rest;
 }
+
+pub same_writer : (x : ℕ) (w w' : WriterView) → IsSameBut x w w' → IsSameWriter w w'
+same_writer x w w' h = same_planned w w' h.rest
 
 pub same_trans : (a b c : WriterView) → IsSameWriter a b → IsSameWriter b c → IsSameWriter a c
 same_trans a b c h k = record { domain = k.domain ∙ h.domain; cell = k.cell ∙ h.cell; slots = k.slots ∙ h.slots; version = k.version ∙ h.version; current = k.current ∙ h.current }

@@ -1,12 +1,13 @@
 -- What the writer of a cell of boxes does.
-use Rattle.std.specs.Prelude.{◌≡◌, ◌≢◌, ℕ, ◌^◌, ◌<◌, ◌≤◌, ◌⊎◌, Some, None, slice_set}
+use Rattle.std.specs.Prelude.{◌≡◌, ◌≢◌, ℕ, ◌^◌, ◌<◌, ◌≤◌, ◌⊎◌, Option, Some, None, MatchOption, Box, slice_set}
+use Rattle.std_alloc.specs.Box.{box_allocator}
 use Rattle.sections.specs.declared.writer.Standing.TheVariants.{Blank}
 use Rattle.sections.specs.Banks.{no_plan}
 use Rattle.sections.specs.Shelves.{offer_of}
 use Rattle.sections.specs.Views as sections
 use Rattle.sections.specs.WriterViews.{WriterView}
 use Rattle.sections.specs.Writers.{IsSameWriter, Reclaims, standing_of}
-use Rattle.domain.specs.Views.{CpuView}
+use Rattle.domain.specs.Views.{CpuView, with_cpu}
 use Rattle.domain.specs.Writers.{PutsAndAsks}
 use Rattle.boxes.specs.Boxes.{Stored, BoxWriterView, cell_of, stored_at}
 use Rattle.boxes.specs.Laying.{IsNotFree}
@@ -14,6 +15,19 @@ use Rattle.boxes.specs.Laying.{IsNotFree}
 -- no key was laid in the cell yet
 abbrev pub IsPlain : WriterView → Type 0
 IsPlain w = w.plan ≡ no_plan
+
+module _ {J : Type 0} where
+  -- the keys were laid, and then a version was put with which readers learn of them
+  pub record Equips (w : WriterView) (c : CpuView J) (w' : WriterView) (c' : CpuView J) : Type 0 where
+    pub equipped : WriterView
+    pub same : IsSameWriter w equipped
+    pub slot : ℕ
+    pub cookie : ℕ
+    pub puts : PutsAndAsks slot cookie equipped c w' c'
+
+-- the writer is handed back as it was
+abbrev pub IsHandedBack : WriterView → WriterView → Type 0
+IsHandedBack w back = IsSameWriter w back × (back.plan ≡ w.plan)
 
 module _ {V A : Type 0} where
   -- each slot that is blank has a box that is to come back first, or 2 ^ 54 versions were put
@@ -24,11 +38,13 @@ module _ {V A : Type 0} where
   abbrev pub IsNotBack : BoxWriterView V A → ℕ → Type 0
   IsNotBack w x = (stored_at w x ≡ None) ⊎ (standing_of w.writer x ≢ Blank)
 
-  -- the slot was blank, and its box came back
+  -- the slot was blank, and its box came back. So the slot is free
   pub record TakesBack (s : Stored V A) (x : ℕ) (w w' : BoxWriterView V A) : Type 0 where
+    pub room : w.writer.version < 2 ^ 54
     pub blank : standing_of w.writer x ≡ Blank
     pub was : stored_at w x ≡ Some s
     pub stored : w'.stored ≡ slice_set w.stored x None
+    pub free : standing_of w'.writer x ≡ Blank
     pub cell : cell_of w' ≡ cell_of w
     pub same : IsSameWriter w.writer w'.writer
 
@@ -45,6 +61,14 @@ module _ {V A : Type 0} where
     pub reclaims : Reclaims w.writer c w'.writer c'
     pub none : (2 ^ 54 ≤ w'.writer.version) ⊎ ((x : ℕ) → x < w.writer.slots → IsNotBack w' x)
     pub rest : w' ≡ record w { writer = w'.writer }
+
+  -- the box is this one: it has its value, and lies at its allocator
+  abbrev pub IsBoxOf : Box V A → Stored V A → Type 0
+  IsBoxOf b s = (b.value ≡ s.value) × (box_allocator b ≡ s.heap)
+
+  -- this box came back, or none did
+  abbrev pub BringsBack : Option (Box V A) → BoxWriterView V A → sections.CpuView → BoxWriterView V A → sections.CpuView → Type 0
+  BringsBack back w c w' c' = MatchOption back (NoneComesBack w c w' c') (λ b. (s : Stored V A) × IsBoxOf b s × ComesBack s w c w' c')
 
   module _ {J : Type 0} where
     -- a blank slot with no box was put, and just the cookie was asked for with which the slot that was current is retired
@@ -68,3 +92,20 @@ module _ {V A : Type 0} where
       pub version : PutsVersion cookie w c w' c'
       pub stored : w'.stored ≡ w.stored
       pub nothing : (offer_of w.writer.cell w'.writer.version c'.cpu.texts).laid ≡ 0
+
+    -- an older box came back first, if one could, and then this one was put
+    pub record Replaces (whole : Box V A) (old : Option (Box V A)) (w : BoxWriterView V A) (c : CpuView J) (w' : BoxWriterView V A) (c' : CpuView J) : Type 0 where
+      pub freed : BoxWriterView V A
+      pub at : CpuView J
+      pub back : BringsBack old w c.cpu freed at.cpu
+      pub rest : at ≡ with_cpu at.cpu c
+      pub cookie : ℕ
+      pub this : Stored V A
+      pub is : IsBoxOf whole this
+      pub puts : PutsBox this cookie freed at w' c'
+
+    -- no box came back, and no slot was free: nothing was put
+    pub record ReplacesNone (w : BoxWriterView V A) (c : CpuView J) (w' : BoxWriterView V A) (c' : CpuView J) : Type 0 where
+      pub back : NoneComesBack w c.cpu w' c'.cpu
+      pub none : NoneFree w'
+      pub rest : c' ≡ with_cpu c'.cpu c

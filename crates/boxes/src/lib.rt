@@ -14,6 +14,7 @@ mod writer;
 
 pub use loose::LooseBoxWriter;
 pub use making::make;
+pub use parts::Terms;
 pub use pin::BoxPin;
 pub use readers::Boxes;
 pub use writer::BoxWriter;

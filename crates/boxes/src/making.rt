@@ -1,11 +1,11 @@
 //! A cell becomes one of boxes.
-ghost use Rattle.std.specs.Prelude.{◌≡◌, ◌*◌, ◌^◌, ◌<◌, ◌≤◌, IfOk, length, replicate, None};
+ghost use Rattle.std.specs.Prelude.{◌≡◌, ◌*◌, ◌^◌, ◌<◌, ◌≤◌, IfOk, MatchResult, length, replicate, None};
 ghost use Rattle.std.specs.Arc.{arc_value};
 ghost use Rattle.vault.specs.Keys.{AreKeys};
 ghost use Rattle.domain.specs.Views.{IsOf};
 ghost use Rattle.boxes.specs.Boxes.{IsCellIn, cell_of};
 ghost use Rattle.boxes.specs.Laying.{HasKeys};
-ghost use Rattle.boxes.specs.Writing.{IsPlain};
+ghost use Rattle.boxes.specs.Writing.{IsPlain, Equips, IsHandedBack};
 
 use crate::readers::Boxes;
 use crate::writer::BoxWriter;
@@ -29,6 +29,9 @@ pub fn make<V: Drop, J, A: Allocator + Clone, B: Allocator>(
     ensures writer { IfOk result (λ m. IsCellIn domain.now (cell_of m.0) × (m.0.writer.cell ≡ writer.cell)) }
     ensures boxes { IfOk result (λ m. m.1 ≡ cell_of m.0) }
     ensures nothing { IfOk result (λ m. m.0.stored ≡ replicate 8 None) }
+    ensures puts { MatchResult result
+        (λ m. Equips writer cpu.old m.0.writer cpu.new)
+        (λ back. IsHandedBack writer back × (cpu.new ≡ cpu.old)) }
 {
     let mut writer = writer;
     let processors = domain.processors() as usize;

@@ -3,7 +3,7 @@ ghost use Rattle.std.specs.Prelude.{◌≡◌, ◌<◌, ◌≤◌, Some, None, M
 ghost use Rattle.std_alloc.specs.Box.{box_allocator};
 ghost use Rattle.domain.specs.Views.{IsOf, Stays, with_cpu};
 ghost use Rattle.boxes.specs.Boxes.{Stored, IsCellIn, IsCellOf, cell_of, stored_at};
-ghost use Rattle.boxes.specs.Writing.{NoneFree, PutsBox, PutsNone, ComesBack, NoneComesBack};
+ghost use Rattle.boxes.specs.Writing.{NoneFree, PutsBox, PutsNone, BringsBack, Replaces, ReplacesNone};
 
 use crate::laying::lay_all;
 use crate::rest::{Rest, keep_at};
@@ -101,9 +101,7 @@ impl<V: Drop, A: Allocator> BoxWriter<V, A> {
     /// once. None where no such box is left.
     pub fn reclaim<J, B: Allocator>(&mut self, cpu: &mut Cpu<J, B>) -> Option<Box<V, A>>
         requires cell { IsCellOf cpu.old.cpu (cell_of self.old) }
-        ensures back { MatchOption result
-            (NoneComesBack self.old cpu.old.cpu self.new cpu.new.cpu)
-            (λ whole. (s : Stored V A) × (whole.value ≡ s.value) × (box_allocator whole ≡ s.heap) × ComesBack s self.old cpu.old.cpu self.new cpu.new.cpu) }
+        ensures back { BringsBack result self.old cpu.old.cpu self.new cpu.new.cpu }
         ensures same { cell_of self.new ≡ cell_of self.old }
         ensures rest { cpu.new ≡ with_cpu cpu.new.cpu cpu.old }
         ensures stays { Stays cpu.old cpu.new }
@@ -118,7 +116,8 @@ impl<V: Drop, A: Allocator> BoxWriter<V, A> {
         None
     }
 
-    /// Puts a box as [`BoxWriter::put`] does, and has an older one back first, if one can come back.
+    /// Puts a box as [`BoxWriter::put`] does, and has an older one back first, if one can come back. The box is handed back
+    /// where no slot is free; then no other one came back.
     pub fn replace<J, B: Allocator>(
         &mut self,
         domain: &Domain<J, B>,
@@ -129,6 +128,9 @@ impl<V: Drop, A: Allocator> BoxWriter<V, A> {
         requires cell { IsCellIn domain.now (cell_of self.old) }
         ensures here { IsOf domain.now cpu.new }
         ensures same { cell_of self.new ≡ cell_of self.old }
+        ensures puts { MatchResult result
+            (λ old. Replaces whole old self.old cpu.old self.new cpu.new)
+            (λ back. (back ≡ whole) × ReplacesNone self.old cpu.old self.new cpu.new) }
     {
         let old = self.reclaim(cpu);
         match self.put(domain, cpu, whole) {

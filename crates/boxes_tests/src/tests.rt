@@ -2,6 +2,7 @@
 
 mod alone;
 mod bells;
+mod lasting;
 mod threads;
 
 use boxes::{Boxes, LooseBoxWriter, make};

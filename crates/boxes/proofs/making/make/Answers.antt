@@ -10,7 +10,10 @@ use Rattle.sections.specs.Boxes.{KnowsVault}
 use Rattle.sections.proofs.CallerLemmas.{put_known, put_knows}
 use Rattle.std.specs.Arc.{arc_value}
 use Rattle.sections.specs.Boxes.{vault_of}
+use Rattle.domain.specs.Views.{CpuView}
 use Rattle.boxes.specs.Laying.{HasKeys}
+use Rattle.boxes.specs.Writing.{Equips}
+use Rattle.boxes.proofs.Putting.{same_trans, same_planned}
 use Rattle.boxes.proofs.Slots.{put_none_keeps, none_laid}
 use Rattle.boxes.proofs.making.make.Goals as goal
 
@@ -44,3 +47,12 @@ invariant_of-boxes g c =
       inside = subst (λ (z : ℕ × TableId). z.0 < cells_in z.1) (λ i. (sym c.cell-cell.ensures i, domain i)) c.current-first.ensures.inside;
       knows = subst (λ (z : ℕ × TableId × List Text). KnowsVault z.0 (8 * n) z.1 z.2) (λ i. (sym (c.cell-cell.ensures ∙ p.cell) i, vault i, ap (λ z. z.texts) (sym first) i)) (put_knows _ _ (8 * n) _ _ _ _ p (omega (arith, some)) (omega (arith, all)));
     }
+
+pub returns-clause-puts : goal.returns-clause-puts
+returns-clause-puts g c = subst (λ (z : CpuView _). Equips c.args.writer c.args.cpu.now c.put_and_ask.new.self z) (sym c.current-first.ensures.same) (record {
+  equipped = c.lay_keys.new.writer;
+  same = same_trans c.args.writer c.blank.new.self c.lay_keys.new.writer c.in-Some.ensures.same (same_planned c.blank.new.self c.lay_keys.new.writer c.lay_keys.ensures.rest);
+  slot = c.in-Some.slot.slot;
+  cookie = c.put_and_ask.result;
+  puts = c.put_and_ask.ensures.puts;
+})

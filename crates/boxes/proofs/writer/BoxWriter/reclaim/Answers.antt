@@ -13,8 +13,7 @@ returns-in-Some-clause-back g c =
     let b = c.in-Some.ensures in
     rw (← c.self.view_is) (
       b.0,
-      b.1,
-      b.2,
+      (b.1, b.2),
       record {
         asked = c.reclaim.new.self;
         reclaims = c.reclaim.ensures.reclaims;

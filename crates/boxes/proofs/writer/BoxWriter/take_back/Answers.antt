@@ -6,7 +6,7 @@ use Rattle.sections.specs.declared.writer.Standing.TheVariants.{Blank}
 use Rattle.sections.specs.Writers.{standing_of}
 use Rattle.boxes.specs.declared.rest.Rest.{Rest}
 use Rattle.boxes.specs.Insides.{stored_of, AreLaid}
-use Rattle.boxes.proofs.Keeping.{stored_is, stored_set}
+use Rattle.boxes.proofs.Keeping.{stored_is, stored_set, set_nothing}
 use Rattle.boxes.proofs.Slots.{back_keeps, back_asks}
 use Rattle.boxes.proofs.Putting.{same_trans, same_writer}
 use Rattle.boxes.proofs.writer.BoxWriter.take_back.Goals as goal
@@ -65,9 +65,11 @@ returns g c =
       c.thaw.ensures.deed.0 ∙ ap (λ z. z.value) c.into_deed.ensures,
       c.thaw.ensures.deed.1 ∙ ap (λ z. z.heap) c.into_deed.ensures,
       record {
+        room = gives.room;
         blank = subst (λ (x : ℕ). standing_of c.self.inside.writer x ≡ Blank) c.in_ok-given.ensures.0 gives.blank;
         was = stored_is c.self.inside.rests c.args.slot ∙ ap stored_of some;
         stored = ap (map stored_of) c.take_at.ensures.row ∙ stored_set c.self.inside.rests c.args.slot None;
+        free = subst (λ (x : ℕ). standing_of c.give_back.new.self x ≡ Blank) c.in_ok-given.ensures.0 (ap (λ l. get_or l c.in_ok-given.given.slot Blank) c.give_back.ensures.back.standings ∙ set_nothing _ c.in_ok-given.given.slot Blank);
         cell = λ n. record { domain = same.domain n; cell = same.cell n; processors = c.self.inside.processors; vault = arc_value c.self.inside.vault };
         same = same;
       },
