@@ -3,6 +3,8 @@
 
 ghost use Rattle.std.specs.Prelude.{◌≡◌};
 
+mod ports;
+
 use anyhow::Result;
 use srcu::{Refusal, Stop, Team, WIDEST, Worker, make};
 use std::sync::Wait;
@@ -68,5 +70,7 @@ fn run<R: Wait + Threads + AllocGlobal + Sync>(rt: &R) -> Result<(bool, u64), Re
 fn main(rt: HostRuntime) -> Result<()> {
     let (queued, digits) = run(&rt)?;
     println!(rt; "queued: {queued}, ran: {digits}")?;
+    let (first, second) = ports::look(&rt)?;
+    println!(rt; "open: {first}, then: {second}")?;
     Ok(())
 }

@@ -1,7 +1,8 @@
 -- Behind each call of a worker its processor is still of the domain, and no reading is open there.
-use Rattle.std.proofs.Common.{◌≡◌, ◌<◌, ℕ, cond, Option, Result, Ok, Err, List, [], ◌∷◌, ◌++◌, All, refl, sym, ap, ◌∙◌, subst}
+use Rattle.std.proofs.Common.{◌≡◌, ◌<◌, ℕ, cond, Option, Result, Ok, Err, List, [], ◌∷◌, ◌++◌, All, get_or, refl, sym, ap, ◌∙◌, subst, arith}
 use Rattle.std.proofs.lemmas.List.Elements.{All-push}
 use Rattle.std.specs.Prelude.{MatchResult, IfOk, is_ok}
+use Rattle.sseq.specs.Numbers.{cookie_at}
 use Rattle.sections.specs.Words.{cells_in}
 use Rattle.sections.specs.Dealing.{AreNewWriters}
 use Rattle.sections.specs.Views.{ReadingView}
@@ -10,7 +11,9 @@ use Rattle.sections.specs.WriterViews.{WriterView}
 use Rattle.domain.specs.Views.{DomainView, CpuView, Stays}
 use Rattle.domain.specs.Publishing.{FindsNone}
 use Rattle.domain.specs.Waiting.{HasNoneOpen}
-use Rattle.domain.specs.Acting.{takes, loads, ActsAs}
+use Rattle.domain.specs.declared.watching.snapshot.Snapshot.{Snapshot}
+use Rattle.domain.specs.Acting.{takes, loads, notes, ActsAs}
+use Rattle.domain.specs.Watching.{Snaps}
 use Rattle.domain.proofs.CallerLemmas.{same_put, same_reclaimed, none_still, none_looked, none_enclosed, none_held, writers_here}
 use Rattle.driver.specs.Pools.{IsIdle}
 use Rattle.driver.specs.Works.{IsKept}
@@ -45,9 +48,12 @@ pub all_pushed : {X U E : Type 0} (P : X → Type 0) (xs ys : List X) (x : X) (r
 all_pushed P xs ys x (Ok u) is all p = subst (All P) (sym is) (All-push P xs x all p)
 all_pushed P xs ys x (Err e) is all p = subst (All P) (sym is) all
 
--- the writers of a new domain are those of its cells
+-- the writers of a new domain are those of its cells, none of which is one of boxes
 pub new_writers : (d : DomainView) (cells slots : ℕ) (writers : List WriterView) → cells_in d.domain ≡ cells → AreNewWriters d.domain cells slots writers → AreWritersOf d writers
-new_writers d cells slots writers many made = subst (λ n. All (λ (w : WriterView). (w.domain ≡ d.domain) × (w.cell < n)) writers) (sym many) (writers_here d.domain cells slots writers made)
+new_writers d cells slots writers many made = λ k w lt.
+    let here = writers_here d.domain cells slots writers made k w lt in
+    let there : k < cells = (let count = made.count in omega (arith, lt, count)) in
+    ((here.0, subst (λ n. (get_or writers k w).cell < n) (sym many) here.1), ap (λ (z : WriterView). z.plan) (made.each k w there))
 
 module _ {J : Type 0} where
   -- where the same readings are open, none is
@@ -84,6 +90,11 @@ module _ {J : Type 0} where
   pub idle_taken : {X E : Type 0} (d : DomainView) (changes p : ℕ) (c c' : CpuView J) (r : Result X E) → IsIdle d c → MatchResult r (λ _. ActsAs (takes changes p) c c') (λ _. ActsAs loads c c') → IsIdle d c'
   idle_taken d changes p c c' (Ok x) idle acts = idle_still d c c' idle (kept_plain c c' acts _ refl refl (λ s. refl))
   idle_taken d changes p c c' (Err e) idle acts = idle_still d c c' idle (kept_quiet c c' acts refl)
+
+  -- nor does a look at the whole domain
+  pub idle_snapped : {A E : Type 0} (d : DomainView) (c c' : CpuView J) (r : Result (Snapshot A) E) → IsIdle d c → IfOk r (λ s. ActsAs (notes (cookie_at s.number)) c c') → MatchResult r (λ s. Snaps s c c') (λ _. c' ≡ c) → IsIdle d c'
+  idle_snapped d c c' (Ok s) idle acts snaps = idle_still d c c' idle (kept_plain c c' acts _ refl refl (λ n. refl))
+  idle_snapped d c c' (Err e) idle acts same = subst (IsIdle d) (sym same) idle
 
   -- Changing
 

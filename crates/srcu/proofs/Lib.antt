@@ -1,3 +1,4 @@
 pub mod CallerLemmas
+mod Boxing
 mod Keeping
 mod Leasing

@@ -13,6 +13,7 @@ pub mod Words
 pub mod Workers
 pub mod Leases
 pub mod Answers
+pub mod Boxing
 pub mod Insides
 pub mod Teams
 pub mod TeamInsides

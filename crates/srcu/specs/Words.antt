@@ -7,7 +7,7 @@ pub use Rattle.sections.specs.Calls.{IsSameCpu}
 pub use Rattle.sections.specs.WriterViews.{WriterView}
 pub use Rattle.domain.specs.Waiting.{HasNoneOpen}
 pub use Rattle.driver.specs.Pools.{IsIdle, IsOut}
-pub use Rattle.srcu.specs.Workers.{WorkerView, IsSameWorker, IsCellOf, IsWriterOf, AreWritersOf}
+pub use Rattle.srcu.specs.Workers.{WorkerView, IsSameWorker, IsCellOf, IsWriterOf, AreWritersOf, AreBoxesOf, IsBoxWriterOf}
 pub use Rattle.srcu.specs.Teams.{TeamView}
 -- waiting
 pub use Rattle.domain.specs.Waiting.{Synchronizes, WaitsInVain, WaitedFor, StartsPoll}
@@ -29,6 +29,12 @@ pub use Rattle.srcu.specs.Workers.{ReadsOnce}
 pub use Rattle.srcu.specs.Leases.{HasPlug}
 pub use Rattle.shelf.specs.Cells.{CellView, IsCellIn, cell_of}
 pub use Rattle.shelf.specs.Replacing.{Replaces}
+-- boxes
+pub use Rattle.boxes.specs.Boxes.{BoxesView, BoxWriterView, PinView, Stored}
+pub use Rattle.boxes.specs.Showing.{ShowsBox}
+pub use Rattle.boxes.specs.Writing.{BringsBack, PutsNone}
+pub use Rattle.srcu.specs.Boxing.{ReplacesBox, ReplacesNoBox}
+-- tables and chains
 pub use Rattle.plugs.specs.Views.{TableState, LeaseView}
 pub use Rattle.plugs.specs.Tables.{plug_of}
 pub use Rattle.plugs.specs.Reading.{LooksUp, Leases, Gets}

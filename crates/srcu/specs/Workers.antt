@@ -6,6 +6,9 @@ use Rattle.sections.specs.Calls.{ReadLocks, Unlocks}
 use Rattle.domain.specs.Views.{DomainView, CpuView, with_cpu}
 use Rattle.shelf.specs.Cells.{CellView, IsCellIn, cell_of}
 use Rattle.shelf.specs.Reading.{Reads}
+use Rattle.boxes.specs.Boxes.{BoxesView, BoxWriterView}
+use Rattle.boxes.specs.Boxes as boxes
+use Rattle.boxes.specs.Writing.{IsPlain}
 
 -- `domain` is the worker's domain, and `cpu` its processor
 pub record WorkerView (J : Type 0) : Type 0 where
@@ -16,12 +19,20 @@ pub record WorkerView (J : Type 0) : Type 0 where
 abbrev pub IsCellOf : DomainView → CellView → Type 0
 IsCellOf d place = IsCellIn d.domain place
 
--- the writer of a cell of this domain
+-- the writer of a cell of this domain, which is no cell of boxes yet
 abbrev pub IsWriterOf : DomainView → WriterView → Type 0
-IsWriterOf d w = IsCellOf d (cell_of w)
+IsWriterOf d w = IsCellOf d (cell_of w) × IsPlain w
 
 abbrev pub AreWritersOf : DomainView → List WriterView → Type 0
 AreWritersOf d writers = All (IsWriterOf d) writers
+
+-- a cell of boxes of this domain
+abbrev pub AreBoxesOf : DomainView → BoxesView → Type 0
+AreBoxesOf d b = boxes.IsCellIn d b
+
+-- the writer of one
+abbrev pub IsBoxWriterOf : {V A : Type 0} → DomainView → BoxWriterView V A → Type 0
+IsBoxWriterOf d w = AreBoxesOf d (boxes.cell_of w)
 
 module _ {J : Type 0} where
   -- the same domain, and the processor of the same number

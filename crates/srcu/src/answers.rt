@@ -1,6 +1,9 @@
-//! Answers of several numbers, with names.
+//! Answers with names.
 ghost use Rattle.std.specs.Prelude.{◌≡◌, ◌∷◌, [], length, slice_index};
 ghost use Rattle.srcu.specs.Answers.{pair_of};
+
+use shelf::NoSlot;
+use thiserror::Error;
 
 /// How many jobs of a processor wait for what. What a batch has out isn't counted.
 #[derive(Clone, Copy, Debug, PartialEq, Eq)]
@@ -49,4 +52,16 @@ pub struct Called {
 pub struct Ids {
     pub ids: [u64; 15],
     pub count: usize,
+}
+
+/// Why [`Worker::replace_box`](crate::Worker::replace_box) put nothing.
+#[derive(Clone, Copy, Debug, Error, PartialEq, Eq)]
+pub enum BoxRefusal {
+    /// There was no memory for the box. No step was made.
+    #[error("out of memory: free some, and call again")]
+    Memory,
+    /// No slot is free: each holds the current version, or one that a section may still read. Or the cell has had 2^54
+    /// versions.
+    #[error("{}", NoSlot)]
+    NoSlot,
 }

@@ -8,16 +8,18 @@ mod refusal;
 mod team;
 mod worker;
 
-pub use answers::{Called, Ids, Lens};
+pub use answers::{BoxRefusal, Called, Ids, Lens};
+pub use boxes::{BoxPin, BoxWriter, Boxes, LooseBoxWriter, Terms, make as make_boxes};
 pub use domain::{
-    AdvanceRefusal, Batch, CallRefusal, Columns, Cookie, CookieSet, Counts, Cpu, Domain, Exhausted,
-    Glance, Held, HeldPin, Holder, InUse, Index, Limits, MakeError, Memory, Number, Pair,
-    PeriodsExhausted, Pin, Progress, Reading, Receipt, Snapshot, TakeRefusal, Ticket, TimedOut,
-    Totals, WaitRefusal, Writer,
+    AdvanceRefusal, Batch, CallRefusal, Columns, Cookie, CookieSet, Counters, Counts, Cpu, Domain,
+    DownPin, Exhausted, Glance, Heard, Held, HeldPin, Holder, InUse, Index, Limits, Look,
+    MOST_PROCESSORS, MakeError, Memory, NotACookie, Number, Pair, PeriodsExhausted, Pin, Progress,
+    Reading, Receipt, SetFull, Slot, Snapshot, StartRefusal, TakeRefusal, Ticket, TimedOut, Totals,
+    WaitRefusal, Writer,
 };
 pub use driver::{
-    GiveRefusal, Lent, Pool, Report, Served, Slip, Stall, Stop, Stopped, Tallied, Tally, Told,
-    serve_with,
+    AtHome, GiveRefusal, Lent, Pool, Report, Served, Slip, Stall, Stop, Stopped, Tallied, Tally,
+    Told, serve_with,
 };
 pub use limits::WIDEST;
 pub use making::{clean_up, make};

@@ -1,63 +1,70 @@
 //! One type for all refusals, which a program hands on by `?`.
+use crate::answers::BoxRefusal;
 use domain::{
-    AdvanceRefusal, CallRefusal, Cpu, Domain, Exhausted, InUse, MakeError, PeriodsExhausted,
-    TakeRefusal, TimedOut, WaitRefusal,
+    AdvanceRefusal, CallRefusal, Cookie, Cpu, Domain, Exhausted, InUse, MakeError, NotACookie,
+    PeriodsExhausted, SetFull, StartRefusal, TakeRefusal, TimedOut, WaitRefusal,
 };
-use driver::{GiveRefusal, Served};
+use driver::{AtHome, GiveRefusal, Served};
 use notify::{RegisterRefusal, UnregisterRefusal};
 use plugs::{InstallRefusal, RemoveRefusal};
 use shelf::NoSlot;
 use std::alloc::{AllocError, AllocFailed, Allocator};
 use thiserror::Error;
 
-/// Why a call was refused. The text says what to do. `?` drops what came back beside it: a job, a cookie, a domain. Match on the
+/// Why a call was refused. The text says what to do, and is the refused call's own. `?` drops what came back beside it: a job, a cookie, a domain. Match on the
 /// call's own refusal to keep that.
 #[derive(Clone, Copy, Debug, Error, PartialEq, Eq)]
 pub enum Refusal {
     /// An allocation was refused.
-    #[error("out of memory: free some, and call again")]
+    #[error("{}", CallRefusal::Memory)]
     Memory,
     /// The number of processors is 0 or above 256.
-    #[error("a domain has from 1 to 256 processors: ask for so many")]
+    #[error("{}", MakeError::Processors)]
     Processors,
     /// A limit of the domain is out of its range.
-    #[error("a limit is out of its range: begin with `WIDEST`")]
+    #[error("{}", MakeError::Limits)]
     Limits,
     /// The processor has begun as many sections of the index as `Limits.sections` allows.
-    #[error("no more sections may begin on this processor: read on another one")]
+    #[error("{}", Exhausted)]
     Sections,
     /// As many grace periods have ended as `Limits.periods` allows.
-    #[error("no more grace periods may start: make a new domain")]
+    #[error("{}", PeriodsExhausted)]
     Periods,
+    /// The number is no cookie's.
+    #[error("{}", NotACookie)]
+    NotACookie,
+    /// The set has eight cookies.
+    #[error("{}", SetFull)]
+    SetFull,
     /// The limit passed before the wait ended.
-    #[error("the time is over: find who holds it up, and wait again")]
+    #[error("{}", TimedOut)]
     TimedOut,
     /// 2^54 jobs were queued on the processor.
-    #[error("no more jobs may be queued on this processor: queue on another one")]
+    #[error("{}", CallRefusal::Exhausted)]
     Jobs,
     /// Another call has the engine.
-    #[error("another call drives the grace period: call again")]
+    #[error("{}", AdvanceRefusal::Busy)]
     Busy,
     /// A batch of the processor is out.
-    #[error("a batch of this processor is out: finish it, and call again")]
+    #[error("{}", TakeRefusal::Invoking)]
     Invoking,
     /// Every slot holds the current version or one that a section may still read. Or the cell has had 2^54 versions.
-    #[error("no slot of the cell is free: synchronize, and call again")]
+    #[error("{}", NoSlot)]
     NoSlot,
     /// The table has fifteen keys.
-    #[error("the table is full: remove a key, and call again")]
+    #[error("{}", InstallRefusal::Full)]
     TableFull,
     /// The key is not in the table.
-    #[error("the key is not in the table: install it before")]
+    #[error("{}", RemoveRefusal::NotThere)]
     NoKey,
     /// The chain has fifteen handlers.
-    #[error("the chain is full: unregister a handler, and call again")]
+    #[error("{}", RegisterRefusal::Full)]
     ChainFull,
     /// The handler is in the chain.
-    #[error("the handler is in the chain: unregister it before")]
+    #[error("{}", RegisterRefusal::There)]
     Registered,
     /// The handler is not in the chain.
-    #[error("the handler is not in the chain: register it before")]
+    #[error("{}", UnregisterRefusal::NotThere)]
     NotRegistered,
     /// A team has no worker left.
     #[error("no worker is left: make the domain with more processors")]
@@ -65,20 +72,23 @@ pub enum Refusal {
     /// A team has no writer left.
     #[error("no writer is left: make the domain with more cells")]
     NoWriter,
+    /// All processors of the pool are out.
+    #[error("no processor is at home: give one back, and call again")]
+    NoneAtHome,
     /// The sign was given before.
     #[error("the sign was given before: wait for the driver's end")]
     Given,
     /// The domain lacks so many of its processors.
-    #[error("processors that are out: {0}; hand in all of them")]
+    #[error("{}", InUse::Missing(*.0))]
     Missing(u16),
     /// So many sections are open.
-    #[error("sections that are open: {0}; close them before")]
+    #[error("{}", InUse::Sections(*.0))]
     Open(u64),
     /// A grace period runs.
-    #[error("a grace period runs: drive it to its end before")]
+    #[error("{}", InUse::Period)]
     Running,
     /// So many jobs are queued and not finished.
-    #[error("jobs that are not finished: {0}; wait in a barrier before")]
+    #[error("{}", InUse::Callbacks(*.0))]
     Unfinished(u128),
 }
 
@@ -146,6 +156,34 @@ impl From<AdvanceRefusal> for Refusal {
     }
 }
 
+impl From<StartRefusal> for Refusal {
+    fn from(refusal: StartRefusal) -> Refusal {
+        match refusal {
+            StartRefusal::Busy => Refusal::Busy,
+            StartRefusal::Running => Refusal::Running,
+            StartRefusal::Exhausted => Refusal::Periods,
+        }
+    }
+}
+
+impl From<NotACookie> for Refusal {
+    fn from(_refusal: NotACookie) -> Refusal {
+        Refusal::NotACookie
+    }
+}
+
+impl From<SetFull> for Refusal {
+    fn from(_refusal: SetFull) -> Refusal {
+        Refusal::SetFull
+    }
+}
+
+impl From<(Cookie, SetFull)> for Refusal {
+    fn from(refusal: (Cookie, SetFull)) -> Refusal {
+        refusal.1.into()
+    }
+}
+
 impl From<CallRefusal> for Refusal {
     fn from(refusal: CallRefusal) -> Refusal {
         match refusal {
@@ -173,6 +211,21 @@ impl From<TakeRefusal> for Refusal {
 impl From<NoSlot> for Refusal {
     fn from(_refusal: NoSlot) -> Refusal {
         Refusal::NoSlot
+    }
+}
+
+impl From<BoxRefusal> for Refusal {
+    fn from(refusal: BoxRefusal) -> Refusal {
+        match refusal {
+            BoxRefusal::Memory => Refusal::Memory,
+            BoxRefusal::NoSlot => Refusal::NoSlot,
+        }
+    }
+}
+
+impl<V: Drop> From<(V, BoxRefusal)> for Refusal {
+    fn from(refusal: (V, BoxRefusal)) -> Refusal {
+        refusal.1.into()
     }
 }
 
@@ -212,6 +265,13 @@ impl From<UnregisterRefusal> for Refusal {
             UnregisterRefusal::NotThere => Refusal::NotRegistered,
             UnregisterRefusal::NoSlot => Refusal::NoSlot,
         }
+    }
+}
+
+/// What [`Pool::try_take`](crate::Pool::try_take) and `try_with` saw where they are refused.
+impl<J: Drop, A: Allocator> From<AtHome<J, A>> for Refusal {
+    fn from(_home: AtHome<J, A>) -> Refusal {
+        Refusal::NoneAtHome
     }
 }
 

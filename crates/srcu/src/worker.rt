@@ -6,6 +6,7 @@ use domain::{Cpu, Domain};
 use std::alloc::{Allocator, Global};
 use std::marker::Model;
 
+mod boxing;
 mod calling;
 mod changing;
 mod driving;
@@ -13,6 +14,7 @@ mod holding;
 mod reading;
 mod taking;
 mod waiting;
+mod watching;
 
 /// A processor with the domain that it is of, on which no reading is open. One thread owns it. So its calls ask for neither.
 /// Contracts see the domain and the processor.

@@ -1,2 +1,4 @@
+mod boxing;
 mod refusals;
+mod watching;
 mod workers;

@@ -2,7 +2,7 @@
 ghost use Rattle.std.specs.Prelude.{◌≡◌, IfErr, IfOk, MatchResult};
 ghost use Rattle.calls.specs.Barriers.{Starts, CoversAll, IsDone, AreFinished};
 ghost use Rattle.domain.specs.Views.{IsSameProcessor, with_calls};
-ghost use Rattle.domain.specs.Acting.{asks_for, ActsAs, QueuesNone};
+ghost use Rattle.domain.specs.Acting.{asks_for, loads, ActsAs, QueuesNone};
 ghost use Rattle.domain.specs.Barriers.{IsTicketOf};
 ghost use Rattle.domain.specs.Calling.{CallsIn, RefusesCall};
 ghost use Rattle.driver.specs.Serving.{Works, EndsInVain};
@@ -34,6 +34,7 @@ impl<'a, J: Drop, A: Allocator + Copy> Worker<'a, J, A> {
     pub fn barrier_start(&mut self) -> Result<Ticket<J, A>, Memory>
         ensures same { IsSameWorker self.old self.new }
         ensures starts { MatchResult result (λ ticket. Starts self.old.cpu.calls ticket self.new.cpu.calls) (λ _. self.new.cpu ≡ self.old.cpu) }
+        ensures acts { ActsAs loads self.old.cpu self.new.cpu }
         ensures rest { self.new.cpu ≡ with_calls self.new.cpu.calls self.old.cpu }
         ensures ticket { IfOk result (λ ticket. IsTicketOf self.old.domain ticket) }
         ensures covers { IfOk result (λ ticket. CoversAll ticket self.old.domain.processors self.old.cpu.calls.seen) }

@@ -1,6 +1,8 @@
 //! A driver, and the sign that ends it.
 ghost use Rattle.std.specs.Prelude.{◌≡◌, IfErr, IfOk, MatchResult};
+ghost use Rattle.calls.specs.Calls.{IsSameSeat};
 ghost use Rattle.domain.specs.Views.{IsSameProcessor, with_calls};
+ghost use Rattle.domain.specs.Acting.{loads, ActsAs};
 ghost use Rattle.driver.specs.GiveRefusals.{IsRefusedBy};
 ghost use Rattle.driver.specs.Serving.{Works, EndsInVain, IsStopped, AllFinished};
 ghost use Rattle.driver.specs.Signs.{Gives, IsServed};
@@ -13,9 +15,9 @@ use std::alloc::Allocator;
 use std::sync::Wait;
 
 impl<'a, J: Drop, A: Allocator + Copy> Worker<'a, J, A> {
-    /// Drives grace periods and runs each job by `work`, until the sign is given, and then until each job is finished whose
-    /// queueing had been seen by whoever gave it, or by this worker before the call (`srcu_invoke_callbacks`). It returns
-    /// early, with what it did so far, where no more grace periods may start.
+    /// Drives grace periods and runs each job by `work`, until the sign is given (`srcu_invoke_callbacks`). Then it goes on
+    /// until each job is finished whose queueing this worker had seen before the call, or the processor that gave the sign
+    /// ([`Worker::tell`]). It returns early, with what it did so far, where no more grace periods may start.
     pub fn serve<R: Wait, F: FnMut(J)>(
         &mut self,
         rt: &R,
@@ -45,7 +47,9 @@ impl<'a, J: Drop, A: Allocator + Copy> Worker<'a, J, A> {
     ) -> Result<Told<J, A>, GiveRefusal<J, A>>
         requires { stop.now.domain ≡ self.old.domain }
         ensures same { IsSameWorker self.old self.new }
+        ensures seat { IsSameSeat self.old.cpu.calls self.new.cpu.calls }
         ensures rest { self.new.cpu ≡ with_calls self.new.cpu.calls self.old.cpu }
+        ensures acts { ActsAs loads self.old.cpu self.new.cpu }
         ensures gives { MatchResult result
             (λ told. Gives stop.now self.old.cpu told self.new.cpu)
             (λ refusal. IsRefusedBy stop.now self.old.cpu refusal self.new.cpu) }

@@ -1,7 +1,9 @@
 //! Sections, each of which closes itself, and leases.
-ghost use Rattle.std.specs.Prelude.{◌≡◌, ◌≤◌, length, IfOk, MatchResult};
+ghost use Rattle.std.specs.Prelude.{◌≡◌, ◌≤◌, length, IfErr, IfOk, MatchResult};
+ghost use Rattle.onedom.specs.Histories.{index_of};
 ghost use Rattle.sections.specs.Calls.{LooksInVain, Unlocks};
 ghost use Rattle.domain.specs.Views.{with_cpu};
+ghost use Rattle.domain.specs.Acting.{loads, ends, ActsAs};
 ghost use Rattle.driver.specs.Pools.{IsIdle};
 ghost use Rattle.driver.specs.Works as works;
 ghost use Rattle.driver.specs.Works.{MayRead, KeepsReadings, ReadsIn};
@@ -60,6 +62,7 @@ impl<'a, J, A: Allocator> Worker<'a, J, A> {
             (λ plug. LooksUp table.now.cell key plug self.old.cpu self.new.cpu)
             (λ _. LooksInVain self.old.cpu.cpu self.new.cpu.cpu) }
         ensures rest { self.new.cpu ≡ with_cpu self.new.cpu.cpu self.old.cpu }
+        ensures refused { IfErr result (λ _. ActsAs loads self.old.cpu self.new.cpu) }
     {
         table.lookup(&mut self.cpu, key)
     }
@@ -73,6 +76,7 @@ impl<'a, J, A: Allocator> Worker<'a, J, A> {
             (λ _. LooksInVain self.old.cpu.cpu self.new.cpu.cpu) }
         ensures here { IfOk result (λ lease. lease.held.domain ≡ self.old.domain.domain) }
         ensures rest { self.new.cpu ≡ with_cpu self.new.cpu.cpu self.old.cpu }
+        ensures refused { IfErr result (λ _. ActsAs loads self.old.cpu self.new.cpu) }
     {
         table.lease(&mut self.cpu)
     }
@@ -87,6 +91,7 @@ impl<'a, J, A: Allocator> Worker<'a, J, A> {
         ensures plug { HasPlug lease.old.found key result }
         ensures lease { lease.new ≡ lease.old }
         ensures rest { self.new.cpu ≡ with_cpu self.new.cpu.cpu self.old.cpu }
+        ensures acts { ActsAs loads self.old.cpu self.new.cpu }
     {
         lease.get(&mut self.cpu, key)
     }
@@ -96,7 +101,9 @@ impl<'a, J, A: Allocator> Worker<'a, J, A> {
         requires { lease.held.domain ≡ self.old.domain.domain }
         ensures same { IsSameWorker self.old self.new }
         ensures ends { Unlocks lease.held self.old.cpu.cpu self.new.cpu.cpu }
+        ensures index { index_of lease.held.section self.new.cpu.cpu.seen ≡ lease.held.index }
         ensures rest { self.new.cpu ≡ with_cpu self.new.cpu.cpu self.old.cpu }
+        ensures acts { ActsAs (ends lease.held.section) self.old.cpu self.new.cpu }
     {
         release(lease, &mut self.cpu);
     }

@@ -85,8 +85,21 @@ impl<'a, J, A: Allocator> Worker<'a, J, A> {
         self.domain.barrier_poll(&mut self.cpu, ticket)
     }
 
-    /// Waits until the ticket's jobs are finished, for so long at most. Other threads drive and run them: this call only polls,
-    /// where [`Worker::serve_until`] works.
+    /// Waits until the ticket's jobs are finished (the second half of `srcu_barrier`). Other threads drive and run them: this
+    /// call only polls, where [`Worker::serve_until`] works.
+    pub fn barrier<R: Wait>(&mut self, rt: &R, ticket: &Ticket<J, A>)
+        requires { IsTicketOf self.old.domain ticket.now }
+        ensures same { IsSameWorker self.old self.new }
+        ensures waits { PollsUntilDone ticket.now self.old.cpu.calls self.new.cpu.calls }
+        ensures acts { ActsAs loads self.old.cpu self.new.cpu }
+        ensures rest { self.new.cpu ≡ with_calls self.new.cpu.calls self.old.cpu }
+        ensures done { IsDone ticket.now self.new.cpu.calls.seen }
+        ensures finished { AreFinished ticket.now self.new.cpu.calls.seen }
+    {
+        self.domain.barrier(rt, &mut self.cpu, ticket);
+    }
+
+    /// As [`Worker::barrier`], for so long at most.
     pub fn barrier_for<R: Wait + Clock>(
         &mut self,
         rt: &R,

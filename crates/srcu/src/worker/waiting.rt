@@ -4,7 +4,7 @@ ghost use Rattle.sections.specs.Calls.{Asks, AllClosed, GivesCookie};
 ghost use Rattle.sections.specs.Views.{IsKnownIn};
 ghost use Rattle.scan.specs.Standings.{IsWithin};
 ghost use Rattle.domain.specs.Views.{IsSameProcessor, with_cpu};
-ghost use Rattle.domain.specs.Acting.{asks_for, notes, ActsAs};
+ghost use Rattle.domain.specs.Acting.{asks_for, asks_whether, notes, ActsAs};
 ghost use Rattle.domain.specs.Limited.{IsCutShort};
 ghost use Rattle.domain.specs.Turns.{AdvancesIn, CarriesOnIn, IsRefused, SaysOf, SaysAtLast, SaysWhy};
 ghost use Rattle.domain.specs.Waiting.{StartsPoll, Synchronizes, WaitsInVain, WaitedFor};
@@ -78,6 +78,7 @@ impl<'a, J, A: Allocator> Worker<'a, J, A> {
         ensures cookie { cookie.new ≡ cookie.old }
         ensures closed { IsTrue result → AllClosed cookie.old.seen self.new.cpu.cpu.seen }
         ensures rest { self.new.cpu ≡ with_cpu self.new.cpu.cpu self.old.cpu }
+        ensures acts { ActsAs (asks_whether cookie.old.number result) self.old.cpu self.new.cpu }
     {
         self.cpu.poll(cookie)
     }

@@ -1,8 +1,8 @@
 //! What each refusal of the libraries below becomes, and its text.
 use srcu::{
-    AdvanceRefusal, CallRefusal, Exhausted, GiveRefusal, InUse, InstallRefusal, MakeError, NoSlot,
-    PeriodsExhausted, Refusal, RegisterRefusal, RemoveRefusal, Served, TakeRefusal, TimedOut,
-    UnregisterRefusal, WaitRefusal,
+    AdvanceRefusal, BoxRefusal, CallRefusal, Exhausted, GiveRefusal, InUse, InstallRefusal,
+    MakeError, NoSlot, NotACookie, PeriodsExhausted, Refusal, RegisterRefusal, RemoveRefusal,
+    Served, SetFull, StartRefusal, TakeRefusal, TimedOut, UnregisterRefusal, WaitRefusal,
 };
 use std::alloc::AllocError;
 use std::test::Fail;
@@ -48,6 +48,17 @@ fn refusals_of_sections_and_periods(rt: HostRuntime) -> Result<(), Fail> {
     );
     let waited: [Refusal; 2] = [TimedOut.into(), WaitRefusal::Exhausted.into()];
     assert_eq!(rt; waited, [Refusal::TimedOut, Refusal::Periods]);
+    let started: [Refusal; 3] = [
+        StartRefusal::Busy.into(),
+        StartRefusal::Running.into(),
+        StartRefusal::Exhausted.into(),
+    ];
+    assert_eq!(rt;
+        started,
+        [Refusal::Busy, Refusal::Running, Refusal::Periods]
+    );
+    let asked: [Refusal; 2] = [NotACookie.into(), SetFull.into()];
+    assert_eq!(rt; asked, [Refusal::NotACookie, Refusal::SetFull]);
     Ok(())
 }
 
@@ -115,6 +126,13 @@ fn refusals_of_versions(rt: HostRuntime) -> Result<(), Fail> {
             Refusal::NoSlot
         ]
     );
+    let value: u64 = 7;
+    let boxes: [Refusal; 3] = [
+        BoxRefusal::Memory.into(),
+        BoxRefusal::NoSlot.into(),
+        (value, BoxRefusal::NoSlot).into(),
+    ];
+    assert_eq!(rt; boxes, [Refusal::Memory, Refusal::NoSlot, Refusal::NoSlot]);
     let chains: [Refusal; 6] = [
         RegisterRefusal::There.into(),
         RegisterRefusal::Full.into(),
@@ -138,7 +156,7 @@ fn refusals_of_versions(rt: HostRuntime) -> Result<(), Fail> {
 }
 
 /// Each refusal and its text.
-const TEXTS: [(Refusal, &str); 22] = [
+const TEXTS: [(Refusal, &str); 25] = [
     (Refusal::Memory, "out of memory: free some, and call again"),
     (
         Refusal::Processors,
@@ -146,15 +164,23 @@ const TEXTS: [(Refusal, &str); 22] = [
     ),
     (
         Refusal::Limits,
-        "a limit is out of its range: begin with `WIDEST`",
+        "a limit is out of its range: begin with `Limits::default()`",
     ),
     (
         Refusal::Sections,
-        "no more sections may begin on this processor: read on another one",
+        "no more sections of this index may begin here: begin on another processor",
     ),
     (
         Refusal::Periods,
         "no more grace periods may start: make a new domain",
+    ),
+    (
+        Refusal::NotACookie,
+        "this is no cookie's number: ask with 1 or a multiple of four",
+    ),
+    (
+        Refusal::SetFull,
+        "the set has eight cookies: begin another set",
     ),
     (
         Refusal::TimedOut,
@@ -164,10 +190,7 @@ const TEXTS: [(Refusal, &str); 22] = [
         Refusal::Jobs,
         "no more jobs may be queued on this processor: queue on another one",
     ),
-    (
-        Refusal::Busy,
-        "another call drives the grace period: call again",
-    ),
+    (Refusal::Busy, "another call has the engine: call again"),
     (
         Refusal::Invoking,
         "a batch of this processor is out: finish it, and call again",
@@ -205,6 +228,10 @@ const TEXTS: [(Refusal, &str); 22] = [
         "no writer is left: make the domain with more cells",
     ),
     (
+        Refusal::NoneAtHome,
+        "no processor is at home: give one back, and call again",
+    ),
+    (
         Refusal::Given,
         "the sign was given before: wait for the driver's end",
     ),
@@ -222,7 +249,7 @@ const TEXTS: [(Refusal, &str); 22] = [
     ),
     (
         Refusal::Unfinished(3),
-        "jobs that are not finished: 3; wait in a barrier before",
+        "callbacks that are not finished: 3; wait in a barrier before",
     ),
 ];
 

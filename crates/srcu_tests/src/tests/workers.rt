@@ -117,7 +117,8 @@ fn waits<R: Wait + Clock + AllocGlobal>(rt: &R) -> Result<Waits, Refusal> {
     wait_for_so_long(rt, &mut one, &mut other)
 }
 
-/// Would catch a wait that never ends, or ends before its section does, and a time that is over at once.
+/// Would catch a wait that never ends, a `synchronize_for` that ends before its section does or whose time is over at once, and a
+/// `barrier_for` that ends before its job has run.
 #[test]
 fn waits_for_so_long(rt: HostRuntime) -> Result<(), Fail> {
     let late = Some(Refusal::TimedOut);

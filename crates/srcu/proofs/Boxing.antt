@@ -1,0 +1,69 @@
+-- A call for boxes opens no reading, or closes the one that it opened.
+use Rattle.std.proofs.Common.{◌≡◌, ℕ, List, [], ◌∷◌, Option, Some, None, Result, Ok, Err, MatchOption, MatchResult, refl, sym, ap, ◌∙◌, subst}
+use Rattle.std.specs.Prelude.{Box}
+use Rattle.std.specs.Fn.{Once}
+use denote.Ref.{Bor}
+use Rattle.onedom.specs.declared.event.Event.TheVariants.{Find}
+use Rattle.onedom.specs.declared.event.Maker.TheVariants.{Processor}
+use Rattle.onedom.specs.Histories.{open_sections}
+use Rattle.onedom.proofs.CallerLemmas.{open_sections_plain}
+use Rattle.sections.specs.Views as sections
+use Rattle.sections.specs.Views.{ReadingView, FoundView}
+use Rattle.sections.specs.Calls.{LooksInVain}
+use Rattle.sections.specs.Loans.{CatchesUp}
+use Rattle.sections.specs.WriterViews.{WriterView}
+use Rattle.domain.specs.Views.{DomainView, CpuView, IsOf, with_cpu}
+use Rattle.domain.specs.Waiting.{HasNoneOpen}
+use Rattle.domain.specs.Writers.{PutsAndAsks}
+use Rattle.domain.proofs.CallerLemmas.{SameOpen, same_put, same_reclaimed, none_still, none_enclosed, none_looked}
+use Rattle.boxes.specs.Boxes.{BoxesView, BoxWriterView}
+use Rattle.boxes.specs.Reading.{FindsVersion}
+use Rattle.boxes.specs.Showing.{ShowsBox}
+use Rattle.boxes.specs.Writing.{BringsBack, Equips, IsHandedBack, NoneFree, PutsNone, PutsVersion, Replaces, ReplacesNone}
+use Rattle.srcu.specs.declared.answers.BoxRefusal.{BoxRefusal}
+use Rattle.srcu.specs.declared.answers.BoxRefusal.TheVariants.{Memory, NoSlot}
+use Rattle.srcu.specs.Boxing.{ReplacesNoBox}
+
+-- Reading
+
+same_version : (cell : ℕ) (r : ReadingView) (f : FoundView) (c c' : sections.CpuView) → FindsVersion cell r f c c' → SameOpen c c'
+same_version cell r f c c' h = ap open_sections h.mine ∙ open_sections_plain c.mine (Find r.section cell f.slot f.version (Processor c.processor)) refl (λ s. refl)
+
+same_caught : (r : ReadingView) (f : FoundView) (c c' : sections.CpuView) → CatchesUp r f c c' → SameOpen c c'
+same_caught r f c c' h = ap open_sections h.mine
+
+module _ {J : Type 0} where
+  module _ {V F T E : Type 0} (g : Once F (Bor V × Unit {0}) T) where
+    pub none_shown : (f : F) (b : BoxesView) (c c' : CpuView J) (r : Result (Option T) E) → MatchResult r (λ shown. ShowsBox g f b c.cpu c'.cpu shown) (λ _. LooksInVain c.cpu c'.cpu) → HasNoneOpen c → HasNoneOpen c'
+    none_shown f b c c' (Ok None) h none = none_enclosed c (with_cpu h.begun c) (with_cpu h.found c) c' h.section h.locks (same_version b.cell h.section h.finds.found h.begun h.found h.finds.finds) h.ends none
+    none_shown f b c c' (Ok (Some shown)) h none =
+        none_enclosed c (with_cpu h.begun c) (with_cpu h.released c) c' h.section h.locks
+        (same_caught h.section h.pin.found h.found h.released h.catches ∙ same_version b.cell h.section h.pin.found h.begun h.found h.finds.finds) h.ends none
+    none_shown f b c c' (Err e) h none = none_looked c c' h none
+
+-- Writing
+
+module _ {V A J : Type 0} where
+  none_put : (w w' : BoxWriterView V A) (cookie : ℕ) (c c' : CpuView J) → PutsVersion cookie w c w' c' → HasNoneOpen c → HasNoneOpen c'
+  none_put w w' cookie c c' h none = none_still c c' (same_put h.slot cookie h.filled w'.writer c.cpu c'.cpu h.puts.puts) none
+
+  pub none_reclaimed : (w w' : BoxWriterView V A) (c c' : CpuView J) (back : Option (Box V A)) → BringsBack back w c.cpu w' c'.cpu → HasNoneOpen c → HasNoneOpen c'
+  none_reclaimed w w' c c' None h none = none_still c c' (same_reclaimed w.writer w'.writer c.cpu c'.cpu h.reclaims) none
+  none_reclaimed w w' c c' (Some b) h none = none_still c c' (same_reclaimed w.writer h.2.asked c.cpu c'.cpu h.2.reclaims) none
+
+  pub none_retired : (w w' : BoxWriterView V A) (c c' : CpuView J) (r : Option ℕ) → MatchOption r (NoneFree w × (w' ≡ w) × (c' ≡ c)) (λ cookie. PutsNone cookie w c w' c') → HasNoneOpen c → HasNoneOpen c'
+  none_retired w w' c c' None h none = subst (λ (z : CpuView J). HasNoneOpen z) (sym h.2) none
+  none_retired w w' c c' (Some cookie) h none = none_put w w' cookie c c' h.version none
+
+  pub none_replaced : (whole : Box V A) (w w' : BoxWriterView V A) (c c' : CpuView J) (r : Result (Option (Box V A)) (Box V A)) → MatchResult r (λ old. Replaces whole old w c w' c') (λ back. (back ≡ whole) × ReplacesNone w c w' c') → HasNoneOpen c → HasNoneOpen c'
+  none_replaced whole w w' c c' (Ok old) h none = none_put h.freed w' h.cookie h.at c' h.puts.version (none_reclaimed w h.freed c h.at old h.back none)
+  none_replaced whole w w' c c' (Err back) h none = none_still c c' (same_reclaimed w.writer w'.writer c.cpu c'.cpu h.1.back.reclaims) none
+
+module _ {J : Type 0} where
+  pub none_equipped : {B : Type 0} (w : WriterView) (writer_of : B → WriterView) (c c' : CpuView J) (r : Result B WriterView) → MatchResult r (λ m. Equips w c (writer_of m) c') (λ back. IsHandedBack w back × (c' ≡ c)) → HasNoneOpen c → HasNoneOpen c'
+  none_equipped w writer_of c c' (Ok m) h none = none_still c c' (same_put h.slot h.cookie h.equipped (writer_of m) c.cpu c'.cpu h.puts.puts) none
+  none_equipped w writer_of c c' (Err back) h none = subst (λ (z : CpuView J). HasNoneOpen z) (sym h.1) none
+
+  -- The number of a processor is that of its seat where the engine lies
+  pub same_number : (d : DomainView) (c c' : CpuView J) → IsOf d c → IsOf d c' → c'.turn ≡ c.turn → c'.cpu.processor ≡ c.cpu.processor
+  same_number d c c' here there turn = sym there.number ∙ (ap (λ z. z.number) turn ∙ here.number)

@@ -1,0 +1,119 @@
+//! Values of any type, in boxes.
+ghost use Rattle.std.specs.Prelude.{◌≡◌, IfOk, MatchOption, MatchResult, replicate, None};
+ghost use Rattle.sections.specs.Calls.{LooksInVain};
+ghost use Rattle.domain.specs.Views.{with_cpu};
+ghost use Rattle.boxes.specs.Boxes.{cell_of};
+ghost use Rattle.boxes.specs.Showing.{ShowsBox};
+ghost use Rattle.boxes.specs.Writing.{BringsBack, Equips, IsHandedBack, NoneFree, PutsNone};
+ghost use Rattle.srcu.specs.Boxing.{ReplacesBox, ReplacesNoBox};
+ghost use Rattle.srcu.specs.Workers.{AreBoxesOf, IsBoxWriterOf, IsSameWorker, IsWriterOf};
+
+use super::Worker;
+use crate::answers::BoxRefusal;
+use boxes::{BoxWriter, Boxes};
+use domain::{Exhausted, Memory, Writer};
+use std::alloc::Allocator;
+
+impl<'a, J, A: Allocator> Worker<'a, J, A> {
+    /// Makes a cell one of boxes, with no box in it. The writer comes back where there is no memory, or no slot of its cell
+    /// is blank.
+    pub fn boxes<V: Drop, B: Allocator + Clone>(
+        &mut self,
+        alloc: B,
+        writer: Writer,
+    ) -> Result<(BoxWriter<V, B>, Boxes<V, B>), Writer>
+        requires { IsWriterOf self.old.domain writer }
+        ensures same { IsSameWorker self.old self.new }
+        ensures writer { IfOk result (λ m. IsBoxWriterOf self.old.domain m.0 × (m.0.writer.cell ≡ writer.cell)) }
+        ensures boxes { IfOk result (λ m. m.1 ≡ cell_of m.0) }
+        ensures nothing { IfOk result (λ m. m.0.stored ≡ replicate 8 None) }
+        ensures puts { MatchResult result
+            (λ m. Equips writer self.old.cpu m.0.writer self.new.cpu)
+            (λ back. IsHandedBack writer back × (self.new.cpu ≡ self.old.cpu)) }
+    {
+        boxes::make(alloc, self.domain, &mut self.cpu, writer)
+    }
+
+    /// What reads the same boxes on another thread.
+    pub fn another<V: Drop, B: Allocator>(
+        &self,
+        boxes: &mut Boxes<V, B>,
+    ) -> Result<Boxes<V, B>, Memory>
+        requires { AreBoxesOf self.now.domain boxes.old }
+        ensures another { IfOk result (λ b. b ≡ boxes.old) }
+        ensures boxes { boxes.new ≡ boxes.old }
+    {
+        boxes.another(&self.cpu)
+    }
+
+    /// Shows the value that is there to a closure (`srcu_dereference`), in a section of its own, and returns what the closure
+    /// returns: None where there is no box. The closure may sleep.
+    pub fn show<V: Drop, B: Allocator, T, F: FnOnce(&V) -> T>(
+        &mut self,
+        boxes: &mut Boxes<V, B>,
+        show: F,
+    ) -> Result<Option<T>, Exhausted>
+        requires cell { AreBoxesOf self.old.domain boxes.old }
+        requires may { F.IsAlwaysCallable show }
+        ensures same { IsSameWorker self.old self.new }
+        ensures boxes { boxes.new ≡ boxes.old }
+        ensures shows { MatchResult result
+            (λ shown. ShowsBox F.FnOnce show boxes.old self.old.cpu.cpu self.new.cpu.cpu shown)
+            (λ _. LooksInVain self.old.cpu.cpu self.new.cpu.cpu) }
+        ensures rest { self.new.cpu ≡ with_cpu self.new.cpu.cpu self.old.cpu }
+    {
+        boxes.read(&mut self.cpu, show)
+    }
+
+    /// Replaces the value that is there (`rcu_assign_pointer`) by one of any size, in a box, and asks for the grace period
+    /// after which no section reads the old one. Returns an older box that no section can read any more, if there is one.
+    /// The value comes back where it can't be put; then no box does.
+    pub fn replace_box<V: Drop, B: Allocator>(
+        &mut self,
+        alloc: B,
+        writer: &mut BoxWriter<V, B>,
+        value: V,
+    ) -> Result<Option<Box<V, B>>, (V, BoxRefusal)>
+        requires { IsBoxWriterOf self.old.domain writer.old }
+        ensures same { IsSameWorker self.old self.new }
+        ensures writer { cell_of writer.new ≡ cell_of writer.old }
+        ensures replaces { MatchResult result
+            (λ old. ReplacesBox value alloc old writer.old self.old.cpu writer.new self.new.cpu)
+            (λ refused. (refused.0 ≡ value) × ReplacesNoBox refused.1 writer.old self.old.cpu writer.new self.new.cpu) }
+    {
+        match Box::new(alloc, value) {
+            Ok(whole) => match writer.replace(self.domain, &mut self.cpu, whole) {
+                Ok(old) => Ok(old),
+                Err(whole) => Err((Box::into_inner(whole), BoxRefusal::NoSlot)),
+            },
+            Err(refused) => Err((refused.value, BoxRefusal::Memory)),
+        }
+    }
+
+    /// Puts a version with no box, so that the last one can come back, and asks for the grace period. Returns the number of
+    /// its cookie: None where no slot is free.
+    pub fn retire<V: Drop, B: Allocator>(&mut self, writer: &mut BoxWriter<V, B>) -> Option<u64>
+        requires { IsBoxWriterOf self.old.domain writer.old }
+        ensures same { IsSameWorker self.old self.new }
+        ensures writer { cell_of writer.new ≡ cell_of writer.old }
+        ensures puts { MatchOption result
+            (NoneFree writer.old × (writer.new ≡ writer.old) × (self.new.cpu ≡ self.old.cpu))
+            (λ cookie. PutsNone cookie writer.old self.old.cpu writer.new self.new.cpu) }
+    {
+        writer.retire(self.domain, &mut self.cpu)
+    }
+
+    /// A box that no section can read any more, after a full grace period. None where no such box is left.
+    pub fn reclaim<V: Drop, B: Allocator>(
+        &mut self,
+        writer: &mut BoxWriter<V, B>,
+    ) -> Option<Box<V, B>>
+        requires { IsBoxWriterOf self.old.domain writer.old }
+        ensures same { IsSameWorker self.old self.new }
+        ensures writer { cell_of writer.new ≡ cell_of writer.old }
+        ensures back { BringsBack result writer.old self.old.cpu.cpu writer.new self.new.cpu.cpu }
+        ensures rest { self.new.cpu ≡ with_cpu self.new.cpu.cpu self.old.cpu }
+    {
+        writer.reclaim(&mut self.cpu)
+    }
+}
