@@ -31,7 +31,7 @@ pub fn replace_and_call<R: Wait>(
 
 /// Replaces the configuration with number 4 and then with number 5, and doesn't wait in between. Answers what a section
 /// reads in the end.
-pub fn replace_twice<R: Wait>(
+fn replace_twice<R: Wait>(
     rt: &R,
     worker: &mut Worker<'_, Old>,
     shelf: &mut Shelf<Config>,
@@ -49,8 +49,29 @@ pub fn replace_twice<R: Wait>(
     Ok(worker.get(configs)?)
 }
 
+/// Replaces twice, and tells the driver to stop once the two are filed. It does so too where a call was refused, or the
+/// driver would go on.
+pub fn replace_and_tell<R: Wait>(
+    rt: &R,
+    worker: &mut Worker<'_, Old>,
+    shelf: &mut Shelf<Config>,
+    configs: &Values<Config>,
+    archive: &Archive,
+    stop: &Stop<Old>,
+) -> Result<Config>
+    requires stop { stop.now.domain ≡ worker.old.domain }
+    requires shelf { shelf.old.domain ≡ worker.old.domain.domain }
+    requires cell { IsCellOf worker.old.domain configs.now }
+{
+    let read = replace_twice(rt, worker, shelf, configs, archive);
+    if worker.tell(rt, stop).is_err() {
+        stop.give_alone(rt, worker.domain()); // no memory for a ticket
+    }
+    read
+}
+
 /// The whole of a driver: carries grace periods, and files each version that nobody reads any more, until it is told to
-/// stop and none is left. Answers how many it filed.
+/// stop. Then it files those whose jobs the worker had seen queued that told it. Answers how many it filed.
 pub fn work<R: Wait>(
     rt: &R,
     worker: &mut Worker<'_, Old>,

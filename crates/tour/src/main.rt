@@ -12,7 +12,7 @@ mod readers;
 mod updaters;
 
 use anyhow::{Error, Result, anyhow};
-use callbacks::{replace_twice, work};
+use callbacks::{replace_and_tell, work};
 use config::{Archive, Config, Old, Sign};
 use plugins::{Leased, furnish, lend};
 use readers::{Slept, open, read_and_sleep, read_quickly};
@@ -38,16 +38,24 @@ fn missing() -> Error {
     anyhow!("too few processors or cells")
 }
 
-/// Three workers of a domain, and the writer of its cell. A worker is a value: whichever thread owns it works with it.
+/// Two workers of a domain. A worker is a value: whichever thread owns it works with it.
+fn pair<'a>(team: &mut Team<'a, Old>) -> Option<(Worker<'a, Old>, Worker<'a, Old>)>
+    ensures { IfSome result (λ r. (r.0.domain ≡ team.old.domain) × (r.1.domain ≡ team.old.domain)) }
+{
+    let second = team.worker()?;
+    let first = team.worker()?;
+    Some((first, second))
+}
+
+/// Three workers of a domain, and the writer of its cell.
 fn crew<'a>(
     team: &mut Team<'a, Old>,
 ) -> Option<(Worker<'a, Old>, Worker<'a, Old>, Worker<'a, Old>, Writer)>
     ensures { IfSome result (λ r. (r.0.domain ≡ team.old.domain) × (r.1.domain ≡ team.old.domain) × (r.2.domain ≡ team.old.domain) × IsWriterOf team.old.domain r.3) }
 {
-    let third = team.worker()?;
-    let second = team.worker()?;
-    let first = team.worker()?;
     let writer = team.writer()?;
+    let third = team.worker()?;
+    let (first, second) = pair(team)?;
     Some((first, second, third, writer))
 }
 
@@ -82,8 +90,10 @@ fn staff<'a>(
     ensures workers { IfOk result (λ r. (r.0.domain ≡ team.old.domain) × (r.1.domain ≡ team.old.domain) × (r.2.domain ≡ team.old.domain)) }
     ensures cell { IfOk result (λ r. (r.3.domain ≡ team.old.domain.domain) × IsCellOf team.old.domain r.4) }
 {
-    let (first, second, mut third, writer) = crew(team).ok_or(missing())?;
+    let writer = team.writer().ok_or(missing())?;
+    let mut third = team.worker().ok_or(missing())?;
     let (shelf, configs) = shelve(&mut third, writer, number)?;
+    let (first, second) = pair(team).ok_or(missing())?;
     Ok((first, second, third, shelf, configs))
 }
 
@@ -189,7 +199,7 @@ fn hand_over<R: Threads + Wait + Sync>(
     })
 }
 
-/// An updater that doesn't wait, and a driver beside it, which is told to stop behind that. Answers how many callbacks ran,
+/// An updater that doesn't wait, and a driver beside it, which is told to stop after that. Answers how many callbacks ran,
 /// and what is read in the end.
 fn replace_and_work<R: Threads + Wait + Clock + Sync>(
     rt: &R,
@@ -212,9 +222,7 @@ fn replace_and_work<R: Threads + Wait + Clock + Sync>(
             requires { (stop.now.domain ≡ updater.now.domain) × (shelf.now.domain ≡ updater.now.domain.domain) × IsCellOf updater.now.domain configs.now }
         {
             sign.wait(rt);
-            let read = replace_twice(rt, updater, shelf, configs, archive);
-            stop.give_alone(rt, updater.domain()); // also where a call was refused, or the driver would go on
-            read
+            replace_and_tell(rt, updater, shelf, configs, archive, stop)
         },
     );
     Ok((ran?, read?))

@@ -78,23 +78,23 @@ impl fmt::Display for Slept {
 }
 
 /// Reads the configuration in a section, and sleeps there until it is replaced, and longer.
-pub fn read_and_sleep<R: Clock>(
+fn sleep_in_section<R: Clock>(
     rt: &R,
-    mut cpu: Cpu<Old>,
+    cpu: &mut Cpu<Old>,
     configs: &Values<Config>,
     sign: &Sign,
     archive: &Archive,
 ) -> Result<Slept>
-    requires { IsCellIn cpu.cpu.domain configs.now }
+    requires { IsCellIn cpu.old.cpu.domain configs.now }
     ensures { IfOk result (λ s. s.behind ≡ s.before) }
 {
     let mut section = cpu.read_lock()?; // srcu_read_lock
-    let mut version = configs.find(&mut cpu, &mut section); // srcu_dereference
-    let before = configs.load(&mut cpu, &mut version);
+    let mut version = configs.find(cpu, &mut section); // srcu_dereference
+    let before = configs.load(cpu, &mut version);
     sign.give(); // an updater waits for that
-    let another = wait_for_another(rt, &mut cpu, configs, before); // by then it has replaced the version
+    let another = wait_for_another(rt, cpu, configs, before); // by then it has replaced the version
     sleep(rt, Duration::from_millis(NAP)); // a reader may sleep in its section
-    let behind = configs.load(&mut cpu, &mut version); // word for word the same, whatever was put meanwhile
+    let behind = configs.load(cpu, &mut version); // word for word the same, whatever was put meanwhile
     let filed = archive.count(); // 0: nobody takes it for one that is read no more
     drop(version);
     cpu.read_unlock(section); // srcu_read_unlock: code that leaves a section open is refused
@@ -105,6 +105,20 @@ pub fn read_and_sleep<R: Clock>(
         another: another?,
         filed,
     })
+}
+
+/// The same in a thread of its own, which owns the processor.
+pub fn read_and_sleep<R: Clock>(
+    rt: &R,
+    mut cpu: Cpu<Old>,
+    configs: &Values<Config>,
+    sign: &Sign,
+    archive: &Archive,
+) -> Result<Slept>
+    requires { IsCellIn cpu.cpu.domain configs.now }
+    ensures { IfOk result (λ s. s.behind ≡ s.before) }
+{
+    sleep_in_section(rt, &mut cpu, configs, sign, archive)
 }
 
 /// Reads the configuration in a section that is open already.

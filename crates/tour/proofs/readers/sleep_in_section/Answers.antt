@@ -2,7 +2,7 @@
 use Rattle.std.proofs.Common.{◌≡◌, subst}
 use Rattle.srcu.specs.Words.{FoundView, AreWords}
 use Rattle.srcu.proofs.CallerLemmas.{same_words}
-use Rattle.tour.proofs.readers.read_and_sleep.Goals as goal
+use Rattle.tour.proofs.readers.sleep_in_section.Goals as goal
 
 pub returns : goal.returns
 returns g c =
