@@ -14,6 +14,12 @@ use std::alloc::Global;
 /// What `--version` writes behind the program's name.
 const VERSION: &str = "0.1.0";
 
+const USAGE_OF_RUN: &str = "srcuctl run [OPTIONS] < SCRIPT";
+
+const USAGE_OF_ANNOTATE: &str = "srcuctl annotate [OPTIONS] < SCRIPT";
+
+const USAGE_OF_DRAW: &str = "srcuctl draw [OPTIONS] < SCRIPT";
+
 const OF_RUN: &str = "Reads a script from standard input, and writes a reply to each line";
 
 const OF_ANNOTATE: &str = "Runs a script, and shows each line with its reply, and what is wrong";
@@ -54,10 +60,11 @@ How many grace periods a domain may have:
 /// What is told of a script that is named as an argument.
 const NO_FILE: &str = "a script comes on standard input, as in 'srcuctl run < FILE'";
 
-/// A command that takes a script, with what its help says of it.
+/// A command that takes a script on standard input, with what its help says of it.
 fn of_a_script<'a>(
     alloc: Global,
     name: &'a str,
+    usage: &'a str,
     about: &'a str,
     of_scripts: &'a str,
 ) -> Result<Command<'a>, Error> {
@@ -73,6 +80,7 @@ fn of_a_script<'a>(
         .help(OF_PERIODS);
     Ok(
         Command::new(alloc, name)
+            .override_usage(usage)
             .about(about)
             .arg(sections)?
             .arg(periods)?
@@ -82,9 +90,9 @@ fn of_a_script<'a>(
 
 /// What the program takes. `of_scripts` is what its help says of scripts.
 pub fn command<'a>(alloc: Global, of_scripts: &'a str) -> Result<Command<'a>, Error> {
-    let run = of_a_script(alloc, "run", OF_RUN, of_scripts)?;
-    let annotate = of_a_script(alloc, "annotate", OF_ANNOTATE, OF_PAGES)?;
-    let draw = of_a_script(alloc, "draw", OF_DRAW, OF_PICTURES)?;
+    let run = of_a_script(alloc, "run", USAGE_OF_RUN, OF_RUN, of_scripts)?;
+    let annotate = of_a_script(alloc, "annotate", USAGE_OF_ANNOTATE, OF_ANNOTATE, OF_PAGES)?;
+    let draw = of_a_script(alloc, "draw", USAGE_OF_DRAW, OF_DRAW, OF_PICTURES)?;
     let srcuctl = Command::new(alloc, "srcuctl")
         .bin_name("srcuctl")?
         .version(VERSION)
