@@ -35,7 +35,7 @@ const NONE: Totals = Totals {
     periods: 0,
 };
 
-/// Would catch totals that are missing, and others than the workers counted.
+/// Would catch totals that are missing, and others than the workers counted; also after a hundred rounds, and a thousand leases.
 #[test]
 fn race_of_eight_readers(rt: HostRuntime) -> Result<(), Fail> {
     let RaceTotals {
@@ -45,10 +45,10 @@ fn race_of_eight_readers(rt: HostRuntime) -> Result<(), Fail> {
         finished,
         versions,
         domain,
-    } = race(&rt, 8, 100, &Open)?;
+    } = race(&rt, 8, 200, &Open)?;
     assert_eq!(rt;
         (opened, closed, queued, finished, versions),
-        (800, 800, 100, 100, 100)
+        (1600, 1600, 200, 200, 200)
     );
     let told = domain.unwrap_or(NONE);
     assert_eq!(rt; (told.opened, told.closed), (opened, closed));
