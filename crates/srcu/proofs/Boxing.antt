@@ -1,5 +1,5 @@
 -- A call for boxes opens no reading, or closes the one that it opened.
-use Rattle.std.proofs.Common.{◌≡◌, ℕ, List, [], ◌∷◌, Option, Some, None, Result, Ok, Err, MatchOption, MatchResult, refl, sym, ap, ◌∙◌, subst}
+use Rattle.std.proofs.Common.{◌≡◌, ℕ, Option, Some, None, Result, Ok, Err, MatchOption, MatchResult, refl, sym, ap, ◌∙◌, subst}
 use Rattle.std.specs.Prelude.{Box}
 use Rattle.std.specs.Fn.{Once}
 use denote.Ref.{Bor}
@@ -12,17 +12,13 @@ use Rattle.sections.specs.Views.{ReadingView, FoundView}
 use Rattle.sections.specs.Calls.{LooksInVain}
 use Rattle.sections.specs.Loans.{CatchesUp}
 use Rattle.sections.specs.WriterViews.{WriterView}
-use Rattle.domain.specs.Views.{DomainView, CpuView, IsOf, with_cpu}
+use Rattle.domain.specs.Views.{CpuView, with_cpu}
 use Rattle.domain.specs.Waiting.{HasNoneOpen}
-use Rattle.domain.specs.Writers.{PutsAndAsks}
 use Rattle.domain.proofs.CallerLemmas.{SameOpen, same_put, same_reclaimed, none_still, none_enclosed, none_looked}
 use Rattle.boxes.specs.Boxes.{BoxesView, BoxWriterView}
 use Rattle.boxes.specs.Reading.{FindsVersion}
 use Rattle.boxes.specs.Showing.{ShowsBox}
 use Rattle.boxes.specs.Writing.{BringsBack, Equips, IsHandedBack, NoneFree, PutsNone, PutsVersion, Replaces, ReplacesNone}
-use Rattle.srcu.specs.declared.answers.BoxRefusal.{BoxRefusal}
-use Rattle.srcu.specs.declared.answers.BoxRefusal.TheVariants.{Memory, NoSlot}
-use Rattle.srcu.specs.Boxing.{ReplacesNoBox}
 
 -- Reading
 
@@ -63,7 +59,3 @@ module _ {J : Type 0} where
   pub none_equipped : {B : Type 0} (w : WriterView) (writer_of : B → WriterView) (c c' : CpuView J) (r : Result B WriterView) → MatchResult r (λ m. Equips w c (writer_of m) c') (λ back. IsHandedBack w back × (c' ≡ c)) → HasNoneOpen c → HasNoneOpen c'
   none_equipped w writer_of c c' (Ok m) h none = none_still c c' (same_put h.slot h.cookie h.equipped (writer_of m) c.cpu c'.cpu h.puts.puts) none
   none_equipped w writer_of c c' (Err back) h none = subst (λ (z : CpuView J). HasNoneOpen z) (sym h.1) none
-
-  -- The number of a processor is that of its seat where the engine lies
-  pub same_number : (d : DomainView) (c c' : CpuView J) → IsOf d c → IsOf d c' → c'.turn ≡ c.turn → c'.cpu.processor ≡ c.cpu.processor
-  same_number d c c' here there turn = sym there.number ∙ (ap (λ z. z.number) turn ∙ here.number)

@@ -34,15 +34,6 @@ impl Table {
         }
         whole
     }
-
-    /// Whether each hundredth row has it.
-    pub(crate) fn looks_whole(&self) -> bool {
-        let mut whole = true;
-        for row in 0..self.rows.len() / 100 {
-            whole &= self.rows[100 * row] == self.number;
-        }
-        whole
-    }
 }
 
 /// A table of so many rows, in a box.

@@ -10,7 +10,7 @@ use std::sync::atomic::Ordering::SeqCst;
 use std::sync::atomic::{AtomicBool, AtomicU64};
 use std::sync::{Arc, Wait};
 use std::test::Fail;
-use std::thread::{Threads, join, sleep};
+use std::thread::{join, sleep};
 use std::time::{Clock, Duration};
 
 /// How many rows a table has.

@@ -1,6 +1,5 @@
 //! A driver that sleeps until somebody asks for a grace period.
-ghost use Rattle.std.specs.Prelude.{◌≡◌, ◌<◌, ◌≤◌, length, IfOk};
-ghost use Rattle.std.specs.Thread.{IsSync};
+ghost use Rattle.std.specs.Prelude.{◌≡◌, ◌<◌, ◌≤◌, IfOk};
 ghost use Rattle.driver.specs.Pools.{IsIdle};
 
 use super::sharing::look_for;
