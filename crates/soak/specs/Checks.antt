@@ -1,11 +1,12 @@
 -- What a thread counts of what it found.
-use Rattle.std.specs.Prelude.{◌≡◌, ℕ, ◌%◌, ◌==◌, ◌&&◌, nat_lt, not, Bool, slice_index_or, slice_set}
+use Rattle.std.specs.Prelude.{◌≡◌, ℕ, ◌%◌, ◌==◌, ◌&&◌, nat_lt, not, Bool, Option, Some, None, slice_index_or, slice_set}
 use Rattle.sections.specs.Views.{CookieView}
 use Rattle.sections.specs.Calls.{GivesCookie}
 use Rattle.domain.specs.Views.{CpuView}
 use Rattle.domain.specs.Waiting.{Polls, Synchronizes}
 use Rattle.soak.specs.declared.counts.Counts.{Counts}
 use Rattle.soak.specs.declared.driving.Ran.{Ran}
+use Rattle.soak.specs.declared.tables.TableSight.{TableSight}
 use Rattle.soak.specs.declared.worker.Job.{Job}
 use Rattle.soak.specs.declared.worker.Sight.{Sight}
 use Rattle.soak.specs.declared.worker.Worker.{Worker}
@@ -27,6 +28,14 @@ abbrev pub judged : Sight → Counts → Counts
 judged s c = record c {
   stale = more_if (nat_lt 1 s.age) c.stale;
   torn = more_if (not ((s.first == s.version) && (s.last == s.version))) c.torn;
+}
+
+-- one table more was too old where a later one had been found before, and of several pieces where it was not whole; or none was found
+abbrev pub judged_table : Option TableSight → ℕ → Counts → Counts
+judged_table None last c = c
+judged_table (Some s) last c = record c {
+  stale = more_if (nat_lt s.number last) c.stale;
+  torn = more_if (not s.whole) c.torn;
 }
 
 -- one call more was refused

@@ -32,4 +32,6 @@ sum_of c d = record {
   early = plus c.early d.early;
   stale = plus c.stale d.stale;
   torn = plus c.torn d.torn;
+  boxes = plus c.boxes d.boxes;
+  lost = plus c.lost d.lost;
 }

@@ -19,6 +19,7 @@ pub record Agree (t : Totals) (c : Counts) : Type 0 where
   pub none_early : c.early ≡ 0
   pub none_stale : c.stale ≡ 0
   pub none_torn : c.torn ≡ 0
+  pub none_lost : c.lost ≡ 0
 
 -- the domain was taken down, and what it told agrees with what was counted
 pub record IsExact (o : Outcome) : Type 0 where

@@ -1,8 +1,16 @@
 -- What a run begins with.
-use Rattle.std.specs.Prelude.{◌≡◌, ◌+◌, ◌<◌, ◌≤◌, vec_len, vec_capacity}
+use Rattle.std.specs.Prelude.{◌≡◌, ◌+◌, ◌<◌, ◌≤◌, All, vec_len, vec_capacity}
+use Rattle.sections.specs.Words.{cells_in}
+use Rattle.sections.specs.Dealing.{AreNewWriters}
+use Rattle.domain.specs.Views.{DomainView, IsOf}
+use Rattle.domain.specs.Parts.{Each}
+use Rattle.boxes.specs.Boxes.{IsCellIn}
 use Rattle.driver.specs.Pools.{IsIdle}
-use Rattle.domain.specs.Views.{DomainView}
 use Rattle.soak.specs.declared.driving.Cpus.{Cpus}
+use Rattle.soak.specs.declared.run.Room.{Room}
+use Rattle.soak.specs.declared.run.Ground.{Ground}
+use Rattle.soak.specs.declared.run.Base.{Base}
+use Rattle.soak.specs.declared.run.Parts.{Parts}
 use Rattle.soak.specs.declared.run.Start.{Start}
 use Rattle.soak.specs.Workers.{AreAllAtWork}
 use Rattle.soak.specs.Updaters.{IsUpdating}
@@ -10,6 +18,36 @@ use Rattle.soak.specs.Updaters.{IsUpdating}
 -- both of the driver's processors are of the domain, with no reading open
 abbrev pub AreIdle : DomainView → Cpus → Type 0
 AreIdle d cpus = IsIdle d cpus.serving × IsIdle d cpus.watching
+
+-- there is room for what is taken from seven workers, and for three more processors
+pub record HasRoom (p : Parts) : Type 0 where
+  pub cpus : (vec_len p.cpus ≡ 0) × (vec_capacity p.cpus ≡ 10)
+  pub seats : (vec_len p.seats ≡ 0) × (vec_capacity p.seats ≡ 7)
+
+-- and for seven workers
+pub record IsRoom (r : Room) : Type 0 where
+  pub workers : (vec_len r.workers ≡ 0) × (vec_capacity r.workers ≡ 7)
+  pub parts : HasRoom r.parts
+
+-- seven processors, those of the driver and one more are of the domain, which has two cells with new writers, and the sign is for its drivers
+pub record IsGround (g : Ground) : Type 0 where
+  pub cpus : (vec_len g.cpus ≡ 7) × Each (IsOf g.domain) g.cpus.items
+  pub driver : AreIdle g.domain g.driver
+  pub updating : IsOf g.domain g.updating
+  pub cells : cells_in g.domain.domain ≡ 2
+  pub writers : AreNewWriters g.domain.domain 2 8 g.writers.items
+  pub stop : g.stop.domain ≡ g.domain
+
+-- what seven workers need of one domain, the driver, the updater and the sign for its drivers
+pub record IsBase (b : Base) : Type 0 where
+  pub cpus : (vec_len b.cpus ≡ 7) × Each (IsOf b.domain) b.cpus.items
+  pub boxes : (vec_len b.boxes ≡ 7) × All (IsCellIn b.domain) b.boxes.items
+  pub workers : (vec_len b.workers ≡ 0) × (vec_capacity b.workers ≡ 7)
+  pub driver : AreIdle b.domain b.driver
+  pub updater : IsUpdating b.domain b.updater
+  pub cells : cells_in b.domain.domain ≡ 2
+  pub stop : b.stop.domain ≡ b.domain
+  pub parts : HasRoom b.parts
 
 -- seven workers, the driver and the updater are at one domain and its desk, the sign is for its drivers, and there is room for what is taken from the workers in the end
 pub record IsPrepared (s : Start) : Type 0 where

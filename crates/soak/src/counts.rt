@@ -35,10 +35,15 @@ pub struct Counts {
     pub misplaced: u64,
     /// Waits that came back too early: a cookie was not done then, or a job not run.
     pub early: u64,
-    /// Versions that were read behind the grace period that followed their replacement.
+    /// Versions that were read behind the grace period that followed their replacement, and tables that were older than the
+    /// one found before.
     pub stale: u64,
-    /// Versions whose words were not those of one put.
+    /// Versions whose words, or tables whose rows, were not those of one put.
     pub torn: u64,
+    /// Boxes that it put.
+    pub boxes: u64,
+    /// Boxes that were not dropped when all had come to an end, or more than once.
+    pub lost: u64,
 }
 
 impl Counts {
@@ -61,6 +66,8 @@ impl Counts {
             early: 0,
             stale: 0,
             torn: 0,
+            boxes: 0,
+            lost: 0,
         }
     }
 
@@ -85,6 +92,8 @@ impl Counts {
             early: self.early.saturating_add(other.early),
             stale: self.stale.saturating_add(other.stale),
             torn: self.torn.saturating_add(other.torn),
+            boxes: self.boxes.saturating_add(other.boxes),
+            lost: self.lost.saturating_add(other.lost),
         }
     }
 }
@@ -112,6 +121,7 @@ impl fmt::Display for Counts {
         writeln!(f, "jobs misplaced: {}", self.misplaced)?;
         writeln!(f, "waits that were too short: {}", self.early)?;
         writeln!(f, "versions that were too old: {}", self.stale)?;
-        write!(f, "versions of several pieces: {}", self.torn)
+        writeln!(f, "versions of several pieces: {}", self.torn)?;
+        write!(f, "boxes that were not dropped once: {}", self.lost)
     }
 }

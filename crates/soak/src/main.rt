@@ -7,12 +7,14 @@ ghost use Rattle.std.specs.Prelude.{◌≡◌, IfOk};
 ghost use Rattle.std.specs.Process.{exit_status};
 ghost use Rattle.soak.specs.Outcomes.{IsExact};
 
+mod boxing;
 mod command_line;
 mod counts;
 mod driving;
 mod outcome;
 mod run;
 mod signs;
+mod tables;
 #[cfg(test)]
 mod tests;
 mod updating;
@@ -41,6 +43,7 @@ fn tell<R: Print + AllocGlobal>(rt: &R, length: Length, outcome: &Outcome) -> Re
     if let Length::Seconds(seconds) = length {
         println!(rt; "seconds: {seconds}")?;
         println!(rt; "sections handed over: {}", outcome.counts.handed)?;
+        println!(rt; "boxes put: {}", outcome.counts.boxes)?;
         if let Ok(totals) = outcome.totals {
             println!(rt; "grace periods: {}", totals.periods)?;
         }

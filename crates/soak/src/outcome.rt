@@ -47,6 +47,7 @@ impl Outcome {
             && counts.early == 0
             && counts.stale == 0
             && counts.torn == 0
+            && counts.lost == 0
     }
 
     /// The status that the program ends with.

@@ -8,20 +8,24 @@ ghost use Rattle.domain.specs.Parts.{Each};
 ghost use Rattle.soak.specs.Workers.{IsAtWork, StaysAtWork, AreAllAtWork};
 ghost use Rattle.driver.specs.Pools.{IsIdle};
 ghost use Rattle.soak.specs.Updaters.{IsUpdating};
-ghost use Rattle.soak.specs.Starts.{AreIdle, IsPrepared};
+ghost use Rattle.boxes.specs.Boxes.{IsCellIn};
+ghost use Rattle.soak.specs.Starts.{AreIdle, IsRoom, IsGround, IsBase, IsPrepared};
 
+use crate::boxing::{make_boxes, take_back};
 use crate::counts::{Counts, count};
 use crate::driving::{Cpus, Driver, drive};
 use crate::outcome::Outcome;
 use crate::signs::{AGES, Signs, WORKERS};
+use crate::tables::{Lives, Table};
 use crate::updating::{Deadline, Replaced, Updater, update};
 use crate::worker::{Job, Length, Worker, work};
 use anyhow::Result;
+use boxes::Boxes;
 use desk::{Desk, DeskSeat};
-use domain::{Cpu, Domain, Held, Limits, Progress};
+use domain::{Cpu, Domain, Held, Home, Limits, Progress, Writer};
 use driver::Stop;
 use std::alloc::Global;
-use std::sync::Wait;
+use std::sync::{Arc, Wait};
 use std::thread;
 use std::thread::{Threads, join};
 use std::time::{Clock, Instant};
@@ -32,34 +36,42 @@ const PROCESSORS: u16 = 10;
 /// How many turns of the engine are enough for all grace periods that are still asked for in the end.
 const TURNS: u32 = 64;
 
+/// A cell of words, and one of boxes.
 const LIMITS: Limits = Limits {
     sections: Limits::MOST_SECTIONS,
     periods: Limits::MOST_PERIODS,
-    cells: 1,
+    cells: 2,
     slots: 8,
 };
 
-/// Gives each of these processors a seat.
+/// Gives each of these processors a seat, and what reads boxes.
 fn seat_all(
     mut cpus: Vec<Cpu<Job>>,
+    mut boxes: Vec<Boxes<Table>>,
     mut seats: Vec<DeskSeat<Held>>,
     mut workers: Vec<Worker>,
     domain: &Domain<Job>,
     desk: &Desk<Held>,
 ) -> Vec<Worker>
     requires cpus { Each (IsOf domain.now) cpus.items }
+    requires boxes { All (IsCellIn domain.now) boxes.items }
     requires seats { AreAllSeats desk.now seats.items }
     requires home { All (λ v. v.domain ≡ domain.now.domain) seats.items }
     requires cell { 0 < cells_in domain.now.domain }
     requires as_many { vec_len cpus ≡ vec_len seats }
+    requires all_read { vec_len boxes ≡ vec_len seats }
     requires room { (vec_len workers ≡ 0) × (vec_len seats ≤ vec_capacity workers) }
     ensures all { AreAllAtWork domain.now desk.now result.items }
     ensures as_many { vec_len result ≡ vec_len seats }
 {
     while let Some(seat) = seats.pop() {
+        let cpu = cpus.pop().unwrap();
+        let own = boxes.pop().unwrap();
         workers.push_reserved(Worker {
-            cpu: cpus.pop().unwrap(),
+            cpu,
             seat,
+            boxes: own,
+            last: 0,
             counts: Counts::new(),
         });
     }
@@ -132,13 +144,13 @@ fn rest(domain: &Domain<Job>, cpu: &mut Cpu<Job>)
     }
 }
 
-/// Closes the desk, and takes the domain down once its engine rests.
+/// Closes the desk, has all boxes back, and takes the domain down once its engine rests.
 pub fn end(
     domain: Domain<Job>,
     desk: Desk<Held>,
     parts: Parts,
     mut driver: Driver,
-    updater: Updater,
+    mut updater: Updater,
 ) -> Outcome
     requires cpus { Each (IsOf domain) parts.cpus.items }
     requires room { vec_len parts.cpus + 2 < vec_capacity parts.cpus }
@@ -146,14 +158,16 @@ pub fn end(
     requires home { desk.domain ≡ domain.domain }
     requires driver { IsOf domain driver.cpu }
     requires watching { IsOf domain driver.watching }
-    requires updater { IsOf domain updater.cpu }
+    requires updater { IsUpdating domain updater }
 {
     let mut cpus = parts.cpus;
-    let mut counts = parts.counts.plus(driver.counts);
+    let mut counts = parts.counts.plus(driver.counts).plus(updater.counts);
     if let Some(held) = desk.close(parts.seats) {
         driver.cpu.up_read(held);
         count(&mut counts.left);
     }
+    take_back(&domain, &mut updater);
+    counts.lost = updater.lives.lost();
     rest(&domain, &mut driver.cpu);
     cpus.push_reserved(driver.cpu);
     cpus.push_reserved(driver.watching);
@@ -182,53 +196,128 @@ pub struct Start {
     pub parts: Parts,
 }
 
-/// Room for the workers, and for what is taken from them in the end.
-fn make_room(alloc: Global) -> Result<(Vec<Worker>, Parts)>
-    ensures workers { IfOk result (λ r. (vec_len r.0 ≡ 0) × (vec_capacity r.0 ≡ 7)) }
-    ensures cpus { IfOk result (λ r. (vec_len r.1.cpus ≡ 0) × (vec_capacity r.1.cpus ≡ 10)) }
-    ensures seats { IfOk result (λ r. (vec_len r.1.seats ≡ 0) × (vec_capacity r.1.seats ≡ 7)) }
+/// Room for the workers, and for what is taken from them in the end; and where tables are counted.
+#[derive(Drop)]
+struct Room {
+    workers: Vec<Worker>,
+    parts: Parts,
+    lives: Arc<Lives>,
+}
+
+/// All the room that a run needs.
+fn make_room(alloc: Global) -> Result<Room>
+    ensures { IfOk result IsRoom }
 {
+    let lives = Arc::new(alloc, Lives::new())?;
     let workers = Vec::with_capacity(alloc, WORKERS)?;
     let parts = Parts {
         cpus: Vec::with_capacity(alloc, usize::from(PROCESSORS))?,
         seats: Vec::with_capacity(alloc, WORKERS)?,
         counts: Counts::new(),
     };
-    Ok((workers, parts))
+    Ok(Room {
+        workers,
+        parts,
+        lives,
+    })
 }
 
-/// Makes a domain, the processors of the workers, those of the driver, and who puts versions.
-fn found(alloc: Global) -> Result<(Domain<Job>, Vec<Cpu<Job>>, Cpus, Updater)>
-    ensures workers { IfOk result (λ r. (vec_len r.1 ≡ 7) × Each (IsOf r.0) r.1.items) }
-    ensures driver { IfOk result (λ r. AreIdle r.0 r.2) }
-    ensures updater { IfOk result (λ r. IsUpdating r.0 r.3) }
-    ensures cell { IfOk result (λ r. 0 < cells_in r.0.domain) }
+/// A new domain, the sign for its drivers, the processors of the workers, those of the driver, and that of the updater.
+#[derive(Drop)]
+struct Ground {
+    domain: Domain<Job>,
+    stop: Stop<Job>,
+    cpus: Vec<Cpu<Job>>,
+    driver: Cpus,
+    updating: Cpu<Job>,
+    /// That of the cell of words, and last that of the cell of boxes.
+    writers: Vec<Writer>,
+}
+
+/// Makes a domain.
+fn found(alloc: Global) -> Result<Ground>
+    ensures { IfOk result IsGround }
 {
     let processors = usize::from(PROCESSORS);
-    let (domain, mut cpus, mut writers) = Domain::<Job>::new(alloc, processors, LIMITS)?;
+    let (domain, mut cpus, writers) = Domain::<Job>::new(alloc, processors, LIMITS)?;
+    let stop = Stop::new(alloc, &domain)?;
     let updating = cpus.pop().unwrap();
     let serving = cpus.pop().unwrap();
     let watching = cpus.pop().unwrap();
-    let writer = writers.pop().unwrap();
-    let updater = Updater {
-        cpu: updating,
-        writer,
-        replaced: [Replaced::NONE; AGES],
-    };
-    let driver = Cpus { serving, watching };
-    Ok((domain, cpus, driver, updater))
+    Ok(Ground {
+        domain,
+        stop,
+        cpus,
+        driver: Cpus { serving, watching },
+        updating,
+        writers,
+    })
 }
 
-/// Makes all that a run begins with. The desk comes last: it must be closed with its seats, so nothing may be refused behind
+/// All that a run begins with but the desk, and what its workers are made of.
+#[derive(Drop)]
+struct Base {
+    domain: Domain<Job>,
+    stop: Stop<Job>,
+    cpus: Vec<Cpu<Job>>,
+    boxes: Vec<Boxes<Table>>,
+    workers: Vec<Worker>,
+    driver: Cpus,
+    updater: Updater,
+    parts: Parts,
+}
+
+/// Makes all that a run begins with but the desk, and says which domain that one is for.
+fn lay_out(alloc: Global) -> Result<(Base, Home)>
+    ensures base { IfOk result (λ r. IsBase r.0) }
+    ensures home { IfOk result (λ r. r.1 ≡ r.0.domain.domain) }
+{
+    let room = make_room(alloc)?;
+    let mut ground = found(alloc)?;
+    let last = ground.writers.pop().unwrap();
+    let (tables, boxes) = make_boxes(alloc, &ground.domain, &mut ground.updating, last)?;
+    let writer = ground.writers.pop().unwrap();
+    let home = ground.updating.home();
+    let updater = Updater {
+        cpu: ground.updating,
+        writer,
+        replaced: [Replaced::NONE; AGES],
+        boxes: tables,
+        waiting: None,
+        lives: room.lives,
+        counts: Counts::new(),
+    };
+    let base = Base {
+        domain: ground.domain,
+        stop: ground.stop,
+        cpus: ground.cpus,
+        boxes,
+        workers: room.workers,
+        driver: ground.driver,
+        updater,
+        parts: room.parts,
+    };
+    Ok((base, home))
+}
+
+/// Makes all that a run begins with. The desk comes last: it must be closed with its seats, so nothing may be refused after
 /// it.
 pub fn prepare(alloc: Global) -> Result<Start>
     ensures { IfOk result IsPrepared }
 {
-    let (room, parts) = make_room(alloc)?;
-    let (domain, cpus, driver, mut updater) = found(alloc)?;
-    let stop = Stop::new(alloc, &domain)?;
-    let (desk, seats) = Desk::new(alloc, WORKERS, updater.cpu.home())?;
-    let workers = seat_all(cpus, seats, room, &domain, &desk);
+    let (base, home) = lay_out(alloc)?;
+    let (desk, seats) = Desk::new(alloc, WORKERS, home)?;
+    let Base {
+        domain,
+        stop,
+        cpus,
+        boxes,
+        workers,
+        driver,
+        updater,
+        parts,
+    } = base;
+    let workers = seat_all(cpus, boxes, seats, workers, &domain, &desk);
     Ok(Start {
         domain,
         desk,
@@ -287,17 +376,19 @@ fn soak<R: Threads + Sync + Wait + Clock + AllocGlobal>(
 {
     let signs = Signs::new();
     let length = deadline.length;
-    join(
+    // What comes second stays on this thread, to which `bench/soak` refuses no memory.
+    let (served, workers) = join(
         rt,
-        || -> Vec<Worker>
-            requires { IsSync R.row × ((stop.now.domain ≡ domain.now) × AreAllAtWork domain.now desk.now workers.items) }
-            ensures { AreAllAtWork domain.entry.now desk.entry.now result.items × (vec_len result ≡ vec_len workers) }
-        { work_all(rt, domain, desk, &signs, stop, length, workers) },
         || -> (Driver, Updater)
             requires { IsSync R.row × ((stop.now.domain ≡ domain.now) × (AreIdle domain.now driver × IsUpdating domain.now updater)) }
             ensures { IsIdle domain.entry.now result.0.cpu × IsIdle domain.entry.now result.0.watching × IsUpdating domain.entry.now result.1 }
         { serve_and_update(rt, domain, driver, updater, &signs, stop, deadline) },
-    )
+        || -> Vec<Worker>
+            requires { IsSync R.row × ((stop.now.domain ≡ domain.now) × AreAllAtWork domain.now desk.now workers.items) }
+            ensures { AreAllAtWork domain.entry.now desk.entry.now result.items × (vec_len result ≡ vec_len workers) }
+        { work_all(rt, domain, desk, &signs, stop, length, workers) },
+    );
+    (workers, served)
 }
 
 /// Does all of it.

@@ -1,14 +1,17 @@
+ghost use Rattle.std.specs.Prelude.{◌≡◌};
 ghost use Rattle.soak.specs.Workers.{IsAtWork, StaysAtWork};
 ghost use Rattle.driver.specs.Pools.{IsIdle};
 ghost use Rattle.soak.specs.Starts.{AreIdle};
 ghost use Rattle.soak.specs.Updaters.{IsUpdating};
 
+use crate::boxing::{put_table, read_table};
 use crate::command_line::length_of;
 use crate::counts::{Counts, count};
 use crate::driving::{Cpus, Driver, drive};
 use crate::outcome::Outcome;
 use crate::run::{Start, end, prepare, run, take_apart};
 use crate::signs::Signs;
+use crate::tables::{Lives, Table};
 use crate::updating::{Deadline, Updater};
 use crate::worker::{
     Job, Length, Worker, check_done, hand_on, meet, queue, read, wait_for_jobs, wait_for_period,
@@ -17,8 +20,9 @@ use anyhow::Result;
 use desk::Desk;
 use domain::{Cpu, Domain, Held, InUse, Totals};
 use driver::Stop;
+use std::alloc::Global;
 use std::process::{Abort, ExitCode};
-use std::sync::Wait;
+use std::sync::{Arc, Wait};
 use std::test::Fail;
 use std::time::{Clock, Instant};
 
@@ -49,7 +53,7 @@ fn some_totals() -> Totals {
 /// not what was done.
 #[test]
 fn nine_threads_make_rounds(rt: HostRuntime) -> Result<(), Fail> {
-    for (rounds, opened, queued, waited, barriers) in [(48, 672, 336, 21, 28), (0, 0, 0, 0, 7)] {
+    for (rounds, opened, queued, waited, barriers) in [(48, 1008, 336, 21, 28), (0, 0, 0, 0, 7)] {
         let Outcome { counts, totals } = run(&rt, Length::Rounds(rounds))?;
         let Ok(totals) = totals else {
             panic!(rt; "nothing is in use any more");
@@ -68,7 +72,7 @@ fn nine_threads_make_rounds(rt: HostRuntime) -> Result<(), Fail> {
         );
         assert_eq!(rt; (counts.left, counts.again, counts.refused), (0, 0, 0));
         assert_eq!(rt; (counts.misplaced, counts.early), (0, 0));
-        assert_eq!(rt; (counts.stale, counts.torn), (0, 0));
+        assert_eq!(rt; (counts.stale, counts.torn, counts.lost), (0, 0, 0));
     }
     Ok(())
 }
@@ -84,6 +88,29 @@ fn put_torn(domain: &Domain<Job>, updater: &mut Updater, signs: &Signs)
     updater.writer.set(&mut updater.cpu, &mut slot, 0, 7);
     updater.writer.put_and_ask(domain, &mut updater.cpu, slot);
     signs.set_age(updater.writer.version(), 2);
+}
+
+/// Puts a table, and then an older one of several pieces. A worker finds each.
+fn read_torn_table(
+    alloc: Global,
+    domain: &Domain<Job>,
+    desk: &Desk<Held>,
+    worker: &mut Worker,
+    updater: &mut Updater,
+)
+    requires worker { IsAtWork domain.now desk.now worker.old }
+    requires updater { IsUpdating domain.now updater.old }
+    ensures worker { StaysAtWork domain.now desk.now worker.old worker.new }
+    ensures updater { IsUpdating domain.now updater.new }
+{
+    put_table(alloc, domain, updater);
+    read_table(domain, desk, worker);
+    let Ok(mut torn) = Table::new(alloc, 7, &updater.lives) else {
+        return;
+    };
+    torn.number = 0;
+    drop(updater.boxes.writer.replace(domain, &mut updater.cpu, torn));
+    read_table(domain, desk, worker);
 }
 
 /// All that the checks look for, each once, but for a wait that is too short: one where not all jobs were run, and one
@@ -130,10 +157,35 @@ fn run_wrongly<R: Wait + Clock + AllocGlobal>(rt: &R) -> Result<Outcome> {
     let signs = Signs::new();
     let mut worker = workers.pop().unwrap();
     put_torn(&domain, &mut updater, &signs);
+    read_torn_table(rt.alloc(), &domain, &desk, &mut worker, &mut updater);
+    let kept = Table::new(rt.alloc(), 0, &updater.lives);
     let driver = go_wrong(rt, &domain, &desk, &signs, &stop, &mut worker, driver);
     workers.push_reserved(worker);
     let parts = take_apart(workers, parts, &domain, &desk);
-    Ok(end(domain, desk, parts, driver, updater))
+    let outcome = end(domain, desk, parts, driver, updater);
+    drop(kept); // too late
+    Ok(outcome)
+}
+
+/// Would catch a table that is torn at a row and looks whole.
+#[test]
+fn looks_at_tables(rt: HostRuntime) -> Result<(), Fail> {
+    let lives = Arc::new(rt.alloc(), Lives::new())?;
+    let mut table = Table::new(rt.alloc(), 3, &lives)?;
+    assert_eq!(rt; (table.is_whole(), lives.lost()), (true, 1));
+    for row in [0, 4848, 9999] {
+        if let Some(seen) = table.rows.get_mut(row) {
+            *seen = 2;
+        }
+        assert!(rt; !table.is_whole());
+        if let Some(seen) = table.rows.get_mut(row) {
+            *seen = 3;
+        }
+        assert!(rt; table.is_whole());
+    }
+    drop(table);
+    assert_eq!(rt; lives.lost(), 0);
+    Ok(())
 }
 
 /// Would catch a worker that waits for nobody, or never finds the others.
@@ -152,7 +204,8 @@ fn workers_meet(rt: HostRuntime) {
 fn checks_notice_a_wrong_run(rt: HostRuntime) -> Result<(), Fail> {
     let outcome = run_wrongly(&rt)?;
     let counts = outcome.counts;
-    assert_eq!(rt; (counts.stale, counts.torn), (1, 1));
+    assert_eq!(rt; (counts.stale, counts.torn, counts.lost), (2, 2, 1));
+    assert_eq!(rt; (counts.boxes, counts.again), (1, 0));
     assert_eq!(rt; (counts.misplaced, counts.early), (1, 2));
     assert_eq!(rt; (counts.met, counts.left, counts.refused), (0, 1, 0));
     assert_eq!(rt; outcome.status(), ExitCode::FAILURE);
@@ -218,7 +271,7 @@ fn prints_an_outcome(rt: HostRuntime) -> Result<(), Fail> {
         waits for a grace period: 0\nbarriers: 0\nsections left on the desk: 0\ncalls made again: 0\n\
         calls refused: 0\n\
         jobs misplaced: 0\nwaits that were too short: 1\nversions that were too old: 0\n\
-        versions of several pieces: 0";
+        versions of several pieces: 0\nboxes that were not dropped once: 0";
     assert_eq!(rt; format!(in rt.alloc(); "{counts}")?.as_str(), text);
     for (counts, totals, last) in [
         (some_counts(), Ok(some_totals()), "totals: exact"),

@@ -1,13 +1,18 @@
-//! The thread that puts versions, and tells how old those are that it replaced. It drives grace periods too, and waits for
-//! nobody.
+//! The thread that puts versions and boxes, and tells how old the versions are that it replaced. It drives grace periods too,
+//! and waits for nobody.
 ghost use Rattle.std.specs.Prelude.{◌≡◌, ◌<◌};
 ghost use Rattle.soak.specs.Updaters.{IsUpdating};
 
+use crate::boxing::put_table;
+use crate::counts::Counts;
 use crate::signs::{AGES, Signs};
+use crate::tables::{Lives, Table};
 use crate::worker::{Job, Length};
+use boxes::LooseBoxWriter;
 use domain::{Cpu, Domain, Writer};
 use driver::Stop;
-use std::sync::Wait;
+use std::alloc::Global;
+use std::sync::{Arc, Wait};
 use std::time::{Clock, Duration, Instant};
 
 /// A version that was replaced.
@@ -35,6 +40,12 @@ pub struct Updater {
     pub writer: Writer,
     /// The last versions that were replaced, each at its number modulo [`AGES`].
     pub replaced: [Replaced; AGES],
+    pub boxes: LooseBoxWriter<Table, Global>,
+    /// A table that found no slot free.
+    pub waiting: Option<Box<Table>>,
+    /// Where each table is counted.
+    pub lives: Arc<Lives>,
+    pub counts: Counts,
 }
 
 /// When the workers are to come to an end.
@@ -104,8 +115,8 @@ fn age_all(domain: &Domain<Job>, updater: &mut Updater, signs: &Signs)
     }
 }
 
-/// Puts versions until no worker is left. Tells the workers when they are to come to an end.
-pub fn update<R: Wait + Clock>(
+/// Puts versions and boxes until no worker is left. Tells the workers when they are to come to an end.
+pub fn update<R: Wait + Clock + AllocGlobal>(
     rt: &R,
     domain: &Domain<Job>,
     mut updater: Updater,
@@ -127,6 +138,7 @@ pub fn update<R: Wait + Clock>(
         let _turn = domain.advance(&mut updater.cpu);
         age_all(domain, &mut updater, signs);
         put_next(domain, &mut updater, signs);
+        put_table(rt.alloc(), domain, &mut updater);
     }
     updater
 }

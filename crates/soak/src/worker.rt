@@ -18,8 +18,11 @@ ghost use Rattle.soak.specs.Workers.{IsAtWork, StaysAtWork};
 ghost use Rattle.soak.specs.Counts.{more_if};
 ghost use Rattle.soak.specs.Checks.{judged, Checks, IsRefused, WaitsAndChecks};
 
+use crate::boxing::read_table;
 use crate::counts::{Counts, count};
 use crate::signs::Signs;
+use crate::tables::Table;
+use boxes::Boxes;
 use desk::{Desk, DeskSeat};
 use domain::{Cookie, Cpu, Domain, Held, Memory, Reading, Ticket};
 use std::sync::Wait;
@@ -65,6 +68,9 @@ const LOOKS: u32 = 10_000;
 pub struct Worker {
     pub cpu: Cpu<Job>,
     pub seat: DeskSeat<Held>,
+    pub boxes: Boxes<Table>,
+    /// The number of the last table that it found.
+    pub last: u64,
     pub counts: Counts,
 }
 
@@ -331,6 +337,7 @@ fn make_round<R: Wait>(
     ensures { StaysAtWork domain.now desk.now worker.old worker.new }
 {
     read(domain, desk, signs, worker);
+    read_table(domain, desk, worker);
     hand_on(domain, desk, worker);
     queue(rt, domain, desk, worker);
     poll(domain, desk, worker);

@@ -18,5 +18,10 @@ pub cleanup-requires : goal.cleanup-requires
 cleanup-requires c =
     let Here : CpuView _ → Type 0 = IsOf c.args.domain in
     let all = All-same Here _ _ c.push_reserved.ensures.items (All-push Here _ c.rest.new.cpu c.requires.cpus c.rest.ensures) in
-    let both = All-same Here _ _ c.push_reserved-2.ensures.items (All-push Here _ _ all c.requires.watching) in
-    All-same Here _ _ c.push_reserved-3.ensures.items (All-push Here _ c.args.updater.cpu both c.requires.updater)
+    let watching : Here c.match-close.driver.watching =
+    elim c.match-close.branch [
+      | in-Some w ↦ subst (λ (v : Driver). Here v.watching) (sym w.driver-is) c.requires.watching
+      | in_default w ↦ subst (λ (v : Driver). Here v.watching) (sym w.driver-is) c.requires.watching
+    ] in
+    let both = All-same Here _ _ c.push_reserved-2.ensures.items (All-push Here _ _ all watching) in
+    All-same Here _ _ c.push_reserved-3.ensures.items (All-push Here _ c.take_back.new.updater.cpu both c.take_back.ensures.here)

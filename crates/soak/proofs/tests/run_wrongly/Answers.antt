@@ -1,5 +1,5 @@
 -- The last worker was taken out, and comes back at work with its seat.
-use Rattle.std.proofs.Common.{◌≡◌, [], ◌∷◌, ◌++◌, arith}
+use Rattle.std.proofs.Common.{◌≡◌, [], ◌∷◌, ◌++◌, ◌∙◌, arith}
 use Rattle.std.proofs.lemmas.List.Elements.{All-pop, All-push, All-same}
 use Rattle.soak.specs.declared.worker.Worker.{Worker}
 use Rattle.soak.specs.Workers.{IsAtWork}
@@ -12,8 +12,8 @@ unwrap-worker-requires g c =
     let long = c.in_ok-domain.field-0.workers.ok.0 in
     c.pop.ensures.variant.1 (omega (arith, seven, long))
 
-pub go_wrong-driver-requires-clause-worker : goal.go_wrong-driver-requires-clause-worker
-go_wrong-driver-requires-clause-worker g c =
+pub read_torn_table-requires-clause-worker : goal.read_torn_table-requires-clause-worker
+read_torn_table-requires-clause-worker g c =
     let AtWork : Worker → Type 0 = IsAtWork c.in_ok-domain.field-0.domain c.in_ok-domain.field-0.desk in
     let each = All-pop AtWork _ _ _ c.pop.ensures.items c.in_ok-domain.ensures.all.each in
     rw c.unwrap-worker.ensures at each.1
@@ -24,7 +24,8 @@ take_apart-parts-requires-clause-all g c =
     let each = All-pop AtWork _ _ _ c.pop.ensures.items c.in_ok-domain.ensures.all.each in
     let worker : Worker = c.go_wrong-driver.new.worker in
     let stays = c.go_wrong-driver.ensures.worker in
+    let number = stays.number ∙ c.read_torn_table.ensures.worker.number in
     let popped : c.in_ok-domain.field-0.workers.items ≡ c.pop.new.self.items ++ c.unwrap-worker.result ∷ [] = rw c.unwrap-worker.ensures at c.pop.ensures.items in record {
       each = All-same AtWork _ _ c.push_reserved.ensures.items (All-push AtWork _ worker each.0 stays.still);
-      seats = λ n lt. put_back (λ (w : Worker). w.seat.number) _ _ c.unwrap-worker.result _ worker popped c.push_reserved.ensures.items stays.number n (c.in_ok-domain.ensures.all.seats n lt);
+      seats = λ n lt. put_back (λ (w : Worker). w.seat.number) _ _ c.unwrap-worker.result _ worker popped c.push_reserved.ensures.items number n (c.in_ok-domain.ensures.all.seats n lt);
     }

@@ -9,6 +9,7 @@ returns c = record {
     desk = c.requires.desk;
     home = c.requires.home;
     cell = c.requires.cell;
+    boxes = c.requires.boxes;
   };
   number = refl;
 }

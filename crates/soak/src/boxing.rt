@@ -1,0 +1,154 @@
+//! The cell of boxes: how it is made, who reads it, who puts tables there, and how all come back.
+ghost use Rattle.std.specs.Prelude.{◌≡◌, ◌≤◌, vec_len, vec_capacity, All, IfOk};
+ghost use Rattle.sections.specs.Calls.{IsSameCpu};
+ghost use Rattle.domain.specs.Views.{IsOf, Stays};
+ghost use Rattle.boxes.specs.Boxes.{IsCellIn, IsCellOf, cell_of};
+ghost use Rattle.boxes.specs.Writing.{IsPlain};
+ghost use Rattle.soak.specs.Workers.{IsAtWork, StaysAtWork};
+ghost use Rattle.soak.specs.Updaters.{IsUpdating};
+
+use crate::counts::count;
+use crate::signs::WORKERS;
+use crate::tables::{Lives, Table, TableSight, judge, look_twice};
+use crate::updating::Updater;
+use crate::worker::{Job, Worker};
+use boxes::{Boxes, LooseBoxWriter, make};
+use desk::Desk;
+use domain::{Cpu, Domain, Held, Reading, Writer};
+use std::alloc::{AllocError, Global};
+use std::sync::Arc;
+
+/// How many turns of the engine are enough for all boxes to come back in the end, one in each turn.
+const TURNS: u32 = 128;
+
+/// What reads these boxes, for each worker.
+fn share(
+    mut boxes: Boxes<Table>,
+    cpu: &Cpu<Job>,
+    mut all: Vec<Boxes<Table>>,
+) -> Result<Vec<Boxes<Table>>, AllocError>
+    requires cell { IsCellOf cpu.now.cpu boxes }
+    requires room { (vec_len all ≡ 0) × (7 ≤ vec_capacity all) }
+    ensures seven { IfOk result (λ r. vec_len r ≡ 7) }
+    ensures same { IfOk result (λ r. All (λ b. b ≡ boxes) r.items) }
+{
+    while all.len() < WORKERS {
+        all.push_reserved(boxes.another(cpu)?);
+    }
+    Ok(all)
+}
+
+/// Makes a cell one of boxes, for who puts them and for each worker.
+pub fn make_boxes(
+    alloc: Global,
+    domain: &Domain<Job>,
+    cpu: &mut Cpu<Job>,
+    writer: Writer,
+) -> Result<(LooseBoxWriter<Table, Global>, Vec<Boxes<Table>>), AllocError>
+    requires domain { IsOf domain.now cpu.old }
+    requires here { writer.domain ≡ domain.now.domain }
+    requires plain { IsPlain writer }
+    ensures here { IsOf domain.now cpu.new }
+    ensures writer { IfOk result (λ m. IsCellIn domain.now (cell_of m.0.writer)) }
+    ensures seven { IfOk result (λ m. vec_len m.1 ≡ 7) }
+    ensures boxes { IfOk result (λ m. All (IsCellIn domain.now) m.1.items) }
+{
+    let all = Vec::with_capacity(alloc, WORKERS)?;
+    match make(alloc, domain, cpu, writer) {
+        Ok((writer, boxes)) => {
+            let writer = LooseBoxWriter::new(writer);
+            let all = share(boxes, &*cpu, all)?;
+            Ok((writer, all))
+        }
+        Err(_writer) => Err(AllocError),
+    }
+}
+
+/// Looks at the table that is there, if there is one. The section is the same after that.
+fn find_table(
+    cpu: &mut Cpu<Job>,
+    boxes: &mut Boxes<Table>,
+    reading: Reading,
+) -> (Reading, Option<TableSight>)
+    requires here { reading.domain ≡ cpu.old.cpu.domain }
+    requires cell { IsCellOf cpu.old.cpu boxes.old }
+    ensures stays { Stays cpu.old cpu.new }
+    ensures same { IsSameCpu cpu.old.cpu cpu.new.cpu }
+    ensures boxes { boxes.new ≡ boxes.old }
+    ensures reading { result.0 ≡ reading }
+{
+    match boxes.find(cpu, reading) {
+        Ok(pin) => {
+            let sight = look_twice(&pin);
+            (boxes.release(cpu, pin), Some(sight))
+        }
+        Err(reading) => (reading, None),
+    }
+}
+
+/// Looks at the table that is there, in a section of its own. A cell with no box yet is no fault.
+pub fn read_table(domain: &Domain<Job>, desk: &Desk<Held>, worker: &mut Worker)
+    requires { IsAtWork domain.now desk.now worker.old }
+    ensures { StaysAtWork domain.now desk.now worker.old worker.new }
+{
+    let Ok(reading) = worker.cpu.read_lock() else {
+        count(&mut worker.counts.refused);
+        return;
+    };
+    count(&mut worker.counts.opened);
+    let (reading, found) = find_table(&mut worker.cpu, &mut worker.boxes, reading);
+    worker.cpu.read_unlock(reading);
+    count(&mut worker.counts.closed);
+    judge(&mut worker.counts, &mut worker.last, found);
+}
+
+/// The table that waits for a slot, or else a new one of this number.
+fn next_table(
+    alloc: Global,
+    waiting: &mut Option<Box<Table>>,
+    number: u64,
+    lives: &Arc<Lives>,
+) -> Result<Box<Table>, AllocError> {
+    match waiting.take() {
+        Some(table) => Ok(table),
+        None => Table::new(alloc, number, lives),
+    }
+}
+
+/// Puts a table, if a slot is free; else it waits for one. A box that comes back is dropped. Where memory is refused, none is
+/// put.
+pub fn put_table(alloc: Global, domain: &Domain<Job>, updater: &mut Updater)
+    requires { IsUpdating domain.now updater.old }
+    ensures { IsUpdating domain.now updater.new }
+{
+    let number = updater.counts.boxes.saturating_add(1);
+    let Ok(table) = next_table(alloc, &mut updater.waiting, number, &updater.lives) else {
+        count(&mut updater.counts.again);
+        return;
+    };
+    match updater
+        .boxes
+        .writer
+        .replace(domain, &mut updater.cpu, table)
+    {
+        Ok(_back) => count(&mut updater.counts.boxes),
+        Err(table) => updater.waiting = Some(table),
+    }
+}
+
+/// Retires the last box, and drops each one that comes back. No section is open any more, so all of them do.
+pub fn take_back(domain: &Domain<Job>, updater: &mut Updater)
+    requires { IsUpdating domain.now updater.old }
+    ensures { IsUpdating domain.now updater.new }
+{
+    updater.waiting = None;
+    let mut retired = false;
+    for _ in 0..TURNS {
+        drop(updater.boxes.writer.reclaim(&mut updater.cpu));
+        if !retired {
+            let cookie = updater.boxes.writer.retire(domain, &mut updater.cpu);
+            retired = cookie.is_some();
+        }
+        let _turn = domain.advance(&mut updater.cpu);
+    }
+}
