@@ -107,27 +107,37 @@ fn closed_in_vain(rt: HostRuntime) -> Result<(), Fail> {
     Ok(())
 }
 
-/// Would catch a stock that is filled again while one is out, which could then be closed without it, or never.
+/// How many these are, and their sum.
+fn count_and_sum(numbers: &[Number]) -> (usize, u64) {
+    let sum = numbers
+        .iter()
+        .fold(0, |sum: u64, number| sum.saturating_add(number.value));
+    (numbers.len(), sum)
+}
+
+/// Would catch a stock that is filled again while one is out, which could then be closed without it, or never; and one that
+/// hands out what it is filled with, in the place of as many others.
 #[test]
 fn filled_in_vain(rt: HostRuntime) -> Result<(), Fail> {
     let mut stock = two(&rt)?;
-    let mut one = Vec::with_capacity(rt.alloc(), 1)?;
-    one.push_reserved(Number { value: 6 });
+    let mut others = Vec::with_capacity(rt.alloc(), 2)?;
+    others.push_reserved(Number { value: 6 });
+    others.push_reserved(Number { value: 8 });
     let Ok((number, out)) = stock.try_take(&rt) else {
         panic!(rt; "two are at home");
     };
-    let Err((one, _sight)) = stock.fill(&rt, one) else {
+    let Err((others, _sight)) = stock.fill(&rt, others) else {
         panic!(rt; "one is out");
     };
     stock.give(&rt, number, out);
-    let Ok((before, _sight)) = stock.fill(&rt, one) else {
+    let Ok((before, _sight)) = stock.fill(&rt, others) else {
         panic!(rt; "all are at home");
     };
-    assert_eq!(rt; before.len(), 2);
+    assert_eq!(rt; count_and_sum(before.as_slice()), (2, 6));
     let Ok(numbers) = stock.close(&rt) else {
         panic!(rt; "all are at home");
     };
-    assert_eq!(rt; numbers.len(), 1);
+    assert_eq!(rt; count_and_sum(numbers.as_slice()), (2, 14));
     Ok(())
 }
 
@@ -159,10 +169,7 @@ fn two_threads(rt: HostRuntime) -> Result<(), Fail> {
     let Ok(numbers) = stock.close(&rt) else {
         panic!(rt; "all are at home");
     };
-    let sum = numbers
-        .iter()
-        .fold(0, |sum: u64, number| sum.saturating_add(number.value));
-    assert_eq!(rt; (numbers.len(), sum), (2, 6));
+    assert_eq!(rt; count_and_sum(numbers.as_slice()), (2, 6));
     Ok(())
 }
 

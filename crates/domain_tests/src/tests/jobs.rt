@@ -26,8 +26,8 @@ struct Job {
     number: u64,
 }
 
-/// How many jobs each of the four queues.
-const JOBS: u64 = 1_000;
+/// How many jobs each of the four queues: more than a thousand, and than 1024.
+const JOBS: u64 = 1_100;
 
 /// How many of them it queues in one section.
 const GROUP: u64 = 10;

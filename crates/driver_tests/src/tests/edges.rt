@@ -1,5 +1,5 @@
-//! A pool that is filled again or closed in vain, signs that agree, a tally with jobs, a domain whose periods are used up, and
-//! a batch that another thread keeps for a while.
+//! A pool that is filled again or closed in vain, signs that agree, a tally with jobs, a domain whose periods are used up, jobs
+//! that queue others, and a batch that another thread keeps for a while.
 ghost use Rattle.std.specs.Prelude.{◌≡◌};
 ghost use Rattle.driver.specs.Pools.{IsIdle};
 
@@ -148,6 +148,48 @@ fn gives_up_where_periods_are_used_up(rt: HostRuntime) -> Result<(), Fail> {
         panic!(rt; "a second period may not start");
     };
     assert_eq!(rt; served.jobs, 0);
+    Ok(())
+}
+
+/// What a driver came to that was told to stop before it began, where each job queues the next one: whether it ended as it was
+/// told, and how many jobs it ran.
+fn serve_what_queues<R: Wait + AllocGlobal>(
+    rt: &R,
+    periods: u64,
+) -> Result<Option<(bool, u64)>, MakeError> {
+    let limits = Limits { periods, ..LIMITS };
+    let (domain, mut cpus, _) = Domain::<u64>::new(rt.alloc(), 2, limits)?;
+    let stop = sign_of(rt, &domain)?;
+    let (Some(mut other), Some(mut cpu)) = (cpus.pop(), cpus.pop()) else {
+        return Ok(None);
+    };
+    let queued = queue(rt, &domain, &mut other, 0, 1);
+    stop.give_alone(rt, &domain);
+    let served = serve(rt, &domain, &mut cpu, &stop, |job: u64| {
+        if job < 100 {
+            let _ = domain.call(rt, &mut other, job + 1);
+        }
+    });
+    match served {
+        Ok(stopped) => Ok(Some((queued, stopped.served.jobs))),
+        Err((served, PeriodsExhausted)) => Ok(Some((false, served.jobs))),
+    }
+}
+
+/// Would catch a driver that was told to stop, and goes on as long as jobs come in.
+#[test]
+fn told_while_jobs_come_in(rt: HostRuntime) -> Result<(), Fail> {
+    assert_eq!(rt;
+        serve_what_queues(&rt, Limits::MOST_PERIODS)?,
+        Some((true, 2))
+    );
+    Ok(())
+}
+
+/// Would catch a driver that was told to stop, and waits for ever for a period that may not start.
+#[test]
+fn told_where_periods_are_used_up(rt: HostRuntime) -> Result<(), Fail> {
+    assert_eq!(rt; serve_what_queues(&rt, 1)?, Some((false, 1)));
     Ok(())
 }
 
