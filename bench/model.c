@@ -9,6 +9,11 @@ struct cell {
 	_Alignas(STRIDE) _Atomic uint64_t slots[2][VERSION_WORDS];
 };
 
+/* What readers follow a pointer to. They load its first word. */
+struct box {
+	_Alignas(STRIDE) volatile uint64_t words[VERSION_WORDS];
+};
+
 struct table {
 	struct processor *volatile processors;
 };
@@ -25,6 +30,8 @@ struct cpu {
 
 static struct processor holders[2];
 static struct cell cell;
+static struct box box;
+static _Alignas(STRIDE) struct box *_Atomic current_box = &box;
 static struct table table = { processors };
 static struct cpu cpus[MOST_PROCESSORS];
 static const uint64_t most_sections = (uint64_t)1 << 52;
@@ -95,6 +102,19 @@ static void find_all_words(const struct worker *worker)
 	find_versions(worker, VERSION_WORDS);
 }
 
+/* In a section of its own a pointer is loaded, and then a word through it. */
+static void follow_pointers(const struct worker *worker)
+{
+	struct processor *own = processor_of(worker);
+
+	for (uint64_t round = 0; round < worker->rounds; round++) {
+		unsigned index = begin_section(own);
+
+		(void)atomic_load(&current_box)->words[0];
+		end_section(own, index);
+	}
+}
+
 static void run_quiet_periods(const struct worker *worker)
 {
 	for (uint64_t round = 0; round < worker->rounds; round++)
@@ -160,6 +180,13 @@ const struct thing model_find_all = {
 	.name = "model-find-16",
 	.prepare = prepare_processors,
 	.work = find_all_words,
+	.less_often = 1,
+};
+
+const struct thing model_box = {
+	.name = "model-box",
+	.prepare = prepare_processors,
+	.work = follow_pointers,
 	.less_often = 1,
 };
 

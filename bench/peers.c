@@ -51,6 +51,7 @@ static const struct thing *const things[] = {
 #ifdef WITH_LIBURCU
 	&urcu_mb_pair,
 	&urcu_memb_pair,
+	&urcu_memb_box,
 	&urcu_mb_synchronize,
 	&urcu_memb_synchronize,
 	&urcu_mb_synchronize_at_once,
@@ -64,6 +65,7 @@ static const struct thing *const things[] = {
 	&model_find_one,
 	&pointer_one,
 	&rwlock_one,
+	&model_box,
 	&model_find_all,
 	&pointer_all,
 	&rwlock_all,

@@ -43,6 +43,7 @@ extern const struct thing model_held_pair;
 extern const struct thing model_quiet_period;
 extern const struct thing model_find_one;
 extern const struct thing model_find_all;
+extern const struct thing model_box;
 extern const struct thing model_put;
 extern const struct thing model_chain_call_four;
 extern const struct thing model_chain_call_fifteen;
@@ -73,6 +74,7 @@ void report_samples(const char *name, unsigned size, double median, double least
 void report_delays(void);
 extern const struct thing urcu_mb_pair;
 extern const struct thing urcu_memb_pair;
+extern const struct thing urcu_memb_box;
 extern const struct thing urcu_mb_synchronize;
 extern const struct thing urcu_memb_synchronize;
 extern const struct thing urcu_mb_synchronize_at_once;

@@ -135,6 +135,16 @@ function find_rows(words, size,    finds) {
     rust_rows(finds, size)
 }
 
+function box_rows(size) {
+    row("this domain, " threads(size), "srcubench-box", size, "model-box")
+    row("C11 model of it, " threads(size), "model-box", size, "model-box")
+    row("liburcu memb, " threads(size), "urcu-memb-box", size, "model-box")
+    row("arc-swap load, " threads(size), "arc-swap-box", size, "model-box")
+    row("crossbeam-epoch pin, " threads(size), "epoch-box", size, "model-box")
+    row("std RwLock of an Arc, " threads(size), "std-rwlock-arc", size, "model-box")
+    row("parking_lot RwLock of an Arc, " threads(size), "parking-lot-arc", size, "model-box")
+}
+
 function put_rows() {
     row("this domain", "srcubench-put", 1, "model-put")
     row("C11 model of it", "model-put", 1, "model-put")
@@ -224,6 +234,10 @@ END {
     printf "%-44s %-28s %s\n", "a version found, and its sixteen words", "      ns", "ratio to the model"
     for (size = 1; size <= 4; size *= 2)
         find_rows(16, size)
+    print ""
+    printf "%-44s %-28s %s\n", "a box found, and a word read in it", "      ns", "ratio to the model"
+    for (size = 1; size <= 4; size *= 2)
+        box_rows(size)
     print ""
     printf "%-44s %-28s %s\n", "a put of sixteen words and a grace period", "      ns", "ratio to the model"
     put_rows()

@@ -3,6 +3,8 @@
 #include <urcu/urcu-mb.h>
 #include <urcu/urcu-memb.h>
 
+#include <urcu/pointer.h>
+
 #include "peers.h"
 
 #include <pthread.h>
@@ -36,6 +38,25 @@ static void make_memb_pairs(const struct worker *worker)
 	urcu_memb_register_thread();
 	for (uint64_t round = 0; round < worker->rounds; round++) {
 		urcu_memb_read_lock();
+		urcu_memb_read_unlock();
+	}
+	urcu_memb_unregister_thread();
+}
+
+/* What readers follow a pointer to. They load its first word. */
+struct box {
+	_Alignas(STRIDE) volatile uint64_t words[VERSION_WORDS];
+};
+
+static struct box box;
+static _Alignas(STRIDE) struct box *current_box = &box;
+
+static void follow_pointers(const struct worker *worker)
+{
+	urcu_memb_register_thread();
+	for (uint64_t round = 0; round < worker->rounds; round++) {
+		urcu_memb_read_lock();
+		(void)rcu_dereference(current_box)->words[0];
 		urcu_memb_read_unlock();
 	}
 	urcu_memb_unregister_thread();
@@ -112,6 +133,13 @@ const struct thing urcu_memb_pair = {
 	.name = "urcu-memb",
 	.prepare = prepare_nothing,
 	.work = make_memb_pairs,
+	.less_often = 1,
+};
+
+const struct thing urcu_memb_box = {
+	.name = "urcu-memb-box",
+	.prepare = prepare_nothing,
+	.work = follow_pointers,
 	.less_often = 1,
 };
 

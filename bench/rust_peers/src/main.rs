@@ -129,6 +129,29 @@ fn time_words(size: Size) {
     time_readers("parking-lot-find-16", size, || sum(&parked.read()));
 }
 
+/// One word through a pointer, which what protects it keeps from being freed.
+fn time_boxes(size: Size) {
+    let first = |words: &Words| black_box(words[0]);
+    let swapped = ArcSwap::from_pointee([7; 16]);
+    time_readers("arc-swap-box", size, || first(&swapped.load()));
+    let pinned = Atomic::new([7; 16]);
+    time_readers("epoch-box", size, || {
+        let guard = epoch::pin();
+        // SAFETY: the pointer is never null, and nothing that it points to is freed while the guard lives.
+        first(unsafe { pinned.load(SeqCst, &guard).deref() })
+    });
+    let locked = RwLock::new(Arc::new([7; 16]));
+    time_readers("std-rwlock-arc", size, || {
+        let words = Arc::clone(&locked.read().expect("no writer of this lock panics"));
+        first(&words)
+    });
+    let parked = parking_lot::RwLock::new(Arc::new([7; 16]));
+    time_readers("parking-lot-arc", size, || {
+        let words = Arc::clone(&parked.read());
+        first(&words)
+    });
+}
+
 /// A key of fifteen, looked up under what protects them.
 fn time_keys(size: Size) {
     let rows: Rows = std::array::from_fn(|at| (at as u32, 3 * at as u32));
@@ -185,6 +208,7 @@ fn main() -> ExitCode {
         return ExitCode::from(2);
     };
     time_words(size);
+    time_boxes(size);
     time_keys(size);
     time_puts(size);
     ExitCode::SUCCESS

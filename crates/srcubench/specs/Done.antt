@@ -3,7 +3,7 @@ use Rattle.std.specs.Prelude.{◌≡◌, ℕ, ◌*◌, ◌^◌, ◌≤◌, List}
 use Rattle.srcubench.specs.declared.pairs.Reader.{Reader}
 use Rattle.srcubench.specs.declared.asking.Asker.{Asker}
 use Rattle.srcubench.specs.declared.work.Work.{Work}
-use Rattle.srcubench.specs.declared.work.Work.TheVariants.{Pairs, HeldPairs, QuietPeriods, DrivenPeriods, DrivenAtOnce, Waits, WaitsAtOnce, Asks, AsksAlone, Entries, Queueing, Callbacks, Given, Finds, Puts, ChainCalls, ChainChanges, Looks, Installs}
+use Rattle.srcubench.specs.declared.work.Work.TheVariants.{Pairs, HeldPairs, QuietPeriods, DrivenPeriods, DrivenAtOnce, Waits, WaitsAtOnce, Asks, AsksAlone, Entries, Queueing, Callbacks, Given, Finds, Boxes, Puts, ChainCalls, ChainChanges, Looks, Installs}
 use Rattle.srcubench.specs.Readers.{AreReadersOfOne}
 use Rattle.srcubench.specs.Asking.{AreAskersOfOne, HasAskedAlone}
 use Rattle.srcubench.specs.Calling.{HaveQueued, HavePassed}
@@ -33,6 +33,7 @@ CanRun (Queueing threads jobs) = (1 ≤ threads * jobs) × (threads ≤ 2 ^ 16) 
 CanRun (Callbacks threads jobs) = (1 ≤ threads * jobs) × (threads ≤ 2 ^ 16) × (jobs ≤ 2 ^ 40)
 CanRun (Given threads jobs ended) = (1 ≤ threads * jobs) × (threads ≤ 2 ^ 16) × (jobs ≤ 2 ^ 40)
 CanRun (Finds threads words times) = (1 ≤ times) × (words ≤ 16)
+CanRun (Boxes threads times) = (1 ≤ times) × (threads ≤ 2 ^ 16)
 CanRun (Puts times) = 1 ≤ times
 CanRun (ChainCalls threads blocks times) = (1 ≤ times) × (threads ≤ 2 ^ 16) × (blocks ≤ 15)
 CanRun (ChainChanges rounds) = (1 ≤ rounds) × (rounds ≤ 2 ^ 54)
@@ -55,6 +56,7 @@ IsDone (Queueing threads jobs) done = (done ≡ threads * jobs) × HaveQueued th
 IsDone (Callbacks threads jobs) done = (done ≡ threads * jobs) × HavePassed threads jobs
 IsDone (Given threads jobs ended) done = (done ≡ threads * jobs) × HaveGiven threads jobs
 IsDone (Finds threads words times) done = (done ≡ times) × (readers : List Reader) × AreFindersOfOne threads words times readers
+IsDone (Boxes threads times) done = done ≡ times
 IsDone (Puts times) done = (done ≡ times) × HavePut times
 IsDone (ChainCalls threads blocks times) done = (done ≡ times) × HaveCalled threads blocks times
 IsDone (ChainChanges rounds) done = (done ≡ 2 * rounds) × HaveChanged rounds

@@ -15,6 +15,8 @@ pub enum Loop {
     Word,
     /// The same with all sixteen words.
     Words,
+    /// A section in which a box is found and read.
+    Box,
     /// One key of a table of fifteen that is looked up.
     Lookup,
     /// A call of a chain of four handlers.
@@ -30,11 +32,12 @@ pub enum Loop {
 }
 
 impl Loop {
-    const ALL: [Loop; 10] = [
+    const ALL: [Loop; 11] = [
         Loop::Pair,
         Loop::Held,
         Loop::Word,
         Loop::Words,
+        Loop::Box,
         Loop::Lookup,
         Loop::Chain,
         Loop::Put,
@@ -49,6 +52,7 @@ impl Loop {
             Loop::Held => "held",
             Loop::Word => "word",
             Loop::Words => "words",
+            Loop::Box => "box",
             Loop::Lookup => "lookup",
             Loop::Chain => "chain",
             Loop::Put => "put",
@@ -85,6 +89,7 @@ impl Loop {
                 words: 16,
                 times,
             },
+            Loop::Box => Work::Boxes { threads, times },
             Loop::Lookup => Work::Looks {
                 threads,
                 leased: false,

@@ -9,6 +9,7 @@ ghost use Rattle.std.specs.Prelude.{◌*◌, ◌≤◌, ◌^◌};
 
 mod alone;
 mod asking;
+mod boxing;
 mod callbacks;
 mod calling;
 mod command_line;
@@ -128,6 +129,7 @@ fn count<R: Threads + Sync + Wait + Clock + Print + AllocGlobal>(rt: &R) -> Resu
     }
     count_jobs(rt)?;
     count_versions(rt)?;
+    count_boxes(rt)?;
     count_chains(rt)?;
     count_tables(rt)
 }
@@ -178,6 +180,15 @@ fn count_versions<R: Threads + Sync + Wait + Clock + Print + AllocGlobal>(rt: &R
         "put: {} versions",
         putting::run(rt, COUNTED_VERSIONS)?.done
     )?;
+    Ok(())
+}
+
+/// Prints how often a box was found in each thread.
+fn count_boxes<R: Threads + Sync + Clock + Print + AllocGlobal>(rt: &R) -> Result<()> {
+    for threads in THREADS {
+        let timed = boxing::run(rt, threads, COUNTED_VERSIONS)?;
+        println!(rt; "threads {threads}: {} boxes found in each", timed.done)?;
+    }
     Ok(())
 }
 
@@ -360,6 +371,10 @@ fn time_versions<R: Threads + Sync + Wait + Clock + Print + AllocGlobal>(
             let spread = measure(rt, work, repetitions)?;
             println!(rt; "srcubench-find-{words} {threads} {spread}")?;
         }
+    }
+    for threads in THREADS {
+        let spread = measure(rt, Work::Boxes { threads, times }, repetitions)?;
+        println!(rt; "srcubench-box {threads} {spread}")?;
     }
     let times = times / LESS_OFTEN + 1;
     let spread = measure(rt, Work::Puts { times }, repetitions)?;

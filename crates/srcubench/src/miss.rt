@@ -15,7 +15,9 @@ pub enum Miss {
     Called { last: u32, count: u64 },
     /// The key has no plug.
     NoPlug,
-    /// The key has another plug.
+    /// The cell has no box.
+    NoBox,
+    /// The key has another plug, or the box another number.
     Found(u32),
 }
 
@@ -38,7 +40,8 @@ impl fmt::Display for Miss {
             Miss::NoSection => write!(f, "no section can begin"),
             Miss::Called { last, count } => write!(f, "{count} handlers were called: {last}"),
             Miss::NoPlug => write!(f, "the key has no plug"),
-            Miss::Found(plug) => write!(f, "the key has the plug {plug}"),
+            Miss::NoBox => write!(f, "the cell has no box"),
+            Miss::Found(number) => write!(f, "{number} was found"),
         }
     }
 }

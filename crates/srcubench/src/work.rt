@@ -7,8 +7,8 @@ ghost use Rattle.srcubench.specs.Spreads.{IsSpreadOf};
 use crate::passage::Way;
 use crate::spread::{Spread, cost_of_one};
 use crate::{
-    asking, callbacks, driving, finding, giving, held, installing, looking, notifying, passage,
-    putting, quiet, registering, trial, waiting,
+    asking, boxing, callbacks, driving, finding, giving, held, installing, looking, notifying,
+    passage, putting, quiet, registering, trial, waiting,
 };
 use anyhow::Result;
 use std::sync::Wait;
@@ -94,6 +94,11 @@ pub enum Work {
     Finds {
         threads: usize,
         words: usize,
+        times: u64,
+    },
+    /// Sections in which a box is found and read: so many in each of so many threads, which are processors of one domain.
+    Boxes {
+        threads: usize,
         times: u64,
     },
     /// Values that are put, each with the grace period behind which the one before it can't be read, in one thread.
@@ -194,6 +199,7 @@ pub fn run<R: Threads + Sync + Wait + Clock + AllocGlobal>(rt: &R, work: Work) -
                 elapsed: trial.elapsed,
             })
         }
+        Work::Boxes { threads, times } => boxing::run(rt, threads, times),
         Work::Puts { times } => putting::run(rt, times),
         Work::ChainCalls {
             threads,

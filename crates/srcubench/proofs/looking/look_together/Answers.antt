@@ -8,4 +8,4 @@ use Rattle.srcubench.proofs.looking.look_together.Goals as goal
 pub map_vec-requires-after_bounds : goal.map_vec-requires-after_bounds
 map_vec-requires-after_bounds g c κs within i x lt e =
     let there : IsCellIn x.cpu.domain c.args.view.now = subst (λ (z : CpuView (Unit {0})). IsCellIn z.cpu.domain c.args.view.now) (sym e) (All-get_or (λ (z : CpuView (Unit {0})). IsCellIn z.cpu.domain c.args.view.now) c.args.cpus.items i x lt c.requires) in
-    λ κs' pointer borrowed fits κs'' lives. there
+    λ κs' pointer borrowed fits κs''. there
