@@ -1,4 +1,5 @@
 //! Reports of a grace period that waits for long, and counts that others read while a driver runs.
+ghost use Rattle.std.specs.Prelude.{◌≡◌, None};
 ghost use Rattle.driver.specs.Pools.{IsIdle};
 
 use crate::counts::Came;
@@ -119,6 +120,33 @@ pub struct Report<'a, J, C, H, A: Allocator> {
     pub hear: H,
     /// The grace period that waits: none at first.
     pub delay: Option<Delay>,
+}
+
+impl<'a, J, C, H, A: Allocator> Report<'a, J, C, H, A> {
+    /// A report by this processor, of grace periods that wait for longer than `after`. None is seen to wait yet.
+    pub fn new(
+        clock: &'a C,
+        tally: &'a Tally,
+        alloc: A,
+        cpu: Cpu<J, A>,
+        after: Duration,
+        hear: H,
+    ) -> Report<'a, J, C, H, A>
+        ensures cpu { result.cpu ≡ cpu }
+        ensures after { result.after ≡ after }
+        ensures hear { result.hear ≡ hear }
+        ensures delay { result.delay ≡ None }
+    {
+        Report {
+            clock,
+            tally,
+            alloc,
+            cpu,
+            after,
+            hear,
+            delay: None,
+        }
+    }
 }
 
 /// The number of grace periods that have ended.

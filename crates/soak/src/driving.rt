@@ -11,7 +11,6 @@ use crate::signs::{Signs, WORKERS};
 use crate::worker::Job;
 use domain::{Cpu, Domain};
 use driver::{Report, Stall, Stop, Tally, serve_with};
-use std::alloc::Global;
 use std::sync::Wait;
 use std::time::{Clock, Duration};
 
@@ -60,28 +59,6 @@ fn run(ran: &mut Ran, job: &Job) -> u64
     next
 }
 
-/// A report to this closure, by this processor, of each grace period that waits for too long.
-fn report_to<'a, C, H>(
-    clock: &'a C,
-    tally: &'a Tally,
-    alloc: Global,
-    cpu: Cpu<Job>,
-    hear: H,
-) -> Report<'a, Job, C, H, Global>
-    ensures cpu { result.cpu ≡ cpu }
-    ensures hear { result.hear ≡ hear }
-{
-    Report {
-        clock,
-        tally,
-        alloc,
-        cpu,
-        after: Duration::from_secs(MOST_SECONDS),
-        hear,
-        delay: None,
-    }
-}
-
 /// Serves the domain until no worker is left, and all jobs are run. How many there were it counts itself, and what the
 /// driver tells has to be the same, and what it tallied too. A report counts as a wait that was too long.
 pub fn drive<R: Wait + Clock + AllocGlobal>(
@@ -107,7 +84,8 @@ pub fn drive<R: Wait + Clock + AllocGlobal>(
     let tally = Tally::new();
     let mut stalled = false;
     let hear = |_stall: Stall<'_>| stalled = true;
-    let mut report = report_to(rt, &tally, rt.alloc(), watching, hear);
+    let after = Duration::from_secs(MOST_SECONDS);
+    let mut report = Report::new(rt, &tally, rt.alloc(), watching, after, hear);
     let work = |job: Job| {
         signs.set_run(job.processor, run(&mut ran, &job));
     };

@@ -2,7 +2,7 @@
 ghost use Rattle.std.specs.Prelude.{◌≡◌, ℕ, ◌+◌, ◌↔◌, true, false, Ok, Err};
 ghost use Rattle.scan.specs.declared.progress.Progress.TheVariants as progress;
 ghost use Rattle.scan.specs.declared.refusals.AdvanceRefusal.TheVariants as advance;
-ghost use Rattle.driver.specs.Counts.{IsCount, periods_in};
+ghost use Rattle.driver.specs.Counts.{IsCount, periods_in, rests};
 
 use super::{Came, Served};
 use domain::{AdvanceRefusal, Progress};
@@ -52,7 +52,7 @@ impl Came {
 
     /// Whether there was nothing to do: no job was ready, and the engine rests, waits for a section or works elsewhere.
     pub fn is_rest(&self) -> bool
-        ensures { result ≡ true → self.now.jobs ≡ 0 }
+        ensures { result ≡ true ↔ (self.now.jobs ≡ 0) × (rests self.now.answer ≡ true) }
     {
         self.jobs == 0
             && matches!(

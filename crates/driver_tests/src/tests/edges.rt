@@ -84,15 +84,15 @@ fn tally_nine<R: Wait + Clock + AllocGlobal>(rt: &R) -> Result<Option<Tallied>, 
     let queued = queue(rt, &domain, &mut cpu, 0, 9);
     stop.give_alone(rt, &domain);
     let tally = Tally::new();
-    let mut report = Report {
-        clock: rt,
-        tally: &tally,
-        alloc: rt.alloc(),
-        cpu: watcher,
-        after: Duration::from_secs(100),
-        hear: |_stall: Stall<'_>| {},
-        delay: None,
-    };
+    let after = Duration::from_secs(100);
+    let mut report = Report::new(
+        rt,
+        &tally,
+        rt.alloc(),
+        watcher,
+        after,
+        |_stall: Stall<'_>| {},
+    );
     let served = serve_with(rt, &domain, &mut cpu, &stop, |_job: u64| {}, &mut report);
     if !queued || served.is_err() {
         return Ok(None);

@@ -130,18 +130,11 @@ fn drive_with_report<R: Wait + Clock + AllocGlobal>(
     requires watcher { IsIdle domain.now watcher }
     requires stop { stop.now.domain ≡ domain.now }
 {
-    let mut report = Report {
-        clock: rt,
-        tally: &signs.tally,
-        alloc: rt.alloc(),
-        cpu: watcher,
-        after,
-        hear: |stall: Stall<'_>| {
-            note(signs, stall);
-            look_for(rt, &signs.free, 1);
-        },
-        delay: None,
+    let hear = |stall: Stall<'_>| {
+        note(signs, stall);
+        look_for(rt, &signs.free, 1);
     };
+    let mut report = Report::new(rt, &signs.tally, rt.alloc(), watcher, after, hear);
     let opened = look_for(rt, &signs.opened, 1);
     domain.start_poll(&mut cpu);
     let served = serve_with(rt, domain, &mut cpu, stop, |_job: u64| {}, &mut report);
