@@ -1,1 +1,2 @@
 mod ForThreads
+mod ForSets
