@@ -1,14 +1,24 @@
 //! What the threads share.
+ghost use Rattle.std.specs.Prelude.{◌≡◌};
 ghost use Rattle.srcu.specs.Words.{IsCellOf};
 
-use srcu::{Refusal, Stop, TableView, Values, Versioned};
+use srcu::{Chain, ChainView, Refusal, Shelf, Stop, Table, TableView, Values, Versioned};
 use std::sync::atomic::Ordering::SeqCst;
 use std::sync::atomic::{AtomicBool, AtomicU64};
 use std::thread::sleep;
-use std::time::Duration;
+use std::time::{Clock, Duration};
 
 /// What comes of a call.
 pub type Try<T> = Result<T, Refusal>;
+
+/// The domain of the rules, the policy and the chain, and its parts. A job is the number of a policy that was replaced.
+pub type Domain = srcu::Domain<u64>;
+
+pub type Cpu = srcu::Cpu<u64>;
+
+pub type Worker<'a> = srcu::Worker<'a, u64>;
+
+pub type Team<'a> = srcu::Team<'a, u64>;
 
 /// What is done with packets of whose port no rule speaks: whether they pass.
 #[derive(Clone, Copy)]
@@ -39,6 +49,17 @@ impl Versioned for Policy {
     }
 }
 
+/// What the control thread alone writes: the rules, the policy, and the chain of the subscribers, all of one domain. A job is
+/// the number of a policy that was replaced.
+#[derive(Drop)]
+pub struct Tools {
+    pub rules: Table,
+    pub policy: Shelf<Policy>,
+    pub chain: Chain,
+    pub hears: ChainView,
+    ghost both: { (chain.ids ≡ 2) × (hears.ids ≡ 2) },
+}
+
 /// The port whose rule is changed.
 pub const PORT: u32 = 7;
 
@@ -49,6 +70,9 @@ pub struct Shared {
     pub policy: Values<Policy>,
     pub stop: Stop<u64>,
     pub host: HostRuntime,
+    /// How many packets passed by the old rules, and by the new ones.
+    pub by_old: AtomicU64,
+    pub by_new: AtomicU64,
     /// How many policies were filed, whether the old rules were read, and whether the new ones are there.
     pub filed: AtomicU64,
     pub old: AtomicBool,
@@ -64,12 +88,12 @@ impl Shared {
     }
 
     /// Waits until another thread has come so far, for ten seconds at most.
-    pub fn wait_for(&self, sign: &AtomicBool) {
+    pub fn wait_for<R: Clock>(&self, rt: &R, sign: &AtomicBool) {
         for _ in 0..10_000 {
             if sign.load(SeqCst) {
                 break;
             }
-            sleep(&self.host, Duration::from_millis(1));
+            sleep(rt, Duration::from_millis(1));
         }
     }
 }
