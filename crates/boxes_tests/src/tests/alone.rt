@@ -56,6 +56,32 @@ fn a_number_comes_back(rt: HostRuntime) -> Result<(), Fail> {
     Ok(())
 }
 
+/// Would catch boxes of the first few processors alone, and a section within another one that finds none.
+#[test]
+fn found_on_each_of_twelve(rt: HostRuntime) -> Result<(), Fail> {
+    let (domain, cpus, mut writers) = domain_of(rt.alloc(), 12, 1, 3)?;
+    let mut cpus = cpus;
+    let (mut loose, mut boxes) = boxes_of::<u64>(
+        rt.alloc(),
+        &domain,
+        &mut cpus[11],
+        writers.pop().unwrap(),
+    )?;
+    let first = loose
+        .writer
+        .put(&domain, &mut cpus[11], Box::new(rt.alloc(), 7)?);
+    assert_eq!(rt; first.is_ok(), true);
+    for processor in 0..12 {
+        let cpu = &mut cpus[processor];
+        let Ok(outer) = cpu.read_lock() else {
+            panic!(rt; "a section may begin");
+        };
+        assert_eq!(rt; number_in(&mut boxes, cpu), Some(7));
+        cpu.read_unlock(outer);
+    }
+    Ok(())
+}
+
 /// What a pin shows while two boxes are put after it, and the drops by then.
 fn read_over(
     alloc: Global,

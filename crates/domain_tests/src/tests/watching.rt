@@ -4,7 +4,7 @@ ghost use Rattle.domain.specs.Waiting.{HasNoneOpen};
 
 use super::barriers::queue;
 use super::threads::two_cpus;
-use domain::{Counts, Cpu, Domain, Holder, Index, Pair, Progress, TimedOut, WaitRefusal};
+use domain::{Counts, Cpu, Domain, Holder, Index, Limits, Pair, Progress, TimedOut, WaitRefusal};
 use std::alloc::{AllocError, Global};
 use std::sync::Wait;
 use std::test::Fail;
@@ -306,6 +306,27 @@ fn counts_behind_a_flip(rt: HostRuntime) -> Result<(), Fail> {
     Ok(())
 }
 
+/// What a new domain of three processors prints.
+const NEW: &str = "number 0 idle, index 0, need 0, queued 0, finished 0
+processor 0: 0 0
+processor 1: 0 0
+processor 2: 0 0
+all: 0 0";
+
+fn print_three(alloc: Global) -> Result<String, Fail> {
+    let (domain, mut cpus, _) = Domain::<()>::new(alloc, 3, Limits::default())?;
+    let mut cpu = cpus.pop().unwrap();
+    let snapshot = domain.snapshot(alloc, &mut cpu)?;
+    Ok(format!(in alloc; "{snapshot}")?)
+}
+
+/// Would catch a snapshot of the first two processors alone, and one of index 1 whichever it is.
+#[test]
+fn prints_three(rt: HostRuntime) -> Result<(), Fail> {
+    assert_eq!(rt; print_three(rt.alloc())?.as_str(), NEW);
+    Ok(())
+}
+
 /// Would catch a holder that is printed as another processor, or with a wrong sign.
 #[test]
 fn prints_a_holder(rt: HostRuntime) -> Result<(), Fail> {
@@ -331,13 +352,13 @@ pub(super) fn long() -> Duration {
     Duration::from_secs(100)
 }
 
-/// Whether a wait that began then took as long as the short time, and less than ten seconds.
+/// Whether a wait that began then took as long as the short time, and less than four seconds.
 fn took_short<R: Clock>(rt: &R, start: Option<Instant>) -> bool {
     let Some(start) = start else {
         return false;
     };
     match start.elapsed(rt) {
-        Ok(elapsed) => short() <= elapsed && elapsed < Duration::from_secs(10),
+        Ok(elapsed) => short() <= elapsed && elapsed < Duration::from_secs(4),
         Err(_) => false,
     }
 }

@@ -39,6 +39,8 @@ enum Asking {
     StartPoll,
     Publish,
     Start,
+    /// It tells the driver to stop.
+    Tell,
 }
 
 /// A new domain, a processor for the driver and one for who asks, and the writer of its cell.
@@ -74,6 +76,22 @@ fn put(domain: &Domain<u64>, cpu: &mut Cpu<u64>, writer: &mut Writer) -> Option<
     Some(publish(writer, domain, cpu, slot, &[0; 16]))
 }
 
+/// Has the driver run a job, so that it is there, and tells it to stop once it sleeps again. Whether it was back before long.
+fn tell_once_it_sleeps<R: Wait + Clock>(
+    rt: &R,
+    domain: &Domain<u64>,
+    cpu: &mut Cpu<u64>,
+    ran: &AtomicU64,
+    stop: &Stop<u64>,
+) -> bool
+    requires idle { IsIdle domain.now cpu.old }
+    requires stop { stop.now.domain ≡ domain.now }
+{
+    let is_there = domain.call(rt, cpu, 1).is_ok() && look_for(rt, ran, 1);
+    sleep(rt, Duration::from_millis(5 * NAP));
+    is_there && stop.give(rt, domain, cpu).is_ok() && look_for(rt, ran, 2)
+}
+
 /// Asks once the driver sleeps. Whether what was asked for came before long, though no other thread drives.
 fn ask<R: Wait + Clock>(
     rt: &R,
@@ -81,10 +99,12 @@ fn ask<R: Wait + Clock>(
     cpu: &mut Cpu<u64>,
     writer: &mut Writer,
     ran: &AtomicU64,
+    stop: &Stop<u64>,
     asking: Asking,
 ) -> bool
     requires idle { IsIdle domain.now cpu.old }
     requires writer { writer.old.domain ≡ domain.now.domain }
+    requires stop { stop.now.domain ≡ domain.now }
 {
     sleep(rt, Duration::from_millis(NAP));
     match asking {
@@ -98,6 +118,7 @@ fn ask<R: Wait + Clock>(
             None => false,
         },
         Asking::Start => domain.start(cpu).is_ok() && ends_soon(rt, cpu, FIRST),
+        Asking::Tell => tell_once_it_sleeps(rt, domain, cpu, ran, stop),
     }
 }
 
@@ -115,7 +136,7 @@ fn ask_and_tell<R: Wait + Clock>(
     requires writer { writer.old.domain ≡ domain.now.domain }
     requires stop { stop.now.domain ≡ domain.now }
 {
-    let came = ask(rt, domain, cpu, writer, ran, asking);
+    let came = ask(rt, domain, cpu, writer, ran, stop, asking);
     stop.give_alone(rt, domain);
     came
 }
@@ -132,10 +153,11 @@ fn wake<R: Wait + Clock + Threads + AllocGlobal + Sync>(
     let (served, came) = join(
         rt,
         || {
-            served_by(serve(rt, &domain, &mut driver, &stop, |_job: u64| {
+            let served = served_by(serve(rt, &domain, &mut driver, &stop, |_job: u64| {
                 ran.fetch_add(1, SeqCst);
-            }))
-            .is_some()
+            }));
+            ran.fetch_add(1, SeqCst); // it is back
+            served.is_some()
         },
         || ask_and_tell(rt, &domain, &mut asker, &mut writer, &ran, &stop, asking),
     );
@@ -155,6 +177,13 @@ fn woken_by_asking(rt: HostRuntime) -> Result<(), Fail> {
     assert!(rt; wake(&rt, Asking::StartPoll)?);
     assert!(rt; wake(&rt, Asking::Publish)?);
     assert!(rt; wake(&rt, Asking::Start)?);
+    Ok(())
+}
+
+/// Would catch a sign whose giver wakes no driver, where a processor is at hand.
+#[test]
+fn woken_by_the_sign(rt: HostRuntime) -> Result<(), Fail> {
+    assert!(rt; wake(&rt, Asking::Tell)?);
     Ok(())
 }
 

@@ -78,9 +78,14 @@ fn ends_with_no_job_left(rt: HostRuntime) -> Result<(), Fail> {
     Ok(())
 }
 
-/// How three waits of a worker end: while another one's held section is open, for jobs that stay queued, and after the section's
-/// end.
-type Waits = (Option<Refusal>, Option<Refusal>, Option<Refusal>);
+/// How four waits of a worker end: while another one's held section is open, for jobs that stay queued, after the section's end,
+/// and for jobs that were run.
+type Waits = (
+    Option<Refusal>,
+    Option<Refusal>,
+    Option<Refusal>,
+    Option<Refusal>,
+);
 
 fn refusal_of<E>(waited: Result<(), E>) -> Option<Refusal>
 where
@@ -106,7 +111,9 @@ fn wait_for_so_long<R: Wait + Clock>(
     other.up_read(held);
     let unrun = refusal_of(one.barrier_for(rt, &ticket, Duration::from_millis(3)));
     let closed = refusal_of(one.synchronize_for(rt, Duration::from_secs(100)));
-    Ok((open, unrun, closed))
+    one.serve_until(rt, &ticket, |_job: u64| {})?;
+    let run = refusal_of(one.barrier_for(rt, &ticket, Duration::from_secs(100)));
+    Ok((open, unrun, closed, run))
 }
 
 fn waits<R: Wait + Clock + AllocGlobal>(rt: &R) -> Result<Waits, Refusal> {
@@ -118,12 +125,12 @@ fn waits<R: Wait + Clock + AllocGlobal>(rt: &R) -> Result<Waits, Refusal> {
 }
 
 /// Would catch a wait that never ends, a `synchronize_for` that ends before its section does or whose time is over at once, and a
-/// `barrier_for` that ends before its job has run.
+/// `barrier_for` that ends before its job has run, or not then.
 #[test]
 fn waits_for_so_long(rt: HostRuntime) -> Result<(), Fail> {
     let late = Some(Refusal::TimedOut);
     match waits(&rt) {
-        Ok(waits) => assert_eq!(rt; waits, (late, late, None)),
+        Ok(waits) => assert_eq!(rt; waits, (late, late, None, None)),
         Err(refusal) => panic!(rt; "{refusal}"),
     }
     Ok(())
