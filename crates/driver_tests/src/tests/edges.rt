@@ -1,12 +1,16 @@
 //! A pool that is filled again or closed in vain, signs that agree, a tally with jobs, a domain whose periods are used up, jobs
 //! that queue others, and a batch that another thread keeps for a while.
 ghost use Rattle.std.specs.Prelude.{◌≡◌};
+ghost use Rattle.domain.specs.Views.{IsOf};
 ghost use Rattle.driver.specs.Pools.{IsIdle};
 
 use super::sharing::look_for;
+use super::waking::found;
 use super::{LIMITS, made, pool_of, queue, sign_of};
 use domain::{Cpu, Domain, Limits, MakeError, PeriodsExhausted};
-use driver::{Report, Served, Stall, Stop, Tallied, Tally, serve, serve_until, serve_with};
+use driver::{
+    Report, Served, Stall, Stop, Tallied, Tally, run_batch, serve, serve_until, serve_with,
+};
 use std::sync::Wait;
 use std::sync::atomic::AtomicU64;
 use std::sync::atomic::Ordering::SeqCst;
@@ -117,7 +121,24 @@ fn tallies_nine_jobs_in_two_batches(rt: HostRuntime) -> Result<(), Fail> {
     Ok(())
 }
 
-fn wait_for_second<R: Wait + AllocGlobal>(
+/// Queues a job, and serves until it is done. None where there is no memory.
+fn serve_one<R: Wait>(
+    rt: &R,
+    domain: &Domain<u64>,
+    cpu: &mut Cpu<u64>,
+) -> Option<Result<Served, (Served, PeriodsExhausted)>>
+    requires { IsIdle domain.now cpu.old }
+    ensures { IsIdle domain.now cpu.new }
+{
+    let queued = queue(rt, domain, cpu, 0, 1);
+    match domain.barrier_start(cpu) {
+        Ok(ticket) if queued => Some(serve_until(rt, domain, cpu, &ticket, |_job: u64| {})),
+        _ => None,
+    }
+}
+
+/// Serves a job, and another one for which no more period may start.
+fn serve_second<R: Wait + AllocGlobal>(
     rt: &R,
 ) -> Result<Option<Result<Served, (Served, PeriodsExhausted)>>, MakeError> {
     let limits = Limits {
@@ -128,27 +149,57 @@ fn wait_for_second<R: Wait + AllocGlobal>(
     let Some(mut cpu) = cpus.pop() else {
         return Ok(None);
     };
-    let mut last = None;
-    for job in 0..2 {
-        if !queue(rt, &domain, &mut cpu, job, job + 1) {
-            return Ok(None);
-        }
-        let Ok(ticket) = domain.barrier_start(&mut cpu) else {
-            return Ok(None);
-        };
-        last = Some(serve_until(rt, &domain, &mut cpu, &ticket, |_job: u64| {}));
-    }
-    Ok(last)
+    let first = serve_one(rt, &domain, &mut cpu);
+    let second = serve_one(rt, &domain, &mut cpu);
+    Ok(if first.is_some() { second } else { None })
 }
 
 /// Would catch a driver that serves for ever where no more periods may start.
 #[test]
 fn gives_up_where_periods_are_used_up(rt: HostRuntime) -> Result<(), Fail> {
-    let Some(Err((served, PeriodsExhausted))) = wait_for_second(&rt)? else {
+    let Some(Err((served, PeriodsExhausted))) = serve_second(&rt)? else {
         panic!(rt; "a second period may not start");
     };
     assert_eq!(rt; served.jobs, 0);
     Ok(())
+}
+
+/// Queues jobs by a processor of its own.
+#[derive(Drop)]
+struct Queuer<'a> {
+    domain: &'a Domain<u64>,
+    cpu: Cpu<u64>,
+    ghost here: { IsOf domain.now cpu },
+}
+
+impl Queuer<'_> {
+    fn queue<R: Wait>(&mut self, rt: &R, job: u64) {
+        let _ = self.domain.call(rt, &mut self.cpu, job);
+    }
+}
+
+/// Serves, and queues one more job in each one that it runs. Tells whether it was told to stop, and how many jobs it ran.
+fn serve_and_queue<R: Wait>(
+    rt: &R,
+    domain: &Domain<u64>,
+    cpu: &mut Cpu<u64>,
+    other: Cpu<u64>,
+    stop: &Stop<u64>,
+) -> (bool, u64)
+    requires idle { IsIdle domain.now cpu.old }
+    requires other { IsOf domain.now other }
+    requires stop { stop.now.domain ≡ domain.now }
+{
+    let mut queuer = Queuer { domain, cpu: other };
+    let served = serve(rt, domain, cpu, stop, |job: u64| {
+        if job < 100 {
+            queuer.queue(rt, job + 1);
+        }
+    });
+    match served {
+        Ok(stopped) => (true, stopped.served.jobs),
+        Err((served, PeriodsExhausted)) => (false, served.jobs),
+    }
 }
 
 /// What a driver came to that was told to stop before it began, where each job queues the next one: whether it ended as it was
@@ -165,15 +216,8 @@ fn serve_what_queues<R: Wait + AllocGlobal>(
     };
     let queued = queue(rt, &domain, &mut other, 0, 1);
     stop.give_alone(rt, &domain);
-    let served = serve(rt, &domain, &mut cpu, &stop, |job: u64| {
-        if job < 100 {
-            let _ = domain.call(rt, &mut other, job + 1);
-        }
-    });
-    match served {
-        Ok(stopped) => Ok(Some((queued, stopped.served.jobs))),
-        Err((served, PeriodsExhausted)) => Ok(Some((false, served.jobs))),
-    }
+    let (is_told, jobs) = serve_and_queue(rt, &domain, &mut cpu, other, &stop);
+    Ok(Some((queued && is_told, jobs)))
 }
 
 /// Would catch a driver that was told to stop, and goes on as long as jobs come in.
@@ -211,7 +255,7 @@ fn keep_a_batch<R: Wait + Clock>(
     if let Ok(Some(batch)) = domain.take_ready(rt, cpu, 0, 8) {
         taken.store(1, SeqCst);
         sleep(rt, Duration::from_millis(50));
-        domain.finish(rt, cpu, batch);
+        run_batch(rt, domain, cpu, batch, &mut |_job: u64| {});
         kept = true;
     }
     taken.store(1, SeqCst);
@@ -220,25 +264,35 @@ fn keep_a_batch<R: Wait + Clock>(
     queued && period.is_ok() && kept && came
 }
 
+/// Serves once the batch is out. Tells whether it came to its end.
+fn serve_once_taken<R: Wait + Clock>(
+    rt: &R,
+    domain: &Domain<u64>,
+    cpu: &mut Cpu<u64>,
+    stop: &Stop<u64>,
+    ran: &AtomicU64,
+    taken: &AtomicU64,
+) -> bool
+    requires idle { IsIdle domain.now cpu.old }
+    requires stop { stop.now.domain ≡ domain.now }
+{
+    look_for(rt, taken, 1)
+        && serve(rt, domain, cpu, stop, |_job: u64| {
+            ran.fetch_add(1, SeqCst);
+        })
+        .is_ok()
+}
+
 fn drive_beside_a_batch<R: Wait + Clock + Threads + AllocGlobal + Sync>(
     rt: &R,
 ) -> Result<bool, MakeError> {
-    let (domain, mut cpus) = made(rt.alloc(), 2)?;
+    let (domain, mut first, mut second, _writer) = found(rt.alloc())?;
     let stop = sign_of(rt, &domain)?;
     let ran = AtomicU64::new(0);
     let taken = AtomicU64::new(0);
-    let (Some(mut second), Some(mut first)) = (cpus.pop(), cpus.pop()) else {
-        return Ok(false);
-    };
     let (served, came) = join(
         rt,
-        || {
-            look_for(rt, &taken, 1)
-                && serve(rt, &domain, &mut second, &stop, |_job: u64| {
-                    ran.fetch_add(1, SeqCst);
-                })
-                .is_ok()
-        },
+        || serve_once_taken(rt, &domain, &mut second, &stop, &ran, &taken),
         || keep_a_batch(rt, &domain, &mut first, &stop, &ran, &taken),
     );
     Ok(served && came)

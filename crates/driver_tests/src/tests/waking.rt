@@ -44,7 +44,7 @@ enum Asking {
 }
 
 /// A new domain, a processor for the driver and one for who asks, and the writer of its cell.
-fn found(alloc: Global) -> Result<(Domain<u64>, Cpu<u64>, Cpu<u64>, Writer), MakeError>
+pub(super) fn found(alloc: Global) -> Result<(Domain<u64>, Cpu<u64>, Cpu<u64>, Writer), MakeError>
     ensures driver { IfOk result (λ r. IsIdle r.0 r.1) }
     ensures asker { IfOk result (λ r. IsIdle r.0 r.2) }
     ensures writer { IfOk result (λ r. r.3.domain ≡ r.0.domain) }
