@@ -11,6 +11,7 @@ use domain::{Cpu, Domain, Limits, MakeError, PeriodsExhausted};
 use driver::{
     Report, Served, Stall, Stop, Tallied, Tally, run_batch, serve, serve_until, serve_with,
 };
+use std::marker::Model;
 use std::sync::Wait;
 use std::sync::atomic::AtomicU64;
 use std::sync::atomic::Ordering::SeqCst;
@@ -169,7 +170,14 @@ fn gives_up_where_periods_are_used_up(rt: HostRuntime) -> Result<(), Fail> {
 struct Queuer<'a> {
     domain: &'a Domain<u64>,
     cpu: Cpu<u64>,
-    ghost here: { IsOf domain.now cpu },
+}
+
+impl<'a> Model for Queuer<'a> {
+    ghost Value = { Unit {0} };
+
+    ghost view = { λ _. tt };
+
+    ghost invariant = { λ q. IsOf q.domain.now q.cpu };
 }
 
 impl Queuer<'_> {
