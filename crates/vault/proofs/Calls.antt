@@ -1,5 +1,6 @@
 -- What one call does to its seat, and what its key then knows. Assumes nothing.
---     has_one      a vault has a word to step on
+--     has_step     a vault has the word that calls load
+--     has_words    so it has words at all
 --     knows        what the seat of a key knows
 --     in_hand      what the seat has in hand once that was exchanged
 --     shut_is      what the key knows once this lies in its place
@@ -13,8 +14,11 @@ use Rattle.vault.specs.declared.key.Tally.{Tally}
 use Rattle.vault.specs.Rule.{Lies, count_of, key_of, round_of}
 use Rattle.vault.proofs.Steps.{heads}
 
-pub has_one : (t : TableId) → t.words ≡ 1 → 0 < t.words
-has_one t one = omega (arith, one)
+pub has_step : (t : TableId) → t.words ≡ 16 → 8 < t.words
+has_step t many = omega (arith, many)
+
+pub has_words : (t : TableId) → t.words ≡ 16 → 0 < t.words
+has_words t many = omega (arith, many)
 
 abbrev first_view : Tally → List Tally → Tally
 first_view d [] = d

@@ -23,7 +23,7 @@ module _ {X : Type 0} where
   abbrev none_there : Option (Pile X)
   none_there = None
 
-  pub opens_new : (n : ℕ) → Vaulted {X = X} (opening (0 ∷ []) (replicate n none_there) (dealer n))
+  pub opens_new : (n : ℕ) → Vaulted {X = X} (opening (replicate 16 0) (replicate n none_there) (dealer n))
   opens_new n = record {
     content = λ _. None;
     out = λ _. 0;

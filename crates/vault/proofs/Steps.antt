@@ -24,12 +24,12 @@ module _ {X : Type 0} where
   pub heads : (c x : Option (Pile X)) (k i : ℕ) (a b : List (ℕ × Option (Pile X))) → ◌≡◌ {A = List (ℕ × Option (Pile X))} ((k, c) ∷ a) ((i, x) ∷ b) → c ≡ x
   heads c x k i a b e = ap (first_or c) e
 
-  pub opens_here : (slots id k : ℕ) (me : Me (Option (Pile X)) Tally) → me.0.key ≡ suc k → me.0.out ≡ 0 → Allows Vaulted slots id me 0 (λ x. x) (opened (step slots 0 0 0 none) me)
+  pub opens_here : (slots id k : ℕ) (me : Me (Option (Pile X)) Tally) → me.0.key ≡ suc k → me.0.out ≡ 0 → Allows Vaulted slots id me 8 (λ x. x) (opened (step slots 8 0 0 none) me)
   opens_here slots id k me key home s r deep at fits = let f = r.each id me.0 at in let lt = f.inside k key in let w : Tally = record me.0 { out = 1 } in (
     w,
     takes k (r.content k),
     r.home k lt (f.out_is k key ∙ home),
-    subst (λ (ws : List ℕ). Vaulted record { words = ws; homes = set s.homes k none; views = set s.views id w }) (sym (set-get_or s.words 0 0)) record {
+    subst (λ (ws : List ℕ). Vaulted record { words = ws; homes = set s.homes k none; views = set s.views id w }) (sym (set-get_or s.words 8 0)) record {
       content = r.content;
       out = put r.out k 1;
       holder = r.holder;
@@ -58,13 +58,13 @@ module _ {X : Type 0} where
   lies_so None d = refl
   lies_so (Some p) d = (refl, refl)
 
-  pub shuts_here : (slots id k : ℕ) (c : Option (Pile X)) (me : Me (Option (Pile X)) Tally) → me.0.key ≡ suc k → me.1 ≡ (k, c) ∷ [] → Allows Vaulted slots id me 0 (λ x. x) (shut (step slots 0 0 0 none) me)
+  pub shuts_here : (slots id k : ℕ) (c : Option (Pile X)) (me : Me (Option (Pile X)) Tally) → me.0.key ≡ suc k → me.1 ≡ (k, c) ∷ [] → Allows Vaulted slots id me 8 (λ x. x) (shut (step slots 8 0 0 none) me)
   shuts_here slots id k c me key carried s r deep at fits = let f = r.each id me.0 at in let lt = f.inside k key in let w : Tally = record me.0 { out = 0; count = count_of c; round = round_of c me.0.round } in (
     w,
     gives,
     tt,
-    subst (λ (cs : List (ℕ × Option (Pile X))). Vaulted (stepped s 0 (get_or s.words 0 0) id cs w gives)) (sym carried)
-        (subst (λ (ws : List ℕ). Vaulted record { words = ws; homes = set s.homes k (some c); views = set s.views id w }) (sym (set-get_or s.words 0 0)) record {
+    subst (λ (cs : List (ℕ × Option (Pile X))). Vaulted (stepped s 8 (get_or s.words 8 0) id cs w gives)) (sym carried)
+        (subst (λ (ws : List ℕ). Vaulted record { words = ws; homes = set s.homes k (some c); views = set s.views id w }) (sym (set-get_or s.words 8 0)) record {
           content = put r.content k c;
           out = put r.out k 0;
           holder = r.holder;

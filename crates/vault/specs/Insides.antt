@@ -8,4 +8,4 @@ module _ {T A : Type 0} where
   view_of_vault v = v.table.shared.table_id
 
   abbrev pub IsVault : vault.Inside T A → Type 0
-  IsVault v = v.table.shared.table_id.words ≡ 1
+  IsVault v = v.table.shared.table_id.words ≡ 16

@@ -11,6 +11,13 @@ use parts::Part;
 use std::alloc::{AllocError, Allocator, Global};
 use std::marker::Model;
 
+/// The words of a vault: 128 bytes. Calls load one of them, and none is ever written.
+const WORDS: usize = 16;
+
+/// The word that calls load: a cache line away from what lies before the words and after them. A place that shared its line
+/// would be written at each call of one thread, and all other threads would wait for the line.
+const STEP: usize = 8;
+
 /// A row of places, numbered from 0. In each lie parts of one box, 1 to 2^63 of them, or none. Any thread may use it; a place
 /// opens by its key alone.
 ///
@@ -42,7 +49,7 @@ impl<T: Drop, A: Allocator> Vault<T, A> {
     ) -> Result<(Vault<T, A>, Vec<Key, B>), AllocError>
         ensures { IfOk result (λ made. (length made.1.items ≡ places) × AreKeys made.0 0 made.1.items) }
     {
-        let (table, rest) = Table::vacant(alloc, &[0], places, &(places as u64))?;
+        let (table, rest) = Table::vacant(alloc, &[0; WORDS], places, &(places as u64))?;
         let vault = Vault { table };
         let keys = vault.deal(other, rest, places)?;
         Ok((vault, keys))
@@ -75,7 +82,7 @@ impl<T: Drop, A: Allocator> Vault<T, A> {
     {
         let shared = &self.table.shared;
         let mut seat: Seat<Option<Pile<T>>, Tally> = key.into_seat();
-        shared.load::<Open>(&mut seat, 0);
+        shared.load::<Open>(&mut seat, STEP);
         let found = shared.exchange(&mut seat, place, None);
         (seat, found)
     }
@@ -93,7 +100,7 @@ impl<T: Drop, A: Allocator> Vault<T, A> {
     {
         let shared = &self.table.shared;
         shared.exchange(&mut seat, place, pile);
-        shared.load::<Shut>(&mut seat, 0);
+        shared.load::<Shut>(&mut seat, STEP);
         seat.into_badge()
     }
 

@@ -4,12 +4,12 @@ use Rattle.vault.specs.declared.pile.Pile.{Pile}
 use Rattle.vault.specs.declared.key.Tally.{Tally}
 use Rattle.vault.specs.Rule.{Lies, key_of}
 use Rattle.vault.proofs.Steps.{opens_here}
-use Rattle.vault.proofs.Calls.{Sat, has_one, knows, in_hand, first_is}
+use Rattle.vault.proofs.Calls.{Sat, has_step, knows, in_hand, first_is}
 use Rattle.vault.proofs.vault.Vault.open.Goals as goal
 
 pub load-requires : goal.load-requires
 load-requires g c = let is = c.requires.2 in let into = c.into_seat-seat.ensures in let m = c.into_seat-seat.result.me in let same = knows c.args.key.views m.0 (key_of c.args.place c.requires.0 c.requires.1) into.2 is.1 in
-    (into.0 ∙ (is.0 ∙ sym c.self.view_is), has_one c.self.inside.table.shared.table_id c.self.invariant, opens_here _ _ c.args.place m (ap (λ (z : Tally). z.key) same) (ap (λ (z : Tally). z.out) same))
+    (into.0 ∙ (is.0 ∙ sym c.self.view_is), has_step c.self.inside.table.shared.table_id c.self.invariant, opens_here _ _ c.args.place m (ap (λ (z : Tally). z.key) same) (ap (λ (z : Tally). z.out) same))
 
 pub exchange-found-requires : goal.exchange-found-requires
 exchange-found-requires g c = let is = c.requires.2 in let into = c.into_seat-seat.ensures in let m = c.into_seat-seat.result.me in let same = knows c.args.key.views m.0 (key_of c.args.place c.requires.0 c.requires.1) into.2 is.1 in
