@@ -25,15 +25,16 @@ use Rattle.calls.specs.Views.{CallSeatView}
 use Rattle.calls.specs.Barriers.{queued_loads, finished_loads}
 use Rattle.calls.specs.Totals.{AddsUp}
 use Rattle.calls.proofs.CallerLemmas.{begins_on}
-use Rattle.domain.specs.declared.watching.Pair.{Pair}
-use Rattle.domain.specs.declared.watching.Counts.{Counts}
-use Rattle.domain.specs.declared.watching.Holder.{Holder}
+use Rattle.glance.specs.declared.counters.Pair.{Pair}
+use Rattle.glance.specs.declared.counters.Counts.{Counts}
+use Rattle.glance.specs.declared.counters.Holder.{Holder}
 use Rattle.domain.specs.Counts.{LoadsCounters, IsBetween}
-use Rattle.domain.specs.declared.watching.Counters.{Counters}
-use Rattle.domain.specs.declared.watching.snapshot.Snapshot.{Snapshot}
+use Rattle.glance.specs.declared.counters.Counters.{Counters}
+use Rattle.glance.specs.declared.snapshot.Snapshot.{Snapshot}
 use Rattle.domain.specs.Views.{CpuView, with_cpu, with_calls}
 use Rattle.domain.specs.Acting.{Acts, Adds, nothing, loads, notes, ActsAs}
-use Rattle.domain.specs.Watching.{StoodAt, WasEmptyIn, WasOpenIn, WasBalanced, pair_of, counters_of, FindsPair, Watches, IsNoLess, LoadsEach, CountsEach, Tells, holder_at, differing, NamesHolders, Snaps}
+use Rattle.glance.specs.Glances.{pair_of, counters_of}
+use Rattle.domain.specs.Watching.{StoodAt, WasEmptyIn, WasOpenIn, WasBalanced, FindsPair, Watches, IsNoLess, LoadsEach, CountsEach, Tells, holder_at, differing, NamesHolders, Snaps}
 use Rattle.domain.proofs.Counting.{sum_next, first_ones}
 use Rattle.domain.proofs.BegunBetween.{open_between}
 use Rattle.domain.proofs.Acting as acting

@@ -9,13 +9,11 @@ use Rattle.sections.specs.Views as sections
 use Rattle.sections.specs.Calls.{Looks, Notes}
 use Rattle.funnel.specs.Calls.{LoadsRoot}
 use Rattle.calls.specs.Totals.{AddsUp}
-use Rattle.domain.specs.declared.watching.Pair.{Pair}
-use Rattle.domain.specs.declared.watching.Counts.{Counts}
-use Rattle.domain.specs.declared.watching.Counters.{Counters}
-use Rattle.domain.specs.declared.watching.Holder.{Holder}
-use Rattle.domain.specs.declared.watching.snapshot.Snapshot.{Snapshot}
-use Rattle.domain.specs.declared.watching.snapshot.Columns.{Columns}
-use Rattle.domain.specs.declared.watching.snapshot.Glance.{Glance}
+use Rattle.glance.specs.declared.counters.Pair.{Pair}
+use Rattle.glance.specs.declared.counters.Counts.{Counts}
+use Rattle.glance.specs.declared.counters.Counters.{Counters}
+use Rattle.glance.specs.declared.counters.Holder.{Holder}
+use Rattle.glance.specs.declared.snapshot.Snapshot.{Snapshot}
 use Rattle.domain.specs.Views.{CpuView}
 use Rattle.domain.specs.Counts.{LoadsCounters, IsBetween}
 
@@ -63,10 +61,6 @@ pub record WasBalanced (p : ℕ) (i : Index) (seen seen' : List Event) : Type 0 
 
 -- One processor
 
-abbrev pub pair_of : Index → Counts → Pair
-pair_of Zero k = k.zero
-pair_of One k = k.one
-
 -- the unlock counter stood so at a moment not after the middle one, and the lock counter at one not before it
 pub record FindsPair (p : ℕ) (i : Index) (k : Pair) (seen middle seen' : List Event) : Type 0 where
   pub unlocks : StoodAt (unlocks p i) k.unlocks seen middle
@@ -95,21 +89,7 @@ pub record LoadsEach (count : ℕ → List Event → ℕ) (found : List ℕ) (to
   pub between : IsBetween (λ h. sum_below (λ p. count p h) c.processors) total c.seen d.seen
   pub small : total ≤ 2 ^ 60
 
--- the pair of a lock and an unlock counter, where there are both
-abbrev pub pair_from : Option ℕ → Option ℕ → Option Pair
-pair_from (Some l) (Some u) = Some record { locks = l; unlocks = u }
-pair_from (Some l) None = None
-pair_from None u = None
-
--- what was found of processor p, where there are counters of it
-abbrev pub pair_in : Columns → ℕ → Option Pair
-pair_in k p = pair_from (slice_get k.locks.now p) (slice_get k.unlocks.now p)
-
 module _ {A : Type 0} where
-  -- what was found of processor p, where the domain has it
-  abbrev pub pair_at : Counters A → ℕ → Option Pair
-  pair_at k p = pair_from (slice_get k.locks.items p) (slice_get k.unlocks.items p)
-
   -- all unlock counters of the index were loaded, and then all of its lock counters
   pub record CountsEach (i : Index) (k : Counters A) (c d : sections.CpuView) : Type 0 where
     pub middle : sections.CpuView
@@ -147,50 +127,18 @@ pub record NamesHolders (i : Index) (named : List Holder) (c d : sections.CpuVie
 
 -- A domain at a glance
 
-abbrev pub columns_of : Index → Glance → Columns
-columns_of Zero g = g.zero
-columns_of One g = g.one
-
--- the counters of both indexes, where there are both
-abbrev pub counts_from : Option Pair → Option Pair → Option Counts
-counts_from (Some z) (Some o) = Some record { zero = z; one = o }
-counts_from (Some z) None = None
-counts_from None o = None
-
-module _ {A : Type 0} where
-  abbrev pub counters_of : Index → Snapshot A → Counters A
-  counters_of Zero s = s.zero
-  counters_of One s = s.one
-
-  -- the same counters, in slices
-  pub record AreLent (k : Counters A) (c : Columns) : Type 0 where
-    pub unlocks : c.unlocks.now ≡ k.unlocks.items
-    pub locks : c.locks.now ≡ k.locks.items
-    pub ended : c.ended ≡ k.ended
-    pub begun : c.begun ≡ k.begun
-
-  -- the same words, with the counters in slices
-  pub record IsGlanceAt (s : Snapshot A) (g : Glance) : Type 0 where
-    pub number : g.number.now ≡ s.number
-    pub index : g.index ≡ s.index
-    pub need : g.need.now ≡ s.need
-    pub zero : AreLent s.zero g.zero
-    pub one : AreLent s.one g.one
-    pub queued : g.queued ≡ s.queued
-    pub finished : g.finished ≡ s.finished
-
-  module _ {J : Type 0} where
-    -- The number was loaded, which is the note of a cookie, then the index word, and then the counters of both indexes. The root of the tree and the tally words were loaded too. Nothing else was done
-    pub record Snaps (s : Snapshot A) (c c' : CpuView J) : Type 0 where
-      pub noted : sections.CpuView
-      pub notes : Notes s.number c.cpu noted
-      pub looked : sections.CpuView
-      pub look : sections.LookView
-      pub looks : Looks noted looked look
-      pub index : s.index ≡ look.index
-      pub counted : sections.CpuView
-      pub zero : CountsEach Zero s.zero looked counted
-      pub one : CountsEach One s.one counted c'.cpu
-      pub need : LoadsRoot c.needs s.need c'.needs
-      pub calls : AddsUp c.calls s.queued s.finished c'.calls
-      pub turn : c'.turn ≡ c.turn
+module _ {A J : Type 0} where
+  -- The number was loaded, which is the note of a cookie, then the index word, and then the counters of both indexes. The root of the tree and the tally words were loaded too. Nothing else was done
+  pub record Snaps (s : Snapshot A) (c c' : CpuView J) : Type 0 where
+    pub noted : sections.CpuView
+    pub notes : Notes s.number c.cpu noted
+    pub looked : sections.CpuView
+    pub look : sections.LookView
+    pub looks : Looks noted looked look
+    pub index : s.index ≡ look.index
+    pub counted : sections.CpuView
+    pub zero : CountsEach Zero s.zero looked counted
+    pub one : CountsEach One s.one counted c'.cpu
+    pub need : LoadsRoot c.needs s.need c'.needs
+    pub calls : AddsUp c.calls s.queued s.finished c'.calls
+    pub turn : c'.turn ≡ c.turn

@@ -8,7 +8,6 @@ mod limit;
 mod pause;
 mod publishing;
 mod set;
-mod watching;
 mod writer;
 
 pub use calls::{Batch, CallRefusal, Entry, Memory, Receipt, TakeRefusal, Ticket};
@@ -17,6 +16,7 @@ pub use domain::Domain;
 pub use domain::bell::Heard;
 pub use domain::cleanup::{InUse, Totals};
 pub use domain::waiting::limited::WaitRefusal;
+pub use glance::{Columns, Counters, Counts, Glance, Holder, Pair, Snapshot, Table};
 pub use limit::TimedOut;
 pub use publishing::{claim, publish};
 pub use scan::refusals::{AdvanceRefusal, StartRefusal};
@@ -27,6 +27,4 @@ pub use sections::{
 };
 pub use set::CookieSet;
 pub use sseq::{Index, Number};
-pub use watching::snapshot::{Columns, Glance, Snapshot, Table};
-pub use watching::{Counters, Counts, Holder, Pair};
 pub use writer::Writer;

@@ -11,7 +11,7 @@ use Rattle.sections.specs.WriterViews.{WriterView}
 use Rattle.domain.specs.Views.{DomainView, CpuView, Stays}
 use Rattle.domain.specs.Publishing.{FindsNone}
 use Rattle.domain.specs.Waiting.{HasNoneOpen}
-use Rattle.domain.specs.declared.watching.snapshot.Snapshot.{Snapshot}
+use Rattle.glance.specs.declared.snapshot.Snapshot.{Snapshot}
 use Rattle.domain.specs.Acting.{takes, loads, notes, ActsAs}
 use Rattle.domain.specs.Watching.{Snaps}
 use Rattle.domain.proofs.CallerLemmas.{same_put, same_reclaimed, none_still, none_looked, none_enclosed, none_held, writers_here}

@@ -3,11 +3,9 @@
 
 ghost use Rattle.std.specs.Prelude.{◌≡◌};
 ghost use Rattle.sections.specs.Limits.{AreInRange};
-ghost use Rattle.srcuctl.specs.Races.{IsInRange};
+ghost use Rattle.options.specs.Races.{IsInRange};
 
-mod command_line;
 mod handler;
-mod help;
 mod racing;
 mod recording;
 mod script;
@@ -16,7 +14,7 @@ mod status;
 
 use clap::error::ErrorKind;
 use handler::run_told;
-use racing::Size;
+use options::Size;
 use sections::Limits;
 use showing::{Shown, show, text_of};
 use status::Ending;
@@ -80,34 +78,34 @@ fn obey(
     rt: &(impl Threads + Sync + Wait + Input + Print + AllocGlobal),
     words: &[String],
 ) -> Result<Ending, clap::Error> {
-    let of_scripts = help::of_scripts(rt.alloc())?;
-    let mut command = command_line::command(rt.alloc(), &of_scripts)?;
+    let of_scripts = options::of_scripts(rt.alloc())?;
+    let mut command = options::command(rt.alloc(), &of_scripts)?;
     let matches = match command.try_get_matches_from_mut(words) {
         Ok(matches) => matches,
-        Err(found) => return Err(command_line::explain(&mut command, words, found)),
+        Err(found) => return Err(options::explain(&mut command, words, found)),
     };
     // The command line takes numbers of the ranges alone. No clause of `clap` says so of a subcommand's options.
     match matches.subcommand() {
         Some(("run", options)) => {
-            let limits = command_line::limits_of(options);
+            let limits = options::limits_of(options);
             if limits.are_in_range() {
                 return Ok(run_script(rt, limits));
             }
         }
         Some(("annotate", options)) => {
-            let limits = command_line::limits_of(options);
+            let limits = options::limits_of(options);
             if limits.are_in_range() {
                 return Ok(show_script(rt, limits, Shown::Page));
             }
         }
         Some(("draw", options)) => {
-            let limits = command_line::limits_of(options);
+            let limits = options::limits_of(options);
             if limits.are_in_range() {
                 return Ok(show_script(rt, limits, Shown::Picture));
             }
         }
         Some(("race", options)) => {
-            let size = racing::size_of(options);
+            let size = options::size_of(options);
             if size.is_in_range() {
                 return Ok(have_race(rt, size));
             }

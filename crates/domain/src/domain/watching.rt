@@ -6,13 +6,13 @@ ghost use Rattle.sections.specs.Words.{locks, unlocks};
 ghost use Rattle.calls.specs.Totals.{AddsUp};
 ghost use Rattle.domain.specs.Views.{IsOf, with_cpu, with_calls};
 ghost use Rattle.domain.specs.Acting.{loads, notes, ActsAs};
-ghost use Rattle.domain.specs.Watching.{HasRoom, HaveRoom, pair_of, counters_of, Watches, IsNoLess, WasBalanced, LoadsEach, CountsEach, Tells, WasEmptyIn, WasOpenIn, differing, NamesHolders, Snaps};
+ghost use Rattle.glance.specs.Glances.{pair_of, counters_of};
+ghost use Rattle.domain.specs.Watching.{HasRoom, HaveRoom, Watches, IsNoLess, WasBalanced, LoadsEach, CountsEach, Tells, WasEmptyIn, WasOpenIn, differing, NamesHolders, Snaps};
 
 use crate::cpu::Cpu;
 use crate::domain::Domain;
-use crate::watching::snapshot::Snapshot;
-use crate::watching::{Counters, Counts, Holder, Pair};
 use calls::Totals;
+use glance::{Counters, Counts, Holder, Pair, Snapshot};
 use sseq::Index;
 use std::alloc::{AllocError, Allocator};
 

@@ -4,7 +4,8 @@ ghost use Rattle.sseq.specs.declared.index.Index.{Index};
 ghost use Rattle.sseq.specs.Numbers.{cookie_at};
 ghost use Rattle.domain.specs.Views.{with_cpu};
 ghost use Rattle.domain.specs.Acting.{loads, notes, ActsAs};
-ghost use Rattle.domain.specs.Watching.{counters_of, pair_of, IsNoLess, NamesHolders, Snaps, Tells, Watches, WasBalanced, WasEmptyIn, WasOpenIn};
+ghost use Rattle.glance.specs.Glances.{counters_of, pair_of};
+ghost use Rattle.domain.specs.Watching.{IsNoLess, NamesHolders, Snaps, Tells, Watches, WasBalanced, WasEmptyIn, WasOpenIn};
 ghost use Rattle.srcu.specs.Workers.{IsSameWorker};
 
 use super::Worker;

@@ -2,9 +2,9 @@
 ghost use Rattle.std.specs.Prelude.{◌≡◌, ◌-◌, ◌^◌, codes};
 ghost use Rattle.clap.specs.Words.{found_of, one_text};
 ghost use Rattle.sections.specs.Limits.{most_sections};
-ghost use Rattle.srcuctl.specs.Options.{SetsLimit};
+ghost use Rattle.options.specs.Options.{SetsLimit};
 
-use crate::racing;
+use crate::size;
 use clap::builder::ValueParser;
 use clap::error::ErrorKind;
 use clap::{Arg, ArgMatches, Command, Error};
@@ -102,7 +102,7 @@ pub fn command<'a>(alloc: Global, of_scripts: &'a str) -> Result<Command<'a>, Er
         .subcommand(run)?
         .subcommand(annotate)?
         .subcommand(draw)?
-        .subcommand(racing::command(alloc)?)?;
+        .subcommand(size::command(alloc)?)?;
     Ok(srcuctl)
 }
 

@@ -1,11 +1,9 @@
-//! What a watcher finds: counters, who holds a grace period up, and a domain at a glance.
+//! Counters of sections as loads found them, and the processors on which they differ.
 ghost use Rattle.std.specs.Prelude.{◌≡◌};
-ghost use Rattle.domain.specs.Watching.{pair_at};
+ghost use Rattle.glance.specs.Glances.{pair_at};
 
 use std::alloc::{Allocator, Global};
 use std::fmt;
-
-pub mod snapshot;
 
 /// The two counters of one index on one processor, as two loads found them.
 #[derive(Clone, Copy, Debug, PartialEq, Eq)]

@@ -1,8 +1,8 @@
 //! A domain at a glance, and how it is printed.
 ghost use Rattle.std.specs.Prelude.{◌≡◌};
-ghost use Rattle.domain.specs.Watching.{pair_at, pair_in, columns_of, counters_of, counts_from, AreLent, IsGlanceAt};
+ghost use Rattle.glance.specs.Glances.{pair_at, pair_in, columns_of, counters_of, counts_from, AreLent, IsGlanceAt};
 
-use super::{Counters, Counts, Pair};
+use crate::counters::{Counters, Counts, Pair};
 use sseq::{Index, Number, state};
 use std::alloc::{Allocator, Global};
 use std::fmt;

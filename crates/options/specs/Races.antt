@@ -1,7 +1,7 @@
 -- How large a race may be.
 use Rattle.std.specs.Prelude.{◌<◌, ◌≤◌}
 use Rattle.sections.specs.Limits.{most_processors}
-use Rattle.srcuctl.specs.declared.racing.Size.{Size}
+use Rattle.options.specs.declared.size.Size.{Size}
 
 -- there are 1 to 255 readers, and 1 to 1000 rounds
 pub record IsInRange (s : Size) : Type 0 where
