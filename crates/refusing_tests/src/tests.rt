@@ -1,3 +1,4 @@
+mod boxing;
 mod calling;
 mod making;
 mod serving;

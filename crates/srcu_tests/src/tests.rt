@@ -1,4 +1,5 @@
 mod boxing;
+mod by_hand;
 mod refusals;
 mod watching;
 mod workers;

@@ -268,6 +268,61 @@ fn reports_each_of_two_periods(rt: HostRuntime) -> Result<(), Fail> {
     Ok(())
 }
 
+/// Sleeps in a section until there was a report, and a while longer. Then has a second period wait for another section, which ends
+/// as soon as that is reported. Answers whether it came to all of that.
+fn sleep_long_and_short<R: Wait + Clock>(
+    rt: &R,
+    domain: &Domain<u64>,
+    mut reader: Cpu<u64>,
+    mut other: Cpu<u64>,
+    stop: &Stop<u64>,
+    signs: &Signs,
+) -> bool
+    requires other { IsIdle domain.now other }
+    requires stop { stop.now.domain ≡ domain.now }
+{
+    let first = reader.read_lock();
+    signs.opened.store(1, SeqCst);
+    let heard = look_for(rt, &signs.reports, 1);
+    sleep(rt, Duration::from_millis(ASLEEP));
+    if let Ok(section) = first {
+        reader.read_unlock(section);
+    }
+    let ended = look_for_period(rt, &signs.tally);
+    let second = reader.read_lock();
+    domain.start_poll(&mut other);
+    let again = look_for(rt, &signs.reports, 2);
+    if let Ok(section) = second {
+        reader.read_unlock(section);
+    }
+    stop.give_alone(rt, domain);
+    heard && ended && again
+}
+
+/// The longest wait that a driver tallied beside that, and whether it came to all of it.
+fn drive_beside_long_and_short<R: Wait + Clock + Threads + AllocGlobal + Sync>(
+    rt: &R,
+) -> Result<(bool, Duration), MakeError> {
+    let (domain, reader, driver, (watcher, other)) = four(rt.alloc())?;
+    let stop = sign_of(rt, &domain)?;
+    let signs = Signs::new(1);
+    let after = Duration::from_millis(AFTER);
+    let ((ended, tallied), seen) = join(
+        rt,
+        || drive_with_report(rt, &domain, driver, watcher, &stop, &signs, after),
+        || sleep_long_and_short(rt, &domain, reader, other, &stop, &signs),
+    );
+    Ok((ended && seen, tallied.longest))
+}
+
+/// Would catch a tally that has the last wait in place of the longest.
+#[test]
+fn tallies_the_longest_wait(rt: HostRuntime) -> Result<(), Fail> {
+    let (came, longest) = drive_beside_long_and_short(&rt)?;
+    assert!(rt; came && longest >= Duration::from_millis(ASLEEP));
+    Ok(())
+}
+
 /// Lets a driver alone for 20 milliseconds, and then tells it to stop.
 fn tell_later<R: Wait + Clock>(rt: &R, domain: &Domain<u64>, stop: &Stop<u64>)
     requires { stop.now.domain ≡ domain.now }
