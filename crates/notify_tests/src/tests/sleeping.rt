@@ -3,7 +3,6 @@ ghost use Rattle.std.specs.Prelude.{◌≡◌, IfOk};
 ghost use Rattle.domain.specs.Views.{IsOf};
 ghost use Rattle.shelf.specs.Cells.{IsCellIn};
 
-use super::called::Fixed;
 use domain::{Cpu, Domain, Limits, MakeError, Progress};
 use notify::{BAD, Chain, ChainView, DONE, Handler, OK, STOP};
 use std::alloc::{AllocError, Global};
@@ -37,17 +36,21 @@ fn wait_for<R: Clock>(rt: &R, count: &AtomicU64, least: u64) -> bool {
     false
 }
 
-/// Sleeps until the chain was changed twice.
+/// Gives its result. Where it has none, it sleeps until the chain was changed twice.
 #[derive(Drop)]
 struct Sleeper<R> {
     rt: R,
     signals: Arc<Signals>,
+    result: Option<u32>,
 }
 
 impl<R: Clock + Drop> Handler for Sleeper<R> {
     ghost answers = { λ h action value result. Unit {0} };
 
     fn call(&self, _action: u64, _value: u64) -> u32 {
+        if let Some(result) = self.result {
+            return result;
+        }
         self.signals.inside.fetch_add(1, SeqCst);
         if wait_for(&self.rt, &self.signals.changes, 2) {
             OK
@@ -58,6 +61,28 @@ impl<R: Clock + Drop> Handler for Sleeper<R> {
 }
 
 /// Calls the chain with a handler that sleeps, one that gives 7, and one that stops the call.
+fn call_with_sleeper(
+    rt: HostRuntime,
+    cpu: &mut Cpu<()>,
+    view: &ChainView,
+    signals: &Arc<Signals>,
+) -> Result<Option<(u32, u64)>, AllocError>
+    requires { IsCellIn cpu.old.cpu.domain view.now.place × (view.now.ids ≡ 4) }
+{
+    let results = [Some(DONE), None, Some(7), Some(STOP)];
+    let mut handlers: Vec<Box<dyn Handler>> = Vec::new(rt.alloc());
+    for result in &results {
+        let sleeper = Sleeper {
+            rt,
+            signals: Arc::try_clone(signals)?,
+            result: *result,
+        };
+        handlers.push(Box::new(rt.alloc(), sleeper)?)?;
+    }
+    Ok(view.call_chain(cpu, &handlers, 1, 2).ok())
+}
+
+/// The same, in a thread of its own.
 fn call_asleep(
     rt: HostRuntime,
     mut cpu: Cpu<()>,
@@ -66,13 +91,7 @@ fn call_asleep(
 ) -> Result<Option<(u32, u64)>, AllocError>
     requires { IsCellIn cpu.cpu.domain view.place × (view.ids ≡ 4) }
 {
-    let alloc = rt.alloc();
-    let mut handlers: Vec<Box<dyn Handler>> = Vec::new(alloc);
-    handlers.push(Box::new(alloc, Fixed { result: DONE })?)?;
-    handlers.push(Box::new(alloc, Sleeper { rt, signals })?)?;
-    handlers.push(Box::new(alloc, Fixed { result: 7 })?)?;
-    handlers.push(Box::new(alloc, Fixed { result: STOP })?)?;
-    Ok(view.call_chain(&mut cpu, &handlers, 1, 2).ok())
+    call_with_sleeper(rt, &mut cpu, &view, &signals)
 }
 
 /// Whether a grace period that is asked for now waits for an open section, after some turns of the engine.
