@@ -95,7 +95,7 @@ fn queue_many<'a, R: Wait>(
 }
 
 /// Drives a grace period to its end, if one was asked for.
-fn drive<'a>(domain: &Domain<u64, &'a Heap>, cpu: &mut Cpu<u64, &'a Heap>) -> [bool; 3]
+pub(super) fn drive<'a, J>(domain: &Domain<J, &'a Heap>, cpu: &mut Cpu<J, &'a Heap>) -> [bool; 3]
     requires { IsOf domain.now cpu.old }
     ensures { IsOf domain.now cpu.new }
 {

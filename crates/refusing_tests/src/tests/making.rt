@@ -36,7 +36,7 @@ fn make_twice(
     let whole = make_and_drop(heap, processors)?;
     let asked = heap.asked();
     assert_eq!(rt; (whole.0, whole.1, heap.out()), (processors, 4, 0));
-    for nth in 1..asked + 1 {
+    for nth in 1..=asked {
         heap.refuse(nth);
         assert_eq!(rt;
             make_and_drop(heap, processors),

@@ -99,21 +99,21 @@ fn refuse_take(rt: HostRuntime) -> Result<(), Fail> {
     let heap = Refusing::new(rt.alloc());
     let [first, second, third, none] = BATCHES;
     let whole = (true, first, [second, third, none, none]);
-    let mut nth = 1;
-    let mut found = take_in(&rt, &heap, nth)?;
-    while found.1 != first && nth < MOST {
+    for nth in 1..MOST {
+        let found = take_in(&rt, &heap, nth)?;
+        assert_eq!(rt; heap.out(), 0, "at {nth}");
+        if found.1 == first {
+            assert!(rt; nth > 2);
+            assert_eq!(rt; found, whole);
+            return Ok(());
+        }
         assert_eq!(rt;
             found,
             (true, Err(TakeRefusal::Memory), BATCHES),
             "at {nth}"
         );
-        assert_eq!(rt; heap.out(), 0, "at {nth}");
-        nth += 1;
-        found = take_in(&rt, &heap, nth)?;
     }
-    assert!(rt; nth > 2);
-    assert_eq!(rt; (found, heap.out()), (whole, 0));
-    Ok(())
+    panic!(rt; "more allocations than any of these calls asks for");
 }
 
 /// How the jobs wait with this allocation refused, and then with memory.
@@ -144,15 +144,15 @@ fn look_in<R: Wait>(rt: &R, heap: &Heap, nth: u64) -> Result<(bool, Lens, Lens),
 fn refuse_lens(rt: HostRuntime) -> Result<(), Fail> {
     let heap = Refusing::new(rt.alloc());
     let all = Ok(([0, JOBS as usize, 0, 0], [4, 0]));
-    let mut nth = 1;
-    let mut found = look_in(&rt, &heap, nth)?;
-    while found.1.is_err() && nth < MOST {
-        assert_eq!(rt; found, (true, Err(AllocError), all), "at {nth}");
+    for nth in 1..MOST {
+        let found = look_in(&rt, &heap, nth)?;
         assert_eq!(rt; heap.out(), 0, "at {nth}");
-        nth += 1;
-        found = look_in(&rt, &heap, nth)?;
+        if found.1.is_ok() {
+            assert!(rt; nth > 2);
+            assert_eq!(rt; found, (true, all, all));
+            return Ok(());
+        }
+        assert_eq!(rt; found, (true, Err(AllocError), all), "at {nth}");
     }
-    assert!(rt; nth > 2);
-    assert_eq!(rt; (found, heap.out()), ((true, all, all), 0));
-    Ok(())
+    panic!(rt; "more allocations than any of these calls asks for");
 }

@@ -1,9 +1,10 @@
 //! Calls that take no memory, where each allocation would be refused.
 ghost use Rattle.std.specs.Prelude.{◌≡◌, ◌<◌, IfOk};
+ghost use Rattle.sections.specs.Sets.{IsPlacedIn, cookies_of};
 ghost use Rattle.sections.specs.Words.{cells_in};
 ghost use Rattle.domain.specs.Views.{IsOf};
 
-use super::calling::Heap;
+use super::calling::{Heap, drive};
 use domain::{CookieSet, Cpu, Domain, Limits, MakeError, Writer};
 use notify::Chain;
 use plugs::Table;
@@ -32,21 +33,20 @@ fn one_cell<'a>(
 }
 
 /// Registers two blocks and takes one off. Tells the ids that are left, and how many allocations were asked for.
-fn change_chain(heap: &Heap) -> Result<Option<([u64; 15], usize, u64)>, MakeError> {
+fn change_chain(heap: &Heap) -> Result<Option<(([u64; 15], usize), u64)>, MakeError> {
     heap.refuse(0);
     let (domain, mut cpu, writer) = one_cell(heap)?;
     let (mut chain, view) = Chain::new(writer, 16);
     heap.refuse(1);
-    let is_changed = chain.register(&domain, &mut cpu, 3, 1).is_ok()
-        && chain.register(&domain, &mut cpu, 4, 2).is_ok()
-        && chain.unregister(&domain, &mut cpu, 3).is_ok();
+    let has_three = chain.register(&domain, &mut cpu, 3, 1).is_ok();
+    let has_four = chain.register(&domain, &mut cpu, 4, 2).is_ok();
+    let lost_three = chain.unregister(&domain, &mut cpu, 3).is_ok();
     let Ok(found) = view.ids(&mut cpu) else {
         return Ok(None);
     };
     let asked = heap.asked();
-    let ids = found.0;
-    Ok(if is_changed {
-        Some((ids, found.1, asked))
+    Ok(if has_three && has_four && lost_three {
+        Some((found, asked))
     } else {
         None
     })
@@ -58,7 +58,7 @@ fn refuse_chain(rt: HostRuntime) -> Result<(), Fail> {
     let heap = Refusing::new(rt.alloc());
     let mut ids = [0; 15];
     ids[0] = 4;
-    assert_eq!(rt; change_chain(&heap)?, Some((ids, 1, 0)));
+    assert_eq!(rt; change_chain(&heap)?, Some(((ids, 1), 0)));
     Ok(())
 }
 
@@ -68,14 +68,16 @@ fn change_table(heap: &Heap) -> Result<Option<([Option<u32>; 2], u64)>, MakeErro
     let (domain, mut cpu, writer) = one_cell(heap)?;
     let (mut table, view) = Table::new(writer);
     heap.refuse(1);
-    let is_changed = table.install(&domain, &mut cpu, 7, 70).is_ok()
-        && table.install(&domain, &mut cpu, 8, 80).is_ok()
-        && table.remove(&domain, &mut cpu, 7).is_ok();
+    let has_seven = table.install(&domain, &mut cpu, 7, 70).is_ok();
+    let has_eight = table.install(&domain, &mut cpu, 8, 80).is_ok();
+    let lost_seven = table.remove(&domain, &mut cpu, 7).is_ok();
     let seven = view.lookup(&mut cpu, 7).ok();
     let eight = view.lookup(&mut cpu, 8).ok();
     let asked = heap.asked();
     Ok(match (seven, eight) {
-        (Some(seven), Some(eight)) if is_changed => Some(([seven, eight], asked)),
+        (Some(seven), Some(eight)) if has_seven && has_eight && lost_seven => {
+            Some(([seven, eight], asked))
+        }
         _ => None,
     })
 }
@@ -114,6 +116,30 @@ impl Versioned for Sixteen {
     }
 }
 
+/// A set with a cookie of now, whose grace period is asked for.
+fn ask_in_set<'a>(domain: &Domain<(), &'a Heap>, cpu: &mut Cpu<(), &'a Heap>) -> CookieSet
+    requires { IsOf domain.now cpu.old }
+    ensures here { IsOf domain.now cpu.new }
+    ensures placed { IsPlacedIn domain.now.domain 0 (cookies_of result) }
+{
+    let mut set = CookieSet::new();
+    let Ok(_) = set.add(domain.start_poll(cpu)) else {
+        unreachable!()
+    };
+    set
+}
+
+/// Waits for a cookie in a set. Whether the set is done before and after a grace period.
+fn wait_in_set<'a>(domain: &Domain<(), &'a Heap>, cpu: &mut Cpu<(), &'a Heap>) -> [bool; 2]
+    requires { IsOf domain.now cpu.old }
+{
+    let mut set = ask_in_set(domain, cpu);
+    let early = set.poll_member(0, cpu);
+    let _period = drive(domain, cpu);
+    let late = set.poll_member(0, cpu) && set.done();
+    [early, late]
+}
+
 /// Replaces a value, and waits for its cookie in a set. Tells the cookie, whether the set is done before and after a grace
 /// period, and how many allocations were asked for.
 fn replace(heap: &Heap) -> Result<Option<(u64, [bool; 2], u64)>, MakeError> {
@@ -124,14 +150,9 @@ fn replace(heap: &Heap) -> Result<Option<(u64, [bool; 2], u64)>, MakeError> {
     let put = shelf
         .replace(&domain, &mut cpu, &Sixteen { words: [5; 16] })
         .ok();
-    let mut set = CookieSet::new();
-    let _place = set.add(domain.start_poll(&mut cpu));
-    let early = set.poll_member(0, &mut cpu);
-    for _ in 0..3 {
-        let _answer = domain.advance(&mut cpu);
-    }
-    let late = set.poll_member(0, &mut cpu) && set.done();
-    Ok(put.map(|cookie| (cookie, [early, late], heap.asked())))
+    let done = wait_in_set(&domain, &mut cpu);
+    let asked = heap.asked();
+    Ok(put.map(|cookie| (cookie, done, asked)))
 }
 
 /// Would catch a value, or a set of cookies, that takes memory.

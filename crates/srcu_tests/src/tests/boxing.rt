@@ -133,11 +133,14 @@ fn boxed<R: Wait + AllocGlobal>(rt: &R) -> Result<Came, Refusal> {
 #[test]
 fn replaces_boxes(rt: HostRuntime) -> Result<(), Fail> {
     match boxed(&rt) {
-        Ok((shown, back, left)) => {
-            assert_eq!(rt; shown, [None, Some(1), Some(2), Some(3)]);
-            assert_eq!(rt; back, [None, None, Some(1)]);
-            assert_eq!(rt; left, [Some(2), Some(3), None]);
-        }
+        Ok(came) => assert_eq!(rt;
+            came,
+            (
+                [None, Some(1), Some(2), Some(3)],
+                [None, None, Some(1)],
+                [Some(2), Some(3), None]
+            )
+        ),
         Err(refusal) => panic!(rt; "{refusal}"),
     }
     Ok(())
