@@ -1,8 +1,13 @@
 //! Sections that last: while tables are replaced, and until another thread ends them. And domains that are taken down with
 //! tables in a cell.
+ghost use Rattle.std.specs.Prelude.{◌≡◌, IfSome};
+ghost use Rattle.domain.specs.Views.{IsOf};
+ghost use Rattle.boxes.specs.Boxes.{IsCellIn, IsCellOf, IsPinOf, cell_of};
 
 use super::bells::{Table, table_of};
-use super::{boxes_of, domain_of, drive};
+use super::places::{
+    Place, Reader, add_cpu, drive, place_of, put, reclaim, replace, retire, take_reader,
+};
 use boxes::{BoxPin, Boxes, LooseBoxWriter};
 use domain::{Cpu, Domain, Held};
 use std::alloc::{AllocError, Global};
@@ -32,11 +37,13 @@ fn sleep_until<R: Wait + Clock>(rt: &R, sign: &AtomicBool) {
 /// The number that a section reads before its sleep and after it: 0 where that table isn't whole, or there is none.
 fn read_asleep<R: Wait + Clock>(
     rt: &R,
-    mut cpu: Cpu<()>,
-    mut boxes: Boxes<Table>,
+    reader: Reader<Table>,
     found: &AtomicBool,
     full: &AtomicBool,
-) -> [u64; 2] {
+) -> [u64; 2]
+    requires { IsCellOf reader.cpu.cpu reader.boxes }
+{
+    let Reader { mut cpu, mut boxes } = reader;
     let Ok(reading) = cpu.read_lock() else {
         return [0; 2];
     };
@@ -66,84 +73,143 @@ fn put_until_full(
     cpu: &mut Cpu<()>,
     loose: &mut LooseBoxWriter<Table, Global>,
     rung: &Arc<AtomicU64>,
-) -> Result<[u64; 2], AllocError> {
-    let mut made = 0u64;
+) -> Result<[u64; 2], AllocError>
+    requires here { IsOf domain.now cpu.old }
+    requires cell { IsCellIn domain.now (cell_of loose.old.writer) }
+    ensures here { IsOf domain.now cpu.new }
+    ensures cell { IsCellIn domain.now (cell_of loose.new.writer) }
+{
     let mut back = 0u64;
     for number in 0..PUTS {
-        made += 1;
-        match loose
-            .writer
-            .replace(domain, cpu, table_of(alloc, 100 + number, ROWS, rung)?)
-        {
-            Ok(Some(_)) => back += 1,
+        let table = table_of(alloc, 100 + number, ROWS, rung)?;
+        match replace(domain, cpu, loose, table) {
+            Ok(Some(_)) => back = back.saturating_add(1),
             Ok(None) => {}
-            Err(_) => return Ok([made, back]),
+            Err(_) => return Ok([number + 1, back]),
         }
         drive(domain, cpu, 20);
     }
-    Ok([made, back])
+    Ok([PUTS, back])
 }
 
-/// Retires the last table, and drives the engine until each is back. Returns how many came back.
+/// Retires the last table, and drives the engine until each is back: one comes back in each round. Returns how many came
+/// back.
 fn take_all(
     domain: &Domain<()>,
     cpu: &mut Cpu<()>,
     loose: &mut LooseBoxWriter<Table, Global>,
-) -> u64 {
+) -> u64
+    requires here { IsOf domain.now cpu.old }
+    requires cell { IsCellIn domain.now (cell_of loose.old.writer) }
+    ensures here { IsOf domain.now cpu.new }
+    ensures cell { IsCellIn domain.now (cell_of loose.new.writer) }
+{
     let mut back = 0u64;
     let mut retired = false;
     for _ in 0..100 {
         drive(domain, cpu, 20);
         if !retired {
-            retired = loose.writer.retire(domain, cpu).is_some();
+            retired = retire(domain, cpu, loose);
         }
-        while let Some(table) = loose.writer.reclaim(cpu) {
-            drop(table);
+        if reclaim(domain, cpu, loose).is_some() {
             back = back.saturating_add(1);
         }
     }
     back
 }
 
+/// What puts tables beside a reader.
+#[derive(Drop)]
+struct Putter {
+    cpu: Cpu<()>,
+    loose: LooseBoxWriter<Table, Global>,
+}
+
+/// What a writer did beside a reader that sleeps.
+struct Done {
+    putter: Putter,
+    /// How many tables were made, and how many came back.
+    put: Result<[u64; 2], AllocError>,
+    /// How many were dropped before the reader awoke.
+    dropped: u64,
+}
+
+/// Puts tables until no slot is free, once a section has found the first one, and then has the reader go on.
+fn put_beside<R: Wait + Clock + AllocGlobal>(
+    rt: &R,
+    domain: &Domain<()>,
+    mut putter: Putter,
+    rung: &Arc<AtomicU64>,
+    found: &AtomicBool,
+    full: &AtomicBool,
+) -> Done
+    requires here { IsOf domain.now putter.cpu }
+    requires cell { IsCellIn domain.now (cell_of putter.loose.writer) }
+    ensures here { IsOf domain.now result.putter.cpu }
+    ensures cell { IsCellIn domain.now (cell_of result.putter.loose.writer) }
+{
+    sleep_until(rt, found);
+    let put = put_until_full(rt.alloc(), domain, &mut putter.cpu, &mut putter.loose, rung);
+    let dropped = rung.load(SeqCst);
+    full.store(true, SeqCst);
+    Done {
+        putter,
+        put,
+        dropped,
+    }
+}
+
 /// Would catch a table that comes back, or that is dropped, while a reader sleeps in the section that found it.
 #[test]
 fn a_reader_sleeps(rt: HostRuntime) -> Result<(), Fail> {
     let rung = Arc::new(rt.alloc(), AtomicU64::new(0))?;
-    let (found, full) = (AtomicBool::new(false), AtomicBool::new(false));
-    let (domain, mut cpus, mut writers) = domain_of(rt.alloc(), 2, 1, 8)?;
-    let mut cpu = cpus.pop().unwrap();
-    let (mut loose, boxes) = boxes_of::<Table>(
-        rt.alloc(),
-        &domain,
-        &mut cpu,
-        writers.pop().unwrap(),
-    )?;
     let first = table_of(rt.alloc(), 7, ROWS, &rung)?;
-    assert_eq!(rt; loose.writer.put(&domain, &mut cpu, first).is_ok(), true);
-    let reader = cpus.pop().unwrap();
-    let (read, put) = join(
+    let (found, full) = (AtomicBool::new(false), AtomicBool::new(false));
+    let Place {
+        domain,
+        mut cpu,
+        mut others,
+        mut loose,
+        mut boxes,
+    } = place_of::<Table>(rt.alloc(), 2, 8)?;
+    let reader = take_reader(&domain, &mut others, &mut boxes)?;
+    assert_eq!(rt; put(&domain, &mut cpu, &mut loose, first), true);
+    let putter = Putter { cpu, loose };
+    let (read, done) = join(
         &rt,
-        || read_asleep(&rt, reader, boxes, &found, &full),
-        || {
-            sleep_until(&rt, &found);
-            let put = put_until_full(rt.alloc(), &domain, &mut cpu, &mut loose, &rung);
-            let dropped = rung.load(SeqCst);
-            full.store(true, SeqCst);
-            (put, dropped)
-        },
+        ||
+            requires { IsCellOf reader.cpu.cpu reader.boxes }
+        { read_asleep(&rt, reader, &found, &full) },
+        ||
+            requires here { IsOf domain putter.cpu }
+            requires cell { IsCellIn domain (cell_of putter.loose.writer) }
+        { put_beside(&rt, &domain, putter, &rung, &found, &full) },
     );
-    let [made, back] = put.0?;
-    assert_eq!(rt; (read, back, put.1), ([7, 7], 0, 1)); // the one that was refused is dropped
-    assert_eq!(rt; take_all(&domain, &mut cpu, &mut loose), made);
+    let Done {
+        mut putter,
+        put,
+        dropped,
+    } = done;
+    let [made, back] = put?;
+    assert_eq!(rt; (read, back, dropped), ([7, 7], 0, 1)); // the one that was refused is dropped
+    let all = take_all(&domain, &mut putter.cpu, &mut putter.loose);
+    assert_eq!(rt; all, made);
+    let dropped = rung.load(SeqCst);
     assert_eq!(rt;
-        (rung.load(SeqCst), Arc::strong_count(&rung)),
-        (made + 1, 1)
+        (dropped, Arc::strong_count(&rung)),
+        (made.saturating_add(1), 1)
     );
     Ok(())
 }
 
 /// Finds a table in a held section.
-fn hold(mut cpu: Cpu<()>, mut boxes: Boxes<Table>) -> Option<BoxPin<Table, Held>> {
+fn hold(domain: &Domain<()>, reader: Reader<Table>) -> Option<BoxPin<Table, Held>>
+    requires here { IsOf domain.now reader.cpu }
+    requires cell { IsCellIn domain.now reader.boxes }
+    ensures here { IfSome result (λ p. p.section.domain ≡ domain.now.domain) }
+    ensures pin { IfSome result (λ p. IsPinOf reader.boxes p) }
+{
+    let Reader { mut cpu, mut boxes } = reader;
     let held = cpu.down_read().ok()?;
     match boxes.find_held(&mut cpu, held) {
         Ok(pin) => Some(pin),
@@ -162,38 +228,47 @@ fn end_here(
     loose: &mut LooseBoxWriter<Table, Global>,
     boxes: &Boxes<Table>,
     pin: BoxPin<Table, Held>,
-) -> (u64, bool, bool) {
-    let retired = loose.writer.retire(domain, cpu).is_some();
+) -> (u64, bool, bool)
+    requires here { IsOf domain.now cpu.old }
+    requires writer { IsCellIn domain.now (cell_of loose.old.writer) }
+    requires boxes { IsCellIn domain.now boxes.now }
+    requires section { pin.section.domain ≡ domain.now.domain }
+    requires pin { IsPinOf boxes.now pin }
+{
+    let retired = retire(domain, cpu, loose);
     drive(domain, cpu, 40);
-    let early = loose.writer.reclaim(cpu).is_some();
-    let shown = if pin.get().is_whole() {
-        pin.get().number
-    } else {
-        0
-    };
+    let early = reclaim(domain, cpu, loose).is_some();
+    let whole = pin.get().is_whole();
+    let number = pin.get().number;
     let held = boxes.release_held(cpu, pin);
     cpu.up_read(held);
     drive(domain, cpu, 40);
-    (shown, early, retired && loose.writer.reclaim(cpu).is_some())
+    let late = reclaim(domain, cpu, loose).is_some();
+    (if whole { number } else { 0 }, early, retired && late)
 }
 
 /// Would catch a held section that loses its table on the way to another thread, and one whose part stays out.
 #[test]
 fn a_held_section_ends_on_another_thread(rt: HostRuntime) -> Result<(), Fail> {
     let rung = Arc::new(rt.alloc(), AtomicU64::new(0))?;
-    let (domain, mut cpus, mut writers) = domain_of(rt.alloc(), 3, 1, 4)?;
-    let mut cpu = cpus.pop().unwrap();
-    let (mut loose, mut boxes) = boxes_of::<Table>(
-        rt.alloc(),
-        &domain,
-        &mut cpu,
-        writers.pop().unwrap(),
-    )?;
-    let others = boxes.another(&cpu)?;
     let first = table_of(rt.alloc(), 7, ROWS, &rung)?;
-    assert_eq!(rt; loose.writer.put(&domain, &mut cpu, first).is_ok(), true);
-    let (reader, idle) = (cpus.pop().unwrap(), cpus.pop().unwrap());
-    let (pin, _) = join(&rt, || hold(reader, others), || drop(idle));
+    let Place {
+        domain,
+        mut cpu,
+        mut others,
+        mut loose,
+        mut boxes,
+    } = place_of::<Table>(rt.alloc(), 3, 4)?;
+    let reader = take_reader(&domain, &mut others, &mut boxes)?;
+    assert_eq!(rt; put(&domain, &mut cpu, &mut loose, first), true);
+    let (pin, ()) = join(
+        &rt,
+        ||
+            requires here { IsOf domain reader.cpu }
+            requires cell { IsCellIn domain reader.boxes }
+        { hold(&domain, reader) },
+        || drop(others),
+    );
     let ended = match pin {
         Some(pin) => end_here(&domain, &mut cpu, &mut loose, &boxes, pin),
         None => (0, false, false),
@@ -203,29 +278,48 @@ fn a_held_section_ends_on_another_thread(rt: HostRuntime) -> Result<(), Fail> {
     Ok(())
 }
 
+/// Puts three tables, of which the first comes back, and drives the engine after each.
+fn put_three(
+    alloc: Global,
+    domain: &Domain<()>,
+    cpu: &mut Cpu<()>,
+    loose: &mut LooseBoxWriter<Table, Global>,
+    rung: &Arc<AtomicU64>,
+) -> Result<(), AllocError>
+    requires here { IsOf domain.now cpu.old }
+    requires cell { IsCellIn domain.now (cell_of loose.old.writer) }
+    ensures here { IsOf domain.now cpu.new }
+    ensures cell { IsCellIn domain.now (cell_of loose.new.writer) }
+{
+    for number in 0..3 {
+        let table = table_of(alloc, number, ROWS, rung)?;
+        drop(replace(domain, cpu, loose, table));
+        drive(domain, cpu, 40);
+    }
+    Ok(())
+}
+
 /// Puts three tables, of which the first comes back. Then the domain is taken down: with the two others in the cell, or after
 /// they came back. Returns how many were dropped, and how many are left.
 fn take_down(alloc: Global, comes_back: bool) -> Result<[u64; 2], Fail> {
     let rung = Arc::new(alloc, AtomicU64::new(0))?;
-    let (domain, mut cpus, mut writers) = domain_of(alloc, 2, 1, 4)?;
-    let mut cpu = cpus.pop().unwrap();
-    let (mut loose, boxes) = boxes_of::<Table>(alloc, &domain, &mut cpu, writers.pop().unwrap())?;
-    for number in 0..3 {
-        let table = table_of(alloc, number, ROWS, &rung)?;
-        if let Err(table) = loose.writer.replace(&domain, &mut cpu, table) {
-            drop(table);
-        }
-        drive(&domain, &mut cpu, 40);
-    }
+    let Place {
+        domain,
+        mut cpu,
+        others: mut cpus,
+        mut loose,
+        boxes,
+    } = place_of::<Table>(alloc, 2, 4)?;
+    put_three(alloc, &domain, &mut cpu, &mut loose, &rung)?;
     if comes_back {
         take_all(&domain, &mut cpu, &mut loose);
     }
-    cpus.push(cpu)?;
+    add_cpu(&domain, &mut cpus, cpu)?;
     let ended = domain.cleanup(cpus).is_ok();
     drop(boxes);
     drop(loose);
-    let left = Arc::strong_count(&rung) as u64;
-    Ok([rung.load(SeqCst), if ended { left - 1 } else { 9 }])
+    let left = Arc::strong_count(&rung).saturating_sub(1) as u64; // but for the one here
+    Ok([rung.load(SeqCst), if ended { left } else { 9 }])
 }
 
 /// Would catch a table that is dropped with its domain, or twice, and one that is neither dropped nor left.

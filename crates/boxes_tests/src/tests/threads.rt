@@ -1,9 +1,13 @@
 //! Readers on threads of their own.
+ghost use Rattle.std.specs.Prelude.{◌≡◌, vec_len, All, IfOk};
+ghost use Rattle.sections.specs.Calls.{IsSameCpu};
+ghost use Rattle.domain.specs.Views.{IsOf};
+ghost use Rattle.boxes.specs.Boxes.{IsCellIn, IsCellOf, cell_of};
 
 use super::bells::{Table, table_of};
-use super::{boxes_of, domain_of};
+use super::places::{Place, Reader, place_of, reclaim, replace, retire, take_reader};
 use boxes::{BoxPin, Boxes, LooseBoxWriter};
-use domain::{Cpu, Domain};
+use domain::{Cpu, Domain, Progress};
 use std::alloc::{AllocError, Global};
 use std::sync::atomic::Ordering::SeqCst;
 use std::sync::atomic::{AtomicBool, AtomicU64};
@@ -36,7 +40,11 @@ fn looks_whole(pin: &BoxPin<Table>, last: u64) -> bool {
 }
 
 /// Reads one table in a section of its own.
-fn read_once(cpu: &mut Cpu<()>, boxes: &mut Boxes<Table>, found: &mut Found) {
+fn read_once(cpu: &mut Cpu<()>, boxes: &mut Boxes<Table>, found: &mut Found)
+    requires { IsCellOf cpu.old.cpu boxes.old }
+    ensures same { IsSameCpu cpu.old.cpu cpu.new.cpu }
+    ensures boxes { boxes.new ≡ boxes.old }
+{
     let Ok(reading) = cpu.read_lock() else {
         return;
     };
@@ -53,7 +61,10 @@ fn read_once(cpu: &mut Cpu<()>, boxes: &mut Boxes<Table>, found: &mut Found) {
 }
 
 /// Reads until no more is put.
-fn read_on<R: Wait>(rt: &R, mut cpu: Cpu<()>, mut boxes: Boxes<Table>, done: &AtomicBool) -> Found {
+fn read_on<R: Wait>(rt: &R, reader: Reader<Table>, done: &AtomicBool) -> Found
+    requires { IsCellOf reader.cpu.cpu reader.boxes }
+{
+    let Reader { mut cpu, mut boxes } = reader;
     let mut found = Found {
         sections: 0,
         whole: true,
@@ -76,15 +87,20 @@ fn put_once<R: Wait>(
     cpu: &mut Cpu<()>,
     loose: &mut LooseBoxWriter<Table, Global>,
     table: Box<Table>,
-) -> u64 {
+) -> u64
+    requires here { IsOf domain.now cpu.old }
+    requires cell { IsCellIn domain.now (cell_of loose.old.writer) }
+    ensures here { IsOf domain.now cpu.new }
+    ensures cell { IsCellIn domain.now (cell_of loose.new.writer) }
+{
     let mut next = table;
     for _ in rt.forever() {
-        match loose.writer.replace(domain, cpu, next) {
+        match replace(domain, cpu, loose, next) {
             Ok(Some(_)) => return 1,
             Ok(None) => return 0,
             Err(table) => next = table,
         }
-        if let Ok(domain::Progress::Waiting(_)) = domain.advance(cpu) {
+        if let Ok(Progress::Waiting(_)) = domain.advance(cpu) {
             yield_now();
         }
     }
@@ -98,15 +114,19 @@ fn take_back<R: Wait>(
     cpu: &mut Cpu<()>,
     loose: &mut LooseBoxWriter<Table, Global>,
     some: u64,
-) -> u64 {
+) -> u64
+    requires here { IsOf domain.now cpu.old }
+    requires cell { IsCellIn domain.now (cell_of loose.old.writer) }
+    ensures here { IsOf domain.now cpu.new }
+    ensures cell { IsCellIn domain.now (cell_of loose.new.writer) }
+{
     let mut back = 0u64;
     for _ in rt.forever() {
         if back == some {
             return back;
         }
-        if let Some(table) = loose.writer.reclaim(cpu) {
-            drop(table);
-            back += 1;
+        if reclaim(domain, cpu, loose).is_some() {
+            back = back.saturating_add(1);
         }
         let _answer = domain.advance(cpu);
         yield_now();
@@ -114,7 +134,50 @@ fn take_back<R: Wait>(
     unreachable!()
 }
 
-/// Puts all tables, and has each back. Returns how many came back.
+/// Puts all tables. Returns how many came back.
+fn put_each<R: Wait + AllocGlobal>(
+    rt: &R,
+    domain: &Domain<()>,
+    cpu: &mut Cpu<()>,
+    loose: &mut LooseBoxWriter<Table, Global>,
+    rung: &Arc<AtomicU64>,
+) -> Result<u64, AllocError>
+    requires here { IsOf domain.now cpu.old }
+    requires cell { IsCellIn domain.now (cell_of loose.old.writer) }
+    ensures here { IsOf domain.now cpu.new }
+    ensures cell { IsCellIn domain.now (cell_of loose.new.writer) }
+{
+    let mut back = 0u64;
+    for number in 1..=PUTS {
+        let table = table_of(rt.alloc(), number, ROWS, rung)?;
+        back = back.saturating_add(put_once(rt, domain, cpu, loose, table));
+    }
+    Ok(back)
+}
+
+/// Retires the last table, and drives the engine as long as no slot is free.
+fn retire_last<R: Wait>(
+    rt: &R,
+    domain: &Domain<()>,
+    cpu: &mut Cpu<()>,
+    loose: &mut LooseBoxWriter<Table, Global>,
+)
+    requires here { IsOf domain.now cpu.old }
+    requires cell { IsCellIn domain.now (cell_of loose.old.writer) }
+    ensures here { IsOf domain.now cpu.new }
+    ensures cell { IsCellIn domain.now (cell_of loose.new.writer) }
+{
+    for _ in rt.forever() {
+        if retire(domain, cpu, loose) {
+            return;
+        }
+        let _answer = domain.advance(cpu);
+    }
+    unreachable!()
+}
+
+/// Puts all tables, and has each back. Returns how many came back. The readers are told that no more is put, also where
+/// memory is refused.
 fn put_all<R: Wait + AllocGlobal>(
     rt: &R,
     domain: &Domain<()>,
@@ -122,75 +185,139 @@ fn put_all<R: Wait + AllocGlobal>(
     mut loose: LooseBoxWriter<Table, Global>,
     rung: &Arc<AtomicU64>,
     done: &AtomicBool,
-) -> Result<u64, AllocError> {
-    let mut back = 0u64;
-    for number in 1..=PUTS {
-        let table = table_of(rt.alloc(), number, ROWS, rung)?;
-        back += put_once(rt, domain, &mut cpu, &mut loose, table);
-    }
+) -> Result<u64, AllocError>
+    requires here { IsOf domain.now cpu }
+    requires cell { IsCellIn domain.now (cell_of loose.writer) }
+{
+    let put = put_each(rt, domain, &mut cpu, &mut loose, rung);
     done.store(true, SeqCst);
-    back += take_back(rt, domain, &mut cpu, &mut loose, PUTS - 1 - back);
-    for _ in rt.forever() {
-        if loose.writer.retire(domain, &mut cpu).is_some() {
-            break;
-        }
-        let _answer = domain.advance(&mut cpu);
-    }
-    back += take_back(rt, domain, &mut cpu, &mut loose, 1);
-    Ok(back)
+    let early = put?;
+    let some = (PUTS - 1).saturating_sub(early);
+    let late = take_back(rt, domain, &mut cpu, &mut loose, some);
+    retire_last(rt, domain, &mut cpu, &mut loose);
+    let last = take_back(rt, domain, &mut cpu, &mut loose, 1);
+    Ok(early.saturating_add(late).saturating_add(last))
 }
 
-/// The processors of four readers and their boxes.
+/// Four readers.
 #[derive(Drop)]
 struct Four {
-    first: (Cpu<()>, Boxes<Table>),
-    second: (Cpu<()>, Boxes<Table>),
-    third: (Cpu<()>, Boxes<Table>),
-    fourth: (Cpu<()>, Boxes<Table>),
+    first: Reader<Table>,
+    second: Reader<Table>,
+    third: Reader<Table>,
+    fourth: Reader<Table>,
+}
+
+/// Readers of the same boxes on four processors.
+fn take_four(
+    domain: &Domain<()>,
+    cpus: Vec<Cpu<()>>,
+    boxes: Boxes<Table>,
+) -> Result<Four, AllocError>
+    requires count { vec_len cpus ≡ 4 }
+    requires here { All (IsOf domain.now) cpus.items }
+    requires cell { IsCellIn domain.now boxes }
+    ensures first { IfOk result (λ f. IsCellOf f.first.cpu.cpu f.first.boxes) }
+    ensures second { IfOk result (λ f. IsCellOf f.second.cpu.cpu f.second.boxes) }
+    ensures third { IfOk result (λ f. IsCellOf f.third.cpu.cpu f.third.boxes) }
+    ensures fourth { IfOk result (λ f. IsCellOf f.fourth.cpu.cpu f.fourth.boxes) }
+{
+    let mut cpus = cpus;
+    let mut boxes = boxes;
+    let first = take_reader(domain, &mut cpus, &mut boxes)?;
+    let second = take_reader(domain, &mut cpus, &mut boxes)?;
+    let third = take_reader(domain, &mut cpus, &mut boxes)?;
+    let fourth = take_reader(domain, &mut cpus, &mut boxes)?;
+    Ok(Four {
+        first,
+        second,
+        third,
+        fourth,
+    })
 }
 
 /// Two threads read.
 fn read_by_two<R: Wait + Threads + Sync>(
     rt: &R,
-    first: (Cpu<()>, Boxes<Table>),
-    second: (Cpu<()>, Boxes<Table>),
+    first: Reader<Table>,
+    second: Reader<Table>,
     done: &AtomicBool,
-) -> [Found; 2] {
+) -> [Found; 2]
+    requires first { IsCellOf first.cpu.cpu first.boxes }
+    requires second { IsCellOf second.cpu.cpu second.boxes }
+{
     let (first, second) = join(
         rt,
-        || read_on(rt, first.0, first.1, done),
-        || read_on(rt, second.0, second.1, done),
+        ||
+            requires { IsCellOf first.cpu.cpu first.boxes }
+        { read_on(rt, first, done) },
+        ||
+            requires { IsCellOf second.cpu.cpu second.boxes }
+        { read_on(rt, second, done) },
     );
     [first, second]
 }
 
 /// Four threads read.
-fn read_by_four<R: Wait + Threads + Sync>(
-    rt: &R,
-    readers: Four,
-    done: &AtomicBool,
-) -> ([Found; 2], [Found; 2]) {
+fn read_by_four<R: Wait + Threads + Sync>(rt: &R, readers: Four, done: &AtomicBool) -> [Found; 4]
+    requires first { IsCellOf readers.first.cpu.cpu readers.first.boxes }
+    requires second { IsCellOf readers.second.cpu.cpu readers.second.boxes }
+    requires third { IsCellOf readers.third.cpu.cpu readers.third.boxes }
+    requires fourth { IsCellOf readers.fourth.cpu.cpu readers.fourth.boxes }
+{
     let Four {
         first,
         second,
         third,
         fourth,
     } = readers;
-    join(
+    let (low, high) = join(
         rt,
-        || read_by_two(rt, first, second, done),
-        || read_by_two(rt, third, fourth, done),
-    )
+        ||
+            requires first { IsCellOf first.cpu.cpu first.boxes }
+            requires second { IsCellOf second.cpu.cpu second.boxes }
+        { read_by_two(rt, first, second, done) },
+        ||
+            requires third { IsCellOf third.cpu.cpu third.boxes }
+            requires fourth { IsCellOf fourth.cpu.cpu fourth.boxes }
+        { read_by_two(rt, third, fourth, done) },
+    );
+    [low[0], low[1], high[0], high[1]]
 }
 
-/// A processor with boxes of its own.
-fn reader_of(
-    cpus: &mut Vec<Cpu<()>>,
-    boxes: &mut Boxes<Table>,
-) -> Result<(Cpu<()>, Boxes<Table>), AllocError> {
-    let cpu = cpus.pop().unwrap();
-    let another = boxes.another(&cpu)?;
-    Ok((cpu, another))
+/// What the readers found, and how many tables came back.
+type Report = ([Found; 4], Result<u64, AllocError>);
+
+/// Four threads read while one puts tables.
+fn read_beside<R: Wait + Threads + Sync + AllocGlobal>(
+    rt: &R,
+    domain: &Domain<()>,
+    readers: Four,
+    cpu: Cpu<()>,
+    loose: LooseBoxWriter<Table, Global>,
+    rung: &Arc<AtomicU64>,
+) -> Report
+    requires first { IsCellOf readers.first.cpu.cpu readers.first.boxes }
+    requires second { IsCellOf readers.second.cpu.cpu readers.second.boxes }
+    requires third { IsCellOf readers.third.cpu.cpu readers.third.boxes }
+    requires fourth { IsCellOf readers.fourth.cpu.cpu readers.fourth.boxes }
+    requires here { IsOf domain.now cpu }
+    requires cell { IsCellIn domain.now (cell_of loose.writer) }
+{
+    let done = AtomicBool::new(false);
+    join(
+        rt,
+        ||
+            requires first { IsCellOf readers.first.cpu.cpu readers.first.boxes }
+            requires second { IsCellOf readers.second.cpu.cpu readers.second.boxes }
+            requires third { IsCellOf readers.third.cpu.cpu readers.third.boxes }
+            requires fourth { IsCellOf readers.fourth.cpu.cpu readers.fourth.boxes }
+        { read_by_four(rt, readers, &done) },
+        ||
+            requires here { IsOf domain.now cpu }
+            requires cell { IsCellIn domain.now (cell_of loose.writer) }
+        { put_all(rt, domain, cpu, loose, rung, &done) },
+    )
 }
 
 /// Would catch a table that is dropped while a thread reads it, one that is dropped twice or never, and a section that
@@ -198,27 +325,16 @@ fn reader_of(
 #[test]
 fn tables_by_threads(rt: HostRuntime) -> Result<(), Fail> {
     let rung = Arc::new(rt.alloc(), AtomicU64::new(0))?;
-    let done = AtomicBool::new(false);
-    let (domain, mut cpus, mut writers) = domain_of(rt.alloc(), 5, 1, 8)?;
-    let mut cpu = cpus.pop().unwrap();
-    let (loose, mut boxes) = boxes_of::<Table>(
-        rt.alloc(),
-        &domain,
-        &mut cpu,
-        writers.pop().unwrap(),
-    )?;
-    let readers = Four {
-        first: reader_of(&mut cpus, &mut boxes)?,
-        second: reader_of(&mut cpus, &mut boxes)?,
-        third: reader_of(&mut cpus, &mut boxes)?,
-        fourth: reader_of(&mut cpus, &mut boxes)?,
-    };
-    let (([first, second], [third, fourth]), back) = join(
-        &rt,
-        || read_by_four(&rt, readers, &done),
-        || put_all(&rt, &domain, cpu, loose, &rung, &done),
-    );
-    for found in [first, second, third, fourth] {
+    let Place {
+        domain,
+        cpu,
+        others,
+        loose,
+        boxes,
+    } = place_of::<Table>(rt.alloc(), 5, 8)?;
+    let readers = take_four(&domain, others, boxes)?;
+    let (found, back) = read_beside(&rt, &domain, readers, cpu, loose, &rung);
+    for found in found {
         assert_eq!(rt; (found.whole, found.last <= PUTS), (true, true));
     }
     assert_eq!(rt; back?, PUTS);
