@@ -2,11 +2,11 @@
 use Rattle.std.proofs.Common.{◌≡◌, ◌<◌, length}
 use Rattle.srcu_tests.proofs.tests.by_hand.take_two.Given as goal
 
-abbrev pub invariant-loop-batch : goal.invariant-loop-batch
-invariant-loop-batch l = record {
+abbrev pub invariant-loop-job : goal.invariant-loop-job
+invariant-loop-job l = record {
   tallies : l.batch.tallies ≡ l.worker.domain.tallies;
   there : l.batch.processor < l.worker.domain.processors;
 }
 
-abbrev pub decreases-loop-batch : goal.decreases-loop-batch
-decreases-loop-batch l = length l.batch.entries
+abbrev pub decreases-loop-job : goal.decreases-loop-job
+decreases-loop-job l = length l.batch.entries
