@@ -1,5 +1,6 @@
 pub mod CallerLemmas
 pub mod Equipping
+pub mod Founding
 pub mod Stocks
 pub mod Keeping
 pub mod Putting

@@ -52,7 +52,8 @@ impl<V: Drop, A: Allocator> Boxes<V, A> {
     }
 
     /// Finds the box that is there (`srcu_dereference`), in the reading's section, which the pin then owns. The reading
-    /// comes back where there is none, or where no part of it is left at this processor. It takes no memory and does not wait.
+    /// comes back where there is none, or where no part of it is left at this processor. It takes no memory and does not
+    /// wait.
     pub fn find<J, B: Allocator>(
         &mut self,
         cpu: &mut Cpu<J, B>,

@@ -4,7 +4,7 @@ ghost use Rattle.clap.specs.Words.{found_of, one_text};
 ghost use Rattle.sections.specs.Limits.{most_sections};
 ghost use Rattle.options.specs.Options.{SetsLimit};
 
-use crate::size;
+use crate::size::race_command;
 use clap::builder::ValueParser;
 use clap::error::ErrorKind;
 use clap::{Arg, ArgMatches, Command, Error};
@@ -102,7 +102,7 @@ pub fn command<'a>(alloc: Global, of_scripts: &'a str) -> Result<Command<'a>, Er
         .subcommand(run)?
         .subcommand(annotate)?
         .subcommand(draw)?
-        .subcommand(size::command(alloc)?)?;
+        .subcommand(race_command(alloc)?)?;
     Ok(srcuctl)
 }
 

@@ -55,7 +55,7 @@ impl Size {
 }
 
 /// What the program takes for a race.
-pub fn command<'a>(alloc: Global) -> Result<Command<'a>, Error> {
+pub(crate) fn race_command<'a>(alloc: Global) -> Result<Command<'a>, Error> {
     let readers = Arg::new(alloc, "readers")
         .long("readers")
         .value_name("R")

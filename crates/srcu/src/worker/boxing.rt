@@ -47,7 +47,7 @@ impl<'a, J, A: Allocator> Worker<'a, J, A> {
     }
 
     /// Shows the value that is there to a closure (`srcu_dereference`), in a section of its own, and returns what the closure
-    /// returns: None where there is no box. The closure may sleep.
+    /// returns: None where there is no box, or no part of it is left at this processor. The closure may sleep.
     pub fn show<V: Drop, B: Allocator, T, F: FnOnce(&V) -> T>(
         &mut self,
         boxes: &mut Boxes<V, B>,

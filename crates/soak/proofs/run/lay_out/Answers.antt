@@ -4,7 +4,7 @@ use Rattle.std.proofs.lemmas.List.Elements.{All-pop}
 use Rattle.sections.specs.WriterViews.{WriterView}
 use Rattle.domain.specs.Views.{CpuView, IsOf}
 use Rattle.boxes.specs.Writing.{IsPlain}
-use Rattle.soak.proofs.Starting.{writers_at_home}
+use Rattle.boxes.proofs.CallerLemmas.{writers_at_home}
 use Rattle.soak.proofs.run.lay_out.Goals as goal
 
 pub unwrap-last-requires : goal.unwrap-last-requires

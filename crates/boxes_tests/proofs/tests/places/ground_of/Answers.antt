@@ -1,6 +1,6 @@
 -- The processors and the writers are all there are, and of the domain.
 use Rattle.std.proofs.Common.{arith}
-use Rattle.boxes_tests.proofs.Cells.{writers_at_home}
+use Rattle.boxes.proofs.CallerLemmas.{writers_at_home}
 use Rattle.boxes_tests.proofs.tests.places.ground_of.Goals as goal
 
 pub returns-clause-cpus : goal.returns-clause-cpus
@@ -13,7 +13,7 @@ returns-clause-processors c =
     omega (arith, count, long)
 
 pub returns-clause-writers : goal.returns-clause-writers
-returns-clause-writers c = writers_at_home c.in_ok-domain.domain _ _ _ c.in_ok-domain.ensures.writers
+returns-clause-writers c = writers_at_home c.in_ok-domain.domain.domain _ _ _ c.in_ok-domain.ensures.writers
 
 pub returns-clause-cells : goal.returns-clause-cells
 returns-clause-cells c =

@@ -4,7 +4,7 @@ use Rattle.std.proofs.lemmas.List.Elements.{All-pop}
 use Rattle.sections.specs.WriterViews.{WriterView}
 use Rattle.domain.specs.Views.{CpuView, IsOf}
 use Rattle.boxes.specs.Writing.{IsPlain}
-use Rattle.refusing_tests.proofs.Cells.{writers_at_home}
+use Rattle.boxes.proofs.CallerLemmas.{writers_at_home}
 use Rattle.refusing_tests.proofs.tests.boxing.one_cell.Goals as goal
 
 pub returns-clause-here : goal.returns-clause-here
@@ -15,4 +15,4 @@ returns-clause-here c =
 pub returns-clause-writer : goal.returns-clause-writer
 returns-clause-writer c =
     let W : WriterView → Type 0 = λ w. (w.domain ≡ c.in_ok-domain.domain.domain) × IsPlain w in
-    rw c.unwrap-writer.ensures at (All-pop W _ _ _ c.pop-2.ensures.items (writers_at_home c.in_ok-domain.domain _ _ _ c.in_ok-domain.ensures.writers)).1
+    rw c.unwrap-writer.ensures at (All-pop W _ _ _ c.pop-2.ensures.items (writers_at_home c.in_ok-domain.domain.domain _ _ _ c.in_ok-domain.ensures.writers)).1
