@@ -9,14 +9,15 @@ use Rattle.onedom.specs.Histories.{open_sections}
 use Rattle.onedom.proofs.CallerLemmas.{open_sections_plain}
 use Rattle.sections.specs.Views as sections
 use Rattle.sections.specs.Views.{ReadingView, FoundView}
+use Rattle.atomic_table.specs.Seated.{TableId}
 use Rattle.sections.specs.Calls.{LooksInVain}
 use Rattle.sections.specs.Loans.{CatchesUp}
 use Rattle.sections.specs.WriterViews.{WriterView}
 use Rattle.domain.specs.Views.{CpuView, with_cpu}
 use Rattle.domain.specs.Waiting.{HasNoneOpen}
 use Rattle.domain.proofs.CallerLemmas.{SameOpen, same_put, same_reclaimed, none_still, none_enclosed, none_looked}
-use Rattle.boxes.specs.Boxes.{BoxesView, BoxWriterView}
-use Rattle.boxes.specs.Reading.{FindsVersion}
+use Rattle.boxes.specs.Boxes.{BoxesView, BoxWriterView, PinView, IsPinOf}
+use Rattle.boxes.specs.Reading.{FindsVersion, FindsBox, FindsNoBox}
 use Rattle.boxes.specs.Showing.{ShowsBox}
 use Rattle.boxes.specs.Writing.{BringsBack, Equips, IsHandedBack, NoneFree, PutsNone, PutsVersion, Replaces, ReplacesNone}
 
@@ -36,6 +37,22 @@ module _ {J : Type 0} where
         none_enclosed c (with_cpu h.begun c) (with_cpu h.released c) c' h.section h.locks
         (same_caught h.section h.pin.found h.found h.released h.catches ∙ same_version b.cell h.section h.pin.found h.begun h.found h.finds.finds) h.ends none
     none_shown f b c c' (Err e) h none = none_looked c c' h none
+
+module _ {V : Type 0} where
+  same_held : (b : BoxesView) (h : ReadingView) (c c' : sections.CpuView) (r : Result (PinView V) ReadingView) → MatchResult r (λ p. FindsBox b h c c' p) (λ back. FindsNoBox b h c c' back) → SameOpen c c'
+  same_held b h c c' (Ok p) f = same_version b.cell h p.found c c' f.finds
+  same_held b h c c' (Err back) f = same_version b.cell h f.found c c' f.finds
+
+  pub none_held : {J : Type 0} (b : BoxesView) (h : ReadingView) (c c' : CpuView J) (r : Result (PinView V) ReadingView) → MatchResult r (λ p. FindsBox b h c.cpu c'.cpu p) (λ back. FindsNoBox b h c.cpu c'.cpu back) → HasNoneOpen c → HasNoneOpen c'
+  none_held b h c c' r f none = none_still c c' (same_held b h c.cpu c'.cpu r f) none
+
+  -- the section is of the domain as before, and the pin is of the boxes
+  pub held_here : (d : TableId) (b : BoxesView) (h : ReadingView) (c c' : sections.CpuView) (r : Result (PinView V) ReadingView) → MatchResult r (λ p. FindsBox b h c c' p) (λ back. FindsNoBox b h c c' back) → h.domain ≡ d → MatchResult r (λ p. (p.section.domain ≡ d) × IsPinOf b p) (λ back. back.domain ≡ d)
+  held_here d b h c c' (Ok p) f here = (ap (λ (z : ReadingView). z.domain) f.section ∙ here, f.of)
+  held_here d b h c c' (Err back) f here = ap (λ (z : ReadingView). z.domain) f.section ∙ here
+
+pub none_paid : {J : Type 0} (h : ReadingView) (f : FoundView) (c c' : CpuView J) → CatchesUp h f c.cpu c'.cpu → HasNoneOpen c → HasNoneOpen c'
+none_paid h f c c' caught none = none_still c c' (same_caught h f c.cpu c'.cpu caught) none
 
 -- Writing
 

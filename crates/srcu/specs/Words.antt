@@ -30,7 +30,8 @@ pub use Rattle.srcu.specs.Leases.{HasPlug}
 pub use Rattle.shelf.specs.Cells.{CellView, IsCellIn, cell_of}
 pub use Rattle.shelf.specs.Replacing.{Replaces}
 -- boxes
-pub use Rattle.boxes.specs.Boxes.{BoxesView, BoxWriterView, PinView, Stored}
+pub use Rattle.boxes.specs.Boxes.{BoxesView, BoxWriterView, PinView, Stored, IsPinOf}
+pub use Rattle.boxes.specs.Reading.{FindsBox, FindsNoBox}
 pub use Rattle.boxes.specs.Showing.{ShowsBox}
 pub use Rattle.boxes.specs.Writing.{BringsBack, PutsNone}
 pub use Rattle.srcu.specs.Boxing.{ReplacesBox, ReplacesNoBox}

@@ -231,30 +231,24 @@ fn a_pin_keeps_its_table(rt: HostRuntime) -> Result<(), Fail> {
     Ok(())
 }
 
-/// How many rows the vector has that is there, and the last one.
-fn rows_in(
-    domain: &Domain<()>,
-    boxes: &mut Boxes<Vec<u64>>,
-    cpu: &mut Cpu<()>,
-) -> Option<(usize, Option<u64>)>
-    requires here { IsOf domain.now cpu.old }
-    requires cell { IsCellIn domain.now boxes.old }
-    ensures here { IsOf domain.now cpu.new }
-    ensures boxes { boxes.new ≡ boxes.old }
-{
-    let shown = boxes.read(cpu, |rows: &Vec<u64>| (rows.len(), rows.last().copied()));
-    shown.unwrap_or(None)
+/// What was shown of a cell of rows and of one of a name, or came back: how many rows, the last one, and how many letters.
+#[derive(Clone, Copy, Debug, PartialEq, Eq)]
+struct Seen {
+    rows: usize,
+    last: u64,
+    letters: usize,
 }
 
-/// How long the name is that is there.
-fn name_in(domain: &Domain<()>, boxes: &mut Boxes<String>, cpu: &mut Cpu<()>) -> Option<usize>
-    requires here { IsOf domain.now cpu.old }
-    requires cell { IsCellIn domain.now boxes.old }
-    ensures here { IsOf domain.now cpu.new }
-    ensures boxes { boxes.new ≡ boxes.old }
-{
-    let shown = boxes.read(cpu, |name: &String| name.len());
-    shown.unwrap_or(None)
+/// Nothing was shown, or came back.
+const NOTHING: Seen = Seen {
+    rows: 0,
+    last: 0,
+    letters: 0,
+};
+
+/// How many rows there are, and the last one.
+fn ends_of(rows: &Vec<u64>) -> (usize, u64) {
+    (rows.len(), rows.last().copied().unwrap_or(0))
 }
 
 /// A domain of three processors, with a cell of rows and one of a name.
@@ -266,16 +260,15 @@ struct Both {
     third: Cpu<()>,
     rows: Cell<Vec<u64>>,
     names: Cell<String>,
+    ghost one: { IsOf domain first },
+    ghost two: { IsOf domain second },
+    ghost three: { IsOf domain third },
+    ghost of_rows: { IsCellIn domain (cell_of rows.loose.writer) × IsCellIn domain rows.boxes },
+    ghost of_names: { IsCellIn domain (cell_of names.loose.writer) × IsCellIn domain names.boxes },
 }
 
 /// Two cells of one domain.
-fn both_of(alloc: Global) -> Result<Both, MakeError>
-    ensures first { IfOk result (λ b. IsOf b.domain b.first) }
-    ensures second { IfOk result (λ b. IsOf b.domain b.second) }
-    ensures third { IfOk result (λ b. IsOf b.domain b.third) }
-    ensures rows { IfOk result (λ b. IsCellIn b.domain (cell_of b.rows.loose.writer) × IsCellIn b.domain b.rows.boxes) }
-    ensures names { IfOk result (λ b. IsCellIn b.domain (cell_of b.names.loose.writer) × IsCellIn b.domain b.names.boxes) }
-{
+fn both_of(alloc: Global) -> Result<Both, MakeError> {
     let Ground {
         domain,
         mut cpus,
@@ -298,46 +291,88 @@ fn both_of(alloc: Global) -> Result<Both, MakeError>
     })
 }
 
+/// Puts rows and a name, and tells whether slots were free.
+fn put_both(both: &mut Both, rows: Box<Vec<u64>>, name: Box<String>) -> bool {
+    let one = put(&both.domain, &mut both.first, &mut both.rows.loose, rows);
+    let other = put(&both.domain, &mut both.second, &mut both.names.loose, name);
+    one && other
+}
+
+/// What is shown on the third processor.
+fn show_both(both: &mut Both) -> Seen {
+    let rows = both.rows.boxes.read(&mut both.third, ends_of);
+    let letters = both
+        .names
+        .boxes
+        .read(&mut both.third, |name: &String| name.len());
+    let (rows, last) = rows.unwrap_or(None).unwrap_or((0, 0));
+    Seen {
+        rows,
+        last,
+        letters: letters.unwrap_or(None).unwrap_or(0),
+    }
+}
+
+/// Puts versions with no box, and tells whether slots were free.
+fn retire_both(both: &mut Both) -> bool {
+    let one = retire(&both.domain, &mut both.first, &mut both.rows.loose);
+    let other = retire(&both.domain, &mut both.second, &mut both.names.loose);
+    one && other
+}
+
+/// What comes back on the third processor, after forty turns of the engine.
+fn take_both(both: &mut Both) -> Seen {
+    drive(&both.domain, &mut both.first, 40);
+    let rows = reclaim(&both.domain, &mut both.third, &mut both.rows.loose);
+    let name = reclaim(&both.domain, &mut both.third, &mut both.names.loose);
+    let (rows, last) = match rows {
+        Some(rows) => ends_of(&rows),
+        None => (0, 0),
+    };
+    let letters = match name {
+        Some(name) => name.len(),
+        None => 0,
+    };
+    Seen {
+        rows,
+        last,
+        letters,
+    }
+}
+
+/// What is shown while both are there, what comes back then, and what once they are retired. `NOTHING` where no slot was free.
+fn see_both(both: &mut Both, rows: Box<Vec<u64>>, name: Box<String>) -> [Seen; 3] {
+    if !put_both(both, rows, name) {
+        return [NOTHING; 3];
+    }
+    let shown = show_both(both);
+    let early = take_both(both);
+    if !retire_both(both) {
+        return [NOTHING; 3];
+    }
+    [shown, early, take_both(both)]
+}
+
+/// The same in a domain of its own, with ten thousand rows.
+fn see_apart(alloc: Global) -> Result<[Seen; 3], Fail> {
+    let rows = Box::new(alloc, vec![in alloc; 5u64; 10_000]?)?;
+    let name = Box::new(alloc, String::from_str(alloc, "a name")?)?;
+    let mut both = both_of(alloc)?;
+    Ok(see_both(&mut both, rows, name))
+}
+
 /// Would catch a cell whose boxes are read as those of the other one.
 #[test]
 fn two_types_in_one_domain(rt: HostRuntime) -> Result<(), Fail> {
-    let row = Box::new(rt.alloc(), vec![in rt.alloc(); 5u64; 10_000]?)?;
-    let name = Box::new(rt.alloc(), String::from_str(rt.alloc(), "a name")?)?;
-    let Both {
-        domain,
-        mut first,
-        mut second,
-        mut third,
-        mut rows,
-        mut names,
-    } = both_of(rt.alloc())?;
-    assert_eq!(rt; put(&domain, &mut first, &mut rows.loose, row), true);
-    assert_eq!(rt; put(&domain, &mut second, &mut names.loose, name), true);
-    assert_eq!(rt;
-        rows_in(&domain, &mut rows.boxes, &mut third),
-        Some((10_000, Some(5)))
-    );
-    assert_eq!(rt; name_in(&domain, &mut names.boxes, &mut third), Some(6));
-    drive(&domain, &mut first, 40);
-    assert_eq!(rt;
-        reclaim(&domain, &mut first, &mut rows.loose).is_none(),
-        true
-    );
-    assert_eq!(rt;
-        reclaim(&domain, &mut first, &mut names.loose).is_none(),
-        true
-    );
-    assert_eq!(rt; retire(&domain, &mut first, &mut rows.loose), true);
-    assert_eq!(rt; retire(&domain, &mut second, &mut names.loose), true);
-    drive(&domain, &mut first, 40);
-    let Some(row) = reclaim(&domain, &mut third, &mut rows.loose) else {
-        panic!(rt; "the rows come back");
+    let [shown, early, back] = see_apart(rt.alloc())?;
+    let there = Seen {
+        rows: 10_000,
+        last: 5,
+        letters: 6,
     };
-    let Some(name) = reclaim(&domain, &mut third, &mut names.loose) else {
-        panic!(rt; "the name comes back");
-    };
-    assert_eq!(rt; (row.len(), row.last().copied()), (10_000, Some(5)));
-    assert_eq!(rt; name.as_str(), "a name");
+    assert_eq!(rt; shown, there);
+    assert_eq!(rt; early, NOTHING);
+    assert_eq!(rt; back, there);
     Ok(())
 }
 

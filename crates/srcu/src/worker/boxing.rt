@@ -1,8 +1,10 @@
 //! Values of any type, in boxes.
 ghost use Rattle.std.specs.Prelude.{◌≡◌, IfOk, MatchOption, MatchResult, replicate, None};
 ghost use Rattle.sections.specs.Calls.{LooksInVain};
+ghost use Rattle.sections.specs.Loans.{CatchesUp};
 ghost use Rattle.domain.specs.Views.{with_cpu};
-ghost use Rattle.boxes.specs.Boxes.{cell_of};
+ghost use Rattle.boxes.specs.Boxes.{IsPinOf, cell_of};
+ghost use Rattle.boxes.specs.Reading.{FindsBox, FindsNoBox};
 ghost use Rattle.boxes.specs.Showing.{ShowsBox};
 ghost use Rattle.boxes.specs.Writing.{BringsBack, Equips, IsHandedBack, NoneFree, PutsNone};
 ghost use Rattle.srcu.specs.Boxing.{ReplacesBox, ReplacesNoBox};
@@ -10,8 +12,8 @@ ghost use Rattle.srcu.specs.Workers.{AreBoxesOf, IsBoxWriterOf, IsSameWorker, Is
 
 use super::Worker;
 use crate::answers::BoxRefusal;
-use boxes::{BoxWriter, Boxes};
-use domain::{Exhausted, Memory, Writer};
+use boxes::{BoxPin, BoxWriter, Boxes};
+use domain::{Exhausted, Held, Memory, Writer};
 use std::alloc::Allocator;
 
 impl<'a, J, A: Allocator> Worker<'a, J, A> {
@@ -63,6 +65,47 @@ impl<'a, J, A: Allocator> Worker<'a, J, A> {
         ensures rest { self.new.cpu ≡ with_cpu self.new.cpu.cpu self.old.cpu }
     {
         boxes.read(&mut self.cpu, show)
+    }
+
+    /// Finds the value that is there in a held section (`srcu_dereference`), which the pin then owns: [`BoxPin::get`] shows the
+    /// value. The pin may go to another thread. The section comes back where there is no box, or no part of it is left at this
+    /// processor.
+    pub fn find_held_box<V: Drop, B: Allocator>(
+        &mut self,
+        boxes: &mut Boxes<V, B>,
+        held: Held,
+    ) -> Result<BoxPin<V, Held>, Held>
+        requires here { held.domain ≡ self.old.domain.domain }
+        requires cell { AreBoxesOf self.old.domain boxes.old }
+        ensures same { IsSameWorker self.old self.new }
+        ensures boxes { boxes.new ≡ boxes.old }
+        ensures finds { MatchResult result
+            (λ pin. FindsBox boxes.old held self.old.cpu.cpu self.new.cpu.cpu pin)
+            (λ back. FindsNoBox boxes.old held self.old.cpu.cpu self.new.cpu.cpu back) }
+        ensures here { MatchResult result
+            (λ pin. (pin.section.domain ≡ self.old.domain.domain) × IsPinOf boxes.old pin)
+            (λ back. back.domain ≡ self.old.domain.domain) }
+        ensures rest { self.new.cpu ≡ with_cpu self.new.cpu.cpu self.old.cpu }
+    {
+        boxes.find_held(&mut self.cpu, held)
+    }
+
+    /// Gives the section of a pin back, wherever it began; [`Worker::up_read`] ends it. Its box may then come back to its
+    /// writer, after a grace period.
+    pub fn release_held_box<V: Drop, B: Allocator>(
+        &mut self,
+        boxes: &Boxes<V, B>,
+        pin: BoxPin<V, Held>,
+    ) -> Held
+        requires here { pin.section.domain ≡ self.old.domain.domain }
+        requires cell { AreBoxesOf self.old.domain boxes.now }
+        requires pin { IsPinOf boxes.now pin }
+        ensures same { IsSameWorker self.old self.new }
+        ensures catches { CatchesUp pin.section pin.found self.old.cpu.cpu self.new.cpu.cpu }
+        ensures held { result ≡ pin.section }
+        ensures rest { self.new.cpu ≡ with_cpu self.new.cpu.cpu self.old.cpu }
+    {
+        boxes.release_held(&mut self.cpu, pin)
     }
 
     /// Replaces the value that is there (`rcu_assign_pointer`) by one of any size, in a box, and asks for the grace period

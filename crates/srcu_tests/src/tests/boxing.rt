@@ -51,96 +51,189 @@ fn put<R: Wait>(
     }
 }
 
-/// What was shown before the first table and after each of three, and what came back at each put and after the last one was
-/// retired.
-type Came = ([Option<u64>; 4], [Option<u64>; 3], [Option<u64>; 3]);
+/// The first rule of a table that came back, or 0.
+fn number_of(back: Option<Box<Vec<u64>>>) -> u64 {
+    match back {
+        Some(rules) => rules.first().copied().unwrap_or(0),
+        None => 0,
+    }
+}
 
-/// Puts three tables, and shows each on the other worker.
-fn put_three<R: Wait>(
+/// Puts a table, and shows it on the other worker. Returns what came back, and what was shown.
+fn put_and_show<R: Wait>(
     rt: &R,
     one: &mut Worker<'_, u64>,
     other: &mut Worker<'_, u64>,
-    writer: &mut BoxWriter<Vec<u64>>,
-    rules: &mut Boxes<Vec<u64>>,
-    alloc: Global,
-) -> Result<Came, Refusal>
+    cell: &mut Cell,
+    number: u64,
+) -> Result<[u64; 2], Refusal>
     requires domain { other.old.domain ≡ one.old.domain }
-    requires cell { IsBoxWriterOf one.old.domain writer.old × AreBoxesOf one.old.domain rules.old }
+    requires cell { IsBoxWriterOf one.old.domain cell.old.loose.writer × AreBoxesOf one.old.domain cell.old.boxes }
+    ensures domain { (one.new.domain ≡ one.old.domain) × (other.new.domain ≡ other.old.domain) }
+    ensures cell { IfOk result (λ _. IsBoxWriterOf one.old.domain cell.new.loose.writer × AreBoxesOf one.old.domain cell.new.boxes) }
 {
-    let before = last_of(other, rules)?;
-    let first = put(rt, one, writer, alloc, 1)?;
-    let one_shown = last_of(other, rules)?;
-    let second = put(rt, one, writer, alloc, 2)?;
-    let two_shown = last_of(other, rules)?;
-    let third = put(rt, one, writer, alloc, 3)?;
-    let shown = [before, one_shown, two_shown, last_of(other, rules)?];
-    let retired = one.retire(writer).is_some();
-    one.synchronize(rt)?;
-    let left = [
-        number_of(one.reclaim(writer)),
-        number_of(one.reclaim(writer)),
-        number_of(one.reclaim(writer)),
-    ];
-    if !retired {
+    let back = put(rt, one, &mut cell.loose.writer, cell.alloc, number)?;
+    let shown = last_of(other, &mut cell.boxes)?;
+    Ok([back.unwrap_or(0), shown.unwrap_or(0)])
+}
+
+/// Retires the last table, and waits. Returns the first rules of what comes back then, or 0.
+fn take_back<R: Wait>(
+    rt: &R,
+    worker: &mut Worker<'_, u64>,
+    writer: &mut BoxWriter<Vec<u64>>,
+) -> Result<[u64; 3], Refusal>
+    requires { IsBoxWriterOf worker.old.domain writer.old }
+{
+    if worker.retire(writer).is_none() {
         return Err(Refusal::NoSlot);
     }
-    Ok((shown, [first, second, third], left))
+    worker.synchronize(rt)?;
+    let first = number_of(worker.reclaim(writer));
+    let second = number_of(worker.reclaim(writer));
+    Ok([first, second, number_of(worker.reclaim(writer))])
 }
 
-/// The first rule of a table that came back.
-fn number_of(back: Option<Box<Vec<u64>>>) -> Option<u64> {
-    match back {
-        Some(rules) => rules.first().copied(),
-        None => None,
-    }
-}
-
-/// A worker's boxes, whose writer may be dropped.
-fn boxes_of(
-    worker: &mut Worker<'_, u64>,
+/// A cell of tables, whose writer may be dropped.
+#[derive(Drop)]
+struct Cell {
     alloc: Global,
-    writer: Writer,
-) -> Result<(LooseBoxWriter<Vec<u64>>, Boxes<Vec<u64>>), Refusal>
+    loose: LooseBoxWriter<Vec<u64>>,
+    boxes: Boxes<Vec<u64>>,
+}
+
+/// Makes a writer's cell one of tables.
+fn cell_of(worker: &mut Worker<'_, u64>, alloc: Global, writer: Writer) -> Result<Cell, Refusal>
     requires { IsWriterOf worker.old.domain writer }
     ensures worker { worker.new.domain ≡ worker.old.domain }
-    ensures boxes { IfOk result (λ b. IsBoxWriterOf worker.old.domain b.0.writer × AreBoxesOf worker.old.domain b.1) }
+    ensures cell { IfOk result (λ c. IsBoxWriterOf worker.old.domain c.loose.writer × AreBoxesOf worker.old.domain c.boxes) }
 {
     match worker.boxes(alloc, writer) {
-        Ok((writer, boxes)) => Ok((LooseBoxWriter::new(writer), boxes)),
+        Ok((writer, boxes)) => Ok(Cell {
+            alloc,
+            loose: LooseBoxWriter::new(writer),
+            boxes,
+        }),
         Err(_) => Err(Refusal::Memory),
     }
 }
 
-fn boxed<R: Wait + AllocGlobal>(rt: &R) -> Result<Came, Refusal> {
+/// Two workers, and a cell of tables.
+fn two_of<'a>(
+    team: &mut Team<'a, u64>,
+    alloc: Global,
+) -> Result<(Worker<'a, u64>, Worker<'a, u64>, Cell), Refusal>
+    ensures workers { IfOk result (λ r. (r.0.domain ≡ team.old.domain) × (r.1.domain ≡ team.old.domain)) }
+    ensures cell { IfOk result (λ r. IsBoxWriterOf team.old.domain r.2.loose.writer × AreBoxesOf team.old.domain r.2.boxes) }
+{
+    let writer = team.writer().ok_or(Refusal::NoWriter)?;
+    let mut one = team.worker().ok_or(Refusal::NoWorker)?;
+    let cell = cell_of(&mut one, alloc, writer)?;
+    let other = team.worker().ok_or(Refusal::NoWorker)?;
+    Ok((one, other, cell))
+}
+
+/// What came back at each of three puts, what was shown then, and what came back in the end.
+fn put_three<R: Wait + AllocGlobal>(
+    rt: &R,
+    team: &mut Team<'_, u64>,
+) -> Result<([[u64; 2]; 3], [u64; 3]), Refusal> {
+    let (mut one, mut other, mut cell) = two_of(team, rt.alloc())?;
+    let first = put_and_show(rt, &mut one, &mut other, &mut cell, 1)?;
+    let second = put_and_show(rt, &mut one, &mut other, &mut cell, 2)?;
+    let third = put_and_show(rt, &mut one, &mut other, &mut cell, 3)?;
+    let left = take_back(rt, &mut one, &mut cell.loose.writer)?;
+    Ok(([first, second, third], left))
+}
+
+/// The same in a domain of its own.
+fn put_three_apart<R: Wait + AllocGlobal>(rt: &R) -> Result<([[u64; 2]; 3], [u64; 3]), Refusal> {
     let (domain, cpus, writers) = make(rt.alloc(), 2, Limits { cells: 1, ..WIDEST })?;
     let mut team = Team::new(&domain, cpus, writers);
-    let mut one = team.worker().ok_or(Refusal::NoWorker)?;
-    let mut other = team.worker().ok_or(Refusal::NoWorker)?;
-    let writer = team.writer().ok_or(Refusal::NoWriter)?;
-    let (mut loose, mut rules) = boxes_of(&mut one, rt.alloc(), writer)?;
-    let mut others = other.another(&mut rules)?;
-    put_three(
-        rt,
-        &mut one,
-        &mut other,
-        &mut loose.writer,
-        &mut others,
-        rt.alloc(),
-    )
+    put_three(rt, &mut team)
 }
 
 /// Would catch a table that isn't shown, an old one that is shown, and one that comes back twice, early or never.
 #[test]
 fn replaces_boxes(rt: HostRuntime) -> Result<(), Fail> {
-    match boxed(&rt) {
-        Ok(came) => assert_eq!(rt;
-            came,
-            (
-                [None, Some(1), Some(2), Some(3)],
-                [None, None, Some(1)],
-                [Some(2), Some(3), None]
-            )
-        ),
+    match put_three_apart(&rt) {
+        Ok((put, left)) => {
+            assert_eq!(rt; put, [[0, 1], [0, 2], [1, 3]]);
+            assert_eq!(rt; left, [2, 3, 0]);
+        }
+        Err(refusal) => panic!(rt; "{refusal}"),
+    }
+    Ok(())
+}
+
+/// What is shown of a cell with no table, in a held section.
+const NO_TABLE: [u64; 2] = [0, 0];
+
+/// What a pin of a held section shows before another table is put, and after it. The section ends on the other worker.
+fn hold_over(
+    one: &mut Worker<'_, u64>,
+    other: &mut Worker<'_, u64>,
+    cell: &mut Cell,
+    next: Vec<u64>,
+) -> Result<[u64; 2], Refusal>
+    requires domain { other.old.domain ≡ one.old.domain }
+    requires cell { IsBoxWriterOf one.old.domain cell.old.loose.writer × AreBoxesOf one.old.domain cell.old.boxes }
+    ensures domain { (one.new.domain ≡ one.old.domain) × (other.new.domain ≡ other.old.domain) }
+    ensures cell { IfOk result (λ _. IsBoxWriterOf one.old.domain cell.new.loose.writer × AreBoxesOf one.old.domain cell.new.boxes) }
+{
+    let held = one.down_read()?;
+    match one.find_held_box(&mut cell.boxes, held) {
+        Ok(pin) => {
+            let before = first_in(pin.get());
+            let _older = other.replace_box(cell.alloc, &mut cell.loose.writer, next);
+            let behind = first_in(pin.get());
+            let held = other.release_held_box(&cell.boxes, pin);
+            other.up_read(held);
+            Ok([before, behind])
+        }
+        Err(held) => {
+            one.up_read(held);
+            Ok(NO_TABLE)
+        }
+    }
+}
+
+/// The first rule of a table, or 0.
+fn first_in(rules: &Vec<u64>) -> u64 {
+    rules.first().copied().unwrap_or(0)
+}
+
+/// What a held section shows where no table is there, and where another is put meanwhile, and what comes back in the end.
+fn hold_twice<R: Wait + AllocGlobal>(
+    rt: &R,
+    team: &mut Team<'_, u64>,
+) -> Result<([[u64; 2]; 2], [u64; 3]), Refusal> {
+    let (mut one, mut other, mut cell) = two_of(team, rt.alloc())?;
+    let none = hold_over(&mut one, &mut other, &mut cell, Vec::new(rt.alloc()))?;
+    put(rt, &mut one, &mut cell.loose.writer, rt.alloc(), 1)?;
+    let next = rules_of(rt.alloc(), 2)?;
+    let shown = hold_over(&mut one, &mut other, &mut cell, next)?;
+    one.synchronize(rt)?;
+    let left = take_back(rt, &mut one, &mut cell.loose.writer)?;
+    Ok(([none, shown], left))
+}
+
+/// The same in a domain of its own.
+fn hold_twice_apart<R: Wait + AllocGlobal>(rt: &R) -> Result<([[u64; 2]; 2], [u64; 3]), Refusal> {
+    let (domain, cpus, writers) = make(rt.alloc(), 2, Limits { cells: 1, ..WIDEST })?;
+    let mut team = Team::new(&domain, cpus, writers);
+    hold_twice(rt, &mut team)
+}
+
+/// Would catch a held section in which no box is found, or another one than before, and a box that never comes back once
+/// the section has ended on the other worker.
+#[test]
+fn a_held_section_keeps_its_box(rt: HostRuntime) -> Result<(), Fail> {
+    match hold_twice_apart(&rt) {
+        Ok((shown, left)) => {
+            assert_eq!(rt; shown, [NO_TABLE, [1, 1]]);
+            assert_eq!(rt; (left[0].saturating_add(left[1]), left[2]), (3, 0));
+        }
         Err(refusal) => panic!(rt; "{refusal}"),
     }
     Ok(())
@@ -148,6 +241,35 @@ fn replaces_boxes(rt: HostRuntime) -> Result<(), Fail> {
 
 /// Puts two tables in a cell of two slots, and doesn't wait. What the second one was refused for, and what its first rule is.
 fn put_too_soon<R: Wait + AllocGlobal>(
+    rt: &R,
+    worker: &mut Worker<'_, u64>,
+    writer: Writer,
+) -> Result<Option<(BoxRefusal, Option<u64>)>, Refusal>
+    requires { IsWriterOf worker.old.domain writer }
+{
+    let first = rules_of(rt.alloc(), 1)?;
+    let second = rules_of(rt.alloc(), 2)?;
+    let mut cell = cell_of(worker, rt.alloc(), writer)?;
+    worker.synchronize(rt)?;
+    worker.replace_box(cell.alloc, &mut cell.loose.writer, first)?;
+    match worker.replace_box(cell.alloc, &mut cell.loose.writer, second) {
+        Ok(_) => Ok(None),
+        Err((rules, refusal)) => Ok(Some((refusal, rules.last().copied()))),
+    }
+}
+
+/// The same with a worker of the team.
+fn put_too_soon_by<R: Wait + AllocGlobal>(
+    rt: &R,
+    team: &mut Team<'_, u64>,
+) -> Result<Option<(BoxRefusal, Option<u64>)>, Refusal> {
+    let writer = team.writer().ok_or(Refusal::NoWriter)?;
+    let mut worker = team.worker().ok_or(Refusal::NoWorker)?;
+    put_too_soon(rt, &mut worker, writer)
+}
+
+/// The same in a domain of its own.
+fn put_too_soon_apart<R: Wait + AllocGlobal>(
     rt: &R,
 ) -> Result<Option<(BoxRefusal, Option<u64>)>, Refusal> {
     let limits = Limits {
@@ -157,22 +279,13 @@ fn put_too_soon<R: Wait + AllocGlobal>(
     };
     let (domain, cpus, writers) = make(rt.alloc(), 1, limits)?;
     let mut team = Team::new(&domain, cpus, writers);
-    let mut worker = team.worker().ok_or(Refusal::NoWorker)?;
-    let writer = team.writer().ok_or(Refusal::NoWriter)?;
-    let (mut loose, _boxes) = boxes_of(&mut worker, rt.alloc(), writer)?;
-    worker.synchronize(rt)?;
-    worker.replace_box(rt.alloc(), &mut loose.writer, rules_of(rt.alloc(), 1)?)?;
-    let second = rules_of(rt.alloc(), 2)?;
-    match worker.replace_box(rt.alloc(), &mut loose.writer, second) {
-        Ok(_) => Ok(None),
-        Err((rules, refusal)) => Ok(Some((refusal, rules.last().copied()))),
-    }
+    put_too_soon_by(rt, &mut team)
 }
 
 /// Would catch a box that is put where a section may still read, and a value that is lost where it can't be put.
 #[test]
 fn hands_a_value_back(rt: HostRuntime) -> Result<(), Fail> {
-    match put_too_soon(&rt) {
+    match put_too_soon_apart(&rt) {
         Ok(refused) => assert_eq!(rt; refused, Some((BoxRefusal::NoSlot, Some(2)))),
         Err(refusal) => panic!(rt; "{refusal}"),
     }
