@@ -1,6 +1,7 @@
 -- What a put tells, of what each of its calls tells.
-use Rattle.std.proofs.Common.{◌≡◌, ℕ, ◌<◌, refl, sym, ap, ◌∙◌, subst}
+use Rattle.std.proofs.Common.{◌≡◌, ℕ, ◌<◌, set, refl, sym, ap, ◌∙◌, subst}
 use Rattle.sections.specs.declared.view.Offer.{Offer}
+use Rattle.sections.specs.declared.writer.Standing.TheVariants.{Out}
 use Rattle.sections.specs.Shelves.{offer_of}
 use Rattle.sections.specs.Boxes.{bank_in}
 use Rattle.sections.specs.WriterViews.{WriterView, SlotView}
@@ -35,15 +36,23 @@ module _ {V A : Type 0} where
   pub taken_same : (x : ℕ) (s : SlotView) (w taken : BoxWriterView V A) (at : WriterView) → TakesFree x w taken s → at ≡ taken.writer → IsSameWriter w.writer at
   taken_same x s w taken at takes is = subst (λ (z : WriterView). IsSameWriter w.writer z) (sym is) takes.gives.1.same
 
+  -- and the slot is out
+  pub taken_out : (x : ℕ) (s : SlotView) (w taken : BoxWriterView V A) (at : WriterView) → TakesFree x w taken s → at ≡ taken.writer → at.standings ≡ set w.writer.standings s.slot Out
+  taken_out x s w taken at takes is = ap (λ (z : WriterView). z.standings) is ∙ takes.gives.1.standings
+
+pub same_standings : (x : ℕ) (w w' : WriterView) → IsSameBut x w w' → w'.standings ≡ w.standings
+same_standings x w w' h = ap (λ (z : WriterView). z.standings) h.rest
+
 module _ {V A J : Type 0} where
   -- the slot that was taken was filled and put
-  abbrev pub puts_version : (cookie : ℕ) (s : SlotView) (w taken w' : BoxWriterView V A) (filled : WriterView) (c c' : CpuView J) → TakesFree s.slot w taken s → IsSameWriter w.writer filled → PutsAndAsks s.slot cookie filled c w'.writer c' → w'.processors ≡ w.processors → w'.vault ≡ w.vault → PutsVersion cookie w c w' c'
-  puts_version cookie s w taken w' filled c c' takes same puts many vault = record {
+  abbrev pub puts_version : (cookie : ℕ) (s : SlotView) (w taken w' : BoxWriterView V A) (filled : WriterView) (c c' : CpuView J) → TakesFree s.slot w taken s → IsSameWriter w.writer filled → filled.standings ≡ set w.writer.standings s.slot Out → PutsAndAsks s.slot cookie filled c w'.writer c' → w'.processors ≡ w.processors → w'.vault ≡ w.vault → PutsVersion cookie w c w' c'
+  puts_version cookie s w taken w' filled c c' takes same standings puts many vault = record {
     slot = s.slot;
     inside = subst (λ (n : ℕ). s.slot < n) takes.gives.1.same.slots takes.gives.1.own.inside;
     free = (takes.none, takes.gives.1.blank);
     filled = filled;
     same = same;
+    standings = standings;
     puts = puts;
     cell = λ i. record { domain = (puts.puts.domain ∙ same.domain) i; cell = (puts.puts.cell ∙ same.cell) i; processors = many i; vault = vault i };
   }
@@ -52,6 +61,6 @@ module _ {V A J : Type 0} where
   pub round_put : (cookie round x : ℕ) (w : BoxWriterView V A) (filled put : WriterView) (c c' : CpuView J) → IsSameWriter w.writer filled → (bank_in filled x).round ≡ round → PutsAndAsks x cookie filled c put c' → (offer_of w.writer.cell put.version c'.cpu.texts).round ≡ round
   round_put cookie round x w filled put c c' same is puts = subst (λ (k : ℕ). (offer_of k put.version c'.cpu.texts).round ≡ round) same.cell (ap (λ (o : Offer). o.round) puts.puts.offers ∙ is)
 
-  -- or none
-  pub none_put : (cookie x : ℕ) (w : BoxWriterView V A) (filled put : WriterView) (c c' : CpuView J) → IsSameWriter w.writer filled → (bank_in filled x).laid ≡ 0 → PutsAndAsks x cookie filled c put c' → (offer_of w.writer.cell put.version c'.cpu.texts).laid ≡ 0
-  none_put cookie x w filled put c c' same none puts = subst (λ (k : ℕ). (offer_of k put.version c'.cpu.texts).laid ≡ 0) same.cell (ap (λ (o : Offer). o.laid) puts.puts.offers ∙ none)
+  -- so many of them
+  pub laid_put : (cookie count x : ℕ) (w : BoxWriterView V A) (filled put : WriterView) (c c' : CpuView J) → IsSameWriter w.writer filled → (bank_in filled x).laid ≡ count → PutsAndAsks x cookie filled c put c' → (offer_of w.writer.cell put.version c'.cpu.texts).laid ≡ count
+  laid_put cookie count x w filled put c c' same is puts = subst (λ (k : ℕ). (offer_of k put.version c'.cpu.texts).laid ≡ count) same.cell (ap (λ (o : Offer). o.laid) puts.puts.offers ∙ is)

@@ -13,7 +13,7 @@ use Rattle.sections.specs.Calls.{IsSameCpu, Hears}
 use Rattle.sections.specs.Reads.{Finds}
 use Rattle.sections.specs.Loans.{CatchesUp, OffersBy}
 use Rattle.sections.specs.Boxes.{KnowsVault}
-use Rattle.sections.proofs.CallerLemmas.{vault_stays, finds_offer}
+use Rattle.sections.proofs.CallerLemmas.{start_trans, vault_stays, finds_offer}
 use Rattle.boxes.specs.Boxes.{BoxesView, PinView}
 use Rattle.boxes.specs.Reading.{FindsVersion, FindsBox, FindsNoBox}
 
@@ -29,6 +29,9 @@ finds_version cell r f c caught at c' seen reached hears finds behind = record {
   same = same_both c caught c' hears.looks.same (same_both caught at c' finds.adds.same behind.same);
   since = beginning_trans hears.looks.since (beginning_trans (beginning_trans finds.adds.since (record { rest = event ∷ []; whole = finds.adds.seen })) behind.since);
   mine = behind.mine ∙ (finds.adds.mine ∙ (ap (λ l. l ++ event ∷ []) hears.looks.mine ∙ ap (λ p. c.mine ++ Find r.section cell f.slot f.version (Processor p) ∷ []) hears.looks.same.3));
+  index = hears.value;
+  steps = behind.steps ∙ (finds.adds.steps ∙ hears.looks.steps);
+  texts = subst (IsStart c.texts) (sym (ap (λ (z : FoundView). z.texts) finds.found_is)) (start_trans hears.looks.texts finds.adds.texts);
   not_older = (let up = versions_since cell c.seen caught.seen hears.looks.since hears.looks.history.legal in let old = finds.not_older in omega (arith, up, old));
   caught = caught;
   at = at;

@@ -1,7 +1,7 @@
 -- What the writer of a cell of boxes does.
-use Rattle.std.specs.Prelude.{◌≡◌, ◌≢◌, ℕ, ◌^◌, ◌<◌, ◌≤◌, ◌⊎◌, Option, Some, None, MatchOption, Box, slice_set}
+use Rattle.std.specs.Prelude.{◌≡◌, ◌≢◌, ℕ, ◌*◌, ◌^◌, ◌<◌, ◌≤◌, ◌⊎◌, Option, Some, None, MatchOption, Box, slice_set}
 use Rattle.std_alloc.specs.Box.{box_allocator}
-use Rattle.sections.specs.declared.writer.Standing.TheVariants.{Blank}
+use Rattle.sections.specs.declared.writer.Standing.TheVariants.{Blank, Out}
 use Rattle.sections.specs.Banks.{no_plan}
 use Rattle.sections.specs.Shelves.{offer_of}
 use Rattle.sections.specs.Views as sections
@@ -10,7 +10,7 @@ use Rattle.sections.specs.Writers.{IsSameWriter, Reclaims, standing_of}
 use Rattle.domain.specs.Views.{CpuView, with_cpu}
 use Rattle.domain.specs.Writers.{PutsAndAsks}
 use Rattle.boxes.specs.Boxes.{Stored, BoxWriterView, cell_of, stored_at}
-use Rattle.boxes.specs.Laying.{IsNotFree}
+use Rattle.boxes.specs.Laying.{IsNotFree, share}
 
 -- no key was laid in the cell yet
 abbrev pub IsPlain : WriterView → Type 0
@@ -38,13 +38,14 @@ module _ {V A : Type 0} where
   abbrev pub IsNotBack : BoxWriterView V A → ℕ → Type 0
   IsNotBack w x = (stored_at w x ≡ None) ⊎ (standing_of w.writer x ≢ Blank)
 
-  -- the slot was blank, and its box came back. So the slot is free
+  -- the slot was blank, and its box came back. So the slot is free. It was given out, and given back: each other one stands as it did
   pub record TakesBack (s : Stored V A) (x : ℕ) (w w' : BoxWriterView V A) : Type 0 where
     pub room : w.writer.version < 2 ^ 54
     pub blank : standing_of w.writer x ≡ Blank
     pub was : stored_at w x ≡ Some s
     pub stored : w'.stored ≡ slice_set w.stored x None
     pub free : standing_of w'.writer x ≡ Blank
+    pub standings : w'.writer.standings ≡ slice_set (slice_set w.writer.standings x Out) x Blank
     pub cell : cell_of w' ≡ cell_of w
     pub same : IsSameWriter w.writer w'.writer
 
@@ -71,21 +72,23 @@ module _ {V A : Type 0} where
   BringsBack back w c w' c' = MatchOption back (NoneComesBack w c w' c') (λ b. (s : Stored V A) × IsBoxOf b s × ComesBack s w c w' c')
 
   module _ {J : Type 0} where
-    -- a blank slot with no box was put, and just the cookie was asked for with which the slot that was current is retired
+    -- a blank slot with no box was given out and put, and just the cookie was asked for with which the slot that was current is retired
     pub record PutsVersion (cookie : ℕ) (w : BoxWriterView V A) (c : CpuView J) (w' : BoxWriterView V A) (c' : CpuView J) : Type 0 where
       pub slot : ℕ
       pub inside : slot < w.writer.slots
       pub free : (stored_at w slot ≡ None) × (standing_of w.writer slot ≡ Blank)
       pub filled : WriterView
       pub same : IsSameWriter w.writer filled
+      pub standings : filled.standings ≡ slice_set w.writer.standings slot Out
       pub puts : PutsAndAsks slot cookie filled c w'.writer c'
       pub cell : cell_of w' ≡ cell_of w
 
-    -- the version is of this box: whoever finds it reads the box's value
+    -- the version is of this box: whoever finds it reads the box's value. Each processor has its share of the box's parts
     pub record PutsBox (s : Stored V A) (cookie : ℕ) (w : BoxWriterView V A) (c : CpuView J) (w' : BoxWriterView V A) (c' : CpuView J) : Type 0 where
       pub version : PutsVersion cookie w c w' c'
       pub stored : w'.stored ≡ slice_set w.stored version.slot (Some s)
       pub round : (offer_of w.writer.cell w'.writer.version c'.cpu.texts).round ≡ s.round
+      pub laid : (offer_of w.writer.cell w'.writer.version c'.cpu.texts).laid ≡ w.processors * share
 
     -- the version has no box
     pub record PutsNone (cookie : ℕ) (w : BoxWriterView V A) (c : CpuView J) (w' : BoxWriterView V A) (c' : CpuView J) : Type 0 where

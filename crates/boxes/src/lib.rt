@@ -1,5 +1,5 @@
 //! Values of any type in a cell: `rcu_assign_pointer` and `srcu_dereference` for what lies in a box. Readers read it with
-//! no copy, and its writer gets the very box back once no section can read it any more.
+//! no copy. Its writer gets the box back, with its value, once no section can read it any more.
 #![tactic(auto)]
 
 mod held;

@@ -51,9 +51,8 @@ impl<V: Drop, A: Allocator> Boxes<V, A> {
         })
     }
 
-    /// Finds the box that is there (`srcu_dereference`), in the reading's section, which the pin then owns. The reading
-    /// comes back where there is none, or where no part of it is left at this processor. It takes no memory and does not
-    /// wait.
+    /// Finds the box that is there (`srcu_dereference`), in the reading's section. The pin owns the reading. It comes back
+    /// where there is no box, or fewer than two parts of it are left at this processor. It takes no memory and does not wait.
     pub fn find<J, B: Allocator>(
         &mut self,
         cpu: &mut Cpu<J, B>,
@@ -77,8 +76,8 @@ impl<V: Drop, A: Allocator> Boxes<V, A> {
         }
     }
 
-    /// Gives the reading of a pin back, on any processor of the domain. The box may then come back to its writer, after a
-    /// grace period. It takes no memory and does not wait.
+    /// Gives the reading of a pin back, on any processor of the domain. Once the section has ended, and a grace period after
+    /// that, the box may come back to its writer. It takes no memory and does not wait.
     pub fn release<J, B: Allocator>(&self, cpu: &mut Cpu<J, B>, pin: BoxPin<V>) -> Reading
         requires here { pin.section.domain ≡ cpu.old.cpu.domain }
         requires cell { IsCellOf cpu.old.cpu self.now }

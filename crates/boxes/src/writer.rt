@@ -39,9 +39,9 @@ impl<V, A: Allocator> Model for BoxWriter<V, A> {
 }
 
 impl<V: Drop, A: Allocator> BoxWriter<V, A> {
-    /// Puts a box as the next version (`rcu_assign_pointer`), and asks for the grace period after which no section reads the one
-    /// that was there: the answer is the number of its cookie. The box is handed back where no slot is free. It takes no
-    /// memory and does not wait.
+    /// Puts a box as the next version (`rcu_assign_pointer`). It asks for the grace period after which no section reads the one
+    /// that was there, and returns the number of that cookie. The box is handed back where no slot is free, or 2^54 versions
+    /// were put. It takes no memory and does not wait.
     pub fn put<J, B: Allocator>(
         &mut self,
         domain: &Domain<J, B>,
@@ -76,8 +76,8 @@ impl<V: Drop, A: Allocator> BoxWriter<V, A> {
         Ok(self.writer.put_and_ask(domain, cpu, slot))
     }
 
-    /// Puts a version with no box, so that the last one can come back. The answer is as that of [`BoxWriter::put`]; None
-    /// where no slot is free.
+    /// Puts a version with no box, so that the last one can come back. Returns what [`BoxWriter::put`] does, and None where
+    /// that hands its box back.
     pub fn retire<J, B: Allocator>(
         &mut self,
         domain: &Domain<J, B>,
@@ -98,7 +98,7 @@ impl<V: Drop, A: Allocator> BoxWriter<V, A> {
     }
 
     /// A box that no section can read any more, after a full grace period. It asks after the cookie of each retired slot,
-    /// once. None where no such box is left.
+    /// once. None where no such box is left, or 2^54 versions were put.
     pub fn reclaim<J, B: Allocator>(&mut self, cpu: &mut Cpu<J, B>) -> Option<Box<V, A>>
         requires cell { IsCellOf cpu.old.cpu (cell_of self.old) }
         ensures back { BringsBack result self.old cpu.old.cpu self.new cpu.new.cpu }
@@ -116,8 +116,8 @@ impl<V: Drop, A: Allocator> BoxWriter<V, A> {
         None
     }
 
-    /// Puts a box as [`BoxWriter::put`] does, and has an older one back first, if one can come back. The box is handed back
-    /// where no slot is free; then no other one came back.
+    /// Puts a box as [`BoxWriter::put`] does, and has an older one back first, if one can come back. Where the box is handed
+    /// back, no other one came back.
     pub fn replace<J, B: Allocator>(
         &mut self,
         domain: &Domain<J, B>,

@@ -70,19 +70,28 @@ fn a_number_comes_back(rt: HostRuntime) -> Result<(), Fail> {
     Ok(())
 }
 
-/// The number that a section finds within another one.
+/// The number that a section finds within another one, which has found it too.
 fn number_within(domain: &Domain<()>, boxes: &mut Boxes<u64>, cpu: &mut Cpu<()>) -> Option<u64>
     requires here { IsOf domain.now cpu.old }
     requires cell { IsCellIn domain.now boxes.old }
     ensures boxes { boxes.new ≡ boxes.old }
 {
     let outer = cpu.read_lock().ok()?;
-    let number = number_in(domain, boxes, cpu);
-    cpu.read_unlock(outer);
-    number
+    match boxes.find(cpu, outer) {
+        Ok(pin) => {
+            let number = number_in(domain, boxes, cpu);
+            let outer = boxes.release(cpu, pin);
+            cpu.read_unlock(outer);
+            number
+        }
+        Err(outer) => {
+            cpu.read_unlock(outer);
+            None
+        }
+    }
 }
 
-/// The number that is found on the last one of these processors, if one is left, which is taken from them.
+/// The number that is found on the last one of these processors. It is taken from them.
 fn number_on(domain: &Domain<()>, boxes: &mut Boxes<u64>, cpus: &mut Vec<Cpu<()>>) -> Option<u64>
     requires here { All (IsOf domain.now) cpus.old.items }
     requires cell { IsCellIn domain.now boxes.old }
@@ -413,7 +422,7 @@ fn hold_over(
     }
 }
 
-/// Would catch a held section that shows another box, and one that keeps it where the section ends on another processor.
+/// Would catch a held section that shows another box, and a box that never comes back if the section ends elsewhere.
 #[test]
 fn a_held_pin_ends_elsewhere(rt: HostRuntime) -> Result<(), Fail> {
     let number = Box::new(rt.alloc(), 7)?;
@@ -433,5 +442,62 @@ fn a_held_pin_ends_elsewhere(rt: HostRuntime) -> Result<(), Fail> {
         panic!(rt; "the box comes back");
     };
     assert_eq!(rt; *back, 7);
+    Ok(())
+}
+
+/// Finds the number on a processor, and gives the part back on another one. Returns the number.
+fn pay_elsewhere(
+    domain: &Domain<()>,
+    cpu: &mut Cpu<()>,
+    other: &mut Cpu<()>,
+    boxes: &mut Boxes<u64>,
+) -> Option<u64>
+    requires here { IsOf domain.now cpu.old }
+    requires there { IsOf domain.now other.old }
+    requires boxes { IsCellIn domain.now boxes.old }
+    ensures here { IsOf domain.now cpu.new }
+    ensures there { IsOf domain.now other.new }
+{
+    let reading = cpu.read_lock().ok()?;
+    match boxes.find(cpu, reading) {
+        Ok(pin) => {
+            let number = *pin.get();
+            let reading = boxes.release(other, pin);
+            cpu.read_unlock(reading);
+            Some(number)
+        }
+        Err(reading) => {
+            cpu.read_unlock(reading);
+            None
+        }
+    }
+}
+
+/// What a find shows whose part is given back on another processor, and the box that comes back then.
+fn paid_elsewhere(alloc: Global) -> Result<(Option<u64>, Option<u64>), Fail> {
+    let number = Box::new(alloc, 7)?;
+    let Place {
+        domain,
+        mut cpu,
+        mut others,
+        mut loose,
+        mut boxes,
+    } = place_of::<u64>(alloc, 2, 4)?;
+    let mut other = take_cpu(&domain, &mut others);
+    let _put = put(&domain, &mut cpu, &mut loose, number);
+    let shown = pay_elsewhere(&domain, &mut cpu, &mut other, &mut boxes);
+    let _retired = retire(&domain, &mut cpu, &mut loose);
+    drive(&domain, &mut cpu, 40);
+    let back = match reclaim(&domain, &mut other, &mut loose) {
+        Some(number) => Some(*number),
+        None => None,
+    };
+    Ok((shown, back))
+}
+
+/// Would catch a part that is lost where it is given back, so that its box never comes back.
+#[test]
+fn a_part_is_paid_elsewhere(rt: HostRuntime) -> Result<(), Fail> {
+    assert_eq!(rt; paid_elsewhere(rt.alloc())?, (Some(7), Some(7)));
     Ok(())
 }

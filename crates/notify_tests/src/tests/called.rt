@@ -11,8 +11,8 @@ use std::test::Fail;
 
 /// A handler that always gives the same result, in which the action and the value can be told.
 #[derive(Drop)]
-pub(super) struct Fixed {
-    pub(super) result: u32,
+struct Fixed {
+    result: u32,
 }
 
 impl Handler for Fixed {

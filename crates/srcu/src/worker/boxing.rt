@@ -48,8 +48,9 @@ impl<'a, J, A: Allocator> Worker<'a, J, A> {
         boxes.another(&self.cpu)
     }
 
-    /// Shows the value that is there to a closure (`srcu_dereference`), in a section of its own, and returns what the closure
-    /// returns: None where there is no box, or no part of it is left at this processor. The closure may sleep.
+    /// Shows the value that is there to a closure (`srcu_dereference`), in a section of its own. Returns what the closure
+    /// returns, or None where there is no box, or fewer than two parts of it are left at this processor. The closure may
+    /// sleep.
     pub fn show<V: Drop, B: Allocator, T, F: FnOnce(&V) -> T>(
         &mut self,
         boxes: &mut Boxes<V, B>,
@@ -67,9 +68,9 @@ impl<'a, J, A: Allocator> Worker<'a, J, A> {
         boxes.read(&mut self.cpu, show)
     }
 
-    /// Finds the value that is there in a held section (`srcu_dereference`), which the pin then owns: [`BoxPin::get`] shows the
-    /// value. The pin may go to another thread. The section comes back where there is no box, or no part of it is left at this
-    /// processor.
+    /// Finds the value that is there, in a held section (`srcu_dereference`): [`BoxPin::get`] shows it. The pin owns the
+    /// section, and may go to another thread. The section comes back where there is no box, or fewer than two parts of it are
+    /// left at this processor.
     pub fn find_held_box<V: Drop, B: Allocator>(
         &mut self,
         boxes: &mut Boxes<V, B>,
@@ -90,8 +91,8 @@ impl<'a, J, A: Allocator> Worker<'a, J, A> {
         boxes.find_held(&mut self.cpu, held)
     }
 
-    /// Gives the section of a pin back, wherever it began; [`Worker::up_read`] ends it. Its box may then come back to its
-    /// writer, after a grace period.
+    /// Gives the section of a pin back, wherever it began; [`Worker::up_read`] ends it. A grace period after that the box may
+    /// come back to its writer.
     pub fn release_held_box<V: Drop, B: Allocator>(
         &mut self,
         boxes: &Boxes<V, B>,
@@ -108,7 +109,7 @@ impl<'a, J, A: Allocator> Worker<'a, J, A> {
         boxes.release_held(&mut self.cpu, pin)
     }
 
-    /// Replaces the value that is there (`rcu_assign_pointer`) by one of any size, in a box, and asks for the grace period
+    /// Replaces the value that is there (`rcu_assign_pointer`) by one of any size, in a box. It asks for the grace period
     /// after which no section reads the old one. Returns an older box that no section can read any more, if there is one.
     /// The value comes back where it can't be put; then no box does.
     pub fn replace_box<V: Drop, B: Allocator>(
@@ -134,7 +135,7 @@ impl<'a, J, A: Allocator> Worker<'a, J, A> {
     }
 
     /// Puts a version with no box, so that the last one can come back, and asks for the grace period. Returns the number of
-    /// its cookie: None where no slot is free.
+    /// its cookie, or None where no slot is free, or 2^54 versions were put.
     pub fn retire<V: Drop, B: Allocator>(&mut self, writer: &mut BoxWriter<V, B>) -> Option<u64>
         requires { IsBoxWriterOf self.old.domain writer.old }
         ensures same { IsSameWorker self.old self.new }
@@ -146,7 +147,8 @@ impl<'a, J, A: Allocator> Worker<'a, J, A> {
         writer.retire(self.domain, &mut self.cpu)
     }
 
-    /// A box that no section can read any more, after a full grace period. None where no such box is left.
+    /// A box that no section can read any more, after a full grace period. None where no such box is left, or 2^54 versions
+    /// were put.
     pub fn reclaim<V: Drop, B: Allocator>(
         &mut self,
         writer: &mut BoxWriter<V, B>,

@@ -128,8 +128,9 @@ fn two_of<'a>(
 {
     let writer = team.writer().ok_or(Refusal::NoWriter)?;
     let mut one = team.worker().ok_or(Refusal::NoWorker)?;
-    let cell = cell_of(&mut one, alloc, writer)?;
     let other = team.worker().ok_or(Refusal::NoWorker)?;
+    let mut cell = cell_of(&mut one, alloc, writer)?;
+    cell.boxes = other.another(&mut cell.boxes)?;
     Ok((one, other, cell))
 }
 

@@ -2,13 +2,13 @@
 use Rattle.std.proofs.Common.{◌≡◌, ℕ, List, Option, Some, None, length, map, get_or, set, rules, sym, ap, ◌∙◌, subst}
 use Rattle.std.specs.Arc.{arc_value}
 use Rattle.std.proofs.lemmas.List.{length-set}
-use Rattle.sections.specs.declared.writer.Standing.TheVariants.{Blank}
+use Rattle.sections.specs.declared.writer.Standing.TheVariants.{Blank, Out}
 use Rattle.sections.specs.Writers.{standing_of}
 use Rattle.boxes.specs.declared.rest.Rest.{Rest}
 use Rattle.boxes.specs.Insides.{stored_of, AreLaid}
 use Rattle.boxes.proofs.Keeping.{stored_is, stored_set, set_nothing}
 use Rattle.boxes.proofs.Slots.{back_keeps, back_asks}
-use Rattle.boxes.proofs.Putting.{same_trans, same_writer}
+use Rattle.boxes.proofs.Putting.{same_trans, same_writer, same_standings}
 use Rattle.boxes.proofs.writer.BoxWriter.take_back.Goals as goal
 
 pub unwrap-deed-requires : goal.unwrap-deed-requires
@@ -70,6 +70,8 @@ returns g c =
         was = stored_is c.self.inside.rests c.args.slot ∙ ap stored_of some;
         stored = ap (map stored_of) c.take_at.ensures.row ∙ stored_set c.self.inside.rests c.args.slot None;
         free = subst (λ (x : ℕ). standing_of c.give_back.new.self x ≡ Blank) c.in_ok-given.ensures.0 (ap (λ l. get_or l c.in_ok-given.given.slot Blank) c.give_back.ensures.back.standings ∙ set_nothing _ c.in_ok-given.given.slot Blank);
+        standings = subst (λ (x : ℕ). c.give_back.new.self.standings ≡ set (set c.self.inside.writer.standings x Out) x Blank) c.in_ok-given.ensures.0
+            (c.give_back.ensures.back.standings ∙ ap (λ l. set l c.in_ok-given.given.slot Blank) (same_standings _ _ _ c.collect_all-all.ensures.collects.same ∙ gives.standings));
         cell = λ n. record { domain = same.domain n; cell = same.cell n; processors = c.self.inside.processors; vault = arc_value c.self.inside.vault };
         same = same;
       },

@@ -1,6 +1,6 @@
 -- The chain has the writer, and its view that writer's cell.
 use Rattle.std.proofs.Common.{◌≡◌, ap, ◌∙◌, subst, sym}
-use Rattle.shelf.specs.Cells.{CellView, IsCellIn}
+use Rattle.shelf.specs.Cells.{IsCellIn}
 use Rattle.notify.specs.Chains.{ChainState, ChainCell}
 use Rattle.notify_tests.proofs.tests.world.World.with_writer.Goals as goal
 
