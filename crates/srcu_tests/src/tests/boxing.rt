@@ -134,24 +134,37 @@ fn two_of<'a>(
     Ok((one, other, cell))
 }
 
-/// What came back at each of three puts, what was shown then, and what came back in the end.
-fn put_three<R: Wait + AllocGlobal>(
+/// What came back at each of three puts and was shown then, and what came back in the end.
+type Came = ([[u64; 2]; 3], [u64; 3]);
+
+/// Puts three tables, and has them back.
+fn put_three<R: Wait>(
     rt: &R,
-    team: &mut Team<'_, u64>,
-) -> Result<([[u64; 2]; 3], [u64; 3]), Refusal> {
-    let (mut one, mut other, mut cell) = two_of(team, rt.alloc())?;
-    let first = put_and_show(rt, &mut one, &mut other, &mut cell, 1)?;
-    let second = put_and_show(rt, &mut one, &mut other, &mut cell, 2)?;
-    let third = put_and_show(rt, &mut one, &mut other, &mut cell, 3)?;
-    let left = take_back(rt, &mut one, &mut cell.loose.writer)?;
+    one: &mut Worker<'_, u64>,
+    other: &mut Worker<'_, u64>,
+    cell: &mut Cell,
+) -> Result<Came, Refusal>
+    requires domain { other.old.domain ≡ one.old.domain }
+    requires cell { IsBoxWriterOf one.old.domain cell.old.loose.writer × AreBoxesOf one.old.domain cell.old.boxes }
+{
+    let first = put_and_show(rt, one, other, cell, 1)?;
+    let second = put_and_show(rt, one, other, cell, 2)?;
+    let third = put_and_show(rt, one, other, cell, 3)?;
+    let left = take_back(rt, one, &mut cell.loose.writer)?;
     Ok(([first, second, third], left))
 }
 
+/// The same with workers of the team.
+fn put_three_by<R: Wait + AllocGlobal>(rt: &R, team: &mut Team<'_, u64>) -> Result<Came, Refusal> {
+    let (mut one, mut other, mut cell) = two_of(team, rt.alloc())?;
+    put_three(rt, &mut one, &mut other, &mut cell)
+}
+
 /// The same in a domain of its own.
-fn put_three_apart<R: Wait + AllocGlobal>(rt: &R) -> Result<([[u64; 2]; 3], [u64; 3]), Refusal> {
+fn put_three_apart<R: Wait + AllocGlobal>(rt: &R) -> Result<Came, Refusal> {
     let (domain, cpus, writers) = make(rt.alloc(), 2, Limits { cells: 1, ..WIDEST })?;
     let mut team = Team::new(&domain, cpus, writers);
-    put_three(rt, &mut team)
+    put_three_by(rt, &mut team)
 }
 
 /// Would catch a table that isn't shown, an old one that is shown, and one that comes back twice, early or never.
@@ -175,13 +188,14 @@ fn hold_over(
     one: &mut Worker<'_, u64>,
     other: &mut Worker<'_, u64>,
     cell: &mut Cell,
-    next: Vec<u64>,
+    next: u64,
 ) -> Result<[u64; 2], Refusal>
     requires domain { other.old.domain ≡ one.old.domain }
     requires cell { IsBoxWriterOf one.old.domain cell.old.loose.writer × AreBoxesOf one.old.domain cell.old.boxes }
     ensures domain { (one.new.domain ≡ one.old.domain) × (other.new.domain ≡ other.old.domain) }
     ensures cell { IfOk result (λ _. IsBoxWriterOf one.old.domain cell.new.loose.writer × AreBoxesOf one.old.domain cell.new.boxes) }
 {
+    let next = rules_of(cell.alloc, next)?;
     let held = one.down_read()?;
     match one.find_held_box(&mut cell.boxes, held) {
         Ok(pin) => {
@@ -205,25 +219,40 @@ fn first_in(rules: &Vec<u64>) -> u64 {
 }
 
 /// What a held section shows where no table is there, and where another is put meanwhile, and what comes back in the end.
-fn hold_twice<R: Wait + AllocGlobal>(
+type Shown = ([[u64; 2]; 2], [u64; 3]);
+
+/// Holds a section over no table, and one over a table.
+fn hold_twice<R: Wait>(
     rt: &R,
-    team: &mut Team<'_, u64>,
-) -> Result<([[u64; 2]; 2], [u64; 3]), Refusal> {
-    let (mut one, mut other, mut cell) = two_of(team, rt.alloc())?;
-    let none = hold_over(&mut one, &mut other, &mut cell, Vec::new(rt.alloc()))?;
-    put(rt, &mut one, &mut cell.loose.writer, rt.alloc(), 1)?;
-    let next = rules_of(rt.alloc(), 2)?;
-    let shown = hold_over(&mut one, &mut other, &mut cell, next)?;
+    one: &mut Worker<'_, u64>,
+    other: &mut Worker<'_, u64>,
+    cell: &mut Cell,
+) -> Result<Shown, Refusal>
+    requires domain { other.old.domain ≡ one.old.domain }
+    requires cell { IsBoxWriterOf one.old.domain cell.old.loose.writer × AreBoxesOf one.old.domain cell.old.boxes }
+{
+    let none = hold_over(one, other, cell, 0)?;
+    put(rt, one, &mut cell.loose.writer, cell.alloc, 1)?;
+    let shown = hold_over(one, other, cell, 2)?;
     one.synchronize(rt)?;
-    let left = take_back(rt, &mut one, &mut cell.loose.writer)?;
+    let left = take_back(rt, one, &mut cell.loose.writer)?;
     Ok(([none, shown], left))
 }
 
+/// The same with workers of the team.
+fn hold_twice_by<R: Wait + AllocGlobal>(
+    rt: &R,
+    team: &mut Team<'_, u64>,
+) -> Result<Shown, Refusal> {
+    let (mut one, mut other, mut cell) = two_of(team, rt.alloc())?;
+    hold_twice(rt, &mut one, &mut other, &mut cell)
+}
+
 /// The same in a domain of its own.
-fn hold_twice_apart<R: Wait + AllocGlobal>(rt: &R) -> Result<([[u64; 2]; 2], [u64; 3]), Refusal> {
+fn hold_twice_apart<R: Wait + AllocGlobal>(rt: &R) -> Result<Shown, Refusal> {
     let (domain, cpus, writers) = make(rt.alloc(), 2, Limits { cells: 1, ..WIDEST })?;
     let mut team = Team::new(&domain, cpus, writers);
-    hold_twice(rt, &mut team)
+    hold_twice_by(rt, &mut team)
 }
 
 /// Would catch a held section in which no box is found, or another one than before, and a box that never comes back once
