@@ -172,11 +172,9 @@ fn put_three_apart<R: Wait + AllocGlobal>(rt: &R) -> Result<Came, Refusal> {
 fn replaces_boxes(rt: HostRuntime) -> Result<(), Fail> {
     match put_three_apart(&rt) {
         Ok((put, left)) => {
-            let [first, second, third] = put;
-            assert_eq!(rt; first, [0, 1]);
-            assert_eq!(rt; second, [0, 2]);
-            assert_eq!(rt; third, [1, 3]);
-            assert_eq!(rt; left, [2, 3, 0]);
+            assert_eq!(rt; (put[0][0], put[1][0], put[2][0]), (0, 0, 1)); // what came back
+            assert_eq!(rt; (put[0][1], put[1][1], put[2][1]), (1, 2, 3)); // what was shown
+            assert_eq!(rt; (left[0], left[1], left[2]), (2, 3, 0));
         }
         Err(refusal) => panic!(rt; "{refusal}"),
     }
@@ -264,9 +262,8 @@ fn hold_twice_apart<R: Wait + AllocGlobal>(rt: &R) -> Result<Shown, Refusal> {
 fn a_held_section_keeps_its_box(rt: HostRuntime) -> Result<(), Fail> {
     match hold_twice_apart(&rt) {
         Ok((shown, left)) => {
-            let [none, shown] = shown;
-            assert_eq!(rt; none, NO_TABLE);
-            assert_eq!(rt; shown, [1, 1]);
+            assert_eq!(rt; (shown[0][0], shown[0][1]), (0, 0));
+            assert_eq!(rt; (shown[1][0], shown[1][1]), (1, 1));
             assert_eq!(rt; (left[0].saturating_add(left[1]), left[2]), (3, 0));
         }
         Err(refusal) => panic!(rt; "{refusal}"),
