@@ -8,7 +8,7 @@ use Rattle.sections.specs.Loans.{CatchesUp}
 use Rattle.boxes.specs.Boxes.{BoxesView, PinView}
 use Rattle.boxes.specs.Reading.{FindsBox, FindsNoBox}
 
--- a section began, found no box, and ended. The closure did not run
+-- a section began, found no box, and ended
 pub record ShowsNone (b : BoxesView) (c c' : CpuView) : Type 0 where
   pub begun : CpuView
   pub section : ReadingView

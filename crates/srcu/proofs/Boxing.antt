@@ -3,13 +3,13 @@ use Rattle.std.proofs.Common.{◌≡◌, ℕ, Option, Some, None, Result, Ok, Er
 use Rattle.std.specs.Prelude.{Box}
 use Rattle.std.specs.Fn.{Once}
 use denote.Ref.{Bor}
+use Rattle.atomic_table.specs.Seated.{TableId}
 use Rattle.onedom.specs.declared.event.Event.TheVariants.{Find}
 use Rattle.onedom.specs.declared.event.Maker.TheVariants.{Processor}
 use Rattle.onedom.specs.Histories.{open_sections}
 use Rattle.onedom.proofs.CallerLemmas.{open_sections_plain}
 use Rattle.sections.specs.Views as sections
 use Rattle.sections.specs.Views.{ReadingView, FoundView}
-use Rattle.atomic_table.specs.Seated.{TableId}
 use Rattle.sections.specs.Calls.{LooksInVain}
 use Rattle.sections.specs.Loans.{CatchesUp}
 use Rattle.sections.specs.WriterViews.{WriterView}
@@ -43,8 +43,8 @@ module _ {V : Type 0} where
   same_held b h c c' (Ok p) f = same_version b.cell h p.found c c' f.finds
   same_held b h c c' (Err back) f = same_version b.cell h f.found c c' f.finds
 
-  pub none_held : {J : Type 0} (b : BoxesView) (h : ReadingView) (c c' : CpuView J) (r : Result (PinView V) ReadingView) → MatchResult r (λ p. FindsBox b h c.cpu c'.cpu p) (λ back. FindsNoBox b h c.cpu c'.cpu back) → HasNoneOpen c → HasNoneOpen c'
-  none_held b h c c' r f none = none_still c c' (same_held b h c.cpu c'.cpu r f) none
+  pub none_sought : {J : Type 0} (b : BoxesView) (h : ReadingView) (c c' : CpuView J) (r : Result (PinView V) ReadingView) → MatchResult r (λ p. FindsBox b h c.cpu c'.cpu p) (λ back. FindsNoBox b h c.cpu c'.cpu back) → HasNoneOpen c → HasNoneOpen c'
+  none_sought b h c c' r f none = none_still c c' (same_held b h c.cpu c'.cpu r f) none
 
   -- the section is of the domain as before, and the pin is of the boxes
   pub held_here : (d : TableId) (b : BoxesView) (h : ReadingView) (c c' : sections.CpuView) (r : Result (PinView V) ReadingView) → MatchResult r (λ p. FindsBox b h c c' p) (λ back. FindsNoBox b h c c' back) → h.domain ≡ d → MatchResult r (λ p. (p.section.domain ≡ d) × IsPinOf b p) (λ back. back.domain ≡ d)
