@@ -21,6 +21,18 @@ const PUTS: u64 = 200;
 /// How many rows a table has.
 const ROWS: usize = 10_000;
 
+/// How many threads read.
+const READERS: u64 = 4;
+
+/// How far the threads are.
+#[derive(Drop)]
+struct Course {
+    /// How many of them have read a table.
+    reading: AtomicU64,
+    /// Whether no more is put.
+    done: AtomicBool,
+}
+
 /// What a reader found.
 #[derive(Clone, Copy, Drop)]
 struct Found {
@@ -60,8 +72,8 @@ fn read_once(cpu: &mut Cpu<()>, boxes: &mut Boxes<Table>, found: &mut Found)
     }
 }
 
-/// Reads until no more is put.
-fn read_on<R: Wait>(rt: &R, reader: Reader<Table>, done: &AtomicBool) -> Found
+/// Reads until no more is put. Tells the writer when it has read the first table.
+fn read_on<R: Wait>(rt: &R, reader: Reader<Table>, course: &Course) -> Found
     requires { IsCellOf reader.cpu.cpu reader.boxes }
 {
     let Reader { mut cpu, mut boxes } = reader;
@@ -71,8 +83,12 @@ fn read_on<R: Wait>(rt: &R, reader: Reader<Table>, done: &AtomicBool) -> Found
         last: 0,
     };
     for _ in rt.forever() {
-        let over = done.load(SeqCst);
+        let over = course.done.load(SeqCst);
+        let is_first = found.sections == 0;
         read_once(&mut cpu, &mut boxes, &mut found);
+        if is_first && found.sections == 1 {
+            course.reading.fetch_add(1, SeqCst);
+        }
         if over {
             return found;
         }
@@ -134,13 +150,25 @@ fn take_back<R: Wait>(
     unreachable!()
 }
 
-/// Puts all tables. Returns how many came back.
+/// Waits until each reader has read a table.
+fn wait_for_readers<R: Wait>(rt: &R, course: &Course) {
+    for _ in rt.forever() {
+        if course.reading.load(SeqCst) == READERS {
+            return;
+        }
+        yield_now();
+    }
+    unreachable!()
+}
+
+/// Puts all tables, the second one once each reader has read the first. Returns how many came back.
 fn put_each<R: Wait + AllocGlobal>(
     rt: &R,
     domain: &Domain<()>,
     cpu: &mut Cpu<()>,
     loose: &mut LooseBoxWriter<Table, Global>,
     rung: &Arc<AtomicU64>,
+    course: &Course,
 ) -> Result<u64, AllocError>
     requires here { IsOf domain.now cpu.old }
     requires cell { IsCellIn domain.now (cell_of loose.old.writer) }
@@ -151,6 +179,9 @@ fn put_each<R: Wait + AllocGlobal>(
     for number in 1..=PUTS {
         let table = table_of(rt.alloc(), number, ROWS, rung)?;
         back = back.saturating_add(put_once(rt, domain, cpu, loose, table));
+        if number == 1 {
+            wait_for_readers(rt, course);
+        }
     }
     Ok(back)
 }
@@ -184,13 +215,13 @@ fn put_all<R: Wait + AllocGlobal>(
     mut cpu: Cpu<()>,
     mut loose: LooseBoxWriter<Table, Global>,
     rung: &Arc<AtomicU64>,
-    done: &AtomicBool,
+    course: &Course,
 ) -> Result<u64, AllocError>
     requires here { IsOf domain.now cpu }
     requires cell { IsCellIn domain.now (cell_of loose.writer) }
 {
-    let put = put_each(rt, domain, &mut cpu, &mut loose, rung);
-    done.store(true, SeqCst);
+    let put = put_each(rt, domain, &mut cpu, &mut loose, rung, course);
+    course.done.store(true, SeqCst);
     let early = put?;
     let some = (PUTS - 1).saturating_sub(early);
     let late = take_back(rt, domain, &mut cpu, &mut loose, some);
@@ -241,7 +272,7 @@ fn read_by_two<R: Wait + Threads + Sync>(
     rt: &R,
     first: Reader<Table>,
     second: Reader<Table>,
-    done: &AtomicBool,
+    course: &Course,
 ) -> [Found; 2]
     requires first { IsCellOf first.cpu.cpu first.boxes }
     requires second { IsCellOf second.cpu.cpu second.boxes }
@@ -250,16 +281,16 @@ fn read_by_two<R: Wait + Threads + Sync>(
         rt,
         ||
             requires { IsCellOf first.cpu.cpu first.boxes }
-        { read_on(rt, first, done) },
+        { read_on(rt, first, course) },
         ||
             requires { IsCellOf second.cpu.cpu second.boxes }
-        { read_on(rt, second, done) },
+        { read_on(rt, second, course) },
     );
     [first, second]
 }
 
 /// Four threads read.
-fn read_by_four<R: Wait + Threads + Sync>(rt: &R, readers: Four, done: &AtomicBool) -> [Found; 4]
+fn read_by_four<R: Wait + Threads + Sync>(rt: &R, readers: Four, course: &Course) -> [Found; 4]
     requires first { IsCellOf readers.first.cpu.cpu readers.first.boxes }
     requires second { IsCellOf readers.second.cpu.cpu readers.second.boxes }
     requires third { IsCellOf readers.third.cpu.cpu readers.third.boxes }
@@ -276,11 +307,11 @@ fn read_by_four<R: Wait + Threads + Sync>(rt: &R, readers: Four, done: &AtomicBo
         ||
             requires first { IsCellOf first.cpu.cpu first.boxes }
             requires second { IsCellOf second.cpu.cpu second.boxes }
-        { read_by_two(rt, first, second, done) },
+        { read_by_two(rt, first, second, course) },
         ||
             requires third { IsCellOf third.cpu.cpu third.boxes }
             requires fourth { IsCellOf fourth.cpu.cpu fourth.boxes }
-        { read_by_two(rt, third, fourth, done) },
+        { read_by_two(rt, third, fourth, course) },
     );
     [low[0], low[1], high[0], high[1]]
 }
@@ -304,7 +335,10 @@ fn read_beside<R: Wait + Threads + Sync + AllocGlobal>(
     requires here { IsOf domain.now cpu }
     requires cell { IsCellIn domain.now (cell_of loose.writer) }
 {
-    let done = AtomicBool::new(false);
+    let course = Course {
+        reading: AtomicU64::new(0),
+        done: AtomicBool::new(false),
+    };
     join(
         rt,
         ||
@@ -312,16 +346,16 @@ fn read_beside<R: Wait + Threads + Sync + AllocGlobal>(
             requires second { IsCellOf readers.second.cpu.cpu readers.second.boxes }
             requires third { IsCellOf readers.third.cpu.cpu readers.third.boxes }
             requires fourth { IsCellOf readers.fourth.cpu.cpu readers.fourth.boxes }
-        { read_by_four(rt, readers, &done) },
+        { read_by_four(rt, readers, &course) },
         ||
             requires here { IsOf domain.now cpu }
             requires cell { IsCellIn domain.now (cell_of loose.writer) }
-        { put_all(rt, domain, cpu, loose, rung, &done) },
+        { put_all(rt, domain, cpu, loose, rung, &course) },
     )
 }
 
-/// Would catch a table that is dropped while a thread reads it, one that is dropped twice or never, and a section that
-/// finds an older one than the section before.
+/// Would catch a table that is dropped while a thread reads it, one that is dropped twice or never, a section that finds an
+/// older one than the section before, and a thread that finds none.
 #[test]
 fn tables_by_threads(rt: HostRuntime) -> Result<(), Fail> {
     let rung = Arc::new(rt.alloc(), AtomicU64::new(0))?;
@@ -335,7 +369,8 @@ fn tables_by_threads(rt: HostRuntime) -> Result<(), Fail> {
     let readers = take_four(&domain, others, boxes)?;
     let (found, back) = read_beside(&rt, &domain, readers, cpu, loose, &rung);
     for found in found {
-        assert_eq!(rt; (found.whole, found.last <= PUTS), (true, true));
+        assert_eq!(rt; (found.whole, found.sections > 0), (true, true));
+        assert!(rt; found.last <= PUTS);
     }
     assert_eq!(rt; back?, PUTS);
     assert_eq!(rt; (rung.load(SeqCst), Arc::strong_count(&rung)), (PUTS, 1));

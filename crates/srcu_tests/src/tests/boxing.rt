@@ -66,7 +66,7 @@ fn put_and_show<R: Wait>(
     other: &mut Worker<'_, u64>,
     cell: &mut Cell,
     number: u64,
-) -> Result<[u64; 2], Refusal>
+) -> Result<(u64, u64), Refusal>
     requires domain { other.old.domain ≡ one.old.domain }
     requires cell { IsBoxWriterOf one.old.domain cell.old.loose.writer × AreBoxesOf one.old.domain cell.old.boxes }
     ensures domain { (one.new.domain ≡ one.old.domain) × (other.new.domain ≡ other.old.domain) }
@@ -74,7 +74,7 @@ fn put_and_show<R: Wait>(
 {
     let back = put(rt, one, &mut cell.loose.writer, cell.alloc, number)?;
     let shown = last_of(other, &mut cell.boxes)?;
-    Ok([back.unwrap_or(0), shown.unwrap_or(0)])
+    Ok((back.unwrap_or(0), shown.unwrap_or(0)))
 }
 
 /// Retires the last table, and waits. Returns the first rules of what comes back then, or 0.
@@ -82,7 +82,7 @@ fn take_back<R: Wait>(
     rt: &R,
     worker: &mut Worker<'_, u64>,
     writer: &mut BoxWriter<Vec<u64>>,
-) -> Result<[u64; 3], Refusal>
+) -> Result<(u64, u64, u64), Refusal>
     requires { IsBoxWriterOf worker.old.domain writer.old }
 {
     if worker.retire(writer).is_none() {
@@ -91,7 +91,7 @@ fn take_back<R: Wait>(
     worker.synchronize(rt)?;
     let first = number_of(worker.reclaim(writer));
     let second = number_of(worker.reclaim(writer));
-    Ok([first, second, number_of(worker.reclaim(writer))])
+    Ok((first, second, number_of(worker.reclaim(writer))))
 }
 
 /// A cell of tables, whose writer may be dropped.
@@ -134,8 +134,8 @@ fn two_of<'a>(
     Ok((one, other, cell))
 }
 
-/// What came back at each of three puts and was shown then, and what came back in the end.
-type Came = ([[u64; 2]; 3], [u64; 3]);
+/// What came back at each of three puts, what was shown then, and what came back in the end.
+type Came = ((u64, u64, u64), (u64, u64, u64), (u64, u64, u64));
 
 /// Puts three tables, and has them back.
 fn put_three<R: Wait>(
@@ -151,7 +151,9 @@ fn put_three<R: Wait>(
     let second = put_and_show(rt, one, other, cell, 2)?;
     let third = put_and_show(rt, one, other, cell, 3)?;
     let left = take_back(rt, one, &mut cell.loose.writer)?;
-    Ok(([first, second, third], left))
+    let back = (first.0, second.0, third.0);
+    let shown = (first.1, second.1, third.1);
+    Ok((back, shown, left))
 }
 
 /// The same with workers of the team.
@@ -171,10 +173,10 @@ fn put_three_apart<R: Wait + AllocGlobal>(rt: &R) -> Result<Came, Refusal> {
 #[test]
 fn replaces_boxes(rt: HostRuntime) -> Result<(), Fail> {
     match put_three_apart(&rt) {
-        Ok((put, left)) => {
-            assert_eq!(rt; (put[0][0], put[1][0], put[2][0]), (0, 0, 1)); // what came back
-            assert_eq!(rt; (put[0][1], put[1][1], put[2][1]), (1, 2, 3)); // what was shown
-            assert_eq!(rt; (left[0], left[1], left[2]), (2, 3, 0));
+        Ok((back, shown, left)) => {
+            assert_eq!(rt; back, (0, 0, 1));
+            assert_eq!(rt; shown, (1, 2, 3));
+            assert_eq!(rt; left, (2, 3, 0));
         }
         Err(refusal) => panic!(rt; "{refusal}"),
     }
@@ -182,7 +184,7 @@ fn replaces_boxes(rt: HostRuntime) -> Result<(), Fail> {
 }
 
 /// What is shown of a cell with no table, in a held section.
-const NO_TABLE: [u64; 2] = [0, 0];
+const NO_TABLE: (u64, u64) = (0, 0);
 
 /// What a pin of a held section shows before another table is put, and after it. The section ends on the other worker.
 fn hold_over(
@@ -190,7 +192,7 @@ fn hold_over(
     other: &mut Worker<'_, u64>,
     cell: &mut Cell,
     next: u64,
-) -> Result<[u64; 2], Refusal>
+) -> Result<(u64, u64), Refusal>
     requires domain { other.old.domain ≡ one.old.domain }
     requires cell { IsBoxWriterOf one.old.domain cell.old.loose.writer × AreBoxesOf one.old.domain cell.old.boxes }
     ensures domain { (one.new.domain ≡ one.old.domain) × (other.new.domain ≡ other.old.domain) }
@@ -205,7 +207,7 @@ fn hold_over(
             let behind = first_in(pin.get());
             let held = other.release_held_box(&cell.boxes, pin);
             other.up_read(held);
-            Ok([before, behind])
+            Ok((before, behind))
         }
         Err(held) => {
             one.up_read(held);
@@ -220,7 +222,7 @@ fn first_in(rules: &Vec<u64>) -> u64 {
 }
 
 /// What a held section shows where no table is there, and where another is put meanwhile, and what comes back in the end.
-type Shown = ([[u64; 2]; 2], [u64; 3]);
+type Shown = ((u64, u64), (u64, u64), (u64, u64, u64));
 
 /// Holds a section over no table, and one over a table.
 fn hold_twice<R: Wait>(
@@ -237,7 +239,7 @@ fn hold_twice<R: Wait>(
     let shown = hold_over(one, other, cell, 2)?;
     one.synchronize(rt)?;
     let left = take_back(rt, one, &mut cell.loose.writer)?;
-    Ok(([none, shown], left))
+    Ok((none, shown, left))
 }
 
 /// The same with workers of the team.
@@ -261,10 +263,10 @@ fn hold_twice_apart<R: Wait + AllocGlobal>(rt: &R) -> Result<Shown, Refusal> {
 #[test]
 fn a_held_section_keeps_its_box(rt: HostRuntime) -> Result<(), Fail> {
     match hold_twice_apart(&rt) {
-        Ok((shown, left)) => {
-            assert_eq!(rt; (shown[0][0], shown[0][1]), (0, 0));
-            assert_eq!(rt; (shown[1][0], shown[1][1]), (1, 1));
-            assert_eq!(rt; (left[0].saturating_add(left[1]), left[2]), (3, 0));
+        Ok((none, shown, left)) => {
+            assert_eq!(rt; none, NO_TABLE);
+            assert_eq!(rt; shown, (1, 1));
+            assert_eq!(rt; (left.0.saturating_add(left.1), left.2), (3, 0));
         }
         Err(refusal) => panic!(rt; "{refusal}"),
     }
