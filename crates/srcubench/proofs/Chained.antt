@@ -1,5 +1,5 @@
 -- Chains that are registered, changed and called, one time behind the other.
-use Rattle.std.proofs.Common.{◌≡◌, ℕ, ◌+◌, List, [], ◌∷◌, All, map, take, Result, IsOk, refl, sym, ap, ◌∙◌, subst, add-one}
+use Rattle.std.proofs.Common.{◌≡◌, ℕ, ◌+◌, List, [], ◌∷◌, map, take, refl, sym, ap, ◌∙◌, subst, add-one}
 use Rattle.std.specs.List.{AllZip}
 use Rattle.sections.specs.WriterViews.{WriterView}
 use Rattle.sections.specs.Dealing.{new_writer}
@@ -9,10 +9,8 @@ use Rattle.notify.specs.Calling.{GivesAt}
 use Rattle.shelf.specs.Cells.{cell_of}
 use Rattle.notify.specs.Chains.{ChainState, ChainCell}
 use Rattle.notify.specs.Reading.{Calls}
-use Rattle.srcubench.specs.Calling.{AreOutcomes}
-use Rattle.srcubench.specs.Chaining.{AnswersAny, RegistersOne, RegistersAll, ChangesTwice, ChangesOften, CallsOnce, CallsOften, no_blocks, HasChain, HaveChanged, HaveCalled}
+use Rattle.srcubench.specs.Chaining.{AnswersAny, RegistersOne, RegistersAll, ChangesTwice, ChangesOften, RegistersAndChanges, CallsOnce, CallsOften, RegistersAndCalls, no_blocks, HasChain, HaveChanged, HaveCalled}
 use Rattle.srcubench.specs.Founding.{IsNew, EachBecomes}
-use Rattle.srcubench.proofs.Passes.{each_became}
 
 -- what holds of two items holds of the items of two lists
 all_zip : {X : Type 0} {Y : Type 0} (R : X → Y → Type 0) (S : X → Y → Type 0) (xs : List X) (ys : List Y) → ((x : X) (y : Y) → R x y → S x y) → AllZip R xs ys → AllZip S xs ys
@@ -59,20 +57,32 @@ module _ {J : Type 0} where
 pub has_chain : (readers blocks : ℕ) (d : DomainView) (cpus : List (CpuView (Unit {0}))) (first last : CpuView (Unit {0})) (w : WriterView) (s s' : ChainState) → IsNew readers d cpus first w → s ≡ no_blocks blocks w → RegistersAll blocks s first s' last → HasChain readers blocks d cpus s' last
 has_chain readers blocks d cpus first last w s s' new is registers = record { first = first; writer = w; new = new; registers = subst (λ (z : ChainState). RegistersAll blocks z first s' last) is registers }
 
-pub have_changed : (rounds : ℕ) (d : DomainView) (cpus : List (CpuView (Unit {0}))) (s s' : ChainState) (c c' : CpuView (Unit {0})) → HasChain 0 4 d cpus s c → ChangesOften rounds s c s' c' → HaveChanged rounds
-have_changed rounds d cpus s s' c c' has changes = record { domain = d; readers = cpus; chain = s; changer = c; has = has; last_chain = s'; last = c'; changes = changes }
+pub have_changed : (rounds : ℕ) (d : DomainView) (cpus : List (CpuView (Unit {0}))) (w : WriterView) (s s' : ChainState) (c c' : CpuView (Unit {0})) → IsNew 0 d cpus c w → s ≡ no_blocks 4 w → RegistersAndChanges rounds s c s' c' → HaveChanged rounds
+have_changed rounds d cpus w s s' c c' new is h =
+    let has = has_chain 0 4 d cpus c h.cpu w s h.chain new is h.registers in
+    record { domain = d; readers = cpus; chain = h.chain; changer = h.cpu; has = has; last_chain = s'; last = c'; changes = h.changes }
+
+-- the blocks were registered in the chain that the view is of
+pub registers_and_calls : (blocks times : ℕ) (w : WriterView) (s s' : ChainState) (c c' : CpuView (Unit {0})) (v : ChainCell) (cpus : List (CpuView (Unit {0})))
+    → s ≡ no_blocks blocks w → RegistersAll blocks s c s' c' → v ≡ record { place = cell_of w; ids = blocks } → EachBecomes (CallsOften blocks v times) cpus → RegistersAndCalls blocks times w c cpus
+registers_and_calls blocks times w s s' c c' v cpus empty registers is each = record {
+  chain = s';
+  cpu = c';
+  registers = subst (λ (z : ChainState). RegistersAll blocks z c s' c') empty registers;
+  each = subst (λ (z : ChainCell). EachBecomes (CallsOften blocks z times) cpus) is each;
+}
 
 -- the chain lies in the one cell
-the_cell : (d : DomainView) (v : ChainCell) (ids : ℕ) (w : WriterView) → v ≡ record { place = cell_of w; ids = ids } → w ≡ new_writer d.domain 0 2 → v ≡ record { place = record { domain = d.domain; cell = 0 }; ids = ids }
-the_cell d v ids w is pen = is ∙ ap (λ (z : WriterView). record { place = cell_of z; ids = ids }) pen
+the_cell : (d : DomainView) (ids : ℕ) (w : WriterView) → w ≡ new_writer d.domain 0 2 → ◌≡◌ {A = ChainCell} (record { place = cell_of w; ids = ids }) (record { place = record { domain = d.domain; cell = 0 }; ids = ids })
+the_cell d ids w pen = ap (λ (z : WriterView). record { place = cell_of z; ids = ids }) pen
 
-pub have_called : {E : Type 0} (threads blocks times : ℕ) (d : DomainView) (cpus : List (CpuView (Unit {0}))) (s : ChainState) (c : CpuView (Unit {0})) (v : ChainCell) (w : WriterView) (outcomes : List (Result (CpuView (Unit {0})) E))
-    → HasChain threads blocks d cpus s c → v ≡ record { place = cell_of w; ids = blocks } → w ≡ new_writer d.domain 0 2 → AreOutcomes (CallsOften blocks v times) cpus outcomes → All IsOk outcomes → HaveCalled threads blocks times
-have_called threads blocks times d cpus s c v w outcomes has is pen are all = record {
+pub have_called : (threads blocks times : ℕ) (d : DomainView) (cpus : List (CpuView (Unit {0}))) (c : CpuView (Unit {0})) (w : WriterView)
+    → IsNew threads d cpus c w → RegistersAndCalls blocks times w c cpus → HaveCalled threads blocks times
+have_called threads blocks times d cpus c w new h = record {
   domain = d;
   readers = cpus;
-  chain = s;
-  changer = c;
-  has = has;
-  each = subst (λ (z : ChainCell). EachBecomes (CallsOften blocks z times) cpus) (the_cell d v blocks w is pen) (each_became (CallsOften blocks v times) cpus outcomes are all);
+  chain = h.chain;
+  changer = h.cpu;
+  has = record { first = c; writer = w; new = new; registers = h.registers };
+  each = subst (λ (z : ChainCell). EachBecomes (CallsOften blocks z times) cpus) (the_cell d blocks w new.pen) h.each;
 }

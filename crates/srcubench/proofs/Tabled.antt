@@ -9,7 +9,7 @@ use Rattle.plugs.specs.Views.{TableState, LeaseView}
 use Rattle.plugs.specs.Reading.{Leases, Gets}
 use Rattle.srcubench.specs.Calling.{AreOutcomes}
 use Rattle.srcubench.specs.Founding.{IsNew, EachBecomes}
-use Rattle.srcubench.specs.Tabling.{InstallsOne, InstallsAll, FillsUp, Looks, LooksOften, no_rows, HasTable, HaveInstalled, HaveLooked}
+use Rattle.srcubench.specs.Tabling.{InstallsOne, InstallsAll, FillsUp, FillsAndInstalls, Looks, LooksOften, no_rows, HasTable, HaveInstalled, HaveLooked}
 use Rattle.srcubench.proofs.Passes.{each_became}
 
 module _ {J : Type 0} where
@@ -48,8 +48,10 @@ has_table readers d cpus first last w t t' new writer empty fills =
     let none : t ≡ no_rows w = λ k. record { writer = writer k; rows = empty k } in
     record { first = first; writer = w; new = new; fills = subst (λ (z : TableState). FillsUp z first t' last) none fills }
 
-pub have_installed : (times : ℕ) (d : DomainView) (cpus : List (CpuView (Unit {0}))) (t t' : TableState) (c c' : CpuView (Unit {0})) → HasTable 0 d cpus t c → InstallsAll (λ n. 7) times t c t' c' → HaveInstalled times
-have_installed times d cpus t t' c c' has installs = record { domain = d; readers = cpus; table = t; changer = c; has = has; last_table = t'; last = c'; installs = installs }
+pub have_installed : (times : ℕ) (d : DomainView) (cpus : List (CpuView (Unit {0}))) (w : WriterView) (t t' : TableState) (c c' : CpuView (Unit {0})) → IsNew 0 d cpus c w → t.writer ≡ w → t.rows ≡ [] → FillsAndInstalls times t c t' c' → HaveInstalled times
+have_installed times d cpus w t t' c c' new writer empty h =
+    let has = has_table 0 d cpus c h.cpu w t h.table new writer empty h.fills in
+    record { domain = d; readers = cpus; table = h.table; changer = h.cpu; has = has; last_table = t'; last = c'; installs = h.installs }
 
 pub have_looked : {E : Type 0} (threads : ℕ) (leased : Bool) (times : ℕ) (d : DomainView) (cpus : List (CpuView (Unit {0}))) (t : TableState) (c : CpuView (Unit {0})) (cell : ℕ) (w : WriterView) (outcomes : List (Result (CpuView (Unit {0})) E))
     → HasTable threads d cpus t c → cell ≡ w.cell → w ≡ new_writer d.domain 0 2 → AreOutcomes (LooksOften leased cell times) cpus outcomes → All IsOk outcomes → HaveLooked threads leased times

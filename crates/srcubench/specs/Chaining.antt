@@ -2,6 +2,7 @@
 use Rattle.std.specs.Prelude.{◌≡◌, ℕ, zero, suc, pos, List, []}
 use Rattle.sections.specs.WriterViews.{WriterView}
 use Rattle.domain.specs.Views.{DomainView, CpuView}
+use Rattle.shelf.specs.Cells.{cell_of}
 use Rattle.notify.specs.Chains.{ChainState, ChainCell}
 use Rattle.notify.specs.Changes.{Registers, Unregisters}
 use Rattle.notify.specs.Reading.{Calls}
@@ -44,6 +45,13 @@ module _ {J : Type 0} where
   ChangesOften zero s c s' c' = (s' ≡ s) × (c' ≡ c)
   ChangesOften (suc n) s c s' c' = (chain : ChainState) × (cpu : CpuView J) × ChangesOften n s c chain cpu × ChangesTwice chain cpu s' c'
 
+  -- four blocks were registered, and then the last of them went and came so many times
+  pub record RegistersAndChanges (rounds : ℕ) (s : ChainState) (c : CpuView J) (s' : ChainState) (c' : CpuView J) : Type 0 where
+    pub chain : ChainState
+    pub cpu : CpuView J
+    pub registers : RegistersAll 4 s c chain cpu
+    pub changes : ChangesOften rounds chain cpu s' c'
+
   -- Calls
 
   -- in one section a version of the chain was found, the handlers of so many blocks were called, and the last one answered OK
@@ -58,6 +66,13 @@ module _ {J : Type 0} where
 -- a chain of so many ids with no blocks, to be put by this writer
 abbrev pub no_blocks : ℕ → WriterView → ChainState
 no_blocks ids w = record { writer = w; ids = ids; blocks = [] }
+
+-- so many blocks were registered there, and then each of these processors called the chain so many times
+pub record RegistersAndCalls (blocks times : ℕ) (w : WriterView) (changer : CpuView (Unit {0})) (cpus : List (CpuView (Unit {0}))) : Type 0 where
+  pub chain : ChainState
+  pub cpu : CpuView (Unit {0})
+  pub registers : RegistersAll blocks (no_blocks blocks w) changer chain cpu
+  pub each : EachBecomes (CallsOften blocks (record { place = cell_of w; ids = blocks }) times) cpus
 
 -- so many blocks were registered in a new domain with so many readers
 pub record HasChain (readers blocks : ℕ) (d : DomainView) (cpus : List (CpuView (Unit {0}))) (chain : ChainState) (changer : CpuView (Unit {0})) : Type 0 where

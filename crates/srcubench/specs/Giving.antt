@@ -32,6 +32,12 @@ pub record GivesAll (d : DomainView) (jobs : ℕ) (c c' : CpuView ℕ) : Type 0 
   pub gives : GivesRounds d c.cpu.processor rounds c c'
   pub came : jobs_of rounds ≡ jobs
 
+-- each of these processors queued so many jobs, and one more gave out so many
+pub record AreGiven (d : DomainView) (jobs : ℕ) (queuers : List (CpuView ℕ)) (total : ℕ) (giver : CpuView ℕ) : Type 0 where
+  pub queues : EachBecomes (QueuesAll d jobs) queuers
+  pub last : CpuView ℕ
+  pub gives : GivesAll d total giver last
+
 -- each of so many processors of a new domain queued so many jobs, and one processor more gave out as many as all of them
 pub record HaveGiven (threads jobs : ℕ) : Type 0 where
   pub domain : DomainView
@@ -39,6 +45,4 @@ pub record HaveGiven (threads jobs : ℕ) : Type 0 where
   pub giver : CpuView ℕ
   pub writer : WriterView
   pub new : IsNew threads domain queuers giver writer
-  pub queues : EachBecomes (QueuesAll domain jobs) queuers
-  pub last : CpuView ℕ
-  pub gives : GivesAll domain (threads * jobs) giver last
+  pub given : AreGiven domain jobs queuers (threads * jobs) giver

@@ -30,6 +30,13 @@ module _ {J : Type 0} where
     pub installs : InstallsAll (λ n. n) 15 t c t' c'
     pub full : IsFull 15 t'.rows
 
+  -- the table was filled in this way, and then key 7 was installed so many times
+  pub record FillsAndInstalls (times : ℕ) (t : TableState) (c : CpuView J) (t' : TableState) (c' : CpuView J) : Type 0 where
+    pub table : TableState
+    pub cpu : CpuView J
+    pub fills : FillsUp t c table cpu
+    pub installs : InstallsAll (λ n. 7) times table cpu t' c'
+
   -- Looks
 
   -- a lease was taken, the plug of key 7 was read through it, and it was released

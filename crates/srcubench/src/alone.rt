@@ -2,7 +2,7 @@
 ghost use Rattle.std.specs.Prelude.{◌≤◌, ◌^◌};
 ghost use Rattle.srcubench.specs.Done.{CanRun};
 
-use crate::work::Work;
+use crate::work::{Changes, Periods, Reads, Work};
 
 /// A thing that is done again and again.
 #[derive(Clone, Copy, Debug, PartialEq, Eq)]
@@ -74,42 +74,42 @@ impl Loop {
     {
         let (threads, processors) = (1, 1);
         match self {
-            Loop::Pair => Work::Pairs {
+            Loop::Pair => Work::Read(Reads::Pairs {
                 threads,
                 pairs: times,
-            },
-            Loop::Held => Work::HeldPairs { pairs: times },
-            Loop::Word => Work::Finds {
+            }),
+            Loop::Held => Work::Read(Reads::HeldPairs { pairs: times }),
+            Loop::Word => Work::Read(Reads::Finds {
                 threads,
                 words: 1,
                 times,
-            },
-            Loop::Words => Work::Finds {
+            }),
+            Loop::Words => Work::Read(Reads::Finds {
                 threads,
                 words: 16,
                 times,
-            },
-            Loop::Box => Work::Boxes { threads, times },
-            Loop::Lookup => Work::Looks {
+            }),
+            Loop::Box => Work::Read(Reads::Boxes { threads, times }),
+            Loop::Lookup => Work::Read(Reads::Looks {
                 threads,
                 leased: false,
                 times,
-            },
-            Loop::Chain => Work::ChainCalls {
+            }),
+            Loop::Chain => Work::Read(Reads::ChainCalls {
                 threads,
                 blocks: 4,
                 times,
-            },
-            Loop::Put => Work::Puts { times },
-            Loop::Period => Work::DrivenPeriods {
+            }),
+            Loop::Put => Work::Change(Changes::Puts { times }),
+            Loop::Period => Work::Period(Periods::DrivenPeriods {
                 processors,
                 periods: times,
-            },
-            Loop::Drive => Work::DrivenAtOnce {
+            }),
+            Loop::Drive => Work::Period(Periods::DrivenAtOnce {
                 processors,
                 periods: times,
-            },
-            Loop::Synchronize => Work::Waits { processors, times },
+            }),
+            Loop::Synchronize => Work::Period(Periods::Waits { processors, times }),
         }
     }
 }

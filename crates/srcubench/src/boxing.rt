@@ -117,6 +117,41 @@ fn find_together<R: Threads + Sync + Clock>(
     })
 }
 
+/// Has each of these processors find a box so many times.
+fn find_on_each<R: Threads + Sync + Clock + AllocGlobal>(
+    rt: &R,
+    domain: &Domain<()>,
+    cpus: Vec<Cpu<()>>,
+    boxes: &mut Boxes<u32>,
+    times: u64,
+) -> Result<Timed>
+    requires here { All (IsOf domain.now) cpus.items }
+    requires cell { IsCellIn domain.now boxes.old }
+    ensures { IfOk result (λ timed. timed.done ≡ times) }
+{
+    let finders = finders_on(rt.alloc(), domain, cpus, boxes)?;
+    find_together(rt, finders, times)
+}
+
+/// The same, once there is a box in the writer's cell.
+fn fill_and_find<R: Threads + Sync + Clock + AllocGlobal>(
+    rt: &R,
+    domain: &Domain<()>,
+    cpus: Vec<Cpu<()>>,
+    changer: &mut Cpu<()>,
+    writer: Writer,
+    times: u64,
+) -> Result<Timed>
+    requires readers { All (IsOf domain.now) cpus.items }
+    requires changer { IsOf domain.now changer.old }
+    requires here { writer.domain ≡ domain.now.domain }
+    requires plain { IsPlain writer }
+    ensures { IfOk result (λ timed. timed.done ≡ times) }
+{
+    let (_loose, mut boxes) = fill(rt.alloc(), domain, changer, writer)?;
+    find_on_each(rt, domain, cpus, &mut boxes, times)
+}
+
 /// Finds a box so many times in each of so many threads.
 pub fn run<R: Threads + Sync + Clock + AllocGlobal>(
     rt: &R,
@@ -132,7 +167,5 @@ pub fn run<R: Threads + Sync + Clock + AllocGlobal>(
         mut changer,
         writer,
     } = found(rt.alloc(), threads)?;
-    let (_loose, mut boxes) = fill(rt.alloc(), &domain, &mut changer, writer)?;
-    let finders = finders_on(rt.alloc(), &domain, readers, &mut boxes)?;
-    find_together(rt, finders, times)
+    fill_and_find(rt, &domain, readers, &mut changer, writer, times)
 }

@@ -147,14 +147,27 @@ pub fn run_passing<R: Threads + Sync + Wait + Clock + AllocGlobal>(
     Ok(timed(threads, jobs, elapsed))
 }
 
+/// How many bytes of the domain's heap so many jobs take that are queued on this processor.
+fn measure_jobs<'h, R: Wait>(
+    rt: &R,
+    heap: &'h LocalHeap,
+    domain: &Domain<u64, &'h LocalHeap>,
+    cpu: &mut Cpu<u64, &'h LocalHeap>,
+    jobs: u64,
+) -> Result<usize>
+    requires { IsOf domain.now cpu.old }
+{
+    let before = heap.used();
+    queue_all(rt, domain, cpu, jobs)?;
+    Ok(heap.used().saturating_sub(before))
+}
+
 /// How many bytes of a heap so many jobs take that are queued on one processor.
 pub fn measure_memory<R: Wait + AllocGlobal>(rt: &R, jobs: u64) -> Result<usize> {
     let heap = LocalHeap::new(rt.alloc(), HEAP)?;
     let (domain, mut cpus, _) = Domain::<u64, &LocalHeap>::new(&heap, 1, LIMITS)?;
     let mut cpu = cpus.pop().unwrap();
-    let before = heap.used();
-    queue_all(rt, &domain, &mut cpu, jobs)?;
-    Ok(heap.used().saturating_sub(before))
+    measure_jobs(rt, &heap, &domain, &mut cpu, jobs)
 }
 
 /// How many bytes of a heap a new domain of so many processors takes, with what each processor holds: no job was queued.

@@ -155,8 +155,68 @@ pub fn wait_often<R: Wait, A: Allocator>(
     Ok(())
 }
 
-/// Drives so many periods in a new domain of so many processors. The `elapsed` is what the clock told, of which no clause
-/// speaks.
+/// Drives so many periods. The `elapsed` is what the clock told, of which no clause speaks.
+fn time_periods<R: Clock>(
+    rt: &R,
+    domain: &Domain<()>,
+    cpu: &mut Cpu<()>,
+    periods: u64,
+) -> Result<Timed>
+    requires { IsOf domain.now cpu.old }
+    ensures done { IfOk result (λ timed. timed.done ≡ periods) }
+    ensures drives { IfOk result (λ _. DrivesPeriods periods cpu.old cpu.new) }
+{
+    let start = Instant::now(rt)?;
+    drive_periods(domain, cpu, periods)?;
+    let elapsed = start.elapsed(rt)?;
+    Ok(Timed {
+        done: periods,
+        elapsed,
+    })
+}
+
+/// The same, with each period asked for and driven in one turn.
+fn time_drives<R: Clock>(
+    rt: &R,
+    domain: &Domain<()>,
+    cpu: &mut Cpu<()>,
+    periods: u64,
+) -> Result<Timed>
+    requires { IsOf domain.now cpu.old }
+    ensures done { IfOk result (λ timed. timed.done ≡ periods) }
+    ensures drives { IfOk result (λ _. DrivesAllAtOnce periods cpu.old cpu.new) }
+{
+    let start = Instant::now(rt)?;
+    drive_all_at_once(domain, cpu, periods)?;
+    let elapsed = start.elapsed(rt)?;
+    Ok(Timed {
+        done: periods,
+        elapsed,
+    })
+}
+
+/// The same with `synchronize`.
+fn time_waits<R: Wait + Clock>(
+    rt: &R,
+    domain: &Domain<()>,
+    cpu: &mut Cpu<()>,
+    times: u64,
+) -> Result<Timed>
+    requires domain { IsOf domain.now cpu.old }
+    requires none { HasNoneOpen cpu.old }
+    ensures done { IfOk result (λ timed. timed.done ≡ times) }
+    ensures waits { IfOk result (λ _. WaitsAll times cpu.old cpu.new) }
+{
+    let start = Instant::now(rt)?;
+    wait_often(rt, domain, cpu, times)?;
+    let elapsed = start.elapsed(rt)?;
+    Ok(Timed {
+        done: times,
+        elapsed,
+    })
+}
+
+/// Drives so many periods in a new domain of so many processors.
 pub fn run_periods<R: Clock + AllocGlobal>(rt: &R, processors: usize, periods: u64) -> Result<Timed>
     ensures done { IfOk result (λ timed. timed.done ≡ periods) }
     ensures driven { IfOk result (λ _. HaveDriven processors periods) }
@@ -169,13 +229,7 @@ pub fn run_periods<R: Clock + AllocGlobal>(rt: &R, processors: usize, periods: u
     };
     let (domain, mut cpus, _) = Domain::<()>::new(rt.alloc(), processors, limits)?;
     let mut cpu = cpus.pop().unwrap();
-    let start = Instant::now(rt)?;
-    drive_periods(&domain, &mut cpu, periods)?;
-    let elapsed = start.elapsed(rt)?;
-    Ok(Timed {
-        done: periods,
-        elapsed,
-    })
+    time_periods(rt, &domain, &mut cpu, periods)
 }
 
 /// The same, with each period asked for and driven in one turn.
@@ -191,13 +245,7 @@ pub fn run_drives<R: Clock + AllocGlobal>(rt: &R, processors: usize, periods: u6
     };
     let (domain, mut cpus, _) = Domain::<()>::new(rt.alloc(), processors, limits)?;
     let mut cpu = cpus.pop().unwrap();
-    let start = Instant::now(rt)?;
-    drive_all_at_once(&domain, &mut cpu, periods)?;
-    let elapsed = start.elapsed(rt)?;
-    Ok(Timed {
-        done: periods,
-        elapsed,
-    })
+    time_drives(rt, &domain, &mut cpu, periods)
 }
 
 /// The same with `synchronize`, by one processor.
@@ -217,11 +265,5 @@ pub fn run_waits<R: Wait + Clock + AllocGlobal>(
     };
     let (domain, mut cpus, _) = Domain::<()>::new(rt.alloc(), processors, limits)?;
     let mut cpu = cpus.pop().unwrap();
-    let start = Instant::now(rt)?;
-    wait_often(rt, &domain, &mut cpu, times)?;
-    let elapsed = start.elapsed(rt)?;
-    Ok(Timed {
-        done: times,
-        elapsed,
-    })
+    time_waits(rt, &domain, &mut cpu, times)
 }

@@ -4,7 +4,7 @@ ghost use Rattle.std.specs.Thread.{IsSync};
 ghost use Rattle.domain.specs.Views.{IsOf};
 ghost use Rattle.srcubench.specs.Calling.{QueuesAll};
 ghost use Rattle.srcubench.specs.Founding.{EachBecomes};
-ghost use Rattle.srcubench.specs.Giving.{RunsEach, GivesRound, GivesAll, HaveGiven};
+ghost use Rattle.srcubench.specs.Giving.{RunsEach, GivesRound, GivesAll, AreGiven, HaveGiven};
 
 use crate::callbacks::{first_error, queue_together};
 use crate::calling::{JobError, run_ready};
@@ -178,9 +178,37 @@ fn queue_and_give<R: Threads + Sync + Wait + Clock>(
     )
 }
 
-/// Queues so many jobs in each of so many threads of a new domain, while one more gives them out. The `elapsed` is what the
-/// clock told, of which no clause speaks: from before the first thread's start until all jobs were queued, or where `ended`
-/// says so until all were out.
+/// Has each of these processors queue so many jobs, while one more gives out `total`. The `elapsed` is what the clock told,
+/// of which no clause speaks: from before the first thread's start until all jobs were queued, or where `ended` says so
+/// until all were out.
+fn time_given<R: Threads + Sync + Wait + Clock>(
+    rt: &R,
+    domain: &Domain<u64>,
+    cpus: Vec<Cpu<u64>>,
+    jobs: u64,
+    giver: Cpu<u64>,
+    total: u64,
+    ended: bool,
+) -> Result<Timed>
+    requires cpus { All (IsOf domain.now) cpus.items }
+    requires giver { IsOf domain.now giver }
+    requires few { total ≤ 2 ^ 56 }
+    ensures done { IfOk result (λ timed. timed.done ≡ total) }
+    ensures given { IfOk result (λ _. AreGiven domain.now jobs cpus.items total giver) }
+{
+    let start = Instant::now(rt)?;
+    let (queued, given) = queue_and_give(rt, domain, cpus, jobs, giver, total, start);
+    let whole = start.elapsed(rt)?;
+    let queued = queued?;
+    given?;
+    Ok(Timed {
+        done: total,
+        elapsed: if ended { whole } else { queued },
+    })
+}
+
+/// Queues so many jobs in each of so many threads of a new domain, while one more gives them out. The `elapsed` is the time
+/// until all jobs were queued, or where `ended` says so until all were out.
 pub fn run<R: Threads + Sync + Wait + Clock + AllocGlobal>(
     rt: &R,
     threads: usize,
@@ -199,13 +227,5 @@ pub fn run<R: Threads + Sync + Wait + Clock + AllocGlobal>(
         ..
     } = found::<u64>(rt.alloc(), threads)?;
     let total = threads as u64 * jobs;
-    let start = Instant::now(rt)?;
-    let (queued, given) = queue_and_give(rt, &domain, readers, jobs, changer, total, start);
-    let whole = start.elapsed(rt)?;
-    let queued = queued?;
-    given?;
-    Ok(Timed {
-        done: total,
-        elapsed: if ended { whole } else { queued },
-    })
+    time_given(rt, &domain, readers, jobs, changer, total, ended)
 }

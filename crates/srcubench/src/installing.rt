@@ -1,7 +1,7 @@
 //! Plugs that are installed in a table, each with a grace period behind it.
 ghost use Rattle.std.specs.Prelude.{◌≡◌, IfOk};
 ghost use Rattle.domain.specs.Views.{IsOf};
-ghost use Rattle.srcubench.specs.Tabling.{InstallsOne, InstallsAll, FillsUp, HaveInstalled};
+ghost use Rattle.srcubench.specs.Tabling.{InstallsOne, InstallsAll, FillsUp, FillsAndInstalls, HaveInstalled};
 
 use crate::driving::drive_one;
 use crate::founding::{New, found};
@@ -76,8 +76,30 @@ fn install_often(
     Ok(())
 }
 
-/// Installs one of fifteen keys so many times, in a new domain of one processor. The `elapsed` is what the clock told, of
-/// which no clause speaks.
+/// Fills the table, and then does so. The `elapsed` is what the clock told of the second part, of which no clause speaks.
+fn time_installs<R: Clock>(
+    rt: &R,
+    domain: &Domain<()>,
+    cpu: &mut Cpu<()>,
+    table: &mut Table,
+    times: u64,
+) -> Result<Timed>
+    requires here { IsOf domain.now cpu.old }
+    requires table { table.old.writer.domain ≡ domain.now.domain }
+    ensures done { IfOk result (λ timed. timed.done ≡ times) }
+    ensures installs { IfOk result (λ _. FillsAndInstalls times table.old cpu.old table.new cpu.new) }
+{
+    fill(domain, cpu, table)?;
+    let start = Instant::now(rt)?;
+    install_often(domain, cpu, table, times)?;
+    let elapsed = start.elapsed(rt)?;
+    Ok(Timed {
+        done: times,
+        elapsed,
+    })
+}
+
+/// Installs one of fifteen keys so many times, in a new domain of one processor.
 pub fn run<R: Clock + AllocGlobal>(rt: &R, times: u64) -> Result<Timed>
     ensures done { IfOk result (λ timed. timed.done ≡ times) }
     ensures installed { IfOk result (λ _. HaveInstalled times) }
@@ -89,12 +111,5 @@ pub fn run<R: Clock + AllocGlobal>(rt: &R, times: u64) -> Result<Timed>
         ..
     } = found(rt.alloc(), 0)?;
     let (mut table, _) = Table::new(writer);
-    fill(&domain, &mut changer, &mut table)?;
-    let start = Instant::now(rt)?;
-    install_often(&domain, &mut changer, &mut table, times)?;
-    let elapsed = start.elapsed(rt)?;
-    Ok(Timed {
-        done: times,
-        elapsed,
-    })
+    time_installs(rt, &domain, &mut changer, &mut table, times)
 }

@@ -35,8 +35,10 @@ mod waiting;
 mod work;
 
 use anyhow::Result;
+use asking::Asker;
 use command_line::{Job, job_of};
 use lists::BATCH;
+use pairs::Reader;
 use passage::Way;
 use std::env;
 use std::process::ExitCode;
@@ -44,7 +46,7 @@ use std::rt::Env;
 use std::sync::Wait;
 use std::thread::Threads;
 use std::time::Clock;
-use work::{Work, measure};
+use work::{Changes, Periods, Queues, Reads, Work, measure};
 
 /// The numbers of threads to measure with.
 const THREADS: [usize; 3] = [1, 2, 4];
@@ -100,29 +102,11 @@ const MISUSED: u8 = 2;
 /// Prints how many pairs and grace periods were made, which is the same on every machine.
 fn count<R: Threads + Sync + Wait + Clock + Print + AllocGlobal>(rt: &R) -> Result<()> {
     for threads in THREADS {
-        let trial = trial::run(rt, threads, COUNTED_PAIRS)?;
-        for (thread, reader) in trial.readers.iter().enumerate() {
-            println!(rt; "thread {thread} of {threads}: {} pairs", reader.made)?;
-        }
+        count_pairs(rt, threads)?;
     }
     println!(rt; "held: {} pairs", held::run(rt, COUNTED_PAIRS)?.done)?;
-    for processors in PROCESSORS {
-        count_by_processors(rt, processors)?;
-    }
-    let timed = waiting::run(rt, WAITERS, COUNTED_WAITS)?;
-    println!(rt; "threads {WAITERS}: {} waits in each at once", timed.done)?;
-    for threads in THREADS {
-        for new in [true, false] {
-            let trial = asking::run(rt, threads, COUNTED_ASKS, new)?;
-            let numbers = if new { "new" } else { "known" };
-            for (thread, asker) in trial.askers.iter().enumerate() {
-                println!(rt;
-                    "thread {thread} of {threads}: {} asks, {numbers} numbers",
-                    asker.asked
-                )?;
-            }
-        }
-    }
+    count_periods(rt)?;
+    count_all_asks(rt)?;
     for way in Way::ALL {
         let timed = passage::run(rt, way, COUNTED_BATCHES)?;
         println!(rt; "{way}: {} entries", timed.done)?;
@@ -132,6 +116,90 @@ fn count<R: Threads + Sync + Wait + Clock + Print + AllocGlobal>(rt: &R) -> Resu
     count_boxes(rt)?;
     count_chains(rt)?;
     count_tables(rt)
+}
+
+/// Prints how many grace periods domains had, and how often their processors waited for them.
+fn count_periods<R: Threads + Sync + Wait + Clock + Print + AllocGlobal>(rt: &R) -> Result<()> {
+    for processors in PROCESSORS {
+        count_by_processors(rt, processors)?;
+    }
+    let timed = waiting::run(rt, WAITERS, COUNTED_WAITS)?;
+    println!(rt; "threads {WAITERS}: {} waits in each at once", timed.done)?;
+    Ok(())
+}
+
+/// Prints how many pairs each of so many threads made.
+fn count_pairs<R: Threads + Sync + Clock + Print + AllocGlobal>(
+    rt: &R,
+    threads: usize,
+) -> Result<()> {
+    let trial = trial::run(rt, threads, COUNTED_PAIRS)?;
+    print_pairs(rt, threads, trial.readers.as_slice())
+}
+
+/// Prints how often threads asked, for new numbers and for known ones.
+fn count_all_asks<R: Threads + Sync + Clock + Print + AllocGlobal>(rt: &R) -> Result<()> {
+    for threads in THREADS {
+        for new in [true, false] {
+            count_asks(rt, threads, new)?;
+        }
+    }
+    Ok(())
+}
+
+/// Prints how often each of so many threads asked.
+fn count_asks<R: Threads + Sync + Clock + Print + AllocGlobal>(
+    rt: &R,
+    threads: usize,
+    new: bool,
+) -> Result<()>
+    requires { threads ≤ 2 ^ 16 }
+{
+    let trial = asking::run(rt, threads, COUNTED_ASKS, new)?;
+    print_asks(rt, threads, new, trial.askers.as_slice())
+}
+
+/// Prints how often each of so many threads found a version.
+fn count_finds<R: Threads + Sync + Clock + Print + AllocGlobal>(
+    rt: &R,
+    threads: usize,
+    words: usize,
+) -> Result<()>
+    requires { words ≤ 16 }
+{
+    let trial = finding::run(rt, threads, words, COUNTED_VERSIONS)?;
+    print_finds(rt, threads, words, trial.readers.as_slice())
+}
+
+/// Prints how many pairs each thread made.
+fn print_pairs<R: Print>(rt: &R, threads: usize, readers: &[Reader]) -> Result<()> {
+    for (thread, reader) in readers.iter().enumerate() {
+        println!(rt; "thread {thread} of {threads}: {} pairs", reader.made)?;
+    }
+    Ok(())
+}
+
+/// Prints how often each thread asked.
+fn print_asks<R: Print>(rt: &R, threads: usize, new: bool, askers: &[Asker]) -> Result<()> {
+    let numbers = if new { "new" } else { "known" };
+    for (thread, asker) in askers.iter().enumerate() {
+        println!(rt;
+            "thread {thread} of {threads}: {} asks, {numbers} numbers",
+            asker.asked
+        )?;
+    }
+    Ok(())
+}
+
+/// Prints how often each thread found a version.
+fn print_finds<R: Print>(rt: &R, threads: usize, words: usize, readers: &[Reader]) -> Result<()> {
+    for (thread, reader) in readers.iter().enumerate() {
+        println!(rt;
+            "thread {thread} of {threads}: {} versions found, words: {words}",
+            reader.made
+        )?;
+    }
+    Ok(())
 }
 
 /// Prints how many grace periods a domain of so many processors had, and how often one of them waited or asked for one.
@@ -167,13 +235,7 @@ fn count_by_processors<R: Wait + Clock + Print + AllocGlobal>(
 fn count_versions<R: Threads + Sync + Wait + Clock + Print + AllocGlobal>(rt: &R) -> Result<()> {
     for threads in THREADS {
         for words in WORDS {
-            let trial = finding::run(rt, threads, words, COUNTED_VERSIONS)?;
-            for (thread, reader) in trial.readers.iter().enumerate() {
-                println!(rt;
-                    "thread {thread} of {threads}: {} versions found, words: {words}",
-                    reader.made
-                )?;
-            }
+            count_finds(rt, threads, words)?;
         }
     }
     println!(rt;
@@ -270,31 +332,39 @@ fn time<R: Threads + Sync + Wait + Clock + Print + AllocGlobal>(
     requires repetitions { 1 ≤ repetitions }
 {
     for threads in THREADS {
-        let spread = measure(rt, Work::Pairs { threads, pairs }, repetitions)?;
+        let spread = measure(rt, Work::Read(Reads::Pairs { threads, pairs }), repetitions)?;
         println!(rt; "srcubench {threads} {spread}")?;
     }
-    let spread = measure(rt, Work::HeldPairs { pairs }, repetitions)?;
+    let spread = measure(rt, Work::Read(Reads::HeldPairs { pairs }), repetitions)?;
     println!(rt; "srcubench-held 1 {spread}")?;
     for processors in PROCESSORS {
         time_by_processors(rt, processors, pairs, repetitions)?;
     }
-    let work = Work::WaitsAtOnce {
+    let work = Work::Period(Periods::WaitsAtOnce {
         threads: WAITERS,
         times: pairs / LESS_OFTEN_AT_ONCE + 1,
-    };
+    });
     let spread = measure(rt, work, repetitions)?;
     println!(rt; "srcubench-synchronize-at-once {WAITERS} {spread}")?;
     for threads in THREADS {
         for new in [true, false] {
             let asks = pairs;
-            let spread = measure(rt, Work::Asks { threads, asks, new }, repetitions)?;
+            let spread = measure(
+                rt,
+                Work::Queue(Queues::Asks { threads, asks, new }),
+                repetitions,
+            )?;
             let numbers = if new { "new" } else { "known" };
             println!(rt; "srcubench-ask-{numbers} {threads} {spread}")?;
         }
     }
     let batches = pairs / (LESS_OFTEN_IN_LISTS * BATCH) + 1;
     for way in Way::ALL {
-        let spread = measure(rt, Work::Entries { way, batches }, repetitions)?;
+        let spread = measure(
+            rt,
+            Work::Queue(Queues::Entries { way, batches }),
+            repetitions,
+        )?;
         println!(rt; "srcubench-{way} 1 {spread}")?;
     }
     time_jobs(rt, 1, JOBS, repetitions)?;
@@ -318,33 +388,37 @@ fn time_by_processors<R: Threads + Sync + Wait + Clock + Print + AllocGlobal>(
     requires repetitions { 1 ≤ repetitions }
 {
     let periods = asks / LESS_OFTEN + 1;
-    let work = Work::QuietPeriods {
+    let work = Work::Period(Periods::QuietPeriods {
         processors,
         periods,
-    };
+    });
     let spread = measure(rt, work, repetitions)?;
     println!(rt; "srcubench-quiet-period {processors} {spread}")?;
-    let work = Work::DrivenPeriods {
+    let work = Work::Period(Periods::DrivenPeriods {
         processors,
         periods,
-    };
+    });
     let spread = measure(rt, work, repetitions)?;
     println!(rt; "srcubench-domain-period {processors} {spread}")?;
-    let work = Work::DrivenAtOnce {
+    let work = Work::Period(Periods::DrivenAtOnce {
         processors,
         periods,
-    };
+    });
     let spread = measure(rt, work, repetitions)?;
     println!(rt; "srcubench-drive {processors} {spread}")?;
     let times = periods;
-    let spread = measure(rt, Work::Waits { processors, times }, repetitions)?;
+    let spread = measure(
+        rt,
+        Work::Period(Periods::Waits { processors, times }),
+        repetitions,
+    )?;
     println!(rt; "srcubench-synchronize {processors} {spread}")?;
     for new in [true, false] {
-        let work = Work::AsksAlone {
+        let work = Work::Queue(Queues::AsksAlone {
             processors,
             asks,
             new,
-        };
+        });
         let spread = measure(rt, work, repetitions)?;
         let numbers = if new { "new" } else { "known" };
         println!(rt; "srcubench-ask-{numbers}-alone {processors} {spread}")?;
@@ -363,21 +437,21 @@ fn time_versions<R: Threads + Sync + Wait + Clock + Print + AllocGlobal>(
 {
     for threads in THREADS {
         for words in WORDS {
-            let work = Work::Finds {
+            let work = Work::Read(Reads::Finds {
                 threads,
                 words,
                 times,
-            };
+            });
             let spread = measure(rt, work, repetitions)?;
             println!(rt; "srcubench-find-{words} {threads} {spread}")?;
         }
     }
     for threads in THREADS {
-        let spread = measure(rt, Work::Boxes { threads, times }, repetitions)?;
+        let spread = measure(rt, Work::Read(Reads::Boxes { threads, times }), repetitions)?;
         println!(rt; "srcubench-box {threads} {spread}")?;
     }
     let times = times / LESS_OFTEN + 1;
-    let spread = measure(rt, Work::Puts { times }, repetitions)?;
+    let spread = measure(rt, Work::Change(Changes::Puts { times }), repetitions)?;
     println!(rt; "srcubench-put 1 {spread}")?;
     Ok(())
 }
@@ -394,17 +468,21 @@ fn time_chains<R: Threads + Sync + Wait + Clock + Print + AllocGlobal>(
 {
     for threads in THREADS {
         for blocks in BLOCKS {
-            let work = Work::ChainCalls {
+            let work = Work::Read(Reads::ChainCalls {
                 threads,
                 blocks,
                 times,
-            };
+            });
             let spread = measure(rt, work, repetitions)?;
             println!(rt; "srcubench-chain-call-{blocks} {threads} {spread}")?;
         }
     }
     let rounds = times / (2 * LESS_OFTEN) + 1;
-    let spread = measure(rt, Work::ChainChanges { rounds }, repetitions)?;
+    let spread = measure(
+        rt,
+        Work::Change(Changes::ChainChanges { rounds }),
+        repetitions,
+    )?;
     println!(rt; "srcubench-chain-change 1 {spread}")?;
     Ok(())
 }
@@ -421,18 +499,18 @@ fn time_tables<R: Threads + Sync + Wait + Clock + Print + AllocGlobal>(
 {
     for threads in THREADS {
         for leased in [false, true] {
-            let work = Work::Looks {
+            let work = Work::Read(Reads::Looks {
                 threads,
                 leased,
                 times,
-            };
+            });
             let spread = measure(rt, work, repetitions)?;
             let looks = if leased { "lease" } else { "lookup" };
             println!(rt; "srcubench-{looks} {threads} {spread}")?;
         }
     }
     let times = times / LESS_OFTEN + 1;
-    let spread = measure(rt, Work::Installs { times }, repetitions)?;
+    let spread = measure(rt, Work::Change(Changes::Installs { times }), repetitions)?;
     println!(rt; "srcubench-install 1 {spread}")?;
     Ok(())
 }
@@ -450,16 +528,24 @@ fn time_jobs<R: Threads + Sync + Wait + Clock + Print + AllocGlobal>(
     requires few { jobs ≤ 2 ^ 40 }
     requires repetitions { 1 ≤ repetitions }
 {
-    let spread = measure(rt, Work::Queueing { threads, jobs }, repetitions)?;
+    let spread = measure(
+        rt,
+        Work::Queue(Queues::Queueing { threads, jobs }),
+        repetitions,
+    )?;
     println!(rt; "srcubench-call {threads} {spread}")?;
-    let spread = measure(rt, Work::Callbacks { threads, jobs }, repetitions)?;
+    let spread = measure(
+        rt,
+        Work::Queue(Queues::Callbacks { threads, jobs }),
+        repetitions,
+    )?;
     println!(rt; "srcubench-callbacks {threads} {spread}")?;
     for ended in [false, true] {
-        let work = Work::Given {
+        let work = Work::Queue(Queues::Given {
             threads,
             jobs,
             ended,
-        };
+        });
         let spread = measure(rt, work, repetitions)?;
         let name = if ended { "callbacks" } else { "call" };
         println!(rt; "srcubench-{name}-given {threads} {spread}")?;

@@ -1,8 +1,10 @@
 //! Calls of a notifier chain: a thread for each of a domain's readers, in which handlers are called that do nothing.
 ghost use Rattle.std.specs.Prelude.{◌≡◌, ◌^◌, ◌≤◌, All, length, IfOk};
-ghost use Rattle.shelf.specs.Cells.{IsCellIn};
+ghost use Rattle.domain.specs.Views.{IsOf};
+ghost use Rattle.shelf.specs.Cells.{IsCellIn, cell_of};
 ghost use Rattle.srcubench.specs.Calling.{AreOutcomes};
-ghost use Rattle.srcubench.specs.Chaining.{CallsOnce, CallsOften, HaveCalled};
+ghost use Rattle.srcubench.specs.Chaining.{CallsOnce, CallsOften, RegistersAndCalls, HaveCalled};
+ghost use Rattle.srcubench.specs.Founding.{EachBecomes};
 
 use crate::callbacks::first_error;
 use crate::founding::{New, found};
@@ -10,7 +12,7 @@ use crate::miss::Miss;
 use crate::registering::register_all;
 use crate::work::Timed;
 use anyhow::Result;
-use domain::Cpu;
+use domain::{Cpu, Domain, Writer};
 use notify::{Chain, ChainView, Handler, OK};
 use std::alloc::{AllocError, Global};
 use std::thread;
@@ -104,8 +106,53 @@ fn call_together<R: Threads + Sync>(
     thread::map_vec(rt, cpus, &|cpu| call_here(alloc, cpu, view, blocks, times))
 }
 
-/// Calls a chain of so many blocks so many times in each of so many threads. The `elapsed` is what the clock told, of which
-/// no clause speaks: from before the first thread's start until all had ended.
+/// The same. The `elapsed` is what the clock told, of which no clause speaks: from before the first thread's start until all
+/// had ended.
+fn time_calls<R: Threads + Sync + Clock + AllocGlobal>(
+    rt: &R,
+    cpus: Vec<Cpu<()>>,
+    view: &ChainView,
+    blocks: u64,
+    times: u64,
+) -> Result<Timed>
+    requires cell { All (λ c. IsCellIn c.cpu.domain view.now.place) cpus.items }
+    requires ids { view.now.ids ≡ blocks }
+    ensures done { IfOk result (λ timed. timed.done ≡ times) }
+    ensures called { IfOk result (λ _. EachBecomes (CallsOften blocks view.now times) cpus.items) }
+{
+    let start = Instant::now(rt)?;
+    let outcomes = call_together(rt, rt.alloc(), cpus, view, blocks, times)?;
+    let elapsed = start.elapsed(rt)?;
+    first_error(outcomes.as_slice())?;
+    Ok(Timed {
+        done: times,
+        elapsed,
+    })
+}
+
+/// The same, once so many blocks are registered in the writer's cell.
+fn register_and_call<R: Threads + Sync + Clock + AllocGlobal>(
+    rt: &R,
+    domain: &Domain<()>,
+    cpus: Vec<Cpu<()>>,
+    changer: &mut Cpu<()>,
+    writer: Writer,
+    blocks: u64,
+    times: u64,
+) -> Result<Timed>
+    requires here { IsOf domain.now changer.old }
+    requires writer { writer.domain ≡ domain.now.domain }
+    requires cell { All (λ c. IsCellIn c.cpu.domain (cell_of writer)) cpus.items }
+    requires blocks { blocks ≤ 15 }
+    ensures done { IfOk result (λ timed. timed.done ≡ times) }
+    ensures called { IfOk result (λ _. RegistersAndCalls blocks times writer changer.old cpus.items) }
+{
+    let (mut chain, view) = Chain::new(writer, blocks);
+    register_all(domain, changer, &mut chain, blocks)?;
+    time_calls(rt, cpus, &view, blocks, times)
+}
+
+/// Calls a chain of so many blocks so many times in each of so many threads, in a new domain.
 pub fn run<R: Threads + Sync + Clock + AllocGlobal>(
     rt: &R,
     threads: usize,
@@ -123,14 +170,5 @@ pub fn run<R: Threads + Sync + Clock + AllocGlobal>(
         mut changer,
         writer,
     } = found(rt.alloc(), threads)?;
-    let (mut chain, view) = Chain::new(writer, blocks);
-    register_all(&domain, &mut changer, &mut chain, blocks)?;
-    let start = Instant::now(rt)?;
-    let outcomes = call_together(rt, rt.alloc(), readers, &view, blocks, times)?;
-    let elapsed = start.elapsed(rt)?;
-    first_error(outcomes.as_slice())?;
-    Ok(Timed {
-        done: times,
-        elapsed,
-    })
+    register_and_call(rt, &domain, readers, &mut changer, writer, blocks, times)
 }

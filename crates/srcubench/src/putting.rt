@@ -80,9 +80,30 @@ fn shelve(writer: Writer) -> Shelf<Sixteen>
     shelf
 }
 
+/// Does so. The `elapsed` is what the clock told, of which no clause speaks.
+fn time_puts<R: Clock>(
+    rt: &R,
+    domain: &Domain<()>,
+    cpu: &mut Cpu<()>,
+    shelf: &mut Shelf<Sixteen>,
+    times: u64,
+) -> Result<Timed>
+    requires here { IsOf domain.now cpu.old }
+    requires shelf { shelf.old.domain ≡ domain.now.domain }
+    ensures done { IfOk result (λ timed. timed.done ≡ times) }
+    ensures puts { IfOk result (λ _. PutsOften times shelf.old cpu.old shelf.new cpu.new) }
+{
+    let start = Instant::now(rt)?;
+    put_often(domain, cpu, shelf, times)?;
+    let elapsed = start.elapsed(rt)?;
+    Ok(Timed {
+        done: times,
+        elapsed,
+    })
+}
+
 /// Puts so many values in a new domain of one processor, whose cell has two slots: one is current, and the other is
-/// blank only behind the grace period of the put before. The `elapsed` is what the clock told, of which no clause
-/// speaks.
+/// blank only behind the grace period of the put before.
 pub fn run<R: Clock + AllocGlobal>(rt: &R, times: u64) -> Result<Timed>
     ensures done { IfOk result (λ timed. timed.done ≡ times) }
     ensures put { IfOk result (λ _. HavePut times) }
@@ -97,11 +118,5 @@ pub fn run<R: Clock + AllocGlobal>(rt: &R, times: u64) -> Result<Timed>
     let mut cpu = cpus.pop().unwrap();
     let writer = writers.pop().unwrap();
     let mut shelf = shelve(writer);
-    let start = Instant::now(rt)?;
-    put_often(&domain, &mut cpu, &mut shelf, times)?;
-    let elapsed = start.elapsed(rt)?;
-    Ok(Timed {
-        done: times,
-        elapsed,
-    })
+    time_puts(rt, &domain, &mut cpu, &mut shelf, times)
 }

@@ -1,7 +1,7 @@
 //! Blocks of a notifier chain that are registered and unregistered, each with a grace period behind it.
 ghost use Rattle.std.specs.Prelude.{◌≡◌, ◌*◌, ◌^◌, ◌<◌, ◌≤◌, IfOk};
 ghost use Rattle.domain.specs.Views.{IsOf};
-ghost use Rattle.srcubench.specs.Chaining.{RegistersOne, UnregistersOne, RegistersAll, ChangesOften, HaveChanged};
+ghost use Rattle.srcubench.specs.Chaining.{RegistersOne, UnregistersOne, RegistersAll, ChangesOften, RegistersAndChanges, HaveChanged};
 
 use crate::driving::drive_one;
 use crate::founding::{New, found};
@@ -84,8 +84,33 @@ fn change_often(
     Ok(())
 }
 
-/// Has one of four blocks go and come so many times, in a new domain of one processor: two changes each time. The
-/// `elapsed` is what the clock told, of which no clause speaks.
+/// Registers four blocks, and then does so. The `elapsed` is what the clock told of the second part, of which no clause
+/// speaks.
+fn time_changes<R: Clock>(
+    rt: &R,
+    domain: &Domain<()>,
+    cpu: &mut Cpu<()>,
+    chain: &mut Chain,
+    rounds: u64,
+) -> Result<Timed>
+    requires here { IsOf domain.now cpu.old }
+    requires chain { chain.old.writer.domain ≡ domain.now.domain }
+    requires ids { chain.old.ids ≡ 4 }
+    requires few { rounds ≤ 2 ^ 54 }
+    ensures done { IfOk result (λ timed. timed.done ≡ 2 * rounds) }
+    ensures changes { IfOk result (λ _. RegistersAndChanges rounds chain.old cpu.old chain.new cpu.new) }
+{
+    register_all(domain, cpu, chain, BLOCKS)?;
+    let start = Instant::now(rt)?;
+    change_often(domain, cpu, chain, rounds)?;
+    let elapsed = start.elapsed(rt)?;
+    Ok(Timed {
+        done: 2 * rounds,
+        elapsed,
+    })
+}
+
+/// Has one of four blocks go and come so many times, in a new domain of one processor: two changes each time.
 pub fn run<R: Clock + AllocGlobal>(rt: &R, rounds: u64) -> Result<Timed>
     requires { rounds ≤ 2 ^ 54 }
     ensures done { IfOk result (λ timed. timed.done ≡ 2 * rounds) }
@@ -98,12 +123,5 @@ pub fn run<R: Clock + AllocGlobal>(rt: &R, rounds: u64) -> Result<Timed>
         ..
     } = found(rt.alloc(), 0)?;
     let (mut chain, _) = Chain::new(writer, BLOCKS);
-    register_all(&domain, &mut changer, &mut chain, BLOCKS)?;
-    let start = Instant::now(rt)?;
-    change_often(&domain, &mut changer, &mut chain, rounds)?;
-    let elapsed = start.elapsed(rt)?;
-    Ok(Timed {
-        done: 2 * rounds,
-        elapsed,
-    })
+    time_changes(rt, &domain, &mut changer, &mut chain, rounds)
 }

@@ -1,5 +1,5 @@
 -- Each processor that is left is of the domain, and so is the cell.
-use Rattle.std.proofs.Common.{◌≡◌, All}
+use Rattle.std.proofs.Common.{All}
 use Rattle.std.specs.Vec.{vec_len}
 use Rattle.domain.specs.Views.{IsOf}
 use Rattle.boxes.specs.Boxes.{IsCellIn}

@@ -3,8 +3,8 @@ use Rattle.std.proofs.Common.{arith}
 use Rattle.srcubench.proofs.Drives.{was_some, was_last, of_this}
 use Rattle.srcubench.proofs.callbacks.measure_memory.Goals as goal
 
-pub queue_all-requires : goal.queue_all-requires
-queue_all-requires g c =
+pub measure_jobs-requires : goal.measure_jobs-requires
+measure_jobs-requires g c =
     let some = was_some _ _ _ _ c.pop.ensures.items c.unwrap-cpu.ensures in
     of_this _ _ _ _ _ c.in_ok-domain.ensures.made some (was_last _ _ _ _ c.pop.ensures.items c.unwrap-cpu.ensures)
 
