@@ -28,7 +28,7 @@ fn take_two<R: Wait>(rt: &R, worker: &mut Worker<'_, u64>) -> Result<u64, Refusa
 
 /// How jobs wait before a period and after it, what is taken out before it and twice after it, and whether the barrier's jobs are
 /// finished before the last batch and after it.
-type ByHand = ([Lens; 2], [u64; 3], [bool; 2]);
+type ByHand = ((Lens, Lens), (u64, u64, u64), (bool, bool));
 
 /// Queues three jobs, and runs them with no driver.
 fn run_by_hand<R: Wait>(rt: &R, worker: &mut Worker<'_, u64>) -> Result<ByHand, Refusal>
@@ -48,7 +48,7 @@ fn run_by_hand<R: Wait>(rt: &R, worker: &mut Worker<'_, u64>) -> Result<ByHand, 
     let second = take_two(rt, worker)?;
     worker.barrier(rt, &ticket);
     let after = worker.barrier_poll(&ticket);
-    Ok(([queued, ready], [none, first, second], [before, after]))
+    Ok(((queued, ready), (none, first, second), (before, after)))
 }
 
 fn by_hand<R: Wait + AllocGlobal>(rt: &R) -> Result<ByHand, Refusal> {
@@ -63,7 +63,7 @@ fn by_hand<R: Wait + AllocGlobal>(rt: &R) -> Result<ByHand, Refusal> {
 #[test]
 fn jobs_are_run_by_hand(rt: HostRuntime) -> Result<(), Fail> {
     match by_hand(&rt) {
-        Ok(([queued, ready], taken, finished)) => {
+        Ok((lens, taken, finished)) => {
             let waiting = Lens {
                 done: 0,
                 wait: 3,
@@ -80,8 +80,9 @@ fn jobs_are_run_by_hand(rt: HostRuntime) -> Result<(), Fail> {
                 first: 0,
                 second: 0,
             };
-            assert_eq!(rt; (queued, ready), (waiting, left));
-            assert_eq!(rt; (taken, finished), ([0, 12, 3], [false, true]));
+            assert_eq!(rt; lens, (waiting, left));
+            assert_eq!(rt; taken, (0, 12, 3));
+            assert_eq!(rt; finished, (false, true));
         }
         Err(refusal) => panic!(rt; "{refusal}"),
     }
