@@ -269,15 +269,16 @@ struct Both {
     third: Cpu<()>,
     rows: Cell<Vec<u64>>,
     names: Cell<String>,
-    ghost one: { IsOf domain first },
-    ghost two: { IsOf domain second },
-    ghost three: { IsOf domain third },
     ghost of_rows: { IsCellIn domain (cell_of rows.loose.writer) × IsCellIn domain rows.boxes },
     ghost of_names: { IsCellIn domain (cell_of names.loose.writer) × IsCellIn domain names.boxes },
 }
 
 /// Two cells of one domain.
-fn both_of(alloc: Global) -> Result<Both, MakeError> {
+fn both_of(alloc: Global) -> Result<Both, MakeError>
+    ensures first { IfOk result (λ b. IsOf b.domain b.first) }
+    ensures second { IfOk result (λ b. IsOf b.domain b.second) }
+    ensures third { IfOk result (λ b. IsOf b.domain b.third) }
+{
     let Ground {
         domain,
         mut cpus,
@@ -301,14 +302,28 @@ fn both_of(alloc: Global) -> Result<Both, MakeError> {
 }
 
 /// Puts rows and a name, and tells whether slots were free.
-fn put_both(both: &mut Both, rows: Box<Vec<u64>>, name: Box<String>) -> bool {
+fn put_both(both: &mut Both, rows: Box<Vec<u64>>, name: Box<String>) -> bool
+    requires first { IsOf both.old.domain both.old.first }
+    requires second { IsOf both.old.domain both.old.second }
+    requires third { IsOf both.old.domain both.old.third }
+    ensures first { IsOf both.new.domain both.new.first }
+    ensures second { IsOf both.new.domain both.new.second }
+    ensures third { IsOf both.new.domain both.new.third }
+{
     let one = put(&both.domain, &mut both.first, &mut both.rows.loose, rows);
     let other = put(&both.domain, &mut both.second, &mut both.names.loose, name);
     one && other
 }
 
 /// What is shown on the third processor.
-fn show_both(both: &mut Both) -> Seen {
+fn show_both(both: &mut Both) -> Seen
+    requires first { IsOf both.old.domain both.old.first }
+    requires second { IsOf both.old.domain both.old.second }
+    requires third { IsOf both.old.domain both.old.third }
+    ensures first { IsOf both.new.domain both.new.first }
+    ensures second { IsOf both.new.domain both.new.second }
+    ensures third { IsOf both.new.domain both.new.third }
+{
     let rows = both.rows.boxes.read(&mut both.third, ends_of);
     let letters = both
         .names
@@ -323,14 +338,28 @@ fn show_both(both: &mut Both) -> Seen {
 }
 
 /// Puts versions with no box, and tells whether slots were free.
-fn retire_both(both: &mut Both) -> bool {
+fn retire_both(both: &mut Both) -> bool
+    requires first { IsOf both.old.domain both.old.first }
+    requires second { IsOf both.old.domain both.old.second }
+    requires third { IsOf both.old.domain both.old.third }
+    ensures first { IsOf both.new.domain both.new.first }
+    ensures second { IsOf both.new.domain both.new.second }
+    ensures third { IsOf both.new.domain both.new.third }
+{
     let one = retire(&both.domain, &mut both.first, &mut both.rows.loose);
     let other = retire(&both.domain, &mut both.second, &mut both.names.loose);
     one && other
 }
 
 /// What comes back on the third processor, after forty turns of the engine.
-fn take_both(both: &mut Both) -> Seen {
+fn take_both(both: &mut Both) -> Seen
+    requires first { IsOf both.old.domain both.old.first }
+    requires second { IsOf both.old.domain both.old.second }
+    requires third { IsOf both.old.domain both.old.third }
+    ensures first { IsOf both.new.domain both.new.first }
+    ensures second { IsOf both.new.domain both.new.second }
+    ensures third { IsOf both.new.domain both.new.third }
+{
     drive(&both.domain, &mut both.first, 40);
     let rows = reclaim(&both.domain, &mut both.third, &mut both.rows.loose);
     let name = reclaim(&both.domain, &mut both.third, &mut both.names.loose);
@@ -350,7 +379,11 @@ fn take_both(both: &mut Both) -> Seen {
 }
 
 /// What is shown while both are there, what comes back then, and what once they are retired. `NOTHING` where no slot was free.
-fn see_both(both: &mut Both, rows: Box<Vec<u64>>, name: Box<String>) -> [Seen; 3] {
+fn see_both(both: &mut Both, rows: Box<Vec<u64>>, name: Box<String>) -> [Seen; 3]
+    requires first { IsOf both.old.domain both.old.first }
+    requires second { IsOf both.old.domain both.old.second }
+    requires third { IsOf both.old.domain both.old.third }
+{
     if !put_both(both, rows, name) {
         return [NOTHING; 3];
     }
