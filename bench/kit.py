@@ -4,7 +4,7 @@
 bench/kit.py     says in one line which kit is found
 
 `lacks` looks for each thing by its name. Where the kit lacks one, the caller goes by the kit's commands, which are slower and say the
-same. With BENCH_KIT=public in the environment every kit lacks all of them: bench/kits tries those commands so."""
+same. BENCH_KIT=public in the environment hides all of them: so bench/kits tries the commands."""
 
 import functools, importlib.machinery, importlib.util, inspect, os, re, shutil, subprocess, sys
 
@@ -144,7 +144,7 @@ def build_rlib(crate, jobs=1, anew=False, statements=False):
     """Proves a library, from nothing if `anew`, and leaves it in out/rlib: its statements alone if asked to, and then with no stamp.
     Returns the status."""
     type(crate).cuts_libraries = statements
-    return crate.build_rlib(["--jobs", str(jobs)], anew)
+    return crate.build_rlib(["--jobs", str(jobs)], anew=anew)
 
 
 def try_alone(folder, top, flags, kit=""):
