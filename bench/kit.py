@@ -25,6 +25,9 @@ PLACES = {
     "is_built": (("Crate.is_built", 1),),
     "stamp": (("Crate.stamp", 1),),
     "try_unproved": (("Crate.try_unproved", 3),),
+    "prove": (("Crate.prove", 2),),
+    "words": (("Crate.words", 4),),
+    "call": (("Crate.call", 2),),
     "KIT": (("rtlib.KIT", None),),
     "RATTLE": (("rtlib.RATTLE", None),),
 }
@@ -145,6 +148,27 @@ def build_rlib(crate, jobs=1, anew=False, statements=False):
     Returns the status."""
     type(crate).cuts_libraries = statements
     return crate.build_rlib(["--jobs", str(jobs)], anew=anew)
+
+
+def tell_in(folder):
+    """Has all that the prover says of a crate stand in a file of this folder, as it comes, under the name of the crate's folder."""
+    tee = f"{folder}/rattle"
+    with open(tee, "w", encoding="utf-8") as file:
+        file.write(f"#!/usr/bin/env bash\nset -o pipefail\n'{take('RATTLE')}' \"$@\" 2>&1 | tee \"{folder}/${{PWD##*/}}\"\n")
+    os.chmod(tee, 0o755)
+    load().rtlib.RATTLE = tee
+
+
+def prove_rlib(crate, jobs, to):
+    """Proves a library from nothing, and writes its statements alone: what `build_rlib` proves and writes, with a line for each function
+    on the way. Returns the status."""
+    checked = f"{os.path.dirname(to)}/checked"
+    words = crate.words(["--jobs", str(jobs)], keeps=False)
+    status = crate.prove(["check", *words, "--statements", "--progress", "-o", checked])
+    for flag in ("--logic-built", "--jobs"):
+        at = words.index(flag)
+        words = [*words[:at], *words[at + 2 :]]
+    return status or crate.call(take("RATTLE"), "build", *words, "--crate-checked", checked, "-o", to)
 
 
 def try_alone(folder, top, flags, kit=""):
