@@ -31,6 +31,7 @@ mod Reclaiming
 mod Seating
 mod Sharing
 mod Shelving
+mod Showing
 mod Sighting
 mod Standings
 mod Staying

@@ -24,6 +24,7 @@ pub mod Seats
 pub mod SetInsides
 pub mod Sets
 pub mod Shelves
+pub mod Showing
 pub mod SightInsides
 pub mod Sights
 pub mod Slots

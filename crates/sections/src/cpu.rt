@@ -19,6 +19,7 @@ pub(crate) mod pins;
 mod readings;
 mod recalling;
 mod sections;
+mod showing;
 pub(crate) mod steps;
 mod tokens;
 pub(crate) mod writing;

@@ -5,7 +5,9 @@
 --     in_hand      what the seat has in hand once that was exchanged
 --     shut_is      what the key knows once this lies in its place
 --     emptied      what lay there, as a caller is told
-use Rattle.std.proofs.Common.{◌≡◌, ℕ, suc, ◌<◌, List, [], ◌∷◌, sym, ap, ◌∙◌, arith, Option, Some, None}
+--     counts_lying, round_lying     how many parts lie there, and of which round
+--     option_map   what a caller is told where nothing lay there
+use Rattle.std.proofs.Common.{◌≡◌, ℕ, suc, ◌<◌, List, [], ◌∷◌, refl, sym, ap, ◌∙◌, arith, Option, Some, None}
 use Rattle.std.specs.Prelude.{MatchOption}
 use Rattle.atomic_table.specs.Table.{Me, rest}
 use Rattle.atomic_table.specs.Seated.{TableId}
@@ -45,3 +47,15 @@ module _ {X : Type 0} where
   pub emptied : (c : Option (Pile X)) (count round : ℕ) → Lies c count round → MatchOption c (count ≡ 0) (λ x. (x.part.count ≡ count) × (x.part.round ≡ round))
   emptied None count round h = h
   emptied (Some p) count round h = h
+
+  pub counts_lying : (c : Option (Pile X)) (count round : ℕ) → Lies c count round → count_of c ≡ count
+  counts_lying None count round h = sym h
+  counts_lying (Some p) count round h = h.0
+
+  pub round_lying : (c : Option (Pile X)) (count round : ℕ) → Lies c count round → round_of c round ≡ round
+  round_lying None count round h = refl
+  round_lying (Some p) count round h = h.1
+
+pub option_map : {A : Type 0} {P Q : Type 0} (R : A → Type 0) (o : Option A) → (P → Q) → MatchOption o P R → MatchOption o Q R
+option_map R None f h = f h
+option_map R (Some x) f h = h

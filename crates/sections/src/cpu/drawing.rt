@@ -1,14 +1,17 @@
 //! Parts of boxes: steps of a processor with the right to a section that has found a slot. Slot x of cell c is counted as
 //! 8 c + x.
-ghost use Rattle.std.specs.Prelude.{◌≡◌, ◌/◌, ◌<◌};
+ghost use Rattle.std.specs.Prelude.{◌≡◌, ◌*◌, ◌/◌, ◌<◌, MatchOption};
+ghost use Rattle.std.specs.Fn.{FnOnceReturnsAt};
 ghost use Rattle.sections.specs.Banks.{vault_in};
 ghost use Rattle.sections.specs.Drawing.{CanTake, TakesKey, Draws, HasUnit, Pays, LendsAny, KnowsOffer, DrawsIn, PaysIn};
 ghost use Rattle.sections.specs.Insides.{IsAtRest};
 ghost use Rattle.sections.specs.Seats.{IsPlaced};
+ghost use Rattle.sections.specs.Boxes.{KnowsVault};
+ghost use Rattle.sections.specs.Showing.{HasSection, ShowsHere};
 ghost use Rattle.sections.specs.Words.{cells_in};
 ghost use Rattle.sections.specs.declared.view.Role.TheVariants.{Cpu};
 
-use crate::board::{Board, DomainSeat, Words};
+use crate::board::{Board, DomainSeat, Words, place_of_cell};
 use crate::plays;
 use parts::Part;
 use std::alloc::Allocator;
@@ -132,4 +135,32 @@ pub(crate) fn pay_in<T: Drop, A: Allocator, B: Allocator>(
     pay_part(top, seat, processor, slot, vault, part);
     let right = top.split_seat::<plays::GiveToken>(seat);
     top.join_seat::<plays::TakeBack>(lender, right);
+}
+
+/// Finds what is current in the cell by a seat that has the right to a section itself, and shows the box that it has.
+pub(crate) fn show_here<A: Allocator, T: Drop, B: Allocator, U, F: FnOnce(&T) -> U>(
+    table: &Words<A>,
+    seat: &mut DomainSeat,
+    processor: u16,
+    cell: usize,
+    vault: &Vault<T, B>,
+    show: F,
+) -> Option<U>
+    requires placed { IsPlaced table.now.shared.key table.now.shared.table_id seat.old }
+    requires role { (seat.old.me.0.role ≡ Cpu processor) × (processor < table.now.shared.key.processors) }
+    requires section { HasSection seat.old }
+    requires cell { cell < cells_in table.now.shared.table_id }
+    requires vault { KnowsVault cell (8 * table.now.shared.key.processors) vault.now seat.old.me.0.texts }
+    requires may { F.IsAlwaysCallable show }
+    ensures finds { ShowsHere cell seat.old seat.new }
+    ensures shows { MatchOption result (Unit {0}) (λ shown. (value : T) × FnOnceReturnsAt F.FnOnce show value shown) }
+{
+    let top = &table.shared;
+    let word = top.load::<plays::FindThere>(seat, place_of_cell(table, cell));
+    let slot = 8 * cell + (word % 16) as usize;
+    let key = take_key(top, seat, processor, slot);
+    let (key, shown) = vault.show(key, 8 * processor as usize + slot % 8, show);
+    top.exchange(seat, 32 * processor as usize + slot, key);
+    top.load::<plays::ReturnKey>(seat, slot);
+    shown
 }

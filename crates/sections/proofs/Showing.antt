@@ -1,0 +1,177 @@
+-- A section whose right is at the processor's own seat finds a box, and ends.
+use Rattle.std.specs.Prelude.{MatchOption}
+use Rattle.std.proofs.Common.{◌≡◌, ℕ, ◌+◌, ◌*◌, ◌/◌, ◌%◌, ◌<◌, ◌≤◌, List, [], ◌∷◌, ◌++◌, None, refl, sym, ap, ◌∙◌, subst, inl, arith}
+use Rattle.std.specs.Arc.{arc_value}
+use Rattle.atomic_table.specs.Seated.{TableId}
+use Rattle.sseq.specs.declared.index.Index.{Index}
+use Rattle.onedom.specs.declared.event.Maker.{Maker}
+use Rattle.onedom.specs.declared.event.Maker.TheVariants.{Processor}
+use Rattle.onedom.specs.declared.event.Event.{Event}
+use Rattle.onedom.specs.declared.event.Event.TheVariants.{Find, End}
+use Rattle.onedom.specs.Histories.{IsBeginning}
+use Rattle.onedom.proofs.CallerLemmas.{beginning_trans}
+use Rattle.sections.specs.declared.view.Bounds.{Bounds}
+use Rattle.sections.specs.declared.view.Lent.{Lent}
+use Rattle.sections.specs.declared.view.Role.TheVariants.{Cpu}
+use Rattle.sections.specs.declared.view.Right.TheVariants.{Nothing, Section}
+use Rattle.sections.specs.declared.view.View.{View}
+use Rattle.sections.specs.declared.cpu.Cpu.TheInside as cpu
+use Rattle.sections.specs.Words.{cells_in}
+use Rattle.sections.specs.Shelves.{IsKnown, offer_of}
+use Rattle.sections.specs.Banks.{vault_in}
+use Rattle.sections.specs.Boxes.{KnowsVault}
+use Rattle.sections.specs.Rule.{moment_of, steps_of, lacking, bearer, informed}
+use Rattle.sections.specs.Plays.{Adds}
+use Rattle.sections.specs.Taking.{KnowsFound}
+use Rattle.sections.specs.Drawing.{CanTake}
+use Rattle.sections.specs.Seats.{DomainSeat, IsPlaced}
+use Rattle.sections.specs.Pins.{FindsIn}
+use Rattle.sections.specs.Insides.{section_of, view_of_cpu, IsCpu}
+use Rattle.sections.specs.PinInsides.{view_of_found}
+use Rattle.sections.specs.Views.{CpuView, ReadingView, FoundView}
+use Rattle.sections.specs.Calls.{AddsEvent, Unlocks}
+use Rattle.sections.specs.Reads.{Finds}
+use Rattle.sections.specs.Loans.{CatchesUp}
+use Rattle.sections.specs.Showing.{HasSection, ShowsHere, FindsAndEnds}
+use Rattle.sections.proofs.CpuViews.{seen_as, history_of, adds_alone}
+use Rattle.sections.proofs.Finding.{texts_are}
+use Rattle.sections.proofs.Offered.{vault_stays}
+use Rattle.sections.proofs.Pinning.{finds_current, lent, found_in, finds}
+use Rattle.sections.proofs.Seating.{cells_are}
+
+-- the seat has seen the find that it made itself
+pub knows_here : (at : View) (s c x n : ℕ) (before : List Event) (by : Maker) → at.seen ≡ before ++ Find s c x n by ∷ [] → IsKnown c n at.texts → x < 8 → KnowsFound at s ((8 * c + x) / 8) ((8 * c + x) % 8) n (offer_of c n at.texts)
+knows_here at s c x n before by is known low = let cc : (8 * c + x) / 8 ≡ c = omega (arith, low) in let xx : (8 * c + x) % 8 ≡ x = omega (arith, low) in
+    subst (λ (z : ℕ × ℕ). KnowsFound at s z.0 z.1 n (offer_of c n at.texts)) (λ k. (sym cc k, sym xx k)) record { moment = moment_of at; among = inl refl; met = record { before = before; by = by; after = []; whole = is }; known = known; offer = refl }
+
+-- who knew the cell's vault finds a version that offers all of its keys
+pub offer_here : (c keys : ℕ) (vault : TableId) (v at : View) (s x n : ℕ) (by : Maker) → KnowsVault c keys vault v.texts → Adds v (Find s c x n by) at → IsKnown c n at.texts → (keys ≤ (offer_of c n at.texts).keys) × (vault_in (offer_of c n at.texts).vault ≡ vault)
+offer_here c keys vault v at s x n by knew adds known =
+    let k = vault_stays c keys vault v.texts at.texts adds.texts.since knew in
+    let counted = texts_are c at.texts at.seen adds.sound.legal adds.sound.texts in
+    let current = (finds_current s c x n by v.seen adds.before at.seen adds.seen adds.sound.legal adds.since).1 in
+    let there = k.known in
+    let le : k.version ≤ n = omega (arith, counted, current, there) in
+    let least = k.laid in let some = k.some in let more = adds.sound.vaults.more c k.version n le known in
+    (omega (arith, least, more), adds.sound.vaults.vault c k.version n le known (omega (arith, least, some)) ∙ k.of)
+
+pub can_take : (bounds : Bounds) (table : TableId) (p cell word : ℕ) (vault : TableId) (seat seat' : DomainSeat) (sec : HasSection seat) → IsPlaced bounds table seat → seat.me.0.role ≡ Cpu p → p < bounds.processors → cell < cells_in table → KnowsVault cell (8 * bounds.processors) vault seat.me.0.texts
+    → seat'.table_id ≡ seat.table_id → seat'.me.1 ≡ seat.me.1 → seat'.me.0.right ≡ seat.me.0.right
+    → Adds seat.me.0 (Find sec.section cell (word % 16) (word / 16) (Processor p)) seat'.me.0 × IsKnown cell (word / 16) seat'.me.0.texts × (word % 16 < 8)
+    → (can : CanTake bounds table p (8 * cell + word % 16) seat') × (vault_in can.offer.vault ≡ vault)
+can_take bounds table p cell word vault seat seat' sec placed role there inside knew same_table carried right found =
+    let wide = placed.wide in let few = placed.cells in
+    let counted = cells_are _ _ placed.wide placed.cells in
+    let lt : cell < bounds.cells = omega (arith, counted, inside) in let low = found.2 in
+    let cc : (8 * cell + word % 16) / 8 ≡ cell = omega (arith, low) in
+    let offers = offer_here cell (8 * bounds.processors) vault seat.me.0 seat'.me.0 sec.section (word % 16) (word / 16) (Processor p) knew found.0 found.1 in (
+      record {
+        seated = same_table ∙ placed.seated;
+        some = omega (arith, wide, few, lt, low);
+        bare = carried ∙ placed.bare;
+        sized = found.0.processors ∙ placed.sized;
+        role = found.0.role ∙ role;
+        there = there;
+        cell = omega (arith, cc, lt);
+        low = omega (arith, few, lt, low);
+        section = sec.section;
+        begun_on = sec.begun_on;
+        index = sec.index;
+        units = [];
+        right = right ∙ sec.right;
+        version = word / 16;
+        offer = offer_of cell (word / 16) seat'.me.0.texts;
+        found = knows_here seat'.me.0 sec.section cell (word % 16) (word / 16) found.0.before (Processor p) found.0.seen found.1 found.2;
+        all_keys = offers.0;
+      },
+      offers.1,
+    )
+
+-- What a caller sees of it
+module _ {A : Type 0} (c : cpu.Inside A) (i : IsCpu c) (cell p : ℕ) (k : Index) (lender joined last : DomainSeat) (right : lender.me.0.right ≡ Section (section_of lender.me.0.right) p k [] None) (one : joined.me.0 ≡ informed c.seat.me.0 (bearer lender.me.0)) (h : ShowsHere cell joined last) where
+  abbrev event : Event
+  event = Find (section_of lender.me.0.right) cell (h.word % 16) (h.word / 16) (Processor c.processor)
+
+  told : Adds (informed c.seat.me.0 (bearer lender.me.0)) event h.at × IsKnown cell (h.word / 16) h.at.texts × (h.word % 16 < 8)
+  told = let f = h.finds (section_of lender.me.0.right) p c.processor k [] (ap (λ (z : View). z.role) one ∙ i.role) (ap (λ (z : View). z.right) one ∙ right) in
+      (subst (λ (z : View). Adds z event h.at) one f.0, f.1, f.2)
+
+  -- as if the right had been lent for the find alone
+  abbrev alone : DomainSeat
+  alone = record c.seat { me = (lacking h.at, []) }
+
+  abbrev token : DomainSeat
+  token = record c.seat { me = (bearer (lacking h.at), []) }
+
+  lent_alone : FindsIn cell c.seat lender h.word alone token
+  lent_alone = record {
+    after = h.at;
+    adds = λ s q o j us role' right'. let f = h.finds s q o j us (ap (λ (z : View). z.role) one ∙ role') (ap (λ (z : View). z.right) one ∙ right') in
+        (subst (λ (z : View). Adds z (Find s cell (h.word % 16) (h.word / 16) (Processor o)) h.at) one f.0, f.1, f.2);
+    same_table = (refl, refl);
+    stays = refl;
+    given = refl;
+  }
+
+  abbrev found : FoundView
+  found = view_of_found (found_in cell h.word token)
+
+  abbrev at : CpuView
+  at = view_of_cpu (record c { seat = alone })
+
+  abbrev n : ℕ
+  n = (arc_value c.table).shared.key.processors
+
+  abbrev caught : CpuView
+  caught = seen_as c.seat.table_id n c.limit c.processor last.me.0
+
+  finds_it : Finds cell (lent lender p k) (view_of_cpu c) at found
+  finds_it = finds {lender = lender} i right lent_alone
+
+  sized : last.me.0.processors ≡ n
+  sized = h.catches.processors ∙ (told.0.processors ∙ i.placed.sized)
+
+  role : last.me.0.role ≡ Cpu c.processor
+  role = h.catches.role ∙ (told.0.role ∙ i.role)
+
+  reading_caught : IsBeginning lender.me.0.seen last.me.0.seen
+  reading_caught = beginning_trans (beginning_trans finds_it.adds.covers (record { rest = event ∷ []; whole = finds_it.adds.seen })) h.catches.since
+
+  catches_it : CatchesUp (lent lender p k) found at caught
+  catches_it = record {
+    same = (refl, refl, refl, refl);
+    mine = h.catches.mine;
+    steps = ap (steps_of (Processor c.processor)) h.catches.done;
+    since = h.catches.since;
+    later = h.catches.later;
+    texts_since = h.catches.texts.since;
+    history = history_of n c.processor last.me.0 sized role h.catches.sound;
+    covers_section = reading_caught;
+    covers = h.catches.since;
+    not_before = h.catches.later;
+    texts = h.catches.texts.since;
+  }
+
+  pub finds_and_ends : (final : DomainSeat) → final.table_id ≡ c.seat.table_id → final.me.0.right ≡ Nothing → Adds last.me.0 (End (section_of lender.me.0.right) c.processor (Processor c.processor)) final.me.0 → FindsAndEnds cell (lent lender p k) (view_of_cpu c) (view_of_cpu (record c { seat = final }))
+  finds_and_ends final table free adds =
+      let base = adds_alone (End (section_of lender.me.0.right) c.processor (Processor c.processor)) c.seat.table_id final.table_id n c.limit c.processor last.me.0 final.me.0 final.me.0 table sized role (λ j. record final.me.0 { right = free j }) adds in
+      let a = finds_it.adds.not_before in let b = h.catches.later in let d = adds.later in record {
+        at = at;
+        found = found;
+        finds = finds_it;
+        caught = caught;
+        catches = catches_it;
+        ends = record {
+          same = base.same;
+          before = base.before;
+          seen = base.seen;
+          since = base.since;
+          later = base.later;
+          covers = beginning_trans reading_caught base.covers;
+          not_before = omega (arith, a, b, d);
+          mine = base.mine;
+          steps = base.steps;
+          texts = base.texts;
+          history = base.history;
+        };
+      }

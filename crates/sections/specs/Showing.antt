@@ -1,0 +1,44 @@
+-- A box that is shown to a closure by a section that ends then.
+use Rattle.std.specs.Prelude.{◌≡◌, ℕ, ◌/◌, ◌%◌, ◌<◌, List, [], None}
+use Rattle.sseq.specs.declared.index.Index.{Index}
+use Rattle.onedom.specs.declared.event.Maker.TheVariants.{Processor}
+use Rattle.onedom.specs.declared.event.Event.TheVariants.{Find}
+use Rattle.sections.specs.declared.view.Role.TheVariants.{Cpu}
+use Rattle.sections.specs.declared.view.Right.TheVariants.{Section}
+use Rattle.sections.specs.declared.view.Lent.{Lent}
+use Rattle.sections.specs.declared.view.View.{View}
+use Rattle.sections.specs.Shelves.{IsKnown}
+use Rattle.sections.specs.Taking.{Catches}
+use Rattle.sections.specs.Plays.{Adds}
+use Rattle.sections.specs.Seats.{DomainSeat}
+use Rattle.sections.specs.Views.{CpuView, ReadingView, FoundView}
+use Rattle.sections.specs.Calls.{Unlocks}
+use Rattle.sections.specs.Reads.{Finds}
+use Rattle.sections.specs.Loans.{CatchesUp}
+
+-- the seat itself has the right to a section with which nothing is out
+pub record HasSection (seat : DomainSeat) : Type 0 where
+  pub section : ℕ
+  pub begun_on : ℕ
+  pub index : Index
+  pub right : seat.me.0.right ≡ Section section begun_on index [] None
+
+-- the section of the seat's right found what the word says, and the seat caught up with what its key tells
+pub record ShowsHere (cell : ℕ) (seat seat' : DomainSeat) : Type 0 where
+  pub word : ℕ
+  pub at : View
+  pub finds : (s q p : ℕ) (i : Index) (us : List Lent) → seat.me.0.role ≡ Cpu p → seat.me.0.right ≡ Section s q i us None
+      → Adds seat.me.0 (Find s cell (word % 16) (word / 16) (Processor p)) at × IsKnown cell (word / 16) at.texts × (word % 16 < 8)
+  pub catches : Catches at seat'.me.0
+  pub right : seat'.me.0.right ≡ seat.me.0.right
+  pub same_table : seat'.table_id ≡ seat.table_id
+  pub bare : seat'.me.1 ≡ []
+
+-- the section of the reading found this version of the cell, and then it ended
+pub record FindsAndEnds (cell : ℕ) (r : ReadingView) (c c' : CpuView) : Type 0 where
+  pub at : CpuView
+  pub found : FoundView
+  pub finds : Finds cell r c at found
+  pub caught : CpuView
+  pub catches : CatchesUp r found at caught
+  pub ends : Unlocks r caught c'

@@ -1,0 +1,53 @@
+//! A box that is shown to a closure in the last step of a section: the section's right is at the processor's own seat then,
+//! where its end needs it, so nothing is lent.
+ghost use Rattle.std.specs.Prelude.{◌≡◌, ◌*◌, ◌<◌, MatchOption};
+ghost use Rattle.std.specs.Fn.{FnOnceReturnsAt};
+ghost use Rattle.sections.specs.Words.{cells_in};
+ghost use Rattle.sections.specs.Boxes.{KnowsVault};
+ghost use Rattle.sections.specs.Calls.{IsHere};
+ghost use Rattle.sections.specs.Showing.{FindsAndEnds};
+
+use super::drawing::show_here;
+use super::{Cpu, Reading};
+use crate::board::place_of_unlock;
+use crate::plays;
+use std::alloc::Allocator;
+use vault::Vault;
+
+impl<A: Allocator> Cpu<A> {
+    /// Finds the box that is current in the cell (`srcu_dereference`), in the section of a reading that was begun here, shows
+    /// its value to a closure, and ends the section (`srcu_read_unlock`). None where no part of a box lies at this processor.
+    pub fn show_and_unlock<T: Drop, B: Allocator, U, F: FnOnce(&T) -> U>(
+        &mut self,
+        reading: Reading,
+        cell: usize,
+        vault: &Vault<T, B>,
+        show: F,
+    ) -> Option<U>
+        requires here { IsHere self.old reading }
+        requires cell { cell < cells_in self.old.domain }
+        requires vault { KnowsVault cell (8 * self.old.processors) vault.now self.old.texts }
+        requires may { F.IsAlwaysCallable show }
+        ensures finds { FindsAndEnds cell reading self.old self.new }
+        ensures shows { MatchOption result (Unit {0}) (λ shown. (value : T) × FnOnceReturnsAt F.FnOnce show value shown) }
+    {
+        let Reading {
+            index,
+            processor: _,
+            seat: token,
+        } = reading;
+        let top = &self.table.shared;
+        top.join_seat::<plays::TakeToken>(&mut self.seat, token);
+        let shown = show_here(
+            &*self.table,
+            &mut self.seat,
+            self.processor,
+            cell,
+            vault,
+            show,
+        );
+        top.fetch_add::<plays::Unlock>(&mut self.seat, place_of_unlock(self.processor, index), 1);
+        self.settled += 1;
+        shown
+    }
+}
