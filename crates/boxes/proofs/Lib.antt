@@ -6,4 +6,5 @@ pub mod Keeping
 pub mod Putting
 pub mod Reading
 pub mod Replacing
+pub mod Shown
 pub mod Slots

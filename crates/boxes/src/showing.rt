@@ -28,17 +28,7 @@ impl<V: Drop, A: Allocator> Boxes<V, A> {
         ensures stays { Stays cpu.old cpu.new }
     {
         let reading = cpu.read_lock()?;
-        match self.find(cpu, reading) {
-            Ok(pin) => {
-                let shown = show(pin.get());
-                let reading = self.release(cpu, pin);
-                cpu.read_unlock(reading);
-                Ok(Some(shown))
-            }
-            Err(reading) => {
-                cpu.read_unlock(reading);
-                Ok(None)
-            }
-        }
+        cpu.recall(&mut self.first);
+        Ok(cpu.show_and_unlock(reading, self.cell, &*self.vault, show))
     }
 }

@@ -1,7 +1,10 @@
 //! Parts of boxes on a processor, each call as that of `sections`.
-ghost use Rattle.std.specs.Prelude.{◌≡◌, ◌<◌, MatchResult};
+ghost use Rattle.std.specs.Prelude.{◌≡◌, ◌*◌, ◌<◌, MatchOption, MatchResult};
+ghost use Rattle.std.specs.Fn.{FnOnceReturnsAt};
 ghost use Rattle.sections.specs.Words.{cells_in};
-ghost use Rattle.sections.specs.Calls.{Hears};
+ghost use Rattle.sections.specs.Calls.{Hears, IsHere};
+ghost use Rattle.sections.specs.Boxes.{KnowsVault};
+ghost use Rattle.sections.specs.Showing.{FindsAndEnds};
 ghost use Rattle.sections.specs.Shelves.{IsStart, IsKnown};
 ghost use Rattle.sections.specs.Reads.{Finds, IsPinned};
 ghost use Rattle.sections.specs.Loans.{CatchesUp, OffersBy, IsPartOf};
@@ -140,5 +143,26 @@ impl<J, A: Allocator> Cpu<J, A> {
         ensures same { self.new ≡ self.old }
     {
         self.cpu.current(&writer.writer)
+    }
+
+    /// Finds the box that is current in the cell (`srcu_dereference`), in the section of a reading that was begun here, shows
+    /// its value to a closure, and ends the section (`srcu_read_unlock`). None where no part of a box lies at this processor.
+    pub fn show_and_unlock<T: Drop, B: Allocator, U, F: FnOnce(&T) -> U>(
+        &mut self,
+        reading: Reading,
+        cell: usize,
+        vault: &Vault<T, B>,
+        show: F,
+    ) -> Option<U>
+        requires here { IsHere self.old.cpu reading }
+        requires cell { cell < cells_in self.old.cpu.domain }
+        requires vault { KnowsVault cell (8 * self.old.cpu.processors) vault.now self.old.cpu.texts }
+        requires may { F.IsAlwaysCallable show }
+        ensures finds { FindsAndEnds cell reading self.old.cpu self.new.cpu }
+        ensures shows { MatchOption result (Unit {0}) (λ shown. (value : T) × FnOnceReturnsAt F.FnOnce show value shown) }
+        ensures rest { self.new ≡ with_cpu self.new.cpu self.old }
+        ensures stays { Stays self.old self.new }
+    {
+        self.cpu.show_and_unlock(reading, cell, vault, show)
     }
 }

@@ -1,22 +1,18 @@
--- A section began, a box was found and shown, and the section ended.
-use Rattle.std.proofs.Common.{◌∙◌, subst}
-use Rattle.sections.specs.Views.{ReadingView}
-use Rattle.sections.specs.Calls.{Unlocks}
-use Rattle.sections.specs.Loans.{CatchesUp}
+-- A section began, learned of the vault, and its last call found a box, showed it, and ended the section.
+use Rattle.std.proofs.Common.{ℕ, ◌*◌, sym, ap, ◌∙◌, subst}
+use Rattle.atomic_table.specs.Seated.{TableId}
+use Rattle.sections.specs.Boxes.{KnowsVault}
+use Rattle.sections.proofs.CallerLemmas.{vault_stays}
+use Rattle.boxes.proofs.Shown.{shows_box}
 use Rattle.boxes.proofs.readers.Boxes.read.Goals as goal
 
-pub returns-in-Ok-clause-shows : goal.returns-in-Ok-clause-shows
-returns-in-Ok-clause-shows g c =
-    let finds = c.in-Ok.ensures.finds in
-    let back = c.release-reading.ensures in record {
-      begun = c.read_lock.new.self.cpu;
-      section = c.in_ok-reading.reading;
-      locks = c.in_ok-reading.ensures.locks;
-      found = c.find.new.cpu.cpu;
-      pin = c.in-Ok.pin;
-      finds = finds;
-      shows = (c.get.result, c.show-shown.ensures, c.get.ensures);
-      released = c.release-reading.new.cpu.cpu;
-      catches = subst (λ (r : ReadingView). CatchesUp r c.in-Ok.pin.found c.find.new.cpu.cpu c.release-reading.new.cpu.cpu) finds.section back.catches;
-      ends = subst (λ (r : ReadingView). Unlocks r c.release-reading.new.cpu.cpu c.read_unlock.new.self.cpu) (back.reading ∙ finds.section) c.read_unlock.ensures.ends;
-    }
+pub show_and_unlock-requires-clause-vault : goal.show_and_unlock-requires-clause-vault
+show_and_unlock-requires-clause-vault g c =
+    let locks = c.in_ok-reading.ensures.locks in
+    let count = (ap (λ z. z.processors) c.self.view_is ∙ c.requires.cell.1) ∙ sym (c.recall.ensures.hears.looks.same.1 ∙ (locks.enters.adds.same.1 ∙ locks.looks.load.same.1)) in
+    subst (λ (z : ℕ × TableId). KnowsVault c.self.inside.cell (8 * z.0) z.1 c.recall.new.self.cpu.texts) (λ i. (count i, sym c.deref.ensures i))
+    (vault_stays c.self.inside.cell (8 * c.self.inside.processors) _ c.self.inside.first.texts c.recall.new.self.cpu.texts c.recall.ensures.texts c.self.invariant.knows)
+
+pub returns-clause-shows : goal.returns-clause-shows
+returns-clause-shows g c =
+    rw (← c.self.view_is) (shows_box g.F.FnOnce c.args.show _ c.args.cpu.now.cpu c.read_lock.new.self.cpu c.recall.new.self.cpu c.show_and_unlock.new.self.cpu c.in_ok-reading.reading c.self.inside.first.seen c.self.inside.first.changes c.self.inside.first.texts c.show_and_unlock.result c.in_ok-reading.ensures.locks c.recall.ensures.hears c.self.invariant.knows c.recall.ensures.texts c.show_and_unlock.ensures.finds c.show_and_unlock.ensures.shows)
