@@ -1,12 +1,13 @@
 -- All words of a version are loaded, and nothing is done.
-use Rattle.std.proofs.Common.{◌≡◌, ℕ, List, [], append-nil, sym, ◌∙◌, subst}
+use Rattle.std.proofs.Common.{◌≡◌, ℕ, List, [], append-nil, refl, sym, ◌∙◌, subst}
 use Rattle.onedom.specs.declared.event.Event.{Event}
 use Rattle.onedom.specs.Histories.{IsBeginning}
 use Rattle.sections.specs.Views.{ReadingView, FoundView}
 use Rattle.sections.specs.Reads.{ReadsWords}
 use Rattle.domain.specs.Views.{CpuView, with_cpu}
-use Rattle.domain.specs.Reading.{LoadsAll}
-use Rattle.domain.proofs.Acting.{does_nothing}
+use Rattle.sections.specs.Showing as sections
+use Rattle.domain.specs.Reading.{LoadsAll, ReadsAndEnds}
+use Rattle.domain.proofs.Acting.{does_nothing, find_acts, end_acts}
 
 module _ {J : Type 0} (c c' : CpuView J) (rest : c' ≡ with_cpu c'.cpu c) where
   pub loads_all : {r : ReadingView} {f : FoundView} {words : List ℕ} → ReadsWords r f words c.cpu c'.cpu → LoadsAll r f words c c'
@@ -21,4 +22,17 @@ module _ {J : Type 0} (c c' : CpuView J) (rest : c' ≡ with_cpu c'.cpu c) where
     covers = record { section = h.covers_reading; found = h.covers; changes = h.not_before; texts = h.texts; history = h.history };
     rest = rest;
     acts = does_nothing c c' rest (record { same = h.same; others = []; since = subst (λ (l : List Event). IsBeginning l c'.cpu.seen) (sym (append-nil c.cpu.seen)) h.since; mine = h.mine ∙ sym (append-nil c.cpu.mine); later = h.later });
+  }
+
+module _ {J : Type 0} (c c' : CpuView J) (rest : c' ≡ with_cpu c'.cpu c) where
+  pub reads_and_ends : {cell : ℕ} {r : ReadingView} {words : List ℕ} → sections.ReadsAndEnds cell r words c.cpu c'.cpu → ReadsAndEnds cell r words c c'
+  reads_and_ends h = record {
+    found = h.found;
+    at = with_cpu h.at c;
+    finds = h.finds;
+    looks = find_acts c (with_cpu h.at c) refl h.finds;
+    read = with_cpu h.read c;
+    loads = loads_all (with_cpu h.at c) (with_cpu h.read c) refl h.reads;
+    ends = h.ends;
+    closes = end_acts (with_cpu h.read c) c' rest h.ends;
   }

@@ -3,8 +3,8 @@ use Rattle.std.specs.Prelude.{◌≡◌, ℕ, ◌≤◌, List, ◌++◌}
 use Rattle.onedom.specs.Histories.{IsBeginning}
 use Rattle.sections.specs.Shelves.{IsStart}
 use Rattle.sections.specs.Views.{ReadingView, FoundView}
-use Rattle.sections.specs.Calls.{IsSameCpu, IsSeenBy}
-use Rattle.sections.specs.Reads.{AreWords, word_loads}
+use Rattle.sections.specs.Calls.{IsSameCpu, IsSeenBy, Unlocks}
+use Rattle.sections.specs.Reads.{AreWords, word_loads, Finds}
 use Rattle.domain.specs.Views.{CpuView, with_cpu}
 use Rattle.domain.specs.Acting as doing
 use Rattle.domain.specs.Acting.{ActsAs}
@@ -30,3 +30,14 @@ module _ {J : Type 0} where
     pub covers : Covers r f c'
     pub rest : c' ≡ with_cpu c'.cpu c
     pub acts : ActsAs doing.loads c c'
+
+  -- the section found this version of the cell, its sixteen words were loaded, and then the section ended: each as by a call of its own
+  pub record ReadsAndEnds (cell : ℕ) (r : ReadingView) (words : List ℕ) (c c' : CpuView J) : Type 0 where
+    pub found : FoundView
+    pub at : CpuView J
+    pub finds : Finds cell r c.cpu at.cpu found
+    pub looks : ActsAs (doing.finds r.section cell found) c at
+    pub read : CpuView J
+    pub loads : LoadsAll r found words at read
+    pub ends : Unlocks r read.cpu c'.cpu
+    pub closes : ActsAs (doing.ends r.section) read c'

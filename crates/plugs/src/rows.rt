@@ -141,6 +141,7 @@ fn place_of(rows: &[Row], key: u32) -> usize
 /// The plug of the key in the table that has these words, and none where they are those of no table. The words are read
 /// where they lie: each of them is the word of one row, so all that may be wrong is how many they are, their order, and
 /// what stands behind them.
+#[inline(always)]
 pub fn plug_in(words: &[u64; 16], key: u32) -> Option<u32>
     ensures { ReadsPlug words.now key result }
 {
@@ -151,6 +152,7 @@ pub fn plug_in(words: &[u64; 16], key: u32) -> Option<u32>
 }
 
 /// Whether these are the words of a table.
+#[inline(always)]
 fn is_text(words: &[u64; 16]) -> bool
     ensures { IsTrue result ↔ IsText words.now }
 {
@@ -172,6 +174,7 @@ fn is_text(words: &[u64; 16]) -> bool
 }
 
 /// The plug of the key in the rows that the words behind the first one are: as many as that says.
+#[inline(always)]
 fn look_in(words: &[u64; 16], key: u32) -> Option<u32>
     requires { slice_index words.now 0 ≤ 15 }
     ensures { result ≡ plug_of (rows_in words.now) key }

@@ -1,15 +1,14 @@
 //! Who reads a table.
-ghost use Rattle.std.specs.Prelude.{◌≡◌, ◌<◌, IfErr, MatchResult};
-ghost use Rattle.sections.specs.Words.{cells_in};
+ghost use Rattle.std.specs.Prelude.{◌≡◌, IfErr, MatchResult};
 ghost use Rattle.sections.specs.Calls.{LooksInVain};
 ghost use Rattle.domain.specs.Views.{Stays, with_cpu};
 ghost use Rattle.domain.specs.Acting.{loads, ActsAs};
 ghost use Rattle.shelf.specs.Cells.{IsCellIn, cell_of};
-ghost use Rattle.plugs.specs.Reading.{FindsPlug, LooksUp, Leases};
+ghost use Rattle.plugs.specs.Reading.{LooksUp, Leases};
 
 use crate::lease::Lease;
 use crate::rows::plug_in;
-use domain::{Cpu, Exhausted, Reading, Writer};
+use domain::{Cpu, Exhausted, Writer};
 use shelf::DomainName;
 use std::alloc::Allocator;
 use std::marker::Model;
@@ -58,12 +57,11 @@ impl TableView {
         ensures stays { Stays cpu.old cpu.new }
         ensures refused { IfErr result (λ _. ActsAs loads cpu.old cpu.new) }
     {
-        let Ok(mut reading) = cpu.read_lock() else {
+        let Ok(reading) = cpu.read_lock() else {
             return Err(Exhausted);
         };
-        let plug = plug_there(cpu, &mut reading, self.cell, key);
-        cpu.read_unlock(reading);
-        Ok(plug)
+        let words = cpu.words_and_unlock(reading, self.cell);
+        Ok(plug_in(&words, key))
     }
 
     /// A held section with the version that it finds, no older than any that the processor has seen. It takes no memory
@@ -82,22 +80,4 @@ impl TableView {
         };
         Ok(Lease::of_pin(cpu.find_held(held, self.cell)))
     }
-}
-
-/// The plug of the key in the version that is current in the cell.
-fn plug_there<J, A: Allocator>(
-    cpu: &mut Cpu<J, A>,
-    reading: &mut Reading,
-    cell: usize,
-    key: u32,
-) -> Option<u32>
-    requires here { reading.old.domain ≡ cpu.old.cpu.domain }
-    requires cell { cell < cells_in cpu.old.cpu.domain }
-    ensures finds { FindsPlug cell key reading.old result cpu.old cpu.new }
-    ensures reading { reading.new ≡ reading.old }
-    ensures rest { cpu.new ≡ with_cpu cpu.new.cpu cpu.old }
-    ensures stays { Stays cpu.old cpu.new }
-{
-    let mut pin = cpu.find(reading, cell);
-    plug_in(&cpu.words(&mut pin), key)
 }

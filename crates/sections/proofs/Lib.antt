@@ -27,6 +27,7 @@ mod Pinning
 mod Polling
 mod Putting
 mod Recalled
+mod Readings
 mod Reclaiming
 mod Seating
 mod Sharing

@@ -1,5 +1,4 @@
 -- A section whose right is at the processor's own seat finds a box, and ends.
-use Rattle.std.specs.Prelude.{MatchOption}
 use Rattle.std.proofs.Common.{◌≡◌, ℕ, ◌+◌, ◌*◌, ◌/◌, ◌%◌, ◌<◌, ◌≤◌, List, [], ◌∷◌, ◌++◌, None, refl, sym, ap, ◌∙◌, subst, inl, arith}
 use Rattle.std.specs.Arc.{arc_value}
 use Rattle.atomic_table.specs.Seated.{TableId}
@@ -11,7 +10,6 @@ use Rattle.onedom.specs.declared.event.Event.TheVariants.{Find, End}
 use Rattle.onedom.specs.Histories.{IsBeginning}
 use Rattle.onedom.proofs.CallerLemmas.{beginning_trans}
 use Rattle.sections.specs.declared.view.Bounds.{Bounds}
-use Rattle.sections.specs.declared.view.Lent.{Lent}
 use Rattle.sections.specs.declared.view.Role.TheVariants.{Cpu}
 use Rattle.sections.specs.declared.view.Right.TheVariants.{Nothing, Section}
 use Rattle.sections.specs.declared.view.View.{View}
@@ -28,8 +26,7 @@ use Rattle.sections.specs.Seats.{DomainSeat, IsPlaced}
 use Rattle.sections.specs.Pins.{FindsIn}
 use Rattle.sections.specs.Insides.{section_of, view_of_cpu, IsCpu}
 use Rattle.sections.specs.PinInsides.{view_of_found}
-use Rattle.sections.specs.Views.{CpuView, ReadingView, FoundView}
-use Rattle.sections.specs.Calls.{AddsEvent, Unlocks}
+use Rattle.sections.specs.Views.{CpuView, FoundView}
 use Rattle.sections.specs.Reads.{Finds}
 use Rattle.sections.specs.Loans.{CatchesUp}
 use Rattle.sections.specs.Showing.{HasSection, ShowsHere, FindsAndEnds}

@@ -71,7 +71,7 @@ loads_push : (c n i w : ℕ) (ws : List ℕ) → word_loads c n i (ws ++ w ∷ [
 loads_push c n i w [] = ap (λ k. LoadWord c n k w ∷ []) (let e : i ≡ i + 0 = omega arith in e)
 loads_push c n i w (x ∷ xs) = ap (λ l. LoadWord c n i x ∷ l) (loads_push c n (i + 1) w xs ∙ ap (λ k. word_loads c n (i + 1) xs ++ LoadWord c n k w ∷ []) (let e : i + 1 + length xs ≡ i + suc (length xs) = omega arith in e))
 
-loads_behind : (c n w : ℕ) (ws : List ℕ) → word_loads c n 0 (ws ++ w ∷ []) ≡ word_loads c n 0 ws ++ LoadWord c n (length ws) w ∷ []
+pub loads_behind : (c n w : ℕ) (ws : List ℕ) → word_loads c n 0 (ws ++ w ∷ []) ≡ word_loads c n 0 ws ++ LoadWord c n (length ws) w ∷ []
 loads_behind c n w ws = loads_push c n 0 w ws ∙ ap (λ k. word_loads c n 0 ws ++ LoadWord c n k w ∷ []) (let e : 0 + length ws ≡ length ws = omega arith in e)
 
 -- The words so far

@@ -1,5 +1,5 @@
 -- A box that is shown to a closure by a section that ends then.
-use Rattle.std.specs.Prelude.{◌≡◌, ℕ, ◌/◌, ◌%◌, ◌<◌, List, [], None}
+use Rattle.std.specs.Prelude.{◌≡◌, ℕ, ◌/◌, ◌%◌, ◌<◌, List, [], None, length, slice_index_or}
 use Rattle.sseq.specs.declared.index.Index.{Index}
 use Rattle.onedom.specs.declared.event.Maker.TheVariants.{Processor}
 use Rattle.onedom.specs.declared.event.Event.TheVariants.{Find}
@@ -7,13 +7,14 @@ use Rattle.sections.specs.declared.view.Role.TheVariants.{Cpu}
 use Rattle.sections.specs.declared.view.Right.TheVariants.{Section}
 use Rattle.sections.specs.declared.view.Lent.{Lent}
 use Rattle.sections.specs.declared.view.View.{View}
-use Rattle.sections.specs.Shelves.{IsKnown}
+use Rattle.sections.specs.Shelves.{IsKnown, word_of}
 use Rattle.sections.specs.Taking.{Catches}
 use Rattle.sections.specs.Plays.{Adds}
 use Rattle.sections.specs.Seats.{DomainSeat}
+use Rattle.sections.specs.Pins.{SeesAll}
 use Rattle.sections.specs.Views.{CpuView, ReadingView, FoundView}
 use Rattle.sections.specs.Calls.{Unlocks}
-use Rattle.sections.specs.Reads.{Finds}
+use Rattle.sections.specs.Reads.{Finds, word_loads, ReadsWords}
 use Rattle.sections.specs.Loans.{CatchesUp}
 
 -- the seat itself has the right to a section with which nothing is out
@@ -42,3 +43,25 @@ pub record FindsAndEnds (cell : ℕ) (r : ReadingView) (c c' : CpuView) : Type 0
   pub caught : CpuView
   pub catches : CatchesUp r found at caught
   pub ends : Unlocks r caught c'
+
+-- the section of the seat's right found what the word says, and then the seat loaded these sixteen words of that version
+pub record ReadsHere (cell : ℕ) (seat : DomainSeat) (words : List ℕ) (seat' : DomainSeat) : Type 0 where
+  pub word : ℕ
+  pub at : View
+  pub finds : (s q p : ℕ) (i : Index) (us : List Lent) → seat.me.0.role ≡ Cpu p → seat.me.0.right ≡ Section s q i us None
+      → Adds seat.me.0 (Find s cell (word % 16) (word / 16) (Processor p)) at × IsKnown cell (word / 16) at.texts × (word % 16 < 8)
+  pub long : length words ≡ 16
+  pub loads : SeesAll (word_loads cell (word / 16) 0 words) at seat'.me.0
+  pub values : (k : ℕ) → k < length words → slice_index_or words k 0 ≡ word_of cell (word / 16) k at.texts
+  pub right : seat'.me.0.right ≡ seat.me.0.right
+  pub same_table : seat'.table_id ≡ seat.table_id
+  pub bare : seat'.me.1 ≡ []
+
+-- the section of the reading found this version of the cell, its words were loaded, and then the section ended
+pub record ReadsAndEnds (cell : ℕ) (r : ReadingView) (words : List ℕ) (c c' : CpuView) : Type 0 where
+  pub at : CpuView
+  pub found : FoundView
+  pub finds : Finds cell r c at found
+  pub read : CpuView
+  pub reads : ReadsWords r found words at read
+  pub ends : Unlocks r read c'

@@ -1,10 +1,11 @@
 //! Versions on a processor, each call as that of `sections`.
 ghost use Rattle.std.specs.Prelude.{◌≡◌, ◌<◌};
 ghost use Rattle.sections.specs.Words.{cells_in};
+ghost use Rattle.sections.specs.Calls.{IsHere};
 ghost use Rattle.sections.specs.Reads.{Finds, IsPinned, ReadsWord};
 ghost use Rattle.domain.specs.Views.{Stays, with_cpu};
 ghost use Rattle.domain.specs.Acting.{loads, finds, ActsAs};
-ghost use Rattle.domain.specs.Reading.{LoadsAll};
+ghost use Rattle.domain.specs.Reading.{LoadsAll, ReadsAndEnds};
 
 use super::Cpu;
 use sections::{DownPin, Held, HeldPin, Pin, Reading};
@@ -135,5 +136,18 @@ impl<J, A: Allocator> Cpu<J, A> {
         ensures stays { Stays self.old self.new }
     {
         self.cpu.words_held(pin)
+    }
+
+    /// Finds what is current in the cell (`srcu_dereference`), in the section of a reading that was begun here, loads the
+    /// sixteen words of that version, and ends the section (`srcu_read_unlock`).
+    #[inline(always)]
+    pub fn words_and_unlock(&mut self, reading: Reading, cell: usize) -> [u64; 16]
+        requires here { IsHere self.old.cpu reading }
+        requires cell { cell < cells_in self.old.cpu.domain }
+        ensures reads { ReadsAndEnds cell reading result self.old self.new }
+        ensures rest { self.new ≡ with_cpu self.new.cpu self.old }
+        ensures stays { Stays self.old self.new }
+    {
+        self.cpu.words_and_unlock(reading, cell)
     }
 }

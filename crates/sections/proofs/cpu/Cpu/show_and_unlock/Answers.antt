@@ -2,7 +2,7 @@ use Rattle.std.proofs.Common.{rules, ◌≡◌, ℕ, ◌/◌, ◌%◌, [], ◌�
 use Rattle.sseq.specs.declared.index.Index.TheVariants.{Zero, One}
 use Rattle.onedom.specs.declared.event.Maker.TheVariants.{Processor}
 use Rattle.onedom.specs.declared.event.Event.TheVariants.{Find}
-use Rattle.sections.specs.Words.{locks, open_readings}
+use Rattle.sections.specs.Words.{open_readings}
 use Rattle.sections.specs.Insides.{section_of}
 use Rattle.sections.proofs.Banking.{free_nothing, free_section, free_shelf}
 use Rattle.sections.proofs.Agreement.{unlock_there}

@@ -1,10 +1,10 @@
-use Rattle.std.proofs.Common.{ℕ, ◌+◌, ◌*◌, ◌%◌, [], ◌∷◌, refl, sym, ap, ◌∙◌, subst, arith}
+use Rattle.std.proofs.Common.{ℕ, ◌+◌, ◌*◌, ◌%◌, [], refl, sym, ap, ◌∙◌, subst, arith}
 use Rattle.sections.specs.declared.view.View.{View}
 use Rattle.sections.specs.declared.view.Hand.{Hand}
 use Rattle.sections.specs.Words.{cell_place}
 use Rattle.sections.specs.Taking.{hand_with, Catches}
 use Rattle.sections.proofs.Taking.{returns_here}
-use Rattle.sections.proofs.Drawing.{catches_right, exchanged, has_one, match_map}
+use Rattle.sections.proofs.Drawing.{catches_right, exchanged, match_map}
 use Rattle.sections.proofs.Finding.{finds_here, cell_there}
 use Rattle.sections.proofs.Seating.{cells_are}
 use Rattle.sections.proofs.Showing.{can_take}
@@ -26,13 +26,13 @@ take_key-key-requires g c = let sec = c.requires.section in let f = c.load-word.
 pub show-key-requires-clause-key : goal.show-key-requires-clause-key
 show-key-requires-clause-key g c = let sec = c.requires.section in let f = c.load-word.ensures.2 in
     let can = can_take _ _ c.args.processor c.args.cell c.load-word.result _ c.args.seat.now c.load-word.new.seat sec c.requires.placed c.requires.role.0 c.requires.role.1 c.requires.cell c.requires.vault c.load-word.ensures.0 f.0 f.1
-        (f.2 sec.section c.args.processor sec.begun_on c.args.cell sec.index [] c.requires.role.0 sec.right (c.place_of_cell.ensures ∙ ap (λ n. cell_place n c.args.cell) (sym c.requires.placed.sized))) in
+    (f.2 sec.section c.args.processor sec.begun_on c.args.cell sec.index [] c.requires.role.0 sec.right (c.place_of_cell.ensures ∙ ap (λ n. cell_place n c.args.cell) (sym c.requires.placed.sized))) in
     let r = can.0 in let k = c.take_key-key.ensures.holds r.section r.begun_on r.version r.index r.units r.offer r.right r.found in (k.count, k.round, (k.opens.0 ∙ can.1, k.opens.1))
 
 pub load-requires : goal.load-requires
 load-requires g c = let sec = c.requires.section in let f = c.load-word.ensures.2 in
     let can = can_take _ _ c.args.processor c.args.cell c.load-word.result _ c.args.seat.now c.load-word.new.seat sec c.requires.placed c.requires.role.0 c.requires.role.1 c.requires.cell c.requires.vault c.load-word.ensures.0 f.0 f.1
-        (f.2 sec.section c.args.processor sec.begun_on c.args.cell sec.index [] c.requires.role.0 sec.right (c.place_of_cell.ensures ∙ ap (λ n. cell_place n c.args.cell) (sym c.requires.placed.sized))) in
+    (f.2 sec.section c.args.processor sec.begun_on c.args.cell sec.index [] c.requires.role.0 sec.right (c.place_of_cell.ensures ∙ ap (λ n. cell_place n c.args.cell) (sym c.requires.placed.sized))) in
     let r = can.0 in let t = c.take_key-key.ensures in let k = t.holds r.section r.begun_on r.version r.index r.units r.offer r.right r.found in
     let y : ℕ = 8 * c.args.cell + c.load-word.result % 16 in let p : ℕ = c.args.processor in
     let h : Hand = hand_with y p c.take_key-key.result k.count k.round in
@@ -47,7 +47,7 @@ pub returns-clause-finds : goal.returns-clause-finds
 returns-clause-finds g c = let sec = c.requires.section in let f = c.load-word.ensures.2 in
     let place = c.place_of_cell.ensures ∙ ap (λ n. cell_place n c.args.cell) (sym c.requires.placed.sized) in
     let can = can_take _ _ c.args.processor c.args.cell c.load-word.result _ c.args.seat.now c.load-word.new.seat sec c.requires.placed c.requires.role.0 c.requires.role.1 c.requires.cell c.requires.vault c.load-word.ensures.0 f.0 f.1
-        (f.2 sec.section c.args.processor sec.begun_on c.args.cell sec.index [] c.requires.role.0 sec.right place) in
+    (f.2 sec.section c.args.processor sec.begun_on c.args.cell sec.index [] c.requires.role.0 sec.right place) in
     let r = can.0 in let t = c.take_key-key.ensures in let k = t.holds r.section r.begun_on r.version r.index r.units r.offer r.right r.found in
     let y : ℕ = 8 * c.args.cell + c.load-word.result % 16 in let p : ℕ = c.args.processor in
     let h : Hand = hand_with y p c.take_key-key.result k.count k.round in
@@ -65,6 +65,6 @@ returns-clause-finds g c = let sec = c.requires.section in let f = c.load-word.e
 pub returns-clause-shows : goal.returns-clause-shows
 returns-clause-shows g c = let sec = c.requires.section in let f = c.load-word.ensures.2 in
     let can = can_take _ _ c.args.processor c.args.cell c.load-word.result _ c.args.seat.now c.load-word.new.seat sec c.requires.placed c.requires.role.0 c.requires.role.1 c.requires.cell c.requires.vault c.load-word.ensures.0 f.0 f.1
-        (f.2 sec.section c.args.processor sec.begun_on c.args.cell sec.index [] c.requires.role.0 sec.right (c.place_of_cell.ensures ∙ ap (λ n. cell_place n c.args.cell) (sym c.requires.placed.sized))) in
+    (f.2 sec.section c.args.processor sec.begun_on c.args.cell sec.index [] c.requires.role.0 sec.right (c.place_of_cell.ensures ∙ ap (λ n. cell_place n c.args.cell) (sym c.requires.placed.sized))) in
     let r = can.0 in let k = c.take_key-key.ensures.holds r.section r.begun_on r.version r.index r.units r.offer r.right r.found in
     match_map c.show-key.result.1 (λ _. tt) (λ u shown. shown) (c.show-key.ensures.shows k.count k.round (k.opens.0 ∙ can.1, k.opens.1))
