@@ -52,7 +52,7 @@ loop-place-preserved g c =
     let found = inv.finds sec.section sec.begun_on c.requires.role.0 sec.index [] c.requires.role.1 sec.right in
     let met = seen_here c.args.cell c.load-found.result c.loop-place.place c.requires.role.0 c.args.seat.now c.loop-place.words c.loop-place.seat sec c.requires.role.1 inv in
     let gives = f.2 sec.section sec.begun_on c.args.cell (c.load-found.result % 16) (c.load-found.result / 16) c.loop-place.place sec.index (inv.right ∙ sec.right) met found.2 c.loop-place-test.true
-        (let e = c.place_of_word-first.ensures in let n = all.processors ∙ (found.0.processors ∙ c.requires.placed.sized) in omega (arith, e, n)) in record {
+    (let e = c.place_of_word-first.ensures in let n = all.processors ∙ (found.0.processors ∙ c.requires.placed.sized) in omega (arith, e, n)) in record {
       at = inv.at;
       finds = inv.finds;
       so_far = so_far_next c.args.cell (c.load-found.result / 16) c.loop-place.place c.load.result inv.at c.loop-place.words c.loop-place.seat.me.0 c.load.new.seat.me.0 found.1 c.loop-place-test.true inv.so_far gives;

@@ -37,8 +37,8 @@ returns-clause-key g c = λ had round is. let into = c.into_seat-seat.ensures in
     let view : c.load.new.seat.me.0 ≡ record (key_of c.args.place had round) { out = 1 } = took.2 ∙ ap (λ (z : Tally). record z { out = 1 }) same in
     let lies = subst (λ (z : Option (Pile g.row.T.Denot) × Tally). Lies z.0 z.1.count z.1.round) (λ i. (sym (first_is c.args.place took.0 there c.load.new.seat.me.1 m.1 took.3 c.slot_mut.ensures.value) i, same i)) took.1 in
     same_key c.args.self.now c.args.place (count_of there) had (round_of there round) round c.into_badge.result
-        (c.into_badge.ensures.0 ∙ (c.load-2.ensures.0 ∙ (c.load.ensures.0 ∙ (into.0 ∙ is.0))), c.into_badge.ensures.2 ∙ ap (λ (z : Tally). z ∷ []) (did.0 ∙ shut_is c.load.new.seat.me.0 (record (key_of c.args.place had round) { out = 1 }) c.args.place there view refl))
-        (counts_lying there had round lies) (round_lying there had round lies)
+    (c.into_badge.ensures.0 ∙ (c.load-2.ensures.0 ∙ (c.load.ensures.0 ∙ (into.0 ∙ is.0))), c.into_badge.ensures.2 ∙ ap (λ (z : Tally). z ∷ []) (did.0 ∙ shut_is c.load.new.seat.me.0 (record (key_of c.args.place had round) { out = 1 }) c.args.place there view refl))
+    (counts_lying there had round lies) (round_lying there had round lies)
 
 pub returns-clause-shows : goal.returns-clause-shows
 returns-clause-shows g c = λ had round is. let into = c.into_seat-seat.ensures in let m = c.into_seat-seat.result.me in let same = knows c.args.key.views m.0 (key_of c.args.place had round) into.2 is.1 in
